@@ -1,0 +1,12 @@
+pub mod Ascending
+pub mod Applied
+pub mod Trees
+pub mod Classes
+pub mod LookUp
+pub mod Ids
+pub mod Image
+pub mod Growth
+pub mod Filling
+pub mod Claims
+pub mod Correspondence
+pub mod CorrespondenceClaims

@@ -1,0 +1,12 @@
+//! Correspondences: what an equation between two classes says of their slots, read up to renaming.
+
+ghost use Rattle.slotted_model.specs.CorrespondenceClaims.{CorrespondenceLaws};
+
+/// The laws of correspondences.
+///
+/// Two equations over the same slots match exactly if they have one correspondence, and each partial injection is one.
+/// A transitive step can be made exactly if there are names for its middle, and a test decides it.
+/// The form with names numbered from 0 as they first occur is a function of the correspondence and determines it.
+pub fn correspondence_laws_hold()
+    ensures { CorrespondenceLaws }
+{}

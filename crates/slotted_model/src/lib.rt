@@ -1,0 +1,16 @@
+//! The abstract graph: classes by their canonical nodes, the terms that applied ids stand for, and which id stands for a term.
+//! The definitions stand in `specs`. This crate has no program: its functions owe their laws.
+#![tactic(auto)]
+
+ghost use Rattle.slotted_model.specs.Claims.{Laws};
+
+pub mod correspondence;
+
+/// The laws that show the definitions to mean what they say.
+///
+/// A full id stands for one term, which has the id's names, moves with them, and tells the id apart from all others.
+/// A tree is looked up exactly if some full id stands for it. A new class changes nothing of what was there.
+/// Of an id that lacks names it does not matter by which names it is filled, as long as they are new.
+pub fn laws_hold()
+    ensures { Laws }
+{}
