@@ -1,0 +1,2 @@
+-- What reading and comparing two texts answer.
+pub mod Comparing

@@ -1,0 +1,131 @@
+use super::*;
+use std::test::Fail;
+
+// The answers to some lines, as text.
+fn answers(alloc: Global, lines: &str) -> io::Result<String> {
+    let mut output = Vec::new(alloc);
+    let mut input = lines.as_bytes();
+    answer_lines(alloc, &mut input, &mut output)?;
+    match String::from_utf8(output) {
+        Ok(text) => Ok(text),
+        Err(_) => Err(io::Error::from(ErrorKind::InvalidData)),
+    }
+}
+
+#[test]
+fn lines_are_answered(rt: HostRuntime) -> Result<(), Fail> {
+    let cases = [
+        ("eq (lam $x (var $x)) == (lam $y (var $y))\n", "yes\n"),
+        ("eq (var $x) == (var $y)\n", "no\n"),
+        ("add (lam $x (app (var $x) a))\nadd a", "ok\nok\n"),
+        ("\n\nadd a\n\n", "ok\n"),
+        // Shadowed and swapped binders, and free names below them.
+        (
+            "eq (lam $x (lam $x (var $x))) == (lam $a (lam $b (var $b)))",
+            "yes\n",
+        ),
+        (
+            "eq (lam $x (lam $x (var $x))) == (lam $a (lam $b (var $a)))",
+            "no\n",
+        ),
+        (
+            "eq (lam $x (lam $y (lam $z (app (var $x) (app (var $y) (var $z)))))) == (lam $y (lam $z (lam $x (app (var $y) (app (var $z) (var $x))))))",
+            "yes\n",
+        ),
+        (
+            "eq (lam $x (lam $y (lam $z (app (var $x) (app (var $y) (var $z)))))) == (lam $y (lam $z (lam $x (app (var $z) (app (var $y) (var $x))))))",
+            "no\n",
+        ),
+        (
+            "eq (lam $x (app (var $x) (var $0))) == (lam $1 (app (var $1) (var $0)))",
+            "yes\n",
+        ),
+        (
+            "eq (lam $x (app (var $x) (var $0))) == (lam $0 (app (var $0) (var $x)))",
+            "no\n",
+        ),
+        // A name keeps its slot from line to line, and the first ` == ` parts the texts.
+        ("add (var $f7)\neq (var $f+7) == (var $f7)\n", "ok\nyes\n"),
+        ("eq a == a == a", "error: 4 Parse\n"),
+        ("eq +5 == 5", "yes\n"),
+    ];
+    for (lines, expected) in cases {
+        assert_eq!(rt;
+            answers(rt.alloc(), lines)?.as_str(),
+            expected,
+            "at {lines}"
+        );
+    }
+    Ok(())
+}
+
+#[test]
+fn refusals_are_answered(rt: HostRuntime) -> Result<(), Fail> {
+    let cases = [
+        ("add ?x", "error: 5 NotATerm\n"),
+        ("add (var $1073741824)", "error: 11 NumberTooLarge\n"),
+        ("eq (var $1073741824 == a", "error: 11 NumberTooLarge\n"),
+        ("frobnicate", "error: 0 Command\n"),
+        ("add", "error: 0 Command\n"),
+        (" add a", "error: 0 Command\n"),
+        ("eq a = a", "error: 0 Command\n"),
+        ("symmetries", "error: 0 Command\n"),
+        ("add ", "error: 4 Parse\n"),
+        ("add (f $x", "error: 4 Parse\n"),
+        ("eq a b == a", "error: 4 Parse\n"),
+        // The text on the left is read first.
+        ("eq ?x == (var $1073741824)", "error: 5 NotATerm\n"),
+        ("eq a == $\nadd a", "error: 4 Parse\nok\n"),
+    ];
+    for (lines, expected) in cases {
+        assert_eq!(rt;
+            answers(rt.alloc(), lines)?.as_str(),
+            expected,
+            "at {lines}"
+        );
+    }
+    Ok(())
+}
+
+// Takes some writes and then fails.
+#[derive(Drop)]
+struct Failing {
+    taken: Vec<u8>,
+    left: usize,
+}
+
+impl Write for Failing {
+    fn write(&mut self, bytes: &[u8]) -> io::Result<usize> {
+        if self.left == 0 {
+            return Err(io::Error::from(ErrorKind::BrokenPipe));
+        }
+        self.left -= 1;
+        self.taken.extend_from_slice(bytes)?;
+        Ok(bytes.len())
+    }
+
+    fn flush(&mut self) -> io::Result<()> {
+        Ok(())
+    }
+}
+
+#[test]
+fn streams_that_fail_end_it(rt: HostRuntime) -> Result<(), Fail> {
+    // What was answered before bytes that are not UTF-8 stands.
+    let mut output = Vec::new(rt.alloc());
+    let mut input = b"add a\n\xff\nadd a\n".as_slice();
+    assert!(rt; answer_lines(rt.alloc(), &mut input, &mut output).is_err());
+    assert_eq!(rt; output.as_slice(), b"ok\n".as_slice());
+
+    // So does what was written before a write that fails.
+    for left in 0..3usize {
+        let mut output = Failing {
+            taken: Vec::new(rt.alloc()),
+            left,
+        };
+        let mut input = b"add a\neq a == b\nadd b\n".as_slice();
+        assert!(rt; answer_lines(rt.alloc(), &mut input, &mut output).is_err());
+        assert!(rt; b"ok\nno\nok\n".starts_with(output.taken.as_slice()));
+    }
+    Ok(())
+}

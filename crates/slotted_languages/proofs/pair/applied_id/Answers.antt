@@ -1,0 +1,58 @@
+-- A child of the first field, or one of the second.
+use Rattle.std.proofs.Common.{arith}
+use Rattle.slotted_languages.proofs.Pairs.{second_child, child_left, child_right, child_names_left, child_names_right}
+use Rattle.slotted_languages.proofs.pair.applied_id.Goals as goal
+
+pub applied_id-requires-else-k-n : goal.applied_id-requires-else-k-n
+applied_id-requires-else-k-n g c =
+    let a = g.A.LanguageChildren.form c.args.a.now in
+    let b = g.B.LanguageChildren.form c.args.b.now in
+    second_child a b c.applied_id_count-n.result c.args.k c.applied_id_count-n.ensures c.if-k-n.false c.requires
+
+pub returns-then-k-n-clause-id : goal.returns-then-k-n-clause-id
+returns-then-k-n-clause-id g c =
+    let a = g.A.LanguageChildren.form c.args.a.now in
+    let b = g.B.LanguageChildren.form c.args.b.now in
+    let fits = g.met.A.LanguageChildren.fits c.args.a.now in
+    let e = c.applied_id_count-n.ensures in
+    rw (child_left a b fits c.args.k (omega (arith, c.if-k-n.true, e))) c.applied_id.ensures.id
+
+pub returns-then-k-n-clause-keys : goal.returns-then-k-n-clause-keys
+returns-then-k-n-clause-keys g c =
+    let a = g.A.LanguageChildren.form c.args.a.now in
+    let b = g.B.LanguageChildren.form c.args.b.now in
+    let fits = g.met.A.LanguageChildren.fits c.args.a.now in
+    let e = c.applied_id_count-n.ensures in
+    rw (child_left a b fits c.args.k (omega (arith, c.if-k-n.true, e))) c.applied_id.ensures.keys
+
+pub returns-then-k-n-clause-names : goal.returns-then-k-n-clause-names
+returns-then-k-n-clause-names g c =
+    let a = g.A.LanguageChildren.form c.args.a.now in
+    let b = g.B.LanguageChildren.form c.args.b.now in
+    let fits = g.met.A.LanguageChildren.fits c.args.a.now in
+    let e = c.applied_id_count-n.ensures in
+    rw (child_names_left a b fits c.args.k (omega (arith, c.if-k-n.true, e))) c.applied_id.ensures.names
+
+pub returns-else-k-n-clause-id : goal.returns-else-k-n-clause-id
+returns-else-k-n-clause-id g c =
+    let a = g.A.LanguageChildren.form c.args.a.now in
+    let b = g.B.LanguageChildren.form c.args.b.now in
+    let fits = g.met.A.LanguageChildren.fits c.args.a.now in
+    let e = c.applied_id_count-n.ensures in
+    rw (child_right a b fits c.args.k (omega (arith, c.if-k-n.false, e)), ← e) c.applied_id-else-k-n.ensures.id
+
+pub returns-else-k-n-clause-keys : goal.returns-else-k-n-clause-keys
+returns-else-k-n-clause-keys g c =
+    let a = g.A.LanguageChildren.form c.args.a.now in
+    let b = g.B.LanguageChildren.form c.args.b.now in
+    let fits = g.met.A.LanguageChildren.fits c.args.a.now in
+    let e = c.applied_id_count-n.ensures in
+    rw (child_right a b fits c.args.k (omega (arith, c.if-k-n.false, e)), ← e) c.applied_id-else-k-n.ensures.keys
+
+pub returns-else-k-n-clause-names : goal.returns-else-k-n-clause-names
+returns-else-k-n-clause-names g c =
+    let a = g.A.LanguageChildren.form c.args.a.now in
+    let b = g.B.LanguageChildren.form c.args.b.now in
+    let fits = g.met.A.LanguageChildren.fits c.args.a.now in
+    let e = c.applied_id_count-n.ensures in
+    rw (child_names_right a b fits c.args.k (omega (arith, c.if-k-n.false, e)), ← e) c.applied_id-else-k-n.ensures.names

@@ -1,0 +1,61 @@
+//! Languages: what a node is, by its places and its children.
+//!
+//! A node has an operator, payloads, slots of its own, binders and children. A language is a type of nodes, mostly an
+//! enum with one variant for each operator, whose fields are
+//!
+//! - a [`slotted_slots::Slot`], one place with a name;
+//! - a [`slotted_slots::AppliedId`], a child;
+//! - a [`Bind`] of a field, which binds a slot in that field;
+//! - a payload, as `u32` or [`Symbol`], which has neither places nor children.
+//!
+//! # Writing a language
+//!
+//! A language is written out by hand against [`LanguageChildren`] and [`Language`]; [`Small`] in `src/small.rt` is one.
+//! It goes in four steps.
+//!
+//! 1. The enum, with `#[derive(Drop, Debug, Clone, PartialEq, Eq, PartialOrd, Ord, Hash)]`. The variants in their order
+//!    are the first key of `Ord`, and `operator` numbers them from 0.
+//! 2. Its `form` in `specs/`, by cases: `variant k` of the form of the fields. One field gives its own form, two give
+//!    `join_form` of theirs, none gives `plain []`. Beside it what a node is written as (`shown`), and which lists of
+//!    elements are read as which forms (`read`).
+//! 3. The calls. A variant with one field passes each call on to the field, and one with two to the call of that name
+//!    in [`pair`], which reads two fields as one list of places and of children.
+//! 4. The three laws, by cases: there are as many names as the tree has places (`fits`); the children are few (`few`);
+//!    two nodes are equal exactly if their forms are (`same`). `specs/Equal.antt` has them for the fields, and
+//!    `specs/PairEqual.antt` for two fields and for a variant.
+//!
+//! The rest follows from the form: a write changes its place or its child alone, a child's places stand together, scopes
+//! nest or lie apart and hold whole children, and none of that depends on names.
+//!
+//! ```text
+//! // A language of let-bindings: (let $x t u) is written as a text, the binder with its body, and the value.
+//! pub enum Lets {
+//!     Let(Bind<AppliedId>, AppliedId),
+//!     Var(Slot),
+//!     Literal(u32),
+//! }
+//!
+//! fn slot_count(&self) -> usize {
+//!     match self {
+//!         Lets::Let(body, value) => pair::slot_count(body, value),
+//!         Lets::Var(x) => x.slot_count(),
+//!         Lets::Literal(n) => n.slot_count(),
+//!     }
+//! }
+//! ```
+#![tactic(auto)]
+
+pub mod children;
+pub mod language;
+pub mod outline;
+pub mod pair;
+pub mod payload;
+pub mod small;
+
+pub use children::{Bind, LanguageChildren};
+pub use language::Language;
+pub use payload::Symbol;
+pub use small::Small;
+
+#[cfg(test)]
+mod tests;

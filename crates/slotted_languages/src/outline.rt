@@ -1,0 +1,54 @@
+//! Outlines of nodes: what is left of a node where each child has a single place.
+ghost use Rattle.std.specs.Prelude.{◌≡◌, IfOk, IfErr};
+ghost use Rattle.slotted_slots.specs.Error.{IsOutOfMemory};
+ghost use Rattle.slotted_languages.specs.Form.{IsSmall};
+ghost use Rattle.slotted_languages.specs.Outline.{outlined_form, skeleton_form, blank_form, IsOnlyChild};
+
+use crate::language::Language;
+use slotted_slots::{AppliedId, Error, Id, Slot, SlotMap};
+use std::alloc::Global;
+
+// The id 0 with a name under the one key `$0`.
+fn only_child(alloc: Global, name: Slot) -> Result<AppliedId, Error>
+    ensures ok { IfOk result (λ a. IsOnlyChild name a.id.0 a.m) }
+    ensures err { IfErr result IsOutOfMemory }
+{
+    let mut m = SlotMap::new(alloc);
+    m.insert(Slot::numeric_at(0), name)?;
+    Ok(AppliedId { id: Id(0), m })
+}
+
+/// A copy of the node with another child in the place of each child, the id 0 with `name` under the one key `$0`. Its places
+/// are the node's own names, children and binders in a row.
+pub fn outline<L: Language>(alloc: Global, node: &L, name: Slot) -> Result<L, Error>
+    ensures ok { IfOk result (λ n. L.form n ≡ outlined_form name (L.form node.now)) }
+    ensures err { IfErr result IsOutOfMemory }
+{
+    let mut outline = node.copy(alloc)?;
+    for k in 0..node.applied_id_count() {
+        outline.set_applied_id(k, only_child(alloc, name)?);
+    }
+    Ok(outline)
+}
+
+// Puts the name `$0` at all places.
+fn blank<L: Language>(node: &mut L)
+    requires { IsSmall (L.form node.old) }
+    ensures { L.form node.new ≡ blank_form (L.form node.old) }
+{
+    for i in 0..node.slot_count() {
+        node.set_slot(i, Slot::numeric_at(0));
+    }
+}
+
+/// The outline without the node's own names: `$1` at each child, and `$0` elsewhere. Two nodes have equal skeletons exactly
+/// where they agree but for names and children.
+pub fn skeleton<L: Language>(alloc: Global, node: &L) -> Result<L, Error>
+    requires { IsSmall (outlined_form 0 (L.form node.now)) }
+    ensures ok { IfOk result (λ n. L.form n ≡ skeleton_form (L.form node.now)) }
+    ensures err { IfErr result IsOutOfMemory }
+{
+    let mut blanked = outline(alloc, node, Slot::numeric_at(0))?;
+    blank(&mut blanked);
+    outline(alloc, &blanked, Slot::numeric_at(1))
+}

@@ -1,0 +1,233 @@
+//! Payloads: parts of a node with neither places nor children, as numbers and words. Each is written as one text.
+//!
+//! Each payload has an implementation of its own, since one implementation for all of them would hide, from a proof
+//! over a concrete language, which implementation a call has.
+ghost use Rattle.std.specs.Prelude.{◌≡◌, ◌↔◌, ℕ, List, [], ◌∷◌, Option, Some, option_map, string_bytes, decimal, nat_eq, IsTrue, IfOk, IfErr, MatchResult, refl};
+ghost use Rattle.std.specs.Cmp.Lexicographic.{pointwise, slice_cmp, lists_per, lists_equiv, lists_total, lists_ties, texts_po};
+ghost use Rattle.std.specs.Cmp.Rules.{comparing};
+ghost use Rattle.std.specs.Hash as fed;
+ghost use Rattle.std.specs.Ordering.{nat_cmp};
+ghost use Rattle.std.proofs.Common.{rules, lit<};
+ghost use Rattle.slotted_slots.specs.Error.{IsOutOfMemory};
+ghost use Rattle.slotted_slots.specs.Syntax.{text};
+ghost use Rattle.slotted_languages.specs.Form.{plain};
+ghost use Rattle.slotted_languages.specs.Equal.{number_told, bytes_told, plain_same};
+ghost use Rattle.slotted_languages.specs.Written.{read_payload};
+ghost use Rattle.slotted_slots.specs.Table.{reads_u32};
+
+use crate::children::LanguageChildren;
+use slotted_slots::{AppliedId, Error, Slot, SyntaxElem};
+use std::alloc::{AllocError, Global};
+use std::cmp::Ordering;
+use std::fmt::Debug;
+use std::hash::{Hash, Hasher};
+use std::marker::Model;
+
+/// The number that a text writes by Rust's reader, where it writes one.
+pub(crate) fn read_u32(text: &str) -> Option<u32>
+    ensures { result ≡ reads_u32 text.now }
+{
+    text.parse().ok()
+}
+
+impl LanguageChildren for u32 {
+    ghost form = { λ n. plain ((n ∷ []) ∷ []) };
+
+    ghost shown = { λ n. text (decimal n) ∷ [] };
+
+    ghost read = { read_payload (λ bs. option_map (λ n. n ∷ []) (reads_u32 bs)) };
+
+    ghost fits = { λ _. refl };
+
+    ghost few = { λ _. lit< tt };
+
+    ghost same = { λ a b. plain_same (nat_eq a b) (a ∷ []) (b ∷ []) (number_told a b) };
+
+    fn copy(&self, alloc: Global) -> Result<Self, Error> {
+        Ok(*self)
+    }
+
+    fn slot_count(&self) -> usize {
+        0
+    }
+
+    fn slot(&self, i: usize) -> Slot {
+        unreachable!()
+    }
+
+    fn set_slot(&mut self, i: usize, s: Slot) {
+        unreachable!()
+    }
+
+    fn scope_end(&self, i: usize) -> Option<usize> {
+        None
+    }
+
+    fn applied_id_count(&self) -> usize {
+        0
+    }
+
+    fn applied_id(&self, k: usize) -> &AppliedId {
+        unreachable!()
+    }
+
+    fn applied_id_place(&self, k: usize) -> usize {
+        unreachable!()
+    }
+
+    fn set_applied_id(&mut self, k: usize, a: AppliedId) {
+        unreachable!()
+    }
+
+    fn to_syntax(&self, alloc: Global) -> Result<Vec<SyntaxElem>, Error> {
+        Ok(vec![in alloc; SyntaxElem::String(self.to_string(alloc)?)]?)
+    }
+
+    fn from_syntax(alloc: Global, elements: &[SyntaxElem]) -> Result<Option<Self>, Error> {
+        match elements {
+            [SyntaxElem::String(text)] => Ok(read_u32(text.as_str())),
+            _ => Ok(None),
+        }
+    }
+}
+
+/// A word. It is seen as its bytes, and ordered by them.
+#[derive(Drop, Debug)]
+pub struct Symbol(pub String);
+
+impl Model for Symbol {
+    ghost use Rattle.std.specs.Prelude.{List, ℕ, string_bytes};
+
+    ghost Value = { List ℕ };
+
+    ghost view = { λ s. string_bytes s.0 };
+}
+
+impl Symbol {
+    /// The word of these bytes.
+    pub fn from_text(alloc: Global, text: &str) -> Result<Symbol, Error>
+        ensures ok { IfOk result (λ w. w ≡ text.now) }
+        ensures err { IfErr result IsOutOfMemory }
+    {
+        Ok(Symbol(String::from_str(alloc, text)?))
+    }
+}
+
+impl Clone for Symbol {
+    ghost is_clone = { λ s c. c ≡ s };
+
+    fn clone(&self) -> Result<Self, AllocError>
+        ensures cases { MatchResult result (λ c. c ≡ self.now) (λ _. ¬ ⊥) }
+    {
+        Ok(Symbol(self.0.clone()?))
+    }
+}
+
+impl PartialEq for Symbol {
+    ghost eq = { pointwise nat_eq };
+
+    ghost laws = { lists_per (Prim.search (comparing, rules)) };
+
+    fn eq(&self, other: &Self) -> bool {
+        self.0 == other.0
+    }
+}
+
+impl Eq for Symbol {
+    ghost laws = { lists_equiv (Prim.search (comparing, rules)) };
+}
+
+impl PartialOrd for Symbol {
+    ghost partial_cmp = { λ x y. Some (slice_cmp nat_cmp x y) };
+
+    ghost laws = { texts_po };
+
+    fn partial_cmp(&self, other: &Self) -> Option<Ordering> {
+        Some(self.cmp(other))
+    }
+}
+
+impl Ord for Symbol {
+    ghost cmp = { slice_cmp nat_cmp };
+
+    ghost total = { lists_total (Prim.search (comparing, rules)) };
+
+    ghost matches_partial_cmp = { λ _ _. refl };
+
+    ghost matches_eq = { lists_ties nat_cmp (Prim.search (comparing, rules)) };
+
+    fn cmp(&self, other: &Self) -> Ordering {
+        self.0.cmp(&other.0)
+    }
+}
+
+impl Hash for Symbol {
+    ghost hash_input = { fed.str };
+
+    ghost respects_eq = { Prim.search rules };
+
+    fn hash<H: Hasher>(&self, state: &mut H) {
+        self.0.hash(state);
+    }
+}
+
+impl LanguageChildren for Symbol {
+    ghost form = { λ w. plain (w ∷ []) };
+
+    ghost shown = { λ w. text w ∷ [] };
+
+    ghost read = { read_payload Some };
+
+    ghost fits = { λ _. refl };
+
+    ghost few = { λ _. lit< tt };
+
+    ghost same = { λ v w. plain_same (pointwise nat_eq v w) v w (bytes_told v w) };
+
+    fn copy(&self, alloc: Global) -> Result<Self, Error> {
+        Symbol::from_text(alloc, self.0.as_str())
+    }
+
+    fn slot_count(&self) -> usize {
+        0
+    }
+
+    fn slot(&self, i: usize) -> Slot {
+        unreachable!()
+    }
+
+    fn set_slot(&mut self, i: usize, s: Slot) {
+        unreachable!()
+    }
+
+    fn scope_end(&self, i: usize) -> Option<usize> {
+        None
+    }
+
+    fn applied_id_count(&self) -> usize {
+        0
+    }
+
+    fn applied_id(&self, k: usize) -> &AppliedId {
+        unreachable!()
+    }
+
+    fn applied_id_place(&self, k: usize) -> usize {
+        unreachable!()
+    }
+
+    fn set_applied_id(&mut self, k: usize, a: AppliedId) {
+        unreachable!()
+    }
+
+    fn to_syntax(&self, alloc: Global) -> Result<Vec<SyntaxElem>, Error> {
+        Ok(vec![in alloc; SyntaxElem::String(String::from_str(alloc, self.0.as_str())?)]?)
+    }
+
+    fn from_syntax(alloc: Global, elements: &[SyntaxElem]) -> Result<Option<Self>, Error> {
+        match elements {
+            [SyntaxElem::String(text)] => Ok(Some(Symbol::from_text(alloc, text.as_str())?)),
+            _ => Ok(None),
+        }
+    }
+}

@@ -1,0 +1,342 @@
+//! The written language `Small`: lambda terms, slots by themselves, sums, products, numbers and words.
+ghost use Rattle.std.specs.Prelude.{◌≡◌, Some, option_map, IfOk, IfErr};
+ghost use Rattle.slotted_slots.specs.Error.{IsOutOfMemory};
+ghost use Rattle.slotted_slots.specs.Syntax.{element_of, applied, text};
+ghost use Rattle.slotted_languages.specs.Form.{child_form};
+ghost use Rattle.slotted_languages.specs.Small.{small_form, small_shown, small_read, alone, over_slot, over_slots, over_binder, over_children};
+ghost use Rattle.slotted_languages.specs.SmallSame.{small_fits, small_few, small_same};
+ghost use Rattle.slotted_slots.specs.Table.{reads_u32};
+
+use crate::children::{Bind, LanguageChildren};
+use crate::language::Language;
+use crate::pair;
+use crate::payload::{Symbol, read_u32};
+use slotted_slots::{AppliedId, Error, Slot, SyntaxElem};
+use std::alloc::Global;
+
+/// A node of the written language. The comment at each variant says how it is written.
+///
+/// A text alone is a number where Rust's reader takes it as a `u32`, and else a word: so `lam` alone is a word, and `+5`
+/// is the number 5, which is written `5`.
+#[derive(Drop, Debug, Clone, PartialEq, Eq, PartialOrd, Ord, Hash)]
+pub enum Small {
+    /// `(lam $x t)`
+    Lam(Bind<AppliedId>),
+    /// `(app t u)`
+    App(AppliedId, AppliedId),
+    /// `(var $x)`
+    Var(Slot),
+    /// `(f $x $y)`
+    F(Slot, Slot),
+    /// `(g $x)`
+    G(Slot),
+    /// `(add t u)`
+    Add(AppliedId, AppliedId),
+    /// `(mul t u)`
+    Mul(AppliedId, AppliedId),
+    /// digits alone
+    Number(u32),
+    /// any other text alone
+    Word(Symbol),
+}
+
+impl LanguageChildren for Small {
+    ghost form = { small_form };
+
+    ghost shown = { small_shown };
+
+    ghost read = { small_read };
+
+    ghost fits = { small_fits };
+
+    ghost few = { small_few };
+
+    ghost same = { small_same };
+
+    fn copy(&self, alloc: Global) -> Result<Self, Error> {
+        match self {
+            Small::Lam(b) => Ok(Small::Lam(b.copy(alloc)?)),
+            Small::App(a, b) => Ok(Small::App(a.copy(alloc)?, b.copy(alloc)?)),
+            Small::Var(x) => Ok(Small::Var(*x)),
+            Small::F(x, y) => Ok(Small::F(*x, *y)),
+            Small::G(x) => Ok(Small::G(*x)),
+            Small::Add(a, b) => Ok(Small::Add(a.copy(alloc)?, b.copy(alloc)?)),
+            Small::Mul(a, b) => Ok(Small::Mul(a.copy(alloc)?, b.copy(alloc)?)),
+            Small::Number(n) => Ok(Small::Number(*n)),
+            Small::Word(w) => Ok(Small::Word(w.copy(alloc)?)),
+        }
+    }
+
+    fn slot_count(&self) -> usize {
+        match self {
+            Small::Lam(b) => b.slot_count(),
+            Small::Var(x) => x.slot_count(),
+            Small::G(x) => x.slot_count(),
+            Small::Number(n) => n.slot_count(),
+            Small::Word(w) => w.slot_count(),
+            Small::App(a, b) => pair::slot_count(a, b),
+            Small::F(x, y) => pair::slot_count(x, y),
+            Small::Add(a, b) => pair::slot_count(a, b),
+            Small::Mul(a, b) => pair::slot_count(a, b),
+        }
+    }
+
+    fn slot(&self, i: usize) -> Slot {
+        match self {
+            Small::Lam(b) => b.slot(i),
+            Small::Var(x) => x.slot(i),
+            Small::G(x) => x.slot(i),
+            Small::Number(n) => n.slot(i),
+            Small::Word(w) => w.slot(i),
+            Small::App(a, b) => pair::slot(a, b, i),
+            Small::F(x, y) => pair::slot(x, y, i),
+            Small::Add(a, b) => pair::slot(a, b, i),
+            Small::Mul(a, b) => pair::slot(a, b, i),
+        }
+    }
+
+    fn set_slot(&mut self, i: usize, s: Slot) {
+        match self {
+            Small::Lam(b) => b.set_slot(i, s),
+            Small::Var(x) => x.set_slot(i, s),
+            Small::G(x) => x.set_slot(i, s),
+            Small::Number(n) => n.set_slot(i, s),
+            Small::Word(w) => w.set_slot(i, s),
+            Small::App(a, b) => pair::set_slot(a, b, i, s),
+            Small::F(x, y) => pair::set_slot(x, y, i, s),
+            Small::Add(a, b) => pair::set_slot(a, b, i, s),
+            Small::Mul(a, b) => pair::set_slot(a, b, i, s),
+        }
+    }
+
+    fn scope_end(&self, i: usize) -> Option<usize> {
+        match self {
+            Small::Lam(b) => b.scope_end(i),
+            Small::Var(x) => x.scope_end(i),
+            Small::G(x) => x.scope_end(i),
+            Small::Number(n) => n.scope_end(i),
+            Small::Word(w) => w.scope_end(i),
+            Small::App(a, b) => pair::scope_end(a, b, i),
+            Small::F(x, y) => pair::scope_end(x, y, i),
+            Small::Add(a, b) => pair::scope_end(a, b, i),
+            Small::Mul(a, b) => pair::scope_end(a, b, i),
+        }
+    }
+
+    fn applied_id_count(&self) -> usize {
+        match self {
+            Small::Lam(b) => b.applied_id_count(),
+            Small::Var(x) => x.applied_id_count(),
+            Small::G(x) => x.applied_id_count(),
+            Small::Number(n) => n.applied_id_count(),
+            Small::Word(w) => w.applied_id_count(),
+            Small::App(a, b) => pair::applied_id_count(a, b),
+            Small::F(x, y) => pair::applied_id_count(x, y),
+            Small::Add(a, b) => pair::applied_id_count(a, b),
+            Small::Mul(a, b) => pair::applied_id_count(a, b),
+        }
+    }
+
+    fn applied_id(&self, k: usize) -> &AppliedId {
+        match self {
+            Small::Lam(b) => b.applied_id(k),
+            Small::Var(x) => x.applied_id(k),
+            Small::G(x) => x.applied_id(k),
+            Small::Number(n) => n.applied_id(k),
+            Small::Word(w) => w.applied_id(k),
+            Small::App(a, b) => pair::applied_id(a, b, k),
+            Small::F(x, y) => pair::applied_id(x, y, k),
+            Small::Add(a, b) => pair::applied_id(a, b, k),
+            Small::Mul(a, b) => pair::applied_id(a, b, k),
+        }
+    }
+
+    fn applied_id_place(&self, k: usize) -> usize {
+        match self {
+            Small::Lam(b) => b.applied_id_place(k),
+            Small::Var(x) => x.applied_id_place(k),
+            Small::G(x) => x.applied_id_place(k),
+            Small::Number(n) => n.applied_id_place(k),
+            Small::Word(w) => w.applied_id_place(k),
+            Small::App(a, b) => pair::applied_id_place(a, b, k),
+            Small::F(x, y) => pair::applied_id_place(x, y, k),
+            Small::Add(a, b) => pair::applied_id_place(a, b, k),
+            Small::Mul(a, b) => pair::applied_id_place(a, b, k),
+        }
+    }
+
+    fn set_applied_id(&mut self, k: usize, child: AppliedId) {
+        match self {
+            Small::Lam(b) => b.set_applied_id(k, child),
+            Small::Var(x) => x.set_applied_id(k, child),
+            Small::G(x) => x.set_applied_id(k, child),
+            Small::Number(n) => n.set_applied_id(k, child),
+            Small::Word(w) => w.set_applied_id(k, child),
+            Small::App(a, b) => pair::set_applied_id(a, b, k, child),
+            Small::F(x, y) => pair::set_applied_id(x, y, k, child),
+            Small::Add(a, b) => pair::set_applied_id(a, b, k, child),
+            Small::Mul(a, b) => pair::set_applied_id(a, b, k, child),
+        }
+    }
+
+    fn to_syntax(&self, alloc: Global) -> Result<Vec<SyntaxElem>, Error> {
+        Ok(match self {
+            Small::Lam(b) => vec![in alloc;
+                word(alloc, "lam")?,
+                SyntaxElem::Slot(b.slot),
+                child(alloc, &b.elem)?,
+            ]?,
+            Small::App(a, b) => vec![in alloc;
+                word(alloc, "app")?,
+                child(alloc, a)?,
+                child(alloc, b)?,
+            ]?,
+            Small::Var(x) => vec![in alloc; word(alloc, "var")?, SyntaxElem::Slot(*x)]?,
+            Small::F(x, y) => vec![in alloc;
+                word(alloc, "f")?,
+                SyntaxElem::Slot(*x),
+                SyntaxElem::Slot(*y),
+            ]?,
+            Small::G(x) => vec![in alloc; word(alloc, "g")?, SyntaxElem::Slot(*x)]?,
+            Small::Add(a, b) => vec![in alloc;
+                word(alloc, "add")?,
+                child(alloc, a)?,
+                child(alloc, b)?,
+            ]?,
+            Small::Mul(a, b) => vec![in alloc;
+                word(alloc, "mul")?,
+                child(alloc, a)?,
+                child(alloc, b)?,
+            ]?,
+            Small::Number(n) => n.to_syntax(alloc)?,
+            Small::Word(w) => w.to_syntax(alloc)?,
+        })
+    }
+
+    fn from_syntax(alloc: Global, elements: &[SyntaxElem]) -> Result<Option<Self>, Error> {
+        match elements {
+            [SyntaxElem::String(word)] => read_alone(alloc, word.as_str()),
+            [SyntaxElem::String(operator), SyntaxElem::Slot(x)] => Ok(read_over_slot(
+                operator.as_str(),
+                *x,
+            )),
+            [
+                SyntaxElem::String(operator),
+                SyntaxElem::Slot(x),
+                SyntaxElem::Slot(y),
+            ] => Ok(read_over_slots(operator.as_str(), *x, *y)),
+            [
+                SyntaxElem::String(operator),
+                SyntaxElem::Slot(x),
+                SyntaxElem::AppliedId(a),
+            ] => read_over_binder(alloc, operator.as_str(), *x, a),
+            [
+                SyntaxElem::String(operator),
+                SyntaxElem::AppliedId(a),
+                SyntaxElem::AppliedId(b),
+            ] => read_over_children(alloc, operator.as_str(), a, b),
+            _ => Ok(None),
+        }
+    }
+}
+
+// An operator as an element.
+fn word(alloc: Global, operator: &str) -> Result<SyntaxElem, Error>
+    ensures ok { IfOk result (λ e. element_of e ≡ text operator.now) }
+    ensures err { IfErr result IsOutOfMemory }
+{
+    Ok(SyntaxElem::String(String::from_str(alloc, operator)?))
+}
+
+// A child as an element.
+fn child(alloc: Global, a: &AppliedId) -> Result<SyntaxElem, Error>
+    ensures ok { IfOk result (λ e. element_of e ≡ applied a.now.id.0 a.now.m) }
+    ensures err { IfErr result IsOutOfMemory }
+{
+    Ok(SyntaxElem::AppliedId(a.copy(alloc)?))
+}
+
+// The node that a text alone writes.
+fn read_alone(alloc: Global, word: &str) -> Result<Option<Small>, Error>
+    ensures ok { IfOk result (λ o. option_map small_form o ≡ Some (alone word.now (reads_u32 word.now))) }
+    ensures err { IfErr result IsOutOfMemory }
+{
+    match read_u32(word) {
+        Some(n) => Ok(Some(Small::Number(n))),
+        None => Ok(Some(Small::Word(Symbol::from_text(alloc, word)?))),
+    }
+}
+
+// The node that a text and a slot write.
+fn read_over_slot(operator: &str, x: Slot) -> Option<Small>
+    ensures { option_map small_form result ≡ over_slot operator.now x }
+{
+    match operator {
+        "var" => Some(Small::Var(x)),
+        "g" => Some(Small::G(x)),
+        _ => None,
+    }
+}
+
+// The node that a text and two slots write.
+fn read_over_slots(operator: &str, x: Slot, y: Slot) -> Option<Small>
+    ensures { option_map small_form result ≡ over_slots operator.now x y }
+{
+    match operator {
+        "f" => Some(Small::F(x, y)),
+        _ => None,
+    }
+}
+
+// The node that a text, a slot and a child write.
+fn read_over_binder(
+    alloc: Global,
+    operator: &str,
+    x: Slot,
+    a: &AppliedId,
+) -> Result<Option<Small>, Error>
+    ensures ok { IfOk result (λ o. option_map small_form o ≡ over_binder operator.now x (child_form a.now.id.0 a.now.m)) }
+    ensures err { IfErr result IsOutOfMemory }
+{
+    match operator {
+        "lam" => Ok(Some(Small::Lam(Bind {
+            slot: x,
+            elem: a.copy(alloc)?,
+        }))),
+        _ => Ok(None),
+    }
+}
+
+// The node that a text and two children write.
+fn read_over_children(
+    alloc: Global,
+    operator: &str,
+    a: &AppliedId,
+    b: &AppliedId,
+) -> Result<Option<Small>, Error>
+    ensures ok { IfOk result (λ o. option_map small_form o ≡ over_children operator.now (child_form a.now.id.0 a.now.m) (child_form b.now.id.0 b.now.m)) }
+    ensures err { IfErr result IsOutOfMemory }
+{
+    match operator {
+        "app" => Ok(Some(Small::App(a.copy(alloc)?, b.copy(alloc)?))),
+        "add" => Ok(Some(Small::Add(a.copy(alloc)?, b.copy(alloc)?))),
+        "mul" => Ok(Some(Small::Mul(a.copy(alloc)?, b.copy(alloc)?))),
+        _ => Ok(None),
+    }
+}
+
+impl Language for Small {
+    fn operator(&self) -> u32 {
+        match self {
+            Small::Lam(_) => 0,
+            Small::App(_, _) => 1,
+            Small::Var(_) => 2,
+            Small::F(_, _) => 3,
+            Small::G(_) => 4,
+            Small::Add(_, _) => 5,
+            Small::Mul(_, _) => 6,
+            Small::Number(_) => 7,
+            Small::Word(_) => 8,
+        }
+    }
+}

@@ -1,0 +1,9 @@
+-- The lemmas that callers and the functions of this crate cite.
+pub mod Ascending
+pub mod Loops
+pub mod MapLaws
+pub mod MapLemmas
+pub mod NamingLaws
+pub mod Printing
+pub mod SetLemmas
+pub mod TableLaws

@@ -1,0 +1,8 @@
+-- The slice is the set's elements, which rise.
+use Rattle.slotted_slots.proofs.SetLemmas.{set_searched}
+use Rattle.slotted_slots.proofs.small.SmallHashSet.search.Goals as goal
+
+pub returns-clause-absent : goal.returns-clause-absent
+returns-clause-absent g c =
+    let facts = c.binary_search.ensures in
+    rw (← c.self.view_is, ← c.as_slice.ensures) (set_searched g.met.T.Ord.total _ (rw c.as_slice.ensures c.self.invariant) c.args.t.now _ facts.bound facts.position).absent

@@ -1,0 +1,109 @@
+//! Short sets, which keep up to eight elements inline.
+ghost use Rattle.std.specs.Prelude.{◌≡◌, [], ◌↔◌, not, length, IsTrue, OnOk, OnErr, IfOk, IfErr, IsOk};
+ghost use Rattle.std.specs.List.Sorted.{IsStrictlySortedBy};
+ghost use Rattle.std.specs.Slice.Iter.{iter_rest};
+ghost use Rattle.std.specs.Iterator.Adapters.{IterYieldsInOrder};
+ghost use Rattle.slotted_slots.specs.Error.{IsOutOfMemory};
+ghost use Rattle.slotted_slots.specs.Sets.{has, insert_key, IsPlaceOf, IsGap};
+
+use crate::Error;
+use smallvec::SmallVec;
+use std::alloc::Global;
+use std::default::MadeWith;
+use std::marker::Model;
+use std::slice;
+
+/// A set, seen as the list of its elements in ascending order. No two of them compare equal.
+#[derive(Debug, Drop)]
+pub struct SmallHashSet<T: Ord> {
+    items: SmallVec<T, 8>,
+}
+
+impl<T: Ord> Model for SmallHashSet<T> {
+    ghost use Rattle.std.specs.Prelude.{List};
+    ghost use Rattle.std.specs.List.Sorted.{IsStrictlySortedBy};
+
+    ghost Value = { List T };
+
+    ghost view = { λ s. s.items.items };
+
+    ghost invariant = { λ s. IsStrictlySortedBy T.cmp s.items.items };
+}
+
+impl<T: Ord> SmallHashSet<T> {
+    /// The number of elements.
+    pub fn len(&self) -> usize
+        ensures len { result ≡ length self.now }
+        ensures ascending { IsStrictlySortedBy T.cmp self.now }
+    {
+        self.items.len()
+    }
+
+    /// Whether there are no elements.
+    pub fn is_empty(&self) -> bool
+        ensures { IsTrue result ↔ (self.now ≡ []) }
+    {
+        self.items.is_empty()
+    }
+
+    /// Whether an element compares equal to `t`.
+    pub fn contains(&self, t: &T) -> bool
+        ensures { result ≡ has T.cmp self.now t.now }
+    {
+        self.search(t).is_ok()
+    }
+
+    /// The elements, in ascending order.
+    pub fn as_slice(&self) -> &[T]
+        ensures elements { result.now ≡ self.now }
+        ensures ascending { IsStrictlySortedBy T.cmp self.now }
+    {
+        self.items.as_slice()
+    }
+
+    /// An iterator over the elements, in ascending order.
+    pub fn iter(&self) -> slice::Iter<'_, T>
+        ensures rest { iter_rest result ≡ self.now }
+        ensures runs { IterYieldsInOrder T }
+        ensures ascending { IsStrictlySortedBy T.cmp self.now }
+    {
+        self.items.as_slice().iter()
+    }
+
+    // Where an element that compares equal to `t` is, or where `t` would go.
+    fn search(&self, t: &T) -> Result<usize, usize>
+        ensures found { IfOk result (IsPlaceOf T.cmp self.now t.now) }
+        ensures absent { IfErr result (IsGap T.cmp self.now t.now) }
+        ensures ascending { IsStrictlySortedBy T.cmp self.now }
+    {
+        self.items.as_slice().binary_search(t)
+    }
+}
+
+impl<T: Ord + MadeWith<Global> + Drop> SmallHashSet<T> {
+    /// The set without elements. It takes no memory.
+    pub fn new(alloc: Global) -> SmallHashSet<T>
+        ensures { result ≡ [] }
+    {
+        SmallHashSet {
+            items: SmallVec::new(alloc),
+        }
+    }
+
+    /// Puts `t` in, and answers whether it was new. An element that compares equal to one that is there takes no memory.
+    pub fn insert(&mut self, t: T) -> Result<bool, Error>
+        ensures ok { OnOk result (self.new ≡ insert_key T.cmp self.old t) }
+        ensures added { IfOk result (λ added. added ≡ not (has T.cmp self.old t)) }
+        ensures err { OnErr result (self.new ≡ self.old) }
+        ensures memory { IfErr result IsOutOfMemory }
+        ensures succeeds { IsTrue (has T.cmp self.old t) → IsOk result }
+    {
+        match self.search(&t) {
+            Ok(_) => Ok(false),
+            Err(at) => {
+                self.items.insert(at, t)?;
+                Ok(true)
+            }
+        }
+    }
+}

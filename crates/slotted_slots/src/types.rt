@@ -1,0 +1,85 @@
+//! Ids of classes, and ids that are applied to slots.
+ghost use Rattle.std.specs.Prelude.{◌≡◌, ◌++◌, ℕ, [], Some, codes, decimal, IsTrue, IfOk, IfErr};
+ghost use Rattle.std.specs.Ordering.{nat_cmp};
+ghost use Rattle.slotted_slots.specs.Error.{IsOutOfMemory};
+ghost use Rattle.slotted_slots.specs.Maps.{KnowsAll, is_among, all_differ, composed, keys, values};
+ghost use Rattle.slotted_slots.specs.Sets.{set_of};
+
+use crate::{Error, Slot, SlotMap, SmallHashSet};
+use std::alloc::Global;
+use std::fmt;
+
+/// The number of a class.
+#[derive(Clone, Copy, PartialEq, Eq, PartialOrd, Ord, Hash)]
+pub struct Id(pub usize);
+
+/// `id5`.
+impl fmt::Debug for Id {
+    ghost debug_output = { λ id. Some (codes "id" ++ decimal id.0) };
+
+    fn fmt<W: fmt::Write>(&self, f: &mut fmt::Formatter<W>) -> fmt::Result {
+        let number = self.0;
+        write!(f, "id{number}")
+    }
+}
+
+/// A class with a slot for each of its parameters: the map goes from the class's slots to those put in.
+#[derive(Drop, Debug, Clone, PartialEq, Eq, PartialOrd, Ord, Hash)]
+pub struct AppliedId {
+    pub id: Id,
+    pub m: SlotMap,
+}
+
+impl AppliedId {
+    /// A class with what the map puts in for its parameters, no slot twice.
+    pub fn new(id: Id, m: SlotMap) -> AppliedId
+        requires { IsTrue (all_differ (values m)) }
+        ensures id { result.id ≡ id }
+        ensures map { result.m ≡ m }
+    {
+        AppliedId { id, m }
+    }
+
+    /// The slots that are put in.
+    pub fn slots(&self, alloc: Global) -> Result<SmallHashSet<Slot>, Error>
+        ensures ok { IfOk result (λ s. s ≡ set_of nat_cmp (values self.now.m)) }
+        ensures members { IfOk result (λ s. (v : ℕ) → is_among v s ≡ is_among v (values self.now.m)) }
+        ensures memory { IfErr result IsOutOfMemory }
+    {
+        self.m.values(alloc)
+    }
+
+    /// The same class with each slot that is put in sent on by `m`, which knows them all and keeps them apart.
+    pub fn apply_slotmap(&self, alloc: Global, m: &SlotMap) -> Result<AppliedId, Error>
+        requires known { KnowsAll m.now (values self.now.m) }
+        requires apart { IsTrue (all_differ (values (composed self.now.m m.now))) }
+        ensures id { IfOk result (λ a. a.id ≡ self.now.id) }
+        ensures map { IfOk result (λ a. a.m ≡ composed self.now.m m.now) }
+        ensures keys { IfOk result (λ a. keys a.m ≡ keys self.now.m) }
+        ensures memory { IfErr result IsOutOfMemory }
+    {
+        Ok(AppliedId::new(self.id, self.m.compose_partial(alloc, m)?))
+    }
+
+    /// The id 0 with the empty map, which stands where a child is not looked at.
+    pub fn null(alloc: Global) -> AppliedId
+        ensures id { result.id.0 ≡ 0 }
+        ensures map { result.m ≡ [] }
+    {
+        AppliedId {
+            id: Id(0),
+            m: SlotMap::new(alloc),
+        }
+    }
+
+    /// An applied id that equals this one.
+    pub fn copy(&self, alloc: Global) -> Result<AppliedId, Error>
+        ensures ok { IfOk result (λ c. c ≡ self.now) }
+        ensures err { IfErr result IsOutOfMemory }
+    {
+        Ok(AppliedId {
+            id: self.id,
+            m: self.m.copy(alloc)?,
+        })
+    }
+}

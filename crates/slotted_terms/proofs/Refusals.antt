@@ -1,0 +1,25 @@
+-- What a refusal stands for.
+use Rattle.slotted_slots.specs.declared.error.Error.{Error}
+use Rattle.slotted_slots.specs.declared.error.Error.TheVariants.{OutOfMemory, OutOfSlots, Failed, Parse, NotATerm, SubstInSearch, MissingVariable, NotEqual, BadStep, UnknownClass, NumberTooLarge}
+use Rattle.std.specs.Prelude.{Result, Ok, Err}
+use Rattle.slotted_theory.specs.Term.{Term}
+use Rattle.slotted_terms.specs.Outcome.{Outcome, parsed, Refuses, Answers}
+
+-- a refusal that stands for an outcome of one kind stands for one of a wider kind
+pub Refuses-weaker : (P Q : Outcome → Type 0) (e : Error) → Refuses P e → ((o : Outcome) → P o → Q o) → Refuses Q e
+Refuses-weaker P Q (Parse p) h f = f _ h
+Refuses-weaker P Q NotATerm h f = f _ h
+Refuses-weaker P Q NumberTooLarge h f = f _ h
+Refuses-weaker P Q OutOfSlots h f = f _ h
+Refuses-weaker P Q OutOfMemory h f = tt
+Refuses-weaker P Q Failed h f = h
+Refuses-weaker P Q SubstInSearch h f = h
+Refuses-weaker P Q (MissingVariable v) h f = h
+Refuses-weaker P Q NotEqual h f = h
+Refuses-weaker P Q BadStep h f = h
+Refuses-weaker P Q UnknownClass h f = h
+
+-- the same for an answer
+pub Answers-weaker : (P Q : Outcome → Type 0) (r : Result Term Error) → Answers P r → ((o : Outcome) → P o → Q o) → Answers Q r
+Answers-weaker P Q (Ok t) h f = f (parsed t) h
+Answers-weaker P Q (Err e) h f = Refuses-weaker P Q e h f

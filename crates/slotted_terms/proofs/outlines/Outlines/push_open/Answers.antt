@@ -1,0 +1,41 @@
+use Rattle.std.proofs.Common.{◌≡◌, ◌<◌, ◌≤◌, ◌∙◌, sym, ap, arith, length, take, ◌++◌, ◌∷◌, []}
+use Rattle.std.proofs.lemmas.Bool.{false≢true}
+use Rattle.std.proofs.lemmas.List.{take-append-le}
+use Rattle.slotted_languages.specs.Form.{scopes}
+use Rattle.slotted_terms.specs.Seen.{IsOpen, opened, lefts, rights}
+use Rattle.slotted_terms.proofs.Binders.{lefts-push, rights-push, kept-push}
+use Rattle.slotted_terms.proofs.Opened.{opened-open, opened-shut}
+use Rattle.slotted_terms.proofs.outlines.Outlines.push_open.Goals as goal
+use Rattle.slotted_terms.proofs.outlines.Outlines.push_open.Goals.{then-is_open+in_ok-push, else-is_open}
+
+pub loop-i-preserved : goal.loop-i-preserved
+loop-i-preserved g c =
+    let f = g.L.LanguageChildren.form c.args.self.now.one in
+    let n = g.L.LanguageChildren.form c.args.self.now.two in
+    let i = c.loop-i.i in
+    let at = c.args.at in
+    let old = c.loop-i.binders.items in
+    let inv = c.loop-i.invariant in
+    let before = c.loop-i-test.true in
+    let within : at ≤ length (scopes f.tree) = omega (arith, c.requires.within, g.met.L.LanguageChildren.fits c.args.self.now.one) in
+    let new = c.if-is_open.binders.items in
+    elim c.if-is_open.branch [
+      | then-is_open+in_ok-push w ↦
+          let b = c.is_open.ensures.0 w.if-is_open.true in
+          let e = ap (λ v. v.items) w.binders-is ∙ w.in_ok-push.ensures.items in
+          let p = ap lefts e ∙ (lefts-push old _ _ ∙ ap (λ z. z ∷ lefts old) w.slot.ensures) in
+          let q = ap rights e ∙ (rights-push old _ _ ∙ ap (λ z. z ∷ rights old) w.slot-then-is_open.ensures) in
+          record {
+            left = opened-open i at (scopes f.tree) f.names (lefts old) before within b (lefts new) p inv.left;
+            right = opened-open i at (scopes f.tree) n.names (rights old) before within b (rights new) q inv.right;
+            kept = ap (take _) e ∙ kept-push _ old _ inv.kept;
+          }
+      | else-is_open w ↦
+          let e = ap (λ v. v.items) w.binders-is in
+          let b : IsOpen (scopes f.tree) i at → ⊥ = λ h. false≢true (sym w.if-is_open.false ∙ c.is_open.ensures.1 h) in
+          record {
+            left = opened-shut i at (scopes f.tree) f.names (lefts old) before within b (lefts new) (ap lefts e) inv.left;
+            right = opened-shut i at (scopes f.tree) n.names (rights old) before within b (rights new) (ap rights e) inv.right;
+            kept = ap (take _) e ∙ inv.kept;
+          }
+    ]

@@ -1,0 +1,167 @@
+// Terms of a language as trees of nodes.
+ghost use Rattle.std.specs.Prelude.{◌≡◌, ℕ, ◌<◌, ◌≤◌, ◌^◌, ◌⊎◌, ◌↔◌, length, IsTrue, IfOk, IfErr, IsErrOf};
+ghost use Rattle.slotted_slots.specs.Error.{IsOutOfMemory, IsShortage};
+ghost use Rattle.slotted_theory.specs.Term.{term_size};
+ghost use Rattle.slotted_theory.specs.Nameless.{Alpha, nameless_by};
+ghost use Rattle.slotted_theory.specs.Shape.{number_in};
+ghost use Rattle.slotted_terms.specs.Seen.{AreMatched, AreTerms, lefts, rights, above, children_seen, row_size};
+
+use crate::outlines::{Binders, Outlines};
+use slotted_languages::language::Language;
+use slotted_slots::Error;
+use std::alloc::Global;
+use std::marker::Model;
+
+#[cfg(test)]
+mod tests;
+
+/// A term: a node, and the terms that stand in the places of its children. The child ids inside `node` are ignored.
+#[derive(Drop)]
+#[cycle(expr)]
+pub struct RecExpr<L: Language> {
+    pub node: L,
+    pub children: Vec<RecExpr<L>>,
+}
+
+impl<L: Language> Model for RecExpr<L> {
+    ghost use Rattle.slotted_theory.specs.Term.{Term, term_code, term_size};
+
+    ghost Value = { Term };
+
+    ghost coded = { term_code };
+
+    ghost use Rattle.slotted_languages.specs.Filled.{term_of, children_smaller};
+    ghost use Rattle.std.proofs.Common.{arith};
+
+    ghost view = { λ e. term_of (L.form e.node) e.children.items };
+
+    ghost size = { term_size };
+
+    ghost size_decreases = { λ e h. omega (arith, children_smaller (L.form e.node) e.children.items) };
+}
+
+impl<L: Language> RecExpr<L> {
+    // The operator of the term, which is one more than the node's: no term is a hole.
+    fn operator(&self) -> u64
+        ensures op { result ≡ self.now.op }
+        ensures positive { 0 < result }
+    {
+        u64::from(self.node.operator()) + 1
+    }
+
+    // Alpha-equality below binders.
+    #[cycle(alpha)]
+    fn alpha_eq_under(
+        &self,
+        alloc: Global,
+        other: &RecExpr<L>,
+        binders: &mut Binders,
+    ) -> Result<bool, Error>
+        ensures same { IfOk result (λ b. IsTrue b
+            ↔ (nameless_by (number_in (lefts binders.old.items)) self.now ≡ nameless_by (number_in (rights binders.old.items)) other.now)) }
+        ensures kept { IfOk result (λ _. binders.new.items ≡ binders.old.items) }
+        ensures slots { IsErrOf result Error.OutOfSlots → (2 ^ 30 ≤ term_size self.now) ⊎ (2 ^ 30 ≤ term_size other.now) }
+        ensures err { IfErr result IsShortage }
+    {
+        if term_count(&self.children) != term_count(&other.children) {
+            return Ok(false);
+        }
+        let Some(nodes) = Outlines::new(alloc, &self.node, &other.node)? else {
+            return Ok(false);
+        };
+        if !nodes.same_owns(binders)? {
+            return Ok(false);
+        }
+        alpha_eq_children(alloc, &self.children, &other.children, &nodes, binders)
+    }
+
+    /// Whether the two terms are the same up to the choice of bound names.
+    pub fn alpha_eq(&self, alloc: Global, other: &RecExpr<L>) -> Result<bool, Error>
+        ensures same { IfOk result (λ b. IsTrue b ↔ Alpha self.now other.now) }
+        ensures slots { IsErrOf result Error.OutOfSlots → (2 ^ 30 ≤ term_size self.now) ⊎ (2 ^ 30 ≤ term_size other.now) }
+        ensures err { IfErr result IsShortage }
+    {
+        let mut binders = Vec::new(alloc);
+        self.alpha_eq_under(alloc, other, &mut binders)
+    }
+
+    /// A term that equals this one.
+    pub fn copy(&self, alloc: Global) -> Result<RecExpr<L>, Error>
+        ensures ok { IfOk result (λ c. c ≡ self.now) }
+        ensures err { IfErr result IsOutOfMemory }
+    {
+        let mut children = Vec::new(alloc);
+        for child in &self.children {
+            children.push(child.copy(alloc)?)?;
+        }
+        Ok(RecExpr {
+            node: self.node.copy(alloc)?,
+            children,
+        })
+    }
+}
+
+// How many terms stand in the row. Each of them has an operator.
+fn term_count<L: Language>(row: &[RecExpr<L>]) -> usize
+    ensures count { result ≡ length row.now }
+    ensures terms { AreTerms row.now }
+{
+    let mut count = 0;
+    for term in row {
+        if term.operator() > 0 {
+            count += 1;
+        }
+    }
+    count
+}
+
+// Alpha-equality of the children `k` of the nodes below their binders.
+#[cycle(alpha)]
+fn alpha_eq_child<L: Language>(
+    alloc: Global,
+    k: usize,
+    one: &RecExpr<L>,
+    two: &RecExpr<L>,
+    nodes: &Outlines<L>,
+    binders: &mut Binders,
+) -> Result<bool, Error>
+    requires { AreMatched (L.form nodes.now.one) (L.form nodes.now.two) (L.form nodes.now.skeleton) }
+    ensures same { IfOk result (λ b. IsTrue b
+        ↔ (nameless_by (number_in (above (L.form nodes.now.one) (lefts binders.old.items) k)) one.now
+        ≡ nameless_by (number_in (above (L.form nodes.now.two) (rights binders.old.items) k)) two.now)) }
+    ensures kept { IfOk result (λ _. binders.new.items ≡ binders.old.items) }
+    ensures slots { IsErrOf result Error.OutOfSlots → (2 ^ 30 ≤ term_size one.now) ⊎ (2 ^ 30 ≤ term_size two.now) }
+    ensures err { IfErr result IsShortage }
+{
+    let depth = binders.len();
+    nodes.push_above(k, binders)?;
+    let equal = one.alpha_eq_under(alloc, two, binders)?;
+    binders.truncate(depth);
+    Ok(equal)
+}
+
+// Alpha-equality of the nodes' children in turn.
+#[cycle(alpha)]
+fn alpha_eq_children<L: Language>(
+    alloc: Global,
+    ones: &[RecExpr<L>],
+    twos: &[RecExpr<L>],
+    nodes: &Outlines<L>,
+    binders: &mut Binders,
+) -> Result<bool, Error>
+    requires matched { AreMatched (L.form nodes.now.one) (L.form nodes.now.two) (L.form nodes.now.skeleton) }
+    requires count { length ones.now ≡ length twos.now }
+    ensures same { IfOk result (λ b. IsTrue b
+        ↔ (children_seen (L.form nodes.now.one) (lefts binders.old.items) ones.now
+        ≡ children_seen (L.form nodes.now.two) (rights binders.old.items) twos.now)) }
+    ensures kept { IfOk result (λ _. binders.new.items ≡ binders.old.items) }
+    ensures slots { IsErrOf result Error.OutOfSlots → (2 ^ 30 ≤ row_size ones.now) ⊎ (2 ^ 30 ≤ row_size twos.now) }
+    ensures err { IfErr result IsShortage }
+{
+    for k in 0..ones.len() {
+        if !alpha_eq_child(alloc, k, &ones[k], &twos[k], nodes, binders)? {
+            return Ok(false);
+        }
+    }
+    Ok(true)
+}

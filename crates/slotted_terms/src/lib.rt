@@ -1,0 +1,8 @@
+//! Terms over any language: expressions, their alpha-equality, and the texts that write them.
+#![tactic(auto)]
+
+pub mod expr;
+mod outlines;
+pub mod parse;
+
+pub use expr::RecExpr;
