@@ -57,6 +57,7 @@ fn small_outline<L: Language>(alloc: Global, node: &L) -> Result<L, Error>
 
 impl<L: Language> Outlines<L> {
     /// The outlines of two nodes that agree but for names and children, and None where they do not agree.
+    #[inline(never)]
     pub fn new(alloc: Global, one: &L, two: &L) -> Result<Option<Outlines<L>>, Error>
         ensures outlines { IfOk result (λ o. IfSome o (λ p. AreOutlines (L.form one.now) (L.form two.now) (L.form p.one) (L.form p.two))) }
         ensures matched { IfOk result (λ o. IfSome o (λ p. AreMatched (L.form p.one) (L.form p.two) (L.form p.skeleton))) }
@@ -112,6 +113,7 @@ impl<L: Language> Outlines<L> {
     }
 
     /// Pushes the binders of the two nodes that are above the child `k`: for a child that is too many, none.
+    #[inline(never)]
     pub fn push_above(&self, k: usize, binders: &mut Binders) -> Result<(), Error>
         requires { AreMatched (L.form self.now.one) (L.form self.now.two) (L.form self.now.skeleton) }
         ensures left { IfOk result (λ _. lefts binders.new.items ≡ above (L.form self.now.one) (lefts binders.old.items) k) }
@@ -169,6 +171,7 @@ impl<L: Language> Outlines<L> {
     }
 
     /// Whether the nodes' own names have the same numbers below the binders.
+    #[inline(never)]
     pub fn same_owns(&self, binders: &mut Binders) -> Result<bool, Error>
         requires { AreMatched (L.form self.now.one) (L.form self.now.two) (L.form self.now.skeleton) }
         ensures same { IfOk result (λ b. IsTrue b
