@@ -78,3 +78,7 @@ module _ (f g : Form) (fits : length f.names ≡ length (scopes f.tree)) where
       (rw (child_place-join_right f.tree g.tree k h, child_right k h, ← fits, add_assoc (length f.names) p w)
       (rw (take-append-add f.names g.names p, drop-append-add f.names g.names (p + w))
       (simp append_assoc refl)))
+
+-- two fields have the children of both
+pub length_children-join : (f g : Form) → length (children (join f.tree g.tree)) ≡ length (children f.tree) + length (children g.tree)
+length_children-join f g = ap length (children-join f.tree g.tree) ∙ length-append (children f.tree) (children g.tree)

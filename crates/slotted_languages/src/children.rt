@@ -1,5 +1,5 @@
 //! The parts of a node: slots, children, and binders over a part.
-ghost use Rattle.std.specs.Prelude.{◌≡◌, ◌↔◌, ◌<◌, ◌^◌, ℕ, List, [], ◌∷◌, length, map, min, slice_index, slice_index_or, Option, Some, None, option_map, IsTrue, IfOk, IfErr, refl};
+ghost use Rattle.std.specs.Prelude.{◌≡◌, ◌↔◌, ◌<◌, ◌^◌, ℕ, List, [], ◌∷◌, length, map, min, slice_index, slice_index_or, Option, Some, None, option_map, IsTrue, IsSome, IfSome, IfOk, IfErr, refl};
 ghost use Rattle.std.proofs.Common.{lit<};
 ghost use Rattle.slotted_slots.specs.Error.{IsOutOfMemory};
 ghost use Rattle.slotted_slots.specs.Maps.{keys, values};
@@ -65,12 +65,12 @@ pub trait LanguageChildren: Debug + Clone + Hash + Eq + Drop {
     fn applied_id_count(&self) -> usize
         ensures { result ≡ length (children (form self.now).tree) };
 
-    /// A child.
-    fn applied_id(&self, k: usize) -> &AppliedId
-        requires { k < length (children (form self.now).tree) }
-        ensures id { result.now.id.0 ≡ (slice_index_or (children (form self.now).tree) k (0, [])).0 }
-        ensures keys { keys result.now.m ≡ (slice_index_or (children (form self.now).tree) k (0, [])).1 }
-        ensures names { values result.now.m ≡ child_names (form self.now) k };
+    /// A child, or None past the last one.
+    fn applied_id(&self, k: usize) -> Option<&AppliedId>
+        ensures some { IsSome result ↔ (k < length (children (form self.now).tree)) }
+        ensures id { IfSome result (λ a. a.now.id.0 ≡ (slice_index_or (children (form self.now).tree) k (0, [])).0) }
+        ensures keys { IfSome result (λ a. keys a.now.m ≡ (slice_index_or (children (form self.now).tree) k (0, [])).1) }
+        ensures names { IfSome result (λ a. values a.now.m ≡ child_names (form self.now) k) };
 
     /// The first place of a child. Where the child has no places, it is the place that its first one would have.
     fn applied_id_place(&self, k: usize) -> usize
@@ -162,17 +162,20 @@ impl LanguageChildren for Slot {
         0
     }
 
-    fn applied_id(&self, k: usize) -> &AppliedId {
-        unreachable!()
+    fn applied_id(&self, k: usize) -> Option<&AppliedId> {
+        None
     }
 
-    fn applied_id_place(&self, k: usize) -> usize {
-        unreachable!()
+    // A slot has no children: what is asked of one is answered without a condition.
+    fn applied_id_place(&self, k: usize) -> usize
+        ensures { result ≡ 0 }
+    {
+        0
     }
 
-    fn set_applied_id(&mut self, k: usize, a: AppliedId) {
-        unreachable!()
-    }
+    fn set_applied_id(&mut self, k: usize, a: AppliedId)
+        ensures { self.new ≡ self.old }
+    {}
 
     fn to_syntax(&self, alloc: Global) -> Result<Vec<SyntaxElem>, Error> {
         Ok(vec![in alloc; SyntaxElem::Slot(*self)]?)
@@ -223,8 +226,8 @@ impl LanguageChildren for AppliedId {
         1
     }
 
-    fn applied_id(&self, k: usize) -> &AppliedId {
-        self
+    fn applied_id(&self, k: usize) -> Option<&AppliedId> {
+        if k == 0 { Some(self) } else { None }
     }
 
     fn applied_id_place(&self, k: usize) -> usize {
@@ -311,7 +314,7 @@ impl<T: LanguageChildren> LanguageChildren for Bind<T> {
         self.elem.applied_id_count()
     }
 
-    fn applied_id(&self, k: usize) -> &AppliedId {
+    fn applied_id(&self, k: usize) -> Option<&AppliedId> {
         self.elem.applied_id(k)
     }
 

@@ -2,7 +2,7 @@
 //!
 //! These are the calls of [`LanguageChildren`] for a variant with two fields. What has three fields pairs the first with
 //! a struct of the other two.
-ghost use Rattle.std.specs.Prelude.{◌≡◌, ◌<◌, min, [], length, slice_index, slice_index_or};
+ghost use Rattle.std.specs.Prelude.{◌≡◌, ◌↔◌, ◌<◌, IsSome, IfSome, min, [], length, slice_index, slice_index_or};
 ghost use Rattle.slotted_slots.specs.Maps.{keys, values};
 ghost use Rattle.slotted_languages.specs.Form.{IsSmall, children, child_names, child_place, join_form, scopes, scope_end_of, with_name, with_child};
 
@@ -64,16 +64,16 @@ pub fn applied_id_count<A: LanguageChildren, B: LanguageChildren>(a: &A, b: &B) 
     a.applied_id_count() + b.applied_id_count()
 }
 
-/// A child.
+/// A child, or None past the last one.
 pub fn applied_id<'a, A: LanguageChildren, B: LanguageChildren>(
     a: &'a A,
     b: &'a B,
     k: usize,
-) -> &'a AppliedId
-    requires { k < length (children (join_form (A.form a.now) (B.form b.now)).tree) }
-    ensures id { result.now.id.0 ≡ (slice_index_or (children (join_form (A.form a.now) (B.form b.now)).tree) k (0, [])).0 }
-    ensures keys { keys result.now.m ≡ (slice_index_or (children (join_form (A.form a.now) (B.form b.now)).tree) k (0, [])).1 }
-    ensures names { values result.now.m ≡ child_names (join_form (A.form a.now) (B.form b.now)) k }
+) -> Option<&'a AppliedId>
+    ensures some { IsSome result ↔ (k < length (children (join_form (A.form a.now) (B.form b.now)).tree)) }
+    ensures id { IfSome result (λ x. x.now.id.0 ≡ (slice_index_or (children (join_form (A.form a.now) (B.form b.now)).tree) k (0, [])).0) }
+    ensures keys { IfSome result (λ x. keys x.now.m ≡ (slice_index_or (children (join_form (A.form a.now) (B.form b.now)).tree) k (0, [])).1) }
+    ensures names { IfSome result (λ x. values x.now.m ≡ child_names (join_form (A.form a.now) (B.form b.now)) k) }
 {
     let n = a.applied_id_count();
     if k < n {

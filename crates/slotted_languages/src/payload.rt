@@ -2,7 +2,7 @@
 //!
 //! Each payload has an implementation of its own, since one implementation for all of them would hide, from a proof
 //! over a concrete language, which implementation a call has.
-ghost use Rattle.std.specs.Prelude.{◌≡◌, ◌↔◌, ℕ, List, [], ◌∷◌, Option, Some, option_map, string_bytes, decimal, nat_eq, IsTrue, IfOk, IfErr, MatchResult, refl};
+ghost use Rattle.std.specs.Prelude.{◌≡◌, ◌↔◌, ℕ, List, [], ◌∷◌, Option, Some, None, option_map, string_bytes, decimal, nat_eq, IsTrue, IfOk, IfErr, MatchResult, refl};
 ghost use Rattle.std.specs.Cmp.Lexicographic.{pointwise, slice_cmp, lists_per, lists_equiv, lists_total, lists_ties, texts_po};
 ghost use Rattle.std.specs.Cmp.Rules.{comparing};
 ghost use Rattle.std.specs.Hash as fed;
@@ -51,15 +51,20 @@ impl LanguageChildren for u32 {
         0
     }
 
-    fn slot(&self, i: usize) -> Slot {
-        unreachable!()
+    // A payload has neither places nor children: what is asked of one is answered without a condition.
+    fn slot(&self, i: usize) -> Slot
+        ensures { result ≡ 0 }
+    {
+        Slot::numeric_at(0)
     }
 
-    fn set_slot(&mut self, i: usize, s: Slot) {
-        unreachable!()
-    }
+    fn set_slot(&mut self, i: usize, s: Slot)
+        ensures { self.new ≡ self.old }
+    {}
 
-    fn scope_end(&self, i: usize) -> Option<usize> {
+    fn scope_end(&self, i: usize) -> Option<usize>
+        ensures { result ≡ None }
+    {
         None
     }
 
@@ -67,17 +72,19 @@ impl LanguageChildren for u32 {
         0
     }
 
-    fn applied_id(&self, k: usize) -> &AppliedId {
-        unreachable!()
+    fn applied_id(&self, k: usize) -> Option<&AppliedId> {
+        None
     }
 
-    fn applied_id_place(&self, k: usize) -> usize {
-        unreachable!()
+    fn applied_id_place(&self, k: usize) -> usize
+        ensures { result ≡ 0 }
+    {
+        0
     }
 
-    fn set_applied_id(&mut self, k: usize, a: AppliedId) {
-        unreachable!()
-    }
+    fn set_applied_id(&mut self, k: usize, a: AppliedId)
+        ensures { self.new ≡ self.old }
+    {}
 
     fn to_syntax(&self, alloc: Global) -> Result<Vec<SyntaxElem>, Error> {
         Ok(vec![in alloc; SyntaxElem::String(self.to_string(alloc)?)]?)
@@ -192,15 +199,20 @@ impl LanguageChildren for Symbol {
         0
     }
 
-    fn slot(&self, i: usize) -> Slot {
-        unreachable!()
+    // A payload has neither places nor children: what is asked of one is answered without a condition.
+    fn slot(&self, i: usize) -> Slot
+        ensures { result ≡ 0 }
+    {
+        Slot::numeric_at(0)
     }
 
-    fn set_slot(&mut self, i: usize, s: Slot) {
-        unreachable!()
-    }
+    fn set_slot(&mut self, i: usize, s: Slot)
+        ensures { self.new ≡ self.old }
+    {}
 
-    fn scope_end(&self, i: usize) -> Option<usize> {
+    fn scope_end(&self, i: usize) -> Option<usize>
+        ensures { result ≡ None }
+    {
         None
     }
 
@@ -208,17 +220,19 @@ impl LanguageChildren for Symbol {
         0
     }
 
-    fn applied_id(&self, k: usize) -> &AppliedId {
-        unreachable!()
+    fn applied_id(&self, k: usize) -> Option<&AppliedId> {
+        None
     }
 
-    fn applied_id_place(&self, k: usize) -> usize {
-        unreachable!()
+    fn applied_id_place(&self, k: usize) -> usize
+        ensures { result ≡ 0 }
+    {
+        0
     }
 
-    fn set_applied_id(&mut self, k: usize, a: AppliedId) {
-        unreachable!()
-    }
+    fn set_applied_id(&mut self, k: usize, a: AppliedId)
+        ensures { self.new ≡ self.old }
+    {}
 
     fn to_syntax(&self, alloc: Global) -> Result<Vec<SyntaxElem>, Error> {
         Ok(vec![in alloc; SyntaxElem::String(String::from_str(alloc, self.0.as_str())?)]?)

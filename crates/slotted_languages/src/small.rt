@@ -137,7 +137,7 @@ impl LanguageChildren for Small {
         }
     }
 
-    fn applied_id(&self, k: usize) -> &AppliedId {
+    fn applied_id(&self, k: usize) -> Option<&AppliedId> {
         match self {
             Small::Lam(b) => b.applied_id(k),
             Small::Var(x) => x.applied_id(k),

@@ -10,3 +10,10 @@ pub mod Filling
 pub mod Claims
 pub mod Correspondence
 pub mod CorrespondenceClaims
+pub mod Find
+pub mod ProofList
+pub mod Link
+pub mod Sound
+pub mod SoundnessClaims
+pub mod Normal
+pub mod Explained

@@ -1,13 +1,7 @@
 -- A child of the first field, or one of the second.
 use Rattle.std.proofs.Common.{arith}
-use Rattle.slotted_languages.proofs.Pairs.{second_child, child_left, child_right, child_names_left, child_names_right}
+use Rattle.slotted_languages.proofs.Pairs.{length_children-join, child_left, child_right, child_names_left, child_names_right}
 use Rattle.slotted_languages.proofs.pair.applied_id.Goals as goal
-
-pub applied_id-requires-else-k-n : goal.applied_id-requires-else-k-n
-applied_id-requires-else-k-n g c =
-    let a = g.A.LanguageChildren.form c.args.a.now in
-    let b = g.B.LanguageChildren.form c.args.b.now in
-    second_child a b c.applied_id_count-n.result c.args.k c.applied_id_count-n.ensures c.if-k-n.false c.requires
 
 pub returns-then-k-n-clause-id : goal.returns-then-k-n-clause-id
 returns-then-k-n-clause-id g c =
@@ -56,3 +50,17 @@ returns-else-k-n-clause-names g c =
     let fits = g.met.A.LanguageChildren.fits c.args.a.now in
     let e = c.applied_id_count-n.ensures in
     rw (child_names_right a b fits c.args.k (omega (arith, c.if-k-n.false, e)), ← e) c.applied_id-else-k-n.ensures.names
+
+pub returns-then-k-n-clause-some : goal.returns-then-k-n-clause-some
+returns-then-k-n-clause-some g c =
+    let n = length_children-join (g.A.LanguageChildren.form c.args.a.now) (g.B.LanguageChildren.form c.args.b.now) in
+    let e = c.applied_id_count-n.ensures in
+    (λ s. omega (arith, n, e, c.if-k-n.true), λ h. c.applied_id.ensures.some.1 (omega (arith, e, c.if-k-n.true)))
+
+pub returns-else-k-n-clause-some : goal.returns-else-k-n-clause-some
+returns-else-k-n-clause-some g c =
+    let n = length_children-join (g.A.LanguageChildren.form c.args.a.now) (g.B.LanguageChildren.form c.args.b.now) in
+    let e = c.applied_id_count-n.ensures in (
+      λ s. omega (arith, n, e, c.if-k-n.false, c.applied_id-else-k-n.ensures.some.0 s),
+      λ h. c.applied_id-else-k-n.ensures.some.1 (omega (arith, n, e, c.if-k-n.false, h)),
+    )
