@@ -10,3 +10,8 @@ pub mod SmallSame
 pub mod SmallBack
 pub mod Filled
 pub mod Outline
+pub mod NodeTerm
+pub mod Shape
+pub mod Walk
+pub mod Renaming
+pub mod Children

@@ -66,7 +66,7 @@ pub trait LanguageChildren: Debug + Clone + Hash + Eq + Drop {
         ensures { result ≡ length (children (form self.now).tree) };
 
     /// A child, or None past the last one.
-    fn applied_id(&self, k: usize) -> Option<&AppliedId>
+    fn get_applied_id(&self, k: usize) -> Option<&AppliedId>
         ensures some { IsSome result ↔ (k < length (children (form self.now).tree)) }
         ensures id { IfSome result (λ a. a.now.id.0 ≡ (slice_index_or (children (form self.now).tree) k (0, [])).0) }
         ensures keys { IfSome result (λ a. keys a.now.m ≡ (slice_index_or (children (form self.now).tree) k (0, [])).1) }
@@ -92,6 +92,16 @@ pub trait LanguageChildren: Debug + Clone + Hash + Eq + Drop {
     fn from_syntax(alloc: Global, elements: &[SyntaxElem]) -> Result<Option<Self>, Error>
         ensures ok { IfOk result (λ o. option_map form o ≡ read (map element_of elements.now)) }
         ensures err { IfErr result IsOutOfMemory };
+
+    /// A child.
+    final fn applied_id(&self, k: usize) -> &AppliedId
+        requires { k < length (children (form self.now).tree) }
+        ensures id { result.now.id.0 ≡ (slice_index_or (children (form self.now).tree) k (0, [])).0 }
+        ensures keys { keys result.now.m ≡ (slice_index_or (children (form self.now).tree) k (0, [])).1 }
+        ensures names { values result.now.m ≡ child_names (form self.now) k }
+    {
+        self.get_applied_id(k).unwrap()
+    }
 
     /// Whether a place is public: it is no binder, and no binder that scopes it has its name.
     final fn is_public(&self, i: usize) -> bool
@@ -162,7 +172,7 @@ impl LanguageChildren for Slot {
         0
     }
 
-    fn applied_id(&self, k: usize) -> Option<&AppliedId> {
+    fn get_applied_id(&self, k: usize) -> Option<&AppliedId> {
         None
     }
 
@@ -226,7 +236,7 @@ impl LanguageChildren for AppliedId {
         1
     }
 
-    fn applied_id(&self, k: usize) -> Option<&AppliedId> {
+    fn get_applied_id(&self, k: usize) -> Option<&AppliedId> {
         if k == 0 { Some(self) } else { None }
     }
 
@@ -314,8 +324,8 @@ impl<T: LanguageChildren> LanguageChildren for Bind<T> {
         self.elem.applied_id_count()
     }
 
-    fn applied_id(&self, k: usize) -> Option<&AppliedId> {
-        self.elem.applied_id(k)
+    fn get_applied_id(&self, k: usize) -> Option<&AppliedId> {
+        self.elem.get_applied_id(k)
     }
 
     fn applied_id_place(&self, k: usize) -> usize {

@@ -50,12 +50,17 @@ pub mod language;
 pub mod outline;
 pub mod pair;
 pub mod payload;
+pub mod renaming;
+pub mod shape;
 pub mod small;
 
 pub use children::{Bind, LanguageChildren};
 pub use language::Language;
 pub use payload::Symbol;
+pub use shape::shapes_decide;
 pub use small::Small;
 
+#[cfg(test)]
+mod shape_tests;
 #[cfg(test)]
 mod tests;

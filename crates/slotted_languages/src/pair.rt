@@ -65,7 +65,7 @@ pub fn applied_id_count<A: LanguageChildren, B: LanguageChildren>(a: &A, b: &B) 
 }
 
 /// A child, or None past the last one.
-pub fn applied_id<'a, A: LanguageChildren, B: LanguageChildren>(
+pub fn get_applied_id<'a, A: LanguageChildren, B: LanguageChildren>(
     a: &'a A,
     b: &'a B,
     k: usize,
@@ -77,9 +77,9 @@ pub fn applied_id<'a, A: LanguageChildren, B: LanguageChildren>(
 {
     let n = a.applied_id_count();
     if k < n {
-        a.applied_id(k)
+        a.get_applied_id(k)
     } else {
-        b.applied_id(k - n)
+        b.get_applied_id(k - n)
     }
 }
 

@@ -72,7 +72,7 @@ impl LanguageChildren for u32 {
         0
     }
 
-    fn applied_id(&self, k: usize) -> Option<&AppliedId> {
+    fn get_applied_id(&self, k: usize) -> Option<&AppliedId> {
         None
     }
 
@@ -220,7 +220,7 @@ impl LanguageChildren for Symbol {
         0
     }
 
-    fn applied_id(&self, k: usize) -> Option<&AppliedId> {
+    fn get_applied_id(&self, k: usize) -> Option<&AppliedId> {
         None
     }
 

@@ -137,17 +137,17 @@ impl LanguageChildren for Small {
         }
     }
 
-    fn applied_id(&self, k: usize) -> Option<&AppliedId> {
+    fn get_applied_id(&self, k: usize) -> Option<&AppliedId> {
         match self {
-            Small::Lam(b) => b.applied_id(k),
-            Small::Var(x) => x.applied_id(k),
-            Small::G(x) => x.applied_id(k),
-            Small::Number(n) => n.applied_id(k),
-            Small::Word(w) => w.applied_id(k),
-            Small::App(a, b) => pair::applied_id(a, b, k),
-            Small::F(x, y) => pair::applied_id(x, y, k),
-            Small::Add(a, b) => pair::applied_id(a, b, k),
-            Small::Mul(a, b) => pair::applied_id(a, b, k),
+            Small::Lam(b) => b.get_applied_id(k),
+            Small::Var(x) => x.get_applied_id(k),
+            Small::G(x) => x.get_applied_id(k),
+            Small::Number(n) => n.get_applied_id(k),
+            Small::Word(w) => w.get_applied_id(k),
+            Small::App(a, b) => pair::get_applied_id(a, b, k),
+            Small::F(x, y) => pair::get_applied_id(x, y, k),
+            Small::Add(a, b) => pair::get_applied_id(a, b, k),
+            Small::Mul(a, b) => pair::get_applied_id(a, b, k),
         }
     }
 

@@ -93,7 +93,7 @@ fn described<L: LanguageChildren>(alloc: Global, part: &L) -> Result<String, Err
     }
     text.push_str(" |")?;
     for k in 0..part.applied_id_count() {
-        let id = part.applied_id(k).map_or(0, |child| child.id.0);
+        let id = part.applied_id(k).id.0;
         let first = part.applied_id_place(k);
         text.push_str(format!(in alloc; " {id}@{first}")?.as_str())?;
     }

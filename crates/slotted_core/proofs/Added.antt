@@ -1,0 +1,251 @@
+-- What adding a node leaves: where its shape is filed nothing changes, and else there is one class more.
+use Rattle.std.proofs.Common.{◌≡◌, ◌<◌, ◌≤◌, ℕ, zero, suc, ◌+◌, ◌-◌, ◌*◌, List, [], ◌∷◌, ◌++◌, Option, Some, None, length, map, get_or, cond, sym, ◌∙◌, ap, refl, subst, arith, inl, inr, length-append}
+use Rattle.std.specs.Prelude.{option_map, is_some, IsSome, All, Contains, true, false}
+use Rattle.std.proofs.lemmas.Bool.{false≢true}
+use Rattle.std.proofs.lemmas.List.{map-append}
+use Rattle.slotted_theory.specs.Nameless.{DArgs, DTerm, moved}
+use Rattle.slotted_theory.specs.Renaming.{IsInjective}
+use Rattle.slotted_theory.specs.FiniteMaps.{HasValue, IsInjectiveMap}
+use Rattle.slotted_theory.specs.Shape.{SameUpToNames}
+use Rattle.slotted_theory.specs.Shape as theory
+use Rattle.slotted_theory.proofs.Shapes.{shape_iff}
+use Rattle.slotted_theory.proofs.Bijections.{to-injective}
+use Rattle.slotted_slots.specs.Maps.{keys, values}
+use Rattle.slotted_slots.specs.Table.{Table, fresh_slot, empty_table}
+use Rattle.slotted_languages.specs.Form.{Form}
+use Rattle.slotted_languages.specs.Joined.{at_append}
+use Rattle.slotted_languages.specs.NodeTerm.{nameless_node}
+use Rattle.slotted_languages.specs.Shape.{shape, Fits, moved_names}
+use Rattle.slotted_languages.proofs.Shapes.{shapes_iff}
+use Rattle.slotted_model.specs.Ascending.{ascending, names}
+use Rattle.slotted_model.specs.Applied.{Applied, map_on, renamed_id, EachChild}
+use Rattle.slotted_model.specs.Classes.{canonical_node, canonical_slots, IsFull, Canonical}
+use Rattle.slotted_model.specs.Growth.{IsNew, identity_id, Extends, Added}
+use Rattle.slotted_model.specs.Ids.{id_of_node}
+use Rattle.slotted_model.proofs.Members.{In, In-Contains}
+use Rattle.slotted_model.proofs.Sets.{In-of_ascending}
+use Rattle.slotted_model.proofs.Maps.{In-values}
+use Rattle.slotted_model.proofs.Children.{EachChild-moved}
+use Rattle.slotted_model.proofs.Full.{full-renamed}
+use Rattle.slotted_model.proofs.Growing.{added, node-old, node-new, Extends-same}
+use Rattle.slotted_core.specs.FormCode.{form_is, form_Decides}
+use Rattle.slotted_core.specs.Graph.{IsFreshBetween, HasNewClass}
+use Rattle.slotted_core.specs.Kept.{Kept, ClassEntry, RowEntry, no_form, found, rows_from, node_at, find_at, nodes_of, with_new_class, Good, HasFreshSlots, Adds}
+use Rattle.slotted_core.specs.Names.{between, fresh_slots, with_put}
+use Rattle.slotted_core.specs.Nodes.{child_ids}
+use Rattle.slotted_core.proofs.Children.{Each-from_All, EachChild-node_args}
+use Rattle.slotted_core.proofs.Found.{nameless_nodes, canonical_node-in, answer, look_up-rows, none_has}
+use Rattle.slotted_core.proofs.Ids.{length-classes}
+use Rattle.slotted_core.proofs.Inserted.{ascending-values, between-moved}
+use Rattle.slotted_core.proofs.Renamed.{fits_put, shape-put}
+
+-- lists with one element more
+
+rows_from-push : (i : ℕ) (cs : List ClassEntry) (c : ClassEntry) → rows_from i (cs ++ c ∷ []) ≡ rows_from i cs ++ ((shape c.0).0, (i + length cs, (shape c.0).1)) ∷ []
+rows_from-push i [] c = let e : i ≡ i + 0 = omega arith in ap (λ n. ((shape c.0).0, (n, (shape c.0).1)) ∷ []) e
+rows_from-push i (b ∷ cs) c =
+    let e : suc i + length cs ≡ i + suc (length cs) = omega arith in
+    ap (λ r. ((shape b.0).0, (i, (shape b.0).1)) ∷ r)
+    (rows_from-push (suc i) cs c ∙ ap (λ n. rows_from (suc i) cs ++ ((shape c.0).0, (n, (shape c.0).1)) ∷ []) e)
+
+found-push : (es : List RowEntry) (f : Form) (r : ℕ × List (ℕ × ℕ)) → found es f ≡ None → found (es ++ (f, r) ∷ []) f ≡ Some r
+found-push [] f r e = ap (λ b. cond b (Some r) None) ((form_Decides f f).1 refl)
+found-push (x ∷ es) f r e =
+    (elim (form_is f x.0) as (λ b. cond b (Some x.1) (found es f) ≡ None → cond b (Some x.1) (found (es ++ (f, r) ∷ []) f) ≡ Some r)
+    [ true ↦ λ q. cc | false ↦ λ q. found-push es f r q ]) e
+
+-- what holds of each element and of the new one holds of each of the longer list
+each_push : (Q : ℕ → ClassEntry → Type 0) (cs : List ClassEntry) (c d : ClassEntry) → ((i : ℕ) → i < length cs → Q i (get_or cs i d)) → Q (length cs) c → (i : ℕ) → i < length (cs ++ c ∷ []) → Q i (get_or (cs ++ c ∷ []) i d)
+each_push Q [] c d old new zero l = new
+each_push Q [] c d old new (suc i) l = absurd (omega arith)
+each_push Q (b ∷ cs) c d old new zero l = old 0 (omega arith)
+each_push Q (b ∷ cs) c d old new (suc i) l = each_push (λ j. Q (suc j)) cs c d (λ j m. old (suc j) (omega arith)) new i (omega arith)
+
+-- fresh slots
+
+fresh_from : (c n v : ℕ) → In v (fresh_slots c n) → (j : ℕ) × (v ≡ fresh_slot j) × (c ≤ j) × (j < c + n)
+fresh_from c zero v h = absurd h
+fresh_from c (suc n) v (inl e) = (c, e, omega arith, omega arith)
+fresh_from c (suc n) v (inr h) = let r = fresh_from (suc c) n v h in (r.0, r.1, omega (arith, r.2), omega (arith, r.3))
+
+fresh_injective : (m : List (ℕ × ℕ)) (c n : ℕ) → values m ≡ fresh_slots c n → IsInjectiveMap m
+fresh_injective [] c n e = tt
+fresh_injective (p ∷ m) c zero e = cc
+fresh_injective (p ∷ m) c (suc n) e =
+    let h : p.1 ≡ fresh_slot c = cc in
+    let t : values m ≡ fresh_slots (suc c) n = cc in
+    (λ v. let r = fresh_from (suc c) n p.1 (subst (In p.1) t (In-values m p.1 v)) in omega (arith, h, r.1, r.2), fresh_injective m (suc c) n t)
+
+older : (t u : Table) (s : ℕ) → t.fresh ≤ u.fresh → IsFreshBetween empty_table t s → IsFreshBetween empty_table u s
+older t u s l b = record { index = b.index; is_slot = b.is_slot; unused = omega arith; made = omega (arith, l, b.made) }
+
+newer : (t u : Table) (s : ℕ) → IsFreshBetween t u s → IsFreshBetween empty_table u s
+newer t u s b = record { index = b.index; is_slot = b.is_slot; unused = omega arith; made = b.made }
+
+-- an injective renaming keeps an id full
+pub keeps_full : (g : List DTerm) (f : ℕ → ℕ) → IsInjective f → (a : Applied) → IsFull g a → IsFull g (renamed_id f a)
+keeps_full g f inj a full = full-renamed g a full f (λ x y h k e. inj x y e)
+
+-- the children of the nameless form of a node over full ids are full
+pub full_children : (g : List DTerm) (f : Form) → Fits f → All (IsFull g) (child_ids f) → EachChild (IsFull g) (nameless_node f).args
+full_children g f hf full = EachChild-node_args (IsFull g) (keeps_full g) (λ x. x) (λ x y e. e) f.tree f.names hf (Each-from_All (IsFull g) (child_ids f) full)
+
+-- where the shape is filed
+pub adds_none : (t : Table) (k : Kept) → Good k → HasFreshSlots t k → (f : Form) → Fits f → (r : ℕ × List (ℕ × ℕ)) → found k.rows (shape f).0 ≡ Some r → Adds t t k k f (answer (shape f).1 r)
+adds_none t k good over f hf r e =
+    let p : id_of_node (nodes_of k) (nameless_node f) ≡ Some (answer (shape f).1 r) = sym (look_up-rows k good f hf) ∙ ap (option_map (answer (shape f).1)) e in
+    record {
+      good = good;
+      fresh_slots = over;
+      extends = Extends-same (nodes_of k);
+      found = p;
+      kept = λ s. refl;
+      made = λ n. absurd (false≢true (ap is_some (sym n ∙ p)));
+    }
+
+module _ (t u : Table) (k : Kept) (good : Good k) (over : HasFreshSlots t k) (f : Form) (hf : Fits f) (full : All (IsFull (nodes_of k)) (child_ids f)) (none : found k.rows (shape f).0 ≡ None) (slots : List (ℕ × ℕ)) (same_keys : keys slots ≡ keys (shape f).1) (new_values : values slots ≡ fresh_slots t.fresh (length (shape f).1)) (moves : u.fresh ≡ t.fresh + length (shape f).1) where
+  abbrev l : Kept
+  l = with_new_class k (shape f).0 slots
+
+  abbrev c : Form
+  c = with_put slots (shape f).0
+
+  abbrev g : List DTerm
+  g = nodes_of k
+
+  abbrev d : DTerm
+  d = nameless_node c
+
+  abbrev n : ℕ
+  n = length k.classes
+
+  injective : IsInjectiveMap slots
+  injective = fresh_injective slots t.fresh (length (shape f).1) new_values
+
+  fresh : (v : ℕ) → In v (values slots) → IsFreshBetween t u v
+  fresh v h =
+      let r = fresh_from t.fresh (length (shape f).1) v (subst (In v) new_values h) in
+      record { index = r.0; is_slot = r.1; unused = r.2; made = omega (arith, r.3, moves) }
+
+  fresh_one : (v : ℕ) → In v (values slots) → (i : ℕ) × (v ≡ fresh_slot i)
+  fresh_one v h = let b = fresh v h in (b.index, b.is_slot)
+
+  abbrev put_shape : ((shape c).0 ≡ (shape f).0) × ((shape c).1 ≡ slots)
+  put_shape = shape-put f hf slots same_keys injective fresh_one
+
+  fits_c : Fits c
+  fits_c = fits_put f hf slots same_keys injective fresh_one
+
+  abbrev same : SameUpToNames (nameless_node f) d
+  same = (shapes_iff f c hf fits_c).0 (sym put_shape.0)
+
+  one_shape : theory.shape d ≡ theory.shape (nameless_node f)
+  one_shape = sym ((shape_iff (nameless_node f) d).1 same)
+
+  is_new : IsNew g d
+  is_new = record {
+    operator = omega arith;
+    children = subst (λ (x : DTerm). EachChild (IsFull g) x.args) same.1
+        (EachChild-moved (IsFull g) (keeps_full g) same.0.to (to-injective same.0) (nameless_node f).args (full_children g f hf full));
+    shape_is_new = λ i h e.
+        let m : i < length k.classes = omega (arith, h, length-classes k) in
+        none_has k good f hf none i m (ap theory.shape (sym (canonical_node-in k.classes i m)) ∙ (e ∙ one_shape));
+  }
+
+  adds : Added g (g ++ d ∷ []) d
+  adds = added g d good.canonical is_new
+
+  nodes_are : nodes_of l ≡ g ++ d ∷ []
+  nodes_are = map-append (λ (x : ClassEntry). nameless_node x.0) k.classes ((c, (n, between slots slots)) ∷ [])
+
+  -- the slots of classes
+
+  slots_new : names d ≡ ascending (values slots)
+  slots_new = sym (ascending-values c) ∙ ap (λ (m : List (ℕ × ℕ)). ascending (values m)) put_shape.1
+
+  slots_at : (i : ℕ) → i < length l.classes → canonical_slots (nodes_of l) i ≡ names (nameless_node (node_at l i))
+  slots_at i h = ap names (canonical_node-in l.classes i h)
+
+  slots_old : (i : ℕ) → i < length k.classes → canonical_slots (nodes_of l) i ≡ canonical_slots g i
+  slots_old i h = ap (λ (x : List DTerm). canonical_slots x i) nodes_are ∙ ap names (node-old g d i (omega (arith, h, length-classes k)))
+
+  slots_last : canonical_slots (nodes_of l) n ≡ names d
+  slots_last =
+      ap (λ (x : List DTerm). canonical_slots x n) nodes_are
+      ∙ (ap (λ (i : ℕ). canonical_slots (g ++ d ∷ []) i) (sym (length-classes k)) ∙ ap names (node-new g d))
+
+  fresh_last : (s : ℕ) → In s (names d) → IsFreshBetween t u s
+  fresh_last s h = fresh s (In-of_ascending s (values slots) (subst (In s) slots_new h))
+
+  moved_id : (m : List (ℕ × ℕ)) → m ≡ moved_names (λ x. x) m
+  moved_id [] = refl
+  moved_id (p ∷ m) = ap (λ r. p ∷ r) (moved_id m)
+
+  finds_itself : between slots slots ≡ map_on (λ x. x) (names d)
+  finds_itself =
+      (λ i. between (sym put_shape.1 i) (sym put_shape.1 i)) ∙ between-moved (λ x. x) c (shape c).1 (moved_id (shape c).1)
+
+  pub good_more : Good l
+  good_more = record {
+    canonical = subst Canonical (sym nodes_are) adds.canonical;
+    rows = (λ i. good.rows i ++ (sym put_shape.0 i, (n, sym put_shape.1 i)) ∷ [])
+        ∙ (ap (λ (j : ℕ). rows_from 0 k.classes ++ ((shape c).0, (j, (shape c).1)) ∷ []) (zero_plus n)
+        ∙ sym (rows_from-push 0 k.classes (c, (n, between slots slots))));
+    fits = each_push (λ i e. Fits e.0) k.classes (c, (n, between slots slots)) (no_form, (0, [])) good.fits fits_c;
+    finds = each_push (λ i e. e.1 ≡ identity_id (nodes_of l) i) k.classes (c, (n, between slots slots)) (no_form, (0, []))
+        (λ i h. good.finds i h ∙ (λ j. (i, map_on (λ x. x) (sym (slots_old i h) j))))
+        (λ j. (n, (finds_itself ∙ ap (map_on (λ x. x)) (sym slots_last)) j));
+  }
+    where
+      zero_plus : (m : ℕ) → m ≡ 0 + m
+      zero_plus m = omega arith
+
+  fresh_more : HasFreshSlots u l
+  fresh_more i s h b =
+      each_push (λ j e. Contains (names (nameless_node e.0)) s → IsFreshBetween empty_table u s) k.classes (c, (n, between slots slots)) (no_form, (0, []))
+      (λ j m a. older t u s (omega (arith, moves)) (over j s m (subst (λ (x : List ℕ). Contains x s) (ap names (sym (canonical_node-in k.classes j m))) a)))
+      (λ a. newer t u s (fresh_last s (In-Contains (names d) s a))) i h
+      (subst (λ (x : List ℕ). Contains x s) (slots_at i h) b)
+
+  found_more : id_of_node (nodes_of l) (nameless_node f) ≡ Some (n, between slots (shape f).1)
+  found_more =
+      sym (look_up-rows l good_more f hf)
+      ∙ ap (option_map (answer (shape f).1)) (found-push k.rows (shape f).0 (n, slots) none)
+
+  none_before : id_of_node g (nameless_node f) ≡ None
+  none_before = sym (look_up-rows k good f hf) ∙ ap (option_map (answer (shape f).1)) none
+
+  -- where the shape is not filed
+  pub adds_one : Adds t u k l f (n, between slots (shape f).1)
+  adds_one = record {
+    good = good_more;
+    fresh_slots = fresh_more;
+    extends = subst (Extends g) (sym nodes_are) adds.extends;
+    found = found_more;
+    kept = λ s. absurd (false≢true (sym (ap is_some none_before) ∙ s));
+    made = λ p. record {
+      node = d;
+      class = nodes_are;
+      same_shape = one_shape;
+      fresh = λ s b. fresh_last s (In-Contains (names d) s (subst (λ (x : List ℕ). Contains x s) (ap (λ (i : ℕ). canonical_slots (nodes_of l) i) (length-classes k) ∙ slots_last) b));
+    };
+  }
+
+-- what the code reads: the shape s with its names m
+
+abbrev RowAdds : Table → Kept → Form → Form × List (ℕ × ℕ) → Type 0
+RowAdds t k f x = (r : ℕ × List (ℕ × ℕ)) (a : Applied) → Some r ≡ found k.rows x.0 → a ≡ answer x.1 r → Adds t t k k f a
+
+pub row_adds : (t : Table) (k : Kept) → Good k → HasFreshSlots t k → (f : Form) → Fits f → (s : Form) (m : List (ℕ × ℕ)) → ◌≡◌ {A = Form × List (ℕ × ℕ)} (s, m) (shape f) → RowAdds t k f (s, m)
+row_adds t k good over f hf s m e =
+    subst (RowAdds t k f) (sym e) (λ r a p q. subst (Adds t t k k f) (sym q) (adds_none t k good over f hf r (sym p)))
+
+abbrev ClassAdds : Table → Table → Kept → Kept → Form → Applied → List (ℕ × ℕ) → Form × List (ℕ × ℕ) → Type 0
+ClassAdds t u k l f a slots x =
+    None ≡ found k.rows x.0 → keys slots ≡ keys x.1 → values slots ≡ fresh_slots t.fresh (length x.1) → u.fresh ≡ t.fresh + length x.1 →
+    l ≡ with_new_class k x.0 slots → a ≡ (length k.classes, between slots x.1) → Adds t u k l f a
+
+pub class_adds : (t u : Table) (k l : Kept) → Good k → HasFreshSlots t k → (f : Form) → Fits f → All (IsFull (nodes_of k)) (child_ids f) → (a : Applied) (slots : List (ℕ × ℕ)) (s : Form) (m : List (ℕ × ℕ)) → ◌≡◌ {A = Form × List (ℕ × ℕ)} (s, m) (shape f) → ClassAdds t u k l f a slots (s, m)
+class_adds t u k l good over f hf full a slots s m e =
+    subst (ClassAdds t u k l f a slots) (sym e)
+    (λ none ks vs mv el ea. subst (λ (x : Kept × Applied). Adds t u k x.0 f x.1) (λ i. (sym el i, sym ea i)) (adds_one t u k good over f hf full (sym none) slots ks vs mv))

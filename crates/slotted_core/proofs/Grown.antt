@@ -1,0 +1,126 @@
+-- Adding a term from below: the ids of the children stand in the node so far.
+use Rattle.std.proofs.Common.{◌≡◌, ◌<◌, ◌≤◌, ℕ, zero, suc, ◌+◌, List, [], ◌∷◌, length, get_or, sym, ◌∙◌, ap, refl, subst, arith, inl, inr, Some}
+use Rattle.std.specs.Prelude.{slice_set, slice_index_or, All}
+use Rattle.std.specs.List.{zip}
+use Rattle.std.proofs.lemmas.Bool.{cases_eq}
+use Rattle.slotted_theory.specs.Term.{Args, Term, done, args_size, term_size}
+use Rattle.slotted_theory.specs.Nameless.{DTerm, nameless, nameless_args}
+use Rattle.slotted_slots.specs.Maps.{keys, values}
+use Rattle.slotted_slots.specs.Table.{Table}
+use Rattle.slotted_languages.specs.Form.{Form, children, with_child}
+use Rattle.slotted_languages.specs.Joined.{length_children-with_child_in}
+use Rattle.slotted_languages.specs.Filled.{filled}
+use Rattle.slotted_languages.specs.Filled as form
+use Rattle.slotted_languages.specs.NodeTerm.{nameless_node}
+use Rattle.slotted_languages.specs.Shape.{Fits}
+use Rattle.slotted_model.specs.Applied.{Applied}
+use Rattle.slotted_model.specs.Classes.{terms, term_of, layer_of, IsFull, Canonical}
+use Rattle.slotted_model.specs.Growth.{Extends}
+use Rattle.slotted_model.proofs.Growing.{Extends-same, Extends-then}
+use Rattle.slotted_core.specs.Graph.{IsWhole}
+use Rattle.slotted_core.specs.Kept.{Kept, nodes_of, Good, HasFreshSlots, Adds, AddsTerm}
+use Rattle.slotted_core.specs.Nodes.{child_ids}
+use Rattle.slotted_core.proofs.Added.{full_children}
+use Rattle.slotted_core.proofs.Children.{length-ids, zip-keys_values}
+use Rattle.slotted_core.proofs.Known.{answer_full, answer_term}
+use Rattle.slotted_core.proofs.Layers.{match-from, expand-filled}
+use Rattle.slotted_core.proofs.NameMaps.{length-keys, length-values}
+use Rattle.slotted_core.proofs.Plugged.{plugs}
+use Rattle.slotted_core.proofs.Sizes.{node_fits}
+
+-- the first i children of h are ids of the terms us, and beside its children h is f
+pub record IsPart (k : Kept) (t : Table) (l : Kept) (f h : Form) (us : List Term) (i : ℕ) : Type 0 where
+  pub good : Good l
+  pub fresh_slots : HasFreshSlots t l
+  pub extends : Extends (nodes_of k) (nodes_of l)
+  pub operator : h.operator ≡ f.operator
+  pub payloads : h.payloads ≡ f.payloads
+  pub count : length (children h.tree) ≡ length (children f.tree)
+  pub outline : (vs : List Term) → length vs ≡ length (children f.tree) → filled h.tree h.names vs ≡ filled f.tree f.names vs
+  pub ids : (j : ℕ) (d : Applied) (e : Term) → j < i → IsFull (nodes_of l) (slice_index_or (child_ids h) j d) × (term_of (nodes_of l) (slice_index_or (child_ids h) j d) ≡ nameless (slice_index_or us j e))
+
+pub part_start : (k : Kept) (t : Table) → Good k → HasFreshSlots t k → (f : Form) (us : List Term) → IsPart k t k f f us 0
+part_start k t good fresh f us = record {
+  good = good;
+  fresh_slots = fresh;
+  extends = Extends-same (nodes_of k);
+  operator = refl;
+  payloads = refl;
+  count = refl;
+  outline = λ vs n. refl;
+  ids = λ j d e l. absurd (omega arith);
+}
+
+set_same : {X : Type 0} (xs : List X) (k : ℕ) (a d : X) → k < length xs → get_or (slice_set xs k a) k d ≡ a
+set_same [] k a d l = absurd (omega arith)
+set_same (x ∷ xs) zero a d l = refl
+set_same (x ∷ xs) (suc k) a d l = set_same xs k a d (omega arith)
+
+set_other : {X : Type 0} (xs : List X) (k j : ℕ) (a d : X) → j < k → get_or (slice_set xs k a) j d ≡ get_or xs j d
+set_other [] k j a d l = refl
+set_other (x ∷ xs) zero j a d l = absurd (omega arith)
+set_other (x ∷ xs) (suc k) zero a d l = refl
+set_other (x ∷ xs) (suc k) (suc j) a d l = set_other xs k j a d (omega arith)
+
+pub part_step : (k : Kept) (t v : Table) (l m : Kept) (f h : Form) (us : List Term) (i : ℕ) (a : Applied) (u : Term) → Fits h → IsPart k t l f h us i → i < length (children f.tree) → ((e : Term) → slice_index_or us i e ≡ u) → AddsTerm v l m u a → IsPart k v m f (with_child h i a.0 (keys a.1) (values a.1)) us (i + 1)
+part_step k t v l m f h us i a u fits p lt at add =
+    let n : length (values a.1) ≡ length (keys a.1) = length-values a.1 ∙ sym (length-keys a.1) in
+    let q = plugs h.tree h.names i a.0 (keys a.1) (values a.1) fits (omega (arith, p.count, lt)) n in
+    let c : child_ids (with_child h i a.0 (keys a.1) (values a.1)) ≡ slice_set (child_ids h) i a =
+    q.0 ∙ ap (λ (z : List (ℕ × ℕ)). slice_set (child_ids h) i (a.0, z)) (zip-keys_values a.1) in
+    let w : i < length (child_ids h) = omega (arith, p.count, lt, length-ids h.tree h.names) in
+    let o : length (children (with_child h i a.0 (keys a.1) (values a.1)).tree) ≡ length (children h.tree) = length_children-with_child_in h.tree i a.0 (keys a.1) in
+    record {
+      good = add.good;
+      fresh_slots = add.fresh_slots;
+      extends = Extends-then (nodes_of k) (nodes_of l) (nodes_of m) p.extends add.extends;
+      operator = p.operator;
+      payloads = p.payloads;
+      count = o ∙ p.count;
+      outline = λ vs z. q.1 vs (z ∙ sym p.count) ∙ p.outline vs z;
+      ids = λ j d e z. elim (cases_eq j i) [
+        | inl r ↦
+            let b : slice_index_or (child_ids (with_child h i a.0 (keys a.1) (values a.1))) j d ≡ a =
+            ap (λ (ids : List Applied). get_or ids j d) c ∙ (ap (λ (y : ℕ). get_or (slice_set (child_ids h) i a) y d) r ∙ set_same (child_ids h) i a d w) in (
+              subst (IsFull (nodes_of m)) (sym b) add.full,
+              ap (term_of (nodes_of m)) b ∙ (add.term ∙ ap nameless (sym (ap (λ (y : ℕ). get_or us y e) r ∙ at e))),
+            )
+        | inr r ↦
+            let s : j < i = omega (arith, r, z) in
+            let b : slice_index_or (child_ids (with_child h i a.0 (keys a.1) (values a.1))) j d ≡ slice_index_or (child_ids h) j d =
+            ap (λ (ids : List Applied). get_or ids j d) c ∙ set_other (child_ids h) i j a d s in
+            let old = p.ids j d e s in (
+              subst (IsFull (nodes_of m)) (sym b) (add.extends.full (slice_index_or (child_ids h) j d) old.0),
+              ap (term_of (nodes_of m)) b ∙ (add.extends.terms (slice_index_or (child_ids h) j d) old.0 ∙ old.1),
+            )
+      ];
+    }
+
+-- where all children are ids the node is one over full ids
+
+pub part_full : (k : Kept) (t : Table) (l : Kept) (f h : Form) (us : List Term) → IsPart k t l f h us (length us) → length us ≡ length (children f.tree) → All (IsFull (nodes_of l)) (child_ids h)
+part_full k t l f h us p n j d lt = (p.ids j d (record { op = 0; payloads = []; args = done }) (omega (arith, lt, n, p.count, length-ids h.tree h.names))).0
+
+pub part_layer : (k : Kept) (t : Table) (l : Kept) (f h : Form) (us : List Term) → Fits h → IsPart k t l f h us (length us) → length us ≡ length (children f.tree) → layer_of (nodes_of l) (nameless_node h) ≡ nameless (form.term_of f us)
+part_layer k t l f h us fits p n =
+    let m = match-from (nodes_of l) p.good.canonical (child_ids h) us (length-ids h.tree h.names ∙ (p.count ∙ sym n)) p.ids in
+    let e = expand-filled (terms (nodes_of l)) (λ x. x) h.tree h.names us fits m in
+    let o : filled h.tree h.names us ≡ filled f.tree f.names us = p.outline us n in
+    λ i. record { op = suc (p.operator i); payloads = p.payloads i; args = (e ∙ ap (λ (a : Args). nameless_args (λ x. x) a) o) i }
+
+-- and then the node's id is that of the term
+pub part_end : (k : Kept) (t v : Table) (l m : Kept) (f h : Form) (us : List Term) (a : Applied) → Fits h → IsPart k t l f h us (length us) → length us ≡ length (children f.tree) → Adds t v l m h a → AddsTerm v k m (form.term_of f us) a
+part_end k t v l m f h us a fits p n add = record {
+  good = add.good;
+  fresh_slots = add.fresh_slots;
+  extends = Extends-then (nodes_of k) (nodes_of l) (nodes_of m) p.extends add.extends;
+  full = answer_full (nodes_of m) h a add.found;
+  term = answer_term (nodes_of m) h a add.found add.good.canonical
+      ∙ (add.extends.layers (nameless_node h) (full_children (nodes_of l) h fits (part_full k t l f h us p n)) ∙ part_layer k t l f h us fits p n);
+}
+
+-- the node has no more places than the term has size
+pub part_size : (k : Kept) (t : Table) (l : Kept) (f h : Form) (us : List Term) → Fits h → IsPart k t l f h us (length us) → length us ≡ length (children f.tree) → length h.names ≤ term_size (form.term_of f us)
+part_size k t l f h us fits p n =
+    let s = node_fits (nodes_of l) p.good.canonical h us fits (n ∙ sym p.count) p.ids in
+    omega (arith, s, ap args_size (p.outline us n))

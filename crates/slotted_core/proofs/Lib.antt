@@ -1,0 +1,14 @@
+pub mod Rows
+pub mod NameMaps
+pub mod Inserted
+pub mod Found
+pub mod Ids
+pub mod Children
+pub mod Renamed
+pub mod Added
+pub mod Known
+pub mod Plugged
+pub mod Layers
+pub mod Grown
+pub mod ValidTerms
+pub mod Sizes

@@ -1,0 +1,120 @@
+-- A node over ids of terms has no more places than the term's size.
+use Rattle.std.proofs.Common.{◌≡◌, ◌<◌, ◌≤◌, ℕ, zero, suc, ◌+◌, List, [], ◌∷◌, ◌++◌, length, take, drop, map, get_or, cond, sym, ◌∙◌, ap, refl, arith, inl, inr, length-append}
+use Rattle.std.specs.Prelude.{nat_lt, nat_eq, slice_index_or, Option, None}
+use Rattle.std.specs.List.{zip}
+use Rattle.std.proofs.lemmas.Bool.{cases_lt, cases_eq, lt-ltb, le-ltb, eq-eqb, ne_eqb}
+use Rattle.slotted_theory.specs.Term.{Args, Term, done, name, args_size, term_size}
+use Rattle.slotted_theory.specs.Term as term
+use Rattle.slotted_theory.specs.Nameless.{DTerm, extend, nameless_args, nameless}
+use Rattle.slotted_theory.specs.FiniteMaps.{filled}
+use Rattle.slotted_theory.specs.Shape.{outside, free_names}
+use Rattle.slotted_slots.specs.Maps.{keys, values}
+use Rattle.slotted_languages.specs.Form.{Form, Tree, leaf, own, child, bind, scopes, children}
+use Rattle.slotted_languages.specs.Filled as form
+use Rattle.slotted_languages.proofs.NodeTerms.{own_fits, child_keys_fit, child_rest_fits, bind_inner_fits, bind_rest_fits}
+use Rattle.slotted_model.specs.Ascending.{with_name, ascending, names}
+use Rattle.slotted_model.specs.Applied.{Applied}
+use Rattle.slotted_model.specs.Classes.{canonical_term, term_of, IsFull, Canonical}
+use Rattle.slotted_model.proofs.Full.{canonical_term-names}
+use Rattle.slotted_model.proofs.Theory.{free_names-moved}
+use Rattle.slotted_core.specs.Nodes.{ids_in, child_ids}
+use Rattle.slotted_core.proofs.Children.{length-ids}
+use Rattle.slotted_core.proofs.Layers.{length-parts}
+use Rattle.slotted_core.proofs.NameMaps.{length-keys, length-values}
+
+length-with_name : (x : ℕ) (ys : List ℕ) → length (with_name x ys) ≤ suc (length ys)
+length-with_name x [] = omega arith
+length-with_name x (y ∷ ys) = elim (cases_lt x y) [
+  | inl l ↦
+      let e : length (with_name x (y ∷ ys)) ≡ suc (suc (length ys)) = ap (λ b. length (cond b (x ∷ y ∷ ys) (cond (nat_eq x y) (y ∷ ys) (y ∷ with_name x ys)))) (lt-ltb x y l) in
+      omega (arith, e)
+  | inr g ↦
+      let e : length (with_name x (y ∷ ys)) ≡ length (cond (nat_eq x y) (y ∷ ys) (y ∷ with_name x ys)) =
+      ap (λ b. length (cond b (x ∷ y ∷ ys) (cond (nat_eq x y) (y ∷ ys) (y ∷ with_name x ys)))) (le-ltb x y g) in
+      elim (cases_eq x y) [
+        | inl q ↦
+            let d : length (cond (nat_eq x y) (y ∷ ys) (y ∷ with_name x ys)) ≡ suc (length ys) = ap (λ b. length (cond b (y ∷ ys) (y ∷ with_name x ys))) (eq-eqb x y q) in
+            omega (arith, e, d)
+        | inr n ↦
+            let d : length (cond (nat_eq x y) (y ∷ ys) (y ∷ with_name x ys)) ≡ suc (length (with_name x ys)) = ap (λ b. length (cond b (y ∷ ys) (y ∷ with_name x ys))) (ne_eqb x y n) in
+            omega (arith, e, d, length-with_name x ys)
+      ]
+]
+
+length-ascending : (xs : List ℕ) → length (ascending xs) ≤ length xs
+length-ascending [] = omega arith
+length-ascending (x ∷ xs) = omega (arith, length-with_name x (ascending xs), length-ascending xs)
+
+length-outside : (xs : List ℕ) → length (outside xs) ≤ length xs
+length-outside [] = omega arith
+length-outside (zero ∷ xs) = omega (arith, length-outside xs)
+length-outside (suc x ∷ xs) = omega (arith, length-outside xs)
+
+length-mapped : (f : ℕ → ℕ) (xs : List ℕ) → length (map f xs) ≡ length xs
+length-mapped f [] = refl
+length-mapped f (x ∷ xs) = ap suc (length-mapped f xs)
+
+free_fit : (ρ : ℕ → ℕ) (a : Args) → length (free_names (nameless_args ρ a)) ≤ args_size a
+free_fit ρ done = omega arith
+free_fit ρ (name x rest) = omega (arith, free_fit ρ rest)
+free_fit ρ (term.child op payloads args rest) =
+    omega (arith, length-append (free_names (nameless_args ρ args)) (free_names (nameless_args ρ rest)), free_fit ρ args, free_fit ρ rest)
+free_fit ρ (term.bind x inner rest) =
+    omega (arith, length-append (outside (free_names (nameless_args (extend x ρ) inner))) (free_names (nameless_args ρ rest)), length-outside (free_names (nameless_args (extend x ρ) inner)), free_fit (extend x ρ) inner, free_fit ρ rest)
+
+-- an id has no more names than its term has size
+names_fit : (nodes : List DTerm) → Canonical nodes → (a : Applied) → IsFull nodes a → (u : Term) → term_of nodes a ≡ nameless u → length (values a.1) ≤ args_size u.args
+names_fit nodes can a full u e =
+    let c : DTerm = canonical_term nodes a.0 in
+    let k : length (keys a.1) ≡ length (ascending (free_names c.args)) = ap length full.slots ∙ sym (ap length (canonical_term-names nodes can a.0 full.in_range)) in
+    let f : length (free_names c.args) ≡ length (free_names (nameless u).args) =
+    sym (length-mapped (filled a.1) (free_names c.args)) ∙ (ap length (sym (free_names-moved (filled a.1) c.args)) ∙ ap (λ (t : DTerm). length (free_names t.args)) e) in
+    omega (arith, length-values a.1, length-keys a.1, k, f, length-ascending (free_names c.args), free_fit (λ x. x) u.args)
+
+-- each id has no more names than its term has size
+abbrev pub Bounded : List Applied → List Term → Type 0
+Bounded [] [] = Unit {0}
+Bounded [] (u ∷ us) = ⊥
+Bounded (a ∷ ids) [] = ⊥
+Bounded (a ∷ ids) (u ∷ us) = (length (values a.1) ≤ args_size u.args) × Bounded ids us
+
+bounded-split : (ids more : List Applied) (us : List Term) (n : ℕ) → length ids ≡ n → Bounded (ids ++ more) us → Bounded ids (take n us) × Bounded more (drop n us)
+bounded-split [] more us zero e m = (tt, m)
+bounded-split [] more us (suc n) e m = absurd (omega (arith, e))
+bounded-split (a ∷ ids) more us zero e m = absurd (omega (arith, e))
+bounded-split (a ∷ ids) more [] (suc n) e m = absurd m
+bounded-split (a ∷ ids) more (u ∷ us) (suc n) e m = let r = bounded-split ids more us n (omega (arith, e)) m.1 in ((m.0, r.0), r.1)
+
+values-zip : (ks vs : List ℕ) → length vs ≡ length ks → length (values (zip ks vs)) ≡ length ks
+values-zip [] vs e = refl
+values-zip (k ∷ ks) [] e = absurd (omega (arith, e))
+values-zip (k ∷ ks) (v ∷ vs) e = ap suc (values-zip ks vs (omega (arith, e)))
+
+places_fit : (t : Tree) (xs : List ℕ) (us : List Term) → length xs ≡ length (scopes t) → Bounded (ids_in t xs) us → length (scopes t) ≤ args_size (form.filled t xs us)
+places_fit leaf xs us n m = omega arith
+places_fit (own r) xs us n m = omega (arith, places_fit r (drop 1 xs) us (own_fits r xs n) m)
+places_fit (child i ks r) xs [] n m = absurd m
+places_fit (child i ks r) xs (u ∷ us) n m =
+    omega (arith, length-append (map {B = Option ℕ} (λ _. None) ks) (scopes r), length-none ks, m.0, values-zip ks (take (length ks) xs) (child_keys_fit i ks r xs n), places_fit r (drop (length ks) xs) us (child_rest_fits i ks r xs n) m.1)
+  where
+    length-none : (zs : List ℕ) → length (map {B = Option ℕ} (λ _. None) zs) ≡ length zs
+    length-none [] = refl
+    length-none (z ∷ zs) = ap suc (length-none zs)
+places_fit (bind u r) xs us n m =
+    let s = length (scopes u) in
+    let c = length (children u) in
+    let q = bounded-split (ids_in u (take s (drop 1 xs))) (ids_in r (drop s (drop 1 xs))) us c (length-ids u (take s (drop 1 xs))) m in
+    omega (arith, length-append (scopes u) (scopes r), places_fit u (take s (drop 1 xs)) (take c us) (bind_inner_fits u r xs n) q.0, places_fit r (drop s (drop 1 xs)) (drop c us) (bind_rest_fits u r xs n) q.1)
+
+bounded-from : (nodes : List DTerm) → Canonical nodes → (ids : List Applied) (us : List Term) → length ids ≡ length us → ((j : ℕ) (d : Applied) (e : Term) → j < length us → IsFull nodes (get_or ids j d) × (term_of nodes (get_or ids j d) ≡ nameless (get_or us j e))) → Bounded ids us
+bounded-from nodes can [] [] n h = tt
+bounded-from nodes can [] (u ∷ us) n h = absurd (omega (arith, n))
+bounded-from nodes can (a ∷ ids) [] n h = absurd (omega (arith, n))
+bounded-from nodes can (a ∷ ids) (u ∷ us) n h =
+    let p = h 0 a u (omega arith) in
+    (names_fit nodes can a p.0 u p.1, bounded-from nodes can ids us (omega (arith, n)) (λ j d e l. h (suc j) d e (omega arith)))
+
+-- a node over ids of these terms has no more places than they have size
+pub node_fits : (nodes : List DTerm) → Canonical nodes → (h : Form) (us : List Term) → length h.names ≡ length (scopes h.tree) → length us ≡ length (children h.tree) → ((j : ℕ) (d : Applied) (e : Term) → j < length us → IsFull nodes (get_or (child_ids h) j d) × (term_of nodes (get_or (child_ids h) j d) ≡ nameless (get_or us j e))) → length h.names ≤ args_size (form.filled h.tree h.names us)
+node_fits nodes can h us n c ids =
+    omega (arith, n, places_fit h.tree h.names us n (bounded-from nodes can (child_ids h) us (length-ids h.tree h.names ∙ sym c) ids))

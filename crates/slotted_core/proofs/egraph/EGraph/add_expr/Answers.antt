@@ -1,0 +1,40 @@
+use Rattle.std.proofs.Common.{◌≡◌, ◌∙◌, ap, sym, subst, inl, inr}
+use Rattle.std.proofs.lemmas.Bool.{false≢true}
+use Rattle.slotted_slots.specs.Table.{Table}
+use Rattle.slotted_model.proofs.Ids.{id_of-iff}
+use Rattle.slotted_core.specs.Graph.{Graph, IsValidTerm}
+use Rattle.slotted_core.specs.Kept.{nodes_of}
+use Rattle.slotted_core.specs.Nodes.{to_applied}
+use Rattle.slotted_theory.specs.Nameless.{nameless}
+use Rattle.slotted_core.proofs.Known.{term_known}
+use Rattle.slotted_core.proofs.egraph.EGraph.add_expr.Goals as goal
+
+pub returns-clause-valid : goal.returns-clause-valid
+returns-clause-valid g c =
+    let adds = c.in_ok-answer.ensures.ok in
+    let table : c.self.inside.table ≡ c.args.self.now.table = ap (λ (x : Graph). x.table) c.self.view_is in
+    let valid : IsValidTerm c.self.inside.table c.args.term.now = elim c.requires [
+      | inl h ↦ absurd (false≢true (sym c.if-self.false ∙ (ap (λ (x : Graph). x.failed) c.self.view_is ∙ h)))
+      | inr v ↦ subst (λ (t : Table). IsValidTerm t c.args.term.now) (sym table) v
+    ] in
+    record {
+      full = adds.full;
+      known = λ k d l. c.add_expr.ensures.more _ (term_known (nodes_of c.add_expr.new.self) adds.good.canonical (to_applied c.in_ok-answer.answer) adds.full c.args.term.now adds.term c.self.inside.table valid.known k d l);
+    }
+
+pub returns-clause-found : goal.returns-clause-found
+returns-clause-found g c =
+    let adds = c.in_ok-answer.ensures.ok in
+    (id_of-iff (nodes_of c.add_expr.new.self) adds.good.canonical (nameless c.args.term.now) (to_applied c.in_ok-answer.answer)).1 (adds.full, adds.term)
+
+pub add_expr-requires-clause-fresh_slots : goal.add_expr-requires-clause-fresh_slots
+add_expr-requires-clause-fresh_slots g c = elim c.self.invariant [
+  | inl h ↦ absurd (false≢true (sym c.if-self.false ∙ h))
+  | inr h ↦ h.1
+]
+
+pub add_expr-requires-clause-whole : goal.add_expr-requires-clause-whole
+add_expr-requires-clause-whole g c = elim c.requires [
+  | inl h ↦ absurd (false≢true (sym c.if-self.false ∙ (ap (λ (x : Graph). x.failed) c.self.view_is ∙ h)))
+  | inr v ↦ v.whole
+]

@@ -1,0 +1,101 @@
+use Rattle.std.proofs.Common.{◌≡◌, ◌<◌, ◌+◌, ◌∙◌, ℕ, List, length, get_or, ap, sym, subst, arith, rules, inl, inr}
+use Rattle.slotted_theory.specs.Term.{Term, term_size}
+use Rattle.slotted_slots.specs.Maps.{keys, values}
+use Rattle.slotted_languages.specs.Form.{Form, children}
+use Rattle.slotted_languages.specs.Filled.{term_of}
+use Rattle.slotted_core.specs.Graph.{IsWhole}
+use Rattle.slotted_core.specs.Kept.{AddsTerm}
+use Rattle.slotted_core.specs.Nodes.{to_applied}
+use Rattle.slotted_core.proofs.Grown.{IsPart, part_start, part_step, part_full, part_end, part_size}
+use Rattle.slotted_core.proofs.Layers.{whole_count, whole_each, each_at, any_default, child_smaller}
+use Rattle.slotted_core.proofs.kernel.Core.+add_expr.Goals as goal
+
+pub add_expr-requires : goal.add_expr-requires
+add_expr-requires g t c =
+    let form = g.L.LanguageChildren.form in
+    let us : List Term = c.deref-child-items.result.now in
+    let view : term_of (form c.in_ok-node.node) us ≡ c.args.term.now = (λ i. term_of (form (c.in_ok-node.ensures.ok i)) (c.deref-child-items.ensures.value i)) ∙ c.term.view_is in
+    let w = subst (λ (x : Term). IsWhole x.args) (sym view) c.requires.whole in
+    let whole : IsWhole c.child-item.result.args =
+    subst (λ (x : Term). IsWhole x.args) (sym c.child-item.is)
+    (each_at (λ (x : Term). IsWhole x.args) us c.loop-k.k c.child-item.result (omega (arith, c.loop-k-test.true, c.deref-child-items.ensures.len)) (whole_each (form c.in_ok-node.node).tree (form c.in_ok-node.node).names us w)) in
+    let l : c.loop-k.k < length us = omega (arith, c.loop-k-test.true, c.deref-child-items.ensures.len) in
+    let small : term_size c.child-item.result < term_size c.args.term.now =
+    subst (λ (x : Term). term_size c.child-item.result < term_size x) view (subst (λ (x : Term). term_size x < term_size (term_of (form c.in_ok-node.node) us)) (sym c.child-item.is) (child_smaller (form c.in_ok-node.node) us c.loop-k.k c.child-item.result l)) in
+    λ κs h. (omega (arith, small, c.decreases), (search rules, (c.loop-k.invariant.part.good, (c.loop-k.invariant.part.fresh_slots, whole))))
+
+pub set_applied_id-requires : goal.set_applied_id-requires
+set_applied_id-requires g t c =
+    let form = g.L.LanguageChildren.form in
+    let us : List Term = c.deref-child-items.result.now in
+    let view : term_of (form c.in_ok-node.node) us ≡ c.args.term.now = (λ i. term_of (form (c.in_ok-node.ensures.ok i)) (c.deref-child-items.ensures.value i)) ∙ c.term.view_is in
+    let n = whole_count (form c.in_ok-node.node).tree (form c.in_ok-node.node).names us (subst (λ (x : Term). IsWhole x.args) (sym view) c.requires.whole) in
+    omega (arith, n, c.loop-k.invariant.part.count, c.loop-k-test.true, c.deref-child-items.ensures.len)
+
+pub loop-k-preserved : goal.loop-k-preserved
+loop-k-preserved g t c =
+    let form = g.L.LanguageChildren.form in
+    let f : Form = form c.in_ok-node.node in
+    let us : List Term = c.deref-child-items.result.now in
+    let view : term_of f us ≡ c.args.term.now = (λ i. term_of (form (c.in_ok-node.ensures.ok i)) (c.deref-child-items.ensures.value i)) ∙ c.term.view_is in
+    let n = whole_count f.tree f.names us (subst (λ (x : Term). IsWhole x.args) (sym view) c.requires.whole) in
+    let l : c.loop-k.k < length us = omega (arith, c.loop-k-test.true, c.deref-child-items.ensures.len) in
+    record {
+      part = subst (λ (h : Form). IsPart c.args.self.now c.add_expr.new.table c.add_expr.new.self f h us (c.loop-k.k + 1)) (sym c.set_applied_id.ensures)
+          (part_step c.args.self.now c.loop-k.table c.add_expr.new.table c.loop-k.self c.add_expr.new.self f (form c.loop-k.node) us c.loop-k.k
+          (to_applied c.in_ok-answer.answer) c.child-item.result (g.met.L.LanguageChildren.fits c.loop-k.node) c.loop-k.invariant.part (omega (arith, l, n))
+          (λ e. any_default us c.loop-k.k e c.child-item.result l ∙ sym c.child-item.is) c.in_ok-answer.ensures.ok);
+      more = λ s h. c.add_expr.ensures.more s (c.loop-k.invariant.more s h);
+    }
+
+pub add-requires-clause-children : goal.add-requires-clause-children
+add-requires-clause-children g t c =
+    let form = g.L.LanguageChildren.form in
+    let f : Form = form c.in_ok-node.node in
+    let us : List Term = c.deref-child-items.result.now in
+    let view : term_of f us ≡ c.args.term.now = (λ i. term_of (form (c.in_ok-node.ensures.ok i)) (c.deref-child-items.ensures.value i)) ∙ c.term.view_is in
+    let n = whole_count f.tree f.names us (subst (λ (x : Term). IsWhole x.args) (sym view) c.requires.whole) in
+    let k : c.loop-k.k ≡ length us = omega (arith, c.loop-k-test.false, c.loop-k.auto.k-end, c.deref-child-items.ensures.len) in
+    part_full c.args.self.now c.loop-k.table c.loop-k.self f (form c.loop-k.node) us
+    (subst (λ (i : ℕ). IsPart c.args.self.now c.loop-k.table c.loop-k.self f (form c.loop-k.node) us i) k c.loop-k.invariant.part) n
+
+pub returns-clause-ok : goal.returns-clause-ok
+returns-clause-ok g t c =
+    let form = g.L.LanguageChildren.form in
+    let f : Form = form c.in_ok-node.node in
+    let us : List Term = c.deref-child-items.result.now in
+    let view : term_of f us ≡ c.args.term.now = (λ i. term_of (form (c.in_ok-node.ensures.ok i)) (c.deref-child-items.ensures.value i)) ∙ c.term.view_is in
+    let n = whole_count f.tree f.names us (subst (λ (x : Term). IsWhole x.args) (sym view) c.requires.whole) in
+    let k : c.loop-k.k ≡ length us = omega (arith, c.loop-k-test.false, c.loop-k.auto.k-end, c.deref-child-items.ensures.len) in
+    let a = to_applied c.in_ok-answer-2.answer in
+    subst (λ (x : Term). AddsTerm c.add.new.table c.args.self.now c.add.new.self x a) view
+    (part_end c.args.self.now c.loop-k.table c.add.new.table c.loop-k.self c.add.new.self f (form c.loop-k.node) us a (g.met.L.LanguageChildren.fits c.loop-k.node)
+    (subst (λ (i : ℕ). IsPart c.args.self.now c.loop-k.table c.loop-k.self f (form c.loop-k.node) us i) k c.loop-k.invariant.part) n c.in_ok-answer-2.ensures.ok)
+
+pub returns-in_err-answer-clause-full : goal.returns-in_err-answer-clause-full
+returns-in_err-answer-clause-full g t c e =
+    let form = g.L.LanguageChildren.form in
+    let us : List Term = c.deref-child-items.result.now in
+    let view : term_of (form c.in_ok-node.node) us ≡ c.args.term.now = (λ i. term_of (form (c.in_ok-node.ensures.ok i)) (c.deref-child-items.ensures.value i)) ∙ c.term.view_is in
+    let l : c.loop-k.k < length us = omega (arith, c.loop-k-test.true, c.deref-child-items.ensures.len) in
+    let small : term_size c.child-item.result < term_size c.args.term.now =
+    subst (λ (x : Term). term_size c.child-item.result < term_size x) view (subst (λ (x : Term). term_size x < term_size (term_of (form c.in_ok-node.node) us)) (sym c.child-item.is) (child_smaller (form c.in_ok-node.node) us c.loop-k.k c.child-item.result l)) in
+    elim (c.in_err-answer.ensures.full (search rules)) [
+      | inl a ↦ inl a
+      | inr b ↦ inr (omega (arith, b, small))
+    ]
+
+pub returns-in_err-answer-2-clause-full : goal.returns-in_err-answer-2-clause-full
+returns-in_err-answer-2-clause-full g t c e =
+    let form = g.L.LanguageChildren.form in
+    let f : Form = form c.in_ok-node.node in
+    let us : List Term = c.deref-child-items.result.now in
+    let view : term_of f us ≡ c.args.term.now = (λ i. term_of (form (c.in_ok-node.ensures.ok i)) (c.deref-child-items.ensures.value i)) ∙ c.term.view_is in
+    let n = whole_count f.tree f.names us (subst (λ (x : Term). IsWhole x.args) (sym view) c.requires.whole) in
+    let k : c.loop-k.k ≡ length us = omega (arith, c.loop-k-test.false, c.loop-k.auto.k-end, c.deref-child-items.ensures.len) in
+    let s = part_size c.args.self.now c.loop-k.table c.loop-k.self f (form c.loop-k.node) us (g.met.L.LanguageChildren.fits c.loop-k.node)
+    (subst (λ (i : ℕ). IsPart c.args.self.now c.loop-k.table c.loop-k.self f (form c.loop-k.node) us i) k c.loop-k.invariant.part) n in
+    elim (c.in_err-answer-2.ensures.full (search rules)) [
+      | inl a ↦ inl a
+      | inr b ↦ inr (omega (arith, b, s, ap term_size view))
+    ]

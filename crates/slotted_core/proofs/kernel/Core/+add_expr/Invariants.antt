@@ -1,0 +1,15 @@
+use Rattle.slotted_theory.specs.Term.{term_size}
+use Rattle.slotted_slots.specs.Table.{KnowsMore}
+use Rattle.slotted_core.proofs.Grown.{IsPart}
+use Rattle.slotted_core.proofs.kernel.Core.+add_expr.Given as goal
+
+abbrev pub decreases-add_expr : goal.decreases-add_expr
+decreases-add_expr g l = term_size l.term.now
+
+abbrev pub invariant-loop-k : goal.invariant-loop-k
+invariant-loop-k g l =
+    let form = g.L.LanguageChildren.form in
+    record {
+      part : IsPart l.fn.self l.table l.self (form l.initial.node) (form l.node) l.child-items l.k;
+      more : KnowsMore l.fn.table l.table;
+    }

@@ -1,0 +1,35 @@
+use Rattle.std.proofs.Common.{◌≡◌, ◌∙◌, ◌+◌, ap, length}
+use Rattle.slotted_slots.specs.Maps.{keys}
+use Rattle.slotted_slots.specs.Table.{Table}
+use Rattle.slotted_core.proofs.Found.{row-names}
+use Rattle.slotted_core.proofs.Added.{row_adds, class_adds}
+use Rattle.slotted_core.specs.Names.{fresh_slots}
+use Rattle.slotted_core.specs.Nodes.{to_applied}
+use Rattle.slotted_core.proofs.kernel.Core.add.Goals as goal
+
+pub class_of_row-requires : goal.class_of_row-requires
+class_of_row-requires g c =
+    row-names c.args.self.now c.requires.good (g.L.LanguageChildren.form c.args.node.now) (g.met.L.LanguageChildren.fits c.args.node.now)
+    (g.L.LanguageChildren.form c.in_ok-shape.shape) c.in_ok-shape.names c.in_ok-shape.ensures.shape
+    (c.in-Some.row.now.source.0, c.in-Some.row.now.names) c.in-Some.ensures
+
+pub returns-in-Some-clause-ok : goal.returns-in-Some-clause-ok
+returns-in-Some-clause-ok g c =
+    row_adds c.args.table.now c.args.self.now c.requires.good c.requires.fresh_slots (g.L.LanguageChildren.form c.args.node.now) (g.met.L.LanguageChildren.fits c.args.node.now)
+    (g.L.LanguageChildren.form c.in_ok-shape.shape) c.in_ok-shape.names c.in_ok-shape.ensures.shape
+    (c.in-Some.row.now.source.0, c.in-Some.row.now.names) (to_applied c.in_ok-answer.answer) c.in-Some.ensures c.in_ok-answer.ensures.ok
+
+pub returns-clause-ok : goal.returns-clause-ok
+returns-clause-ok g c =
+    let names = c.in_ok-shape.names in
+    let slots = c.renew_values.new.map in
+    let n : length c.in_ok-slots.slots ≡ length names = ap length c.in_ok-slots.ensures.ok in
+    class_adds c.args.table.now c.renew_values.new.table c.args.self.now c.make_class.new.self c.requires.good c.requires.fresh_slots
+    (g.L.LanguageChildren.form c.args.node.now) (g.met.L.LanguageChildren.fits c.args.node.now) c.requires.children
+    (c.class_count.result, c.in_ok-map_between.field-0) slots (g.L.LanguageChildren.form c.in_ok-shape.shape) names c.in_ok-shape.ensures.shape
+    c.in_default.ensures
+    (c.in_ok-renew_values.ensures.keys ∙ ap keys c.in_ok-slots.ensures.ok)
+    (c.in_ok-renew_values.ensures.values ∙ ap (fresh_slots c.args.table.now.fresh) n)
+    (ap (λ (t : Table). t.fresh) c.in_ok-renew_values.ensures.table ∙ ap (λ k. c.args.table.now.fresh + k) n)
+    c.in_ok-make_class.ensures.ok
+    (λ i. (c.class_count.ensures i, c.in_ok-map_between.ensures.ok i))

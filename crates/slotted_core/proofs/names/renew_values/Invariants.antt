@@ -1,0 +1,14 @@
+use Rattle.std.proofs.Common.{◌≡◌, ◌+◌, ◌++◌, length, drop}
+use Rattle.slotted_slots.specs.Maps.{keys, values}
+use Rattle.slotted_slots.specs.Table.{KnowsMore}
+use Rattle.slotted_core.specs.Names.{fresh_slots}
+use Rattle.slotted_core.proofs.names.renew_values.Given as goal
+
+-- fresh slots so far, and then the old values
+abbrev pub invariant-loop-i : goal.invariant-loop-i
+invariant-loop-i l = record {
+  keys : keys l.map ≡ keys l.fn.map;
+  values : values l.map ≡ fresh_slots l.fn.table.fresh l.i ++ drop l.i (values l.fn.map);
+  table : l.table ≡ record l.fn.table { fresh = l.fn.table.fresh + l.i };
+  more : KnowsMore l.fn.table l.table;
+}

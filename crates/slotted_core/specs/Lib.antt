@@ -1,0 +1,6 @@
+pub mod FormCode
+pub mod TermCode
+pub mod Names
+pub mod Nodes
+pub mod Graph
+pub mod Kept

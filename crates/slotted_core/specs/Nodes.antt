@@ -1,0 +1,25 @@
+-- The children of a node as applied ids.
+use Rattle.std.specs.Prelude.{ℕ, ◌+◌, ◌<◌, ◌≤◌, List, [], ◌∷◌, ◌++◌, length, take, drop}
+use Rattle.std.specs.List.{zip}
+use Rattle.slotted_slots.specs.declared.types.AppliedId.{AppliedId}
+use Rattle.slotted_languages.specs.Form.{Form, Tree, leaf, own, child, bind, scopes, children, child_place, width}
+use Rattle.slotted_model.specs.Applied.{Applied}
+
+-- an applied id of the code
+abbrev pub to_applied : AppliedId → Applied
+to_applied a = (a.id.0, a.m)
+
+-- the children of a tree with these names at its places, from the left
+abbrev pub ids_in : Tree → List ℕ → List Applied
+ids_in leaf xs = []
+ids_in (own r) xs = ids_in r (drop 1 xs)
+ids_in (child i ks r) xs = (i, zip ks (take (length ks) xs)) ∷ ids_in r (drop (length ks) xs)
+ids_in (bind u r) xs = ids_in u (take (length (scopes u)) (drop 1 xs)) ++ ids_in r (drop (length (scopes u)) (drop 1 xs))
+
+-- the children of a node
+abbrev pub child_ids : Form → List Applied
+child_ids f = ids_in f.tree f.names
+
+-- the place is one of a child
+abbrev pub IsChildPlace : Tree → ℕ → Type 0
+IsChildPlace t i = (k : ℕ) × (k < length (children t)) × (child_place t k ≤ i) × (i < child_place t k + width t k)

@@ -1,0 +1,201 @@
+//! The graph that callers see: a failed one refuses every later call.
+ghost use Rattle.std.specs.Prelude.{◌≡◌, ◌≤◌, ◌<◌, ◌↔◌, ◌⊎◌, ◌^◌, length, false, IsTrue, IsOk, IfOk, IfErr, OnOk, IsErr, IsErrOf, IsOkUnless, IsSome, None, Some, option_map};
+ghost use Rattle.slotted_slots.specs.Error.{IsShortage};
+ghost use Rattle.slotted_slots.specs.Table.{KnowsMore};
+ghost use Rattle.slotted_theory.specs.Term.{term_size};
+ghost use Rattle.slotted_theory.specs.Nameless.{nameless};
+ghost use Rattle.slotted_languages.specs.NodeTerm.{nameless_node};
+ghost use Rattle.slotted_model.specs.Growth.{Extends};
+ghost use Rattle.slotted_model.specs.Classes.{IsFull, Canonical, term_of, layer_of};
+ghost use Rattle.slotted_model.specs.Ids.{id_of, id_of_node};
+ghost use Rattle.slotted_core.specs.Graph.{IsValidId, IsValidNode, IsValidTerm, HasNewClass, no_classes};
+ghost use Rattle.slotted_core.specs.Nodes.{to_applied};
+
+use crate::kernel::Core;
+use crate::terms::is_valid_term;
+use slotted_languages::Language;
+use slotted_slots::{AppliedId, Error, SlotTable};
+use slotted_terms::expr::RecExpr;
+use std::alloc::Global;
+use std::marker::Model;
+
+/// A graph of terms with binders, up to alpha-equality.
+///
+/// Each class has the node that it was made with, its canonical node, over slots of its own and over earlier classes. An
+/// applied id is a class with a name for each of its slots. It stands for its canonical term: the canonical node with
+/// the names put in, over the canonical terms of its children.
+///
+/// A graph that runs out of memory or slots in a call that changes it has failed: from then on each call that answers a
+/// `Result` answers `Failed`, and the table can still be taken out.
+#[derive(Drop)]
+pub struct EGraph<L: Language, N = ()> {
+    failed: bool,
+    core: Core<L>,
+    table: SlotTable,
+    analysis: N,
+    alloc: Global,
+}
+
+impl<L: Language, N> Model for EGraph<L, N> {
+    ghost use Rattle.std.specs.Prelude.{IsTrue, ◌⊎◌};
+    ghost use Rattle.slotted_core.specs.Graph.{Graph, graph_code};
+    ghost use Rattle.slotted_core.specs.Kept.{Good, HasFreshSlots, nodes_of};
+
+    ghost Value = { Graph };
+
+    ghost coded = { graph_code };
+
+    ghost view = { λ s. record { failed = s.failed; table = s.table; image = record { canonical = nodes_of s.core } } };
+
+    ghost invariant = { λ s. IsTrue s.failed ⊎ (Good s.core × HasFreshSlots s.table s.core) };
+}
+
+impl<L: Language, N: Drop> EGraph<L, N> {
+    /// The graph without classes, over a table of slots. It takes no memory.
+    pub fn new(alloc: Global, table: SlotTable, analysis: N) -> Result<Self, Error>
+        ensures answers { IsOk result }
+        ensures failed { IfOk result (λ g. g.failed ≡ false) }
+        ensures table { IfOk result (λ g. g.table ≡ table) }
+        ensures image { IfOk result (λ g. g.image ≡ no_classes) }
+    {
+        Ok(EGraph {
+            failed: false,
+            core: Core::new(alloc),
+            table,
+            analysis,
+            alloc,
+        })
+    }
+
+    /// The graph's table of slots.
+    pub fn table(&self) -> &SlotTable
+        ensures { result.now ≡ self.now.table }
+    {
+        &self.table
+    }
+
+    /// The graph's table of slots, taken out. This works on a failed graph too.
+    pub fn into_table(self) -> SlotTable
+        ensures { result ≡ self.table }
+    {
+        self.table
+    }
+
+    /// Whether a call that changes the graph ran out of memory or slots.
+    pub fn is_failed(&self) -> bool
+        ensures failed { result ≡ self.now.failed }
+        ensures canonical { IsTrue self.now.failed ⊎ Canonical self.now.image.canonical }
+    {
+        self.failed
+    }
+
+    /// Whether an applied id is one of this graph: a class of it, with different known names for exactly the class's slots.
+    /// Nothing is valid in a failed graph. It takes no memory.
+    pub fn is_valid(&self, a: &AppliedId) -> bool
+        ensures { IsTrue result ↔ ((self.now.failed ≡ false) × IsValidId self.now (to_applied a.now)) }
+    {
+        !self.failed && self.core.is_valid(&self.table, a)
+    }
+
+    /// Whether a node is one over this graph: its slots are known, its children are valid, and it has fewer than 2^30
+    /// places. Nothing is valid in a failed graph. It takes no memory.
+    pub fn is_valid_node(&self, node: &L) -> bool
+        ensures { IsTrue result ↔ ((self.now.failed ≡ false) × IsValidNode self.now (L.form node.now)) }
+    {
+        !self.failed && self.core.is_valid_node(&self.table, node)
+    }
+
+    /// Whether a term can be added: at each node the number of children is right and the own slots are known. The child ids
+    /// inside the nodes are not looked at. A node with 2^30 places or more cannot be read: a term with one is not valid.
+    /// Nothing is valid in a failed graph. It takes no memory.
+    pub fn is_valid_expr(&self, term: &RecExpr<L>) -> bool
+        ensures failed { IsTrue result → self.now.failed ≡ false }
+        ensures valid { IsTrue result → IsValidTerm self.now.table term.now }
+    {
+        !self.failed && is_valid_term(&self.table, term)
+    }
+
+    /// Whether two valid ids are equal, which is whether their canonical terms are. It takes no memory.
+    pub fn eq(&self, a: &AppliedId, b: &AppliedId) -> Result<bool, Error>
+        requires left { IsTrue self.now.failed ⊎ IsValidId self.now (to_applied a.now) }
+        requires right { IsTrue self.now.failed ⊎ IsValidId self.now (to_applied b.now) }
+        ensures terms { IfOk result (λ yes. IsTrue yes ↔ (term_of self.now.image.canonical (to_applied a.now) ≡ term_of self.now.image.canonical (to_applied b.now))) }
+        ensures failed { IsErrOf result Error.Failed ↔ IsTrue self.now.failed }
+        ensures only { IsOkUnless result Error.Failed }
+    {
+        if self.failed {
+            return Err(Error::Failed);
+        }
+        Ok(self.core.eq(a, b))
+    }
+
+    /// The class that holds a node's shape, with the node's names put in.
+    pub fn lookup(&self, node: &L) -> Result<Option<AppliedId>, Error>
+        requires { IsTrue self.now.failed ⊎ IsValidNode self.now (L.form node.now) }
+        ensures class { IfOk result (λ o. option_map to_applied o ≡ id_of_node self.now.image.canonical (nameless_node (L.form node.now))) }
+        ensures failed { IsErrOf result Error.Failed ↔ IsTrue self.now.failed }
+        ensures only { IfErr result (λ e. (e ≡ Error.Failed) ⊎ (e ≡ Error.OutOfMemory)) }
+    {
+        if self.failed {
+            return Err(Error::Failed);
+        }
+        self.core.lookup(self.alloc, node)
+    }
+
+    /// The class that holds a node's shape, with the node's names put in. Where there is none, a class is made, whose slots
+    /// are fresh.
+    pub fn add(&mut self, node: L) -> Result<AppliedId, Error>
+        requires { IsTrue self.old.failed ⊎ IsValidNode self.old (L.form node) }
+
+        // The answer is valid, is what a look-up answers from now on, and stands for the node over what its children stand for.
+        ensures valid { IfOk result (λ a. IsValidId self.new (to_applied a)) }
+        ensures found { IfOk result (λ a. id_of_node self.new.image.canonical (nameless_node (L.form node)) ≡ Some (to_applied a)) }
+        ensures term { IfOk result (λ a. term_of self.new.image.canonical (to_applied a) ≡ layer_of self.new.image.canonical (nameless_node (L.form node))) }
+
+        // A class is made only where there was none, and what was there stays.
+        ensures kept { OnOk result (IsSome (id_of_node self.old.image.canonical (nameless_node (L.form node))) → self.new.image ≡ self.old.image) }
+        ensures made { OnOk result (id_of_node self.old.image.canonical (nameless_node (L.form node)) ≡ None → HasNewClass self.old.table self.new.table self.old.image.canonical self.new.image.canonical (nameless_node (L.form node))) }
+        ensures extends { OnOk result (Extends self.old.image.canonical self.new.image.canonical) }
+        ensures more { KnowsMore self.old.table self.new.table }
+
+        ensures failed { IsErrOf result Error.Failed ↔ IsTrue self.old.failed }
+        ensures fails { IsTrue self.new.failed ↔ IsErr result }
+        ensures full { IsErrOf result Error.OutOfSlots → self.new.table.fresh ≡ 2 ^ 30 }
+        ensures only { IfErr result (λ e. (e ≡ Error.Failed) ⊎ IsShortage e) }
+    {
+        if self.failed {
+            return Err(Error::Failed);
+        }
+        self.failed = true;
+        let id = self.core.add(self.alloc, &mut self.table, &node)?;
+        self.failed = false;
+        Ok(id)
+    }
+
+    /// The id of a term: from below, each node's class, or a new one where there is none.
+    pub fn add_expr(&mut self, term: &RecExpr<L>) -> Result<AppliedId, Error>
+        requires { IsTrue self.old.failed ⊎ IsValidTerm self.old.table term.now }
+
+        // The answer is valid, stands for the term, and is what a look-up of the term answers from now on.
+        ensures valid { IfOk result (λ a. IsValidId self.new (to_applied a)) }
+        ensures term { IfOk result (λ a. term_of self.new.image.canonical (to_applied a) ≡ nameless term.now) }
+        ensures found { IfOk result (λ a. id_of self.new.image.canonical (nameless term.now) ≡ Some (to_applied a)) }
+
+        // What was there stays.
+        ensures extends { OnOk result (Extends self.old.image.canonical self.new.image.canonical) }
+        ensures more { KnowsMore self.old.table self.new.table }
+
+        ensures failed { IsErrOf result Error.Failed ↔ IsTrue self.old.failed }
+        ensures fails { IsTrue self.new.failed ↔ IsErr result }
+        ensures full { IsErrOf result Error.OutOfSlots → (self.new.table.fresh ≡ 2 ^ 30) ⊎ (2 ^ 30 ≤ term_size term.now) }
+        ensures only { IfErr result (λ e. (e ≡ Error.Failed) ⊎ IsShortage e) }
+    {
+        if self.failed {
+            return Err(Error::Failed);
+        }
+        self.failed = true;
+        let answer = self.core.add_expr(self.alloc, &mut self.table, term)?;
+        self.failed = false;
+        Ok(answer)
+    }
+}

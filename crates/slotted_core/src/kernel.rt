@@ -1,0 +1,264 @@
+//! The lists of a graph: its classes, and the filed nodes by shape.
+ghost use Rattle.std.specs.Prelude.{◌≡◌, ◌≤◌, ◌<◌, ◌↔◌, ◌⊎◌, ◌^◌, ◌∷◌, [], length, IsTrue, IfOk, IfErr, OnOk, IsErrOf, Option, None, option_map, All};
+ghost use Rattle.slotted_theory.specs.Term.{term_size};
+ghost use Rattle.slotted_slots.specs.Error.{IsOutOfMemory, IsShortage};
+ghost use Rattle.slotted_slots.specs.Maps.{keys, values};
+ghost use Rattle.slotted_slots.specs.Table.{KnowsMore, is_known};
+ghost use Rattle.slotted_languages.specs.Form.{IsSmall};
+ghost use Rattle.slotted_languages.specs.NodeTerm.{nameless_node};
+ghost use Rattle.slotted_languages.specs.Shape.{shape};
+ghost use Rattle.slotted_model.specs.Classes.{IsFull, term_of};
+ghost use Rattle.slotted_model.specs.Ids.{id_of_node};
+ghost use Rattle.slotted_core.specs.Graph.{AllKnown, IsWhole};
+ghost use Rattle.slotted_core.specs.Kept.{Good, HasFreshSlots, Adds, AddsTerm, nothing, nodes_of, find_at, found, with_filed, with_new_class};
+ghost use Rattle.slotted_core.specs.Names.{between};
+ghost use Rattle.slotted_core.specs.Nodes.{to_applied, child_ids};
+
+use crate::names::{
+    PLACES, map_between, places_are_known, put_at_places, renew_values, values_are_keys,
+    values_are_known,
+};
+use indexmap::IndexMap;
+use slotted_languages::Language;
+use slotted_slots::{AppliedId, Error, Id, SlotMap, SlotTable};
+use slotted_terms::expr::RecExpr;
+use std::alloc::Global;
+use std::marker::Model;
+
+/// A class: the node that it was made with, over its own slots, and what it finds to, which is itself.
+#[derive(Drop)]
+pub struct Class<L> {
+    node: L,
+    find: AppliedId,
+}
+
+/// A filed node's source class, and the slot of that class for each number of the shape.
+#[derive(Drop)]
+pub struct Row {
+    source: Id,
+    names: SlotMap,
+}
+
+/// The classes by their ids, and the filed nodes by their shapes.
+#[derive(Drop)]
+pub struct Core<L: Language> {
+    classes: Vec<Class<L>>,
+    rows: IndexMap<L, Row>,
+}
+
+impl<L: Language> Model for Core<L> {
+    ghost use Rattle.std.specs.Prelude.{map};
+    ghost use Rattle.slotted_core.specs.Kept.{Kept, kept_code};
+
+    ghost Value = { Kept };
+
+    ghost coded = { kept_code };
+
+    ghost view = { λ c. record {
+      classes = map (λ k. (L.form k.node, (k.find.id.0, k.find.m))) c.classes.items;
+      rows = map (λ e. (L.form e.0, (e.1.source.0, e.1.names))) c.rows.entries;
+    } };
+}
+
+impl<L: Language> Core<L> {
+    pub fn new(alloc: Global) -> Self
+        ensures { result ≡ nothing }
+    {
+        Core {
+            classes: Vec::new(alloc),
+            rows: IndexMap::new(alloc),
+        }
+    }
+
+    // Reads and single writes, each said exactly.
+
+    pub fn class_count(&self) -> usize
+        ensures { result ≡ length self.now.classes }
+    {
+        self.classes.len()
+    }
+
+    // What a class finds to.
+    fn find(&self, id: usize) -> &AppliedId
+        requires { id < length self.now.classes }
+        ensures { to_applied result.now ≡ find_at self.now id }
+    {
+        &self.classes[id].find
+    }
+
+    // The row of a shape.
+    fn row(&self, shape: &L) -> Option<&Row>
+        ensures { option_map (λ r. (r.now.source.0, r.now.names)) result ≡ found self.now.rows (L.form shape.now) }
+    {
+        self.rows.get(shape)
+    }
+
+    // A class, and the row that files its node.
+    fn file(&mut self, shape: L, row: Row, class: Class<L>) -> Result<(), Error>
+        requires { found self.old.rows (L.form shape) ≡ None }
+        ensures ok { OnOk result (self.new ≡ with_filed self.old (L.form shape) (row.source.0, row.names) (L.form class.node, to_applied class.find)) }
+        ensures err { IfErr result IsOutOfMemory }
+    {
+        self.rows.insert(shape, row)?;
+        self.classes.push(class)?;
+        Ok(())
+    }
+
+    // A class of its own for a shape, with these slots for its numbers.
+    fn make_class(&mut self, alloc: Global, shape: L, slots: SlotMap) -> Result<(), Error>
+        requires few { IsSmall (L.form shape) }
+        requires absent { found self.old.rows (L.form shape) ≡ None }
+        ensures ok { OnOk result (self.new ≡ with_new_class self.old (L.form shape) slots) }
+        ensures err { IfErr result IsOutOfMemory }
+    {
+        let id = Id(self.class_count());
+        let find = AppliedId {
+            id,
+            m: map_between(alloc, &slots, &slots)?,
+        };
+        let mut node = shape.copy(alloc)?;
+        put_at_places(&mut node, &slots);
+        let row = Row {
+            source: id,
+            names: slots,
+        };
+        self.file(shape, row, Class { node, find })
+    }
+
+    // Testing.
+
+    // Whether the id is one of a class, with different names for exactly its slots.
+    fn is_full(&self, a: &AppliedId) -> bool
+        requires { Good self.now }
+        ensures { IsTrue result ↔ IsFull (nodes_of self.now) (to_applied a.now) }
+    {
+        if a.id.0 >= self.class_count() {
+            return false;
+        }
+        if !values_are_keys(&self.find(a.id.0).m, &a.m) {
+            return false;
+        }
+        a.m.is_bijection()
+    }
+
+    /// Whether the id is one of a class, with different known names for exactly its slots.
+    pub fn is_valid(&self, table: &SlotTable, a: &AppliedId) -> bool
+        requires { Good self.now }
+        ensures { IsTrue result ↔ (IsFull (nodes_of self.now) (to_applied a.now) × AllKnown table.now (values a.now.m)) }
+    {
+        self.is_full(a) && values_are_known(table, &a.m)
+    }
+
+    // Whether each child of the node is an id of a class, with different names for exactly its slots.
+    fn children_are_full(&self, node: &L) -> bool
+        requires { Good self.now }
+        ensures { IsTrue result ↔ All (IsFull (nodes_of self.now)) (child_ids (L.form node.now)) }
+    {
+        for k in 0..node.applied_id_count() {
+            if !self.is_full(node.applied_id(k)) {
+                return false;
+            }
+        }
+        true
+    }
+
+    /// Whether the node has fewer than 2^30 places, known slots, and valid children.
+    pub fn is_valid_node(&self, table: &SlotTable, node: &L) -> bool
+        requires { Good self.now }
+        ensures { IsTrue result ↔ (IsSmall (L.form node.now) × AllKnown table.now (L.form node.now).names × All (IsFull (nodes_of self.now)) (child_ids (L.form node.now))) }
+    {
+        node.slot_count() < PLACES && places_are_known(table, node) && self.children_are_full(node)
+    }
+
+    /// Whether two valid ids are equal.
+    pub fn eq(&self, a: &AppliedId, b: &AppliedId) -> bool
+        requires good { Good self.now }
+        requires left { IsFull (nodes_of self.now) (to_applied a.now) }
+        requires right { IsFull (nodes_of self.now) (to_applied b.now) }
+        ensures { IsTrue result ↔ (term_of (nodes_of self.now) (to_applied a.now) ≡ term_of (nodes_of self.now) (to_applied b.now)) }
+    {
+        a == b
+    }
+
+    // Looking up and adding.
+
+    /// The class that holds the node's shape, with the node's names put in.
+    pub fn lookup(&self, alloc: Global, node: &L) -> Result<Option<AppliedId>, Error>
+        requires { Good self.now }
+        ensures ok { IfOk result (λ o. option_map to_applied o ≡ id_of_node (nodes_of self.now) (nameless_node (L.form node.now))) }
+        ensures full { IsErrOf result Error.OutOfSlots ↔ (2 ^ 30 ≤ length (L.form node.now).names) }
+        ensures err { IfErr result IsShortage }
+    {
+        let (shape, names) = node.weak_shape(alloc)?;
+        match self.row(&shape) {
+            Some(row) => Ok(Some(class_of_row(alloc, row, &names)?)),
+            None => Ok(None),
+        }
+    }
+
+    /// The class that holds the node's shape, or a new one, with the node's names put in.
+    pub fn add(
+        &mut self,
+        alloc: Global,
+        table: &mut SlotTable,
+        node: &L,
+    ) -> Result<AppliedId, Error>
+        requires good { Good self.old }
+        requires fresh_slots { HasFreshSlots table.old self.old }
+        requires children { All (IsFull (nodes_of self.old)) (child_ids (L.form node.now)) }
+        ensures ok { IfOk result (λ a. Adds table.old table.new self.old self.new (L.form node.now) (to_applied a)) }
+        ensures more { KnowsMore table.old table.new }
+        ensures full { IsErrOf result Error.OutOfSlots → (table.new.fresh ≡ 2 ^ 30) ⊎ (2 ^ 30 ≤ length (L.form node.now).names) }
+        ensures err { IfErr result IsShortage }
+    {
+        let (shape, names) = node.weak_shape(alloc)?;
+        if let Some(row) = self.row(&shape) {
+            let answer = class_of_row(alloc, row, &names)?;
+            return Ok(answer);
+        }
+        let mut slots = names.copy(alloc)?;
+        renew_values(&mut slots, table)?;
+        let answer = AppliedId {
+            id: Id(self.class_count()),
+            m: map_between(alloc, &slots, &names)?,
+        };
+        self.make_class(alloc, shape, slots)?;
+        Ok(answer)
+    }
+
+    /// The id of the term, whose nodes are added from below.
+    pub fn add_expr(
+        &mut self,
+        alloc: Global,
+        table: &mut SlotTable,
+        term: &RecExpr<L>,
+    ) -> Result<AppliedId, Error>
+        requires good { Good self.old }
+        requires fresh_slots { HasFreshSlots table.old self.old }
+        requires whole { IsWhole term.now.args }
+        ensures ok { IfOk result (λ a. AddsTerm table.new self.old self.new term.now (to_applied a)) }
+        ensures more { KnowsMore table.old table.new }
+        ensures full { IsErrOf result Error.OutOfSlots → (table.new.fresh ≡ 2 ^ 30) ⊎ (2 ^ 30 ≤ term_size term.now) }
+        ensures err { IfErr result IsShortage }
+    {
+        let mut node = term.node.copy(alloc)?;
+        for (k, child) in term.children.iter().enumerate() {
+            let answer = self.add_expr(alloc, table, child)?;
+            node.set_applied_id(k, answer);
+        }
+        let answer = self.add(alloc, table, &node)?;
+        Ok(answer)
+    }
+}
+
+// The class of a row, with these names for the numbers of the row's shape.
+fn class_of_row(alloc: Global, row: &Row, names: &SlotMap) -> Result<AppliedId, Error>
+    requires { length row.now.names ≡ length names.now }
+    ensures ok { IfOk result (λ a. to_applied a ≡ (row.now.source.0, between row.now.names names.now)) }
+    ensures err { IfErr result IsOutOfMemory }
+{
+    Ok(AppliedId {
+        id: row.source,
+        m: map_between(alloc, &row.names, names)?,
+    })
+}

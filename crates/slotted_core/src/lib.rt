@@ -1,0 +1,11 @@
+//! E-graphs of terms with binders. This crate has the graph without unions: terms go in, and alpha-equal ones get equal ids.
+#![tactic(auto)]
+
+pub mod egraph;
+mod kernel;
+mod names;
+mod terms;
+#[cfg(test)]
+mod tests;
+
+pub use egraph::EGraph;

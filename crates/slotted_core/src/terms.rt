@@ -1,0 +1,71 @@
+//! Which terms a graph can take in.
+ghost use Rattle.std.specs.Prelude.{◌≡◌, ◌↔◌, ◌<◌, ◌⊎◌, ℕ, length, IsTrue, slice_index};
+ghost use Rattle.slotted_slots.specs.Table.{is_known};
+ghost use Rattle.slotted_languages.specs.Form.{IsSmall};
+ghost use Rattle.slotted_core.specs.Graph.{IsValidTerm};
+ghost use Rattle.slotted_core.specs.Nodes.{IsChildPlace};
+
+use crate::names::PLACES;
+use slotted_languages::Language;
+use slotted_slots::SlotTable;
+use slotted_terms::expr::RecExpr;
+
+// Whether the place is one of a child.
+fn is_child_place<L: Language>(node: &L, i: usize) -> bool
+    requires { IsSmall (L.form node.now) }
+    ensures { IsTrue result → IsChildPlace (L.form node.now).tree i }
+{
+    for k in 0..node.applied_id_count() {
+        let place = node.applied_id_place(k);
+        if place <= i && i < place + node.applied_id(k).m.len() {
+            return true;
+        }
+    }
+    false
+}
+
+// Whether the place is one of a child, or has a slot that the table knows.
+fn is_known_place<L: Language>(table: &SlotTable, node: &L, i: usize) -> bool
+    requires small { IsSmall (L.form node.now) }
+    requires within { i < length (L.form node.now).names }
+    ensures { IsTrue result → IsChildPlace (L.form node.now).tree i ⊎ IsTrue (is_known table.now (slice_index (L.form node.now).names i)) }
+{
+    if is_child_place(node, i) {
+        return true;
+    }
+    table.knows(node.slot(i))
+}
+
+// Whether the table knows the slots at the node's own places and binders. Children are not looked at.
+fn own_places_are_known<L: Language>(table: &SlotTable, node: &L) -> bool
+    requires { IsSmall (L.form node.now) }
+    ensures { IsTrue result → (i : ℕ) → i < length (L.form node.now).names → IsChildPlace (L.form node.now).tree i ⊎ IsTrue (is_known table.now (slice_index (L.form node.now).names i)) }
+{
+    for i in 0..node.slot_count() {
+        if !is_known_place(table, node, i) {
+            return false;
+        }
+    }
+    true
+}
+
+/// Whether at each node of the term the number of children is right and the own slots are known. The child ids inside the
+/// nodes are not looked at. A node with 2^30 places or more cannot be read, and is not valid.
+pub(crate) fn is_valid_term<L: Language>(table: &SlotTable, term: &RecExpr<L>) -> bool
+    ensures operator { 0 < term.now.op }
+    ensures valid { IsTrue result → IsValidTerm table.now term.now }
+{
+    let node = &term.node;
+    if node.applied_id_count() != term.children.len() || node.slot_count() >= PLACES {
+        return false;
+    }
+    if !own_places_are_known(table, node) {
+        return false;
+    }
+    for child in &term.children {
+        if !is_valid_term(table, child) {
+            return false;
+        }
+    }
+    true
+}

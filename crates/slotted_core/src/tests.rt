@@ -1,0 +1,190 @@
+use crate::egraph::EGraph;
+use slotted_languages::{Bind, Small};
+use slotted_slots::{AppliedId, Error, Slot, SlotTable};
+use slotted_terms::expr::RecExpr;
+use std::alloc::Global;
+
+type Graph = EGraph<Small>;
+
+// The term `(var $x)`.
+fn var(alloc: Global, x: Slot) -> RecExpr<Small> {
+    RecExpr {
+        node: Small::Var(x),
+        children: Vec::new(alloc),
+    }
+}
+
+// The term `(lam $x t)`.
+fn lam(alloc: Global, x: Slot, body: RecExpr<Small>) -> Result<RecExpr<Small>, Error> {
+    Ok(RecExpr {
+        node: Small::Lam(Bind {
+            slot: x,
+            elem: AppliedId::null(alloc),
+        }),
+        children: vec![in alloc; body]?,
+    })
+}
+
+// The term `(app t u)`.
+fn app(
+    alloc: Global,
+    left: RecExpr<Small>,
+    right: RecExpr<Small>,
+) -> Result<RecExpr<Small>, Error> {
+    Ok(RecExpr {
+        node: Small::App(AppliedId::null(alloc), AppliedId::null(alloc)),
+        children: vec![in alloc; left, right]?,
+    })
+}
+
+// The id of a term, if the term is valid.
+fn put(graph: &mut Graph, term: &RecExpr<Small>) -> Result<AppliedId, Error> {
+    if graph.is_valid_expr(term) {
+        graph.add_expr(term)
+    } else {
+        Err(Error::NotATerm)
+    }
+}
+
+// The class of a node, if the node is valid.
+fn put_node(graph: &mut Graph, node: Small) -> Result<AppliedId, Error> {
+    if graph.is_valid_node(&node) {
+        graph.add(node)
+    } else {
+        Err(Error::NotATerm)
+    }
+}
+
+// The class of a node, if the node is valid and has one.
+fn look_up(graph: &Graph, node: &Small) -> Result<Option<AppliedId>, Error> {
+    if graph.is_valid_node(node) {
+        graph.lookup(node)
+    } else {
+        Err(Error::NotATerm)
+    }
+}
+
+fn equal(graph: &Graph, a: &AppliedId, b: &AppliedId) -> Result<bool, Error> {
+    if graph.is_valid(a) && graph.is_valid(b) {
+        graph.eq(a, b)
+    } else {
+        Err(Error::NotATerm)
+    }
+}
+
+// `(lam $x (var $x))` equals `(lam $y (var $y))`, and `(var $x)` does not equal `(var $y)`, though they have one class.
+fn variables(alloc: Global) -> Result<bool, Error> {
+    let mut table = SlotTable::new(alloc);
+    let x = table.named("x")?;
+    let y = table.named("y")?;
+    let mut graph: Graph = EGraph::new(alloc, table, ())?;
+    let lam_x = put(&mut graph, &lam(alloc, x, var(alloc, x))?)?;
+    let lam_y = put(&mut graph, &lam(alloc, y, var(alloc, y))?)?;
+    let var_x = put(&mut graph, &var(alloc, x))?;
+    let var_y = put_node(&mut graph, Small::Var(y))?;
+    let again = look_up(&graph, &Small::Var(y))?;
+    let none = look_up(&graph, &Small::G(y))?;
+    Ok(
+        equal(&graph, &lam_x, &lam_y)?
+            && !equal(&graph, &var_x, &var_y)?
+            && var_x.id == var_y.id
+            && again == Some(var_y)
+            && none == None
+            && graph.table().knows(x)
+            && !graph.is_failed(),
+    )
+}
+
+// `(lam $x (app (var $x) (var $0)))` equals `(lam $1 (app (var $1) (var $0)))`, and not `(lam $0 (app (var $0) (var $x)))`.
+fn captures(alloc: Global) -> Result<bool, Error> {
+    let mut table = SlotTable::new(alloc);
+    let x = table.named("x")?;
+    let zero = table.numeric(0)?;
+    let one = table.numeric(1)?;
+    let mut graph: Graph = EGraph::new(alloc, table, ())?;
+    let first = lam(alloc, x, app(alloc, var(alloc, x), var(alloc, zero))?)?;
+    let second = lam(alloc, one, app(alloc, var(alloc, one), var(alloc, zero))?)?;
+    let third = lam(alloc, zero, app(alloc, var(alloc, zero), var(alloc, x))?)?;
+    let a = put(&mut graph, &first)?;
+    let b = put(&mut graph, &second)?;
+    let c = put(&mut graph, &third)?;
+    Ok(equal(&graph, &a, &b)? && !equal(&graph, &a, &c)?)
+}
+
+// After the last fresh slot no class with a slot is made, and the graph has failed.
+fn out_of_slots(alloc: Global) -> Result<bool, Error> {
+    let mut table = SlotTable::new(alloc);
+    table.named("f1073741823")?;
+    let x = table.named("x")?;
+    let mut graph: Graph = EGraph::new(alloc, table, ())?;
+    let word = put_node(&mut graph, Small::Number(7))?;
+    let first = put(&mut graph, &var(alloc, x));
+    let second = graph.eq(&word, &word);
+    let third = graph.add(Small::Number(7));
+    let failed = graph.is_failed();
+    let table = graph.into_table();
+    Ok(
+        matches!(first, Err(Error::OutOfSlots))
+            && matches!(second, Err(Error::Failed))
+            && matches!(third, Err(Error::Failed))
+            && failed
+            && table.knows(x),
+    )
+}
+
+// A term with a child too few, one with a slot that the table does not know, and one that is right.
+fn valid_terms(alloc: Global) -> Result<bool, Error> {
+    let mut table = SlotTable::new(alloc);
+    let x = table.named("x")?;
+    let mut other = SlotTable::new(alloc);
+    other.named("x")?;
+    let unknown = other.named("y")?;
+    let graph: Graph = EGraph::new(alloc, table, ())?;
+    let empty = RecExpr {
+        node: Small::Lam(Bind {
+            slot: x,
+            elem: AppliedId::null(alloc),
+        }),
+        children: Vec::new(alloc),
+    };
+    let known = lam(alloc, x, var(alloc, x))?;
+    let bound = lam(alloc, unknown, var(alloc, x))?;
+    Ok(!graph.is_valid_expr(&empty) && graph.is_valid_expr(&known) && !graph.is_valid_expr(&bound))
+}
+
+#[test]
+fn bound_names_do_not_matter(rt: HostRuntime) {
+    assert!(rt; matches!(variables(rt.alloc()), Ok(true)));
+}
+
+#[test]
+fn nothing_is_captured(rt: HostRuntime) {
+    assert!(rt; matches!(captures(rt.alloc()), Ok(true)));
+}
+
+#[test]
+fn a_graph_without_slots_has_failed(rt: HostRuntime) {
+    assert!(rt; matches!(out_of_slots(rt.alloc()), Ok(true)));
+}
+
+#[test]
+fn holes_and_unknown_slots_are_found(rt: HostRuntime) {
+    assert!(rt; matches!(valid_terms(rt.alloc()), Ok(true)));
+}
+
+// A term is added with whatever memory there is: where it is refused the graph has failed, and else the id is valid.
+fn with_memory(alloc: Global) -> Result<bool, Error> {
+    let mut table = SlotTable::new(alloc);
+    let x = table.named("x")?;
+    let term = lam(alloc, x, app(alloc, var(alloc, x), var(alloc, x))?)?;
+    let mut graph: Graph = EGraph::new(alloc, table, ())?;
+    match put(&mut graph, &term) {
+        Ok(id) => Ok(!graph.is_failed() && equal(&graph, &id, &id)?),
+        Err(_) => Ok(graph.is_failed() && matches!(graph.add_expr(&term), Err(Error::Failed))),
+    }
+}
+
+#[test]
+fn a_refused_write_fails_the_graph(rt: HostRuntime) {
+    assert!(rt; matches!(with_memory(rt.alloc()), Ok(true) | Err(Error::OutOfMemory)));
+}

@@ -1,0 +1,24 @@
+use Rattle.std.proofs.Common.{◌≡◌, ◌∙◌}
+use Rattle.std.proofs.lemmas.Result.{IfOk-weaker}
+use Rattle.slotted_languages.specs.Shape.{shape, moved_names}
+use Rattle.slotted_languages.proofs.Occurrences.{lacks_smaller}
+use Rattle.slotted_languages.proofs.Renamings.{has_values, moved_same, renamed_same}
+use Rattle.slotted_languages.proofs.language.Language.refresh_private.Goals as goal
+
+pub rename-requires-clause-avoided : goal.rename-requires-clause-avoided
+rename-requires-clause-avoided g c n z e = c.in_ok-add_names.ensures.kept z (has_values c.in_ok-numbered.free c.in_ok-avoid.avoid c.in_ok-avoid.ensures.members n z e)
+
+pub returns-clause-same : goal.returns-clause-same
+returns-clause-same g c =
+    let f = g.Self.LanguageChildren.form c.args.self.now in
+    let p : c.in_ok-numbered.free ≡ (shape f).1 = λ i. (c.in_ok-numbered.ensures.shape i).1 in
+    let e : c.in_ok-numbered.free ≡ moved_names (λ x. x) (shape f).1 = p ∙ moved_same (shape f).1 in
+    IfOk-weaker c.rename.result _ _ (λ r h. renamed_same f c.add_names.new.set (g.Self.LanguageChildren.form r) (h (λ x. x) e)) c.rename.ensures.renamed
+
+pub returns-clause-fresh : goal.returns-clause-fresh
+returns-clause-fresh g c =
+    let f = g.Self.LanguageChildren.form c.args.self.now in
+    let p : c.in_ok-numbered.free ≡ (shape f).1 = λ i. (c.in_ok-numbered.ensures.shape i).1 in
+    let e : c.in_ok-numbered.free ≡ moved_names (λ x. x) (shape f).1 = p ∙ moved_same (shape f).1 in
+    IfOk-weaker c.rename.result _ _
+    (λ r h j lt b. lacks_smaller _ _ (c.in_ok-add_names.ensures.added _) ((h (λ x. x) e).bound j lt b)) c.rename.ensures.renamed

@@ -1,0 +1,150 @@
+//! Renaming of nodes without capture: bound slots are refreshed where a new free name would meet one.
+ghost use Rattle.std.specs.Prelude.{◌≡◌, ◌^◌, ℕ, true, false, Some, IfOk, IfErr, OnOk, IsErrOf, IsOkUnless};
+ghost use Rattle.slotted_slots.specs.Error.{IsOutOfMemory, IsShortage};
+ghost use Rattle.slotted_slots.specs.Maps.{is_among, value_of, values};
+ghost use Rattle.slotted_slots.specs.Table.{KnowsMore};
+ghost use Rattle.slotted_languages.specs.Form.{IsSmall};
+ghost use Rattle.slotted_languages.specs.Shape.{shape, moved_names};
+ghost use Rattle.slotted_languages.specs.Renaming.{IsChoice, IsEntered, IsRenamed};
+
+use crate::language::Language;
+use slotted_slots::{Error, Slot, SlotMap, SlotTable, SmallHashSet};
+use std::alloc::Global;
+
+// Whether some place of the node has the name.
+fn has_name<L: Language>(node: &L, name: Slot) -> bool
+    requires small { IsSmall (L.form node.now) }
+    ensures { result ≡ is_among name (L.form node.now).names }
+{
+    for i in 0..node.slot_count() {
+        if node.slot(i) == name {
+            return true;
+        }
+    }
+    false
+}
+
+// Whether the name is a value of the map.
+fn has_value(map: &SlotMap, name: Slot) -> bool
+    ensures { result ≡ is_among name (values map.now) }
+{
+    for i in 0..map.len() {
+        if map.value_at(i) == name {
+            return true;
+        }
+    }
+    false
+}
+
+// A fresh slot that is no name of the node, no value of the map, and not to be avoided.
+fn fresh_apart<L: Language>(
+    node: &L,
+    names: &SlotMap,
+    avoid: &SmallHashSet<Slot>,
+    table: &mut SlotTable,
+) -> Result<Slot, Error>
+    requires small { IsSmall (L.form node.now) }
+    ensures node { IfOk result (λ s. is_among s (L.form node.now).names ≡ false) }
+    ensures names { IfOk result (λ s. is_among s (values names.now) ≡ false) }
+    ensures avoid { IfOk result (λ s. is_among s avoid.now ≡ false) }
+    ensures full { IsErrOf result Error.OutOfSlots → (table.new.fresh ≡ 2 ^ 30) }
+    ensures only { IsOkUnless result Error.OutOfSlots }
+    ensures more { KnowsMore table.old table.new }
+{
+    loop {
+        let slot = table.fresh()?;
+        if !avoid.contains(&slot) && !has_value(names, slot) && !has_name(node, slot) {
+            return Ok(slot);
+        }
+    }
+}
+
+// A new name for a number that has none: that of its free name, or a binder's own name, if it is not to be avoided.
+fn choose_name<L: Language>(
+    node: &L,
+    name: Slot,
+    number: Slot,
+    free: &SlotMap,
+    avoid: &SmallHashSet<Slot>,
+    names: &SlotMap,
+    table: &mut SlotTable,
+) -> Result<Slot, Error>
+    requires small { IsSmall (L.form node.now) }
+    ensures ok { IfOk result (IsChoice (L.form node.now).names avoid.now free.now names.now number name) }
+    ensures full { IsErrOf result Error.OutOfSlots → (table.new.fresh ≡ 2 ^ 30) }
+    ensures only { IsOkUnless result Error.OutOfSlots }
+    ensures more { KnowsMore table.old table.new }
+{
+    if let Some(new) = free.get(number) {
+        return Ok(new);
+    }
+    if !avoid.contains(&name) {
+        return Ok(name);
+    }
+    Ok(fresh_apart(node, names, avoid, table)?)
+}
+
+// The new name of a number, which it has from now on.
+fn new_name<L: Language>(
+    node: &L,
+    name: Slot,
+    number: Slot,
+    free: &SlotMap,
+    avoid: &SmallHashSet<Slot>,
+    names: &mut SlotMap,
+    table: &mut SlotTable,
+) -> Result<Slot, Error>
+    requires small { IsSmall (L.form node.now) }
+    ensures ok { IfOk result (IsEntered (L.form node.now).names avoid.now free.now names.old names.new number name) }
+    ensures full { IsErrOf result Error.OutOfSlots → (table.new.fresh ≡ 2 ^ 30) }
+    ensures only { IfErr result IsShortage }
+    ensures more { KnowsMore table.old table.new }
+{
+    if let Some(new) = names.get(number) {
+        return Ok(new);
+    }
+    let new = choose_name(node, name, number, free, avoid, names, table)?;
+    names.insert(number, new)?;
+    Ok(new)
+}
+
+// The node with new names: `free` has those of the numbers that stand for free names in its shape `numbered`, and a bound
+// slot that is among `avoid` is refreshed.
+pub(crate) fn rename<L: Language>(
+    node: &L,
+    mut numbered: L,
+    alloc: Global,
+    free: &SlotMap,
+    avoid: &SmallHashSet<Slot>,
+    table: &mut SlotTable,
+) -> Result<L, Error>
+    requires small { IsSmall (L.form node.now) }
+    requires numbered { L.form numbered ≡ (shape (L.form node.now)).0 }
+    requires avoided { (n z : ℕ) → value_of free.now n ≡ Some z → is_among z avoid.now ≡ true }
+    ensures renamed { IfOk result (λ r. (π : ℕ → ℕ) → free.now ≡ moved_names π (shape (L.form node.now)).1 → IsRenamed π (L.form node.now) avoid.now (L.form r)) }
+    ensures full { IsErrOf result Error.OutOfSlots → (table.new.fresh ≡ 2 ^ 30) }
+    ensures only { IfErr result IsShortage }
+    ensures more { KnowsMore table.old table.new }
+{
+    let mut names = SlotMap::new(alloc);
+    for i in 0..node.slot_count() {
+        let name = node.slot(i);
+        let number = numbered.slot(i);
+        let new = new_name(node, name, number, free, avoid, &mut names, table)?;
+        numbered.set_slot(i, new);
+    }
+    Ok(numbered)
+}
+
+// Puts all names of the node into the set.
+pub(crate) fn add_names<L: Language>(node: &L, set: &mut SmallHashSet<Slot>) -> Result<(), Error>
+    requires small { IsSmall (L.form node.now) }
+    ensures kept { OnOk result ((x : ℕ) → is_among x set.old ≡ true → is_among x set.new ≡ true) }
+    ensures added { OnOk result ((x : ℕ) → is_among x (L.form node.now).names ≡ true → is_among x set.new ≡ true) }
+    ensures only { IfErr result IsOutOfMemory }
+{
+    for i in 0..node.slot_count() {
+        set.insert(node.slot(i))?;
+    }
+    Ok(())
+}

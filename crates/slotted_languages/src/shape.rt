@@ -1,0 +1,132 @@
+//! Shapes of nodes: names become numbers in the order in which they first stand.
+ghost use Rattle.std.specs.Prelude.{◌≡◌, ◌<◌, ◌^◌, None, IfOk, IfErr};
+ghost use Rattle.slotted_slots.specs.Error.{IsOutOfMemory};
+ghost use Rattle.slotted_languages.specs.Form.{IsSmall};
+ghost use Rattle.slotted_languages.specs.Shape.{shape, ShapeLaws};
+ghost use Rattle.slotted_languages.specs.Walk.{IsNumbering, walk_of, bound_number, walk_binder, walk_free, walk_at, start};
+
+use crate::language::Language;
+use slotted_slots::{Error, Slot, SlotMap};
+use std::alloc::Global;
+
+// A binder that was passed: its scope ends before the place `until`.
+#[derive(Clone, Copy)]
+struct Binder {
+    name: Slot,
+    until: usize,
+    number: Slot,
+}
+
+// What is known of the places so far: the binders, and the free names by name and by number.
+#[derive(Drop)]
+struct Numbering {
+    next: u32,
+    binders: Vec<Binder>,
+    numbers: SlotMap,
+    free: SlotMap,
+}
+
+impl Numbering {
+    fn new(alloc: Global) -> Numbering
+        ensures start { walk_of result ≡ start }
+        ensures good { IsNumbering result }
+    {
+        Numbering {
+            next: 0,
+            binders: Vec::new(alloc),
+            numbers: SlotMap::new(alloc),
+            free: SlotMap::new(alloc),
+        }
+    }
+
+    // The number of the innermost binder of this name whose scope has the place.
+    fn bound(&self, name: Slot, place: usize) -> Option<Slot>
+        ensures { result ≡ bound_number self.now.binders.items name place None }
+    {
+        let mut found = None;
+        for binder in self.binders.iter() {
+            if binder.name == name && place < binder.until {
+                found = Some(binder.number);
+            }
+        }
+        found
+    }
+
+    // A binder always gets the next number.
+    fn number_binder(&mut self, name: Slot, until: usize) -> Result<Slot, Error>
+        requires few { self.old.next < 2 ^ 30 }
+        requires good { IsNumbering self.old }
+        ensures ok { IfOk result (λ n. (n, walk_of self.new) ≡ walk_binder (walk_of self.old) name until) }
+        ensures good { IfOk result (λ _. IsNumbering self.new) }
+        ensures err { IfErr result IsOutOfMemory }
+    {
+        let number = Slot::numeric_at(self.next);
+        self.binders.push(Binder {
+            name,
+            until,
+            number,
+        })?;
+        self.next += 1;
+        Ok(number)
+    }
+
+    // A free name keeps the number that it has, and gets the next one where it first stands.
+    fn number_free(&mut self, name: Slot) -> Result<Slot, Error>
+        requires few { self.old.next < 2 ^ 30 }
+        requires good { IsNumbering self.old }
+        ensures ok { IfOk result (λ n. (n, walk_of self.new) ≡ walk_free (walk_of self.old) name) }
+        ensures good { IfOk result (λ _. IsNumbering self.new) }
+        ensures err { IfErr result IsOutOfMemory }
+    {
+        if let Some(number) = self.numbers.get(name) {
+            return Ok(number);
+        }
+        let number = Slot::numeric_at(self.next);
+        self.numbers.insert(name, number)?;
+        self.free.insert(number, name)?;
+        self.next += 1;
+        Ok(number)
+    }
+
+    // The number of a name at a place.
+    fn number(&mut self, name: Slot, place: usize, scope_end: Option<usize>) -> Result<Slot, Error>
+        requires few { self.old.next < 2 ^ 30 }
+        requires good { IsNumbering self.old }
+        ensures ok { IfOk result (λ n. (n, walk_of self.new) ≡ walk_at (walk_of self.old) name place scope_end) }
+        ensures good { IfOk result (λ _. IsNumbering self.new) }
+        ensures err { IfErr result IsOutOfMemory }
+    {
+        if let Some(until) = scope_end {
+            return self.number_binder(name, until);
+        }
+        match self.bound(name, place) {
+            Some(number) => Ok(number),
+            None => self.number_free(name),
+        }
+    }
+}
+
+/// The laws of shapes: equal shapes exactly for nodes that a bijection of names takes to one another, and what a renaming
+/// does to the map.
+pub fn shapes_decide()
+    ensures { ShapeLaws }
+{}
+
+/// As many places as a shape can number.
+pub const PLACES: usize = 1 << 30;
+
+// Puts its number at each place, and answers the names of the numbers that stand for free names.
+pub(crate) fn number_places<L: Language>(node: &mut L, alloc: Global) -> Result<SlotMap, Error>
+    requires small { IsSmall (L.form node.old) }
+    ensures ok { IfOk result (λ m. (L.form node.new, m) ≡ shape (L.form node.old)) }
+    ensures err { IfErr result IsOutOfMemory }
+{
+    let mut numbering = Numbering::new(alloc);
+    for i in 0..node.slot_count() {
+        let name = node.slot(i);
+        let scope_end = node.scope_end(i);
+        let number = numbering.number(name, i, scope_end)?;
+        node.set_slot(i, number);
+    }
+    Ok(numbering.free)
+}
