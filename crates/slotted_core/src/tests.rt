@@ -1,3 +1,4 @@
+//! Alpha-equality through the graph, by worked terms.
 use crate::egraph::EGraph;
 use slotted_languages::{Bind, Small};
 use slotted_slots::{AppliedId, Error, Slot, SlotTable};
@@ -111,47 +112,6 @@ fn captures(alloc: Global) -> Result<bool, Error> {
     Ok(equal(&graph, &a, &b)? && !equal(&graph, &a, &c)?)
 }
 
-// After the last fresh slot no class with a slot is made, and the graph has failed.
-fn out_of_slots(alloc: Global) -> Result<bool, Error> {
-    let mut table = SlotTable::new(alloc);
-    table.named("f1073741823")?;
-    let x = table.named("x")?;
-    let mut graph: Graph = EGraph::new(alloc, table, ())?;
-    let word = put_node(&mut graph, Small::Number(7))?;
-    let first = put(&mut graph, &var(alloc, x));
-    let second = graph.eq(&word, &word);
-    let third = graph.add(Small::Number(7));
-    let failed = graph.is_failed();
-    let table = graph.into_table();
-    Ok(
-        matches!(first, Err(Error::OutOfSlots))
-            && matches!(second, Err(Error::Failed))
-            && matches!(third, Err(Error::Failed))
-            && failed
-            && table.knows(x),
-    )
-}
-
-// A term with a child too few, one with a slot that the table does not know, and one that is right.
-fn valid_terms(alloc: Global) -> Result<bool, Error> {
-    let mut table = SlotTable::new(alloc);
-    let x = table.named("x")?;
-    let mut other = SlotTable::new(alloc);
-    other.named("x")?;
-    let unknown = other.named("y")?;
-    let graph: Graph = EGraph::new(alloc, table, ())?;
-    let empty = RecExpr {
-        node: Small::Lam(Bind {
-            slot: x,
-            elem: AppliedId::null(alloc),
-        }),
-        children: Vec::new(alloc),
-    };
-    let known = lam(alloc, x, var(alloc, x))?;
-    let bound = lam(alloc, unknown, var(alloc, x))?;
-    Ok(!graph.is_valid_expr(&empty) && graph.is_valid_expr(&known) && !graph.is_valid_expr(&bound))
-}
-
 #[test]
 fn bound_names_do_not_matter(rt: HostRuntime) {
     assert!(rt; matches!(variables(rt.alloc()), Ok(true)));
@@ -160,31 +120,4 @@ fn bound_names_do_not_matter(rt: HostRuntime) {
 #[test]
 fn nothing_is_captured(rt: HostRuntime) {
     assert!(rt; matches!(captures(rt.alloc()), Ok(true)));
-}
-
-#[test]
-fn a_graph_without_slots_has_failed(rt: HostRuntime) {
-    assert!(rt; matches!(out_of_slots(rt.alloc()), Ok(true)));
-}
-
-#[test]
-fn holes_and_unknown_slots_are_found(rt: HostRuntime) {
-    assert!(rt; matches!(valid_terms(rt.alloc()), Ok(true)));
-}
-
-// A term is added with whatever memory there is: where it is refused the graph has failed, and else the id is valid.
-fn with_memory(alloc: Global) -> Result<bool, Error> {
-    let mut table = SlotTable::new(alloc);
-    let x = table.named("x")?;
-    let term = lam(alloc, x, app(alloc, var(alloc, x), var(alloc, x))?)?;
-    let mut graph: Graph = EGraph::new(alloc, table, ())?;
-    match put(&mut graph, &term) {
-        Ok(id) => Ok(!graph.is_failed() && equal(&graph, &id, &id)?),
-        Err(_) => Ok(graph.is_failed() && matches!(graph.add_expr(&term), Err(Error::Failed))),
-    }
-}
-
-#[test]
-fn a_refused_write_fails_the_graph(rt: HostRuntime) {
-    assert!(rt; matches!(with_memory(rt.alloc()), Ok(true) | Err(Error::OutOfMemory)));
 }

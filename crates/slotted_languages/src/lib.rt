@@ -61,6 +61,4 @@ pub use shape::shapes_decide;
 pub use small::Small;
 
 #[cfg(test)]
-mod shape_tests;
-#[cfg(test)]
 mod tests;
