@@ -2,7 +2,7 @@
 use crate::expr::RecExpr;
 use slotted_languages::payload::Symbol;
 use slotted_languages::small::Small;
-use slotted_slots::{AppliedId, SlotTable};
+use slotted_slots::{AppliedId, Error, ParseError, Slot, SlotTable, SyntaxElem};
 use std::alloc::Global;
 use std::test::Fail;
 
@@ -53,6 +53,31 @@ fn a_fault_is_answered_with_what_is_left(rt: HostRuntime) -> Result<(), Fail> {
         ("a[a := b]", "NotATerm"),
     ] {
         assert!(rt; refused_as(rt.alloc(), text, answer)?, "at {text:?}");
+    }
+    Ok(())
+}
+
+// The three elements are the operator `app`, the slot and a null id.
+fn are_app_of(alloc: Global, elements: &[SyntaxElem], slot: Slot) -> bool {
+    match elements {
+        [
+            SyntaxElem::String(operator),
+            SyntaxElem::Slot(name),
+            SyntaxElem::AppliedId(child),
+        ] => { operator.as_str() == "app" && *name == slot && *child == AppliedId::null(alloc) }
+        _ => false,
+    }
+}
+
+#[test]
+fn a_child_in_a_fault_is_a_null_id(rt: HostRuntime) -> Result<(), Fail> {
+    let mut table = SlotTable::new(rt.alloc());
+    let one = table.numeric(1)?;
+    match RecExpr::<Small>::parse(rt.alloc(), "(app $1 a)", &mut table) {
+        Err(Error::Parse(ParseError::FromSyntaxFailed(elements))) => {
+            assert!(rt; are_app_of(rt.alloc(), &elements, one));
+        }
+        _ => assert!(rt; false, "it is no such fault"),
     }
     Ok(())
 }
