@@ -73,12 +73,14 @@ fn are_app_of(alloc: Global, elements: &[SyntaxElem], slot: Slot) -> bool {
 fn a_child_in_a_fault_is_a_null_id(rt: HostRuntime) -> Result<(), Fail> {
     let mut table = SlotTable::new(rt.alloc());
     let one = table.numeric(1)?;
-    match RecExpr::<Small>::parse(rt.alloc(), "(app $1 a)", &mut table) {
+    let answer = RecExpr::<Small>::parse(rt.alloc(), "(app $1 a)", &mut table);
+    let expected = match &answer {
         Err(Error::Parse(ParseError::FromSyntaxFailed(elements))) => {
-            assert!(rt; are_app_of(rt.alloc(), &elements, one));
+            are_app_of(rt.alloc(), elements, one)
         }
-        _ => assert!(rt; false, "it is no such fault"),
-    }
+        _ => false,
+    };
+    assert!(rt; expected);
     Ok(())
 }
 
