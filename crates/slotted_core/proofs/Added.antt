@@ -1,11 +1,11 @@
 -- What adding a node leaves: where its shape is filed nothing changes, and else there is one class more.
-use Rattle.std.proofs.Common.{◌≡◌, ◌<◌, ◌≤◌, ℕ, zero, suc, ◌+◌, ◌-◌, ◌*◌, List, [], ◌∷◌, ◌++◌, Option, Some, None, length, map, get_or, cond, sym, ◌∙◌, ap, refl, subst, arith, inl, inr, length-append}
-use Rattle.std.specs.Prelude.{option_map, is_some, IsSome, All, Contains, true, false}
+use Rattle.std.proofs.Common.{◌≡◌, ◌<◌, ◌≤◌, ℕ, zero, suc, ◌+◌, List, [], ◌∷◌, ◌++◌, Some, None, length, map, get_or, cond, sym, ◌∙◌, ap, refl, subst, arith, inl, inr, length-append}
+use Rattle.std.specs.Prelude.{option_map, is_some, All, Contains, true, false}
 use Rattle.std.proofs.lemmas.Bool.{false≢true}
 use Rattle.std.proofs.lemmas.List.{map-append}
-use Rattle.slotted_theory.specs.Nameless.{DArgs, DTerm, moved}
+use Rattle.slotted_theory.specs.Nameless.{DTerm}
 use Rattle.slotted_theory.specs.Renaming.{IsInjective}
-use Rattle.slotted_theory.specs.FiniteMaps.{HasValue, IsInjectiveMap}
+use Rattle.slotted_theory.specs.FiniteMaps.{IsInjectiveMap}
 use Rattle.slotted_theory.specs.Shape.{SameUpToNames}
 use Rattle.slotted_theory.specs.Shape as theory
 use Rattle.slotted_theory.proofs.Shapes.{shape_iff}
@@ -13,29 +13,47 @@ use Rattle.slotted_theory.proofs.Bijections.{to-injective}
 use Rattle.slotted_slots.specs.Maps.{keys, values}
 use Rattle.slotted_slots.specs.Table.{Table, fresh_slot, empty_table}
 use Rattle.slotted_languages.specs.Form.{Form}
-use Rattle.slotted_languages.specs.Joined.{at_append}
 use Rattle.slotted_languages.specs.NodeTerm.{nameless_node}
 use Rattle.slotted_languages.specs.Shape.{shape, Fits, moved_names}
 use Rattle.slotted_languages.proofs.Shapes.{shapes_iff}
 use Rattle.slotted_model.specs.Ascending.{ascending, names}
 use Rattle.slotted_model.specs.Applied.{Applied, map_on, renamed_id, EachChild}
-use Rattle.slotted_model.specs.Classes.{canonical_node, canonical_slots, IsFull, Canonical}
-use Rattle.slotted_model.specs.Growth.{IsNew, identity_id, Extends, Added}
+use Rattle.slotted_model.specs.Classes.{canonical_slots, IsFull, Canonical}
+use Rattle.slotted_model.specs.Correspondence.{identity}
+use Rattle.slotted_model.specs.Find.{Entry, IsLive, find}
+use Rattle.slotted_model.specs.Link.{IsLater, with_new_entry, reflexive_equation}
+use Rattle.slotted_model.specs.ProofList.{Equation, ProofEntry, reflexive, equation_at, asserted}
+use Rattle.slotted_model.specs.Sound.{Sound}
+use Rattle.slotted_model.specs.Growth.{Extends, Added}
+use Rattle.slotted_model.specs.Growth as growth
 use Rattle.slotted_model.specs.Ids.{id_of_node}
 use Rattle.slotted_model.proofs.Members.{In, In-Contains}
 use Rattle.slotted_model.proofs.Sets.{In-of_ascending}
 use Rattle.slotted_model.proofs.Maps.{In-values}
 use Rattle.slotted_model.proofs.Children.{EachChild-moved}
 use Rattle.slotted_model.proofs.Full.{full-renamed}
+use Rattle.slotted_model.proofs.Found.{keys-identity}
 use Rattle.slotted_model.proofs.Growing.{added, node-old, node-new, Extends-same}
+use Rattle.slotted_model.proofs.Keeping.{new_class-sound, new_class-asserted}
+use Rattle.slotted_model.proofs.NewClasses.{later-newer}
+use Rattle.slotted_proofs.specs.Equations.{Statement}
+use Rattle.slotted_proofs.specs.Entries.{Proven, entry_of, IsNew, Enters, reflexive_entry}
+use Rattle.slotted_proofs.specs.Proving.{IsProvable, IsProved}
+use Rattle.slotted_proofs.proofs.Entering.{entering_proved, proved_newer, reflexive_provable}
+use Rattle.slotted_core.specs.Alike.{EntriesFindAlike, AllInUse}
 use Rattle.slotted_core.specs.FormCode.{form_is, form_Decides}
-use Rattle.slotted_core.specs.Graph.{IsFreshBetween, HasNewClass}
-use Rattle.slotted_core.specs.Kept.{Kept, ClassEntry, RowEntry, no_form, found, rows_from, node_at, find_at, nodes_of, with_new_class, Good, HasFreshSlots, Adds}
+use Rattle.slotted_core.specs.Graph.{IsFreshBetween}
+use Rattle.slotted_core.specs.Image.{AddsClasses}
+use Rattle.slotted_core.specs.Kept.{Kept, ClassEntry, RowEntry, no_form, no_entry, found, rows_from, node_at, nodes_of, entries_of, proofs_of, image_of, with_proofs, with_new_class, MakesClass, Good, HasFreshSlots, Adds}
 use Rattle.slotted_core.specs.Names.{between, fresh_slots, with_put}
 use Rattle.slotted_core.specs.Nodes.{child_ids}
 use Rattle.slotted_core.proofs.Children.{Each-from_All, EachChild-node_args}
-use Rattle.slotted_core.proofs.Found.{nameless_nodes, canonical_node-in, answer, look_up-rows, none_has}
+use Rattle.slotted_core.proofs.Found.{canonical_node-in, answer, look_up-rows, none_has}
 use Rattle.slotted_core.proofs.Ids.{length-classes}
+use Rattle.slotted_core.proofs.Images.{adds-nothing}
+use Rattle.slotted_core.proofs.InUse.{new_class-in_use, new_class-lives}
+use Rattle.slotted_core.proofs.KeptLists.{length-entries_of, length-proofs_of, equation_at-of, found_id-is}
+use Rattle.slotted_core.proofs.NewClass.{full-finds, new_class-alike}
 use Rattle.slotted_core.proofs.Inserted.{ascending-values, between-moved}
 use Rattle.slotted_core.proofs.Renamed.{fits_put, shape-put}
 
@@ -68,7 +86,7 @@ fresh_from c zero v h = absurd h
 fresh_from c (suc n) v (inl e) = (c, e, omega arith, omega arith)
 fresh_from c (suc n) v (inr h) = let r = fresh_from (suc c) n v h in (r.0, r.1, omega (arith, r.2), omega (arith, r.3))
 
-fresh_injective : (m : List (ℕ × ℕ)) (c n : ℕ) → values m ≡ fresh_slots c n → IsInjectiveMap m
+pub fresh_injective : (m : List (ℕ × ℕ)) (c n : ℕ) → values m ≡ fresh_slots c n → IsInjectiveMap m
 fresh_injective [] c n e = tt
 fresh_injective (p ∷ m) c zero e = cc
 fresh_injective (p ∷ m) c (suc n) e =
@@ -98,20 +116,26 @@ adds_none t k good over f hf r e =
       good = good;
       fresh_slots = over;
       extends = Extends-same (nodes_of k);
+      adds = adds-nothing k;
       found = p;
       kept = λ s. refl;
       made = λ n. absurd (false≢true (ap is_some (sym n ∙ p)));
     }
 
-module _ (t u : Table) (k : Kept) (good : Good k) (over : HasFreshSlots t k) (f : Form) (hf : Fits f) (full : All (IsFull (nodes_of k)) (child_ids f)) (none : found k.rows (shape f).0 ≡ None) (slots : List (ℕ × ℕ)) (same_keys : keys slots ≡ keys (shape f).1) (new_values : values slots ≡ fresh_slots t.fresh (length (shape f).1)) (moves : u.fresh ≡ t.fresh + length (shape f).1) where
+module _ (t u : Table) (k : Kept) (good : Good k) (over : HasFreshSlots t k) (f : Form) (hf : Fits f) (full : All (IsFull (nodes_of k)) (child_ids f)) (none : found k.rows (shape f).0 ≡ None) (slots : List (ℕ × ℕ)) (same_keys : keys slots ≡ keys (shape f).1) (new_values : values slots ≡ fresh_slots t.fresh (length (shape f).1)) (moves : u.fresh ≡ t.fresh + length (shape f).1)
+    (ps : List Proven) (p : ℕ) (enters : Enters k.proofs ps (reflexive_entry (length k.classes) (keys (between slots slots))) p) where
   abbrev l : Kept
-  l = with_new_class k (shape f).0 slots
+  l = with_new_class (with_proofs k ps) (shape f).0 slots p
 
   abbrev c : Form
   c = with_put slots (shape f).0
 
   abbrev g : List DTerm
   g = nodes_of k
+
+  -- its find entry
+  abbrev own : Entry
+  own = record { class = length k.classes; pairs = between slots slots; proof = p; died = 0 }
 
   abbrev d : DTerm
   d = nameless_node c
@@ -142,7 +166,7 @@ module _ (t u : Table) (k : Kept) (good : Good k) (over : HasFreshSlots t k) (f 
   one_shape : theory.shape d ≡ theory.shape (nameless_node f)
   one_shape = sym ((shape_iff (nameless_node f) d).1 same)
 
-  is_new : IsNew g d
+  is_new : growth.IsNew g d
   is_new = record {
     operator = omega arith;
     children = subst (λ (x : DTerm). EachChild (IsFull g) x.args) same.1
@@ -153,10 +177,10 @@ module _ (t u : Table) (k : Kept) (good : Good k) (over : HasFreshSlots t k) (f 
   }
 
   adds : Added g (g ++ d ∷ []) d
-  adds = added g d good.canonical is_new
+  adds = added g d good.sound.canonical is_new
 
   nodes_are : nodes_of l ≡ g ++ d ∷ []
-  nodes_are = map-append (λ (x : ClassEntry). nameless_node x.0) k.classes ((c, (n, between slots slots)) ∷ [])
+  nodes_are = map-append (λ (x : ClassEntry). nameless_node x.0) k.classes ((c, own) ∷ [])
 
   -- the slots of classes
 
@@ -185,24 +209,110 @@ module _ (t u : Table) (k : Kept) (good : Good k) (over : HasFreshSlots t k) (f 
   finds_itself =
       (λ i. between (sym put_shape.1 i) (sym put_shape.1 i)) ∙ between-moved (λ x. x) c (shape c).1 (moved_id (shape c).1)
 
+  -- the model's lists
+
+  abbrev entry : ProofEntry
+  entry = record { equation = reflexive_equation (nodes_of l) (length g); step = reflexive }
+
+  one_more : length (nodes_of l) ≡ suc (length g)
+  one_more = let e : length (nodes_of l) ≡ length g + length (d ∷ []) = ap length nodes_are ∙ length-append g (d ∷ []) in omega arith
+
+  extends : Extends g (nodes_of l)
+  extends = subst (Extends g) (sym nodes_are) adds.extends
+
+  canonical : Canonical (nodes_of l)
+  canonical = subst Canonical (sym nodes_are) adds.canonical
+
+  -- the slots of the new class, of which it says that each has its own name
+  own_slots : between slots slots ≡ identity (canonical_slots (nodes_of l) n)
+  own_slots = finds_itself ∙ ap identity (sym slots_last)
+
+  own_keys : keys (between slots slots) ≡ canonical_slots (nodes_of l) n
+  own_keys = ap keys own_slots ∙ keys-identity (canonical_slots (nodes_of l) n)
+
+  abbrev own_entry : Proven
+  own_entry = reflexive_entry n (keys (between slots slots))
+
+  -- no entry speaks of it yet
+  unspoken : IsNew k.proofs own_entry.statement
+  unspoken q stands =
+      let h : q < length (proofs_of k) = let a : length (proofs_of k) ≡ length k.proofs = length-proofs_of k in let b : q < length k.proofs = stands.in_range in omega arith in
+      let o : (equation_at (proofs_of k) q).left < length g = (good.sound.proved.over q h).left in
+      let e : (equation_at (proofs_of k) q).left ≡ n = ap (λ (x : Equation). x.left) (equation_at-of k.proofs q) ∙ ap (λ (x : Statement). x.equation.left) stands.statement in
+      let m : length g ≡ n = length-classes k in
+      omega arith
+
+  stands_last : (p ≡ length k.proofs) × (ps ≡ k.proofs ++ own_entry ∷ [])
+  stands_last = elim enters.grows [
+    | inl h ↦ absurd (unspoken p h.0)
+    | inr h ↦ (h.1, h.2)
+  ]
+
+  entry_is : entry_of own_entry ≡ entry
+  entry_is =
+      let m : n ≡ length g = sym (length-classes k) in
+      (λ i. record { equation = record { left = n; right = n; pairs = identity (own_keys i) }; step = reflexive })
+      ∙ (λ i. record { equation = reflexive_equation (nodes_of l) (m i); step = reflexive })
+
+  proofs_are : proofs_of l ≡ proofs_of k ++ entry ∷ []
+  proofs_are = ap (map entry_of) stands_last.1 ∙ (map-append entry_of k.proofs (own_entry ∷ []) ∙ ap (λ x. proofs_of k ++ x ∷ []) entry_is)
+
+  entries_are : entries_of l ≡ with_new_entry (nodes_of l) (entries_of k) (length (proofs_of k))
+  entries_are =
+      let m : n ≡ length (entries_of k) = sym (length-entries_of k) in
+      let q : p ≡ length (proofs_of k) = stands_last.0 ∙ sym (length-proofs_of k) in
+      map-append (λ (x : ClassEntry). x.1) k.classes ((c, own) ∷ [])
+      ∙ ((λ i. entries_of k ++ record { class = n; pairs = own_slots i; proof = q i; died = 0 } ∷ [])
+      ∙ (λ i. entries_of k ++ record { class = m i; pairs = identity (canonical_slots (nodes_of l) (m i)); proof = length (proofs_of k); died = 0 } ∷ []))
+
+  -- where finds, nodes and proofs are these lists
+  abbrev As : (List Entry → List ProofEntry → Type 0) → Type 0
+  As Q = Q (with_new_entry (nodes_of l) (entries_of k) (length (proofs_of k))) (proofs_of k ++ entry ∷ [])
+
+  as_lists : (Q : List Entry → List ProofEntry → Type 0) → As Q → Q (entries_of l) (proofs_of l)
+  as_lists Q h = subst (λ (x : List Entry × List ProofEntry). Q x.0 x.1) (λ i. (sym entries_are i, sym proofs_are i)) h
+
+  nothing_asserted : asserted (nodes_of l) (proofs_of l) ≡ asserted g (proofs_of k)
+  nothing_asserted = ap (asserted (nodes_of l)) proofs_are ∙ new_class-asserted g (nodes_of l) (entries_of k) (proofs_of k) good.sound canonical extends one_more
+
+  -- the statements are over canonical slots
+  proved_more : IsProved (nodes_of l) ps
+  proved_more =
+      entering_proved (nodes_of l) k.proofs ps own_entry p (proved_newer g (nodes_of l) k.proofs extends good.proved)
+      (subst (λ S. IsProvable (nodes_of l) k.proofs (reflexive_entry n S)) (sym own_keys) (reflexive_provable (nodes_of l) k.proofs n (let m : length g ≡ n = length-classes k in let o : length (nodes_of l) ≡ suc (length g) = one_more in omega arith)).0) enters
+
   pub good_more : Good l
   good_more = record {
-    canonical = subst Canonical (sym nodes_are) adds.canonical;
     rows = (λ i. good.rows i ++ (sym put_shape.0 i, (n, sym put_shape.1 i)) ∷ [])
         ∙ (ap (λ (j : ℕ). rows_from 0 k.classes ++ ((shape c).0, (j, (shape c).1)) ∷ []) (zero_plus n)
-        ∙ sym (rows_from-push 0 k.classes (c, (n, between slots slots))));
-    fits = each_push (λ i e. Fits e.0) k.classes (c, (n, between slots slots)) (no_form, (0, [])) good.fits fits_c;
-    finds = each_push (λ i e. e.1 ≡ identity_id (nodes_of l) i) k.classes (c, (n, between slots slots)) (no_form, (0, []))
-        (λ i h. good.finds i h ∙ (λ j. (i, map_on (λ x. x) (sym (slots_old i h) j))))
-        (λ j. (n, (finds_itself ∙ ap (map_on (λ x. x)) (sym slots_last)) j));
+        ∙ sym (rows_from-push 0 k.classes (c, own)));
+    fits = each_push (λ i e. Fits e.0) k.classes (c, own) (no_form, no_entry) good.fits fits_c;
+    sound = as_lists (Sound (nodes_of l)) (new_class-sound g (nodes_of l) (entries_of k) (proofs_of k) good.sound canonical extends one_more);
+    proved = proved_more;
+    later = as_lists (λ es qs. IsLater es k.moment) (later-newer g (nodes_of l) extends one_more (entries_of k) good.sound.linked (length (proofs_of k)) k.moment good.later);
+    alike = as_lists (EntriesFindAlike (nodes_of l)) (new_class-alike g (nodes_of l) extends one_more (entries_of k) good.sound.linked (length (proofs_of k)) (proofs_of k) good.sound.proved.over good.alike);
+    in_use = as_lists (λ es qs. AllInUse (nodes_of l) es) (new_class-in_use g (nodes_of l) extends one_more (entries_of k) good.sound.linked good.in_use (length (proofs_of k)));
+    untouched = λ e. as_lists (λ es qs. (i : ℕ) → i < length (nodes_of l) → IsLive es i)
+        (new_class-lives g (nodes_of l) extends one_more (entries_of k) good.sound.linked good.in_use (length (proofs_of k)) (good.untouched (sym nothing_asserted ∙ e)));
   }
     where
       zero_plus : (m : ℕ) → m ≡ 0 + m
       zero_plus m = omega arith
 
+  adds_class : AddsClasses (image_of k) (image_of l)
+  adds_class = record {
+    more = entry ∷ [];
+    entries = proofs_are;
+    asserted = nothing_asserted;
+    finds = λ a full.
+        let h : a.0 < length k.classes = let m : length g ≡ n = length-classes k in let o : a.0 < length g = full.in_range in omega arith in
+        let h' : a.0 < length l.classes = let m : length (nodes_of l) ≡ length l.classes = length-classes l in let o : length (nodes_of l) ≡ suc (length g) = one_more in let q : a.0 < length g = full.in_range in omega arith in
+        found_id-is l a h' ∙ (ap (λ es. find es a) entries_are ∙ (full-finds g (nodes_of l) extends one_more (entries_of k) good.sound.linked (length (proofs_of k)) a full ∙ sym (found_id-is k a h)));
+  }
+
   fresh_more : HasFreshSlots u l
   fresh_more i s h b =
-      each_push (λ j e. Contains (names (nameless_node e.0)) s → IsFreshBetween empty_table u s) k.classes (c, (n, between slots slots)) (no_form, (0, []))
+      each_push (λ j e. Contains (names (nameless_node e.0)) s → IsFreshBetween empty_table u s) k.classes (c, own) (no_form, no_entry)
       (λ j m a. older t u s (omega (arith, moves)) (over j s m (subst (λ (x : List ℕ). Contains x s) (ap names (sym (canonical_node-in k.classes j m))) a)))
       (λ a. newer t u s (fresh_last s (In-Contains (names d) s a))) i h
       (subst (λ (x : List ℕ). Contains x s) (slots_at i h) b)
@@ -220,7 +330,8 @@ module _ (t u : Table) (k : Kept) (good : Good k) (over : HasFreshSlots t k) (f 
   adds_one = record {
     good = good_more;
     fresh_slots = fresh_more;
-    extends = subst (Extends g) (sym nodes_are) adds.extends;
+    extends = extends;
+    adds = adds_class;
     found = found_more;
     kept = λ s. absurd (false≢true (sym (ap is_some none_before) ∙ s));
     made = λ p. record {
@@ -243,9 +354,10 @@ row_adds t k good over f hf s m e =
 abbrev ClassAdds : Table → Table → Kept → Kept → Form → Applied → List (ℕ × ℕ) → Form × List (ℕ × ℕ) → Type 0
 ClassAdds t u k l f a slots x =
     None ≡ found k.rows x.0 → keys slots ≡ keys x.1 → values slots ≡ fresh_slots t.fresh (length x.1) → u.fresh ≡ t.fresh + length x.1 →
-    l ≡ with_new_class k x.0 slots → a ≡ (length k.classes, between slots x.1) → Adds t u k l f a
+    MakesClass k l x.0 slots → a ≡ (length k.classes, between slots x.1) → Adds t u k l f a
 
 pub class_adds : (t u : Table) (k l : Kept) → Good k → HasFreshSlots t k → (f : Form) → Fits f → All (IsFull (nodes_of k)) (child_ids f) → (a : Applied) (slots : List (ℕ × ℕ)) (s : Form) (m : List (ℕ × ℕ)) → ◌≡◌ {A = Form × List (ℕ × ℕ)} (s, m) (shape f) → ClassAdds t u k l f a slots (s, m)
 class_adds t u k l good over f hf full a slots s m e =
     subst (ClassAdds t u k l f a slots) (sym e)
-    (λ none ks vs mv el ea. subst (λ (x : Kept × Applied). Adds t u k x.0 f x.1) (λ i. (sym el i, sym ea i)) (adds_one t u k good over f hf full (sym none) slots ks vs mv))
+    (λ none ks vs mv made ea. subst (λ (x : Kept × Applied). Adds t u k x.0 f x.1) (λ i. (sym made.class i, sym ea i))
+    (adds_one t u k good over f hf full (sym none) slots ks vs mv made.proofs made.proof made.enters))

@@ -1,10 +1,9 @@
 -- A look-up among the rows is the look-up of the image.
-use Rattle.std.proofs.Common.{◌≡◌, ◌↔◌, ◌<◌, ℕ, zero, suc, ◌+◌, List, [], ◌∷◌, ◌++◌, Option, Some, None, Bool, true, false, cond, length, map, get_or, sym, ◌∙◌, ap, refl, subst, arith, inl, inr}
+use Rattle.std.proofs.Common.{◌≡◌, ◌↔◌, ◌<◌, ℕ, zero, suc, ◌+◌, List, [], ◌∷◌, Option, Some, None, Bool, true, false, cond, length, map, get_or, sym, ◌∙◌, ap, refl, subst, arith, inl, inr}
 use Rattle.std.specs.Prelude.{option_map, IsTrue}
 use Rattle.std.proofs.lemmas.Bool.{cases_Bool, false≢true}
 use Rattle.std.proofs.lemmas.Bool.Decides.{same_from_decides}
-use Rattle.slotted_theory.specs.Nameless.{DArgs, DTerm, stop, moved}
-use Rattle.slotted_theory.specs.Renaming.{Bijection}
+use Rattle.slotted_theory.specs.Nameless.{DTerm, stop, moved}
 use Rattle.slotted_theory.specs.Shape.{free_names, number_in, SameUpToNames}
 use Rattle.slotted_theory.specs.Shape as theory
 use Rattle.slotted_theory.proofs.Values.{child_before}
@@ -26,7 +25,7 @@ use Rattle.slotted_model.proofs.Maps.{map_on-agrees}
 use Rattle.slotted_model.proofs.Theory.{free_names-moved, get_or-number_in}
 use Rattle.slotted_core.specs.FormCode.{form_is, form_Decides}
 use Rattle.slotted_core.specs.Names.{between}
-use Rattle.slotted_core.specs.Kept.{Kept, ClassEntry, RowEntry, no_form, found, rows_from, node_at, nodes_of, Good}
+use Rattle.slotted_core.specs.Kept.{Kept, ClassEntry, no_form, no_entry, found, rows_from, nodes_of, Good}
 use Rattle.slotted_core.proofs.Inserted.{between-moved}
 
 child_same : (d e : DTerm) → child_before d stop ≡ child_before e stop → d ≡ e
@@ -56,7 +55,7 @@ same_test f c hf hc =
     (form_Decides (shape f).0 (shape c).0) (λ b. s.1 (t.0 b), λ e. t.1 (s.0 e))
 
 abbrev pub node_in : List ClassEntry → ℕ → Form
-node_in cs i = (get_or cs i (no_form, (0, []))).0
+node_in cs i = (get_or cs i (no_form, no_entry)).0
 
 abbrev pub nameless_nodes : List ClassEntry → List DTerm
 nameless_nodes cs = map (λ c. nameless_node c.0) cs

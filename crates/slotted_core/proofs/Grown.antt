@@ -1,10 +1,9 @@
 -- Adding a term from below: the ids of the children stand in the node so far.
-use Rattle.std.proofs.Common.{◌≡◌, ◌<◌, ◌≤◌, ℕ, zero, suc, ◌+◌, List, [], ◌∷◌, length, get_or, sym, ◌∙◌, ap, refl, subst, arith, inl, inr, Some}
+use Rattle.std.proofs.Common.{◌≡◌, ◌<◌, ◌≤◌, ℕ, zero, suc, ◌+◌, List, [], ◌∷◌, length, get_or, sym, ◌∙◌, ap, refl, subst, arith, inl, inr}
 use Rattle.std.specs.Prelude.{slice_set, slice_index_or, All}
-use Rattle.std.specs.List.{zip}
 use Rattle.std.proofs.lemmas.Bool.{cases_eq}
 use Rattle.slotted_theory.specs.Term.{Args, Term, done, args_size, term_size}
-use Rattle.slotted_theory.specs.Nameless.{DTerm, nameless, nameless_args}
+use Rattle.slotted_theory.specs.Nameless.{nameless, nameless_args}
 use Rattle.slotted_slots.specs.Maps.{keys, values}
 use Rattle.slotted_slots.specs.Table.{Table}
 use Rattle.slotted_languages.specs.Form.{Form, children, with_child}
@@ -14,13 +13,14 @@ use Rattle.slotted_languages.specs.Filled as form
 use Rattle.slotted_languages.specs.NodeTerm.{nameless_node}
 use Rattle.slotted_languages.specs.Shape.{Fits}
 use Rattle.slotted_model.specs.Applied.{Applied}
-use Rattle.slotted_model.specs.Classes.{terms, term_of, layer_of, IsFull, Canonical}
+use Rattle.slotted_model.specs.Classes.{terms, term_of, layer_of, IsFull}
 use Rattle.slotted_model.specs.Growth.{Extends}
 use Rattle.slotted_model.proofs.Growing.{Extends-same, Extends-then}
-use Rattle.slotted_core.specs.Graph.{IsWhole}
-use Rattle.slotted_core.specs.Kept.{Kept, nodes_of, Good, HasFreshSlots, Adds, AddsTerm}
+use Rattle.slotted_core.specs.Image.{AddsClasses}
+use Rattle.slotted_core.specs.Kept.{Kept, nodes_of, image_of, Good, HasFreshSlots, Adds, AddsTerm}
 use Rattle.slotted_core.specs.Nodes.{child_ids}
 use Rattle.slotted_core.proofs.Added.{full_children}
+use Rattle.slotted_core.proofs.Images.{adds-nothing, adds-then}
 use Rattle.slotted_core.proofs.Children.{length-ids, zip-keys_values}
 use Rattle.slotted_core.proofs.Known.{answer_full, answer_term}
 use Rattle.slotted_core.proofs.Layers.{match-from, expand-filled}
@@ -33,6 +33,7 @@ pub record IsPart (k : Kept) (t : Table) (l : Kept) (f h : Form) (us : List Term
   pub good : Good l
   pub fresh_slots : HasFreshSlots t l
   pub extends : Extends (nodes_of k) (nodes_of l)
+  pub adds : AddsClasses (image_of k) (image_of l)
   pub operator : h.operator ≡ f.operator
   pub payloads : h.payloads ≡ f.payloads
   pub count : length (children h.tree) ≡ length (children f.tree)
@@ -44,6 +45,7 @@ part_start k t good fresh f us = record {
   good = good;
   fresh_slots = fresh;
   extends = Extends-same (nodes_of k);
+  adds = adds-nothing k;
   operator = refl;
   payloads = refl;
   count = refl;
@@ -74,6 +76,7 @@ part_step k t v l m f h us i a u fits p lt at add =
       good = add.good;
       fresh_slots = add.fresh_slots;
       extends = Extends-then (nodes_of k) (nodes_of l) (nodes_of m) p.extends add.extends;
+      adds = adds-then (image_of k) (image_of l) (image_of m) p.extends p.adds add.adds;
       operator = p.operator;
       payloads = p.payloads;
       count = o ∙ p.count;
@@ -103,7 +106,7 @@ part_full k t l f h us p n j d lt = (p.ids j d (record { op = 0; payloads = []; 
 
 pub part_layer : (k : Kept) (t : Table) (l : Kept) (f h : Form) (us : List Term) → Fits h → IsPart k t l f h us (length us) → length us ≡ length (children f.tree) → layer_of (nodes_of l) (nameless_node h) ≡ nameless (form.term_of f us)
 part_layer k t l f h us fits p n =
-    let m = match-from (nodes_of l) p.good.canonical (child_ids h) us (length-ids h.tree h.names ∙ (p.count ∙ sym n)) p.ids in
+    let m = match-from (nodes_of l) p.good.sound.canonical (child_ids h) us (length-ids h.tree h.names ∙ (p.count ∙ sym n)) p.ids in
     let e = expand-filled (terms (nodes_of l)) (λ x. x) h.tree h.names us fits m in
     let o : filled h.tree h.names us ≡ filled f.tree f.names us = p.outline us n in
     λ i. record { op = suc (p.operator i); payloads = p.payloads i; args = (e ∙ ap (λ (a : Args). nameless_args (λ x. x) a) o) i }
@@ -114,13 +117,14 @@ part_end k t v l m f h us a fits p n add = record {
   good = add.good;
   fresh_slots = add.fresh_slots;
   extends = Extends-then (nodes_of k) (nodes_of l) (nodes_of m) p.extends add.extends;
+  adds = adds-then (image_of k) (image_of l) (image_of m) p.extends p.adds add.adds;
   full = answer_full (nodes_of m) h a add.found;
-  term = answer_term (nodes_of m) h a add.found add.good.canonical
+  term = answer_term (nodes_of m) h a add.found add.good.sound.canonical
       ∙ (add.extends.layers (nameless_node h) (full_children (nodes_of l) h fits (part_full k t l f h us p n)) ∙ part_layer k t l f h us fits p n);
 }
 
 -- the node has no more places than the term has size
 pub part_size : (k : Kept) (t : Table) (l : Kept) (f h : Form) (us : List Term) → Fits h → IsPart k t l f h us (length us) → length us ≡ length (children f.tree) → length h.names ≤ term_size (form.term_of f us)
 part_size k t l f h us fits p n =
-    let s = node_fits (nodes_of l) p.good.canonical h us fits (n ∙ sym p.count) p.ids in
+    let s = node_fits (nodes_of l) p.good.sound.canonical h us fits (n ∙ sym p.count) p.ids in
     omega (arith, s, ap args_size (p.outline us n))

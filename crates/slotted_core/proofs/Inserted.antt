@@ -1,9 +1,8 @@
 -- The map that place by place inserts make: the names of one node beside those of another.
-use Rattle.std.proofs.Common.{◌≡◌, ◌≢◌, ◌↔◌, ◌⊎◌, ◌<◌, ℕ, List, [], ◌∷◌, ◌++◌, length, map, cond, sym, ◌∙◌, ap, refl, subst, arith, inl, inr}
-use Rattle.std.specs.Prelude.{Bool, true, false, nat_eq, nat_lt, ◌||◌}
+use Rattle.std.proofs.Common.{◌≡◌, ◌↔◌, ◌⊎◌, ℕ, List, [], ◌∷◌, ◌++◌, map, cond, sym, ◌∙◌, ap, refl, subst, inl, inr}
+use Rattle.std.specs.Prelude.{Bool, true, false, nat_eq, ◌||◌}
 use Rattle.std.specs.List.{zip}
 use Rattle.std.proofs.lemmas.Bool.{cases_eq, cases_lt, eq-eqb, ne_eqb, lt-ltb, le-ltb}
-use Rattle.slotted_theory.specs.Shape.{free_names}
 use Rattle.slotted_slots.specs.Maps.{with_pair, values, is_among}
 use Rattle.slotted_languages.specs.Form.{Form}
 use Rattle.slotted_languages.specs.NodeTerm.{nameless_node, free_names_of}
@@ -109,3 +108,11 @@ pub between-moved : (f : ℕ → ℕ) (c : Form) (n : List (ℕ × ℕ)) → n �
 between-moved f c n e =
     ap (λ vs. with_pairs [] (zip (values (shape c).1) vs)) (ap values e ∙ values-moved_names f (shape c).1)
     ∙ (with_pairs-all f (values (shape c).1) ∙ ap (map_on f) (ascending-values c))
+
+map-itself : (xs : List ℕ) → map (λ x. x) xs ≡ xs
+map-itself [] = refl
+map-itself (x ∷ xs) = ap (λ r. x ∷ r) (map-itself xs)
+
+-- between a map and itself each value goes to itself
+pub between-itself : (m : List (ℕ × ℕ)) → between m m ≡ map_on (λ x. x) (ascending (values m))
+between-itself m = ap (λ vs. with_pairs [] (zip (values m) vs)) (sym (map-itself (values m))) ∙ with_pairs-all (λ x. x) (values m)

@@ -1,5 +1,5 @@
--- What contracts see of a graph: whether it failed, its table of slots, and the canonical nodes of its classes.
-use Rattle.std.specs.Prelude.{◌≡◌, ℕ, ◌+◌, ◌<◌, ◌≤◌, Bool, false, List, [], ◌∷◌, ◌++◌, length, IsTrue, All, Contains}
+-- What contracts see of a graph: whether it failed, its table of slots, and its classes, finds and proofs as lists.
+use Rattle.std.specs.Prelude.{◌≡◌, ℕ, ◌<◌, ◌≤◌, Bool, List, [], ◌∷◌, ◌++◌, length, IsTrue, All, Contains}
 use Rattle.std.specs.Coded.{Coded, code_by, coded×, coded_bool, coded_ℕ, coded_list}
 use Rattle.std.specs.Prelude.{refl}
 use Rattle.slotted_theory.specs.Term.{Args, done, name, child, bind, Term}
@@ -7,12 +7,10 @@ use Rattle.slotted_theory.specs.Nameless.{DTerm}
 use Rattle.slotted_theory.specs.Shape.{shape}
 use Rattle.slotted_slots.specs.Table.{Table, is_known, fresh_slot}
 use Rattle.slotted_languages.specs.Form.{Form, IsSmall}
-use Rattle.slotted_languages.specs.NodeTerm.{nameless_node}
 use Rattle.slotted_model.specs.Applied.{Applied, values}
 use Rattle.slotted_model.specs.Classes.{canonical_slots, IsFull}
-use Rattle.slotted_model.specs.Image.{Image}
 use Rattle.slotted_core.specs.Nodes.{child_ids}
-use Rattle.slotted_core.specs.TermCode.{image_code}
+use Rattle.slotted_core.specs.Image.{Image, image_code}
 
 pub record Graph : Type 0 where
   pub failed : Bool
@@ -26,10 +24,6 @@ table_code = code_by (ℕ × List (List ℕ)) (coded× coded_ℕ (coded_list (co
 abbrev pub graph_code : Coded Graph
 graph_code =
     code_by (Bool × (Table × Image)) (coded× coded_bool (coded× table_code image_code)) (λ g. (g.failed, (g.table, g.image))) (λ p. record { failed = p.0; table = p.1.0; image = p.1.1 }) (λ _. refl)
-
--- the image without classes
-abbrev pub no_classes : Image
-no_classes = record { canonical = [] }
 
 -- the table knows each of the slots
 abbrev pub AllKnown : Table → List ℕ → Type 0

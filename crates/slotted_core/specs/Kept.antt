@@ -1,9 +1,12 @@
--- What a graph keeps: each class with its canonical node and its find entry, and the filed nodes by shape.
+-- What a graph keeps: each class with its canonical node and its find entry, the filed nodes by shape, the proof list, and the number of links.
 --     Kept           the lists
 --     nodes_of k     the canonical nodes without bound names
+--     entries_of k   the find entries
+--     proofs_of k    the proof list
+--     image_of k     what contracts see of it
 --     found rs f     what is filed for a shape
 --     Good k         what holds of each graph that has not failed
-use Rattle.std.specs.Prelude.{◌≡◌, ℕ, suc, ◌<◌, List, [], ◌∷◌, ◌++◌, length, map, Option, Some, None, cond, Contains, IsSome, slice_index_or, refl}
+use Rattle.std.specs.Prelude.{◌≡◌, ℕ, suc, ◌<◌, List, [], ◌∷◌, ◌++◌, length, map, set, Bool, true, false, Option, Some, None, cond, Contains, IsSome, slice_index_or, refl}
 use Rattle.std.specs.Coded.{Coded, code_by, coded×, coded_ℕ, coded_list}
 use Rattle.slotted_slots.specs.Table.{Table, empty_table}
 use Rattle.slotted_theory.specs.Term.{Term}
@@ -11,17 +14,27 @@ use Rattle.slotted_theory.specs.Nameless.{DTerm, nameless}
 use Rattle.slotted_languages.specs.Form.{Form, leaf}
 use Rattle.slotted_languages.specs.NodeTerm.{nameless_node}
 use Rattle.slotted_languages.specs.Shape.{shape, Fits}
-use Rattle.slotted_model.specs.Applied.{Applied}
-use Rattle.slotted_model.specs.Classes.{canonical_slots, term_of, IsFull, Canonical}
-use Rattle.slotted_model.specs.Growth.{identity_id, Extends}
+use Rattle.slotted_model.specs.Applied.{Applied, keys}
+use Rattle.slotted_model.specs.Classes.{canonical_slots, term_of, IsFull}
+use Rattle.slotted_model.specs.Find.{Entry, IsLive, find_class, find_map, find}
+use Rattle.slotted_model.specs.Growth.{Extends}
 use Rattle.slotted_model.specs.Ids.{id_of_node}
+use Rattle.slotted_model.specs.Link.{IsLater}
+use Rattle.slotted_model.specs.ProofList.{Equation, ProofEntry, equation_of, asserted}
+use Rattle.slotted_model.specs.Sound.{Sound}
+use Rattle.slotted_proofs.specs.Entries.{Proven, Enters, reflexive_entry, asserted_entry}
+use Rattle.slotted_proofs.specs.Entries as list
+use Rattle.slotted_proofs.specs.Proving.{IsProved}
+use Rattle.slotted_core.specs.Alike.{EntriesFindAlike, AllInUse}
+use Rattle.slotted_core.specs.EntryCode.{entry_code, proven_code}
 use Rattle.slotted_core.specs.FormCode.{form_code, form_is}
+use Rattle.slotted_core.specs.Image.{Image, FoundAlike, CanUnite, AddsClasses, Continues, Asserts}
 use Rattle.slotted_core.specs.Names.{between, with_put}
 use Rattle.slotted_core.specs.Graph.{IsFreshBetween, HasNewClass}
 
--- a canonical node, with the class that its class finds to
+-- a canonical node, with the find entry of its class
 abbrev pub ClassEntry : Type 0
-ClassEntry = Form × Applied
+ClassEntry = Form × Entry
 
 -- the shape of a filed node, the class that it was filed for, and the slot of that class for each number of the shape
 abbrev pub RowEntry : Type 0
@@ -30,33 +43,55 @@ RowEntry = Form × (ℕ × List (ℕ × ℕ))
 pub record Kept : Type 0 where
   pub classes : List ClassEntry
   pub rows : List RowEntry
+  pub proofs : List Proven
+  pub moment : ℕ
 
 -- how they are told apart
 abbrev pub kept_code : Coded Kept
 kept_code =
-    code_by (List ClassEntry × List RowEntry)
-    (coded× (coded_list (coded× form_code (coded× coded_ℕ (coded_list (coded× coded_ℕ coded_ℕ))))) (coded_list (coded× form_code (coded× coded_ℕ (coded_list (coded× coded_ℕ coded_ℕ))))))
-    (λ k. (k.classes, k.rows)) (λ p. record { classes = p.0; rows = p.1 }) (λ _. refl)
+    code_by (List ClassEntry × (List RowEntry × (List Proven × ℕ)))
+    (coded× (coded_list (coded× form_code entry_code)) (coded× (coded_list (coded× form_code (coded× coded_ℕ (coded_list (coded× coded_ℕ coded_ℕ))))) (coded× (coded_list proven_code) coded_ℕ)))
+    (λ k. (k.classes, (k.rows, (k.proofs, k.moment)))) (λ p. record { classes = p.0; rows = p.1.0; proofs = p.1.1.0; moment = p.1.1.1 }) (λ _. refl)
 
 abbrev pub nothing : Kept
-nothing = record { classes = []; rows = [] }
+nothing = record { classes = []; rows = []; proofs = []; moment = 0 }
 
 abbrev pub no_form : Form
 no_form = record { operator = 0; payloads = []; tree = leaf; names = [] }
 
+abbrev pub no_entry : Entry
+no_entry = record { class = 0; pairs = []; proof = 0; died = 0 }
+
 abbrev pub class_at : Kept → ℕ → ClassEntry
-class_at k i = slice_index_or k.classes i (no_form, (0, []))
+class_at k i = slice_index_or k.classes i (no_form, no_entry)
 
 -- the canonical node of a class, and its find entry
 abbrev pub node_at : Kept → ℕ → Form
 node_at k i = (class_at k i).0
 
-abbrev pub find_at : Kept → ℕ → Applied
+abbrev pub find_at : Kept → ℕ → Entry
 find_at k i = (class_at k i).1
 
 -- the canonical nodes without bound names
 abbrev pub nodes_of : Kept → List DTerm
 nodes_of k = map (λ c. nameless_node c.0) k.classes
+
+-- the find entries
+abbrev pub entries_of : Kept → List Entry
+entries_of k = map (λ c. c.1) k.classes
+
+-- the proof list
+abbrev pub proofs_of : Kept → List ProofEntry
+proofs_of k = list.entries_of k.proofs
+
+-- what the classes from the number i on find: a live class, and their own slot for each slot of that
+abbrev pub finds_from : List Entry → ℕ → List Entry → List Applied
+finds_from found i [] = []
+finds_from found i (e ∷ es) = (find_class found i, find_map found i) ∷ finds_from found (suc i) es
+
+-- what contracts see of it
+abbrev pub image_of : Kept → Image
+image_of k = record { canonical = nodes_of k; found = finds_from (entries_of k) 0 (entries_of k); entries = proofs_of k }
 
 -- what is filed for a shape
 abbrev pub found : List RowEntry → Form → Option (ℕ × List (ℕ × ℕ))
@@ -65,23 +100,57 @@ found (e ∷ es) f = cond (form_is f e.0) (Some e.1) (found es f)
 
 -- one more class, and the row that files its node
 abbrev pub with_filed : Kept → Form → ℕ × List (ℕ × ℕ) → ClassEntry → Kept
-with_filed k f r c = record { classes = k.classes ++ c ∷ []; rows = k.rows ++ (f, r) ∷ [] }
+with_filed k f r c = record { classes = k.classes ++ c ∷ []; rows = k.rows ++ (f, r) ∷ []; proofs = k.proofs; moment = k.moment }
 
--- a class for a shape with the slots of m for its numbers, which finds to itself
-abbrev pub with_new_class : Kept → Form → List (ℕ × ℕ) → Kept
-with_new_class k f m = with_filed k f (length k.classes, m) (with_put m f, (length k.classes, between m m))
+-- another proof list
+abbrev pub with_proofs : Kept → List Proven → Kept
+with_proofs k ps = record { classes = k.classes; rows = k.rows; proofs = ps; moment = k.moment }
+
+-- a class for a shape with the slots of m for its numbers, which leads to itself by the proof p
+abbrev pub with_new_class : Kept → Form → List (ℕ × ℕ) → ℕ → Kept
+with_new_class k f m p = with_filed k f (length k.classes, m) (with_put m f, record { class = length k.classes; pairs = between m m; proof = p; died = 0 })
+
+-- there is one class more, for a shape with the slots of m for its numbers, and the entry that it equals itself
+pub record MakesClass (k l : Kept) (f : Form) (m : List (ℕ × ℕ)) : Type 0 where
+  pub proof : ℕ
+  pub proofs : List Proven
+  pub enters : Enters k.proofs proofs (reflexive_entry (length k.classes) (keys (between m m))) proof
+  pub class : l ≡ with_new_class (with_proofs k proofs) f m proof
+
+-- the class i dies and leads to the class c with these pairs, by the proof p
+abbrev pub with_linked : Kept → ℕ → ℕ → List (ℕ × ℕ) → ℕ → Kept
+with_linked k i c m p = record {
+  classes = set k.classes i (node_at k i, record { class = c; pairs = m; proof = p; died = k.moment });
+  rows = k.rows;
+  proofs = k.proofs;
+  moment = suc k.moment;
+}
+
+-- the statement of x stands at p in the proof list, and nothing else changed
+pub record EntersIn (k l : Kept) (x : Proven) (p : ℕ) : Type 0 where
+  pub proofs : List Proven
+  pub enters : Enters k.proofs proofs x p
+  pub kept : l ≡ with_proofs k proofs
 
 -- the rows of classes from the number i on: each canonical node is filed by its shape
 abbrev pub rows_from : ℕ → List ClassEntry → List RowEntry
 rows_from i [] = []
 rows_from i (c ∷ cs) = ((shape c.0).0, (i, (shape c.0).1)) ∷ rows_from (suc i) cs
 
--- children are earlier, rows file the canonical nodes, and each class finds to itself
+-- where nothing is asserted, each class leads to itself
+abbrev pub IsUntouched : Kept → Type 0
+IsUntouched k = asserted (nodes_of k) (proofs_of k) ≡ [] → (i : ℕ) → i < length (nodes_of k) → IsLive (entries_of k) i
+
+-- rows file the canonical nodes, finds and proofs are sound, the sides of each proved equation find alike, and classes use all their slots
 pub record Good (k : Kept) : Type 0 where
-  pub canonical : Canonical (nodes_of k)
   pub rows : k.rows ≡ rows_from 0 k.classes
   pub fits : (i : ℕ) → i < length k.classes → Fits (node_at k i)
-  pub finds : (i : ℕ) → i < length k.classes → find_at k i ≡ identity_id (nodes_of k) i
+  pub sound : Sound (nodes_of k) (entries_of k) (proofs_of k)
+  pub proved : IsProved (nodes_of k) k.proofs
+  pub later : IsLater (entries_of k) k.moment
+  pub alike : EntriesFindAlike (nodes_of k) (entries_of k) (proofs_of k)
+  pub in_use : AllInUse (nodes_of k) (entries_of k)
+  pub untouched : IsUntouched k
 
 -- the slots of classes are fresh ones that the table made
 abbrev pub HasFreshSlots : Table → Kept → Type 0
@@ -92,8 +161,9 @@ pub record Adds (old new : Table) (k l : Kept) (f : Form) (a : Applied) : Type 0
   pub good : Good l
   pub fresh_slots : HasFreshSlots new l
   pub extends : Extends (nodes_of k) (nodes_of l)
+  pub adds : AddsClasses (image_of k) (image_of l)
   pub found : id_of_node (nodes_of l) (nameless_node f) ≡ Some a
-  pub kept : IsSome (id_of_node (nodes_of k) (nameless_node f)) → nodes_of l ≡ nodes_of k
+  pub kept : IsSome (id_of_node (nodes_of k) (nameless_node f)) → image_of l ≡ image_of k
   pub made : id_of_node (nodes_of k) (nameless_node f) ≡ None → HasNewClass old new (nodes_of k) (nodes_of l) (nameless_node f)
 
 -- what is kept has an id for the term t, and the slots of classes are fresh ones
@@ -101,5 +171,63 @@ pub record AddsTerm (new : Table) (k l : Kept) (t : Term) (a : Applied) : Type 0
   pub good : Good l
   pub fresh_slots : HasFreshSlots new l
   pub extends : Extends (nodes_of k) (nodes_of l)
+  pub adds : AddsClasses (image_of k) (image_of l)
   pub full : IsFull (nodes_of l) a
   pub term : term_of (nodes_of l) a ≡ nameless t
+
+-- the proof list grew at its end by proofs of what finds alike, of which none is asserted, and nothing else changed
+pub record Explains (k l : Kept) : Type 0 where
+  pub good : Good l
+  pub proofs : List Proven
+  pub kept : l ≡ with_proofs k proofs
+  pub more : List Proven
+  pub grows : proofs ≡ k.proofs ++ more
+  pub asserted : asserted (nodes_of k) (list.entries_of proofs) ≡ asserted (nodes_of k) (proofs_of k)
+
+-- now the equation stands at p
+pub record Proves (k l : Kept) (e : Equation) (p : ℕ) : Type 0 where
+  pub explains : Explains k l
+  pub in_range : p < length l.proofs
+  pub equation : (list.statement_at l.proofs p).equation ≡ e
+
+-- the explicit entry x is entered, and by it or by it turned round the equation of a and b stands at p; wherever the older entries and a
+-- and b find alike, the newer ones do
+pub record IsAsserted (k l : Kept) (x : Proven) (a b : Applied) (p : ℕ) : Type 0 where
+  pub proofs : List Proven
+  pub kept : l ≡ with_proofs k proofs
+  pub more : List Proven
+  pub grows : proofs ≡ k.proofs ++ more
+  pub sound : Sound (nodes_of k) (entries_of k) (list.entries_of proofs)
+  pub proved : IsProved (nodes_of k) proofs
+  pub in_range : p < length proofs
+  pub equation : (list.statement_at proofs p).equation ≡ equation_of a b
+  pub alike : (found : List Entry) → EntriesFindAlike (nodes_of k) found (proofs_of k) → find found a ≡ find found b → EntriesFindAlike (nodes_of k) found (list.entries_of proofs)
+  pub asserts : Asserts (image_of k) (image_of l) x.statement.equation
+
+-- what is asserted of a and b, or turned round of b and a
+abbrev pub asserted_for : Bool → Applied → Applied → Option (List ℕ) → Proven
+asserted_for true a b text = asserted_entry b a text
+asserted_for false a b text = asserted_entry a b text
+
+-- two ids are united by what x asserts: they find alike, and all else goes on
+pub record Links (k l : Kept) (x : Proven) (a b : Applied) : Type 0 where
+  pub good : Good l
+  pub nodes : nodes_of l ≡ nodes_of k
+  pub continues : Continues (image_of k) (image_of l)
+  pub alike : FoundAlike (image_of l) a b
+  pub asserts : Asserts (image_of k) (image_of l) x.statement.equation
+
+-- the equation that x asserts is entered, and no class changes
+pub record Agrees (k l : Kept) (x : Proven) : Type 0 where
+  pub good : Good l
+  pub nodes : nodes_of l ≡ nodes_of k
+  pub finds : (image_of l).found ≡ (image_of k).found
+  pub continues : Continues (image_of k) (image_of l)
+  pub asserts : Asserts (image_of k) (image_of l) x.statement.equation
+
+-- what a union of a and b answers, and what it leaves: true where the ids could be united and are, false where they found alike, and
+-- no answer where they neither find alike nor can be united
+abbrev pub Unites : Kept → Kept → Proven → Applied → Applied → Option Bool → Type 0
+Unites k l x a b None = (¬ FoundAlike (image_of k) a b) × (¬ CanUnite (image_of k) a b) × (l ≡ k)
+Unites k l x a b (Some true) = CanUnite (image_of k) a b × Links k l x a b
+Unites k l x a b (Some false) = FoundAlike (image_of k) a b × Agrees k l x

@@ -1,6 +1,9 @@
 pub mod FormCode
 pub mod TermCode
+pub mod EntryCode
 pub mod Names
 pub mod Nodes
+pub mod Image
 pub mod Graph
+pub mod Alike
 pub mod Kept

@@ -1,10 +1,9 @@
--- How nameless terms and images are told apart, for a struct whose value holds them.
-use Rattle.std.specs.Prelude.{◌≡◌, ℕ, zero, List, refl}
+-- How nameless terms are told apart, for a struct whose value holds them.
+use Rattle.std.specs.Prelude.{◌≡◌, ℕ, List, refl}
 use Rattle.std.specs.Coded.{Coded, code_by, coded×, coded_ℕ, coded_list}
 use Rattle.std.proofs.Common.{ap}
 use Rattle.slotted_theory.specs.Term.{Args, done, name, child, bind, args_code}
 use Rattle.slotted_theory.specs.Nameless.{DArgs, DTerm, stop, place, sub, scope}
-use Rattle.slotted_model.specs.Image.{Image}
 
 -- nameless arguments as named ones, whose binders all have the name 0, and back
 abbrev pub stored : DArgs → Args
@@ -31,6 +30,3 @@ nameless_args_code = code_by Args args_code stored restored restored-stored
 abbrev pub nameless_code : Coded DTerm
 nameless_code =
     code_by (ℕ × (List (List ℕ) × DArgs)) (coded× coded_ℕ (coded× (coded_list (coded_list coded_ℕ)) nameless_args_code)) (λ t. (t.op, (t.payloads, t.args))) (λ p. record { op = p.0; payloads = p.1.0; args = p.1.1 }) (λ _. refl)
-
-abbrev pub image_code : Coded Image
-image_code = code_by (List DTerm) (coded_list nameless_code) (λ g. g.canonical) (λ cs. record { canonical = cs }) (λ _. refl)

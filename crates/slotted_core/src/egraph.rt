@@ -1,14 +1,16 @@
 //! The graph that callers see: a failed one refuses every later call.
-ghost use Rattle.std.specs.Prelude.{◌≡◌, ◌≤◌, ◌<◌, ◌↔◌, ◌⊎◌, ◌^◌, length, false, IsTrue, IsOk, IfOk, IfErr, OnOk, IsErr, IsErrOf, IsOkUnless, IsSome, None, Some, option_map};
+ghost use Rattle.std.specs.Prelude.{[], ◌≡◌, ◌≤◌, ◌<◌, ◌↔◌, ◌⊎◌, ◌^◌, length, false, IsTrue, IsOk, IfOk, IfErr, OnOk, IsErr, IsErrOf, IsOkUnless, IsSome, None, Some, option_map};
 ghost use Rattle.slotted_slots.specs.Error.{IsShortage};
 ghost use Rattle.slotted_slots.specs.Table.{KnowsMore};
 ghost use Rattle.slotted_theory.specs.Term.{term_size};
 ghost use Rattle.slotted_theory.specs.Nameless.{nameless};
+ghost use Rattle.slotted_theory.specs.Derives.{Equal};
 ghost use Rattle.slotted_languages.specs.NodeTerm.{nameless_node};
 ghost use Rattle.slotted_model.specs.Growth.{Extends};
 ghost use Rattle.slotted_model.specs.Classes.{IsFull, Canonical, term_of, layer_of};
 ghost use Rattle.slotted_model.specs.Ids.{id_of, id_of_node};
-ghost use Rattle.slotted_core.specs.Graph.{IsValidId, IsValidNode, IsValidTerm, HasNewClass, no_classes};
+ghost use Rattle.slotted_core.specs.Image.{no_classes, FoundAlike, asserted_in, AreDerivable, AddsClasses, IsUnion};
+ghost use Rattle.slotted_core.specs.Graph.{IsValidId, IsValidNode, IsValidTerm, HasNewClass};
 ghost use Rattle.slotted_core.specs.Nodes.{to_applied};
 
 use crate::kernel::Core;
@@ -39,13 +41,13 @@ pub struct EGraph<L: Language, N = ()> {
 impl<L: Language, N> Model for EGraph<L, N> {
     ghost use Rattle.std.specs.Prelude.{IsTrue, ◌⊎◌};
     ghost use Rattle.slotted_core.specs.Graph.{Graph, graph_code};
-    ghost use Rattle.slotted_core.specs.Kept.{Good, HasFreshSlots, nodes_of};
+    ghost use Rattle.slotted_core.specs.Kept.{Good, HasFreshSlots, image_of};
 
     ghost Value = { Graph };
 
     ghost coded = { graph_code };
 
-    ghost view = { λ s. record { failed = s.failed; table = s.table; image = record { canonical = nodes_of s.core } } };
+    ghost view = { λ s. record { failed = s.failed; table = s.table; image = image_of s.core } };
 
     ghost invariant = { λ s. IsTrue s.failed ⊎ (Good s.core × HasFreshSlots s.table s.core) };
 }
@@ -115,11 +117,17 @@ impl<L: Language, N: Drop> EGraph<L, N> {
         !self.failed && is_valid_term(&self.table, term)
     }
 
-    /// Whether two valid ids are equal, which is whether their canonical terms are. It takes no memory.
+    /// Whether two valid ids find the same. It takes no memory.
     pub fn eq(&self, a: &AppliedId, b: &AppliedId) -> Result<bool, Error>
         requires left { IsTrue self.now.failed ⊎ IsValidId self.now (to_applied a.now) }
         requires right { IsTrue self.now.failed ⊎ IsValidId self.now (to_applied b.now) }
-        ensures terms { IfOk result (λ yes. IsTrue yes ↔ (term_of self.now.image.canonical (to_applied a.now) ≡ term_of self.now.image.canonical (to_applied b.now))) }
+        ensures found { IfOk result (λ yes. IsTrue yes ↔ FoundAlike self.now.image (to_applied a.now) (to_applied b.now)) }
+
+        // A yes is derivable from what was asserted. Where nothing was, it is a yes exactly if the canonical terms are equal.
+        ensures equal { IfOk result (λ yes. IsTrue yes → Equal (asserted_in self.now.image) (term_of self.now.image.canonical (to_applied a.now)) (term_of self.now.image.canonical (to_applied b.now))) }
+        ensures derivable { IfOk result (λ yes. IsTrue yes → AreDerivable self.now.image (to_applied a.now) (to_applied b.now)) }
+        ensures terms { asserted_in self.now.image ≡ [] → IfOk result (λ yes. IsTrue yes ↔ (term_of self.now.image.canonical (to_applied a.now) ≡ term_of self.now.image.canonical (to_applied b.now))) }
+
         ensures failed { IsErrOf result Error.Failed ↔ IsTrue self.now.failed }
         ensures only { IsOkUnless result Error.Failed }
     {
@@ -156,6 +164,7 @@ impl<L: Language, N: Drop> EGraph<L, N> {
         ensures kept { OnOk result (IsSome (id_of_node self.old.image.canonical (nameless_node (L.form node))) → self.new.image ≡ self.old.image) }
         ensures made { OnOk result (id_of_node self.old.image.canonical (nameless_node (L.form node)) ≡ None → HasNewClass self.old.table self.new.table self.old.image.canonical self.new.image.canonical (nameless_node (L.form node))) }
         ensures extends { OnOk result (Extends self.old.image.canonical self.new.image.canonical) }
+        ensures adds { OnOk result (AddsClasses self.old.image self.new.image) }
         ensures more { KnowsMore self.old.table self.new.table }
 
         ensures failed { IsErrOf result Error.Failed ↔ IsTrue self.old.failed }
@@ -183,6 +192,7 @@ impl<L: Language, N: Drop> EGraph<L, N> {
 
         // What was there stays.
         ensures extends { OnOk result (Extends self.old.image.canonical self.new.image.canonical) }
+        ensures adds { OnOk result (AddsClasses self.old.image self.new.image) }
         ensures more { KnowsMore self.old.table self.new.table }
 
         ensures failed { IsErrOf result Error.Failed ↔ IsTrue self.old.failed }
@@ -195,6 +205,47 @@ impl<L: Language, N: Drop> EGraph<L, N> {
         }
         self.failed = true;
         let answer = self.core.add_expr(self.alloc, &mut self.table, term)?;
+        self.failed = false;
+        Ok(answer)
+    }
+
+    /// Two valid ids are equal, because the caller says so.
+    ///
+    /// True if they found different classes with the same names: both find the class of the right one from now on. False if they
+    /// found alike already. There is no answer, and nothing has changed, if they find one class with other names, or other sets of
+    /// names. Classes above them are not united: what `eq` says of two nodes over them is as before.
+    pub fn union(&mut self, l: &AppliedId, r: &AppliedId) -> Result<Option<bool>, Error>
+        requires left { IsTrue self.old.failed ⊎ IsValidId self.old (to_applied l.now) }
+        requires right { IsTrue self.old.failed ⊎ IsValidId self.old (to_applied r.now) }
+        ensures union { IfOk result (IsUnion self.old.image self.new.image (to_applied l.now) (to_applied r.now)) }
+        ensures table { self.new.table ≡ self.old.table }
+        ensures failed { IsErrOf result Error.Failed ↔ IsTrue self.old.failed }
+        ensures fails { IsTrue self.new.failed ↔ IsErr result }
+        ensures only { IfErr result (λ e. (e ≡ Error.Failed) ⊎ IsShortage e) }
+    {
+        self.union_justified(l, r, None)
+    }
+
+    /// The same, with a text that says why.
+    pub fn union_justified(
+        &mut self,
+        l: &AppliedId,
+        r: &AppliedId,
+        text: Option<String>,
+    ) -> Result<Option<bool>, Error>
+        requires left { IsTrue self.old.failed ⊎ IsValidId self.old (to_applied l.now) }
+        requires right { IsTrue self.old.failed ⊎ IsValidId self.old (to_applied r.now) }
+        ensures union { IfOk result (IsUnion self.old.image self.new.image (to_applied l.now) (to_applied r.now)) }
+        ensures table { self.new.table ≡ self.old.table }
+        ensures failed { IsErrOf result Error.Failed ↔ IsTrue self.old.failed }
+        ensures fails { IsTrue self.new.failed ↔ IsErr result }
+        ensures only { IfErr result (λ e. (e ≡ Error.Failed) ⊎ IsShortage e) }
+    {
+        if self.failed {
+            return Err(Error::Failed);
+        }
+        self.failed = true;
+        let answer = self.core.union(self.alloc, l, r, text)?;
         self.failed = false;
         Ok(answer)
     }

@@ -1,6 +1,7 @@
 //! The lists of a graph: its classes, and the filed nodes by shape.
-ghost use Rattle.std.specs.Prelude.{◌≡◌, ◌≤◌, ◌<◌, ◌↔◌, ◌⊎◌, ◌^◌, ◌∷◌, [], length, IsTrue, IfOk, IfErr, OnOk, IsErrOf, Option, None, option_map, All};
+ghost use Rattle.std.specs.Prelude.{◌≡◌, ◌≤◌, ◌<◌, ◌↔◌, ◌⊎◌, ◌^◌, ◌∷◌, [], length, IsTrue, IfOk, IfErr, OnOk, IsErrOf, Option, None, option_map, string_bytes, All};
 ghost use Rattle.slotted_theory.specs.Term.{term_size};
+ghost use Rattle.slotted_theory.specs.FiniteMaps.{IsInjectiveMap};
 ghost use Rattle.slotted_slots.specs.Error.{IsOutOfMemory, IsShortage};
 ghost use Rattle.slotted_slots.specs.Maps.{keys, values};
 ghost use Rattle.slotted_slots.specs.Table.{KnowsMore, is_known};
@@ -9,8 +10,10 @@ ghost use Rattle.slotted_languages.specs.NodeTerm.{nameless_node};
 ghost use Rattle.slotted_languages.specs.Shape.{shape};
 ghost use Rattle.slotted_model.specs.Classes.{IsFull, term_of};
 ghost use Rattle.slotted_model.specs.Ids.{id_of_node};
+ghost use Rattle.slotted_proofs.specs.Equations.{Meets};
+ghost use Rattle.slotted_proofs.specs.Entries.{statement_at, asserted_entry, turned_entry, composite_entry};
 ghost use Rattle.slotted_core.specs.Graph.{AllKnown, IsWhole};
-ghost use Rattle.slotted_core.specs.Kept.{Good, HasFreshSlots, Adds, AddsTerm, nothing, nodes_of, find_at, found, with_filed, with_new_class};
+ghost use Rattle.slotted_core.specs.Kept.{Good, HasFreshSlots, Adds, AddsTerm, MakesClass, EntersIn, nothing, nodes_of, entries_of, proofs_of, find_at, found, with_filed, with_linked};
 ghost use Rattle.slotted_core.specs.Names.{between};
 ghost use Rattle.slotted_core.specs.Nodes.{to_applied, child_ids};
 
@@ -20,16 +23,20 @@ use crate::names::{
 };
 use indexmap::IndexMap;
 use slotted_languages::Language;
+use slotted_proofs::{ProofList, ProvenEq};
 use slotted_slots::{AppliedId, Error, Id, SlotMap, SlotTable};
 use slotted_terms::expr::RecExpr;
 use std::alloc::Global;
 use std::marker::Model;
 
-/// A class: the node that it was made with, over its own slots, and what it finds to, which is itself.
+/// A class: the node that it was made with, over its own slots, the class that it leads to, with a slot of its own for each
+/// slot of that, the proof of this, and the moment of its link. A live class leads to itself.
 #[derive(Drop)]
 pub struct Class<L> {
     node: L,
     find: AppliedId,
+    proof: ProvenEq,
+    died: usize,
 }
 
 /// A filed node's source class, and the slot of that class for each number of the shape.
@@ -39,11 +46,13 @@ pub struct Row {
     names: SlotMap,
 }
 
-/// The classes by their ids, and the filed nodes by their shapes.
+/// The classes by their ids, the filed nodes by their shapes, the proved equations, and the number of links.
 #[derive(Drop)]
 pub struct Core<L: Language> {
     classes: Vec<Class<L>>,
     rows: IndexMap<L, Row>,
+    proofs: ProofList,
+    moment: usize,
 }
 
 impl<L: Language> Model for Core<L> {
@@ -55,8 +64,10 @@ impl<L: Language> Model for Core<L> {
     ghost coded = { kept_code };
 
     ghost view = { λ c. record {
-      classes = map (λ k. (L.form k.node, (k.find.id.0, k.find.m))) c.classes.items;
+      classes = map (λ k. (L.form k.node, record { class = k.find.id.0; pairs = k.find.m; proof = k.proof; died = k.died })) c.classes.items;
       rows = map (λ e. (L.form e.0, (e.1.source.0, e.1.names))) c.rows.entries;
+      proofs = c.proofs;
+      moment = c.moment;
     } };
 }
 
@@ -67,6 +78,8 @@ impl<L: Language> Core<L> {
         Core {
             classes: Vec::new(alloc),
             rows: IndexMap::new(alloc),
+            proofs: ProofList::new(alloc),
+            moment: 0,
         }
     }
 
@@ -78,12 +91,20 @@ impl<L: Language> Core<L> {
         self.classes.len()
     }
 
-    // What a class finds to.
-    fn find(&self, id: usize) -> &AppliedId
+    // The class that a class leads to, with a slot of its own for each slot of that.
+    pub(crate) fn entry(&self, id: usize) -> &AppliedId
         requires { id < length self.now.classes }
-        ensures { to_applied result.now ≡ find_at self.now id }
+        ensures { to_applied result.now ≡ ((find_at self.now id).class, (find_at self.now id).pairs) }
     {
         &self.classes[id].find
+    }
+
+    // The proof of what a class's entry says.
+    pub(crate) fn proof_of(&self, id: usize) -> ProvenEq
+        requires { id < length self.now.classes }
+        ensures { result ≡ (find_at self.now id).proof }
+    {
+        self.classes[id].proof
     }
 
     // The row of a shape.
@@ -96,7 +117,7 @@ impl<L: Language> Core<L> {
     // A class, and the row that files its node.
     fn file(&mut self, shape: L, row: Row, class: Class<L>) -> Result<(), Error>
         requires { found self.old.rows (L.form shape) ≡ None }
-        ensures ok { OnOk result (self.new ≡ with_filed self.old (L.form shape) (row.source.0, row.names) (L.form class.node, to_applied class.find)) }
+        ensures ok { OnOk result (self.new ≡ with_filed self.old (L.form shape) (row.source.0, row.names) (L.form class.node, record { class = class.find.id.0; pairs = class.find.m; proof = class.proof; died = class.died })) }
         ensures err { IfErr result IsOutOfMemory }
     {
         self.rows.insert(shape, row)?;
@@ -104,25 +125,99 @@ impl<L: Language> Core<L> {
         Ok(())
     }
 
-    // A class of its own for a shape, with these slots for its numbers.
+    // Two ids are equal because the caller says so.
+    pub(crate) fn assert_equal(
+        &mut self,
+        alloc: Global,
+        l: &AppliedId,
+        r: &AppliedId,
+        text: Option<String>,
+    ) -> Result<ProvenEq, Error>
+        requires left { IsInjectiveMap l.now.m }
+        requires right { IsInjectiveMap r.now.m }
+        ensures ok { IfOk result (EntersIn self.old self.new (asserted_entry (to_applied l.now) (to_applied r.now) (option_map string_bytes text))) }
+        ensures err { IfErr result IsShortage }
+    {
+        self.proofs.enter_explicit(alloc, l, r, text)
+    }
+
+    // The equation of a proof turned round.
+    pub(crate) fn turn(&mut self, alloc: Global, p: ProvenEq) -> Result<ProvenEq, Error>
+        requires { p < length self.old.proofs }
+        ensures ok { IfOk result (EntersIn self.old self.new (turned_entry self.old.proofs p)) }
+        ensures err { IfErr result IsShortage }
+    {
+        self.proofs.enter_symmetric(alloc, p)
+    }
+
+    // The equations of two proofs, one after the other.
+    pub(crate) fn chain(
+        &mut self,
+        alloc: Global,
+        p: ProvenEq,
+        q: ProvenEq,
+    ) -> Result<ProvenEq, Error>
+        requires first { p < length self.old.proofs }
+        requires second { q < length self.old.proofs }
+        requires meets { Meets (statement_at self.old.proofs p) (statement_at self.old.proofs q) }
+        ensures ok { IfOk result (EntersIn self.old self.new (composite_entry self.old.proofs p q)) }
+        ensures err { IfErr result IsShortage }
+    {
+        self.proofs.enter_transitive(alloc, p, q)
+    }
+
+    // A class dies, and leads to another one with a slot of its own for each slot of that, by this proof.
+    pub(crate) fn set_link(
+        &mut self,
+        dead: usize,
+        find: AppliedId,
+        proof: ProvenEq,
+    ) -> Result<(), Error>
+        requires { dead < length self.old.classes }
+        ensures ok { OnOk result (self.new ≡ with_linked self.old dead find.id.0 find.m proof) }
+        ensures err { IfErr result IsOutOfMemory }
+    {
+        let moment = self.moment;
+        if moment == usize::MAX {
+            return Err(Error::OutOfMemory);
+        }
+        let class = &mut self.classes[dead];
+        class.find = find;
+        class.proof = proof;
+        class.died = moment;
+        self.moment = moment + 1;
+        Ok(())
+    }
+
+    // A class of its own for a shape, with these slots for its numbers, and the entry that it equals itself.
     fn make_class(&mut self, alloc: Global, shape: L, slots: SlotMap) -> Result<(), Error>
         requires few { IsSmall (L.form shape) }
         requires absent { found self.old.rows (L.form shape) ≡ None }
-        ensures ok { OnOk result (self.new ≡ with_new_class self.old (L.form shape) slots) }
-        ensures err { IfErr result IsOutOfMemory }
+        requires different { IsInjectiveMap slots }
+        ensures ok { OnOk result (MakesClass self.old self.new (L.form shape) slots) }
+        ensures full { IsErrOf result Error.OutOfSlots → 2 ^ 30 ≤ length slots }
+        ensures err { IfErr result IsShortage }
     {
         let id = Id(self.class_count());
         let find = AppliedId {
             id,
             m: map_between(alloc, &slots, &slots)?,
         };
+        let proof = self.proofs.enter_reflexive(alloc, &find)?;
         let mut node = shape.copy(alloc)?;
         put_at_places(&mut node, &slots);
         let row = Row {
             source: id,
             names: slots,
         };
-        self.file(shape, row, Class { node, find })
+        let class = Class {
+            node,
+            find,
+            proof,
+            died: 0,
+        };
+        self.file(shape, row, class)?;
+        Ok(())
     }
 
     // Testing.
@@ -135,7 +230,7 @@ impl<L: Language> Core<L> {
         if a.id.0 >= self.class_count() {
             return false;
         }
-        if !values_are_keys(&self.find(a.id.0).m, &a.m) {
+        if !values_are_keys(&self.entry(a.id.0).m, &a.m) {
             return false;
         }
         a.m.is_bijection()
@@ -168,16 +263,6 @@ impl<L: Language> Core<L> {
         ensures { IsTrue result ↔ (IsSmall (L.form node.now) × AllKnown table.now (L.form node.now).names × All (IsFull (nodes_of self.now)) (child_ids (L.form node.now))) }
     {
         node.slot_count() < PLACES && places_are_known(table, node) && self.children_are_full(node)
-    }
-
-    /// Whether two valid ids are equal.
-    pub fn eq(&self, a: &AppliedId, b: &AppliedId) -> bool
-        requires good { Good self.now }
-        requires left { IsFull (nodes_of self.now) (to_applied a.now) }
-        requires right { IsFull (nodes_of self.now) (to_applied b.now) }
-        ensures { IsTrue result ↔ (term_of (nodes_of self.now) (to_applied a.now) ≡ term_of (nodes_of self.now) (to_applied b.now)) }
-    {
-        a == b
     }
 
     // Looking up and adding.

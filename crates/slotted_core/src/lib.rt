@@ -2,10 +2,12 @@
 #![tactic(auto)]
 
 pub mod egraph;
+mod finding;
 mod kernel;
 mod names;
 mod terms;
 #[cfg(test)]
 mod tests;
+mod uniting;
 
 pub use egraph::EGraph;

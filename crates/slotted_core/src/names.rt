@@ -1,15 +1,16 @@
 //! Maps of names that a new class and an answer take.
-ghost use Rattle.std.specs.Prelude.{◌≡◌, ◌↔◌, ◌+◌, ◌<◌, ◌^◌, length, IsTrue, IfOk, IfErr, OnOk};
-ghost use Rattle.slotted_slots.specs.Ascending.{IsAscending};
+ghost use Rattle.std.specs.Prelude.{◌≡◌, ◌↔◌, ◌+◌, ◌<◌, ◌≤◌, ◌^◌, ℕ, length, Contains, IsTrue, IfOk, IfErr, OnOk};
+ghost use Rattle.slotted_theory.specs.FiniteMaps.{IsInjectiveMap};
 ghost use Rattle.slotted_core.specs.Graph.{AllKnown};
 ghost use Rattle.slotted_slots.specs.Error.{IsOutOfMemory};
 ghost use Rattle.slotted_slots.specs.Maps.{keys, values};
 ghost use Rattle.slotted_slots.specs.Table.{KnowsMore};
 ghost use Rattle.slotted_languages.specs.Form.{IsSmall};
+ghost use Rattle.slotted_model.specs.Ascending.{ascending};
 ghost use Rattle.slotted_core.specs.Names.{between, fresh_slots, with_put};
 
 use slotted_languages::Language;
-use slotted_slots::{Error, SlotMap, SlotTable};
+use slotted_slots::{Error, Slot, SlotMap, SlotTable};
 use std::alloc::Global;
 
 /// Nodes with as many places or more are refused.
@@ -33,6 +34,7 @@ pub(crate) fn renew_values(map: &mut SlotMap, table: &mut SlotTable) -> Result<(
     ensures keys { OnOk result (keys map.new ≡ keys map.old) }
     ensures values { OnOk result (values map.new ≡ fresh_slots table.old.fresh (length map.old)) }
     ensures table { OnOk result (table.new ≡ record table.old { fresh = table.old.fresh + length map.old }) }
+    ensures limit { OnOk result (2 ^ 30 ≤ length map.old → table.new.fresh ≡ 2 ^ 30) }
     ensures full { IfErr result (λ e. (e ≡ Error.OutOfSlots) × (table.new.fresh ≡ 2 ^ 30)) }
     ensures more { KnowsMore table.old table.new }
 {
@@ -54,10 +56,10 @@ pub(crate) fn put_at_places<L: Language>(node: &mut L, map: &SlotMap)
     }
 }
 
-// Whether the values of one map are the keys of the other.
+// Whether the values of one map, which are all different, are the keys of the other.
 pub(crate) fn values_are_keys(slots: &SlotMap, map: &SlotMap) -> bool
-    requires { IsAscending (values slots.now) }
-    ensures { IsTrue result ↔ (keys map.now ≡ values slots.now) }
+    requires { IsInjectiveMap slots.now }
+    ensures { IsTrue result ↔ (keys map.now ≡ ascending (values slots.now)) }
 {
     if slots.len() != map.len() {
         return false;
@@ -93,4 +95,35 @@ pub(crate) fn places_are_known<L: Language>(table: &SlotTable, node: &L) -> bool
         }
     }
     true
+}
+
+// Whether the slot is a value of the map.
+fn has_value(map: &SlotMap, slot: Slot) -> bool
+    ensures { IsTrue result ↔ Contains (values map.now) slot }
+{
+    for i in 0..map.len() {
+        if map.value_at(i) == slot {
+            return true;
+        }
+    }
+    false
+}
+
+// Whether each value of the first map is one of the other.
+fn has_values_of(map: &SlotMap, other: &SlotMap) -> bool
+    ensures { IsTrue result ↔ ((x : ℕ) → Contains (values map.now) x → Contains (values other.now) x) }
+{
+    for i in 0..map.len() {
+        if !has_value(other, map.value_at(i)) {
+            return false;
+        }
+    }
+    true
+}
+
+// Whether two maps have the same values.
+pub(crate) fn have_same_values(left: &SlotMap, right: &SlotMap) -> bool
+    ensures { IsTrue result ↔ ((x : ℕ) → Contains (values left.now) x ↔ Contains (values right.now) x) }
+{
+    has_values_of(left, right) && has_values_of(right, left)
 }

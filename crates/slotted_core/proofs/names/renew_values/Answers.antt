@@ -1,7 +1,7 @@
-use Rattle.std.proofs.Common.{◌≡◌, ◌<◌, ◌+◌, ◌∙◌, ℕ, List, arith, length, ap}
-use Rattle.std.specs.Prelude.{slice_set, IsTrue}
+use Rattle.std.proofs.Common.{◌≡◌, ◌<◌, ◌≤◌, ◌+◌, ◌^◌, ◌∙◌, arith, length, ap}
+use Rattle.std.specs.Prelude.{slice_set}
 use Rattle.slotted_slots.specs.Maps.{keys, values, keys-with_value_at, values-with_value_at}
-use Rattle.slotted_slots.specs.Table.{Table, fresh_slot, KnowsMore}
+use Rattle.slotted_slots.specs.Table.{Table, fresh_slot}
 use Rattle.slotted_core.proofs.NameMaps.{fresh_slots-step, length-values}
 use Rattle.slotted_core.proofs.names.renew_values.Goals as goal
 
@@ -19,4 +19,13 @@ loop-i-preserved c =
       table = c.in_ok-slot.ensures.moved ∙ (ap (λ (t : Table). let r : Table = record t { fresh = t.fresh + 1 } in r) c.loop-i.invariant.table
           ∙ ap (λ n. let r : Table = record c.args.table.now { fresh = n } in r) e);
       more = λ x h. c.fresh.ensures.more x (c.loop-i.invariant.more x h);
+      fits = λ h. c.fresh.ensures.table.fresh_fits;
     }
+
+pub returns-clause-limit : goal.returns-clause-limit
+returns-clause-limit c =
+    λ h.
+    let t : c.loop-i.table.fresh ≡ c.args.table.now.fresh + c.loop-i.i = ap (λ (t : Table). t.fresh) c.loop-i.invariant.table in
+    let n : c.loop-i.i ≡ length c.args.map.now = omega (arith, c.len-i-end.ensures.len, c.loop-i-test.false, c.loop-i.auto.i-end) in
+    let f : c.loop-i.table.fresh ≤ 2 ^ 30 = c.loop-i.invariant.fits (omega (arith, h, n)) in
+    omega (arith, h, t, n, f)

@@ -1,4 +1,4 @@
-use Rattle.std.proofs.Common.{◌≡◌, ◌+◌, ◌++◌, length, drop}
+use Rattle.std.proofs.Common.{◌≡◌, ◌<◌, ◌≤◌, ◌+◌, ◌^◌, ◌++◌, drop}
 use Rattle.slotted_slots.specs.Maps.{keys, values}
 use Rattle.slotted_slots.specs.Table.{KnowsMore}
 use Rattle.slotted_core.specs.Names.{fresh_slots}
@@ -11,4 +11,5 @@ invariant-loop-i l = record {
   values : values l.map ≡ fresh_slots l.fn.table.fresh l.i ++ drop l.i (values l.fn.map);
   table : l.table ≡ record l.fn.table { fresh = l.fn.table.fresh + l.i };
   more : KnowsMore l.fn.table l.table;
+  fits : 0 < l.i → l.table.fresh ≤ 2 ^ 30;
 }

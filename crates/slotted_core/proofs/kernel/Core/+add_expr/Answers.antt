@@ -1,7 +1,6 @@
-use Rattle.std.proofs.Common.{◌≡◌, ◌<◌, ◌+◌, ◌∙◌, ℕ, List, length, get_or, ap, sym, subst, arith, rules, inl, inr}
+use Rattle.std.proofs.Common.{◌≡◌, ◌<◌, ◌+◌, ◌∙◌, ℕ, List, length, ap, sym, subst, arith, rules, inl, inr}
 use Rattle.slotted_theory.specs.Term.{Term, term_size}
-use Rattle.slotted_slots.specs.Maps.{keys, values}
-use Rattle.slotted_languages.specs.Form.{Form, children}
+use Rattle.slotted_languages.specs.Form.{Form}
 use Rattle.slotted_languages.specs.Filled.{term_of}
 use Rattle.slotted_core.specs.Graph.{IsWhole}
 use Rattle.slotted_core.specs.Kept.{AddsTerm}
@@ -99,3 +98,11 @@ returns-in_err-answer-2-clause-full g t c e =
       | inl a ↦ inl a
       | inr b ↦ inr (omega (arith, b, s, ap term_size view))
     ]
+
+pub loop-k-init : goal.loop-k-init
+loop-k-init g t c =
+    let form = g.L.LanguageChildren.form in
+    record {
+      part = part_start c.args.self.now c.args.table.now c.requires.good c.requires.fresh_slots (form c.in_ok-node.node) c.deref-child-items.result.now;
+      more = λ s h. h;
+    }

@@ -1,8 +1,9 @@
-use Rattle.std.proofs.Common.{◌≡◌, ◌∙◌, ◌+◌, ap, length}
+use Rattle.std.proofs.Common.{◌≡◌, ◌∙◌, ◌+◌, ap, length, arith, rules, inl}
 use Rattle.slotted_slots.specs.Maps.{keys}
 use Rattle.slotted_slots.specs.Table.{Table}
 use Rattle.slotted_core.proofs.Found.{row-names}
-use Rattle.slotted_core.proofs.Added.{row_adds, class_adds}
+use Rattle.slotted_core.proofs.NameMaps.{length-keys}
+use Rattle.slotted_core.proofs.Added.{fresh_injective, row_adds, class_adds}
 use Rattle.slotted_core.specs.Names.{fresh_slots}
 use Rattle.slotted_core.specs.Nodes.{to_applied}
 use Rattle.slotted_core.proofs.kernel.Core.add.Goals as goal
@@ -33,3 +34,11 @@ returns-clause-ok g c =
     (ap (λ (t : Table). t.fresh) c.in_ok-renew_values.ensures.table ∙ ap (λ k. c.args.table.now.fresh + k) n)
     c.in_ok-make_class.ensures.ok
     (λ i. (c.class_count.ensures i, c.in_ok-map_between.ensures.ok i))
+
+pub make_class-requires-clause-different : goal.make_class-requires-clause-different
+make_class-requires-clause-different g c =
+    fresh_injective c.renew_values.new.map c.args.table.now.fresh (length c.in_ok-slots.slots) c.in_ok-renew_values.ensures.values
+
+pub returns-in_err-make_class-clause-full : goal.returns-in_err-make_class-clause-full
+returns-in_err-make_class-clause-full g c e =
+    inl (c.in_ok-renew_values.ensures.limit (omega (arith, c.in_err-make_class.ensures.full (search rules), ap length c.in_ok-renew_values.ensures.keys, length-keys c.renew_values.new.map, length-keys c.in_ok-slots.slots)))

@@ -1,0 +1,134 @@
+//! Uniting two classes: proofs of what finds say, and the link.
+ghost use Rattle.std.specs.Prelude.{◌≡◌, ◌≢◌, ◌<◌, ◌↔◌, ℕ, length, Contains, IfOk, IfErr, OnOk, option_map, string_bytes};
+ghost use Rattle.slotted_slots.specs.Error.{IsShortage};
+ghost use Rattle.slotted_slots.specs.Maps.{values};
+ghost use Rattle.slotted_model.specs.Classes.{IsFull};
+ghost use Rattle.slotted_model.specs.Find.{find_class, find};
+ghost use Rattle.slotted_model.specs.ProofList.{find_equation, turned_equation};
+ghost use Rattle.slotted_proofs.specs.Entries.{asserted_entry};
+ghost use Rattle.slotted_core.specs.Kept.{Good, Proves, IsAsserted, Links, Unites, asserted_for, nodes_of, entries_of};
+ghost use Rattle.slotted_core.specs.Nodes.{to_applied};
+
+use crate::kernel::Core;
+use crate::names::have_same_values;
+use slotted_languages::Language;
+use slotted_proofs::ProvenEq;
+use slotted_slots::{AppliedId, Error};
+use std::alloc::Global;
+
+impl<L: Language> Core<L> {
+    // The proof of what the find of a class says.
+    fn find_proof(&mut self, alloc: Global, id: usize) -> Result<ProvenEq, Error>
+        requires good { Good self.old }
+        requires within { id < length self.old.classes }
+        ensures ok { IfOk result (Proves self.old self.new (find_equation (nodes_of self.old) (entries_of self.old) id)) }
+        ensures err { IfErr result IsShortage }
+    {
+        let next = self.entry(id).id.0;
+        let proof = self.proof_of(id);
+        if next == id {
+            return Ok(proof);
+        }
+        let rest = self.find_proof(alloc, next)?;
+        let answer = self.chain(alloc, proof, rest)?;
+        Ok(answer)
+    }
+
+    // The proof of the same turned round.
+    fn back_proof(&mut self, alloc: Global, id: usize) -> Result<ProvenEq, Error>
+        requires good { Good self.old }
+        requires within { id < length self.old.classes }
+        ensures ok { IfOk result (Proves self.old self.new (turned_equation (nodes_of self.old) (find_equation (nodes_of self.old) (entries_of self.old) id))) }
+        ensures err { IfErr result IsShortage }
+    {
+        let proof = self.find_proof(alloc, id)?;
+        let answer = self.turn(alloc, proof)?;
+        Ok(answer)
+    }
+
+    // What is asserted of the two ids, the first one first or, turned round, the second one.
+    fn assert_sides(
+        &mut self,
+        alloc: Global,
+        a: &AppliedId,
+        b: &AppliedId,
+        is_turned: bool,
+        text: Option<String>,
+    ) -> Result<ProvenEq, Error>
+        requires good { Good self.old }
+        requires left { IsFull (nodes_of self.old) (to_applied a.now) }
+        requires right { IsFull (nodes_of self.old) (to_applied b.now) }
+        ensures ok { IfOk result (IsAsserted self.old self.new (asserted_for is_turned (to_applied a.now) (to_applied b.now) (option_map string_bytes text)) (to_applied a.now) (to_applied b.now)) }
+        ensures err { IfErr result IsShortage }
+    {
+        if !is_turned {
+            let straight = self.assert_equal(alloc, a, b, text)?;
+            return Ok(straight);
+        }
+        let proof = self.assert_equal(alloc, b, a, text)?;
+        let answer = self.turn(alloc, proof)?;
+        Ok(answer)
+    }
+
+    // The found class of one id dies and leads to that of the other, by what is asserted of the two.
+    fn link(
+        &mut self,
+        alloc: Global,
+        dead: &AppliedId,
+        kept: &AppliedId,
+        is_turned: bool,
+        text: Option<String>,
+    ) -> Result<(), Error>
+        requires good { Good self.old }
+        requires left { IsFull (nodes_of self.old) (to_applied dead.now) }
+        requires right { IsFull (nodes_of self.old) (to_applied kept.now) }
+        requires different { find_class (entries_of self.old) dead.now.id.0 ≢ find_class (entries_of self.old) kept.now.id.0 }
+        requires names { (x : ℕ) → Contains (values (find (entries_of self.old) (to_applied dead.now)).1) x ↔ Contains (values (find (entries_of self.old) (to_applied kept.now)).1) x }
+        ensures ok { OnOk result (Links self.old self.new (asserted_for is_turned (to_applied dead.now) (to_applied kept.now) (option_map string_bytes text)) (to_applied dead.now) (to_applied kept.now)) }
+        ensures err { IfErr result IsShortage }
+    {
+        let from = self.found_id(alloc, dead)?;
+        let mut to = self.found_id(alloc, kept)?;
+        let names = from.m.inverse(alloc)?;
+        to.m = to.m.compose_partial(alloc, &names)?;
+        let back = self.back_proof(alloc, dead.id.0)?;
+        let onward = self.find_proof(alloc, kept.id.0)?;
+        let proof = self.assert_sides(alloc, dead, kept, is_turned, text)?;
+        let half = self.chain(alloc, back, proof)?;
+        let whole = self.chain(alloc, half, onward)?;
+        self.set_link(from.id.0, to, whole)?;
+        Ok(())
+    }
+
+    /// Two valid ids are equal, because the caller says so, with a text or without one. True if they found different classes,
+    /// of which the right one now leads on for both; false if they found alike. There is no answer where they find one class, or
+    /// other names: then nothing has changed.
+    pub fn union(
+        &mut self,
+        alloc: Global,
+        l: &AppliedId,
+        r: &AppliedId,
+        text: Option<String>,
+    ) -> Result<Option<bool>, Error>
+        requires good { Good self.old }
+        requires left { IsFull (nodes_of self.old) (to_applied l.now) }
+        requires right { IsFull (nodes_of self.old) (to_applied r.now) }
+        ensures ok { IfOk result (Unites self.old self.new (asserted_entry (to_applied l.now) (to_applied r.now) (option_map string_bytes text)) (to_applied l.now) (to_applied r.now)) }
+        ensures err { IfErr result IsShortage }
+    {
+        let left = self.found_id(alloc, l)?;
+        let right = self.found_id(alloc, r)?;
+        if left == right {
+            self.assert_sides(alloc, l, r, false, text)?;
+            return Ok(Some(false));
+        }
+        if left.id.0 == right.id.0 {
+            return Ok(None);
+        }
+        if !have_same_values(&left.m, &right.m) {
+            return Ok(None);
+        }
+        self.link(alloc, l, r, false, text)?;
+        Ok(Some(true))
+    }
+}
