@@ -17,7 +17,7 @@ use Rattle.slotted_model.specs.Applied.{Applied}
 use Rattle.slotted_model.specs.Classes.{terms, term_of, layer_of, IsFull, Canonical}
 use Rattle.slotted_model.specs.Growth.{Extends}
 use Rattle.slotted_model.proofs.Growing.{Extends-same, Extends-then}
-use Rattle.slotted_core.specs.Graph.{IsWhole}
+use Rattle.slotted_terms.specs.Valid.{IsWhole}
 use Rattle.slotted_core.specs.Kept.{Kept, nodes_of, Good, HasFreshSlots, Adds, AddsTerm}
 use Rattle.slotted_core.specs.Nodes.{child_ids}
 use Rattle.slotted_core.proofs.Added.{full_children}

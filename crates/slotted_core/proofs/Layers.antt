@@ -16,7 +16,7 @@ use Rattle.slotted_model.specs.Applied.{Applied, as_term, renamed_id}
 use Rattle.slotted_model.specs.Classes.{terms, stands, term_by, term_of, layer_of, IsFull, Canonical}
 use Rattle.slotted_model.proofs.Children.{KeysAreNames, expand-as_term, term_by-renamed}
 use Rattle.slotted_model.proofs.Full.{full-keys}
-use Rattle.slotted_core.specs.Graph.{IsWhole}
+use Rattle.slotted_terms.specs.Valid.{IsWhole}
 use Rattle.slotted_core.specs.Nodes.{ids_in, child_ids}
 use Rattle.slotted_core.proofs.Children.{length-ids, atom-is, Each}
 

@@ -9,7 +9,7 @@ use Rattle.slotted_languages.specs.Joined.{child_fits}
 use Rattle.slotted_languages.specs.Filled.{filled, term_of}
 use Rattle.slotted_languages.specs.Shape.{Fits}
 use Rattle.slotted_languages.proofs.NodeTerms.{own_fits, child_rest_fits, bind_inner_fits, bind_rest_fits}
-use Rattle.slotted_core.specs.Graph.{IsWhole, HasKnownNames, IsValidTerm}
+use Rattle.slotted_terms.specs.Valid.{IsWhole, HasKnownNames, IsValidTerm}
 use Rattle.slotted_core.specs.Nodes.{IsChildPlace}
 use Rattle.slotted_core.proofs.Children.{Each, Each-append}
 use Rattle.slotted_core.proofs.Plugged.{at-left, at-right}

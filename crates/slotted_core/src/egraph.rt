@@ -1,5 +1,6 @@
 //! The graph that callers see: a failed one refuses every later call.
 ghost use Rattle.std.specs.Prelude.{◌≡◌, ◌≤◌, ◌<◌, ◌↔◌, ◌⊎◌, ◌^◌, length, false, IsTrue, IsOk, IfOk, IfErr, OnOk, IsErr, IsErrOf, IsOkUnless, IsSome, None, Some, option_map};
+ghost use Rattle.std.specs.Str.{chars};
 ghost use Rattle.slotted_slots.specs.Error.{IsShortage};
 ghost use Rattle.slotted_slots.specs.Table.{KnowsMore};
 ghost use Rattle.slotted_theory.specs.Term.{term_size};
@@ -8,7 +9,10 @@ ghost use Rattle.slotted_languages.specs.NodeTerm.{nameless_node};
 ghost use Rattle.slotted_model.specs.Growth.{Extends};
 ghost use Rattle.slotted_model.specs.Classes.{IsFull, Canonical, term_of, layer_of};
 ghost use Rattle.slotted_model.specs.Ids.{id_of, id_of_node};
-ghost use Rattle.slotted_core.specs.Graph.{IsValidId, IsValidNode, IsValidTerm, HasNewClass, no_classes};
+ghost use Rattle.slotted_terms.specs.Outcome.{Answers};
+ghost use Rattle.slotted_terms.specs.Parsed.{TextReads};
+ghost use Rattle.slotted_terms.specs.Valid.{IsValidTerm};
+ghost use Rattle.slotted_core.specs.Graph.{IsValidId, IsValidNode, HasNewClass, no_classes};
 ghost use Rattle.slotted_core.specs.Nodes.{to_applied};
 
 use crate::kernel::Core;
@@ -170,6 +174,27 @@ impl<L: Language, N: Drop> EGraph<L, N> {
         let id = self.core.add(self.alloc, &mut self.table, &node)?;
         self.failed = false;
         Ok(id)
+    }
+
+    /// The term that a text writes, as `RecExpr::parse` reads it: each slot's name is looked up or kept in the graph's table.
+    /// A text that is refused does not fail the graph, and the names that were read before it stay in the table.
+    pub fn parse_expr(&mut self, text: &str) -> Result<RecExpr<L>, Error>
+        // The answer is that of the text over the graph's table, and it can be added.
+        ensures answer { self.old.failed ≡ false → Answers (λ o. TextReads L.read self.old.table (chars text.now) o self.new.table) result }
+        ensures valid { IfOk result (λ t. IsValidTerm self.new.table t) }
+
+        // Only the table changes, and on a failed graph nothing does.
+        ensures image { self.new.image ≡ self.old.image }
+        ensures same { self.new.failed ≡ self.old.failed }
+        ensures more { KnowsMore self.old.table self.new.table }
+        ensures stays { IsTrue self.old.failed → self.new ≡ self.old }
+
+        ensures failed { IsErrOf result Error.Failed ↔ IsTrue self.old.failed }
+    {
+        if self.failed {
+            return Err(Error::Failed);
+        }
+        RecExpr::parse(self.alloc, text, &mut self.table)
     }
 
     /// The id of a term: from below, each node's class, or a new one where there is none.

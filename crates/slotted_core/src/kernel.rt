@@ -9,7 +9,7 @@ ghost use Rattle.slotted_languages.specs.NodeTerm.{nameless_node};
 ghost use Rattle.slotted_languages.specs.Shape.{shape};
 ghost use Rattle.slotted_model.specs.Classes.{IsFull, term_of};
 ghost use Rattle.slotted_model.specs.Ids.{id_of_node};
-ghost use Rattle.slotted_core.specs.Graph.{AllKnown, IsWhole};
+ghost use Rattle.slotted_terms.specs.Valid.{AllKnown, IsWhole};
 ghost use Rattle.slotted_core.specs.Kept.{Good, HasFreshSlots, Adds, AddsTerm, nothing, nodes_of, find_at, found, with_filed, with_new_class};
 ghost use Rattle.slotted_core.specs.Names.{between};
 ghost use Rattle.slotted_core.specs.Nodes.{to_applied, child_ids};

@@ -2,7 +2,7 @@
 ghost use Rattle.std.specs.Prelude.{◌≡◌, ◌↔◌, ◌<◌, ◌⊎◌, ℕ, length, IsTrue, slice_index};
 ghost use Rattle.slotted_slots.specs.Table.{is_known};
 ghost use Rattle.slotted_languages.specs.Form.{IsSmall};
-ghost use Rattle.slotted_core.specs.Graph.{IsValidTerm};
+ghost use Rattle.slotted_terms.specs.Valid.{IsValidTerm};
 ghost use Rattle.slotted_core.specs.Nodes.{IsChildPlace};
 
 use crate::names::PLACES;

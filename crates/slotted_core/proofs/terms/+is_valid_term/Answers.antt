@@ -2,7 +2,7 @@ use Rattle.std.proofs.Common.{◌≡◌, ◌<◌, ◌∙◌, ℕ, List, length, 
 use Rattle.slotted_theory.specs.Term.{Term}
 use Rattle.slotted_languages.specs.Form.{Form, children}
 use Rattle.slotted_languages.specs.Filled.{term_of}
-use Rattle.slotted_core.specs.Graph.{IsValidTerm}
+use Rattle.slotted_terms.specs.Valid.{IsValidTerm}
 use Rattle.slotted_core.proofs.ValidTerms.{valid_term}
 use Rattle.slotted_core.proofs.terms.+is_valid_term.Goals as goal
 

@@ -3,7 +3,7 @@ use Rattle.slotted_theory.specs.Term.{Term, term_size}
 use Rattle.slotted_slots.specs.Maps.{keys, values}
 use Rattle.slotted_languages.specs.Form.{Form, children}
 use Rattle.slotted_languages.specs.Filled.{term_of}
-use Rattle.slotted_core.specs.Graph.{IsWhole}
+use Rattle.slotted_terms.specs.Valid.{IsWhole}
 use Rattle.slotted_core.specs.Kept.{AddsTerm}
 use Rattle.slotted_core.specs.Nodes.{to_applied}
 use Rattle.slotted_core.proofs.Grown.{IsPart, part_start, part_step, part_full, part_end, part_size}
