@@ -2,7 +2,6 @@
 ghost use Rattle.std.specs.Prelude.{◌≡◌, ◌≤◌, ◌<◌, ◌↔◌, ◌⊎◌, ◌^◌, length, false, IsTrue, IsOk, IfOk, IfErr, OnOk, IsErr, IsErrOf, IsOkUnless, IsSome, None, Some, option_map};
 ghost use Rattle.slotted_slots.specs.Error.{IsShortage};
 ghost use Rattle.slotted_slots.specs.Table.{KnowsMore};
-ghost use Rattle.slotted_theory.specs.Term.{term_size};
 ghost use Rattle.slotted_theory.specs.Nameless.{nameless};
 ghost use Rattle.slotted_languages.specs.NodeTerm.{nameless_node};
 ghost use Rattle.slotted_model.specs.Growth.{Extends};
@@ -10,6 +9,8 @@ ghost use Rattle.slotted_model.specs.Classes.{IsFull, Canonical, term_of, layer_
 ghost use Rattle.slotted_model.specs.Ids.{id_of, id_of_node};
 ghost use Rattle.slotted_core.specs.Graph.{IsValidId, IsValidNode, IsValidTerm, HasNewClass, no_classes};
 ghost use Rattle.slotted_core.specs.Nodes.{to_applied};
+ghost use Rattle.slotted_core.specs.Places.{term_places};
+ghost use Rattle.slotted_core.specs.SmallNodes.{HasSmallNodes};
 
 use crate::kernel::Core;
 use crate::terms::is_valid_term;
@@ -111,6 +112,9 @@ impl<L: Language, N: Drop> EGraph<L, N> {
     pub fn is_valid_expr(&self, term: &RecExpr<L>) -> bool
         ensures failed { IsTrue result → self.now.failed ≡ false }
         ensures valid { IsTrue result → IsValidTerm self.now.table term.now }
+
+        // No term shows the ids inside its nodes: so a yes is promised where no node that could stand in the term is too large.
+        ensures exact { self.now.failed ≡ false → IsValidTerm self.now.table term.now → HasSmallNodes L.form term.now → IsTrue result }
     {
         !self.failed && is_valid_term(&self.table, term)
     }
@@ -187,7 +191,7 @@ impl<L: Language, N: Drop> EGraph<L, N> {
 
         ensures failed { IsErrOf result Error.Failed ↔ IsTrue self.old.failed }
         ensures fails { IsTrue self.new.failed ↔ IsErr result }
-        ensures full { IsErrOf result Error.OutOfSlots → (self.new.table.fresh ≡ 2 ^ 30) ⊎ (2 ^ 30 ≤ term_size term.now) }
+        ensures full { IsErrOf result Error.OutOfSlots → (self.new.table.fresh ≡ 2 ^ 30) ⊎ (2 ^ 30 ≤ term_places term.now) }
         ensures only { IfErr result (λ e. (e ≡ Error.Failed) ⊎ IsShortage e) }
     {
         if self.failed {
