@@ -73,7 +73,7 @@ length-parts zero xs = omega arith
 length-parts (suc n) [] = omega arith
 length-parts (suc n) (x ∷ xs) = omega (arith, length-parts n xs)
 
-Each-parts : {X : Type 0} (P : X → Type 0) (n : ℕ) (xs : List X) → Each P (take n xs) → Each P (drop n xs) → Each P xs
+pub Each-parts : {X : Type 0} (P : X → Type 0) (n : ℕ) (xs : List X) → Each P (take n xs) → Each P (drop n xs) → Each P xs
 Each-parts P zero xs a b = b
 Each-parts P (suc n) [] a b = tt
 Each-parts P (suc n) (x ∷ xs) a b = (a.0, Each-parts P n xs a.1 b)

@@ -4,3 +4,5 @@ pub mod Names
 pub mod Nodes
 pub mod Graph
 pub mod Kept
+pub mod Places
+pub mod SmallNodes

@@ -3,7 +3,6 @@ ghost use Rattle.std.specs.Prelude.{◌≡◌, ◌≤◌, ◌<◌, ◌↔◌, �
 ghost use Rattle.std.specs.Str.{chars};
 ghost use Rattle.slotted_slots.specs.Error.{IsShortage};
 ghost use Rattle.slotted_slots.specs.Table.{KnowsMore};
-ghost use Rattle.slotted_theory.specs.Term.{term_size};
 ghost use Rattle.slotted_theory.specs.Nameless.{nameless};
 ghost use Rattle.slotted_languages.specs.NodeTerm.{nameless_node};
 ghost use Rattle.slotted_model.specs.Growth.{Extends};
@@ -14,6 +13,8 @@ ghost use Rattle.slotted_terms.specs.Parsed.{TextReads};
 ghost use Rattle.slotted_terms.specs.Valid.{IsValidTerm};
 ghost use Rattle.slotted_core.specs.Graph.{IsValidId, IsValidNode, HasNewClass, no_classes};
 ghost use Rattle.slotted_core.specs.Nodes.{to_applied};
+ghost use Rattle.slotted_core.specs.Places.{term_places};
+ghost use Rattle.slotted_core.specs.SmallNodes.{HasSmallNodes};
 
 use crate::kernel::Core;
 use crate::terms::is_valid_term;
@@ -115,6 +116,9 @@ impl<L: Language, N: Drop> EGraph<L, N> {
     pub fn is_valid_expr(&self, term: &RecExpr<L>) -> bool
         ensures failed { IsTrue result → self.now.failed ≡ false }
         ensures valid { IsTrue result → IsValidTerm self.now.table term.now }
+
+        // No term shows the ids inside its nodes: so a yes is promised where no node that could stand in the term is too large.
+        ensures exact { self.now.failed ≡ false → IsValidTerm self.now.table term.now → HasSmallNodes L.form term.now → IsTrue result }
     {
         !self.failed && is_valid_term(&self.table, term)
     }
@@ -212,7 +216,7 @@ impl<L: Language, N: Drop> EGraph<L, N> {
 
         ensures failed { IsErrOf result Error.Failed ↔ IsTrue self.old.failed }
         ensures fails { IsTrue self.new.failed ↔ IsErr result }
-        ensures full { IsErrOf result Error.OutOfSlots → (self.new.table.fresh ≡ 2 ^ 30) ⊎ (2 ^ 30 ≤ term_size term.now) }
+        ensures full { IsErrOf result Error.OutOfSlots → (self.new.table.fresh ≡ 2 ^ 30) ⊎ (2 ^ 30 ≤ term_places term.now) }
         ensures only { IfErr result (λ e. (e ≡ Error.Failed) ⊎ IsShortage e) }
     {
         if self.failed {
