@@ -17,3 +17,9 @@ pub mod Sound
 pub mod SoundnessClaims
 pub mod Normal
 pub mod Explained
+pub mod State
+pub mod Rest
+pub mod RestClaims
+pub mod Changes
+pub mod Rebuild
+pub mod Adding

@@ -5,6 +5,7 @@
 ghost use Rattle.slotted_model.specs.Claims.{Laws};
 
 pub mod correspondence;
+pub mod rest;
 pub mod soundness;
 
 /// The laws that show the definitions to mean what they say.
