@@ -62,4 +62,8 @@ pub use shape::shapes_decide;
 pub use small::Small;
 
 #[cfg(test)]
+mod renaming_tests;
+#[cfg(test)]
+mod shape_tests;
+#[cfg(test)]
 mod tests;
