@@ -1,5 +1,5 @@
 -- How input falls into lines, and what the lines so far have written.
-use Rattle.std.proofs.Common.{◌≡◌, ◌-◌, ℕ, suc, List, [], ◌∷◌, ◌++◌, Bool, true, false, length, take, drop, get_or, cond, inl, inr, refl, sym, ap, ◌∙◌, subst, arith, append_assoc}
+use Rattle.std.proofs.Common.{◌≡◌, ◌-◌, ℕ, suc, List, [], ◌∷◌, ◌++◌, Bool, true, false, length, take, get_or, cond, inl, inr, refl, sym, ap, ◌∙◌, subst, arith, append_assoc}
 use Rattle.std.specs.Prelude.{Option, Some, None, IfSome, ◌≢◌, nat_eq, ◌<◌, ◌==◌, OnSome, OnOk, Result, Ok, Err}
 use Rattle.std.specs.Io.BufRead.{take_through, drop_through, strip_last, DropsThrough}
 use Rattle.std.specs.Io.KnownBytes.{Appends, IsAtEnd, Keeps}

@@ -1,6 +1,6 @@
 -- What each step of a command leaves the next one.
-use Rattle.std.proofs.Common.{◌≡◌, ◌≤◌, ◌^◌, ◌⊎◌, ℕ, List, [], ◌∷◌, Bool, true, false, inl, inr, refl, sym, ap, ◌∙◌, subst}
-use Rattle.std.specs.Prelude.{Option, Some, IsTrue, Result, Ok, Err, IfOk, OnOk, IfErr, IsErr, IsErrOf, All}
+use Rattle.std.proofs.Common.{◌≡◌, ◌≤◌, ◌^◌, ◌⊎◌, ℕ, List, ◌∷◌, Bool, true, false, inl, inr, refl, sym, ap, ◌∙◌, subst}
+use Rattle.std.specs.Prelude.{Option, Some, IsTrue, Result, Ok, Err, IfErr, IsErr, IsErrOf}
 use Rattle.std.specs.Str.{chars}
 use Rattle.std.proofs.lemmas.Bool.{cases_Bool, false≢true}
 use Rattle.slotted_theory.specs.Term.{Args, Term, done, name, child, bind, term_size}
@@ -23,7 +23,7 @@ use Rattle.slotted_core.specs.Graph.{Graph, IsValidId}
 use Rattle.slotted_core.specs.Nodes.{to_applied}
 use Rattle.slotted.specs.declared.answer.Answer.TheVariants.{Refused}
 use Rattle.slotted.specs.Commands.{Command}
-use Rattle.slotted.specs.Sessions.{Answered, FirstIsRefused, Gains, IsCommand, IsRefused, OnlyReads, RunsOut, WritesTerm, has_failed, refused, refused_here, texts_of}
+use Rattle.slotted.specs.Sessions.{Answered, FirstIsRefused, Gains, IsCommand, IsRefused, RunsOut, WritesTerm, has_failed, refused, refused_here, texts_of}
 
 -- what a table knows it knows later
 known_later : (t u : Table) → KnowsMore t u → (a : Args) → HasKnownNames t a → HasKnownNames u a

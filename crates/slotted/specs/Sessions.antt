@@ -7,7 +7,7 @@ use Rattle.slotted_theory.specs.Nameless.{Alpha, nameless}
 use Rattle.slotted_slots.specs.declared.error.Error.{Error}
 use Rattle.slotted_slots.specs.declared.error.Error.TheVariants.{OutOfSlots, Failed}
 use Rattle.slotted_slots.specs.Error.{IsShortage}
-use Rattle.slotted_slots.specs.Table.{Table, KnowsMore}
+use Rattle.slotted_slots.specs.Table.{KnowsMore}
 use Rattle.slotted_slots.specs.Syntax.{Element}
 use Rattle.slotted_languages.specs.Form.{Form}
 use Rattle.slotted_terms.specs.Outcome.{parsed, Refuses}

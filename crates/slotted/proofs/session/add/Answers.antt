@@ -1,4 +1,4 @@
-use Rattle.std.proofs.Common.{[], ◌∷◌, inr, refl, sym, ◌∙◌}
+use Rattle.std.proofs.Common.{[], ◌∷◌, inr, refl, ◌∙◌}
 use Rattle.std.specs.Prelude.{Ok, Err}
 use Rattle.std.proofs.lemmas.Result.{err_from_is_err_and}
 use Rattle.slotted.specs.Commands.{adds}

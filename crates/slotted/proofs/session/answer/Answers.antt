@@ -1,5 +1,5 @@
-use Rattle.std.proofs.Common.{refl, sym, subst}
-use Rattle.slotted.specs.Sessions.{Answered, unknown}
+use Rattle.std.proofs.Common.{refl, sym}
+use Rattle.slotted.specs.Sessions.{unknown}
 use Rattle.slotted.proofs.session.answer.Goals as goal
 
 pub returns-in-Add : goal.returns-in-Add
