@@ -75,7 +75,7 @@ module _ (g : State) (sane : Sane g) (entry : ProofEntry) (can : CanEnter g.node
   }
 
 -- the assertion of two full ids can be entered where its equation does not stand
-can_assert : (g : State) (a b : Applied) → IsFull g.nodes a → IsFull g.nodes b → ((q : ℕ) → q < length g.proofs → equation_at g.proofs q ≢ equation_of a b) → CanEnter g.nodes g.proofs (record { equation = equation_of a b; step = explicit })
+pub can_assert : (g : State) (a b : Applied) → IsFull g.nodes a → IsFull g.nodes b → ((q : ℕ) → q < length g.proofs → equation_at g.proofs q ≢ equation_of a b) → CanEnter g.nodes g.proofs (record { equation = equation_of a b; step = explicit })
 can_assert g a b fa fb new = record {
   over = record { left = fa.in_range; right = fb.in_range; pairs = same_names-partial (canonical_slots g.nodes a.0) (canonical_slots g.nodes b.0) a.1 b.1 (full_map g.nodes a fa) (full_map g.nodes b fb) };
   proved = tt;

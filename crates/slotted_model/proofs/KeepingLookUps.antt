@@ -310,14 +310,21 @@ module _ (g : State) (rest : AtRest g) (c : DTerm) (new : IsNew g.nodes c) (none
       let l = rest.sane.each_listed y (keeps.symmetries y there) in
       absurd (n (ap id_names (same-found k keeps (left_of y) (left-valid g y l)) ∙ (rest.aligned y (keeps.symmetries y there) ∙ ap id_names (sym (same-found k keeps (right_of y) (right-valid g y l))))))
 
+  -- the new class has the node c in its normal form
+  m-same : normal_node m i ≡ normal g.found c
+  m-same =
+      ap (normal m.found) (term_at-seam g.nodes c)
+      ∙ ap (node c.op c.payloads) (normal_args-agree (IsValidIn g) g.found m.found (finds-same g rest.sane c new) c.args (EachChild-map (IsFull g.nodes) (IsValidIn g) (λ a full. full-is_valid g.nodes g.found rest.sane.sound.linked a full) c.args new.children))
+
+  -- so no row has its shape
+  pub not_looked_up-unfiled : (r : Row) → Contains g.rows r → r.shape ≢ shape (normal_node m i)
+  not_looked_up-unfiled r there same =
+      let t = row_of-there (shape (normal g.found c)) g.rows r there (same ∙ ap shape m-same) in
+      None-Some _ (sym none ∙ ap (option_map (λ (q : Row). find g.found (source_with_names (normal g.found c) q))) t.1)
+
   module _ (unfiled : (r : Row) → Contains g.rows r → r.shape ≢ shape (normal_node m i)) where
     abbrev f : State
     f = with_new_row m i
-
-    m-same : normal_node m i ≡ normal g.found c
-    m-same =
-        ap (normal m.found) (term_at-seam g.nodes c)
-        ∙ ap (node c.op c.payloads) (normal_args-agree (IsValidIn g) g.found m.found (finds-same g rest.sane c new) c.args (EachChild-map (IsFull g.nodes) (IsValidIn g) (λ a full. full-is_valid g.nodes g.found rest.sane.sound.linked a full) c.args new.children))
 
     starts-keeping : Keeps f
     starts-keeping =
@@ -361,14 +368,7 @@ module _ (g : State) (rest : AtRest g) (c : DTerm) (new : IsNew g.nodes c) (none
 
   -- a class is made without a union, and keeps what the others find
   adds-keeps : {h : State} → Adds g c h → Keeps h
-  adds-keeps (joins_row {f = f} proofs p r grow there same congruence u runs left) =
-      let t = row_of-there (shape (normal g.found c)) g.rows r there (same ∙ ap shape m-node) in
-      absurd (None-Some _ (sym none ∙ ap (option_map (λ (q : Row). find g.found (source_with_names (normal g.found c) q))) t.1))
-    where
-      m-node : normal_node m i ≡ normal g.found c
-      m-node =
-          ap (normal m.found) (term_at-seam g.nodes c)
-          ∙ ap (node c.op c.payloads) (normal_args-agree (IsValidIn g) g.found m.found (finds-same g rest.sane c new) c.args (EachChild-map (IsFull g.nodes) (IsValidIn g) (λ a full. full-is_valid g.nodes g.found rest.sane.sound.linked a full) c.args new.children))
+  adds-keeps (joins_row proofs p r grow there same congruence u runs left) = absurd (not_looked_up-unfiled r there same)
   adds-keeps (files_row alone runs left) = run-keeps alone runs
 
   -- so nodes that were looked up are looked up as before
@@ -388,9 +388,10 @@ module _ (g : State) (rest : AtRest g) (c : DTerm) (new : IsNew g.nodes c) (none
         let same : t.0 ≡ k.0 = one_row h.rows keeps.sane.filed.once t.0 k.0 u.0 there (keeps.sane.filed.shapes t.0 k.0 u.0 there (u.1 ∙ sym s.1)) in
         let src : k.0.source < i = (rest.sane.filed.each k.0 s.0).in_range in
         let r = same-find h keeps k.0.source src in
+        let goes_on : find h.found (source_with_names N k.0) ≡ find g.found (source_with_names N k.0) = λ j. (r.0 j, composite (r.1 j) (source_with_names N k.0).1) in
         ap (λ x. option_map (λ (q : Row). find h.found (source_with_names x q)) (row_of (shape x) h.rows)) (same-normal h keeps d v)
         ∙ (ap (option_map (λ (q : Row). find h.found (source_with_names N q))) (t.1 ∙ ap Some same)
-        ∙ (ap Some (λ j. (r.0 j, composite (r.1 j) (source_with_names N k.0).1)) ∙ ap Some k.2))
+        ∙ ap Some (goes_on ∙ k.2))
 
     -- and the new class lives
     pub kept-last : (i < length h.nodes) × (find_class h.found i ≡ i)

@@ -20,15 +20,15 @@ use Rattle.slotted_model.specs.Adding.{with_new_class, with_new_row, with_assert
 use Rattle.slotted_model.proofs.Adding.{adds}
 use Rattle.slotted_model.proofs.Asserting.{asserts, nothing-rests}
 
-abbrev empty : State
+abbrev pub empty : State
 empty = record { nodes = []; found = []; proofs = []; rows = []; waiting = []; symmetries = [] }
 
 -- a class is made of a node, and its node is filed at once
-abbrev made : State → DTerm → State
+abbrev pub made : State → DTerm → State
 made g c = refiled_state (with_new_row (with_new_class g c) (length g.nodes)) (length g.nodes)
 
 -- the word p
-abbrev p : DTerm
+abbrev pub p : DTerm
 p = node 1 [] stop
 
 abbrev with_p : State
@@ -57,10 +57,10 @@ p_looked_up : look_up_node with_p p ≡ Some (0, [])
 p_looked_up = refl
 
 -- and the word q
-abbrev q : DTerm
+abbrev pub q : DTerm
 q = node 2 [] stop
 
-abbrev with_q : State
+abbrev pub with_q : State
 with_q = made with_p q
 
 q_new : IsNew with_p.nodes q
@@ -86,7 +86,7 @@ q_adds =
     ])))
     (refl, λ y c. absurd (Contains-nil y c))
 
-q_rests : AtRest with_q
+pub q_rests : AtRest with_q
 q_rests = (adds with_p p_rests q q_new with_q q_adds).rest
 
 words_apart : find with_q.found (0, []) ≡ find with_q.found (1, []) → ⊥
@@ -135,10 +135,10 @@ sizes : (size with_q ≡ 2) × (size one_word ≡ 1)
 sizes = (refl, refl)
 
 -- f x y for the slots 0 and 1
-abbrev f : DTerm
+abbrev pub f : DTerm
 f = node 3 [] (place 0 (place 1 stop))
 
-abbrev with_f : State
+abbrev pub with_f : State
 with_f = made empty f
 
 f_new : IsNew [] f
@@ -156,7 +156,7 @@ f_adds =
     (takes_turn starts (refiles 0 (contains_head 0 []) (λ s c. c) (λ r c n e. only_f r c n)))
     (refl, λ y c. absurd (Contains-nil y c))
 
-f_rests : AtRest with_f
+pub f_rests : AtRest with_f
 f_rests = (adds empty nothing-rests f f_new with_f f_adds).rest
 
 -- its row has the shape with names numbered from 0

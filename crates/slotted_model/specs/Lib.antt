@@ -23,3 +23,10 @@ pub mod RestClaims
 pub mod Changes
 pub mod Rebuild
 pub mod Adding
+pub mod Value
+pub mod Closed
+pub mod Affected
+pub mod CompletenessClaims
+pub mod Cost
+pub mod Extraction
+pub mod ExtractionClaims

@@ -136,6 +136,16 @@ size_from i (e ∷ found) = entry_size i e + size_from (suc i) found
 abbrev pub size : State → ℕ
 size g = size_from 0 g.found
 
+-- how many of the entries are of live classes, where i is the class of the first one
+abbrev pub lives_from : ℕ → List Entry → ℕ
+lives_from i [] = 0
+lives_from i (e ∷ found) = cond (nat_eq e.class i) 1 0 + lives_from (suc i) found
+
+-- how many slots these have
+abbrev pub slots_from : ℕ → List Entry → ℕ
+slots_from i [] = 0
+slots_from i (e ∷ found) = cond (nat_eq e.class i) (length e.pairs) 0 + slots_from (suc i) found
+
 -- the least set of classes that has the class of each open symmetry, and that of each filed node over a class of the set
 pub data IsAffected (g : State) : ℕ → Type 0 where
   by_symmetry : (y : Symmetry) → Contains g.symmetries y → IsOpen g y → IsAffected g (find_class g.found y.class)

@@ -12,11 +12,11 @@ use Rattle.slotted_model.specs.Link.{CanLink, IsLater, CanDrop, with_shortcut}
 use Rattle.slotted_model.specs.ProofList.{Equation, ProofEntry, explicit, turned_equation, equation_at, step_at, find_equation, node_of}
 use Rattle.slotted_model.specs.Normal.{normal}
 use Rattle.slotted_model.specs.State.{Row, Symmetry, State, sources, normal_node, look_up_node, look_up_tree}
-use Rattle.slotted_model.specs.Rest.{IsValidIn, UpToSymmetries, LinkedTo, IsAligned, HasNoOpenSymmetry, IsRow, IsListed, Sane, Represents, AtRest, size, entry_size, IsAffected, CoversAffected, FoundTogether, IsAnswer, RestGives}
+use Rattle.slotted_model.specs.Rest.{IsValidIn, UpToSymmetries, LinkedTo, IsAligned, HasNoOpenSymmetry, IsRow, IsListed, Sane, Represents, AtRest, size, entry_size, lives_from, slots_from, IsAffected, CoversAffected, FoundTogether, IsAnswer, RestGives}
 use Rattle.slotted_model.specs.Changes.{GoesOn, IsEvent, linked_state, dropped_state, ProofsGrow, with_proofs, symmetry_of, with_symmetry, found_entry, StandsAt, PairsAll, Lacks, Unites, HasUnited, RepresentsBut}
 use Rattle.slotted_model.specs.Rebuild.{CongruenceEntered, Turn, Acts, HasNothingLeft, Runs, IsRebuilt, HasTurned, HasActed}
 use Rattle.slotted_model.specs.Growth.{IsNew}
-use Rattle.slotted_model.specs.Adding.{Adds, Asserts, HasAdded, HasAsserted, KeepsLookUps, SameAnswers}
+use Rattle.slotted_model.specs.Adding.{with_new_class, Adds, Asserts, HasAdded, HasAsserted, KeepsLookUps, SameAnswers}
 
 -- a node or a tree with other names is looked up as the same id with those names
 abbrev pub LookUpsMoveWithNames : Type 0
@@ -193,6 +193,13 @@ RunsAreCounted =
     (f : State) (n : ℕ) (h : State) → Sane f → Runs f n h →
     IsRebuilt f h × (size h ≤ size f) × (n + length h.waiting ≤ length f.rows * (suc (size f) - size h))
 
+-- the size is the number of live classes and of their slots together; in a run live classes never become more, and while they are as many their slots never do
+abbrev pub RunsKeepCounts : Type 0
+RunsKeepCounts =
+    ((g : State) → size g ≡ lives_from 0 g.found + slots_from 0 g.found)
+    × ((f : State) (n : ℕ) (h : State) → Sane f → Runs f n h →
+    (lives_from 0 h.found ≤ lives_from 0 f.found) × (lives_from 0 h.found ≡ lives_from 0 f.found → slots_from 0 h.found ≤ slots_from 0 f.found))
+
 -- a run that ends where nothing is left to do ends at rest
 abbrev pub RunsEndAtRest : Type 0
 RunsEndAtRest = (f : State) (n : ℕ) (h : State) → Sane f → Represents f → Runs f n h → HasNothingLeft h → AtRest h
@@ -222,6 +229,12 @@ AddingEndsAtRest =
 abbrev pub NodesNotLookedUpAreNew : Type 0
 NodesNotLookedUpAreNew =
     (g : State) → AtRest g → (d : DTerm) → 0 < d.op → EachChild (IsFull g.nodes) d.args → look_up_node g d ≡ None → IsNew g.nodes d
+
+-- no row has the shape of the normal form of such a node, so a class made of it is filed, and not united
+abbrev pub NodesNotLookedUpAreUnfiled : Type 0
+NodesNotLookedUpAreUnfiled =
+    (g : State) → AtRest g → (c : DTerm) → IsNew g.nodes c → look_up_node g c ≡ None → (r : Row) → Contains g.rows r →
+    r.shape ≢ shape (normal_node (with_new_class g c) (length g.nodes))
 
 -- a class made of a node that was not looked up changes no find and no look-up
 abbrev pub AddingKeepsLookUps : Type 0
@@ -276,6 +289,7 @@ pub record RestLaws : Type 0 where
   pub acts_rebuild : ActsRebuild
   pub no_more_wait_than_rows : NoMoreWaitThanRows
   pub runs_are_counted : RunsAreCounted
+  pub runs_keep_counts : RunsKeepCounts
   pub runs_end_at_rest : RunsEndAtRest
   pub unions_end : UnionsEnd
   pub steps_are_there : StepsAreThere
@@ -283,6 +297,7 @@ pub record RestLaws : Type 0 where
   pub nothing_rests : NothingRests
   pub adding_ends_at_rest : AddingEndsAtRest
   pub nodes_not_looked_up_are_new : NodesNotLookedUpAreNew
+  pub nodes_not_looked_up_are_unfiled : NodesNotLookedUpAreUnfiled
   pub adding_keeps_look_ups : AddingKeepsLookUps
   pub asserting_ends_at_rest : AssertingEndsAtRest
   pub new_proofs_show_nowhere : NewProofsShowNowhere

@@ -12,8 +12,10 @@ use Rattle.slotted_model.proofs.Turning.{turned, acted, waits-below, run, run-no
 use Rattle.slotted_model.proofs.Ending.{union-ends, next-step, rebuilding-ends}
 use Rattle.slotted_model.proofs.Adding.{adds}
 use Rattle.slotted_model.proofs.Asserting.{asserts, asserting-ends, adding-ends, not_looked_up-new, nothing-rests}
+use Rattle.slotted_model.proofs.KeepingLookUps.{not_looked_up-unfiled}
 use Rattle.slotted_model.proofs.KeepingTrees.{keeps-look_ups}
 use Rattle.slotted_model.proofs.Quiet.{proofs-quiet, shortcut-quiet}
+use Rattle.slotted_model.proofs.Counting.{size-counts, run-lives, run-slots}
 use Rattle.slotted_model.proofs.rest.rest_laws_hold.Goals as goal
 
 pub returns : goal.returns
@@ -48,6 +50,7 @@ returns c = record {
   acts_rebuild = λ g h a s. acted a s;
   no_more_wait_than_rows = waits-below;
   runs_are_counted = λ f n h s r. ((run f s r).rebuilt, run-no_larger f s r, counted f s r);
+  runs_keep_counts = (λ g. size-counts 0 g.found, λ f n h s r. (run-lives f s r, run-slots f s r));
   runs_end_at_rest = λ f n h s p r. ended f s p r;
   unions_end = union-ends;
   steps_are_there = next-step;
@@ -55,6 +58,7 @@ returns c = record {
   nothing_rests = nothing-rests;
   adding_ends_at_rest = λ g r c new. (adding-ends g r c new, adds g r c new);
   nodes_not_looked_up_are_new = not_looked_up-new;
+  nodes_not_looked_up_are_unfiled = not_looked_up-unfiled;
   adding_keeps_look_ups = keeps-look_ups;
   asserting_ends_at_rest = λ g r a b fa fb. (asserting-ends g r a b fa fb, asserts g r a b fa fb);
   new_proofs_show_nowhere = proofs-quiet;
