@@ -3,7 +3,7 @@ use Rattle.std.proofs.Common.{◌≡◌, ◌≤◌, ◌^◌, ◌⊎◌, ℕ, Lis
 use Rattle.std.specs.Prelude.{Option, Some, IsTrue, Result, Ok, Err, IfErr, IsErr, IsErrOf}
 use Rattle.std.specs.Str.{chars}
 use Rattle.std.proofs.lemmas.Bool.{cases_Bool, false≢true}
-use Rattle.slotted_theory.specs.Term.{Args, Term, done, name, child, bind, term_size}
+use Rattle.slotted_theory.specs.Term.{Args, Term, done, name, child, bind}
 use Rattle.slotted_theory.specs.Nameless.{Alpha, nameless}
 use Rattle.slotted_slots.specs.declared.error.Error.{Error}
 use Rattle.slotted_slots.specs.declared.error.Error.TheVariants.{OutOfSlots, Failed}
@@ -19,6 +19,7 @@ use Rattle.slotted_model.specs.Classes.{term_of}
 use Rattle.slotted_model.specs.Growth.{Extends}
 use Rattle.slotted_model.specs.Ids.{id_of}
 use Rattle.slotted_terms.specs.Valid.{HasKnownNames, IsValidTerm}
+use Rattle.slotted_core.specs.Places.{term_places}
 use Rattle.slotted_core.specs.Graph.{Graph, IsValidId}
 use Rattle.slotted_core.specs.Nodes.{to_applied}
 use Rattle.slotted.specs.declared.answer.Answer.TheVariants.{Refused}
@@ -71,7 +72,7 @@ gains g h t a sound valid term found extends more =
     record { sound = not_true h.failed (λ f. false≢true (sound f)); id = to_applied a; valid = valid; term = term; found = found; extends = extends; more = more }
 
 -- a term that was not added, since memory or slots ran out
-pub runs_out : {A : Type 0} (g h : Graph) (t : Term) (r : Result A Error) (e : Error) → r ≡ Err e → g.failed ≡ false → (IsErrOf r Failed → IsTrue g.failed) → (IsErr r → IsTrue h.failed) → (IsErrOf r OutOfSlots → (h.table.fresh ≡ 2 ^ 30) ⊎ (2 ^ 30 ≤ term_size t)) → IfErr r (λ x. (x ≡ Failed) ⊎ IsShortage x) → KnowsMore g.table h.table → RunsOut g t e h
+pub runs_out : {A : Type 0} (g h : Graph) (t : Term) (r : Result A Error) (e : Error) → r ≡ Err e → g.failed ≡ false → (IsErrOf r Failed → IsTrue g.failed) → (IsErr r → IsTrue h.failed) → (IsErrOf r OutOfSlots → (h.table.fresh ≡ 2 ^ 30) ⊎ (2 ^ 30 ≤ term_places t)) → IfErr r (λ x. (x ≡ Failed) ⊎ IsShortage x) → KnowsMore g.table h.table → RunsOut g t e h
 runs_out g h t (Ok a) e is sound was fails full only more = cc
 runs_out g h t (Err x) e is sound was fails full only more =
     let same : x ≡ e = cc in

@@ -2,7 +2,7 @@
 -- writes. The texts of a command are read in turn from the left, before any of their terms is added.
 use Rattle.std.specs.Prelude.{◌≡◌, ◌≤◌, ◌^◌, ◌⊎◌, ℕ, List, [], ◌∷◌, Option, Some, false, IsTrue, Result, Ok, Err}
 use Rattle.std.specs.Str.{chars}
-use Rattle.slotted_theory.specs.Term.{Term, term_size}
+use Rattle.slotted_theory.specs.Term.{Term}
 use Rattle.slotted_theory.specs.Nameless.{Alpha, nameless}
 use Rattle.slotted_slots.specs.declared.error.Error.{Error}
 use Rattle.slotted_slots.specs.declared.error.Error.TheVariants.{OutOfSlots, Failed}
@@ -16,6 +16,7 @@ use Rattle.slotted_model.specs.Applied.{Applied}
 use Rattle.slotted_model.specs.Classes.{term_of}
 use Rattle.slotted_model.specs.Growth.{Extends}
 use Rattle.slotted_model.specs.Ids.{id_of}
+use Rattle.slotted_core.specs.Places.{term_places}
 use Rattle.slotted_core.specs.Graph.{Graph, IsValidId}
 use Rattle.slotted.specs.declared.answer.Answer.{Answer}
 use Rattle.slotted.specs.declared.answer.Answer.TheVariants.{Done, Yes, No, Refused, NoCommand}
@@ -73,7 +74,7 @@ pub record Gains (g : Graph) (t : Term) (h : Graph) : Type 0 where
 pub record RunsOut (g : Graph) (t : Term) (e : Error) (h : Graph) : Type 0 where
   pub failed : IsTrue h.failed
   pub shortage : IsShortage e
-  pub cause : e ≡ OutOfSlots → (h.table.fresh ≡ 2 ^ 30) ⊎ (2 ^ 30 ≤ term_size t)
+  pub cause : e ≡ OutOfSlots → (h.table.fresh ≡ 2 ^ 30) ⊎ (2 ^ 30 ≤ term_places t)
   pub more : KnowsMore g.table h.table
 
 -- the terms are added, one after another
