@@ -37,7 +37,7 @@ g_x = node 4 [] (place 2 stop)
 abbrev f_child : Applied
 f_child = (0, (0, 4) ∷ (1, 0) ∷ [])
 
-abbrev lam_f : DTerm
+abbrev pub lam_f : DTerm
 lam_f = node 5 [] (scope (child_before (as_term f_child) stop) stop)
 
 abbrev one_node : List DTerm
@@ -46,7 +46,7 @@ one_node = f_x_y ∷ []
 abbrev two_nodes : List DTerm
 two_nodes = f_x_y ∷ g_x ∷ []
 
-abbrev nodes : List DTerm
+abbrev pub nodes : List DTerm
 nodes = f_x_y ∷ g_x ∷ lam_f ∷ []
 
 abbrev alive : ℕ → List ℕ → ℕ → Entry
@@ -93,7 +93,7 @@ with_lam : Added two_nodes nodes lam_f
 with_lam = added two_nodes lam_f with_g.canonical lam_is_new
 
 -- the graph before the union
-abbrev before : List Entry
+abbrev pub before : List Entry
 before = alive 0 (0 ∷ 1 ∷ []) 0 ∷ alive 1 (2 ∷ []) 1 ∷ alive 2 (3 ∷ []) 2 ∷ []
 
 abbrev reflexive_proofs : List ProofEntry
@@ -106,13 +106,13 @@ before_sound =
     (new_class-sound [] one_node [] [] nothing-sound with_f.canonical with_f.extends refl) with_g.canonical with_g.extends refl) with_lam.canonical with_lam.extends refl
 
 -- f x y and g x are asserted equal
-abbrev f_is_g : Equation
+abbrev pub f_is_g : Equation
 f_is_g = record { left = 0; right = 1; pairs = (0, 2) ∷ [] }
 
 abbrev assertion : ProofEntry
 assertion = record { equation = f_is_g; step = explicit }
 
-abbrev proofs : List ProofEntry
+abbrev pub proofs : List ProofEntry
 proofs = itself 0 (0 ∷ 1 ∷ []) ∷ itself 1 (2 ∷ []) ∷ itself 2 (3 ∷ []) ∷ assertion ∷ []
 
 pub one_of : {X : Type 0} {x y : X} → Contains (x ∷ []) y → y ≡ x
@@ -138,7 +138,7 @@ can_assert = record { over = record { left = omega arith; right = omega arith; p
     other (suc (suc (suc p))) l e = omega arith
 
 -- f leads to g, and its slot 1 is dropped
-can_link : CanLink nodes before f_is_g
+pub can_link : CanLink nodes before f_is_g
 can_link = record {
   over = record { left = omega arith; right = omega arith; pairs = f_is_g-partial };
   left_lives = refl;
@@ -154,23 +154,23 @@ none_died (suc zero) l d = absurd (d refl)
 none_died (suc (suc zero)) l d = absurd (d refl)
 none_died (suc (suc (suc i))) l d = absurd (omega arith)
 
-abbrev after : List Entry
+abbrev pub after : List Entry
 after = with_link nodes before f_is_g 3 0
 
-after_sound : Sound nodes after proofs
+pub after_sound : Sound nodes after proofs
 after_sound = link-sound nodes before proofs f_is_g 3 0 (entered-sound nodes before reflexive_proofs assertion before_sound can_assert) can_link none_died (omega arith) refl
 
 -- the filed nodes: f of two names, g of one, and a binder over g of a name from outside
-abbrev row_f : Row
+abbrev pub row_f : Row
 row_f = record { shape = node 3 [] (place 0 (place 1 stop)); source = 0; slots = (0, 0) ∷ (1, 1) ∷ [] }
 
-abbrev row_g : Row
+abbrev pub row_g : Row
 row_g = record { shape = node 4 [] (place 0 stop); source = 1; slots = (0, 2) ∷ [] }
 
-abbrev row_lam : Row
+abbrev pub row_lam : Row
 row_lam = record { shape = node 5 [] (scope (child_before (as_term (1, (2, 1) ∷ [])) stop) stop); source = 2; slots = (0, 3) ∷ [] }
 
-abbrev graph : State
+abbrev pub graph : State
 graph = record { nodes = nodes; found = after; proofs = proofs; rows = row_f ∷ row_g ∷ row_lam ∷ []; waiting = []; symmetries = [] }
 
 three_of : {X : Type 0} (P : X → Type 0) (x y z : X) → P x → P y → P z → (w : X) → Contains (x ∷ y ∷ z ∷ []) w → P w
@@ -282,7 +282,7 @@ sides_alike (suc (suc (suc zero))) l e a b fa fb q =
     (linked-alike nodes before before_sound.linked a b fa fb 3 0 (subst (λ w. CanLink nodes before (found_equation nodes before w)) (sym q) can_link) none_died))
 sides_alike (suc (suc (suc (suc p)))) l e a b fa fb q = absurd (omega arith)
 
-at_rest : AtRest graph
+pub at_rest : AtRest graph
 at_rest = record {
   sane = record {
     sound = after_sound;
@@ -299,7 +299,7 @@ at_rest = record {
 abbrev lam_g : DTerm
 lam_g = node 5 [] (scope (child_before (node 4 [] (place 4 stop)) stop) stop)
 
-abbrev lam_id : Applied
+abbrev pub lam_id : Applied
 lam_id = (2, (3, 3) ∷ [])
 
 lams_equal : Equal (asserted nodes proofs) (term_of nodes lam_id) lam_g

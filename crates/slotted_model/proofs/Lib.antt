@@ -72,6 +72,8 @@ pub mod Meeting
 pub mod AtRest
 pub mod CompletenessExamples
 pub mod OpenSymmetryExample
+pub mod CongruenceExample
+pub mod ShortcutExample
 pub mod Costs
 pub mod Tables
 pub mod Optimal
@@ -82,3 +84,8 @@ pub mod TableMaking
 pub mod Sizes
 pub mod Ties
 pub mod ExtractionExamples
+pub mod PremiseExamples
+pub mod FillingExamples
+pub mod StepExamples
+pub mod JoiningExample
+pub mod CongruenceLaws

@@ -171,7 +171,7 @@ parents_turn =
 abbrev h : DTerm
 h = node 5 [] (child_before (as_term (0, (0, 2) ∷ (1, 3) ∷ [])) stop)
 
-abbrev with_h : State
+abbrev pub with_h : State
 with_h = made with_f h
 
 f_child : IsFull with_f.nodes (0, (0, 2) ∷ (1, 3) ∷ [])
@@ -208,20 +208,20 @@ h_adds =
     ])))
     (refl, λ y c. absurd (Contains-nil y c))
 
-h_rests : AtRest with_h
+pub h_rests : AtRest with_h
 h_rests = (adds with_f f_rests h h_new with_h h_adds).rest
 
 -- f 7 8 is asserted to equal f 7 9: the second slot of f is redundant, and the row of h waits
-abbrev f_7_8 : Applied
+abbrev pub f_7_8 : Applied
 f_7_8 = (0, (0, 7) ∷ (1, 8) ∷ [])
 
-abbrev f_7_9 : Applied
+abbrev pub f_7_9 : Applied
 f_7_9 = (0, (0, 7) ∷ (1, 9) ∷ [])
 
-abbrev redundant : Equation
+abbrev pub redundant : Equation
 redundant = equation_of f_7_8 f_7_9
 
-f_full : (x y : ℕ) → x ≢ y → IsFull with_h.nodes (0, (0, x) ∷ (1, y) ∷ [])
+pub f_full : (x y : ℕ) → x ≢ y → IsFull with_h.nodes (0, (0, x) ∷ (1, y) ∷ [])
 f_full x y n = record {
   in_range = omega arith;
   slots = refl;
@@ -239,25 +239,25 @@ not_redundant zero l e = let n : ◌≡◌ {A = ℕ} 2 1 = ap (λ (x : Equation)
 not_redundant (suc zero) l e = let n : ◌≡◌ {A = ℕ} 1 0 = ap (λ (x : Equation). x.left) e in omega arith
 not_redundant (suc (suc n)) l e = omega arith
 
-abbrev f_asserted : State
+abbrev pub f_asserted : State
 f_asserted = with_assertion with_h redundant
 
-f_sane : Sane f_asserted
+pub f_sane : Sane f_asserted
 f_sane = entry-sane with_h h_rests.sane (record { equation = redundant; step = explicit }) (can_assert with_h f_7_8 f_7_9 (f_full 7 8 (λ e. omega arith)) (f_full 7 9 (λ e. omega arith)) not_redundant)
 
-abbrev f_dropped : State
+abbrev pub f_dropped : State
 f_dropped = dropped_state f_asserted 0 (0 ∷ []) 2
 
-not_zero : Contains {X = ℕ} (0 ∷ []) 1 → ⊥
+pub not_zero : Contains {X = ℕ} (0 ∷ []) 1 → ⊥
 not_zero c = elim (contains_cases 0 [] 1 c) [
   | inl e ↦ let n : ◌≡◌ {A = ℕ} 1 0 = e in omega arith
   | inr k ↦ Contains-nil 1 k
 ]
 
-f_united : Unites 2 f_asserted f_dropped
+pub f_united : Unites 2 f_asserted f_dropped
 f_united = drops_left 2 1 (contains_tail 0 (1 ∷ []) 1 (contains_head 1 [])) not_zero (omega arith, refl) (finds_alike refl refl)
 
-dropped_sane : Sane f_dropped
+pub dropped_sane : Sane f_dropped
 dropped_sane = (unites 2 f_united f_sane (omega arith)).sane
 
 h_waits : f_dropped.waiting ≡ 1 ∷ []
@@ -280,16 +280,16 @@ h_turn =
     (u.0, enters x.proofs x.grow (narrows 1 x.number 3 (contains_head 1 []) (contains_tail 2 (3 ∷ []) 3 (contains_head 3 [])) not_two x.congruence u.1))
 
 -- f 7 8 and f 8 7 are asserted equal first, so a symmetry of f is listed; then the second slot of f is redundant as before
-abbrev exchanged : Equation
+abbrev pub exchanged : Equation
 exchanged = equation_of f_7_8 (0, (0, 8) ∷ (1, 7) ∷ [])
 
-abbrev symmetric : State
+abbrev pub symmetric : State
 symmetric = with_symmetry (with_assertion with_h exchanged) (symmetry_of (with_assertion with_h exchanged) exchanged 2)
 
-abbrev exchange : Symmetry
+abbrev pub exchange : Symmetry
 exchange = record { class = 0; slots = 0 ∷ 1 ∷ []; pairs = (0, 1) ∷ (1, 0) ∷ []; proof = 2 }
 
-not_identity : exchanged.pairs ≡ identity (0 ∷ 1 ∷ []) → ⊥
+pub not_identity : exchanged.pairs ≡ identity (0 ∷ 1 ∷ []) → ⊥
 not_identity e = let n : ◌≡◌ {A = ℕ} 1 0 = ap (λ (m : List (ℕ × ℕ)). (get_or m 0 (0, 0)).1) e in omega arith
 
 not_exchanged : (n : ℕ) → n < 2 → equation_at with_h.proofs n ≡ exchanged → ⊥
@@ -297,10 +297,10 @@ not_exchanged zero l e = not_identity (ap (λ (x : Equation). x.pairs) (sym e))
 not_exchanged (suc zero) l e = let n : ◌≡◌ {A = ℕ} 1 0 = ap (λ (x : Equation). x.left) e in omega arith
 not_exchanged (suc (suc n)) l e = omega arith
 
-exchange_sane : Sane (with_assertion with_h exchanged)
+pub exchange_sane : Sane (with_assertion with_h exchanged)
 exchange_sane = entry-sane with_h h_rests.sane (record { equation = exchanged; step = explicit }) (can_assert with_h f_7_8 (0, (0, 8) ∷ (1, 7) ∷ []) (f_full 7 8 (λ e. omega arith)) (f_full 8 7 (λ e. omega arith)) not_exchanged)
 
-both_slots : (s : ℕ) → Contains (0 ∷ 1 ∷ []) s → Contains (1 ∷ 0 ∷ []) s
+pub both_slots : (s : ℕ) → Contains (0 ∷ 1 ∷ []) s → Contains (1 ∷ 0 ∷ []) s
 both_slots s c = elim (contains_cases 0 (1 ∷ []) s c) [
   | inl e ↦ subst (Contains (1 ∷ 0 ∷ [])) (sym e) (contains_tail 1 (0 ∷ []) 0 (contains_head 0 []))
   | inr k ↦ elim (contains_cases 1 [] s k) [
@@ -312,7 +312,7 @@ both_slots s c = elim (contains_cases 0 (1 ∷ []) s c) [
 exchange_listed : Unites 2 (with_assertion with_h exchanged) symmetric
 exchange_listed = lists 2 refl (record { left = λ s c. c; right = both_slots }) not_identity (λ y c. absurd (Contains-nil y c)) (omega arith, refl)
 
-symmetric_sane : Sane symmetric
+pub symmetric_sane : Sane symmetric
 symmetric_sane = (unites 2 exchange_listed exchange_sane (omega arith)).sane
 
 not_redundant_too : (n : ℕ) → n < 3 → equation_at symmetric.proofs n ≡ redundant → ⊥
@@ -321,13 +321,13 @@ not_redundant_too (suc zero) l e = not_redundant 1 (omega arith) e
 not_redundant_too (suc (suc zero)) l e = let n : ◌≡◌ {A = ℕ} 2 1 = ap (λ (x : Equation). length x.pairs) e in omega arith
 not_redundant_too (suc (suc (suc n))) l e = omega arith
 
-abbrev narrowed : State
+abbrev pub narrowed : State
 narrowed = dropped_state (with_assertion symmetric redundant) 0 (0 ∷ []) 3
 
 narrowed_united : Unites 3 (with_assertion symmetric redundant) narrowed
 narrowed_united = drops_left 3 1 (contains_tail 0 (1 ∷ []) 1 (contains_head 1 [])) not_zero (omega arith, refl) (finds_alike refl refl)
 
-narrowed_sane : Sane narrowed
+pub narrowed_sane : Sane narrowed
 narrowed_sane =
     (unites 3 narrowed_united
     (entry-sane symmetric symmetric_sane (record { equation = redundant; step = explicit }) (can_assert symmetric f_7_8 f_7_9 (f_full 7 8 (λ e. omega arith)) (f_full 7 9 (λ e. omega arith)) not_redundant_too))
@@ -337,7 +337,7 @@ narrowed_sane =
 not_aligned : IsAligned narrowed exchange → ⊥
 not_aligned e = let n : ◌≡◌ {A = ℕ} 0 1 = ap (λ (xs : List ℕ). get_or xs 0 7) e in omega arith
 
-symmetry_acts : (t : State) × Acts narrowed t
+pub symmetry_acts : (t : State) × Acts narrowed t
 symmetry_acts =
     let u = union-ends 2 narrowed narrowed_sane (omega arith) in
     (u.0, acts exchange (contains_head exchange []) not_aligned u.1)
