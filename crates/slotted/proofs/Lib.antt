@@ -1,2 +1,4 @@
--- What reading and comparing two texts answer.
-pub mod Comparing
+-- How a line is split, and what each step of a command leaves the next one.
+pub mod Splitting
+pub mod Steps
+pub mod Reading

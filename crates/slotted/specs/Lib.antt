@@ -1,1 +1,5 @@
-pub mod Lines
+pub mod Answers
+pub mod Commands
+pub mod Asked
+pub mod Sessions
+pub mod Streams

@@ -1,47 +1,37 @@
 // The program `slotted`: one line in, one answer out.
 #![tactic(auto)]
 
+ghost use Rattle.std.specs.Prelude.{IfSome, OnSome, OnOk};
+ghost use Rattle.std.specs.Io.KnownBytes.{Appends, IsAtEnd};
+ghost use Rattle.slotted_languages.specs.Small.{small_read};
+ghost use Rattle.slotted.specs.Streams.{SessionWrites};
+
+mod answer;
+mod command;
 mod session;
+mod stream;
 #[cfg(test)]
 mod tests;
 
-use session::Session;
+use slotted_languages::Small;
 use std::alloc::Global;
 use std::io;
-use std::io::{BufRead, BufReader, BufWriter, ErrorKind, Write};
+use std::io::{BufRead, BufReader, BufWriter, Write};
 use std::process::ExitCode;
 
-/// Answers each line of `input` on `output`, up to the end of the input. Each answer is written out before the next
-/// line is read. The first read or write that fails ends it, and so do bytes that are not UTF-8 and want of memory for
-/// a line; what was answered before stands.
+/// Answers each line of `input` on `output` over one graph of the written language, up to the end of the input. Each
+/// answer is written out before the next line is read. The first read or write that fails ends it, and so do bytes that
+/// are not UTF-8 and want of memory for a line; what was answered before stands.
 pub fn answer_lines<R: BufRead, W: Write>(
     alloc: Global,
     input: &mut R,
     output: &mut W,
-) -> io::Result<()> {
-    let mut session = Session::new(alloc);
-    let mut line = Vec::new(alloc);
-    for _ in 0..u64::MAX {
-        line.clear();
-        if input.read_until(b'\n', &mut line)? == 0 {
-            break;
-        }
-        answer_bytes(&mut session, &line, output)?;
-    }
-    Ok(())
-}
-
-/// Answers one line, which may end in a line feed.
-fn answer_bytes<W: Write>(session: &mut Session, line: &[u8], output: &mut W) -> io::Result<()> {
-    let line = line.strip_suffix(b"\n").unwrap_or(line);
-    let Ok(text) = str::from_utf8(line) else {
-        return Err(io::Error::from(ErrorKind::InvalidData));
-    };
-    if text.is_empty() {
-        return Ok(());
-    }
-    writeln!(output, "{}", session.answer(text))?;
-    output.flush()
+) -> io::Result<()>
+    ensures answers { OnOk result (IfSome (R.remaining input.old) (λ bytes. SessionWrites small_read bytes
+        (Appends (W.contents output.old) (W.contents output.new)))) }
+    ensures end { OnOk result (OnSome (R.remaining input.old) (IsAtEnd (R.remaining input.new))) }
+{
+    stream::answer_session::<Small, R, W>(alloc, input, output)
 }
 
 fn answer_streams(rt: &HostRuntime) -> io::Result<()> {

@@ -1,94 +1,55 @@
-//! The commands of the program.
-ghost use Rattle.std.specs.Prelude.{IfOk, IfErr};
-ghost use Rattle.slotted.specs.Lines.{Compares, Refused};
+//! What a line does to the graph.
+ghost use Rattle.std.specs.Prelude.{◌≡◌};
+ghost use Rattle.slotted.specs.Commands.{adds, compares, command_of};
+ghost use Rattle.slotted.specs.Sessions.{Answered, answer_of};
 
-use slotted_languages::{Language, Small};
-use slotted_slots::{Error, SlotTable};
-use slotted_terms::RecExpr;
-use std::alloc::Global;
-use std::fmt;
+use crate::answer::Answer;
+use crate::command::Command;
+use slotted_core::EGraph;
+use slotted_languages::Language;
+use slotted_slots::Error;
 
-/// What one line is answered with.
-#[derive(Drop)]
-pub enum Answer {
-    Done,
-    Yes,
-    No,
-    Refused(Error),
-    NoCommand,
-}
-
-impl fmt::Display for Answer {
-    fn fmt<W: fmt::Write>(&self, f: &mut fmt::Formatter<W>) -> fmt::Result {
-        match self {
-            Answer::Done => write!(f, "ok"),
-            Answer::Yes => write!(f, "yes"),
-            Answer::No => write!(f, "no"),
-            Answer::Refused(error) => {
-                let number = error.number();
-                let name = error.name();
-                write!(f, "error: {number} {name}")
-            }
-            Answer::NoCommand => write!(f, "error: 0 Command"),
-        }
-    }
-}
-
-/// The lines so far: the slots that they named.
-#[derive(Drop)]
-pub struct Session {
-    alloc: Global,
-    table: SlotTable,
-}
-
-impl Session {
-    /// A session in which no line has been read.
-    pub fn new(alloc: Global) -> Session {
-        Session {
-            alloc,
-            table: SlotTable::new(alloc),
-        }
-    }
-
-    /// The answer to one line, which holds no line feed.
-    pub fn answer(&mut self, line: &str) -> Answer {
-        match self.command(line) {
-            Ok(answer) => answer,
-            Err(error) => Answer::Refused(error),
-        }
-    }
-
-    // A command is its word, one space and the rest.
-    fn command(&mut self, line: &str) -> Result<Answer, Error> {
-        if let Some(text) = line.strip_prefix("add ") {
-            RecExpr::<Small>::parse(self.alloc, text, &mut self.table)?;
-            return Ok(Answer::Done);
-        }
-        let Some(texts) = line.strip_prefix("eq ") else {
-            return Ok(Answer::NoCommand);
-        };
-        let Some((left, right)) = texts.split_once(" == ") else {
-            return Ok(Answer::NoCommand);
-        };
-        Ok(if texts_eq::<Small>(self.alloc, left, right, &mut self.table)? {
-            Answer::Yes
-        } else {
-            Answer::No
-        })
-    }
-}
-
-/// Whether two texts write the same term up to the choice of bound names. The left one is read first.
-pub fn texts_eq<L: Language>(
-    alloc: Global,
-    left: &str,
-    right: &str,
-    table: &mut SlotTable,
-) -> Result<bool, Error>
-    ensures ok { IfOk result (λ b. Compares L.read table.old left.now right.now b table.new) }
-    ensures err { IfErr result (λ e. Refused L.read table.old left.now right.now e table.new) }
+/// The answer to one line, which holds no line feed, over a graph.
+pub fn answer<L: Language>(graph: &mut EGraph<L>, line: &str) -> Answer
+    ensures { Answered L.read graph.old graph.new (command_of line.now) result }
 {
-    let one = RecExpr::<L>::parse(alloc, left, table)?;
-    let two = RecExpr::<L>::parse(alloc, right, table)?;
-    one.alpha_eq(alloc, &two)
+    match Command::read(line) {
+        Command::Add(text) => to_answer(add(graph, text)),
+        Command::Eq(left, right) => to_answer(compare(graph, left, right)),
+        Command::Unknown => Answer::NoCommand,
+    }
+}
+
+// The answer, where a refusal is one too.
+fn to_answer(outcome: Result<Answer, Error>) -> Answer
+    ensures { result ≡ answer_of outcome }
+{
+    match outcome {
+        Ok(answer) => answer,
+        Err(error) => Answer::Refused(error),
+    }
+}
+
+// Adds the term of a text.
+fn add<L: Language>(graph: &mut EGraph<L>, text: &str) -> Result<Answer, Error>
+    ensures { Answered L.read graph.old graph.new (adds text.now) (answer_of result) }
+{
+    let term = graph.parse_expr(text)?;
+    graph.add_expr(&term)?;
+    Ok(Answer::Done)
+}
+
+// Adds the terms of two texts and compares them.
+fn compare<L: Language>(graph: &mut EGraph<L>, left: &str, right: &str) -> Result<Answer, Error>
+    ensures { Answered L.read graph.old graph.new (compares left.now right.now) (answer_of result) }
+{
+    let one = graph.parse_expr(left)?;
+    let two = graph.parse_expr(right)?;
+    let left = graph.add_expr(&one)?;
+    let right = graph.add_expr(&two)?;
+    if graph.eq(&left, &right)? {
+        Ok(Answer::Yes)
+    } else {
+        Ok(Answer::No)
+    }
 }

@@ -1,4 +1,5 @@
 use super::*;
+use std::io::{ErrorKind, Read};
 use std::test::Fail;
 
 // The answers to some lines, as text.
@@ -127,5 +128,102 @@ fn streams_that_fail_end_it(rt: HostRuntime) -> Result<(), Fail> {
         assert!(rt; answer_lines(rt.alloc(), &mut input, &mut output).is_err());
         assert!(rt; b"ok\nno\nok\n".starts_with(output.taken.as_slice()));
     }
+    Ok(())
+}
+
+// `$f1073741823` is the last fresh slot: from there on a class that needs a slot of its own finds none.
+#[test]
+fn used_up_slots_fail_the_graph(rt: HostRuntime) -> Result<(), Fail> {
+    let cases = [
+        // A new class needs a slot for each of its free names, and no other class does.
+        (
+            "add (var $f1073741823)\nadd a",
+            "error: 2 OutOfSlots\nerror: 3 Failed\n",
+        ),
+        (
+            "add (var $x)\nadd (var $f1073741823)\nadd a\neq (var $y) == (var $f1073741823)\nadd (g $x)\nadd a",
+            "ok\nok\nok\nno\nerror: 2 OutOfSlots\nerror: 3 Failed\n",
+        ),
+        (
+            "eq a == (g $f1073741823)\nadd a",
+            "error: 2 OutOfSlots\nerror: 3 Failed\n",
+        ),
+        // On a failed graph each command is refused, and what is no command stays none.
+        (
+            "add (g $f1073741823)\neq a == a\nadd ?x\nadd (f\n\nfrobnicate\neq a = a",
+            "error: 2 OutOfSlots\nerror: 3 Failed\nerror: 3 Failed\nerror: 3 Failed\nerror: 0 Command\nerror: 0 Command\n",
+        ),
+        // The names of a text that is refused are used up, but the graph has not failed.
+        (
+            "add (g $f1073741823\nadd a\nadd (g $x)",
+            "error: 4 Parse\nok\nerror: 2 OutOfSlots\n",
+        ),
+        (
+            "add (g $f1073741824)\nadd (g $x)",
+            "error: 11 NumberTooLarge\nok\n",
+        ),
+    ];
+    for (lines, expected) in cases {
+        assert_eq!(rt;
+            answers(rt.alloc(), lines)?.as_str(),
+            expected,
+            "at {lines}"
+        );
+    }
+    Ok(())
+}
+
+// Both texts are read before the first term is added.
+#[test]
+fn refused_lines_add_nothing(rt: HostRuntime) -> Result<(), Fail> {
+    let cases = [
+        (
+            "eq (g $x) == (g $f1073741823\nadd (g $x)",
+            "error: 4 Parse\nerror: 2 OutOfSlots\n",
+        ),
+        (
+            "eq (g $f1073741823) == ?x\nadd a\nadd (g $x)",
+            "error: 5 NotATerm\nok\nerror: 2 OutOfSlots\n",
+        ),
+        (
+            "eq (g $x) == (g $x)\neq (g $x) == (g $f1073741823\nadd (g $y)",
+            "yes\nerror: 4 Parse\nok\n",
+        ),
+    ];
+    for (lines, expected) in cases {
+        assert_eq!(rt;
+            answers(rt.alloc(), lines)?.as_str(),
+            expected,
+            "at {lines}"
+        );
+    }
+    Ok(())
+}
+
+// Gives its bytes and then fails.
+#[derive(Drop)]
+struct Broken<'a> {
+    bytes: &'a [u8],
+}
+
+impl Read for Broken<'_> {
+    fn read(&mut self, buf: &mut [u8]) -> io::Result<usize> {
+        let count = self.bytes.read(buf)?;
+        if count == 0 {
+            return Err(io::Error::from(ErrorKind::BrokenPipe));
+        }
+        Ok(count)
+    }
+}
+
+#[test]
+fn reads_that_fail_end_it(rt: HostRuntime) -> Result<(), Fail> {
+    let mut output = Vec::new(rt.alloc());
+    let broken = Broken {
+        bytes: b"add a\neq a == b\nadd b",
+    };
+    let mut input = BufReader::new(rt.alloc(), broken)?;
+    assert!(rt; answer_lines(rt.alloc(), &mut input, &mut output).is_err());
+    assert_eq!(rt; output.as_slice(), b"ok\nno\n".as_slice());
     Ok(())
 }

@@ -2,7 +2,7 @@
 use Rattle.std.proofs.Common.{◌≡◌, ◌<◌, ◌≤◌, ℕ, zero, suc, ◌+◌, List, [], ◌∷◌, length, get_or, sym, ◌∙◌, ap, refl, subst, arith, inl, inr}
 use Rattle.std.specs.Prelude.{slice_set, slice_index_or, All}
 use Rattle.std.proofs.lemmas.Bool.{cases_eq}
-use Rattle.slotted_theory.specs.Term.{Args, Term, done, args_size, term_size}
+use Rattle.slotted_theory.specs.Term.{Args, Term, done}
 use Rattle.slotted_theory.specs.Nameless.{nameless, nameless_args}
 use Rattle.slotted_slots.specs.Maps.{keys, values}
 use Rattle.slotted_slots.specs.Table.{Table}
@@ -16,9 +16,11 @@ use Rattle.slotted_model.specs.Applied.{Applied}
 use Rattle.slotted_model.specs.Classes.{terms, term_of, layer_of, IsFull}
 use Rattle.slotted_model.specs.Growth.{Extends}
 use Rattle.slotted_model.proofs.Growing.{Extends-same, Extends-then}
+use Rattle.slotted_terms.specs.Valid.{IsWhole}
 use Rattle.slotted_core.specs.Image.{AddsClasses}
 use Rattle.slotted_core.specs.Kept.{Kept, nodes_of, image_of, Good, HasFreshSlots, Adds, AddsTerm}
 use Rattle.slotted_core.specs.Nodes.{child_ids}
+use Rattle.slotted_core.specs.Places.{args_places, term_places}
 use Rattle.slotted_core.proofs.Added.{full_children}
 use Rattle.slotted_core.proofs.Images.{adds-nothing, adds-then}
 use Rattle.slotted_core.proofs.Children.{length-ids, zip-keys_values}
@@ -123,8 +125,8 @@ part_end k t v l m f h us a fits p n add = record {
       ∙ (add.extends.layers (nameless_node h) (full_children (nodes_of l) h fits (part_full k t l f h us p n)) ∙ part_layer k t l f h us fits p n);
 }
 
--- the node has no more places than the term has size
-pub part_size : (k : Kept) (t : Table) (l : Kept) (f h : Form) (us : List Term) → Fits h → IsPart k t l f h us (length us) → length us ≡ length (children f.tree) → length h.names ≤ term_size (form.term_of f us)
+-- the node has no more places than the term
+pub part_size : (k : Kept) (t : Table) (l : Kept) (f h : Form) (us : List Term) → Fits h → IsPart k t l f h us (length us) → length us ≡ length (children f.tree) → length h.names ≤ term_places (form.term_of f us)
 part_size k t l f h us fits p n =
-    let s = node_fits (nodes_of l) p.good.sound.canonical h us fits (n ∙ sym p.count) p.ids in
-    omega (arith, s, ap args_size (p.outline us n))
+   let s = node_fits (nodes_of l) p.good.sound.canonical h us fits (n ∙ sym p.count) p.ids in
+   omega (arith, s, ap args_places (p.outline us n))

@@ -23,7 +23,7 @@ use Rattle.slotted_model.proofs.Full.{full-ascending, term_of-layer, term_of-nam
 use Rattle.slotted_model.proofs.Ids.{id_of_node-some}
 use Rattle.slotted_slots.specs.Table.{Table, is_known}
 use Rattle.slotted_model.specs.Ascending.{names}
-use Rattle.slotted_core.specs.Graph.{AllKnown, HasKnownNames}
+use Rattle.slotted_terms.specs.Valid.{AllKnown, HasKnownNames}
 use Rattle.slotted_core.proofs.NameMaps.{In-at, at_In}
 
 In-take : (n : ℕ) (xs : List ℕ) (x : ℕ) → In x (take n xs) → In x xs

@@ -16,7 +16,7 @@ use Rattle.slotted_model.specs.Applied.{Applied, as_term, renamed_id}
 use Rattle.slotted_model.specs.Classes.{terms, stands, term_by, term_of, layer_of, IsFull, Canonical}
 use Rattle.slotted_model.proofs.Children.{KeysAreNames, expand-as_term, term_by-renamed}
 use Rattle.slotted_model.proofs.Full.{full-keys}
-use Rattle.slotted_core.specs.Graph.{IsWhole}
+use Rattle.slotted_terms.specs.Valid.{IsWhole}
 use Rattle.slotted_core.specs.Nodes.{ids_in, child_ids}
 use Rattle.slotted_core.proofs.Children.{length-ids, atom-is, Each}
 
@@ -73,7 +73,7 @@ length-parts zero xs = omega arith
 length-parts (suc n) [] = omega arith
 length-parts (suc n) (x ∷ xs) = omega (arith, length-parts n xs)
 
-Each-parts : {X : Type 0} (P : X → Type 0) (n : ℕ) (xs : List X) → Each P (take n xs) → Each P (drop n xs) → Each P xs
+pub Each-parts : {X : Type 0} (P : X → Type 0) (n : ℕ) (xs : List X) → Each P (take n xs) → Each P (drop n xs) → Each P xs
 Each-parts P zero xs a b = b
 Each-parts P (suc n) [] a b = tt
 Each-parts P (suc n) (x ∷ xs) a b = (a.0, Each-parts P n xs a.1 b)

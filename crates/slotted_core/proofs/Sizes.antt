@@ -1,9 +1,9 @@
--- A node over ids of terms has no more places than the term's size.
+-- A node over ids of terms has no more places than the term.
 use Rattle.std.proofs.Common.{◌≡◌, ◌<◌, ◌≤◌, ℕ, zero, suc, ◌+◌, List, [], ◌∷◌, ◌++◌, length, take, drop, map, get_or, cond, sym, ◌∙◌, ap, refl, arith, inl, inr, length-append}
 use Rattle.std.specs.Prelude.{nat_lt, nat_eq, slice_index_or, Option, None}
 use Rattle.std.specs.List.{zip}
 use Rattle.std.proofs.lemmas.Bool.{cases_lt, cases_eq, lt-ltb, le-ltb, eq-eqb, ne_eqb}
-use Rattle.slotted_theory.specs.Term.{Args, Term, done, name, args_size, term_size}
+use Rattle.slotted_theory.specs.Term.{Args, Term, done, name}
 use Rattle.slotted_theory.specs.Term as term
 use Rattle.slotted_theory.specs.Nameless.{DTerm, extend, nameless_args, nameless}
 use Rattle.slotted_theory.specs.FiniteMaps.{filled}
@@ -18,6 +18,7 @@ use Rattle.slotted_model.specs.Classes.{canonical_term, term_of, IsFull, Canonic
 use Rattle.slotted_model.proofs.Full.{canonical_term-names}
 use Rattle.slotted_model.proofs.Theory.{free_names-moved}
 use Rattle.slotted_core.specs.Nodes.{ids_in, child_ids}
+use Rattle.slotted_core.specs.Places.{args_places, term_places}
 use Rattle.slotted_core.proofs.Children.{length-ids}
 use Rattle.slotted_core.proofs.Layers.{length-parts}
 use Rattle.slotted_core.proofs.NameMaps.{length-keys, length-values}
@@ -54,7 +55,7 @@ length-mapped : (f : ℕ → ℕ) (xs : List ℕ) → length (map f xs) ≡ leng
 length-mapped f [] = refl
 length-mapped f (x ∷ xs) = ap suc (length-mapped f xs)
 
-free_fit : (ρ : ℕ → ℕ) (a : Args) → length (free_names (nameless_args ρ a)) ≤ args_size a
+free_fit : (ρ : ℕ → ℕ) (a : Args) → length (free_names (nameless_args ρ a)) ≤ args_places a
 free_fit ρ done = omega arith
 free_fit ρ (name x rest) = omega (arith, free_fit ρ rest)
 free_fit ρ (term.child op payloads args rest) =
@@ -62,8 +63,8 @@ free_fit ρ (term.child op payloads args rest) =
 free_fit ρ (term.bind x inner rest) =
     omega (arith, length-append (outside (free_names (nameless_args (extend x ρ) inner))) (free_names (nameless_args ρ rest)), length-outside (free_names (nameless_args (extend x ρ) inner)), free_fit (extend x ρ) inner, free_fit ρ rest)
 
--- an id has no more names than its term has size
-names_fit : (nodes : List DTerm) → Canonical nodes → (a : Applied) → IsFull nodes a → (u : Term) → term_of nodes a ≡ nameless u → length (values a.1) ≤ args_size u.args
+-- an id has no more names than its term has places
+names_fit : (nodes : List DTerm) → Canonical nodes → (a : Applied) → IsFull nodes a → (u : Term) → term_of nodes a ≡ nameless u → length (values a.1) ≤ args_places u.args
 names_fit nodes can a full u e =
     let c : DTerm = canonical_term nodes a.0 in
     let k : length (keys a.1) ≡ length (ascending (free_names c.args)) = ap length full.slots ∙ sym (ap length (canonical_term-names nodes can a.0 full.in_range)) in
@@ -71,12 +72,12 @@ names_fit nodes can a full u e =
     sym (length-mapped (filled a.1) (free_names c.args)) ∙ (ap length (sym (free_names-moved (filled a.1) c.args)) ∙ ap (λ (t : DTerm). length (free_names t.args)) e) in
     omega (arith, length-values a.1, length-keys a.1, k, f, length-ascending (free_names c.args), free_fit (λ x. x) u.args)
 
--- each id has no more names than its term has size
+-- each id has no more names than its term has places
 abbrev pub Bounded : List Applied → List Term → Type 0
 Bounded [] [] = Unit {0}
 Bounded [] (u ∷ us) = ⊥
 Bounded (a ∷ ids) [] = ⊥
-Bounded (a ∷ ids) (u ∷ us) = (length (values a.1) ≤ args_size u.args) × Bounded ids us
+Bounded (a ∷ ids) (u ∷ us) = (length (values a.1) ≤ args_places u.args) × Bounded ids us
 
 bounded-split : (ids more : List Applied) (us : List Term) (n : ℕ) → length ids ≡ n → Bounded (ids ++ more) us → Bounded ids (take n us) × Bounded more (drop n us)
 bounded-split [] more us zero e m = (tt, m)
@@ -90,7 +91,7 @@ values-zip [] vs e = refl
 values-zip (k ∷ ks) [] e = absurd (omega (arith, e))
 values-zip (k ∷ ks) (v ∷ vs) e = ap suc (values-zip ks vs (omega (arith, e)))
 
-places_fit : (t : Tree) (xs : List ℕ) (us : List Term) → length xs ≡ length (scopes t) → Bounded (ids_in t xs) us → length (scopes t) ≤ args_size (form.filled t xs us)
+places_fit : (t : Tree) (xs : List ℕ) (us : List Term) → length xs ≡ length (scopes t) → Bounded (ids_in t xs) us → length (scopes t) ≤ args_places (form.filled t xs us)
 places_fit leaf xs us n m = omega arith
 places_fit (own r) xs us n m = omega (arith, places_fit r (drop 1 xs) us (own_fits r xs n) m)
 places_fit (child i ks r) xs [] n m = absurd m
@@ -114,7 +115,40 @@ bounded-from nodes can (a ∷ ids) (u ∷ us) n h =
     let p = h 0 a u (omega arith) in
     (names_fit nodes can a p.0 u p.1, bounded-from nodes can ids us (omega (arith, n)) (λ j d e l. h (suc j) d e (omega arith)))
 
--- a node over ids of these terms has no more places than they have size
-pub node_fits : (nodes : List DTerm) → Canonical nodes → (h : Form) (us : List Term) → length h.names ≡ length (scopes h.tree) → length us ≡ length (children h.tree) → ((j : ℕ) (d : Applied) (e : Term) → j < length us → IsFull nodes (get_or (child_ids h) j d) × (term_of nodes (get_or (child_ids h) j d) ≡ nameless (get_or us j e))) → length h.names ≤ args_size (form.filled h.tree h.names us)
+-- a node over ids of these terms has no more places than the node over the terms
+pub node_fits : (nodes : List DTerm) → Canonical nodes → (h : Form) (us : List Term) → length h.names ≡ length (scopes h.tree) → length us ≡ length (children h.tree) → ((j : ℕ) (d : Applied) (e : Term) → j < length us → IsFull nodes (get_or (child_ids h) j d) × (term_of nodes (get_or (child_ids h) j d) ≡ nameless (get_or us j e))) → length h.names ≤ args_places (form.filled h.tree h.names us)
 node_fits nodes can h us n c ids =
     omega (arith, n, places_fit h.tree h.names us n (bounded-from nodes can (child_ids h) us (length-ids h.tree h.names ∙ sym c) ids))
+
+-- the places of the children of a term are places of the term
+
+abbrev total : List Term → ℕ
+total [] = 0
+total (u ∷ us) = term_places u + total us
+
+total-at : (us : List Term) (k : ℕ) (d : Term) → k < length us → term_places (get_or us k d) ≤ total us
+total-at [] k d l = absurd (omega arith)
+total-at (u ∷ us) zero d l = omega arith
+total-at (u ∷ us) (suc k) d l = omega (arith, total-at us k d (omega (arith, l)))
+
+total-parts : (n : ℕ) (us : List Term) → total (take n us) + total (drop n us) ≡ total us
+total-parts zero us = omega arith
+total-parts (suc n) [] = omega arith
+total-parts (suc n) (u ∷ us) = omega (arith, total-parts n us)
+
+total_le-children : (us : List Term) → total us ≤ args_places (form.children_args us)
+total_le-children [] = omega arith
+total_le-children (u ∷ us) = omega (arith, total_le-children us)
+
+total_le-filled : (t : Tree) (xs : List ℕ) (us : List Term) → total us ≤ args_places (form.filled t xs us)
+total_le-filled leaf xs [] = omega arith
+total_le-filled leaf xs (u ∷ us) = omega (arith, total_le-children us)
+total_le-filled (own r) xs us = omega (arith, total_le-filled r (drop 1 xs) us)
+total_le-filled (child i ks r) xs [] = omega arith
+total_le-filled (child i ks r) xs (u ∷ us) = omega (arith, total_le-filled r (drop (length ks) xs) us)
+total_le-filled (bind u r) xs us =
+    omega (arith, total_le-filled u (take (length (scopes u)) (drop 1 xs)) (take (length (children u)) us), total_le-filled r (drop (length (scopes u)) (drop 1 xs)) (drop (length (children u)) us), total-parts (length (children u)) us)
+
+-- a child has no more places than the term
+pub child_places_fit : (f : Form) (us : List Term) (k : ℕ) (d : Term) → k < length us → term_places (get_or us k d) ≤ term_places (form.term_of f us)
+child_places_fit f us k d l = omega (arith, total-at us k d l, total_le-filled f.tree f.names us)

@@ -9,11 +9,12 @@ use Rattle.slotted_languages.specs.Joined.{child_fits}
 use Rattle.slotted_languages.specs.Filled.{filled, term_of}
 use Rattle.slotted_languages.specs.Shape.{Fits}
 use Rattle.slotted_languages.proofs.NodeTerms.{own_fits, child_rest_fits, bind_inner_fits, bind_rest_fits}
-use Rattle.slotted_core.specs.Graph.{IsWhole, HasKnownNames, IsValidTerm}
+use Rattle.slotted_terms.specs.Valid.{IsWhole, HasKnownNames, IsValidTerm}
 use Rattle.slotted_core.specs.Nodes.{IsChildPlace}
+use Rattle.slotted_core.specs.SmallNodes.{HasSmallNodes, HasSmallParts}
 use Rattle.slotted_core.proofs.Children.{Each, Each-append}
 use Rattle.slotted_core.proofs.Plugged.{at-left, at-right}
-use Rattle.slotted_core.proofs.Layers.{length-parts}
+use Rattle.slotted_core.proofs.Layers.{Each-parts, length-parts}
 
 get-none : (j : ℕ) → ◌≡◌ {A = ℕ} (get_or [] j 0) 0
 get-none zero = refl
@@ -159,3 +160,96 @@ valid_term t f us fits c p h =
       whole = whole_filled f.tree f.names us c (Each-of (λ (u : Term). (0 < u.op) × IsValidTerm t u) (λ (u : Term). (0 < u.op) × IsWhole u.args) (λ u v. (v.0, v.1.whole)) us each);
       known = known_filled t f.tree f.names fits p us c (Each-of (λ (u : Term). (0 < u.op) × IsValidTerm t u) (λ (u : Term). HasKnownNames t u.args) (λ u v. v.1.known) us each);
     }
+
+-- the reverse: what holds of the parts of a valid term
+
+drop_back : (n : ℕ) (xs : List ℕ) (i : ℕ) → n + i < length xs → i < length (drop n xs)
+drop_back zero xs i l = omega (arith, l)
+drop_back (suc n) [] i l = absurd (omega (arith, l))
+drop_back (suc n) (x ∷ xs) i l = drop_back n xs i (omega (arith, l))
+
+inner_back : (u r : Tree) (i : ℕ) → IsChildPlace u i → IsChildPlace (bind u r) (suc i)
+inner_back u r i p =
+    let q = place-left u r p.0 p.1 in
+    (p.0, omega (arith, p.1, length-append (children u) (children r)), omega (arith, p.2, q.0), omega (arith, p.3, q.0, q.1))
+
+rest_back : (u r : Tree) (i : ℕ) → length (scopes u) ≤ i → IsChildPlace r (i - length (scopes u)) → IsChildPlace (bind u r) (suc i)
+rest_back u r i g p =
+    let k = length (children u) + p.0 in
+    let e : k - length (children u) ≡ p.0 = omega arith in
+    let q = place-right u r k (omega arith) in
+    let c : child_place (bind u r) k ≡ suc (length (scopes u) + child_place r p.0) = q.0 ∙ ap (λ z. suc (length (scopes u) + child_place r z)) e in
+    let w : width (bind u r) k ≡ width r p.0 = q.1 ∙ ap (width r) e in
+    (k, omega (arith, p.1, length-append (children u) (children r)), omega (arith, p.2, c, g), omega (arith, p.3, c, w, g))
+
+-- at each place of a term with known names stands a child or a known name
+pub filled_known : (t : Table) (tree : Tree) (xs : List ℕ) → length xs ≡ length (scopes tree) → (us : List Term) → length us ≡ length (children tree) → HasKnownNames t (filled tree xs us) → (i : ℕ) → i < length xs → IsChildPlace tree i ⊎ IsTrue (is_known t (get_or xs i 0))
+filled_known t leaf xs n us c h i l = absurd (omega (arith, n, l))
+filled_known t (own r) [] n us c h i l = absurd (omega (arith, l))
+filled_known t (own r) (x ∷ xs) n us c h zero l = inr h.0
+filled_known t (own r) (x ∷ xs) n us c h (suc i) l = elim (filled_known t r xs (omega (arith, n)) us c h.1 i (omega (arith, l))) [
+  | inl q ↦ inl (q.0, q.1, omega (arith, q.2), omega (arith, q.3))
+  | inr k ↦ inr k
+]
+filled_known t (child j ks r) xs n [] c h i l = absurd (omega (arith, c))
+filled_known t (child j ks r) xs n (u ∷ us) c h i l = elim (cases_lt i (length ks)) [
+  | inl m ↦ inl (0, omega arith, omega arith, omega (arith, m))
+  | inr g ↦
+      let e : length ks + (i - length ks) ≡ i = omega (arith, g) in
+      elim (filled_known t r (drop (length ks) xs) (child_rest_fits j ks r xs n) us (omega (arith, c)) h.1 (i - length ks) (drop_back (length ks) xs (i - length ks) (omega (arith, e, l)))) [
+        | inl q ↦ inl (suc q.0, omega (arith, q.1), omega (arith, q.2, g), omega (arith, q.3, g))
+        | inr k ↦ inr (subst (λ x. IsTrue (is_known t x)) (get-drop (length ks) xs (i - length ks) ∙ ap (λ z. get_or xs z 0) e) k)
+      ]
+]
+filled_known t (bind u r) [] n us c h i l = absurd (omega (arith, l))
+filled_known t (bind u r) (x ∷ ys) n us c h zero l = inr h.0
+filled_known t (bind u r) (x ∷ ys) n us c h (suc i) l =
+    let m = length (scopes u) in
+    let k = length (children u) in
+    let nn : length ys ≡ m + length (scopes r) = omega (arith, n, length-append (scopes u) (scopes r)) in
+    let cs : length us ≡ k + length (children r) = omega (arith, c, length-append (children u) (children r)) in
+    let lt : length (take m ys) ≡ m = take_count m (length (scopes r)) ys nn in
+    let lk : length (take k us) ≡ k = take_count k (length (children r)) us cs in
+    elim (cases_lt i m) [
+      | inl b ↦
+          elim (filled_known t u (take m ys) lt (take k us) lk h.1 i (omega (arith, b, lt))) [
+            | inl q ↦ inl (inner_back u r i q)
+            | inr a ↦ inr (subst (λ z. IsTrue (is_known t z)) (get-take m ys i b) a)
+          ]
+      | inr g ↦
+          let e : m + (i - m) ≡ i = omega (arith, g) in
+          elim (filled_known t r (drop m ys) (omega (arith, lt, nn, length-parts m ys)) (drop k us) (omega (arith, lk, cs, length-parts k us)) h.2 (i - m) (drop_back m ys (i - m) (omega (arith, e, l)))) [
+            | inl q ↦ inl (rest_back u r i g q)
+            | inr a ↦ inr (subst (λ z. IsTrue (is_known t z)) (get-drop m ys (i - m) ∙ ap (λ z. get_or ys z 0) e) a)
+          ]
+    ]
+
+-- its children have known names
+pub known_each : (t : Table) (tree : Tree) (xs : List ℕ) (us : List Term) → length us ≡ length (children tree) → HasKnownNames t (filled tree xs us) → Each (λ (u : Term). HasKnownNames t u.args) us
+known_each t leaf xs [] c h = tt
+known_each t leaf xs (u ∷ us) c h = absurd (omega (arith, c))
+known_each t (own r) xs us c h = known_each t r (drop 1 xs) us c h.1
+known_each t (child i ks r) xs [] c h = tt
+known_each t (child i ks r) xs (u ∷ us) c h = (h.0, known_each t r (drop (length ks) xs) us (omega (arith, c)) h.1)
+known_each t (bind u r) xs us c h =
+    let s = length (scopes u) in
+    let k = length (children u) in
+    let cs : length us ≡ k + length (children r) = omega (arith, c, length-append (children u) (children r)) in
+    let lk : length (take k us) ≡ k = take_count k (length (children r)) us cs in
+    Each-parts (λ (z : Term). HasKnownNames t z.args) k us (known_each t u (take s (drop 1 xs)) (take k us) lk h.1)
+    (known_each t r (drop s (drop 1 xs)) (drop k us) (omega (arith, lk, cs, length-parts k us)) h.2)
+
+-- and no large nodes, if it has none
+pub small_each : {A : Type 0} (form : A → Form) (tree : Tree) (xs : List ℕ) (us : List Term) → length us ≡ length (children tree) → HasSmallParts form (filled tree xs us) → Each (HasSmallNodes form) us
+small_each form leaf xs [] c h = tt
+small_each form leaf xs (u ∷ us) c h = absurd (omega (arith, c))
+small_each form (own r) xs us c h = small_each form r (drop 1 xs) us c h
+small_each form (child i ks r) xs [] c h = tt
+small_each form (child i ks r) xs (u ∷ us) c h = ((h.0, h.1), small_each form r (drop (length ks) xs) us (omega (arith, c)) h.2)
+small_each form (bind u r) xs us c h =
+    let s = length (scopes u) in
+    let k = length (children u) in
+    let cs : length us ≡ k + length (children r) = omega (arith, c, length-append (children u) (children r)) in
+    let lk : length (take k us) ≡ k = take_count k (length (children r)) us cs in
+    Each-parts (HasSmallNodes form) k us (small_each form u (take s (drop 1 xs)) (take k us) lk h.0)
+    (small_each form r (drop s (drop 1 xs)) (drop k us) (omega (arith, lk, cs, length-parts k us)) h.1)

@@ -1,12 +1,12 @@
 -- What contracts see of a graph: whether it failed, its table of slots, and its classes, finds and proofs as lists.
-use Rattle.std.specs.Prelude.{◌≡◌, ℕ, ◌<◌, ◌≤◌, Bool, List, [], ◌∷◌, ◌++◌, length, IsTrue, All, Contains}
+use Rattle.std.specs.Prelude.{◌≡◌, ℕ, ◌+◌, ◌<◌, ◌≤◌, Bool, List, [], ◌∷◌, ◌++◌, length, All, Contains}
 use Rattle.std.specs.Coded.{Coded, code_by, coded×, coded_bool, coded_ℕ, coded_list}
 use Rattle.std.specs.Prelude.{refl}
-use Rattle.slotted_theory.specs.Term.{Args, done, name, child, bind, Term}
 use Rattle.slotted_theory.specs.Nameless.{DTerm}
 use Rattle.slotted_theory.specs.Shape.{shape}
-use Rattle.slotted_slots.specs.Table.{Table, is_known, fresh_slot}
+use Rattle.slotted_slots.specs.Table.{Table, fresh_slot}
 use Rattle.slotted_languages.specs.Form.{Form, IsSmall}
+use Rattle.slotted_terms.specs.Valid.{AllKnown}
 use Rattle.slotted_model.specs.Applied.{Applied, values}
 use Rattle.slotted_model.specs.Classes.{canonical_slots, IsFull}
 use Rattle.slotted_core.specs.Nodes.{child_ids}
@@ -25,9 +25,6 @@ abbrev pub graph_code : Coded Graph
 graph_code =
     code_by (Bool × (Table × Image)) (coded× coded_bool (coded× table_code image_code)) (λ g. (g.failed, (g.table, g.image))) (λ p. record { failed = p.0; table = p.1.0; image = p.1.1 }) (λ _. refl)
 
--- the table knows each of the slots
-abbrev pub AllKnown : Table → List ℕ → Type 0
-AllKnown t xs = All (λ s. IsTrue (is_known t s)) xs
 
 -- a class of the graph, with different known names for exactly its slots
 pub record IsValidId (g : Graph) (a : Applied) : Type 0 where
@@ -39,25 +36,6 @@ pub record IsValidNode (g : Graph) (f : Form) : Type 0 where
   pub few : IsSmall f
   pub known : AllKnown g.table f.names
   pub children : All (IsFull g.image.canonical) (child_ids f)
-
--- no child is missing and none is too many: where one is, the operator 0 stands
-abbrev pub IsWhole : Args → Type 0
-IsWhole done = Unit {0}
-IsWhole (name x rest) = IsWhole rest
-IsWhole (child op payloads args rest) = (0 < op) × IsWhole args × IsWhole rest
-IsWhole (bind x inner rest) = IsWhole inner × IsWhole rest
-
--- the table knows each name, those of binders too
-abbrev pub HasKnownNames : Table → Args → Type 0
-HasKnownNames t done = Unit {0}
-HasKnownNames t (name x rest) = IsTrue (is_known t x) × HasKnownNames t rest
-HasKnownNames t (child op payloads args rest) = HasKnownNames t args × HasKnownNames t rest
-HasKnownNames t (bind x inner rest) = IsTrue (is_known t x) × HasKnownNames t inner × HasKnownNames t rest
-
--- a term with known names and the right number of children at each node
-pub record IsValidTerm (t : Table) (u : Term) : Type 0 where
-  pub whole : IsWhole u.args
-  pub known : HasKnownNames t u.args
 
 -- a fresh slot that the old table did not know and the new one knows
 pub record IsFreshBetween (old new : Table) (s : ℕ) : Type 0 where

@@ -7,3 +7,5 @@ pub mod Image
 pub mod Graph
 pub mod Alike
 pub mod Kept
+pub mod Places
+pub mod SmallNodes

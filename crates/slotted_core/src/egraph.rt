@@ -1,17 +1,22 @@
 //! The graph that callers see: a failed one refuses every later call.
 ghost use Rattle.std.specs.Prelude.{[], ◌≡◌, ◌≤◌, ◌<◌, ◌↔◌, ◌⊎◌, ◌^◌, length, false, IsTrue, IsOk, IfOk, IfErr, OnOk, IsErr, IsErrOf, IsOkUnless, IsSome, None, Some, option_map};
+ghost use Rattle.std.specs.Str.{chars};
 ghost use Rattle.slotted_slots.specs.Error.{IsShortage};
 ghost use Rattle.slotted_slots.specs.Table.{KnowsMore};
-ghost use Rattle.slotted_theory.specs.Term.{term_size};
 ghost use Rattle.slotted_theory.specs.Nameless.{nameless};
 ghost use Rattle.slotted_theory.specs.Derives.{Equal};
 ghost use Rattle.slotted_languages.specs.NodeTerm.{nameless_node};
 ghost use Rattle.slotted_model.specs.Growth.{Extends};
 ghost use Rattle.slotted_model.specs.Classes.{IsFull, Canonical, term_of, layer_of};
 ghost use Rattle.slotted_model.specs.Ids.{id_of, id_of_node};
+ghost use Rattle.slotted_terms.specs.Outcome.{Answers};
+ghost use Rattle.slotted_terms.specs.Parsed.{TextReads};
+ghost use Rattle.slotted_terms.specs.Valid.{IsValidTerm};
 ghost use Rattle.slotted_core.specs.Image.{no_classes, FoundAlike, asserted_in, AreDerivable, AddsClasses, IsUnion};
-ghost use Rattle.slotted_core.specs.Graph.{IsValidId, IsValidNode, IsValidTerm, HasNewClass};
+ghost use Rattle.slotted_core.specs.Graph.{IsValidId, IsValidNode, HasNewClass};
 ghost use Rattle.slotted_core.specs.Nodes.{to_applied};
+ghost use Rattle.slotted_core.specs.Places.{term_places};
+ghost use Rattle.slotted_core.specs.SmallNodes.{HasSmallNodes};
 
 use crate::kernel::Core;
 use crate::terms::is_valid_term;
@@ -113,6 +118,9 @@ impl<L: Language, N: Drop> EGraph<L, N> {
     pub fn is_valid_expr(&self, term: &RecExpr<L>) -> bool
         ensures failed { IsTrue result → self.now.failed ≡ false }
         ensures valid { IsTrue result → IsValidTerm self.now.table term.now }
+
+        // No term shows the ids inside its nodes: so a yes is promised where no node that could stand in the term is too large.
+        ensures exact { self.now.failed ≡ false → IsValidTerm self.now.table term.now → HasSmallNodes L.form term.now → IsTrue result }
     {
         !self.failed && is_valid_term(&self.table, term)
     }
@@ -181,6 +189,27 @@ impl<L: Language, N: Drop> EGraph<L, N> {
         Ok(id)
     }
 
+    /// The term that a text writes, as `RecExpr::parse` reads it: each slot's name is looked up or kept in the graph's table.
+    /// A text that is refused does not fail the graph, and the names that were read before it stay in the table.
+    pub fn parse_expr(&mut self, text: &str) -> Result<RecExpr<L>, Error>
+        // The answer is that of the text over the graph's table, and it can be added.
+        ensures answer { self.old.failed ≡ false → Answers (λ o. TextReads L.read self.old.table (chars text.now) o self.new.table) result }
+        ensures valid { IfOk result (λ t. IsValidTerm self.new.table t) }
+
+        // Only the table changes, and on a failed graph nothing does.
+        ensures image { self.new.image ≡ self.old.image }
+        ensures same { self.new.failed ≡ self.old.failed }
+        ensures more { KnowsMore self.old.table self.new.table }
+        ensures stays { IsTrue self.old.failed → self.new ≡ self.old }
+
+        ensures failed { IsErrOf result Error.Failed ↔ IsTrue self.old.failed }
+    {
+        if self.failed {
+            return Err(Error::Failed);
+        }
+        RecExpr::parse(self.alloc, text, &mut self.table)
+    }
+
     /// The id of a term: from below, each node's class, or a new one where there is none.
     pub fn add_expr(&mut self, term: &RecExpr<L>) -> Result<AppliedId, Error>
         requires { IsTrue self.old.failed ⊎ IsValidTerm self.old.table term.now }
@@ -197,7 +226,7 @@ impl<L: Language, N: Drop> EGraph<L, N> {
 
         ensures failed { IsErrOf result Error.Failed ↔ IsTrue self.old.failed }
         ensures fails { IsTrue self.new.failed ↔ IsErr result }
-        ensures full { IsErrOf result Error.OutOfSlots → (self.new.table.fresh ≡ 2 ^ 30) ⊎ (2 ^ 30 ≤ term_size term.now) }
+        ensures full { IsErrOf result Error.OutOfSlots → (self.new.table.fresh ≡ 2 ^ 30) ⊎ (2 ^ 30 ≤ term_places term.now) }
         ensures only { IfErr result (λ e. (e ≡ Error.Failed) ⊎ IsShortage e) }
     {
         if self.failed {

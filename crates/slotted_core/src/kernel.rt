@@ -1,6 +1,5 @@
 //! The lists of a graph: its classes, and the filed nodes by shape.
 ghost use Rattle.std.specs.Prelude.{◌≡◌, ◌≤◌, ◌<◌, ◌↔◌, ◌⊎◌, ◌^◌, ◌∷◌, [], length, IsTrue, IfOk, IfErr, OnOk, IsErrOf, Option, None, option_map, string_bytes, All};
-ghost use Rattle.slotted_theory.specs.Term.{term_size};
 ghost use Rattle.slotted_theory.specs.FiniteMaps.{IsInjectiveMap};
 ghost use Rattle.slotted_slots.specs.Error.{IsOutOfMemory, IsShortage};
 ghost use Rattle.slotted_slots.specs.Maps.{keys, values};
@@ -12,10 +11,11 @@ ghost use Rattle.slotted_model.specs.Classes.{IsFull, term_of};
 ghost use Rattle.slotted_model.specs.Ids.{id_of_node};
 ghost use Rattle.slotted_proofs.specs.Equations.{Meets};
 ghost use Rattle.slotted_proofs.specs.Entries.{statement_at, asserted_entry, turned_entry, composite_entry};
-ghost use Rattle.slotted_core.specs.Graph.{AllKnown, IsWhole};
+ghost use Rattle.slotted_terms.specs.Valid.{AllKnown, IsWhole};
 ghost use Rattle.slotted_core.specs.Kept.{Good, HasFreshSlots, Adds, AddsTerm, MakesClass, EntersIn, nothing, nodes_of, entries_of, proofs_of, find_at, found, with_filed, with_linked};
 ghost use Rattle.slotted_core.specs.Names.{between};
 ghost use Rattle.slotted_core.specs.Nodes.{to_applied, child_ids};
+ghost use Rattle.slotted_core.specs.Places.{term_places};
 
 use crate::names::{
     PLACES, map_between, places_are_known, put_at_places, renew_values, values_are_keys,
@@ -323,7 +323,7 @@ impl<L: Language> Core<L> {
         requires whole { IsWhole term.now.args }
         ensures ok { IfOk result (λ a. AddsTerm table.new self.old self.new term.now (to_applied a)) }
         ensures more { KnowsMore table.old table.new }
-        ensures full { IsErrOf result Error.OutOfSlots → (table.new.fresh ≡ 2 ^ 30) ⊎ (2 ^ 30 ≤ term_size term.now) }
+        ensures full { IsErrOf result Error.OutOfSlots → (table.new.fresh ≡ 2 ^ 30) ⊎ (2 ^ 30 ≤ term_places term.now) }
         ensures err { IfErr result IsShortage }
     {
         let mut node = term.node.copy(alloc)?;

@@ -1,7 +1,8 @@
 //! Maps of names that a new class and an answer take.
 ghost use Rattle.std.specs.Prelude.{◌≡◌, ◌↔◌, ◌+◌, ◌<◌, ◌≤◌, ◌^◌, ℕ, length, Contains, IsTrue, IfOk, IfErr, OnOk};
 ghost use Rattle.slotted_theory.specs.FiniteMaps.{IsInjectiveMap};
-ghost use Rattle.slotted_core.specs.Graph.{AllKnown};
+ghost use Rattle.slotted_slots.specs.Ascending.{IsAscending};
+ghost use Rattle.slotted_terms.specs.Valid.{AllKnown};
 ghost use Rattle.slotted_slots.specs.Error.{IsOutOfMemory};
 ghost use Rattle.slotted_slots.specs.Maps.{keys, values};
 ghost use Rattle.slotted_slots.specs.Table.{KnowsMore};

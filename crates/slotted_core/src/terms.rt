@@ -2,8 +2,9 @@
 ghost use Rattle.std.specs.Prelude.{◌≡◌, ◌↔◌, ◌<◌, ◌⊎◌, ℕ, length, IsTrue, slice_index};
 ghost use Rattle.slotted_slots.specs.Table.{is_known};
 ghost use Rattle.slotted_languages.specs.Form.{IsSmall};
-ghost use Rattle.slotted_core.specs.Graph.{IsValidTerm};
+ghost use Rattle.slotted_terms.specs.Valid.{IsValidTerm};
 ghost use Rattle.slotted_core.specs.Nodes.{IsChildPlace};
+ghost use Rattle.slotted_core.specs.SmallNodes.{HasSmallNodes};
 
 use crate::names::PLACES;
 use slotted_languages::Language;
@@ -13,7 +14,7 @@ use slotted_terms::expr::RecExpr;
 // Whether the place is one of a child.
 fn is_child_place<L: Language>(node: &L, i: usize) -> bool
     requires { IsSmall (L.form node.now) }
-    ensures { IsTrue result → IsChildPlace (L.form node.now).tree i }
+    ensures { IsTrue result ↔ IsChildPlace (L.form node.now).tree i }
 {
     for k in 0..node.applied_id_count() {
         let place = node.applied_id_place(k);
@@ -28,7 +29,7 @@ fn is_child_place<L: Language>(node: &L, i: usize) -> bool
 fn is_known_place<L: Language>(table: &SlotTable, node: &L, i: usize) -> bool
     requires small { IsSmall (L.form node.now) }
     requires within { i < length (L.form node.now).names }
-    ensures { IsTrue result → IsChildPlace (L.form node.now).tree i ⊎ IsTrue (is_known table.now (slice_index (L.form node.now).names i)) }
+    ensures { IsTrue result ↔ (IsChildPlace (L.form node.now).tree i ⊎ IsTrue (is_known table.now (slice_index (L.form node.now).names i))) }
 {
     if is_child_place(node, i) {
         return true;
@@ -39,7 +40,7 @@ fn is_known_place<L: Language>(table: &SlotTable, node: &L, i: usize) -> bool
 // Whether the table knows the slots at the node's own places and binders. Children are not looked at.
 fn own_places_are_known<L: Language>(table: &SlotTable, node: &L) -> bool
     requires { IsSmall (L.form node.now) }
-    ensures { IsTrue result → (i : ℕ) → i < length (L.form node.now).names → IsChildPlace (L.form node.now).tree i ⊎ IsTrue (is_known table.now (slice_index (L.form node.now).names i)) }
+    ensures { IsTrue result ↔ ((i : ℕ) → i < length (L.form node.now).names → IsChildPlace (L.form node.now).tree i ⊎ IsTrue (is_known table.now (slice_index (L.form node.now).names i))) }
 {
     for i in 0..node.slot_count() {
         if !is_known_place(table, node, i) {
@@ -54,6 +55,7 @@ fn own_places_are_known<L: Language>(table: &SlotTable, node: &L) -> bool
 pub(crate) fn is_valid_term<L: Language>(table: &SlotTable, term: &RecExpr<L>) -> bool
     ensures operator { 0 < term.now.op }
     ensures valid { IsTrue result → IsValidTerm table.now term.now }
+    ensures exact { IsValidTerm table.now term.now → HasSmallNodes L.form term.now → IsTrue result }
 {
     let node = &term.node;
     if node.applied_id_count() != term.children.len() || node.slot_count() >= PLACES {

@@ -1,6 +1,6 @@
 //! Alpha-equality through the graph, by worked terms.
 use crate::egraph::EGraph;
-use slotted_languages::{Bind, Small};
+use slotted_languages::{Bind, Language, Small};
 use slotted_slots::{AppliedId, Error, Slot, SlotTable};
 use slotted_terms::expr::RecExpr;
 use std::alloc::Global;
@@ -45,6 +45,12 @@ fn put(graph: &mut Graph, term: &RecExpr<Small>) -> Result<AppliedId, Error> {
     } else {
         Err(Error::NotATerm)
     }
+}
+
+// The id of the term that a text writes.
+fn put_text<L: Language>(graph: &mut EGraph<L>, text: &str) -> Result<AppliedId, Error> {
+    let term = graph.parse_expr(text)?;
+    graph.add_expr(&term)
 }
 
 // The class of a node, if the node is valid.
@@ -112,6 +118,15 @@ fn captures(alloc: Global) -> Result<bool, Error> {
     Ok(equal(&graph, &a, &b)? && !equal(&graph, &a, &c)?)
 }
 
+// `$x` is the same name in each of the texts, and a bound one may be another.
+fn texts(alloc: Global) -> Result<bool, Error> {
+    let mut graph: Graph = EGraph::new(alloc, SlotTable::new(alloc), ())?;
+    let first = put_text(&mut graph, "(lam $y (app (var $y) (var $x)))")?;
+    let second = put_text(&mut graph, "(lam $z (app (var $z) (var $x)))")?;
+    let third = put_text(&mut graph, "(lam $x (app (var $x) (var $y)))")?;
+    Ok(equal(&graph, &first, &second)? && !equal(&graph, &first, &third)?)
+}
+
 #[test]
 fn bound_names_do_not_matter(rt: HostRuntime) {
     assert!(rt; matches!(variables(rt.alloc()), Ok(true)));
@@ -120,4 +135,9 @@ fn bound_names_do_not_matter(rt: HostRuntime) {
 #[test]
 fn nothing_is_captured(rt: HostRuntime) {
     assert!(rt; matches!(captures(rt.alloc()), Ok(true)));
+}
+
+#[test]
+fn texts_share_the_table(rt: HostRuntime) {
+    assert!(rt; matches!(texts(rt.alloc()), Ok(true)));
 }

@@ -5,8 +5,10 @@ pub mod Written
 pub mod Joined
 pub mod Equal
 pub mod PairEqual
+pub mod ReadFrom
 pub mod Small
 pub mod SmallSame
+pub mod SmallRead
 pub mod SmallBack
 pub mod Filled
 pub mod Outline

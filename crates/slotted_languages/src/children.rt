@@ -7,6 +7,7 @@ ghost use Rattle.slotted_slots.specs.Syntax.{Element, element_of, applied, name}
 ghost use Rattle.slotted_languages.specs.Form.{Form, IsSmall, children, child_names, child_place, scopes, scope_end_of, with_name, with_child, slot_form, child_form, bind_form};
 ghost use Rattle.slotted_languages.specs.Equal.{applied_id_same, child_form_fits, bind_form_fits, bind_form_few, bind_same, slot_same};
 ghost use Rattle.slotted_languages.specs.Public.{IsPublic, is_public};
+ghost use Rattle.slotted_languages.specs.ReadFrom.{IsReadFrom, slot_faithful, child_faithful, bind_faithful};
 ghost use Rattle.slotted_languages.specs.Written.{read_slot, read_child, read_bind};
 
 use slotted_slots::{AppliedId, Error, Slot, SyntaxElem};
@@ -133,6 +134,9 @@ pub trait LanguageChildren: Debug + Clone + Hash + Eq + Drop {
 
     // Two parts are equal exactly if operator, payloads, places and children are.
     ghost same: { (a b : Self) → IsTrue (Self.eq a b) ↔ form a ≡ form b };
+
+    // What is read makes up neither slots nor children: it has those of the elements.
+    ghost faithful: { (es : List Element) → IfSome (read es) (IsReadFrom es) };
 }
 
 impl LanguageChildren for Slot {
@@ -147,6 +151,8 @@ impl LanguageChildren for Slot {
     ghost few = { λ _. lit< tt };
 
     ghost same = { slot_same };
+
+    ghost faithful = { slot_faithful };
 
     fn copy(&self, alloc: Global) -> Result<Self, Error> {
         Ok(*self)
@@ -211,6 +217,8 @@ impl LanguageChildren for AppliedId {
     ghost few = { λ _. lit< tt };
 
     ghost same = { applied_id_same };
+
+    ghost faithful = { child_faithful };
 
     fn copy(&self, alloc: Global) -> Result<Self, Error> {
         AppliedId::copy(self, alloc)
@@ -281,6 +289,8 @@ impl<T: LanguageChildren> LanguageChildren for Bind<T> {
     ghost few = { λ b. bind_form_few b.slot (T.form b.elem) (T.few b.elem) };
 
     ghost same = { λ a b. bind_same (T.eq a.elem b.elem) a.slot b.slot (T.form a.elem) (T.form b.elem) (T.same a.elem b.elem) };
+
+    ghost faithful = { bind_faithful T.read T.faithful };
 
     fn copy(&self, alloc: Global) -> Result<Self, Error> {
         Ok(Bind {

@@ -20,9 +20,10 @@
 //!    elements are read as which forms (`read`).
 //! 3. The calls. A variant with one field passes each call on to the field, and one with two to the call of that name
 //!    in [`pair`], which reads two fields as one list of places and of children.
-//! 4. The three laws, by cases: there are as many names as the tree has places (`fits`); the children are few (`few`);
-//!    two nodes are equal exactly if their forms are (`same`). `specs/Equal.antt` has them for the fields, and
-//!    `specs/PairEqual.antt` for two fields and for a variant.
+//! 4. The four laws, by cases: there are as many names as the tree has places (`fits`); the children are few (`few`);
+//!    two nodes are equal exactly if their forms are (`same`); what is read has the slots and the children of its
+//!    elements, and makes up none (`faithful`). `specs/Equal.antt` has the first three for the fields, and
+//!    `specs/PairEqual.antt` for two fields and for a variant; `specs/ReadFrom.antt` has the last for all of these.
 //!
 //! The rest follows from the form: a write changes its place or its child alone, a child's places stand together, scopes
 //! nest or lie apart and hold whole children, and none of that depends on names.
@@ -60,5 +61,9 @@ pub use payload::Symbol;
 pub use shape::shapes_decide;
 pub use small::Small;
 
+#[cfg(test)]
+mod renaming_tests;
+#[cfg(test)]
+mod shape_tests;
 #[cfg(test)]
 mod tests;

@@ -12,6 +12,7 @@ ghost use Rattle.slotted_slots.specs.Error.{IsOutOfMemory};
 ghost use Rattle.slotted_slots.specs.Syntax.{text};
 ghost use Rattle.slotted_languages.specs.Form.{plain};
 ghost use Rattle.slotted_languages.specs.Equal.{number_told, bytes_told, plain_same};
+ghost use Rattle.slotted_languages.specs.ReadFrom.{payload_faithful};
 ghost use Rattle.slotted_languages.specs.Written.{read_payload};
 ghost use Rattle.slotted_slots.specs.Table.{reads_u32};
 
@@ -42,6 +43,8 @@ impl LanguageChildren for u32 {
     ghost few = { λ _. lit< tt };
 
     ghost same = { λ a b. plain_same (nat_eq a b) (a ∷ []) (b ∷ []) (number_told a b) };
+
+    ghost faithful = { payload_faithful (λ bs. option_map (λ n. n ∷ []) (reads_u32 bs)) };
 
     fn copy(&self, alloc: Global) -> Result<Self, Error> {
         Ok(*self)
@@ -190,6 +193,8 @@ impl LanguageChildren for Symbol {
     ghost few = { λ _. lit< tt };
 
     ghost same = { λ v w. plain_same (pointwise nat_eq v w) v w (bytes_told v w) };
+
+    ghost faithful = { payload_faithful Some };
 
     fn copy(&self, alloc: Global) -> Result<Self, Error> {
         Symbol::from_text(alloc, self.0.as_str())

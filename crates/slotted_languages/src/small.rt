@@ -4,6 +4,7 @@ ghost use Rattle.slotted_slots.specs.Error.{IsOutOfMemory};
 ghost use Rattle.slotted_slots.specs.Syntax.{element_of, applied, text};
 ghost use Rattle.slotted_languages.specs.Form.{child_form};
 ghost use Rattle.slotted_languages.specs.Small.{small_form, small_shown, small_read, alone, over_slot, over_slots, over_binder, over_children};
+ghost use Rattle.slotted_languages.specs.SmallRead.{small_faithful};
 ghost use Rattle.slotted_languages.specs.SmallSame.{small_fits, small_few, small_same};
 ghost use Rattle.slotted_slots.specs.Table.{reads_u32};
 
@@ -52,6 +53,8 @@ impl LanguageChildren for Small {
     ghost few = { small_few };
 
     ghost same = { small_same };
+
+    ghost faithful = { small_faithful };
 
     fn copy(&self, alloc: Global) -> Result<Self, Error> {
         match self {

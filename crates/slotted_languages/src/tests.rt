@@ -38,13 +38,18 @@ fn element(alloc: Global, word: &str) -> Result<SyntaxElem, Error> {
     }
 }
 
-// The part that a text writes, its elements parted by spaces.
-fn read<L: LanguageChildren>(alloc: Global, text: &str) -> Result<Option<L>, Error> {
+// The elements of a text, parted by spaces.
+pub(crate) fn elements_of(alloc: Global, text: &str) -> Result<Vec<SyntaxElem>, Error> {
     let mut elements = Vec::new(alloc);
     for word in text.split_whitespace() {
         elements.push(element(alloc, word)?)?;
     }
-    L::from_syntax(alloc, elements.as_slice())
+    Ok(elements)
+}
+
+// The part that a text writes.
+pub(crate) fn read<L: LanguageChildren>(alloc: Global, text: &str) -> Result<Option<L>, Error> {
+    L::from_syntax(alloc, elements_of(alloc, text)?.as_slice())
 }
 
 // What an element is written as: of a child its id alone.

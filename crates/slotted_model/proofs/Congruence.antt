@@ -28,7 +28,7 @@ applied-as_term : (a : Applied) → term_applied (as_term a) ≡ a
 unfolding term_applied
 applied-as_term a = ap (λ (m : List (ℕ × ℕ)). (a.0, m)) (zip-places a.1)
 
-child-applied : (P : Applied → Type 0) (op : ℕ) (payloads : List (List ℕ)) (args : DArgs) (c : IsApplied P (node op payloads args)) → applied_of payloads args ≡ c.0
+pub child-applied : (P : Applied → Type 0) (op : ℕ) (payloads : List (List ℕ)) (args : DArgs) (c : IsApplied P (node op payloads args)) → applied_of payloads args ≡ c.0
 unfolding term_applied
 child-applied P op payloads args c = ap term_applied c.1 ∙ applied-as_term c.0
 
@@ -148,20 +148,24 @@ normal_args-names P found (scope inner rest) c z h =
       | inr k ↦ In-right z (outside (free_names inner)) (free_names rest) (normal_args-names P found rest c.1 z k)
     ]
 
--- the normal form after an event is that of the normal form before it
-refined_args : (nodes : List DTerm) (older newer : List Entry) → Refines nodes older newer → (d : DArgs) → EachChild (IsValid (used_slots older) nodes) d → normal_args newer d ≡ normal_args newer (normal_args older d)
+-- where the newer find goes on from the older one, the newer normal form is that of the older normal form
+refined_args : (P : Applied → Type 0) (older newer : List Entry) → ((a : Applied) → P a → find newer a ≡ find newer (find older a)) → (d : DArgs) → EachChild P d → normal_args newer d ≡ normal_args newer (normal_args older d)
 unfolding term_applied
-refined_args nodes older newer r stop c = refl
-refined_args nodes older newer r (place x rest) c = ap (place x) (refined_args nodes older newer r rest c)
-refined_args nodes older newer r (sub op payloads args rest) c =
+refined_args P older newer r stop c = refl
+refined_args P older newer r (place x rest) c = ap (place x) (refined_args P older newer r rest c)
+refined_args P older newer r (sub op payloads args rest) c =
     let a : Applied = applied_of payloads args in
-    let v : IsValid (used_slots older) nodes a = subst (IsValid (used_slots older) nodes) (sym (child-applied (IsValid (used_slots older) nodes) op payloads args c.0)) c.0.2 in
-    let e : find newer a ≡ find newer (term_applied (as_term (find older a))) = (r a v).1 ∙ ap (find newer) (sym (applied-as_term (find older a))) in
-    λ i. child_before (as_term (e i)) (refined_args nodes older newer r rest c.1 i)
-refined_args nodes older newer r (scope inner rest) c = λ i. scope (refined_args nodes older newer r inner c.0 i) (refined_args nodes older newer r rest c.1 i)
+    let v : P a = subst P (sym (child-applied P op payloads args c.0)) c.0.2 in
+    let e : find newer a ≡ find newer (term_applied (as_term (find older a))) = r a v ∙ ap (find newer) (sym (applied-as_term (find older a))) in
+    λ i. child_before (as_term (e i)) (refined_args P older newer r rest c.1 i)
+refined_args P older newer r (scope inner rest) c = λ i. scope (refined_args P older newer r inner c.0 i) (refined_args P older newer r rest c.1 i)
 
+pub normal-goes_on : (P : Applied → Type 0) (older newer : List Entry) → ((a : Applied) → P a → find newer a ≡ find newer (find older a)) → (d : DTerm) → EachChild P d.args → normal newer d ≡ normal newer (normal older d)
+normal-goes_on P older newer r d c = ap (node d.op d.payloads) (refined_args P older newer r d.args c)
+
+-- so it is after an event
 pub refined-normal : (nodes : List DTerm) (older newer : List Entry) → Refines nodes older newer → (d : DTerm) → EachChild (IsValid (used_slots older) nodes) d.args → normal newer d ≡ normal newer (normal older d)
-refined-normal nodes older newer r d c = ap (node d.op d.payloads) (refined_args nodes older newer r d.args c)
+refined-normal nodes older newer r d c = normal-goes_on (IsValid (used_slots older) nodes) older newer (λ a v. (r a v).1) d c
 
 -- the children of a normal form are found: live classes with names for just their slots
 pub normal_args-live : (nodes : List DTerm) (found : List Entry) → Linked nodes found → (d : DArgs) → EachChild (IsValid (used_slots found) nodes) d → EachChild (IsFound found) (normal_args found d)

@@ -26,7 +26,7 @@ module _ (nodes : List DTerm) (found : List Entry) (linked : Linked nodes found)
   abbrev newer : List Entry
   newer = with_slots found c slots proof
 
-  abbrev new_entry : Entry
+  abbrev pub new_entry : Entry
   new_entry = record { class = c; pairs = identity slots; proof = proof; died = 0 }
 
   pub kept-partial : IsPartialInjection (canonical_slots nodes c) (canonical_slots nodes c) (identity slots)
@@ -36,7 +36,7 @@ module _ (nodes : List DTerm) (found : List Entry) (linked : Linked nodes found)
     injective = λ s s' t d e. (identity-pair slots s t d).1 ∙ sym (identity-pair slots s' t e).1;
   }
 
-  drop-replaces : CanReplace nodes found c new_entry
+  pub drop-replaces : CanReplace nodes found c new_entry
   drop-replaces = record {
     in_range = can.in_range;
     lives = can.lives;

@@ -39,20 +39,20 @@ module _ (proofs : List ProofEntry) (entry : ProofEntry) where
   pub equation-earlier : (q : ℕ) → q < length proofs → equation_at with_entry q ≡ equation_at proofs q
   equation-earlier q h = ap (λ (x : ProofEntry). x.equation) (get_or_append_left proofs (entry ∷ []) no_proof q h)
 
-  step-earlier : (q : ℕ) → q < length proofs → step_at with_entry q ≡ step_at proofs q
+  pub step-earlier : (q : ℕ) → q < length proofs → step_at with_entry q ≡ step_at proofs q
   step-earlier q h = ap (λ (x : ProofEntry). x.step) (get_or_append_left proofs (entry ∷ []) no_proof q h)
 
   pub equation-last : equation_at with_entry (length proofs) ≡ entry.equation
   equation-last = ap (λ (x : ProofEntry). x.equation) (get_or-append_seam proofs entry [] no_proof)
 
-  step-last : step_at with_entry (length proofs) ≡ entry.step
+  pub step-last : step_at with_entry (length proofs) ≡ entry.step
   step-last = ap (λ (x : ProofEntry). x.step) (get_or-append_seam proofs entry [] no_proof)
 
   pub longer-length : length with_entry ≡ suc (length proofs)
   longer-length = let e : length with_entry ≡ length proofs + length (entry ∷ []) = length-append proofs (entry ∷ []) in omega arith
 
   -- a number of the longer list is that of an earlier entry, or of the new one
-  earlier_or_last : (p : ℕ) → p < length with_entry → (p < length proofs) ⊎ (p ≡ length proofs)
+  pub earlier_or_last : (p : ℕ) → p < length with_entry → (p < length proofs) ⊎ (p ≡ length proofs)
   earlier_or_last p h = let e : length with_entry ≡ suc (length proofs) = longer-length in elim (cases_eq p (length proofs)) [
     | inl q ↦ inr q
     | inr n ↦ inl (omega arith)

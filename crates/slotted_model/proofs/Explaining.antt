@@ -22,7 +22,7 @@ use Rattle.slotted_model.proofs.Uniting.{half-over, found_equation-over, half-st
 use Rattle.slotted_model.proofs.Entering.{entered-proved, entered-asserted, equation-last, longer-length}
 
 -- whether two lists of pairs are the same
-pairs_cases : (A B : List (ℕ × ℕ)) → (A ≡ B) ⊎ (A ≢ B)
+pub pairs_cases : (A B : List (ℕ × ℕ)) → (A ≡ B) ⊎ (A ≢ B)
 pairs_cases [] [] = inl refl
 pairs_cases [] (q ∷ B) = inr (λ e. let l : ◌≡◌ {A = ℕ} 0 (length (q ∷ B)) = ap (λ (L : List (ℕ × ℕ)). length L) e in omega arith)
 pairs_cases (p ∷ A) [] = inr (λ e. let l : length (p ∷ A) ≡ 0 = ap (λ (L : List (ℕ × ℕ)). length L) e in omega arith)
@@ -58,10 +58,10 @@ equation_cases d e = elim (cases_eq d.left e.left) [
 ]
 
 -- whether an equation stands in the list
-abbrev Stands : List ProofEntry → Equation → Type 0
+abbrev pub Stands : List ProofEntry → Equation → Type 0
 Stands proofs e = (p : ℕ) × (p < length proofs) × (equation_at proofs p ≡ e)
 
-stands_cases : (proofs : List ProofEntry) (e : Equation) → Stands proofs e ⊎ ((p : ℕ) → p < length proofs → equation_at proofs p ≢ e)
+pub stands_cases : (proofs : List ProofEntry) (e : Equation) → Stands proofs e ⊎ ((p : ℕ) → p < length proofs → equation_at proofs p ≢ e)
 stands_cases [] e = inr (λ p h. absurd (omega arith))
 stands_cases (x ∷ proofs) e = elim (equation_cases x.equation e) [
   | inl q ↦ inl (0, omega arith, q)
@@ -76,22 +76,22 @@ stands_cases (x ∷ proofs) e = elim (equation_cases x.equation e) [
     other n m (suc p) h = m p (omega arith)
 
 -- a list that is proved, and goes on from another without asserting more
-record Grown (nodes : List DTerm) (proofs longer : List ProofEntry) : Type 0 where
-  more : List ProofEntry
-  is : longer ≡ proofs ++ more
-  proved : Proved nodes longer
-  asserts : asserted nodes longer ≡ asserted nodes proofs
+pub record Grown (nodes : List DTerm) (proofs longer : List ProofEntry) : Type 0 where
+  pub more : List ProofEntry
+  pub is : longer ≡ proofs ++ more
+  pub proved : Proved nodes longer
+  pub asserts : asserted nodes longer ≡ asserted nodes proofs
 
 -- and has an equation
-record Reached (nodes : List DTerm) (proofs : List ProofEntry) (e : Equation) : Type 0 where
-  longer : List ProofEntry
-  grown : Grown nodes proofs longer
-  stands : Stands longer e
+pub record Reached (nodes : List DTerm) (proofs : List ProofEntry) (e : Equation) : Type 0 where
+  pub longer : List ProofEntry
+  pub grown : Grown nodes proofs longer
+  pub stands : Stands longer e
 
 grown-same : (nodes : List DTerm) (proofs : List ProofEntry) → Proved nodes proofs → Grown nodes proofs proofs
 grown-same nodes proofs p = record { more = []; is = sym (append-nil proofs); proved = p; asserts = refl }
 
-grown-then : (nodes : List DTerm) (f g h : List ProofEntry) → Grown nodes f g → Grown nodes g h → Grown nodes f h
+pub grown-then : (nodes : List DTerm) (f g h : List ProofEntry) → Grown nodes f g → Grown nodes g h → Grown nodes f h
 grown-then nodes f g h a b = record {
   more = a.more ++ b.more;
   is = b.is ∙ (ap (λ l. l ++ b.more) a.is ∙ append_assoc f a.more b.more);
@@ -117,7 +117,7 @@ grown-exact nodes found proofs longer g x = record {
 }
 
 -- an equation that stands in a list stands in each that goes on from it
-grown-stands : (nodes : List DTerm) (proofs longer : List ProofEntry) (e : Equation) → Grown nodes proofs longer → Stands proofs e → Stands longer e
+pub grown-stands : (nodes : List DTerm) (proofs longer : List ProofEntry) (e : Equation) → Grown nodes proofs longer → Stands proofs e → Stands longer e
 grown-stands nodes proofs longer e g s =
     let l : s.0 < length proofs = s.1 in
     let m : length proofs ≤ length longer = grown-length nodes proofs longer g in
@@ -142,12 +142,12 @@ enter nodes proofs p e o s silent c = elim (stands_cases proofs e) [
       }
 ]
 
-enter_transitive : (nodes : List DTerm) (proofs : List ProofEntry) → Proved nodes proofs → (e first second : Equation) → IsOver nodes e → IsTransitive e first second → Stands proofs first → Stands proofs second → Reached nodes proofs e
+pub enter_transitive : (nodes : List DTerm) (proofs : List ProofEntry) → Proved nodes proofs → (e first second : Equation) → IsOver nodes e → IsTransitive e first second → Stands proofs first → Stands proofs second → Reached nodes proofs e
 enter_transitive nodes proofs p e first second o t a b =
     enter nodes proofs p e o (transitive a.0 b.0) (λ pair. refl)
     (a.1, b.1, subst (λ q. IsTransitive e q (equation_at proofs b.0)) (sym a.2) (subst (IsTransitive e first) (sym b.2) t))
 
-enter_turned : (nodes : List DTerm) (proofs : List ProofEntry) → Proved nodes proofs → (e : Equation) → IsOver nodes e → Stands proofs e → Reached nodes proofs (turned_equation nodes e)
+pub enter_turned : (nodes : List DTerm) (proofs : List ProofEntry) → Proved nodes proofs → (e : Equation) → IsOver nodes e → Stands proofs e → Reached nodes proofs (turned_equation nodes e)
 enter_turned nodes proofs p e o a =
     let P : List ℕ = canonical_slots nodes e.left in
     let Q : List ℕ = canonical_slots nodes e.right in

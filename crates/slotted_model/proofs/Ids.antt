@@ -23,10 +23,10 @@ use Rattle.slotted_model.proofs.Children.{EachChild-map, expand-child, expand-as
 use Rattle.slotted_model.proofs.Full.{full-ascending, full-children, term_of-layer}
 use Rattle.slotted_model.proofs.Unique.{same_layers}
 
-term_eq-true : (d e : DTerm) → term_eq d e ≡ true → d ≡ e
+pub term_eq-true : (d e : DTerm) → term_eq d e ≡ true → d ≡ e
 term_eq-true d e p = ap first_child (args_eq-true (child_before d stop) (child_before e stop) p)
 
-term_eq-same : (d e : DTerm) → d ≡ e → term_eq d e ≡ true
+pub term_eq-same : (d e : DTerm) → d ≡ e → term_eq d e ≡ true
 term_eq-same d e p = ap (term_eq d) (sym p) ∙ args_eq-same (child_before d stop)
 
 first_here : (s c : DTerm) (cs : List DTerm) → term_eq (shape c) s ≡ true → first_shaped s (c ∷ cs) ≡ Some 0

@@ -18,13 +18,13 @@ module _ (nodes : List DTerm) (found : List Entry) (linked : Linked nodes found)
   abbrev pub link_map : List (ℕ × ℕ)
   link_map = turned (canonical_slots nodes e.right) e.pairs
 
-  abbrev new_entry : Entry
+  abbrev pub new_entry : Entry
   new_entry = record { class = e.right; pairs = link_map; proof = proof; died = moment }
 
   right-stays : e.right ≢ e.left
   right-stays p = can.different (sym p)
 
-  link-replaces : CanReplace nodes found e.left new_entry
+  pub link-replaces : CanReplace nodes found e.left new_entry
   link-replaces = record {
     in_range = can.over.left;
     lives = can.left_lives;

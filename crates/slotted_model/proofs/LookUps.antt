@@ -11,6 +11,7 @@ use Rattle.slotted_theory.proofs.Values.{node, child_before}
 use Rattle.slotted_model.specs.Applied.{Applied, keys, with_values, renamed_id, as_term}
 use Rattle.slotted_model.specs.Classes.{canonical_node, IsFull, Canonical}
 use Rattle.slotted_model.specs.LookUp.{both, look_up_args, look_up}
+pub use Rattle.slotted_model.specs.LookUp.{Renames}
 use Rattle.slotted_model.specs.Ids.{id_of_node, id_of}
 use Rattle.slotted_model.proofs.Members.{In}
 use Rattle.slotted_model.proofs.Sets.{In-ascending}
@@ -19,10 +20,6 @@ use Rattle.slotted_model.proofs.Maps.{filled-with_values}
 use Rattle.slotted_model.proofs.Children.{moved-as_term}
 use Rattle.slotted_model.proofs.Full.{full-renamed}
 use Rattle.slotted_model.proofs.Ids.{Stands, id_of_node-some, id_of_node-full, id_of_node-none}
-
--- the answers for nodes are renamed with the nodes
-abbrev pub Renames : (DTerm → Option Applied) → Type 0
-Renames look = (f : ℕ → ℕ) → IsInjective f → (d : DTerm) → look (moved f d) ≡ option_map (renamed_id f) (look d)
 
 place-moved : (f : ℕ → ℕ) (x : ℕ) (o : Option DArgs) → option_map (place (f x)) (option_map (moved_args f) o) ≡ option_map (moved_args f) (option_map (place x) o)
 place-moved f x None = refl

@@ -101,7 +101,7 @@ renamed_filling nodes given a b c f g =
       renames = λ i. (class i, e i);
     }
 
-with_values-then : (f g : ℕ → ℕ) (m : List (ℕ × ℕ)) → with_values g (with_values f m) ≡ with_values (λ x. g (f x)) m
+pub with_values-then : (f g : ℕ → ℕ) (m : List (ℕ × ℕ)) → with_values g (with_values f m) ≡ with_values (λ x. g (f x)) m
 with_values-then f g [] = refl
 with_values-then f g (p ∷ m) = ap (λ l. (p.0, g (f p.1)) ∷ l) (with_values-then f g m)
 

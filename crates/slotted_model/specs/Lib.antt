@@ -17,3 +17,16 @@ pub mod Sound
 pub mod SoundnessClaims
 pub mod Normal
 pub mod Explained
+pub mod State
+pub mod Rest
+pub mod RestClaims
+pub mod Changes
+pub mod Rebuild
+pub mod Adding
+pub mod Value
+pub mod Closed
+pub mod Affected
+pub mod CompletenessClaims
+pub mod Cost
+pub mod Extraction
+pub mod ExtractionClaims

@@ -1,8 +1,9 @@
 -- The look-up of a tree from the bottom up, where `look` answers for a node over applied ids.
-use Rattle.std.specs.Prelude.{Option, Some, None, option_map, option_and_then}
-use Rattle.slotted_theory.specs.Nameless.{DArgs, DTerm, stop, place, sub, scope}
+use Rattle.std.specs.Prelude.{◌≡◌, ℕ, Option, Some, None, option_map, option_and_then}
+use Rattle.slotted_theory.specs.Nameless.{DArgs, DTerm, stop, place, sub, scope, moved}
+use Rattle.slotted_theory.specs.Renaming.{IsInjective}
 use Rattle.slotted_theory.proofs.Values.{node, child_before}
-use Rattle.slotted_model.specs.Applied.{Applied, as_term}
+use Rattle.slotted_model.specs.Applied.{Applied, renamed_id, as_term}
 
 -- both values, if both are there
 abbrev pub both : {A B C : Type 0} → (A → B → C) → Option A → Option B → Option C
@@ -30,3 +31,7 @@ answer_or (Some a) d = as_term a
 -- the answer for a node as a term, or else the node itself: over it each tree has a value
 abbrev pub found_or : (DTerm → Option Applied) → DTerm → DTerm
 found_or look d = answer_or (look d) d
+
+-- the answers for nodes are renamed with the nodes
+abbrev pub Renames : (DTerm → Option Applied) → Type 0
+Renames look = (f : ℕ → ℕ) → IsInjective f → (d : DTerm) → look (moved f d) ≡ option_map (renamed_id f) (look d)

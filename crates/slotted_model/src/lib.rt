@@ -4,7 +4,10 @@
 
 ghost use Rattle.slotted_model.specs.Claims.{Laws};
 
+pub mod completeness;
 pub mod correspondence;
+pub mod extraction;
+pub mod rest;
 pub mod soundness;
 
 /// The laws that show the definitions to mean what they say.

@@ -166,6 +166,15 @@ fn maps_are_made_and_copied(rt: HostRuntime) -> Result<(), Error> {
 }
 
 #[test]
+fn clones_are_equal(rt: HostRuntime) -> Result<(), Error> {
+    let m = numeric_map(rt.alloc(), &[(0, 4)])?;
+    assert!(rt; m.clone()? == m);
+    let token = Token::Ident(String::from_str(rt.alloc(), "app")?);
+    assert!(rt; token.clone()? == token);
+    Ok(())
+}
+
+#[test]
 fn sets_keep_each_element_once(rt: HostRuntime) -> Result<(), Error> {
     let mut set: SmallHashSet<u32> = SmallHashSet::new(rt.alloc());
     assert!(rt; set.is_empty());

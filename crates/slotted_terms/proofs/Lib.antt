@@ -10,3 +10,5 @@ pub mod SomeReading
 pub mod StackSteps
 pub mod Tokenizing
 pub mod WholeTexts
+pub mod KnownTokens
+pub mod ValidTexts

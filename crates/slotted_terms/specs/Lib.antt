@@ -6,3 +6,4 @@ pub mod Parsed
 pub mod Tokens
 pub mod Parts
 pub mod Stack
+pub mod Valid

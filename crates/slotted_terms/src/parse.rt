@@ -1,8 +1,10 @@
 //! Terms from their texts.
+ghost use Rattle.std.specs.Prelude.{IfOk};
 ghost use Rattle.std.specs.Str.{chars};
 ghost use Rattle.slotted_slots.specs.Table.{KnowsMore};
 ghost use Rattle.slotted_terms.specs.Outcome.{Answers};
 ghost use Rattle.slotted_terms.specs.Parsed.{TextReads, ReadsOneWay, ReadsSomeWay};
+ghost use Rattle.slotted_terms.specs.Valid.{IsValidTerm};
 
 mod grammar;
 #[cfg(test)]
@@ -24,6 +26,7 @@ impl<L: Language> RecExpr<L> {
     /// token is read. A refusal leaves in the table the names that were read before it.
     pub fn parse(alloc: Global, text: &str, table: &mut SlotTable) -> Result<RecExpr<L>, Error>
         ensures answer { Answers (λ o. TextReads L.read table.old (chars text.now) o table.new) result }
+        ensures valid { IfOk result (λ t. IsValidTerm table.new t) }
         ensures more { KnowsMore table.old table.new }
     {
         let tokens = tokenize(alloc, text, table)?;

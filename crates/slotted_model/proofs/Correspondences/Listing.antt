@@ -55,7 +55,7 @@ different-cond : (b : Bool) (s : ℕ) (K : List ℕ) → (¬ Contains K s) → A
 different-cond true s K n d = (n, d)
 different-cond false s K n d = d
 
-different-filter : (f : ℕ → Bool) (P : List ℕ) → AllDifferent P → AllDifferent (filter f P)
+pub different-filter : (f : ℕ → Bool) (P : List ℕ) → AllDifferent P → AllDifferent (filter f P)
 different-filter f [] d = tt
 different-filter f (s ∷ P) d = different-cond (f s) s (filter f P) (λ c. d.0 (of_filter f P s c)) (different-filter f P d.1)
 

@@ -2,7 +2,8 @@ use Rattle.std.proofs.Common.{◌≡◌, ◌∙◌, ap, sym, subst, inl, inr}
 use Rattle.std.specs.Prelude.{IsTrue}
 use Rattle.std.proofs.lemmas.Bool.{false≢true}
 use Rattle.slotted_slots.specs.Table.{Table, is_known}
-use Rattle.slotted_core.specs.Graph.{Graph, AllKnown}
+use Rattle.slotted_terms.specs.Valid.{AllKnown}
+use Rattle.slotted_core.specs.Graph.{Graph}
 use Rattle.slotted_core.specs.Kept.{nodes_of}
 use Rattle.slotted_core.specs.Nodes.{to_applied}
 use Rattle.slotted_core.proofs.Known.{answer_full, answer_term, answer_names}

@@ -2,7 +2,8 @@ use Rattle.std.proofs.Common.{◌≡◌, ◌∙◌, ap, sym, subst, inl, inr}
 use Rattle.std.proofs.lemmas.Bool.{false≢true}
 use Rattle.slotted_slots.specs.Table.{Table}
 use Rattle.slotted_model.proofs.Ids.{id_of-iff}
-use Rattle.slotted_core.specs.Graph.{Graph, IsValidTerm}
+use Rattle.slotted_terms.specs.Valid.{IsValidTerm}
+use Rattle.slotted_core.specs.Graph.{Graph}
 use Rattle.slotted_core.specs.Kept.{nodes_of}
 use Rattle.slotted_core.specs.Nodes.{to_applied}
 use Rattle.slotted_theory.specs.Nameless.{nameless}

@@ -1,12 +1,14 @@
-use Rattle.std.proofs.Common.{◌≡◌, ◌<◌, ◌+◌, ◌∙◌, ℕ, List, length, ap, sym, subst, arith, rules, inl, inr}
+use Rattle.std.proofs.Common.{◌≡◌, ◌<◌, ◌≤◌, ◌+◌, ◌∙◌, ℕ, List, length, get_or, ap, sym, subst, arith, rules, inl, inr}
 use Rattle.slotted_theory.specs.Term.{Term, term_size}
 use Rattle.slotted_languages.specs.Form.{Form}
 use Rattle.slotted_languages.specs.Filled.{term_of}
-use Rattle.slotted_core.specs.Graph.{IsWhole}
+use Rattle.slotted_terms.specs.Valid.{IsWhole}
 use Rattle.slotted_core.specs.Kept.{AddsTerm}
 use Rattle.slotted_core.specs.Nodes.{to_applied}
+use Rattle.slotted_core.specs.Places.{term_places}
 use Rattle.slotted_core.proofs.Grown.{IsPart, part_start, part_step, part_full, part_end, part_size}
 use Rattle.slotted_core.proofs.Layers.{whole_count, whole_each, each_at, any_default, child_smaller}
+use Rattle.slotted_core.proofs.Sizes.{child_places_fit}
 use Rattle.slotted_core.proofs.kernel.Core.+add_expr.Goals as goal
 
 pub add_expr-requires : goal.add_expr-requires
@@ -77,11 +79,11 @@ returns-in_err-answer-clause-full g t c e =
     let us : List Term = c.deref-child-items.result.now in
     let view : term_of (form c.in_ok-node.node) us ≡ c.args.term.now = (λ i. term_of (form (c.in_ok-node.ensures.ok i)) (c.deref-child-items.ensures.value i)) ∙ c.term.view_is in
     let l : c.loop-k.k < length us = omega (arith, c.loop-k-test.true, c.deref-child-items.ensures.len) in
-    let small : term_size c.child-item.result < term_size c.args.term.now =
-    subst (λ (x : Term). term_size c.child-item.result < term_size x) view (subst (λ (x : Term). term_size x < term_size (term_of (form c.in_ok-node.node) us)) (sym c.child-item.is) (child_smaller (form c.in_ok-node.node) us c.loop-k.k c.child-item.result l)) in
+    let fits : term_places c.child-item.result ≤ term_places c.args.term.now =
+    subst (λ (x : Term). term_places c.child-item.result ≤ term_places x) view (subst (λ (x : Term). term_places x ≤ term_places (term_of (form c.in_ok-node.node) us)) (sym c.child-item.is) (child_places_fit (form c.in_ok-node.node) us c.loop-k.k c.child-item.result l)) in
     elim (c.in_err-answer.ensures.full (search rules)) [
       | inl a ↦ inl a
-      | inr b ↦ inr (omega (arith, b, small))
+      | inr b ↦ inr (omega (arith, b, fits))
     ]
 
 pub returns-in_err-answer-2-clause-full : goal.returns-in_err-answer-2-clause-full
@@ -96,7 +98,7 @@ returns-in_err-answer-2-clause-full g t c e =
     (subst (λ (i : ℕ). IsPart c.args.self.now c.loop-k.table c.loop-k.self f (form c.loop-k.node) us i) k c.loop-k.invariant.part) n in
     elim (c.in_err-answer-2.ensures.full (search rules)) [
       | inl a ↦ inl a
-      | inr b ↦ inr (omega (arith, b, s, ap term_size view))
+      | inr b ↦ inr (omega (arith, b, s, ap term_places view))
     ]
 
 pub loop-k-init : goal.loop-k-init

@@ -5,6 +5,7 @@ use Rattle.slotted_slots.specs.Syntax.{lexeme_of}
 use Rattle.slotted_terms.specs.Tokens.{HasBadToken}
 use Rattle.slotted_terms.specs.Parsed.{TokensRead, TextReads, without_tokens, by_tokens}
 use Rattle.slotted_terms.proofs.Refusals.{Refuses-weaker, Answers-weaker}
+use Rattle.slotted_terms.proofs.ValidTexts.{answer_valid}
 use Rattle.slotted_terms.proofs.expr.RecExpr.parse.Goals as goal
 
 pub returns-in_err-tokens-clause-answer : goal.returns-in_err-tokens-clause-answer
@@ -16,3 +17,7 @@ returns-in_err-tokens-clause-answer g c =
 pub returns-clause-answer : goal.returns-clause-answer
 returns-clause-answer g c =
     Answers-weaker (TokensRead g.L.LanguageChildren.read (map lexeme_of c.in_ok-tokens.tokens.items)) (λ o. TextReads g.L.LanguageChildren.read c.args.table.now (chars c.args.text.now) o c.tokenize.new.table) c.parse_tokens.result c.parse_tokens.ensures (λ o h. by_tokens c.in_ok-tokens.ensures.ok h)
+
+pub returns-clause-valid : goal.returns-clause-valid
+returns-clause-valid g c =
+    answer_valid g.L.LanguageChildren.read g.met.L.LanguageChildren.faithful c.args.table.now (chars c.args.text.now) c.tokenize.new.table c.parse_tokens.result (returns-clause-answer g c)

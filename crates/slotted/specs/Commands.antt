@@ -1,0 +1,39 @@
+-- What a line asks: a command is its word, one space and the rest.
+use Rattle.std.specs.Prelude.{ℕ, List, [], ◌∷◌, Option, Some, None, option_map, if◌then◌else◌, ◌==◌, codes}
+
+-- to add a text; to compare two texts; or nothing that is known
+pub data Command : Type 0 where
+  adds : (text : List ℕ) → Command
+  compares : (left right : List ℕ) → Command
+  no_command : Command
+
+-- what follows a word that a text begins with
+abbrev pub rest_behind : List ℕ → List ℕ → Option (List ℕ)
+rest_behind [] bs = Some bs
+rest_behind (w ∷ ws) [] = None
+rest_behind (w ∷ ws) (b ∷ bs) = if w == b then rest_behind ws bs else None
+
+-- the parts around a word that stands in front, or else these ones
+abbrev pub in_front_or : Option (List ℕ) → Option (List ℕ × List ℕ) → Option (List ℕ × List ℕ)
+in_front_or (Some rest) later = Some ([], rest)
+in_front_or None later = later
+
+-- the part of a text before the first place where a word stands, and the part that follows the word there
+abbrev pub parts_around : List ℕ → List ℕ → Option (List ℕ × List ℕ)
+parts_around w [] = in_front_or (rest_behind w []) None
+parts_around w (b ∷ bs) = in_front_or (rest_behind w (b ∷ bs)) (option_map (λ p. (b ∷ p.0, p.1)) (parts_around w bs))
+
+-- two texts to compare, where there are two
+abbrev pub comparing : Option (List ℕ × List ℕ) → Command
+comparing (Some p) = compares p.0 p.1
+comparing None = no_command
+
+-- what is asked by what follows the word `add`, and by what follows the word `eq`
+abbrev pub asked_by : Option (List ℕ) → Option (List ℕ) → Command
+asked_by (Some text) _ = adds text
+asked_by None (Some texts) = comparing (parts_around (codes " == ") texts)
+asked_by None None = no_command
+
+-- what a line asks
+unfoldable pub command_of : List ℕ → Command
+command_of line = asked_by (rest_behind (codes "add ") line) (rest_behind (codes "eq ") line)

@@ -1,0 +1,22 @@
+-- Terms at which no node of a language can have 2^30 places. The ids that stand inside a node count for its places, and a
+-- term does not show them: so this speaks of each node that could stand there.
+use Rattle.std.specs.Prelude.{◌≡◌, List}
+use Rattle.slotted_theory.specs.Term.{Args, Term, done, name, child, bind}
+use Rattle.slotted_languages.specs.Form.{Form, IsSmall}
+use Rattle.slotted_languages.specs.Filled.{term_of}
+
+-- each node that stands for the term, over whatever children, has fewer than 2^30 places
+abbrev pub IsSmallAt : {A : Type 0} → (A → Form) → Term → Type 0
+IsSmallAt {A} form u = (n : A) (us : List Term) → term_of (form n) us ≡ u → IsSmall (form n)
+
+-- the same of each term among the arguments, at any depth
+abbrev pub HasSmallParts : {A : Type 0} → (A → Form) → Args → Type 0
+HasSmallParts form done = Unit {0}
+HasSmallParts form (name x rest) = HasSmallParts form rest
+HasSmallParts form (child op payloads args rest) =
+    IsSmallAt form (record { op = op; payloads = payloads; args = args }) × HasSmallParts form args × HasSmallParts form rest
+HasSmallParts form (bind x inner rest) = HasSmallParts form inner × HasSmallParts form rest
+
+-- and of the term itself
+abbrev pub HasSmallNodes : {A : Type 0} → (A → Form) → Term → Type 0
+HasSmallNodes form u = IsSmallAt form u × HasSmallParts form u.args

@@ -1,0 +1,354 @@
+//! Shapes and renamings at nodes with several binders: worked values.
+//!
+//! The two languages here are neither written nor read: their nodes are made from their elements in order.
+ghost use Rattle.std.specs.Prelude.{ℕ, Bool, List, [], ◌∷◌, ◌&&◌, nat_eq, None, refl};
+ghost use Rattle.std.specs.Cmp.Lexicographic.{pointwise};
+ghost use Rattle.std.proofs.Common.{lit<};
+ghost use Rattle.slotted_slots.specs.declared.types.AppliedId as applied_id;
+ghost use Rattle.slotted_languages.specs.Equal.{applied_id_same, bind_form_fits, bind_same, child_form_fits, slot_same};
+ghost use Rattle.slotted_languages.specs.Form.{bind_form, child_form, join_form, slot_form};
+ghost use Rattle.slotted_languages.specs.PairEqual.{join_form_fits, join_form_same};
+
+use crate::tests::{elements_of, read};
+use crate::{Bind, Language, LanguageChildren, Small, pair};
+use slotted_slots::{AppliedId, Error, Id, Slot, SlotMap, SlotTable, SyntaxElem};
+use std::alloc::Global;
+use std::process::Abort;
+
+// A binder over a child, and a slot after it.
+#[derive(Drop, Debug, Clone, PartialEq, Eq, PartialOrd, Ord, Hash)]
+pub(crate) struct Tail(Bind<AppliedId>, Slot);
+
+impl LanguageChildren for Tail {
+    ghost form = { λ t. join_form (bind_form t.0.slot (child_form t.0.elem.id.0 t.0.elem.m)) (slot_form t.1) };
+
+    ghost shown = { λ _. [] };
+
+    ghost read = { λ _. None };
+
+    ghost fits = { λ t. join_form_fits (bind_form t.0.slot (child_form t.0.elem.id.0 t.0.elem.m)) (slot_form t.1) (bind_form_fits t.0.slot (child_form t.0.elem.id.0 t.0.elem.m) (child_form_fits t.0.elem.m)) refl };
+
+    ghost few = { λ _. lit< tt };
+
+    // It reads nothing.
+    ghost faithful = { λ _. tt };
+
+    ghost same = { λ a b. join_form_same (nat_eq a.0.slot b.0.slot && (nat_eq a.0.elem.id.0 b.0.elem.id.0 && pointwise (λ p q. nat_eq p.0 q.0 && nat_eq p.1 q.1) a.0.elem.m b.0.elem.m)) (nat_eq a.1 b.1) (bind_form a.0.slot (child_form a.0.elem.id.0 a.0.elem.m)) (slot_form a.1) (bind_form b.0.slot (child_form b.0.elem.id.0 b.0.elem.m)) (slot_form b.1) (bind_form_fits a.0.slot (child_form a.0.elem.id.0 a.0.elem.m) (child_form_fits a.0.elem.m)) (bind_form_fits b.0.slot (child_form b.0.elem.id.0 b.0.elem.m) (child_form_fits b.0.elem.m)) (record { same_operator = refl; as_many_payloads = refl; as_many_arguments = refl }) (record { same_operator = refl; as_many_payloads = refl; as_many_arguments = refl }) (bind_same (nat_eq a.0.elem.id.0 b.0.elem.id.0 && pointwise (λ p q. nat_eq p.0 q.0 && nat_eq p.1 q.1) a.0.elem.m b.0.elem.m) a.0.slot b.0.slot (child_form a.0.elem.id.0 a.0.elem.m) (child_form b.0.elem.id.0 b.0.elem.m) (applied_id_same a.0.elem b.0.elem)) (slot_same a.1 b.1) };
+
+    fn copy(&self, alloc: Global) -> Result<Self, Error> {
+        Ok(Tail(self.0.copy(alloc)?, self.1))
+    }
+
+    fn slot_count(&self) -> usize {
+        pair::slot_count(&self.0, &self.1)
+    }
+
+    fn slot(&self, i: usize) -> Slot {
+        pair::slot(&self.0, &self.1, i)
+    }
+
+    fn set_slot(&mut self, i: usize, s: Slot) {
+        pair::set_slot(&mut self.0, &mut self.1, i, s);
+    }
+
+    fn scope_end(&self, i: usize) -> Option<usize> {
+        pair::scope_end(&self.0, &self.1, i)
+    }
+
+    fn applied_id_count(&self) -> usize {
+        pair::applied_id_count(&self.0, &self.1)
+    }
+
+    fn get_applied_id(&self, k: usize) -> Option<&AppliedId> {
+        pair::get_applied_id(&self.0, &self.1, k)
+    }
+
+    fn applied_id_place(&self, k: usize) -> usize {
+        pair::applied_id_place(&self.0, &self.1, k)
+    }
+
+    fn set_applied_id(&mut self, k: usize, a: AppliedId) {
+        pair::set_applied_id(&mut self.0, &mut self.1, k, a);
+    }
+
+    fn to_syntax(&self, alloc: Global) -> Result<Vec<SyntaxElem>, Error> {
+        Ok(Vec::new(alloc))
+    }
+
+    fn from_syntax(_alloc: Global, _elements: &[SyntaxElem]) -> Result<Option<Self>, Error> {
+        Ok(None)
+    }
+}
+
+// A slot, a binder over a child, and a slot.
+#[derive(Drop, Debug, Clone, PartialEq, Eq, PartialOrd, Ord, Hash)]
+pub(crate) struct Tri(Slot, Tail);
+
+impl LanguageChildren for Tri {
+    ghost form = { λ t. join_form (slot_form t.0) (join_form (bind_form t.1.0.slot (child_form t.1.0.elem.id.0 t.1.0.elem.m)) (slot_form t.1.1)) };
+
+    ghost shown = { λ _. [] };
+
+    ghost read = { λ _. None };
+
+    ghost fits = { λ t. join_form_fits (slot_form t.0) (join_form (bind_form t.1.0.slot (child_form t.1.0.elem.id.0 t.1.0.elem.m)) (slot_form t.1.1)) refl (join_form_fits (bind_form t.1.0.slot (child_form t.1.0.elem.id.0 t.1.0.elem.m)) (slot_form t.1.1) (bind_form_fits t.1.0.slot (child_form t.1.0.elem.id.0 t.1.0.elem.m) (child_form_fits t.1.0.elem.m)) refl) };
+
+    ghost few = { λ _. lit< tt };
+
+    // It reads nothing.
+    ghost faithful = { λ _. tt };
+
+    ghost same = { λ a b. join_form_same (nat_eq a.0 b.0) ((nat_eq a.1.0.slot b.1.0.slot && (nat_eq a.1.0.elem.id.0 b.1.0.elem.id.0 && pointwise (λ p q. nat_eq p.0 q.0 && nat_eq p.1 q.1) a.1.0.elem.m b.1.0.elem.m)) && nat_eq a.1.1 b.1.1) (slot_form a.0) (join_form (bind_form a.1.0.slot (child_form a.1.0.elem.id.0 a.1.0.elem.m)) (slot_form a.1.1)) (slot_form b.0) (join_form (bind_form b.1.0.slot (child_form b.1.0.elem.id.0 b.1.0.elem.m)) (slot_form b.1.1)) refl refl (record { same_operator = refl; as_many_payloads = refl; as_many_arguments = refl }) (record { same_operator = refl; as_many_payloads = refl; as_many_arguments = refl }) (slot_same a.0 b.0) (join_form_same (nat_eq a.1.0.slot b.1.0.slot && (nat_eq a.1.0.elem.id.0 b.1.0.elem.id.0 && pointwise (λ p q. nat_eq p.0 q.0 && nat_eq p.1 q.1) a.1.0.elem.m b.1.0.elem.m)) (nat_eq a.1.1 b.1.1) (bind_form a.1.0.slot (child_form a.1.0.elem.id.0 a.1.0.elem.m)) (slot_form a.1.1) (bind_form b.1.0.slot (child_form b.1.0.elem.id.0 b.1.0.elem.m)) (slot_form b.1.1) (bind_form_fits a.1.0.slot (child_form a.1.0.elem.id.0 a.1.0.elem.m) (child_form_fits a.1.0.elem.m)) (bind_form_fits b.1.0.slot (child_form b.1.0.elem.id.0 b.1.0.elem.m) (child_form_fits b.1.0.elem.m)) (record { same_operator = refl; as_many_payloads = refl; as_many_arguments = refl }) (record { same_operator = refl; as_many_payloads = refl; as_many_arguments = refl }) (bind_same (nat_eq a.1.0.elem.id.0 b.1.0.elem.id.0 && pointwise (λ p q. nat_eq p.0 q.0 && nat_eq p.1 q.1) a.1.0.elem.m b.1.0.elem.m) a.1.0.slot b.1.0.slot (child_form a.1.0.elem.id.0 a.1.0.elem.m) (child_form b.1.0.elem.id.0 b.1.0.elem.m) (applied_id_same a.1.0.elem b.1.0.elem)) (slot_same a.1.1 b.1.1)) };
+
+    fn copy(&self, alloc: Global) -> Result<Self, Error> {
+        Ok(Tri(self.0, self.1.copy(alloc)?))
+    }
+
+    fn slot_count(&self) -> usize {
+        pair::slot_count(&self.0, &self.1)
+    }
+
+    fn slot(&self, i: usize) -> Slot {
+        pair::slot(&self.0, &self.1, i)
+    }
+
+    fn set_slot(&mut self, i: usize, s: Slot) {
+        pair::set_slot(&mut self.0, &mut self.1, i, s);
+    }
+
+    fn scope_end(&self, i: usize) -> Option<usize> {
+        pair::scope_end(&self.0, &self.1, i)
+    }
+
+    fn applied_id_count(&self) -> usize {
+        pair::applied_id_count(&self.0, &self.1)
+    }
+
+    fn get_applied_id(&self, k: usize) -> Option<&AppliedId> {
+        pair::get_applied_id(&self.0, &self.1, k)
+    }
+
+    fn applied_id_place(&self, k: usize) -> usize {
+        pair::applied_id_place(&self.0, &self.1, k)
+    }
+
+    fn set_applied_id(&mut self, k: usize, a: AppliedId) {
+        pair::set_applied_id(&mut self.0, &mut self.1, k, a);
+    }
+
+    fn to_syntax(&self, alloc: Global) -> Result<Vec<SyntaxElem>, Error> {
+        Ok(Vec::new(alloc))
+    }
+
+    fn from_syntax(_alloc: Global, _elements: &[SyntaxElem]) -> Result<Option<Self>, Error> {
+        Ok(None)
+    }
+}
+
+impl Language for Tri {
+    fn operator(&self) -> u32 {
+        0
+    }
+}
+
+// A binder over a binder and a slot: it scopes the last slot, which the inner binder does not.
+#[derive(Drop, Debug, Clone, PartialEq, Eq, PartialOrd, Ord, Hash)]
+pub(crate) struct Outer(Bind<Tail>);
+
+impl LanguageChildren for Outer {
+    ghost form = { λ t. bind_form t.0.slot (⟦<Tail as LanguageChildren>⟧.form t.0.elem) };
+
+    ghost shown = { λ _. [] };
+
+    ghost read = { λ _. None };
+
+    ghost fits = { λ t. bind_form_fits t.0.slot (⟦<Tail as LanguageChildren>⟧.form t.0.elem) (join_form_fits (bind_form t.0.elem.0.slot (child_form t.0.elem.0.elem.id.0 t.0.elem.0.elem.m)) (slot_form t.0.elem.1) (bind_form_fits t.0.elem.0.slot (child_form t.0.elem.0.elem.id.0 t.0.elem.0.elem.m) (child_form_fits t.0.elem.0.elem.m)) refl) };
+
+    ghost few = { λ _. lit< tt };
+
+    ghost faithful = { λ _. tt };
+
+    ghost same = { λ a b. bind_same (⟦<Tail as PartialEq>⟧.eq a.0.elem b.0.elem) a.0.slot b.0.slot (⟦<Tail as LanguageChildren>⟧.form a.0.elem) (⟦<Tail as LanguageChildren>⟧.form b.0.elem) (join_form_same (nat_eq a.0.elem.0.slot b.0.elem.0.slot && (nat_eq a.0.elem.0.elem.id.0 b.0.elem.0.elem.id.0 && pointwise (λ p q. nat_eq p.0 q.0 && nat_eq p.1 q.1) a.0.elem.0.elem.m b.0.elem.0.elem.m)) (nat_eq a.0.elem.1 b.0.elem.1) (bind_form a.0.elem.0.slot (child_form a.0.elem.0.elem.id.0 a.0.elem.0.elem.m)) (slot_form a.0.elem.1) (bind_form b.0.elem.0.slot (child_form b.0.elem.0.elem.id.0 b.0.elem.0.elem.m)) (slot_form b.0.elem.1) (bind_form_fits a.0.elem.0.slot (child_form a.0.elem.0.elem.id.0 a.0.elem.0.elem.m) (child_form_fits a.0.elem.0.elem.m)) (bind_form_fits b.0.elem.0.slot (child_form b.0.elem.0.elem.id.0 b.0.elem.0.elem.m) (child_form_fits b.0.elem.0.elem.m)) (record { same_operator = refl; as_many_payloads = refl; as_many_arguments = refl }) (record { same_operator = refl; as_many_payloads = refl; as_many_arguments = refl }) (bind_same (nat_eq a.0.elem.0.elem.id.0 b.0.elem.0.elem.id.0 && pointwise (λ p q. nat_eq p.0 q.0 && nat_eq p.1 q.1) a.0.elem.0.elem.m b.0.elem.0.elem.m) a.0.elem.0.slot b.0.elem.0.slot (child_form a.0.elem.0.elem.id.0 a.0.elem.0.elem.m) (child_form b.0.elem.0.elem.id.0 b.0.elem.0.elem.m) (applied_id_same a.0.elem.0.elem b.0.elem.0.elem)) (slot_same a.0.elem.1 b.0.elem.1)) };
+
+    fn copy(&self, alloc: Global) -> Result<Self, Error> {
+        Ok(Outer(self.0.copy(alloc)?))
+    }
+
+    fn slot_count(&self) -> usize {
+        self.0.slot_count()
+    }
+
+    fn slot(&self, i: usize) -> Slot {
+        self.0.slot(i)
+    }
+
+    fn set_slot(&mut self, i: usize, s: Slot) {
+        self.0.set_slot(i, s);
+    }
+
+    fn scope_end(&self, i: usize) -> Option<usize> {
+        self.0.scope_end(i)
+    }
+
+    fn applied_id_count(&self) -> usize {
+        self.0.applied_id_count()
+    }
+
+    fn get_applied_id(&self, k: usize) -> Option<&AppliedId> {
+        self.0.get_applied_id(k)
+    }
+
+    fn applied_id_place(&self, k: usize) -> usize {
+        self.0.applied_id_place(k)
+    }
+
+    fn set_applied_id(&mut self, k: usize, a: AppliedId) {
+        self.0.set_applied_id(k, a);
+    }
+
+    fn to_syntax(&self, alloc: Global) -> Result<Vec<SyntaxElem>, Error> {
+        Ok(Vec::new(alloc))
+    }
+
+    fn from_syntax(_alloc: Global, _elements: &[SyntaxElem]) -> Result<Option<Self>, Error> {
+        Ok(None)
+    }
+}
+
+impl Language for Outer {
+    fn operator(&self) -> u32 {
+        0
+    }
+}
+
+// A language whose nodes are made from a text.
+pub(crate) trait Written: Language {
+    fn written(alloc: Global, text: &str) -> Result<Self, Error>;
+}
+
+impl Written for Small {
+    fn written(alloc: Global, text: &str) -> Result<Self, Error> {
+        read::<Small>(alloc, text)?.ok_or(Error::NotATerm)
+    }
+}
+
+// A binder over a child, and a slot, of these elements.
+fn tail_of(alloc: Global, elements: &[SyntaxElem]) -> Result<Tail, Error> {
+    match elements {
+        [
+            SyntaxElem::Slot(slot),
+            SyntaxElem::AppliedId(child),
+            SyntaxElem::Slot(last),
+        ] => {
+            let (slot, elem) = (*slot, child.copy(alloc)?);
+            Ok(Tail(Bind { slot, elem }, *last))
+        }
+        _ => Err(Error::NotATerm),
+    }
+}
+
+impl Written for Tri {
+    fn written(alloc: Global, text: &str) -> Result<Self, Error> {
+        match elements_of(alloc, text)?.as_slice() {
+            [SyntaxElem::Slot(first), rest @ ..] => Ok(Tri(*first, tail_of(alloc, rest)?)),
+            _ => Err(Error::NotATerm),
+        }
+    }
+}
+
+impl Written for Outer {
+    fn written(alloc: Global, text: &str) -> Result<Self, Error> {
+        match elements_of(alloc, text)?.as_slice() {
+            [SyntaxElem::Slot(slot), rest @ ..] => Ok(Outer(Bind {
+                slot: *slot,
+                elem: tail_of(alloc, rest)?,
+            })),
+            _ => Err(Error::NotATerm),
+        }
+    }
+}
+
+// A slot as `$n` or `$fn`.
+pub(crate) fn shown(alloc: Global, slot: Slot) -> Result<String, Error> {
+    let raw = slot.raw();
+    let number = raw / 4;
+    let kind = if raw % 4 == 1 { "f" } else { "" };
+    Ok(format!(in alloc; "${kind}{number}")?)
+}
+
+// The slots at the places of a node.
+pub(crate) fn places<L: Language>(alloc: Global, node: &L) -> Result<String, Error> {
+    let count = node.slot_count();
+    if count >= 1 << 30 {
+        return Err(Error::OutOfSlots);
+    }
+    let mut text = String::new(alloc);
+    for i in 0..count {
+        if i > 0 {
+            text.push(' ')?;
+        }
+        text.push_str(shown(alloc, node.slot(i))?.as_str())?;
+    }
+    Ok(text)
+}
+
+// The places of a node, a bar, and a map.
+fn places_and_map<L: Language>(alloc: Global, node: &L, map: &SlotMap) -> Result<String, Error> {
+    let mut text = places(alloc, node)?;
+    text.push_str(" |")?;
+    for (key, value) in map.iter() {
+        let key = shown(alloc, key)?;
+        let value = shown(alloc, value)?;
+        text.push_str(format!(in alloc; " {key}->{value}")?.as_str())?;
+    }
+    Ok(text)
+}
+
+// The shape of a node and its map.
+fn shape<L: Language>(alloc: Global, node: &L) -> Result<String, Error> {
+    let (numbered, free) = node.weak_shape(alloc)?;
+    places_and_map(alloc, &numbered, &free)
+}
+
+// The same of a node that becomes its shape.
+fn shape_inplace<L: Language>(alloc: Global, mut node: L) -> Result<String, Error> {
+    let free = node.weak_shape_inplace(alloc)?;
+    places_and_map(alloc, &node, &free)
+}
+
+// Each line is a node, an arrow, and its shape.
+fn check_shapes<L: Written>(rt: &impl Abort, alloc: Global, lines: &str) -> Result<(), Error> {
+    for line in lines.lines() {
+        let (text, want) = line.split_once(" => ").unwrap_or((line, ""));
+        let node = L::written(alloc, text)?;
+        assert_eq!(rt; shape(alloc, &node)?.as_str(), want, "{line}");
+        assert_eq!(rt; shape_inplace(alloc, node)?.as_str(), want, "{line}");
+    }
+    Ok(())
+}
+
+const SMALL_SHAPES: &str = "app #7:8,9 #7:9,8 => $0 $1 $1 $0 | $0->$8 $1->$9
+lam $8 #7:8,9 => $0 $0 $1 | $1->$9";
+
+#[test]
+fn names_are_numbered_where_they_first_stand(rt: HostRuntime) -> Result<(), Error> {
+    check_shapes::<Small>(&rt, rt.alloc(), SMALL_SHAPES)
+}
+
+const TRI_SHAPES: &str = "$8 $8 #7:8 $8 => $0 $1 $1 $0 | $0->$8
+$9 $8 #7:8,9 $8 => $0 $1 $1 $0 $2 | $0->$9 $2->$8";
+
+// In the second line the binder's name is free after its scope.
+#[test]
+fn a_number_holds_in_its_scope_alone(rt: HostRuntime) -> Result<(), Error> {
+    check_shapes::<Tri>(&rt, rt.alloc(), TRI_SHAPES)
+}
+
+const OUTER_SHAPES: &str = "$8 $8 #7:8 $8 => $0 $1 $1 $0 |
+$8 $9 #7:8,9,6 $8 => $0 $1 $0 $1 $2 $0 | $2->$6
+$8 $8 #7:8,9 $9 => $0 $1 $1 $2 $2 | $2->$9";
+
+#[test]
+fn an_outer_binder_comes_back(rt: HostRuntime) -> Result<(), Error> {
+    check_shapes::<Outer>(&rt, rt.alloc(), OUTER_SHAPES)
+}

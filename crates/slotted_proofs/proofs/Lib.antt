@@ -1,0 +1,7 @@
+-- The lemmas that callers and the functions of this crate cite.
+pub mod Bridges
+pub mod NumberedSides
+pub mod Written
+pub mod Listed
+pub mod Entering
+pub mod Itself

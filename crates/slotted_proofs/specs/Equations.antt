@@ -1,0 +1,73 @@
+-- Equations of applied ids, read up to renaming, and their form with numbered names.
+--     Statement         an equation over the slots of its two classes
+--     statement_of e    what an equation of the code states
+--     IsWritten s e     the equation of the code states s, and its names are numbered from `$0` as they first occur, left side first
+use Rattle.std.specs.Prelude.{◌≡◌, ℕ, List}
+use Rattle.slotted_slots.specs.declared.types.AppliedId.{AppliedId}
+use Rattle.slotted_slots.specs.Table.{numeric_slot}
+use Rattle.slotted_model.specs.Applied.{Applied, keys}
+use Rattle.slotted_model.specs.Correspondence.{IsFullMap, with_names, numbered, identity, turned, composite}
+use Rattle.slotted_model.specs.ProofList.{Equation, equation_of}
+use Rattle.slotted_proofs.specs.declared.equation.Equation.{Equation as Sides}
+
+-- an equation up to renaming, with the slots of its two classes
+pub record Statement : Type 0 where
+  pub left_slots : List ℕ
+  pub right_slots : List ℕ
+  pub equation : Equation
+
+-- an applied id of the code
+abbrev pub to_applied : AppliedId → Applied
+to_applied a = (a.id.0, a.m)
+
+-- that two applied ids are equal
+abbrev pub equality : Applied → Applied → Statement
+equality a b = record { left_slots = keys a.1; right_slots = keys b.1; equation = equation_of a b }
+
+-- what an equation of the code states
+abbrev pub statement_of : Sides → Statement
+statement_of e = equality (to_applied e.l) (to_applied e.r)
+
+-- that a class with these slots equals itself
+abbrev pub reflexive_statement : ℕ → List ℕ → Statement
+reflexive_statement i slots = record { left_slots = slots; right_slots = slots; equation = record { left = i; right = i; pairs = identity slots } }
+
+-- the statement with its sides exchanged
+abbrev pub turned_statement : Statement → Statement
+turned_statement s = record {
+  left_slots = s.right_slots;
+  right_slots = s.left_slots;
+  equation = record { left = s.equation.right; right = s.equation.left; pairs = turned s.right_slots s.equation.pairs };
+}
+
+-- the one ends at the class, and over the slots, at which the other begins
+pub record Meets (s t : Statement) : Type 0 where
+  pub class : s.equation.right ≡ t.equation.left
+  pub slots : s.right_slots ≡ t.left_slots
+
+-- first the one, then the other: it shares just the names that go over the middle
+abbrev pub composite_statement : Statement → Statement → Statement
+composite_statement s t = record {
+  left_slots = s.left_slots;
+  right_slots = t.right_slots;
+  equation = record { left = s.equation.left; right = t.equation.right; pairs = composite s.equation.pairs t.equation.pairs };
+}
+
+-- the sides of the correspondence A between the slots P and Q, with the names `$0`, `$1` and so on as they first occur, left side first
+abbrev pub numbered_left : List ℕ → List ℕ → List (ℕ × ℕ) → List (ℕ × ℕ)
+numbered_left P Q A = with_names numeric_slot (numbered P Q A).0
+
+abbrev pub numbered_right : List ℕ → List ℕ → List (ℕ × ℕ) → List (ℕ × ℕ)
+numbered_right P Q A = with_names numeric_slot (numbered P Q A).1
+
+-- a and b are the two sides of the statement, with numbered names
+pub record AreSides (s : Statement) (a b : Applied) : Type 0 where
+  pub left : a ≡ (s.equation.left, numbered_left s.left_slots s.right_slots s.equation.pairs)
+  pub right : b ≡ (s.equation.right, numbered_right s.left_slots s.right_slots s.equation.pairs)
+  pub left_full : IsFullMap s.left_slots a.1
+  pub right_full : IsFullMap s.right_slots b.1
+  pub equation : equation_of a b ≡ s.equation
+
+-- the equation of the code is the statement in its numbered form
+abbrev pub IsWritten : Statement → Sides → Type 0
+IsWritten s e = AreSides s (to_applied e.l) (to_applied e.r)

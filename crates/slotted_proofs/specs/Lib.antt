@@ -1,0 +1,5 @@
+pub mod Equations
+pub mod Entries
+pub mod Proving
+pub mod Stored
+pub mod Claims

@@ -1,0 +1,12 @@
+//! How a graph that enters equations keeps its proof list proved.
+
+ghost use Rattle.slotted_proofs.specs.Claims.{ProofListLaws};
+
+/// The laws of entering.
+///
+/// Full ids may be asserted to be equal, each class equals itself, each entry can be turned round, and entries that meet can
+/// be put together. A list into which such a statement is entered stays proved, and storage stays sound. The entered
+/// statement stands at the answered number, and nothing is asserted but by explicit entries.
+pub fn proof_list_laws_hold()
+    ensures { ProofListLaws }
+{}

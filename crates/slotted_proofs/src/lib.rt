@@ -1,0 +1,18 @@
+//! Equations of applied ids, and the list of proved ones.
+#![tactic(auto)]
+
+pub mod equation;
+pub mod laws;
+pub mod list;
+mod numbering;
+pub mod proof;
+
+pub use equation::Equation;
+pub use list::ProofList;
+pub use proof::{
+    CongruenceProof, ExplicitProof, Proof, ProvenEq, ReflexivityProof, SymmetryProof,
+    TransitivityProof,
+};
+
+#[cfg(test)]
+mod tests;

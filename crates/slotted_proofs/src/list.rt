@@ -1,0 +1,205 @@
+//! The list of proved equations.
+ghost use Rattle.std.specs.Prelude.{◌≡◌, ◌+◌, ◌^◌, ◌<◌, ◌≤◌, ◌↔◌, ℕ, [], length, IsTrue, IfSome, IfNone, IfOk, IfErr, OnErr, IsErrOf, option_map, string_bytes};
+ghost use Rattle.slotted_theory.specs.FiniteMaps.{IsInjectiveMap};
+ghost use Rattle.slotted_slots.specs.Error.{IsOutOfMemory, IsShortage};
+ghost use Rattle.slotted_model.specs.Applied.{keys};
+ghost use Rattle.slotted_proofs.specs.Equations.{to_applied, equality, statement_of, Meets, IsWritten};
+ghost use Rattle.slotted_proofs.specs.Entries.{proven_at, statement_at, step_of, text_of, proven_of, Stands, IsNew, Enters, asserted_entry, reflexive_entry, turned_entry, composite_entry};
+
+use crate::equation::Equation;
+use crate::numbering::{numbered, numbered_itself};
+use crate::proof::{
+    ExplicitProof, Proof, ProvenEq, ReflexivityProof, SymmetryProof, TransitivityProof,
+};
+use indexmap::IndexMap;
+use slotted_slots::{AppliedId, Error};
+use std::alloc::Global;
+use std::marker::Model;
+
+/// The proved equations, each once, in the order in which they were entered.
+///
+/// It is seen as the list of its entries: an entry has its equation up to renaming, the slots of its two classes, its step,
+/// and the text of an asserted one. The equations that it holds have numbered names.
+#[derive(Drop)]
+pub struct ProofList {
+    entries: IndexMap<Equation, Proof>,
+}
+
+impl Model for ProofList {
+    ghost use Rattle.std.specs.Prelude.{List, map};
+    ghost use Rattle.slotted_proofs.specs.Entries.{Proven, proven_of};
+    ghost use Rattle.slotted_proofs.specs.Stored.{AreWritten};
+
+    ghost Value = { List Proven };
+
+    ghost view = { λ s. map (λ e. proven_of e.0 e.1) s.entries.entries };
+
+    ghost invariant = { λ s. AreWritten s.entries.entries };
+}
+
+impl ProofList {
+    /// The list without entries. It takes no memory.
+    pub fn new(alloc: Global) -> ProofList
+        ensures { result ≡ [] }
+    {
+        ProofList {
+            entries: IndexMap::new(alloc),
+        }
+    }
+
+    /// The number of entries.
+    pub fn len(&self) -> usize
+        ensures { result ≡ length self.now }
+    {
+        self.entries.len()
+    }
+
+    /// Whether there are no entries.
+    pub fn is_empty(&self) -> bool
+        ensures { IsTrue result ↔ (self.now ≡ []) }
+    {
+        self.entries.is_empty()
+    }
+
+    /// Whether the number is that of an entry.
+    pub fn is_valid(&self, p: ProvenEq) -> bool
+        ensures { IsTrue result ↔ (p < length self.now) }
+    {
+        p.number() < self.len()
+    }
+
+    /// The equation of an entry, with numbered names.
+    pub fn equ(&self, p: ProvenEq) -> &Equation
+        requires { p < length self.now }
+        ensures { IsWritten (statement_at self.now p) result.now }
+    {
+        match self.entries.get_index(p.number()) {
+            Some((equation, _)) => equation,
+            None => unreachable!(),
+        }
+    }
+
+    /// How an entry was proved.
+    pub fn proof(&self, p: ProvenEq) -> &Proof
+        requires { p < length self.now }
+        ensures step { step_of result.now ≡ (proven_at self.now p).step }
+        ensures text { text_of result.now ≡ (proven_at self.now p).text }
+    {
+        match self.entries.get_index(p.number()) {
+            Some((_, proof)) => proof,
+            None => unreachable!(),
+        }
+    }
+
+    /// The number of the entry with this equation, whose names are numbered.
+    pub fn number_of(&self, equation: &Equation) -> Option<ProvenEq>
+        requires { IsWritten (statement_of equation.now) equation.now }
+        ensures found { IfSome result (Stands self.now (statement_of equation.now)) }
+        ensures absent { IfNone result (IsNew self.now (statement_of equation.now)) }
+    {
+        match self.entries.get_index_of(equation) {
+            Some(number) => Some(ProvenEq::at(number)),
+            None => None,
+        }
+    }
+
+    /// The number of the entry with this equation, whose names are numbered. If there is none yet, it is entered with this
+    /// proof: it is the caller's to see that the proof proves it.
+    pub fn enter(&mut self, equation: Equation, proof: Proof) -> Result<ProvenEq, Error>
+        requires { IsWritten (statement_of equation) equation }
+        ensures ok { IfOk result (Enters self.old self.new (proven_of equation proof)) }
+        ensures memory { IfErr result IsOutOfMemory }
+        ensures err { OnErr result (self.new ≡ self.old) }
+    {
+        if let Some(number) = self.number_of(&equation) {
+            return Ok(number);
+        }
+        let number = ProvenEq::at(self.len());
+        self.entries.insert(equation, proof)?;
+        Ok(number)
+    }
+
+    /// The number of the entry that two applied ids are equal. If there is none yet, it is entered with this proof: it is the
+    /// caller's to see that the proof proves it.
+    pub fn enter_equality(
+        &mut self,
+        alloc: Global,
+        l: &AppliedId,
+        r: &AppliedId,
+        proof: Proof,
+    ) -> Result<ProvenEq, Error>
+        requires left { IsInjectiveMap l.now.m }
+        requires right { IsInjectiveMap r.now.m }
+        ensures ok { IfOk result (Enters self.old self.new (record { statement = equality (to_applied l.now) (to_applied r.now); step = step_of proof; text = text_of proof })) }
+        ensures full { IsErrOf result Error.OutOfSlots ↔ (2 ^ 30 ≤ length l.now.m + length r.now.m) }
+        ensures only { IfErr result IsShortage }
+        ensures err { OnErr result (self.new ≡ self.old) }
+    {
+        let equation = numbered(alloc, l, r)?;
+        self.enter(equation, proof)
+    }
+
+    // The steps. Each answers the number at which its equation stands from now on, and enters it where it is new.
+
+    /// Two applied ids are equal because the caller says so, with a text or without one.
+    pub fn enter_explicit(
+        &mut self,
+        alloc: Global,
+        l: &AppliedId,
+        r: &AppliedId,
+        text: Option<String>,
+    ) -> Result<ProvenEq, Error>
+        requires left { IsInjectiveMap l.now.m }
+        requires right { IsInjectiveMap r.now.m }
+        ensures ok { IfOk result (Enters self.old self.new (asserted_entry (to_applied l.now) (to_applied r.now) (option_map string_bytes text))) }
+        ensures full { IsErrOf result Error.OutOfSlots ↔ (2 ^ 30 ≤ length l.now.m + length r.now.m) }
+        ensures only { IfErr result IsShortage }
+        ensures err { OnErr result (self.new ≡ self.old) }
+    {
+        self.enter_equality(alloc, l, r, Proof::Explicit(ExplicitProof(text)))
+    }
+
+    /// An applied id equals itself.
+    pub fn enter_reflexive(&mut self, alloc: Global, a: &AppliedId) -> Result<ProvenEq, Error>
+        requires { IsInjectiveMap a.now.m }
+        ensures ok { IfOk result (Enters self.old self.new (reflexive_entry a.now.id.0 (keys a.now.m))) }
+        ensures full { IsErrOf result Error.OutOfSlots ↔ (2 ^ 30 ≤ length a.now.m) }
+        ensures only { IfErr result IsShortage }
+        ensures err { OnErr result (self.new ≡ self.old) }
+    {
+        let equation = numbered_itself(alloc, a)?;
+        self.enter(equation, Proof::Reflexivity(ReflexivityProof))
+    }
+
+    /// The equation of an entry turned round.
+    pub fn enter_symmetric(&mut self, alloc: Global, p: ProvenEq) -> Result<ProvenEq, Error>
+        requires { p < length self.old }
+        ensures ok { IfOk result (Enters self.old self.new (turned_entry self.old p)) }
+        ensures full { IsErrOf result Error.OutOfSlots ↔ (2 ^ 30 ≤ length (statement_at self.old p).left_slots + length (statement_at self.old p).right_slots) }
+        ensures only { IfErr result IsShortage }
+        ensures err { OnErr result (self.new ≡ self.old) }
+    {
+        let equation = self.equ(p).turned(alloc)?;
+        self.enter(equation, Proof::Symmetry(SymmetryProof(p)))
+    }
+
+    /// The equations of two entries, one after the other: slots share a name where they share one with the same slot in the
+    /// middle, and nowhere else.
+    pub fn enter_transitive(
+        &mut self,
+        alloc: Global,
+        p: ProvenEq,
+        q: ProvenEq,
+    ) -> Result<ProvenEq, Error>
+        requires first { p < length self.old }
+        requires second { q < length self.old }
+        requires meets { Meets (statement_at self.old p) (statement_at self.old q) }
+        ensures ok { IfOk result (Enters self.old self.new (composite_entry self.old p q)) }
+        ensures full { IsErrOf result Error.OutOfSlots ↔ (2 ^ 30 ≤ length (statement_at self.old p).left_slots + length (statement_at self.old q).right_slots) }
+        ensures only { IfErr result IsShortage }
+        ensures err { OnErr result (self.new ≡ self.old) }
+    {
+        let equation = self.equ(p).composite(alloc, self.equ(q))?;
+        self.enter(equation, Proof::Transitivity(TransitivityProof(p, q)))
+    }
+}

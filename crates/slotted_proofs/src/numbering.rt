@@ -1,0 +1,160 @@
+//! The form of an equation whose names are numbered as they first occur.
+ghost use Rattle.std.specs.Prelude.{◌≡◌, ◌+◌, ◌^◌, ◌<◌, ◌≤◌, ◌↔◌, length, IsTrue, IfOk, IfErr, IsErrOf};
+ghost use Rattle.slotted_theory.specs.FiniteMaps.{IsInjectiveMap, value_of};
+ghost use Rattle.slotted_slots.specs.Ascending.{IsAscending};
+ghost use Rattle.slotted_slots.specs.Error.{IsOutOfMemory, IsShortage};
+ghost use Rattle.slotted_slots.specs.Table.{numeric_slot};
+ghost use Rattle.slotted_model.specs.Applied.{keys};
+ghost use Rattle.slotted_model.specs.Correspondence.{AllDifferent, same_names, turned, composite as one_after_another, with_names, numbered_from, numbered_after, IsPartialInjection};
+ghost use Rattle.slotted_proofs.specs.Equations.{to_applied, equality, statement_of, reflexive_statement, composite_statement, Meets, IsWritten};
+
+use crate::equation::Equation;
+use slotted_slots::{AppliedId, Error, Slot, SlotMap};
+use std::alloc::Global;
+
+/// Equations with as many places or more are refused.
+const PLACES: usize = 1 << 30;
+
+// The slots of the one map with the slots of the other that have the same name.
+pub(crate) fn shared_names(alloc: Global, from: &SlotMap, to: &SlotMap) -> Result<SlotMap, Error>
+    requires { IsInjectiveMap to.now }
+    ensures ok { IfOk result (λ m. m ≡ same_names from.now to.now) }
+    ensures err { IfErr result IsOutOfMemory }
+{
+    let back = to.inverse(alloc)?;
+    let shared = from.compose_partial(alloc, &back)?;
+    Ok(shared)
+}
+
+// Whether the two sides have fewer places than an equation may have.
+fn is_short(l: &AppliedId, r: &AppliedId) -> bool
+    ensures short { IsTrue result ↔ (length l.now.m + length r.now.m < 2 ^ 30) }
+    ensures left_ascends { IsAscending (keys l.now.m) }
+    ensures right_ascends { IsAscending (keys r.now.m) }
+{
+    let left = l.m.len();
+    let right = r.m.len();
+    left < PLACES && right < PLACES - left
+}
+
+// The left side: its slots with the names `$0`, `$1` and so on.
+fn number_left(alloc: Global, map: &SlotMap) -> Result<SlotMap, Error>
+    requires { length map.now < 2 ^ 30 }
+    ensures ok { IfOk result (λ m. m ≡ with_names numeric_slot (numbered_from 0 (keys map.now))) }
+    ensures err { IfErr result IsOutOfMemory }
+{
+    let mut side = map.copy(alloc)?;
+    for i in 0..side.len() {
+        side.set_value_at(i, Slot::numeric_at(i as u32));
+    }
+    Ok(side)
+}
+
+// The right side: its slots with the names of their partners on the left side, and the next numbers for the rest.
+fn number_right(
+    alloc: Global,
+    map: &SlotMap,
+    left: &SlotMap,
+    partners: &SlotMap,
+) -> Result<SlotMap, Error>
+    requires few { length left.now + length map.now < 2 ^ 30 }
+    requires left { left.now ≡ with_names numeric_slot (numbered_from 0 (keys left.now)) }
+    ensures ok { IfOk result (λ m. m ≡ with_names numeric_slot (numbered_after (value_of (one_after_another partners.now (numbered_from 0 (keys left.now)))) (length left.now) (keys map.now))) }
+    ensures err { IfErr result IsOutOfMemory }
+{
+    let known = partners.compose_partial(alloc, left)?;
+    let mut side = SlotMap::new(alloc);
+    let mut next = left.len() as u32;
+    for (slot, _) in map.iter() {
+        match known.get(slot) {
+            Some(name) => side.insert(slot, name)?,
+            None => {
+                side.insert(slot, Slot::numeric_at(next))?;
+                next += 1;
+            }
+        }
+    }
+    Ok(side)
+}
+
+// The equation between the classes of two sides, over their slots, where the partners of right slots are given.
+fn number_sides(
+    alloc: Global,
+    l: &AppliedId,
+    r: &AppliedId,
+    partners: &SlotMap,
+) -> Result<Equation, Error>
+    requires few { length l.now.m + length r.now.m < 2 ^ 30 }
+    requires left_once { AllDifferent (keys l.now.m) }
+    requires right_once { AllDifferent (keys r.now.m) }
+    requires partners { IsPartialInjection (keys r.now.m) (keys l.now.m) partners.now }
+    ensures ok { IfOk result (IsWritten (record { left_slots = keys l.now.m; right_slots = keys r.now.m; equation = record { left = l.now.id.0; right = r.now.id.0; pairs = turned (keys l.now.m) partners.now } })) }
+    ensures err { IfErr result IsOutOfMemory }
+{
+    let left = number_left(alloc, &l.m)?;
+    let right = number_right(alloc, &r.m, &left, partners)?;
+    Ok(Equation {
+        l: AppliedId { id: l.id, m: left },
+        r: AppliedId { id: r.id, m: right },
+    })
+}
+
+// The equality of two applied ids, with numbered names.
+pub(crate) fn numbered(alloc: Global, l: &AppliedId, r: &AppliedId) -> Result<Equation, Error>
+    requires left { IsInjectiveMap l.now.m }
+    requires right { IsInjectiveMap r.now.m }
+    ensures ok { IfOk result (IsWritten (equality (to_applied l.now) (to_applied r.now))) }
+    ensures full { IsErrOf result Error.OutOfSlots ↔ (2 ^ 30 ≤ length l.now.m + length r.now.m) }
+    ensures err { IfErr result IsShortage }
+{
+    if !is_short(l, r) {
+        return Err(Error::OutOfSlots);
+    }
+    let partners = shared_names(alloc, &r.m, &l.m)?;
+    let equation = number_sides(alloc, l, r, &partners)?;
+    Ok(equation)
+}
+
+// A class with these slots equals itself, with numbered names.
+pub(crate) fn numbered_itself(alloc: Global, a: &AppliedId) -> Result<Equation, Error>
+    requires { IsInjectiveMap a.now.m }
+    ensures ok { IfOk result (IsWritten (reflexive_statement a.now.id.0 (keys a.now.m))) }
+    ensures full { IsErrOf result Error.OutOfSlots ↔ (2 ^ 30 ≤ length a.now.m) }
+    ensures err { IfErr result IsShortage }
+{
+    if a.m.len() >= PLACES {
+        return Err(Error::OutOfSlots);
+    }
+    let left = number_left(alloc, &a.m)?;
+    let right = left.copy(alloc)?;
+    Ok(Equation {
+        l: AppliedId { id: a.id, m: left },
+        r: AppliedId { id: a.id, m: right },
+    })
+}
+
+// First the one equation, then the other, with numbered names.
+pub(crate) fn composite(
+    alloc: Global,
+    first: &Equation,
+    second: &Equation,
+) -> Result<Equation, Error>
+    requires left { IsInjectiveMap first.now.l.m }
+    requires middle { IsInjectiveMap first.now.r.m }
+    requires other_middle { IsInjectiveMap second.now.l.m }
+    requires right { IsInjectiveMap second.now.r.m }
+    requires meets { Meets (statement_of first.now) (statement_of second.now) }
+    ensures ok { IfOk result (IsWritten (composite_statement (statement_of first.now) (statement_of second.now))) }
+    ensures full { IsErrOf result Error.OutOfSlots ↔ (2 ^ 30 ≤ length first.now.l.m + length second.now.r.m) }
+    ensures err { IfErr result IsShortage }
+{
+    if !is_short(&first.l, &second.r) {
+        return Err(Error::OutOfSlots);
+    }
+    prove_eq!(first.r.m.len(), second.l.m.len());
+    let to_left = shared_names(alloc, &first.r.m, &first.l.m)?;
+    let to_middle = shared_names(alloc, &second.r.m, &second.l.m)?;
+    let partners = to_middle.compose_partial(alloc, &to_left)?;
+    let equation = number_sides(alloc, &first.l, &second.r, &partners)?;
+    Ok(equation)
+}

@@ -1,0 +1,195 @@
+//! Worked equations: numbered names, the steps, and each call once where it goes well.
+ghost use Rattle.std.specs.Prelude.{IfOk};
+ghost use Rattle.slotted_theory.specs.FiniteMaps.{IsInjectiveMap};
+
+use crate::{Equation, Proof, ProofList, ProvenEq};
+use slotted_slots::{AppliedId, Error, Id, SlotMap, SlotTable};
+use std::alloc::Global;
+
+// A class with numeric slots for numeric parameters.
+fn applied(alloc: Global, id: usize, pairs: &[(u32, u32)]) -> Result<AppliedId, Error>
+    ensures { IfOk result (λ a. IsInjectiveMap a.m) }
+{
+    let table = SlotTable::new(alloc);
+    let mut m = SlotMap::new(alloc);
+    for pair in pairs {
+        m.insert(table.numeric(pair.0)?, table.numeric(pair.1)?)?;
+    }
+    if !m.is_bijection() {
+        return Err(Error::NotATerm);
+    }
+    Ok(AppliedId { id: Id(id), m })
+}
+
+// The equation `id7[$1 -> $30, $2 -> $20] = id9[$4 -> $20, $5 -> $10]`.
+fn sample(alloc: Global) -> Result<Equation, Error>
+    ensures left { IfOk result (λ e. IsInjectiveMap e.l.m) }
+    ensures right { IfOk result (λ e. IsInjectiveMap e.r.m) }
+{
+    let l = applied(alloc, 7, &[(1, 30), (2, 20)])?;
+    let r = applied(alloc, 9, &[(4, 20), (5, 10)])?;
+    Ok(Equation { l, r })
+}
+
+// The map has these numeric slots as its values.
+fn has_names(map: &SlotMap, names: &[u32]) -> bool {
+    if map.len() != names.len() {
+        return false;
+    }
+    for (i, name) in names.iter().enumerate() {
+        if map.value_at(i).raw() / 4 != *name {
+            return false;
+        }
+    }
+    true
+}
+
+// The sides have these classes and names.
+fn is_equation(e: &Equation, l: (usize, &[u32]), r: (usize, &[u32])) -> bool {
+    e.l.id.0 == l.0 && has_names(&e.l.m, l.1) && e.r.id.0 == r.0 && has_names(&e.r.m, r.1)
+}
+
+// So has the entry.
+fn shows(list: &ProofList, p: ProvenEq, l: (usize, &[u32]), r: (usize, &[u32])) -> bool {
+    list.is_valid(p) && is_equation(list.equ(p), l, r)
+}
+
+// The entry was asserted with this text.
+fn was_asserted(list: &ProofList, p: ProvenEq, text: &str) -> bool {
+    if !list.is_valid(p) {
+        return false;
+    }
+    match list.proof(p) {
+        Proof::Explicit(proof) => match &proof.0 {
+            Some(kept) => kept.as_str() == text,
+            None => false,
+        },
+        _ => false,
+    }
+}
+
+// Asserts that class 7 with the slots `$1`, `$2` equals class 8 with the slot `$3`.
+fn assert_sample(
+    list: &mut ProofList,
+    alloc: Global,
+    names: [u32; 3],
+    text: &str,
+) -> Result<ProvenEq, Error> {
+    let l = applied(alloc, 7, &[(1, names[0]), (2, names[1])])?;
+    let r = applied(alloc, 8, &[(3, names[2])])?;
+    let text = String::from_str(alloc, text)?;
+    list.enter_explicit(alloc, &l, &r, Some(text))
+}
+
+// The two ends of a chain of two equations.
+fn joined(
+    list: &mut ProofList,
+    alloc: Global,
+    l: &AppliedId,
+    middle: &AppliedId,
+    r: &AppliedId,
+) -> Result<ProvenEq, Error>
+    requires left { IsInjectiveMap l.now.m }
+    requires middle { IsInjectiveMap middle.now.m }
+    requires right { IsInjectiveMap r.now.m }
+{
+    let p = list.enter_explicit(alloc, l, middle, None)?;
+    let q = list.enter_explicit(alloc, middle, r, None)?;
+    list.enter_transitive(alloc, p, q)
+}
+
+// Over the middle `id7[$1 -> $0, $2 -> $1]`, from `id8[$3 -> $0]` to a side.
+fn over_middle(list: &mut ProofList, alloc: Global, r: &AppliedId) -> Result<ProvenEq, Error>
+    requires { IsInjectiveMap r.now.m }
+{
+    let l = applied(alloc, 8, &[(3, 0)])?;
+    let middle = applied(alloc, 7, &[(1, 0), (2, 1)])?;
+    joined(list, alloc, &l, &middle, r)
+}
+
+// The entry turned round.
+fn turned(list: &mut ProofList, alloc: Global, p: ProvenEq) -> Result<ProvenEq, Error> {
+    if !list.is_valid(p) {
+        return Err(Error::BadStep);
+    }
+    list.enter_symmetric(alloc, p)
+}
+
+#[test]
+fn names_are_numbered_as_they_occur(rt: HostRuntime) -> Result<(), Error> {
+    let numbered = sample(rt.alloc())?.numbered(rt.alloc())?;
+    assert!(rt; is_equation(&numbered, (7, &[0, 1]), (9, &[1, 2])));
+    Ok(())
+}
+
+#[test]
+fn sides_are_exchanged(rt: HostRuntime) -> Result<(), Error> {
+    let turned = sample(rt.alloc())?.turned(rt.alloc())?;
+    assert!(rt; is_equation(&turned, (9, &[0, 1]), (7, &[2, 0])));
+    Ok(())
+}
+
+#[test]
+fn shared_names_correspond(rt: HostRuntime) -> Result<(), Error> {
+    let equation = sample(rt.alloc())?;
+    let copy = equation.copy(rt.alloc())?;
+    assert!(rt; copy == equation);
+    assert!(rt; has_names(&copy.correspondence(rt.alloc())?, &[4]));
+    Ok(())
+}
+
+#[test]
+fn the_middle_alone_is_shared(rt: HostRuntime) -> Result<(), Error> {
+    let mut list = ProofList::new(rt.alloc());
+    let r = applied(rt.alloc(), 9, &[(4, 1), (5, 0)])?;
+    let p = over_middle(&mut list, rt.alloc(), &r)?;
+    assert!(rt; shows(&list, p, (8, &[0]), (9, &[1, 0])));
+    Ok(())
+}
+
+#[test]
+fn nothing_else_is_shared(rt: HostRuntime) -> Result<(), Error> {
+    let mut list = ProofList::new(rt.alloc());
+    let r = applied(rt.alloc(), 9, &[(4, 1)])?;
+    let p = over_middle(&mut list, rt.alloc(), &r)?;
+    assert!(rt; shows(&list, p, (8, &[0]), (9, &[1])));
+    Ok(())
+}
+
+#[test]
+fn an_equation_stands_once(rt: HostRuntime) -> Result<(), Error> {
+    let mut list = ProofList::new(rt.alloc());
+    assert!(rt; list.is_empty());
+    let p = assert_sample(&mut list, rt.alloc(), [3, 4, 4], "first")?;
+    let q = assert_sample(&mut list, rt.alloc(), [8, 6, 6], "again")?;
+    assert!(rt; p == q && was_asserted(&list, p, "first"));
+    Ok(())
+}
+
+#[test]
+fn another_equation_stands_next(rt: HostRuntime) -> Result<(), Error> {
+    let mut list = ProofList::new(rt.alloc());
+    let p = assert_sample(&mut list, rt.alloc(), [3, 4, 4], "first")?;
+    let q = assert_sample(&mut list, rt.alloc(), [8, 6, 8], "second")?;
+    assert!(rt; p.number() == 0 && q.number() == 1 && list.len() == 2);
+    assert!(rt; was_asserted(&list, q, "second"));
+    Ok(())
+}
+
+#[test]
+fn entries_turn_round(rt: HostRuntime) -> Result<(), Error> {
+    let mut list = ProofList::new(rt.alloc());
+    let p = assert_sample(&mut list, rt.alloc(), [3, 4, 4], "")?;
+    let q = turned(&mut list, rt.alloc(), p)?;
+    assert!(rt; shows(&list, q, (8, &[0]), (7, &[1, 0])));
+    Ok(())
+}
+
+#[test]
+fn a_class_equals_itself(rt: HostRuntime) -> Result<(), Error> {
+    let mut list = ProofList::new(rt.alloc());
+    let a = applied(rt.alloc(), 7, &[(1, 5), (2, 6)])?;
+    let p = list.enter_reflexive(rt.alloc(), &a)?;
+    assert!(rt; shows(&list, p, (7, &[0, 1]), (7, &[0, 1])));
+    Ok(())
+}
