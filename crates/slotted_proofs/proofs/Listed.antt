@@ -1,5 +1,5 @@
 -- The entries of a proof list: what is found among them, and what is put after them.
-use Rattle.std.proofs.Common.{◌≡◌, ℕ, zero, suc, ◌<◌, List, [], ◌∷◌, ◌++◌, length, Option, Some, Bool, true, false, cond, refl, sym, ap, ◌∙◌, subst, inl, inr, arith}
+use Rattle.std.proofs.Common.{◌≡◌, ℕ, zero, suc, ◌+◌, ◌<◌, List, [], ◌∷◌, ◌++◌, length, Option, Some, Bool, true, false, cond, refl, sym, ap, ◌∙◌, subst, inl, inr, arith}
 use Rattle.std.specs.Prelude.{map, is_some, position, slice_get, slice_index_or}
 use Rattle.std.specs.Map.{keys_of, lookup}
 use Rattle.std.proofs.lemmas.List.Quantifiers.{position-Some}
@@ -9,7 +9,7 @@ use Rattle.indexmap.specs.IndexMap.{insert_entry}
 use Rattle.slotted_proofs.specs.declared.equation.Equation.{Equation as Sides}
 use Rattle.slotted_proofs.specs.declared.proof.Proof.{Proof}
 use Rattle.slotted_proofs.specs.Equations.{Statement, statement_of, IsWritten}
-use Rattle.slotted_proofs.specs.Entries.{Proven, proven_of, statement_at, Stands, IsNew, Enters}
+use Rattle.slotted_proofs.specs.Entries.{Proven, proven_of, entries_of, statement_at, is_explicit, explicit_from, Stands, IsNew, Enters}
 use Rattle.slotted_proofs.specs.Stored.{AreWritten}
 use Rattle.slotted_proofs.proofs.Written.{sides_eq, sides_eq-same, same_statement, written_once}
 
@@ -106,3 +106,19 @@ enters_new list x n = record { stands = stands_last list x; grows = inr (n, refl
 
 pub shown-more : (es : List (Sides × Proof)) (e : Sides) (proof : Proof) → shown (es ++ (e, proof) ∷ []) ≡ shown es ++ proven_of e proof ∷ []
 shown-more es e proof = map-append (λ x. proven_of x.0 x.1) es ((e, proof) ∷ [])
+
+-- an entry at the end that is not explicit adds no number
+pub explicit-other : (i : ℕ) (list : List Proven) (x : Proven) → is_explicit x.step ≡ false → explicit_from i (entries_of (list ++ x ∷ [])) ≡ explicit_from i (entries_of list)
+explicit-other i [] x h = ap (λ b. cond b (i ∷ []) []) h
+explicit-other i (y ∷ list) x h = ap (λ r. cond (is_explicit y.step) (i ∷ r) r) (explicit-other (suc i) list x h)
+
+number_last : (b : Bool) (i n m : ℕ) (ns : List ℕ) → n ≡ m → cond b (i ∷ (ns ++ n ∷ [])) (ns ++ n ∷ []) ≡ cond b (i ∷ ns) ns ++ m ∷ []
+number_last true i n m ns e = ap (λ k. i ∷ (ns ++ k ∷ [])) e
+number_last false i n m ns e = ap (λ k. ns ++ k ∷ []) e
+
+-- an explicit one adds its own
+pub explicit-asserted : (i : ℕ) (list : List Proven) (x : Proven) → is_explicit x.step ≡ true → explicit_from i (entries_of (list ++ x ∷ [])) ≡ explicit_from i (entries_of list) ++ (i + length list) ∷ []
+explicit-asserted i [] x h = ap (λ b. cond b (i ∷ []) []) h ∙ ap (λ n. n ∷ []) (omega arith)
+explicit-asserted i (y ∷ list) x h =
+    ap (λ r. cond (is_explicit y.step) (i ∷ r) r) (explicit-asserted (suc i) list x h)
+    ∙ number_last (is_explicit y.step) i (suc i + length list) (i + suc (length list)) (explicit_from (suc i) (entries_of list)) (omega arith)

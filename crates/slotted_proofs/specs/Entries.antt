@@ -1,9 +1,10 @@
 -- The proof list: what an entry keeps, and how the list changes when an equation is entered.
 --     Proven              an entry
 --     entries_of list     the entries of the model
+--     explicit_numbers    the numbers of the explicit entries
 --     Stands list s p     the statement s stands at the number p
 --     Enters old new x p  the statement of x stands at p: it was there, and nothing changed, or x is new at the end
-use Rattle.std.specs.Prelude.{◌≡◌, ◌⊎◌, ℕ, ◌<◌, List, [], ◌∷◌, ◌++◌, length, map, Option, None, option_map, string_bytes, slice_index_or}
+use Rattle.std.specs.Prelude.{◌≡◌, ◌⊎◌, ℕ, suc, ◌<◌, Bool, true, false, cond, List, [], ◌∷◌, ◌++◌, length, map, Option, None, option_map, string_bytes, slice_index_or}
 use Rattle.slotted_model.specs.Applied.{Applied}
 use Rattle.slotted_model.specs.ProofList.{ProofEntry, Step, explicit, reflexive, symmetric, transitive, congruent}
 use Rattle.slotted_proofs.specs.declared.equation.Equation.{Equation as Sides}
@@ -49,6 +50,23 @@ text_of (Reflexivity proof) = None
 text_of (Symmetry proof) = None
 text_of (Transitivity proof) = None
 text_of (Congruence proof) = None
+
+-- whether a step asserts
+abbrev pub is_explicit : Step → Bool
+is_explicit explicit = true
+is_explicit reflexive = false
+is_explicit (symmetric q) = false
+is_explicit (transitive q r) = false
+is_explicit (congruent qs) = false
+
+-- the numbers of the explicit entries, the first entry having the number i
+abbrev pub explicit_from : ℕ → List ProofEntry → List ℕ
+explicit_from i [] = []
+explicit_from i (x ∷ entries) = cond (is_explicit x.step) (i ∷ explicit_from (suc i) entries) (explicit_from (suc i) entries)
+
+-- the numbers of the explicit entries
+abbrev pub explicit_numbers : List ProofEntry → List ℕ
+explicit_numbers entries = explicit_from 0 entries
 
 -- an equation of the code with its proof
 abbrev pub proven_of : Sides → Proof → Proven

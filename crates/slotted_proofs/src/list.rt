@@ -1,10 +1,10 @@
 //! The list of proved equations.
-ghost use Rattle.std.specs.Prelude.{◌≡◌, ◌+◌, ◌^◌, ◌<◌, ◌≤◌, ◌↔◌, ℕ, [], length, IsTrue, IfSome, IfNone, IfOk, IfErr, OnErr, IsErrOf, option_map, string_bytes};
+ghost use Rattle.std.specs.Prelude.{◌≡◌, ◌+◌, ◌^◌, ◌<◌, ◌≤◌, ◌↔◌, ◌++◌, ◌∷◌, ℕ, [], false, length, IsTrue, IfSome, IfNone, IfOk, IfErr, OnOk, OnErr, IsErrOf, option_map, string_bytes};
 ghost use Rattle.slotted_theory.specs.FiniteMaps.{IsInjectiveMap};
 ghost use Rattle.slotted_slots.specs.Error.{IsOutOfMemory, IsShortage};
 ghost use Rattle.slotted_model.specs.Applied.{keys};
 ghost use Rattle.slotted_proofs.specs.Equations.{to_applied, equality, statement_of, Meets, IsWritten};
-ghost use Rattle.slotted_proofs.specs.Entries.{proven_at, statement_at, step_of, text_of, proven_of, Stands, IsNew, Enters, asserted_entry, reflexive_entry, turned_entry, composite_entry};
+ghost use Rattle.slotted_proofs.specs.Entries.{proven_at, statement_at, step_of, text_of, proven_of, entries_of, is_explicit, explicit_numbers, Stands, IsNew, Enters, asserted_entry, reflexive_entry, turned_entry, composite_entry};
 
 use crate::equation::Equation;
 use crate::numbering::{numbered, numbered_itself};
@@ -23,18 +23,19 @@ use std::marker::Model;
 #[derive(Drop)]
 pub struct ProofList {
     entries: IndexMap<Equation, Proof>,
+    asserted: Vec<ProvenEq>,
 }
 
 impl Model for ProofList {
     ghost use Rattle.std.specs.Prelude.{List, map};
     ghost use Rattle.slotted_proofs.specs.Entries.{Proven, proven_of};
-    ghost use Rattle.slotted_proofs.specs.Stored.{AreWritten};
+    ghost use Rattle.slotted_proofs.specs.Stored.{AreWritten, IsListed};
 
     ghost Value = { List Proven };
 
     ghost view = { λ s. map (λ e. proven_of e.0 e.1) s.entries.entries };
 
-    ghost invariant = { λ s. AreWritten s.entries.entries };
+    ghost invariant = { λ s. AreWritten s.entries.entries × IsListed s.entries.entries s.asserted.items };
 }
 
 impl ProofList {
@@ -44,6 +45,7 @@ impl ProofList {
     {
         ProofList {
             entries: IndexMap::new(alloc),
+            asserted: Vec::new(alloc),
         }
     }
 
@@ -114,9 +116,50 @@ impl ProofList {
         if let Some(number) = self.number_of(&equation) {
             return Ok(number);
         }
+        if proof.is_explicit() {
+            self.push_asserted(equation, proof)
+        } else {
+            self.push(equation, proof)
+        }
+    }
+
+    // A new equation at the end, which is not asserted.
+    fn push(&mut self, equation: Equation, proof: Proof) -> Result<ProvenEq, Error>
+        requires written { IsWritten (statement_of equation) equation }
+        requires new { IsNew self.old (statement_of equation) }
+        requires step { is_explicit (step_of proof) ≡ false }
+        ensures ok { OnOk result (self.new ≡ self.old ++ proven_of equation proof ∷ []) }
+        ensures number { IfOk result (λ p. p ≡ length self.old) }
+        ensures memory { IfErr result IsOutOfMemory }
+        ensures err { OnErr result (self.new ≡ self.old) }
+    {
         let number = ProvenEq::at(self.len());
         self.entries.insert(equation, proof)?;
         Ok(number)
+    }
+
+    // A new equation at the end, which is asserted.
+    fn push_asserted(&mut self, equation: Equation, proof: Proof) -> Result<ProvenEq, Error>
+        requires written { IsWritten (statement_of equation) equation }
+        requires new { IsNew self.old (statement_of equation) }
+        requires step { IsTrue (is_explicit (step_of proof)) }
+        ensures ok { OnOk result (self.new ≡ self.old ++ proven_of equation proof ∷ []) }
+        ensures number { IfOk result (λ p. p ≡ length self.old) }
+        ensures memory { IfErr result IsOutOfMemory }
+        ensures err { OnErr result (self.new ≡ self.old) }
+    {
+        let last = ProvenEq::at(self.len());
+        self.asserted.reserve(1)?;
+        self.entries.insert(equation, proof)?;
+        self.asserted.push_reserved(last);
+        Ok(last)
+    }
+
+    /// The numbers of the asserted entries, in the order in which they were entered.
+    pub fn asserted(&self) -> &[ProvenEq]
+        ensures { result.now ≡ explicit_numbers (entries_of self.now) }
+    {
+        &self.asserted
     }
 
     /// The number of the entry that two applied ids are equal. If there is none yet, it is entered with this proof: it is the

@@ -1,5 +1,6 @@
 //! The steps by which equations are proved.
 ghost use Rattle.std.specs.Prelude.{◌≡◌};
+ghost use Rattle.slotted_proofs.specs.Entries.{step_of, is_explicit};
 
 use std::marker::Model;
 
@@ -61,4 +62,13 @@ pub enum Proof {
     Symmetry(SymmetryProof),
     Transitivity(TransitivityProof),
     Congruence(CongruenceProof),
+}
+
+impl Proof {
+    /// Whether the equation was asserted.
+    pub const fn is_explicit(&self) -> bool
+        ensures { result ≡ is_explicit (step_of self.now) }
+    {
+        matches!(self, Proof::Explicit(_))
+    }
 }

@@ -1,6 +1,6 @@
 -- What a refusal stands for.
 use Rattle.slotted_slots.specs.declared.error.Error.{Error}
-use Rattle.slotted_slots.specs.declared.error.Error.TheVariants.{OutOfMemory, OutOfSlots, Failed, Parse, NotATerm, SubstInSearch, MissingVariable, NotEqual, BadStep, UnknownClass, NumberTooLarge}
+use Rattle.slotted_slots.specs.declared.error.Error.TheVariants.{OutOfMemory, OutOfSlots, Failed, Parse, NotATerm, SubstInSearch, MissingVariable, NotEqual, BadStep, UnknownClass, NumberTooLarge, NotYet}
 use Rattle.std.specs.Prelude.{Result, Ok, Err}
 use Rattle.slotted_theory.specs.Term.{Term}
 use Rattle.slotted_terms.specs.Outcome.{Outcome, parsed, Refuses, Answers}
@@ -18,6 +18,7 @@ Refuses-weaker P Q (MissingVariable v) h f = h
 Refuses-weaker P Q NotEqual h f = h
 Refuses-weaker P Q BadStep h f = h
 Refuses-weaker P Q UnknownClass h f = h
+Refuses-weaker P Q NotYet h f = h
 
 -- the same for an answer
 pub Answers-weaker : (P Q : Outcome → Type 0) (r : Result Term Error) → Answers P r → ((o : Outcome) → P o → Q o) → Answers Q r

@@ -3,7 +3,7 @@ use Rattle.std.specs.Prelude.{Result, Ok, Err}
 use Rattle.slotted_theory.specs.Term.{Term}
 use Rattle.slotted_slots.specs.Syntax.{Fault, fault_of}
 use Rattle.slotted_slots.specs.declared.error.Error.{Error}
-use Rattle.slotted_slots.specs.declared.error.Error.TheVariants.{OutOfMemory, OutOfSlots, Failed, Parse, NotATerm, SubstInSearch, MissingVariable, NotEqual, BadStep, UnknownClass, NumberTooLarge}
+use Rattle.slotted_slots.specs.declared.error.Error.TheVariants.{OutOfMemory, OutOfSlots, Failed, Parse, NotATerm, SubstInSearch, MissingVariable, NotEqual, BadStep, UnknownClass, NumberTooLarge, NotYet}
 
 -- a term; the one fault of a text outside the grammar; a text that writes no term, since a variable or a square bracket
 -- stands in it; a slot number of 2^30 or more; a name for which the table has no place
@@ -27,6 +27,7 @@ Refuses P (MissingVariable v) = ⊥
 Refuses P NotEqual = ⊥
 Refuses P BadStep = ⊥
 Refuses P UnknownClass = ⊥
+Refuses P NotYet = ⊥
 
 -- the answer of a call that reads a text stands for an outcome of which P holds
 abbrev pub Answers : (Outcome → Type 0) → Result Term Error → Type 0

@@ -12,4 +12,4 @@ returns c =
     let e = c.in-Some.equation.now in
     let at : slice_get es c.args.p ≡ Some (e, c.in-Some.field-0-1.now) =
     ap (slice_get es) (sym c.number.ensures) ∙ (sym c.get_index.ensures.entry ∙ ap (option_map deref_pair) c.in-Some.is) in
-    subst (λ list. IsWritten (statement_at list c.args.p) e) c.self.view_is (written_at es c.args.p (e, c.in-Some.field-0-1.now) c.self.invariant at)
+    subst (λ list. IsWritten (statement_at list c.args.p) e) c.self.view_is (written_at es c.args.p (e, c.in-Some.field-0-1.now) c.self.invariant.0 at)

@@ -19,4 +19,4 @@ returns-in-None-clause-absent c =
     let es = c.self.inside.entries.entries in
     let e = c.args.equation.now in
     let none : is_some (lookup (sides_eq e) es) ≡ false = sym c.get_index_of.ensures.found ∙ ap is_some c.in-None.is in
-    subst (λ list. IsNew list (statement_of e)) c.self.view_is (absent_new es e c.self.invariant c.requires none)
+    subst (λ list. IsNew list (statement_of e)) c.self.view_is (absent_new es e c.self.invariant.0 c.requires none)
