@@ -13,6 +13,7 @@ pub mod Chasing
 pub mod Answering
 pub mod Entered
 pub mod Asserting
+pub mod Large
 pub mod Linked
 pub mod United
 pub mod Unions

@@ -1,5 +1,5 @@
 -- A whole union: the proofs of what finds say, what is asserted, the two steps to the found classes, and the link.
-use Rattle.std.proofs.Common.{◌≡◌, ◌≢◌, ◌↔◌, ◌<◌, ℕ, suc, List, [], ◌∷◌, ◌++◌, length, sym, ◌∙◌, ap, refl, subst, inl, inr, arith, append_assoc}
+use Rattle.std.proofs.Common.{◌≡◌, ◌≢◌, ◌↔◌, ◌<◌, ◌≤◌, ◌+◌, ◌^◌, ℕ, suc, List, [], ◌∷◌, ◌++◌, length, sym, ◌∙◌, ap, refl, subst, inl, inr, arith, append_assoc}
 use Rattle.std.specs.Prelude.{Contains, map, Option, Bool, true, false, ◌⊎◌}
 use Rattle.std.proofs.lemmas.List.{map-append}
 use Rattle.slotted_theory.specs.Nameless.{DTerm}
@@ -21,11 +21,12 @@ use Rattle.slotted_proofs.specs.Entries.{Proven, entry_of, statement_at, Enters,
 use Rattle.slotted_proofs.specs.Proving.{IsProvable, IsProved}
 use Rattle.slotted_proofs.proofs.Entering.{entries_meet, turned_provable, composite_provable, entering_proved, entering_sound, entered_stands, others_assert_nothing}
 use Rattle.slotted_core.specs.Alike.{EntriesFindAlike}
-use Rattle.slotted_core.specs.Image.{found_id, CanUnite, FoundAlike, StandsIn, Asserts, Continues, asserted_in}
+use Rattle.slotted_core.specs.Image.{HasLargeClass, found_id, CanUnite, FoundAlike, StandsIn, Asserts, Continues, asserted_in}
 use Rattle.slotted_core.specs.Kept.{Kept, find_at, nodes_of, entries_of, proofs_of, image_of, with_proofs, with_linked, EntersIn, Good, Explains, Proves, IsAsserted, Links, Agrees, asserted_for}
 use Rattle.slotted_core.proofs.Entered.{entering-alike, turned-alike, composite-alike, entered-more, nil-append, entering-proves, explains-nothing, explains-then, explains-stands, at-append}
 use Rattle.slotted_core.proofs.InUse.{found-is_full}
 use Rattle.slotted_core.proofs.KeptLists.{length-mapped, equation_at-of, entry_at-of, length-nodes_of, length-proofs_of, found_id-is}
+use Rattle.slotted_core.proofs.Large.{entries_are_large}
 use Rattle.slotted_core.proofs.Linked.{linked-nodes, linked-length, newer, newer-alike, newer-continues, newer-entries_alike, entries_are, linked-good}
 
 -- what is explained leaves nodes and entries
@@ -86,6 +87,9 @@ module _ (k : Kept) (good : Good k) (i : ℕ) (h : i < length k.classes) where
 
     pub next-meets : Meets (statement_at l.proofs p) (statement_at l.proofs q)
     next-meets = entries_meet (nodes_of l) l.proofs rest.explains.good.proved p q next-first rest.in_range next-joins
+
+    pub next-large : 2 ^ 30 ≤ length (statement_at l.proofs p).left_slots + length (statement_at l.proofs q).right_slots → HasLargeClass nodes
+    next-large n = subst HasLargeClass (explains-nodes k l rest.explains) (entries_are_large (nodes_of l) l.proofs rest.explains.good.proved p q next-first rest.in_range n)
 
     pub next-proves : (m : Kept) (r : ℕ) → EntersIn l m (composite_entry l.proofs p q) r → Proves k m (find_equation nodes found i) r
     next-proves m r e =
@@ -155,6 +159,10 @@ module _ (k : Kept) (good : Good k) (a b : Applied) (fa : IsFull (nodes_of k) a)
   pub first-meets : Meets (statement_at l.proofs p) (statement_at l.proofs r)
   first-meets = subst (λ ps. Meets (statement_at ps p) (statement_at ps r)) (sym lists) first-meets_in
 
+  pub first-large : 2 ^ 30 ≤ length (statement_at l.proofs p).left_slots + length (statement_at l.proofs r).right_slots → HasLargeClass ns
+  first-large n =
+      entries_are_large ns ls said.proved p r (ls-stands p hp).0 said.in_range (subst (λ ps. 2 ^ 30 ≤ length (statement_at ps p).left_slots + length (statement_at ps r).right_slots) lists n)
+
   module _ (m : Kept) (s : ℕ) (half : EntersIn l m (composite_entry l.proofs p r) s) where
     abbrev ms : List Proven
     ms = half.proofs
@@ -197,6 +205,10 @@ module _ (k : Kept) (good : Good k) (a b : Applied) (fa : IsFull (nodes_of k) a)
 
     pub second-meets : Meets (statement_at m.proofs s) (statement_at m.proofs q)
     second-meets = subst (λ ps. Meets (statement_at ps s) (statement_at ps q)) (sym half-lists) (entries_meet ns ms half-proved s q half-enters.stands.in_range second-within second-joins)
+
+    pub second-large : 2 ^ 30 ≤ length (statement_at m.proofs s).left_slots + length (statement_at m.proofs q).right_slots → HasLargeClass ns
+    second-large n =
+        entries_are_large ns ms half-proved s q half-enters.stands.in_range second-within (subst (λ ps. 2 ^ 30 ≤ length (statement_at ps s).left_slots + length (statement_at ps q).right_slots) half-lists n)
 
     module _ (n : Kept) (t : ℕ) (whole : EntersIn m n (composite_entry m.proofs s q) t) where
       abbrev os : List Proven
@@ -421,6 +433,12 @@ module _ (k : Kept) (a b : Applied) (p q : ℕ) (R : Ready k a b p q) (l : Kept)
     second-meets k R.good a b R.left R.right R.differ R.same p q R.hp R.hq R.ep R.eq l x r said m s half,
   )
 
+  pub large_first : 2 ^ 30 ≤ length (statement_at l.proofs p).left_slots + length (statement_at l.proofs r).right_slots → HasLargeClass (nodes_of k)
+  large_first = first-large k R.good a b R.left R.right R.differ R.same p q R.hp R.hq R.ep R.eq l x r said
+
+  pub large_second : (m : Kept) (s : ℕ) → EntersIn l m (composite_entry l.proofs p r) s → 2 ^ 30 ≤ length (statement_at m.proofs s).left_slots + length (statement_at m.proofs q).right_slots → HasLargeClass (nodes_of k)
+  large_second m s half = second-large k R.good a b R.left R.right R.differ R.same p q R.hp R.hq R.ep R.eq l x r said m s half
+
   module _ (m : Kept) (s : ℕ) (half : EntersIn l m (composite_entry l.proofs p r) s) (n : Kept) (t : ℕ) (whole : EntersIn m n (composite_entry m.proofs s q) t) where
     pub last-length : length n.classes ≡ length k.classes
     last-length = ap (λ (y : Kept). length y.classes) (whole-kept k R.good a b R.left R.right R.differ R.same p q R.hp R.hq R.ep R.eq l x r said m s half n t whole)
@@ -536,3 +554,7 @@ module _ (k : Kept) (good : Good k) (a b : Applied) (fa : IsFull (nodes_of k) a)
     λ c. subst (λ (y : Applied). Contains (values y.1) z) et ((h z).0 (subst (λ (y : Applied). Contains (values y.1) z) (sym ef) c)),
     λ c. subst (λ (y : Applied). Contains (values y.1) z) ef ((h z).1 (subst (λ (y : Applied). Contains (values y.1) z) (sym et) c)),
   )
+
+-- a link unites the ids in either order
+pub links-turned : (k l : Kept) (x : Proven) (a b : Applied) → Links k l x a b → Links k l x b a
+links-turned k l x a b h = record { good = h.good; nodes = h.nodes; continues = h.continues; alike = sym h.alike; asserts = h.asserts }

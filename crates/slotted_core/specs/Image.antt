@@ -7,14 +7,15 @@
 --     Continues g h       what was proved and found alike stays so
 --     Asserts g h e       the equation e is asserted, if it was not proved
 --     CanUnite g a b      a and b find different classes with the same names
---     IsUnion g h a b o   a union answers o
-use Rattle.std.specs.Prelude.{◌≡◌, ℕ, ◌<◌, ◌⊎◌, List, [], ◌∷◌, ◌++◌, length, map, slice_index_or, refl, ◌≢◌, ◌↔◌, Bool, true, false, Option, Some, None, Contains}
+--     IsUnion g h a b y   a union answers y
+--     IsNoUnion g a b     a union is refused for now
+use Rattle.std.specs.Prelude.{◌≡◌, ℕ, ◌<◌, ◌≤◌, ◌^◌, ◌⊎◌, List, [], ◌∷◌, ◌++◌, length, map, slice_index_or, refl, ◌≢◌, ◌↔◌, Bool, true, false, Contains}
 use Rattle.std.specs.Coded.{Coded, code_by, coded×, coded_ℕ, coded_list}
 use Rattle.slotted_theory.specs.Term.{Term}
 use Rattle.slotted_theory.specs.Nameless.{DTerm, nameless}
 use Rattle.slotted_theory.specs.Derives.{Derives, nameless_pair}
 use Rattle.slotted_model.specs.Applied.{Applied, values}
-use Rattle.slotted_model.specs.Classes.{term_of, IsFull}
+use Rattle.slotted_model.specs.Classes.{canonical_slots, term_of, IsFull}
 use Rattle.slotted_model.specs.Correspondence.{composite}
 use Rattle.slotted_model.specs.ProofList.{Equation, ProofEntry, equation_of, equation_at, term_pair, asserted}
 use Rattle.slotted_core.specs.TermCode.{nameless_code}
@@ -80,9 +81,16 @@ pub record CanUnite (g : Image) (a b : Applied) : Type 0 where
   pub differ : (found_id g a).0 ≢ (found_id g b).0
   pub names : (z : ℕ) → Contains (values (found_id g a).1) z ↔ Contains (values (found_id g b).1) z
 
+-- they neither find alike nor can be united
+abbrev pub IsNoUnion : Image → Applied → Applied → Type 0
+IsNoUnion g a b = (¬ FoundAlike g a b) × (¬ CanUnite g a b)
+
 -- what a union of a and b answers, and what it leaves: true where they found different classes with the same names, and now find
--- alike; false where they found alike, and no class has changed; and else nothing, and nothing has changed
-abbrev pub IsUnion : Image → Image → Applied → Applied → Option Bool → Type 0
-IsUnion g h a b None = (¬ FoundAlike g a b) × (¬ CanUnite g a b) × (h ≡ g)
-IsUnion g h a b (Some true) = CanUnite g a b × FoundAlike h a b × Asserts g h (equation_of a b) × (h.canonical ≡ g.canonical) × Continues g h
-IsUnion g h a b (Some false) = FoundAlike g a b × (h.found ≡ g.found) × Asserts g h (equation_of a b) × (h.canonical ≡ g.canonical) × Continues g h
+-- alike; false where they found alike, and no class has changed
+abbrev pub IsUnion : Image → Image → Applied → Applied → Bool → Type 0
+IsUnion g h a b true = CanUnite g a b × FoundAlike h a b × Asserts g h (equation_of a b) × (h.canonical ≡ g.canonical) × Continues g h
+IsUnion g h a b false = FoundAlike g a b × (h.found ≡ g.found) × Asserts g h (equation_of a b) × (h.canonical ≡ g.canonical) × Continues g h
+
+-- a class has 2^29 slots or more: two of them may have too many to be numbered
+abbrev pub HasLargeClass : List DTerm → Type 0
+HasLargeClass nodes = (i : ℕ) × (i < length nodes) × (2 ^ 29 ≤ length (canonical_slots nodes i))

@@ -9,10 +9,11 @@ ghost use Rattle.slotted_languages.specs.NodeTerm.{nameless_node};
 ghost use Rattle.slotted_model.specs.Growth.{Extends};
 ghost use Rattle.slotted_model.specs.Classes.{IsFull, Canonical, term_of, layer_of};
 ghost use Rattle.slotted_model.specs.Ids.{id_of, id_of_node};
+ghost use Rattle.slotted_proofs.specs.Entries.{explicit_numbers};
 ghost use Rattle.slotted_terms.specs.Outcome.{Answers};
 ghost use Rattle.slotted_terms.specs.Parsed.{TextReads};
 ghost use Rattle.slotted_terms.specs.Valid.{IsValidTerm};
-ghost use Rattle.slotted_core.specs.Image.{no_classes, FoundAlike, asserted_in, AreDerivable, AddsClasses, IsUnion};
+ghost use Rattle.slotted_core.specs.Image.{no_classes, FoundAlike, asserted_in, AreDerivable, AddsClasses, IsUnion, IsNoUnion, HasLargeClass};
 ghost use Rattle.slotted_core.specs.Graph.{IsValidId, IsValidNode, HasNewClass};
 ghost use Rattle.slotted_core.specs.Nodes.{to_applied};
 ghost use Rattle.slotted_core.specs.Places.{term_places};
@@ -21,6 +22,7 @@ ghost use Rattle.slotted_core.specs.SmallNodes.{HasSmallNodes};
 use crate::kernel::Core;
 use crate::terms::is_valid_term;
 use slotted_languages::Language;
+use slotted_proofs::ProvenEq;
 use slotted_slots::{AppliedId, Error, SlotTable};
 use slotted_terms::expr::RecExpr;
 use std::alloc::Global;
@@ -240,17 +242,20 @@ impl<L: Language, N: Drop> EGraph<L, N> {
 
     /// Two valid ids are equal, because the caller says so.
     ///
-    /// True if they found different classes with the same names: both find the class of the right one from now on. False if they
-    /// found alike already. There is no answer, and nothing has changed, if they find one class with other names, or other sets of
-    /// names. Classes above them are not united: what `eq` says of two nodes over them is as before.
-    pub fn union(&mut self, l: &AppliedId, r: &AppliedId) -> Result<Option<bool>, Error>
+    /// True if they found different classes with the same names, which find one class from now on; false if they found alike
+    /// already. A union of ids that find one class with other names, or other sets of names, is refused for now, and changes
+    /// nothing. Classes above them are not united: what `eq` says of two nodes over them is as before.
+    pub fn union(&mut self, l: &AppliedId, r: &AppliedId) -> Result<bool, Error>
         requires left { IsTrue self.old.failed ⊎ IsValidId self.old (to_applied l.now) }
         requires right { IsTrue self.old.failed ⊎ IsValidId self.old (to_applied r.now) }
         ensures union { IfOk result (IsUnion self.old.image self.new.image (to_applied l.now) (to_applied r.now)) }
         ensures table { self.new.table ≡ self.old.table }
+
+        ensures not_yet { IsErrOf result Error.NotYet → IsNoUnion self.old.image (to_applied l.now) (to_applied r.now) × (self.new ≡ self.old) }
         ensures failed { IsErrOf result Error.Failed ↔ IsTrue self.old.failed }
-        ensures fails { IsTrue self.new.failed ↔ IsErr result }
-        ensures only { IfErr result (λ e. (e ≡ Error.Failed) ⊎ IsShortage e) }
+        ensures fails { IsTrue self.new.failed ↔ (IsErr result × ¬ IsErrOf result Error.NotYet) }
+        ensures full { IsErrOf result Error.OutOfSlots → HasLargeClass self.old.image.canonical }
+        ensures only { IfErr result (λ e. (e ≡ Error.Failed) ⊎ (e ≡ Error.NotYet) ⊎ IsShortage e) }
     {
         self.union_justified(l, r, None)
     }
@@ -261,14 +266,19 @@ impl<L: Language, N: Drop> EGraph<L, N> {
         l: &AppliedId,
         r: &AppliedId,
         text: Option<String>,
-    ) -> Result<Option<bool>, Error>
+    ) -> Result<bool, Error>
         requires left { IsTrue self.old.failed ⊎ IsValidId self.old (to_applied l.now) }
         requires right { IsTrue self.old.failed ⊎ IsValidId self.old (to_applied r.now) }
+
+        // True or false as `eq` said no or yes before. The equation then stands in the proof list, and what was there stays.
         ensures union { IfOk result (IsUnion self.old.image self.new.image (to_applied l.now) (to_applied r.now)) }
         ensures table { self.new.table ≡ self.old.table }
+
+        ensures not_yet { IsErrOf result Error.NotYet → IsNoUnion self.old.image (to_applied l.now) (to_applied r.now) × (self.new ≡ self.old) }
         ensures failed { IsErrOf result Error.Failed ↔ IsTrue self.old.failed }
-        ensures fails { IsTrue self.new.failed ↔ IsErr result }
-        ensures only { IfErr result (λ e. (e ≡ Error.Failed) ⊎ IsShortage e) }
+        ensures fails { IsTrue self.new.failed ↔ (IsErr result × ¬ IsErrOf result Error.NotYet) }
+        ensures full { IsErrOf result Error.OutOfSlots → HasLargeClass self.old.image.canonical }
+        ensures only { IfErr result (λ e. (e ≡ Error.Failed) ⊎ (e ≡ Error.NotYet) ⊎ IsShortage e) }
     {
         if self.failed {
             return Err(Error::Failed);
@@ -276,6 +286,23 @@ impl<L: Language, N: Drop> EGraph<L, N> {
         self.failed = true;
         let answer = self.core.union(self.alloc, l, r, text)?;
         self.failed = false;
-        Ok(answer)
+        match answer {
+            Some(yes) => Ok(yes),
+            None => Err(Error::NotYet),
+        }
+    }
+
+    /// The numbers of the asserted equations, in the order in which they were entered.
+    pub fn asserted(&self) -> &[ProvenEq]
+        ensures { result.now ≡ explicit_numbers self.now.image.entries }
+    {
+        self.core.asserted()
+    }
+
+    /// The number of proved equations.
+    pub fn proof_count(&self) -> usize
+        ensures { result ≡ length self.now.image.entries }
+    {
+        self.core.proof_count()
     }
 }

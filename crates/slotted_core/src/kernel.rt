@@ -1,5 +1,5 @@
 //! The lists of a graph: its classes, and the filed nodes by shape.
-ghost use Rattle.std.specs.Prelude.{◌≡◌, ◌≤◌, ◌<◌, ◌↔◌, ◌⊎◌, ◌^◌, ◌∷◌, [], length, IsTrue, IfOk, IfErr, OnOk, IsErrOf, Option, None, option_map, string_bytes, All};
+ghost use Rattle.std.specs.Prelude.{◌≡◌, ◌+◌, ◌≤◌, ◌<◌, ◌↔◌, ◌⊎◌, ◌^◌, ◌∷◌, [], length, IsTrue, IfOk, IfErr, OnOk, IsErrOf, Option, None, option_map, string_bytes, All};
 ghost use Rattle.slotted_theory.specs.FiniteMaps.{IsInjectiveMap};
 ghost use Rattle.slotted_slots.specs.Error.{IsOutOfMemory, IsShortage};
 ghost use Rattle.slotted_slots.specs.Maps.{keys, values};
@@ -10,7 +10,7 @@ ghost use Rattle.slotted_languages.specs.Shape.{shape};
 ghost use Rattle.slotted_model.specs.Classes.{IsFull, term_of};
 ghost use Rattle.slotted_model.specs.Ids.{id_of_node};
 ghost use Rattle.slotted_proofs.specs.Equations.{Meets};
-ghost use Rattle.slotted_proofs.specs.Entries.{statement_at, asserted_entry, turned_entry, composite_entry};
+ghost use Rattle.slotted_proofs.specs.Entries.{statement_at, explicit_numbers, asserted_entry, turned_entry, composite_entry};
 ghost use Rattle.slotted_terms.specs.Valid.{AllKnown, IsWhole};
 ghost use Rattle.slotted_core.specs.Kept.{Good, HasFreshSlots, Adds, AddsTerm, MakesClass, EntersIn, nothing, nodes_of, entries_of, proofs_of, find_at, found, with_filed, with_linked};
 ghost use Rattle.slotted_core.specs.Names.{between};
@@ -30,13 +30,15 @@ use std::alloc::Global;
 use std::marker::Model;
 
 /// A class: the node that it was made with, over its own slots, the class that it leads to, with a slot of its own for each
-/// slot of that, the proof of this, and the moment of its link. A live class leads to itself.
+/// slot of that, the proof of this, and the moment of its link. A live class leads to itself, and its weight is the number of
+/// filed nodes that are in it or have it as a child.
 #[derive(Drop)]
 pub struct Class<L> {
     node: L,
     find: AppliedId,
     proof: ProvenEq,
     died: usize,
+    weight: usize,
 }
 
 /// A filed node's source class, and the slot of that class for each number of the shape.
@@ -136,6 +138,7 @@ impl<L: Language> Core<L> {
         requires left { IsInjectiveMap l.now.m }
         requires right { IsInjectiveMap r.now.m }
         ensures ok { IfOk result (EntersIn self.old self.new (asserted_entry (to_applied l.now) (to_applied r.now) (option_map string_bytes text))) }
+        ensures full { IsErrOf result Error.OutOfSlots → 2 ^ 30 ≤ length l.now.m + length r.now.m }
         ensures err { IfErr result IsShortage }
     {
         self.proofs.enter_explicit(alloc, l, r, text)
@@ -145,6 +148,7 @@ impl<L: Language> Core<L> {
     pub(crate) fn turn(&mut self, alloc: Global, p: ProvenEq) -> Result<ProvenEq, Error>
         requires { p < length self.old.proofs }
         ensures ok { IfOk result (EntersIn self.old self.new (turned_entry self.old.proofs p)) }
+        ensures full { IsErrOf result Error.OutOfSlots → 2 ^ 30 ≤ length (statement_at self.old.proofs p).left_slots + length (statement_at self.old.proofs p).right_slots }
         ensures err { IfErr result IsShortage }
     {
         self.proofs.enter_symmetric(alloc, p)
@@ -161,6 +165,7 @@ impl<L: Language> Core<L> {
         requires second { q < length self.old.proofs }
         requires meets { Meets (statement_at self.old.proofs p) (statement_at self.old.proofs q) }
         ensures ok { IfOk result (EntersIn self.old self.new (composite_entry self.old.proofs p q)) }
+        ensures full { IsErrOf result Error.OutOfSlots → 2 ^ 30 ≤ length (statement_at self.old.proofs p).left_slots + length (statement_at self.old.proofs q).right_slots }
         ensures err { IfErr result IsShortage }
     {
         self.proofs.enter_transitive(alloc, p, q)
@@ -189,6 +194,39 @@ impl<L: Language> Core<L> {
         Ok(())
     }
 
+    // The weight of a class. No contract speaks of weights: they decide which class is kept, and so how long finds walk.
+    pub(crate) fn weight(&self, id: usize) -> usize {
+        match self.classes.get(id) {
+            Some(class) => class.weight,
+            None => 0,
+        }
+    }
+
+    // A class becomes heavier.
+    pub(crate) fn add_weight(&mut self, id: usize, more: usize)
+        ensures { self.new ≡ self.old }
+    {
+        if id >= self.classes.len() {
+            return;
+        }
+        let class = &mut self.classes[id];
+        class.weight = class.weight.saturating_add(more);
+    }
+
+    /// The number of proved equations.
+    pub fn proof_count(&self) -> usize
+        ensures { result ≡ length self.now.proofs }
+    {
+        self.proofs.len()
+    }
+
+    /// The numbers of the asserted equations, in order.
+    pub fn asserted(&self) -> &[ProvenEq]
+        ensures { result.now ≡ explicit_numbers (proofs_of self.now) }
+    {
+        self.proofs.asserted()
+    }
+
     // A class of its own for a shape, with these slots for its numbers, and the entry that it equals itself.
     fn make_class(&mut self, alloc: Global, shape: L, slots: SlotMap) -> Result<(), Error>
         requires few { IsSmall (L.form shape) }
@@ -215,6 +253,7 @@ impl<L: Language> Core<L> {
             find,
             proof,
             died: 0,
+            weight: 1,
         };
         self.file(shape, row, class)?;
         Ok(())
@@ -308,7 +347,19 @@ impl<L: Language> Core<L> {
             m: map_between(alloc, &slots, &names)?,
         };
         self.make_class(alloc, shape, slots)?;
+        self.weigh_children(node);
         Ok(answer)
+    }
+
+    // The classes of a node's children become heavier by one, each once.
+    fn weigh_children(&mut self, node: &L)
+        ensures { self.new ≡ self.old }
+    {
+        for k in 0..node.applied_id_count() {
+            if is_first_child(node, k) {
+                self.add_weight(child_class(node, k), 1);
+            }
+        }
     }
 
     /// The id of the term, whose nodes are added from below.
@@ -334,6 +385,24 @@ impl<L: Language> Core<L> {
         let answer = self.add(alloc, table, &node)?;
         Ok(answer)
     }
+}
+
+// The class of a child, or a number that no class has past the last one.
+fn child_class<L: Language>(node: &L, k: usize) -> usize {
+    match node.get_applied_id(k) {
+        Some(a) => a.id.0,
+        None => usize::MAX,
+    }
+}
+
+// Whether no earlier child has the class of this one.
+fn is_first_child<L: Language>(node: &L, k: usize) -> bool {
+    for i in 0..k {
+        if child_class(node, i) == child_class(node, k) {
+            return false;
+        }
+    }
+    true
 }
 
 // The class of a row, with these names for the numbers of the row's shape.

@@ -1,5 +1,6 @@
 //! Uniting two classes: proofs of what finds say, and the link.
-ghost use Rattle.std.specs.Prelude.{◌≡◌, ◌≢◌, ◌<◌, ◌↔◌, ℕ, length, Contains, IfOk, IfErr, OnOk, option_map, string_bytes};
+ghost use Rattle.std.specs.Prelude.{◌≡◌, ◌≢◌, ◌<◌, ◌↔◌, ℕ, length, Contains, IfOk, IfErr, IsErrOf, OnOk, option_map, string_bytes};
+ghost use Rattle.slotted_core.specs.Image.{HasLargeClass};
 ghost use Rattle.slotted_slots.specs.Error.{IsShortage};
 ghost use Rattle.slotted_slots.specs.Maps.{values};
 ghost use Rattle.slotted_model.specs.Classes.{IsFull};
@@ -22,6 +23,7 @@ impl<L: Language> Core<L> {
         requires good { Good self.old }
         requires within { id < length self.old.classes }
         ensures ok { IfOk result (Proves self.old self.new (find_equation (nodes_of self.old) (entries_of self.old) id)) }
+        ensures full { IsErrOf result Error.OutOfSlots → HasLargeClass (nodes_of self.old) }
         ensures err { IfErr result IsShortage }
     {
         let next = self.entry(id).id.0;
@@ -39,6 +41,7 @@ impl<L: Language> Core<L> {
         requires good { Good self.old }
         requires within { id < length self.old.classes }
         ensures ok { IfOk result (Proves self.old self.new (turned_equation (nodes_of self.old) (find_equation (nodes_of self.old) (entries_of self.old) id))) }
+        ensures full { IsErrOf result Error.OutOfSlots → HasLargeClass (nodes_of self.old) }
         ensures err { IfErr result IsShortage }
     {
         let proof = self.find_proof(alloc, id)?;
@@ -59,6 +62,7 @@ impl<L: Language> Core<L> {
         requires left { IsFull (nodes_of self.old) (to_applied a.now) }
         requires right { IsFull (nodes_of self.old) (to_applied b.now) }
         ensures ok { IfOk result (IsAsserted self.old self.new (asserted_for is_turned (to_applied a.now) (to_applied b.now) (option_map string_bytes text)) (to_applied a.now) (to_applied b.now)) }
+        ensures full { IsErrOf result Error.OutOfSlots → HasLargeClass (nodes_of self.old) }
         ensures err { IfErr result IsShortage }
     {
         if !is_turned {
@@ -85,6 +89,7 @@ impl<L: Language> Core<L> {
         requires different { find_class (entries_of self.old) dead.now.id.0 ≢ find_class (entries_of self.old) kept.now.id.0 }
         requires names { (x : ℕ) → Contains (values (find (entries_of self.old) (to_applied dead.now)).1) x ↔ Contains (values (find (entries_of self.old) (to_applied kept.now)).1) x }
         ensures ok { OnOk result (Links self.old self.new (asserted_for is_turned (to_applied dead.now) (to_applied kept.now) (option_map string_bytes text)) (to_applied dead.now) (to_applied kept.now)) }
+        ensures full { IsErrOf result Error.OutOfSlots → HasLargeClass (nodes_of self.old) }
         ensures err { IfErr result IsShortage }
     {
         let from = self.found_id(alloc, dead)?;
@@ -96,13 +101,16 @@ impl<L: Language> Core<L> {
         let proof = self.assert_sides(alloc, dead, kept, is_turned, text)?;
         let half = self.chain(alloc, back, proof)?;
         let whole = self.chain(alloc, half, onward)?;
+        let heir = to.id.0;
         self.set_link(from.id.0, to, whole)?;
+        let more = self.weight(from.id.0);
+        self.add_weight(heir, more);
         Ok(())
     }
 
     /// Two valid ids are equal, because the caller says so, with a text or without one. True if they found different classes,
-    /// of which the right one now leads on for both; false if they found alike. There is no answer where they find one class, or
-    /// other names: then nothing has changed.
+    /// of which one now leads on for both: the right one exactly if the left one is no heavier. False if they found alike. There is
+    /// no answer where they find one class, or other names: then nothing has changed.
     pub fn union(
         &mut self,
         alloc: Global,
@@ -114,6 +122,7 @@ impl<L: Language> Core<L> {
         requires left { IsFull (nodes_of self.old) (to_applied l.now) }
         requires right { IsFull (nodes_of self.old) (to_applied r.now) }
         ensures ok { IfOk result (Unites self.old self.new (asserted_entry (to_applied l.now) (to_applied r.now) (option_map string_bytes text)) (to_applied l.now) (to_applied r.now)) }
+        ensures full { IsErrOf result Error.OutOfSlots → HasLargeClass (nodes_of self.old) }
         ensures err { IfErr result IsShortage }
     {
         let left = self.found_id(alloc, l)?;
@@ -127,6 +136,10 @@ impl<L: Language> Core<L> {
         }
         if !have_same_values(&left.m, &right.m) {
             return Ok(None);
+        }
+        if self.weight(left.id.0) > self.weight(right.id.0) {
+            self.link(alloc, r, l, true, text)?;
+            return Ok(Some(true));
         }
         self.link(alloc, l, r, false, text)?;
         Ok(Some(true))

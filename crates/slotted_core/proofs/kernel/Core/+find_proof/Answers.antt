@@ -1,11 +1,11 @@
-use Rattle.std.proofs.Common.{◌≡◌, ◌≢◌, ◌<◌, ◌∙◌, ℕ, length, ap, sym, subst, arith, rules}
+use Rattle.std.proofs.Common.{◌≡◌, ◌≢◌, ◌<◌, ◌≤◌, ◌+◌, ◌^◌, ◌∙◌, ℕ, length, ap, sym, subst, arith, rules}
 use Rattle.slotted_model.specs.Applied.{Applied}
 use Rattle.slotted_model.specs.ProofList.{find_equation}
 use Rattle.slotted_core.specs.Kept.{Kept, find_at, nodes_of, entries_of, EntersIn, Proves}
 use Rattle.slotted_proofs.specs.Equations.{Meets}
 use Rattle.slotted_proofs.specs.Entries.{statement_at, composite_entry}
 use Rattle.slotted_core.proofs.Chasing.{moments_left, next_within, nearer}
-use Rattle.slotted_core.proofs.United.{live-proves, next-first, next-meets, next-proves}
+use Rattle.slotted_core.proofs.United.{live-proves, next-first, next-meets, next-large, next-proves}
 use Rattle.slotted_core.proofs.kernel.Core.+find_proof.Goals as goal
 
 pub returns-then-next-id-clause-ok : goal.returns-then-next-id-clause-ok
@@ -43,3 +43,11 @@ returns-clause-ok g t c =
     let next : c.entry.result.now.id.0 ≡ (find_at k c.args.id).class = ap (λ (a : Applied). a.0) c.entry.ensures in
     next-proves k c.requires.good c.args.id c.requires.within l c.in_ok-rest.rest c.entry.result.now.id.0 next c.in_ok-rest.ensures.ok c.chain.new.self c.in_ok-answer.answer
     (subst (λ p. EntersIn l c.chain.new.self (composite_entry l.proofs p c.in_ok-rest.rest) c.in_ok-answer.answer) c.proof_of-proof.ensures c.in_ok-answer.ensures.ok)
+
+pub returns-in_err-answer-clause-full : goal.returns-in_err-answer-clause-full
+returns-in_err-answer-clause-full g t c e =
+    let k : Kept = c.args.self.now in
+    let l : Kept = c.find_proof.new.self in
+    let next : c.entry.result.now.id.0 ≡ (find_at k c.args.id).class = ap (λ (a : Applied). a.0) c.entry.ensures in
+    next-large k c.requires.good c.args.id c.requires.within l c.in_ok-rest.rest c.entry.result.now.id.0 next c.in_ok-rest.ensures.ok
+    (subst (λ p. 2 ^ 30 ≤ length (statement_at l.proofs p).left_slots + length (statement_at l.proofs c.in_ok-rest.rest).right_slots) c.proof_of-proof.ensures (c.in_err-answer.ensures.full (search rules)))

@@ -1,9 +1,10 @@
-use Rattle.std.proofs.Common.{◌≡◌, ◌∙◌, ◌+◌, ap, length, arith, rules, inl}
+use Rattle.std.proofs.Common.{◌≡◌, ◌∙◌, ◌+◌, ap, sym, subst, length, arith, rules, inl}
 use Rattle.slotted_slots.specs.Maps.{keys}
 use Rattle.slotted_slots.specs.Table.{Table}
 use Rattle.slotted_core.proofs.Found.{row-names}
 use Rattle.slotted_core.proofs.NameMaps.{length-keys}
 use Rattle.slotted_core.proofs.Added.{fresh_injective, row_adds, class_adds}
+use Rattle.slotted_core.specs.Kept.{Kept, Adds}
 use Rattle.slotted_core.specs.Names.{fresh_slots}
 use Rattle.slotted_core.specs.Nodes.{to_applied}
 use Rattle.slotted_core.proofs.kernel.Core.add.Goals as goal
@@ -25,7 +26,8 @@ returns-clause-ok g c =
     let names = c.in_ok-shape.names in
     let slots = c.renew_values.new.map in
     let n : length c.in_ok-slots.slots ≡ length names = ap length c.in_ok-slots.ensures.ok in
-    class_adds c.args.table.now c.renew_values.new.table c.args.self.now c.make_class.new.self c.requires.good c.requires.fresh_slots
+    subst (λ (l : Kept). Adds c.args.table.now c.renew_values.new.table c.args.self.now l (g.L.LanguageChildren.form c.args.node.now) (c.class_count.result, c.in_ok-map_between.field-0)) (sym c.weigh_children.ensures)
+    (class_adds c.args.table.now c.renew_values.new.table c.args.self.now c.make_class.new.self c.requires.good c.requires.fresh_slots
     (g.L.LanguageChildren.form c.args.node.now) (g.met.L.LanguageChildren.fits c.args.node.now) c.requires.children
     (c.class_count.result, c.in_ok-map_between.field-0) slots (g.L.LanguageChildren.form c.in_ok-shape.shape) names c.in_ok-shape.ensures.shape
     c.in_default.ensures
@@ -33,7 +35,7 @@ returns-clause-ok g c =
     (c.in_ok-renew_values.ensures.values ∙ ap (fresh_slots c.args.table.now.fresh) n)
     (ap (λ (t : Table). t.fresh) c.in_ok-renew_values.ensures.table ∙ ap (λ k. c.args.table.now.fresh + k) n)
     c.in_ok-make_class.ensures.ok
-    (λ i. (c.class_count.ensures i, c.in_ok-map_between.ensures.ok i))
+    (λ i. (c.class_count.ensures i, c.in_ok-map_between.ensures.ok i)))
 
 pub make_class-requires-clause-different : goal.make_class-requires-clause-different
 make_class-requires-clause-different g c =

@@ -4,7 +4,7 @@ use Rattle.std.proofs.lemmas.Bool.{false≢true}
 use Rattle.slotted_languages.specs.Equal.{map_same, and_same}
 use Rattle.slotted_model.specs.Applied.{Applied}
 use Rattle.slotted_core.specs.Nodes.{to_applied}
-use Rattle.slotted_core.proofs.United.{agrees, found-alike, found-same, not-alike, can-unite, one-class, other-names, classes-differ, names-same}
+use Rattle.slotted_core.proofs.United.{agrees, found-alike, found-same, not-alike, can-unite, one-class, other-names, classes-differ, names-same, links-turned}
 use Rattle.slotted_core.proofs.kernel.Core.union.Goals as goal
 
 pub returns-then-eq-clause-ok : goal.returns-then-eq-clause-ok
@@ -59,7 +59,7 @@ link-requires-clause-different g c =
     let to = to_applied c.in_ok-right.right in
     let ef = c.in_ok-left.ensures.ok in
     let et = c.in_ok-right.ensures.ok in
-    classes-differ k c.requires.good a b c.requires.left c.requires.right from to ef et (λ e. omega (arith, e, c.if-left-right.false))
+    λ e. classes-differ k c.requires.good a b c.requires.left c.requires.right from to ef et (λ h. omega (arith, h, c.if-left-right.false)) (sym e)
 
 pub link-requires-clause-names : goal.link-requires-clause-names
 link-requires-clause-names g c =
@@ -70,7 +70,41 @@ link-requires-clause-names g c =
     let to = to_applied c.in_ok-right.right in
     let ef = c.in_ok-left.ensures.ok in
     let et = c.in_ok-right.ensures.ok in
+    let n = names-same k c.requires.good a b c.requires.left c.requires.right from to ef et (c.have_same_values.ensures.0 c.if-not-have_same_values.false) in
+    λ x. ((n x).1, (n x).0)
+
+pub link-requires-2-clause-different : goal.link-requires-2-clause-different
+link-requires-2-clause-different g c =
+    let k = c.args.self.now in
+    let a = to_applied c.args.l.now in
+    let b = to_applied c.args.r.now in
+    let from = to_applied c.in_ok-left.left in
+    let to = to_applied c.in_ok-right.right in
+    let ef = c.in_ok-left.ensures.ok in
+    let et = c.in_ok-right.ensures.ok in
+    classes-differ k c.requires.good a b c.requires.left c.requires.right from to ef et (λ e. omega (arith, e, c.if-left-right.false))
+
+pub link-requires-2-clause-names : goal.link-requires-2-clause-names
+link-requires-2-clause-names g c =
+    let k = c.args.self.now in
+    let a = to_applied c.args.l.now in
+    let b = to_applied c.args.r.now in
+    let from = to_applied c.in_ok-left.left in
+    let to = to_applied c.in_ok-right.right in
+    let ef = c.in_ok-left.ensures.ok in
+    let et = c.in_ok-right.ensures.ok in
     names-same k c.requires.good a b c.requires.left c.requires.right from to ef et (c.have_same_values.ensures.0 c.if-not-have_same_values.false)
+
+pub returns-then-weight-clause-ok : goal.returns-then-weight-clause-ok
+returns-then-weight-clause-ok g c =
+    let k = c.args.self.now in
+    let a = to_applied c.args.l.now in
+    let b = to_applied c.args.r.now in
+    let from = to_applied c.in_ok-left.left in
+    let to = to_applied c.in_ok-right.right in
+    let ef = c.in_ok-left.ensures.ok in
+    let et = c.in_ok-right.ensures.ok in
+    (can-unite k c.requires.good a b c.requires.left c.requires.right from to ef et (λ e. omega (arith, e, c.if-left-right.false)) (c.have_same_values.ensures.0 c.if-not-have_same_values.false), links-turned k c.link.new.self _ b a c.in_ok-link.ensures.ok)
 
 pub returns-clause-ok : goal.returns-clause-ok
 returns-clause-ok g c =
@@ -81,4 +115,4 @@ returns-clause-ok g c =
     let to = to_applied c.in_ok-right.right in
     let ef = c.in_ok-left.ensures.ok in
     let et = c.in_ok-right.ensures.ok in
-    (can-unite k c.requires.good a b c.requires.left c.requires.right from to ef et (λ e. omega (arith, e, c.if-left-right.false)) (c.have_same_values.ensures.0 c.if-not-have_same_values.false), c.in_ok-link.ensures.ok)
+    (can-unite k c.requires.good a b c.requires.left c.requires.right from to ef et (λ e. omega (arith, e, c.if-left-right.false)) (c.have_same_values.ensures.0 c.if-not-have_same_values.false), c.in_ok-link-2.ensures.ok)
