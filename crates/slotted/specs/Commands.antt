@@ -1,10 +1,11 @@
 -- What a line asks: a command is its word, one space and the rest.
 use Rattle.std.specs.Prelude.{ℕ, List, [], ◌∷◌, Option, Some, None, option_map, if◌then◌else◌, ◌==◌, codes}
 
--- to add a text; to compare two texts; or nothing that is known
+-- to add a text; to compare two texts; to unite two texts; or nothing that is known
 pub data Command : Type 0 where
   adds : (text : List ℕ) → Command
   compares : (left right : List ℕ) → Command
+  unites : (left right : List ℕ) → Command
   no_command : Command
 
 -- what follows a word that a text begins with
@@ -23,17 +24,18 @@ abbrev pub parts_around : List ℕ → List ℕ → Option (List ℕ × List ℕ
 parts_around w [] = in_front_or (rest_behind w []) None
 parts_around w (b ∷ bs) = in_front_or (rest_behind w (b ∷ bs)) (option_map (λ p. (b ∷ p.0, p.1)) (parts_around w bs))
 
--- two texts to compare, where there are two
-abbrev pub comparing : Option (List ℕ × List ℕ) → Command
-comparing (Some p) = compares p.0 p.1
-comparing None = no_command
+-- what is asked of two texts, where there are two
+abbrev pub of_two : (List ℕ → List ℕ → Command) → Option (List ℕ × List ℕ) → Command
+of_two command (Some p) = command p.0 p.1
+of_two command None = no_command
 
--- what is asked by what follows the word `add`, and by what follows the word `eq`
-abbrev pub asked_by : Option (List ℕ) → Option (List ℕ) → Command
-asked_by (Some text) _ = adds text
-asked_by None (Some texts) = comparing (parts_around (codes " == ") texts)
-asked_by None None = no_command
+-- what is asked by what follows the word `add`, by what follows the word `eq`, and by what follows the word `union`
+abbrev pub asked_by : Option (List ℕ) → Option (List ℕ) → Option (List ℕ) → Command
+asked_by (Some text) _ _ = adds text
+asked_by None (Some texts) _ = of_two compares (parts_around (codes " == ") texts)
+asked_by None None (Some texts) = of_two unites (parts_around (codes " == ") texts)
+asked_by None None None = no_command
 
 -- what a line asks
 unfoldable pub command_of : List ℕ → Command
-command_of line = asked_by (rest_behind (codes "add ") line) (rest_behind (codes "eq ") line)
+command_of line = asked_by (rest_behind (codes "add ") line) (rest_behind (codes "eq ") line) (rest_behind (codes "union ") line)

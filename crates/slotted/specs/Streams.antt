@@ -4,7 +4,8 @@ use Rattle.std.specs.Str.{IsUtf8}
 use Rattle.slotted_slots.specs.Syntax.{Element}
 use Rattle.slotted_slots.specs.Table.{empty_table}
 use Rattle.slotted_languages.specs.Form.{Form}
-use Rattle.slotted_core.specs.Graph.{Graph, no_classes}
+use Rattle.slotted_core.specs.Graph.{Graph}
+use Rattle.slotted_core.specs.Image.{no_classes}
 use Rattle.slotted.specs.declared.answer.Answer.{Answer}
 use Rattle.slotted.specs.Answers.{text_of}
 use Rattle.slotted.specs.Commands.{command_of}

@@ -14,6 +14,10 @@ pub enum Answer {
     Yes,
     /// The two terms are not equal.
     No,
+    /// The two terms were not equal, and are now.
+    United,
+    /// The two terms to unite were equal already.
+    WereEqual,
     /// The command was refused.
     Refused(Error),
     /// The line is no command.
@@ -28,6 +32,8 @@ impl fmt::Display for Answer {
             Answer::Done => write!(f, "ok"),
             Answer::Yes => write!(f, "yes"),
             Answer::No => write!(f, "no"),
+            Answer::United => write!(f, "true"),
+            Answer::WereEqual => write!(f, "false"),
             Answer::Refused(error) => {
                 let number = error.number();
                 let name = error.name();

@@ -10,6 +10,8 @@ pub enum Command<'a> {
     Add(&'a str),
     /// To compare two texts.
     Eq(&'a str, &'a str),
+    /// To unite two texts.
+    Union(&'a str, &'a str),
     /// Nothing that is known.
     Unknown,
 }
@@ -22,11 +24,17 @@ impl<'a> Command<'a> {
         if let Some(text) = line.strip_prefix("add ") {
             return Command::Add(text);
         }
-        let Some(texts) = line.strip_prefix("eq ") else {
+        if let Some(texts) = line.strip_prefix("eq ") {
+            return match texts.split_once(" == ") {
+                Some((left, right)) => Command::Eq(left, right),
+                None => Command::Unknown,
+            };
+        }
+        let Some(texts) = line.strip_prefix("union ") else {
             return Command::Unknown;
         };
         match texts.split_once(" == ") {
-            Some((left, right)) => Command::Eq(left, right),
+            Some((left, right)) => Command::Union(left, right),
             None => Command::Unknown,
         }
     }

@@ -61,6 +61,42 @@ fn lines_are_answered(rt: HostRuntime) -> Result<(), Fail> {
 }
 
 #[test]
+fn unions_are_answered(rt: HostRuntime) -> Result<(), Fail> {
+    let cases = [
+        ("union a == b\neq a == b\nunion a == b", "true\nyes\nfalse\n"),
+        (
+            "union (f $x $y) == (app (var $x) (var $y))\neq (f $p $q) == (app (var $p) (var $q))\neq (f $p $q) == (app (var $q) (var $p))",
+            "true\nyes\nno\n",
+        ),
+        ("union (f $x $y) == (g $x)", "error: 12 NotYet\n"),
+        // One class in another slot order: refused, and nothing has changed.
+        (
+            "union (f $x $y) == (f $y $x)\neq (f $x $y) == (f $y $x)\neq (f $x $y) == (f $x $y)",
+            "error: 12 NotYet\nno\nyes\n",
+        ),
+        // A chain, in either direction.
+        (
+            "union a == b\nunion c == b\nunion d == c\neq a == d\neq d == a\neq a == e",
+            "true\ntrue\ntrue\nyes\nyes\nno\n",
+        ),
+        // Names that are turned round go through two links.
+        (
+            "union (f $x $y) == (app (var $y) (var $x))\nunion (app (var $u) (var $v)) == (app (g $v) (g $u))\neq (f $1 $2) == (app (g $1) (g $2))\neq (f $1 $2) == (app (g $2) (g $1))",
+            "true\ntrue\nyes\nno\n",
+        ),
+        ("union a = b\nunion a == ?x\nunion a", "error: 0 Command\nerror: 5 NotATerm\nerror: 0 Command\n"),
+    ];
+    for (lines, expected) in cases {
+        assert_eq!(rt;
+            answers(rt.alloc(), lines)?.as_str(),
+            expected,
+            "at {lines}"
+        );
+    }
+    Ok(())
+}
+
+#[test]
 fn refusals_are_answered(rt: HostRuntime) -> Result<(), Fail> {
     let cases = [
         ("add ?x", "error: 5 NotATerm\n"),

@@ -1,6 +1,7 @@
 use Rattle.std.proofs.Common.{[], ◌∷◌, inr, refl, ◌∙◌}
 use Rattle.std.specs.Prelude.{Ok, Err}
 use Rattle.std.proofs.lemmas.Result.{err_from_is_err_and}
+use Rattle.slotted_core.specs.Nodes.{to_applied}
 use Rattle.slotted.specs.Commands.{adds}
 use Rattle.slotted.specs.Sessions.{ran_out, runs_out_here, carried_out, next_text, no_text, next_term, no_term, done}
 use Rattle.slotted.proofs.Steps.{sound_graph, first_is_refused, writes_term, gains, runs_out}
@@ -31,5 +32,5 @@ returns g c =
     let at = c.in_ok-term.ensures in
     let e = c.in_ok-add_expr.ensures in
     let writes = writes_term g.L.LanguageChildren.read c.args.graph.now c.parse_expr.new.self c.args.text.now at.image at.same at.more c.in_ok-term.term (at.answer sound) in
-    let gained = gains c.parse_expr.new.self c.add_expr.new.self c.in_ok-term.term c.in_ok-add_expr.field-0 e.fails.0 e.valid e.term e.found e.extends e.more in
-    carried_out (c.in_ok-term.term ∷ []) c.parse_expr.new.self sound (next_text writes no_text) (next_term gained no_term) done
+    let gained = gains c.parse_expr.new.self c.add_expr.new.self c.in_ok-term.term c.in_ok-add_expr.field-0 e.fails.0 e.valid e.term e.found e.extends e.adds e.more in
+    carried_out (c.in_ok-term.term ∷ []) (to_applied c.in_ok-add_expr.field-0 ∷ []) c.parse_expr.new.self c.add_expr.new.self sound (next_text writes no_text) (next_term gained no_term) done

@@ -10,3 +10,6 @@ returns-in-Eq g c = rw (c.to_answer-in-Eq.ensures, sym c.in-Eq.ensures) c.compar
 
 pub returns-in-Unknown : goal.returns-in-Unknown
 returns-in-Unknown g c = unknown (sym c.in-Unknown.ensures) refl
+
+pub returns-in-Union : goal.returns-in-Union
+returns-in-Union g c = rw (c.to_answer-in-Union.ensures, sym c.in-Union.ensures) c.unite.ensures

@@ -1,92 +1,18 @@
-use Rattle.std.proofs.Common.{[], ◌∷◌, inr, refl, sym, ◌∙◌}
-use Rattle.std.specs.Prelude.{Ok, Err}
+use Rattle.std.proofs.Common.{◌≡◌, sym, ◌∙◌}
 use Rattle.std.proofs.lemmas.Bool.{false≢true}
-use Rattle.std.proofs.lemmas.Result.{err_from_is_err_and}
 use Rattle.slotted_core.specs.Nodes.{to_applied}
-use Rattle.slotted.specs.Commands.{compares}
-use Rattle.slotted.specs.Sessions.{refused, refused_here, refused_later, ran_out, runs_out_here, runs_out_later, carried_out, next_text, no_text, next_term, no_term, are_equal, are_different}
-use Rattle.slotted.proofs.Steps.{sound_graph, first_is_refused, term_later, id_later, writes_term, is_refused, gains, runs_out, same_terms}
+use Rattle.slotted.proofs.Steps.{found_equal, found_different}
 use Rattle.slotted.proofs.session.compare.Goals as goal
-
-pub returns-in_err-one : goal.returns-in_err-one
-returns-in_err-one g c =
-    let at = c.in_err-one.ensures in
-    let p = err_from_is_err_and c.from_residual.result c.from_residual.ensures.1 in
-    rw (p.1, p.2) (first_is_refused g.L.LanguageChildren.read c.args.graph.now c.parse_expr.new.self (compares c.args.left.now c.args.right.now) c.args.left.now (c.args.right.now ∷ []) c.in_err-one.field-0.0 tt refl at.image at.same at.more at.stays (λ failed. cc (at.failed.1 failed)) at.answer)
-
-pub returns-in_err-two : goal.returns-in_err-two
-returns-in_err-two g c =
-    let sound = sound_graph c.args.graph.now.failed (Ok c.in_ok-one.one) c.in_ok-one.one refl c.in_ok-one.ensures.failed.1 in
-    let one = c.in_ok-one.ensures in
-    let at = c.in_err-two.ensures in
-    let p = err_from_is_err_and c.from_residual-in_err-two.result c.from_residual-in_err-two.ensures.1 in
-    let writes_one = writes_term g.L.LanguageChildren.read c.args.graph.now c.parse_expr.new.self c.args.left.now one.image one.same one.more c.in_ok-one.one (one.answer sound) in
-    rw (p.1, p.2) (refused sound (refused_later writes_one (refused_here (is_refused g.L.LanguageChildren.read c.parse_expr.new.self c.parse_expr-2.new.self c.args.right.now at.image at.same at.more _ (at.answer (one.same ∙ sound))))))
-
-pub add_expr-requires : goal.add_expr-requires
-add_expr-requires g c = inr (term_later c.parse_expr.new.self.table c.parse_expr-2.new.self.table c.in_ok-two.ensures.more c.in_ok-one.one c.in_ok-one.ensures.valid)
-
-pub returns-in_err-left : goal.returns-in_err-left
-returns-in_err-left g c =
-    let sound = sound_graph c.args.graph.now.failed (Ok c.in_ok-one.one) c.in_ok-one.one refl c.in_ok-one.ensures.failed.1 in
-    let one = c.in_ok-one.ensures in
-    let two = c.in_ok-two.ensures in
-    let e = c.in_err-left.ensures in
-    let p = err_from_is_err_and c.from_residual-in_err-left.result c.from_residual-in_err-left.ensures.1 in
-    let writes_one = writes_term g.L.LanguageChildren.read c.args.graph.now c.parse_expr.new.self c.args.left.now one.image one.same one.more c.in_ok-one.one (one.answer sound) in
-    let writes_two = writes_term g.L.LanguageChildren.read c.parse_expr.new.self c.parse_expr-2.new.self c.args.right.now two.image two.same two.more c.in_ok-two.two (two.answer (one.same ∙ sound)) in
-    let short = runs_out c.parse_expr-2.new.self c.add_expr.new.self c.in_ok-one.one (Err c.in_err-left.field-0.0) c.in_err-left.field-0.0 refl (two.same ∙ (one.same ∙ sound)) e.failed.0 e.fails.1 e.full e.only e.more in
-    rw (p.1, p.2) (ran_out (c.in_ok-one.one ∷ c.in_ok-two.two ∷ []) c.parse_expr-2.new.self sound (next_text writes_one (next_text writes_two no_text)) (runs_out_here short))
-
-pub add_expr-requires-2 : goal.add_expr-requires-2
-add_expr-requires-2 g c = inr (term_later c.parse_expr-2.new.self.table c.add_expr.new.self.table c.in_ok-left.ensures.more c.in_ok-two.two c.in_ok-two.ensures.valid)
-
-pub returns-in_err-right : goal.returns-in_err-right
-returns-in_err-right g c =
-    let sound = sound_graph c.args.graph.now.failed (Ok c.in_ok-one.one) c.in_ok-one.one refl c.in_ok-one.ensures.failed.1 in
-    let one = c.in_ok-one.ensures in
-    let two = c.in_ok-two.ensures in
-    let left = c.in_ok-left.ensures in
-    let e = c.in_err-right.ensures in
-    let p = err_from_is_err_and c.from_residual-in_err-right.result c.from_residual-in_err-right.ensures.1 in
-    let writes_one = writes_term g.L.LanguageChildren.read c.args.graph.now c.parse_expr.new.self c.args.left.now one.image one.same one.more c.in_ok-one.one (one.answer sound) in
-    let writes_two = writes_term g.L.LanguageChildren.read c.parse_expr.new.self c.parse_expr-2.new.self c.args.right.now two.image two.same two.more c.in_ok-two.two (two.answer (one.same ∙ sound)) in
-    let gains_one = gains c.parse_expr-2.new.self c.add_expr.new.self c.in_ok-one.one c.in_ok-left.left left.fails.0 left.valid left.term left.found left.extends left.more in
-    let short = runs_out c.add_expr.new.self c.add_expr-2.new.self c.in_ok-two.two (Err c.in_err-right.field-0.0) c.in_err-right.field-0.0 refl gains_one.sound e.failed.0 e.fails.1 e.full e.only e.more in
-    rw (p.1, p.2) (ran_out (c.in_ok-one.one ∷ c.in_ok-two.two ∷ []) c.parse_expr-2.new.self sound (next_text writes_one (next_text writes_two no_text)) (runs_out_later gains_one (runs_out_here short)))
-
-pub eq-requires-clause-left : goal.eq-requires-clause-left
-eq-requires-clause-left g c = inr (id_later c.add_expr.new.self c.add_expr-2.new.self (to_applied c.in_ok-left.left) c.in_ok-right.ensures.extends c.in_ok-right.ensures.more c.in_ok-left.ensures.valid)
-
-pub eq-requires-clause-right : goal.eq-requires-clause-right
-eq-requires-clause-right g c = inr c.in_ok-right.ensures.valid
 
 pub returns-then-branch : goal.returns-then-branch
 returns-then-branch g c =
-    let sound = sound_graph c.args.graph.now.failed (Ok c.in_ok-one.one) c.in_ok-one.one refl c.in_ok-one.ensures.failed.1 in
-    let one = c.in_ok-one.ensures in
-    let two = c.in_ok-two.ensures in
-    let left = c.in_ok-left.ensures in
-    let right = c.in_ok-right.ensures in
-    let writes_one = writes_term g.L.LanguageChildren.read c.args.graph.now c.parse_expr.new.self c.args.left.now one.image one.same one.more c.in_ok-one.one (one.answer sound) in
-    let writes_two = writes_term g.L.LanguageChildren.read c.parse_expr.new.self c.parse_expr-2.new.self c.args.right.now two.image two.same two.more c.in_ok-two.two (two.answer (one.same ∙ sound)) in
-    let gains_one = gains c.parse_expr-2.new.self c.add_expr.new.self c.in_ok-one.one c.in_ok-left.left left.fails.0 left.valid left.term left.found left.extends left.more in
-    let gains_two = gains c.add_expr.new.self c.add_expr-2.new.self c.in_ok-two.two c.in_ok-right.right right.fails.0 right.valid right.term right.found right.extends right.more in
-    let same = same_terms c.add_expr.new.self c.add_expr-2.new.self (to_applied c.in_ok-left.left) (to_applied c.in_ok-right.right) c.in_ok-one.one c.in_ok-two.two right.extends left.valid left.term right.term in
-    carried_out (c.in_ok-one.one ∷ c.in_ok-two.two ∷ []) c.parse_expr-2.new.self sound (next_text writes_one (next_text writes_two no_text)) (next_term gains_one (next_term gains_two no_term))
-    (are_equal (same.0 (c.in_ok-eq.ensures.terms.0 c.if-branch.true)))
+    let e = c.in_ok-eq.ensures in
+    let yes = c.if-branch.true in
+    found_equal g.L.LanguageChildren.read c.args.graph.now c.add_both.new.graph c.args.left.now c.args.right.now (to_applied c.in_ok-left.left) (to_applied c.in_ok-left.right) c.in_ok-left.ensures.ok
+    (e.found.0 yes) (e.derivable yes) (λ n. (e.terms n).0 yes)
 
 pub returns : goal.returns
 returns g c =
-    let sound = sound_graph c.args.graph.now.failed (Ok c.in_ok-one.one) c.in_ok-one.one refl c.in_ok-one.ensures.failed.1 in
-    let one = c.in_ok-one.ensures in
-    let two = c.in_ok-two.ensures in
-    let left = c.in_ok-left.ensures in
-    let right = c.in_ok-right.ensures in
-    let writes_one = writes_term g.L.LanguageChildren.read c.args.graph.now c.parse_expr.new.self c.args.left.now one.image one.same one.more c.in_ok-one.one (one.answer sound) in
-    let writes_two = writes_term g.L.LanguageChildren.read c.parse_expr.new.self c.parse_expr-2.new.self c.args.right.now two.image two.same two.more c.in_ok-two.two (two.answer (one.same ∙ sound)) in
-    let gains_one = gains c.parse_expr-2.new.self c.add_expr.new.self c.in_ok-one.one c.in_ok-left.left left.fails.0 left.valid left.term left.found left.extends left.more in
-    let gains_two = gains c.add_expr.new.self c.add_expr-2.new.self c.in_ok-two.two c.in_ok-right.right right.fails.0 right.valid right.term right.found right.extends right.more in
-    let same = same_terms c.add_expr.new.self c.add_expr-2.new.self (to_applied c.in_ok-left.left) (to_applied c.in_ok-right.right) c.in_ok-one.one c.in_ok-two.two right.extends left.valid left.term right.term in
-    carried_out (c.in_ok-one.one ∷ c.in_ok-two.two ∷ []) c.parse_expr-2.new.self sound (next_text writes_one (next_text writes_two no_text)) (next_term gains_one (next_term gains_two no_term))
-    (are_different (λ alpha. false≢true (sym c.if-branch.false ∙ c.in_ok-eq.ensures.terms.1 (same.1 alpha))))
+    let e = c.in_ok-eq.ensures in
+    found_different g.L.LanguageChildren.read c.args.graph.now c.add_both.new.graph c.args.left.now c.args.right.now (to_applied c.in_ok-left.left) (to_applied c.in_ok-left.right) c.in_ok-left.ensures.ok
+    (λ h. false≢true (sym c.if-branch.false ∙ e.found.1 h)) (λ n t. e.found.0 ((e.terms n).1 t))
