@@ -9,6 +9,7 @@ ghost use Rattle.slotted_languages.specs.NodeTerm.{nameless_node};
 ghost use Rattle.slotted_model.specs.Growth.{Extends};
 ghost use Rattle.slotted_model.specs.Classes.{IsFull, Canonical, term_of, layer_of};
 ghost use Rattle.slotted_model.specs.Ids.{id_of, id_of_node};
+ghost use Rattle.slotted_model.specs.ProofList.{Proved};
 ghost use Rattle.slotted_proofs.specs.Entries.{explicit_numbers};
 ghost use Rattle.slotted_terms.specs.Outcome.{Answers};
 ghost use Rattle.slotted_terms.specs.Parsed.{TextReads};
@@ -94,6 +95,10 @@ impl<L: Language, N: Drop> EGraph<L, N> {
     pub fn is_failed(&self) -> bool
         ensures failed { result ≡ self.now.failed }
         ensures canonical { IsTrue self.now.failed ⊎ Canonical self.now.image.canonical }
+
+        // What each graph that has not failed keeps: each entry of the proof list is proved by its step over earlier entries, or
+        // asserted, and no equation stands twice.
+        ensures proved { IsTrue self.now.failed ⊎ Proved self.now.image.canonical self.now.image.entries }
     {
         self.failed
     }
