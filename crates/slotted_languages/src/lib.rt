@@ -60,10 +60,3 @@ pub use language::Language;
 pub use payload::Symbol;
 pub use shape::shapes_decide;
 pub use small::Small;
-
-#[cfg(test)]
-mod renaming_tests;
-#[cfg(test)]
-mod shape_tests;
-#[cfg(test)]
-mod tests;

@@ -1,19 +1,30 @@
 //! Renaming without capture, what a node's slots and children are, and its outline: worked values.
-use crate::outline::{outline, skeleton};
-use crate::shape_tests::{Outer, Tri, Written, places, shown};
-use crate::{Language, Small};
-use slotted_slots::{Error, Id, Slot, SlotMap, SlotTable};
+use crate::shapes::{Outer, Tri, Written, places, shown};
+use slotted_languages::outline::{outline, skeleton};
+use slotted_languages::{Language, Small};
+use slotted_slots::{AppliedId, Error, Id, Slot, SlotMap, SlotTable};
 use std::alloc::Global;
 use std::process::Abort;
 
-// The map that a text writes, its pairs parted by spaces, as `$8->$9`.
+// Puts the pair of two slots of these names.
+fn put_named(m: &mut SlotMap, table: &mut SlotTable, key: &str, value: &str) -> Result<(), Error> {
+    let key = table.named(key)?;
+    let value = table.named(value)?;
+    m.insert(key, value)
+}
+
+// Puts the pair that the text writes, as `$8->$9`.
+fn put_pair(m: &mut SlotMap, table: &mut SlotTable, pair: &str) -> Result<(), Error> {
+    let (key, value) = pair.split_once("->$").unwrap_or((pair, ""));
+    put_named(m, table, key.trim_start_matches('$'), value)
+}
+
+// The map that a text writes, its pairs parted by spaces.
 fn map_of(alloc: Global, text: &str) -> Result<SlotMap, Error> {
     let mut table = SlotTable::new(alloc);
     let mut m = SlotMap::new(alloc);
     for pair in text.split_whitespace() {
-        let (key, value) = pair.split_once("->$").unwrap_or((pair, ""));
-        let key = table.named(key.strip_prefix('$').unwrap_or(key))?;
-        m.insert(key, table.named(value)?)?;
+        put_pair(&mut m, &mut table, pair)?;
     }
     Ok(m)
 }
@@ -92,22 +103,28 @@ fn binders_are_refreshed(rt: HostRuntime) -> Result<(), Error> {
     check_refreshed::<Outer>(&rt, rt.alloc(), OUTER_REFRESHED)
 }
 
-// The free slots of a node.
-fn free<L: Language>(alloc: Global, node: &L) -> Result<String, Error> {
+// These slots, with a space after each.
+fn listed(alloc: Global, slots: &[Slot]) -> Result<String, Error> {
     let mut text = String::new(alloc);
-    for slot in node.slots(alloc)?.iter() {
+    for slot in slots {
         text.push_str(shown(alloc, *slot)?.as_str())?;
         text.push(' ')?;
     }
     Ok(text)
 }
 
+// The free slots of a node.
+fn free<L: Language>(alloc: Global, node: &L) -> Result<String, Error> {
+    let slots = node.slots(alloc)?;
+    listed(alloc, slots.as_slice())
+}
+
 // The ids of a node's children.
 fn ids<L: Language>(alloc: Global, node: &L) -> Result<String, Error> {
     let mut text = String::new(alloc);
     for id in node.ids(alloc)?.iter() {
-        let number = id.0;
-        text.push_str(format!(in alloc; "{number} ")?.as_str())?;
+        text.push_str(id.0.to_string(alloc)?.as_str())?;
+        text.push(' ')?;
     }
     Ok(text)
 }
@@ -116,8 +133,8 @@ fn ids<L: Language>(alloc: Global, node: &L) -> Result<String, Error> {
 fn children<L: Language>(alloc: Global, node: &L) -> Result<String, Error> {
     let mut text = String::new(alloc);
     for child in node.applied_id_occurrences(alloc)?.iter() {
-        let count = child.m.len();
-        text.push_str(format!(in alloc; "{count} ")?.as_str())?;
+        text.push_str(child.m.len().to_string(alloc)?.as_str())?;
+        text.push(' ')?;
     }
     Ok(text)
 }
@@ -151,14 +168,22 @@ fn parts_of_nodes_are_told(rt: HostRuntime) -> Result<(), Error> {
     check_parts::<Outer>(&rt, alloc, "$8 $8 #7:8 $8 => 7 1 apart")
 }
 
+// The next number, from a count that goes up.
+fn next_id(next: &mut u32) -> Id {
+    let id = Id(*next as usize);
+    *next = next.wrapping_add(1);
+    id
+}
+
+// The child under another id.
+fn under(id: Id, child: AppliedId) -> AppliedId {
+    AppliedId { id, m: child.m }
+}
+
 // The node with its children numbered from 0 on.
 fn numbered<L: Language>(alloc: Global, node: &L) -> Result<L, Error> {
-    let mut next = 0usize;
-    node.map_applied_ids(alloc, |mut child| {
-        child.id = Id(next);
-        next = next.wrapping_add(1);
-        Ok(child)
-    })
+    let mut next = 0u32;
+    node.map_applied_ids(alloc, |child| Ok(under(next_id(&mut next), child)))
 }
 
 // Whether a refusal for a child is handed on.
@@ -178,15 +203,25 @@ fn children_are_mapped_in_turn(rt: HostRuntime) -> Result<(), Error> {
     Ok(())
 }
 
-// The places of a node's outline with `$5` for the children, a bar, and those of its skeleton.
-fn outlines<L: Language>(alloc: Global, node: &L) -> Result<String, Error> {
-    let mut text = places(alloc, &outline(alloc, node, Slot::numeric_at(5))?)?;
+// The places of a node's outline with `$5` for the children.
+fn outline_places<L: Language>(alloc: Global, node: &L) -> Result<String, Error> {
+    places(alloc, &outline(alloc, node, Slot::numeric_at(5))?)
+}
+
+// The places of a node's skeleton.
+fn skeleton_places<L: Language>(alloc: Global, node: &L) -> Result<String, Error> {
     let blank = outline(alloc, node, Slot::numeric_at(0))?;
     if blank.slot_count() >= 1 << 30 {
         return Err(Error::OutOfSlots);
     }
+    places(alloc, &skeleton(alloc, node)?)
+}
+
+// The places of a node's outline, a bar, and those of its skeleton.
+fn outlines<L: Language>(alloc: Global, node: &L) -> Result<String, Error> {
+    let mut text = outline_places(alloc, node)?;
     text.push_str(" | ")?;
-    text.push_str(places(alloc, &skeleton(alloc, node)?)?.as_str())?;
+    text.push_str(skeleton_places(alloc, node)?.as_str())?;
     Ok(text)
 }
 

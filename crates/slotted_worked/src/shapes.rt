@@ -9,8 +9,8 @@ ghost use Rattle.slotted_languages.specs.Equal.{applied_id_same, bind_form_fits,
 ghost use Rattle.slotted_languages.specs.Form.{bind_form, child_form, join_form, slot_form};
 ghost use Rattle.slotted_languages.specs.PairEqual.{join_form_fits, join_form_same};
 
-use crate::tests::{elements_of, read};
-use crate::{Bind, Language, LanguageChildren, Small, pair};
+use crate::parts::{elements_of, marked, read};
+use slotted_languages::{Bind, Language, LanguageChildren, Small, pair};
 use slotted_slots::{AppliedId, Error, Id, Slot, SlotMap, SlotTable, SyntaxElem};
 use std::alloc::Global;
 use std::process::Abort;
@@ -271,9 +271,8 @@ impl Written for Outer {
 // A slot as `$n` or `$fn`.
 pub(crate) fn shown(alloc: Global, slot: Slot) -> Result<String, Error> {
     let raw = slot.raw();
-    let number = raw / 4;
-    let kind = if raw % 4 == 1 { "f" } else { "" };
-    Ok(format!(in alloc; "${kind}{number}")?)
+    let mark = if raw % 4 == 1 { "$f" } else { "$" };
+    marked(alloc, mark, &(raw / 4))
 }
 
 // The slots at the places of a node.
@@ -292,14 +291,25 @@ pub(crate) fn places<L: Language>(alloc: Global, node: &L) -> Result<String, Err
     Ok(text)
 }
 
+// Writes a slot after a text.
+fn push_slot(alloc: Global, text: &mut String, before: &str, slot: Slot) -> Result<(), Error> {
+    text.push_str(before)?;
+    text.push_str(shown(alloc, slot)?.as_str())?;
+    Ok(())
+}
+
+// Writes a pair of slots as ` $k->$v`.
+fn push_pair(alloc: Global, text: &mut String, key: Slot, value: Slot) -> Result<(), Error> {
+    push_slot(alloc, text, " ", key)?;
+    push_slot(alloc, text, "->", value)
+}
+
 // The places of a node, a bar, and a map.
 fn places_and_map<L: Language>(alloc: Global, node: &L, map: &SlotMap) -> Result<String, Error> {
     let mut text = places(alloc, node)?;
     text.push_str(" |")?;
     for (key, value) in map.iter() {
-        let key = shown(alloc, key)?;
-        let value = shown(alloc, value)?;
-        text.push_str(format!(in alloc; " {key}->{value}")?.as_str())?;
+        push_pair(alloc, &mut text, key, value)?;
     }
     Ok(text)
 }

@@ -3,23 +3,36 @@
 ghost use Rattle.std.specs.Prelude.{◌<◌, length};
 ghost use Rattle.slotted_languages.specs.Form.{IsSmall};
 
-use crate::{Bind, Language, LanguageChildren, Small, Symbol};
+use slotted_languages::{Bind, Language, LanguageChildren, Small, Symbol};
 use slotted_slots::{AppliedId, Error, Id, Slot, SlotMap, SlotTable, SyntaxElem};
 use std::alloc::Global;
+use std::fmt::Display;
 use std::process::Abort;
+
+// Puts the slot of the number that the text writes, if it writes one, under the key.
+fn put(m: &mut SlotMap, table: &SlotTable, key: u32, slot: &str) -> Result<(), Error> {
+    if let Ok(number) = slot.parse() {
+        m.insert(table.numeric(key)?, table.numeric(number)?)?;
+    }
+    Ok(())
+}
+
+// The map from `$0`, `$1`, .. to the slots of the numbers x, y, .. of a text `x,y`.
+fn numbers_map(alloc: Global, slots: &str) -> Result<SlotMap, Error> {
+    let table = SlotTable::new(alloc);
+    let mut m = SlotMap::new(alloc);
+    let mut key = 0u32;
+    for slot in slots.split(',') {
+        put(&mut m, &table, key, slot)?;
+        key = key.wrapping_add(1);
+    }
+    Ok(m)
+}
 
 // A child written `id` or `id:x,y`: its map goes from `$0`, `$1`, .. to the slots of the numbers x, y, ..
 fn child(alloc: Global, text: &str) -> Result<AppliedId, Error> {
-    let table = SlotTable::new(alloc);
-    let mut m = SlotMap::new(alloc);
     let (id, slots) = text.split_once(':').unwrap_or((text, ""));
-    let mut key = 0u32;
-    for slot in slots.split(',') {
-        if let Ok(number) = slot.parse() {
-            m.insert(table.numeric(key)?, table.numeric(number)?)?;
-            key = key.wrapping_add(1);
-        }
-    }
+    let m = numbers_map(alloc, slots)?;
     Ok(AppliedId {
         id: Id(id.parse().unwrap_or(0)),
         m,
@@ -52,18 +65,19 @@ pub(crate) fn read<L: LanguageChildren>(alloc: Global, text: &str) -> Result<Opt
     L::from_syntax(alloc, elements_of(alloc, text)?.as_slice())
 }
 
+// A mark with a number after it.
+pub(crate) fn marked<N: Display>(alloc: Global, mark: &str, number: &N) -> Result<String, Error> {
+    let mut text = String::from_str(alloc, mark)?;
+    text.push_str(number.to_string(alloc)?.as_str())?;
+    Ok(text)
+}
+
 // What an element is written as: of a child its id alone.
 fn shown(alloc: Global, element: &SyntaxElem) -> Result<String, Error> {
     match element {
         SyntaxElem::String(word) => Ok(String::from_str(alloc, word.as_str())?),
-        SyntaxElem::Slot(slot) => {
-            let number = slot.raw() / 4;
-            Ok(format!(in alloc; "${number}")?)
-        }
-        SyntaxElem::AppliedId(child) => {
-            let id = child.id.0;
-            Ok(format!(in alloc; "#{id}")?)
-        }
+        SyntaxElem::Slot(slot) => marked(alloc, "$", &(slot.raw() / 4)),
+        SyntaxElem::AppliedId(child) => marked(alloc, "#", &child.id.0),
     }
 }
 
@@ -182,26 +196,52 @@ fn other_lists_are_no_nodes(rt: HostRuntime) -> Result<(), Error> {
     check_lines::<Small>(&rt, rt.alloc(), NO_NODES)
 }
 
-#[test]
-fn numbers_come_before_words(rt: HostRuntime) -> Result<(), Error> {
-    let number = read::<Small>(rt.alloc(), "+5")?;
-    assert!(rt; number == Some(Small::Number(5)));
-    let word = Symbol(String::from_str(rt.alloc(), "4294967296")?);
-    assert!(rt; read::<Small>(rt.alloc(), "4294967296")? == Some(Small::Word(word)));
-    Ok(())
+// Whether two texts write equal parts.
+fn are_equal<L: LanguageChildren>(alloc: Global, one: &str, other: &str) -> Result<bool, Error> {
+    let one = read::<L>(alloc, one)?;
+    let other = read::<L>(alloc, other)?;
+    Ok(one == other)
 }
 
 #[test]
-fn operators_are_numbered(rt: HostRuntime) -> Result<(), Error> {
-    let mut number = 0;
-    for line in "lam $1 #1,app #1 #1,var $1,f $1 $1,g $1,add #1 #1,mul #1 #1,1,x".split(',') {
-        if let Some(node) = read::<Small>(rt.alloc(), line)? {
-            assert_eq!(rt; node.operator(), number);
-            number = number.wrapping_add(1);
-        }
-    }
-    assert_eq!(rt; number, 9);
+fn numbers_come_before_words(rt: HostRuntime) -> Result<(), Error> {
+    assert!(rt; are_equal::<Small>(rt.alloc(), "+5", "5")?);
+    assert!(rt; !are_equal::<Small>(rt.alloc(), "4294967296", "4294967295")?);
     Ok(())
+}
+
+// The number of the variant that the text writes, or "none".
+fn operator<L: Language>(alloc: Global, text: &str) -> Result<String, Error> {
+    match read::<L>(alloc, text)? {
+        Some(node) => marked(alloc, "", &node.operator()),
+        None => Ok(String::from_str(alloc, "none")?),
+    }
+}
+
+// Each line is a text, an arrow, and the number of the variant that it writes.
+fn check_operators<L: Language>(rt: &impl Abort, alloc: Global, lines: &str) -> Result<(), Error> {
+    for line in lines.lines() {
+        let (text, want) = line.split_once(" -> ").unwrap_or((line, ""));
+        assert_eq!(rt; operator::<L>(alloc, text)?.as_str(), want, "{line}");
+    }
+    Ok(())
+}
+
+const OPERATORS: &str = "lam $1 #1 -> 0
+app #1 #1 -> 1
+var $1 -> 2
+f $1 $1 -> 3
+g $1 -> 4
+add #1 #1 -> 5
+mul #1 #1 -> 6
+1 -> 7
++5 -> 7
+x -> 8
+4294967296 -> 8";
+
+#[test]
+fn operators_are_numbered(rt: HostRuntime) -> Result<(), Error> {
+    check_operators::<Small>(&rt, rt.alloc(), OPERATORS)
 }
 
 const BINDERS: &str = "$1 $2 #7:1,2,3 -> $1 $2 #7 | 1..5 2..5 1 2 3! | 7@2
