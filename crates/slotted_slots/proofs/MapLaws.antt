@@ -84,23 +84,23 @@ value_of-doubled (x ∷ xs) k = elim (cases_eq x k) [
 ]
 
 -- a number that is among others is the first of them or among the rest
-is_among-cons : (v x : ℕ) (xs : List ℕ) → is_among v (x ∷ xs) ≡ true → (x ≡ v) ⊎ (is_among v xs ≡ true)
+pub is_among-cons : (v x : ℕ) (xs : List ℕ) → is_among v (x ∷ xs) ≡ true → (x ≡ v) ⊎ (is_among v xs ≡ true)
 is_among-cons v x xs there = elim (cases_eq x v) [
   | inl here ↦ inl here
   | inr other ↦ inr (rw (ne_eqb x v other) at there)
 ]
 
-is_among-first : (v x : ℕ) (xs : List ℕ) → x ≡ v → is_among v (x ∷ xs) ≡ true
+pub is_among-first : (v x : ℕ) (xs : List ℕ) → x ≡ v → is_among v (x ∷ xs) ≡ true
 is_among-first v x xs e = rw (eq-eqb x v e) refl
 
-is_among-more : (v x : ℕ) (xs : List ℕ) → is_among v xs ≡ true → is_among v (x ∷ xs) ≡ true
+pub is_among-more : (v x : ℕ) (xs : List ℕ) → is_among v xs ≡ true → is_among v (x ∷ xs) ≡ true
 is_among-more v x xs there = elim (cases_eq x v) [
   | inl here ↦ rw (eq-eqb x v here) refl
   | inr other ↦ rw (ne_eqb x v other) there
 ]
 
 -- where no key stands twice, a map made of pairs has at each key what its pair has, and else what was there
-value_of-fold : (acc ps : List (ℕ × ℕ)) → all_differ (keys ps) ≡ true → (k : ℕ) → value_of (fold (λ m p. with_pair m p.0 p.1) acc ps) k ≡ (if is_among k (keys ps) then value_of ps k else value_of acc k)
+pub value_of-fold : (acc ps : List (ℕ × ℕ)) → all_differ (keys ps) ≡ true → (k : ℕ) → value_of (fold (λ m p. with_pair m p.0 p.1) acc ps) k ≡ (if is_among k (keys ps) then value_of ps k else value_of acc k)
 value_of-fold acc [] differ k = refl
 value_of-fold acc (p ∷ ps) differ k =
     let parts = and_parts (not (is_among p.0 (keys ps))) (all_differ (keys ps)) differ in

@@ -12,7 +12,12 @@ ghost use Rattle.slotted_slots.specs.Error.{IsOutOfMemory};
 ghost use Rattle.slotted_slots.specs.Maps.{IsAt, IsGapFor, value_of, with_value_at, with_pair, without_key, map_of, turned, doubled, composed, is_among, all_differ, values, keys, IsInverse};
 ghost use Rattle.slotted_slots.specs.Sets.{set_of};
 
+mod combining;
+mod lists;
+mod showing;
+
 use crate::{Error, Slot, SmallHashSet};
+pub use lists::{IntoIter, ValuesImmut};
 use smallvec::SmallVec;
 use std::alloc::{AllocError, Global};
 use std::cmp::Ordering;

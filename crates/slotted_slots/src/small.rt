@@ -4,7 +4,10 @@ ghost use Rattle.std.specs.List.Sorted.{IsStrictlySortedBy};
 ghost use Rattle.std.specs.Slice.Iter.{iter_rest};
 ghost use Rattle.std.specs.Iterator.Adapters.{IterYieldsInOrder};
 ghost use Rattle.slotted_slots.specs.Error.{IsOutOfMemory};
+ghost use Rattle.slotted_slots.specs.SetAlgebra.{without};
 ghost use Rattle.slotted_slots.specs.Sets.{has, insert_key, IsPlaceOf, IsGap};
+
+mod algebra;
 
 use crate::Error;
 use smallvec::SmallVec;
@@ -104,6 +107,20 @@ impl<T: Ord + MadeWith<Global> + Drop> SmallHashSet<T> {
                 self.items.insert(at, t)?;
                 Ok(true)
             }
+        }
+    }
+
+    /// Takes the element that compares equal to `t` out, and answers whether there was one. It takes no memory.
+    pub fn remove(&mut self, t: &T) -> bool
+        ensures set { self.new ≡ without T.cmp self.old t.now }
+        ensures removed { result ≡ has T.cmp self.old t.now }
+    {
+        match self.search(t) {
+            Ok(at) => {
+                self.items.remove(at);
+                true
+            }
+            Err(_) => false,
         }
     }
 }

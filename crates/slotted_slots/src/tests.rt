@@ -6,7 +6,7 @@ use std::alloc::Global;
 use std::process::Abort;
 
 // What a slot prints.
-fn printed(alloc: Global, table: &SlotTable, slot: &Slot) -> Result<String, Error> {
+pub(crate) fn printed(alloc: Global, table: &SlotTable, slot: &Slot) -> Result<String, Error> {
     Ok(slot.show(table).to_string(alloc)?)
 }
 
@@ -33,7 +33,7 @@ fn refusal<T: Drop>(outcome: Result<T, Error>) -> u8 {
 }
 
 // The map of pairs of numeric slots.
-fn numeric_map(alloc: Global, pairs: &[(u32, u32)]) -> Result<SlotMap, Error> {
+pub(crate) fn numeric_map(alloc: Global, pairs: &[(u32, u32)]) -> Result<SlotMap, Error> {
     let table = SlotTable::new(alloc);
     let mut map = SlotMap::new(alloc);
     for pair in pairs {
@@ -89,7 +89,7 @@ fn an_unknown_name_is_a_mark(rt: HostRuntime) -> Result<(), Error> {
 }
 
 // The map has these pairs of numeric slots.
-fn assert_map(
+pub(crate) fn assert_map(
     rt: &impl Abort,
     alloc: Global,
     map: &SlotMap,

@@ -1,11 +1,14 @@
 //! Ids of classes, and ids that are applied to slots.
-ghost use Rattle.std.specs.Prelude.{◌≡◌, ◌++◌, ℕ, [], Some, codes, decimal, IsTrue, IfOk, IfErr};
+ghost use Rattle.std.specs.Prelude.{◌≡◌, ◌<◌, ◌^◌, ◌++◌, ℕ, [], Some, length, codes, decimal, IsTrue, IfOk, IfErr, IsErrOf};
 ghost use Rattle.std.specs.Ordering.{nat_cmp};
-ghost use Rattle.slotted_slots.specs.Error.{IsOutOfMemory};
-ghost use Rattle.slotted_slots.specs.Maps.{KnowsAll, is_among, all_differ, composed, keys, values};
+ghost use Rattle.slotted_slots.specs.Combining.{IsCompleted};
+ghost use Rattle.slotted_slots.specs.Error.{IsOutOfMemory, IsShortage};
+ghost use Rattle.slotted_slots.specs.Maps.{KnowsAll, is_among, all_differ, composed, keys, values, with_value_at};
 ghost use Rattle.slotted_slots.specs.Sets.{set_of};
+ghost use Rattle.slotted_slots.specs.Shown.{shown_applied};
+ghost use Rattle.slotted_slots.specs.Table.{KnowsMore};
 
-use crate::{Error, Slot, SlotMap, SmallHashSet};
+use crate::{Error, Show, Slot, SlotMap, SlotTable, SmallHashSet};
 use std::alloc::Global;
 use std::fmt;
 
@@ -61,6 +64,49 @@ impl AppliedId {
         Ok(AppliedId::new(self.id, self.m.compose_partial(alloc, m)?))
     }
 
+    /// The same class with each slot that is put in sent on by `m`, without those that `m` lacks. The rest it keeps apart.
+    pub fn apply_slotmap_partial(&self, alloc: Global, m: &SlotMap) -> Result<AppliedId, Error>
+        requires { IsTrue (all_differ (values (composed self.now.m m.now))) }
+        ensures id { IfOk result (λ a. a.id ≡ self.now.id) }
+        ensures map { IfOk result (λ a. a.m ≡ composed self.now.m m.now) }
+        ensures memory { IfErr result IsOutOfMemory }
+    {
+        let sent = self.m.compose_partial(alloc, m)?;
+        Ok(AppliedId::new(self.id, sent))
+    }
+
+    /// The same class with each slot that is put in sent on by `m`, which keeps apart those that it knows. The others become
+    /// slots that were never made before.
+    pub fn apply_slotmap_fresh(
+        &self,
+        alloc: Global,
+        m: &SlotMap,
+        table: &mut SlotTable,
+    ) -> Result<AppliedId, Error>
+        requires { IsTrue (all_differ (values (composed self.now.m m.now))) }
+        ensures id { IfOk result (λ a. a.id ≡ self.now.id) }
+        ensures completed { IfOk result (λ a. IsCompleted table.old table.new self.now.m m.now a.m) }
+        ensures injective { IfOk result (λ a. IsTrue (all_differ (values a.m))) }
+
+        // The table went on to make slots, and is else as it was.
+        ensures names { table.new.names ≡ table.old.names }
+        ensures more { KnowsMore table.old table.new }
+        ensures full { IsErrOf result Error.OutOfSlots → table.new.fresh ≡ 2 ^ 30 }
+        ensures only { IfErr result IsShortage }
+    {
+        let completed = self.m.compose_fresh(alloc, m, table)?;
+        Ok(AppliedId::new(self.id, completed))
+    }
+
+    /// Puts another slot in at a position in the order of the parameters.
+    pub fn set_slot_at(&mut self, i: usize, s: Slot)
+        requires { i < length self.old.m }
+        ensures id { self.new.id ≡ self.old.id }
+        ensures map { self.new.m ≡ with_value_at self.old.m i s }
+    {
+        self.m.set_value_at(i, s);
+    }
+
     /// The id 0 with the empty map, which stands where a child is not looked at.
     pub fn null(alloc: Global) -> AppliedId
         ensures id { result.id.0 ≡ 0 }
@@ -81,5 +127,20 @@ impl AppliedId {
             id: self.id,
             m: self.m.copy(alloc)?,
         })
+    }
+}
+
+/// `id5[$0 -> $3]`: the number and the map.
+impl Show for AppliedId {
+    ghost shown = { λ t a. Some (shown_applied t a.id.0 a.m) };
+
+    fn write_shown<W: fmt::Write>(
+        &self,
+        table: &SlotTable,
+        f: &mut fmt::Formatter<W>,
+    ) -> fmt::Result {
+        let number = self.id.0;
+        let map = self.m.show(table);
+        write!(f, "id{number}{map}")
     }
 }

@@ -1,0 +1,31 @@
+-- The loop puts a fresh slot to each element from the left.
+use Rattle.std.proofs.Common.{take, subst, sym, ◌∙◌}
+use Rattle.slotted_slots.specs.Combining.{IsFreshFrom, IsNew}
+use Rattle.slotted_slots.specs.Maps.{keys}
+use Rattle.slotted_slots.proofs.FreshLaws.{IsNew-from_fresh, IsAscending-filled, fresh_among, from_fresh_step}
+use Rattle.slotted_slots.proofs.slot_map.SlotMap.bijection_from_fresh_to.Goals as goal
+
+pub loop-slot-preserved : goal.loop-slot-preserved
+loop-slot-preserved c =
+    let xs = c.as_slice-slot-items.result.now in
+    let x = c.slot-item.result in
+    let last = subst (λ used. IsFreshFrom c.loop-slot.table.fresh c.fresh_outside.new.table.fresh used c.in_ok-key.key) (sym c.as_slice-slot-items.ensures.elements) c.in_ok-key.ensures.slot in
+    let step = from_fresh_step xs c.args.table.now.fresh c.loop-slot.table.fresh c.fresh_outside.new.table.fresh xs c.loop-slot.pairs.items c.push.new.self.items c.loop-slot.slot-index x c.in_ok-key.key
+    c.loop-slot-test.true c.slot-item.is c.in_ok-push.ensures.ok c.loop-slot.invariant.values c.loop-slot.invariant.keys last in
+    record {
+      keys = step.keys;
+      values = step.values;
+      names = c.in_ok-key.ensures.names ∙ c.loop-slot.invariant.names;
+      more = λ s known. c.in_ok-key.ensures.more s (c.loop-slot.invariant.more s known);
+    }
+
+pub invariant_of-result : goal.invariant_of-result
+invariant_of-result c =
+    let xs = c.as_slice-slot-items.result.now in
+    IsAscending-filled xs c.args.table.now.fresh c.loop-slot.table.fresh (take c.loop-slot.slot-index xs) (keys c.loop-slot.pairs.items) c.loop-slot.invariant.keys
+
+pub returns-clause-made : goal.returns-clause-made
+returns-clause-made c s there =
+    let xs = c.as_slice-slot-items.result.now in
+    let fresh = fresh_among xs c.args.table.now.fresh c.loop-slot.table.fresh (take c.loop-slot.slot-index xs) (keys c.loop-slot.pairs.items) c.loop-slot.invariant.keys s there in
+    subst (λ used. IsNew c.args.table.now c.loop-slot.table used s) c.as_slice-slot-items.ensures.elements (IsNew-from_fresh c.args.table.now c.loop-slot.table xs s fresh)

@@ -1,0 +1,42 @@
+-- The loop fills the values from the left.
+use Rattle.std.proofs.Common.{◌≡◌, ◌++◌, take, ap, subst, sym, ◌∙◌}
+use Rattle.std.proofs.lemmas.List.{take_all}
+use Rattle.slotted_slots.specs.Combining.{sent_on, IsFilled, IsCompleted}
+use Rattle.slotted_slots.specs.Maps.{keys, values, value_of, composed, all_differ}
+use Rattle.slotted_slots.proofs.FreshLaws.{AreFilled, IsCompleted-filled, all_differ-filled, among_second, completed_step}
+use Rattle.slotted_slots.proofs.slot_map.SlotMap.compose_fresh.Goals as goal
+
+pub loop-pair-preserved : goal.loop-pair-preserved
+loop-pair-preserved c =
+    let xs = c.deref-pair-items.result.now in
+    let other = c.args.other.now in
+    let p = c.pair-item.result in
+    let same : c.as_slice.result.now ≡ xs = c.as_slice.ensures ∙ sym c.deref-pair-items.ensures in
+    let last = subst (λ m. IsFilled c.loop-pair.table.fresh c.value_or_fresh.new.table.fresh (values m ++ values other) (value_of other p.1) c.in_ok-value.value) same c.in_ok-value.ensures.value in
+    let step = completed_step (values xs ++ values other) c.args.table.now.fresh c.loop-pair.table.fresh c.value_or_fresh.new.table.fresh xs other c.loop-pair.pairs.items c.push.new.self.items c.loop-pair.pair-index p c.in_ok-value.value
+    c.loop-pair-test.true c.pair-item.is c.in_ok-push.ensures.ok c.loop-pair.invariant.keys c.loop-pair.invariant.values last in
+    record {
+      keys = step.keys;
+      values = step.values;
+      names = c.in_ok-value.ensures.names ∙ c.loop-pair.invariant.names;
+      more = λ s known. c.in_ok-value.ensures.more s (c.loop-pair.invariant.more s known);
+    }
+
+pub returns-clause-completed : goal.returns-clause-completed
+returns-clause-completed c =
+    let xs = c.deref-pair-items.result.now in
+    let other = c.args.other.now in
+    let all : take c.loop-pair.pair-index xs ≡ xs = take_all c.loop-pair.pair-index xs c.loop-pair-test.false in
+    let new_keys : keys c.loop-pair.pairs.items ≡ keys xs = c.loop-pair.invariant.keys ∙ ap keys all in
+    let new_values = subst (λ m. AreFilled (values xs ++ values other) c.args.table.now.fresh c.loop-pair.table.fresh (sent_on m other) (values c.loop-pair.pairs.items)) all c.loop-pair.invariant.values in
+    subst (λ m. IsCompleted c.args.table.now c.loop-pair.table m other c.loop-pair.pairs.items) (c.deref-pair-items.ensures ∙ c.self.view_is)
+    (IsCompleted-filled c.args.table.now c.loop-pair.table xs other c.loop-pair.pairs.items new_keys new_values)
+
+pub returns-clause-injective : goal.returns-clause-injective
+returns-clause-injective c differ =
+    let xs = c.deref-pair-items.result.now in
+    let other = c.args.other.now in
+    let all : take c.loop-pair.pair-index xs ≡ xs = take_all c.loop-pair.pair-index xs c.loop-pair-test.false in
+    let new_values = subst (λ m. AreFilled (values xs ++ values other) c.args.table.now.fresh c.loop-pair.table.fresh (sent_on m other) (values c.loop-pair.pairs.items)) all c.loop-pair.invariant.values in
+    all_differ-filled (values xs ++ values other) c.args.table.now.fresh c.loop-pair.table.fresh xs other (values c.loop-pair.pairs.items) (among_second (values xs) (values other)) new_values
+    (ap (λ m. all_differ (values (composed m other))) (c.deref-pair-items.ensures ∙ c.self.view_is) ∙ differ)

@@ -1,0 +1,197 @@
+//! Slot maps put together, completed by fresh slots, and those that turn a set round.
+ghost use Rattle.std.specs.Prelude.{◌≡◌, ℕ, ◌^◌, ◌++◌, IsTrue, ◌↔◌, is_some, IsSome, IfSome, IfOk, IfErr, IsErrOf};
+ghost use Rattle.std.specs.List.{list_all};
+ghost use Rattle.slotted_slots.specs.Ascending.{IsAscending};
+ghost use Rattle.slotted_slots.specs.Combining.{HaveTheSame, Agree, agrees_with, joined, either_value, IsFreshFrom, IsFilled, IsNew, IsCompleted};
+ghost use Rattle.slotted_slots.specs.Error.{IsOutOfMemory, IsShortage};
+ghost use Rattle.slotted_slots.specs.Maps.{value_of, composed, is_among, all_differ, keys, values};
+ghost use Rattle.slotted_slots.specs.Table.{KnowsMore};
+
+use super::{SlotMap, has_value};
+use crate::{Error, Slot, SlotTable, SmallHashSet};
+use smallvec::SmallVec;
+use std::alloc::Global;
+
+impl SlotMap {
+    /// First this map, then the other, whose keys are this map's values.
+    pub fn compose(&self, alloc: Global, other: &SlotMap) -> Result<SlotMap, Error>
+        requires { HaveTheSame (values self.now) (keys other.now) }
+        ensures ok { IfOk result (λ m. m ≡ composed self.now other.now) }
+        ensures keys { IfOk result (λ m. keys m ≡ keys self.now) }
+        ensures memory { IfErr result IsOutOfMemory }
+    {
+        self.compose_partial(alloc, other)
+    }
+
+    /// Both maps in one, which have no key with two values.
+    pub fn union(&self, alloc: Global, other: &SlotMap) -> Result<SlotMap, Error>
+        requires { Agree self.now other.now }
+        ensures ok { IfOk result (λ m. m ≡ joined self.now other.now) }
+        ensures values { IfOk result (λ m. (k : ℕ) → value_of m k ≡ either_value (value_of self.now k) (value_of other.now k)) }
+        ensures memory { IfErr result IsOutOfMemory }
+    {
+        let mut union = self.copy(alloc)?;
+        for pair in other.pairs.iter() {
+            union.insert(pair.0, pair.1)?;
+        }
+        Ok(union)
+    }
+
+    /// Both maps in one, or none where a key has two values.
+    pub fn try_union(&self, alloc: Global, other: &SlotMap) -> Result<Option<SlotMap>, Error>
+        ensures agree { IfOk result (λ both. IsSome both ↔ Agree self.now other.now) }
+        ensures some { IfOk result (λ both. IfSome both (λ m. m ≡ joined self.now other.now)) }
+        ensures memory { IfErr result IsOutOfMemory }
+    {
+        if self.agrees_with(other) {
+            Ok(Some(self.union(alloc, other)?))
+        } else {
+            Ok(None)
+        }
+    }
+
+    /// First this map, then the other. A key whose value the other lacks gets a slot that was never made before and is no
+    /// value of either map.
+    pub fn compose_fresh(
+        &self,
+        alloc: Global,
+        other: &SlotMap,
+        table: &mut SlotTable,
+    ) -> Result<SlotMap, Error>
+        ensures completed { IfOk result (IsCompleted table.old table.new self.now other.now) }
+        ensures injective { IsTrue (all_differ (values (composed self.now other.now))) → IfOk result (λ m. IsTrue (all_differ (values m))) }
+
+        // The table went on to make slots, and is else as it was.
+        ensures names { table.new.names ≡ table.old.names }
+        ensures more { KnowsMore table.old table.new }
+        ensures full { IsErrOf result Error.OutOfSlots → table.new.fresh ≡ 2 ^ 30 }
+        ensures only { IfErr result IsShortage }
+    {
+        let mut pairs = SmallVec::new(alloc);
+        for pair in self.pairs.iter() {
+            let value = value_or_fresh(self.pairs.as_slice(), other, pair.1, table)?;
+            pairs.push((pair.0, value))?;
+        }
+        Ok(SlotMap { pairs })
+    }
+
+    /// A map to each slot of a set from a slot that was never made before and is none of the set.
+    pub fn bijection_from_fresh_to(
+        alloc: Global,
+        set: &SmallHashSet<Slot>,
+        table: &mut SlotTable,
+    ) -> Result<SlotMap, Error>
+        ensures values { IfOk result (λ m. values m ≡ set.now) }
+        ensures made { IfOk result (λ m. (s : ℕ) → IsTrue (is_among s (keys m)) → IsNew table.old table.new set.now s) }
+
+        // The table went on to make slots, and is else as it was.
+        ensures names { table.new.names ≡ table.old.names }
+        ensures more { KnowsMore table.old table.new }
+        ensures full { IsErrOf result Error.OutOfSlots → table.new.fresh ≡ 2 ^ 30 }
+        ensures only { IfErr result IsShortage }
+    {
+        let mut pairs = SmallVec::new(alloc);
+        for slot in set.as_slice() {
+            let key = fresh_outside(set, table)?;
+            pairs.push((key, *slot))?;
+        }
+        Ok(SlotMap { pairs })
+    }
+
+    /// Whether the keys and the values are one set. It takes no memory.
+    pub fn is_perm(&self) -> bool
+        ensures { IsTrue result ↔ HaveTheSame (keys self.now) (values self.now) }
+    {
+        self.each_value_is_key() && self.each_key_is_value()
+    }
+
+    // Whether there is a key to each value.
+    fn each_value_is_key(&self) -> bool
+        ensures { result ≡ list_all (λ v. is_some (value_of self.now v)) (values self.now) }
+    {
+        for pair in self.pairs.iter() {
+            if !self.contains_key(pair.1) {
+                return false;
+            }
+        }
+        true
+    }
+
+    // Whether each key is a value too.
+    fn each_key_is_value(&self) -> bool
+        ensures { result ≡ list_all (λ k. is_among k (values self.now)) (keys self.now) }
+    {
+        let pairs = self.pairs.as_slice();
+        for pair in pairs {
+            if !has_value(pairs, pair.0) {
+                return false;
+            }
+        }
+        true
+    }
+
+    // Whether no key has two values.
+    fn agrees_with(&self, other: &SlotMap) -> bool
+        ensures value { result ≡ agrees_with self.now other.now }
+        ensures ascending { IsAscending (keys self.now) }
+    {
+        for pair in self.pairs.iter() {
+            if other.get(pair.0).unwrap_or(pair.1) != pair.1 {
+                return false;
+            }
+        }
+        true
+    }
+}
+
+// The value at a key of the second map, or where there is none a fresh slot that is no value of either.
+fn value_or_fresh(
+    first: &[(Slot, Slot)],
+    second: &SlotMap,
+    k: Slot,
+    table: &mut SlotTable,
+) -> Result<Slot, Error>
+    ensures value { IfOk result (IsFilled table.old.fresh table.new.fresh (values first.now ++ values second.now) (value_of second.now k)) }
+    ensures full { IfErr result (λ e. (e ≡ Error.OutOfSlots) × (table.new.fresh ≡ 2 ^ 30)) }
+    ensures names { table.new.names ≡ table.old.names }
+    ensures more { KnowsMore table.old table.new }
+{
+    match second.get(k) {
+        Some(value) => Ok(value),
+        None => fresh_apart(first, second.pairs.as_slice(), table),
+    }
+}
+
+// A fresh slot that is no value of either list.
+fn fresh_apart(
+    first: &[(Slot, Slot)],
+    second: &[(Slot, Slot)],
+    table: &mut SlotTable,
+) -> Result<Slot, Error>
+    ensures slot { IfOk result (IsFreshFrom table.old.fresh table.new.fresh (values first.now ++ values second.now)) }
+    ensures full { IfErr result (λ e. (e ≡ Error.OutOfSlots) × (table.new.fresh ≡ 2 ^ 30)) }
+    ensures names { table.new.names ≡ table.old.names }
+    ensures more { KnowsMore table.old table.new }
+{
+    loop {
+        let slot = table.fresh()?;
+        if !has_value(first, slot) && !has_value(second, slot) {
+            return Ok(slot);
+        }
+    }
+}
+
+// A fresh slot that is not in the set.
+fn fresh_outside(set: &SmallHashSet<Slot>, table: &mut SlotTable) -> Result<Slot, Error>
+    ensures slot { IfOk result (IsFreshFrom table.old.fresh table.new.fresh set.now) }
+    ensures full { IfErr result (λ e. (e ≡ Error.OutOfSlots) × (table.new.fresh ≡ 2 ^ 30)) }
+    ensures names { table.new.names ≡ table.old.names }
+    ensures more { KnowsMore table.old table.new }
+{
+    loop {
+        let slot = table.fresh()?;
+        if !set.contains(&slot) {
+            return Ok(slot);
+        }
+    }
+}

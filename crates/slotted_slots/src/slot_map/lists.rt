@@ -1,0 +1,116 @@
+//! Slot maps to and from lists, arrays and iterators.
+ghost use Rattle.std.specs.Prelude.{◌≡◌, ℕ, List, IfOk, IfErr};
+ghost use Rattle.std.specs.Iterator.{Drains, IsFinite, YieldsFirst, item_count};
+ghost use Rattle.slotted_slots.specs.Error.{IsOutOfMemory};
+ghost use Rattle.slotted_slots.specs.Maps.{map_of, keys, values};
+
+use super::SlotMap;
+use crate::{Error, Slot};
+use std::alloc::Global;
+use std::marker::Model;
+
+impl SlotMap {
+    /// The map of some pairs. Of two with one key the later counts.
+    pub fn from_array<const N: usize>(
+        alloc: Global,
+        pairs: [(Slot, Slot); N],
+    ) -> Result<SlotMap, Error>
+        ensures ok { IfOk result (λ m. m ≡ map_of pairs.entry) }
+        ensures memory { IfErr result IsOutOfMemory }
+    {
+        SlotMap::from_pairs(alloc, &pairs)
+    }
+
+    /// The map of the pairs that an iterator gives. Of two with one key the later counts.
+    pub fn from_iterator<U: IntoIterator<Item = (Slot, Slot)>>(
+        alloc: Global,
+        pairs: U,
+    ) -> Result<SlotMap, Error>
+        requires { (it : U.IntoIter) → U.into_iter_gives pairs it → U.IntoIter.can_next it × IsFinite (U.IntoIter.remaining it) }
+        ensures ok { IfOk result (λ m. (it : U.IntoIter) × (given : List (ℕ × ℕ)) × U.into_iter_gives pairs it × Drains U.IntoIter.next_gives it given × (m ≡ map_of given)) }
+        ensures memory { IfErr result IsOutOfMemory }
+    {
+        let mut map = SlotMap::new(alloc);
+        for pair in pairs {
+            map.insert(pair.0, pair.1)?;
+        }
+        Ok(map)
+    }
+
+    /// The keys, in their order.
+    pub fn keys_vec(&self, alloc: Global) -> Result<Vec<Slot>, Error>
+        ensures ok { IfOk result (λ v. v.items ≡ keys self.now) }
+        ensures memory { IfErr result IsOutOfMemory }
+    {
+        let mut keys = Vec::new(alloc);
+        for pair in self.pairs.iter() {
+            keys.push(pair.0)?;
+        }
+        Ok(keys)
+    }
+
+    /// The values, in the order of their keys.
+    pub fn values_vec(&self, alloc: Global) -> Result<Vec<Slot>, Error>
+        ensures ok { IfOk result (λ v. v.items ≡ values self.now) }
+        ensures memory { IfErr result IsOutOfMemory }
+    {
+        let mut values = Vec::new(alloc);
+        for pair in self.pairs.iter() {
+            values.push(pair.1)?;
+        }
+        Ok(values)
+    }
+
+    /// The values, in the order of their keys.
+    pub fn values_immut(&self) -> ValuesImmut<'_>
+        ensures { result ≡ values self.now }
+    {
+        ValuesImmut {
+            pairs: self.pairs.as_slice(),
+        }
+    }
+}
+
+/// The values of a map in the order of their keys, seen as the list of those that are left.
+#[derive(Debug, Drop)]
+pub struct ValuesImmut<'a> {
+    pairs: &'a [(Slot, Slot)],
+}
+
+impl<'a> Model for ValuesImmut<'a> {
+    ghost use Rattle.std.specs.Prelude.{ℕ, List};
+    ghost use Rattle.slotted_slots.specs.Maps.{values};
+
+    ghost Value = { List ℕ };
+
+    ghost view = { λ it. values it.pairs.now };
+}
+
+impl<'a> Iterator for ValuesImmut<'a> {
+    type Item = Slot;
+
+    ghost next_gives = { YieldsFirst (λ rest. rest) };
+
+    ghost remaining = { item_count (λ rest. rest) };
+
+    fn next(&mut self) -> Option<Slot> {
+        let (first, rest) = self.pairs.split_first()?;
+        self.pairs = rest;
+        Some(first.1)
+    }
+}
+
+/// The pairs of a map that was given up, in key order, seen as the list of those that are left.
+pub type IntoIter = smallvec::IntoIter<(Slot, Slot), 8>;
+
+impl IntoIterator for SlotMap {
+    type Item = (Slot, Slot);
+
+    type IntoIter = IntoIter;
+
+    ghost into_iter_gives = { λ m it. it ≡ m };
+
+    fn into_iter(self) -> IntoIter {
+        self.pairs.into_iter()
+    }
+}

@@ -1,0 +1,101 @@
+//! Small sets beside each other: parts, unions, what they share, what one has alone.
+ghost use Rattle.std.specs.Prelude.{◌≡◌, ◌↔◌, ◌&&◌, ◌||◌, not, IsTrue, IfOk, IfErr};
+ghost use Rattle.std.specs.List.Sorted.{IsStrictlySortedBy};
+ghost use Rattle.slotted_slots.specs.Error.{IsOutOfMemory};
+ghost use Rattle.slotted_slots.specs.Sets.{has};
+ghost use Rattle.slotted_slots.specs.SetAlgebra.{IsWithin, AreApart, united, shared, remaining};
+
+use super::SmallHashSet;
+use crate::Error;
+use smallvec::SmallVec;
+use std::alloc::Global;
+use std::default::MadeWith;
+
+impl<T: Ord> SmallHashSet<T> {
+    /// Whether each element is one of the other set.
+    pub fn is_subset(&self, other: &SmallHashSet<T>) -> bool
+        ensures { IsTrue result ↔ IsWithin T.cmp self.now other.now }
+    {
+        for item in self.items.as_slice() {
+            if !other.contains(item) {
+                return false;
+            }
+        }
+        true
+    }
+
+    /// Whether each element of the other set is one of this.
+    pub fn is_superset(&self, other: &SmallHashSet<T>) -> bool
+        ensures { IsTrue result ↔ IsWithin T.cmp other.now self.now }
+    {
+        other.is_subset(self)
+    }
+
+    /// Whether the two sets share no element.
+    pub fn is_disjoint(&self, other: &SmallHashSet<T>) -> bool
+        ensures { IsTrue result ↔ AreApart T.cmp self.now other.now }
+    {
+        for item in self.items.as_slice() {
+            if other.contains(item) {
+                return false;
+            }
+        }
+        true
+    }
+}
+
+impl<T: Ord + Copy + MadeWith<Global> + Drop> SmallHashSet<T> {
+    /// The elements of both sets; of two that compare equal, that of this one.
+    pub fn union(&self, alloc: Global, other: &SmallHashSet<T>) -> Result<SmallHashSet<T>, Error>
+        ensures ok { IfOk result (λ s. s ≡ united T.cmp self.now other.now) }
+        ensures members { IfOk result (λ s. (t : T) → has T.cmp s t ≡ (has T.cmp self.now t || has T.cmp other.now t)) }
+        ensures memory { IfErr result IsOutOfMemory }
+    {
+        let items = SmallVec::from_slice(alloc, self.items.as_slice())?;
+        let mut union = SmallHashSet { items };
+        for item in other.items.as_slice() {
+            union.insert(*item)?;
+        }
+        Ok(union)
+    }
+
+    /// The elements that the other set has too.
+    pub fn intersection(
+        &self,
+        alloc: Global,
+        other: &SmallHashSet<T>,
+    ) -> Result<SmallHashSet<T>, Error>
+        ensures ok { IfOk result (λ s. s ≡ shared T.cmp self.now other.now) }
+        ensures members { IfOk result (λ s. (t : T) → has T.cmp s t ≡ (has T.cmp self.now t && has T.cmp other.now t)) }
+        ensures memory { IfErr result IsOutOfMemory }
+    {
+        let mut items = SmallVec::new(alloc);
+        for item in self.items.as_slice() {
+            let shares = other.contains(item);
+            if shares {
+                items.push(*item)?;
+            }
+        }
+        Ok(SmallHashSet { items })
+    }
+
+    /// The elements that the other set lacks.
+    pub fn difference(
+        &self,
+        alloc: Global,
+        other: &SmallHashSet<T>,
+    ) -> Result<SmallHashSet<T>, Error>
+        ensures ok { IfOk result (λ s. s ≡ remaining T.cmp self.now other.now) }
+        ensures members { IfOk result (λ s. (t : T) → has T.cmp s t ≡ (has T.cmp self.now t && not (has T.cmp other.now t))) }
+        ensures memory { IfErr result IsOutOfMemory }
+    {
+        let mut items = SmallVec::new(alloc);
+        for item in self.items.as_slice() {
+            let lacks = !other.contains(item);
+            if lacks {
+                items.push(*item)?;
+            }
+        }
+        Ok(SmallHashSet { items })
+    }
+}
