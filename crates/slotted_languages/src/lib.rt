@@ -47,10 +47,12 @@
 #![tactic(auto)]
 
 pub mod children;
+pub(crate) mod fresh;
 pub mod language;
 pub mod outline;
 pub mod pair;
 pub mod payload;
+pub(crate) mod places;
 pub mod renaming;
 pub mod shape;
 pub mod small;
@@ -61,6 +63,8 @@ pub use payload::Symbol;
 pub use shape::shapes_decide;
 pub use small::Small;
 
+#[cfg(test)]
+mod place_tests;
 #[cfg(test)]
 mod renaming_tests;
 #[cfg(test)]
