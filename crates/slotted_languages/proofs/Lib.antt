@@ -18,3 +18,5 @@ pub mod Renamings
 pub mod AmongNames
 pub mod Occurrences
 pub mod WalkBinders
+pub mod Fills
+pub mod PublicNames

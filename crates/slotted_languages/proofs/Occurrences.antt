@@ -17,11 +17,11 @@ or_true : (b : Bool) → (b || true) ≡ true
 or_true true = refl
 or_true false = refl
 
-or_false : (b : Bool) → (b || false) ≡ b
+pub or_false : (b : Bool) → (b || false) ≡ b
 or_false true = refl
 or_false false = refl
 
-is_among-append : (x : ℕ) (vs xs : List ℕ) → is_among x (vs ++ xs) ≡ (is_among x vs || is_among x xs)
+pub is_among-append : (x : ℕ) (vs xs : List ℕ) → is_among x (vs ++ xs) ≡ (is_among x vs || is_among x xs)
 is_among-append x [] xs = refl
 is_among-append x (v ∷ vs) xs = ap (λ b. nat_eq v x || b) (is_among-append x vs xs) ∙ sym (or_assoc (nat_eq v x) (is_among x vs) (is_among x xs))
 

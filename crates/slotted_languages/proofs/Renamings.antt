@@ -10,8 +10,10 @@ use Rattle.slotted_theory.proofs.Laws.{moved_args-id}
 use Rattle.slotted_theory.specs.FiniteMaps.{top, filled}
 use Rattle.slotted_languages.proofs.FilledFrom.{filled_from, filled-walked}
 use Rattle.slotted_languages.proofs.Members.{In}
+use Rattle.slotted_languages.proofs.Occurrences.{lacks_smaller}
 use Rattle.slotted_slots.specs.Ascending.{AllAbove, IsAscending}
 use Rattle.slotted_slots.specs.Maps.{value_of, with_pair, with_first, composed, values, keys, is_among, KnowsAll}
+use Rattle.slotted_slots.specs.Table.{Table, is_known, KnowsMore}
 use Rattle.slotted_languages.specs.Form.{Form, with_name}
 use Rattle.slotted_languages.specs.NodeTerm.{nameless_node, free_names_of}
 use Rattle.slotted_languages.specs.Shape.{shape, with_names, moved_names, Fits, added, firsts}
@@ -39,26 +41,28 @@ Covers names [] = Unit {0}
 Covers names (n ∷ ns) = ((y : ℕ) × (value_of names n ≡ Some y)) × Covers names ns
 
 -- what was chosen so far: a binder's name meets another only if the old names met
-pub record AreChosen (xs avoid : List ℕ) (old : ℕ → ℕ) (free names : List (ℕ × ℕ)) : Type 0 where
+pub record AreChosen (t : Table) (xs avoid : List ℕ) (old : ℕ → ℕ) (free names : List (ℕ × ℕ)) : Type 0 where
   pub as_free : (n y z : ℕ) → value_of names n ≡ Some y → value_of free n ≡ Some z → y ≡ z
   pub not_avoided : (n y : ℕ) → value_of names n ≡ Some y → value_of free n ≡ None → is_among y avoid ≡ false
   pub kept_or_fresh : (n y : ℕ) → value_of names n ≡ Some y → value_of free n ≡ None → (y ≡ old n) ⊎ (is_among y xs ≡ false)
+  pub unused : (n y : ℕ) → value_of names n ≡ Some y → value_of free n ≡ None → is_among (old n) avoid ≡ true → is_known t y ≡ false
   pub meet : (b n y : ℕ) → value_of free b ≡ None → value_of names b ≡ Some y → value_of names n ≡ Some y → old b ≡ old n
 
-pub none_chosen : (xs avoid : List ℕ) (old : ℕ → ℕ) (free : List (ℕ × ℕ)) → AreChosen xs avoid old free []
-none_chosen xs avoid old free = record {
+pub none_chosen : (t : Table) (xs avoid : List ℕ) (old : ℕ → ℕ) (free : List (ℕ × ℕ)) → AreChosen t xs avoid old free []
+none_chosen t xs avoid old free = record {
   as_free = λ n y z e f. cc;
   not_avoided = λ n y e f. cc;
   kept_or_fresh = λ n y e f. cc;
+  unused = λ n y e f g. cc;
   meet = λ b n y e f g. cc;
 }
 
-is_value : (m : List (ℕ × ℕ)) (n y : ℕ) → value_of m n ≡ Some y → is_among y (values m) ≡ true
+pub is_value : (m : List (ℕ × ℕ)) (n y : ℕ) → value_of m n ≡ Some y → is_among y (values m) ≡ true
 is_value [] n y e = cc
 is_value (p ∷ m) n y e = grind (arith, nat_tests, is_value m n y)
 
 -- the one or the other, for a name or none
-told : (o : Option ℕ) → ((z : ℕ) × (o ≡ Some z)) ⊎ (o ≡ None)
+pub told : (o : Option ℕ) → ((z : ℕ) × (o ≡ Some z)) ⊎ (o ≡ None)
 told None = inr refl
 told (Some z) = inl (z, refl)
 
@@ -66,8 +70,8 @@ told_bool : (b : Bool) → (b ≡ true) ⊎ (b ≡ false)
 told_bool true = inl refl
 told_bool false = inr refl
 
-module _ (xs avoid : List ℕ) (old : ℕ → ℕ) (free : List (ℕ × ℕ)) (targets : (n z : ℕ) → value_of free n ≡ Some z → is_among z avoid ≡ true) where
-  module _ (names : List (ℕ × ℕ)) (c : AreChosen xs avoid old free names) (number y : ℕ) (missing : value_of names number ≡ None) (here : is_among (old number) xs ≡ true) (choice : IsChoice xs avoid free names number (old number) y) where
+module _ (t : Table) (xs avoid : List ℕ) (old : ℕ → ℕ) (free : List (ℕ × ℕ)) (targets : (n z : ℕ) → value_of free n ≡ Some z → is_among z avoid ≡ true) where
+  module _ (names : List (ℕ × ℕ)) (c : AreChosen t xs avoid old free names) (number y : ℕ) (missing : value_of names number ≡ None) (here : is_among (old number) xs ≡ true) (choice : IsChoice t xs avoid free names number (old number) y) where
     -- the chosen name among those chosen before
     choice_meets : (n : ℕ) → (value_of free n ≡ None) ⊎ (value_of free number ≡ None) → value_of names n ≡ Some y → old number ≡ old n
     choice_meets n either e = elim (told (value_of free number)) [
@@ -99,7 +103,7 @@ module _ (xs avoid : List ℕ) (old : ℕ → ℕ) (free : List (ℕ × ℕ)) (t
     at_other : (n z : ℕ) → n ≢ number → value_of (with_pair names number y) n ≡ Some z → value_of names n ≡ Some z
     at_other n z d e = sym (value_of-with_pair_other names number y n (λ q. d (sym q))) ∙ e
 
-    pub one_chosen : AreChosen xs avoid old free (with_pair names number y)
+    pub one_chosen : AreChosen t xs avoid old free (with_pair names number y)
     one_chosen = record {
       as_free = λ n v z e f. elim (cases_eq n number) [
         | inl d ↦ sym (at_number v (ap (value_of (with_pair names number y)) (sym d) ∙ e)) ∙ choice.free_name z (ap (value_of free) (sym d) ∙ f)
@@ -119,6 +123,12 @@ module _ (xs avoid : List ℕ) (old : ℕ → ℕ) (free : List (ℕ × ℕ)) (t
               | inr a ↦ inl (sym k ∙ (choice.kept (ap (value_of free) (sym d) ∙ f) a ∙ ap old (sym d)))
             ]
         | inr d ↦ c.kept_or_fresh n v (at_other n v d e) f
+      ];
+      unused = λ n v e f a. elim (cases_eq n number) [
+        | inl d ↦
+            let k : y ≡ v = at_number v (ap (value_of (with_pair names number y)) (sym d) ∙ e) in
+            ap (is_known t) (sym k) ∙ choice.unused (ap (value_of free) (sym d) ∙ f) (ap (λ w. is_among (old w) avoid) (sym d) ∙ a)
+        | inr d ↦ c.unused n v (at_other n v d e) f a
       ];
       meet = λ b n v f e g. elim (cases_eq b number) [
         | inl d ↦
@@ -142,6 +152,20 @@ module _ (xs avoid : List ℕ) (old : ℕ → ℕ) (free : List (ℕ × ℕ)) (t
           | inr a ↦ ap (λ w. is_among w avoid) (choice.kept f a) ∙ a
         ]
 
+-- a slot that a later table does not know an earlier one does not know
+pub unknown_before : (t u : Table) (s : ℕ) → KnowsMore t u → is_known u s ≡ false → is_known t s ≡ false
+unknown_before t u s more e = lacks_smaller (is_known t s) (is_known u s) (more s) e
+
+-- what is chosen with a later table is a choice with an earlier one
+entered_before : (t u : Table) (xs avoid : List ℕ) (free old new : List (ℕ × ℕ)) (number name y : ℕ) → KnowsMore t u → IsEntered u xs avoid free old new number name y → IsEntered t xs avoid free old new number name y
+entered_before t u xs avoid free old new number name y more e = record {
+  known = e.known;
+  chosen = λ m.
+      let c = e.chosen m in
+      record { free_name = c.free_name; kept = c.kept; not_avoided = c.not_avoided; not_old = c.not_old; not_new = c.not_new; unused = λ f a. unknown_before t u y more (c.unused f a) };
+  entered = e.entered;
+}
+
 abbrev Extends : List (ℕ × ℕ) → List (ℕ × ℕ) → Type 0
 Extends names more = (n y : ℕ) → value_of names n ≡ Some y → value_of more n ≡ Some y
 
@@ -163,16 +187,16 @@ map_new_name free names more [] e c = refl
 map_new_name free names more (n ∷ ns) e c =
     λ i. or_free ((e n c.0.0 c.0.1 ∙ sym c.0.1) i) (value_of free n) ∷ map_new_name free names more ns e c.1 i
 
-mapped_length : (f : ℕ → ℕ) (xs : List ℕ) → length (map f xs) ≡ length xs
+pub mapped_length : (f : ℕ → ℕ) (xs : List ℕ) → length (map f xs) ≡ length xs
 mapped_length f [] = refl
 mapped_length f (x ∷ xs) = ap suc (mapped_length f xs)
 
-map_index : (f : ℕ → ℕ) (xs : List ℕ) (i : ℕ) → i < length xs → slice_index (map f xs) i ≡ f (slice_index xs i)
+pub map_index : (f : ℕ → ℕ) (xs : List ℕ) (i : ℕ) → i < length xs → slice_index (map f xs) i ≡ f (slice_index xs i)
 map_index f [] i h = absurd (omega (arith, h))
 map_index f (x ∷ xs) zero h = refl
 map_index f (x ∷ xs) (suc i) h = map_index f xs i (omega (arith, h))
 
-among_index : (xs : List ℕ) (i : ℕ) → i < length xs → is_among (slice_index xs i) xs ≡ true
+pub among_index : (xs : List ℕ) (i : ℕ) → i < length xs → is_among (slice_index xs i) xs ≡ true
 among_index [] i h = absurd (omega (arith, h))
 among_index (x ∷ xs) zero h = ap (λ b. b || is_among x xs) (eq-eqb x x refl)
 among_index (x ∷ xs) (suc i) h = ap (λ b. nat_eq x (slice_index xs i) || b) (among_index xs i (omega (arith, h))) ∙ or_true (nat_eq x (slice_index xs i))
@@ -182,28 +206,28 @@ among_index (x ∷ xs) (suc i) h = ap (λ b. nat_eq x (slice_index xs i) || b) (
     or_true false = refl
 
 -- the first i places have their new names
-pub record IsRenaming (f : Form) (avoid : List ℕ) (free names : List (ℕ × ℕ)) (h : Form) (i : ℕ) : Type 0 where
+pub record IsRenaming (t : Table) (f : Form) (avoid : List ℕ) (free names : List (ℕ × ℕ)) (h : Form) (i : ℕ) : Type 0 where
   pub was : Named f
   pub named : h ≡ with_names f (map (new_name free names) (take i (shape f).0.names) ++ drop i (shape f).0.names)
   pub covers : Covers names (take i (shape f).0.names)
-  pub chosen : AreChosen f.names avoid was.old free names
+  pub chosen : AreChosen t f.names avoid was.old free names
 
-pub none_renamed : (f h : Form) (avoid : List ℕ) (free names : List (ℕ × ℕ)) → Fits f → h ≡ (shape f).0 → names ≡ [] → IsRenaming f avoid free names h 0
-none_renamed f h avoid free names fits e none = record {
+pub none_renamed : (t : Table) (f h : Form) (avoid : List ℕ) (free names : List (ℕ × ℕ)) → Fits f → h ≡ (shape f).0 → names ≡ [] → IsRenaming t f avoid free names h 0
+none_renamed t f h avoid free names fits e none = record {
   was = names_of_shape f fits;
   named = e;
   covers = tt;
-  chosen = rw none (none_chosen f.names avoid (names_of_shape f fits).old free);
+  chosen = rw none (none_chosen t f.names avoid (names_of_shape f fits).old free);
 }
 
 -- one more number has its name
-record Advanced (xs avoid : List ℕ) (old : ℕ → ℕ) (free names more : List (ℕ × ℕ)) (number y : ℕ) : Type 0 where
+record Advanced (t : Table) (xs avoid : List ℕ) (old : ℕ → ℕ) (free names more : List (ℕ × ℕ)) (number y : ℕ) : Type 0 where
   has : value_of more number ≡ Some y
   extends : Extends names more
-  chosen : AreChosen xs avoid old free more
+  chosen : AreChosen t xs avoid old free more
 
-advanced : (xs avoid : List ℕ) (old : ℕ → ℕ) (free names more : List (ℕ × ℕ)) (number y : ℕ) → ((n z : ℕ) → value_of free n ≡ Some z → is_among z avoid ≡ true) → is_among (old number) xs ≡ true → AreChosen xs avoid old free names → IsEntered xs avoid free names more number (old number) y → Advanced xs avoid old free names more number y
-advanced xs avoid old free names more number y targets here c e = elim (told (value_of names number)) [
+advanced : (t : Table) (xs avoid : List ℕ) (old : ℕ → ℕ) (free names more : List (ℕ × ℕ)) (number y : ℕ) → ((n z : ℕ) → value_of free n ≡ Some z → is_among z avoid ≡ true) → is_among (old number) xs ≡ true → AreChosen t xs avoid old free names → IsEntered t xs avoid free names more number (old number) y → Advanced t xs avoid old free names more number y
+advanced t xs avoid old free names more number y targets here c e = elim (told (value_of names number)) [
   | inl z ↦
       let k = e.known z.0 z.1 in
       let m : more ≡ names = k.1 in
@@ -213,15 +237,15 @@ advanced xs avoid old free names more number y targets here c e = elim (told (va
       record {
         has = ap (λ l. value_of l number) m ∙ value_of-with_pair_same names number y;
         extends = λ n v d. ap (λ l. value_of l n) m ∙ (value_of-with_pair_other names number y n (λ q. differ n v d missing q) ∙ d);
-        chosen = rw m (one_chosen xs avoid old free targets names c number y missing here (e.chosen missing));
+        chosen = rw m (one_chosen t xs avoid old free targets names c number y missing here (e.chosen missing));
       }
 ]
   where
     differ : (n v : ℕ) → value_of names n ≡ Some v → value_of names number ≡ None → number ≡ n → ⊥
     differ n v d missing q = let k : value_of names number ≡ Some v = ap (value_of names) q ∙ d in cc
 
-pub one_renamed : (f h k : Form) (avoid : List ℕ) (free names more : List (ℕ × ℕ)) (i name number y : ℕ) → i < length f.names → ((n z : ℕ) → value_of free n ≡ Some z → is_among z avoid ≡ true) → IsRenaming f avoid free names h i → name ≡ slice_index f.names i → number ≡ slice_index h.names i → IsEntered f.names avoid free names more number name y → k ≡ with_name h i y → IsRenaming f avoid free more k (i + 1)
-one_renamed f h k avoid free names more i name number y lt targets d en enum e ek =
+pub one_renamed : (t u : Table) (f h k : Form) (avoid : List ℕ) (free names more : List (ℕ × ℕ)) (i name number y : ℕ) → i < length f.names → ((n z : ℕ) → value_of free n ≡ Some z → is_among z avoid ≡ true) → KnowsMore t u → IsRenaming t f avoid free names h i → name ≡ slice_index f.names i → number ≡ slice_index h.names i → IsEntered u f.names avoid free names more number name y → k ≡ with_name h i y → IsRenaming t f avoid free more k (i + 1)
+one_renamed t u f h k avoid free names more i name number y lt targets tu d en enum e ek =
     let ns = (shape f).0.names in
     let old = d.was.old in
     let l : length ns ≡ length f.names = sym (mapped_length old ns) ∙ ap length d.was.were in
@@ -229,7 +253,8 @@ one_renamed f h k avoid free names more i name number y lt targets d en enum e e
     let e1 : number ≡ slice_index ns i = enum ∙ (ap (λ g. slice_index g.names i) d.named ∙ place_read (map (new_name free names) (take i ns)) ns i li) in
     let e2 : name ≡ old number = en ∙ (ap (λ xs. slice_index xs i) (sym d.was.were) ∙ (map_index old ns i (omega (arith, lt, l)) ∙ ap old (sym e1))) in
     let here : is_among (old number) f.names ≡ true = ap (λ x. is_among x f.names) (sym e2 ∙ en) ∙ among_index f.names i lt in
-    let a : Advanced f.names avoid old free names more number y = advanced f.names avoid old free names more number y targets here d.chosen (rw e2 at e) in
+    let ee : IsEntered t f.names avoid free names more number name y = entered_before t u f.names avoid free names more number name y tu e in
+    let a : Advanced t f.names avoid old free names more number y = advanced t f.names avoid old free names more number y targets here d.chosen (rw e2 at ee) in
     let more_taken : take (suc i) ns ≡ take i ns ++ number ∷ [] = take-suc ns i 0 (omega (arith, lt, l)) ∙ ap (λ m. take i ns ++ m ∷ []) (sym e1) in
     let mapped : map (new_name free more) (take (suc i) ns) ≡ map (new_name free names) (take i ns) ++ y ∷ [] =
     ap (map (new_name free more)) more_taken
@@ -276,8 +301,8 @@ Covers-index names (n ∷ ns) zero h c = c.0
 Covers-index names (n ∷ ns) (suc j) h c = Covers-index names ns j (omega (arith, h)) c.1
 
 -- all places have their new names
-pub all_renamed : (f h : Form) (avoid : List ℕ) (free names : List (ℕ × ℕ)) (i : ℕ) → Fits f → i ≡ length f.names → IsRenaming f avoid free names h i → (π : ℕ → ℕ) → free ≡ moved_names π (shape f).1 → IsRenamed π f avoid h
-all_renamed f h avoid free names i fits e d π ef =
+pub all_renamed : (t : Table) (f h : Form) (avoid : List ℕ) (free names : List (ℕ × ℕ)) (i : ℕ) → Fits f → i ≡ length f.names → IsRenaming t f avoid free names h i → (π : ℕ → ℕ) → free ≡ moved_names π (shape f).1 → IsRenamed t π f avoid h
+all_renamed t f h avoid free names i fits e d π ef =
     let ns = (shape f).0.names in
     let σ = new_name free names in
     let l : i ≡ length ns = omega (arith, e, mapped_length d.was.old ns, ap length d.was.were) in
@@ -297,15 +322,29 @@ all_renamed f h avoid free names i fits e d π ef =
     let found : Found free π (shape f).1 = rw ef (found_moved π (shape f).1 (keys-shape f)) in
     let knows : Knows σ π (shape f).1 =
     Knows-found σ π free (shape f).1 (λ n z g. free_new_name free names n z (value_of names n) refl (λ y k. d.chosen.as_free n y z k g) g) found in
-    let bound : (j : ℕ) → j < length f.names → IsBinder f j → is_among (slice_index h.names j) avoid ≡ false =
-    λ j lt b.
+    let chosen_at : (j : ℕ) → j < length f.names → (y : ℕ) × (value_of names (slice_index ns j) ≡ Some y) × (slice_index h.names j ≡ y) =
+    λ j lt.
     let n = slice_index ns j in
     let c = Covers-index names ns j (omega (arith, lt, l, e)) covers in
-    let at : slice_index h.names j ≡ c.0 = ap (λ g. slice_index g.names j) put ∙ (map_index σ ns j (omega (arith, lt, l, e)) ∙ ap (λ o. or_free o (value_of free n)) c.1) in
-    ap (λ x. is_among x avoid) at ∙ d.chosen.not_avoided n c.0 c.1 (ap (λ m. value_of m n) ef ∙ lacks_moved π (shape f).1 n (binder_number f j fits lt b)) in
-    record { renamed = ap nameless_node put ∙ renamed_node f d.was.old σ π fits apart knows; bound = bound }
+    (c.0, c.1, ap (λ g. slice_index g.names j) put ∙ (map_index σ ns j (omega (arith, lt, l, e)) ∙ ap (λ o. or_free o (value_of free n)) c.1)) in
+    let old_at : (j : ℕ) → j < length f.names → slice_index f.names j ≡ d.was.old (slice_index ns j) =
+    λ j lt. ap (λ xs. slice_index xs j) (sym d.was.were) ∙ map_index d.was.old ns j (omega (arith, lt, l, e)) in
+    let binds : (j : ℕ) → j < length f.names → IsBinder f j → value_of free (slice_index ns j) ≡ None =
+    λ j lt b. ap (λ m. value_of m (slice_index ns j)) ef ∙ lacks_moved π (shape f).1 (slice_index ns j) (binder_number f j fits lt b) in
+    record {
+      renamed = ap nameless_node put ∙ renamed_node f d.was.old σ π fits apart knows;
+      bound = λ j lt b. let c = chosen_at j lt in ap (λ x. is_among x avoid) c.2 ∙ d.chosen.not_avoided (slice_index ns j) c.0 c.1 (binds j lt b);
+      unused = λ j lt b a.
+          let c = chosen_at j lt in
+          ap (is_known t) c.2 ∙ d.chosen.unused (slice_index ns j) c.0 c.1 (binds j lt b) (ap (λ x. is_among x avoid) (sym (old_at j lt)) ∙ a);
+      differ = λ j k lt lk b q.
+          let c = chosen_at j lt in
+          let o = chosen_at k lk in
+          let s : o.0 ≡ c.0 = sym o.2 ∙ (sym q ∙ c.2) in
+          old_at j lt ∙ (d.chosen.meet (slice_index ns j) (slice_index ns k) c.0 (binds j lt b) c.1 (o.1 ∙ ap Some s) ∙ sym (old_at k lk));
+    }
 
-value_of-filled : (t : ℕ) (m : List (ℕ × ℕ)) (x v : ℕ) → value_of m x ≡ Some v → filled_from t m x ≡ v
+pub value_of-filled : (t : ℕ) (m : List (ℕ × ℕ)) (x v : ℕ) → value_of m x ≡ Some v → filled_from t m x ≡ v
 value_of-filled t [] x v e = cc
 value_of-filled t (p ∷ m) x v e = elim (cases_eq p.0 x) [
   | inl d ↦
@@ -334,7 +373,7 @@ Has-added m vs (x ∷ xs) h k = Has-added m (cond (is_among x vs) vs (vs ++ x �
     one true = h
     one false = Has-last m vs x k.0.0 h k.0.1
 
-some_of : (o : Option ℕ) → IsSome o → (v : ℕ) × (o ≡ Some v)
+pub some_of : (o : Option ℕ) → IsSome o → (v : ℕ) × (o ≡ Some v)
 some_of None h = absurd (false≢true h)
 some_of (Some v) h = (v, refl)
 
@@ -381,7 +420,7 @@ Has-added_back m vs (x ∷ xs) h =
     one true e h k = (h, (Has-among m vs x h e, k))
     one false e h k = let r = Has-last_back m vs x h in (r.0, (r.1, k))
 
-is_some_of : (o : Option ℕ) (v : ℕ) → o ≡ Some v → IsSome o
+pub is_some_of : (o : Option ℕ) (v : ℕ) → o ≡ Some v → IsSome o
 is_some_of None v e = cc
 is_some_of (Some w) v e = refl
 
@@ -401,5 +440,5 @@ pub moved_same : (m : List (ℕ × ℕ)) → m ≡ moved_names (λ x. x) m
 moved_same [] = refl
 moved_same (p ∷ m) = ap (λ l. p ∷ l) (moved_same m)
 
-pub renamed_same : (f : Form) (avoid : List ℕ) (g : Form) → IsRenamed (λ x. x) f avoid g → nameless_node g ≡ nameless_node f
-renamed_same f avoid g r = r.renamed ∙ λ i. record { op = suc f.operator; payloads = f.payloads; args = moved_args-id (nameless_node f).args i }
+pub renamed_same : (t : Table) (f : Form) (avoid : List ℕ) (g : Form) → IsRenamed t (λ x. x) f avoid g → nameless_node g ≡ nameless_node f
+renamed_same t f avoid g r = r.renamed ∙ λ i. record { op = suc f.operator; payloads = f.payloads; args = moved_args-id (nameless_node f).args i }

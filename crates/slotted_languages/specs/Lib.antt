@@ -17,3 +17,5 @@ pub mod Shape
 pub mod Walk
 pub mod Renaming
 pub mod Children
+pub mod Occurrences
+pub mod Fresh

@@ -1,18 +1,22 @@
 // Nodes of a language.
-ghost use Rattle.std.specs.Prelude.{◌≡◌, ◌↔◌, ◌<◌, ◌≤◌, ◌^◌, ℕ, false, slice_index, length, map, IsTrue, IfOk, IfErr, OnErr, IsErrOf, ◌⊎◌};
+ghost use Rattle.std.specs.Prelude.{◌≡◌, ◌↔◌, ◌<◌, ◌≤◌, ◌^◌, ℕ, false, slice_index, length, map, not, IsTrue, IfOk, IfErr, OnErr, IsErrOf, ◌⊎◌};
 ghost use Rattle.std.specs.List.{FoldsTo};
 ghost use Rattle.slotted_theory.specs.FiniteMaps.{filled};
 ghost use Rattle.slotted_theory.specs.Nameless.{moved};
 ghost use Rattle.slotted_slots.specs.Ascending.{IsAscending};
 ghost use Rattle.slotted_slots.specs.Error.{IsOutOfMemory, IsShortage};
 ghost use Rattle.slotted_slots.specs.Maps.{KnowsAll, is_among, keys, values};
-ghost use Rattle.slotted_slots.specs.Table.{KnowsMore};
+ghost use Rattle.slotted_slots.specs.Table.{KnowsMore, is_known};
 ghost use Rattle.slotted_languages.specs.Children.{IsBinder, IsBound, NoneFreeAndBound, Refused, Replaced, all_children, below, child_value};
 ghost use Rattle.slotted_languages.specs.Form.{IsSmall, children};
+ghost use Rattle.slotted_languages.specs.Fresh.{IsRefreshed, IsRenamedFresh};
 ghost use Rattle.slotted_languages.specs.NodeTerm.{nameless_node, free_names_of};
+ghost use Rattle.slotted_languages.specs.Occurrences.{public_names, private_names};
 ghost use Rattle.slotted_languages.specs.Shape.{shape, firsts};
 
 use crate::children::LanguageChildren;
+use crate::fresh::{fill_names, names_outside, names_within, refresh_names};
+use crate::places::{all_names, check_count, hidden_names, name_set, seen_names};
 use crate::renaming::{add_names, rename};
 use crate::shape::{PLACES, number_places};
 use slotted_slots::{AppliedId, Error, Id, Slot, SlotMap, SlotTable, SmallHashSet};
@@ -96,11 +100,54 @@ pub trait Language: LanguageChildren + Ord {
         ensures full { IsErrOf result Error.OutOfSlots → ((2 ^ 30 ≤ length (Self.form self.now).names) ⊎ (table.new.fresh ≡ 2 ^ 30)) }
         ensures only { IfErr result IsShortage }
         ensures more { KnowsMore table.old table.new }
+        ensures kept { table.new.names ≡ table.old.names }
     {
         let (numbered, free) = self.weak_shape(alloc)?;
         let names = free.compose_partial(alloc, m)?;
         let avoid = names.values(alloc)?;
         rename(self, numbered, alloc, &names, &avoid, table)
+    }
+
+    /// This node with its free slots renamed by `m`, as `apply_slotmap` answers it: `m` has to know each of them.
+    final fn apply_slotmap_partial(
+        &self,
+        alloc: Global,
+        m: &SlotMap,
+        table: &mut SlotTable,
+    ) -> Result<Self, Error>
+    where
+        Self: Sized,
+        requires { KnowsAll m.now (free_names_of (Self.form self.now)) }
+        ensures renamed { IfOk result (λ r. nameless_node (Self.form r) ≡ moved (filled m.now) (nameless_node (Self.form self.now))) }
+        ensures large { 2 ^ 30 ≤ length (Self.form self.now).names → IsErrOf result Error.OutOfSlots }
+        ensures full { IsErrOf result Error.OutOfSlots → ((2 ^ 30 ≤ length (Self.form self.now).names) ⊎ (table.new.fresh ≡ 2 ^ 30)) }
+        ensures only { IfErr result IsShortage }
+        ensures more { KnowsMore table.old table.new }
+        ensures kept { table.new.names ≡ table.old.names }
+    {
+        self.apply_slotmap(alloc, m, table)
+    }
+
+    /// This node with its free slots renamed by `m`, and with one fresh slot in the place of each free slot that `m` lacks.
+    final fn apply_slotmap_fresh(
+        &self,
+        alloc: Global,
+        m: &SlotMap,
+        table: &mut SlotTable,
+    ) -> Result<Self, Error>
+    where
+        Self: Sized,
+        ensures renamed { IfOk result (λ r. IsRenamedFresh table.old m.now (Self.form self.now) (Self.form r)) }
+        ensures large { 2 ^ 30 ≤ length (Self.form self.now).names → IsErrOf result Error.OutOfSlots }
+        ensures full { IsErrOf result Error.OutOfSlots → ((2 ^ 30 ≤ length (Self.form self.now).names) ⊎ (table.new.fresh ≡ 2 ^ 30)) }
+        ensures only { IfErr result IsShortage }
+        ensures more { KnowsMore table.old table.new }
+        ensures kept { table.new.names ≡ table.old.names }
+    {
+        let wanted = self.slots(alloc)?;
+        let mut names = m.copy(alloc)?;
+        fill_names(self, &wanted, &mut names, table)?;
+        self.apply_slotmap(alloc, &names, table)
     }
 
     /// This node with a fresh slot for each binder, in the place of those that it binds too. It is the same node, up to bound
@@ -110,15 +157,61 @@ pub trait Language: LanguageChildren + Ord {
         Self: Sized,
         ensures same { IfOk result (λ r. nameless_node (Self.form r) ≡ nameless_node (Self.form self.now)) }
         ensures fresh { IfOk result (λ r. (j : ℕ) → j < length (Self.form self.now).names → IsBinder (Self.form self.now) j → is_among (slice_index (Self.form r).names j) (Self.form self.now).names ≡ false) }
+        ensures unused { IfOk result (λ r. (j : ℕ) → j < length (Self.form self.now).names → IsBinder (Self.form self.now) j → is_known table.old (slice_index (Self.form r).names j) ≡ false) }
+        ensures differ { IfOk result (λ r. (j k : ℕ) → j < length (Self.form self.now).names → k < length (Self.form self.now).names → IsBinder (Self.form self.now) j → slice_index (Self.form r).names j ≡ slice_index (Self.form r).names k → slice_index (Self.form self.now).names j ≡ slice_index (Self.form self.now).names k) }
         ensures large { 2 ^ 30 ≤ length (Self.form self.now).names → IsErrOf result Error.OutOfSlots }
         ensures full { IsErrOf result Error.OutOfSlots → ((2 ^ 30 ≤ length (Self.form self.now).names) ⊎ (table.new.fresh ≡ 2 ^ 30)) }
         ensures only { IfErr result IsShortage }
         ensures more { KnowsMore table.old table.new }
+        ensures kept { table.new.names ≡ table.old.names }
     {
         let (numbered, free) = self.weak_shape(alloc)?;
         let mut avoid = free.values(alloc)?;
         add_names(self, &mut avoid)?;
         rename(self, numbered, alloc, &free, &avoid, table)
+    }
+
+    /// This node with one fresh slot in the place of each slot of the set, where it is free and where it is bound.
+    final fn refresh_slots(
+        &self,
+        alloc: Global,
+        set: &SmallHashSet<Slot>,
+        table: &mut SlotTable,
+    ) -> Result<Self, Error>
+    where
+        Self: Sized,
+        ensures refreshed { IfOk result (λ r. IsRefreshed table.old (λ x. is_among x set.now) (Self.form self.now) (Self.form r)) }
+        ensures large { 2 ^ 30 ≤ length (Self.form self.now).names → IsErrOf result Error.OutOfSlots }
+        ensures full { IsErrOf result Error.OutOfSlots → ((2 ^ 30 ≤ length (Self.form self.now).names) ⊎ (table.new.fresh ≡ 2 ^ 30)) }
+        ensures only { IfErr result IsShortage }
+        ensures more { KnowsMore table.old table.new }
+        ensures kept { table.new.names ≡ table.old.names }
+    {
+        check_count(self)?;
+        let within = names_within(self, alloc, set)?;
+        refresh_names(self, alloc, &within, table)
+    }
+
+    /// This node with one fresh slot in the place of each slot that is not in `public`, where it is free and where it is
+    /// bound.
+    final fn refresh_internals(
+        &self,
+        alloc: Global,
+        public: &SmallHashSet<Slot>,
+        table: &mut SlotTable,
+    ) -> Result<Self, Error>
+    where
+        Self: Sized,
+        ensures refreshed { IfOk result (λ r. IsRefreshed table.old (λ x. not (is_among x public.now)) (Self.form self.now) (Self.form r)) }
+        ensures large { 2 ^ 30 ≤ length (Self.form self.now).names → IsErrOf result Error.OutOfSlots }
+        ensures full { IsErrOf result Error.OutOfSlots → ((2 ^ 30 ≤ length (Self.form self.now).names) ⊎ (table.new.fresh ≡ 2 ^ 30)) }
+        ensures only { IfErr result IsShortage }
+        ensures more { KnowsMore table.old table.new }
+        ensures kept { table.new.names ≡ table.old.names }
+    {
+        check_count(self)?;
+        let outside = names_outside(self, alloc, public)?;
+        refresh_names(self, alloc, &outside, table)
     }
 
     /// The free slots.
@@ -131,6 +224,55 @@ pub trait Language: LanguageChildren + Ord {
     {
         let (_, free) = self.weak_shape(alloc)?;
         Ok(free.values(alloc)?)
+    }
+
+    /// The names at all places from the left.
+    final fn all_slot_occurrences(&self, alloc: Global) -> Result<Vec<Slot>, Error>
+    where
+        Self: Sized,
+        ensures ok { IfOk result (λ v. v.items ≡ (Self.form self.now).names) }
+        ensures full { IsErrOf result Error.OutOfSlots ↔ (2 ^ 30 ≤ length (Self.form self.now).names) }
+        ensures only { IfErr result IsShortage }
+    {
+        check_count(self)?;
+        all_names(self, alloc)
+    }
+
+    /// The names at public places from the left. They are the free names, each as often as it stands.
+    final fn public_slot_occurrences(&self, alloc: Global) -> Result<Vec<Slot>, Error>
+    where
+        Self: Sized,
+        ensures ok { IfOk result (λ v. v.items ≡ public_names (Self.form self.now)) }
+        ensures free { IfOk result (λ v. v.items ≡ free_names_of (Self.form self.now)) }
+        ensures full { IsErrOf result Error.OutOfSlots ↔ (2 ^ 30 ≤ length (Self.form self.now).names) }
+        ensures only { IfErr result IsShortage }
+    {
+        check_count(self)?;
+        seen_names(self, alloc)
+    }
+
+    /// The names at private places, which are those that are not public, from the left.
+    final fn private_slot_occurrences(&self, alloc: Global) -> Result<Vec<Slot>, Error>
+    where
+        Self: Sized,
+        ensures ok { IfOk result (λ v. v.items ≡ private_names (Self.form self.now)) }
+        ensures full { IsErrOf result Error.OutOfSlots ↔ (2 ^ 30 ≤ length (Self.form self.now).names) }
+        ensures only { IfErr result IsShortage }
+    {
+        check_count(self)?;
+        hidden_names(self, alloc)
+    }
+
+    /// The names at private places. A name can stand at public ones too.
+    final fn private_slots(&self, alloc: Global) -> Result<SmallHashSet<Slot>, Error>
+    where
+        Self: Sized,
+        ensures members { IfOk result (λ s. (x : ℕ) → is_among x s ≡ is_among x (private_names (Self.form self.now))) }
+        ensures full { IsErrOf result Error.OutOfSlots ↔ (2 ^ 30 ≤ length (Self.form self.now).names) }
+        ensures only { IfErr result IsShortage }
+    {
+        let hidden = self.private_slot_occurrences(alloc)?;
+        name_set(alloc, hidden.as_slice())
     }
 
     /// The children from the left.

@@ -47,10 +47,12 @@
 #![tactic(auto)]
 
 pub mod children;
+pub(crate) mod fresh;
 pub mod language;
 pub mod outline;
 pub mod pair;
 pub mod payload;
+pub(crate) mod places;
 pub mod renaming;
 pub mod shape;
 pub mod small;

@@ -2,7 +2,7 @@
 ghost use Rattle.std.specs.Prelude.{◌≡◌, ◌^◌, ℕ, true, false, Some, IfOk, IfErr, OnOk, IsErrOf, IsOkUnless};
 ghost use Rattle.slotted_slots.specs.Error.{IsOutOfMemory, IsShortage};
 ghost use Rattle.slotted_slots.specs.Maps.{is_among, value_of, values};
-ghost use Rattle.slotted_slots.specs.Table.{KnowsMore};
+ghost use Rattle.slotted_slots.specs.Table.{KnowsMore, is_known};
 ghost use Rattle.slotted_languages.specs.Form.{IsSmall};
 ghost use Rattle.slotted_languages.specs.Shape.{shape, moved_names};
 ghost use Rattle.slotted_languages.specs.Renaming.{IsChoice, IsEntered, IsRenamed};
@@ -37,7 +37,7 @@ fn has_value(map: &SlotMap, name: Slot) -> bool
 }
 
 // A fresh slot that is no name of the node, no value of the map, and not to be avoided.
-fn fresh_apart<L: Language>(
+pub(crate) fn fresh_apart<L: Language>(
     node: &L,
     names: &SlotMap,
     avoid: &SmallHashSet<Slot>,
@@ -47,9 +47,11 @@ fn fresh_apart<L: Language>(
     ensures node { IfOk result (λ s. is_among s (L.form node.now).names ≡ false) }
     ensures names { IfOk result (λ s. is_among s (values names.now) ≡ false) }
     ensures avoid { IfOk result (λ s. is_among s avoid.now ≡ false) }
+    ensures unused { IfOk result (λ s. is_known table.old s ≡ false) }
     ensures full { IsErrOf result Error.OutOfSlots → (table.new.fresh ≡ 2 ^ 30) }
     ensures only { IsOkUnless result Error.OutOfSlots }
     ensures more { KnowsMore table.old table.new }
+    ensures kept { table.new.names ≡ table.old.names }
 {
     loop {
         let slot = table.fresh()?;
@@ -70,10 +72,11 @@ fn choose_name<L: Language>(
     table: &mut SlotTable,
 ) -> Result<Slot, Error>
     requires small { IsSmall (L.form node.now) }
-    ensures ok { IfOk result (IsChoice (L.form node.now).names avoid.now free.now names.now number name) }
+    ensures ok { IfOk result (IsChoice table.old (L.form node.now).names avoid.now free.now names.now number name) }
     ensures full { IsErrOf result Error.OutOfSlots → (table.new.fresh ≡ 2 ^ 30) }
     ensures only { IsOkUnless result Error.OutOfSlots }
     ensures more { KnowsMore table.old table.new }
+    ensures kept { table.new.names ≡ table.old.names }
 {
     if let Some(new) = free.get(number) {
         return Ok(new);
@@ -95,10 +98,11 @@ fn new_name<L: Language>(
     table: &mut SlotTable,
 ) -> Result<Slot, Error>
     requires small { IsSmall (L.form node.now) }
-    ensures ok { IfOk result (IsEntered (L.form node.now).names avoid.now free.now names.old names.new number name) }
+    ensures ok { IfOk result (IsEntered table.old (L.form node.now).names avoid.now free.now names.old names.new number name) }
     ensures full { IsErrOf result Error.OutOfSlots → (table.new.fresh ≡ 2 ^ 30) }
     ensures only { IfErr result IsShortage }
     ensures more { KnowsMore table.old table.new }
+    ensures kept { table.new.names ≡ table.old.names }
 {
     if let Some(new) = names.get(number) {
         return Ok(new);
@@ -121,10 +125,11 @@ pub(crate) fn rename<L: Language>(
     requires small { IsSmall (L.form node.now) }
     requires numbered { L.form numbered ≡ (shape (L.form node.now)).0 }
     requires avoided { (n z : ℕ) → value_of free.now n ≡ Some z → is_among z avoid.now ≡ true }
-    ensures renamed { IfOk result (λ r. (π : ℕ → ℕ) → free.now ≡ moved_names π (shape (L.form node.now)).1 → IsRenamed π (L.form node.now) avoid.now (L.form r)) }
+    ensures renamed { IfOk result (λ r. (π : ℕ → ℕ) → free.now ≡ moved_names π (shape (L.form node.now)).1 → IsRenamed table.old π (L.form node.now) avoid.now (L.form r)) }
     ensures full { IsErrOf result Error.OutOfSlots → (table.new.fresh ≡ 2 ^ 30) }
     ensures only { IfErr result IsShortage }
     ensures more { KnowsMore table.old table.new }
+    ensures kept { table.new.names ≡ table.old.names }
 {
     let mut names = SlotMap::new(alloc);
     for i in 0..node.slot_count() {

@@ -5,6 +5,8 @@
 #[cfg(test)]
 mod parts;
 #[cfg(test)]
+mod places;
+#[cfg(test)]
 mod renaming;
 #[cfg(test)]
 mod shapes;

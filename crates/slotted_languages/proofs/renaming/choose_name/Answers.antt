@@ -14,4 +14,5 @@ returns-clause-ok g c =
       not_avoided = λ _ _. e.avoid;
       not_old = λ _ _. e.node;
       not_new = λ _ _. e.names;
+      unused = λ _ _. e.unused;
     }

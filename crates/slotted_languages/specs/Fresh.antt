@@ -1,0 +1,42 @@
+-- Fresh slots in the place of names: each such name gets one unused slot of its own.
+use Rattle.std.specs.Prelude.{◌≡◌, ℕ, List, map, Bool, true, false, Some, None, IsSome, unwrap_or}
+use Rattle.slotted_theory.specs.Nameless.{moved}
+use Rattle.slotted_slots.specs.Maps.{value_of, is_among}
+use Rattle.slotted_slots.specs.Table.{Table, is_known}
+use Rattle.slotted_languages.specs.Form.{Form}
+use Rattle.slotted_languages.specs.NodeTerm.{nameless_node, free_names_of}
+use Rattle.slotted_languages.specs.Shape.{with_names}
+
+-- the map with a slot for each of the names `wanted` that it lacked: the table t did not know it, it is none of the names xs,
+-- and no other name has it
+pub record IsFilled (t : Table) (xs wanted : List ℕ) (old new : List (ℕ × ℕ)) : Type 0 where
+  pub kept : (x y : ℕ) → value_of old x ≡ Some y → value_of new x ≡ Some y
+  pub has : (x : ℕ) → is_among x wanted ≡ true → IsSome (value_of new x)
+  pub asked : (x y : ℕ) → value_of old x ≡ None → value_of new x ≡ Some y → is_among x wanted ≡ true
+  pub unused : (x y : ℕ) → value_of old x ≡ None → value_of new x ≡ Some y → is_known t y ≡ false
+  pub apart : (x y : ℕ) → value_of old x ≡ None → value_of new x ≡ Some y → is_among y xs ≡ false
+  pub differ : (x z y : ℕ) → value_of old x ≡ None → value_of new x ≡ Some y → value_of new z ≡ Some y → x ≡ z
+
+-- the value at a key, and any other name itself
+abbrev pub replaced : List (ℕ × ℕ) → ℕ → ℕ
+replaced m x = unwrap_or (value_of m x) x
+
+-- g is the node f with its free names renamed by m; a free name that m lacks has a fresh slot in its place
+pub record IsRenamedFresh (t : Table) (m : List (ℕ × ℕ)) (f g : Form) : Type 0 where
+  pub by : ℕ → ℕ
+  pub known : (x y : ℕ) → value_of m x ≡ Some y → by x ≡ y
+  pub unused : (x : ℕ) → is_among x (free_names_of f) ≡ true → value_of m x ≡ None → is_known t (by x) ≡ false
+  pub apart : (x : ℕ) → is_among x (free_names_of f) ≡ true → value_of m x ≡ None → is_among (by x) f.names ≡ false
+  pub differ : (x z : ℕ) → is_among x (free_names_of f) ≡ true → value_of m x ≡ None → is_among z (free_names_of f) ≡ true → by x ≡ by z → x ≡ z
+  pub renamed : nameless_node g ≡ moved by (nameless_node f)
+
+-- g is the node f with a fresh slot for each chosen name, at all its places, and every other name as it was. Up to bound
+-- names it is f with the chosen free names renamed
+pub record IsRefreshed (t : Table) (chosen : ℕ → Bool) (f g : Form) : Type 0 where
+  pub by : ℕ → ℕ
+  pub kept : (x : ℕ) → chosen x ≡ false → by x ≡ x
+  pub unused : (x : ℕ) → is_among x f.names ≡ true → chosen x ≡ true → is_known t (by x) ≡ false
+  pub apart : (x : ℕ) → is_among x f.names ≡ true → chosen x ≡ true → is_among (by x) f.names ≡ false
+  pub differ : (x z : ℕ) → is_among x f.names ≡ true → is_among z f.names ≡ true → by x ≡ by z → x ≡ z
+  pub places : g ≡ with_names f (map by f.names)
+  pub renamed : nameless_node g ≡ moved by (nameless_node f)

@@ -1,0 +1,129 @@
+//! Fresh slots in the place of a node's names.
+ghost use Rattle.std.specs.Prelude.{◌≡◌, ◌^◌, ℕ, [], ◌∷◌, map, ◌&&◌, not, IfOk, IfErr, OnOk, IsErrOf};
+ghost use Rattle.slotted_slots.specs.Error.{IsOutOfMemory, IsShortage};
+ghost use Rattle.slotted_slots.specs.Maps.{is_among};
+ghost use Rattle.slotted_slots.specs.Table.{KnowsMore};
+ghost use Rattle.slotted_languages.specs.Form.{IsSmall};
+ghost use Rattle.slotted_languages.specs.Fresh.{IsFilled, IsRefreshed, replaced};
+ghost use Rattle.slotted_languages.specs.Shape.{with_names};
+
+use crate::language::Language;
+use crate::renaming::fresh_apart;
+use slotted_slots::{Error, Slot, SlotMap, SlotTable, SmallHashSet};
+use std::alloc::Global;
+
+// The names of the node that are in the set.
+pub(crate) fn names_within<L: Language>(
+    node: &L,
+    alloc: Global,
+    set: &SmallHashSet<Slot>,
+) -> Result<SmallHashSet<Slot>, Error>
+    requires small { IsSmall (L.form node.now) }
+    ensures ok { IfOk result (λ s. (x : ℕ) → is_among x s ≡ (is_among x (L.form node.now).names && is_among x set.now)) }
+    ensures err { IfErr result IsOutOfMemory }
+{
+    let mut within = SmallHashSet::new(alloc);
+    for i in 0..node.slot_count() {
+        let name = node.slot(i);
+        if set.contains(&name) {
+            within.insert(name)?;
+        }
+    }
+    Ok(within)
+}
+
+// The names of the node that are not in the set.
+pub(crate) fn names_outside<L: Language>(
+    node: &L,
+    alloc: Global,
+    set: &SmallHashSet<Slot>,
+) -> Result<SmallHashSet<Slot>, Error>
+    requires small { IsSmall (L.form node.now) }
+    ensures ok { IfOk result (λ s. (x : ℕ) → is_among x s ≡ (is_among x (L.form node.now).names && not (is_among x set.now))) }
+    ensures err { IfErr result IsOutOfMemory }
+{
+    let mut outside = SmallHashSet::new(alloc);
+    for i in 0..node.slot_count() {
+        let name = node.slot(i);
+        if !set.contains(&name) {
+            outside.insert(name)?;
+        }
+    }
+    Ok(outside)
+}
+
+// Gives a name that the map lacks a fresh slot.
+fn fill_name<L: Language>(
+    node: &L,
+    name: Slot,
+    avoid: &SmallHashSet<Slot>,
+    names: &mut SlotMap,
+    table: &mut SlotTable,
+) -> Result<(), Error>
+    requires small { IsSmall (L.form node.now) }
+    ensures ok { OnOk result (IsFilled table.old (L.form node.now).names (name ∷ []) names.old names.new) }
+    ensures full { IsErrOf result Error.OutOfSlots → (table.new.fresh ≡ 2 ^ 30) }
+    ensures only { IfErr result IsShortage }
+    ensures more { KnowsMore table.old table.new }
+    ensures kept { table.new.names ≡ table.old.names }
+{
+    if names.contains_key(name) {
+        return Ok(());
+    }
+    let new = fresh_apart(node, names, avoid, table)?;
+    names.insert(name, new)?;
+    Ok(())
+}
+
+// Gives each of some names that the map lacks a fresh slot.
+pub(crate) fn fill_names<L: Language>(
+    node: &L,
+    wanted: &SmallHashSet<Slot>,
+    names: &mut SlotMap,
+    table: &mut SlotTable,
+) -> Result<(), Error>
+    requires small { IsSmall (L.form node.now) }
+    ensures ok { OnOk result (IsFilled table.old (L.form node.now).names wanted.now names.old names.new) }
+    ensures full { IsErrOf result Error.OutOfSlots → (table.new.fresh ≡ 2 ^ 30) }
+    ensures only { IfErr result IsShortage }
+    ensures more { KnowsMore table.old table.new }
+    ensures kept { table.new.names ≡ table.old.names }
+{
+    for name in wanted.as_slice() {
+        fill_name(node, *name, wanted, names, table)?;
+    }
+    Ok(())
+}
+
+// The node with the values of a map in the place of its keys.
+fn replace_names<L: Language>(node: &L, alloc: Global, names: &SlotMap) -> Result<L, Error>
+    requires small { IsSmall (L.form node.now) }
+    ensures ok { IfOk result (λ r. L.form r ≡ with_names (L.form node.now) (map (replaced names.now) (L.form node.now).names)) }
+    ensures err { IfErr result IsOutOfMemory }
+{
+    let mut answer = node.copy(alloc)?;
+    for i in 0..node.slot_count() {
+        let name = node.slot(i);
+        answer.set_slot(i, names.get(name).unwrap_or(name));
+    }
+    Ok(answer)
+}
+
+// The node with a fresh slot for each of some names.
+pub(crate) fn refresh_names<L: Language>(
+    node: &L,
+    alloc: Global,
+    wanted: &SmallHashSet<Slot>,
+    table: &mut SlotTable,
+) -> Result<L, Error>
+    requires small { IsSmall (L.form node.now) }
+    ensures ok { IfOk result (λ r. IsRefreshed table.old (λ x. is_among x wanted.now) (L.form node.now) (L.form r)) }
+    ensures full { IsErrOf result Error.OutOfSlots → (table.new.fresh ≡ 2 ^ 30) }
+    ensures only { IfErr result IsShortage }
+    ensures more { KnowsMore table.old table.new }
+    ensures kept { table.new.names ≡ table.old.names }
+{
+    let mut names = SlotMap::new(alloc);
+    fill_names(node, wanted, &mut names, table)?;
+    replace_names(node, alloc, &names)
+}
