@@ -5,6 +5,11 @@ use slotted_slots::{AppliedId, Error, Slot, SlotTable};
 use slotted_terms::expr::RecExpr;
 use std::alloc::Global;
 
+mod calls;
+mod memory;
+mod refusals;
+mod valid;
+
 type Graph = EGraph<Small>;
 
 // The term `(var $x)`.
@@ -54,7 +59,7 @@ fn put_text<L: Language>(graph: &mut EGraph<L>, text: &str) -> Result<AppliedId,
 }
 
 // The class of a node, if the node is valid.
-fn put_node(graph: &mut Graph, node: Small) -> Result<AppliedId, Error> {
+fn put_node<L: Language>(graph: &mut EGraph<L>, node: L) -> Result<AppliedId, Error> {
     if graph.is_valid_node(&node) {
         graph.add(node)
     } else {
@@ -63,7 +68,7 @@ fn put_node(graph: &mut Graph, node: Small) -> Result<AppliedId, Error> {
 }
 
 // The class of a node, if the node is valid and has one.
-fn look_up(graph: &Graph, node: &Small) -> Result<Option<AppliedId>, Error> {
+fn look_up<L: Language>(graph: &EGraph<L>, node: &L) -> Result<Option<AppliedId>, Error> {
     if graph.is_valid_node(node) {
         graph.lookup(node)
     } else {
@@ -71,7 +76,7 @@ fn look_up(graph: &Graph, node: &Small) -> Result<Option<AppliedId>, Error> {
     }
 }
 
-fn equal(graph: &Graph, a: &AppliedId, b: &AppliedId) -> Result<bool, Error> {
+fn equal<L: Language>(graph: &EGraph<L>, a: &AppliedId, b: &AppliedId) -> Result<bool, Error> {
     if graph.is_valid(a) && graph.is_valid(b) {
         graph.eq(a, b)
     } else {

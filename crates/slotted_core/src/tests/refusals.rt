@@ -1,0 +1,112 @@
+//! What a graph refuses, and what it answers from then on.
+use super::put_text;
+use crate::egraph::EGraph;
+use slotted_languages::{Language, Small};
+use slotted_slots::{AppliedId, Error, SlotTable};
+use slotted_terms::expr::RecExpr;
+use std::alloc::Global;
+use std::process::Abort;
+
+// The number of the refusal, or 0.
+fn refusal<T: Drop>(outcome: Result<T, Error>) -> u8 {
+    match outcome {
+        Ok(_) => 0,
+        Err(e) => e.number(),
+    }
+}
+
+// The number of the refusal of a text in a new graph, which stays well.
+fn refusal_of_text<L: Language>(rt: &impl Abort, alloc: Global, text: &str) -> Result<u8, Error> {
+    let mut graph: EGraph<L> = EGraph::new(alloc, SlotTable::new(alloc), ())?;
+    let number = refusal(graph.parse_expr(text));
+    assert!(rt; !graph.is_failed());
+    Ok(number)
+}
+
+#[test]
+fn a_refused_text_does_not_fail_the_graph(rt: HostRuntime) -> Result<(), Error> {
+    let cases = [
+        ("(var $1073741823)", 0),
+        ("(var $4294967296)", 0),
+        ("(var $1073741824", 11),
+        ("", 4),
+        ("(f $x", 4),
+        ("a b", 4),
+        ("?x", 5),
+        ("a[a := b]", 5),
+    ];
+    for (text, number) in cases {
+        assert!(rt;
+            refusal_of_text::<Small>(&rt, rt.alloc(), text)? == number,
+            "at {text}"
+        );
+    }
+    Ok(())
+}
+
+// A failed graph answers no question, and nothing is valid in it.
+fn assert_asks_nothing<L: Language>(
+    rt: &impl Abort,
+    alloc: Global,
+    graph: &EGraph<L>,
+    term: &RecExpr<L>,
+) {
+    assert!(rt; graph.is_failed());
+    let null = AppliedId::null(alloc);
+    assert!(rt; refusal(graph.eq(&null, &null)) == 3);
+    assert!(rt; refusal(graph.lookup(&term.node)) == 3);
+    assert!(rt; !graph.is_valid(&null));
+    assert!(rt; !graph.is_valid_node(&term.node));
+    assert!(rt; !graph.is_valid_expr(term));
+}
+
+// It takes nothing in, and stays failed.
+fn assert_takes_nothing<L: Language>(
+    rt: &impl Abort,
+    alloc: Global,
+    graph: &mut EGraph<L>,
+    term: &RecExpr<L>,
+) -> Result<(), Error> {
+    let node = term.node.copy(alloc)?;
+    assert!(rt; graph.is_failed());
+    assert!(rt; refusal(graph.parse_expr("a")) == 3);
+    assert!(rt; refusal(graph.add_expr(term)) == 3);
+    assert!(rt; refusal(graph.add(node)) == 3);
+    assert!(rt; graph.is_failed());
+    Ok(())
+}
+
+// Adds the term of a text. A refusal to read leaves the graph well, and one to add fails it for good.
+pub(super) fn add_text<L: Language>(
+    rt: &impl Abort,
+    alloc: Global,
+    graph: &mut EGraph<L>,
+    text: &str,
+) -> Result<AppliedId, Error> {
+    let term = graph.parse_expr(text)?;
+    let added = graph.add_expr(&term);
+    if added.is_err() {
+        assert_asks_nothing(rt, alloc, graph, &term);
+        assert_takes_nothing(rt, alloc, graph, &term)?;
+    }
+    added
+}
+
+// `$f1073741823` is the last fresh slot.
+fn without_slots<L: Language>(alloc: Global) -> Result<EGraph<L>, Error> {
+    let mut table = SlotTable::new(alloc);
+    table.named("f1073741823")?;
+    EGraph::new(alloc, table, ())
+}
+
+// From there on a class that needs a slot of its own finds none. The table comes out all the same.
+#[test]
+fn a_graph_without_slots_fails(rt: HostRuntime) -> Result<(), Error> {
+    let mut graph: EGraph<Small> = without_slots(rt.alloc())?;
+    put_text(&mut graph, "a")?;
+    assert!(rt; refusal(add_text(&rt, rt.alloc(), &mut graph, "(var $x)")) == 2);
+    let mut table = graph.into_table();
+    assert!(rt; refusal(table.fresh()) == 2);
+    assert!(rt; table.named("x")?.raw() == 2);
+    Ok(())
+}
