@@ -4,3 +4,4 @@ pub mod NumberedSides
 pub mod Written
 pub mod Listed
 pub mod Entering
+pub mod Itself

@@ -7,7 +7,7 @@ ghost use Rattle.slotted_proofs.specs.Equations.{to_applied, equality, statement
 ghost use Rattle.slotted_proofs.specs.Entries.{proven_at, statement_at, step_of, text_of, proven_of, Stands, IsNew, Enters, asserted_entry, reflexive_entry, turned_entry, composite_entry};
 
 use crate::equation::Equation;
-use crate::numbering::numbered;
+use crate::numbering::{numbered, numbered_itself};
 use crate::proof::{
     ExplicitProof, Proof, ProvenEq, ReflexivityProof, SymmetryProof, TransitivityProof,
 };
@@ -163,11 +163,11 @@ impl ProofList {
     pub fn enter_reflexive(&mut self, alloc: Global, a: &AppliedId) -> Result<ProvenEq, Error>
         requires { IsInjectiveMap a.now.m }
         ensures ok { IfOk result (Enters self.old self.new (reflexive_entry a.now.id.0 (keys a.now.m))) }
-        ensures full { IsErrOf result Error.OutOfSlots ↔ (2 ^ 30 ≤ length a.now.m + length a.now.m) }
+        ensures full { IsErrOf result Error.OutOfSlots ↔ (2 ^ 30 ≤ length a.now.m) }
         ensures only { IfErr result IsShortage }
         ensures err { OnErr result (self.new ≡ self.old) }
     {
-        let equation = numbered(alloc, a, a)?;
+        let equation = numbered_itself(alloc, a)?;
         self.enter(equation, Proof::Reflexivity(ReflexivityProof))
     }
 

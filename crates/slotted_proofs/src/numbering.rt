@@ -6,7 +6,7 @@ ghost use Rattle.slotted_slots.specs.Error.{IsOutOfMemory, IsShortage};
 ghost use Rattle.slotted_slots.specs.Table.{numeric_slot};
 ghost use Rattle.slotted_model.specs.Applied.{keys};
 ghost use Rattle.slotted_model.specs.Correspondence.{AllDifferent, same_names, turned, composite as one_after_another, with_names, numbered_from, numbered_after, IsPartialInjection};
-ghost use Rattle.slotted_proofs.specs.Equations.{to_applied, equality, statement_of, composite_statement, Meets, IsWritten};
+ghost use Rattle.slotted_proofs.specs.Equations.{to_applied, equality, statement_of, reflexive_statement, composite_statement, Meets, IsWritten};
 
 use crate::equation::Equation;
 use slotted_slots::{AppliedId, Error, Slot, SlotMap};
@@ -113,6 +113,24 @@ pub(crate) fn numbered(alloc: Global, l: &AppliedId, r: &AppliedId) -> Result<Eq
     let partners = shared_names(alloc, &r.m, &l.m)?;
     let equation = number_sides(alloc, l, r, &partners)?;
     Ok(equation)
+}
+
+// A class with these slots equals itself, with numbered names.
+pub(crate) fn numbered_itself(alloc: Global, a: &AppliedId) -> Result<Equation, Error>
+    requires { IsInjectiveMap a.now.m }
+    ensures ok { IfOk result (IsWritten (reflexive_statement a.now.id.0 (keys a.now.m))) }
+    ensures full { IsErrOf result Error.OutOfSlots ↔ (2 ^ 30 ≤ length a.now.m) }
+    ensures err { IfErr result IsShortage }
+{
+    if a.m.len() >= PLACES {
+        return Err(Error::OutOfSlots);
+    }
+    let left = number_left(alloc, &a.m)?;
+    let right = left.copy(alloc)?;
+    Ok(Equation {
+        l: AppliedId { id: a.id, m: left },
+        r: AppliedId { id: a.id, m: right },
+    })
 }
 
 // First the one equation, then the other, with numbered names.
