@@ -6,5 +6,6 @@ pub mod Listing
 pub mod Matching
 pub mod Middle
 pub mod Joining
+pub mod Restricting
 pub mod Numbers
 pub mod FullIds

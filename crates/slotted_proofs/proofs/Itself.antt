@@ -1,8 +1,8 @@
 -- The numbered form of what a class says of itself: both sides are numbered alike.
-use Rattle.std.proofs.Common.{◌≡◌, ℕ, suc, ◌+◌, ◌*◌, ◌<◌, ◌≤◌, List, [], ◌∷◌, ◌++◌, length, refl, sym, ap, ◌∙◌, inl, inr, arith}
+use Rattle.std.proofs.Common.{◌≡◌, ℕ, suc, ◌+◌, ◌≤◌, List, [], ◌∷◌, ◌++◌, length, refl, sym, ap, ◌∙◌, inl, inr, arith}
 use Rattle.std.specs.Map.{values_of}
 use Rattle.slotted_slots.specs.Table.{numeric_slot}
-use Rattle.slotted_model.specs.Correspondence.{AllDifferent, IsFullMap, with_names, same_names, identity, numbered_from, numbered, IsNumberedAfter}
+use Rattle.slotted_model.specs.Correspondence.{AllDifferent, IsFullMap, with_names, identity, numbered_from, numbered, IsNumberedAfter}
 use Rattle.slotted_model.proofs.Correspondences.FullMaps.{with_names-full, same_names-itself}
 use Rattle.slotted_model.proofs.Correspondences.Numbers.{from-full, numbered-only}
 use Rattle.slotted_proofs.specs.Equations.{reflexive_statement, AreSides}

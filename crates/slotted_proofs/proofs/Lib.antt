@@ -5,3 +5,5 @@ pub mod Written
 pub mod Listed
 pub mod Entering
 pub mod Itself
+pub mod Stepping
+pub mod Fitting

@@ -1,6 +1,7 @@
 -- Equations in numbered form: what they state determines them.
-use Rattle.std.proofs.Common.{◌≡◌, ◌↔◌, ℕ, List, Bool, refl, sym, ap, ◌∙◌, subst, rules}
-use Rattle.std.specs.Prelude.{IsTrue, ◌&&◌, nat_eq}
+use Rattle.std.proofs.Common.{◌≡◌, ◌↔◌, ℕ, List, Bool, true, false, refl, sym, ap, ◌∙◌, subst, rules}
+use Rattle.std.specs.Prelude.{IsTrue, ◌&&◌, nat_eq, not}
+use Rattle.std.proofs.lemmas.Bool.{false≢true}
 use Rattle.std.specs.Bool.{Decides}
 use Rattle.std.specs.Cmp.Lexicographic.{pointwise}
 use Rattle.std.proofs.lemmas.Slice.Eq.{slice_eq-Decides}
@@ -42,8 +43,26 @@ pair_same p q = search rules
 abbrev pub maps_eq : List (ℕ × ℕ) → List (ℕ × ℕ) → Bool
 maps_eq m n = pointwise (λ p q. nat_eq p.0 q.0 && nat_eq p.1 q.1) m n
 
-map_same : (m n : List (ℕ × ℕ)) → IsTrue (maps_eq m n) ↔ m ≡ n
+pub map_same : (m n : List (ℕ × ℕ)) → IsTrue (maps_eq m n) ↔ m ≡ n
 map_same m n = search (rules, slice_eq-Decides pair_same m n (maps_eq m n) refl)
+
+pub maps_told : (b : Bool) (m n : List (ℕ × ℕ)) → b ≡ maps_eq m n → IsTrue b ↔ m ≡ n
+maps_told b m n e = subst (λ (x : Bool). IsTrue x ↔ m ≡ n) (sym e) (map_same m n)
+
+-- and so is its opposite
+pub not_false : (b : Bool) → false ≡ not b → b ≡ true
+not_false true e = refl
+not_false false e = e
+
+pub not_true : (b : Bool) → true ≡ not b → b ≡ true → ⊥
+not_true true e h = false≢true (sym e)
+not_true false e h = false≢true h
+
+pub maps_agree : (m n : List (ℕ × ℕ)) → false ≡ not (maps_eq m n) → m ≡ n
+maps_agree m n e = (map_same m n).0 (not_false (maps_eq m n) e)
+
+pub maps_differ : (m n : List (ℕ × ℕ)) → true ≡ not (maps_eq m n) → ¬ (m ≡ n)
+maps_differ m n e h = not_true (maps_eq m n) e ((map_same m n).1 h)
 
 abbrev pub sides_eq : Sides → Sides → Bool
 sides_eq e f = (nat_eq e.l.id.0 f.l.id.0 && maps_eq e.l.m f.l.m) && (nat_eq e.r.id.0 f.r.id.0 && maps_eq e.r.m f.r.m)

@@ -1,12 +1,15 @@
 //! Equations of applied ids.
-ghost use Rattle.std.specs.Prelude.{◌≡◌, ◌+◌, ◌^◌, ◌≤◌, ◌↔◌, length, IfOk, IfErr, IsErrOf};
+ghost use Rattle.std.specs.Prelude.{◌≡◌, ◌++◌, ◌+◌, ◌^◌, ◌≤◌, ◌↔◌, ℕ, length, IsTrue, IfOk, IfErr, IsErrOf};
+ghost use Rattle.std.specs.Ordering.{nat_cmp};
 ghost use Rattle.slotted_theory.specs.FiniteMaps.{IsInjectiveMap};
 ghost use Rattle.slotted_slots.specs.Error.{IsOutOfMemory, IsShortage};
+ghost use Rattle.slotted_slots.specs.Maps.{KnowsAll, all_differ, composed, is_among, values};
+ghost use Rattle.slotted_slots.specs.Sets.{set_of};
 ghost use Rattle.slotted_model.specs.Correspondence.{same_names};
-ghost use Rattle.slotted_proofs.specs.Equations.{statement_of, turned_statement, composite_statement, Meets, IsWritten};
+ghost use Rattle.slotted_proofs.specs.Equations.{to_applied, statement_of, turned_statement, composite_statement, Meets, IsWritten};
 
 use crate::numbering::{composite, numbered, shared_names};
-use slotted_slots::{AppliedId, Error, SlotMap};
+use slotted_slots::{AppliedId, Error, Slot, SlotMap, SmallHashSet};
 use std::alloc::Global;
 
 /// Two applied ids that are equal. An equation is read up to renaming: it says which slots of the two classes carry one name.
@@ -25,6 +28,35 @@ impl Equation {
         Ok(Equation {
             l: self.l.copy(alloc)?,
             r: self.r.copy(alloc)?,
+        })
+    }
+
+    /// The names that stand on either side.
+    pub fn slots(&self, alloc: Global) -> Result<SmallHashSet<Slot>, Error>
+        ensures ok { IfOk result (λ s. s ≡ set_of nat_cmp (values self.now.l.m ++ values self.now.r.m)) }
+        ensures members { IfOk result (λ s. (v : ℕ) → is_among v s ≡ is_among v (values self.now.l.m ++ values self.now.r.m)) }
+        ensures err { IfErr result IsOutOfMemory }
+    {
+        let mut slots = self.l.slots(alloc)?;
+        for i in 0..self.r.m.len() {
+            slots.insert(self.r.m.value_at(i))?;
+        }
+        Ok(slots)
+    }
+
+    /// The equation with each name sent on by `m`, which knows them all and keeps those of each side apart.
+    pub fn apply_slotmap(&self, alloc: Global, m: &SlotMap) -> Result<Equation, Error>
+        requires left_known { KnowsAll m.now (values self.now.l.m) }
+        requires right_known { KnowsAll m.now (values self.now.r.m) }
+        requires left_apart { IsTrue (all_differ (values (composed self.now.l.m m.now))) }
+        requires right_apart { IsTrue (all_differ (values (composed self.now.r.m m.now))) }
+        ensures left { IfOk result (λ e. to_applied e.l ≡ (self.now.l.id.0, composed self.now.l.m m.now)) }
+        ensures right { IfOk result (λ e. to_applied e.r ≡ (self.now.r.id.0, composed self.now.r.m m.now)) }
+        ensures err { IfErr result IsOutOfMemory }
+    {
+        Ok(Equation {
+            l: self.l.apply_slotmap(alloc, m)?,
+            r: self.r.apply_slotmap(alloc, m)?,
         })
     }
 

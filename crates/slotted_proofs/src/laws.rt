@@ -1,6 +1,7 @@
 //! How a graph that enters equations keeps its proof list proved.
 
 ghost use Rattle.slotted_proofs.specs.Claims.{ProofListLaws};
+ghost use Rattle.slotted_proofs.specs.StepClaims.{StepLaws};
 
 /// The laws of entering.
 ///
@@ -9,4 +10,12 @@ ghost use Rattle.slotted_proofs.specs.Claims.{ProofListLaws};
 /// statement stands at the answered number, and nothing is asserted but by explicit entries.
 pub fn proof_list_laws_hold()
     ensures { ProofListLaws }
+{}
+
+/// The laws of steps that fit.
+///
+/// Two equations match exactly if they state the same, and what a step that fits enters, over full ids of a graph, is proved:
+/// so a list into which steps are entered stays proved.
+pub fn step_laws_hold()
+    ensures { StepLaws }
 {}

@@ -6,11 +6,12 @@ pub mod laws;
 pub mod list;
 mod numbering;
 pub mod proof;
+pub mod steps;
 
 pub use equation::Equation;
 pub use list::ProofList;
 pub use proof::{
-    CongruenceProof, ExplicitProof, Proof, ProvenEq, ReflexivityProof, SymmetryProof,
+    CongruenceProof, ExplicitProof, Proof, ProvenEq, ProvenEqRaw, ReflexivityProof, SymmetryProof,
     TransitivityProof,
 };
 

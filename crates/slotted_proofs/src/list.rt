@@ -9,7 +9,7 @@ ghost use Rattle.slotted_proofs.specs.Entries.{proven_at, statement_at, step_of,
 use crate::equation::Equation;
 use crate::numbering::{numbered, numbered_itself};
 use crate::proof::{
-    ExplicitProof, Proof, ProvenEq, ReflexivityProof, SymmetryProof, TransitivityProof,
+    ExplicitProof, Proof, ProvenEq, ProvenEqRaw, ReflexivityProof, SymmetryProof, TransitivityProof,
 };
 use indexmap::IndexMap;
 use slotted_slots::{AppliedId, Error};
@@ -91,6 +91,19 @@ impl ProofList {
             Some((_, proof)) => proof,
             None => unreachable!(),
         }
+    }
+
+    /// A copy of an entry.
+    pub fn entry(&self, alloc: Global, p: ProvenEq) -> Result<ProvenEqRaw, Error>
+        requires { p < length self.now }
+        ensures equation { IfOk result (λ x. IsWritten (statement_at self.now p) x.equ) }
+        ensures step { IfOk result (λ x. step_of x.proof ≡ (proven_at self.now p).step) }
+        ensures text { IfOk result (λ x. text_of x.proof ≡ (proven_at self.now p).text) }
+        ensures err { IfErr result IsOutOfMemory }
+    {
+        let equ = self.equ(p).copy(alloc)?;
+        let proof = self.proof(p).copy(alloc)?;
+        Ok(ProvenEqRaw { equ, proof })
     }
 
     /// The number of the entry with this equation, whose names are numbered.

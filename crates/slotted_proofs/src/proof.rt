@@ -1,7 +1,11 @@
 //! The steps by which equations are proved.
-ghost use Rattle.std.specs.Prelude.{◌≡◌};
-ghost use Rattle.slotted_proofs.specs.Entries.{step_of, is_explicit};
+ghost use Rattle.std.specs.Prelude.{◌≡◌, IfOk, IfErr, option_map, string_bytes};
+ghost use Rattle.slotted_slots.specs.Error.{IsOutOfMemory};
+ghost use Rattle.slotted_proofs.specs.Entries.{step_of, text_of, is_explicit};
 
+use crate::equation::Equation;
+use slotted_slots::Error;
+use std::alloc::Global;
 use std::marker::Model;
 
 /// A number in a proof list, seen as that number.
@@ -64,6 +68,29 @@ pub enum Proof {
     Congruence(CongruenceProof),
 }
 
+impl ExplicitProof {
+    /// A proof with the same text.
+    pub fn copy(&self, alloc: Global) -> Result<ExplicitProof, Error>
+        ensures ok { IfOk result (λ c. option_map string_bytes c.0 ≡ option_map string_bytes self.now.0) }
+        ensures err { IfErr result IsOutOfMemory }
+    {
+        match &self.0 {
+            Some(text) => Ok(ExplicitProof(Some(String::from_str(alloc, text.as_str())?))),
+            None => Ok(ExplicitProof(None)),
+        }
+    }
+}
+
+impl CongruenceProof {
+    /// A proof with the same parts.
+    pub fn copy(&self, alloc: Global) -> Result<CongruenceProof, Error>
+        ensures ok { IfOk result (λ c. c.0.items ≡ self.now.0.items) }
+        ensures err { IfErr result IsOutOfMemory }
+    {
+        Ok(CongruenceProof(Vec::from_slice(alloc, &self.0)?))
+    }
+}
+
 impl Proof {
     /// Whether the equation was asserted.
     pub const fn is_explicit(&self) -> bool
@@ -71,4 +98,28 @@ impl Proof {
     {
         matches!(self, Proof::Explicit(_))
     }
+
+    /// A proof by the same step, with the same text.
+    pub fn copy(&self, alloc: Global) -> Result<Proof, Error>
+        ensures step { IfOk result (λ c. step_of c ≡ step_of self.now) }
+        ensures text { IfOk result (λ c. text_of c ≡ text_of self.now) }
+        ensures err { IfErr result IsOutOfMemory }
+    {
+        match self {
+            Proof::Explicit(proof) => Ok(Proof::Explicit(proof.copy(alloc)?)),
+            Proof::Reflexivity(proof) => Ok(Proof::Reflexivity(*proof)),
+            Proof::Symmetry(proof) => Ok(Proof::Symmetry(*proof)),
+            Proof::Transitivity(proof) => Ok(Proof::Transitivity(*proof)),
+            Proof::Congruence(proof) => Ok(Proof::Congruence(proof.copy(alloc)?)),
+        }
+    }
+}
+
+/// An entry of a proof list by itself, compared and hashed by its equation.
+#[derive(Clone, Debug, Drop)]
+#[derive_where(PartialEq, Eq, Hash)]
+pub struct ProvenEqRaw {
+    pub equ: Equation,
+    #[derive_where(skip(EqHashOrd))]
+    pub proof: Proof,
 }

@@ -193,3 +193,150 @@ fn a_class_equals_itself(rt: HostRuntime) -> Result<(), Error> {
     assert!(rt; shows(&list, p, (7, &[0, 1]), (7, &[0, 1])));
     Ok(())
 }
+
+// The same equation by a symmetric step over a part, over just the slots that it has.
+fn by_symmetry(
+    list: &mut ProofList,
+    alloc: Global,
+    l: AppliedId,
+    r: AppliedId,
+    p: ProvenEq,
+) -> Result<ProvenEq, Error> {
+    let left = l.m.keys(alloc)?;
+    let right = r.m.keys(alloc)?;
+    list.check_symmetric(alloc, &Equation { l, r }, &left, &right, p)
+}
+
+// By a transitive one over the first two entries.
+fn by_transitivity(
+    list: &mut ProofList,
+    alloc: Global,
+    l: AppliedId,
+    r: AppliedId,
+) -> Result<ProvenEq, Error> {
+    let left = l.m.keys(alloc)?;
+    let right = r.m.keys(alloc)?;
+    let equation = Equation { l, r };
+    list.check_transitive(
+        alloc,
+        &equation,
+        &left,
+        &right,
+        ProvenEq::at(0),
+        ProvenEq::at(1),
+    )
+}
+
+// By a reflexive one, over these slots on the left.
+fn by_reflexivity(
+    list: &mut ProofList,
+    alloc: Global,
+    l: AppliedId,
+    r: AppliedId,
+    slots: &[(u32, u32)],
+) -> Result<ProvenEq, Error> {
+    let left = applied(alloc, 0, slots)?.m.keys(alloc)?;
+    let right = r.m.keys(alloc)?;
+    list.check_reflexive(alloc, &Equation { l, r }, &left, &right)
+}
+
+// The step does not fit.
+fn is_bad(answer: &Result<ProvenEq, Error>) -> bool {
+    match answer {
+        Ok(_) => false,
+        Err(refusal) => refusal.number() == 9,
+    }
+}
+
+// Asserts that class 8 with `$3` is class 7 with `$1` for it, and class 7 with `$2` is class 9 with `$4` for it.
+fn assert_halves(list: &mut ProofList, alloc: Global) -> Result<(), Error> {
+    let l = applied(alloc, 8, &[(3, 0)])?;
+    let middle = applied(alloc, 7, &[(1, 0), (2, 1)])?;
+    let r = applied(alloc, 9, &[(4, 1)])?;
+    list.enter_explicit(alloc, &l, &middle, None)?;
+    list.enter_explicit(alloc, &middle, &r, None)?;
+    Ok(())
+}
+
+#[test]
+fn a_symmetric_step_turns_its_part(rt: HostRuntime) -> Result<(), Error> {
+    let mut list = ProofList::new(rt.alloc());
+    let p = assert_sample(&mut list, rt.alloc(), [3, 4, 4], "p")?;
+    let l = applied(rt.alloc(), 8, &[(3, 5)])?;
+    let r = applied(rt.alloc(), 7, &[(1, 6), (2, 5)])?;
+    let q = by_symmetry(&mut list, rt.alloc(), l, r, p)?;
+    assert!(rt; q.number() == 1 && shows(&list, q, (8, &[0]), (7, &[1, 0])));
+    Ok(())
+}
+
+#[test]
+fn a_symmetric_step_that_keeps_its_part_is_refused(rt: HostRuntime) -> Result<(), Error> {
+    let mut list = ProofList::new(rt.alloc());
+    let p = assert_sample(&mut list, rt.alloc(), [3, 4, 4], "p")?;
+    let l = applied(rt.alloc(), 7, &[(1, 6), (2, 5)])?;
+    let r = applied(rt.alloc(), 8, &[(3, 5)])?;
+    let answer = by_symmetry(&mut list, rt.alloc(), l, r, p);
+    assert!(rt; is_bad(&answer) && list.len() == 1);
+    Ok(())
+}
+
+#[test]
+fn a_step_over_the_next_number_is_refused(rt: HostRuntime) -> Result<(), Error> {
+    let mut list = ProofList::new(rt.alloc());
+    let l = applied(rt.alloc(), 7, &[])?;
+    let r = applied(rt.alloc(), 8, &[])?;
+    let answer = by_symmetry(&mut list, rt.alloc(), l, r, ProvenEq::at(0));
+    assert!(rt; is_bad(&answer) && list.is_empty());
+    Ok(())
+}
+
+#[test]
+fn a_transitive_step_shares_nothing_else(rt: HostRuntime) -> Result<(), Error> {
+    let mut list = ProofList::new(rt.alloc());
+    assert_halves(&mut list, rt.alloc())?;
+    let l = applied(rt.alloc(), 8, &[(3, 2)])?;
+    let r = applied(rt.alloc(), 9, &[(4, 3)])?;
+    let p = by_transitivity(&mut list, rt.alloc(), l, r)?;
+    assert!(rt; shows(&list, p, (8, &[0]), (9, &[1])));
+    Ok(())
+}
+
+#[test]
+fn a_transitive_step_with_a_shared_name_is_refused(rt: HostRuntime) -> Result<(), Error> {
+    let mut list = ProofList::new(rt.alloc());
+    assert_halves(&mut list, rt.alloc())?;
+    let l = applied(rt.alloc(), 8, &[(3, 2)])?;
+    let r = applied(rt.alloc(), 9, &[(4, 2)])?;
+    let answer = by_transitivity(&mut list, rt.alloc(), l, r);
+    assert!(rt; is_bad(&answer) && list.len() == 2);
+    Ok(())
+}
+
+#[test]
+fn a_reflexive_step_has_equal_sides(rt: HostRuntime) -> Result<(), Error> {
+    let mut list = ProofList::new(rt.alloc());
+    let l = applied(rt.alloc(), 7, &[(1, 5)])?;
+    let r = l.copy(rt.alloc())?;
+    let p = by_reflexivity(&mut list, rt.alloc(), l, r, &[(1, 0)])?;
+    assert!(rt; shows(&list, p, (7, &[0]), (7, &[0])));
+    Ok(())
+}
+
+#[test]
+fn a_step_that_lacks_a_slot_is_refused(rt: HostRuntime) -> Result<(), Error> {
+    let mut list = ProofList::new(rt.alloc());
+    let l = applied(rt.alloc(), 7, &[(1, 5)])?;
+    let r = l.copy(rt.alloc())?;
+    let answer = by_reflexivity(&mut list, rt.alloc(), l, r, &[(1, 0), (2, 1)]);
+    assert!(rt; is_bad(&answer) && list.is_empty());
+    Ok(())
+}
+
+#[test]
+fn leaves_are_congruent(rt: HostRuntime) -> Result<(), Error> {
+    let mut list = ProofList::new(rt.alloc());
+    let equation = sample(rt.alloc())?;
+    let p = list.prove_congruent(rt.alloc(), &equation, &[], Vec::new(rt.alloc()))?;
+    assert!(rt; shows(&list, p, (7, &[0, 1]), (9, &[1, 2])));
+    Ok(())
+}

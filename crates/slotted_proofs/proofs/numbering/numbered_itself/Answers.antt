@@ -1,4 +1,4 @@
-use Rattle.std.proofs.Common.{◌≡◌, ◌∙◌, ℕ, List, sym, subst}
+use Rattle.std.proofs.Common.{◌∙◌, ℕ, List, sym, subst}
 use Rattle.slotted_model.specs.Applied.{keys}
 use Rattle.slotted_proofs.specs.Equations.{reflexive_statement, AreSides}
 use Rattle.slotted_proofs.proofs.Bridges.{slots-once}

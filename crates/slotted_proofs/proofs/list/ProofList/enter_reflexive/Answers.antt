@@ -1,4 +1,4 @@
-use Rattle.std.proofs.Common.{◌∙◌, subst}
+use Rattle.std.proofs.Common.{subst}
 use Rattle.std.specs.Prelude.{IfOk, None}
 use Rattle.slotted_model.specs.Applied.{keys}
 use Rattle.slotted_model.specs.ProofList.{reflexive}

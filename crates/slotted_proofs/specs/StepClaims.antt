@@ -1,0 +1,57 @@
+-- The laws of steps that fit: what they enter is proved. All are owed by `step_laws_hold` in src/laws.rt.
+use Rattle.std.specs.Prelude.{All, ◌≡◌, ◌↔◌, ℕ, List}
+use Rattle.slotted_theory.specs.Nameless.{DTerm}
+use Rattle.slotted_model.specs.Applied.{Applied, keys}
+use Rattle.slotted_model.specs.Classes.{canonical_node, IsFull, Canonical}
+use Rattle.slotted_model.specs.Correspondence.{IsFullMap}
+use Rattle.slotted_model.specs.ProofList.{congruent, reflexive, symmetric, transitive}
+use Rattle.slotted_proofs.specs.declared.equation.Equation.{Equation as Sides}
+use Rattle.slotted_proofs.specs.Equations.{to_applied, equality, statement_of}
+use Rattle.slotted_proofs.specs.Entries.{Proven}
+use Rattle.slotted_proofs.specs.Proving.{IsProvable}
+use Rattle.slotted_proofs.specs.AlikeNodes.{AreAlikeNodes}
+use Rattle.slotted_proofs.specs.Steps.{AreEntries, HasInjectiveSides, Matches, IsReflexiveStep, IsSymmetricStep, IsTransitiveStep, by_step}
+
+-- two equations match exactly if they are of the same classes, over the same slots, and the same slots carry one name
+abbrev pub MatchIsOneStatement : Type 0
+MatchIsOneStatement =
+    (a b c d : Applied) → IsFullMap (keys a.1) a.1 → IsFullMap (keys b.1) b.1 → IsFullMap (keys c.1) c.1 → IsFullMap (keys d.1) d.1 →
+    Matches a b c d ↔ (equality a b ≡ equality c d)
+
+-- both sides of the equation are full ids of the graph
+pub record IsOfFull (nodes : List DTerm) (e : Sides) : Type 0 where
+  pub left : IsFull nodes (to_applied e.l)
+  pub right : IsFull nodes (to_applied e.r)
+
+-- a reflexive step that fits proves its equation
+abbrev pub ReflexiveStepProves : Type 0
+ReflexiveStepProves =
+    (nodes : List DTerm) (list : List Proven) (e : Sides) → IsOfFull nodes e → IsReflexiveStep e →
+    IsProvable nodes list (by_step (statement_of e) reflexive)
+
+-- and so does a symmetric one
+abbrev pub SymmetricStepProves : Type 0
+SymmetricStepProves =
+    (nodes : List DTerm) (list : List Proven) (e : Sides) (p : ℕ) → IsOfFull nodes e → IsSymmetricStep list e p →
+    IsProvable nodes list (by_step (statement_of e) (symmetric p))
+
+-- and a transitive one
+abbrev pub TransitiveStepProves : Type 0
+TransitiveStepProves =
+    (nodes : List DTerm) (list : List Proven) (e : Sides) (p q : ℕ) → IsOfFull nodes e → IsTransitiveStep list e p q →
+    IsProvable nodes list (by_step (statement_of e) (transitive p q))
+
+-- and a congruent one over the canonical nodes of the two classes
+abbrev pub CongruentStepProves : Type 0
+CongruentStepProves =
+    (nodes : List DTerm) (list : List Proven) (e : Sides) (children : List Sides) (parts : List ℕ) → Canonical nodes → IsOfFull nodes e →
+    All HasInjectiveSides children → AreAlikeNodes (canonical_node nodes e.l.id.0) (canonical_node nodes e.r.id.0) e children → AreEntries list parts children →
+    IsProvable nodes list (by_step (statement_of e) (congruent parts))
+
+-- all these laws
+pub record StepLaws : Type 0 where
+  pub match_is_one_statement : MatchIsOneStatement
+  pub reflexive_step_proves : ReflexiveStepProves
+  pub symmetric_step_proves : SymmetricStepProves
+  pub transitive_step_proves : TransitiveStepProves
+  pub congruent_step_proves : CongruentStepProves

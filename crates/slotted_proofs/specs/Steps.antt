@@ -1,0 +1,94 @@
+-- When a step proves an equation: its parts match what it says, up to renaming.
+--     Matches a b c d        one injective map of names takes the equation a = b to c = d
+--     IsEntry list p a b     what stands at p matches a = b
+use Rattle.std.specs.Prelude.{◌≡◌, ◌⊎◌, ℕ, ◌+◌, ◌^◌, ◌<◌, ◌≤◌, List, length, None, Contains, slice_index_or}
+use Rattle.slotted_slots.specs.declared.error.Error.{Error}
+use Rattle.slotted_slots.specs.declared.error.Error.TheVariants.{BadStep}
+use Rattle.slotted_slots.specs.Error.{IsShortage}
+use Rattle.slotted_theory.specs.FiniteMaps.{IsInjectiveMap}
+use Rattle.slotted_model.specs.Applied.{Applied, keys}
+use Rattle.slotted_model.specs.Correspondence.{IsFullMap, IsMatch, CanJoin}
+use Rattle.slotted_model.specs.ProofList.{Step}
+use Rattle.slotted_proofs.specs.declared.equation.Equation.{Equation as Sides}
+use Rattle.slotted_proofs.specs.Equations.{Statement, to_applied, AreSides}
+use Rattle.slotted_proofs.specs.Entries.{Proven, statement_at}
+
+-- the same classes, and one injective map of names that takes the one equation to the other on both sides
+pub record Matches (a b c d : Applied) : Type 0 where
+  pub left : a.0 ≡ c.0
+  pub right : b.0 ≡ d.0
+  pub names : IsMatch a.1 b.1 c.1 d.1
+
+-- the entry with the number p, whose sides in written form are left and right, matches a = b
+pub record IsEntry (list : List Proven) (p : ℕ) (a b : Applied) : Type 0 where
+  pub in_range : p < length list
+  pub left : Applied
+  pub right : Applied
+  pub written : AreSides (statement_at list p) left right
+  pub matches : Matches a b left right
+
+-- both sides are equal
+abbrev pub IsReflexiveStep : Sides → Type 0
+IsReflexiveStep e = to_applied e.l ≡ to_applied e.r
+
+-- the part, turned round, matches
+abbrev pub IsSymmetricStep : List Proven → Sides → ℕ → Type 0
+IsSymmetricStep list e p = IsEntry list p (to_applied e.r) (to_applied e.l)
+
+-- for some middle, whose names are different, the first part matches from the left side to it, and the second one from it to the right side
+pub record IsTransitiveStep (list : List Proven) (e : Sides) (p q : ℕ) : Type 0 where
+  pub middle : Applied
+  pub injective : IsInjectiveMap middle.1
+  pub first : IsEntry list p (to_applied e.l) middle
+  pub second : IsEntry list q middle (to_applied e.r)
+
+-- the halves begin, meet and end at the classes of the whole, over the same slots
+pub record GoesOver (whole first second : Statement) : Type 0 where
+  pub begins : (whole.equation.left ≡ first.equation.left) × (whole.left_slots ≡ first.left_slots)
+  pub meets : (first.equation.right ≡ second.equation.left) × (first.right_slots ≡ second.left_slots)
+  pub ends : (whole.equation.right ≡ second.equation.right) × (whole.right_slots ≡ second.right_slots)
+
+-- the halves go over, and can be joined in the middle
+abbrev pub IsJoined : Statement → Statement → Statement → Type 0
+IsJoined whole first second = GoesOver whole first second × CanJoin whole.equation.pairs first.equation.pairs second.equation.pairs
+
+-- the two sides have a name of its own for each of their slots
+pub record AreFull (e : Sides) : Type 0 where
+  pub left : IsFullMap (keys e.l.m) e.l.m
+  pub right : IsFullMap (keys e.r.m) e.r.m
+
+-- an entry by a step, which has no text
+abbrev pub by_step : Statement → Step → Proven
+by_step s step = record { statement = s; step = step; text = None }
+
+-- each part matches the equation of its children, and there are as many of the one as of the other
+pub record AreEntries (list : List Proven) (parts : List ℕ) (children : List Sides) : Type 0 where
+  pub count : length parts ≡ length children
+  pub each : (k n : ℕ) (d : Sides) → k < length parts → IsEntry list (slice_index_or parts k n) (to_applied (slice_index_or children k d).l) (to_applied (slice_index_or children k d).r)
+
+-- no name stands twice on a side
+pub record HasInjectiveSides (e : Sides) : Type 0 where
+  pub left : IsInjectiveMap e.l.m
+  pub right : IsInjectiveMap e.r.m
+
+-- how many names stand on both sides
+abbrev pub name_count : Sides → ℕ
+name_count e = length e.l.m + length e.r.m
+
+-- some equation of the list has too many names
+pub record IsLarge (children : List Sides) : Type 0 where
+  pub child : Sides
+  pub among : Contains children child
+  pub large : 2 ^ 30 ≤ name_count child
+
+-- the step does not fit, or something ran out
+abbrev pub IsRefusal : Error → Type 0
+IsRefusal x = (x ≡ BadStep) ⊎ IsShortage x
+
+-- a side is over the given slots of its class, with different names
+abbrev pub IsSideOver : Applied → List ℕ → Type 0
+IsSideOver a slots = IsInjectiveMap a.1 × (keys a.1 ≡ slots)
+
+-- both sides are
+abbrev pub IsOver : Sides → List ℕ → List ℕ → Type 0
+IsOver e left right = IsSideOver (to_applied e.l) left × IsSideOver (to_applied e.r) right

@@ -1,0 +1,383 @@
+//! Steps that callers ask for: an equation is entered by a step only where the step fits it.
+ghost use Rattle.std.specs.Prelude.{All, ◌≡◌, ◌⊎◌, ◌+◌, ◌^◌, ◌≤◌, ◌↔◌, length, IsTrue, IfOk, IfErr, OnErr, IsErrOf};
+ghost use Rattle.slotted_theory.specs.FiniteMaps.{IsInjectiveMap};
+ghost use Rattle.slotted_slots.specs.Error.{IsOutOfMemory, IsShortage};
+ghost use Rattle.slotted_model.specs.Applied.{keys};
+ghost use Rattle.slotted_model.specs.Correspondence.{CanJoin, composite, same_names};
+ghost use Rattle.slotted_model.specs.ProofList.{congruent, reflexive, symmetric, transitive};
+ghost use Rattle.slotted_proofs.specs.Equations.{to_applied, statement_of};
+ghost use Rattle.slotted_proofs.specs.Entries.{Enters};
+ghost use Rattle.slotted_proofs.specs.Steps.{AreEntries, AreFull, GoesOver, HasInjectiveSides, IsLarge, name_count, IsJoined, IsEntry, IsOver, IsSideOver, IsReflexiveStep, IsSymmetricStep, IsTransitiveStep, IsRefusal, by_step};
+
+use crate::equation::Equation;
+use crate::list::ProofList;
+use crate::numbering::{numbered, numbered_itself, shared_names};
+use crate::proof::{
+    CongruenceProof, Proof, ProvenEq, ReflexivityProof, SymmetryProof, TransitivityProof,
+};
+use slotted_slots::{AppliedId, Error, Slot, SlotMap, SmallHashSet};
+use std::alloc::Global;
+
+// Joining two halves.
+
+// Whether two applied ids are of one class, over the same slots.
+fn have_one_class(alloc: Global, a: &AppliedId, b: &AppliedId) -> Result<bool, Error>
+    requires left { IsInjectiveMap a.now.m }
+    requires right { IsInjectiveMap b.now.m }
+    ensures ok { IfOk result (λ yes. IsTrue yes ↔ ((a.now.id.0 ≡ b.now.id.0) × (keys a.now.m ≡ keys b.now.m))) }
+    ensures err { IfErr result IsOutOfMemory }
+{
+    if a.id.0 != b.id.0 || a.m.len() != b.m.len() {
+        return Ok(false);
+    }
+    let left = shared_names(alloc, &a.m, &a.m)?;
+    let right = shared_names(alloc, &b.m, &b.m)?;
+    Ok(left == right)
+}
+
+// Whether the halves begin, meet and end at the classes of the equation.
+fn goes_over(
+    alloc: Global,
+    whole: &Equation,
+    first: &Equation,
+    second: &Equation,
+) -> Result<bool, Error>
+    requires whole { AreFull whole.now }
+    requires first { AreFull first.now }
+    requires second { AreFull second.now }
+    ensures ok { IfOk result (λ yes. IsTrue yes ↔ GoesOver (statement_of whole.now) (statement_of first.now) (statement_of second.now)) }
+    ensures err { IfErr result IsOutOfMemory }
+{
+    if !have_one_class(alloc, &whole.l, &first.l)? {
+        return Ok(false);
+    }
+    if !have_one_class(alloc, &first.r, &second.l)? {
+        return Ok(false);
+    }
+    have_one_class(alloc, &whole.r, &second.r)
+}
+
+// What the asked pairs say of the slots that the first half knows.
+fn known_pairs(alloc: Global, first: &Equation, asked: &SlotMap) -> Result<SlotMap, Error>
+    requires left { IsInjectiveMap first.now.l.m }
+    requires right { IsInjectiveMap first.now.r.m }
+    ensures ok { IfOk result (λ m. m ≡ composite (composite (same_names first.now.l.m first.now.r.m) (same_names first.now.r.m first.now.l.m)) asked.now) }
+    ensures err { IfErr result IsOutOfMemory }
+{
+    let forth = shared_names(alloc, &first.l.m, &first.r.m)?;
+    let back = shared_names(alloc, &first.r.m, &first.l.m)?;
+    let known = forth.compose_partial(alloc, &back)?;
+    let pairs = known.compose_partial(alloc, asked)?;
+    Ok(pairs)
+}
+
+// What the asked pairs say of the slots that the second half reaches.
+fn reached_pairs(alloc: Global, asked: &SlotMap, second: &Equation) -> Result<SlotMap, Error>
+    requires left { IsInjectiveMap second.now.l.m }
+    requires right { IsInjectiveMap second.now.r.m }
+    ensures ok { IfOk result (λ m. m ≡ composite (composite asked.now (same_names second.now.r.m second.now.l.m)) (same_names second.now.l.m second.now.r.m)) }
+    ensures err { IfErr result IsOutOfMemory }
+{
+    let back = shared_names(alloc, &second.r.m, &second.l.m)?;
+    let forth = shared_names(alloc, &second.l.m, &second.r.m)?;
+    let reached = asked.compose_partial(alloc, &back)?;
+    let pairs = reached.compose_partial(alloc, &forth)?;
+    Ok(pairs)
+}
+
+// Whether names for the middle can be chosen by which the halves give the equation.
+fn can_join(
+    alloc: Global,
+    whole: &Equation,
+    first: &Equation,
+    second: &Equation,
+) -> Result<bool, Error>
+    requires whole { AreFull whole.now }
+    requires first { AreFull first.now }
+    requires second { AreFull second.now }
+    requires over { GoesOver (statement_of whole.now) (statement_of first.now) (statement_of second.now) }
+    ensures ok { IfOk result (λ yes. IsTrue yes ↔ CanJoin (same_names whole.now.l.m whole.now.r.m) (same_names first.now.l.m first.now.r.m) (same_names second.now.l.m second.now.r.m)) }
+    ensures err { IfErr result IsOutOfMemory }
+{
+    let forth = shared_names(alloc, &first.l.m, &first.r.m)?;
+    let onward = shared_names(alloc, &second.l.m, &second.r.m)?;
+    let over = forth.compose_partial(alloc, &onward)?;
+    let asked = shared_names(alloc, &whole.l.m, &whole.r.m)?;
+    let known = known_pairs(alloc, first, &asked)?;
+    if over != known {
+        return Ok(false);
+    }
+    let reached = reached_pairs(alloc, &asked, second)?;
+    Ok(over == reached)
+}
+
+// Whether the halves give the equation.
+fn is_joined(
+    alloc: Global,
+    whole: &Equation,
+    first: &Equation,
+    second: &Equation,
+) -> Result<bool, Error>
+    requires whole { AreFull whole.now }
+    requires first { AreFull first.now }
+    requires second { AreFull second.now }
+    ensures ok { IfOk result (λ yes. IsTrue yes ↔ IsJoined (statement_of whole.now) (statement_of first.now) (statement_of second.now)) }
+    ensures err { IfErr result IsOutOfMemory }
+{
+    if !goes_over(alloc, whole, first, second)? {
+        return Ok(false);
+    }
+    let joins = can_join(alloc, whole, first, second)?;
+    Ok(joins)
+}
+
+// Equations over the slots of their classes.
+
+// Whether a side is over these slots of its class, with different names.
+fn is_side_over(alloc: Global, side: &AppliedId, slots: &SmallHashSet<Slot>) -> Result<bool, Error>
+    ensures ok { IfOk result (λ yes. IsTrue yes ↔ IsSideOver (to_applied side.now) slots.now) }
+    ensures err { IfErr result IsOutOfMemory }
+{
+    if !side.m.is_bijection() {
+        return Ok(false);
+    }
+    if side.m.len() != slots.len() {
+        return Ok(false);
+    }
+    let own = shared_names(alloc, &side.m, &side.m)?;
+    let asked = SlotMap::identity(alloc, slots)?;
+    Ok(own == asked)
+}
+
+// Whether both sides are.
+fn is_over(
+    alloc: Global,
+    equation: &Equation,
+    left: &SmallHashSet<Slot>,
+    right: &SmallHashSet<Slot>,
+) -> Result<bool, Error>
+    ensures ok { IfOk result (λ yes. IsTrue yes ↔ IsOver equation.now left.now right.now) }
+    ensures err { IfErr result IsOutOfMemory }
+{
+    if !is_side_over(alloc, &equation.l, left)? {
+        return Ok(false);
+    }
+    is_side_over(alloc, &equation.r, right)
+}
+
+impl ProofList {
+    /// Whether the entry with this number says, up to renaming, that two applied ids are equal.
+    pub fn is_entry(
+        &self,
+        alloc: Global,
+        p: ProvenEq,
+        l: &AppliedId,
+        r: &AppliedId,
+    ) -> Result<bool, Error>
+        requires left { IsInjectiveMap l.now.m }
+        requires right { IsInjectiveMap r.now.m }
+        ensures ok { IfOk result (λ yes. IsTrue yes ↔ IsEntry self.now p (to_applied l.now) (to_applied r.now)) }
+        ensures full { IsErrOf result Error.OutOfSlots ↔ (2 ^ 30 ≤ length l.now.m + length r.now.m) }
+        ensures err { IfErr result IsShortage }
+    {
+        let asked = numbered(alloc, l, r)?;
+        if !self.is_valid(p) {
+            return Ok(false);
+        }
+        Ok(asked == *self.equ(p))
+    }
+
+    // The steps. Each enters its equation only where it fits.
+
+    /// The equation, if both sides are equal.
+    pub fn prove_reflexive(&mut self, alloc: Global, equation: &Equation) -> Result<ProvenEq, Error>
+        requires left { IsInjectiveMap equation.now.l.m }
+        requires right { IsInjectiveMap equation.now.r.m }
+        ensures fits { IfOk result (λ _. IsReflexiveStep equation.now) }
+        ensures ok { IfOk result (Enters self.old self.new (by_step (statement_of equation.now) reflexive)) }
+        ensures refused { IsErrOf result Error.BadStep → ¬ IsReflexiveStep equation.now }
+        ensures full { IsErrOf result Error.OutOfSlots → 2 ^ 30 ≤ length equation.now.l.m }
+        ensures only { IfErr result IsRefusal }
+        ensures err { OnErr result (self.new ≡ self.old) }
+    {
+        if equation.l != equation.r {
+            return Err(Error::BadStep);
+        }
+        let asked = numbered_itself(alloc, &equation.l)?;
+        let number = self.enter(asked, Proof::Reflexivity(ReflexivityProof))?;
+        Ok(number)
+    }
+
+    /// The equation, if that of the part, turned round, matches it.
+    pub fn prove_symmetric(
+        &mut self,
+        alloc: Global,
+        equation: &Equation,
+        p: ProvenEq,
+    ) -> Result<ProvenEq, Error>
+        requires left { IsInjectiveMap equation.now.l.m }
+        requires right { IsInjectiveMap equation.now.r.m }
+        ensures fits { IfOk result (λ _. IsSymmetricStep self.old equation.now p) }
+        ensures ok { IfOk result (Enters self.old self.new (by_step (statement_of equation.now) (symmetric p))) }
+        ensures refused { IsErrOf result Error.BadStep → ¬ IsSymmetricStep self.old equation.now p }
+        ensures full { IsErrOf result Error.OutOfSlots ↔ (2 ^ 30 ≤ length equation.now.l.m + length equation.now.r.m) }
+        ensures only { IfErr result IsRefusal }
+        ensures err { OnErr result (self.new ≡ self.old) }
+    {
+        if !self.is_entry(alloc, p, &equation.r, &equation.l)? {
+            return Err(Error::BadStep);
+        }
+        let proof = Proof::Symmetry(SymmetryProof(p));
+        let number = self.enter_equality(alloc, &equation.l, &equation.r, proof)?;
+        Ok(number)
+    }
+
+    /// The equation, if those of the two parts, one after the other, give it by some names for the middle.
+    pub fn prove_transitive(
+        &mut self,
+        alloc: Global,
+        equation: &Equation,
+        p: ProvenEq,
+        q: ProvenEq,
+    ) -> Result<ProvenEq, Error>
+        requires left { IsInjectiveMap equation.now.l.m }
+        requires right { IsInjectiveMap equation.now.r.m }
+        ensures fits { IfOk result (λ _. IsTransitiveStep self.old equation.now p q) }
+        ensures ok { IfOk result (Enters self.old self.new (by_step (statement_of equation.now) (transitive p q))) }
+        ensures refused { IsErrOf result Error.BadStep → ¬ IsTransitiveStep self.old equation.now p q }
+        ensures full { IsErrOf result Error.OutOfSlots → 2 ^ 30 ≤ length equation.now.l.m + length equation.now.r.m }
+        ensures only { IfErr result IsRefusal }
+        ensures err { OnErr result (self.new ≡ self.old) }
+    {
+        if !self.is_valid(p) || !self.is_valid(q) {
+            return Err(Error::BadStep);
+        }
+        let asked = equation.numbered(alloc)?;
+        if !is_joined(alloc, &asked, self.equ(p), self.equ(q))? {
+            return Err(Error::BadStep);
+        }
+        let number = self.enter(asked, Proof::Transitivity(TransitivityProof(p, q)))?;
+        Ok(number)
+    }
+
+    // Whether each part says, up to renaming, what the equation of its children says.
+    fn are_entries(
+        &self,
+        alloc: Global,
+        parts: &[ProvenEq],
+        children: &[Equation],
+    ) -> Result<bool, Error>
+        requires { All HasInjectiveSides children.now }
+        ensures ok { IfOk result (λ yes. IsTrue yes ↔ AreEntries self.now parts.now children.now) }
+        ensures full { IsErrOf result Error.OutOfSlots → IsLarge children.now }
+        ensures err { IfErr result IsShortage }
+    {
+        if parts.len() != children.len() {
+            return Ok(false);
+        }
+        for k in 0..parts.len() {
+            let child = &children[k];
+            if !self.is_entry(alloc, parts[k], &child.l, &child.r)? {
+                return Ok(false);
+            }
+        }
+        Ok(true)
+    }
+
+    /// The equation of two nodes that are alike, if each part says, up to renaming, what the equation of its children says. The
+    /// children's equations are those of the two nodes with the names of the sides put in.
+    pub fn prove_congruent(
+        &mut self,
+        alloc: Global,
+        equation: &Equation,
+        children: &[Equation],
+        parts: Vec<ProvenEq>,
+    ) -> Result<ProvenEq, Error>
+        requires left { IsInjectiveMap equation.now.l.m }
+        requires right { IsInjectiveMap equation.now.r.m }
+        requires children { All HasInjectiveSides children.now }
+        ensures fits { IfOk result (λ _. AreEntries self.old parts.items children.now) }
+        ensures ok { IfOk result (Enters self.old self.new (by_step (statement_of equation.now) (congruent parts.items))) }
+        ensures refused { IsErrOf result Error.BadStep → ¬ AreEntries self.old parts.items children.now }
+        ensures full { IsErrOf result Error.OutOfSlots → (2 ^ 30 ≤ name_count equation.now) ⊎ IsLarge children.now }
+        ensures only { IfErr result IsRefusal }
+        ensures err { OnErr result (self.new ≡ self.old) }
+    {
+        if !self.are_entries(alloc, &parts, children)? {
+            return Err(Error::BadStep);
+        }
+        let proof = Proof::Congruence(CongruenceProof(parts));
+        let number = self.enter_equality(alloc, &equation.l, &equation.r, proof)?;
+        Ok(number)
+    }
+
+    // The same over the slots of the two classes.
+
+    /// The equation, if it is over these slots of its classes, with different names on each side, and both sides are equal.
+    pub fn check_reflexive(
+        &mut self,
+        alloc: Global,
+        equation: &Equation,
+        left: &SmallHashSet<Slot>,
+        right: &SmallHashSet<Slot>,
+    ) -> Result<ProvenEq, Error>
+        ensures fits { IfOk result (λ _. IsOver equation.now left.now right.now × IsReflexiveStep equation.now) }
+        ensures ok { IfOk result (Enters self.old self.new (by_step (statement_of equation.now) reflexive)) }
+        ensures refused { IsErrOf result Error.BadStep → ¬ (IsOver equation.now left.now right.now × IsReflexiveStep equation.now) }
+        ensures full { IsErrOf result Error.OutOfSlots → 2 ^ 30 ≤ length equation.now.l.m }
+        ensures only { IfErr result IsRefusal }
+        ensures err { OnErr result (self.new ≡ self.old) }
+    {
+        if !is_over(alloc, equation, left, right)? {
+            return Err(Error::BadStep);
+        }
+        self.prove_reflexive(alloc, equation)
+    }
+
+    /// The equation, if it is over these slots of its classes, with different names on each side, and that of the part, turned
+    /// round, matches it.
+    pub fn check_symmetric(
+        &mut self,
+        alloc: Global,
+        equation: &Equation,
+        left: &SmallHashSet<Slot>,
+        right: &SmallHashSet<Slot>,
+        p: ProvenEq,
+    ) -> Result<ProvenEq, Error>
+        ensures fits { IfOk result (λ _. IsOver equation.now left.now right.now × IsSymmetricStep self.old equation.now p) }
+        ensures ok { IfOk result (Enters self.old self.new (by_step (statement_of equation.now) (symmetric p))) }
+        ensures refused { IsErrOf result Error.BadStep → ¬ (IsOver equation.now left.now right.now × IsSymmetricStep self.old equation.now p) }
+        ensures full { IsErrOf result Error.OutOfSlots → 2 ^ 30 ≤ length equation.now.l.m + length equation.now.r.m }
+        ensures only { IfErr result IsRefusal }
+        ensures err { OnErr result (self.new ≡ self.old) }
+    {
+        if !is_over(alloc, equation, left, right)? {
+            return Err(Error::BadStep);
+        }
+        self.prove_symmetric(alloc, equation, p)
+    }
+
+    /// The equation, if it is over these slots of its classes, with different names on each side, and those of the two parts, one
+    /// after the other, give it by some names for the middle.
+    pub fn check_transitive(
+        &mut self,
+        alloc: Global,
+        equation: &Equation,
+        left: &SmallHashSet<Slot>,
+        right: &SmallHashSet<Slot>,
+        p: ProvenEq,
+        q: ProvenEq,
+    ) -> Result<ProvenEq, Error>
+        ensures fits { IfOk result (λ _. IsOver equation.now left.now right.now × IsTransitiveStep self.old equation.now p q) }
+        ensures ok { IfOk result (Enters self.old self.new (by_step (statement_of equation.now) (transitive p q))) }
+        ensures refused { IsErrOf result Error.BadStep → ¬ (IsOver equation.now left.now right.now × IsTransitiveStep self.old equation.now p q) }
+        ensures full { IsErrOf result Error.OutOfSlots → 2 ^ 30 ≤ length equation.now.l.m + length equation.now.r.m }
+        ensures only { IfErr result IsRefusal }
+        ensures err { OnErr result (self.new ≡ self.old) }
+    {
+        if !is_over(alloc, equation, left, right)? {
+            return Err(Error::BadStep);
+        }
+        self.prove_transitive(alloc, equation, p, q)
+    }
+}
