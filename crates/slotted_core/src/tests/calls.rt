@@ -29,8 +29,8 @@ fn the_table_keeps_the_names(rt: HostRuntime) -> Result<(), Error> {
     let mut graph = empty(rt.alloc())?;
     put_text(&mut graph, "(app (f $x $x) (g $y))")?;
     let mut table = graph.into_table();
-    assert!(rt; table.named("x")?.raw() == 2);
     assert!(rt; table.named("y")?.raw() == 6);
+    assert!(rt; table.named("x")?.raw() == 2);
     assert!(rt; table.named("z")?.raw() == 10);
     Ok(())
 }

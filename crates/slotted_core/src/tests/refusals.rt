@@ -1,8 +1,8 @@
 //! What a graph refuses, and what it answers from then on.
-use super::put_text;
+use super::{put_node, put_text};
 use crate::egraph::EGraph;
 use slotted_languages::{Language, Small};
-use slotted_slots::{AppliedId, Error, SlotTable};
+use slotted_slots::{AppliedId, Error, Slot, SlotTable};
 use slotted_terms::expr::RecExpr;
 use std::alloc::Global;
 use std::process::Abort;
@@ -108,5 +108,16 @@ fn a_graph_without_slots_fails(rt: HostRuntime) -> Result<(), Error> {
     let mut table = graph.into_table();
     assert!(rt; refusal(table.fresh()) == 2);
     assert!(rt; table.named("x")?.raw() == 2);
+    Ok(())
+}
+
+// So does a node that is added by itself, but a node whose class needs no slot does not.
+#[test]
+fn a_node_without_slots_fails_the_graph(rt: HostRuntime) -> Result<(), Error> {
+    let mut graph: EGraph<Small> = without_slots(rt.alloc())?;
+    put_node(&mut graph, Small::Number(7))?;
+    assert!(rt; !graph.is_failed());
+    assert!(rt; refusal(put_node(&mut graph, Small::G(Slot::numeric_at(0)))) == 2);
+    assert!(rt; graph.is_failed());
     Ok(())
 }

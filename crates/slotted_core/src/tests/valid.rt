@@ -54,6 +54,19 @@ fn an_id_has_the_slots_of_its_class(rt: HostRuntime) -> Result<(), Error> {
     Ok(())
 }
 
+// The slots of another class are no slots of its own.
+#[test]
+fn an_id_has_no_slots_of_another_class(rt: HostRuntime) -> Result<(), Error> {
+    let mut graph: Graph = EGraph::new(rt.alloc(), SlotTable::new(rt.alloc()), ())?;
+    let id = put_text(&mut graph, "(g $0)")?;
+    let other = put_text(&mut graph, "(var $0)")?;
+    let m = other.m.copy(rt.alloc())?;
+    let crossed = AppliedId { id: id.id, m };
+    assert!(rt; graph.is_valid(&id) && graph.is_valid(&other));
+    assert!(rt; !graph.is_valid(&crossed));
+    Ok(())
+}
+
 // A node has known slots and valid children.
 #[test]
 fn a_node_has_known_slots_and_children(rt: HostRuntime) -> Result<(), Error> {
