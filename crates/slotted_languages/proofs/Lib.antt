@@ -20,3 +20,4 @@ pub mod Occurrences
 pub mod WalkBinders
 pub mod Fills
 pub mod PublicNames
+pub mod Taken

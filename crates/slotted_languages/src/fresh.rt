@@ -1,10 +1,10 @@
 //! Fresh slots in the place of a node's names.
-ghost use Rattle.std.specs.Prelude.{◌≡◌, ◌^◌, ℕ, [], ◌∷◌, map, ◌&&◌, not, IfOk, IfErr, OnOk, IsErrOf};
+ghost use Rattle.std.specs.Prelude.{◌≡◌, ◌^◌, ℕ, true, [], ◌∷◌, map, ◌&&◌, not, IfOk, IfErr, OnOk, IsErrOf};
 ghost use Rattle.slotted_slots.specs.Error.{IsOutOfMemory, IsShortage};
-ghost use Rattle.slotted_slots.specs.Maps.{is_among};
+ghost use Rattle.slotted_slots.specs.Maps.{is_among, values};
 ghost use Rattle.slotted_slots.specs.Table.{KnowsMore};
 ghost use Rattle.slotted_languages.specs.Form.{IsSmall};
-ghost use Rattle.slotted_languages.specs.Fresh.{IsFilled, IsRefreshed, replaced};
+ghost use Rattle.slotted_languages.specs.Fresh.{IsFilled, IsInEither, IsInUse, IsRefreshed, Takes, replaced};
 ghost use Rattle.slotted_languages.specs.Shape.{with_names};
 
 use crate::language::Language;
@@ -62,6 +62,8 @@ fn fill_name<L: Language>(
 ) -> Result<(), Error>
     requires small { IsSmall (L.form node.now) }
     ensures ok { OnOk result (IsFilled table.old (L.form node.now).names (name ∷ []) names.old names.new) }
+    ensures grown { OnOk result ((z : ℕ) → is_among z (values names.old) ≡ true → is_among z (values names.new) ≡ true) }
+    ensures taken { OnOk result (Takes table.old table.new (IsInUse avoid.now (values names.new) (L.form node.now).names)) }
     ensures full { IsErrOf result Error.OutOfSlots → (table.new.fresh ≡ 2 ^ 30) }
     ensures only { IfErr result IsShortage }
     ensures more { KnowsMore table.old table.new }
@@ -84,6 +86,7 @@ pub(crate) fn fill_names<L: Language>(
 ) -> Result<(), Error>
     requires small { IsSmall (L.form node.now) }
     ensures ok { OnOk result (IsFilled table.old (L.form node.now).names wanted.now names.old names.new) }
+    ensures taken { OnOk result (Takes table.old table.new (IsInUse wanted.now (values names.new) (L.form node.now).names)) }
     ensures full { IsErrOf result Error.OutOfSlots → (table.new.fresh ≡ 2 ^ 30) }
     ensures only { IfErr result IsShortage }
     ensures more { KnowsMore table.old table.new }
@@ -109,7 +112,7 @@ fn replace_names<L: Language>(node: &L, alloc: Global, names: &SlotMap) -> Resul
     Ok(answer)
 }
 
-// The node with a fresh slot for each of some names.
+// The node with a fresh slot for each of some names of its own.
 pub(crate) fn refresh_names<L: Language>(
     node: &L,
     alloc: Global,
@@ -117,7 +120,9 @@ pub(crate) fn refresh_names<L: Language>(
     table: &mut SlotTable,
 ) -> Result<L, Error>
     requires small { IsSmall (L.form node.now) }
+    requires own { (x : ℕ) → is_among x wanted.now ≡ true → is_among x (L.form node.now).names ≡ true }
     ensures ok { IfOk result (λ r. IsRefreshed table.old (λ x. is_among x wanted.now) (L.form node.now) (L.form r)) }
+    ensures taken { IfOk result (λ r. Takes table.old table.new (IsInEither (L.form r).names (L.form node.now).names)) }
     ensures full { IsErrOf result Error.OutOfSlots → (table.new.fresh ≡ 2 ^ 30) }
     ensures only { IfErr result IsShortage }
     ensures more { KnowsMore table.old table.new }

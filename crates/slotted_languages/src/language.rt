@@ -9,7 +9,7 @@ ghost use Rattle.slotted_slots.specs.Maps.{KnowsAll, is_among, keys, values};
 ghost use Rattle.slotted_slots.specs.Table.{KnowsMore, is_known};
 ghost use Rattle.slotted_languages.specs.Children.{IsBinder, IsBound, NoneFreeAndBound, Refused, Replaced, all_children, below, child_value};
 ghost use Rattle.slotted_languages.specs.Form.{IsSmall, children};
-ghost use Rattle.slotted_languages.specs.Fresh.{IsRefreshed, IsRenamedFresh};
+ghost use Rattle.slotted_languages.specs.Fresh.{IsInEither, IsRefreshed, IsRenamedFresh, Takes};
 ghost use Rattle.slotted_languages.specs.NodeTerm.{nameless_node, free_names_of};
 ghost use Rattle.slotted_languages.specs.Occurrences.{public_names, private_names};
 ghost use Rattle.slotted_languages.specs.Shape.{shape, firsts};
@@ -181,6 +181,9 @@ pub trait Language: LanguageChildren + Ord {
     where
         Self: Sized,
         ensures refreshed { IfOk result (λ r. IsRefreshed table.old (λ x. is_among x set.now) (Self.form self.now) (Self.form r)) }
+
+        // The table knows nothing new but what stands in the answer, or stood in the node.
+        ensures taken { IfOk result (λ r. Takes table.old table.new (IsInEither (Self.form r).names (Self.form self.now).names)) }
         ensures large { 2 ^ 30 ≤ length (Self.form self.now).names → IsErrOf result Error.OutOfSlots }
         ensures full { IsErrOf result Error.OutOfSlots → ((2 ^ 30 ≤ length (Self.form self.now).names) ⊎ (table.new.fresh ≡ 2 ^ 30)) }
         ensures only { IfErr result IsShortage }
@@ -203,6 +206,9 @@ pub trait Language: LanguageChildren + Ord {
     where
         Self: Sized,
         ensures refreshed { IfOk result (λ r. IsRefreshed table.old (λ x. not (is_among x public.now)) (Self.form self.now) (Self.form r)) }
+
+        // The table knows nothing new but what stands in the answer, or stood in the node.
+        ensures taken { IfOk result (λ r. Takes table.old table.new (IsInEither (Self.form r).names (Self.form self.now).names)) }
         ensures large { 2 ^ 30 ≤ length (Self.form self.now).names → IsErrOf result Error.OutOfSlots }
         ensures full { IsErrOf result Error.OutOfSlots → ((2 ^ 30 ≤ length (Self.form self.now).names) ⊎ (table.new.fresh ≡ 2 ^ 30)) }
         ensures only { IfErr result IsShortage }

@@ -4,6 +4,7 @@ ghost use Rattle.slotted_slots.specs.Error.{IsOutOfMemory, IsShortage};
 ghost use Rattle.slotted_slots.specs.Maps.{is_among, value_of, values};
 ghost use Rattle.slotted_slots.specs.Table.{KnowsMore, is_known};
 ghost use Rattle.slotted_languages.specs.Form.{IsSmall};
+ghost use Rattle.slotted_languages.specs.Fresh.{Takes, IsOrIn};
 ghost use Rattle.slotted_languages.specs.Shape.{shape, moved_names};
 ghost use Rattle.slotted_languages.specs.Renaming.{IsChoice, IsEntered, IsRenamed};
 
@@ -48,6 +49,7 @@ pub(crate) fn fresh_apart<L: Language>(
     ensures names { IfOk result (λ s. is_among s (values names.now) ≡ false) }
     ensures avoid { IfOk result (λ s. is_among s avoid.now ≡ false) }
     ensures unused { IfOk result (λ s. is_known table.old s ≡ false) }
+    ensures taken { IfOk result (λ s. Takes table.old table.new (IsOrIn s avoid.now (values names.now) (L.form node.now).names)) }
     ensures full { IsErrOf result Error.OutOfSlots → (table.new.fresh ≡ 2 ^ 30) }
     ensures only { IsOkUnless result Error.OutOfSlots }
     ensures more { KnowsMore table.old table.new }

@@ -5,23 +5,36 @@ use slotted_slots::{Error, Slot, SlotMap, SlotTable, SmallHashSet};
 use std::alloc::Global;
 use std::process::Abort;
 
-// Some slots as a text, each with a space after it.
-fn text_of(alloc: Global, slots: &[Slot]) -> Result<String, Error> {
-    let mut text = String::new(alloc);
+// Puts some slots behind a text, each with a space after it, and then a bar.
+fn push_slots(alloc: Global, text: &mut String, slots: &[Slot]) -> Result<(), Error> {
     for slot in slots {
         text.push_str(shown(alloc, *slot)?.as_str())?;
         text.push(' ')?;
     }
-    Ok(text)
+    text.push('|')?;
+    Ok(())
 }
 
-// The names at all places of a node, at public ones, at private ones, and these each once, parted by bars.
+// The names at all places of a node, at public ones, at private ones, and these each once.
 fn occurrences<L: Language>(alloc: Global, node: &L) -> Result<String, Error> {
-    let all = text_of(alloc, node.all_slot_occurrences(alloc)?.as_slice())?;
-    let public = text_of(alloc, node.public_slot_occurrences(alloc)?.as_slice())?;
-    let private = text_of(alloc, node.private_slot_occurrences(alloc)?.as_slice())?;
-    let once = text_of(alloc, node.private_slots(alloc)?.as_slice())?;
-    Ok(format!(in alloc; "{all}| {public}| {private}| {once}")?)
+    let mut text = String::new(alloc);
+    push_slots(
+        alloc,
+        &mut text,
+        node.all_slot_occurrences(alloc)?.as_slice(),
+    )?;
+    push_slots(
+        alloc,
+        &mut text,
+        node.public_slot_occurrences(alloc)?.as_slice(),
+    )?;
+    push_slots(
+        alloc,
+        &mut text,
+        node.private_slot_occurrences(alloc)?.as_slice(),
+    )?;
+    push_slots(alloc, &mut text, node.private_slots(alloc)?.as_slice())?;
+    Ok(text)
 }
 
 // Each line is a node, an arrow, and its names.
@@ -34,14 +47,14 @@ fn check_occurrences<L: Written>(rt: &impl Abort, alloc: Global, lines: &str) ->
     Ok(())
 }
 
-const SMALL_NAMES: &str = "lam $8 #7:8,9 => $8 $8 $9 | $9 | $8 $8 | $8 
-app #7:8,9 #7:9,8 => $8 $9 $9 $8 | $8 $9 $9 $8 | | ";
+const SMALL_NAMES: &str = "lam $8 #7:8,9 => $8 $8 $9 |$9 |$8 $8 |$8 |
+app #7:8,9 #7:9,8 => $8 $9 $9 $8 |$8 $9 $9 $8 |||";
 
 // In the second language a name is free beside the scope in which it is bound.
 #[test]
 fn names_are_told_by_place(rt: HostRuntime) -> Result<(), Error> {
     check_occurrences::<Small>(&rt, rt.alloc(), SMALL_NAMES)?;
-    let mixed = "$8 $8 #7:8,9 $8 => $8 $8 $8 $9 $8 | $8 $9 $8 | $8 $8 | $8 ";
+    let mixed = "$8 $8 #7:8,9 $8 => $8 $8 $8 $9 $8 |$8 $9 $8 |$8 $8 |$8 |";
     check_occurrences::<Tri>(&rt, rt.alloc(), mixed)
 }
 
@@ -55,18 +68,21 @@ fn set_of(alloc: Global, text: &str) -> Result<SmallHashSet<Slot>, Error> {
     Ok(set)
 }
 
-// The map of these slots to the slots of the numbers ten times as large.
+// Sends the slot of a number to that of the number ten times as large.
+fn put_tenfold(m: &mut SlotMap, table: &SlotTable, number: u32) -> Result<(), Error> {
+    let key = table.numeric(number)?;
+    let value = table.numeric(number.wrapping_mul(10))?;
+    m.insert(key, value)
+}
+
+// The map that does so for some numbers, parted by commas.
 fn map_of(alloc: Global, text: &str) -> Result<SlotMap, Error> {
     let table = SlotTable::new(alloc);
-    let mut map = SlotMap::new(alloc);
+    let mut m = SlotMap::new(alloc);
     for number in text.split(',') {
-        let number = number.parse().unwrap_or(0u32);
-        map.insert(
-            table.numeric(number)?,
-            table.numeric(number.wrapping_mul(10))?,
-        )?;
+        put_tenfold(&mut m, &table, number.parse().unwrap_or(0))?;
     }
-    Ok(map)
+    Ok(m)
 }
 
 // The node renamed by the map of some slots, and its places.
@@ -84,9 +100,11 @@ fn renamed<L: Language>(alloc: Global, node: &L, slots: &str) -> Result<String, 
 fn refreshed<L: Language>(alloc: Global, node: &L, slots: &str) -> Result<String, Error> {
     let mut table = SlotTable::new(alloc);
     let set = set_of(alloc, slots)?;
-    let inside = places(alloc, &node.refresh_slots(alloc, &set, &mut table)?)?;
-    let outside = places(alloc, &node.refresh_internals(alloc, &set, &mut table)?)?;
-    Ok(format!(in alloc; "{inside} | {outside}")?)
+    let mut text = places(alloc, &node.refresh_slots(alloc, &set, &mut table)?)?;
+    text.push_str(" | ")?;
+    let outside = node.refresh_internals(alloc, &set, &mut table)?;
+    text.push_str(places(alloc, &outside)?.as_str())?;
+    Ok(text)
 }
 
 // Each line is a node, slots, an arrow, the node renamed, a bar, and the node with fresh slots.

@@ -1,6 +1,5 @@
 -- The loop has gone through all places.
 use Rattle.std.proofs.Common.{◌≡◌, ◌∙◌, length, ap, arith}
-use Rattle.std.specs.Prelude.{ℕ}
 use Rattle.slotted_languages.specs.Occurrences.{names_where}
 use Rattle.slotted_languages.specs.Public.{is_public}
 use Rattle.slotted_languages.proofs.PublicNames.{public_free}

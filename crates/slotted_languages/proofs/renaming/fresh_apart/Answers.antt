@@ -1,0 +1,37 @@
+-- What was skipped was in use.
+use Rattle.std.proofs.Common.{◌∙◌, ap, sym, refl, inl, inr}
+use Rattle.slotted_slots.specs.Maps.{values}
+use Rattle.slotted_slots.proofs.Ascending.{has-is_among}
+use Rattle.slotted_languages.specs.Fresh.{IsInUse, IsOrIn}
+use Rattle.slotted_languages.proofs.Taken.{takes_fresh, takes_as}
+use Rattle.slotted_languages.proofs.renaming.fresh_apart.Goals as goal
+use Rattle.slotted_languages.proofs.renaming.fresh_apart.Goals.{else-not-contains-via-then-not-contains+then-not-has_value+else-not-has_name, else-not-contains-via-then-not-contains+else-not-has_value, else-not-contains-via-else-not-contains}
+
+pub returns-then-not-has_name-clause-taken : goal.returns-then-not-has_name-clause-taken
+returns-then-not-has_name-clause-taken g c =
+    let f = g.L.LanguageChildren.form c.args.node.now in
+    let avoid = c.args.avoid.now in
+    let vs = values c.args.names.now in
+    let m = c.in_ok-slot.ensures.moved in
+    takes_fresh c.args.table.now c.loop-slot.table c.fresh.new.self (IsOrIn c.in_ok-slot.slot avoid vs f.names) c.in_ok-slot.slot c.in_ok-slot.ensures.slot (ap (λ t. t.fresh) m) (ap (λ t. t.names) m)
+    (takes_as c.args.table.now c.loop-slot.table (IsInUse avoid vs f.names) (IsOrIn c.in_ok-slot.slot avoid vs f.names) c.loop-slot.invariant.skipped (λ z p. inr p))
+    (inl refl)
+
+pub loop-slot-preserved : goal.loop-slot-preserved
+loop-slot-preserved g c =
+    let f = g.L.LanguageChildren.form c.args.node.now in
+    let avoid = c.args.avoid.now in
+    let vs = values c.args.names.now in
+    let s = c.in_ok-slot.slot in
+    let m = c.in_ok-slot.ensures.moved in
+    let used : IsInUse avoid vs f.names s =
+    elim c.else-not-contains.branch [
+      | else-not-contains-via-then-not-contains+then-not-has_value+else-not-has_name w ↦ inr (inr (sym w.has_name.ensures ∙ w.if-not-has_name.false))
+      | else-not-contains-via-then-not-contains+else-not-has_value w ↦ inr (inl (sym w.has_value.ensures ∙ w.if-not-has_value.false))
+      | else-not-contains-via-else-not-contains w ↦ inl (sym (has-is_among avoid s) ∙ (sym c.contains.ensures ∙ w.if-not-contains.false))
+    ] in
+    record {
+      more = λ z k. c.in_ok-slot.ensures.more z (c.loop-slot.invariant.more z k);
+      kept = ap (λ t. t.names) m ∙ c.loop-slot.invariant.kept;
+      skipped = takes_fresh c.args.table.now c.loop-slot.table c.fresh.new.self (IsInUse avoid vs f.names) s c.in_ok-slot.ensures.slot (ap (λ t. t.fresh) m) (ap (λ t. t.names) m) c.loop-slot.invariant.skipped used;
+    }
