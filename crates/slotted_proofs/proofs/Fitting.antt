@@ -1,14 +1,15 @@
 -- What steps that fit enter is proved.
 use Rattle.std.proofs.Common.{◌≡◌, ℕ, zero, suc, ◌<◌, List, [], ◌∷◌, ◌++◌, length, map, inl, inr, arith, refl, sym, ap, ◌∙◌, subst}
-use Rattle.std.specs.Prelude.{All, Contains}
+use Rattle.std.specs.Prelude.{All, Contains, slice_index_or}
 use Rattle.std.proofs.lemmas.List.{map-append}
+use Rattle.std.proofs.lemmas.List.Elements.{All-contains_itself}
 use Rattle.slotted_theory.specs.Nameless.{DArgs, DTerm, stop, place, sub, scope}
 use Rattle.slotted_theory.proofs.Lists.{contains_cases, Contains-nil}
 use Rattle.slotted_theory.proofs.Values.{node, child_before}
 use Rattle.slotted_model.specs.Applied.{Applied, keys, as_term, applied_of, IsApplied, EachChild}
 use Rattle.slotted_model.specs.Classes.{canonical_slots, IsFull}
 use Rattle.slotted_model.specs.Correspondence.{IsFullMap, CanJoin, same_names, turned}
-use Rattle.slotted_model.specs.ProofList.{Equation, equation_of, AreCongruent, no_more, one_name, one_child, one_binder, node_of, IsCongruent, congruent, IsOver, IsTransitive, IsStepFor, Step, reflexive, symmetric, transitive, equation_at}
+use Rattle.slotted_model.specs.ProofList.{Equation, equation_of, AreCongruent, no_more, one_name, one_child, one_binder, node_of, IsCongruent, congruent, explicit, step_at, ProofEntry, IsOver, IsTransitive, IsStepFor, Step, reflexive, symmetric, transitive, equation_at}
 use Rattle.slotted_model.proofs.Children.{EachChild-map}
 use Rattle.slotted_model.proofs.Congruence.{child-applied}
 use Rattle.slotted_model.proofs.Full.{full-children}
@@ -17,12 +18,13 @@ use Rattle.slotted_model.proofs.Correspondences.FullMaps.{same_names-partial, sa
 use Rattle.slotted_model.proofs.Correspondences.Middle.{can_join_from}
 use Rattle.slotted_proofs.specs.declared.equation.Equation.{Equation as Sides}
 use Rattle.slotted_proofs.specs.Equations.{Statement, to_applied, equality, statement_of}
-use Rattle.slotted_proofs.specs.Entries.{Proven, entries_of, statement_at}
+use Rattle.slotted_proofs.specs.Entries.{Proven, entries_of, proven_at, statement_at}
 use Rattle.slotted_proofs.specs.Proving.{IsCanonical, IsProvable}
 use Rattle.slotted_proofs.specs.Steps.{AreEntries, AreFull, HasInjectiveSides, IsEntry, Matches, IsReflexiveStep, IsSymmetricStep, IsTransitiveStep, by_step}
-use Rattle.slotted_proofs.specs.StepClaims.{IsOfFull, MatchIsOneStatement, CongruentStepProves}
+use Rattle.slotted_proofs.specs.StepClaims.{IsOfFull, MatchIsOneStatement, CongruentStepProves, PartsStandEarlier}
+use Rattle.slotted_proofs.specs.Lines.{parts_of}
 use Rattle.slotted_proofs.specs.AlikeNodes.{AreAlikeArgs}
-use Rattle.slotted_proofs.proofs.Entering.{equation_at-entries}
+use Rattle.slotted_proofs.proofs.Entering.{equation_at-entries, length-entries}
 use Rattle.slotted_proofs.proofs.Stepping.{matches-state, state-matches, entry-states, left_full, middle_full}
 
 pub match_is_one_statement : MatchIsOneStatement
@@ -198,3 +200,32 @@ congruent_fits nodes list e children parts canonical full once alike entries =
       | inl e ↦ subst (λ z. z < length list) (sym e) (h.each 0 p d (omega arith)).in_range
       | inr t ↦ earlier list ps cs (rest_entries list p ps d cs h) q t
     ]
+
+-- parts stand earlier
+
+step_at-entries : (list : List Proven) (p : ℕ) → step_at (entries_of list) p ≡ (proven_at list p).step
+step_at-entries [] p = refl
+step_at-entries (x ∷ list) zero = refl
+step_at-entries (x ∷ list) (suc p) = step_at-entries list p
+
+step-earlier : (nodes : List DTerm) (proofs : List ProofEntry) (p q : ℕ) (e : Equation) (s : Step) → IsStepFor nodes proofs p e s → Contains (parts_of s) q → q < p
+step-earlier nodes proofs p q e explicit h c = absurd (Contains-nil q c)
+step-earlier nodes proofs p q e reflexive h c = absurd (Contains-nil q c)
+step-earlier nodes proofs p q e (symmetric r) h c = elim (contains_cases r [] q c) [
+  | inl d ↦ let k : r < p = h.0 in omega arith
+  | inr n ↦ absurd (Contains-nil q n)
+]
+step-earlier nodes proofs p q e (transitive r s) h c = elim (contains_cases r (s ∷ []) q c) [
+  | inl d ↦ let k : r < p = h.0 in omega arith
+  | inr n ↦ elim (contains_cases s [] q n) [
+    | inl d ↦ let k : s < p = h.1 in omega arith
+    | inr m ↦ absurd (Contains-nil q m)
+  ]
+]
+step-earlier nodes proofs p q e (congruent ps) h c = h.0 q c
+
+pub parts_earlier : PartsStandEarlier
+parts_earlier nodes list proved p l =
+    let n : length (entries_of list) ≡ length list = length-entries list in
+    let parts : List ℕ = parts_of (proven_at list p).step in
+    λ k d m. step-earlier nodes (entries_of list) p (slice_index_or parts k d) (equation_at (entries_of list) p) (step_at (entries_of list) p) (proved.proved.steps p (omega arith)) (subst (λ s. Contains (parts_of s) (slice_index_or parts k d)) (sym (step_at-entries list p)) (All-contains_itself parts k d m))

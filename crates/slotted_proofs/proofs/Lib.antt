@@ -7,3 +7,4 @@ pub mod Entering
 pub mod Itself
 pub mod Stepping
 pub mod Fitting
+pub mod Lining

@@ -4,5 +4,6 @@ pub mod Proving
 pub mod Stored
 pub mod Steps
 pub mod Claims
+pub mod Lines
 pub mod AlikeNodes
 pub mod StepClaims

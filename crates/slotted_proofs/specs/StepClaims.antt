@@ -8,7 +8,8 @@ use Rattle.slotted_model.specs.ProofList.{congruent, reflexive, symmetric, trans
 use Rattle.slotted_proofs.specs.declared.equation.Equation.{Equation as Sides}
 use Rattle.slotted_proofs.specs.Equations.{to_applied, equality, statement_of}
 use Rattle.slotted_proofs.specs.Entries.{Proven}
-use Rattle.slotted_proofs.specs.Proving.{IsProvable}
+use Rattle.slotted_proofs.specs.Proving.{IsProvable, IsProved}
+use Rattle.slotted_proofs.specs.Lines.{PartsAreEarlier}
 use Rattle.slotted_proofs.specs.AlikeNodes.{AreAlikeNodes}
 use Rattle.slotted_proofs.specs.Steps.{AreEntries, HasInjectiveSides, Matches, IsReflexiveStep, IsSymmetricStep, IsTransitiveStep, by_step}
 
@@ -48,6 +49,10 @@ CongruentStepProves =
     All HasInjectiveSides children → AreAlikeNodes (canonical_node nodes e.l.id.0) (canonical_node nodes e.r.id.0) e children → AreEntries list parts children →
     IsProvable nodes list (by_step (statement_of e) (congruent parts))
 
+-- the parts of each entry of a proved list stand at earlier numbers
+abbrev pub PartsStandEarlier : Type 0
+PartsStandEarlier = (nodes : List DTerm) (list : List Proven) → IsProved nodes list → PartsAreEarlier list
+
 -- all these laws
 pub record StepLaws : Type 0 where
   pub match_is_one_statement : MatchIsOneStatement
@@ -55,3 +60,4 @@ pub record StepLaws : Type 0 where
   pub symmetric_step_proves : SymmetricStepProves
   pub transitive_step_proves : TransitiveStepProves
   pub congruent_step_proves : CongruentStepProves
+  pub parts_stand_earlier : PartsStandEarlier

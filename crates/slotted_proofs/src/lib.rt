@@ -3,12 +3,14 @@
 
 pub mod equation;
 pub mod laws;
+pub mod lines;
 pub mod list;
 mod numbering;
 pub mod proof;
 pub mod steps;
 
 pub use equation::Equation;
+pub use lines::ProofLines;
 pub use list::ProofList;
 pub use proof::{
     CongruenceProof, ExplicitProof, Proof, ProvenEq, ProvenEqRaw, ReflexivityProof, SymmetryProof,

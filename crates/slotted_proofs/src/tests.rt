@@ -2,7 +2,7 @@
 ghost use Rattle.std.specs.Prelude.{IfOk};
 ghost use Rattle.slotted_theory.specs.FiniteMaps.{IsInjectiveMap};
 
-use crate::{Equation, Proof, ProofList, ProvenEq};
+use crate::{Equation, Proof, ProofLines, ProofList, ProvenEq};
 use slotted_slots::{AppliedId, Error, Id, SlotMap, SlotTable};
 use std::alloc::Global;
 
@@ -338,5 +338,61 @@ fn leaves_are_congruent(rt: HostRuntime) -> Result<(), Error> {
     let equation = sample(rt.alloc())?;
     let p = list.prove_congruent(rt.alloc(), &equation, &[], Vec::new(rt.alloc()))?;
     assert!(rt; shows(&list, p, (7, &[0, 1]), (9, &[1, 2])));
+    Ok(())
+}
+
+// From class 8 to class 7 and back: over the first entry and the third, which is that one turned round.
+fn there_and_back(list: &mut ProofList, alloc: Global) -> Result<ProvenEq, Error> {
+    assert_halves(list, alloc)?;
+    let back = turned(list, alloc, ProvenEq::at(0))?;
+    let l = applied(alloc, 8, &[(3, 2)])?;
+    let r = l.copy(alloc)?;
+    let slots = l.m.keys(alloc)?;
+    let equation = Equation { l, r };
+    list.check_transitive(alloc, &equation, &slots, &slots, ProvenEq::at(0), back)
+}
+
+// The lines of an entry's proof.
+fn lines_of(list: &ProofList, alloc: Global, p: ProvenEq) -> Result<ProofLines, Error> {
+    if !list.is_valid(p) || !list.has_earlier_parts() {
+        return Err(Error::BadStep);
+    }
+    list.lines(alloc, p)
+}
+
+// The entry has the line of this number.
+fn is_line(lines: &ProofLines, entry: usize, number: usize) -> bool {
+    match lines.line_of(ProvenEq::at(entry)) {
+        Some(line) => line == number,
+        None => false,
+    }
+}
+
+#[test]
+fn parts_have_their_lines_first(rt: HostRuntime) -> Result<(), Error> {
+    let mut list = ProofList::new(rt.alloc());
+    let p = there_and_back(&mut list, rt.alloc())?;
+    let lines = lines_of(&list, rt.alloc(), p)?;
+    assert!(rt; is_line(&lines, 0, 0) && is_line(&lines, 2, 1) && is_line(&lines, 3, 2));
+    assert!(rt; lines.len() == 3 && !lines.is_empty() && !lines.has(ProvenEq::at(1)));
+    Ok(())
+}
+
+#[test]
+fn an_entry_by_itself_has_its_equation(rt: HostRuntime) -> Result<(), Error> {
+    let mut list = ProofList::new(rt.alloc());
+    let p = assert_sample(&mut list, rt.alloc(), [3, 4, 4], "p")?;
+    if !list.is_valid(p) {
+        return Err(Error::BadStep);
+    }
+    let entry = list.entry(rt.alloc(), p)?;
+    assert!(rt; entry.equ == *list.equ(p));
+    Ok(())
+}
+
+#[test]
+fn the_names_of_both_sides_are_slots(rt: HostRuntime) -> Result<(), Error> {
+    let slots = sample(rt.alloc())?.slots(rt.alloc())?;
+    assert!(rt; slots.len() == 3);
     Ok(())
 }
