@@ -2,10 +2,12 @@
 pub mod Ascending
 pub mod Combining
 pub mod Error
+pub mod Laws
 pub mod Maps
 pub mod Naming
 pub mod SetAlgebra
 pub mod Sets
 pub mod Shown
+pub mod SmallMaps
 pub mod Syntax
 pub mod Table

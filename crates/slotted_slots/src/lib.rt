@@ -2,10 +2,12 @@
 #![tactic(auto)]
 
 pub mod error;
+pub mod laws;
 pub mod parse;
 pub mod slot;
 pub mod slot_map;
 pub mod small;
+pub mod small_map;
 pub mod types;
 
 pub use error::Error;
@@ -13,7 +15,14 @@ pub use parse::{ParseError, SyntaxElem, Token};
 pub use slot::{Show, Shown, Slot, SlotTable};
 pub use slot_map::SlotMap;
 pub use small::SmallHashSet;
+pub use small_map::SmallHashMap;
 pub use types::{AppliedId, Id};
 
+#[cfg(test)]
+mod map_tests;
+#[cfg(test)]
+mod set_tests;
+#[cfg(test)]
+mod small_map_tests;
 #[cfg(test)]
 mod tests;

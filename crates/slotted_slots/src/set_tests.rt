@@ -1,0 +1,46 @@
+//! Worked values of small sets: each call once.
+use crate::{Error, SmallHashSet};
+use std::alloc::Global;
+use std::process::Abort;
+
+// The set of some numbers.
+fn set_of(alloc: Global, numbers: &[u32]) -> Result<SmallHashSet<u32>, Error> {
+    let mut set = SmallHashSet::new(alloc);
+    for number in numbers {
+        set.insert(*number)?;
+    }
+    Ok(set)
+}
+
+// The set has these numbers, in this order.
+fn assert_set(rt: &impl Abort, set: &SmallHashSet<u32>, numbers: &[u32]) {
+    assert!(rt; set.as_slice() == numbers);
+}
+
+#[test]
+fn sets_are_made_of_two(rt: HostRuntime) -> Result<(), Error> {
+    let first = set_of(rt.alloc(), &[3, 1, 2])?;
+    let second = set_of(rt.alloc(), &[2, 5, 3])?;
+    assert_set(&rt, &first.union(rt.alloc(), &second)?, &[1, 2, 3, 5]);
+    assert_set(&rt, &first.intersection(rt.alloc(), &second)?, &[2, 3]);
+    assert_set(&rt, &first.difference(rt.alloc(), &second)?, &[1]);
+    Ok(())
+}
+
+#[test]
+fn sets_lie_within_each_other(rt: HostRuntime) -> Result<(), Error> {
+    let small = set_of(rt.alloc(), &[2, 3])?;
+    let large = set_of(rt.alloc(), &[3, 1, 2])?;
+    assert!(rt; small.is_subset(&large) && !large.is_subset(&small));
+    assert!(rt; large.is_superset(&small) && !small.is_superset(&large));
+    assert!(rt; !small.is_disjoint(&large) && small.is_disjoint(&set_of(rt.alloc(), &[1])?));
+    Ok(())
+}
+
+#[test]
+fn elements_are_taken_out(rt: HostRuntime) -> Result<(), Error> {
+    let mut set = set_of(rt.alloc(), &[3, 1, 2])?;
+    assert!(rt; set.remove(&2) && !set.remove(&2));
+    assert_set(&rt, &set, &[1, 3]);
+    Ok(())
+}

@@ -1,0 +1,22 @@
+//! Worked values of small maps: each call once.
+use crate::{Error, SmallHashMap};
+
+#[test]
+fn maps_keep_one_value_a_key(rt: HostRuntime) -> Result<(), Error> {
+    let mut map: SmallHashMap<u32, u32> = SmallHashMap::new(rt.alloc());
+    assert!(rt; map.is_empty());
+    assert!(rt; map.insert(3, 30)?.is_none() && map.insert(1, 10)?.is_none());
+    assert!(rt; map.insert(3, 31)? == Some(30) && map.len() == 2);
+    assert!(rt; map.get(&3) == Some(&31) && map.contains_key(&1) && !map.contains_key(&2));
+    Ok(())
+}
+
+#[test]
+fn entries_are_walked_and_taken_out(rt: HostRuntime) -> Result<(), Error> {
+    let mut map: SmallHashMap<u32, u32> = SmallHashMap::new(rt.alloc());
+    map.insert(3, 30)?;
+    map.insert(1, 10)?;
+    assert!(rt; map.iter().count() == 2);
+    assert!(rt; map.remove(&3) == Some(30) && map.remove(&3).is_none() && map.len() == 1);
+    Ok(())
+}
