@@ -4,7 +4,7 @@ use Rattle.std.specs.Prelude.{Option, Some, IsTrue, Result, Ok, Err, IfErr, IsEr
 use Rattle.std.specs.Str.{chars}
 use Rattle.std.proofs.lemmas.Bool.{cases_Bool, false≢true}
 use Rattle.slotted_theory.specs.Term.{Args, Term, done, name, child, bind}
-use Rattle.slotted_theory.specs.Nameless.{Alpha, nameless}
+use Rattle.slotted_theory.specs.Nameless.{nameless}
 use Rattle.slotted_slots.specs.declared.error.Error.{Error}
 use Rattle.slotted_slots.specs.declared.error.Error.TheVariants.{OutOfSlots, Failed, NotYet}
 use Rattle.slotted_slots.specs.declared.types.AppliedId.{AppliedId}
@@ -26,7 +26,7 @@ use Rattle.slotted_core.specs.Nodes.{to_applied}
 use Rattle.slotted.specs.declared.answer.Answer.{Answer}
 use Rattle.slotted.specs.declared.answer.Answer.TheVariants.{Yes, No, Refused}
 use Rattle.slotted.specs.Commands.{Command, compares, unites}
-use Rattle.slotted.specs.Sessions.{AddsBoth, Answered, AreFoundDifferent, AreFoundEqual, FirstIsRefused, Gains, IsAnsweredWith, IsCommand, IsRefused, RunsOut, RunsOutAt, Says, Unites, WritesTerm, WritesTerms, are_different, are_equal, carried_out, has_failed, not_yet, ran_out, refused, refused_here, texts_of, union_ran_out}
+use Rattle.slotted.specs.Sessions.{AddsBoth, Answered, FirstIsRefused, Gains, IsAnsweredWith, IsCommand, IsRefused, RunsOut, RunsOutAt, Says, Unites, WritesTerm, WritesTerms, are_different, are_equal, carried_out, has_failed, not_yet, ran_out, refused, refused_here, texts_of, union_ran_out}
 
 -- what a table knows it knows later
 known_later : (t u : Table) → KnowsMore t u → (a : Args) → HasKnownNames t a → HasKnownNames u a

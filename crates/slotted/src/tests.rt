@@ -63,7 +63,10 @@ fn lines_are_answered(rt: HostRuntime) -> Result<(), Fail> {
 #[test]
 fn unions_are_answered(rt: HostRuntime) -> Result<(), Fail> {
     let cases = [
-        ("union a == b\neq a == b\nunion a == b", "true\nyes\nfalse\n"),
+        (
+            "union a == b\neq a == b\nunion a == b",
+            "true\nyes\nfalse\n",
+        ),
         (
             "union (f $x $y) == (app (var $x) (var $y))\neq (f $p $q) == (app (var $p) (var $q))\neq (f $p $q) == (app (var $q) (var $p))",
             "true\nyes\nno\n",
@@ -84,7 +87,10 @@ fn unions_are_answered(rt: HostRuntime) -> Result<(), Fail> {
             "union (f $x $y) == (app (var $y) (var $x))\nunion (app (var $u) (var $v)) == (app (g $v) (g $u))\neq (f $1 $2) == (app (g $1) (g $2))\neq (f $1 $2) == (app (g $2) (g $1))",
             "true\ntrue\nyes\nno\n",
         ),
-        ("union a = b\nunion a == ?x\nunion a", "error: 0 Command\nerror: 5 NotATerm\nerror: 0 Command\n"),
+        (
+            "union a = b\nunion a == ?x\nunion a",
+            "error: 0 Command\nerror: 5 NotATerm\nerror: 0 Command\n",
+        ),
     ];
     for (lines, expected) in cases {
         assert_eq!(rt;

@@ -1,21 +1,18 @@
 -- What asserting an equation of two full ids leaves.
-use Rattle.std.proofs.Common.{◌≡◌, ◌≢◌, ℕ, ◌<◌, List, [], ◌∷◌, ◌++◌, length, sym, ◌∙◌, ap, refl, subst, inl, inr, arith, append_assoc}
+use Rattle.std.proofs.Common.{◌≡◌, ℕ, ◌<◌, List, [], ◌∷◌, ◌++◌, length, sym, ◌∙◌, ap, refl, subst, inl, inr, arith, append_assoc}
 use Rattle.std.specs.Prelude.{◌⊎◌, map, Option}
 use Rattle.std.proofs.lemmas.List.{map-append}
 use Rattle.slotted_theory.specs.Nameless.{DTerm}
 use Rattle.slotted_model.specs.Applied.{Applied}
 use Rattle.slotted_model.specs.Classes.{IsFull}
-use Rattle.slotted_model.specs.Find.{Entry, find}
 use Rattle.slotted_model.specs.Link.{CanEnter}
-use Rattle.slotted_model.specs.ProofList.{Equation, ProofEntry, explicit, equation_of, turned_equation, equation_at, asserted, term_pair}
-use Rattle.slotted_model.specs.Sound.{Sound}
+use Rattle.slotted_model.specs.ProofList.{equation_of, turned_equation, asserted, term_pair}
 use Rattle.slotted_model.proofs.Entering.{entered-asserted}
 use Rattle.slotted_model.proofs.Steps.{equation-turned}
 use Rattle.slotted_proofs.specs.Equations.{Statement}
-use Rattle.slotted_proofs.specs.Entries.{Proven, entry_of, statement_at, Enters, asserted_entry, turned_entry}
-use Rattle.slotted_proofs.specs.Proving.{IsProvable, IsProved}
-use Rattle.slotted_proofs.proofs.Entering.{asserted_provable, new_can_enter, turned_provable, entering_proved, entering_sound, entered_stands, entering_asserts, others_assert_nothing}
-use Rattle.slotted_core.specs.Alike.{FindAlike, EntriesFindAlike}
+use Rattle.slotted_proofs.specs.Entries.{Proven, entry_of, Enters, asserted_entry, turned_entry}
+use Rattle.slotted_proofs.specs.Proving.{IsProvable}
+use Rattle.slotted_proofs.proofs.Entering.{asserted_provable, new_can_enter, turned_provable, entering_proved, entering_sound, entered_stands, others_assert_nothing}
 use Rattle.slotted_core.specs.Image.{StandsIn, Asserts, asserted_in}
 use Rattle.slotted_core.specs.Kept.{Kept, nodes_of, entries_of, proofs_of, image_of, with_proofs, EntersIn, Good, IsAsserted}
 use Rattle.slotted_core.proofs.Alike.{one_pair-alike}

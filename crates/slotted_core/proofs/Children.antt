@@ -1,6 +1,6 @@
 -- The children of a node: those that the code reads, and those of its nameless form.
-use Rattle.std.proofs.Common.{◌≡◌, ◌<◌, ◌≤◌, ℕ, zero, suc, ◌+◌, ◌-◌, List, [], ◌∷◌, ◌++◌, length, take, drop, map, cond, sym, ◌∙◌, ap, refl, subst, arith, inl, inr, length-append}
-use Rattle.std.specs.Prelude.{slice_index_or, slice_index, nat_lt, All}
+use Rattle.std.proofs.Common.{◌≡◌, ◌<◌, ◌≤◌, ℕ, zero, suc, ◌+◌, ◌-◌, List, [], ◌∷◌, ◌++◌, length, take, drop, cond, sym, ◌∙◌, ap, refl, subst, arith, inl, inr, length-append}
+use Rattle.std.specs.Prelude.{slice_index_or, slice_index, All}
 use Rattle.std.specs.List.{zip}
 use Rattle.std.proofs.lemmas.Bool.{lt-ltb, le-ltb, cases_eq}
 use Rattle.slotted_theory.specs.Nameless.{place, extend, nameless_args}
@@ -10,10 +10,9 @@ use Rattle.slotted_theory.proofs.Values.{node}
 use Rattle.slotted_slots.specs.Maps.{keys, values}
 use Rattle.slotted_languages.specs.Form.{Form, Tree, leaf, own, child, bind, scopes, children, child_place, child_names, width}
 use Rattle.slotted_languages.specs.Joined.{at_append, child_fits}
-use Rattle.slotted_languages.specs.NodeTerm.{own_names, node_args, nameless_node}
-use Rattle.slotted_languages.specs.Shape.{Fits}
+use Rattle.slotted_languages.specs.NodeTerm.{own_names, node_args}
 use Rattle.slotted_languages.proofs.NodeTerms.{own_fits, child_keys_fit, child_rest_fits, bind_inner_fits, bind_rest_fits}
-use Rattle.slotted_model.specs.Applied.{Applied, with_values, renamed_id, in_places, as_term, IsApplied, EachChild}
+use Rattle.slotted_model.specs.Applied.{Applied, with_values, renamed_id, in_places, as_term, EachChild}
 use Rattle.slotted_core.specs.Nodes.{ids_in, child_ids}
 
 -- as many ids as children

@@ -1,20 +1,18 @@
 -- What entering a provable equation leaves of what is kept.
 use Rattle.std.proofs.Common.{◌≡◌, ◌≢◌, ℕ, ◌<◌, List, [], ◌∷◌, ◌++◌, length, sym, ◌∙◌, ap, refl, subst, inl, inr, arith, append_assoc, length-append, ◌+◌}
-use Rattle.std.specs.Prelude.{◌⊎◌, map}
+use Rattle.std.specs.Prelude.{map}
 use Rattle.std.proofs.lemmas.List.{append-nil, map-append, get_or_append_left}
 use Rattle.slotted_theory.specs.Nameless.{DTerm}
-use Rattle.slotted_model.specs.Find.{Entry, IsLive}
-use Rattle.slotted_model.specs.ProofList.{Equation, ProofEntry, Step, explicit, symmetric, transitive, equation_at, IsOver, IsSymmetric, IsTransitive, turned_equation, asserted, term_pair}
-use Rattle.slotted_model.specs.Sound.{Sound}
+use Rattle.slotted_model.specs.Find.{Entry}
+use Rattle.slotted_model.specs.ProofList.{Equation, explicit, equation_at, IsSymmetric, asserted, term_pair}
 use Rattle.slotted_model.proofs.Correspondences.Joining.{composite-can_join}
 use Rattle.slotted_proofs.specs.Equations.{Statement}
 use Rattle.slotted_proofs.specs.Entries.{Proven, entry_of, statement_at, Grows, Enters, turned_entry, composite_entry}
 use Rattle.slotted_proofs.specs.Entries as list
 use Rattle.slotted_proofs.specs.Proving.{IsProvable, IsProved}
-use Rattle.slotted_proofs.proofs.Entering.{entry-over, turned_provable, composite_provable, entering_proved, entering_sound, entered_stands, entering_asserts, others_assert_nothing}
+use Rattle.slotted_proofs.proofs.Entering.{entry-over, turned_provable, entering_proved, entering_sound, entering_asserts, others_assert_nothing}
 use Rattle.slotted_core.specs.Alike.{FindAlike, EntriesFindAlike}
-use Rattle.slotted_core.specs.Image.{Continues}
-use Rattle.slotted_core.specs.Kept.{Kept, nodes_of, entries_of, proofs_of, image_of, with_proofs, EntersIn, IsUntouched, Good, HasFreshSlots, Explains, Proves}
+use Rattle.slotted_core.specs.Kept.{Kept, nodes_of, entries_of, proofs_of, with_proofs, EntersIn, Good, Explains, Proves}
 use Rattle.slotted_core.proofs.Alike.{symmetric-alike, transitive-alike, entered-alike}
 use Rattle.slotted_core.proofs.KeptLists.{equation_at-of, length-mapped}
 

@@ -16,7 +16,6 @@ use Rattle.slotted_model.specs.Applied.{Applied}
 use Rattle.slotted_model.specs.Classes.{terms, term_of, layer_of, IsFull}
 use Rattle.slotted_model.specs.Growth.{Extends}
 use Rattle.slotted_model.proofs.Growing.{Extends-same, Extends-then}
-use Rattle.slotted_terms.specs.Valid.{IsWhole}
 use Rattle.slotted_core.specs.Image.{AddsClasses}
 use Rattle.slotted_core.specs.Kept.{Kept, nodes_of, image_of, Good, HasFreshSlots, Adds, AddsTerm}
 use Rattle.slotted_core.specs.Nodes.{child_ids}
@@ -128,5 +127,5 @@ part_end k t v l m f h us a fits p n add = record {
 -- the node has no more places than the term
 pub part_size : (k : Kept) (t : Table) (l : Kept) (f h : Form) (us : List Term) → Fits h → IsPart k t l f h us (length us) → length us ≡ length (children f.tree) → length h.names ≤ term_places (form.term_of f us)
 part_size k t l f h us fits p n =
-   let s = node_fits (nodes_of l) p.good.sound.canonical h us fits (n ∙ sym p.count) p.ids in
-   omega (arith, s, ap args_places (p.outline us n))
+    let s = node_fits (nodes_of l) p.good.sound.canonical h us fits (n ∙ sym p.count) p.ids in
+    omega (arith, s, ap args_places (p.outline us n))

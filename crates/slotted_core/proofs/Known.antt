@@ -1,19 +1,19 @@
 -- The names of an answer are names of the node, so the table knows them.
-use Rattle.std.proofs.Common.{◌≡◌, ◌≢◌, ◌<◌, ℕ, zero, suc, ◌+◌, List, [], ◌∷◌, ◌++◌, length, take, drop, map, sym, ◌∙◌, ap, refl, subst, arith, inl, inr}
-use Rattle.std.specs.Prelude.{slice_index, slice_index_or, cond, nat_eq, Some, All, IsTrue}
-use Rattle.std.proofs.lemmas.Bool.{cases_eq, eq-eqb, ne_eqb}
+use Rattle.std.proofs.Common.{◌≡◌, ℕ, zero, suc, List, [], ◌∷◌, length, take, drop, map, sym, ◌∙◌, ap, refl, subst, arith, inl, inr}
+use Rattle.std.specs.Prelude.{slice_index, slice_index_or, Some, All, IsTrue}
+use Rattle.std.proofs.lemmas.Bool.{cases_eq}
 use Rattle.slotted_theory.specs.Term.{Args, Term, done, name}
 use Rattle.slotted_theory.specs.Term as term
-use Rattle.slotted_theory.specs.Nameless.{DArgs, DTerm, extend, nameless_args, nameless, moved}
+use Rattle.slotted_theory.specs.Nameless.{DTerm, extend, nameless_args, nameless, moved}
 use Rattle.slotted_theory.specs.Shape.{outside, free_names}
 use Rattle.slotted_theory.specs.FiniteMaps.{filled}
 use Rattle.slotted_theory.proofs.Names.{extend-same, extend-other}
 use Rattle.slotted_languages.specs.Form.{Form, Tree, leaf, own, child, bind, scopes}
 use Rattle.slotted_languages.specs.NodeTerm.{own_names, node_args, nameless_node}
 use Rattle.slotted_languages.specs.Shape.{Fits}
-use Rattle.slotted_languages.proofs.NodeTerms.{own_fits, child_keys_fit, child_rest_fits, bind_inner_fits, bind_rest_fits}
-use Rattle.slotted_model.specs.Applied.{Applied, keys, values, map_on}
-use Rattle.slotted_model.specs.Classes.{canonical_node, canonical_slots, IsFull, Canonical, term_of, layer_of}
+use Rattle.slotted_languages.proofs.NodeTerms.{own_fits, child_rest_fits, bind_inner_fits, bind_rest_fits}
+use Rattle.slotted_model.specs.Applied.{Applied, keys, values}
+use Rattle.slotted_model.specs.Classes.{canonical_node, IsFull, Canonical, term_of, layer_of}
 use Rattle.slotted_model.specs.Ids.{id_of_node}
 use Rattle.slotted_model.proofs.Members.{In, In-append, In-map, In-of_map, In-inside}
 use Rattle.slotted_model.proofs.Sets.{In-ascending, In-of_ascending}

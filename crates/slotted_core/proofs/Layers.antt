@@ -1,23 +1,23 @@
 -- A node over ids that stand for terms stands for the node over these terms.
-use Rattle.std.proofs.Common.{◌≡◌, ◌<◌, ◌≤◌, ℕ, zero, suc, ◌+◌, List, [], ◌∷◌, ◌++◌, length, take, drop, get_or, sym, ◌∙◌, ap, refl, subst, arith, length-append}
-use Rattle.std.specs.Prelude.{slice_index, slice_index_or}
+use Rattle.std.proofs.Common.{◌≡◌, ◌<◌, ◌≤◌, ℕ, zero, suc, ◌+◌, List, [], ◌∷◌, ◌++◌, length, take, drop, get_or, ◌∙◌, ap, refl, arith, length-append}
+use Rattle.std.specs.Prelude.{slice_index}
 use Rattle.std.specs.List.{zip}
-use Rattle.slotted_theory.specs.Term.{Args, Term, term_size}
-use Rattle.slotted_theory.specs.Nameless.{DArgs, DTerm, place, scope, extend, nameless_args, nameless_by, nameless, moved}
+use Rattle.slotted_theory.specs.Term.{Term, term_size}
+use Rattle.slotted_theory.specs.Nameless.{DTerm, place, scope, extend, nameless_args, nameless_by, nameless, moved}
 use Rattle.slotted_theory.proofs.Laws.{moved-nameless}
 use Rattle.slotted_theory.proofs.Values.{node, child_before, expand_args, expand}
 use Rattle.slotted_languages.specs.Form.{Form, Tree, leaf, own, child, bind, scopes, children}
 use Rattle.slotted_languages.specs.Filled.{filled, children_smaller}
 use Rattle.slotted_languages.specs.Filled as form
 use denote.Param.Weighed.{most}
-use Rattle.slotted_languages.specs.NodeTerm.{own_names, node_args, nameless_node}
+use Rattle.slotted_languages.specs.NodeTerm.{own_names, node_args}
 use Rattle.slotted_languages.proofs.NodeTerms.{own_fits, child_keys_fit, child_rest_fits, bind_inner_fits, bind_rest_fits}
-use Rattle.slotted_model.specs.Applied.{Applied, as_term, renamed_id}
-use Rattle.slotted_model.specs.Classes.{terms, stands, term_by, term_of, layer_of, IsFull, Canonical}
+use Rattle.slotted_model.specs.Applied.{Applied, renamed_id}
+use Rattle.slotted_model.specs.Classes.{terms, stands, term_by, term_of, IsFull, Canonical}
 use Rattle.slotted_model.proofs.Children.{KeysAreNames, expand-as_term, term_by-renamed}
 use Rattle.slotted_model.proofs.Full.{full-keys}
 use Rattle.slotted_terms.specs.Valid.{IsWhole}
-use Rattle.slotted_core.specs.Nodes.{ids_in, child_ids}
+use Rattle.slotted_core.specs.Nodes.{ids_in}
 use Rattle.slotted_core.proofs.Children.{length-ids, atom-is, Each}
 
 module _ (ts : List DTerm) where

@@ -2,16 +2,14 @@
 use Rattle.std.proofs.Common.{◌≡◌, ◌≢◌, ◌↔◌, ℕ, zero, suc, ◌<◌, List, [], ◌∷◌, length, set, get_or, sym, ◌∙◌, ap, refl, subst, arith}
 use Rattle.std.specs.Prelude.{Contains, map, slice_index_or}
 use Rattle.slotted_theory.specs.Nameless.{DTerm}
-use Rattle.slotted_slots.specs.Table.{Table, empty_table}
-use Rattle.slotted_languages.specs.Form.{Form}
 use Rattle.slotted_languages.specs.NodeTerm.{nameless_node}
 use Rattle.slotted_languages.specs.Shape.{shape, Fits}
 use Rattle.slotted_model.specs.Applied.{Applied, values}
 use Rattle.slotted_model.specs.Classes.{canonical_slots, IsFull}
 use Rattle.slotted_model.specs.Correspondence.{turned}
-use Rattle.slotted_model.specs.Find.{Entry, IsLive, find_class, find}
+use Rattle.slotted_model.specs.Find.{Entry, find_class, find}
 use Rattle.slotted_model.specs.Link.{CanLink, IsLater, found_equation, with_link}
-use Rattle.slotted_model.specs.ProofList.{Equation, ProofEntry, equation_of, equation_at, asserted}
+use Rattle.slotted_model.specs.ProofList.{Equation, equation_of, asserted}
 use Rattle.slotted_model.specs.Sound.{Sound}
 use Rattle.slotted_model.proofs.Found.{full-is_valid}
 use Rattle.slotted_model.proofs.Keeping.{link-sound}

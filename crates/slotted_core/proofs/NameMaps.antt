@@ -1,10 +1,9 @@
 -- The loops over maps of names, step by step.
-use Rattle.std.proofs.Common.{◌≡◌, ◌≢◌, ◌<◌, ◌≤◌, ℕ, zero, suc, ◌+◌, List, [], ◌∷◌, ◌++◌, Option, Some, None, length, take, drop, map, get_or, sym, ◌∙◌, ap, refl, subst, arith, inl, inr, drop-cons, add-one, length-append}
-use Rattle.std.specs.Prelude.{slice_get, slice_set, slice_index_or, unwrap_or, IsSome, IsTrue, cond, Bool, true, false, not, ◌&&◌, ◌||◌, ◌==◌, nat_eq, ◌↔◌}
-use Rattle.std.specs.List.{zip, list_any}
+use Rattle.std.proofs.Common.{◌≡◌, ◌≢◌, ◌<◌, ◌≤◌, ℕ, zero, suc, ◌+◌, List, [], ◌∷◌, ◌++◌, Some, length, take, drop, map, get_or, sym, ◌∙◌, ap, refl, subst, arith, inl, inr, drop-cons, add-one}
+use Rattle.std.specs.Prelude.{slice_get, slice_set, slice_index_or, IsSome, IsTrue, cond, Bool, true, false, not, ◌&&◌, ◌||◌, ◌==◌, ◌↔◌}
+use Rattle.std.specs.List.{zip}
 use Rattle.std.proofs.lemmas.Option.{get_or_from_slice_get}
 use Rattle.std.proofs.lemmas.Bool.{cases_eq, eq-eqb, ne_eqb, false≢true}
-use Rattle.std.proofs.lemmas.List.{append-nil}
 use Rattle.slotted_theory.specs.FiniteMaps.{HasValue, IsInjectiveMap}
 use Rattle.slotted_slots.specs.Ascending as slots
 use Rattle.slotted_slots.specs.Maps.{value_of, with_pair, keys, values, is_among, all_differ}

@@ -1,15 +1,13 @@
 -- Another child in the place of a child: the other children stay, and so does what stands beside them.
-use Rattle.std.proofs.Common.{◌≡◌, ◌<◌, ◌≤◌, ℕ, zero, suc, ◌+◌, ◌-◌, List, [], ◌∷◌, ◌++◌, length, take, drop, map, cond, sym, ◌∙◌, ap, refl, subst, arith, inl, inr, length-append, append_assoc}
-use Rattle.std.specs.Prelude.{slice_index_or, slice_index, slice_set, nat_lt, Option, None}
+use Rattle.std.proofs.Common.{◌≡◌, ◌<◌, ◌≤◌, ℕ, zero, suc, ◌+◌, ◌-◌, List, [], ◌∷◌, ◌++◌, length, take, drop, map, cond, sym, ◌∙◌, ap, refl, arith, inl, inr, length-append, append_assoc}
+use Rattle.std.specs.Prelude.{slice_index_or, slice_set, Option, None}
 use Rattle.std.specs.List.{zip}
 use Rattle.std.proofs.lemmas.Bool.{lt-ltb, le-ltb, cases_lt}
-use Rattle.std.proofs.lemmas.List.{length-map}
 use Rattle.slotted_theory.specs.Term.{Args, Term, name}
 use Rattle.slotted_theory.specs.Term as term
-use Rattle.slotted_languages.specs.Form.{Form, Tree, leaf, own, child, bind, scopes, children, child_place, width, with_child_in}
+use Rattle.slotted_languages.specs.Form.{Tree, leaf, own, child, bind, scopes, children, child_place, width, with_child_in}
 use Rattle.slotted_languages.specs.Joined.{child_fits, length_children-with_child_in}
 use Rattle.slotted_languages.specs.Filled.{filled}
-use Rattle.slotted_model.specs.Applied.{Applied}
 use Rattle.slotted_core.specs.Nodes.{ids_in}
 use Rattle.slotted_core.proofs.Children.{length-ids, drop-plus, take-take}
 

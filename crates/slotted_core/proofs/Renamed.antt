@@ -1,11 +1,11 @@
 -- The canonical node of a new class: the shape with fresh slots for the numbers of its free names has that shape.
-use Rattle.std.proofs.Common.{◌≡◌, ◌≢◌, ◌<◌, ℕ, zero, suc, ◌+◌, ◌*◌, List, [], ◌∷◌, ◌++◌, Option, Some, None, length, take, drop, map, cond, sym, ◌∙◌, ap, refl, subst, arith, inl, inr}
-use Rattle.std.specs.Prelude.{slice_index, unwrap_or, nat_eq, ◌⊎◌}
+use Rattle.std.proofs.Common.{◌≡◌, ◌≢◌, ℕ, zero, suc, List, [], ◌∷◌, ◌++◌, Option, Some, None, length, take, drop, map, cond, sym, ◌∙◌, ap, refl, subst, arith, inl, inr}
+use Rattle.std.specs.Prelude.{slice_index, unwrap_or}
 use Rattle.std.proofs.lemmas.Bool.{cases_eq, eq-eqb, ne_eqb}
 use Rattle.std.proofs.lemmas.List.{map-append}
 use Rattle.slotted_theory.specs.Term.{Args, Term, done, name}
 use Rattle.slotted_theory.specs.Term as term
-use Rattle.slotted_theory.specs.Nameless.{DArgs, DTerm, stop, place, sub, scope, nameless, moved}
+use Rattle.slotted_theory.specs.Nameless.{DArgs, stop, place, sub, scope, nameless, moved}
 use Rattle.slotted_theory.specs.Renaming.{IsInjective, renamed_args, renamed}
 use Rattle.slotted_theory.specs.FiniteMaps.{HasValue, IsInjectiveMap, top, filled}
 use Rattle.slotted_theory.proofs.Laws.{nameless-renamed}
@@ -15,7 +15,7 @@ use Rattle.slotted_slots.specs.Table.{numeric_slot, fresh_slot}
 use Rattle.slotted_languages.specs.Form.{Form, Tree, leaf, own, child, bind, scopes}
 use Rattle.slotted_languages.specs.NodeTerm.{own_names, node_args, node_term, nameless_node}
 use Rattle.slotted_languages.specs.Shape.{Numbers, number_of, free_number, number_at, past_binder, numbered, no_numbers, names_in, with_names, shape, Fits, moved_names}
-use Rattle.slotted_languages.proofs.NodeTerms.{own_fits, child_keys_fit, child_rest_fits, bind_inner_fits, bind_rest_fits, length-numbers, numbers_of}
+use Rattle.slotted_languages.proofs.NodeTerms.{own_fits, child_rest_fits, bind_inner_fits, bind_rest_fits, length-numbers}
 use Rattle.slotted_languages.proofs.Shapes.{keys-shape, injective-shape, shape-renamed, shape-same}
 use Rattle.slotted_model.specs.Ascending.{ascending}
 use Rattle.slotted_model.specs.Ascending as model
@@ -23,7 +23,7 @@ use Rattle.slotted_model.proofs.Theory.{past, past-key, past-other, filled-past}
 use Rattle.slotted_model.specs.Applied.{map_on}
 use Rattle.slotted_model.proofs.Members.{In, In-left, In-right, In-append}
 use Rattle.slotted_model.proofs.Sets.{IsAscending-ascending, In-ascending, In-of_ascending}
-use Rattle.slotted_model.proofs.Maps.{In-values, keys-map_on, map_on-agrees, map_on-filled, filled-map_on, IsInjectiveMap-map_on}
+use Rattle.slotted_model.proofs.Maps.{In-values, map_on-agrees, map_on-filled, filled-map_on, IsInjectiveMap-map_on}
 use Rattle.slotted_core.specs.Names.{put, with_put}
 use Rattle.slotted_core.proofs.NameMaps.{ascends}
 

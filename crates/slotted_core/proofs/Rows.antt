@@ -1,5 +1,5 @@
 -- What a map finds by its keys is what is filed for their forms.
-use Rattle.std.proofs.Common.{◌≡◌, ◌↔◌, ℕ, List, [], ◌∷◌, ◌++◌, Option, Some, None, Bor, Bool, true, false, cond, map, sym, ◌∙◌, ap, refl}
+use Rattle.std.proofs.Common.{◌≡◌, ◌↔◌, ℕ, List, [], ◌∷◌, ◌++◌, Option, Some, None, Bor, Bool, true, false, cond, map, ◌∙◌, ap, refl}
 use Rattle.std.specs.Prelude.{IsTrue, option_map}
 use Rattle.std.specs.Option.{option_copied}
 use Rattle.std.specs.Map.{lookup}

@@ -1,6 +1,6 @@
 -- A node over ids of terms has no more places than the term.
 use Rattle.std.proofs.Common.{◌≡◌, ◌<◌, ◌≤◌, ℕ, zero, suc, ◌+◌, List, [], ◌∷◌, ◌++◌, length, take, drop, map, get_or, cond, sym, ◌∙◌, ap, refl, arith, inl, inr, length-append}
-use Rattle.std.specs.Prelude.{nat_lt, nat_eq, slice_index_or, Option, None}
+use Rattle.std.specs.Prelude.{nat_eq, Option, None}
 use Rattle.std.specs.List.{zip}
 use Rattle.std.proofs.lemmas.Bool.{cases_lt, cases_eq, lt-ltb, le-ltb, eq-eqb, ne_eqb}
 use Rattle.slotted_theory.specs.Term.{Args, Term, done, name}
@@ -12,7 +12,7 @@ use Rattle.slotted_slots.specs.Maps.{keys, values}
 use Rattle.slotted_languages.specs.Form.{Form, Tree, leaf, own, child, bind, scopes, children}
 use Rattle.slotted_languages.specs.Filled as form
 use Rattle.slotted_languages.proofs.NodeTerms.{own_fits, child_keys_fit, child_rest_fits, bind_inner_fits, bind_rest_fits}
-use Rattle.slotted_model.specs.Ascending.{with_name, ascending, names}
+use Rattle.slotted_model.specs.Ascending.{with_name, ascending}
 use Rattle.slotted_model.specs.Applied.{Applied}
 use Rattle.slotted_model.specs.Classes.{canonical_term, term_of, IsFull, Canonical}
 use Rattle.slotted_model.proofs.Full.{canonical_term-names}
@@ -20,7 +20,6 @@ use Rattle.slotted_model.proofs.Theory.{free_names-moved}
 use Rattle.slotted_core.specs.Nodes.{ids_in, child_ids}
 use Rattle.slotted_core.specs.Places.{args_places, term_places}
 use Rattle.slotted_core.proofs.Children.{length-ids}
-use Rattle.slotted_core.proofs.Layers.{length-parts}
 use Rattle.slotted_core.proofs.NameMaps.{length-keys, length-values}
 
 length-with_name : (x : ℕ) (ys : List ℕ) → length (with_name x ys) ≤ suc (length ys)

@@ -1,12 +1,11 @@
 -- What a union leaves, as contracts see it.
-use Rattle.std.proofs.Common.{◌≡◌, ◌<◌, ℕ, List, length, sym, ◌∙◌, ap, subst, arith}
+use Rattle.std.proofs.Common.{◌≡◌, ℕ, List, length, sym, ◌∙◌, ap, subst, arith}
 use Rattle.std.specs.Prelude.{Option, Some, None, Bool, true, false, Contains}
 use Rattle.slotted_theory.specs.Nameless.{DTerm}
-use Rattle.slotted_slots.specs.Table.{Table, empty_table}
+use Rattle.slotted_slots.specs.Table.{Table}
 use Rattle.slotted_model.specs.Applied.{Applied}
 use Rattle.slotted_model.specs.Classes.{canonical_slots}
 use Rattle.slotted_proofs.specs.Entries.{asserted_entry}
-use Rattle.slotted_core.specs.Graph.{IsFreshBetween}
 use Rattle.slotted_core.specs.Image.{IsUnion}
 use Rattle.slotted_core.specs.Kept.{Kept, nodes_of, image_of, Good, HasFreshSlots, Unites}
 use Rattle.slotted_core.proofs.KeptLists.{length-nodes_of}

@@ -1,14 +1,14 @@
 -- A whole union: the proofs of what finds say, what is asserted, the two steps to the found classes, and the link.
-use Rattle.std.proofs.Common.{◌≡◌, ◌≢◌, ◌↔◌, ◌<◌, ◌≤◌, ◌+◌, ◌^◌, ℕ, suc, List, [], ◌∷◌, ◌++◌, length, sym, ◌∙◌, ap, refl, subst, inl, inr, arith, append_assoc}
+use Rattle.std.proofs.Common.{◌≡◌, ◌≢◌, ◌↔◌, ◌<◌, ◌≤◌, ◌+◌, ◌^◌, ℕ, List, [], ◌∷◌, ◌++◌, length, sym, ◌∙◌, ap, refl, subst, inl, inr, arith, append_assoc}
 use Rattle.std.specs.Prelude.{Contains, map, Option, Bool, true, false, ◌⊎◌}
 use Rattle.std.proofs.lemmas.List.{map-append}
 use Rattle.slotted_theory.specs.Nameless.{DTerm}
 use Rattle.slotted_model.specs.Applied.{Applied, values}
 use Rattle.slotted_model.specs.Classes.{canonical_slots, IsFull}
 use Rattle.slotted_model.specs.Correspondence.{composite, turned, same_names}
-use Rattle.slotted_model.specs.Find.{Entry, entry_at, IsLive, find_class, find_map, find, Linked}
+use Rattle.slotted_model.specs.Find.{Entry, entry_at, find_class, find_map, find}
 use Rattle.slotted_model.specs.Link.{found_equation}
-use Rattle.slotted_model.specs.ProofList.{Equation, ProofEntry, Step, equation_of, equation_at, turned_equation, entry_equation, find_equation, asserted, term_pair}
+use Rattle.slotted_model.specs.ProofList.{Equation, ProofEntry, equation_of, equation_at, turned_equation, entry_equation, find_equation, asserted, term_pair}
 use Rattle.slotted_model.specs.Sound.{Sound}
 use Rattle.slotted_model.proofs.Correspondences.PartialInjections.{turned-turned}
 use Rattle.slotted_model.proofs.Correspondences.FullMaps.{same_names-turned}
@@ -21,7 +21,7 @@ use Rattle.slotted_proofs.specs.Entries.{Proven, entry_of, statement_at, Enters,
 use Rattle.slotted_proofs.specs.Proving.{IsProvable, IsProved}
 use Rattle.slotted_proofs.proofs.Entering.{entries_meet, turned_provable, composite_provable, entering_proved, entering_sound, entered_stands, others_assert_nothing}
 use Rattle.slotted_core.specs.Alike.{EntriesFindAlike}
-use Rattle.slotted_core.specs.Image.{HasLargeClass, found_id, CanUnite, FoundAlike, StandsIn, Asserts, Continues, asserted_in}
+use Rattle.slotted_core.specs.Image.{HasLargeClass, found_id, CanUnite, FoundAlike, StandsIn, Asserts, asserted_in}
 use Rattle.slotted_core.specs.Kept.{Kept, find_at, nodes_of, entries_of, proofs_of, image_of, with_proofs, with_linked, EntersIn, Good, Explains, Proves, IsAsserted, Links, Agrees, asserted_for}
 use Rattle.slotted_core.proofs.Entered.{entering-alike, turned-alike, composite-alike, entered-more, nil-append, entering-proves, explains-nothing, explains-then, explains-stands, at-append}
 use Rattle.slotted_core.proofs.InUse.{found-is_full}

@@ -1,6 +1,6 @@
 -- The test of a term: its own places are known, and its children are terms that pass.
-use Rattle.std.proofs.Common.{◌≡◌, ◌<◌, ◌≤◌, ◌⊎◌, ℕ, zero, suc, ◌+◌, ◌-◌, List, [], ◌∷◌, ◌++◌, length, take, drop, get_or, cond, sym, ◌∙◌, ap, refl, subst, arith, inl, inr, length-append}
-use Rattle.std.specs.Prelude.{IsTrue, slice_index, nat_lt}
+use Rattle.std.proofs.Common.{◌≡◌, ◌<◌, ◌≤◌, ◌⊎◌, ℕ, zero, suc, ◌+◌, ◌-◌, List, [], ◌∷◌, length, take, drop, get_or, cond, sym, ◌∙◌, ap, refl, subst, arith, inl, inr, length-append}
+use Rattle.std.specs.Prelude.{IsTrue}
 use Rattle.std.proofs.lemmas.Bool.{lt-ltb, le-ltb, cases_lt}
 use Rattle.slotted_theory.specs.Term.{Term}
 use Rattle.slotted_slots.specs.Table.{Table, is_known}
@@ -8,11 +8,11 @@ use Rattle.slotted_languages.specs.Form.{Form, Tree, leaf, own, child, bind, sco
 use Rattle.slotted_languages.specs.Joined.{child_fits}
 use Rattle.slotted_languages.specs.Filled.{filled, term_of}
 use Rattle.slotted_languages.specs.Shape.{Fits}
-use Rattle.slotted_languages.proofs.NodeTerms.{own_fits, child_rest_fits, bind_inner_fits, bind_rest_fits}
+use Rattle.slotted_languages.proofs.NodeTerms.{child_rest_fits}
 use Rattle.slotted_terms.specs.Valid.{IsWhole, HasKnownNames, IsValidTerm}
 use Rattle.slotted_core.specs.Nodes.{IsChildPlace}
 use Rattle.slotted_core.specs.SmallNodes.{HasSmallNodes, HasSmallParts}
-use Rattle.slotted_core.proofs.Children.{Each, Each-append}
+use Rattle.slotted_core.proofs.Children.{Each}
 use Rattle.slotted_core.proofs.Plugged.{at-left, at-right}
 use Rattle.slotted_core.proofs.Layers.{Each-parts, length-parts}
 

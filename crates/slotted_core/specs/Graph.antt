@@ -1,5 +1,5 @@
 -- What contracts see of a graph: whether it failed, its table of slots, and its classes, finds and proofs as lists.
-use Rattle.std.specs.Prelude.{◌≡◌, ℕ, ◌+◌, ◌<◌, ◌≤◌, Bool, List, [], ◌∷◌, ◌++◌, length, All, Contains}
+use Rattle.std.specs.Prelude.{◌≡◌, ℕ, ◌<◌, ◌≤◌, Bool, List, [], ◌∷◌, ◌++◌, length, All, Contains}
 use Rattle.std.specs.Coded.{Coded, code_by, coded×, coded_bool, coded_ℕ, coded_list}
 use Rattle.std.specs.Prelude.{refl}
 use Rattle.slotted_theory.specs.Nameless.{DTerm}
@@ -24,7 +24,6 @@ table_code = code_by (ℕ × List (List ℕ)) (coded× coded_ℕ (coded_list (co
 abbrev pub graph_code : Coded Graph
 graph_code =
     code_by (Bool × (Table × Image)) (coded× coded_bool (coded× table_code image_code)) (λ g. (g.failed, (g.table, g.image))) (λ p. record { failed = p.0; table = p.1.0; image = p.1.1 }) (λ _. refl)
-
 
 -- a class of the graph, with different known names for exactly its slots
 pub record IsValidId (g : Graph) (a : Applied) : Type 0 where

@@ -1,5 +1,5 @@
 -- A finite map as a function, by a walk along its pairs.
-use Rattle.std.specs.Prelude.{◌≡◌, ℕ, ◌+◌, List, [], ◌∷◌, Bool, true, false, Option, Some, cond, nat_eq, unwrap_or, refl}
+use Rattle.std.specs.Prelude.{◌≡◌, ℕ, ◌+◌, List, [], ◌∷◌, Bool, true, false, Some, cond, nat_eq, unwrap_or, refl}
 use Rattle.slotted_theory.specs.FiniteMaps.{value_of, top, filled}
 
 -- the value of the first pair with the key x, and what it lacks goes past t

@@ -1,13 +1,13 @@
 -- Outlines: they have the node's term, they are reached child by child, and skeletons are equal where outlines are.
-use Rattle.std.proofs.Common.{◌≡◌, ℕ, suc, zero, ◌+◌, ◌-◌, ◌<◌, ◌≤◌, List, [], ◌∷◌, ◌++◌, length, take, drop, replicate, refl, slice_index, slice_index_or, slice_set, ap, ◌∙◌, sym, append_assoc, arith, length-append, length-drop, length-take, zero-add, add-one, rules, inl, inr}
-use Rattle.std.specs.Prelude.{◌⊎◌, min, cond, nat_lt, Option, None, map}
+use Rattle.std.proofs.Common.{◌≡◌, ℕ, suc, zero, ◌+◌, ◌-◌, ◌<◌, ◌≤◌, List, [], ◌∷◌, ◌++◌, length, take, drop, replicate, refl, slice_index, slice_set, ap, ◌∙◌, sym, append_assoc, arith, length-append, length-drop, length-take, zero-add, add-one, inl, inr}
+use Rattle.std.specs.Prelude.{min, Option, None, map}
 use Rattle.std.proofs.lemmas.Grind.{common_steps}
 use Rattle.std.proofs.lemmas.List.{length-map, take_at, drop_at, take-append-drop, drop_more, set_at, length-replicate, replicate_more, drop_all, append-nil}
-use Rattle.std.proofs.lemmas.Bool.{lt-ltb, le-ltb, cases_lt}
+use Rattle.std.proofs.lemmas.Bool.{cases_lt}
 use Rattle.std.proofs.Math.Nat.{sub-zero}
 use Rattle.slotted_theory.specs.Term.{Term}
 use Rattle.slotted_theory.specs.Term.{bind as under, child as sub, name}
-use Rattle.slotted_languages.specs.Form.{Form, Tree, leaf, own, child, bind, join, scopes, children, child_place, width, with_name, with_child, with_child_in, bind_form, join_form}
+use Rattle.slotted_languages.specs.Form.{Form, Tree, leaf, own, child, bind, scopes, children, with_name, with_child, bind_form, join_form}
 use Rattle.slotted_languages.specs.Filled.{filled, hole}
 use Rattle.slotted_languages.specs.Outline.{child_mark, outlined, outlined_names, outlined_form, marks, skeleton_form, blank_form}
 use Rattle.slotted_languages.specs.Equal.{form_ext, bind_form_fits}

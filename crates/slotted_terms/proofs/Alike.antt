@@ -1,13 +1,13 @@
 -- Terms that are equal without bound names have nodes that agree but for names and children, and equally many children.
-use Rattle.std.proofs.Common.{◌≡◌, ℕ, suc, zero, ◌+◌, ◌<◌, ◌≤◌, List, [], ◌∷◌, length, take, drop, refl, slice_index, ap, ◌∙◌, sym, arith, length-take, length-drop, length-append}
+use Rattle.std.proofs.Common.{◌≡◌, ℕ, suc, ◌<◌, ◌≤◌, List, [], ◌∷◌, length, take, drop, refl, slice_index, ap, ◌∙◌, sym, arith, length-take, length-drop, length-append}
 use Rattle.std.proofs.lemmas.List.Elements.{All-head, All-tail, All-take, All-drop}
 use Rattle.std.proofs.Math.Nat.{suc_inj}
 use Rattle.slotted_theory.specs.Term.{Term, term_size, args_size}
-use Rattle.slotted_theory.specs.Nameless.{DArgs, DTerm, stop, place, sub, scope, extend, nameless_args, nameless_by}
+use Rattle.slotted_theory.specs.Nameless.{DTerm, extend, nameless_args, nameless_by}
 use Rattle.slotted_theory.specs.Shape.{number_in}
 use Rattle.std.specs.Prelude.{◌↔◌}
 use Rattle.slotted_languages.specs.Form.{Form, Tree, leaf, own, child, bind, scopes, children}
-use Rattle.slotted_languages.specs.Filled.{filled, hole, children_args, term_of}
+use Rattle.slotted_languages.specs.Filled.{filled, children_args, term_of}
 use Rattle.slotted_languages.specs.Outline.{outlined, outlined_form}
 use Rattle.slotted_languages.proofs.Outlines.{length_children-outlined, filled-outlined}
 use Rattle.slotted_terms.specs.Seen.{place_count, AreTerms, AreAlike, AreOutlines, AreMatched, owns, stacks, seen, owns_seen, children_seen}

@@ -1,6 +1,6 @@
 -- What is seen at a place and at a child of two matched outlines.
-use Rattle.std.proofs.Common.{◌≡◌, ℕ, suc, zero, ◌+◌, ◌<◌, ◌≤◌, List, [], ◌∷◌, ◌++◌, length, refl, slice_index, slice_index_or, ap, ◌∙◌, sym, arith, inl, inr}
-use Rattle.std.specs.Prelude.{◌⊎◌, ◌↔◌, Some, None, Option, Result, Bool, IfOk, IsTrue}
+use Rattle.std.proofs.Common.{◌≡◌, ℕ, suc, zero, ◌<◌, ◌≤◌, List, [], ◌++◌, length, refl, slice_index, slice_index_or, ap, ◌∙◌, sym, arith}
+use Rattle.std.specs.Prelude.{◌↔◌, Some, None, Option, Result, Bool, IfOk, IsTrue}
 use Rattle.std.proofs.lemmas.Result.{IfOk-weaker}
 use Rattle.std.proofs.Math.Nat.{suc_inj}
 use Rattle.std.proofs.lemmas.List.{append-nil, get_or_past, ext_get_or}
@@ -9,7 +9,7 @@ use Rattle.slotted_languages.specs.Form.{Form, Tree, scopes, children, child_pla
 use Rattle.slotted_languages.specs.Equal.{form_ext}
 use Rattle.slotted_languages.specs.Outline.{outlined, marks, outlined_form, skeleton_form}
 use Rattle.slotted_languages.proofs.Outlines.{length-marks, length-outlined_names, outlined-outlined}
-use Rattle.slotted_terms.specs.Seen.{owns, stacks, opened, own_at, AreMatched, AreOutlines, AreAlike, IsOwn, number_at, owns_seen, above}
+use Rattle.slotted_terms.specs.Seen.{owns, stacks, opened, own_at, AreMatched, AreOutlines, AreAlike, IsOwn, number_at, owns_seen}
 use Rattle.slotted_terms.proofs.Seen.{length-owns, length-stacks}
 use Rattle.slotted_terms.proofs.Opened.{stack_at, own_seen_at}
 

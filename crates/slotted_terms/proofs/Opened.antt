@@ -1,11 +1,9 @@
 -- What is seen at a place can be read off the places before it.
-use Rattle.std.proofs.Common.{◌≡◌, ℕ, suc, zero, ◌+◌, ◌-◌, ◌<◌, ◌≤◌, List, [], ◌∷◌, ◌++◌, length, take, drop, refl, slice_index, slice_index_or, ap, ◌∙◌, sym, append_assoc, arith, length-append, length-drop, length-take, add-one, rules, inl, inr}
-use Rattle.std.specs.Prelude.{◌⊎◌, ◌↔◌, Some, None, Option, if◌then◌else◌, nat_lt, cond}
+use Rattle.std.proofs.Common.{◌≡◌, ℕ, suc, zero, ◌+◌, ◌-◌, ◌<◌, ◌≤◌, List, [], ◌∷◌, ◌++◌, length, take, drop, refl, slice_index, slice_index_or, ap, ◌∙◌, sym, append_assoc, arith, length-append, inl, inr}
+use Rattle.std.specs.Prelude.{Some, None, Option, nat_lt, cond}
 use Rattle.std.proofs.lemmas.Bool.{lt-ltb, le-ltb, cases_lt}
 use Rattle.std.proofs.lemmas.List.{drop_more, get_or-take, get_or-drop, drop-drop, get_or_append_left, get_or-append_right}
-use Rattle.slotted_theory.specs.Shape.{number_in}
-use Rattle.slotted_languages.specs.Form.{Tree, leaf, own, child, bind, scopes, children, child_place, scope_end_of, end_at}
-use Rattle.slotted_languages.specs.Joined.{child_fits}
+use Rattle.slotted_languages.specs.Form.{Tree, leaf, own, child, bind, scopes, children, child_place, end_at}
 use Rattle.slotted_languages.specs.Outline.{outlined, marks}
 use Rattle.slotted_languages.proofs.Outlines.{length-marks}
 use Rattle.slotted_terms.specs.Seen.{owns, stacks, opened, own_at, IsOpen}

@@ -1,12 +1,12 @@
 -- Two terms of one outline are equal without bound names where they are seen alike.
-use Rattle.std.proofs.Common.{◌≡◌, ℕ, suc, zero, ◌+◌, ◌-◌, ◌<◌, ◌≤◌, List, [], ◌∷◌, ◌++◌, length, take, drop, refl, slice_index, slice_index_or, ap, ◌∙◌, sym, append_assoc, arith, length-append, length-drop, length-take, rules, inl, inr}
-use Rattle.std.specs.Prelude.{◌⊎◌, ◌↔◌}
+use Rattle.std.proofs.Common.{◌≡◌, ℕ, suc, zero, ◌<◌, List, [], ◌∷◌, ◌++◌, length, take, drop, refl, slice_index, slice_index_or, ap, ◌∙◌, sym, arith, length-append, length-drop, length-take}
+use Rattle.std.specs.Prelude.{◌↔◌}
 use Rattle.std.proofs.lemmas.List.{same_lists}
-use Rattle.slotted_theory.specs.Term.{Term, Args}
-use Rattle.slotted_theory.specs.Nameless.{DArgs, DTerm, stop, place, sub, scope, nameless_args, nameless_by}
+use Rattle.slotted_theory.specs.Term.{Term}
+use Rattle.slotted_theory.specs.Nameless.{DTerm, stop, place, sub, scope, nameless_args, nameless_by}
 use Rattle.slotted_theory.specs.Shape.{number_in}
 use Rattle.slotted_languages.specs.Form.{Form, Tree, leaf, own, child, bind, scopes, children}
-use Rattle.slotted_languages.specs.Filled.{filled, hole, children_args}
+use Rattle.slotted_languages.specs.Filled.{filled, children_args}
 use Rattle.slotted_languages.specs.Outline.{outlined}
 use Rattle.slotted_terms.specs.Seen.{owns, stacks, seen, above, children_seen}
 

@@ -7,7 +7,7 @@ use Rattle.std.proofs.lemmas.Bool.{or_cases, eq-eqb, eqb-true}
 use Rattle.std.proofs.lemmas.List.{length-drop, length-take-le}
 use Rattle.slotted_theory.specs.Term.{Term}
 use Rattle.slotted_slots.specs.Maps.{is_among}
-use Rattle.slotted_slots.specs.Syntax.{Element, text, Lexeme}
+use Rattle.slotted_slots.specs.Syntax.{Element, Lexeme}
 use Rattle.slotted_slots.specs.Table.{Table, is_known}
 use Rattle.slotted_slots.specs.declared.error.Error.{Error}
 use Rattle.slotted_slots.proofs.TableLaws.{is_known-numeric_slot}

@@ -12,11 +12,7 @@ fn empty(alloc: Global) -> Result<Graph, Error> {
 }
 
 // What a union of two ids answers, if they are valid.
-fn unite<L: Language>(
-    graph: &mut EGraph<L>,
-    a: &AppliedId,
-    b: &AppliedId,
-) -> Result<bool, Error> {
+fn unite<L: Language>(graph: &mut EGraph<L>, a: &AppliedId, b: &AppliedId) -> Result<bool, Error> {
     if graph.is_valid(a) && graph.is_valid(b) {
         graph.union(a, b)
     } else {

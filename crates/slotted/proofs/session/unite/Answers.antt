@@ -1,5 +1,5 @@
-use Rattle.std.proofs.Common.{◌≡◌, sym, ◌∙◌, subst, refl}
-use Rattle.std.specs.Prelude.{Bool, true, false, Err}
+use Rattle.std.proofs.Common.{subst, refl}
+use Rattle.std.specs.Prelude.{true, false, Err}
 use Rattle.std.proofs.lemmas.Bool.{false≢true}
 use Rattle.std.proofs.lemmas.Result.{err_from_is_err_and}
 use Rattle.slotted_core.specs.Image.{IsUnion}

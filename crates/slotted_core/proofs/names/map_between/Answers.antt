@@ -1,4 +1,4 @@
-use Rattle.std.proofs.Common.{◌≡◌, ◌<◌, ◌+◌, ◌∙◌, ℕ, List, arith, length, ap, drop}
+use Rattle.std.proofs.Common.{◌<◌, ◌+◌, ◌∙◌, ℕ, List, arith, length, ap, drop}
 use Rattle.std.specs.List.{zip}
 use Rattle.slotted_slots.specs.Maps.{values}
 use Rattle.slotted_core.specs.Names.{with_pairs}

@@ -1,4 +1,4 @@
-use Rattle.std.proofs.Common.{◌≡◌, ◌<◌, ℕ, length, slice_index_or}
+use Rattle.std.proofs.Common.{◌<◌, ℕ, slice_index_or}
 use Rattle.std.specs.Prelude.{IsSome}
 use Rattle.slotted_slots.specs.Maps.{values, value_of}
 use Rattle.slotted_core.proofs.names.values_are_keys.Given as goal

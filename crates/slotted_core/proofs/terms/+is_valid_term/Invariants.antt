@@ -1,5 +1,5 @@
 use Rattle.std.proofs.Common.{◌<◌, ℕ, slice_index_or}
-use Rattle.slotted_theory.specs.Term.{Term, term_size}
+use Rattle.slotted_theory.specs.Term.{Term}
 use Rattle.slotted_terms.specs.Valid.{IsValidTerm}
 use Rattle.slotted_core.proofs.terms.+is_valid_term.Given as goal
 

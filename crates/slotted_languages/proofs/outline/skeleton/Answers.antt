@@ -1,4 +1,4 @@
-use Rattle.std.proofs.Common.{◌≡◌, ◌∙◌, ap}
+use Rattle.std.proofs.Common.{◌∙◌, ap}
 use Rattle.slotted_languages.specs.Outline.{outlined_form, blank_form}
 use Rattle.slotted_languages.proofs.Outlines.{skeleton_form-blank}
 use Rattle.slotted_languages.proofs.outline.skeleton.Goals as goal

@@ -1,5 +1,5 @@
 use Rattle.std.specs.Prelude.{◌⊎◌, slice_index_or}
-use Rattle.std.proofs.Common.{◌≡◌, ◌<◌, ◌≤◌, ◌^◌, List, length, ap, sym, ◌∙◌, refl, arith, inl, inr, below_more, rules}
+use Rattle.std.proofs.Common.{◌≡◌, ◌≤◌, ◌^◌, length, ap, sym, ◌∙◌, refl, arith, inl, inr, below_more, rules}
 use Rattle.std.proofs.lemmas.Bool.{false≢true}
 use Rattle.slotted_theory.specs.Nameless.{nameless_by}
 use Rattle.slotted_theory.specs.Shape.{number_in}

@@ -1,4 +1,4 @@
-use Rattle.std.proofs.Common.{◌≡◌, ◌<◌, take}
+use Rattle.std.proofs.Common.{◌≡◌, take}
 use Rattle.slotted_terms.specs.Seen.{AreTerms}
 use Rattle.slotted_terms.proofs.expr.term_count.Given as goal
 

@@ -1,4 +1,4 @@
-use Rattle.std.proofs.Common.{◌≡◌, ◌<◌, ◌≤◌, ◌+◌, ◌∙◌, ℕ, List, length, get_or, ap, sym, subst, arith, rules, inl, inr}
+use Rattle.std.proofs.Common.{◌≡◌, ◌<◌, ◌≤◌, ◌+◌, ◌∙◌, ℕ, List, length, ap, sym, subst, arith, rules, inl, inr}
 use Rattle.slotted_theory.specs.Term.{Term, term_size}
 use Rattle.slotted_languages.specs.Form.{Form}
 use Rattle.slotted_languages.specs.Filled.{term_of}

@@ -1,4 +1,4 @@
-use Rattle.std.proofs.Common.{◌≡◌, ◌≢◌, ◌<◌, ◌≤◌, ◌+◌, ◌^◌, ◌∙◌, ℕ, length, ap, sym, subst, arith, rules}
+use Rattle.std.proofs.Common.{◌≡◌, ◌≢◌, ◌<◌, ◌≤◌, ◌+◌, ◌^◌, length, ap, sym, subst, arith, rules}
 use Rattle.slotted_model.specs.Applied.{Applied}
 use Rattle.slotted_model.specs.ProofList.{find_equation}
 use Rattle.slotted_core.specs.Kept.{Kept, find_at, nodes_of, entries_of, EntersIn, Proves}

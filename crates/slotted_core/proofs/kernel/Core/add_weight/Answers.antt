@@ -1,4 +1,4 @@
-use Rattle.std.proofs.Common.{◌≡◌, ◌<◌, ◌∙◌, map, length, arith, refl}
+use Rattle.std.proofs.Common.{◌<◌, ◌∙◌, map, length, arith, refl}
 use Rattle.slotted_core.specs.Kept.{ClassEntry}
 use Rattle.slotted_core.specs.declared.kernel.Class.{Class}
 use Rattle.slotted_core.proofs.Linked.{set-unseen}

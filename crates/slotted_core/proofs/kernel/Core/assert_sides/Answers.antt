@@ -1,4 +1,4 @@
-use Rattle.std.proofs.Common.{◌≡◌, sym, subst, rules}
+use Rattle.std.proofs.Common.{sym, subst, rules}
 use Rattle.std.specs.Prelude.{option_map, string_bytes}
 use Rattle.slotted_core.specs.Kept.{IsAsserted, asserted_for}
 use Rattle.slotted_core.specs.Nodes.{to_applied}

@@ -1,9 +1,9 @@
-use Rattle.std.proofs.Common.{◌≡◌, ◌<◌, ◌∙◌, arith, length, sym, subst, refl}
+use Rattle.std.proofs.Common.{◌<◌, ◌∙◌, arith, length, sym, subst, refl}
 use Rattle.std.proofs.lemmas.Bool.{false≢true}
 use Rattle.slotted_languages.specs.Form.{children}
 use Rattle.slotted_model.specs.Classes.{IsFull}
 use Rattle.slotted_core.specs.Kept.{nodes_of}
-use Rattle.slotted_core.specs.Nodes.{to_applied, child_ids}
+use Rattle.slotted_core.specs.Nodes.{to_applied}
 use Rattle.slotted_core.proofs.Children.{child_is, child_next, length-ids}
 use Rattle.slotted_core.proofs.kernel.Core.children_are_full.Goals as goal
 

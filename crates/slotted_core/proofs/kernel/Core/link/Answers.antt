@@ -1,9 +1,8 @@
-use Rattle.std.proofs.Common.{◌≡◌, ◌∙◌, ap, sym, subst, rules}
+use Rattle.std.proofs.Common.{◌∙◌, ap, sym, subst, rules}
 use Rattle.std.specs.Prelude.{option_map, string_bytes}
 use Rattle.slotted_theory.specs.FiniteMaps.{IsInjectiveMap}
 use Rattle.slotted_slots.specs.Maps.{composed}
 use Rattle.slotted_model.specs.Applied.{Applied}
-use Rattle.slotted_model.specs.Find.{find}
 use Rattle.slotted_proofs.proofs.Bridges.{injective_differ, shared-model}
 use Rattle.slotted_core.specs.Image.{HasLargeClass}
 use Rattle.slotted_core.specs.Kept.{Kept, nodes_of, entries_of, Links, asserted_for}

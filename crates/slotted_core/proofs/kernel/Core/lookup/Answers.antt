@@ -1,4 +1,4 @@
-use Rattle.std.proofs.Common.{◌≡◌, ◌∙◌, ap, sym, Some, None}
+use Rattle.std.proofs.Common.{◌∙◌, ap, Some, None}
 use Rattle.slotted_core.proofs.Found.{row-names, row-answers}
 use Rattle.slotted_core.proofs.kernel.Core.lookup.Goals as goal
 

@@ -1,4 +1,4 @@
-use Rattle.std.proofs.Common.{◌≡◌, ◌<◌, ◌∙◌, ◌+◌, sym, ap, map, length, refl, arith, ℕ, suc}
+use Rattle.std.proofs.Common.{◌≡◌, ◌<◌, ◌∙◌, ◌+◌, ap, map, length, refl, arith, suc}
 use Rattle.slotted_model.specs.Find.{Entry}
 use Rattle.slotted_core.specs.Kept.{Kept, ClassEntry, with_linked}
 use Rattle.slotted_core.proofs.KeptLists.{length-mapped}

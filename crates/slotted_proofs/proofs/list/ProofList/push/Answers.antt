@@ -1,4 +1,4 @@
-use Rattle.std.proofs.Common.{◌≡◌, ◌++◌, ◌∷◌, [], sym, ap, ◌∙◌, subst, length}
+use Rattle.std.proofs.Common.{◌≡◌, ◌++◌, ◌∷◌, [], sym, ap, ◌∙◌, subst}
 use Rattle.slotted_proofs.specs.Equations.{statement_of}
 use Rattle.slotted_proofs.specs.Entries.{Proven, proven_of, entries_of, explicit_numbers, IsNew}
 use Rattle.slotted_proofs.specs.Stored.{AreWritten}
@@ -12,8 +12,7 @@ invariant_of-self-2 c =
     let x : Proven = proven_of e c.args.proof in
     let is_new : IsNew (shown es) (statement_of e) = subst (λ list. IsNew list (statement_of e)) (sym c.self.view_is) c.requires.new in
     let same : c.insert.new.self.entries ≡ es ++ (e, c.args.proof) ∷ [] = c.in_ok-insert.ensures.entries ∙ insert_new es e c.args.proof is_new in
-    let more : shown c.insert.new.self.entries ≡ shown es ++ x ∷ [] = ap shown same ∙ shown-more es e c.args.proof in
-    (
+    let more : shown c.insert.new.self.entries ≡ shown es ++ x ∷ [] = ap shown same ∙ shown-more es e c.args.proof in (
       subst AreWritten (sym same) (written_more es e c.args.proof c.self.invariant.0 c.requires.written),
       c.self.invariant.1 ∙ (sym (explicit-other 0 (shown es) x c.requires.step) ∙ ap (λ list. explicit_numbers (entries_of list)) (sym more)),
     )

@@ -13,12 +13,11 @@ invariant_of-self-2 c =
     let is_new : IsNew (shown es) (statement_of e) = subst (λ list. IsNew list (statement_of e)) (sym c.self.view_is) c.requires.new in
     let same : c.insert.new.self.entries ≡ es ++ (e, c.args.proof) ∷ [] = c.in_ok-insert.ensures.entries ∙ insert_new es e c.args.proof is_new in
     let more : shown c.insert.new.self.entries ≡ shown es ++ x ∷ [] = ap shown same ∙ shown-more es e c.args.proof in
-    let number : c.at-last.result ≡ 0 + length (shown es) = c.at-last.ensures ∙ (c.len.ensures ∙ (ap length (sym c.self.view_is) ∙ omega arith)) in
-    (
+    let number : c.at-last.result ≡ 0 + length (shown es) = c.at-last.ensures ∙ (c.len.ensures ∙ (ap length (sym c.self.view_is) ∙ omega arith)) in (
       subst AreWritten (sym same) (written_more es e c.args.proof c.self.invariant.0 c.requires.written),
       c.push_reserved.ensures.items
-      ∙ (ap (λ (ns : List ℕ). ns ++ c.at-last.result ∷ []) (c.in_ok-reserve.ensures.items ∙ c.self.invariant.1)
-      ∙ (ap (λ (n : ℕ). explicit_numbers (entries_of (shown es)) ++ n ∷ []) number ∙ (sym (explicit-asserted 0 (shown es) x c.requires.step) ∙ ap (λ list. explicit_numbers (entries_of list)) (sym more)))),
+          ∙ (ap (λ (ns : List ℕ). ns ++ c.at-last.result ∷ []) (c.in_ok-reserve.ensures.items ∙ c.self.invariant.1)
+          ∙ (ap (λ (n : ℕ). explicit_numbers (entries_of (shown es)) ++ n ∷ []) number ∙ (sym (explicit-asserted 0 (shown es) x c.requires.step) ∙ ap (λ list. explicit_numbers (entries_of list)) (sym more)))),
     )
 
 pub returns-clause-ok : goal.returns-clause-ok

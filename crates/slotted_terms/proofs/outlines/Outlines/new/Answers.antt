@@ -1,6 +1,4 @@
-use Rattle.std.proofs.Common.{◌≡◌, refl, arith, ap, sym, ◌∙◌, length}
-use Rattle.slotted_languages.specs.Form.{scopes}
-use Rattle.slotted_languages.proofs.Outlines.{length-outlined_names, outlined-outlined}
+use Rattle.std.proofs.Common.{arith, sym, ◌∙◌}
 use Rattle.slotted_terms.proofs.Matched.{length-outlined_outline, alike_outlines, alike_matched}
 use Rattle.slotted_terms.proofs.outlines.Outlines.new.Goals as goal
 

@@ -1,4 +1,4 @@
-use Rattle.std.proofs.Common.{◌≡◌, ◌<◌, ◌≤◌, ◌∙◌, ap, sym, refl, arith, length}
+use Rattle.std.proofs.Common.{◌<◌, ◌≤◌, ◌∙◌, ap, sym, refl, arith, length}
 use Rattle.slotted_languages.specs.Form.{children, scopes}
 use Rattle.slotted_languages.specs.Joined.{child_fits}
 use Rattle.slotted_terms.specs.Seen.{lefts, rights, opened}

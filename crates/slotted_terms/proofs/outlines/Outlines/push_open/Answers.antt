@@ -1,8 +1,7 @@
-use Rattle.std.proofs.Common.{◌≡◌, ◌<◌, ◌≤◌, ◌∙◌, sym, ap, arith, length, take, ◌++◌, ◌∷◌, []}
+use Rattle.std.proofs.Common.{◌≤◌, ◌∙◌, sym, ap, arith, length, take, ◌∷◌}
 use Rattle.std.proofs.lemmas.Bool.{false≢true}
-use Rattle.std.proofs.lemmas.List.{take-append-le}
 use Rattle.slotted_languages.specs.Form.{scopes}
-use Rattle.slotted_terms.specs.Seen.{IsOpen, opened, lefts, rights}
+use Rattle.slotted_terms.specs.Seen.{IsOpen, lefts, rights}
 use Rattle.slotted_terms.proofs.Binders.{lefts-push, rights-push, kept-push}
 use Rattle.slotted_terms.proofs.Opened.{opened-open, opened-shut}
 use Rattle.slotted_terms.proofs.outlines.Outlines.push_open.Goals as goal

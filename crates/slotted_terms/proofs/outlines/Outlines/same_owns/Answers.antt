@@ -1,4 +1,4 @@
-use Rattle.std.proofs.Common.{◌≡◌, refl, arith}
+use Rattle.std.proofs.Common.{refl, arith}
 use Rattle.slotted_terms.specs.Seen.{lefts, rights}
 use Rattle.slotted_terms.proofs.Matched.{owns_same}
 use Rattle.slotted_terms.proofs.outlines.Outlines.same_owns.Goals as goal

@@ -1,4 +1,4 @@
-use Rattle.std.proofs.Common.{◌≡◌, sym, refl, ◌∙◌}
+use Rattle.std.proofs.Common.{sym, refl, ◌∙◌}
 use Rattle.std.proofs.lemmas.Bool.{false≢true}
 use Rattle.slotted_terms.specs.Seen.{lefts, rights, IsOwn}
 use Rattle.slotted_terms.proofs.Matched.{own_same, other_same, IfOk-same}
