@@ -1,6 +1,6 @@
 -- Adding a term from below: the ids of the children stand in the node so far.
 use Rattle.std.proofs.Common.{◌≡◌, ◌<◌, ◌≤◌, ℕ, zero, suc, ◌+◌, List, [], ◌∷◌, length, get_or, sym, ◌∙◌, ap, refl, subst, arith, inl, inr}
-use Rattle.std.specs.Prelude.{slice_set, slice_index_or, All}
+use Rattle.std.specs.Prelude.{slice_set, slice_index_or, All, IsSome}
 use Rattle.std.proofs.lemmas.Bool.{cases_eq}
 use Rattle.slotted_theory.specs.Term.{Args, Term, done}
 use Rattle.slotted_theory.specs.Nameless.{nameless, nameless_args}
@@ -13,10 +13,11 @@ use Rattle.slotted_languages.specs.Filled as form
 use Rattle.slotted_languages.specs.NodeTerm.{nameless_node}
 use Rattle.slotted_languages.specs.Shape.{Fits}
 use Rattle.slotted_model.specs.Applied.{Applied}
-use Rattle.slotted_model.specs.Classes.{terms, term_of, layer_of, IsFull}
+use Rattle.slotted_model.specs.Classes.{terms, term_of, layer_of, IsFull, Canonical}
 use Rattle.slotted_model.specs.Growth.{Extends}
 use Rattle.slotted_model.proofs.Growing.{Extends-same, Extends-then}
-use Rattle.slotted_core.specs.Image.{AddsClasses}
+use Rattle.slotted_model.specs.Ids.{id_of}
+use Rattle.slotted_core.specs.Image.{Image, AddsClasses}
 use Rattle.slotted_core.specs.Kept.{Kept, nodes_of, image_of, Good, HasFreshSlots, Adds, AddsTerm}
 use Rattle.slotted_core.specs.Nodes.{child_ids}
 use Rattle.slotted_core.specs.Places.{args_places, term_places}
@@ -24,7 +25,8 @@ use Rattle.slotted_core.proofs.Added.{full_children}
 use Rattle.slotted_core.proofs.Images.{adds-nothing, adds-then}
 use Rattle.slotted_core.proofs.Children.{length-ids, zip-keys_values}
 use Rattle.slotted_core.proofs.Known.{answer_full, answer_term}
-use Rattle.slotted_core.proofs.Layers.{match-from, expand-filled}
+use Rattle.slotted_core.proofs.FoundParts.{children_found, node_has_id}
+use Rattle.slotted_core.proofs.Layers.{match-from, expand-filled, each_at}
 use Rattle.slotted_core.proofs.NameMaps.{length-keys, length-values}
 use Rattle.slotted_core.proofs.Plugged.{plugs}
 use Rattle.slotted_core.proofs.Sizes.{node_fits}
@@ -39,6 +41,7 @@ pub record IsPart (k : Kept) (t : Table) (l : Kept) (f h : Form) (us : List Term
   pub payloads : h.payloads ≡ f.payloads
   pub count : length (children h.tree) ≡ length (children f.tree)
   pub outline : (vs : List Term) → length vs ≡ length (children f.tree) → filled h.tree h.names vs ≡ filled f.tree f.names vs
+  pub kept : IsSome (id_of (nodes_of k) (nameless (form.term_of f us))) → image_of l ≡ image_of k
   pub ids : (j : ℕ) (d : Applied) (e : Term) → j < i → IsFull (nodes_of l) (slice_index_or (child_ids h) j d) × (term_of (nodes_of l) (slice_index_or (child_ids h) j d) ≡ nameless (slice_index_or us j e))
 
 pub part_start : (k : Kept) (t : Table) → Good k → HasFreshSlots t k → (f : Form) (us : List Term) → IsPart k t k f f us 0
@@ -51,6 +54,7 @@ part_start k t good fresh f us = record {
   payloads = refl;
   count = refl;
   outline = λ vs n. refl;
+  kept = λ s. refl;
   ids = λ j d e l. absurd (omega arith);
 }
 
@@ -65,8 +69,8 @@ set_other (x ∷ xs) zero j a d l = absurd (omega arith)
 set_other (x ∷ xs) (suc k) zero a d l = refl
 set_other (x ∷ xs) (suc k) (suc j) a d l = set_other xs k j a d (omega arith)
 
-pub part_step : (k : Kept) (t v : Table) (l m : Kept) (f h : Form) (us : List Term) (i : ℕ) (a : Applied) (u : Term) → Fits h → IsPart k t l f h us i → i < length (children f.tree) → ((e : Term) → slice_index_or us i e ≡ u) → AddsTerm v l m u a → IsPart k v m f (with_child h i a.0 (keys a.1) (values a.1)) us (i + 1)
-part_step k t v l m f h us i a u fits p lt at add =
+pub part_step : (k : Kept) → Canonical (nodes_of k) → (t v : Table) (l m : Kept) (f h : Form) (us : List Term) → length us ≡ length (children f.tree) → (i : ℕ) (a : Applied) (u : Term) → Fits h → IsPart k t l f h us i → i < length (children f.tree) → ((e : Term) → slice_index_or us i e ≡ u) → AddsTerm v l m u a → IsPart k v m f (with_child h i a.0 (keys a.1) (values a.1)) us (i + 1)
+part_step k can t v l m f h us nu i a u fits p lt at add =
     let n : length (values a.1) ≡ length (keys a.1) = length-values a.1 ∙ sym (length-keys a.1) in
     let q = plugs h.tree h.names i a.0 (keys a.1) (values a.1) fits (omega (arith, p.count, lt)) n in
     let c : child_ids (with_child h i a.0 (keys a.1) (values a.1)) ≡ slice_set (child_ids h) i a =
@@ -82,6 +86,12 @@ part_step k t v l m f h us i a u fits p lt at add =
       payloads = p.payloads;
       count = o ∙ p.count;
       outline = λ vs z. q.1 vs (z ∙ sym p.count) ∙ p.outline vs z;
+      kept = λ s.
+          let same = p.kept s in
+          let of_part : IsSome (id_of (nodes_of k) (nameless u)) =
+          subst (λ (x : Term). IsSome (id_of (nodes_of k) (nameless x))) (at u)
+          (each_at (λ (x : Term). IsSome (id_of (nodes_of k) (nameless x))) us i u (omega (arith, lt, nu)) (children_found (nodes_of k) can f us nu s)) in
+          add.kept (subst (λ (x : Image). IsSome (id_of x.canonical (nameless u))) (sym same) of_part) ∙ same;
       ids = λ j d e z. elim (cases_eq j i) [
         | inl r ↦
             let b : slice_index_or (child_ids (with_child h i a.0 (keys a.1) (values a.1))) j d ≡ a =
@@ -113,8 +123,8 @@ part_layer k t l f h us fits p n =
     λ i. record { op = suc (p.operator i); payloads = p.payloads i; args = (e ∙ ap (λ (a : Args). nameless_args (λ x. x) a) o) i }
 
 -- and then the node's id is that of the term
-pub part_end : (k : Kept) (t v : Table) (l m : Kept) (f h : Form) (us : List Term) (a : Applied) → Fits h → IsPart k t l f h us (length us) → length us ≡ length (children f.tree) → Adds t v l m h a → AddsTerm v k m (form.term_of f us) a
-part_end k t v l m f h us a fits p n add = record {
+pub part_end : (k : Kept) → Canonical (nodes_of k) → (t v : Table) (l m : Kept) (f h : Form) (us : List Term) (a : Applied) → Fits h → IsPart k t l f h us (length us) → length us ≡ length (children f.tree) → Adds t v l m h a → AddsTerm v k m (form.term_of f us) a
+part_end k can t v l m f h us a fits p n add = record {
   good = add.good;
   fresh_slots = add.fresh_slots;
   extends = Extends-then (nodes_of k) (nodes_of l) (nodes_of m) p.extends add.extends;
@@ -122,6 +132,13 @@ part_end k t v l m f h us a fits p n add = record {
   full = answer_full (nodes_of m) h a add.found;
   term = answer_term (nodes_of m) h a add.found add.good.sound.canonical
       ∙ (add.extends.layers (nameless_node h) (full_children (nodes_of l) h fits (part_full k t l f h us p n)) ∙ part_layer k t l f h us fits p n);
+  kept = λ s.
+      let same = p.kept s in
+      let here : IsSome (id_of (nodes_of l) (nameless (form.term_of f us))) = subst (λ (x : Image). IsSome (id_of x.canonical (nameless (form.term_of f us)))) (sym same) s in
+      let c = p.good.sound.canonical in
+      let children = full_children (nodes_of l) h fits (part_full k t l f h us p n) in
+      let filed = node_has_id (nodes_of l) c (nameless_node h) children (nameless (form.term_of f us)) (part_layer k t l f h us fits p n) here in
+      add.kept filed ∙ same;
 }
 
 -- the node has no more places than the term

@@ -174,6 +174,7 @@ pub record AddsTerm (new : Table) (k l : Kept) (t : Term) (a : Applied) : Type 0
   pub adds : AddsClasses (image_of k) (image_of l)
   pub full : IsFull (nodes_of l) a
   pub term : term_of (nodes_of l) a ≡ nameless t
+  pub kept : IsSome (id_of (nodes_of k) (nameless t)) → image_of l ≡ image_of k
 
 -- the proof list grew at its end by proofs of what finds alike, of which none is asserted, and nothing else changed
 pub record Explains (k l : Kept) : Type 0 where

@@ -226,7 +226,8 @@ impl<L: Language, N: Drop> EGraph<L, N> {
         ensures term { IfOk result (λ a. term_of self.new.image.canonical (to_applied a) ≡ nameless term.now) }
         ensures found { IfOk result (λ a. id_of self.new.image.canonical (nameless term.now) ≡ Some (to_applied a)) }
 
-        // What was there stays.
+        // Where the term has an id, nothing changes but the table; and what was there stays.
+        ensures kept { OnOk result (IsSome (id_of self.old.image.canonical (nameless term.now)) → self.new.image ≡ self.old.image) }
         ensures extends { OnOk result (Extends self.old.image.canonical self.new.image.canonical) }
         ensures adds { OnOk result (AddsClasses self.old.image self.new.image) }
         ensures more { KnowsMore self.old.table self.new.table }

@@ -8,7 +8,8 @@ use Rattle.slotted_model.specs.Ascending.{IsAscending}
 use Rattle.slotted_model.specs.Applied.{keys, values, map_on, with_values}
 use Rattle.slotted_model.proofs.Members.{In, In-map, In-of_map}
 use Rattle.slotted_model.proofs.Sets.{below_each}
-use Rattle.slotted_model.proofs.Theory.{past, past-nil, past-key, past-other, filled-past}
+use Rattle.slotted_theory.proofs.Filled as theory
+use Rattle.slotted_model.proofs.Theory.{from-past, past, past-nil, past-key, past-other, filled-past}
 
 pub In-values : (m : List (ℕ × ℕ)) (v : ℕ) → HasValue m v → In v (values m)
 In-values [] v h = h
@@ -129,23 +130,6 @@ pair-filled m k a h =
     let e : filled m r.0.0 ≡ r.0.1 = filled-pair m r.0.0 r.0.1 a r.1 in
     subst (λ q. In q m) (λ i. (sym r.2 i, (sym e ∙ ap (filled m) (sym r.2)) i)) r.1
 
-HasValue-past : (t : ℕ) (m : List (ℕ × ℕ)) (x v : ℕ) → v < t → past t m x ≡ v → HasValue m v
-HasValue-past t [] x v h e = let q : past t [] x ≡ t + x = past-nil t x in absurd (omega arith)
-HasValue-past t (p ∷ m) x v h e = elim (cases_eq x p.0) [
-  | inl d ↦ inl (sym e ∙ past-key t p m x d)
-  | inr n ↦ inr (HasValue-past t m x v h (sym (past-other t p m x n) ∙ e))
-]
-
 -- an injective map that goes past its values for what it lacks is injective
 pub past-injective : (t : ℕ) (m : List (ℕ × ℕ)) → top m ≤ t → IsInjectiveMap m → IsInjective (past t m)
-past-injective t [] h i x y e = let q : past t [] x ≡ t + x = past-nil t x in let r : past t [] y ≡ t + y = past-nil t y in omega arith
-past-injective t (p ∷ m) h i x y e = elim (cases_eq x p.0) [
-  | inl d ↦ elim (cases_eq y p.0) [
-    | inl f ↦ d ∙ sym f
-    | inr n ↦ absurd (i.0 (HasValue-past t m y p.1 (omega arith) (sym (past-other t p m y n) ∙ (sym e ∙ past-key t p m x d))))
-  ]
-  | inr n ↦ elim (cases_eq y p.0) [
-    | inl f ↦ absurd (i.0 (HasValue-past t m x p.1 (omega arith) (sym (past-other t p m x n) ∙ (e ∙ past-key t p m y f))))
-    | inr o ↦ past-injective t m (omega arith) i.1 x y (sym (past-other t p m x n) ∙ (e ∙ past-other t p m y o))
-  ]
-]
+past-injective t m h i x y e = theory.past-injective t m h i x y (from-past t m x ∙ (e ∙ sym (from-past t m y)))

@@ -66,7 +66,7 @@ pub past-nil : (t x : ℕ) → past t [] x ≡ t + x
 unfolding past
 past-nil t x = refl
 
-from-past : (t : ℕ) (m : List (ℕ × ℕ)) (x : ℕ) → unwrap_or (value_of m x) (t + x) ≡ past t m x
+pub from-past : (t : ℕ) (m : List (ℕ × ℕ)) (x : ℕ) → unwrap_or (value_of m x) (t + x) ≡ past t m x
 unfolding past
 from-past t [] x = refl
 from-past t (p ∷ m) x = elim (cases_eq x p.0) [

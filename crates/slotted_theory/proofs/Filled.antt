@@ -9,7 +9,7 @@ pub filled-value_of : (m : List (ℕ × ℕ)) (k v : ℕ) → value_of m k ≡ S
 filled-value_of m k v e = ap (λ o. unwrap_or o (top m + k)) e
 
 -- the same with any number in the place of the top
-abbrev past : ℕ → List (ℕ × ℕ) → ℕ → ℕ
+abbrev pub past : ℕ → List (ℕ × ℕ) → ℕ → ℕ
 past t m x = unwrap_or (value_of m x) (t + x)
 
 past-key : (t : ℕ) (p : ℕ × ℕ) (m : List (ℕ × ℕ)) (x : ℕ) → x ≡ p.0 → past t (p ∷ m) x ≡ p.1
@@ -18,14 +18,14 @@ past-key t p m x e = ap (λ b. unwrap_or (cond b (Some p.1) (value_of m x)) (t +
 past-other : (t : ℕ) (p : ℕ × ℕ) (m : List (ℕ × ℕ)) (x : ℕ) → x ≢ p.0 → past t (p ∷ m) x ≡ past t m x
 past-other t p m x n = ap (λ b. unwrap_or (cond b (Some p.1) (value_of m x)) (t + x)) (ne_eqb x p.0 n)
 
-HasValue-past : (t : ℕ) (m : List (ℕ × ℕ)) (x v : ℕ) → v < t → past t m x ≡ v → HasValue m v
+pub HasValue-past : (t : ℕ) (m : List (ℕ × ℕ)) (x v : ℕ) → v < t → past t m x ≡ v → HasValue m v
 HasValue-past t [] x v h e = absurd (omega arith)
 HasValue-past t (p ∷ m) x v h e = elim (cases_eq x p.0) [
   | inl d ↦ inl (sym e ∙ past-key t p m x d)
   | inr n ↦ inr (HasValue-past t m x v h (sym (past-other t p m x n) ∙ e))
 ]
 
-past-injective : (t : ℕ) (m : List (ℕ × ℕ)) → top m ≤ t → IsInjectiveMap m → IsInjective (past t m)
+pub past-injective : (t : ℕ) (m : List (ℕ × ℕ)) → top m ≤ t → IsInjectiveMap m → IsInjective (past t m)
 past-injective t [] h i x y e = omega arith
 past-injective t (p ∷ m) h i x y e = elim (cases_eq x p.0) [
   | inl d ↦ elim (cases_eq y p.0) [
