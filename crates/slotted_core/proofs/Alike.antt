@@ -2,17 +2,11 @@
 use Rattle.std.proofs.Common.{◌≡◌, ℕ, suc, ◌<◌, List, [], ◌∷◌, ◌++◌, length, sym, ◌∙◌, ap, refl, subst, inl, inr, arith}
 use Rattle.std.proofs.lemmas.Bool.{cases_eq}
 use Rattle.slotted_theory.specs.Nameless.{DTerm}
-use Rattle.slotted_theory.specs.Renaming.{Bijection}
 use Rattle.slotted_model.specs.Applied.{Applied, renamed_id}
-use Rattle.slotted_model.specs.Classes.{canonical_slots, IsFull}
-use Rattle.slotted_model.specs.Correspondence.{IsFullMap, with_names, same_names, identity, IsPartialInjection}
+use Rattle.slotted_model.specs.Classes.{IsFull}
 use Rattle.slotted_model.specs.Find.{Entry, entry_at, find, Linked}
-use Rattle.slotted_model.specs.ProofList.{Equation, ProofEntry, equation_of, turned_equation, IsOver, IsReflexive, IsSymmetric, IsTransitive, equation_at, entry_equation, find_equation, Exact}
+use Rattle.slotted_model.specs.ProofList.{Equation, ProofEntry, equation_of, IsOver, IsReflexive, IsSymmetric, IsTransitive, equation_at, entry_equation, find_equation, Exact}
 use Rattle.slotted_model.specs.Link.{Refines}
-use Rattle.slotted_model.proofs.Correspondences.FullMaps.{equal_sides_iff}
-use Rattle.slotted_model.proofs.Correspondences.Matching.{same_names-bijection}
-use Rattle.slotted_model.proofs.Correspondences.Middle.{middle_iff}
-use Rattle.slotted_model.proofs.Correspondences.FullIds.{slots-different, full_map, full_id}
 use Rattle.slotted_model.proofs.Entering.{equation-last, equation-earlier, longer-length}
 use Rattle.slotted_model.proofs.Finding.{leads, along}
 use Rattle.slotted_model.proofs.FindProofs.{entry_equation-over, find_equation-over, find_equation-live, find_equation-follows}

@@ -3,7 +3,7 @@ use Rattle.std.proofs.Common.{◌≡◌, ℕ, List, [], ◌∷◌, length, take,
 use Rattle.std.specs.Prelude.{IsSome, is_some, option_map, option_and_then, slice_index}
 use Rattle.std.proofs.lemmas.Bool.{false≢true}
 use Rattle.slotted_theory.specs.Term.{Term}
-use Rattle.slotted_theory.specs.Nameless.{DArgs, DTerm, extend, nameless, nameless_by, nameless_args}
+use Rattle.slotted_theory.specs.Nameless.{DTerm, extend, nameless, nameless_by, nameless_args}
 use Rattle.slotted_theory.specs.Renaming.{IsInjective}
 use Rattle.slotted_theory.proofs.Names.{extend-injective}
 use Rattle.slotted_theory.proofs.Laws.{moved-nameless}

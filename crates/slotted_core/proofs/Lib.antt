@@ -23,6 +23,7 @@ pub mod Added
 pub mod Known
 pub mod Plugged
 pub mod Layers
+pub mod FoundParts
 pub mod Grown
 pub mod ValidTerms
 pub mod Sizes

@@ -1,17 +1,18 @@
 -- The loops over maps of names, step by step.
 use Rattle.std.proofs.Common.{◌≡◌, ◌≢◌, ◌<◌, ◌≤◌, ℕ, zero, suc, ◌+◌, List, [], ◌∷◌, ◌++◌, Some, length, take, drop, map, get_or, sym, ◌∙◌, ap, refl, subst, arith, inl, inr, drop-cons, add-one}
-use Rattle.std.specs.Prelude.{slice_get, slice_set, slice_index_or, IsSome, IsTrue, cond, Bool, true, false, not, ◌&&◌, ◌||◌, ◌==◌, ◌↔◌}
+use Rattle.std.specs.Prelude.{slice_get, slice_set, slice_index_or, IsSome, IsTrue, cond, Bool, ◌↔◌}
 use Rattle.std.specs.List.{zip}
 use Rattle.std.proofs.lemmas.Option.{get_or_from_slice_get}
 use Rattle.std.proofs.lemmas.Bool.{cases_eq, eq-eqb, ne_eqb, false≢true}
-use Rattle.slotted_theory.specs.FiniteMaps.{HasValue, IsInjectiveMap}
+use Rattle.slotted_theory.specs.FiniteMaps.{IsInjectiveMap}
 use Rattle.slotted_slots.specs.Ascending as slots
-use Rattle.slotted_slots.specs.Maps.{value_of, with_pair, keys, values, is_among, all_differ}
+use Rattle.slotted_slots.specs.Maps.{value_of, with_pair, keys, values, all_differ}
 use Rattle.slotted_slots.specs.Table.{fresh_slot}
 use Rattle.slotted_languages.specs.Form.{Form, with_name}
 use Rattle.slotted_languages.specs.Shape.{with_names}
 use Rattle.slotted_model.specs.Ascending as model
 use Rattle.slotted_model.proofs.Members.{In}
+use Rattle.slotted_proofs.proofs.Bridges.{differ_injective, injective_differ}
 use Rattle.slotted_core.specs.Names.{with_pairs, fresh_slots, put}
 
 -- the element at a place, and those after it
@@ -159,55 +160,6 @@ below_above x (y ∷ ys) h = (h.0, below_above x ys h.1)
 pub rising : (xs : List ℕ) → model.IsAscending xs → slots.IsAscending xs
 rising [] h = tt
 rising (x ∷ xs) h = (below_above x xs h.0, rising xs h.1)
-
-above_below : (x : ℕ) (ys : List ℕ) → slots.AllAbove x ys → model.IsBelowAll x ys
-above_below x [] h = tt
-above_below x (y ∷ ys) h = (h.0, above_below x ys h.1)
-
-pub ascends : (xs : List ℕ) → slots.IsAscending xs → model.IsAscending xs
-ascends [] h = tt
-ascends (x ∷ xs) h = (above_below x xs h.0, ascends xs h.1)
-
--- different values
-
-among : (m : List (ℕ × ℕ)) (v : ℕ) → IsTrue (is_among v (values m)) → HasValue m v
-among [] v h = absurd (false≢true h)
-among (p ∷ m) v h = elim (cases_eq p.1 v) [
-  | inl e ↦ inl (sym e)
-  | inr n ↦ inr (among m v (subst (λ (b : Bool). IsTrue (b || is_among v (values m))) (ne_eqb p.1 v n) h))
-]
-
-among_is : (m : List (ℕ × ℕ)) (v : ℕ) → HasValue m v → is_among v (values m) ≡ true
-among_is [] v h = absurd h
-among_is (p ∷ m) v (inl e) = ap (λ (b : Bool). b || is_among v (values m)) (eq-eqb p.1 v (sym e))
-among_is (p ∷ m) v (inr h) = or_true (p.1 == v) (is_among v (values m)) (among_is m v h)
-  where
-    or_true : (b c : Bool) → c ≡ true → (b || c) ≡ true
-    or_true true c e = refl
-    or_true false c e = e
-
-not_and : (b c : Bool) → (not b && c) ≡ true → (b ≡ false) × (c ≡ true)
-not_and true c h = absurd (false≢true h)
-not_and false c h = (refl, h)
-
-both_true : (b c : Bool) → b ≡ false → c ≡ true → (not b && c) ≡ true
-both_true true c h k = absurd (false≢true (sym h))
-both_true false c h k = k
-
-differ_injective : (m : List (ℕ × ℕ)) → all_differ (values m) ≡ true → IsInjectiveMap m
-differ_injective [] h = tt
-differ_injective (p ∷ m) h =
-    let q : (is_among p.1 (values m) ≡ false) × (all_differ (values m) ≡ true) = not_and (is_among p.1 (values m)) (all_differ (values m)) h in
-    (λ v. false≢true (sym q.0 ∙ among_is m p.1 v), differ_injective m q.1)
-
-absent : (b : Bool) → ¬ (b ≡ true) → b ≡ false
-absent true n = absurd (n refl)
-absent false n = refl
-
-injective_differ : (m : List (ℕ × ℕ)) → IsInjectiveMap m → all_differ (values m) ≡ true
-injective_differ [] h = refl
-injective_differ (p ∷ m) h =
-    both_true (is_among p.1 (values m)) (all_differ (values m)) (absent (is_among p.1 (values m)) (λ t. h.0 (among m p.1 t))) (injective_differ m h.1)
 
 -- no value stands twice exactly if the map is injective
 pub all_differ-iff : (m : List (ℕ × ℕ)) → IsTrue (all_differ (values m)) ↔ IsInjectiveMap m

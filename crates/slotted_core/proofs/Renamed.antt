@@ -25,7 +25,7 @@ use Rattle.slotted_model.proofs.Members.{In, In-left, In-right, In-append}
 use Rattle.slotted_model.proofs.Sets.{IsAscending-ascending, In-ascending, In-of_ascending}
 use Rattle.slotted_model.proofs.Maps.{In-values, map_on-agrees, map_on-filled, filled-map_on, IsInjectiveMap-map_on}
 use Rattle.slotted_core.specs.Names.{put, with_put}
-use Rattle.slotted_core.proofs.NameMaps.{ascends}
+use Rattle.slotted_proofs.proofs.Bridges.{ascends}
 
 -- all names in a shape are numeric
 

@@ -18,7 +18,7 @@ use Rattle.slotted_model.specs.Applied.{Applied, keys}
 use Rattle.slotted_model.specs.Classes.{canonical_slots, term_of, IsFull}
 use Rattle.slotted_model.specs.Find.{Entry, IsLive, find_class, find_map, find}
 use Rattle.slotted_model.specs.Growth.{Extends}
-use Rattle.slotted_model.specs.Ids.{id_of_node}
+use Rattle.slotted_model.specs.Ids.{id_of_node, id_of}
 use Rattle.slotted_model.specs.Link.{IsLater}
 use Rattle.slotted_model.specs.ProofList.{Equation, ProofEntry, equation_of, asserted}
 use Rattle.slotted_model.specs.Sound.{Sound}

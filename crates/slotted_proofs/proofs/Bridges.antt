@@ -92,7 +92,7 @@ above_below : (x : ℕ) (ys : List ℕ) → slots.AllAbove x ys → rising.IsBel
 above_below x [] h = tt
 above_below x (y ∷ ys) h = (h.0, above_below x ys h.1)
 
-ascends : (xs : List ℕ) → slots.IsAscending xs → rising.IsAscending xs
+pub ascends : (xs : List ℕ) → slots.IsAscending xs → rising.IsAscending xs
 ascends [] h = tt
 ascends (x ∷ xs) h = (above_below x xs h.0, ascends xs h.1)
 
