@@ -12,6 +12,7 @@ pub mod Ids
 pub mod Chasing
 pub mod Answering
 pub mod Entered
+pub mod Checking
 pub mod Asserting
 pub mod Large
 pub mod Linked

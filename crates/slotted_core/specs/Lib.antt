@@ -5,6 +5,7 @@ pub mod Names
 pub mod Nodes
 pub mod Image
 pub mod Graph
+pub mod Checks
 pub mod Alike
 pub mod Kept
 pub mod Places

@@ -20,6 +20,8 @@ ghost use Rattle.slotted_core.specs.Nodes.{to_applied};
 ghost use Rattle.slotted_core.specs.Places.{term_places};
 ghost use Rattle.slotted_core.specs.SmallNodes.{HasSmallNodes};
 
+pub mod steps;
+
 use crate::kernel::Core;
 use crate::terms::is_valid_term;
 use slotted_languages::Language;

@@ -17,6 +17,8 @@ ghost use Rattle.slotted_core.specs.Names.{between};
 ghost use Rattle.slotted_core.specs.Nodes.{to_applied, child_ids};
 ghost use Rattle.slotted_core.specs.Places.{term_places};
 
+mod checking;
+
 use crate::names::{
     PLACES, map_between, places_are_known, put_at_places, renew_values, values_are_keys,
     values_are_known,

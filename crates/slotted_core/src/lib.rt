@@ -11,3 +11,4 @@ mod tests;
 mod uniting;
 
 pub use egraph::EGraph;
+pub use egraph::steps::Check;
