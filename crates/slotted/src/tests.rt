@@ -2,6 +2,8 @@ use super::*;
 use std::io::{ErrorKind, Read};
 use std::test::Fail;
 
+mod replay;
+
 // The answers to some lines, as text.
 fn answers(alloc: Global, lines: &str) -> io::Result<String> {
     let mut output = Vec::new(alloc);
