@@ -3,13 +3,13 @@ use Rattle.std.proofs.Common.{◌≡◌, ◌≤◌, ◌^◌, ◌⊎◌, ℕ, Lis
 use Rattle.std.specs.Prelude.{Option, Some, IsTrue, Result, Ok, Err, IfErr, IsErr, IsErrOf}
 use Rattle.std.specs.Str.{chars}
 use Rattle.std.proofs.lemmas.Bool.{cases_Bool, false≢true}
-use Rattle.slotted_theory.specs.Term.{Args, Term, done, name, child, bind}
+use Rattle.slotted_theory.specs.Term.{Term}
 use Rattle.slotted_theory.specs.Nameless.{nameless}
 use Rattle.slotted_slots.specs.declared.error.Error.{Error}
 use Rattle.slotted_slots.specs.declared.error.Error.TheVariants.{OutOfSlots, Failed, NotYet}
 use Rattle.slotted_slots.specs.declared.types.AppliedId.{AppliedId}
 use Rattle.slotted_slots.specs.Error.{IsShortage}
-use Rattle.slotted_slots.specs.Table.{Table, KnowsMore}
+use Rattle.slotted_slots.specs.Table.{KnowsMore}
 use Rattle.slotted_slots.specs.Syntax.{Element}
 use Rattle.slotted_languages.specs.Form.{Form}
 use Rattle.slotted_terms.specs.Outcome.{parsed, Refuses}
@@ -18,7 +18,6 @@ use Rattle.slotted_model.specs.Applied.{Applied}
 use Rattle.slotted_model.specs.Classes.{term_of}
 use Rattle.slotted_model.specs.Growth.{Extends}
 use Rattle.slotted_model.specs.Ids.{id_of}
-use Rattle.slotted_terms.specs.Valid.{HasKnownNames, IsValidTerm}
 use Rattle.slotted_core.specs.Places.{term_places}
 use Rattle.slotted_core.specs.Graph.{Graph, IsValidId}
 use Rattle.slotted_core.specs.Image.{FoundAlike, AddsClasses, AreDerivable, IsUnion, IsNoUnion, HasLargeClass, asserted_in}
@@ -27,19 +26,6 @@ use Rattle.slotted.specs.declared.answer.Answer.{Answer}
 use Rattle.slotted.specs.declared.answer.Answer.TheVariants.{Yes, No, Refused}
 use Rattle.slotted.specs.Commands.{Command, compares, unites}
 use Rattle.slotted.specs.Sessions.{AddsBoth, Answered, FirstIsRefused, Gains, IsAnsweredWith, IsCommand, IsRefused, RunsOut, RunsOutAt, Says, Unites, WritesTerm, WritesTerms, are_different, are_equal, carried_out, has_failed, not_yet, ran_out, refused, refused_here, texts_of, union_ran_out}
-
--- what a table knows it knows later
-known_later : (t u : Table) → KnowsMore t u → (a : Args) → HasKnownNames t a → HasKnownNames u a
-known_later t u more done k = tt
-known_later t u more (name x rest) k = (more x k.0, known_later t u more rest k.1)
-known_later t u more (child op payloads args rest) k = (known_later t u more args k.0, known_later t u more rest k.1)
-known_later t u more (bind x inner rest) k = (more x k.0, known_later t u more inner k.1, known_later t u more rest k.2)
-
-pub term_later : (t u : Table) → KnowsMore t u → (a : Term) → IsValidTerm t a → IsValidTerm u a
-term_later t u more a v = record { whole = v.whole; known = known_later t u more a.args v.known }
-
-pub id_later : (g h : Graph) (a : Applied) → Extends g.image.canonical h.image.canonical → KnowsMore g.table h.table → IsValidId g a → IsValidId h a
-id_later g h a x more v = record { full = x.full a v.full; known = λ k d l. more _ (v.known k d l) }
 
 module _ (read : List Element → Option Form) (g h : Graph) (text : List ℕ) (image : h.image ≡ g.image) (kept : h.failed ≡ g.failed) (more : KnowsMore g.table h.table) where
   -- a text that was read

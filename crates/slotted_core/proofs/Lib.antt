@@ -23,6 +23,7 @@ pub mod Renamed
 pub mod Added
 pub mod Known
 pub mod Plugged
+pub mod Later
 pub mod Layers
 pub mod FoundParts
 pub mod Grown

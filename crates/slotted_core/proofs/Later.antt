@@ -1,0 +1,46 @@
+-- What was valid stays valid: in the table as names are added to it, in the graph as it grows or ids are united.
+use Rattle.std.proofs.Common.{◌≡◌, List, [], Bool, true, false, sym, ◌∙◌, ap, subst}
+use Rattle.std.specs.Prelude.{IsTrue, slice_index_or}
+use Rattle.slotted_theory.specs.Term.{Args, Term, done, name, child, bind}
+use Rattle.slotted_theory.specs.Nameless.{DTerm}
+use Rattle.slotted_slots.specs.Table.{Table, KnowsMore, is_known}
+use Rattle.slotted_terms.specs.Valid.{HasKnownNames, IsValidTerm}
+use Rattle.slotted_model.specs.Applied.{Applied, values}
+use Rattle.slotted_model.specs.Classes.{IsFull}
+use Rattle.slotted_model.specs.Correspondence.{composite}
+use Rattle.slotted_model.specs.Growth.{Extends}
+use Rattle.slotted_core.specs.Graph.{Graph, IsValidId}
+use Rattle.slotted_core.specs.Image.{Image, FoundAlike, found_id, IsUnion}
+
+-- what a table knows it knows later
+known_later : (t u : Table) → KnowsMore t u → (a : Args) → HasKnownNames t a → HasKnownNames u a
+known_later t u more done k = tt
+known_later t u more (name x rest) k = (more x k.0, known_later t u more rest k.1)
+known_later t u more (child op payloads args rest) k = (known_later t u more args k.0, known_later t u more rest k.1)
+known_later t u more (bind x inner rest) k = (more x k.0, known_later t u more inner k.1, known_later t u more rest k.2)
+
+pub term_later : (t u : Table) → KnowsMore t u → (a : Term) → IsValidTerm t a → IsValidTerm u a
+term_later t u more a v = record { whole = v.whole; known = known_later t u more a.args v.known }
+
+pub id_later : (g h : Graph) (a : Applied) → Extends g.image.canonical h.image.canonical → KnowsMore g.table h.table → IsValidId g a → IsValidId h a
+id_later g h a x more v = record { full = x.full a v.full; known = λ k d l. more _ (v.known k d l) }
+
+-- a graph with the same canonical nodes and the same table has the same ids
+pub id_same : (g h : Graph) (a : Applied) → h.image.canonical ≡ g.image.canonical → h.table ≡ g.table → IsValidId g a → IsValidId h a
+id_same g h a nodes table v = record {
+  full = subst (λ (x : List DTerm). IsFull x a) (sym nodes) v.full;
+  known = λ k d l. subst (λ (t : Table). IsTrue (is_known t (slice_index_or (values a.1) k d))) (sym table) (v.known k d l);
+}
+
+-- after a union its sides find alike, and no canonical node has changed
+
+pub union_alike : (g h : Image) (a b : Applied) (y : Bool) → IsUnion g h a b y → FoundAlike h a b
+union_alike g h a b true u = u.1
+union_alike g h a b false u = same_found a ∙ (u.0 ∙ sym (same_found b))
+  where
+    same_found : (c : Applied) → found_id h c ≡ found_id g c
+    same_found c = ap (λ (f : List Applied). ((slice_index_or f c.0 (0, [])).0, composite (slice_index_or f c.0 (0, [])).1 c.1)) u.1
+
+pub union_nodes : (g h : Image) (a b : Applied) (y : Bool) → IsUnion g h a b y → h.canonical ≡ g.canonical
+union_nodes g h a b true u = u.3
+union_nodes g h a b false u = u.3

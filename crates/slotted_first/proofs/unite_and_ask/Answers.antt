@@ -1,0 +1,45 @@
+use Rattle.std.proofs.Common.{inr}
+use Rattle.std.specs.Prelude.{Bool, Result, Ok, Err, IsTrue, IfOk, ◌↔◌}
+use Rattle.slotted_slots.specs.declared.error.Error.{Error}
+use Rattle.slotted_model.specs.Applied.{Applied}
+use Rattle.slotted_core.specs.Image.{Image, FoundAlike}
+use Rattle.slotted_core.specs.Nodes.{to_applied}
+use Rattle.slotted_core.proofs.Later.{term_later, id_later, id_same, union_alike, union_nodes}
+use Rattle.slotted_first.proofs.unite_and_ask.Goals as goal
+
+-- where ids find alike, an answer that says whether they do is yes
+yes_if : (h : Image) (a b : Applied) (r : Result Bool Error) → IfOk r (λ yes. IsTrue yes ↔ FoundAlike h a b) → FoundAlike h a b → IfOk r IsTrue
+yes_if h a b (Ok answer) e f = e.1 f
+yes_if h a b (Err error) e f = tt
+
+pub add_expr-requires : goal.add_expr-requires
+add_expr-requires g c = inr (term_later c.parse_expr.new.self.table c.parse_expr-2.new.self.table c.in_ok-right.ensures.more c.in_ok-left.left c.in_ok-left.ensures.valid)
+
+pub add_expr-requires-2 : goal.add_expr-requires-2
+add_expr-requires-2 g c = inr (term_later c.parse_expr-2.new.self.table c.add_expr.new.self.table c.in_ok-left-2.ensures.more c.in_ok-right.right c.in_ok-right.ensures.valid)
+
+pub union-requires-clause-left : goal.union-requires-clause-left
+union-requires-clause-left g c = inr (id_later c.add_expr.new.self c.add_expr-2.new.self (to_applied c.in_ok-left-2.left) c.in_ok-right-2.ensures.extends c.in_ok-right-2.ensures.more c.in_ok-left-2.ensures.valid)
+
+pub union-requires-clause-right : goal.union-requires-clause-right
+union-requires-clause-right g c = inr c.in_ok-right-2.ensures.valid
+
+pub eq-requires-clause-left : goal.eq-requires-clause-left
+eq-requires-clause-left g c =
+    let a = to_applied c.in_ok-left-2.left in
+    let b = to_applied c.in_ok-right-2.right in
+    inr (id_same c.add_expr-2.new.self c.union.new.self a (union_nodes c.add_expr-2.new.self.image c.union.new.self.image a b c.in_ok-union.field-0 c.in_ok-union.ensures.union) c.union.ensures.table
+    (id_later c.add_expr.new.self c.add_expr-2.new.self a c.in_ok-right-2.ensures.extends c.in_ok-right-2.ensures.more c.in_ok-left-2.ensures.valid))
+
+pub eq-requires-clause-right : goal.eq-requires-clause-right
+eq-requires-clause-right g c =
+    let a = to_applied c.in_ok-left-2.left in
+    let b = to_applied c.in_ok-right-2.right in
+    inr (id_same c.add_expr-2.new.self c.union.new.self b (union_nodes c.add_expr-2.new.self.image c.union.new.self.image a b c.in_ok-union.field-0 c.in_ok-union.ensures.union) c.union.ensures.table c.in_ok-right-2.ensures.valid)
+
+pub returns : goal.returns
+returns g c =
+    let a = to_applied c.in_ok-left-2.left in
+    let b = to_applied c.in_ok-right-2.right in
+    let alike = union_alike c.add_expr-2.new.self.image c.union.new.self.image a b c.in_ok-union.field-0 c.in_ok-union.ensures.union in
+    yes_if c.union.new.self.image a b c.eq.result c.eq.ensures.found alike
