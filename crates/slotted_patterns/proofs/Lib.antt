@@ -1,0 +1,2 @@
+-- Lemmas on reading texts.
+pub mod StackSteps

@@ -1,0 +1,8 @@
+-- What patterns are, and what texts read as.
+pub mod Tree
+pub mod View
+pub mod Grammar
+pub mod Outcome
+pub mod Parsed
+pub mod Tokens
+pub mod Stack
