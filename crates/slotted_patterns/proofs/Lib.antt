@@ -1,2 +1,5 @@
 -- Lemmas on reading texts.
 pub mod StackSteps
+pub mod Tokenizing
+pub mod OneReading
+pub mod SomeReading

@@ -31,7 +31,7 @@ module _ (read : List Element → Option Form) where
   -- a pattern inside open parts
   pub reads_pattern : (parts : List Part) (ls : List Lexeme) (p r : Reading PatternTree) → begins_slot_or_end ls ≡ false → ReadsPattern read ls p → Resumes read parts p r → ReadsOpen read parts ls r
   reads_pattern [] ls p r e d h = (p, d, h)
-  reads_pattern (in_bracket b ∷ parts) ls p r e d h = (h.0, then_child e d h.1, h.2)
+  reads_pattern (in_bracket b ∷ parts) ls p r e d h = (h.0, then_child e d h.1, (h.2, h.3, h.4))
   reads_pattern (before_place b ∷ parts) ls p r e d h = (p, d, h)
   reads_pattern (before_value b x ∷ parts) ls p r e d h = (p, d, h)
 
@@ -76,7 +76,9 @@ module _ (read : List Element → Option Form) where
 
   -- a child in the innermost bracket
   pub reads_child : (b : Bracket) (parts : List Part) (p : PatternTree) (ls : List Lexeme) (r : Reading PatternTree) → ReadsOpen read (in_bracket (joined b (one_child p)) ∷ parts) ls r → Resumes read (in_bracket b ∷ parts) (found p ls) r
-  reads_child b parts p ls r h = (after (one_child p) h.0, goes_on h.1, subst (λ x. Continues read parts (node read x) r) (sym (after-after b (one_child p) h.0)) h.2)
+  reads_child b parts p ls r h =
+      let c : Continues read parts (node read (after b (after (one_child p) h.0))) r = subst (λ x. Continues read parts (node read x) r) (sym (after-after b (one_child p) h.0)) h.2 in
+      (after (one_child p) h.0, goes_on h.1, c.0, c.1, c.2)
 
   -- `:=` after `b[x`
   pub reads_colon_equals : (b : PatternTree) (parts : List Part) (x : PatternTree) (ls : List Lexeme) (r : Reading PatternTree) → ReadsOpen read (before_value b x ∷ parts) ls r → Resumes read (before_place b ∷ parts) (found x (colon_equals ∷ ls)) r
