@@ -1,4 +1,5 @@
 -- Lemmas on reading texts.
+pub mod Refusals
 pub mod StackSteps
 pub mod Tokenizing
 pub mod OneReading

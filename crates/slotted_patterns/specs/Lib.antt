@@ -6,3 +6,4 @@ pub mod Outcome
 pub mod Parsed
 pub mod Tokens
 pub mod Stack
+pub mod Reader
