@@ -1,6 +1,7 @@
 -- Lemmas on reading texts.
 pub mod Refusals
 pub mod StackSteps
+pub mod ReaderSteps
 pub mod Tokenizing
 pub mod OneReading
 pub mod SomeReading

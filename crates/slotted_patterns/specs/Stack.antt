@@ -12,6 +12,11 @@ pub data Part : Type 0 where
   before_place : (body : PatternTree) → Part
   before_value : (body place : PatternTree) → Part
 
+-- the innermost part is no bracket
+abbrev pub IsOutside : List Part → Type 0
+IsOutside (in_bracket b ∷ parts) = ⊥
+IsOutside parts = Unit {0}
+
 -- what a whole pattern that was read inside open parts makes of them all
 abbrev pub Resumes : (List Element → Option Form) → List Part → Reading PatternTree → Reading PatternTree → Type 0
 Resumes read [] p r = r ≡ p

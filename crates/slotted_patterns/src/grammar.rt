@@ -1,13 +1,13 @@
 //! Patterns from their tokens, without recursion, so that no text runs the machine out of stack.
-ghost use Rattle.std.specs.Prelude.{◌≡◌, ◌<◌, ◌+◌, ◌∷◌, ◌++◌, false, length, map, string_bytes, List, IsTrue, IfOk, OnOk, IfErr};
+ghost use Rattle.std.specs.Prelude.{◌≡◌, ◌<◌, ◌+◌, ◌∷◌, ◌++◌, false, length, map, string_bytes, List, IsTrue, IfOk, OnOk, IfErr, IfSome, IfNone};
 ghost use Rattle.std.specs.Option.{option_to_list};
 ghost use Rattle.slotted_slots.specs.Error.{IsOutOfMemory};
 ghost use Rattle.slotted_slots.specs.Syntax.{Lexeme, lexeme_of, word, slot, colon_equals, left_paren, right_paren, left_bracket, right_bracket, no_pattern, no_colon_equals, no_right_bracket};
 ghost use Rattle.slotted_patterns.specs.Outcome.{Refuses, Answers, outside};
 ghost use Rattle.slotted_patterns.specs.Parsed.{TokensRead};
 ghost use Rattle.slotted_patterns.specs.View.{tree_of};
-ghost use Rattle.slotted_patterns.specs.Stack.{IsFault};
-ghost use Rattle.slotted_patterns.specs.Reader.{bracket_of, ReadsAs, ResumesAs, IsFaultFrom, IsFaultAfter, IsFaultOf, IsLess};
+ghost use Rattle.slotted_patterns.specs.Stack.{in_bracket, IsOutside, IsFault};
+ghost use Rattle.slotted_patterns.specs.Reader.{bracket_of, parts_of, ReadsAs, ResumesAs, IsFaultFrom, IsFaultAfter, IsFaultOf, IsLess};
 ghost use Rattle.slotted_patterns.specs.Grammar.{found, joined, one_text, one_slot, one_child, node, ReadsPattern, begins_with_word, begins_with_left_bracket, begins_with_colon_equals, begins_with_right_bracket};
 
 use crate::pattern::Pattern;
@@ -196,6 +196,20 @@ fn skip_right_bracket(tokens: &mut VecDeque<Token>) -> bool
     true
 }
 
+/// Takes the innermost part, if that is a bracket.
+fn pop_bracket<L: Language>(stack: &mut Vec<Part<L>>) -> Option<Open<L>>
+    ensures some { IfSome result (λ b. parts_of L.form stack.old.items
+        ≡ in_bracket (bracket_of L.form b) ∷ parts_of L.form stack.new.items) }
+    ensures none { IfNone result (IsOutside (parts_of L.form stack.old.items)) }
+{
+    match stack.pop() {
+        Some(Part::Node(open)) => Some(open),
+        Some(Part::Place(_)) => None,
+        Some(Part::Value(_, _)) => None,
+        None => None,
+    }
+}
+
 /// Reads on after a slot, which may stand in a bracket only.
 fn read_slot<L: Language>(
     alloc: Global,
@@ -209,14 +223,12 @@ fn read_slot<L: Language>(
     ensures none { IfErr result (Refuses
         (IsFaultFrom L.form L.read stack.old.items Point.Due (slot name ∷ map lexeme_of tokens.old.items))) }
 {
-    match stack.pop() {
-        Some(Part::Node(mut open)) => {
-            open.push_slot(name)?;
-            stack.push(Part::Node(open))?;
-            Ok(Point::Due)
-        }
-        _ => Err(no_pattern(alloc, Some(Token::Slot(name)), tokens)),
-    }
+    let Some(mut open) = pop_bracket(stack) else {
+        return Err(no_pattern(alloc, Some(Token::Slot(name)), tokens));
+    };
+    open.push_slot(name)?;
+    stack.push(Part::Node(open))?;
+    Ok(Point::Due)
 }
 
 /// Reads on after the end of a bracket.
@@ -231,10 +243,10 @@ fn read_end<L: Language>(
     ensures none { IfErr result (Refuses
         (IsFaultFrom L.form L.read stack.old.items Point.Due (right_paren ∷ map lexeme_of tokens.old.items))) }
 {
-    match stack.pop() {
-        Some(Part::Node(open)) => Ok(Point::Base(open.build(alloc)?)),
-        _ => Err(no_pattern(alloc, Some(Token::RParen), tokens)),
-    }
+    let Some(open) = pop_bracket(stack) else {
+        return Err(no_pattern(alloc, Some(Token::RParen), tokens));
+    };
+    Ok(Point::Base(open.build(alloc)?))
 }
 
 /// Reads a base, the beginning of one, or a part of a bracket.
