@@ -2,6 +2,7 @@
 pub mod Refusals
 pub mod StackSteps
 pub mod ReaderSteps
+pub mod WholeTexts
 pub mod Tokenizing
 pub mod OneReading
 pub mod SomeReading

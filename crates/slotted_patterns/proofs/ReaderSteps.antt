@@ -213,6 +213,22 @@ module _ {L : Type 0} (form : L → Form) where
         Refuses-weaker (λ o. o ≡ outside (no_right_bracket ls)) (IsFaultAfter form read st (Value body place) value all) e h (λ o q.
         (no_right_bracket all, q ∙ ap (λ x. outside (no_right_bracket x)) p, reads_no_right_bracket read (tree_of form body) (tree_of form place) (parts_of form st) (tree_of form value) all n))
 
+    -- ---- the whole reading
+
+    pub followed : (all ls ls' : List Lexeme) (st st' : List (Part L)) (at from to : Point L) → ReadsAs form read [] Due all st at ls → at ≡ from → ReadsAs form read st from ls st' to ls' → ReadsAs form read [] Due all st' to ls'
+    followed all ls ls' st st' at from to h p k r d = h r (subst (λ x. ReadsFrom form read st x ls r) (sym p) (k r d))
+
+    pub follows_whole : (all ls : List Lexeme) (st : List (Part L)) (at : Point L) (p : Pattern L) → ReadsAs form read [] Due all st at ls → at ≡ Whole p → ReadsPattern read all (found (tree_of form p) ls)
+    follows_whole all ls st at p h q =
+        let d = h (found (tree_of form p) ls) (subst (λ x. ReadsFrom form read st x ls (found (tree_of form p) ls)) (sym q) refl) in
+        subst (ReadsPattern read all) (sym d.2) d.1
+
+    pub refuses_followed : (all ls : List Lexeme) (st : List (Part L)) (at from : Point L) (e : Error) → ReadsAs form read [] Due all st at ls → at ≡ from → Refuses (IsFaultFrom form read st from ls) e → Refuses (IsFaultOf read all) e
+    refuses_followed all ls st at from e h p k =
+        Refuses-weaker (IsFaultFrom form read st from ls) (IsFaultOf read all) e k (λ o q.
+        let d = h (fault q.0) (subst (λ x. ReadsFrom form read st x ls (fault q.0)) (sym p) q.2) in
+        (q.0, q.1, subst (ReadsPattern read all) (sym d.2) d.1))
+
 -- the first of the tokens
 pub first_token : (items rest : List Token) (x y : Token) → items ≡ x ∷ rest → x ≡ y → map lexeme_of items ≡ lexeme_of y ∷ map lexeme_of rest
 first_token items rest x y p q = ap (map lexeme_of) p ∙ ap (λ t. lexeme_of t ∷ map lexeme_of rest) q
