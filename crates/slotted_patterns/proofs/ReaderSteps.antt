@@ -1,5 +1,5 @@
 -- The steps of the reader over its stack.
-use Rattle.std.proofs.Common.{◌≡◌, ℕ, false, List, [], ◌∷◌, ◌++◌, length, refl, subst, sym, ap, ◌∙◌, reverse, arith}
+use Rattle.std.proofs.Common.{◌≡◌, ℕ, false, List, [], ◌∷◌, ◌++◌, length, refl, subst, sym, ap, ◌∙◌, arith}
 use Rattle.std.specs.Prelude.{Option, Some, map, String, Result, Ok, Err, IfOk, IfErr}
 use Rattle.std.specs.Option.{option_to_list}
 use Rattle.std.proofs.lemmas.List.{reverse-append}
@@ -13,7 +13,7 @@ use Rattle.slotted_languages.specs.Form.{Form}
 use Rattle.slotted_patterns.specs.Tree.{PatternTree, pvar, substitution}
 use Rattle.slotted_patterns.specs.View.{tree_of}
 use Rattle.slotted_patterns.specs.Outcome.{Outcome, outside, Refuses}
-use Rattle.slotted_patterns.specs.Grammar.{Reading, found, fault, Bracket, joined, one_text, one_slot, one_child, node, begins_with_word, begins_pattern, begins_slot_or_end, begins_with_left_bracket, begins_with_colon_equals, begins_with_right_bracket, ReadsPattern, based, no_base, faulty_base}
+use Rattle.slotted_patterns.specs.Grammar.{Reading, found, fault, joined, one_text, one_slot, one_child, node, begins_with_word, begins_pattern, begins_slot_or_end, begins_with_left_bracket, begins_with_colon_equals, begins_with_right_bracket, ReadsPattern, based, no_base, faulty_base}
 use Rattle.slotted_patterns.specs.Stack as stack
 use Rattle.slotted_patterns.specs.Stack.{in_bracket, before_place, before_value, IsOutside, Resumes, Continues, ReadsOpen, IsFault}
 use Rattle.slotted_patterns.specs.Reader.{bracket_of, part_of, parts_of, ReadsFrom, ReadsAs, IsFaultFrom, ResumesAs, IsFaultAfter, IsFaultOf}
@@ -173,10 +173,12 @@ module _ {L : Type 0} (form : L → Form) where
     pub refuses_on : (st mid : List (Part L)) (o : Option (Part L)) (part : Part L) (b : Pattern L) (all ls : List Lexeme) (e : Error) → ls ≡ all → begins_with_left_bracket all ≡ false → st ≡ mid ++ option_to_list o → o ≡ Some part → Refuses (IsFaultAfter form read mid part b ls) e → Refuses (IsFaultFrom form read st (Base b) all) e
     refuses_on st mid o part b all ls e p n k q h =
         let inner = part_of form part ∷ parts_of form mid in
-        Refuses-weaker (IsFaultAfter form read mid part b ls) (IsFaultFrom form read st (Base b) all) e h (λ u f.
-        (f.0, f.1,
-        subst (λ x. Continues read x (found (tree_of form b) all) (fault f.0)) (sym (parts_of-popped st mid o part k q))
-        (reads_no_bracket read inner (tree_of form b) all (fault f.0) n (subst (λ x. Resumes read inner (found (tree_of form b) x) (fault f.0)) p f.2))))
+        Refuses-weaker (IsFaultAfter form read mid part b ls) (IsFaultFrom form read st (Base b) all) e h (λ u f. (
+          f.0,
+          f.1,
+          subst (λ x. Continues read x (found (tree_of form b) all) (fault f.0)) (sym (parts_of-popped st mid o part k q))
+              (reads_no_bracket read inner (tree_of form b) all (fault f.0) n (subst (λ x. Resumes read inner (found (tree_of form b) x) (fault f.0)) p f.2)),
+        ))
 
     -- the same of the answer of a call
     pub answers_on : (st mid st' : List (Part L)) (o : Option (Part L)) (part : Part L) (b : Pattern L) (all ls ls' : List Lexeme) (r : Result (Point L) Error) → ls ≡ all → begins_with_left_bracket all ≡ false → st ≡ mid ++ option_to_list o → o ≡ Some part → IfOk r (λ at. ResumesAs form read mid part b ls st' at ls') → IfOk r (λ at. ReadsAs form read st (Base b) all st' at ls')

@@ -384,8 +384,6 @@ pub(crate) fn parse_tokens<L: Language>(
     if tokens.is_empty() {
         Ok(pattern)
     } else {
-        Err(Error::Parse(ParseError::RemainingRest(
-            tokens.into_vec(),
-        )))
+        Err(Error::Parse(ParseError::RemainingRest(tokens.into_vec())))
     }
 }

@@ -1,7 +1,7 @@
-use Rattle.std.proofs.Common.{map, ap, ◌∙◌, sym, refl, subst, rules, arith, length, [], ◌≡◌, ◌∷◌}
+use Rattle.std.proofs.Common.{map, ap, ◌∙◌, rules, arith, ◌∷◌}
 use Rattle.std.specs.Prelude.{string_bytes}
 use Rattle.std.proofs.lemmas.Result.{err_from_is_err_and}
-use Rattle.slotted_slots.specs.Syntax.{lexeme_of, left_paren, word, variable, no_pattern}
+use Rattle.slotted_slots.specs.Syntax.{lexeme_of, left_paren}
 use Rattle.slotted_patterns.specs.declared.pattern.Pattern.{the_lemmas}
 use Rattle.slotted_patterns.proofs.ReaderSteps.{first_token, refuses_nothing, is_other, refuses_other, stepped_begin, refuses_no_operator, stepped_word, refuses_word, stepped_variable}
 use Rattle.slotted_patterns.proofs.grammar.read_base.Goals as goal

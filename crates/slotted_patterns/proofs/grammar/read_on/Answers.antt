@@ -1,4 +1,4 @@
-use Rattle.std.proofs.Common.{map, ap, ◌∙◌, sym, refl, rules, arith, length, ◌≡◌, Some}
+use Rattle.std.proofs.Common.{map, ap, ◌∙◌, rules, arith, length, ◌≡◌, Some}
 use Rattle.slotted_slots.specs.Syntax.{lexeme_of}
 use Rattle.slotted_patterns.specs.declared.grammar.Part.TheVariants.{Node, Place, Value}
 use Rattle.slotted_patterns.specs.declared.grammar.Point.TheVariants.{Due}
