@@ -1,0 +1,8 @@
+-- Lemmas on reading texts.
+pub mod Refusals
+pub mod StackSteps
+pub mod ReaderSteps
+pub mod WholeTexts
+pub mod Tokenizing
+pub mod OneReading
+pub mod SomeReading

@@ -1,0 +1,15 @@
+use Rattle.std.proofs.Common.{length, map}
+use Rattle.std.specs.Str.{chars}
+use Rattle.slotted_slots.specs.Syntax.{lexeme_of}
+use Rattle.slotted_slots.specs.Table.{KnowsMore}
+use Rattle.slotted_patterns.specs.Tokens.{BeginsWith}
+use Rattle.slotted_patterns.proofs.tokens.tokenize.Given as goal
+
+abbrev pub invariant-loop-tokens : goal.invariant-loop-tokens
+invariant-loop-tokens l = record {
+  read : BeginsWith l.fn.table (chars l.fn.text) (map lexeme_of l.tokens.items) l.rest l.table;
+  more : KnowsMore l.fn.table l.table;
+}
+
+abbrev pub decreases-loop-tokens : goal.decreases-loop-tokens
+decreases-loop-tokens l = length l.rest

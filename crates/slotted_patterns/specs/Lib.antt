@@ -1,0 +1,9 @@
+-- What patterns are, and what texts read as.
+pub mod Tree
+pub mod View
+pub mod Grammar
+pub mod Outcome
+pub mod Parsed
+pub mod Tokens
+pub mod Stack
+pub mod Reader

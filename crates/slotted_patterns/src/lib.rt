@@ -1,0 +1,9 @@
+//! Patterns over any language, and the texts that write them.
+#![tactic(auto)]
+
+mod grammar;
+pub mod parse;
+pub mod pattern;
+mod tokens;
+
+pub use pattern::Pattern;

@@ -1,0 +1,33 @@
+//! Patterns from their texts.
+ghost use Rattle.std.specs.Str.{chars};
+ghost use Rattle.slotted_slots.specs.Table.{KnowsMore};
+ghost use Rattle.slotted_patterns.specs.Outcome.{Answers};
+ghost use Rattle.slotted_patterns.specs.Parsed.{PatternReads, ReadsOneWay, ReadsSomeWay};
+
+use crate::grammar::parse_tokens;
+use crate::pattern::Pattern;
+use crate::tokens::tokenize;
+use slotted_languages::language::Language;
+use slotted_slots::{Error, SlotTable};
+use std::alloc::Global;
+
+impl<L: Language> Pattern<L> {
+    /// The pattern that a text writes: a variable as `?x`, a word, or a word in round brackets with slots and patterns after
+    /// it, each with any number of substitutions `[x := t]` after it, as in `(lam $x (app ?f (var $x)))[(var $x) := ?t]`.
+    ///
+    /// All tokens are read before the grammar is applied, and each slot's name is looked up or kept in the table as its
+    /// token is read. A refusal leaves in the table the names that were read before it.
+    pub fn parse(alloc: Global, text: &str, table: &mut SlotTable) -> Result<Pattern<L>, Error>
+        ensures answer { Answers L.form (λ o. PatternReads L.read table.old (chars text.now) o table.new) result }
+        ensures more { KnowsMore table.old table.new }
+    {
+        let tokens = tokenize(alloc, text, table)?;
+        parse_tokens(alloc, tokens)
+    }
+}
+
+/// A text reads in just one way: the language, the table and the characters determine the outcome and the table after it.
+pub fn each_text_reads_in_one_way()
+    ensures one { ReadsOneWay }
+    ensures some { ReadsSomeWay }
+{}
