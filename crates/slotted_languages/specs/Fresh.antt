@@ -1,7 +1,7 @@
 -- Fresh slots in the place of names: each such name gets one unused slot of its own.
 use Rattle.std.specs.Prelude.{◌≡◌, ◌⊎◌, ℕ, List, map, Bool, true, false, Some, None, IsSome, unwrap_or}
 use Rattle.slotted_theory.specs.Nameless.{moved}
-use Rattle.slotted_slots.specs.Maps.{value_of, is_among}
+use Rattle.slotted_slots.specs.Maps.{IsInEither, value_of, is_among}
 use Rattle.slotted_slots.specs.Table.{Table, is_known}
 use Rattle.slotted_languages.specs.Form.{Form}
 use Rattle.slotted_languages.specs.NodeTerm.{nameless_node, free_names_of}
@@ -40,14 +40,6 @@ pub record IsRefreshed (t : Table) (chosen : ℕ → Bool) (f g : Form) : Type 0
   pub differ : (x z : ℕ) → is_among x f.names ≡ true → is_among z f.names ≡ true → by x ≡ by z → x ≡ z
   pub places : g ≡ with_names f (map by f.names)
   pub renamed : nameless_node g ≡ moved by (nameless_node f)
-
--- each slot that the table new knows and the table old does not know is one of these
-abbrev pub Takes : Table → Table → (ℕ → Type 0) → Type 0
-Takes old new these = (z : ℕ) → is_known new z ≡ true → is_known old z ≡ false → these z
-
--- z is a name of one list or of the other
-abbrev pub IsInEither : List ℕ → List ℕ → ℕ → Type 0
-IsInEither xs ys z = (is_among z xs ≡ true) ⊎ (is_among z ys ≡ true)
 
 -- z is a name to be avoided, a value or a name of a node
 abbrev pub IsInUse : List ℕ → List ℕ → List ℕ → ℕ → Type 0
