@@ -6,6 +6,10 @@ pub mod Joined
 pub mod Equal
 pub mod PairEqual
 pub mod ReadFrom
+pub mod Texts
+pub mod TextLaws
+pub mod Identifier
+pub mod ReadsBack
 pub mod Small
 pub mod SmallSame
 pub mod SmallRead

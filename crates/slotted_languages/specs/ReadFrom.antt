@@ -9,7 +9,7 @@ use Rattle.slotted_slots.specs.Maps.{is_among, values}
 use Rattle.slotted_slots.specs.Syntax.{Element, text, applied, name}
 use Rattle.slotted_languages.specs.Form.{Form, children, plain, slot_form, child_form, bind_form, join_form, variant}
 use Rattle.slotted_languages.specs.Joined.{children-join}
-use Rattle.slotted_languages.specs.Written.{read_slot, read_child, read_bind, read_payload}
+use Rattle.slotted_languages.specs.Written.{read_slot, read_child, read_bind, read_text}
 
 -- the slots of elements: a text has none, an applied id has the values of its map
 abbrev pub slots_of : List Element → List ℕ
@@ -103,10 +103,10 @@ pub bind_faithful : (read : List Element → Option Form) → ((es : List Elemen
 bind_faithful read law (name x ∷ es) = bind_faithful_of x es (read es) (law es)
 bind_faithful read law _ = tt
 
-payload_faithful_of : (bs : List ℕ) (o : Option (List ℕ)) → IfSome (option_map (λ words. plain (words ∷ [])) o) (IsReadFrom (text bs ∷ []))
-payload_faithful_of bs None = tt
-payload_faithful_of bs (Some words) = plain_read bs (words ∷ [])
+text_faithful_of : {A : Type 0} (word : A → List ℕ) (bs : List ℕ) (o : Option A) → IfSome (option_map (λ a. plain (word a ∷ [])) o) (IsReadFrom (text bs ∷ []))
+text_faithful_of word bs None = tt
+text_faithful_of word bs (Some a) = plain_read bs (word a ∷ [])
 
-pub payload_faithful : (reads : List ℕ → Option (List ℕ)) (es : List Element) → IfSome (read_payload reads es) (IsReadFrom es)
-payload_faithful reads (text bs ∷ []) = payload_faithful_of bs (reads bs)
-payload_faithful reads _ = tt
+pub text_faithful : {A : Type 0} (word : A → List ℕ) (reads : List ℕ → Option A) (es : List Element) → IfSome (option_map (λ a. plain (word a ∷ [])) (read_text reads es)) (IsReadFrom es)
+text_faithful word reads (text bs ∷ []) = text_faithful_of word bs (reads bs)
+text_faithful word reads _ = tt

@@ -1,7 +1,7 @@
 -- What the parts of nodes are written as, and what lists of elements write.
 use Rattle.std.specs.Prelude.{ℕ, List, [], ◌∷◌, Option, Some, None, option_map}
 use Rattle.slotted_slots.specs.Syntax.{Element, text, applied, name}
-use Rattle.slotted_languages.specs.Form.{Form, plain, slot_form, child_form, bind_form}
+use Rattle.slotted_languages.specs.Form.{Form, slot_form, child_form, bind_form}
 
 -- one slot
 abbrev pub read_slot : List Element → Option Form
@@ -18,7 +18,7 @@ abbrev pub read_bind : (List Element → Option Form) → List Element → Optio
 read_bind read (name x ∷ es) = option_map (bind_form x) (read es)
 read_bind read _ = None
 
--- one text that a payload reads
-abbrev pub read_payload : (List ℕ → Option (List ℕ)) → List Element → Option Form
-read_payload reads (text bs ∷ []) = option_map (λ words. plain (words ∷ [])) (reads bs)
-read_payload reads _ = None
+-- what one text alone reads as
+abbrev pub read_text : {A : Type 0} → (List ℕ → Option A) → List Element → Option A
+read_text reads (text bs ∷ []) = reads bs
+read_text reads _ = None

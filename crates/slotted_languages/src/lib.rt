@@ -6,7 +6,7 @@
 //! - a [`slotted_slots::Slot`], one place with a name;
 //! - a [`slotted_slots::AppliedId`], a child;
 //! - a [`Bind`] of a field, which binds a slot in that field;
-//! - a payload, as `u32` or [`Symbol`], which has neither places nor children.
+//! - a payload, which has neither places nor children: an integer of Rust's types, a `bool`, a `char`, or a [`Symbol`].
 //!
 //! # Writing a language
 //!
@@ -24,6 +24,9 @@
 //!    two nodes are equal exactly if their forms are (`same`); what is read has the slots and the children of its
 //!    elements, and makes up none (`faithful`). `specs/Equal.antt` has the first three for the fields, and
 //!    `specs/PairEqual.antt` for two fields and for a variant; `specs/ReadFrom.antt` has the last for all of these.
+//!
+//! A language whose nodes read back from what they are written as says so by [`ReadBack`], with three more laws by cases;
+//! `specs/ReadsBack.antt` has them for the fields.
 //!
 //! The rest follows from the form: a write changes its place or its child alone, a child's places stand together, scopes
 //! nest or lie apart and hold whole children, and none of that depends on names.
@@ -53,6 +56,7 @@ pub mod outline;
 pub mod pair;
 pub mod payload;
 pub(crate) mod places;
+pub mod read_back;
 pub mod renaming;
 pub mod shape;
 pub mod small;
@@ -60,5 +64,6 @@ pub mod small;
 pub use children::{Bind, LanguageChildren};
 pub use language::Language;
 pub use payload::Symbol;
+pub use read_back::ReadBack;
 pub use shape::shapes_decide;
 pub use small::Small;

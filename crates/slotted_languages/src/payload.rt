@@ -11,10 +11,11 @@ ghost use Rattle.std.proofs.Common.{rules, lit<};
 ghost use Rattle.slotted_slots.specs.Error.{IsOutOfMemory};
 ghost use Rattle.slotted_slots.specs.Syntax.{text};
 ghost use Rattle.slotted_languages.specs.Form.{plain};
-ghost use Rattle.slotted_languages.specs.Equal.{number_told, bytes_told, plain_same};
-ghost use Rattle.slotted_languages.specs.ReadFrom.{payload_faithful};
-ghost use Rattle.slotted_languages.specs.Written.{read_payload};
-ghost use Rattle.slotted_slots.specs.Table.{reads_u32};
+ghost use Rattle.slotted_languages.specs.Equal.{bytes_told, plain_same};
+ghost use Rattle.slotted_languages.specs.ReadFrom.{text_faithful};
+ghost use Rattle.slotted_languages.specs.TextLaws.{number_same};
+ghost use Rattle.slotted_languages.specs.Texts.{number_form};
+ghost use Rattle.slotted_languages.specs.Written.{read_text};
 
 use crate::children::LanguageChildren;
 use slotted_slots::{AppliedId, Error, Slot, SyntaxElem};
@@ -24,82 +25,11 @@ use std::fmt::Debug;
 use std::hash::{Hash, Hasher};
 use std::marker::Model;
 
-/// The number that a text writes by Rust's reader, where it writes one.
-pub(crate) fn read_u32(text: &str) -> Option<u32>
-    ensures { result ≡ reads_u32 text.now }
-{
-    text.parse().ok()
-}
-
-impl LanguageChildren for u32 {
-    ghost form = { λ n. plain ((n ∷ []) ∷ []) };
-
-    ghost shown = { λ n. text (decimal n) ∷ [] };
-
-    ghost read = { read_payload (λ bs. option_map (λ n. n ∷ []) (reads_u32 bs)) };
-
-    ghost fits = { λ _. refl };
-
-    ghost few = { λ _. lit< tt };
-
-    ghost same = { λ a b. plain_same (nat_eq a b) (a ∷ []) (b ∷ []) (number_told a b) };
-
-    ghost faithful = { payload_faithful (λ bs. option_map (λ n. n ∷ []) (reads_u32 bs)) };
-
-    fn copy(&self, alloc: Global) -> Result<Self, Error> {
-        Ok(*self)
-    }
-
-    fn slot_count(&self) -> usize {
-        0
-    }
-
-    // A payload has neither places nor children: what is asked of one is answered without a condition.
-    fn slot(&self, i: usize) -> Slot
-        ensures { result ≡ 0 }
-    {
-        Slot::numeric_at(0)
-    }
-
-    fn set_slot(&mut self, i: usize, s: Slot)
-        ensures { self.new ≡ self.old }
-    {}
-
-    fn scope_end(&self, i: usize) -> Option<usize>
-        ensures { result ≡ None }
-    {
-        None
-    }
-
-    fn applied_id_count(&self) -> usize {
-        0
-    }
-
-    fn get_applied_id(&self, k: usize) -> Option<&AppliedId> {
-        None
-    }
-
-    fn applied_id_place(&self, k: usize) -> usize
-        ensures { result ≡ 0 }
-    {
-        0
-    }
-
-    fn set_applied_id(&mut self, k: usize, a: AppliedId)
-        ensures { self.new ≡ self.old }
-    {}
-
-    fn to_syntax(&self, alloc: Global) -> Result<Vec<SyntaxElem>, Error> {
-        Ok(vec![in alloc; SyntaxElem::String(self.to_string(alloc)?)]?)
-    }
-
-    fn from_syntax(alloc: Global, elements: &[SyntaxElem]) -> Result<Option<Self>, Error> {
-        match elements {
-            [SyntaxElem::String(text)] => Ok(read_u32(text.as_str())),
-            _ => Ok(None),
-        }
-    }
-}
+pub mod letter;
+pub mod signed;
+pub(crate) mod texts;
+pub mod truth;
+pub mod unsigned;
 
 /// A word. It is seen as its bytes, and ordered by them.
 #[derive(Drop, Debug)]
@@ -186,7 +116,7 @@ impl LanguageChildren for Symbol {
 
     ghost shown = { λ w. text w ∷ [] };
 
-    ghost read = { read_payload Some };
+    ghost read = { λ es. option_map (λ w. plain (w ∷ [])) (read_text Some es) };
 
     ghost fits = { λ _. refl };
 
@@ -194,7 +124,7 @@ impl LanguageChildren for Symbol {
 
     ghost same = { λ v w. plain_same (pointwise nat_eq v w) v w (bytes_told v w) };
 
-    ghost faithful = { payload_faithful Some };
+    ghost faithful = { text_faithful (λ w. w) Some };
 
     fn copy(&self, alloc: Global) -> Result<Self, Error> {
         Symbol::from_text(alloc, self.0.as_str())

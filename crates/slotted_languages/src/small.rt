@@ -11,7 +11,8 @@ ghost use Rattle.slotted_slots.specs.Table.{reads_u32};
 use crate::children::{Bind, LanguageChildren};
 use crate::language::Language;
 use crate::pair;
-use crate::payload::{Symbol, read_u32};
+use crate::payload::Symbol;
+use crate::payload::texts::parse;
 use slotted_slots::{AppliedId, Error, Slot, SyntaxElem};
 use std::alloc::Global;
 
@@ -264,7 +265,7 @@ fn read_alone(alloc: Global, word: &str) -> Result<Option<Small>, Error>
     ensures ok { IfOk result (λ o. option_map small_form o ≡ Some (alone word.now (reads_u32 word.now))) }
     ensures err { IfErr result IsOutOfMemory }
 {
-    match read_u32(word) {
+    match parse(word) {
         Some(n) => Ok(Some(Small::Number(n))),
         None => Ok(Some(Small::Word(Symbol::from_text(alloc, word)?))),
     }

@@ -5,6 +5,8 @@
 #[cfg(test)]
 mod parts;
 #[cfg(test)]
+mod payloads;
+#[cfg(test)]
 mod places;
 #[cfg(test)]
 mod renaming;

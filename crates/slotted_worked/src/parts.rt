@@ -143,7 +143,7 @@ fn rewritten<L: LanguageChildren>(alloc: Global, text: &str) -> Result<String, E
 }
 
 // Each line is a text, an arrow, and the part that it writes.
-fn check_lines<L: LanguageChildren>(
+pub(crate) fn check_lines<L: LanguageChildren>(
     rt: &impl Abort,
     alloc: Global,
     lines: &str,
