@@ -7,8 +7,6 @@ mod kernel;
 mod names;
 mod syn;
 mod terms;
-#[cfg(test)]
-mod tests;
 mod uniting;
 
 pub use egraph::EGraph;

@@ -1,23 +1,15 @@
 //! What a graph refuses, and what it answers from then on.
-use super::{put_node, put_text};
-use crate::egraph::EGraph;
+use crate::graphs::{empty, put, put_node, put_term, refusal};
+use slotted_core::EGraph;
 use slotted_languages::{Language, Small};
-use slotted_slots::{AppliedId, Error, Slot, SlotTable};
+use slotted_slots::{AppliedId, Error, SlotTable};
 use slotted_terms::expr::RecExpr;
 use std::alloc::Global;
 use std::process::Abort;
 
-// The number of the refusal, or 0.
-fn refusal<T: Drop>(outcome: Result<T, Error>) -> u8 {
-    match outcome {
-        Ok(_) => 0,
-        Err(e) => e.number(),
-    }
-}
-
 // The number of the refusal of a text in a new graph, which stays well.
 fn refusal_of_text<L: Language>(rt: &impl Abort, alloc: Global, text: &str) -> Result<u8, Error> {
-    let mut graph: EGraph<L> = EGraph::new(alloc, SlotTable::new(alloc), ())?;
+    let mut graph: EGraph<L> = empty(alloc)?;
     let number = refusal(graph.parse_expr(text));
     assert!(rt; !graph.is_failed());
     Ok(number)
@@ -77,14 +69,14 @@ fn assert_takes_nothing<L: Language>(
 }
 
 // Adds the term of a text. A refusal to read leaves the graph well, and one to add fails it for good.
-pub(super) fn add_text<L: Language>(
+pub(crate) fn add_text<L: Language>(
     rt: &impl Abort,
     alloc: Global,
     graph: &mut EGraph<L>,
     text: &str,
 ) -> Result<AppliedId, Error> {
     let term = graph.parse_expr(text)?;
-    let added = graph.add_expr(&term);
+    let added = put_term(graph, &term);
     if added.is_err() {
         assert_asks_nothing(rt, alloc, graph, &term);
         assert_takes_nothing(rt, alloc, graph, &term)?;
@@ -99,25 +91,43 @@ fn without_slots<L: Language>(alloc: Global) -> Result<EGraph<L>, Error> {
     EGraph::new(alloc, table, ())
 }
 
-// From there on a class that needs a slot of its own finds none. The table comes out all the same.
+// A class that needs no slot is made, and then one that needs one is refused.
+fn refusal_for_slots<L: Language>(
+    rt: &impl Abort,
+    alloc: Global,
+    graph: &mut EGraph<L>,
+) -> Result<u8, Error> {
+    put(graph, "a")?;
+    Ok(refusal(add_text(rt, alloc, graph, "(var $x)")))
+}
+
+// The table of a graph that has failed so.
+fn table_of_failed<L: Language>(rt: &impl Abort, alloc: Global) -> Result<SlotTable, Error> {
+    let mut graph: EGraph<L> = without_slots(alloc)?;
+    assert!(rt; refusal_for_slots(rt, alloc, &mut graph)? == 2);
+    Ok(graph.into_table())
+}
+
+// The table comes out as it was.
 #[test]
 fn a_graph_without_slots_fails(rt: HostRuntime) -> Result<(), Error> {
-    let mut graph: EGraph<Small> = without_slots(rt.alloc())?;
-    put_text(&mut graph, "a")?;
-    assert!(rt; refusal(add_text(&rt, rt.alloc(), &mut graph, "(var $x)")) == 2);
-    let mut table = graph.into_table();
+    let mut table = table_of_failed::<Small>(&rt, rt.alloc())?;
     assert!(rt; refusal(table.fresh()) == 2);
     assert!(rt; table.named("x")?.raw() == 2);
     Ok(())
 }
 
-// So does a node that is added by itself, but a node whose class needs no slot does not.
-#[test]
-fn a_node_without_slots_fails_the_graph(rt: HostRuntime) -> Result<(), Error> {
-    let mut graph: EGraph<Small> = without_slots(rt.alloc())?;
-    put_node(&mut graph, Small::Number(7))?;
+// So does a node that is added by itself fail it, but a node whose class needs no slot does not.
+fn check_nodes<L: Language>(rt: &impl Abort, graph: &mut EGraph<L>) -> Result<(), Error> {
+    put_node(graph, "7")?;
     assert!(rt; !graph.is_failed());
-    assert!(rt; refusal(put_node(&mut graph, Small::G(Slot::numeric_at(0)))) == 2);
+    assert!(rt; refusal(put_node(graph, "(g $0)")) == 2);
     assert!(rt; graph.is_failed());
     Ok(())
+}
+
+#[test]
+fn a_node_without_slots_fails_the_graph(rt: HostRuntime) -> Result<(), Error> {
+    let mut graph = without_slots::<Small>(rt.alloc())?;
+    check_nodes(&rt, &mut graph)
 }
