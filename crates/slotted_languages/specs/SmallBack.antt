@@ -73,13 +73,13 @@ alone_null bs (Some n) = tt
 
 -- the three laws
 pub small_words : (es : List Element) (a : Small) → HasIdentifiers es → small_read es ≡ Some (small_form a) → HasIdentifiers (small_shown a)
-small_words es (Lam b) h e = (ascii_text (codes "lam") refl refl, tt)
-small_words es (App a b) h e = (ascii_text (codes "app") refl refl, tt)
-small_words es (Var x) h e = (ascii_text (codes "var") refl refl, tt)
-small_words es (F x y) h e = (ascii_text (codes "f") refl refl, tt)
-small_words es (G x) h e = (ascii_text (codes "g") refl refl, tt)
-small_words es (Add a b) h e = (ascii_text (codes "add") refl refl, tt)
-small_words es (Mul a b) h e = (ascii_text (codes "mul") refl refl, tt)
+small_words es (Lam b) h e = (ascii_text _ refl refl, tt)
+small_words es (App a b) h e = (ascii_text _ refl refl, tt)
+small_words es (Var x) h e = (ascii_text _ refl refl, tt)
+small_words es (F x y) h e = (ascii_text _ refl refl, tt)
+small_words es (G x) h e = (ascii_text _ refl refl, tt)
+small_words es (Add a b) h e = (ascii_text _ refl refl, tt)
+small_words es (Mul a b) h e = (ascii_text _ refl refl, tt)
 small_words es (Number n) h e = ((number_read es n h e).0, tt)
 small_words es (Word w) h e = ((word_read es w h e).0, tt)
 
