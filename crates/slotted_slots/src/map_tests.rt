@@ -1,16 +1,8 @@
 //! Worked values of slot maps: each call once, over numeric slots and fresh ones.
-use crate::tests::{assert_map, numeric_map};
+use crate::tests::{assert_map, assert_slots, numeric_map};
 use crate::{AppliedId, Error, Id, Show, Slot, SlotMap, SlotTable};
 use std::alloc::Global;
 use std::process::Abort;
-
-// The slots are these numeric ones.
-fn assert_slots(rt: &impl Abort, slots: &[Slot], numbers: &[u32]) {
-    assert!(rt; slots.len() == numbers.len());
-    for (slot, number) in slots.iter().zip(numbers) {
-        assert!(rt; slot.raw() / 4 == *number && slot.raw() % 4 == 0);
-    }
-}
 
 #[test]
 fn keys_and_values_are_lists(rt: HostRuntime) -> Result<(), Error> {
@@ -135,21 +127,50 @@ fn assert_applied_prints(
 }
 
 #[test]
-fn applied_ids_print_their_maps(rt: HostRuntime) -> Result<(), Error> {
-    let mut table = SlotTable::new(rt.alloc());
-    assert_applied_prints(
-        &rt,
-        rt.alloc(),
-        &table,
-        &AppliedId::null(rt.alloc()),
-        "id0[]",
-    )?;
+fn null_prints_an_empty_map(rt: HostRuntime) -> Result<(), Error> {
+    let table = SlotTable::new(rt.alloc());
     let null = AppliedId::null(rt.alloc());
-    let none = SlotMap::new(rt.alloc());
-    let partial = null.apply_slotmap_partial(rt.alloc(), &none)?;
-    let fresh = null.apply_slotmap_fresh(rt.alloc(), &none, &mut table)?;
-    assert!(rt; partial == null && fresh == null);
-    Ok(())
+    assert_applied_prints(&rt, rt.alloc(), &table, &null, "id0[]")
+}
+
+// The id 5 applied to `$1`, `$2`, `$3`.
+fn applied_to_three(alloc: Global) -> Result<AppliedId, Error> {
+    let m = numeric_map(alloc, &[(0, 1), (1, 2), (2, 3)])?;
+    Ok(AppliedId { id: Id(5), m })
+}
+
+#[test]
+fn unknown_slots_are_left_out(rt: HostRuntime) -> Result<(), Error> {
+    let applied = applied_to_three(rt.alloc())?;
+    let on = numeric_map(rt.alloc(), &[(1, 7), (3, 8)])?;
+    assert!(rt; applied.m.compose_partial(rt.alloc(), &on)?.is_bijection());
+    let sent = applied.apply_slotmap_partial(rt.alloc(), &on)?;
+    let table = SlotTable::new(rt.alloc());
+    assert_applied_prints(&rt, rt.alloc(), &table, &sent, "id5[$0 -> $7, $2 -> $8]")
+}
+
+#[test]
+fn unknown_slots_become_fresh(rt: HostRuntime) -> Result<(), Error> {
+    let applied = applied_to_three(rt.alloc())?;
+    let on = numeric_map(rt.alloc(), &[(1, 7), (3, 8)])?;
+    assert!(rt; applied.m.compose_partial(rt.alloc(), &on)?.is_bijection());
+    let mut table = SlotTable::new(rt.alloc());
+    let sent = applied.apply_slotmap_fresh(rt.alloc(), &on, &mut table)?;
+    let shown = "id5[$0 -> $7, $1 -> $f0, $2 -> $8]";
+    assert_applied_prints(&rt, rt.alloc(), &table, &sent, shown)
+}
+
+#[test]
+fn known_slots_are_sent_on(rt: HostRuntime) -> Result<(), Error> {
+    let three = Slot::numeric_at(3);
+    let mut m = SlotMap::new(rt.alloc());
+    m.insert(Slot::numeric_at(0), three)?;
+    let applied = AppliedId { id: Id(5), m };
+    let on = numeric_map(rt.alloc(), &[(3, 7), (4, 7)])?;
+    assert!(rt; on.contains_key(three));
+    let sent = applied.apply_slotmap(rt.alloc(), &on)?;
+    let table = SlotTable::new(rt.alloc());
+    assert_applied_prints(&rt, rt.alloc(), &table, &sent, "id5[$0 -> $7]")
 }
 
 #[test]

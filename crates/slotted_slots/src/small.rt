@@ -70,7 +70,7 @@ impl<T: Ord> SmallHashSet<T> {
         ensures runs { IterYieldsInOrder T }
         ensures ascending { IsStrictlySortedBy T.cmp self.now }
     {
-        self.items.as_slice().iter()
+        self.as_slice().iter()
     }
 
     // Where an element that compares equal to `t` is, or where `t` would go.
@@ -79,7 +79,7 @@ impl<T: Ord> SmallHashSet<T> {
         ensures absent { IfErr result (IsGap T.cmp self.now t.now) }
         ensures ascending { IsStrictlySortedBy T.cmp self.now }
     {
-        self.items.as_slice().binary_search(t)
+        self.as_slice().binary_search(t)
     }
 }
 

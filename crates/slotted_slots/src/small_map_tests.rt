@@ -16,7 +16,9 @@ fn entries_are_walked_and_taken_out(rt: HostRuntime) -> Result<(), Error> {
     let mut map: SmallHashMap<u32, u32> = SmallHashMap::new(rt.alloc());
     map.insert(3, 30)?;
     map.insert(1, 10)?;
-    assert!(rt; map.iter().count() == 2);
+    let mut entries = map.iter();
+    assert!(rt; entries.next() == Some((&1, &10)) && entries.next() == Some((&3, &30)));
+    assert!(rt; entries.next().is_none());
     assert!(rt; map.remove(&3) == Some(30) && map.remove(&3).is_none() && map.len() == 1);
     Ok(())
 }

@@ -5,4 +5,4 @@ use Rattle.slotted_slots.proofs.small.SmallHashSet.search.Goals as goal
 pub returns-clause-absent : goal.returns-clause-absent
 returns-clause-absent g c =
     let facts = c.binary_search.ensures in
-    rw (← c.self.view_is, ← c.as_slice.ensures) (set_searched g.met.T.Ord.total _ (rw c.as_slice.ensures c.self.invariant) c.args.t.now _ facts.bound facts.position).absent
+    rw (← c.as_slice.ensures.elements) (set_searched g.met.T.Ord.total _ (rw c.as_slice.ensures.elements c.as_slice.ensures.ascending) c.args.t.now _ facts.bound facts.position).absent
