@@ -41,14 +41,6 @@ pub record IsRefreshed (t : Table) (chosen : ℕ → Bool) (f g : Form) : Type 0
   pub places : g ≡ with_names f (map by f.names)
   pub renamed : nameless_node g ≡ moved by (nameless_node f)
 
--- each slot that the table new knows and the table old does not know is one of these
-abbrev pub Takes : Table → Table → (ℕ → Type 0) → Type 0
-Takes old new these = (z : ℕ) → is_known new z ≡ true → is_known old z ≡ false → these z
-
--- z is a name of one list or of the other
-abbrev pub IsInEither : List ℕ → List ℕ → ℕ → Type 0
-IsInEither xs ys z = (is_among z xs ≡ true) ⊎ (is_among z ys ≡ true)
-
 -- z is a name to be avoided, a value or a name of a node
 abbrev pub IsInUse : List ℕ → List ℕ → List ℕ → ℕ → Type 0
 IsInUse avoid vs xs z = (is_among z avoid ≡ true) ⊎ IsInEither vs xs z

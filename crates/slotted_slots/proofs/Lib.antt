@@ -12,4 +12,5 @@ pub mod SetAlgebraLaws
 pub mod SetLemmas
 pub mod SmallMapLaws
 pub mod TableLaws
+pub mod Taken
 pub mod WholeMaps

@@ -1,5 +1,5 @@
 -- Slot maps as lists of pairs in key order.
-use Rattle.std.specs.Prelude.{All, IsSome, ℕ, suc, zero, Bool, true, not, ◌&&◌, ◌↔◌, fold, ◌<◌, ◌≤◌, ◌≡◌, List, [], ◌∷◌, length, Option, Some, None, ◌==◌, map, refl, slice_set, slice_index_or, if◌then◌else◌, nat_lt}
+use Rattle.std.specs.Prelude.{All, IsSome, ℕ, suc, zero, Bool, true, not, ◌&&◌, ◌↔◌, ◌⊎◌, fold, ◌<◌, ◌≤◌, ◌≡◌, List, [], ◌∷◌, length, Option, Some, None, ◌==◌, map, refl, slice_set, slice_index_or, if◌then◌else◌, nat_lt}
 use Rattle.std.specs.List.{list_any}
 use Rattle.std.proofs.Common.{ap}
 
@@ -47,6 +47,10 @@ composed (p ∷ m) n = with_first p.0 (value_of n p.1) (composed m n)
 -- v is one of the numbers
 abbrev pub is_among : ℕ → List ℕ → Bool
 is_among v xs = list_any (λ x. x == v) xs
+
+-- z is one of the numbers of one list or of the other
+abbrev pub IsInEither : List ℕ → List ℕ → ℕ → Type 0
+IsInEither xs ys z = (is_among z xs ≡ true) ⊎ (is_among z ys ≡ true)
 
 -- no number stands twice
 abbrev pub all_differ : List ℕ → Bool

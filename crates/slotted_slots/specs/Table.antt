@@ -94,6 +94,10 @@ is_known t s = if s % 4 == 0 then true else (if s % 4 == 1 then nat_lt (s / 4) t
 abbrev pub KnowsMore : Table → Table → Type 0
 KnowsMore old new = (s : ℕ) → IsTrue (is_known old s) → IsTrue (is_known new s)
 
+-- each slot that the new table knows and the old one does not know is one of these
+abbrev pub Takes : Table → Table → (ℕ → Type 0) → Type 0
+Takes old new these = (z : ℕ) → is_known new z ≡ true → is_known old z ≡ false → these z
+
 -- the text, or a question mark
 abbrev pub text_or_mark : Option (List ℕ) → List ℕ
 text_or_mark (Some bs) = bs

@@ -3,10 +3,10 @@ ghost use Rattle.std.specs.Prelude.{◌≡◌, ◌<◌, ◌^◌, ◌++◌, ℕ, 
 ghost use Rattle.std.specs.Ordering.{nat_cmp};
 ghost use Rattle.slotted_slots.specs.Combining.{IsCompleted};
 ghost use Rattle.slotted_slots.specs.Error.{IsOutOfMemory, IsShortage};
-ghost use Rattle.slotted_slots.specs.Maps.{KnowsAll, is_among, all_differ, composed, keys, values, with_value_at};
+ghost use Rattle.slotted_slots.specs.Maps.{IsInEither, KnowsAll, is_among, all_differ, composed, keys, values, with_value_at};
 ghost use Rattle.slotted_slots.specs.Sets.{set_of};
 ghost use Rattle.slotted_slots.specs.Shown.{shown_applied};
-ghost use Rattle.slotted_slots.specs.Table.{KnowsMore};
+ghost use Rattle.slotted_slots.specs.Table.{KnowsMore, Takes};
 
 use crate::{Error, Show, Slot, SlotMap, SlotTable, SmallHashSet};
 use std::alloc::Global;
@@ -88,7 +88,8 @@ impl AppliedId {
         ensures completed { IfOk result (λ a. IsCompleted table.old table.new self.now.m m.now a.m) }
         ensures injective { IfOk result (λ a. IsTrue (all_differ (values a.m))) }
 
-        // The table went on to make slots, and is else as it was.
+        // The table went on to make slots, and is else as it was. What it knows in addition is a value of one of the three maps.
+        ensures taken { IfOk result (λ a. Takes table.old table.new (IsInEither (values a.m) (values self.now.m ++ values m.now))) }
         ensures names { table.new.names ≡ table.old.names }
         ensures more { KnowsMore table.old table.new }
         ensures full { IsErrOf result Error.OutOfSlots → table.new.fresh ≡ 2 ^ 30 }

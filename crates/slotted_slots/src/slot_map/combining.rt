@@ -1,11 +1,11 @@
 //! Slot maps put together, completed by fresh slots, and those that turn a set round.
-ghost use Rattle.std.specs.Prelude.{◌≡◌, ℕ, ◌^◌, ◌++◌, IsTrue, ◌↔◌, is_some, IsSome, IfSome, IfOk, IfErr, IsErrOf};
+ghost use Rattle.std.specs.Prelude.{◌≡◌, ℕ, ◌^◌, [], ◌∷◌, ◌++◌, IsTrue, ◌↔◌, is_some, IsSome, IfSome, IfOk, IfErr, IsErrOf};
 ghost use Rattle.std.specs.List.{list_all};
 ghost use Rattle.slotted_slots.specs.Ascending.{IsAscending};
 ghost use Rattle.slotted_slots.specs.Combining.{HaveTheSame, Agree, agrees_with, joined, either_value, IsFreshFrom, IsFilled, IsNew, IsCompleted};
 ghost use Rattle.slotted_slots.specs.Error.{IsOutOfMemory, IsShortage};
-ghost use Rattle.slotted_slots.specs.Maps.{value_of, composed, is_among, all_differ, keys, values};
-ghost use Rattle.slotted_slots.specs.Table.{KnowsMore};
+ghost use Rattle.slotted_slots.specs.Maps.{IsInEither, value_of, composed, is_among, all_differ, keys, values};
+ghost use Rattle.slotted_slots.specs.Table.{KnowsMore, Takes};
 
 use super::{SlotMap, has_value};
 use crate::{Error, Slot, SlotTable, SmallHashSet};
@@ -61,7 +61,8 @@ impl SlotMap {
         ensures completed { IfOk result (IsCompleted table.old table.new self.now other.now) }
         ensures injective { IsTrue (all_differ (values (composed self.now other.now))) → IfOk result (λ m. IsTrue (all_differ (values m))) }
 
-        // The table went on to make slots, and is else as it was.
+        // The table went on to make slots, and is else as it was. What it knows in addition is a value of one of the three maps.
+        ensures taken { IfOk result (λ m. Takes table.old table.new (IsInEither (values m) (values self.now ++ values other.now))) }
         ensures names { table.new.names ≡ table.old.names }
         ensures more { KnowsMore table.old table.new }
         ensures full { IsErrOf result Error.OutOfSlots → table.new.fresh ≡ 2 ^ 30 }
@@ -84,7 +85,8 @@ impl SlotMap {
         ensures values { IfOk result (λ m. values m ≡ set.now) }
         ensures made { IfOk result (λ m. (s : ℕ) → IsTrue (is_among s (keys m)) → IsNew table.old table.new set.now s) }
 
-        // The table went on to make slots, and is else as it was.
+        // The table went on to make slots, and is else as it was. What it knows in addition is a key, or was in the set.
+        ensures taken { IfOk result (λ m. Takes table.old table.new (IsInEither (keys m) set.now)) }
         ensures names { table.new.names ≡ table.old.names }
         ensures more { KnowsMore table.old table.new }
         ensures full { IsErrOf result Error.OutOfSlots → table.new.fresh ≡ 2 ^ 30 }
@@ -152,6 +154,7 @@ fn value_or_fresh(
     table: &mut SlotTable,
 ) -> Result<Slot, Error>
     ensures value { IfOk result (IsFilled table.old.fresh table.new.fresh (values first.now ++ values second.now) (value_of second.now k)) }
+    ensures taken { IfOk result (λ s. Takes table.old table.new (IsInEither (s ∷ []) (values first.now ++ values second.now))) }
     ensures full { IfErr result (λ e. (e ≡ Error.OutOfSlots) × (table.new.fresh ≡ 2 ^ 30)) }
     ensures names { table.new.names ≡ table.old.names }
     ensures more { KnowsMore table.old table.new }
@@ -169,6 +172,7 @@ fn fresh_apart(
     table: &mut SlotTable,
 ) -> Result<Slot, Error>
     ensures slot { IfOk result (IsFreshFrom table.old.fresh table.new.fresh (values first.now ++ values second.now)) }
+    ensures taken { IfOk result (λ s. Takes table.old table.new (IsInEither (s ∷ []) (values first.now ++ values second.now))) }
     ensures full { IfErr result (λ e. (e ≡ Error.OutOfSlots) × (table.new.fresh ≡ 2 ^ 30)) }
     ensures names { table.new.names ≡ table.old.names }
     ensures more { KnowsMore table.old table.new }
@@ -184,6 +188,7 @@ fn fresh_apart(
 // A fresh slot that is not in the set.
 fn fresh_outside(set: &SmallHashSet<Slot>, table: &mut SlotTable) -> Result<Slot, Error>
     ensures slot { IfOk result (IsFreshFrom table.old.fresh table.new.fresh set.now) }
+    ensures taken { IfOk result (λ s. Takes table.old table.new (IsInEither (s ∷ []) set.now)) }
     ensures full { IfErr result (λ e. (e ≡ Error.OutOfSlots) × (table.new.fresh ≡ 2 ^ 30)) }
     ensures names { table.new.names ≡ table.old.names }
     ensures more { KnowsMore table.old table.new }

@@ -1,9 +1,11 @@
 -- The loop fills the values from the left.
-use Rattle.std.proofs.Common.{◌≡◌, ◌++◌, take, ap, subst, sym, ◌∙◌}
+use Rattle.std.proofs.Common.{◌≡◌, [], ◌∷◌, ◌++◌, take, ap, subst, sym, ◌∙◌}
 use Rattle.std.proofs.lemmas.List.{take_all}
 use Rattle.slotted_slots.specs.Combining.{sent_on, IsFilled, IsCompleted}
-use Rattle.slotted_slots.specs.Maps.{keys, values, value_of, composed, all_differ}
+use Rattle.slotted_slots.specs.Maps.{IsInEither, keys, values, value_of, composed, all_differ}
 use Rattle.slotted_slots.proofs.FreshLaws.{AreFilled, IsCompleted-filled, all_differ-filled, among_second, completed_step}
+use Rattle.slotted_slots.proofs.Taken.{takes_value}
+use Rattle.slotted_slots.specs.Table.{Takes}
 use Rattle.slotted_slots.proofs.slot_map.SlotMap.compose_fresh.Goals as goal
 
 pub loop-pair-preserved : goal.loop-pair-preserved
@@ -16,6 +18,8 @@ loop-pair-preserved c =
     let step = completed_step (values xs ++ values other) c.args.table.now.fresh c.loop-pair.table.fresh c.value_or_fresh.new.table.fresh xs other c.loop-pair.pairs.items c.push.new.self.items c.loop-pair.pair-index p c.in_ok-value.value
     c.loop-pair-test.true c.pair-item.is c.in_ok-push.ensures.ok c.loop-pair.invariant.keys c.loop-pair.invariant.values last in
     record {
+      taken = takes_value c.args.table.now c.loop-pair.table c.value_or_fresh.new.table (values xs ++ values other) c.loop-pair.pairs.items c.push.new.self.items (p.0, c.in_ok-value.value) c.in_ok-push.ensures.ok c.loop-pair.invariant.taken
+          (subst (λ m. Takes c.loop-pair.table c.value_or_fresh.new.table (IsInEither (c.in_ok-value.value ∷ []) (values m ++ values other))) same c.in_ok-value.ensures.taken);
       keys = step.keys;
       values = step.values;
       names = c.in_ok-value.ensures.names ∙ c.loop-pair.invariant.names;
@@ -31,6 +35,10 @@ returns-clause-completed c =
     let new_values = subst (λ m. AreFilled (values xs ++ values other) c.args.table.now.fresh c.loop-pair.table.fresh (sent_on m other) (values c.loop-pair.pairs.items)) all c.loop-pair.invariant.values in
     subst (λ m. IsCompleted c.args.table.now c.loop-pair.table m other c.loop-pair.pairs.items) (c.deref-pair-items.ensures ∙ c.self.view_is)
     (IsCompleted-filled c.args.table.now c.loop-pair.table xs other c.loop-pair.pairs.items new_keys new_values)
+
+pub returns-clause-taken : goal.returns-clause-taken
+returns-clause-taken c =
+    subst (λ m. Takes c.args.table.now c.loop-pair.table (IsInEither (values c.loop-pair.pairs.items) (values m ++ values c.args.other.now))) (c.deref-pair-items.ensures ∙ c.self.view_is) c.loop-pair.invariant.taken
 
 pub returns-clause-injective : goal.returns-clause-injective
 returns-clause-injective c differ =

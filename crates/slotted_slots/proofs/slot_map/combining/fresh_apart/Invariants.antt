@@ -1,6 +1,8 @@
--- The counter went on, and no name came.
+-- The counter went on, and no name came. What was skipped was in use.
 use Rattle.std.proofs.Common.{◌≡◌, ◌≤◌, ◌-◌, ◌^◌}
-use Rattle.slotted_slots.specs.Table.{KnowsMore}
+use Rattle.std.specs.Prelude.{true, ◌++◌}
+use Rattle.slotted_slots.specs.Maps.{is_among, values}
+use Rattle.slotted_slots.specs.Table.{KnowsMore, Takes}
 use Rattle.slotted_slots.proofs.slot_map.combining.fresh_apart.Given as goal
 
 abbrev pub invariant-loop-slot : goal.invariant-loop-slot
@@ -8,6 +10,7 @@ invariant-loop-slot l = record {
   on : l.fn.table.fresh ≤ l.table.fresh;
   names : l.table.names ≡ l.fn.table.names;
   more : KnowsMore l.fn.table l.table;
+  skipped : Takes l.fn.table l.table (λ z. is_among z (values l.first ++ values l.second) ≡ true);
 }
 
 abbrev pub decreases-loop-slot : goal.decreases-loop-slot
