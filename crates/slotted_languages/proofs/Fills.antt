@@ -154,7 +154,7 @@ knows_each m (x ∷ xs) h =
     All-cons (λ y. IsSome (value_of m y)) x xs (h x (or_left (nat_eq x x) (is_among x xs) (eq-eqb x x refl)))
     (knows_each m xs (λ z e. h z (or_right (nat_eq x z) (is_among z xs) e)))
 
-filled_at : (m : List (ℕ × ℕ)) (x y : ℕ) → value_of m x ≡ Some y → filled m x ≡ y
+pub filled_at : (m : List (ℕ × ℕ)) (x y : ℕ) → value_of m x ≡ Some y → filled m x ≡ y
 filled_at m x y e = ap (λ (g : ℕ → ℕ). g x) (filled-walked m) ∙ value_of-filled (top m) m x y e
 
 -- a node that is renamed by such a map

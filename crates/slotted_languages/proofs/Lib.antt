@@ -21,3 +21,4 @@ pub mod WalkBinders
 pub mod Fills
 pub mod PublicNames
 pub mod Taken
+pub mod TakenNames

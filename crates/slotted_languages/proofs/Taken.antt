@@ -1,46 +1,17 @@
--- Which slots a table knows in addition.
-use Rattle.std.proofs.Common.{◌≡◌, ℕ, ◌+◌, ◌<◌, List, [], ◌∷◌, map, Some, None, sym, ◌∙◌, ap, refl, subst, inl, inr, arith}
-use Rattle.std.specs.Prelude.{Bool, true, false, ◌⊎◌, ◌||◌, nat_eq, cond, unwrap_or}
+-- Which slots a table knows in addition, where names are put into a node.
+use Rattle.std.proofs.Common.{◌≡◌, ℕ, ◌<◌, List, [], ◌∷◌, map, Some, None, sym, ◌∙◌, ap, refl, inl, inr, arith}
+use Rattle.std.specs.Prelude.{Bool, true, false, ◌||◌, nat_eq, cond, unwrap_or}
 use Rattle.std.proofs.lemmas.Bool.{false≢true, cases_eq, eq-eqb, ne_eqb}
 use Rattle.std.proofs.lemmas.Bool.Decides.{nat_tests}
-use Rattle.slotted_slots.specs.Table.{Table, fresh_slot, is_known}
+use Rattle.slotted_slots.specs.Table.{Table, Takes}
 use Rattle.slotted_slots.specs.Ascending.{AllAbove, IsAscending}
-use Rattle.slotted_slots.specs.Maps.{value_of, with_pair, values, keys, is_among}
+use Rattle.slotted_slots.specs.Maps.{IsInEither, value_of, with_pair, values, keys, is_among}
+use Rattle.slotted_slots.proofs.Taken.{takes_then, takes_as}
 use Rattle.slotted_languages.specs.Form.{Form}
-use Rattle.slotted_languages.specs.Fresh.{IsFilled, IsInEither, IsInUse, IsOrIn, Takes, replaced}
+use Rattle.slotted_languages.specs.Fresh.{IsFilled, IsInUse, IsOrIn, replaced}
 use Rattle.slotted_languages.specs.Shape.{with_names}
 use Rattle.slotted_languages.proofs.Renamings.{is_value}
 use Rattle.slotted_languages.proofs.Walks.{value_of-with_pair_same}
-
--- one more fresh slot
-pub only_fresh : (t u : Table) (z : ℕ) → u.fresh ≡ t.fresh + 1 → u.names ≡ t.names → is_known u z ≡ true → is_known t z ≡ false → z ≡ fresh_slot t.fresh
-unfolding is_known
-only_fresh t u z more same known unknown = grind (arith, nat_tests)
-
-told_bool : (b : Bool) → (b ≡ true) ⊎ (b ≡ false)
-told_bool true = inl refl
-told_bool false = inr refl
-
--- a table takes nothing from itself
-pub takes_none : (t : Table) (P : ℕ → Type 0) → Takes t t P
-takes_none t P z known unknown = absurd (false≢true (sym unknown ∙ known))
-
--- a table takes one more fresh slot
-pub takes_fresh : (t u v : Table) (P : ℕ → Type 0) (s : ℕ) → s ≡ fresh_slot u.fresh → v.fresh ≡ u.fresh + 1 → v.names ≡ u.names → Takes t u P → P s → Takes t v P
-takes_fresh t u v P s e more same h p z known unknown = elim (told_bool (is_known u z)) [
-  | inl k ↦ h z k unknown
-  | inr k ↦ subst P (e ∙ sym (only_fresh u v z more same known k)) p
-]
-
--- two steps, where what the first took is among what both took
-pub takes_then : (t u v : Table) (P Q R : ℕ → Type 0) → Takes t u P → Takes u v Q → ((z : ℕ) → P z → R z) → ((z : ℕ) → Q z → R z) → Takes t v R
-takes_then t u v P Q R h k p q z known unknown = elim (told_bool (is_known u z)) [
-  | inl a ↦ p z (h z a unknown)
-  | inr a ↦ q z (k z known a)
-]
-
-pub takes_as : (t u : Table) (P Q : ℕ → Type 0) → Takes t u P → ((z : ℕ) → P z → Q z) → Takes t u Q
-takes_as t u P Q h p z known unknown = p z (h z known unknown)
 
 -- one more pair keeps the values
 pub value_kept : (m : List (ℕ × ℕ)) (x y v : ℕ) → value_of m x ≡ None → is_among v (values m) ≡ true → is_among v (values (with_pair m x y)) ≡ true
@@ -87,7 +58,7 @@ keyed (p ∷ m) z a h = elim (cases_eq p.1 z) [
       (r.0, ap (λ b. cond b (Some p.1) (value_of m r.0)) (ne_eqb p.0 r.0 (λ q. omega (arith, q, lt))) ∙ r.1)
 ]
 
-among_map : (f : ℕ → ℕ) (xs : List ℕ) (x : ℕ) → is_among x xs ≡ true → is_among (f x) (map f xs) ≡ true
+pub among_map : (f : ℕ → ℕ) (xs : List ℕ) (x : ℕ) → is_among x xs ≡ true → is_among (f x) (map f xs) ≡ true
 among_map f [] x h = absurd (false≢true h)
 among_map f (y ∷ xs) x h = elim (cases_eq y x) [
   | inl d ↦ ap (λ b. b || is_among (f x) (map f xs)) (eq-eqb (f y) (f x) (ap f d))

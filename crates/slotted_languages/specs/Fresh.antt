@@ -1,7 +1,7 @@
 -- Fresh slots in the place of names: each such name gets one unused slot of its own.
 use Rattle.std.specs.Prelude.{◌≡◌, ◌⊎◌, ℕ, List, map, Bool, true, false, Some, None, IsSome, unwrap_or}
 use Rattle.slotted_theory.specs.Nameless.{moved}
-use Rattle.slotted_slots.specs.Maps.{value_of, is_among}
+use Rattle.slotted_slots.specs.Maps.{IsInEither, value_of, is_among}
 use Rattle.slotted_slots.specs.Table.{Table, is_known}
 use Rattle.slotted_languages.specs.Form.{Form}
 use Rattle.slotted_languages.specs.NodeTerm.{nameless_node, free_names_of}

@@ -1,10 +1,10 @@
 //! Fresh slots in the place of a node's names.
 ghost use Rattle.std.specs.Prelude.{◌≡◌, ◌^◌, ℕ, true, [], ◌∷◌, map, ◌&&◌, not, IfOk, IfErr, OnOk, IsErrOf};
 ghost use Rattle.slotted_slots.specs.Error.{IsOutOfMemory, IsShortage};
-ghost use Rattle.slotted_slots.specs.Maps.{is_among, values};
-ghost use Rattle.slotted_slots.specs.Table.{KnowsMore};
+ghost use Rattle.slotted_slots.specs.Maps.{IsInEither, is_among, values};
+ghost use Rattle.slotted_slots.specs.Table.{KnowsMore, Takes};
 ghost use Rattle.slotted_languages.specs.Form.{IsSmall};
-ghost use Rattle.slotted_languages.specs.Fresh.{IsFilled, IsInEither, IsInUse, IsRefreshed, Takes, replaced};
+ghost use Rattle.slotted_languages.specs.Fresh.{IsFilled, IsInUse, IsRefreshed, replaced};
 ghost use Rattle.slotted_languages.specs.Shape.{with_names};
 
 use crate::language::Language;

@@ -5,11 +5,11 @@ ghost use Rattle.slotted_theory.specs.FiniteMaps.{filled};
 ghost use Rattle.slotted_theory.specs.Nameless.{moved};
 ghost use Rattle.slotted_slots.specs.Ascending.{IsAscending};
 ghost use Rattle.slotted_slots.specs.Error.{IsOutOfMemory, IsShortage};
-ghost use Rattle.slotted_slots.specs.Maps.{KnowsAll, is_among, keys, values};
-ghost use Rattle.slotted_slots.specs.Table.{KnowsMore, is_known};
+ghost use Rattle.slotted_slots.specs.Maps.{IsInEither, KnowsAll, is_among, keys, values};
+ghost use Rattle.slotted_slots.specs.Table.{KnowsMore, Takes, is_known};
 ghost use Rattle.slotted_languages.specs.Children.{IsBinder, IsBound, NoneFreeAndBound, Refused, Replaced, all_children, below, child_value};
 ghost use Rattle.slotted_languages.specs.Form.{IsSmall, children};
-ghost use Rattle.slotted_languages.specs.Fresh.{IsInEither, IsRefreshed, IsRenamedFresh, Takes};
+ghost use Rattle.slotted_languages.specs.Fresh.{IsInUse, IsRefreshed, IsRenamedFresh};
 ghost use Rattle.slotted_languages.specs.NodeTerm.{nameless_node, free_names_of};
 ghost use Rattle.slotted_languages.specs.Occurrences.{public_names, private_names};
 ghost use Rattle.slotted_languages.specs.Shape.{shape, firsts};
@@ -95,6 +95,9 @@ pub trait Language: LanguageChildren + Ord {
         requires { KnowsAll m.now (free_names_of (Self.form self.now)) }
         ensures renamed { IfOk result (λ r. nameless_node (Self.form r) ≡ moved (filled m.now) (nameless_node (Self.form self.now))) }
 
+        // The table knows nothing new but what stands in the answer, or stood in the node.
+        ensures taken { IfOk result (λ r. Takes table.old table.new (IsInEither (Self.form r).names (Self.form self.now).names)) }
+
         // Slots run out for a node with too many places, or where the table has no fresh slot left.
         ensures large { 2 ^ 30 ≤ length (Self.form self.now).names → IsErrOf result Error.OutOfSlots }
         ensures full { IsErrOf result Error.OutOfSlots → ((2 ^ 30 ≤ length (Self.form self.now).names) ⊎ (table.new.fresh ≡ 2 ^ 30)) }
@@ -119,6 +122,9 @@ pub trait Language: LanguageChildren + Ord {
         Self: Sized,
         requires { KnowsAll m.now (free_names_of (Self.form self.now)) }
         ensures renamed { IfOk result (λ r. nameless_node (Self.form r) ≡ moved (filled m.now) (nameless_node (Self.form self.now))) }
+
+        // The table knows nothing new but what stands in the answer, or stood in the node.
+        ensures taken { IfOk result (λ r. Takes table.old table.new (IsInEither (Self.form r).names (Self.form self.now).names)) }
         ensures large { 2 ^ 30 ≤ length (Self.form self.now).names → IsErrOf result Error.OutOfSlots }
         ensures full { IsErrOf result Error.OutOfSlots → ((2 ^ 30 ≤ length (Self.form self.now).names) ⊎ (table.new.fresh ≡ 2 ^ 30)) }
         ensures only { IfErr result IsShortage }
@@ -138,6 +144,9 @@ pub trait Language: LanguageChildren + Ord {
     where
         Self: Sized,
         ensures renamed { IfOk result (λ r. IsRenamedFresh table.old m.now (Self.form self.now) (Self.form r)) }
+
+        // The table knows nothing new but what stands in the answer, in the map, or stood in the node.
+        ensures taken { IfOk result (λ r. Takes table.old table.new (IsInUse (values m.now) (Self.form r).names (Self.form self.now).names)) }
         ensures large { 2 ^ 30 ≤ length (Self.form self.now).names → IsErrOf result Error.OutOfSlots }
         ensures full { IsErrOf result Error.OutOfSlots → ((2 ^ 30 ≤ length (Self.form self.now).names) ⊎ (table.new.fresh ≡ 2 ^ 30)) }
         ensures only { IfErr result IsShortage }
@@ -159,6 +168,9 @@ pub trait Language: LanguageChildren + Ord {
         ensures fresh { IfOk result (λ r. (j : ℕ) → j < length (Self.form self.now).names → IsBinder (Self.form self.now) j → is_among (slice_index (Self.form r).names j) (Self.form self.now).names ≡ false) }
         ensures unused { IfOk result (λ r. (j : ℕ) → j < length (Self.form self.now).names → IsBinder (Self.form self.now) j → is_known table.old (slice_index (Self.form r).names j) ≡ false) }
         ensures differ { IfOk result (λ r. (j k : ℕ) → j < length (Self.form self.now).names → k < length (Self.form self.now).names → IsBinder (Self.form self.now) j → slice_index (Self.form r).names j ≡ slice_index (Self.form r).names k → slice_index (Self.form self.now).names j ≡ slice_index (Self.form self.now).names k) }
+
+        // The table knows nothing new but what stands in the answer, or stood in the node.
+        ensures taken { IfOk result (λ r. Takes table.old table.new (IsInEither (Self.form r).names (Self.form self.now).names)) }
         ensures large { 2 ^ 30 ≤ length (Self.form self.now).names → IsErrOf result Error.OutOfSlots }
         ensures full { IsErrOf result Error.OutOfSlots → ((2 ^ 30 ≤ length (Self.form self.now).names) ⊎ (table.new.fresh ≡ 2 ^ 30)) }
         ensures only { IfErr result IsShortage }

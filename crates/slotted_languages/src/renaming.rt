@@ -1,10 +1,10 @@
 //! Renaming of nodes without capture: bound slots are refreshed where a new free name would meet one.
 ghost use Rattle.std.specs.Prelude.{◌≡◌, ◌^◌, ℕ, true, false, Some, IfOk, IfErr, OnOk, IsErrOf, IsOkUnless};
 ghost use Rattle.slotted_slots.specs.Error.{IsOutOfMemory, IsShortage};
-ghost use Rattle.slotted_slots.specs.Maps.{is_among, value_of, values};
-ghost use Rattle.slotted_slots.specs.Table.{KnowsMore, is_known};
+ghost use Rattle.slotted_slots.specs.Maps.{IsInEither, is_among, value_of, values};
+ghost use Rattle.slotted_slots.specs.Table.{KnowsMore, Takes, is_known};
 ghost use Rattle.slotted_languages.specs.Form.{IsSmall};
-ghost use Rattle.slotted_languages.specs.Fresh.{Takes, IsOrIn};
+ghost use Rattle.slotted_languages.specs.Fresh.{IsInUse, IsOrIn};
 ghost use Rattle.slotted_languages.specs.Shape.{shape, moved_names};
 ghost use Rattle.slotted_languages.specs.Renaming.{IsChoice, IsEntered, IsRenamed};
 
@@ -75,6 +75,7 @@ fn choose_name<L: Language>(
 ) -> Result<Slot, Error>
     requires small { IsSmall (L.form node.now) }
     ensures ok { IfOk result (IsChoice table.old (L.form node.now).names avoid.now free.now names.now number name) }
+    ensures taken { IfOk result (λ s. Takes table.old table.new (IsOrIn s avoid.now (values names.now) (L.form node.now).names)) }
     ensures full { IsErrOf result Error.OutOfSlots → (table.new.fresh ≡ 2 ^ 30) }
     ensures only { IsOkUnless result Error.OutOfSlots }
     ensures more { KnowsMore table.old table.new }
@@ -101,6 +102,7 @@ fn new_name<L: Language>(
 ) -> Result<Slot, Error>
     requires small { IsSmall (L.form node.now) }
     ensures ok { IfOk result (IsEntered table.old (L.form node.now).names avoid.now free.now names.old names.new number name) }
+    ensures taken { IfOk result (λ _. Takes table.old table.new (IsInUse avoid.now (values names.new) (L.form node.now).names)) }
     ensures full { IsErrOf result Error.OutOfSlots → (table.new.fresh ≡ 2 ^ 30) }
     ensures only { IfErr result IsShortage }
     ensures more { KnowsMore table.old table.new }
@@ -128,6 +130,7 @@ pub(crate) fn rename<L: Language>(
     requires numbered { L.form numbered ≡ (shape (L.form node.now)).0 }
     requires avoided { (n z : ℕ) → value_of free.now n ≡ Some z → is_among z avoid.now ≡ true }
     ensures renamed { IfOk result (λ r. (π : ℕ → ℕ) → free.now ≡ moved_names π (shape (L.form node.now)).1 → IsRenamed table.old π (L.form node.now) avoid.now (L.form r)) }
+    ensures taken { IfOk result (λ r. Takes table.old table.new (IsInUse avoid.now (L.form r).names (L.form node.now).names)) }
     ensures full { IsErrOf result Error.OutOfSlots → (table.new.fresh ≡ 2 ^ 30) }
     ensures only { IfErr result IsShortage }
     ensures more { KnowsMore table.old table.new }
@@ -148,6 +151,7 @@ pub(crate) fn add_names<L: Language>(node: &L, set: &mut SmallHashSet<Slot>) -> 
     requires small { IsSmall (L.form node.now) }
     ensures kept { OnOk result ((x : ℕ) → is_among x set.old ≡ true → is_among x set.new ≡ true) }
     ensures added { OnOk result ((x : ℕ) → is_among x (L.form node.now).names ≡ true → is_among x set.new ≡ true) }
+    ensures within { OnOk result ((x : ℕ) → is_among x set.new ≡ true → IsInEither set.old (L.form node.now).names x) }
     ensures only { IfErr result IsOutOfMemory }
 {
     for i in 0..node.slot_count() {

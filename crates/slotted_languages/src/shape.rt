@@ -7,10 +7,11 @@ ghost use Rattle.slotted_languages.specs.Walk.{IsNumbering, walk_of, bound_numbe
 
 use crate::language::Language;
 use slotted_slots::{Error, Slot, SlotMap};
+use smallvec::SmallVec;
 use std::alloc::Global;
 
 // A binder that was passed: its scope ends before the place `until`.
-#[derive(Clone, Copy)]
+#[derive(Clone, Copy, Default)]
 struct Binder {
     name: Slot,
     until: usize,
@@ -21,7 +22,7 @@ struct Binder {
 #[derive(Drop)]
 struct Numbering {
     next: u32,
-    binders: Vec<Binder>,
+    binders: SmallVec<Binder, 4>,
     numbers: SlotMap,
     free: SlotMap,
 }
@@ -33,7 +34,7 @@ impl Numbering {
     {
         Numbering {
             next: 0,
-            binders: Vec::new(alloc),
+            binders: SmallVec::new(alloc),
             numbers: SlotMap::new(alloc),
             free: SlotMap::new(alloc),
         }

@@ -1,8 +1,8 @@
 -- The names so far have a value.
 use Rattle.std.proofs.Common.{◌≡◌, take}
-use Rattle.slotted_slots.specs.Table.{KnowsMore}
+use Rattle.slotted_slots.specs.Table.{KnowsMore, Takes}
 use Rattle.slotted_slots.specs.Maps.{values}
-use Rattle.slotted_languages.specs.Fresh.{IsFilled, IsInUse, Takes}
+use Rattle.slotted_languages.specs.Fresh.{IsFilled, IsInUse}
 use Rattle.slotted_languages.proofs.fresh.fill_names.Given as goal
 
 abbrev pub invariant-loop-name : goal.invariant-loop-name

@@ -3,7 +3,7 @@ use Rattle.std.proofs.Common.{◌∙◌, ap, sym, refl, inl, inr}
 use Rattle.slotted_slots.specs.Maps.{values}
 use Rattle.slotted_slots.proofs.Ascending.{has-is_among}
 use Rattle.slotted_languages.specs.Fresh.{IsInUse, IsOrIn}
-use Rattle.slotted_languages.proofs.Taken.{takes_fresh, takes_as}
+use Rattle.slotted_slots.proofs.Taken.{takes_fresh, takes_as}
 use Rattle.slotted_languages.proofs.renaming.fresh_apart.Goals as goal
 use Rattle.slotted_languages.proofs.renaming.fresh_apart.Goals.{else-not-contains-via-then-not-contains+then-not-has_value+else-not-has_name, else-not-contains-via-then-not-contains+else-not-has_value, else-not-contains-via-else-not-contains}
 

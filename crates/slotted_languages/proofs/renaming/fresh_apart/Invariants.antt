@@ -1,7 +1,7 @@
 use Rattle.std.proofs.Common.{◌≡◌, ◌-◌, ◌^◌}
 use Rattle.slotted_slots.specs.Maps.{values}
-use Rattle.slotted_slots.specs.Table.{KnowsMore}
-use Rattle.slotted_languages.specs.Fresh.{Takes, IsInUse}
+use Rattle.slotted_slots.specs.Table.{KnowsMore, Takes}
+use Rattle.slotted_languages.specs.Fresh.{IsInUse}
 use Rattle.slotted_languages.proofs.renaming.fresh_apart.Given as goal
 
 abbrev pub invariant-loop-slot : goal.invariant-loop-slot

@@ -1,5 +1,8 @@
-use Rattle.std.proofs.Common.{◌≡◌}
-use Rattle.slotted_slots.specs.Table.{KnowsMore}
+use Rattle.std.proofs.Common.{◌≡◌, take, true}
+use Rattle.std.specs.Prelude.{ℕ}
+use Rattle.slotted_slots.specs.Maps.{is_among, values}
+use Rattle.slotted_slots.specs.Table.{KnowsMore, Takes}
+use Rattle.slotted_languages.specs.Fresh.{IsInUse}
 use Rattle.slotted_languages.proofs.Renamings.{IsRenaming}
 use Rattle.slotted_languages.proofs.renaming.rename.Given as goal
 
@@ -9,5 +12,7 @@ invariant-loop-i g l =
     record {
       renamed : IsRenaming l.fn.table (form l.node) l.avoid l.free l.names (form l.numbered) l.i;
       more : KnowsMore l.fn.table l.table;
+      taken : Takes l.fn.table l.table (IsInUse l.avoid (values l.names) (form l.node).names);
+      placed : (z : ℕ) → is_among z (values l.names) ≡ true → is_among z (take l.i (form l.numbered).names) ≡ true;
       kept : l.table.names ≡ l.fn.table.names;
     }

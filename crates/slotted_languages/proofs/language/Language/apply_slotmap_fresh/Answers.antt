@@ -3,6 +3,9 @@ use Rattle.std.proofs.Common.{◌∙◌, subst}
 use Rattle.std.proofs.lemmas.Result.{IfOk-weaker}
 use Rattle.slotted_languages.specs.Fresh.{IsFilled}
 use Rattle.slotted_languages.specs.NodeTerm.{free_names_of}
+use Rattle.slotted_slots.specs.Ascending.{IsAscending}
+use Rattle.slotted_slots.specs.Maps.{keys}
+use Rattle.slotted_languages.proofs.TakenNames.{both_ok, filled_taken}
 use Rattle.slotted_languages.proofs.Fills.{knows_each, renamed_fresh}
 use Rattle.slotted_languages.proofs.language.Language.apply_slotmap_fresh.Goals as goal
 
@@ -10,6 +13,21 @@ pub apply_slotmap-requires : goal.apply_slotmap-requires
 apply_slotmap-requires g c =
     let f = g.Self.LanguageChildren.form c.args.self.now in
     knows_each c.fill_names.new.names (free_names_of f) (λ x e. c.in_ok-fill_names.ensures.ok.has x (c.in_ok-wanted.ensures.members x ∙ e))
+
+pub returns-clause-taken : goal.returns-clause-taken
+returns-clause-taken g c =
+    let form = g.Self.LanguageChildren.form in
+    let fits = g.met.Self.LanguageChildren.fits in
+    let f = form c.args.self.now in
+    let t = c.args.table.now in
+    let m = c.args.m.now in
+    let wanted = c.in_ok-wanted.wanted in
+    let names = c.fill_names.new.names in
+    let d : IsFilled t f.names wanted m names = subst (λ n. IsFilled t f.names wanted n names) c.in_ok-names.ensures.ok c.in_ok-fill_names.ensures.ok in
+    let up : IsAscending (keys names) = subst (λ n. IsAscending (keys n)) c.names.view_is c.names.invariant in
+    both_ok c.apply_slotmap.result _ _ _
+    (λ r e k. filled_taken t c.fill_names.new.table c.apply_slotmap.new.table m names wanted f (form r) (fits c.args.self.now) (fits r) up d c.in_ok-wanted.ensures.members e c.in_ok-fill_names.ensures.taken k)
+    c.apply_slotmap.ensures.renamed c.apply_slotmap.ensures.taken
 
 pub returns-clause-renamed : goal.returns-clause-renamed
 returns-clause-renamed g c =

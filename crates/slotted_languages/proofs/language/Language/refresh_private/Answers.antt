@@ -1,7 +1,11 @@
-use Rattle.std.proofs.Common.{◌≡◌, ◌∙◌}
+use Rattle.std.proofs.Common.{◌≡◌, ◌∙◌, ap, sym, inl, inr, true}
+use Rattle.std.specs.Prelude.{ℕ}
+use Rattle.slotted_slots.specs.Maps.{is_among}
+use Rattle.slotted_languages.specs.NodeTerm.{free_names_of}
+use Rattle.slotted_languages.proofs.TakenNames.{avoided_taken, free_stands}
 use Rattle.std.proofs.lemmas.Result.{IfOk-weaker}
 use Rattle.slotted_languages.specs.Shape.{shape, moved_names}
-use Rattle.slotted_languages.proofs.Occurrences.{lacks_smaller}
+use Rattle.slotted_languages.proofs.Occurrences.{is_among-firsts, lacks_smaller}
 use Rattle.slotted_languages.proofs.Renamings.{among_index, has_values, moved_same, renamed_same}
 use Rattle.slotted_languages.proofs.language.Language.refresh_private.Goals as goal
 
@@ -14,6 +18,18 @@ returns-clause-same g c =
     let p : c.in_ok-numbered.free ≡ (shape f).1 = λ i. (c.in_ok-numbered.ensures.shape i).1 in
     let e : c.in_ok-numbered.free ≡ moved_names (λ x. x) (shape f).1 = p ∙ moved_same (shape f).1 in
     IfOk-weaker c.rename.result _ _ (λ r h. renamed_same c.args.table.now f c.add_names.new.set (g.Self.LanguageChildren.form r) (h (λ x. x) e)) c.rename.ensures.renamed
+
+pub returns-clause-taken : goal.returns-clause-taken
+returns-clause-taken g c =
+    let form = g.Self.LanguageChildren.form in
+    let f = form c.args.self.now in
+    let own : (z : ℕ) → is_among z c.in_ok-avoid.avoid ≡ true → is_among z f.names ≡ true =
+    λ z p. free_stands f z (g.met.Self.LanguageChildren.fits c.args.self.now) (sym (is_among-firsts z (free_names_of f)) ∙ (ap (is_among z) (sym c.in_ok-numbered.ensures.names) ∙ (sym (c.in_ok-avoid.ensures.members z) ∙ p))) in
+    IfOk-weaker c.rename.result _ _
+    (λ r k. avoided_taken c.args.table.now c.rename.new.table c.add_names.new.set f.names (form r).names (λ z p. inr (elim (c.in_ok-add_names.ensures.within z p) [
+      | inl q ↦ own z q
+      | inr q ↦ q
+    ])) k) c.rename.ensures.taken
 
 pub returns-clause-fresh : goal.returns-clause-fresh
 returns-clause-fresh g c =
