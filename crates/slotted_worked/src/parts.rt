@@ -136,7 +136,7 @@ fn rewritten<L: LanguageChildren>(alloc: Global, text: &str) -> Result<String, E
     if count > 0 && count < 1 << 30 {
         part.set_slot(0, SlotTable::new(alloc).numeric(9)?);
     }
-    if part.applied_id_count() > 0 {
+    if part.get_applied_id(0).is_some() {
         part.set_applied_id(0, child(alloc, "8:2")?);
     }
     described(alloc, &part)
@@ -252,6 +252,14 @@ $1 $2 #7 #8 -> none";
 #[test]
 fn binders_nest(rt: HostRuntime) -> Result<(), Error> {
     check_lines::<Bind<Bind<AppliedId>>>(&rt, rt.alloc(), BINDERS)
+}
+
+#[test]
+fn words_stand_by_their_bytes(rt: HostRuntime) -> Result<(), Error> {
+    let one = Symbol::from_text(rt.alloc(), "Z")?;
+    let other = Symbol::from_text(rt.alloc(), "a")?;
+    assert!(rt; one < other && one.copy(rt.alloc())? == one);
+    Ok(())
 }
 
 #[test]
