@@ -1,5 +1,7 @@
 -- Lemmas on reading texts.
 pub mod Refusals
+pub mod KnownTokens
+pub mod KnownPatterns
 pub mod StackSteps
 pub mod ReaderSteps
 pub mod WholeTexts

@@ -7,3 +7,4 @@ pub mod Parsed
 pub mod Tokens
 pub mod Stack
 pub mod Reader
+pub mod Known

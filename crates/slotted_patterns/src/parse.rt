@@ -1,8 +1,14 @@
 //! Patterns from their texts.
+ghost use Rattle.std.specs.Prelude.{IfOk};
 ghost use Rattle.std.specs.Str.{chars};
 ghost use Rattle.slotted_slots.specs.Table.{KnowsMore};
 ghost use Rattle.slotted_patterns.specs.Outcome.{Answers};
+ghost use Rattle.slotted_patterns.specs.View.{tree_of};
+ghost use Rattle.slotted_patterns.specs.Known.{HasKnownNames};
 ghost use Rattle.slotted_patterns.specs.Parsed.{PatternReads, ReadsOneWay, ReadsSomeWay};
+
+#[cfg(test)]
+mod tests;
 
 use crate::grammar::parse_tokens;
 use crate::pattern::Pattern;
@@ -19,6 +25,7 @@ impl<L: Language> Pattern<L> {
     /// token is read. A refusal leaves in the table the names that were read before it.
     pub fn parse(alloc: Global, text: &str, table: &mut SlotTable) -> Result<Pattern<L>, Error>
         ensures answer { Answers L.form (λ o. PatternReads L.read table.old (chars text.now) o table.new) result }
+        ensures known { IfOk result (λ p. HasKnownNames table.new (tree_of L.form p)) }
         ensures more { KnowsMore table.old table.new }
     {
         let tokens = tokenize(alloc, text, table)?;

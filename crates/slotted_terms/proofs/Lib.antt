@@ -6,11 +6,7 @@ pub mod Opened
 pub mod Binders
 pub mod Matched
 pub mod Alike
-pub mod OneReading
 pub mod Refusals
-pub mod SomeReading
-pub mod StackSteps
-pub mod Tokenizing
-pub mod WholeTexts
-pub mod KnownTokens
+pub mod AsTerms
 pub mod ValidTexts
+pub mod TermReadings

@@ -5,8 +5,8 @@ use Rattle.slotted_slots.specs.Syntax.{Fault, fault_of}
 use Rattle.slotted_slots.specs.declared.error.Error.{Error}
 use Rattle.slotted_slots.specs.declared.error.Error.TheVariants.{OutOfMemory, OutOfSlots, Failed, Parse, NotATerm, SubstInSearch, MissingVariable, NotEqual, BadStep, UnknownClass, NumberTooLarge, NotYet}
 
--- a term; the one fault of a text outside the grammar; a text that writes no term, since a variable or a square bracket
--- stands in it; a slot number of 2^30 or more; a name for which the table has no place
+-- a term; the one fault of a text outside the grammar; a text that writes a pattern which is no term, since a variable or a
+-- substitution stands in it; a slot number of 2^30 or more; a name for which the table has no place
 pub data Outcome : Type 0 where
   parsed : (term : Term) → Outcome
   outside : (fault : Fault) → Outcome

@@ -4,6 +4,8 @@
 pub mod expr;
 mod outlines;
 pub mod parse;
+pub mod patterns;
 pub mod show;
 
 pub use expr::RecExpr;
+pub use patterns::pattern_to_re;

@@ -1,5 +1,4 @@
-use Rattle.slotted_terms.proofs.OneReading.{one_reading}
-use Rattle.slotted_terms.proofs.SomeReading.{some_reading}
+use Rattle.slotted_terms.proofs.TermReadings.{one_reading, some_reading}
 use Rattle.slotted_terms.proofs.parse.each_text_reads_in_one_way.Goals as goal
 
 pub returns-clause-one : goal.returns-clause-one

@@ -5,6 +5,7 @@ use Rattle.slotted_slots.specs.Syntax.{lexeme_of}
 use Rattle.slotted_patterns.specs.Tokens.{HasBadToken}
 use Rattle.slotted_patterns.specs.Parsed.{TokensRead, PatternReads, without_tokens, by_tokens}
 use Rattle.slotted_patterns.proofs.Refusals.{Refuses-weaker, Answers-weaker}
+use Rattle.slotted_patterns.proofs.KnownPatterns.{answer_known}
 use Rattle.slotted_patterns.proofs.pattern.Pattern.parse.Goals as goal
 
 pub returns-in_err-tokens-clause-answer : goal.returns-in_err-tokens-clause-answer
@@ -16,3 +17,7 @@ returns-in_err-tokens-clause-answer g c =
 pub returns-clause-answer : goal.returns-clause-answer
 returns-clause-answer g c =
     Answers-weaker g.L.LanguageChildren.form (TokensRead g.L.LanguageChildren.read (map lexeme_of c.in_ok-tokens.tokens.items)) (λ o. PatternReads g.L.LanguageChildren.read c.args.table.now (chars c.args.text.now) o c.tokenize.new.table) c.parse_tokens.result c.parse_tokens.ensures (λ o h. by_tokens c.in_ok-tokens.ensures.ok h)
+
+pub returns-clause-known : goal.returns-clause-known
+returns-clause-known g c =
+    answer_known g.L.LanguageChildren.form g.L.LanguageChildren.read g.met.L.LanguageChildren.faithful c.args.table.now (chars c.args.text.now) c.tokenize.new.table c.parse_tokens.result (returns-clause-answer g c)

@@ -1,23 +1,19 @@
-use Rattle.std.proofs.Common.{map}
 use Rattle.std.specs.Str.{chars}
 use Rattle.std.proofs.lemmas.Result.{err_from_is_err_and}
-use Rattle.slotted_slots.specs.Syntax.{lexeme_of}
-use Rattle.slotted_terms.specs.Tokens.{HasBadToken}
-use Rattle.slotted_terms.specs.Parsed.{TokensRead, TextReads, without_tokens, by_tokens}
-use Rattle.slotted_terms.proofs.Refusals.{Refuses-weaker, Answers-weaker}
-use Rattle.slotted_terms.proofs.ValidTexts.{answer_valid}
+use Rattle.slotted_patterns.specs.View.{tree_of}
+use Rattle.slotted_terms.proofs.TermReadings.{refuses_pattern, answers_term, answer_valid}
 use Rattle.slotted_terms.proofs.expr.RecExpr.parse.Goals as goal
 
-pub returns-in_err-tokens-clause-answer : goal.returns-in_err-tokens-clause-answer
-returns-in_err-tokens-clause-answer g c =
+pub returns-in_err-pattern-clause-answer : goal.returns-in_err-pattern-clause-answer
+returns-in_err-pattern-clause-answer g c =
     let p = err_from_is_err_and c.from_residual.result c.from_residual.ensures.1 in
     rw (p.1, p.2)
-    (Refuses-weaker (λ o. HasBadToken c.args.table.now (chars c.args.text.now) o c.tokenize.new.table) (λ o. TextReads g.L.LanguageChildren.read c.args.table.now (chars c.args.text.now) o c.tokenize.new.table) _ c.in_err-tokens.ensures.none (λ o h. without_tokens h))
+    (refuses_pattern g.L.LanguageChildren.read c.args.table.now (chars c.args.text.now) c.parse.new.table _ c.in_err-pattern.ensures.answer)
 
 pub returns-clause-answer : goal.returns-clause-answer
 returns-clause-answer g c =
-    Answers-weaker (TokensRead g.L.LanguageChildren.read (map lexeme_of c.in_ok-tokens.tokens.items)) (λ o. TextReads g.L.LanguageChildren.read c.args.table.now (chars c.args.text.now) o c.tokenize.new.table) c.parse_tokens.result c.parse_tokens.ensures (λ o h. by_tokens c.in_ok-tokens.ensures.ok h)
+    answers_term g.L.LanguageChildren.read c.args.table.now (chars c.args.text.now) c.parse.new.table (tree_of g.L.LanguageChildren.form c.in_ok-pattern.pattern) c.pattern_to_re.result c.in_ok-pattern.ensures.answer c.pattern_to_re.ensures.ok c.pattern_to_re.ensures.none
 
 pub returns-clause-valid : goal.returns-clause-valid
 returns-clause-valid g c =
-    answer_valid g.L.LanguageChildren.read g.met.L.LanguageChildren.faithful c.args.table.now (chars c.args.text.now) c.tokenize.new.table c.parse_tokens.result (returns-clause-answer g c)
+    answer_valid c.parse.new.table (tree_of g.L.LanguageChildren.form c.in_ok-pattern.pattern) c.pattern_to_re.result c.in_ok-pattern.ensures.known c.pattern_to_re.ensures.ok

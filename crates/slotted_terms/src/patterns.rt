@@ -1,0 +1,32 @@
+//! Terms and the patterns that are terms.
+ghost use Rattle.std.specs.Prelude.{◌≡◌, Some, IfOk, IfErr};
+ghost use Rattle.slotted_patterns.specs.View.{tree_of};
+ghost use Rattle.slotted_terms.specs.AsTerm.{as_term, IsRefusal};
+
+use crate::expr::RecExpr;
+use slotted_languages::language::Language;
+use slotted_patterns::Pattern;
+use slotted_slots::Error;
+use std::alloc::Global;
+
+/// The term that a pattern is. It is `NotATerm` where a variable or a substitution stands in it, or a node has a wrong
+/// number of child patterns.
+pub fn pattern_to_re<L: Language>(alloc: Global, pattern: &Pattern<L>) -> Result<RecExpr<L>, Error>
+    ensures ok { IfOk result (λ t. as_term (tree_of L.form pattern.now) ≡ Some t) }
+    ensures none { IfErr result (IsRefusal (as_term (tree_of L.form pattern.now))) }
+{
+    let Pattern::ENode(node, patterns) = pattern else {
+        return Err(Error::NotATerm);
+    };
+    let mut children = Vec::new(alloc);
+    for child in patterns {
+        children.push(pattern_to_re(alloc, child)?)?;
+    }
+    if children.len() != node.applied_id_count() {
+        return Err(Error::NotATerm);
+    }
+    Ok(RecExpr {
+        node: node.copy(alloc)?,
+        children,
+    })
+}
