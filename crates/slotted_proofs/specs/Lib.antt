@@ -7,3 +7,4 @@ pub mod Claims
 pub mod Lines
 pub mod AlikeNodes
 pub mod StepClaims
+pub mod Shown

@@ -12,6 +12,8 @@ use crate::numbering::{composite, numbered, shared_names};
 use slotted_slots::{AppliedId, Error, Slot, SlotMap, SmallHashSet};
 use std::alloc::Global;
 
+mod showing;
+
 /// Two applied ids that are equal. An equation is read up to renaming: it says which slots of the two classes carry one name.
 #[derive(Drop, Debug, Clone, PartialEq, Eq, Hash)]
 pub struct Equation {

@@ -1,4 +1,6 @@
 -- Lemmas on alpha-equality of expressions, and on reading texts.
+pub mod NodeTexts
+pub mod TermTexts
 pub mod Seen
 pub mod Opened
 pub mod Binders

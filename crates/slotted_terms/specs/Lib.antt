@@ -7,3 +7,5 @@ pub mod Tokens
 pub mod Parts
 pub mod Stack
 pub mod Valid
+pub mod Shown
+pub mod SmallWritten

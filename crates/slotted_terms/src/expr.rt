@@ -12,6 +12,7 @@ use slotted_slots::Error;
 use std::alloc::Global;
 use std::marker::Model;
 
+pub mod printing;
 #[cfg(test)]
 mod tests;
 

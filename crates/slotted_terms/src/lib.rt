@@ -4,5 +4,6 @@
 pub mod expr;
 mod outlines;
 pub mod parse;
+pub mod show;
 
 pub use expr::RecExpr;

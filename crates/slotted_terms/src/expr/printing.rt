@@ -1,0 +1,69 @@
+//! The text of a term.
+ghost use Rattle.std.specs.Prelude.{◌≡◌, List, Some, string_bytes, IfOk, IfErr};
+ghost use Rattle.slotted_theory.specs.Term.{Term};
+ghost use Rattle.slotted_slots.specs.Error.{IsOutOfMemory};
+ghost use Rattle.slotted_slots.specs.Syntax.{Element};
+ghost use Rattle.slotted_languages.specs.Filled.{term_of};
+ghost use Rattle.slotted_terms.specs.Shown.{term_text, IsWrittenAs};
+ghost use Rattle.slotted_terms.specs.SmallWritten.{small_written, small_written_as};
+
+use super::RecExpr;
+use crate::show::node_text;
+use slotted_languages::language::Language;
+use slotted_languages::small::Small;
+use slotted_slots::{Error, Show, SlotTable};
+use std::alloc::Global;
+use std::fmt;
+
+#[cfg(test)]
+mod tests;
+
+/// A language whose terms print. There is nothing to call: an implementation says, to contracts, how a node is written
+/// where only its term is known.
+pub trait Printable: Language {
+    // What the uppermost node of a term is written as; which ids stand for its children is open.
+    ghost written: { Term → List Element };
+
+    // It is what the node is written as, over whatever children, and writes each child once.
+    ghost written_as: { (a : Self) (us : List Term) → IsWrittenAs (Self.form a) (Self.shown a) (written (term_of (Self.form a) us)) };
+}
+
+impl Printable for Small {
+    ghost written = { small_written };
+
+    ghost written_as = { small_written_as };
+}
+
+impl<L: Printable> RecExpr<L> {
+    /// The text of the term: a node that is written as one text stands alone, and every other one in round brackets.
+    #[cycle(text)]
+    pub fn text(&self, alloc: Global, table: &SlotTable) -> Result<String, Error>
+        ensures ok { IfOk result (λ s. string_bytes s ≡ term_text L.written table.now self.now) }
+        ensures err { IfErr result IsOutOfMemory }
+    {
+        let mut children = Vec::new(alloc);
+        for child in &self.children {
+            children.push(child.text(alloc, table)?)?;
+        }
+        let elements = self.node.to_syntax(alloc)?;
+        let text = node_text(alloc, &elements, &children, table)?;
+        Ok(text)
+    }
+}
+
+/// `(lam $x (app a (var $x)))`: `_` stands for a child that is missing, and one that is too many does not print. A growth
+/// that is refused is a `fmt::Error`.
+impl<L: Printable> Show for RecExpr<L> {
+    ghost shown = { λ t u. Some (term_text L.written t u) };
+
+    fn write_shown<W: fmt::Write>(
+        &self,
+        table: &SlotTable,
+        f: &mut fmt::Formatter<W>,
+    ) -> fmt::Result {
+        match self.text(*self.children.allocator(), table) {
+            Ok(text) => write!(f, "{text}"),
+            Err(_) => Err(fmt::Error),
+        }
+    }
+}
