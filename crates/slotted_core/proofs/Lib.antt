@@ -1,3 +1,5 @@
+pub mod CanonicalTerms
+pub mod FreshSlots
 pub mod Rows
 pub mod NameMaps
 pub mod Different

@@ -9,3 +9,4 @@ pub mod Alike
 pub mod Kept
 pub mod Places
 pub mod SmallNodes
+pub mod Canonical

@@ -29,6 +29,8 @@ use slotted_terms::expr::RecExpr;
 use std::alloc::Global;
 use std::marker::Model;
 
+mod canonical;
+
 /// A graph of terms with binders, up to alpha-equality.
 ///
 /// Each class has the node that it was made with, its canonical node, over slots of its own and over earlier classes. An

@@ -12,7 +12,7 @@ ghost use Rattle.slotted_model.specs.Ids.{id_of_node};
 ghost use Rattle.slotted_proofs.specs.Equations.{Meets};
 ghost use Rattle.slotted_proofs.specs.Entries.{statement_at, explicit_numbers, asserted_entry, turned_entry, composite_entry};
 ghost use Rattle.slotted_terms.specs.Valid.{AllKnown, IsWhole};
-ghost use Rattle.slotted_core.specs.Kept.{Good, HasFreshSlots, Adds, AddsTerm, MakesClass, EntersIn, nothing, nodes_of, entries_of, proofs_of, find_at, found, with_filed, with_linked};
+ghost use Rattle.slotted_core.specs.Kept.{Good, HasFreshSlots, Adds, AddsTerm, MakesClass, EntersIn, nothing, nodes_of, entries_of, proofs_of, find_at, found, with_filed, with_linked, node_at};
 ghost use Rattle.slotted_core.specs.Names.{between};
 ghost use Rattle.slotted_core.specs.Nodes.{to_applied, child_ids};
 ghost use Rattle.slotted_core.specs.Places.{term_places};
@@ -91,6 +91,14 @@ impl<L: Language> Core<L> {
         ensures { result ≡ length self.now.classes }
     {
         self.classes.len()
+    }
+
+    // The node that a class was made with.
+    pub(crate) fn node_of(&self, id: usize) -> &L
+        requires { id < length self.now.classes }
+        ensures { L.form result.now ≡ node_at self.now id }
+    {
+        &self.classes[id].node
     }
 
     // The class that a class leads to, with a slot of its own for each slot of that.

@@ -5,6 +5,7 @@ pub mod egraph;
 mod finding;
 mod kernel;
 mod names;
+mod syn;
 mod terms;
 #[cfg(test)]
 mod tests;

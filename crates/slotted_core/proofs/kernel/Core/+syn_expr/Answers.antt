@@ -1,0 +1,48 @@
+-- A child is earlier and full, and the terms of the children make that of the id.
+use Rattle.std.proofs.Common.{◌≡◌, ◌<◌, ◌+◌, ◌∙◌, [], length, ap, sym, subst, arith, rules}
+use Rattle.std.specs.Prelude.{slice_index_or}
+use Rattle.std.proofs.lemmas.List.{length_push}
+use Rattle.slotted_languages.specs.Form.{Form, children}
+use Rattle.slotted_model.specs.Applied.{Applied}
+use Rattle.slotted_core.specs.Kept.{nodes_of}
+use Rattle.slotted_core.specs.Nodes.{to_applied, child_ids}
+use Rattle.slotted_core.proofs.Children.{child_is}
+use Rattle.slotted_core.proofs.CanonicalTerms.{IsBelow, AreTermsOf, children-below, canonical-term, terms-step}
+use Rattle.slotted_core.proofs.kernel.Core.+syn_expr.Goals as goal
+
+pub syn_expr-requires : goal.syn_expr-requires
+syn_expr-requires g t c =
+    let nodes = nodes_of c.args.self.now in
+    let a = to_applied c.args.a.now in
+    let f : Form = g.L.LanguageChildren.form c.in_ok-node.node in
+    let lt : c.loop-k.k < length (children f.tree) = omega (arith, c.loop-k-test.true, c.applied_id_count-k-end.ensures) in
+    let is = ap to_applied c.in_ok-child.ensures.ok ∙ child_is f c.loop-k.k (0, []) (to_applied c.applied_id.result.now) lt c.applied_id.ensures.id c.applied_id.ensures.keys c.applied_id.ensures.names in
+    let below : IsBelow nodes a.0 (to_applied c.in_ok-child.child) = subst (IsBelow nodes a.0) (sym is)
+    (children-below nodes c.requires.good.sound.canonical a c.requires.full f (g.met.L.LanguageChildren.fits c.in_ok-node.node) c.in_ok-node.ensures.node c.loop-k.k (0, []) lt) in
+    λ κs h. (omega (arith, below.0, c.decreases), (search rules, (c.requires.good, below.1)))
+
+pub loop-k-preserved : goal.loop-k-preserved
+loop-k-preserved g t c =
+    let nodes = nodes_of c.args.self.now in
+    let f : Form = g.L.LanguageChildren.form c.in_ok-node.node in
+    let us = c.loop-k.children.items in
+    let u = c.in_ok-term.term in
+    let lt : c.loop-k.k < length (children f.tree) = omega (arith, c.loop-k-test.true, c.applied_id_count-k-end.ensures) in
+    let is : (d : Applied) → to_applied c.in_ok-child.child ≡ slice_index_or (child_ids f) c.loop-k.k d = λ d.
+    ap to_applied c.in_ok-child.ensures.ok ∙ child_is f c.loop-k.k d (to_applied c.applied_id.result.now) lt c.applied_id.ensures.id c.applied_id.ensures.keys c.applied_id.ensures.names in
+    record {
+      count = omega (arith, ap length c.in_ok-push.ensures.items, length_push us u, c.loop-k.invariant.count);
+      terms = subst (λ vs. AreTermsOf nodes (child_ids f) vs (c.loop-k.k + 1)) (sym c.in_ok-push.ensures.items)
+          (terms-step nodes (child_ids f) us u c.loop-k.k (to_applied c.in_ok-child.child) c.loop-k.invariant.count c.loop-k.invariant.terms is c.in_ok-term.ensures.term);
+      more = λ s h. c.syn_expr.ensures.more s (c.loop-k.invariant.more s h);
+      kept = c.syn_expr.ensures.kept ∙ c.loop-k.invariant.kept;
+    }
+
+pub returns-clause-term : goal.returns-clause-term
+returns-clause-term g t c =
+    let nodes = nodes_of c.args.self.now in
+    let form = g.L.LanguageChildren.form in
+    let us = c.loop-k.children.items in
+    let n : length us ≡ length (children (form c.in_ok-node.node).tree) = omega (arith, c.loop-k.invariant.count, c.loop-k-test.false, c.loop-k.auto.k-end, c.applied_id_count-k-end.ensures) in
+    canonical-term nodes c.requires.good.sound.canonical (to_applied c.args.a.now) c.requires.full (form c.in_ok-node.node) (form c.forget_children.new.node) (g.met.L.LanguageChildren.fits c.in_ok-node.node) c.in_ok-node.ensures.node
+    c.forget_children.ensures us n (λ j d e lt. c.loop-k.invariant.terms j d e (omega (arith, lt, c.loop-k.invariant.count)))

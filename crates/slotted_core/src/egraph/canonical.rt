@@ -1,0 +1,72 @@
+//! Canonical nodes and terms, and the entries of the proof list, as the graph gives them out.
+ghost use Rattle.std.specs.Prelude.{◌≡◌, ◌⊎◌, ◌↔◌, ◌<◌, ◌^◌, length, IsTrue, IfOk, IfErr, IsErrOf};
+ghost use Rattle.slotted_theory.specs.FiniteMaps.{filled};
+ghost use Rattle.slotted_theory.specs.Nameless.{nameless, moved};
+ghost use Rattle.slotted_slots.specs.Error.{IsShortage};
+ghost use Rattle.slotted_slots.specs.Table.{KnowsMore};
+ghost use Rattle.slotted_languages.specs.NodeTerm.{nameless_node};
+ghost use Rattle.slotted_model.specs.Classes.{canonical_node, term_of};
+ghost use Rattle.slotted_core.specs.Canonical.{HasLargeNode};
+ghost use Rattle.slotted_core.specs.Graph.{IsValidId};
+ghost use Rattle.slotted_core.specs.Nodes.{to_applied};
+
+use super::EGraph;
+use slotted_languages::Language;
+use slotted_proofs::ProvenEq;
+use slotted_slots::{AppliedId, Error};
+use slotted_terms::expr::RecExpr;
+
+impl<L: Language, N: Drop> EGraph<L, N> {
+    /// The node that the class of an id was made with, with the id's names put in. Binders that would meet one of these get
+    /// fresh names.
+    pub fn get_syn_node(&mut self, a: &AppliedId) -> Result<L, Error>
+        requires { IsTrue self.old.failed ⊎ IsValidId self.old (to_applied a.now) }
+        ensures node { IfOk result (λ n. nameless_node (L.form n) ≡ moved (filled a.now.m) (canonical_node self.old.image.canonical a.now.id.0)) }
+
+        // Only fresh slots are made, and a refusal does not fail the graph.
+        ensures image { self.new.image ≡ self.old.image }
+        ensures same { self.new.failed ≡ self.old.failed }
+        ensures names { self.new.table.names ≡ self.old.table.names }
+        ensures more { KnowsMore self.old.table self.new.table }
+        ensures stays { IsTrue self.old.failed → self.new ≡ self.old }
+
+        ensures failed { IsErrOf result Error.Failed ↔ IsTrue self.old.failed }
+        ensures full { IsErrOf result Error.OutOfSlots → (self.new.table.fresh ≡ 2 ^ 30) ⊎ HasLargeNode self.old.image.canonical }
+        ensures only { IfErr result (λ e. (e ≡ Error.Failed) ⊎ IsShortage e) }
+    {
+        if self.failed {
+            return Err(Error::Failed);
+        }
+        self.core.syn_node(self.alloc, &mut self.table, a)
+    }
+
+    /// The term that an id stands for, the canonical one: the node that its class was made with, over the terms of the node's
+    /// children. The child ids inside its nodes are null.
+    pub fn get_syn_expr(&mut self, a: &AppliedId) -> Result<RecExpr<L>, Error>
+        requires { IsTrue self.old.failed ⊎ IsValidId self.old (to_applied a.now) }
+        ensures term { IfOk result (λ t. nameless t ≡ term_of self.old.image.canonical (to_applied a.now)) }
+
+        // Only fresh slots are made, and a refusal does not fail the graph.
+        ensures image { self.new.image ≡ self.old.image }
+        ensures same { self.new.failed ≡ self.old.failed }
+        ensures names { self.new.table.names ≡ self.old.table.names }
+        ensures more { KnowsMore self.old.table self.new.table }
+        ensures stays { IsTrue self.old.failed → self.new ≡ self.old }
+
+        ensures failed { IsErrOf result Error.Failed ↔ IsTrue self.old.failed }
+        ensures full { IsErrOf result Error.OutOfSlots → (self.new.table.fresh ≡ 2 ^ 30) ⊎ HasLargeNode self.old.image.canonical }
+        ensures only { IfErr result (λ e. (e ≡ Error.Failed) ⊎ IsShortage e) }
+    {
+        if self.failed {
+            return Err(Error::Failed);
+        }
+        self.core.syn_expr(self.alloc, &mut self.table, a)
+    }
+
+    /// Whether the number is that of a proved equation. It takes no memory.
+    pub fn is_valid_proof(&self, p: ProvenEq) -> bool
+        ensures { IsTrue result ↔ (p < length self.now.image.entries) }
+    {
+        p.number() < self.proof_count()
+    }
+}

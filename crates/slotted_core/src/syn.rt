@@ -1,0 +1,67 @@
+//! Canonical nodes and terms, with the names of an id put in.
+ghost use Rattle.std.specs.Prelude.{◌≡◌, ◌⊎◌, ◌<◌, ◌^◌, length, IfOk, IfErr, OnOk, IsErrOf};
+ghost use Rattle.slotted_theory.specs.FiniteMaps.{filled};
+ghost use Rattle.slotted_theory.specs.Nameless.{nameless, moved};
+ghost use Rattle.slotted_slots.specs.Error.{IsOutOfMemory, IsShortage};
+ghost use Rattle.slotted_slots.specs.Table.{KnowsMore};
+ghost use Rattle.slotted_languages.specs.NodeTerm.{nameless_node};
+ghost use Rattle.slotted_model.specs.Classes.{IsFull, canonical_node, term_of};
+ghost use Rattle.slotted_core.specs.Canonical.{HasLargeNode, IsBeside};
+ghost use Rattle.slotted_core.specs.Kept.{Good, nodes_of};
+ghost use Rattle.slotted_core.specs.Nodes.{to_applied};
+
+use crate::kernel::Core;
+use slotted_languages::Language;
+use slotted_slots::{AppliedId, Error, SlotTable};
+use slotted_terms::expr::RecExpr;
+use std::alloc::Global;
+
+impl<L: Language> Core<L> {
+    /// The node that a class was made with, with the id's names put in.
+    pub fn syn_node(&self, alloc: Global, table: &mut SlotTable, a: &AppliedId) -> Result<L, Error>
+        requires good { Good self.now }
+        requires full { IsFull (nodes_of self.now) (to_applied a.now) }
+        ensures node { IfOk result (λ n. nameless_node (L.form n) ≡ moved (filled a.now.m) (canonical_node (nodes_of self.now) a.now.id.0)) }
+        ensures more { KnowsMore table.old table.new }
+        ensures kept { table.new.names ≡ table.old.names }
+        ensures full { IsErrOf result Error.OutOfSlots → (table.new.fresh ≡ 2 ^ 30) ⊎ HasLargeNode (nodes_of self.now) }
+        ensures only { IfErr result IsShortage }
+    {
+        self.node_of(a.id.0).apply_slotmap(alloc, &a.m, table)
+    }
+
+    /// The term that an id stands for: the node that its class was made with, over the terms of its children.
+    pub fn syn_expr(
+        &self,
+        alloc: Global,
+        table: &mut SlotTable,
+        a: &AppliedId,
+    ) -> Result<RecExpr<L>, Error>
+        requires good { Good self.now }
+        requires full { IsFull (nodes_of self.now) (to_applied a.now) }
+        ensures term { IfOk result (λ t. nameless t ≡ term_of (nodes_of self.now) (to_applied a.now)) }
+        ensures more { KnowsMore table.old table.new }
+        ensures kept { table.new.names ≡ table.old.names }
+        ensures full { IsErrOf result Error.OutOfSlots → (table.new.fresh ≡ 2 ^ 30) ⊎ HasLargeNode (nodes_of self.now) }
+        ensures only { IfErr result IsShortage }
+    {
+        let mut node = self.syn_node(alloc, table, a)?;
+        let mut children = Vec::new(alloc);
+        for k in 0..node.applied_id_count() {
+            let child = node.applied_id(k).copy(alloc)?;
+            let term = self.syn_expr(alloc, table, &child)?;
+            children.push(term)?;
+        }
+        forget_children(alloc, &mut node);
+        Ok(RecExpr { node, children })
+    }
+}
+
+// Puts the null id in the place of each child.
+fn forget_children<L: Language>(alloc: Global, node: &mut L)
+    ensures { IsBeside (L.form node.old) (L.form node.new) }
+{
+    for k in 0..node.applied_id_count() {
+        node.set_applied_id(k, AppliedId::null(alloc));
+    }
+}
