@@ -1,0 +1,3 @@
+-- Lemmas on printed proofs.
+pub mod LinesBelow
+pub mod Sides
