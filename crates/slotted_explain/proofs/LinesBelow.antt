@@ -1,5 +1,5 @@
 -- The entries of a proof's lines stand in the list.
-use Rattle.std.proofs.Common.{◌≡◌, ◌<◌, ℕ, List, [], ◌∷◌, ◌++◌, length, arith}
+use Rattle.std.proofs.Common.{◌<◌, ℕ, List, [], ◌∷◌, ◌++◌, length, arith}
 use Rattle.slotted_proofs.specs.Entries.{Proven}
 use Rattle.slotted_proofs.specs.Lines.{Lines, all, passed, next, PartsAreEarlier, parts_at}
 use Rattle.slotted_core.proofs.Children.{Each, Each-from_All}

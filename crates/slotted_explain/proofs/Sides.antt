@@ -1,16 +1,14 @@
 -- The two sides of a proved equation are valid ids.
-use Rattle.std.proofs.Common.{◌≡◌, ◌<◌, ℕ, zero, suc, List, [], ◌∷◌, length, map, get_or, true, sym, ap, subst, arith, ◌∙◌}
-use Rattle.std.specs.Prelude.{IsTrue, All}
-use Rattle.slotted_theory.specs.Nameless.{DTerm}
-use Rattle.slotted_slots.specs.Table.{Table, is_known, numeric_slot}
+use Rattle.std.proofs.Common.{◌≡◌, ◌<◌, ℕ, zero, suc, List, [], ◌∷◌, length, sym, ap, subst, arith, ◌∙◌}
+use Rattle.slotted_slots.specs.Table.{Table, numeric_slot}
 use Rattle.slotted_slots.proofs.TableLaws.{is_known-numeric_slot}
 use Rattle.slotted_terms.specs.Valid.{AllKnown}
-use Rattle.slotted_model.specs.Applied.{Applied, keys, values}
+use Rattle.slotted_model.specs.Applied.{Applied, values}
 use Rattle.slotted_model.specs.Classes.{canonical_slots, IsFull}
-use Rattle.slotted_model.specs.Correspondence.{IsFullMap, with_names}
-use Rattle.slotted_proofs.specs.Equations.{Statement, AreSides, numbered_left, numbered_right}
+use Rattle.slotted_model.specs.Correspondence.{with_names}
+use Rattle.slotted_proofs.specs.Equations.{Statement, AreSides}
 use Rattle.slotted_model.specs.Correspondence.{numbered}
-use Rattle.slotted_proofs.specs.Entries.{Proven, entry_of, entries_of, statement_at}
+use Rattle.slotted_proofs.specs.Entries.{entry_of, entries_of, statement_at}
 use Rattle.slotted_model.specs.ProofList.{Equation}
 use Rattle.slotted_proofs.specs.Proving.{IsProved}
 use Rattle.slotted_core.specs.Image.{Image}
@@ -47,9 +45,9 @@ right_valid g h image p a b proved lt sides =
     let class : b.0 ≡ s.equation.right = ap (λ (x : Applied). x.0) sides.right in
     record {
       full = subst (λ (x : Image). IsFull x.canonical b) (sym image) (record {
-          in_range = subst (λ i. i < length g.image.canonical) (ap (λ (e : Equation). e.right) (equation_at-of g.image.stored p) ∙ sym class) over.right;
-          slots = sides.right_full.slots ∙ ((proved.canonical p lt).right ∙ ap (canonical_slots g.image.canonical) (sym class));
-          injective = sides.right_full.injective;
-        });
+        in_range = subst (λ i. i < length g.image.canonical) (ap (λ (e : Equation). e.right) (equation_at-of g.image.stored p) ∙ sym class) over.right;
+        slots = sides.right_full.slots ∙ ((proved.canonical p lt).right ∙ ap (canonical_slots g.image.canonical) (sym class));
+        injective = sides.right_full.injective;
+      });
       known = subst (λ (x : Applied). AllKnown h.table (values x.1)) (sym sides.right) (numeric_known h.table (numbered s.left_slots s.right_slots s.equation.pairs).1);
     }

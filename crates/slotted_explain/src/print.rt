@@ -1,11 +1,11 @@
 //! A proof printed line by line.
-ghost use Rattle.std.specs.Prelude.{◌≡◌, ◌⊎◌, ◌↔◌, ◌<◌, ◌++◌, ◌^◌, length, List, ℕ, string_bytes, IsTrue, IfOk, OnOk, IfErr, IsErrOf};
+ghost use Rattle.std.specs.Prelude.{All, ◌≡◌, ◌⊎◌, ◌↔◌, ◌<◌, ◌++◌, ◌^◌, length, List, ℕ, string_bytes, IsTrue, IfOk, OnOk, IfErr, IsErrOf};
 ghost use Rattle.slotted_slots.specs.Error.{IsShortage};
 ghost use Rattle.slotted_slots.specs.Table.{KnowsMore};
 ghost use Rattle.slotted_core.specs.Canonical.{HasLargeNode};
 ghost use Rattle.slotted_core.specs.Graph.{IsValidId};
 ghost use Rattle.slotted_core.specs.Nodes.{to_applied};
-ghost use Rattle.slotted_explain.specs.Printed.{IsLine, IsProofText, IsSideText};
+ghost use Rattle.slotted_explain.specs.Printed.{ArePrinted, IsLine, IsProofText, IsSideText};
 
 use slotted_core::EGraph;
 use slotted_proofs::reasons::reason;
@@ -41,10 +41,30 @@ pub fn to_string<L: Printable, N: Drop>(
         return Err(Error::Failed);
     }
     let lines = graph.proofs().lines(alloc, p)?;
+    let text = lines_text(alloc, graph, &lines)?;
+    Ok(text)
+}
+
+// The lines in turn.
+fn lines_text<L: Printable, N: Drop>(
+    alloc: Global,
+    graph: &mut EGraph<L, N>,
+    lines: &ProofLines,
+) -> Result<String, Error>
+    requires well { ¬ IsTrue graph.old.failed }
+    requires within { All (λ q. q < length graph.old.image.stored) lines.now }
+    ensures text { IfOk result (λ s. ArePrinted L.written graph.old lines.now (length lines.now) (string_bytes s)) }
+    ensures image { graph.new.image ≡ graph.old.image }
+    ensures same { graph.new.failed ≡ graph.old.failed }
+    ensures names { graph.new.table.names ≡ graph.old.table.names }
+    ensures more { KnowsMore graph.old.table graph.new.table }
+    ensures full { IsErrOf result Error.OutOfSlots → (graph.new.table.fresh ≡ 2 ^ 30) ⊎ HasLargeNode graph.old.image.canonical }
+    ensures only { IfErr result IsShortage }
+{
     let mut text = String::new(alloc);
     for i in 0..lines.len() {
         if let Some(entry) = lines.get(i) {
-            push_line(alloc, graph, &lines, i, entry, &mut text)?;
+            push_line(alloc, graph, lines, i, entry, &mut text)?;
         }
     }
     Ok(text)

@@ -64,12 +64,12 @@ returns-clause-line g c =
       right_text = string_bytes c.in_ok-right.right;
       left_is = one.text;
       right_is = record {
-          term = two.text.term;
-          table = two.text.table;
-          is = two.text.is ∙ ap (λ (x : Image). term_of x.canonical (to_applied e.r)) one.image;
-          names = two.text.names ∙ one.names;
-          bytes = two.text.bytes;
-        };
+        term = two.text.term;
+        table = two.text.table;
+        is = two.text.is ∙ ap (λ (x : Image). term_of x.canonical (to_applied e.r)) one.image;
+        names = two.text.names ∙ one.names;
+        bytes = two.text.bytes;
+      };
       reason = bytes;
       reason_is = by_text;
       bytes = refl;

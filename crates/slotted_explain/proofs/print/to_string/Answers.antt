@@ -1,64 +1,45 @@
-use Rattle.std.proofs.Common.{rules, ◌≡◌, ◌⊎◌, ◌↔◌, ◌<◌, ◌++◌, ◌^◌, length, List, ℕ, string_bytes, IsTrue, IfOk, OnOk, IfErr, IsErrOf, ◌+◌, ◌-◌, ◌*◌, ◌≤◌, ◌/◌, ◌%◌, Bool, true, false, nat_eq, nat_lt, [], ◌∷◌, slice_index_or, slice_set, bit_and, bit_or, Fits, w8, w32, w64, Bor, MutBor}
-use Rattle.slotted_slots.specs.Error.{IsShortage}
-use Rattle.slotted_slots.specs.Table.{KnowsMore}
-use Rattle.slotted_core.specs.Canonical.{HasLargeNode}
-use Rattle.slotted_core.specs.Graph.{IsValidId}
-use Rattle.slotted_core.specs.Nodes.{to_applied}
-use Rattle.slotted_explain.specs.Printed.{IsLine, IsProofText, IsSideText}
+-- The lines are those of the proof list, and stand in it.
+use Rattle.std.proofs.Common.{◌<◌, ◌∙◌, List, [], ◌∷◌, length, ap, sym, subst, arith, inl, inr}
+use Rattle.std.proofs.lemmas.Bool.{false≢true}
+use Rattle.slotted_proofs.specs.Entries.{Proven, entry_of}
+use Rattle.slotted_proofs.specs.Lines.{Lines, PartsAreEarlier}
+use Rattle.slotted_core.proofs.KeptLists.{length-mapped}
+use Rattle.slotted_core.proofs.Layers.{each_at}
+use Rattle.slotted_explain.proofs.LinesBelow.{lines_below}
 use Rattle.slotted_explain.proofs.print.to_string.Goals as goal
 
--- src/print.rt:45:5
-pub loop-i-init : goal.loop-i-init
-loop-i-init g c = ?
+pub lines-requires-clause-within : goal.lines-requires-clause-within
+lines-requires-clause-within g c = elim c.requires [
+  | inl h ↦ absurd (false≢true (sym c.if-is_failed.false ∙ (c.is_failed.ensures.failed ∙ h)))
+  | inr lt ↦ omega (arith, lt, ap length c.proofs.ensures.entries, length-mapped entry_of c.args.graph.now.image.stored, ap length c.proofs.ensures.list)
+]
 
--- src/print.rt:47:13
-pub push_line-requires-clause-well : goal.push_line-requires-clause-well
-push_line-requires-clause-well g c = ?
+pub lines-requires-clause-earlier : goal.lines-requires-clause-earlier
+lines-requires-clause-earlier g c = elim c.proofs.ensures.earlier [
+  | inl h ↦ absurd (false≢true (sym c.if-is_failed.false ∙ (c.is_failed.ensures.failed ∙ h)))
+  | inr earlier ↦ subst PartsAreEarlier (sym c.proofs.ensures.list) earlier
+]
 
--- src/print.rt:47:13
-pub push_line-requires-clause-within : goal.push_line-requires-clause-within
-push_line-requires-clause-within g c = ?
+pub lines_text-requires-clause-well : goal.lines_text-requires-clause-well
+lines_text-requires-clause-well g c h = false≢true (sym c.if-is_failed.false ∙ (c.is_failed.ensures.failed ∙ h))
 
--- src/print.rt:47:13
-pub returns-in_err-push_line-clause-image : goal.returns-in_err-push_line-clause-image
-returns-in_err-push_line-clause-image g c = ?
+pub lines_text-requires-clause-within : goal.lines_text-requires-clause-within
+lines_text-requires-clause-within g c k d lt =
+    let stored = c.args.graph.now.image.stored in
+    let earlier : PartsAreEarlier stored = elim c.proofs.ensures.earlier [
+      | inl h ↦ absurd (false≢true (sym c.if-is_failed.false ∙ (c.is_failed.ensures.failed ∙ h)))
+      | inr h ↦ h
+    ] in
+    let below : c.args.p < length stored = elim c.requires [
+      | inl h ↦ absurd (false≢true (sym c.if-is_failed.false ∙ (c.is_failed.ensures.failed ∙ h)))
+      | inr lt ↦ omega (arith, lt, ap length c.proofs.ensures.entries, length-mapped entry_of stored)
+    ] in
+    let order : Lines stored [] (c.args.p ∷ []) c.in_ok-lines.lines = subst (λ (ps : List Proven). Lines ps [] (c.args.p ∷ []) c.in_ok-lines.lines) c.proofs.ensures.list c.in_ok-lines.ensures.ok in
+    each_at (λ q. q < length stored) c.in_ok-lines.lines k d lt (lines_below stored earlier order tt (below, tt))
 
--- src/print.rt:47:13
-pub returns-in_err-push_line-clause-same : goal.returns-in_err-push_line-clause-same
-returns-in_err-push_line-clause-same g c = ?
-
--- src/print.rt:47:13
-pub returns-in_err-push_line-clause-names : goal.returns-in_err-push_line-clause-names
-returns-in_err-push_line-clause-names g c = ?
-
--- src/print.rt:47:13
-pub returns-in_err-push_line-clause-more : goal.returns-in_err-push_line-clause-more
-returns-in_err-push_line-clause-more g c = ?
-
--- src/print.rt:47:13
-pub returns-in_err-push_line-clause-full : goal.returns-in_err-push_line-clause-full
-returns-in_err-push_line-clause-full g c = ?
-
--- src/print.rt:45:5
-pub loop-i-preserved : goal.loop-i-preserved
-loop-i-preserved g c = ?
-
--- src/print.rt:22:1
 pub returns-clause-text : goal.returns-clause-text
-returns-clause-text g c = ?
-
--- src/print.rt:22:1
-pub returns-clause-image : goal.returns-clause-image
-returns-clause-image g c = ?
-
--- src/print.rt:22:1
-pub returns-clause-same : goal.returns-clause-same
-returns-clause-same g c = ?
-
--- src/print.rt:22:1
-pub returns-clause-names : goal.returns-clause-names
-returns-clause-names g c = ?
-
--- src/print.rt:22:1
-pub returns-clause-more : goal.returns-clause-more
-returns-clause-more g c = ?
+returns-clause-text g c = record {
+  lines = c.in_ok-lines.lines;
+  order = subst (λ (ps : List Proven). Lines ps [] (c.args.p ∷ []) c.in_ok-lines.lines) c.proofs.ensures.list c.in_ok-lines.ensures.ok;
+  printed = c.in_ok-text.ensures.text;
+}

@@ -2,7 +2,7 @@
 use Rattle.std.proofs.Common.{◌≡◌, string_bytes}
 use Rattle.slotted_slots.specs.Table.{KnowsMore}
 use Rattle.slotted_explain.specs.Printed.{ArePrinted}
-use Rattle.slotted_explain.proofs.print.to_string.Given as goal
+use Rattle.slotted_explain.proofs.print.lines_text.Given as goal
 
 abbrev pub invariant-loop-i : goal.invariant-loop-i
 invariant-loop-i g l =
