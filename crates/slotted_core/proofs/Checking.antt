@@ -199,7 +199,7 @@ module _ (t : Table) (k : Kept) (good : Good k) (e : Sides) (of : IsOfFull (node
             let d : z.0 < length k.proofs = let y : z.0 < length (proofs_of k) = z.1 in omega arith in
             h.0 z.0 (record { in_range = d; statement = one_statement z.0 d (sym (equation_at-of k.proofs z.0) ∙ z.2) })),
         (let d : p ≡ length k.proofs = h.1 in omega arith),
-        λ i. record { failed = b; table = t; image = record { canonical = nodes; found = (image_of k).found; entries = (ap (map entry_of) h.2 ∙ map-append entry_of k.proofs (x ∷ [])) i } },
+        λ i. record { failed = b; table = t; image = record { canonical = nodes; found = (image_of k).found; entries = (ap (map entry_of) h.2 ∙ map-append entry_of k.proofs (x ∷ [])) i; stored = h.2 i } },
       )
     ];
   }

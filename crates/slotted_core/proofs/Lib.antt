@@ -1,4 +1,5 @@
 pub mod CanonicalTerms
+pub mod EarlierParts
 pub mod FreshSlots
 pub mod Rows
 pub mod NameMaps

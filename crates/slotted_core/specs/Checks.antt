@@ -6,12 +6,13 @@ use Rattle.std.specs.Prelude.{◌≡◌, ◌⊎◌, ℕ, ◌<◌, List, [], ◌�
 use Rattle.slotted_theory.specs.FiniteMaps.{IsInjectiveMap}
 use Rattle.slotted_model.specs.Applied.{Applied}
 use Rattle.slotted_model.specs.Classes.{canonical_node, IsFull}
-use Rattle.slotted_model.specs.ProofList.{ProofEntry, Step, explicit, reflexive, symmetric, transitive, congruent, equation_of, equation_at}
+use Rattle.slotted_model.specs.ProofList.{Step, explicit, reflexive, symmetric, transitive, congruent, equation_of, equation_at}
 use Rattle.slotted_proofs.specs.declared.equation.Equation.{Equation as Sides}
 use Rattle.slotted_proofs.specs.AlikeNodes.{AreAlikeNodes}
-use Rattle.slotted_proofs.specs.Equations.{to_applied}
+use Rattle.slotted_proofs.specs.Entries.{Proven, entry_of}
+use Rattle.slotted_proofs.specs.Equations.{to_applied, statement_of}
 use Rattle.slotted_proofs.specs.StepClaims.{IsOfFull}
-use Rattle.slotted_proofs.specs.Steps.{Matches}
+use Rattle.slotted_proofs.specs.Steps.{Matches, by_step}
 use Rattle.slotted_core.specs.Graph.{Graph}
 use Rattle.slotted_core.specs.Image.{Image, StandsIn}
 
@@ -54,16 +55,16 @@ abbrev pub Fits : Image → Sides → Step → Type 0
 Fits g e s = IsOfFull g.canonical e × FitsBy g e s
 
 -- the entry of an equation by a step
-abbrev pub entry_by : Sides → Step → ProofEntry
-entry_by e s = record { equation = equation_of (to_applied e.l) (to_applied e.r); step = s }
+abbrev pub entry_by : Sides → Step → Proven
+entry_by e s = by_step (statement_of e) s
 
 -- the graph with one more entry
-abbrev pub with_entry : Graph → ProofEntry → Graph
-with_entry g x = record g { image = record { canonical = g.image.canonical; found = g.image.found; entries = g.image.entries ++ x ∷ [] } }
+abbrev pub with_entry : Graph → Proven → Graph
+with_entry g x = record g { image = record { canonical = g.image.canonical; found = g.image.found; entries = g.image.entries ++ entry_of x ∷ []; stored = g.image.stored ++ x ∷ [] } }
 
 -- the equation of x stands at the number p: it stood there, and nothing changed, or it stood nowhere and x is entered last, and
 -- nothing else changed
-pub record Accepts (g h : Graph) (x : ProofEntry) (p : ℕ) : Type 0 where
+pub record Accepts (g h : Graph) (x : Proven) (p : ℕ) : Type 0 where
   pub in_range : p < length h.image.entries
-  pub stands : equation_at h.image.entries p ≡ x.equation
-  pub grows : ((p < length g.image.entries) × (h ≡ g)) ⊎ ((¬ StandsIn g.image x.equation) × (p ≡ length g.image.entries) × (h ≡ with_entry g x))
+  pub stands : equation_at h.image.entries p ≡ x.statement.equation
+  pub grows : ((p < length g.image.entries) × (h ≡ g)) ⊎ ((¬ StandsIn g.image x.statement.equation) × (p ≡ length g.image.entries) × (h ≡ with_entry g x))

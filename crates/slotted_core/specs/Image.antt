@@ -19,23 +19,25 @@ use Rattle.slotted_model.specs.Classes.{canonical_slots, term_of, IsFull}
 use Rattle.slotted_model.specs.Correspondence.{composite}
 use Rattle.slotted_model.specs.ProofList.{Equation, ProofEntry, equation_of, equation_at, term_pair, asserted}
 use Rattle.slotted_core.specs.TermCode.{nameless_code}
-use Rattle.slotted_core.specs.EntryCode.{pairs_code, proof_entry_code}
+use Rattle.slotted_proofs.specs.Entries.{Proven}
+use Rattle.slotted_core.specs.EntryCode.{pairs_code, proof_entry_code, proven_code}
 
 -- the canonical node of each class, in the order of the class ids; for each class the live class that it finds, with its own slot
--- for each slot of that; and the proof list
+-- for each slot of that; and the proof list, as the model has it and with the slots and the texts of its entries
 pub record Image : Type 0 where
   pub canonical : List DTerm
   pub found : List Applied
   pub entries : List ProofEntry
+  pub stored : List Proven
 
 abbrev pub image_code : Coded Image
 image_code =
-    code_by (List DTerm × (List Applied × List ProofEntry)) (coded× (coded_list nameless_code) (coded× (coded_list (coded× coded_ℕ pairs_code)) (coded_list proof_entry_code)))
-    (λ g. (g.canonical, (g.found, g.entries))) (λ p. record { canonical = p.0; found = p.1.0; entries = p.1.1 }) (λ _. refl)
+    code_by (List DTerm × (List Applied × (List ProofEntry × List Proven))) (coded× (coded_list nameless_code) (coded× (coded_list (coded× coded_ℕ pairs_code)) (coded× (coded_list proof_entry_code) (coded_list proven_code))))
+    (λ g. (g.canonical, (g.found, (g.entries, g.stored)))) (λ p. record { canonical = p.0; found = p.1.0; entries = p.1.1.0; stored = p.1.1.1 }) (λ _. refl)
 
 -- the image without classes
 abbrev pub no_classes : Image
-no_classes = record { canonical = []; found = []; entries = [] }
+no_classes = record { canonical = []; found = []; entries = []; stored = [] }
 
 -- what an applied id finds: the found class with the id's names at the slots that it stands for
 abbrev pub found_id : Image → Applied → Applied

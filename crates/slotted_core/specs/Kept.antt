@@ -91,7 +91,7 @@ finds_from found i (e ∷ es) = (find_class found i, find_map found i) ∷ finds
 
 -- what contracts see of it
 abbrev pub image_of : Kept → Image
-image_of k = record { canonical = nodes_of k; found = finds_from (entries_of k) 0 (entries_of k); entries = proofs_of k }
+image_of k = record { canonical = nodes_of k; found = finds_from (entries_of k) 0 (entries_of k); entries = proofs_of k; stored = k.proofs }
 
 -- what is filed for a shape
 abbrev pub found : List RowEntry → Form → Option (ℕ × List (ℕ × ℕ))

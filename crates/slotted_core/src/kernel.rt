@@ -223,6 +223,13 @@ impl<L: Language> Core<L> {
         class.weight = class.weight.saturating_add(more);
     }
 
+    /// The proved equations.
+    pub fn proofs(&self) -> &ProofList
+        ensures { result.now ≡ self.now.proofs }
+    {
+        &self.proofs
+    }
+
     /// The number of proved equations.
     pub fn proof_count(&self) -> usize
         ensures { result ≡ length self.now.proofs }

@@ -1,4 +1,5 @@
 -- The lemmas that callers and the functions of this crate cite.
+pub mod Printing
 pub mod Bridges
 pub mod NumberedSides
 pub mod Written

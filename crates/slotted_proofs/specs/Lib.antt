@@ -8,3 +8,4 @@ pub mod Lines
 pub mod AlikeNodes
 pub mod StepClaims
 pub mod Shown
+pub mod Reasons

@@ -7,6 +7,7 @@ pub mod lines;
 pub mod list;
 mod numbering;
 pub mod proof;
+pub mod reasons;
 pub mod steps;
 
 pub use equation::Equation;

@@ -61,6 +61,16 @@ impl ProofLines {
         self.entries.get_index_of(&p)
     }
 
+    /// The entry of a line.
+    pub fn get(&self, i: usize) -> Option<ProvenEq>
+        ensures { result ≡ slice_get self.now i }
+    {
+        match self.entries.get_index(i) {
+            Some(p) => Some(*p),
+            None => None,
+        }
+    }
+
     // The next line is that of the entry.
     fn push(&mut self, p: ProvenEq) -> Result<(), Error>
         requires { has_line self.old p ≡ false }

@@ -6,13 +6,16 @@ ghost use Rattle.slotted_slots.specs.Error.{IsShortage};
 ghost use Rattle.slotted_slots.specs.Table.{KnowsMore};
 ghost use Rattle.slotted_languages.specs.NodeTerm.{nameless_node};
 ghost use Rattle.slotted_model.specs.Classes.{canonical_node, term_of};
+ghost use Rattle.slotted_proofs.specs.Entries.{entries_of};
+ghost use Rattle.slotted_proofs.specs.Lines.{PartsAreEarlier};
+ghost use Rattle.slotted_proofs.specs.Proving.{IsProved};
 ghost use Rattle.slotted_core.specs.Canonical.{HasLargeNode};
 ghost use Rattle.slotted_core.specs.Graph.{IsValidId};
 ghost use Rattle.slotted_core.specs.Nodes.{to_applied};
 
 use super::EGraph;
 use slotted_languages::Language;
-use slotted_proofs::ProvenEq;
+use slotted_proofs::{ProofList, ProvenEq};
 use slotted_slots::{AppliedId, Error};
 use slotted_terms::expr::RecExpr;
 
@@ -61,6 +64,19 @@ impl<L: Language, N: Drop> EGraph<L, N> {
             return Err(Error::Failed);
         }
         self.core.syn_expr(self.alloc, &mut self.table, a)
+    }
+
+    /// The proved equations, with their steps and texts.
+    pub fn proofs(&self) -> &ProofList
+        ensures list { result.now ≡ self.now.image.stored }
+        ensures entries { self.now.image.entries ≡ entries_of self.now.image.stored }
+
+        // What each graph that has not failed keeps: steps prove their equations over earlier entries, and equations are over all
+        // slots of their classes.
+        ensures proved { IsTrue self.now.failed ⊎ IsProved self.now.image.canonical self.now.image.stored }
+        ensures earlier { IsTrue self.now.failed ⊎ PartsAreEarlier self.now.image.stored }
+    {
+        self.core.proofs()
     }
 
     /// Whether the number is that of a proved equation. It takes no memory.

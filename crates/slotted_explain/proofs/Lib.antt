@@ -1,0 +1,4 @@
+-- Lemmas on printed proofs.
+pub mod LinesBelow
+pub mod PrintedLines
+pub mod Sides

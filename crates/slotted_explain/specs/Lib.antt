@@ -1,0 +1,2 @@
+-- What printed proofs are.
+pub mod Printed

@@ -1,0 +1,8 @@
+//! Proofs as texts.
+#![tactic(auto)]
+
+mod print;
+#[cfg(test)]
+mod tests;
+
+pub use print::to_string;

@@ -1,0 +1,119 @@
+//! A proof printed line by line.
+ghost use Rattle.std.specs.Prelude.{All, ◌≡◌, ◌⊎◌, ◌↔◌, ◌<◌, ◌++◌, ◌^◌, length, List, ℕ, string_bytes, IsTrue, IfOk, OnOk, IfErr, IsErrOf};
+ghost use Rattle.slotted_slots.specs.Error.{IsShortage};
+ghost use Rattle.slotted_slots.specs.Table.{KnowsMore};
+ghost use Rattle.slotted_core.specs.Canonical.{HasLargeNode};
+ghost use Rattle.slotted_core.specs.Graph.{IsValidId};
+ghost use Rattle.slotted_core.specs.Nodes.{to_applied};
+ghost use Rattle.slotted_explain.specs.Printed.{ArePrinted, IsLine, IsProofText, IsSideText};
+
+use slotted_core::EGraph;
+use slotted_proofs::reasons::reason;
+use slotted_proofs::{ProofLines, ProvenEq};
+use slotted_slots::{AppliedId, Error};
+use slotted_terms::expr::printing::Printable;
+use std::alloc::Global;
+use std::fmt::Write;
+
+/// The proof of an entry: a line for each entry that it stands on, each once, parts first, numbered from 0.
+///
+/// A line is `i: l = r by X`, ended by a line feed: the sides are canonical terms, and X is the debug form of the optional text,
+/// `refl`, or `symmetry(a)`, `transitivity(a, b)` or `congruence(a, b)` with the numbers of the parts' lines.
+pub fn to_string<L: Printable, N: Drop>(
+    alloc: Global,
+    graph: &mut EGraph<L, N>,
+    p: ProvenEq,
+) -> Result<String, Error>
+    requires { IsTrue graph.old.failed ⊎ (p < length graph.old.image.entries) }
+    ensures text { IfOk result (λ s. IsProofText L.written graph.old p (string_bytes s)) }
+
+    // Only fresh slots are made, and a refusal does not fail the graph.
+    ensures image { graph.new.image ≡ graph.old.image }
+    ensures same { graph.new.failed ≡ graph.old.failed }
+    ensures names { graph.new.table.names ≡ graph.old.table.names }
+    ensures more { KnowsMore graph.old.table graph.new.table }
+
+    ensures failed { IsErrOf result Error.Failed ↔ IsTrue graph.old.failed }
+    ensures full { IsErrOf result Error.OutOfSlots → (graph.new.table.fresh ≡ 2 ^ 30) ⊎ HasLargeNode graph.old.image.canonical }
+    ensures only { IfErr result (λ e. (e ≡ Error.Failed) ⊎ IsShortage e) }
+{
+    if graph.is_failed() {
+        return Err(Error::Failed);
+    }
+    let lines = graph.proofs().lines(alloc, p)?;
+    let text = lines_text(alloc, graph, &lines)?;
+    Ok(text)
+}
+
+// The lines in turn.
+fn lines_text<L: Printable, N: Drop>(
+    alloc: Global,
+    graph: &mut EGraph<L, N>,
+    lines: &ProofLines,
+) -> Result<String, Error>
+    requires well { ¬ IsTrue graph.old.failed }
+    requires within { All (λ q. q < length graph.old.image.stored) lines.now }
+    ensures text { IfOk result (λ s. ArePrinted L.written graph.old lines.now (length lines.now) (string_bytes s)) }
+    ensures image { graph.new.image ≡ graph.old.image }
+    ensures same { graph.new.failed ≡ graph.old.failed }
+    ensures names { graph.new.table.names ≡ graph.old.table.names }
+    ensures more { KnowsMore graph.old.table graph.new.table }
+    ensures full { IsErrOf result Error.OutOfSlots → (graph.new.table.fresh ≡ 2 ^ 30) ⊎ HasLargeNode graph.old.image.canonical }
+    ensures only { IfErr result IsShortage }
+{
+    let mut text = String::new(alloc);
+    for i in 0..lines.len() {
+        if let Some(entry) = lines.get(i) {
+            push_line(alloc, graph, lines, i, entry, &mut text)?;
+        }
+    }
+    Ok(text)
+}
+
+// Appends the line of an entry.
+fn push_line<L: Printable, N: Drop>(
+    alloc: Global,
+    graph: &mut EGraph<L, N>,
+    lines: &ProofLines,
+    i: usize,
+    p: ProvenEq,
+    text: &mut String,
+) -> Result<(), Error>
+    requires well { ¬ IsTrue graph.old.failed }
+    requires within { p < length graph.old.image.stored }
+    ensures line { OnOk result ((bs : List ℕ) × IsLine L.written graph.old lines.now i p bs × (string_bytes text.new ≡ string_bytes text.old ++ bs)) }
+    ensures image { graph.new.image ≡ graph.old.image }
+    ensures same { graph.new.failed ≡ graph.old.failed }
+    ensures names { graph.new.table.names ≡ graph.old.table.names }
+    ensures more { KnowsMore graph.old.table graph.new.table }
+    ensures full { IsErrOf result Error.OutOfSlots → (graph.new.table.fresh ≡ 2 ^ 30) ⊎ HasLargeNode graph.old.image.canonical }
+    ensures only { IfErr result IsShortage }
+{
+    let equation = graph.proofs().equ(p).copy(alloc)?;
+    let left = side_text(alloc, graph, &equation.l)?;
+    let right = side_text(alloc, graph, &equation.r)?;
+    let reason = reason(alloc, graph.proofs().proof(p), lines)?;
+    writeln!(text, "{i}: {left} = {right} by {reason}")?;
+    Ok(())
+}
+
+// The canonical term of an id, printed.
+fn side_text<L: Printable, N: Drop>(
+    alloc: Global,
+    graph: &mut EGraph<L, N>,
+    a: &AppliedId,
+) -> Result<String, Error>
+    requires well { ¬ IsTrue graph.old.failed }
+    requires valid { IsValidId graph.old (to_applied a.now) }
+    ensures text { IfOk result (λ s. IsSideText L.written graph.old (to_applied a.now) (string_bytes s)) }
+    ensures image { graph.new.image ≡ graph.old.image }
+    ensures same { graph.new.failed ≡ graph.old.failed }
+    ensures names { graph.new.table.names ≡ graph.old.table.names }
+    ensures more { KnowsMore graph.old.table graph.new.table }
+    ensures full { IsErrOf result Error.OutOfSlots → (graph.new.table.fresh ≡ 2 ^ 30) ⊎ HasLargeNode graph.old.image.canonical }
+    ensures only { IfErr result IsShortage }
+{
+    let term = graph.get_syn_expr(a)?;
+    let text = term.text(alloc, graph.table())?;
+    Ok(text)
+}

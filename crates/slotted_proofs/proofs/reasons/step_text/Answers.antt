@@ -1,0 +1,14 @@
+-- Each turn writes the line of a part; the bracket comes at the end.
+use lib.Utf8.{encode}
+use Rattle.std.proofs.Common.{◌≡◌, ◌∷◌, [], ◌++◌, drop, codes, string_bytes, refl, ap, ◌∙◌}
+use Rattle.slotted_proofs.specs.Reasons.{numbers_text}
+use Rattle.slotted_proofs.proofs.Printing.{numbers_text-step}
+use Rattle.slotted_proofs.proofs.reasons.step_text.Goals as goal
+
+pub loop-part-preserved : goal.loop-part-preserved
+unfolding encode
+loop-part-preserved c = (
+  (44 ∷ 32 ∷ [], (refl, refl)),
+  rw (c.in_ok-push_number.ensures.ok, c.in_ok-push_str.ensures.bytes)
+  (numbers_text-step c.args.lines.now c.loop-part.separator.now (string_bytes c.loop-part.text) c.args.parts.now c.loop-part.part-index c.part-item.result c.line_of.result _ c.loop-part-test.true c.part-item.is c.line_of.ensures c.loop-part.invariant.1),
+)

@@ -1,0 +1,64 @@
+//! How an entry was proved, as its line in a printed proof says it.
+ghost use Rattle.std.specs.Prelude.{◌≡◌, ◌++◌, string_bytes, codes, IfOk, OnOk, IfErr, IfSome, Option};
+ghost use Rattle.slotted_slots.specs.Error.{IsOutOfMemory};
+ghost use Rattle.slotted_proofs.specs.Entries.{step_of, text_of};
+ghost use Rattle.slotted_proofs.specs.Reasons.{number_text, step_text, reason_text};
+
+use crate::lines::ProofLines;
+use crate::proof::{Proof, ProvenEq};
+use slotted_slots::Error;
+use std::alloc::Global;
+use std::fmt::Write;
+
+/// The reason in the line of an entry with this proof: the debug form of the optional text, `refl`, or `symmetry`,
+/// `transitivity` or `congruence` with the numbers of the parts' lines.
+pub fn reason(alloc: Global, proof: &Proof, lines: &ProofLines) -> Result<String, Error>
+    ensures ok { IfOk result (λ s. IfSome (reason_text lines.now (step_of proof.now) (text_of proof.now)) (λ bs. string_bytes s ≡ bs)) }
+    ensures err { IfErr result IsOutOfMemory }
+{
+    match proof {
+        Proof::Explicit(explicit) => {
+            let text = &explicit.0;
+            Ok(format!(in alloc; "{text:?}")?)
+        }
+        Proof::Reflexivity(_) => Ok(String::from_str(alloc, "refl")?),
+        Proof::Symmetry(part) => step_text(alloc, "symmetry", &[part.0], lines),
+        Proof::Transitivity(parts) => {
+            step_text(alloc, "transitivity", &[parts.0, parts.1], lines)
+        }
+        Proof::Congruence(parts) => step_text(alloc, "congruence", &parts.0, lines),
+    }
+}
+
+// The name of a step with the lines of its parts.
+fn step_text(
+    alloc: Global,
+    name: &str,
+    parts: &[ProvenEq],
+    lines: &ProofLines,
+) -> Result<String, Error>
+    ensures ok { IfOk result (λ s. string_bytes s ≡ step_text name.now lines.now parts.now) }
+    ensures err { IfErr result IsOutOfMemory }
+{
+    let mut text = format!(in alloc; "{name}(")?;
+    let mut separator = "";
+    for part in parts {
+        text.push_str(separator)?;
+        push_number(&mut text, lines.line_of(*part))?;
+        separator = ", ";
+    }
+    text.push_str(")")?;
+    Ok(text)
+}
+
+// Appends the number of a line, or `?` where there is none.
+fn push_number(text: &mut String, line: Option<usize>) -> Result<(), Error>
+    ensures ok { OnOk result (string_bytes text.new ≡ string_bytes text.old ++ number_text line) }
+    ensures err { IfErr result IsOutOfMemory }
+{
+    match line {
+        Some(number) => write!(text, "{number}")?,
+        None => text.push_str("?")?,
+    }
+    Ok(())
+}
