@@ -3,7 +3,7 @@ use crate::to_string;
 use slotted_core::EGraph;
 use slotted_languages::{Language, Small};
 use slotted_proofs::ProvenEq;
-use slotted_slots::{AppliedId, Error, Show, SlotTable};
+use slotted_slots::{AppliedId, Error, SlotTable};
 use slotted_terms::expr::printing::Printable;
 use std::alloc::Global;
 
@@ -54,8 +54,8 @@ fn canonical<L: Printable>(
     }
     let children = graph.get_syn_node(a)?.applied_id_count();
     let term = graph.get_syn_expr(a)?;
-    let shown = term.show(graph.table());
-    Ok(format!(in alloc; "{children} {shown}")?)
+    let text = term.text(alloc, graph.table())?;
+    Ok(format!(in alloc; "{children} {text}")?)
 }
 
 // A proof of an assertion alone is one line.
