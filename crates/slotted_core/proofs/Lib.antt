@@ -15,6 +15,8 @@ pub mod Chasing
 pub mod Answering
 pub mod Entered
 pub mod Checking
+pub mod Partners
+pub mod Frames
 pub mod Asserting
 pub mod Large
 pub mod Linked

@@ -8,6 +8,7 @@ use std::alloc::Global;
 mod calls;
 mod memory;
 mod refusals;
+mod steps;
 mod unions;
 mod valid;
 
