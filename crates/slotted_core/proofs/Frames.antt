@@ -1,15 +1,14 @@
 -- Two nodes side by side: they are alike but for their children exactly if their outlines are, and their children match.
-use Rattle.std.proofs.Common.{◌≡◌, ℕ, zero, suc, ◌<◌, ◌≤◌, ◌+◌, ◌-◌, List, [], ◌∷◌, ◌++◌, length, take, drop, refl, slice_index, slice_index_or, ap, ◌∙◌, sym, subst, inl, inr, arith, length-append}
+use Rattle.std.proofs.Common.{◌≡◌, ℕ, zero, suc, ◌<◌, ◌+◌, List, [], ◌∷◌, ◌++◌, length, take, drop, refl, slice_index, slice_index_or, ap, ◌∙◌, sym, subst, inl, inr, arith, length-append}
 use Rattle.std.specs.Prelude.{map, All, ◌⊎◌}
 use Rattle.std.specs.List.{zip}
-use Rattle.std.proofs.Math.Nat.{suc_inj}
 use Rattle.slotted_theory.specs.FiniteMaps.{IsInjectiveMap}
-use Rattle.slotted_theory.specs.Nameless.{DArgs, DTerm, stop, place, sub, scope, nameless_args}
+use Rattle.slotted_theory.specs.Nameless.{nameless_args}
 use Rattle.slotted_theory.specs.Shape.{number_in}
 use Rattle.slotted_languages.specs.Form.{Form, Tree, leaf, own, child, bind, scopes, children}
 use Rattle.slotted_languages.specs.NodeTerm.{node_args, nameless_node}
 use Rattle.slotted_languages.specs.NodeTerm as node
-use Rattle.slotted_languages.specs.Outline.{outlined, outlined_names, outlined_form}
+use Rattle.slotted_languages.specs.Outline.{outlined, outlined_names}
 use Rattle.slotted_languages.proofs.Outlines.{length_children-outlined, length-outlined_names, outlined-outlined}
 use Rattle.slotted_model.specs.Applied.{Applied, own_names, applied_of}
 use Rattle.slotted_model.specs.Correspondence.{with_names}
@@ -371,7 +370,7 @@ first_match-more ids bs cs k c h m = record {
     last (y ∷ cs) c (suc j) x l = last cs c j x (omega arith)
 
 -- names that are apart after a renaming were apart before
-injective_before : (f : ℕ → ℕ) (m : List (ℕ × ℕ)) → IsInjectiveMap (with_names f m) → IsInjectiveMap m
+pub injective_before : (f : ℕ → ℕ) (m : List (ℕ × ℕ)) → IsInjectiveMap (with_names f m) → IsInjectiveMap m
 injective_before f [] i = tt
 injective_before f (p ∷ m) i = (
   λ h.

@@ -17,6 +17,7 @@ pub mod Entered
 pub mod Checking
 pub mod Partners
 pub mod Frames
+pub mod Naming
 pub mod Asserting
 pub mod Large
 pub mod Linked

@@ -1,5 +1,5 @@
 -- Partners of slots below binders: the pairs of slots to which two maps of names give one number.
-use Rattle.std.proofs.Common.{◌≡◌, ◌≢◌, ℕ, ◌<◌, List, [], ◌∷◌, ◌++◌, Option, Some, None, sym, ap, ◌∙◌, subst, refl, append_assoc}
+use Rattle.std.proofs.Common.{◌≡◌, ◌≢◌, ℕ, List, [], ◌∷◌, ◌++◌, Some, None, sym, ap, ◌∙◌, subst, refl, append_assoc}
 use Rattle.slotted_slots.specs.Ascending.{AllAbove, IsAscending}
 use Rattle.slotted_slots.specs.Maps.{with_pair}
 use Rattle.slotted_theory.specs.FiniteMaps.{IsInjectiveMap, value_of}

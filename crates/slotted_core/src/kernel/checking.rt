@@ -97,8 +97,7 @@ impl<L: Language> Core<L> {
         ensures err { IfErr result IsShortage }
     {
         let mut table = SlotTable::new(alloc);
-        let node = &self.classes[a.id.0].node;
-        let named = node.apply_slotmap(alloc, &a.m, &mut table)?;
+        let named = self.node_of(a.id.0).apply_slotmap(alloc, &a.m, &mut table)?;
         Ok(named)
     }
 
@@ -123,7 +122,9 @@ impl<L: Language> Core<L> {
         let left = self.named_node(alloc, &equation.l)?;
         let right = self.named_node(alloc, &equation.r)?;
         match child_equations(alloc, &left, &right)? {
-            Some(children) => self.proofs.prove_congruent(alloc, equation, &children, parts),
+            Some(children) => self
+                .proofs
+                .prove_congruent(alloc, equation, &children, parts),
             None => Err(Error::BadStep),
         }
     }

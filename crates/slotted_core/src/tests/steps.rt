@@ -3,9 +3,7 @@ use super::{Graph, put_text};
 use crate::egraph::EGraph;
 use crate::egraph::steps::Check;
 use slotted_languages::Language;
-use slotted_proofs::{
-    Equation, ProvenEq, ReflexivityProof, SymmetryProof, TransitivityProof,
-};
+use slotted_proofs::{Equation, ProvenEq, ReflexivityProof, SymmetryProof, TransitivityProof};
 use slotted_slots::{AppliedId, Error, SlotMap, SlotTable};
 use std::alloc::Global;
 

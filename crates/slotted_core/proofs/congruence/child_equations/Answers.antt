@@ -1,8 +1,7 @@
-use Rattle.std.proofs.Common.{◌+◌, ◌≡◌, ◌<◌, ◌∙◌, ℕ, List, [], ◌∷◌, ◌++◌, arith, length, sym, subst, ap, refl}
-use Rattle.std.specs.Prelude.{All, IfSome, IfNone, Option}
+use Rattle.std.proofs.Common.{◌+◌, ◌≡◌, ◌<◌, ◌∙◌, ℕ, List, [], ◌∷◌, ◌++◌, arith, length, sym, subst, ap}
+use Rattle.std.specs.Prelude.{IfSome, IfNone}
 use Rattle.std.proofs.lemmas.Bool.{false≢true}
 use Rattle.slotted_languages.specs.Form.{children}
-use Rattle.slotted_proofs.specs.Steps.{HasInjectiveSides}
 use Rattle.slotted_terms.specs.Seen.{lefts, rights, above, AreAlike, AreOutlines, owns_seen}
 use Rattle.slotted_core.specs.Nodes.{to_applied}
 use Rattle.slotted_core.proofs.Children.{child_is}
@@ -25,8 +24,8 @@ returns-then-not-branch-clause-none g c =
     let q = g.L.LanguageChildren.form c.in-Some.nodes.two in
     let o : AreOutlines f h p q = subst (λ o. IfSome o (λ n. AreOutlines f h (g.L.LanguageChildren.form n.one) (g.L.LanguageChildren.form n.two))) c.in-Some.is c.in_ok-nodes.ensures.outlines in
     λ cs once alike. false≢true (sym c.if-not-branch.true ∙ c.in_ok-same_owns.ensures.same.1 (
-      ap (λ (b : List (ℕ × ℕ)). owns_seen p (lefts b)) c.new-binders.ensures.items
-          ∙ (forms_owns f h p q o cs alike ∙ sym (ap (λ (b : List (ℕ × ℕ)). owns_seen q (rights b)) c.new-binders.ensures.items))))
+    ap (λ (b : List (ℕ × ℕ)). owns_seen p (lefts b)) c.new-binders.ensures.items
+    ∙ (forms_owns f h p q o cs alike ∙ sym (ap (λ (b : List (ℕ × ℕ)). owns_seen q (rights b)) c.new-binders.ensures.items))))
 
 pub loop-k-init : goal.loop-k-init
 loop-k-init g c = first_match-none _ _ c.new-equations.result.items c.new-equations.ensures.items
@@ -106,8 +105,8 @@ returns-clause-alike g c =
     let q = g.L.LanguageChildren.form c.in-Some.nodes.two in
     let o : AreOutlines f h p q = subst (λ o. IfSome o (λ n. AreOutlines f h (g.L.LanguageChildren.form n.one) (g.L.LanguageChildren.form n.two))) c.in-Some.is c.in_ok-nodes.ensures.outlines in
     frames_alike f h p q o (
-      ap (λ (b : List (ℕ × ℕ)). owns_seen p (lefts b)) (sym c.new-binders.ensures.items)
-          ∙ (c.in_ok-same_owns.ensures.same.0 c.if-not-branch.false ∙ ap (λ (b : List (ℕ × ℕ)). owns_seen q (rights b)) c.new-binders.ensures.items)
+    ap (λ (b : List (ℕ × ℕ)). owns_seen p (lefts b)) (sym c.new-binders.ensures.items)
+    ∙ (c.in_ok-same_owns.ensures.same.0 c.if-not-branch.false ∙ ap (λ (b : List (ℕ × ℕ)). owns_seen q (rights b)) c.new-binders.ensures.items)
     ) c.loop-k.equations.items c.loop-k.k c.loop-k.invariant.0 (omega (arith, c.loop-k-test.false, c.applied_id_count-k-end.ensures))
 
 pub returns-clause-injective : goal.returns-clause-injective

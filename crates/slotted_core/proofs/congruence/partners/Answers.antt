@@ -1,11 +1,11 @@
-use Rattle.std.proofs.Common.{ℕ, List, ◌≡◌, ◌∙◌, ◌++◌, [], sym, ap, subst}
+use Rattle.std.proofs.Common.{ℕ, List, ◌≡◌, ◌∙◌, ◌++◌, sym, subst}
 use Rattle.std.proofs.lemmas.List.{append-nil}
 use Rattle.slotted_slots.specs.Ascending.{IsAscending}
 use Rattle.slotted_model.specs.Applied.{keys}
 use Rattle.slotted_model.specs.Correspondence.{same_names}
 use Rattle.slotted_terms.specs.Seen.{lefts, rights}
 use Rattle.slotted_core.specs.Frames.{numbers_under}
-use Rattle.slotted_core.proofs.Partners.{Pairing, pairing_more, pairing_none}
+use Rattle.slotted_core.proofs.Partners.{pairing_more, pairing_none}
 use Rattle.slotted_core.proofs.congruence.partners.Goals as goal
 
 pub loop-slot-init : goal.loop-slot-init
