@@ -8,7 +8,6 @@ use std::alloc::Global;
 mod calls;
 mod memory;
 mod refusals;
-mod steps;
 mod unions;
 mod valid;
 
