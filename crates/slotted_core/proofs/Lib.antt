@@ -16,6 +16,9 @@ pub mod Chasing
 pub mod Answering
 pub mod Entered
 pub mod Checking
+pub mod Partners
+pub mod Frames
+pub mod Naming
 pub mod Asserting
 pub mod Large
 pub mod Linked

@@ -11,3 +11,4 @@ pub mod Kept
 pub mod Places
 pub mod SmallNodes
 pub mod Canonical
+pub mod Frames

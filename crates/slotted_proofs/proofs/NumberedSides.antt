@@ -100,7 +100,7 @@ above_last : (k : ℕ) (m rest : List (ℕ × ℕ)) (t v : ℕ) → AllAbove k (
 above_last k [] rest t v h = h.0
 above_last k (p ∷ m) rest t v h = above_last k m rest t v h.1
 
-with_pair-last : (m rest : List (ℕ × ℕ)) (t v w : ℕ) → IsAscending (keys (m ++ (t, w) ∷ rest)) → with_pair m t v ≡ m ++ (t, v) ∷ []
+pub with_pair-last : (m rest : List (ℕ × ℕ)) (t v w : ℕ) → IsAscending (keys (m ++ (t, w) ∷ rest)) → with_pair m t v ≡ m ++ (t, v) ∷ []
 with_pair-last [] rest t v w a = refl
 with_pair-last (p ∷ m) rest t v w a =
     with_pair-after p m t v (above_last p.0 m rest t w a.0)

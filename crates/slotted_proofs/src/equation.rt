@@ -5,10 +5,11 @@ ghost use Rattle.slotted_theory.specs.FiniteMaps.{IsInjectiveMap};
 ghost use Rattle.slotted_slots.specs.Error.{IsOutOfMemory, IsShortage};
 ghost use Rattle.slotted_slots.specs.Maps.{KnowsAll, all_differ, composed, is_among, values};
 ghost use Rattle.slotted_slots.specs.Sets.{set_of};
-ghost use Rattle.slotted_model.specs.Correspondence.{same_names};
+ghost use Rattle.slotted_model.specs.Applied.{keys};
+ghost use Rattle.slotted_model.specs.Correspondence.{IsPartialInjection, same_names, turned};
 ghost use Rattle.slotted_proofs.specs.Equations.{to_applied, statement_of, turned_statement, composite_statement, Meets, IsWritten};
 
-use crate::numbering::{composite, numbered, shared_names};
+use crate::numbering::{composite, numbered, numbered_by, shared_names};
 use slotted_slots::{AppliedId, Error, Slot, SlotMap, SmallHashSet};
 use std::alloc::Global;
 
@@ -107,5 +108,22 @@ impl Equation {
         ensures err { IfErr result IsShortage }
     {
         composite(alloc, self, other)
+    }
+
+    /// The equation of two classes over the slots of two ids of them, with numbered names: a slot of the right class carries one name
+    /// with its partner of the left class, and with no other slot.
+    pub fn by_partners(
+        alloc: Global,
+        l: &AppliedId,
+        r: &AppliedId,
+        partners: &SlotMap,
+    ) -> Result<Equation, Error>
+        requires { IsPartialInjection (keys r.now.m) (keys l.now.m) partners.now }
+        ensures ok { IfOk result (IsWritten (record { left_slots = keys l.now.m; right_slots = keys r.now.m; equation = record { left = l.now.id.0; right = r.now.id.0; pairs = turned (keys l.now.m) partners.now } })) }
+        ensures full { IsErrOf result Error.OutOfSlots ↔ (2 ^ 30 ≤ length l.now.m + length r.now.m) }
+        ensures err { IfErr result IsShortage }
+    {
+        let equation = numbered_by(alloc, l, r, partners)?;
+        Ok(equation)
     }
 }

@@ -99,6 +99,25 @@ fn number_sides(
     })
 }
 
+// The same where the sides may have too many places.
+pub(crate) fn numbered_by(
+    alloc: Global,
+    l: &AppliedId,
+    r: &AppliedId,
+    partners: &SlotMap,
+) -> Result<Equation, Error>
+    requires { IsPartialInjection (keys r.now.m) (keys l.now.m) partners.now }
+    ensures ok { IfOk result (IsWritten (record { left_slots = keys l.now.m; right_slots = keys r.now.m; equation = record { left = l.now.id.0; right = r.now.id.0; pairs = turned (keys l.now.m) partners.now } })) }
+    ensures full { IsErrOf result Error.OutOfSlots ↔ (2 ^ 30 ≤ length l.now.m + length r.now.m) }
+    ensures err { IfErr result IsShortage }
+{
+    if !is_short(l, r) {
+        return Err(Error::OutOfSlots);
+    }
+    let equation = number_sides(alloc, l, r, partners)?;
+    Ok(equation)
+}
+
 // The equality of two applied ids, with numbered names.
 pub(crate) fn numbered(alloc: Global, l: &AppliedId, r: &AppliedId) -> Result<Equation, Error>
     requires left { IsInjectiveMap l.now.m }

@@ -2,7 +2,7 @@
 #![tactic(auto)]
 
 pub mod expr;
-mod outlines;
+pub mod outlines;
 pub mod parse;
 pub mod patterns;
 pub mod show;

@@ -1,15 +1,23 @@
 //! Steps that callers ask for, over the classes of a graph.
 ghost use Rattle.std.specs.Prelude.{◌≡◌, ◌+◌, ◌^◌, ◌≤◌, length, ◌↔◌, IsTrue, IfOk, OnErr, IfErr, IsErrOf};
-ghost use Rattle.slotted_model.specs.ProofList.{reflexive, symmetric, transitive};
+ghost use Rattle.slotted_slots.specs.Error.{IsShortage};
+ghost use Rattle.slotted_theory.specs.FiniteMaps.{filled};
+ghost use Rattle.slotted_theory.specs.Nameless.{moved};
+ghost use Rattle.slotted_languages.specs.NodeTerm.{nameless_node};
+ghost use Rattle.slotted_model.specs.Classes.{IsFull, canonical_node};
+ghost use Rattle.slotted_model.specs.ProofList.{reflexive, symmetric, transitive, congruent};
 ghost use Rattle.slotted_proofs.specs.Equations.{statement_of};
 ghost use Rattle.slotted_proofs.specs.StepClaims.{IsOfFull};
 ghost use Rattle.slotted_proofs.specs.Steps.{IsRefusal, IsReflexiveStep, IsSymmetricStep, IsTransitiveStep, by_step};
+ghost use Rattle.slotted_core.specs.Frames.{IsCongruentIn};
 ghost use Rattle.slotted_core.specs.Kept.{Good, EntersIn, nodes_of};
+ghost use Rattle.slotted_core.specs.Nodes.{to_applied};
 
+use crate::congruence::child_equations;
 use crate::kernel::Core;
 use slotted_languages::Language;
 use slotted_proofs::{Equation, ProvenEq};
-use slotted_slots::Error;
+use slotted_slots::{AppliedId, Error, SlotTable};
 use std::alloc::Global;
 
 impl<L: Language> Core<L> {
@@ -79,5 +87,45 @@ impl<L: Language> Core<L> {
             return Err(Error::BadStep);
         }
         self.proofs.prove_transitive(alloc, equation, p, q)
+    }
+
+    // The canonical node of an id's class, with the names of the id put in.
+    fn named_node(&self, alloc: Global, a: &AppliedId) -> Result<L, Error>
+        requires good { Good self.now }
+        requires full { IsFull (nodes_of self.now) (to_applied a.now) }
+        ensures ok { IfOk result (λ n. nameless_node (L.form n) ≡ moved (filled a.now.m) (canonical_node (nodes_of self.now) a.now.id.0)) }
+        ensures err { IfErr result IsShortage }
+    {
+        let mut table = SlotTable::new(alloc);
+        let named = self.node_of(a.id.0).apply_slotmap(alloc, &a.m, &mut table)?;
+        Ok(named)
+    }
+
+    /// The equation, if it is one of full ids whose canonical nodes, with the names of the sides put in, agree but for their
+    /// children, and that of each part matches the equation of the children there.
+    pub fn check_congruent(
+        &mut self,
+        alloc: Global,
+        equation: &Equation,
+        parts: Vec<ProvenEq>,
+    ) -> Result<ProvenEq, Error>
+        requires { Good self.old }
+        ensures fits { IfOk result (λ _. IsOfFull (nodes_of self.old) equation.now × IsCongruentIn self.old equation.now parts.items) }
+        ensures ok { IfOk result (EntersIn self.old self.new (by_step (statement_of equation.now) (congruent parts.items))) }
+        ensures refused { IsErrOf result Error.BadStep → ¬ (IsOfFull (nodes_of self.old) equation.now × IsCongruentIn self.old equation.now parts.items) }
+        ensures only { IfErr result IsRefusal }
+        ensures err { OnErr result (self.new ≡ self.old) }
+    {
+        if !self.is_of_full(equation) {
+            return Err(Error::BadStep);
+        }
+        let left = self.named_node(alloc, &equation.l)?;
+        let right = self.named_node(alloc, &equation.r)?;
+        match child_equations(alloc, &left, &right)? {
+            Some(children) => self
+                .proofs
+                .prove_congruent(alloc, equation, &children, parts),
+            None => Err(Error::BadStep),
+        }
     }
 }

@@ -1,0 +1,20 @@
+use Rattle.std.proofs.Common.{subst, sym}
+use Rattle.std.specs.Prelude.{IfSome, All}
+use Rattle.slotted_proofs.specs.Steps.{AreEntries, HasInjectiveSides}
+use Rattle.slotted_core.specs.Frames.{AreAlikeForms}
+use Rattle.slotted_core.specs.Kept.{Kept}
+use Rattle.slotted_core.proofs.Naming.{congruent_again}
+use Rattle.slotted_core.proofs.kernel.Core.check_congruent.Goals as goal
+
+pub returns-in-Some-clause-refused : goal.returns-in-Some-clause-refused
+returns-in-Some-clause-refused g c =
+    let k = c.args.self.now in
+    let e = c.args.equation.now in
+    let f = g.L.LanguageChildren.form c.in_ok-left.left in
+    let h = g.L.LanguageChildren.form c.in_ok-right.right in
+    let left = c.in_ok-left.ensures.ok in
+    let right = c.in_ok-right.ensures.ok in
+    let cs = c.deref.result.now in
+    let alike : AreAlikeForms f h cs = subst (AreAlikeForms f h) (sym c.deref.ensures.value) (subst (λ o. IfSome o (λ v. AreAlikeForms f h v.items)) c.in-Some.is c.in_ok-children.ensures.alike) in
+    let once : All HasInjectiveSides cs = subst (All HasInjectiveSides) (sym c.deref.ensures.value) (subst (λ o. IfSome o (λ v. All HasInjectiveSides v.items)) c.in-Some.is c.in_ok-children.ensures.injective) in
+    λ bad s. c.prove_congruent.ensures.refused bad (subst (λ (z : Kept). AreEntries z.proofs c.args.parts.items cs) (sym c.self.view_is) (congruent_again k e f h left right cs c.args.parts.items alike once s.1))
