@@ -43,7 +43,21 @@ fn printed<L: Printable>(
     }
 }
 
-// The node and the term of an id, if it is valid.
+// What is printed of the assertion that two terms are equal.
+fn assertion<L: Printable>(
+    alloc: Global,
+    graph: &mut EGraph<L>,
+    left: &str,
+    right: &str,
+    text: &str,
+) -> Result<String, Error> {
+    let left = put_text(graph, left)?;
+    let right = put_text(graph, right)?;
+    let p = assert_equal(graph, &left, &right, String::from_str(alloc, text)?)?;
+    printed(alloc, graph, p)
+}
+
+// The number of children of the canonical node of an id, and its canonical term, if the id is valid.
 fn canonical<L: Printable>(
     alloc: Global,
     graph: &mut EGraph<L>,
@@ -58,45 +72,64 @@ fn canonical<L: Printable>(
     Ok(format!(in alloc; "{children} {text}")?)
 }
 
-// A proof of an assertion alone is one line.
-#[test]
-fn an_assertion_is_one_line(rt: HostRuntime) -> Result<(), Error> {
-    let mut graph = EGraph::<Small>::new(rt.alloc(), SlotTable::new(rt.alloc()), ())?;
-    let a = put_text(&mut graph, "a")?;
-    let b = put_text(&mut graph, "b")?;
-    let text = String::from_str(rt.alloc(), "r1")?;
-    let p = assert_equal(&mut graph, &a, &b, text)?;
-    let proof = printed(rt.alloc(), &mut graph, p)?;
-    assert!(rt; proof.as_str() == "0: a = b by Some(\"r1\")\n", "{proof}");
-    Ok(())
+// The same of the ids of two texts, where the second one is made after the first.
+fn canonical_after<L: Printable>(
+    alloc: Global,
+    graph: &mut EGraph<L>,
+    first: &str,
+    second: &str,
+) -> Result<String, Error> {
+    put_text(graph, first)?;
+    let second = put_text(graph, second)?;
+    canonical(alloc, graph, &second)
 }
 
-// A text outside ASCII prints as Rust's debug form has it.
+// The same in a new graph of the written language.
+fn asserted(alloc: Global, left: &str, right: &str, text: &str) -> Result<String, Error> {
+    let mut graph = EGraph::<Small>::new(alloc, SlotTable::new(alloc), ())?;
+    assertion(alloc, &mut graph, left, right, text)
+}
+
+fn second_canonical(alloc: Global, first: &str, second: &str) -> Result<String, Error> {
+    let mut graph = EGraph::<Small>::new(alloc, SlotTable::new(alloc), ())?;
+    canonical_after(alloc, &mut graph, first, second)
+}
+
+// A proof of an assertion alone is one line. Its text prints as Rust's debug form has it, outside ASCII too.
 #[test]
-fn a_text_prints_in_its_debug_form(rt: HostRuntime) -> Result<(), Error> {
-    let mut graph = EGraph::<Small>::new(rt.alloc(), SlotTable::new(rt.alloc()), ())?;
-    let f = put_text(&mut graph, "(f $x $y)")?;
-    let app = put_text(&mut graph, "(app (var $x) (var $y))")?;
-    let text = String::from_str(rt.alloc(), "\u{dc}ber \"x\"\n")?;
-    let p = assert_equal(&mut graph, &f, &app, text)?;
-    let proof = printed(rt.alloc(), &mut graph, p)?;
-    assert!(rt;
-        proof.as_str()
-            == "0: (f $0 $1) = (app (var $0) (var $1)) by Some(\"\u{dc}ber \\\"x\\\"\\n\")\n",
-        "{proof}"
-    );
+fn an_assertion_is_one_line(rt: HostRuntime) -> Result<(), Error> {
+    for (left, right, text, answer) in [
+        ("a", "b", "r1", "0: a = b by Some(\"r1\")\n"),
+        (
+            "(f $x $y)",
+            "(app (var $x) (var $y))",
+            "\u{dc}ber \"x\"\n",
+            "0: (f $0 $1) = (app (var $0) (var $1)) by Some(\"\u{dc}ber \\\"x\\\"\\n\")\n",
+        ),
+    ] {
+        let proof = asserted(rt.alloc(), left, right, text)?;
+        assert!(rt; proof.as_str() == answer, "{proof}");
+    }
     Ok(())
 }
 
 // A canonical term is read off the class, with the names of the id.
 #[test]
 fn a_canonical_term_has_the_names_of_its_id(rt: HostRuntime) -> Result<(), Error> {
-    let mut graph = EGraph::<Small>::new(rt.alloc(), SlotTable::new(rt.alloc()), ())?;
-    let first = put_text(&mut graph, "(add (var $p) (g $q))")?;
-    let second = put_text(&mut graph, "(add (var $x) (g $y))")?;
-    let text = canonical(rt.alloc(), &mut graph, &second)?;
-    assert!(rt; text.as_str() == "2 (add (var $x) (g $y))", "{text}");
-    let text = canonical(rt.alloc(), &mut graph, &first)?;
-    assert!(rt; text.as_str() == "2 (add (var $p) (g $q))", "{text}");
+    for (first, second, answer) in [
+        (
+            "(add (var $p) (g $q))",
+            "(add (var $x) (g $y))",
+            "2 (add (var $x) (g $y))",
+        ),
+        (
+            "(add (var $x) (g $y))",
+            "(add (var $p) (g $q))",
+            "2 (add (var $p) (g $q))",
+        ),
+    ] {
+        let text = second_canonical(rt.alloc(), first, second)?;
+        assert!(rt; text.as_str() == answer, "{text}");
+    }
     Ok(())
 }
