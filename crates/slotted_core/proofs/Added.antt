@@ -40,7 +40,7 @@ use Rattle.slotted_proofs.specs.Equations.{Statement}
 use Rattle.slotted_proofs.specs.Entries.{Proven, entry_of, IsNew, Enters, reflexive_entry}
 use Rattle.slotted_proofs.specs.Proving.{IsProvable, IsProved}
 use Rattle.slotted_proofs.proofs.Entering.{entering_proved, proved_newer, reflexive_provable}
-use Rattle.slotted_core.specs.Alike.{EntriesFindAlike, AllInUse}
+use Rattle.slotted_core.specs.Alike.{AllInUse}
 use Rattle.slotted_core.specs.FormCode.{form_is, form_Decides}
 use Rattle.slotted_core.specs.Graph.{IsFreshBetween}
 use Rattle.slotted_core.specs.Image.{AddsClasses}
@@ -53,7 +53,7 @@ use Rattle.slotted_core.proofs.Ids.{length-classes}
 use Rattle.slotted_core.proofs.Images.{adds-nothing}
 use Rattle.slotted_core.proofs.InUse.{new_class-in_use, new_class-lives}
 use Rattle.slotted_core.proofs.KeptLists.{length-entries_of, length-proofs_of, equation_at-of, found_id-is}
-use Rattle.slotted_core.proofs.NewClass.{full-finds, new_class-alike}
+use Rattle.slotted_core.proofs.NewClass.{full-finds}
 use Rattle.slotted_core.proofs.Inserted.{ascending-values, between-moved}
 use Rattle.slotted_core.proofs.Renamed.{fits_put, shape-put}
 
@@ -290,7 +290,6 @@ module _ (t u : Table) (k : Kept) (good : Good k) (over : HasFreshSlots t k) (f 
     sound = as_lists (Sound (nodes_of l)) (new_class-sound g (nodes_of l) (entries_of k) (proofs_of k) good.sound canonical extends one_more);
     proved = proved_more;
     later = as_lists (λ es qs. IsLater es k.moment) (later-newer g (nodes_of l) extends one_more (entries_of k) good.sound.linked (length (proofs_of k)) k.moment good.later);
-    alike = as_lists (EntriesFindAlike (nodes_of l)) (new_class-alike g (nodes_of l) extends one_more (entries_of k) good.sound.linked (length (proofs_of k)) (proofs_of k) good.sound.proved.over good.alike);
     in_use = as_lists (λ es qs. AllInUse (nodes_of l) es) (new_class-in_use g (nodes_of l) extends one_more (entries_of k) good.sound.linked good.in_use (length (proofs_of k)));
     untouched = λ e. as_lists (λ es qs. (i : ℕ) → i < length (nodes_of l) → IsLive es i)
         (new_class-lives g (nodes_of l) extends one_more (entries_of k) good.sound.linked good.in_use (length (proofs_of k)) (good.untouched (sym nothing_asserted ∙ e)));

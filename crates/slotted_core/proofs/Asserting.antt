@@ -15,8 +15,7 @@ use Rattle.slotted_proofs.specs.Proving.{IsProvable}
 use Rattle.slotted_proofs.proofs.Entering.{asserted_provable, new_can_enter, turned_provable, entering_proved, entering_sound, entered_stands, others_assert_nothing}
 use Rattle.slotted_core.specs.Image.{StandsIn, Asserts, asserted_in}
 use Rattle.slotted_core.specs.Kept.{Kept, nodes_of, entries_of, proofs_of, image_of, with_proofs, EntersIn, Good, IsAsserted}
-use Rattle.slotted_core.proofs.Alike.{one_pair-alike}
-use Rattle.slotted_core.proofs.Entered.{entering-alike, turned-alike, entered-more}
+use Rattle.slotted_core.proofs.Entered.{entered-more}
 use Rattle.slotted_core.proofs.KeptLists.{equation_at-of, length-mapped, length-proofs_of}
 
 module _ (k : Kept) (good : Good k) (a b : Applied) (fa : IsFull (nodes_of k) a) (fb : IsFull (nodes_of k) b) (text : Option (List ℕ)) where
@@ -52,7 +51,6 @@ module _ (k : Kept) (good : Good k) (a b : Applied) (fa : IsFull (nodes_of k) a)
     proved = entering_proved nodes k.proofs e.proofs x p good.proved can e.enters;
     in_range = e.enters.stands.in_range;
     equation = ap (λ (s : Statement). s.equation) e.enters.stands.statement;
-    alike = λ found h same. entering-alike nodes found k.proofs e.proofs x p e.enters h (one_pair-alike nodes found (equation_of a b) a b fa fb refl same);
     asserts = record {
       number = p;
       in_range = (entered_stands k.proofs e.proofs x p e.enters).0;
@@ -84,7 +82,6 @@ module _ (k : Kept) (good : Good k) (a b : Applied) (fa : IsFull (nodes_of k) a)
         proved = entering_proved nodes h.proofs f.proofs y p h.proved provable.0 f.enters;
         in_range = f.enters.stands.in_range;
         equation = ap (λ (s : Statement). s.equation) f.enters.stands.statement ∙ (provable.1 ∙ (ap (turned_equation nodes) h.equation ∙ sym (equation-turned nodes a b fa fb)));
-        alike = λ found old same. let g = h.alike found old (sym same) in entering-alike nodes found h.proofs f.proofs y p f.enters g (turned-alike nodes found h.proofs h.proved g q h.in_range);
         asserts = record {
           number = stood.number;
           in_range = let r : stood.number < length f.proofs = (kept_at stood.number here).0 in omega arith;

@@ -1,6 +1,6 @@
 -- Steps that are checked over a graph: what an entry says, and what entering by a step that fits leaves.
 use Rattle.std.proofs.Common.{◌≡◌, ◌≢◌, ℕ, ◌<◌, List, [], ◌∷◌, length, sym, ◌∙◌, ap, refl, subst, inl, inr, arith, ◌↔◌}
-use Rattle.std.specs.Prelude.{map, Bool, Result, Ok, Err, IfOk, OnErr, IsErrOf}
+use Rattle.std.specs.Prelude.{slice_index_or, map, Bool, Result, Ok, Err, IfOk, OnErr, IsErrOf}
 use Rattle.std.proofs.lemmas.List.{map-append}
 use Rattle.slotted_slots.specs.declared.error.Error.{Error}
 use Rattle.slotted_slots.specs.declared.error.Error.TheVariants.{BadStep}
@@ -11,8 +11,8 @@ use Rattle.slotted_theory.specs.FiniteMaps.{IsInjectiveMap}
 use Rattle.slotted_theory.proofs.Backward.{Equal-derives}
 use Rattle.slotted_model.specs.Applied.{Applied, keys}
 use Rattle.slotted_model.specs.Classes.{canonical_slots, term_of, IsFull}
-use Rattle.slotted_model.specs.Correspondence.{AllDifferent, IsFullMap, IsPartialInjection, IsNumberedForm, numbered, same_names}
-use Rattle.slotted_model.specs.ProofList.{Equation, Step, explicit, reflexive, symmetric, transitive, equation_of, equation_at, IsOver, HoldsFrom, asserted}
+use Rattle.slotted_model.specs.Correspondence.{AllDifferent, IsFullMap, IsPartialInjection, IsNumberedForm, numbered, same_names, with_names}
+use Rattle.slotted_model.specs.ProofList.{Equation, Step, explicit, reflexive, symmetric, transitive, congruent, equation_of, equation_at, IsOver, HoldsFrom, asserted}
 use Rattle.slotted_model.proofs.Correspondences.FullIds.{full_map, slots-different}
 use Rattle.slotted_model.proofs.Correspondences.FullMaps.{with_names-keys, with_names-full, same_names-with_names}
 use Rattle.slotted_model.proofs.Correspondences.Numbers.{numbered-form}
@@ -25,14 +25,14 @@ use Rattle.slotted_proofs.specs.Proving.{IsCanonical, IsProvable, IsProved}
 use Rattle.slotted_proofs.specs.StepClaims.{IsOfFull}
 use Rattle.slotted_proofs.specs.Steps.{IsEntry, IsReflexiveStep, IsSymmetricStep, IsTransitiveStep, by_step}
 use Rattle.slotted_proofs.proofs.Entering.{entry-over, others_assert_nothing}
-use Rattle.slotted_proofs.proofs.Fitting.{reflexive_fits, symmetric_fits, transitive_fits}
+use Rattle.slotted_proofs.proofs.Fitting.{reflexive_fits, symmetric_fits, transitive_fits, congruent_fits}
 use Rattle.slotted_proofs.proofs.Stepping.{matches-state, states-entry}
-use Rattle.slotted_core.specs.Alike.{FindAlike}
-use Rattle.slotted_core.specs.Checks.{SaysIn, GoesBetween, FitsBy, Fits, entry_by, Accepts}
+use Rattle.slotted_core.specs.Checks.{SaysIn, GoesBetween, IsCongruentStep, FitsBy, Fits, entry_by, Accepts}
+use Rattle.slotted_core.specs.Frames.{IsCongruentIn}
+use Rattle.slotted_core.proofs.Frames.{injective_before}
 use Rattle.slotted_core.specs.Graph.{Graph}
 use Rattle.slotted_core.specs.Image.{AreDerivable}
-use Rattle.slotted_core.specs.Kept.{Kept, nodes_of, entries_of, proofs_of, image_of, with_proofs, EntersIn, Good, HasFreshSlots}
-use Rattle.slotted_core.proofs.Alike.{reflexive-alike, symmetric-alike, transitive-alike}
+use Rattle.slotted_core.specs.Kept.{Kept, nodes_of, proofs_of, image_of, with_proofs, EntersIn, Good, HasFreshSlots}
 use Rattle.slotted_core.proofs.Entered.{entering-good}
 use Rattle.slotted_core.proofs.KeptLists.{equation_at-of, length-proofs_of}
 
@@ -130,23 +130,46 @@ module _ (k : Kept) (good : Good k) where
           },
     )
 
-    -- steps that fit are provable, and leave what finds alike
-    within : (p : ℕ) → p < length k.proofs → p < length (proofs_of k)
-    within p h = let n : length (proofs_of k) ≡ length k.proofs = length-proofs_of k in omega arith
+    -- a side that matches a full id has a name of its own for each of its slots
+    matched_map : (c a : Applied) (f : ℕ → ℕ) → IsFull ns c → c.1 ≡ with_names f a.1 → IsFullMap (keys a.1) a.1
+    matched_map c a f full m =
+        let ks : keys c.1 ≡ keys a.1 = ap keys m ∙ with_names-keys f a.1 in
+        record { slots = refl; once = subst AllDifferent ks (own_map ns c full).once; injective = injective_before f a.1 (subst IsInjectiveMap m full.injective) }
 
-    pub reflexive_alike : IsReflexiveStep e → FindAlike ns (entries_of k) (statement_of e).equation
-    reflexive_alike h = reflexive-alike ns (entries_of k) (statement_of e).equation (reflexive_fits ns k.proofs e of h).step
+    says_left : (p : ℕ) (a b : Applied) → SaysIn (image_of k) p a b → IsFullMap (keys a.1) a.1
+    says_left p a b h = matched_map h.left a h.matches.names.name h.left_full h.matches.names.left
 
-    pub symmetric_alike : (p : ℕ) → IsSymmetricStep k.proofs e p → FindAlike ns (entries_of k) (statement_of e).equation
-    symmetric_alike p h =
-        let s = (symmetric_fits ns k.proofs e of p h).step in
-        symmetric-alike ns (entries_of k) (statement_of e).equation (equation_at (proofs_of k) p) s.1 (good.alike p (within p s.0))
+    says_right : (p : ℕ) (a b : Applied) → SaysIn (image_of k) p a b → IsFullMap (keys b.1) b.1
+    says_right p a b h = matched_map h.right b h.matches.names.name h.right_full h.matches.names.right
 
-    pub transitive_alike : (p q : ℕ) → IsTransitiveStep k.proofs e p q → FindAlike ns (entries_of k) (statement_of e).equation
-    transitive_alike p q h =
-        let s = (transitive_fits ns k.proofs e of p q h).step in
-        transitive-alike ns (entries_of k) (statement_of e).equation (equation_at (proofs_of k) p) (equation_at (proofs_of k) q)
-        (good.sound.proved.over p (within p s.0)) (good.sound.proved.over q (within q s.1)) s.2 (good.alike p (within p s.0)) (good.alike q (within q s.1))
+    pub congruent_iff : (parts : List ℕ) → IsCongruentIn k e parts ↔ IsCongruentStep (image_of k) e parts
+    congruent_iff parts = (
+      λ h. record {
+        children = h.children;
+        alike = h.alike;
+        count = h.entries.count;
+        each = λ i n d m. entry_says (slice_index_or parts i n) (to_applied (slice_index_or h.children i d).l) (to_applied (slice_index_or h.children i d).r) (h.entries.each i n d m);
+      },
+      λ h. record {
+        children = h.children;
+        injective = λ i d m.
+            let o : i < length parts = let c : length parts ≡ length h.children = h.count in omega arith in
+            let a : Applied = to_applied (slice_index_or h.children i d).l in
+            let b : Applied = to_applied (slice_index_or h.children i d).r in
+            let s : SaysIn (image_of k) (slice_index_or parts i 0) a b = h.each i 0 d o in
+            record { left = (says_left (slice_index_or parts i 0) a b s).injective; right = (says_right (slice_index_or parts i 0) a b s).injective };
+        alike = h.alike;
+        entries = record {
+          count = h.count;
+          each = λ i n d m.
+              let p : ℕ = slice_index_or parts i n in
+              let a : Applied = to_applied (slice_index_or h.children i d).l in
+              let b : Applied = to_applied (slice_index_or h.children i d).r in
+              let s : SaysIn (image_of k) p a b = h.each i n d m in
+              says_entry p a b (says_left p a b s) (says_right p a b s) s;
+        };
+      },
+    )
 
 -- what a contract says of an accepted step
 pub record Checked (t : Table) (k l : Kept) (e : Sides) (s : Step) (p : ℕ) : Type 0 where
@@ -157,7 +180,7 @@ pub record Checked (t : Table) (k l : Kept) (e : Sides) (s : Step) (p : ℕ) : T
   pub derivable : AreDerivable (image_of k) (to_applied e.l) (to_applied e.r)
 
 module _ (t : Table) (k : Kept) (good : Good k) (e : Sides) (of : IsOfFull (nodes_of k) e) (s : Step) (can : IsProvable (nodes_of k) k.proofs (by_step (statement_of e) s))
-    (alike : FindAlike (nodes_of k) (entries_of k) (statement_of e).equation) (not_explicit : s ≢ explicit) (fits : FitsBy (image_of k) e s) (p : ℕ)
+    (not_explicit : s ≢ explicit) (fits : FitsBy (image_of k) e s) (p : ℕ)
     (l : Kept) (enters : EntersIn k l (by_step (statement_of e) s) p) where
   abbrev nodes : List DTerm
   nodes = nodes_of k
@@ -169,7 +192,7 @@ module _ (t : Table) (k : Kept) (good : Good k) (e : Sides) (of : IsOfFull (node
   after = with_proofs k enters.proofs
 
   after-good : Good after
-  after-good = entering-good k good x can alike enters.proofs p enters.enters
+  after-good = entering-good k good x can enters.proofs p enters.enters
 
   after-in_range : p < length (proofs_of after)
   after-in_range = let n : length (proofs_of after) ≡ length enters.proofs = length-proofs_of after in let h : p < length enters.proofs = enters.enters.stands.in_range in omega arith
@@ -229,15 +252,19 @@ module _ (t : Table) (k : Kept) (good : Good k) (e : Sides) (of : IsOfFull (node
 
 pub reflexive_checked : (t : Table) (k l : Kept) (e : Sides) (p : ℕ) → Good k → IsOfFull (nodes_of k) e × IsReflexiveStep e → EntersIn k l (by_step (statement_of e) reflexive) p → Checked t k l e reflexive p
 reflexive_checked t k l e p good h enters =
-    checked t k good e h.0 reflexive (reflexive_fits (nodes_of k) k.proofs e h.0 h.1) (reflexive_alike k good e h.0 h.1) (λ z. cc) h.1 p l enters
+    checked t k good e h.0 reflexive (reflexive_fits (nodes_of k) k.proofs e h.0 h.1) (λ z. cc) h.1 p l enters
 
 pub symmetric_checked : (t : Table) (k l : Kept) (e : Sides) (q p : ℕ) → Good k → IsOfFull (nodes_of k) e × IsSymmetricStep k.proofs e q → EntersIn k l (by_step (statement_of e) (symmetric q)) p → Checked t k l e (symmetric q) p
 symmetric_checked t k l e q p good h enters =
-    checked t k good e h.0 (symmetric q) (symmetric_fits (nodes_of k) k.proofs e h.0 q h.1) (symmetric_alike k good e h.0 q h.1) (λ z. cc) ((symmetric_iff k good e h.0 q).0 h.1) p l enters
+    checked t k good e h.0 (symmetric q) (symmetric_fits (nodes_of k) k.proofs e h.0 q h.1) (λ z. cc) ((symmetric_iff k good e h.0 q).0 h.1) p l enters
 
 pub transitive_checked : (t : Table) (k l : Kept) (e : Sides) (q r p : ℕ) → Good k → IsOfFull (nodes_of k) e × IsTransitiveStep k.proofs e q r → EntersIn k l (by_step (statement_of e) (transitive q r)) p → Checked t k l e (transitive q r) p
 transitive_checked t k l e q r p good h enters =
-    checked t k good e h.0 (transitive q r) (transitive_fits (nodes_of k) k.proofs e h.0 q r h.1) (transitive_alike k good e h.0 q r h.1) (λ z. cc) ((transitive_iff k good e h.0 q r).0 h.1) p l enters
+    checked t k good e h.0 (transitive q r) (transitive_fits (nodes_of k) k.proofs e h.0 q r h.1) (λ z. cc) ((transitive_iff k good e h.0 q r).0 h.1) p l enters
+
+pub congruent_checked : (t : Table) (k l : Kept) (e : Sides) (parts : List ℕ) (p : ℕ) → Good k → IsOfFull (nodes_of k) e × IsCongruentIn k e parts → EntersIn k l (by_step (statement_of e) (congruent parts)) p → Checked t k l e (congruent parts) p
+congruent_checked t k l e parts p good h enters =
+    checked t k good e h.0 (congruent parts) (congruent_fits (nodes_of k) k.proofs e h.1.children parts good.sound.canonical h.0 h.1.injective h.1.alike h.1.entries) (λ z. cc) ((congruent_iff k good e h.0 parts).0 h.1) p l enters
 
 -- a refused step does not fit
 
@@ -246,6 +273,9 @@ symmetric_refused k e q good n h = n (h.0, (symmetric_iff k good e h.0 q).1 h.1)
 
 pub transitive_refused : (k : Kept) (e : Sides) (q r : ℕ) → Good k → ¬ (IsOfFull (nodes_of k) e × IsTransitiveStep k.proofs e q r) → ¬ Fits (image_of k) e (transitive q r)
 transitive_refused k e q r good n h = n (h.0, (transitive_iff k good e h.0 q r).1 h.1)
+
+pub congruent_refused : (k : Kept) (e : Sides) (parts : List ℕ) → Good k → ¬ (IsOfFull (nodes_of k) e × IsCongruentIn k e parts) → ¬ Fits (image_of k) e (congruent parts)
+congruent_refused k e parts good n h = n (h.0, (congruent_iff k good e h.0 parts).1 h.1)
 
 -- what the graph says of the answer
 

@@ -1,5 +1,5 @@
 -- The parts of a proved entry stand at earlier numbers.
-use Rattle.std.proofs.Common.{◌≡◌, ◌<◌, ℕ, List, [], ◌∷◌, length, All, get_or, sym, subst, ap, arith}
+use Rattle.std.proofs.Common.{◌≡◌, ◌<◌, ℕ, List, [], ◌∷◌, All, get_or, subst, ap, arith}
 use Rattle.slotted_theory.specs.Nameless.{DTerm}
 use Rattle.slotted_model.specs.ProofList.{Equation, ProofEntry, Step, explicit, reflexive, symmetric, transitive, congruent, IsStepFor, equation_at, step_at}
 use Rattle.slotted_model.proofs.Members.{Contains-In}

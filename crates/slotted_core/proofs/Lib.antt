@@ -8,7 +8,6 @@ pub mod Inserted
 pub mod KeptLists
 pub mod Images
 pub mod Found
-pub mod Alike
 pub mod InUse
 pub mod NewClass
 pub mod Ids

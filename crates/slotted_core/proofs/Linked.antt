@@ -18,9 +18,8 @@ use Rattle.slotted_model.proofs.Replacing.{refined-alike}
 use Rattle.slotted_model.proofs.Uniting.{can_link, linked-alike}
 use Rattle.slotted_proofs.specs.Entries.{Proven, entry_of, statement_at}
 use Rattle.slotted_proofs.specs.Proving.{IsProved}
-use Rattle.slotted_core.specs.Alike.{EntriesFindAlike, AllInUse}
-use Rattle.slotted_core.specs.Kept.{Kept, ClassEntry, RowEntry, no_form, no_entry, node_at, nodes_of, entries_of, proofs_of, rows_from, with_proofs, with_linked, Good}
-use Rattle.slotted_core.proofs.Alike.{refined-entries_alike}
+use Rattle.slotted_core.specs.Alike.{AllInUse}
+use Rattle.slotted_core.specs.Kept.{Kept, ClassEntry, RowEntry, no_form, no_entry, node_at, nodes_of, entries_of, rows_from, with_proofs, with_linked, Good}
 use Rattle.slotted_core.proofs.InUse.{link-in_use, found_sides-whole}
 use Rattle.slotted_core.proofs.KeptLists.{length-mapped, at-mapped, equation_at-of}
 use Rattle.slotted_core.proofs.Layers.{any_default}
@@ -104,11 +103,8 @@ module _ (k : Kept) (good : Good k) (a b : Applied) (fa : IsFull (nodes_of k) a)
   pub newer-continues : (c d : Applied) → IsFull nodes c → IsFull nodes d → find found c ≡ find found d → find newer c ≡ find newer d
   newer-continues c d fc fd = refined-alike nodes found newer (link-refines nodes found good.sound.linked e p k.moment can good.later) c d (full-is_valid nodes found good.sound.linked c fc) (full-is_valid nodes found good.sound.linked d fd)
 
-  pub newer-entries_alike : EntriesFindAlike nodes newer (proofs_of k)
-  newer-entries_alike = refined-entries_alike nodes found newer (proofs_of k) good.sound.linked (link-refines nodes found good.sound.linked e p k.moment can good.later) good.alike
-
   module _ (qs : List Proven) (h : p < length qs) (proves : (statement_at qs p).equation ≡ e) (sound : Sound nodes found (map entry_of qs)) (proved : IsProved nodes qs)
-      (alike : EntriesFindAlike nodes newer (map entry_of qs)) (asserts : ¬ (asserted nodes (map entry_of qs) ≡ [])) (m : List (ℕ × ℕ)) (em : m ≡ turned (canonical_slots nodes e.right) e.pairs) where
+      (asserts : ¬ (asserted nodes (map entry_of qs) ≡ [])) (m : List (ℕ × ℕ)) (em : m ≡ turned (canonical_slots nodes e.right) e.pairs) where
     abbrev l : Kept
     l = with_linked (with_proofs k qs) e.left e.right m p
 
@@ -129,7 +125,6 @@ module _ (k : Kept) (good : Good k) (a b : Applied) (fa : IsFull (nodes_of k) a)
           (link-sound nodes found (map entry_of qs) e p k.moment sound can good.later (let n : length (map entry_of qs) ≡ length qs = length-mapped entry_of qs in omega arith) (equation_at-of qs p ∙ proves));
       proved = subst (λ ns. IsProved ns qs) (sym nodes_same) proved;
       later = lists (λ ns es. IsLater es (suc k.moment)) (link-later nodes found good.sound.linked e p k.moment can good.later);
-      alike = lists (λ ns es. EntriesFindAlike ns es (map entry_of qs)) alike;
       in_use = lists AllInUse (link-in_use nodes found good.sound.linked good.in_use e p k.moment can (found_sides-whole nodes found good.sound.linked a b fa fb (λ z. (same z).0)));
       untouched = λ none. absurd (asserts (ap (λ ns. asserted ns (map entry_of qs)) (sym nodes_same) ∙ none));
     }

@@ -4,30 +4,33 @@ use Rattle.std.specs.Prelude.{Contains, map, Option, Bool, true, false, ◌⊎�
 use Rattle.std.proofs.lemmas.List.{map-append}
 use Rattle.slotted_theory.specs.Nameless.{DTerm}
 use Rattle.slotted_model.specs.Applied.{Applied, values}
-use Rattle.slotted_model.specs.Classes.{canonical_slots, IsFull}
+use Rattle.slotted_model.specs.Classes.{canonical_slots, term_of, IsFull}
 use Rattle.slotted_model.specs.Correspondence.{composite, turned, same_names}
 use Rattle.slotted_model.specs.Find.{Entry, entry_at, find_class, find_map, find}
 use Rattle.slotted_model.specs.Link.{found_equation}
-use Rattle.slotted_model.specs.ProofList.{Equation, ProofEntry, equation_of, equation_at, turned_equation, entry_equation, find_equation, asserted, term_pair}
+use Rattle.slotted_model.specs.ProofList.{Equation, ProofEntry, equation_of, equation_at, turned_equation, entry_equation, find_equation, asserted, term_pair, HoldsFrom}
 use Rattle.slotted_model.specs.Sound.{Sound}
 use Rattle.slotted_model.proofs.Correspondences.PartialInjections.{turned-turned}
 use Rattle.slotted_model.proofs.Correspondences.FullMaps.{same_names-turned}
 use Rattle.slotted_model.proofs.Correspondences.FullIds.{full_map}
-use Rattle.slotted_model.proofs.Finding.{leads, find_class-follows, find_map-partial, found-in_range}
-use Rattle.slotted_model.proofs.FindProofs.{find_equation-live, find_equation-composite}
+use Rattle.slotted_model.proofs.Finding.{leads, find_class-follows, find_class-live, find_map-partial, found-in_range, found-live}
+use Rattle.slotted_model.proofs.FindProofs.{find_equation-live, find_equation-composite, proved-holds}
+use Rattle.slotted_model.proofs.Unique.{term_of-same}
+use Rattle.slotted_theory.proofs.FromNothing.{Equal-nothing}
+use Rattle.slotted_theory.specs.Derives.{Equal}
 use Rattle.slotted_model.proofs.Uniting.{found_equation-shares}
 use Rattle.slotted_proofs.specs.Equations.{Statement, Meets}
 use Rattle.slotted_proofs.specs.Entries.{Proven, entry_of, statement_at, Enters, turned_entry, composite_entry}
 use Rattle.slotted_proofs.specs.Proving.{IsProvable, IsProved}
 use Rattle.slotted_proofs.proofs.Entering.{entries_meet, turned_provable, composite_provable, entering_proved, entering_sound, entered_stands, others_assert_nothing}
-use Rattle.slotted_core.specs.Alike.{EntriesFindAlike}
+use Rattle.slotted_core.specs.Alike.{FindOneClass}
 use Rattle.slotted_core.specs.Image.{HasLargeClass, found_id, CanUnite, FoundAlike, StandsIn, Asserts, asserted_in}
 use Rattle.slotted_core.specs.Kept.{Kept, find_at, nodes_of, entries_of, proofs_of, image_of, with_proofs, with_linked, EntersIn, Good, Explains, Proves, IsAsserted, Links, Agrees, asserted_for}
-use Rattle.slotted_core.proofs.Entered.{entering-alike, turned-alike, composite-alike, entered-more, nil-append, entering-proves, explains-nothing, explains-then, explains-stands, at-append}
+use Rattle.slotted_core.proofs.Entered.{entered-more, nil-append, entering-proves, explains-nothing, explains-then, explains-stands, at-append}
 use Rattle.slotted_core.proofs.InUse.{found-is_full}
 use Rattle.slotted_core.proofs.KeptLists.{length-mapped, equation_at-of, entry_at-of, length-nodes_of, length-proofs_of, found_id-is}
 use Rattle.slotted_core.proofs.Large.{entries_are_large}
-use Rattle.slotted_core.proofs.Linked.{linked-nodes, linked-length, newer, newer-alike, newer-continues, newer-entries_alike, entries_are, linked-good}
+use Rattle.slotted_core.proofs.Linked.{linked-nodes, linked-length, newer, newer-alike, newer-continues, entries_are, linked-good}
 
 -- what is explained leaves nodes and entries
 pub explains-nodes : (k l : Kept) → Explains k l → nodes_of l ≡ nodes_of k
@@ -35,6 +38,13 @@ explains-nodes k l a = ap nodes_of a.kept
 
 pub explains-entries : (k l : Kept) → Explains k l → entries_of l ≡ entries_of k
 explains-entries k l a = ap entries_of a.kept
+
+-- both classes of what a find says find one class
+pub find-one : (k : Kept) → Good k → (i : ℕ) → i < length k.classes → FindOneClass (entries_of k) (find_equation (nodes_of k) (entries_of k) i)
+find-one k good i h =
+    let L = leads (nodes_of k) (entries_of k) good.sound.linked in
+    let here : i < length (nodes_of k) = let n : length (nodes_of k) ≡ length k.classes = length-nodes_of k in omega arith in
+    sym (find_class-live (nodes_of k) (entries_of k) L (find_class (entries_of k) i) (found-in_range (nodes_of k) (entries_of k) L i here) (found-live (nodes_of k) (entries_of k) L i here))
 
 module _ (k : Kept) (good : Good k) (i : ℕ) (h : i < length k.classes) where
   abbrev nodes : List DTerm
@@ -94,13 +104,14 @@ module _ (k : Kept) (good : Good k) (i : ℕ) (h : i < length k.classes) where
     pub next-proves : (m : Kept) (r : ℕ) → EntersIn l m (composite_entry l.proofs p q) r → Proves k m (find_equation nodes found i) r
     next-proves m r e =
         let gl : Good l = rest.explains.good in
-        let step : Proves l m (composite_entry l.proofs p q).statement.equation r =
-        entering-proves l gl (composite_entry l.proofs p q) (composite_provable (nodes_of l) l.proofs gl.proved p q next-first rest.in_range next-joins)
-        (composite-alike (nodes_of l) (entries_of l) l.proofs gl.proved gl.alike p q next-first rest.in_range next-joins) (λ z. cc) m r e in
         let whole : (composite_entry l.proofs p q).statement.equation ≡ find_equation nodes found i =
         (λ t. record { left = (next-left t).left; right = (rest.equation t).right; pairs = composite (next-left t).pairs (rest.equation t).pairs })
         ∙ ((λ t. record { left = i; right = find_class found (sym next-class t); pairs = composite (entry_equation nodes found i).pairs (find_equation nodes found (sym next-class t)).pairs })
         ∙ (λ t. record { left = i; right = sym (find_class-follows nodes found (leads nodes found good.sound.linked) i here) t; pairs = sym (find_equation-composite nodes found good.sound.linked i here) t })) in
+        let one : FindOneClass (entries_of l) (composite_entry l.proofs p q).statement.equation =
+        subst (λ es. FindOneClass es (composite_entry l.proofs p q).statement.equation) (sym (explains-entries k l rest.explains)) (subst (FindOneClass found) (sym whole) (find-one k good i h)) in
+        let step : Proves l m (composite_entry l.proofs p q).statement.equation r =
+        entering-proves l gl (composite_entry l.proofs p q) (composite_provable (nodes_of l) l.proofs gl.proved p q next-first rest.in_range next-joins) one (λ z. cc) m r e in
         record {
           explains = explains-then k l m rest.explains step.explains;
           in_range = step.in_range;
@@ -108,16 +119,18 @@ module _ (k : Kept) (good : Good k) (i : ℕ) (h : i < length k.classes) where
         }
 
 -- and turned round
-pub back-proves : (k l m : Kept) (e : Equation) (p r : ℕ) → Proves k l e p → EntersIn l m (turned_entry l.proofs p) r → Proves k m (turned_equation (nodes_of k) e) r
-back-proves k l m e p r rest enters =
+pub back-proves : (k l m : Kept) (e : Equation) (p r : ℕ) → FindOneClass (entries_of k) e → Proves k l e p → EntersIn l m (turned_entry l.proofs p) r → Proves k m (turned_equation (nodes_of k) e) r
+back-proves k l m e p r one rest enters =
     let gl : Good l = rest.explains.good in
     let provable = turned_provable (nodes_of l) l.proofs gl.proved p rest.in_range in
-    let step : Proves l m (turned_entry l.proofs p).statement.equation r =
-    entering-proves l gl (turned_entry l.proofs p) provable.0 (turned-alike (nodes_of l) (entries_of l) l.proofs gl.proved gl.alike p rest.in_range) (λ z. cc) m r enters in
+    let whole : (turned_entry l.proofs p).statement.equation ≡ turned_equation (nodes_of k) e = provable.1 ∙ (λ t. turned_equation (explains-nodes k l rest.explains t) (rest.equation t)) in
+    let back : FindOneClass (entries_of l) (turned_entry l.proofs p).statement.equation =
+    subst (λ es. FindOneClass es (turned_entry l.proofs p).statement.equation) (sym (explains-entries k l rest.explains)) (subst (FindOneClass (entries_of k)) (sym whole) (sym one)) in
+    let step : Proves l m (turned_entry l.proofs p).statement.equation r = entering-proves l gl (turned_entry l.proofs p) provable.0 back (λ z. cc) m r enters in
     record {
       explains = explains-then k l m rest.explains step.explains;
       in_range = step.in_range;
-      equation = step.equation ∙ (provable.1 ∙ (λ t. turned_equation (explains-nodes k l rest.explains t) (rest.equation t)));
+      equation = step.equation ∙ whole;
     }
 
 -- where k has the proofs of what the finds of a and b say, and what x asserts of them follows
@@ -245,46 +258,40 @@ module _ (k : Kept) (good : Good k) (a b : Applied) (fa : IsFull (nodes_of k) a)
       abbrev new : List Entry
       new = newer k good a b fa fb differ same t
 
-      whole-alike : EntriesFindAlike ns new (map entry_of os)
-      whole-alike =
-          let l0 : EntriesFindAlike ns new (map entry_of ls) = said.alike new (newer-entries_alike k good a b fa fb differ same t) (newer-alike k good a b fa fb differ same t) in
-          let l1 : EntriesFindAlike ns new (map entry_of ms) = entering-alike ns new ls ms (composite_entry ls p r) s half-enters l0 (composite-alike ns new ls said.proved l0 p r (ls-stands p hp).0 said.in_range first-joins) in
-          entering-alike ns new ms os (composite_entry ms s q) t whole-enters l1 (composite-alike ns new ms half-proved l1 s q half-enters.stands.in_range second-within second-joins)
-
       whole-asserts : asserted ns (map entry_of os) ≡ asserted ns (map entry_of ls)
       whole-asserts = others_assert_nothing ns ms os (composite_entry ms s q) t whole-enters (λ z. cc) ∙ others_assert_nothing ns ls ms (composite_entry ls p r) s half-enters (λ z. cc)
 
-      module _ (said_of : (x.statement.equation ≡ equation_of a b) ⊎ (x.statement.equation ≡ equation_of b a)) (w : List (ℕ × ℕ)) (ew : w ≡ turned (canonical_slots ns (find_class es b.0)) (found_equation ns es (equation_of a b)).pairs) where
+      os-stands : (z : ℕ) → z < length ls → (z < length os) × (statement_at os z ≡ statement_at ls z)
+      os-stands z h =
+          let u = ms-stands z h in
+          let v = (entered_stands ms os (composite_entry ms s q) t whole-enters).2 z u.0 in
+          (v.0, v.1 ∙ u.1)
+
+      -- something is asserted: otherwise what is said would hold from nothing, and the ids would be one
+      some_asserted : ¬ (asserted ns (map entry_of os) ≡ [])
+      some_asserted e =
+          let st = os-stands r said.in_range in
+          let here : r < length (map entry_of os) = let n' : length (map entry_of os) ≡ length os = length-mapped entry_of os in let y : r < length os = st.0 in omega arith in
+          let says : equation_at (map entry_of os) r ≡ equation_of a b = equation_at-of os r ∙ (ap (λ (y : Statement). y.equation) st.1 ∙ said.equation) in
+          let holds : HoldsFrom (asserted ns (map entry_of os)) ns (equation_at (map entry_of os) r) = proved-holds ns good.sound.canonical (map entry_of os) whole-sound.proved r here in
+          let equal : Equal [] (term_of ns a) (term_of ns b) = subst (λ (E : List (DTerm × DTerm)). Equal E (term_of ns a) (term_of ns b)) e (holds a b fa fb (sym says)) in
+          differ (ap (λ (y : Applied). find_class es y.0) ((term_of-same ns good.sound.canonical a b fa fb).0 (Equal-nothing equal)))
+
+      module _ (w : List (ℕ × ℕ)) (ew : w ≡ turned (canonical_slots ns (find_class es b.0)) (found_equation ns es (equation_of a b)).pairs) where
         abbrev last : Kept
         last = with_linked (with_proofs k os) (find_class es a.0) (find_class es b.0) w t
-
-        -- what is asserted did not stand, since its sides did not find alike
-        new_asserted : ¬ StandsIn (image_of k) x.statement.equation
-        new_asserted z = elim said_of [
-          | inl e ↦ differ (ap (λ (y : Applied). y.0) (good.alike z.0 z.1 a b fa fb (sym (z.2 ∙ e))))
-          | inr e ↦ differ (sym (ap (λ (y : Applied). y.0) (good.alike z.0 z.1 b a fb fa (sym (z.2 ∙ e)))))
-        ]
 
         ls-asserts : Asserts (image_of k) (image_of (with_proofs k ls)) x.statement.equation
         ls-asserts = subst (λ (y : Kept). Asserts (image_of k) (image_of y) x.statement.equation) said.kept said.asserts
 
-        ls-asserted : asserted ns (map entry_of ls) ≡ asserted_in (image_of k) ++ term_pair ns x.statement.equation ∷ []
-        ls-asserted = elim ls-asserts.asserted [
-          | inl z ↦ absurd (new_asserted z.0)
-          | inr z ↦ z.1
-        ]
-
-        some_asserted : ¬ (asserted ns (map entry_of os) ≡ [])
-        some_asserted e = nil-append (asserted_in (image_of k)) (term_pair ns x.statement.equation) (sym ls-asserted ∙ (sym whole-asserts ∙ e))
-
         last-good : Good last
-        last-good = linked-good k good a b fa fb differ same t os whole-enters.stands.in_range whole-says whole-sound whole-proved whole-alike some_asserted w ew
+        last-good = linked-good k good a b fa fb differ same t os whole-enters.stands.in_range whole-says whole-sound whole-proved some_asserted w ew
 
         last-nodes : nodes_of last ≡ ns
         last-nodes = linked-nodes (with_proofs k os) (find_class es a.0) (find_class es b.0) w t
 
         last-entries : entries_of last ≡ new
-        last-entries = entries_are k good a b fa fb differ same t os whole-enters.stands.in_range whole-says whole-sound whole-proved whole-alike some_asserted w ew
+        last-entries = entries_are k good a b fa fb differ same t os whole-enters.stands.in_range whole-says whole-sound whole-proved some_asserted w ew
 
         finds-last : (c : Applied) → IsFull ns c → found_id (image_of last) c ≡ find new c
         finds-last c full =
@@ -305,12 +312,6 @@ module _ (k : Kept) (good : Good k) (a b : Applied) (fa : IsFull (nodes_of k) a)
             let m2 = entered-more ms os (composite_entry ms s q) t whole-enters in
             m2.1 ∙ (ap (λ ps. ps ++ m2.0) m1.1 ∙ (append_assoc ls m1.0 m2.0 ∙ (ap (λ ps. ps ++ (m1.0 ++ m2.0)) said.grows ∙ append_assoc k.proofs said.more (m1.0 ++ m2.0))))
 
-        os-stands : (z : ℕ) → z < length ls → (z < length os) × (statement_at os z ≡ statement_at ls z)
-        os-stands z h =
-            let u = ms-stands z h in
-            let v = (entered_stands ms os (composite_entry ms s q) t whole-enters).2 z u.0 in
-            (v.0, v.1 ∙ u.1)
-
         pub linked-all : Links k last x a b
         linked-all =
             let n' : length (map entry_of ls) ≡ length ls = length-mapped entry_of ls in
@@ -330,12 +331,12 @@ module _ (k : Kept) (good : Good k) (a b : Applied) (fa : IsFull (nodes_of k) a)
                 number = ls-asserts.number;
                 in_range = let z : ls-asserts.number < length os = stood.0 in omega arith;
                 stands = equation_at-of os ls-asserts.number ∙ (ap (λ (y : Statement). y.equation) stood.1 ∙ (sym (equation_at-of ls ls-asserts.number) ∙ ls-asserts.stands));
-                asserted = inr (new_asserted, ap (λ y. asserted y (map entry_of os)) last-nodes ∙ (whole-asserts ∙ ls-asserted));
+                asserted = elim ls-asserts.asserted [
+                  | inl z ↦ inl (z.0, ap (λ y. asserted y (map entry_of os)) last-nodes ∙ (whole-asserts ∙ z.1))
+                  | inr z ↦ inr (z.0, ap (λ y. asserted y (map entry_of os)) last-nodes ∙ (whole-asserts ∙ z.1))
+                ];
               };
             }
-
-        pub linked-new : ¬ StandsIn (image_of k) x.statement.equation
-        linked-new = new_asserted
 
 -- the proofs of both finds, and what is known of the ids
 pub record Ready (k : Kept) (a b : Applied) (p q : ℕ) : Type 0 where
@@ -373,12 +374,12 @@ module _ (k k1 k2 : Kept) (good : Good k) (a b : Applied) (fa : IsFull (nodes_of
         eq = ap (λ ps. (statement_at ps q).equation) (sym lists) ∙ (r2.equation ∙ (λ i. find_equation (explains-nodes k k1 r1.explains i) (explains-entries k k1 r1.explains i) b.0));
       })
 
--- what holds from there on holds from the start
-pub links-from : (k k2 l : Kept) (x : Proven) (a b : Applied) → Explains k k2 → Links k2 l x a b → ¬ StandsIn (image_of k2) x.statement.equation → Links k l x a b
-links-from k k2 l x a b e links absent =
+-- what holds from there on holds from the start, where what x says finds two classes
+pub links-from : (k k2 l : Kept) (x : Proven) (a b : Applied) → Explains k k2 → Links k2 l x a b → ¬ FindOneClass (entries_of k) x.statement.equation → Links k l x a b
+links-from k k2 l x a b e links differ =
     let z : k2 ≡ with_proofs k e.proofs = e.kept in
     let links' : Links (with_proofs k e.proofs) l x a b = subst (λ y. Links y l x a b) z links in
-    let absent' : ¬ StandsIn (image_of (with_proofs k e.proofs)) x.statement.equation = subst (λ y. ¬ StandsIn (image_of y) x.statement.equation) z absent in
+    let stood : (f : Equation) → StandsIn (image_of (with_proofs k e.proofs)) f → StandsIn (image_of k) f ⊎ FindOneClass (entries_of k) f = subst (λ y. (f : Equation) → StandsIn (image_of y) f → StandsIn (image_of k) f ⊎ FindOneClass (entries_of k) f) z e.stood in
     let n : length (proofs_of k) ≡ length k.proofs = length-proofs_of k in
     let n' : length (map entry_of e.proofs) ≡ length e.proofs = length-mapped entry_of e.proofs in
     record {
@@ -395,13 +396,16 @@ links-from k k2 l x a b e links absent =
         in_range = links'.asserts.in_range;
         stands = links'.asserts.stands;
         asserted = elim links'.asserts.asserted [
-          | inl w ↦ absurd (absent' w.0)
+          | inl w ↦ elim (stood x.statement.equation w.0) [
+            | inl s ↦ inl (s, w.1 ∙ e.asserted)
+            | inr one ↦ absurd (differ one)
+          ]
           | inr w ↦ inr (
             (λ s.
                 let h : s.0 < length k.proofs = let y : s.0 < length (proofs_of k) = s.1 in omega arith in
                 let st : (s.0 < length e.proofs) × (statement_at e.proofs s.0 ≡ statement_at k.proofs s.0) = subst (λ ps. (s.0 < length ps) × (statement_at ps s.0 ≡ statement_at k.proofs s.0)) (sym e.grows) (at-append k.proofs e.more s.0 h) in
                 let y : s.0 < length e.proofs = st.0 in
-                absent' (s.0, omega arith, equation_at-of e.proofs s.0 ∙ (ap (λ (u : Statement). u.equation) st.1 ∙ (sym (equation_at-of k.proofs s.0) ∙ s.2)))),
+                w.0 (s.0, omega arith, equation_at-of e.proofs s.0 ∙ (ap (λ (u : Statement). u.equation) st.1 ∙ (sym (equation_at-of k.proofs s.0) ∙ s.2)))),
             w.1 ∙ ap (λ es. es ++ term_pair (nodes_of k) x.statement.equation ∷ []) e.asserted,
           )
         ];
@@ -443,15 +447,13 @@ module _ (k : Kept) (a b : Applied) (p q : ℕ) (R : Ready k a b p q) (l : Kept)
     pub last-length : length n.classes ≡ length k.classes
     last-length = ap (λ (y : Kept). length y.classes) (whole-kept k R.good a b R.left R.right R.differ R.same p q R.hp R.hq R.ep R.eq l x r said m s half n t whole)
 
-    pub last-links : (x.statement.equation ≡ equation_of a b) ⊎ (x.statement.equation ≡ equation_of b a) → (w : List (ℕ × ℕ)) → w ≡ same_names (find (entries_of k) b).1 (find (entries_of k) a).1 → (z : Kept) → z ≡ with_linked n (find_class (entries_of k) a.0) (find_class (entries_of k) b.0) w t → Links k z x a b × (¬ StandsIn (image_of k) x.statement.equation)
-    last-links said_of w ew z ez =
+    pub last-links : (w : List (ℕ × ℕ)) → w ≡ same_names (find (entries_of k) b).1 (find (entries_of k) a).1 → (z : Kept) → z ≡ with_linked n (find_class (entries_of k) a.0) (find_class (entries_of k) b.0) w t → Links k z x a b
+    last-links w ew z ez =
         let es : List Entry = entries_of k in
         let e : w ≡ turned (canonical_slots (nodes_of k) (find_class es b.0)) (found_equation (nodes_of k) es (equation_of a b)).pairs = ew ∙ link-map k R.good a b R.left R.right in
         let nk = whole-kept k R.good a b R.left R.right R.differ R.same p q R.hp R.hq R.ep R.eq l x r said m s half n t whole in
-        let zk : z ≡ with_linked (with_proofs k whole.proofs) (find_class es a.0) (find_class es b.0) w t = ez ∙ ap (λ y. with_linked y (find_class es a.0) (find_class es b.0) w t) nk in (
-          subst (λ y. Links k y x a b) (sym zk) (linked-all k R.good a b R.left R.right R.differ R.same p q R.hp R.hq R.ep R.eq l x r said m s half n t whole said_of w e),
-          linked-new k R.good a b R.left R.right R.differ R.same p q R.hp R.hq R.ep R.eq l x r said m s half n t whole said_of w e,
-        )
+        let zk : z ≡ with_linked (with_proofs k whole.proofs) (find_class es a.0) (find_class es b.0) w t = ez ∙ ap (λ y. with_linked y (find_class es a.0) (find_class es b.0) w t) nk in
+        subst (λ y. Links k y x a b) (sym zk) (linked-all k R.good a b R.left R.right R.differ R.same p q R.hp R.hq R.ep R.eq l x r said m s half n t whole w e)
 
 -- what is asserted, whichever way round
 pub asserted_for-says : (o : Bool) (a b : Applied) (text : Option (List ℕ)) → ((asserted_for o a b text).statement.equation ≡ equation_of a b) ⊎ ((asserted_for o a b text).statement.equation ≡ equation_of b a)
@@ -465,8 +467,14 @@ united k k2 e a b p q R l x r said m s half n t whole said_of from to ef et w ew
     let same : entries_of k ≡ entries_of k2 = sym (explains-entries k k2 e) in
     let ff : from ≡ find (entries_of k2) a = ef ∙ ap (λ es. find es a) same in
     let tt' : to ≡ find (entries_of k2) b = et ∙ ap (λ es. find es b) same in
-    let links = last-links k2 a b p q R l x r said m s half n t whole said_of w (ew ∙ (λ i. same_names (tt' i).1 (ff i).1)) z (ez ∙ (λ i. with_linked n (ff i).0 (tt' i).0 w t)) in
-    links-from k k2 z x a b e links.0 links.1
+    let apart : ¬ FindOneClass (entries_of k) x.statement.equation = λ one.
+    let o : FindOneClass (entries_of k2) x.statement.equation = subst (λ es. FindOneClass es x.statement.equation) same one in
+    elim said_of [
+      | inl h ↦ R.differ (subst (FindOneClass (entries_of k2)) h o)
+      | inr h ↦ R.differ (sym (subst (FindOneClass (entries_of k2)) h o))
+    ] in
+    let links = last-links k2 a b p q R l x r said m s half n t whole w (ew ∙ (λ i. same_names (tt' i).1 (ff i).1)) z (ez ∙ (λ i. with_linked n (ff i).0 (tt' i).0 w t)) in
+    links-from k k2 z x a b e links apart
 
 -- the dead class is one of the graph
 pub dead-within : (k k2 : Kept) → Explains k k2 → (a b : Applied) (p q : ℕ) (R : Ready k2 a b p q) (l : Kept) (x : Proven) (r : ℕ) (said : IsAsserted k2 l x a b r) (m : Kept) (s : ℕ) (half : EntersIn l m (composite_entry l.proofs p r) s) (n : Kept) (t : ℕ) (whole : EntersIn m n (composite_entry m.proofs s q) t) → (from : Applied) → from ≡ find (entries_of k) a → from.0 < length n.classes
@@ -478,8 +486,8 @@ dead-within k k2 e a b p q R l x r said m s half n t whole from ef =
     let d : length (nodes_of k2) ≡ length k2.classes = length-nodes_of k2 in
     omega arith
 
--- where the ids find alike already, no class changes
-module _ (k : Kept) (good : Good k) (a b : Applied) (same : find (entries_of k) a ≡ find (entries_of k) b) (l : Kept) (x : Proven) (p : ℕ) (said : IsAsserted k l x a b p) where
+-- where nothing but what is said is entered, no class changes
+module _ (k : Kept) (good : Good k) (a b : Applied) (l : Kept) (x : Proven) (p : ℕ) (said : IsAsserted k l x a b p) where
   agreed-asserts : Asserts (image_of k) (image_of (with_proofs k said.proofs)) x.statement.equation
   agreed-asserts = subst (λ (y : Kept). Asserts (image_of k) (image_of y) x.statement.equation) said.kept said.asserts
 
@@ -490,7 +498,6 @@ module _ (k : Kept) (good : Good k) (a b : Applied) (same : find (entries_of k) 
     sound = said.sound;
     proved = said.proved;
     later = good.later;
-    alike = said.alike (entries_of k) good.alike same;
     in_use = good.in_use;
     untouched = λ none. good.untouched (elim agreed-asserts.asserted [
       | inl e ↦ sym e.1 ∙ none
@@ -521,9 +528,6 @@ module _ (k : Kept) (good : Good k) (a b : Applied) (fa : IsFull (nodes_of k) a)
 
   pub found-alike : from ≡ to → FoundAlike (image_of k) a b
   found-alike e = left-found ∙ (e ∙ sym right-found)
-
-  pub found-same : from ≡ to → find (entries_of k) a ≡ find (entries_of k) b
-  found-same e = sym ef ∙ (e ∙ et)
 
   pub not-alike : (from ≡ to → ⊥) → ¬ FoundAlike (image_of k) a b
   not-alike n e = n (sym left-found ∙ (e ∙ right-found))

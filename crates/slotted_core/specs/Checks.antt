@@ -1,8 +1,9 @@
 -- Checked steps: when a step proves an equation over a graph, and what an accepted one leaves.
 --     SaysIn g p a b      the entry with the number p says, up to renaming, that a = b
 --     Fits g e s          the step s proves the equation e over the entries of the graph
+--     CanRunOut e s       slots can run out
 --     Accepts g h x p     the equation of x stands at p: nothing changed, or x is entered last, and nothing else changed
-use Rattle.std.specs.Prelude.{◌≡◌, ◌⊎◌, ℕ, ◌<◌, List, [], ◌∷◌, ◌++◌, length, slice_index_or}
+use Rattle.std.specs.Prelude.{◌≡◌, ◌⊎◌, ℕ, ◌<◌, ◌≤◌, ◌+◌, ◌^◌, List, [], ◌∷◌, ◌++◌, length, slice_index_or}
 use Rattle.slotted_theory.specs.FiniteMaps.{IsInjectiveMap}
 use Rattle.slotted_model.specs.Applied.{Applied}
 use Rattle.slotted_model.specs.Classes.{canonical_node, IsFull}
@@ -49,10 +50,22 @@ FitsBy g e (symmetric p) = SaysIn g p (to_applied e.r) (to_applied e.l)
 FitsBy g e (transitive p q) = GoesBetween g e p q
 FitsBy g e (congruent parts) = IsCongruentStep g e parts
 
+-- too many names to be numbered stand on the two sides
+abbrev pub HasManyNames : Sides → Type 0
+HasManyNames e = 2 ^ 30 ≤ length e.l.m + length e.r.m
+
 -- both sides are ids of this graph, with different names for exactly the canonical slots of their classes, and the step proves the
 -- equation
 abbrev pub Fits : Image → Sides → Step → Type 0
 Fits g e s = IsOfFull g.canonical e × FitsBy g e s
+
+-- slots can run out where the sides have too many names, or where a step puts names into nodes, whose binders may need new ones
+abbrev pub CanRunOut : Sides → Step → Type 0
+CanRunOut e (congruent parts) = Unit {0}
+CanRunOut e explicit = HasManyNames e
+CanRunOut e reflexive = HasManyNames e
+CanRunOut e (symmetric p) = HasManyNames e
+CanRunOut e (transitive p q) = HasManyNames e
 
 -- the entry of an equation by a step
 abbrev pub entry_by : Sides → Step → Proven

@@ -6,7 +6,7 @@
 --     image_of k     what contracts see of it
 --     found rs f     what is filed for a shape
 --     Good k         what holds of each graph that has not failed
-use Rattle.std.specs.Prelude.{◌≡◌, ℕ, suc, ◌<◌, List, [], ◌∷◌, ◌++◌, length, map, set, Bool, true, false, Option, Some, None, cond, Contains, IsSome, slice_index_or, refl}
+use Rattle.std.specs.Prelude.{◌≡◌, ◌⊎◌, ℕ, suc, ◌<◌, List, [], ◌∷◌, ◌++◌, length, map, set, Bool, true, false, Option, Some, None, cond, Contains, IsSome, slice_index_or, refl}
 use Rattle.std.specs.Coded.{Coded, code_by, coded×, coded_ℕ, coded_list}
 use Rattle.slotted_slots.specs.Table.{Table, empty_table}
 use Rattle.slotted_theory.specs.Term.{Term}
@@ -16,7 +16,7 @@ use Rattle.slotted_languages.specs.NodeTerm.{nameless_node}
 use Rattle.slotted_languages.specs.Shape.{shape, Fits}
 use Rattle.slotted_model.specs.Applied.{Applied, keys}
 use Rattle.slotted_model.specs.Classes.{canonical_slots, term_of, IsFull}
-use Rattle.slotted_model.specs.Find.{Entry, IsLive, find_class, find_map, find}
+use Rattle.slotted_model.specs.Find.{Entry, IsLive, find_class, find_map}
 use Rattle.slotted_model.specs.Growth.{Extends}
 use Rattle.slotted_model.specs.Ids.{id_of_node, id_of}
 use Rattle.slotted_model.specs.Link.{IsLater}
@@ -25,10 +25,10 @@ use Rattle.slotted_model.specs.Sound.{Sound}
 use Rattle.slotted_proofs.specs.Entries.{Proven, Enters, reflexive_entry, asserted_entry}
 use Rattle.slotted_proofs.specs.Entries as list
 use Rattle.slotted_proofs.specs.Proving.{IsProved}
-use Rattle.slotted_core.specs.Alike.{EntriesFindAlike, AllInUse}
+use Rattle.slotted_core.specs.Alike.{FindOneClass, AllInUse}
 use Rattle.slotted_core.specs.EntryCode.{entry_code, proven_code}
 use Rattle.slotted_core.specs.FormCode.{form_code, form_is}
-use Rattle.slotted_core.specs.Image.{Image, FoundAlike, CanUnite, AddsClasses, Continues, Asserts}
+use Rattle.slotted_core.specs.Image.{Image, FoundAlike, CanUnite, AddsClasses, Continues, Asserts, StandsIn}
 use Rattle.slotted_core.specs.Names.{between, with_put}
 use Rattle.slotted_core.specs.Graph.{IsFreshBetween, HasNewClass}
 
@@ -141,14 +141,13 @@ rows_from i (c ∷ cs) = ((shape c.0).0, (i, (shape c.0).1)) ∷ rows_from (suc 
 abbrev pub IsUntouched : Kept → Type 0
 IsUntouched k = asserted (nodes_of k) (proofs_of k) ≡ [] → (i : ℕ) → i < length (nodes_of k) → IsLive (entries_of k) i
 
--- rows file the canonical nodes, finds and proofs are sound, the sides of each proved equation find alike, and classes use all their slots
+-- rows file the canonical nodes, finds and proofs are sound, and classes use all their slots
 pub record Good (k : Kept) : Type 0 where
   pub rows : k.rows ≡ rows_from 0 k.classes
   pub fits : (i : ℕ) → i < length k.classes → Fits (node_at k i)
   pub sound : Sound (nodes_of k) (entries_of k) (proofs_of k)
   pub proved : IsProved (nodes_of k) k.proofs
   pub later : IsLater (entries_of k) k.moment
-  pub alike : EntriesFindAlike (nodes_of k) (entries_of k) (proofs_of k)
   pub in_use : AllInUse (nodes_of k) (entries_of k)
   pub untouched : IsUntouched k
 
@@ -176,7 +175,7 @@ pub record AddsTerm (new : Table) (k l : Kept) (t : Term) (a : Applied) : Type 0
   pub term : term_of (nodes_of l) a ≡ nameless t
   pub kept : IsSome (id_of (nodes_of k) (nameless t)) → image_of l ≡ image_of k
 
--- the proof list grew at its end by proofs of what finds alike, of which none is asserted, and nothing else changed
+-- the proof list grew at its end, of which nothing is asserted, by equations whose two classes find one class, and nothing else changed
 pub record Explains (k l : Kept) : Type 0 where
   pub good : Good l
   pub proofs : List Proven
@@ -184,6 +183,7 @@ pub record Explains (k l : Kept) : Type 0 where
   pub more : List Proven
   pub grows : proofs ≡ k.proofs ++ more
   pub asserted : asserted (nodes_of k) (list.entries_of proofs) ≡ asserted (nodes_of k) (proofs_of k)
+  pub stood : (e : Equation) → StandsIn (image_of l) e → StandsIn (image_of k) e ⊎ FindOneClass (entries_of k) e
 
 -- now the equation stands at p
 pub record Proves (k l : Kept) (e : Equation) (p : ℕ) : Type 0 where
@@ -191,8 +191,7 @@ pub record Proves (k l : Kept) (e : Equation) (p : ℕ) : Type 0 where
   pub in_range : p < length l.proofs
   pub equation : (list.statement_at l.proofs p).equation ≡ e
 
--- the explicit entry x is entered, and by it or by it turned round the equation of a and b stands at p; wherever the older entries and a
--- and b find alike, the newer ones do
+-- the explicit entry x is entered, and by it or by it turned round the equation of a and b stands at p
 pub record IsAsserted (k l : Kept) (x : Proven) (a b : Applied) (p : ℕ) : Type 0 where
   pub proofs : List Proven
   pub kept : l ≡ with_proofs k proofs
@@ -202,7 +201,6 @@ pub record IsAsserted (k l : Kept) (x : Proven) (a b : Applied) (p : ℕ) : Type
   pub proved : IsProved (nodes_of k) proofs
   pub in_range : p < length proofs
   pub equation : (list.statement_at proofs p).equation ≡ equation_of a b
-  pub alike : (found : List Entry) → EntriesFindAlike (nodes_of k) found (proofs_of k) → find found a ≡ find found b → EntriesFindAlike (nodes_of k) found (list.entries_of proofs)
   pub asserts : Asserts (image_of k) (image_of l) x.statement.equation
 
 -- what is asserted of a and b, or turned round of b and a

@@ -1,14 +1,16 @@
 //! Proof steps, each accepted exactly where it is right.
-ghost use Rattle.std.specs.Prelude.{◌≡◌, ◌+◌, ◌^◌, ◌⊎◌, ◌≤◌, ◌↔◌, length, IsTrue, IfOk, OnErr, IfErr, IsErrOf};
-ghost use Rattle.slotted_model.specs.ProofList.{Step, reflexive, symmetric, transitive};
+ghost use Rattle.std.specs.Prelude.{◌≡◌, ◌⊎◌, ◌↔◌, IsTrue, IfOk, OnErr, IfErr, IsErrOf};
+ghost use Rattle.slotted_model.specs.ProofList.{Step, reflexive, symmetric, transitive, congruent};
 ghost use Rattle.slotted_proofs.specs.Equations.{to_applied};
 ghost use Rattle.slotted_proofs.specs.Steps.{IsRefusal};
-ghost use Rattle.slotted_core.specs.Checks.{Fits, Accepts, entry_by};
+ghost use Rattle.slotted_core.specs.Checks.{Fits, CanRunOut, Accepts, entry_by};
 ghost use Rattle.slotted_core.specs.Image.{AreDerivable};
 
 use crate::egraph::EGraph;
 use slotted_languages::Language;
-use slotted_proofs::{Equation, ProvenEq, ReflexivityProof, SymmetryProof, TransitivityProof};
+use slotted_proofs::{
+    CongruenceProof, Equation, ProvenEq, ReflexivityProof, SymmetryProof, TransitivityProof,
+};
 use slotted_slots::Error;
 
 /// A step by which an equation is proved.
@@ -35,7 +37,7 @@ pub trait Check {
 
         ensures err { OnErr result (graph.new ≡ graph.old) }
         ensures failed { IsErrOf result Error.Failed ↔ IsTrue graph.old.failed }
-        ensures full { IsErrOf result Error.OutOfSlots → 2 ^ 30 ≤ length equation.now.l.m + length equation.now.r.m }
+        ensures full { IsErrOf result Error.OutOfSlots → CanRunOut equation.now (step self.now) }
         ensures only { IfErr result (λ e. (e ≡ Error.Failed) ⊎ IsRefusal e) };
 }
 
@@ -83,5 +85,21 @@ impl Check for TransitivityProof {
         graph
             .core
             .check_transitive(graph.alloc, equation, self.0, self.1)
+    }
+}
+
+impl Check for CongruenceProof {
+    ghost step = { λ s. congruent s.0.items };
+
+    fn check<L: Language, N: Drop>(
+        &self,
+        equation: &Equation,
+        graph: &mut EGraph<L, N>,
+    ) -> Result<ProvenEq, Error> {
+        if graph.failed {
+            return Err(Error::Failed);
+        }
+        let copy = self.copy(graph.alloc)?;
+        graph.core.check_congruent(graph.alloc, equation, copy.0)
     }
 }

@@ -1,13 +1,13 @@
 use Rattle.std.proofs.Common.{rules}
 use Rattle.slotted_model.specs.ProofList.{find_equation}
 use Rattle.slotted_core.specs.Kept.{nodes_of, entries_of}
-use Rattle.slotted_core.proofs.United.{back-proves}
+use Rattle.slotted_core.proofs.United.{find-one, back-proves}
 use Rattle.slotted_core.proofs.Large.{proves_is_large}
 use Rattle.slotted_core.proofs.kernel.Core.back_proof.Goals as goal
 
 pub returns-clause-ok : goal.returns-clause-ok
 returns-clause-ok g c =
-    back-proves c.args.self.now c.find_proof.new.self c.turn.new.self (find_equation (nodes_of c.args.self.now) (entries_of c.args.self.now) c.args.id) c.in_ok-proof.proof c.in_ok-answer.answer c.in_ok-proof.ensures.ok c.in_ok-answer.ensures.ok
+    back-proves c.args.self.now c.find_proof.new.self c.turn.new.self (find_equation (nodes_of c.args.self.now) (entries_of c.args.self.now) c.args.id) c.in_ok-proof.proof c.in_ok-answer.answer (find-one c.args.self.now c.requires.good c.args.id c.requires.within) c.in_ok-proof.ensures.ok c.in_ok-answer.ensures.ok
 
 pub returns-in_err-answer-clause-full : goal.returns-in_err-answer-clause-full
 returns-in_err-answer-clause-full g c e =

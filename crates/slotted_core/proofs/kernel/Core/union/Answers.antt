@@ -4,7 +4,7 @@ use Rattle.std.proofs.lemmas.Bool.{false≢true}
 use Rattle.slotted_languages.specs.Equal.{map_same, and_same}
 use Rattle.slotted_model.specs.Applied.{Applied}
 use Rattle.slotted_core.specs.Nodes.{to_applied}
-use Rattle.slotted_core.proofs.United.{agrees, found-alike, found-same, not-alike, can-unite, one-class, other-names, classes-differ, names-same, links-turned}
+use Rattle.slotted_core.proofs.United.{agrees, found-alike, not-alike, can-unite, one-class, other-names, classes-differ, names-same, links-turned}
 use Rattle.slotted_core.proofs.kernel.Core.union.Goals as goal
 
 pub returns-then-eq-clause-ok : goal.returns-then-eq-clause-ok
@@ -20,7 +20,7 @@ returns-then-eq-clause-ok g c =
     subst (λ e. IsTrue e ↔ ((c.in_ok-left.left.id.0 ≡ c.in_ok-right.right.id.0) × (c.in_ok-left.left.m ≡ c.in_ok-right.right.m))) (sym c.eq.ensures) (and_same _ _ _ (map_same c.in_ok-left.left.m c.in_ok-right.right.m)) in
     let p = same.0 c.if-eq.true in
     let e : from ≡ to = λ i. (p.0 i, p.1 i) in
-    (found-alike k c.requires.good a b c.requires.left c.requires.right from to ef et e, agrees k c.requires.good a b (found-same k c.requires.good a b c.requires.left c.requires.right from to ef et e) c.assert_sides.new.self _ c.in_ok-assert_sides.field-0 c.in_ok-assert_sides.ensures.ok)
+    (found-alike k c.requires.good a b c.requires.left c.requires.right from to ef et e, agrees k c.requires.good a b c.assert_sides.new.self _ c.in_ok-assert_sides.field-0 c.in_ok-assert_sides.ensures.ok)
 
 pub returns-then-left-right-clause-ok : goal.returns-then-left-right-clause-ok
 returns-then-left-right-clause-ok g c =
