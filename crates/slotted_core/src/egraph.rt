@@ -32,6 +32,7 @@ use std::alloc::Global;
 use std::marker::Model;
 
 mod canonical;
+mod patterns;
 
 /// A graph of terms with binders, up to alpha-equality.
 ///

@@ -44,7 +44,7 @@ module _ {A : Type 0} (tree : A → PatternTree) (es : List A) where
 pub tree_of-ENode : {L : Type 0} (form : L → Form) (n : L) (ps : Vec (Pattern L) Global) → tree_of form (ENode n ps) ≡ enode (form n) (row_of (map (tree_of form) ps.items))
 tree_of-ENode form n ps = search (rules, the_lemmas)
 
-counted : (b : Bool) (t : Term) → b ≡ true → (if b then Some t else None) ≡ Some t
+pub counted : (b : Bool) (t : Term) → b ≡ true → (if b then Some t else None) ≡ Some t
 counted true t h = refl
 counted false t h = absurd (cc)
 

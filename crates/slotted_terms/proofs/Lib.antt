@@ -8,5 +8,6 @@ pub mod Matched
 pub mod Alike
 pub mod Refusals
 pub mod AsTerms
+pub mod TermPatterns
 pub mod ValidTexts
 pub mod TermReadings

@@ -2,6 +2,7 @@
 pub mod Seen
 pub mod Outcome
 pub mod AsTerm
+pub mod TermPattern
 pub mod Parsed
 pub mod Valid
 pub mod Shown

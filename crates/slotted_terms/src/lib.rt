@@ -8,4 +8,4 @@ pub mod patterns;
 pub mod show;
 
 pub use expr::RecExpr;
-pub use patterns::pattern_to_re;
+pub use patterns::{pattern_to_re, re_to_pattern};

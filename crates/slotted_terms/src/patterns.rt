@@ -1,13 +1,19 @@
 //! Terms and the patterns that are terms.
 ghost use Rattle.std.specs.Prelude.{◌≡◌, Some, IfOk, IfErr};
 ghost use Rattle.slotted_patterns.specs.View.{tree_of};
+ghost use Rattle.slotted_slots.specs.Error.{IsOutOfMemory};
 ghost use Rattle.slotted_terms.specs.AsTerm.{as_term, IsRefusal};
+ghost use Rattle.slotted_terms.specs.TermPattern.{IsPatternOf};
+ghost use Rattle.slotted_terms.specs.Valid.{IsWhole};
 
 use crate::expr::RecExpr;
 use slotted_languages::language::Language;
 use slotted_patterns::Pattern;
 use slotted_slots::Error;
 use std::alloc::Global;
+
+#[cfg(test)]
+mod tests;
 
 /// The term that a pattern is. It is `NotATerm` where a variable or a substitution stands in it, or a node has a wrong
 /// number of child patterns.
@@ -29,4 +35,18 @@ pub fn pattern_to_re<L: Language>(alloc: Global, pattern: &Pattern<L>) -> Result
         node: node.copy(alloc)?,
         children,
     })
+}
+
+/// The pattern of a term's nodes, with as many child patterns as the nodes have children. `pattern_to_re` makes the term of it
+/// again if each node has the right number of children.
+pub fn re_to_pattern<L: Language>(alloc: Global, term: &RecExpr<L>) -> Result<Pattern<L>, Error>
+    ensures ok { IfOk result (λ p. IsPatternOf (tree_of L.form p) term.now) }
+    ensures back { IfOk result (λ p. IsWhole term.now.args → as_term (tree_of L.form p) ≡ Some term.now) }
+    ensures err { IfErr result IsOutOfMemory }
+{
+    let mut patterns = Vec::new(alloc);
+    for child in &term.children {
+        patterns.push(re_to_pattern(alloc, child)?)?;
+    }
+    Ok(Pattern::ENode(term.node.copy(alloc)?, patterns))
 }

@@ -76,11 +76,13 @@ fn a_substitution_lacks_a_sign(rt: HostRuntime) -> Result<(), Fail> {
 fn each_beginning_of_a_pattern_lacks_something(rt: HostRuntime) -> Result<(), Fail> {
     let text = "(lam $x (app ?f (var $x)))[(var $x) := ?t]";
     let base = "(lam $x (app ?f (var $x)))".len();
-    for length in 0..text.len() {
-        let read = refused_as(rt.alloc(), &text[..length], "read")?;
-        assert!(rt; read == (length == base), "at {length}");
+    let mut beginning = String::new(rt.alloc());
+    for c in text.chars() {
+        let read = refused_as(rt.alloc(), &beginning, "read")?;
+        assert!(rt; read == (beginning.len() == base), "at {beginning:?}");
+        beginning.push(c)?;
     }
-    assert!(rt; refused_as(rt.alloc(), text, "read")?);
+    assert!(rt; refused_as(rt.alloc(), &beginning, "read")?);
     Ok(())
 }
 
