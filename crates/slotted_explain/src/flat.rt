@@ -8,8 +8,8 @@ use crate::flat_terms::{marked, matched_names, name_apart, replaced, slots_of, s
 use slotted_core::EGraph;
 use slotted_proofs::{Proof, ProofList, ProvenEq};
 use slotted_slots::{AppliedId, Error, SlotMap};
-use slotted_terms::expr::printing::Printable;
 use slotted_terms::expr::RecExpr;
+use slotted_terms::expr::printing::Printable;
 use std::alloc::Global;
 use std::fmt::Write;
 

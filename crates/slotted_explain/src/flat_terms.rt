@@ -4,8 +4,8 @@ ghost use Rattle.slotted_slots.specs.Error.{IsOutOfMemory};
 
 use slotted_languages::Language;
 use slotted_slots::{AppliedId, Error, Slot, SlotMap, SlotTable, SyntaxElem};
-use slotted_terms::expr::printing::Printable;
 use slotted_terms::expr::RecExpr;
+use slotted_terms::expr::printing::Printable;
 use slotted_terms::show::node_text;
 use std::alloc::Global;
 
@@ -114,11 +114,7 @@ fn push_own<L: Language>(alloc: Global, node: &L, slots: &mut Vec<Slot>) -> Resu
 }
 
 // Which slots of the one list stand where in the other.
-pub(crate) fn matched_names(
-    alloc: Global,
-    slots: &[Slot],
-    names: &[Slot],
-) -> Result<SlotMap, Error>
+pub(crate) fn matched_names(alloc: Global, slots: &[Slot], names: &[Slot]) -> Result<SlotMap, Error>
     ensures err { IfErr result IsOutOfMemory }
 {
     let mut matched = SlotMap::new(alloc);
