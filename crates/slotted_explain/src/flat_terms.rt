@@ -1,0 +1,161 @@
+//! Places of terms, and their names.
+ghost use Rattle.std.specs.Prelude.{IfErr};
+ghost use Rattle.slotted_slots.specs.Error.{IsOutOfMemory};
+
+use slotted_languages::Language;
+use slotted_slots::{AppliedId, Error, Slot, SlotMap, SlotTable, SyntaxElem};
+use slotted_terms::expr::RecExpr;
+use slotted_terms::expr::printing::Printable;
+use slotted_terms::show::node_text;
+use std::alloc::Global;
+
+// The term at a path, if there is one.
+pub(crate) fn subterm<'a, L: Language>(
+    term: &'a RecExpr<L>,
+    path: &[usize],
+) -> Option<&'a RecExpr<L>> {
+    let mut at = term;
+    for k in path {
+        match at.children.get(*k) {
+            Some(child) => at = child,
+            None => return None,
+        }
+    }
+    Some(at)
+}
+
+// The term with another one at a path.
+pub(crate) fn replaced<L: Language>(
+    alloc: Global,
+    term: &RecExpr<L>,
+    path: &[usize],
+    new: &RecExpr<L>,
+) -> Result<RecExpr<L>, Error>
+    ensures err { IfErr result IsOutOfMemory }
+{
+    let Some((next, rest)) = path.split_first() else {
+        return new.copy(alloc);
+    };
+    let mut children = Vec::new(alloc);
+    for (k, child) in term.children.iter().enumerate() {
+        if k == *next {
+            children.push(replaced(alloc, child, rest, new)?)?;
+        } else {
+            children.push(child.copy(alloc)?)?;
+        }
+    }
+    Ok(RecExpr {
+        node: term.node.copy(alloc)?,
+        children,
+    })
+}
+
+// The text of a term in which the subterm at a path stands in round brackets after the mark.
+pub(crate) fn marked<L: Printable>(
+    alloc: Global,
+    term: &RecExpr<L>,
+    path: &[usize],
+    mark: &str,
+    table: &SlotTable,
+) -> Result<String, Error>
+    ensures err { IfErr result IsOutOfMemory }
+{
+    let Some((next, rest)) = path.split_first() else {
+        let text = term.text(alloc, table)?;
+        return Ok(format!(in alloc; "({mark} {text})")?);
+    };
+    let mut children = Vec::new(alloc);
+    for (k, child) in term.children.iter().enumerate() {
+        if k == *next {
+            children.push(marked(alloc, child, rest, mark, table)?)?;
+        } else {
+            children.push(child.text(alloc, table)?)?;
+        }
+    }
+    let elements = term.node.to_syntax(alloc)?;
+    node_text(alloc, &elements, &children, table)
+}
+
+// The slots that stand in a term, from the left.
+pub(crate) fn slots_of<L: Language>(alloc: Global, term: &RecExpr<L>) -> Result<Vec<Slot>, Error>
+    ensures err { IfErr result IsOutOfMemory }
+{
+    let mut slots = Vec::new(alloc);
+    push_slots(alloc, term, &mut slots)?;
+    Ok(slots)
+}
+
+// Appends the slots of a term, those of its node first.
+fn push_slots<L: Language>(
+    alloc: Global,
+    term: &RecExpr<L>,
+    slots: &mut Vec<Slot>,
+) -> Result<(), Error>
+    ensures err { IfErr result IsOutOfMemory }
+{
+    push_own(alloc, &term.node, slots)?;
+    for child in &term.children {
+        push_slots(alloc, child, slots)?;
+    }
+    Ok(())
+}
+
+// Appends the slots that a node writes itself.
+fn push_own<L: Language>(alloc: Global, node: &L, slots: &mut Vec<Slot>) -> Result<(), Error>
+    ensures err { IfErr result IsOutOfMemory }
+{
+    let elements = node.to_syntax(alloc)?;
+    for element in &elements {
+        if let SyntaxElem::Slot(slot) = element {
+            slots.push(*slot)?;
+        }
+    }
+    Ok(())
+}
+
+// Which slots of the one list stand where in the other.
+pub(crate) fn matched_names(alloc: Global, slots: &[Slot], names: &[Slot]) -> Result<SlotMap, Error>
+    ensures err { IfErr result IsOutOfMemory }
+{
+    let mut matched = SlotMap::new(alloc);
+    for (i, slot) in slots.iter().enumerate() {
+        if let Some(name) = names.get(i) {
+            matched.insert(*slot, *name)?;
+        }
+    }
+    Ok(matched)
+}
+
+// Names each slot of an id that has no name yet: by itself, or by a number, where it is used.
+pub(crate) fn name_apart(
+    a: &AppliedId,
+    names: &mut SlotMap,
+    used: &mut Vec<Slot>,
+) -> Result<(), Error>
+    ensures err { IfErr result IsOutOfMemory }
+{
+    for pair in a.m.iter() {
+        if !names.contains_key(pair.1) {
+            let name = unused(pair.1, used)?;
+            used.push(name)?;
+            names.insert(pair.1, name)?;
+        }
+    }
+    Ok(())
+}
+
+// The slot, or the first numeric one that is not used, where it is used.
+fn unused(slot: Slot, used: &[Slot]) -> Result<Slot, Error>
+    ensures err { IfErr result IsOutOfMemory }
+{
+    if !used.contains(&slot) {
+        return Ok(slot);
+    }
+    for n in 0..1_073_741_824 {
+        let number = Slot::numeric_at(n);
+        if !used.contains(&number) {
+            return Ok(number);
+        }
+    }
+    Err(Error::OutOfMemory)
+}
