@@ -11,6 +11,8 @@ mod memory;
 #[cfg(test)]
 mod refusals;
 #[cfg(test)]
+mod steps;
+#[cfg(test)]
 mod unions;
 #[cfg(test)]
 mod valid;

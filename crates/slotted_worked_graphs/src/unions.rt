@@ -7,7 +7,11 @@ use std::alloc::Global;
 use std::process::Abort;
 
 // What a union of two ids answers, if they are valid.
-fn unite<L: Language>(graph: &mut EGraph<L>, a: &AppliedId, b: &AppliedId) -> Result<bool, Error> {
+pub(crate) fn unite<L: Language>(
+    graph: &mut EGraph<L>,
+    a: &AppliedId,
+    b: &AppliedId,
+) -> Result<bool, Error> {
     if graph.is_valid(a) && graph.is_valid(b) {
         graph.union(a, b)
     } else {
