@@ -7,6 +7,8 @@ use slotted_slots::{AppliedId, Error, SlotTable};
 use slotted_terms::expr::printing::Printable;
 use std::alloc::Global;
 
+mod chains;
+
 // The id of the term that a text writes.
 fn put_text<L: Language>(graph: &mut EGraph<L>, text: &str) -> Result<AppliedId, Error> {
     let term = graph.parse_expr(text)?;
