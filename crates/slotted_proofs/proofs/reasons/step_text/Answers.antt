@@ -10,5 +10,5 @@ unfolding encode
 loop-part-preserved c = (
   (44 ∷ 32 ∷ [], (refl, refl)),
   rw (c.in_ok-push_number.ensures.ok, c.in_ok-push_str.ensures.bytes)
-  (numbers_text-step c.args.lines.now c.loop-part.separator.now (string_bytes c.loop-part.text) c.args.parts.now c.loop-part.part-index c.part-item.result c.line_of.result _ c.loop-part-test.true c.part-item.is c.line_of.ensures c.loop-part.invariant.1),
+      (numbers_text-step c.args.lines.now c.loop-part.separator.now (string_bytes c.loop-part.text) c.args.parts.now c.loop-part.part-index c.part-item.result c.line_of.result _ c.loop-part-test.true c.part-item.is c.line_of.ensures c.loop-part.invariant.1),
 )
