@@ -1,6 +1,6 @@
 -- A text that reads as a pattern leaves a table that knows the names of its nodes: a node that is read has no slots but
 -- those of its elements.
-use Rattle.std.proofs.Common.{◌≡◌, ℕ, List, [], ◌∷◌, ◌++◌, refl, sym, subst, ap, ◌∙◌, inl, inr}
+use Rattle.std.proofs.Common.{ℕ, List, [], ◌∷◌, ◌++◌, refl, sym, subst, ap, ◌∙◌, inl, inr}
 use Rattle.std.specs.Prelude.{IsTrue, Option, Some, None, IfSome, IfOk, Result, Ok, Err, ◌==◌, ◌||◌}
 use Rattle.std.proofs.Math.Bool.{or-true}
 use Rattle.std.proofs.lemmas.Bool.{or_cases, eq-eqb, eqb-true}

@@ -1,7 +1,6 @@
 -- Each turn writes the line of a part; the bracket comes at the end.
 use lib.Utf8.{encode}
-use Rattle.std.proofs.Common.{◌≡◌, ◌∷◌, [], ◌++◌, drop, codes, string_bytes, refl, ap, ◌∙◌}
-use Rattle.slotted_proofs.specs.Reasons.{numbers_text}
+use Rattle.std.proofs.Common.{◌∷◌, [], string_bytes, refl}
 use Rattle.slotted_proofs.proofs.Printing.{numbers_text-step}
 use Rattle.slotted_proofs.proofs.reasons.step_text.Goals as goal
 
