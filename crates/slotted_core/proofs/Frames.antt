@@ -5,6 +5,7 @@ use Rattle.std.specs.List.{zip}
 use Rattle.slotted_theory.specs.FiniteMaps.{IsInjectiveMap}
 use Rattle.slotted_theory.specs.Nameless.{nameless_args}
 use Rattle.slotted_theory.specs.Shape.{number_in}
+use Rattle.slotted_theory.proofs.Lists.{append_parts}
 use Rattle.slotted_languages.specs.Form.{Form, Tree, leaf, own, child, bind, scopes, children}
 use Rattle.slotted_languages.specs.NodeTerm.{node_args, nameless_node}
 use Rattle.slotted_languages.specs.NodeTerm as node
@@ -195,16 +196,6 @@ length-owns_of bs cs u v xs ys e = count bs u xs ∙ (ap (λ t. length (scopes t
         let us = owns_of (slice_index xs 0 ∷ bs) u (take (length (scopes u)) (drop 1 xs)) in
         let rs = owns_of bs r (drop (length (scopes u)) (drop 1 xs)) in
         omega (arith, length-append us rs, length-append (scopes (outlined u)) (scopes (outlined r)), count (slice_index xs 0 ∷ bs) u (take (length (scopes u)) (drop 1 xs)), count bs r (drop (length (scopes u)) (drop 1 xs)))
-
-append_parts : {A : Type 0} (xs us ys vs : List A) → length xs ≡ length us → xs ++ ys ≡ us ++ vs → (xs ≡ us) × (ys ≡ vs)
-append_parts [] [] ys vs n h = (refl, h)
-append_parts [] (u ∷ us) ys vs n h = absurd (omega arith)
-append_parts (x ∷ xs) [] ys vs n h = absurd (omega arith)
-append_parts (x ∷ xs) (u ∷ us) ys vs n h =
-    let p : x ≡ u = cc in
-    let q : xs ++ ys ≡ us ++ vs = cc in
-    let r = append_parts xs us ys vs (omega arith) q in
-    (λ i. p i ∷ r.0 i, r.1)
 
 -- twins have one outline with the same own names, and so have no other nodes
 pub owns_twins : (bs cs : List ℕ) (u v : Tree) (xs ys : List ℕ) → outlined u ≡ outlined v → owns_of bs u xs ≡ owns_of cs v ys → AreTwins bs cs u v xs ys

@@ -1,6 +1,7 @@
 -- The laws of a node with two fields, from those of its fields, and of a variant, from that of what it holds.
 use Rattle.std.specs.Prelude.{◌≡◌, ℕ, suc, List, [], ◌∷◌, ◌++◌, length, refl, Bool, true, false, IsTrue, ◌↔◌, ◌&&◌}
 use Rattle.std.proofs.Common.{arith, ap, sym, ◌∙◌, length-append}
+use Rattle.slotted_theory.proofs.Lists.{append_parts}
 use Rattle.slotted_languages.specs.Form.{Form, Tree, leaf, own, child, bind, join, scopes, variant, join_form}
 use Rattle.slotted_languages.specs.Joined.{scopes-join}
 use Rattle.slotted_languages.specs.Equal.{cons_parts, form_ext, tree_child, tree_bind}
@@ -17,16 +18,6 @@ pub record AreAlike (f g : Form) : Type 0 where
   pub same_operator : f.operator ≡ g.operator
   pub as_many_payloads : length f.payloads ≡ length g.payloads
   pub as_many_arguments : side_by_side f.tree ≡ side_by_side g.tree
-
--- lists that begin with lists of one length
-append_parts : {A : Type 0} (xs us ys vs : List A) → length xs ≡ length us → xs ++ ys ≡ us ++ vs → (xs ≡ us) × (ys ≡ vs)
-append_parts [] [] ys vs n h = (refl, h)
-append_parts [] (u ∷ us) ys vs n h = absurd (omega (arith, n))
-append_parts (x ∷ xs) [] ys vs n h = absurd (omega (arith, n))
-append_parts (x ∷ xs) (u ∷ us) ys vs n h =
-    let p = cons_parts x u (xs ++ ys) (us ++ vs) h in
-    let q = append_parts xs us ys vs (omega (arith, n)) p.1 in
-    (let e = p.0 in let f = q.0 in cc, q.1)
 
 -- trees that begin with trees of as many arguments
 join_parts : (a b c d : Tree) → side_by_side a ≡ side_by_side c → join a b ≡ join c d → (a ≡ c) × (b ≡ d)

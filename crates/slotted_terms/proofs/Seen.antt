@@ -5,6 +5,7 @@ use Rattle.std.proofs.lemmas.List.{same_lists}
 use Rattle.slotted_theory.specs.Term.{Term}
 use Rattle.slotted_theory.specs.Nameless.{DTerm, stop, place, sub, scope, nameless_args, nameless_by}
 use Rattle.slotted_theory.specs.Shape.{number_in}
+use Rattle.slotted_theory.proofs.Lists.{append_parts}
 use Rattle.slotted_languages.specs.Form.{Form, Tree, leaf, own, child, bind, scopes, children}
 use Rattle.slotted_languages.specs.Filled.{filled, children_args}
 use Rattle.slotted_languages.specs.Outline.{outlined}
@@ -42,17 +43,6 @@ seen-append bs cs [] rs ts (suc n) e = absurd (omega arith)
 seen-append bs cs (s ∷ ss) rs ts zero e = absurd (omega arith)
 seen-append bs cs (s ∷ ss) rs [] (suc n) e = refl
 seen-append bs cs (s ∷ ss) rs (t ∷ ts) (suc n) e = ap (λ l. nameless_by (number_in s) t ∷ l) (seen-append bs cs ss rs ts n (omega arith))
-
--- equal parts of equal lists
-append_parts : {A : Type 0} (xs us ys vs : List A) → length xs ≡ length us → xs ++ ys ≡ us ++ vs → (xs ≡ us) × (ys ≡ vs)
-append_parts [] [] ys vs n h = (refl, h)
-append_parts [] (u ∷ us) ys vs n h = absurd (omega arith)
-append_parts (x ∷ xs) [] ys vs n h = absurd (omega arith)
-append_parts (x ∷ xs) (u ∷ us) ys vs n h =
-    let p : x ≡ u = cc in
-    let q : xs ++ ys ≡ us ++ vs = cc in
-    let r = append_parts xs us ys vs (omega arith) q in
-    (λ i. p i ∷ r.0 i, r.1)
 
 module _ (bs cs : List ℕ) where
   -- children in a row

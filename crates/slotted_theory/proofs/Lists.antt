@@ -1,5 +1,5 @@
 -- What a list contains.
-use Rattle.std.proofs.Common.{◌≡◌, ℕ, zero, suc, ◌<◌, List, [], ◌∷◌, length, get_or, sym, ◌∙◌, ap, refl, arith, inl, inr}
+use Rattle.std.proofs.Common.{◌≡◌, ℕ, zero, suc, ◌<◌, List, [], ◌∷◌, ◌++◌, length, get_or, sym, ◌∙◌, ap, refl, arith, inl, inr}
 use Rattle.std.specs.Prelude.{Contains, map, max, ◌+◌, ◌⊎◌}
 
 pub contains_head : {X : Type 0} (x : X) (xs : List X) → Contains (x ∷ xs) x
@@ -55,3 +55,14 @@ Contains-below (y ∷ ys) x c = elim (contains_cases y ys x c) [
   | inl e ↦ omega arith
   | inr h ↦ let l : x < above ys = Contains-below ys x h in omega arith
 ]
+
+-- lists that begin with lists of one length are equal part by part
+pub append_parts : {A : Type 0} (xs us ys vs : List A) → length xs ≡ length us → xs ++ ys ≡ us ++ vs → (xs ≡ us) × (ys ≡ vs)
+append_parts [] [] ys vs n h = (refl, h)
+append_parts [] (u ∷ us) ys vs n h = absurd (omega arith)
+append_parts (x ∷ xs) [] ys vs n h = absurd (omega arith)
+append_parts (x ∷ xs) (u ∷ us) ys vs n h =
+    let p : x ≡ u = cc in
+    let q : xs ++ ys ≡ us ++ vs = cc in
+    let r = append_parts xs us ys vs (omega arith) q in
+    (λ i. p i ∷ r.0 i, r.1)
