@@ -37,7 +37,7 @@ composite-agrees A B C e = λ i. filter_map (λ p. option_map (λ u. (p.0, u)) (
 
 -- no value stands twice
 
-among_is : (m : List (ℕ × ℕ)) (v : ℕ) → is_among v (values m) ≡ true → HasValue m v
+pub among_is : (m : List (ℕ × ℕ)) (v : ℕ) → is_among v (values m) ≡ true → HasValue m v
 among_is [] v h = absurd (false≢true h)
 among_is (p ∷ m) v h = elim (cases_eq p.1 v) [
   | inl e ↦ inl (sym e)

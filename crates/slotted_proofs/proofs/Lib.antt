@@ -1,6 +1,7 @@
 -- The lemmas that callers and the functions of this crate cite.
 pub mod Printing
 pub mod Bridges
+pub mod SentOn
 pub mod NumberedSides
 pub mod Written
 pub mod Listed

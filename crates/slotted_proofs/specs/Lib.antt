@@ -1,4 +1,5 @@
 pub mod Equations
+pub mod Fresh
 pub mod Entries
 pub mod Proving
 pub mod Stored

@@ -3,14 +3,17 @@ ghost use Rattle.std.specs.Prelude.{◌≡◌, ◌++◌, ◌+◌, ◌^◌, ◌�
 ghost use Rattle.std.specs.Ordering.{nat_cmp};
 ghost use Rattle.slotted_theory.specs.FiniteMaps.{IsInjectiveMap};
 ghost use Rattle.slotted_slots.specs.Error.{IsOutOfMemory, IsShortage};
-ghost use Rattle.slotted_slots.specs.Maps.{KnowsAll, all_differ, composed, is_among, values};
+ghost use Rattle.slotted_slots.specs.Maps.{IsInEither, KnowsAll, all_differ, composed, is_among, values};
 ghost use Rattle.slotted_slots.specs.Sets.{set_of};
+ghost use Rattle.slotted_slots.specs.Table.{KnowsMore, Takes};
 ghost use Rattle.slotted_model.specs.Applied.{keys};
 ghost use Rattle.slotted_model.specs.Correspondence.{IsPartialInjection, same_names, turned};
 ghost use Rattle.slotted_proofs.specs.Equations.{to_applied, statement_of, turned_statement, composite_statement, Meets, IsWritten};
+ghost use Rattle.slotted_proofs.specs.Fresh.{IsSentOn};
+ghost use Rattle.slotted_proofs.specs.Steps.{HasInjectiveSides};
 
 use crate::numbering::{composite, numbered, numbered_by, shared_names};
-use slotted_slots::{AppliedId, Error, Slot, SlotMap, SmallHashSet};
+use slotted_slots::{AppliedId, Error, Slot, SlotMap, SlotTable, SmallHashSet};
 use std::alloc::Global;
 
 mod showing;
@@ -61,6 +64,36 @@ impl Equation {
             l: self.l.apply_slotmap(alloc, m)?,
             r: self.r.apply_slotmap(alloc, m)?,
         })
+    }
+
+    /// The equation with each name sent on by `m`, which keeps apart those of each side that it knows. The others become slots that
+    /// were never made before: one for each name, the same on both sides.
+    pub fn apply_slotmap_fresh(
+        &self,
+        alloc: Global,
+        m: &SlotMap,
+        table: &mut SlotTable,
+    ) -> Result<Equation, Error>
+        requires left { IsInjectiveMap self.now.l.m }
+        requires right { IsInjectiveMap self.now.r.m }
+        requires left_apart { IsTrue (all_differ (values (composed self.now.l.m m.now))) }
+        requires right_apart { IsTrue (all_differ (values (composed self.now.r.m m.now))) }
+        ensures sent { IfOk result (IsSentOn table.old table.new m.now self.now) }
+        ensures injective { IfOk result HasInjectiveSides }
+
+        // The table went on to make slots, and is else as it was. What it knows in addition is a name of the answer, or one of the
+        // equation or of the map.
+        ensures taken { IfOk result (λ e. Takes table.old table.new (IsInEither (values e.l.m ++ values e.r.m) ((values self.now.l.m ++ values self.now.r.m) ++ values m.now))) }
+        ensures names { table.new.names ≡ table.old.names }
+        ensures more { KnowsMore table.old table.new }
+        ensures full { IsErrOf result Error.OutOfSlots → table.new.fresh ≡ 2 ^ 30 }
+        ensures only { IfErr result IsShortage }
+    {
+        let names = self.slots(alloc)?;
+        let own = SlotMap::identity(alloc, &names)?;
+        let completed = own.compose_fresh(alloc, m, table)?;
+        let sent = self.apply_slotmap(alloc, &completed)?;
+        Ok(sent)
     }
 
     /// The slot of the right class, for each slot of the left one that carries one name with it.

@@ -1,6 +1,7 @@
 //! Worked equations: numbered names, the steps, and each call once where it goes well.
 ghost use Rattle.std.specs.Prelude.{IfOk};
 ghost use Rattle.slotted_theory.specs.FiniteMaps.{IsInjectiveMap};
+ghost use Rattle.slotted_proofs.specs.Steps.{HasInjectiveSides};
 
 use crate::{Equation, Proof, ProofLines, ProofList, ProvenEq};
 use slotted_slots::{AppliedId, Error, Id, SlotMap, SlotTable};
@@ -29,6 +30,33 @@ fn sample(alloc: Global) -> Result<Equation, Error>
     let l = applied(alloc, 7, &[(1, 30), (2, 20)])?;
     let r = applied(alloc, 9, &[(4, 20), (5, 10)])?;
     Ok(Equation { l, r })
+}
+
+// The equation sent on by a map that keeps apart what it knows of each side.
+fn sent_on(
+    alloc: Global,
+    e: &Equation,
+    m: &SlotMap,
+    table: &mut SlotTable,
+) -> Result<Equation, Error>
+    requires left { IsInjectiveMap e.now.l.m }
+    requires right { IsInjectiveMap e.now.r.m }
+    ensures { IfOk result HasInjectiveSides }
+{
+    let left = e.l.m.compose_partial(alloc, m)?;
+    let right = e.r.m.compose_partial(alloc, m)?;
+    if !left.is_bijection() || !right.is_bijection() {
+        return Err(Error::BadStep);
+    }
+    e.apply_slotmap_fresh(alloc, m, table)
+}
+
+// The map has this numeric slot at a place, and a fresh one at another.
+fn has_numeric_and_fresh(map: &SlotMap, i: usize, name: u32, k: usize) -> bool {
+    if i >= map.len() || k >= map.len() {
+        return false;
+    }
+    map.value_at(i).raw() / 4 == name && map.value_at(k).raw() % 4 == 1
 }
 
 // The map has these numeric slots as its values.
@@ -126,6 +154,16 @@ fn names_are_numbered_as_they_occur(rt: HostRuntime) -> Result<(), Error> {
 fn sides_are_exchanged(rt: HostRuntime) -> Result<(), Error> {
     let turned = sample(rt.alloc())?.turned(rt.alloc())?;
     assert!(rt; is_equation(&turned, (9, &[0, 1]), (7, &[2, 0])));
+    Ok(())
+}
+
+#[test]
+fn a_name_without_a_value_becomes_one_fresh_slot(rt: HostRuntime) -> Result<(), Error> {
+    let mut table = SlotTable::new(rt.alloc());
+    let on = applied(rt.alloc(), 0, &[(30, 8)])?.m;
+    let sent = sent_on(rt.alloc(), &sample(rt.alloc())?, &on, &mut table)?;
+    assert!(rt; has_numeric_and_fresh(&sent.l.m, 0, 8, 1));
+    assert!(rt; is_equation(&sent.numbered(rt.alloc())?, (7, &[0, 1]), (9, &[1, 2])));
     Ok(())
 }
 

@@ -1,0 +1,184 @@
+-- A map of names that is completed by fresh slots knows all names, and keeps apart what the map itself keeps apart.
+use Rattle.std.proofs.Common.{◌≡◌, ℕ, true, false, not, List, [], ◌∷◌, ◌++◌, get_or, Option, Some, None, refl, sym, ap, subst, inl, inr, ◌∙◌}
+use Rattle.std.specs.Prelude.{◌⊎◌, Contains}
+use Rattle.std.proofs.lemmas.Bool.{cases_Bool, and_parts, and_from, true≢false, not-true}
+use Rattle.slotted_theory.specs.FiniteMaps.{IsInjectiveMap}
+use Rattle.slotted_slots.specs.Ascending.{IsAscending}
+use Rattle.slotted_slots.specs.Combining.{IsCompleted}
+use Rattle.slotted_slots.specs.Maps.{IsInEither, KnowsAll, keys, values, value_of, is_among, all_differ, composed, doubled, with_first}
+use Rattle.slotted_slots.specs.Table.{Table, Takes}
+use Rattle.slotted_slots.proofs.Ascending.{is_among-set_of, IsAscending-set_of}
+use Rattle.slotted_slots.proofs.CombiningLaws.{is_some-value_of, is_among-at}
+use Rattle.slotted_slots.proofs.FreshLaws.{among_second}
+use Rattle.slotted_slots.proofs.MapLaws.{is_among-cons, is_among-first, is_among-more, is_among-value_of, is_among-key, value_of-doubled}
+use Rattle.slotted_slots.proofs.MapLemmas.{keys-doubled}
+use Rattle.slotted_slots.proofs.Taken.{takes_as, among_first}
+use Rattle.slotted_model.proofs.Correspondences.FullMaps.{at_HasValue, keys-in_order}
+use Rattle.slotted_model.proofs.Correspondences.PartialInjections.{value_of-in_order}
+use Rattle.slotted_proofs.specs.declared.equation.Equation.{Equation as Sides}
+use Rattle.slotted_proofs.specs.Fresh.{names_of}
+use Rattle.slotted_proofs.proofs.Bridges.{among_is, injective_differ, value_of-model, slots-once}
+
+-- each of the numbers has itself
+own_name : (xs : List ℕ) (v : ℕ) → is_among v xs ≡ true → value_of (doubled xs) v ≡ Some v
+own_name xs v there = value_of-doubled xs v ∙ rw there refl
+
+values-doubled : (xs : List ℕ) → values (doubled xs) ≡ xs
+values-doubled [] = refl
+values-doubled (x ∷ xs) = ap (λ r. x ∷ r) (values-doubled xs)
+
+-- a map knows the numbers that are among its keys
+knows_keys : (c : List (ℕ × ℕ)) (names xs : List ℕ) → keys c ≡ names → ((v : ℕ) → is_among v xs ≡ true → is_among v names ≡ true) → KnowsAll c xs
+knows_keys c names xs ks within k d lt =
+    is_some-value_of c (get_or xs k d) ∙ (ap (is_among (get_or xs k d)) ks ∙ within (get_or xs k d) (is_among-at xs k d lt))
+
+-- what is sent on comes from a value of the first map
+among_composed : (a c : List (ℕ × ℕ)) (s : ℕ) → is_among s (values (composed a c)) ≡ true → (v : ℕ) × (is_among v (values a) ≡ true) × (value_of c v ≡ Some s)
+among_composed [] c s there = absurd (true≢false (sym there))
+among_composed (p ∷ a) c s there = by (value_of c p.1) refl there (λ rest. later (among_composed a c s rest))
+  where
+    later : (v : ℕ) × (is_among v (values a) ≡ true) × (value_of c v ≡ Some s) → (v : ℕ) × (is_among v (values (p ∷ a)) ≡ true) × (value_of c v ≡ Some s)
+    later found = (found.0, is_among-more found.0 p.1 (values a) found.1, found.2)
+
+    by : (o : Option ℕ) → value_of c p.1 ≡ o → is_among s (values (with_first p.0 o (composed a c))) ≡ true → (is_among s (values (composed a c)) ≡ true → (v : ℕ) × (is_among v (values (p ∷ a)) ≡ true) × (value_of c v ≡ Some s)) → (v : ℕ) × (is_among v (values (p ∷ a)) ≡ true) × (value_of c v ≡ Some s)
+    by (Some w) found here rest = elim (is_among-cons s w (values (composed a c)) here) [
+      | inl same ↦ (p.1, is_among-first p.1 p.1 (values a) refl, found ∙ ap Some same)
+      | inr further ↦ rest further
+    ]
+    by None found here rest = rest here
+
+-- and each value of the first map that the second knows is sent on
+sent_among : (a c : List (ℕ × ℕ)) (v s : ℕ) → is_among v (values a) ≡ true → value_of c v ≡ Some s → is_among s (values (composed a c)) ≡ true
+sent_among [] c v s there found = absurd (true≢false (sym there))
+sent_among (p ∷ a) c v s there found = by (value_of c p.1) refl (is_among-cons v p.1 (values a) there) (λ further. sent_among a c v s further found)
+  where
+    by : (o : Option ℕ) → value_of c p.1 ≡ o → (p.1 ≡ v) ⊎ (is_among v (values a) ≡ true) → (is_among v (values a) ≡ true → is_among s (values (composed a c)) ≡ true) → is_among s (values (with_first p.0 o (composed a c))) ≡ true
+    by (Some w) own (inl here) rest =
+        let same : Some w ≡ Some s = sym own ∙ (ap (value_of c) here ∙ found) in
+        is_among-first s w (values (composed a c)) (cc)
+    by None own (inl here) rest =
+        let same : None ≡ Some s = sym own ∙ (ap (value_of c) here ∙ found) in
+        absurd (cc)
+    by (Some w) own (inr further) rest = is_among-more s w (values (composed a c)) (rest further)
+    by None own (inr further) rest = rest further
+
+-- a value stands at a key
+value_has_key : (c : List (ℕ × ℕ)) → IsAscending (keys c) → (z : ℕ) → is_among z (values c) ≡ true → (k : ℕ) × (value_of c k ≡ Some z)
+value_has_key c up z there =
+    let at : (k : ℕ) × Contains c (k, z) = at_HasValue c z (among_is c z there) in
+    (at.0, value_of-model c at.0 ∙ value_of-in_order (keys c) c (keys-in_order c (slots-once (keys c) up)) at.0 z at.1)
+
+among_either : (xs ys : List ℕ) (z : ℕ) → is_among z (xs ++ ys) ≡ true → IsInEither xs ys z
+among_either [] ys z there = inr there
+among_either (x ∷ xs) ys z there = elim (is_among-cons z x (xs ++ ys) there) [
+  | inl here ↦ inl (is_among-first z x xs here)
+  | inr rest ↦ elim (among_either xs ys z rest) [
+    | inl further ↦ inl (is_among-more z x xs further)
+    | inr second ↦ inr second
+  ]
+]
+
+module _ (old new : Table) (names : List ℕ) (m c : List (ℕ × ℕ)) (completed : IsCompleted old new (doubled names) m c) where
+  -- a name that m sends on and one that m lacks are not sent to one slot
+  clash : (v w x s : ℕ) → is_among v names ≡ true → is_among w names ≡ true → value_of c v ≡ Some s → value_of c w ≡ Some s → value_of m v ≡ Some x → value_of m w ≡ None → ⊥
+  clash v w x s hv hw ev ew f g =
+      let known : value_of m v ≡ Some s = f ∙ (sym (completed.sent v v x (own_name names v hv) f) ∙ ev) in
+      let made = completed.made w w s (own_name names w hw) g ew in
+      true≢false (sym (among_second (values (doubled names)) (values m) s (is_among-value_of m v s known)) ∙ made.unused)
+
+  -- two names are sent to one slot only where m sends them there
+  sent_alike : (v w s : ℕ) → is_among v names ≡ true → is_among w names ≡ true → value_of c v ≡ Some s → value_of c w ≡ Some s → (v ≡ w) ⊎ ((value_of m v ≡ Some s) × (value_of m w ≡ Some s))
+  sent_alike v w s hv hw ev ew = by (value_of m v) (value_of m w) refl refl
+    where
+      by : (o q : Option ℕ) → value_of m v ≡ o → value_of m w ≡ q → (v ≡ w) ⊎ ((value_of m v ≡ Some s) × (value_of m w ≡ Some s))
+      by (Some x) (Some y) f g = inr (
+        f ∙ (sym (completed.sent v v x (own_name names v hv) f) ∙ ev),
+        g ∙ (sym (completed.sent w w y (own_name names w hw) g) ∙ ew),
+      )
+      by (Some x) None f g = absurd (clash v w x s hv hw ev ew f g)
+      by None (Some y) f g = absurd (clash w v y s hw hv ew ev g f)
+      by None None f g = inl (completed.apart v w v w s (own_name names v hv) f (own_name names w hw) g ev ew)
+
+  -- a side whose names are different keeps them different, if m does
+  stays_apart : (a : List (ℕ × ℕ)) → ((v : ℕ) → is_among v (values a) ≡ true → is_among v names ≡ true) → all_differ (values a) ≡ true → all_differ (values (composed a m)) ≡ true → all_differ (values (composed a c)) ≡ true
+  stays_apart [] within once apart = refl
+  stays_apart (p ∷ a) within once apart =
+      let parts = and_parts (not (is_among p.1 (values a))) (all_differ (values a)) once in
+      by (value_of c p.1) refl (not-true _ parts.0) (stays_apart a further parts.1 (rest (value_of m p.1) apart))
+    where
+      further : (v : ℕ) → is_among v (values a) ≡ true → is_among v names ≡ true
+      further v there = within v (is_among-more v p.1 (values a) there)
+
+      rest : (o : Option ℕ) → all_differ (values (with_first p.0 o (composed a m))) ≡ true → all_differ (values (composed a m)) ≡ true
+      rest (Some w) differ = (and_parts (not (is_among w (values (composed a m)))) (all_differ (values (composed a m))) differ).1
+      rest None differ = differ
+
+      first : (s : ℕ) → value_of m p.1 ≡ Some s → is_among s (values (composed a m)) ≡ false
+      first s e =
+          let differ : all_differ (s ∷ values (composed a m)) ≡ true = subst (λ o. all_differ (values (with_first p.0 o (composed a m))) ≡ true) e apart in
+          not-true _ (and_parts (not (is_among s (values (composed a m)))) (all_differ (values (composed a m))) differ).0
+
+      away : (s : ℕ) → value_of c p.1 ≡ Some s → is_among p.1 (values a) ≡ false → is_among s (values (composed a c)) ≡ true → ⊥
+      away s found alone there =
+          let back = among_composed a c s there in
+          elim (sent_alike p.1 back.0 s (within p.1 (is_among-first p.1 p.1 (values a) refl)) (further back.0 back.1) found back.2) [
+            | inl same ↦ true≢false (sym back.1 ∙ subst (λ v. is_among v (values a) ≡ false) same alone)
+            | inr sent ↦ true≢false (sym (sent_among a m back.0 s back.1 sent.1) ∙ first s sent.0)
+          ]
+
+      by : (o : Option ℕ) → value_of c p.1 ≡ o → is_among p.1 (values a) ≡ false → all_differ (values (composed a c)) ≡ true → all_differ (values (with_first p.0 o (composed a c))) ≡ true
+      by (Some s) found alone differ = and_from _ _ (elim (cases_Bool (is_among s (values (composed a c)))) [
+        | inl there ↦ absurd (away s found alone there)
+        | inr missing ↦ ap not missing
+      ]) differ
+      by None found alone differ = differ
+
+-- a map from the names of an equation, completed by fresh slots
+module _ (old new : Table) (e : Sides) (m own c : List (ℕ × ℕ)) (is_own : own ≡ doubled (names_of e)) (sent : IsCompleted old new own m c) where
+  completed : IsCompleted old new (doubled (names_of e)) m c
+  completed = subst (λ d. IsCompleted old new d m c) is_own sent
+
+  its_keys : keys c ≡ names_of e
+  its_keys = completed.same_keys ∙ keys-doubled (names_of e)
+
+  members : (v : ℕ) → is_among v (names_of e) ≡ is_among v (values e.l.m ++ values e.r.m)
+  members v = is_among-set_of v (values e.l.m ++ values e.r.m)
+
+  left_within : (v : ℕ) → is_among v (values e.l.m) ≡ true → is_among v (names_of e) ≡ true
+  left_within v there = members v ∙ among_first (values e.l.m) (values e.r.m) v there
+
+  right_within : (v : ℕ) → is_among v (values e.r.m) ≡ true → is_among v (names_of e) ≡ true
+  right_within v there = members v ∙ among_second (values e.l.m) (values e.r.m) v there
+
+  pub left_known : KnowsAll c (values e.l.m)
+  left_known = knows_keys c (names_of e) (values e.l.m) its_keys left_within
+
+  pub right_known : KnowsAll c (values e.r.m)
+  right_known = knows_keys c (names_of e) (values e.r.m) its_keys right_within
+
+  pub left_stays : IsInjectiveMap e.l.m → all_differ (values (composed e.l.m m)) ≡ true → all_differ (values (composed e.l.m c)) ≡ true
+  left_stays once apart = stays_apart old new (names_of e) m c completed e.l.m left_within (injective_differ e.l.m once) apart
+
+  pub right_stays : IsInjectiveMap e.r.m → all_differ (values (composed e.r.m m)) ≡ true → all_differ (values (composed e.r.m c)) ≡ true
+  right_stays once apart = stays_apart old new (names_of e) m c completed e.r.m right_within (injective_differ e.r.m once) apart
+
+  -- a slot that something is sent to is a name of a side that was sent on
+  sent_to : (z : ℕ) → is_among z (values c) ≡ true → is_among z (values (composed e.l.m c) ++ values (composed e.r.m c)) ≡ true
+  sent_to z made =
+      let key : (k : ℕ) × (value_of c k ≡ Some z) = value_has_key c (subst IsAscending (sym its_keys) (IsAscending-set_of (values e.l.m ++ values e.r.m))) z made in
+      let name : is_among key.0 (names_of e) ≡ true = ap (is_among key.0) (sym its_keys) ∙ is_among-key c key.0 z key.1 in
+      elim (among_either (values e.l.m) (values e.r.m) key.0 (sym (members key.0) ∙ name)) [
+        | inl left ↦ among_first (values (composed e.l.m c)) (values (composed e.r.m c)) z (sent_among e.l.m c key.0 z left key.1)
+        | inr right ↦ among_second (values (composed e.l.m c)) (values (composed e.r.m c)) z (sent_among e.r.m c key.0 z right key.1)
+      ]
+
+  pub takes_sent : Takes old new (IsInEither (values c) (values own ++ values m)) → Takes old new (IsInEither (values (composed e.l.m c) ++ values (composed e.r.m c)) ((values e.l.m ++ values e.r.m) ++ values m))
+  takes_sent taken =
+      takes_as old new (IsInEither (values c) (values own ++ values m)) (IsInEither (values (composed e.l.m c) ++ values (composed e.r.m c)) ((values e.l.m ++ values e.r.m) ++ values m)) taken
+      (λ z p. elim p [
+        | inl made ↦ inl (sent_to z made)
+        | inr used ↦ elim (among_either (values own) (values m) z used) [
+          | inl name ↦ inr (among_first (values e.l.m ++ values e.r.m) (values m) z (sym (members z) ∙ (ap (is_among z) (sym (ap values is_own ∙ values-doubled (names_of e))) ∙ name)))
+          | inr sent_by ↦ inr (among_second (values e.l.m ++ values e.r.m) (values m) z sent_by)
+        ]
+      ])
