@@ -9,3 +9,10 @@ pub mod Tokenizing
 pub mod OneReading
 pub mod SomeReading
 pub mod NodeTexts
+pub mod PrintedTokens
+pub mod PrintedSlots
+pub mod PrintableTokens
+pub mod PrintablePatterns
+pub mod PrintedPatterns
+pub mod PatternsReadAgain
+pub mod SmallReadsAgain

@@ -9,3 +9,4 @@ pub mod Stack
 pub mod Reader
 pub mod Known
 pub mod Shown
+pub mod ReadAgain

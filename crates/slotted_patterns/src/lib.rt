@@ -4,6 +4,7 @@
 mod grammar;
 pub mod parse;
 pub mod pattern;
+pub mod read_again;
 pub mod show;
 mod tokens;
 
