@@ -9,3 +9,4 @@ pub mod Tokenizing
 pub mod OneReading
 pub mod SomeReading
 pub mod NodeTexts
+pub mod PatternTexts

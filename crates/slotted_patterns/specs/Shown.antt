@@ -1,11 +1,14 @@
--- What nodes print.
+-- What nodes and patterns print.
 --     part_text t e u       the text of an element, where u is the text of the child that stands in its place
 --     part_texts t es us    the texts of a node's elements, where the children have the texts us in turn
 --     node_text t es us     the text of such a node
-use Rattle.std.specs.Prelude.{ℕ, ◌+◌, List, [], ◌∷◌, ◌++◌, drop, codes, slice_index_or}
+--     pattern_text written t p the text of the pattern p, whose nodes are written as written says
+use Rattle.std.specs.Prelude.{ℕ, ◌+◌, List, [], ◌∷◌, ◌++◌, drop, codes, slice_index_or, string_bytes}
 use Rattle.slotted_slots.specs.Syntax.{Element, text, applied}
 use Rattle.slotted_slots.specs.Syntax.{name as slot}
 use Rattle.slotted_slots.specs.Table.{Table, shown_slot}
+use Rattle.slotted_patterns.specs.declared.pattern.Pattern.{Pattern, fold-Pattern}
+use Rattle.slotted_patterns.specs.declared.pattern.Pattern.TheOpen.{Pattern-F}
 
 -- a text as it is, a slot as it prints, and for an applied id the text of its child
 abbrev pub part_text : Table → Element → List ℕ → List ℕ
@@ -42,3 +45,14 @@ bracketed ps = codes "(" ++ (spaced [] ps ++ codes ")")
 -- a node with these elements and these texts of its children
 abbrev pub node_text : Table → List Element → List (List ℕ) → List ℕ
 node_text t es us = bracketed (part_texts t es us)
+
+-- one level of a pattern, with each pattern inside already seen as its text: a variable, and `b[x := t]`
+abbrev pub text_step : {L : Type 0} → (L → List Element) → Table → Pattern-F L (List ℕ) → List ℕ
+text_step written t (Pattern-F.ENode node children) = node_text t (written node) children.items
+text_step written t (Pattern-F.PVar name) = codes "?" ++ string_bytes name
+text_step written t (Pattern-F.Subst body place value) =
+    body.value ++ (codes "[" ++ (place.value ++ (codes " := " ++ (value.value ++ codes "]"))))
+
+-- a pattern
+abbrev pub pattern_text : {L : Type 0} → (L → List Element) → Table → Pattern L → List ℕ
+pattern_text {L} written t = fold-Pattern L (List ℕ) (text_step written t)
