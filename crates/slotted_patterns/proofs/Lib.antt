@@ -16,3 +16,4 @@ pub mod PrintablePatterns
 pub mod PrintedPatterns
 pub mod PatternsReadAgain
 pub mod SmallReadsAgain
+pub mod PatternTexts

@@ -4,7 +4,8 @@ use Rattle.std.specs.Prelude.{◌≡◌, ℕ, zero, suc, List, [], ◌∷◌, �
 use Rattle.slotted_theory.specs.Term.{Args, Term, done, name, child, bind}
 use Rattle.slotted_languages.specs.Form.{Form, children}
 use Rattle.slotted_patterns.specs.Shown.{node_text, total_width}
-use Rattle.slotted_slots.specs.Syntax.{Element}
+use Rattle.slotted_slots.specs.Syntax.{Element, text, applied}
+use Rattle.slotted_slots.specs.Syntax.{name as slot}
 use Rattle.slotted_slots.specs.Table.{Table}
 
 -- a term with this operator, these elements and texts of its children: the operator 0 stands where a term is missing
