@@ -3,10 +3,10 @@ ghost use Rattle.std.specs.Prelude.{IfErr};
 ghost use Rattle.slotted_slots.specs.Error.{IsOutOfMemory};
 
 use slotted_languages::Language;
+use slotted_patterns::show::node_text;
 use slotted_slots::{AppliedId, Error, Slot, SlotMap, SlotTable, SyntaxElem};
 use slotted_terms::expr::RecExpr;
 use slotted_terms::expr::printing::Printable;
-use slotted_terms::show::node_text;
 use std::alloc::Global;
 
 // The term at a path, if there is one.

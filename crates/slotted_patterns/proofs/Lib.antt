@@ -1,4 +1,4 @@
--- Lemmas on reading texts.
+-- Lemmas on reading texts, and on printing them.
 pub mod Refusals
 pub mod KnownTokens
 pub mod KnownPatterns
@@ -8,3 +8,12 @@ pub mod WholeTexts
 pub mod Tokenizing
 pub mod OneReading
 pub mod SomeReading
+pub mod NodeTexts
+pub mod PrintedTokens
+pub mod PrintedSlots
+pub mod PrintableTokens
+pub mod PrintablePatterns
+pub mod PrintedPatterns
+pub mod PatternsReadAgain
+pub mod SmallReadsAgain
+pub mod PatternTexts

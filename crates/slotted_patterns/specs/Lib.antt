@@ -8,3 +8,5 @@ pub mod Tokens
 pub mod Stack
 pub mod Reader
 pub mod Known
+pub mod Shown
+pub mod ReadAgain

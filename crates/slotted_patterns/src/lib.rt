@@ -4,6 +4,8 @@
 mod grammar;
 pub mod parse;
 pub mod pattern;
+pub mod read_again;
+pub mod show;
 mod tokens;
 
 pub use pattern::Pattern;

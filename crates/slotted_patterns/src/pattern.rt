@@ -8,6 +8,8 @@ use slotted_languages::language::Language;
 use slotted_slots::Error;
 use std::alloc::Global;
 
+pub mod printing;
+
 /// A pattern: a term with variables and substitutions in it. The child ids inside a node are ignored.
 #[derive(Drop, Debug, Clone, PartialEq, Eq, Hash)]
 pub enum Pattern<L: Language> {

@@ -1,5 +1,4 @@
 -- Lemmas on alpha-equality of expressions, and on reading texts.
-pub mod NodeTexts
 pub mod TermTexts
 pub mod Seen
 pub mod Opened

@@ -9,7 +9,8 @@ use Rattle.slotted_languages.specs.Form.{Form, Tree, leaf, own, child, bind, sco
 use Rattle.slotted_languages.specs.Filled.{filled, term_of}
 use Rattle.slotted_slots.specs.Syntax.{Element, text, name, applied}
 use Rattle.slotted_slots.specs.Table.{Table}
-use Rattle.slotted_terms.specs.Shown.{part_text, part_texts, width, total_width, node_text, bracketed, child_texts, term_text, without_id, IsWrittenAs}
+use Rattle.slotted_patterns.specs.Shown.{part_text, part_texts, width, total_width, node_text, bracketed}
+use Rattle.slotted_terms.specs.Shown.{child_texts, term_text, without_id, IsWrittenAs}
 
 -- the ids of children do not print
 part_text-without_id : (t : Table) (e : Element) (u : List ℕ) → part_text t (without_id e) u ≡ part_text t e u

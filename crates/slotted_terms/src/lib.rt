@@ -5,7 +5,6 @@ pub mod expr;
 pub mod outlines;
 pub mod parse;
 pub mod patterns;
-pub mod show;
 
 pub use expr::RecExpr;
 pub use patterns::{pattern_to_re, re_to_pattern};

@@ -9,6 +9,8 @@ mod graphs;
 #[cfg(test)]
 mod memory;
 #[cfg(test)]
+mod patterns;
+#[cfg(test)]
 mod refusals;
 #[cfg(test)]
 mod steps;

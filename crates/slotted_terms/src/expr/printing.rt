@@ -8,9 +8,9 @@ ghost use Rattle.slotted_terms.specs.Shown.{term_text, IsWrittenAs};
 ghost use Rattle.slotted_terms.specs.SmallWritten.{small_written, small_written_as};
 
 use super::RecExpr;
-use crate::show::node_text;
 use slotted_languages::language::Language;
 use slotted_languages::small::Small;
+use slotted_patterns::show::node_text;
 use slotted_slots::{Error, Show, SlotTable};
 use std::alloc::Global;
 use std::fmt;

@@ -2,7 +2,8 @@
 use Rattle.std.proofs.Common.{◌≡◌, map, string_bytes, ap, ◌∙◌}
 use Rattle.std.proofs.lemmas.List.{take_all}
 use Rattle.slotted_slots.specs.Syntax.{element_of}
-use Rattle.slotted_terms.specs.Shown.{node_text, term_text}
+use Rattle.slotted_patterns.specs.Shown.{node_text}
+use Rattle.slotted_terms.specs.Shown.{term_text}
 use Rattle.slotted_terms.proofs.TermTexts.{node_text-term}
 use Rattle.slotted_terms.proofs.expr.RecExpr.+text.Goals as goal
 

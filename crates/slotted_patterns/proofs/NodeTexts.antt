@@ -4,7 +4,7 @@ use Rattle.std.proofs.Math.Seq.{drop-nil}
 use Rattle.std.proofs.lemmas.List.{drop_more, drop_all, get_or-drop}
 use Rattle.slotted_slots.specs.Syntax.{Element}
 use Rattle.slotted_slots.specs.Table.{Table}
-use Rattle.slotted_terms.specs.Shown.{part_text, part_texts, width, spaced, bracketed}
+use Rattle.slotted_patterns.specs.Shown.{part_text, part_texts, width, spaced, bracketed}
 
 drops_add : {A : Type 0} (n m : ℕ) (xs : List A) → drop n (drop m xs) ≡ drop (m + n) xs
 drops_add n zero xs = ap (λ k. drop k xs) (omega arith)

@@ -3,9 +3,9 @@ use lib.Utf8.{encode}
 use Rattle.std.proofs.Common.{◌∷◌, [], ◌++◌, map, string_bytes, arith, refl, sym, ap, ◌∙◌}
 use Rattle.std.proofs.lemmas.List.{length-map}
 use Rattle.slotted_slots.specs.Syntax.{element_of}
-use Rattle.slotted_terms.specs.Shown.{part_texts, spaced}
-use Rattle.slotted_terms.proofs.NodeTexts.{part_texts-step, all_written, length-part_texts, bracketed-one, bracketed-other}
-use Rattle.slotted_terms.proofs.show.node_text.Goals as goal
+use Rattle.slotted_patterns.specs.Shown.{part_texts, spaced}
+use Rattle.slotted_patterns.proofs.NodeTexts.{part_texts-step, all_written, length-part_texts, bracketed-one, bracketed-other}
+use Rattle.slotted_patterns.proofs.show.node_text.Goals as goal
 
 pub loop-element-init : goal.loop-element-init
 loop-element-init c = (([], (refl, refl)), omega arith, ap (λ bs. bs ++ spaced [] (part_texts c.args.table.now (map element_of c.args.elements.now) (map string_bytes c.args.children.now))) c.new-text.ensures.bytes)

@@ -3,8 +3,8 @@ use denote.Shadow.{shadow}
 use denote.Text.{Utf8}
 use Rattle.std.proofs.Common.{◌≡◌, ◌≤◌, [], ◌++◌, map, drop, string_bytes}
 use Rattle.slotted_slots.specs.Syntax.{element_of}
-use Rattle.slotted_terms.specs.Shown.{part_texts, spaced}
-use Rattle.slotted_terms.proofs.show.node_text.Given as goal
+use Rattle.slotted_patterns.specs.Shown.{part_texts, spaced}
+use Rattle.slotted_patterns.proofs.show.node_text.Given as goal
 
 abbrev pub invariant-loop-element : goal.invariant-loop-element
 invariant-loop-element l =

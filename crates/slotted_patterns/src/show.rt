@@ -2,7 +2,7 @@
 ghost use Rattle.std.specs.Prelude.{◌≡◌, ◌≤◌, ◌++◌, map, string_bytes, slice_index_or, codes, IfOk, OnOk, IfErr};
 ghost use Rattle.slotted_slots.specs.Error.{IsOutOfMemory};
 ghost use Rattle.slotted_slots.specs.Syntax.{element_of};
-ghost use Rattle.slotted_terms.specs.Shown.{node_text, part_text, width};
+ghost use Rattle.slotted_patterns.specs.Shown.{node_text, part_text, width};
 
 use slotted_slots::{Error, Show, SlotTable, SyntaxElem};
 use std::alloc::Global;
