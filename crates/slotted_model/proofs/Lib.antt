@@ -23,6 +23,7 @@ pub mod Ordered
 pub mod Finding
 pub mod Found
 pub mod Steps
+pub mod Leaves
 pub mod FindProofs
 pub mod Entering
 pub mod Linking
