@@ -61,7 +61,7 @@ module _ (E : List (DTerm × DTerm)) (nodes : List DTerm) (can : Canonical nodes
   leaves-hold p h leaves = holds-below (suc p) p (omega arith) h leaves
 
 -- a leaf is the entry itself or a leaf of a part
-leaf_cases : {entries : List ProofEntry} {p q : ℕ} → IsLeaf entries p q → ((q ≡ p) × (step_at entries p ≡ explicit)) ⊎ ((r : ℕ) × Contains (parts_of (step_at entries p)) r × IsLeaf entries r q)
+pub leaf_cases : {entries : List ProofEntry} {p q : ℕ} → IsLeaf entries p q → ((q ≡ p) × (step_at entries p ≡ explicit)) ⊎ ((r : ℕ) × Contains (parts_of (step_at entries p)) r × IsLeaf entries r q)
 leaf_cases (here h e) = inl (refl, e)
 leaf_cases (through {r = r} c l) = inr (r, c, l)
 

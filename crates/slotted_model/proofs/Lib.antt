@@ -88,5 +88,6 @@ pub mod ExtractionExamples
 pub mod PremiseExamples
 pub mod FillingExamples
 pub mod StepExamples
+pub mod LeafExamples
 pub mod JoiningExample
 pub mod CongruenceLaws
