@@ -32,8 +32,10 @@ use Rattle.slotted_core.specs.Frames.{IsCongruentIn}
 use Rattle.slotted_core.proofs.Frames.{injective_before}
 use Rattle.slotted_core.specs.Graph.{Graph}
 use Rattle.slotted_core.specs.Image.{AreDerivable}
+use Rattle.slotted_core.specs.Leaves.{FollowsFromLeaves}
 use Rattle.slotted_core.specs.Kept.{Kept, nodes_of, proofs_of, image_of, with_proofs, EntersIn, Good, HasFreshSlots}
 use Rattle.slotted_core.proofs.Entered.{entering-good}
+use Rattle.slotted_core.proofs.LeavesOf.{good-entries_follow}
 use Rattle.slotted_core.proofs.KeptLists.{equation_at-of, length-proofs_of}
 
 -- a full id has a full map over its own keys
@@ -178,6 +180,7 @@ pub record Checked (t : Table) (k l : Kept) (e : Sides) (s : Step) (p : ℕ) : T
   pub fits : Fits (image_of k) e s
   pub accepts : (b : Bool) → Accepts (record { failed = b; table = t; image = image_of k }) (record { failed = b; table = t; image = image_of l }) (entry_by e s) p
   pub derivable : AreDerivable (image_of k) (to_applied e.l) (to_applied e.r)
+  pub leaves : FollowsFromLeaves (image_of l) p (to_applied e.l) (to_applied e.r)
 
 module _ (t : Table) (k : Kept) (good : Good k) (e : Sides) (of : IsOfFull (nodes_of k) e) (s : Step) (can : IsProvable (nodes_of k) k.proofs (by_step (statement_of e) s))
     (not_explicit : s ≢ explicit) (fits : FitsBy (image_of k) e s) (p : ℕ)
@@ -239,6 +242,9 @@ module _ (t : Table) (k : Kept) (good : Good k) (e : Sides) (of : IsOfFull (node
   after-derivable E t u listed et eu =
       Equal-derives t u (Equal-between et eu (subst (λ (F : List (DTerm × DTerm)). Equal F (term_of nodes (to_applied e.l)) (term_of nodes (to_applied e.r))) (sym listed) after-equal))
 
+  after-leaves : FollowsFromLeaves (image_of after) p (to_applied e.l) (to_applied e.r)
+  after-leaves = good-entries_follow after after-good p after-in_range (to_applied e.l) (to_applied e.r) of.left of.right (sym after-stands)
+
   pub checked : Checked t k l e s p
   checked = subst (λ (m : Kept). Checked t k m e s p) (sym enters.kept) (record {
     good = after-good;
@@ -246,6 +252,7 @@ module _ (t : Table) (k : Kept) (good : Good k) (e : Sides) (of : IsOfFull (node
     fits = (of, fits);
     accepts = after-accepts;
     derivable = after-derivable;
+    leaves = after-leaves;
   })
 
 -- the steps
@@ -303,3 +310,6 @@ module _ (r : Result ℕ Error) (b : Bool) (t : Table) (k l : Kept) (e : Sides) 
 
     pub says_derivable : IfOk r (λ _. AreDerivable g.image (to_applied e.l) (to_applied e.r))
     says_derivable = if_ok_then r (Checked t k l e s) (λ _. AreDerivable g.image (to_applied e.l) (to_applied e.r)) (λ p h. subst (λ (x : Graph). AreDerivable x.image (to_applied e.l) (to_applied e.r)) view h.derivable) c
+
+    pub says_leaves : IfOk r (λ p. FollowsFromLeaves (image_of l) p (to_applied e.l) (to_applied e.r))
+    says_leaves = if_ok_then r (Checked t k l e s) (λ p. FollowsFromLeaves (image_of l) p (to_applied e.l) (to_applied e.r)) (λ p h. h.leaves) c

@@ -1,5 +1,4 @@
 pub mod CanonicalTerms
-pub mod EarlierParts
 pub mod FreshSlots
 pub mod Rows
 pub mod NameMaps
@@ -14,6 +13,7 @@ pub mod Ids
 pub mod Chasing
 pub mod Answering
 pub mod Entered
+pub mod LeavesOf
 pub mod Checking
 pub mod Partners
 pub mod Frames

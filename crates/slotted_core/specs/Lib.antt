@@ -4,6 +4,7 @@ pub mod EntryCode
 pub mod Names
 pub mod Nodes
 pub mod Image
+pub mod Leaves
 pub mod Graph
 pub mod Checks
 pub mod Alike

@@ -5,19 +5,20 @@ use Rattle.slotted_theory.specs.Term.{Term}
 use Rattle.slotted_theory.specs.Nameless.{DTerm, nameless}
 use Rattle.slotted_theory.specs.Derives.{Derives, Equal, listed, nameless_pair}
 use Rattle.slotted_theory.proofs.Backward.{Equal-derives}
-use Rattle.slotted_theory.proofs.Lists.{Contains-of_map}
 use Rattle.slotted_model.specs.Applied.{Applied}
 use Rattle.slotted_model.specs.Classes.{canonical_slots, term_of, IsFull, Canonical}
 use Rattle.slotted_model.specs.Correspondence.{same_names, composite, turned, IsPartialInjection, CanJoin, IsNumberedForm}
 use Rattle.slotted_model.specs.Filling.{IsValid, IsFilling}
 use Rattle.slotted_model.specs.Find.{Entry, entry_at, IsLive, find_class, find_map, used_slots, find, Linked}
-use Rattle.slotted_model.specs.ProofList.{Equation, Step, ProofEntry, explicit, reflexive, symmetric, transitive, congruent, equation_of, turned_equation, IsOver, HoldsFrom, IsTransitive, equation_at, step_at, IsStepFor, Proved, left_side, right_side, term_pair, if_explicit, asserted, entry_equation, find_equation, Exact}
+use Rattle.slotted_model.specs.Leaves.{HasLeaves}
+use Rattle.slotted_model.specs.ProofList.{Equation, ProofEntry, explicit, equation_of, turned_equation, IsOver, HoldsFrom, IsTransitive, equation_at, step_at, Proved, left_side, right_side, term_pair, if_explicit, asserted, entry_equation, find_equation, Exact}
 use Rattle.slotted_model.proofs.Correspondences.Pairs.{Contains-filter_map}
 use Rattle.slotted_model.proofs.Correspondences.PartialInjections.{turned-partial, turned-turned, turned-composite}
 use Rattle.slotted_model.proofs.Correspondences.FullIds.{slots-different, full_map, full_id}
 use Rattle.slotted_model.proofs.Correspondences.Joining.{composite-can_join, bridge}
 use Rattle.slotted_model.proofs.Correspondences.Numbers.{numbered-form}
-use Rattle.slotted_model.proofs.Steps.{Equal-between, one_is_enough, reflexive-sound, symmetric-sound, transitive-sound, congruent-sound}
+use Rattle.slotted_model.proofs.Steps.{Equal-between, one_is_enough, symmetric-sound, transitive-sound}
+use Rattle.slotted_model.proofs.Leaves.{leaf-explicit, leaves-hold}
 use Rattle.slotted_model.proofs.Finding.{Leads, leads, along, find_class-follows, find_map-follows, find_class-live, find_map-live, found-in_range, find_map-partial}
 use Rattle.slotted_model.proofs.Found.{filling-found}
 
@@ -45,28 +46,12 @@ contains-get_or (x ∷ xs) zero d h = (0, omega arith, refl)
 contains-get_or (x ∷ xs) (suc k) d h = let c : Contains xs (get_or xs k d) = contains-get_or xs k d (omega arith) in (suc c.0, omega (arith, c.1), c.2)
 
 -- each entry of a proved list holds, if the explicit ones do
-module _ (E : List (DTerm × DTerm)) (nodes : List DTerm) (can : Canonical nodes) (proofs : List ProofEntry) (proved : Proved nodes proofs)
-    (explicit_hold : (p : ℕ) → p < length proofs → step_at proofs p ≡ explicit → HoldsFrom E nodes (equation_at proofs p)) where
-  step-holds : (p : ℕ) → p < length proofs → ((q : ℕ) → q < p → HoldsFrom E nodes (equation_at proofs q)) → (s : Step) → step_at proofs p ≡ s → IsStepFor nodes proofs p (equation_at proofs p) s → HoldsFrom E nodes (equation_at proofs p)
-  step-holds p h earlier explicit e c = explicit_hold p h e
-  step-holds p h earlier reflexive e c = reflexive-sound E nodes (equation_at proofs p) c
-  step-holds p h earlier (symmetric q) e c = symmetric-sound E nodes (equation_at proofs p) (equation_at proofs q) c.1 (earlier q c.0)
-  step-holds p h earlier (transitive q r) e c =
-      let lq : q < p = c.0 in
-      let lr : r < p = c.1 in
-      transitive-sound E nodes (equation_at proofs p) (equation_at proofs q) (equation_at proofs r) (proved.over q (omega arith)) (proved.over r (omega arith)) c.2 (earlier q lq) (earlier r lr)
-  step-holds p h earlier (congruent qs) e c =
-      congruent-sound E nodes can (equation_at proofs p) (map (equation_at proofs) qs) c.1
-      (λ q k.
-      let r : (x : ℕ) × Contains qs x × (equation_at proofs x ≡ q) = Contains-of_map (equation_at proofs) qs q k in
-      subst (HoldsFrom E nodes) r.2 (earlier r.0 (c.0 r.0 r.1)))
+pub entry-holds : (E : List (DTerm × DTerm)) (nodes : List DTerm) → Canonical nodes → (proofs : List ProofEntry) → Proved nodes proofs → ((p : ℕ) → p < length proofs → step_at proofs p ≡ explicit → HoldsFrom E nodes (equation_at proofs p)) → (p : ℕ) → p < length proofs → HoldsFrom E nodes (equation_at proofs p)
+entry-holds E nodes can proofs proved explicit_hold p h = leaves-hold E nodes can proofs proved p h (λ q l. explicit_hold q (leaf-explicit l).0 (leaf-explicit l).1)
 
-  holds-below : (n p : ℕ) → p < n → p < length proofs → HoldsFrom E nodes (equation_at proofs p)
-  holds-below zero p b h = absurd (omega arith)
-  holds-below (suc n) p b h = step-holds p h (λ q l. holds-below n q (omega arith) (omega arith)) (step_at proofs p) refl (proved.steps p h)
-
-  pub entry-holds : (p : ℕ) → p < length proofs → HoldsFrom E nodes (equation_at proofs p)
-  entry-holds p h = holds-below (suc p) p (omega arith) h
+-- an entry of a proved list holds from each list that has its leaves
+pub leaves-enough : (E : List (DTerm × DTerm)) (nodes : List DTerm) → Canonical nodes → (proofs : List ProofEntry) → Proved nodes proofs → (p : ℕ) → p < length proofs → HasLeaves E nodes proofs p → HoldsFrom E nodes (equation_at proofs p)
+leaves-enough E nodes can proofs proved p h has = leaves-hold E nodes can proofs proved p h (λ q l. listed-holds E nodes can (equation_at proofs q) (proved.over q (leaf-explicit l).0) (has q l))
 
 -- the pair of an explicit entry is asserted
 pub asserted-contains : (nodes : List DTerm) (proofs : List ProofEntry) (p : ℕ) → p < length proofs → step_at proofs p ≡ explicit → Contains (asserted nodes proofs) (term_pair nodes (equation_at proofs p))
@@ -77,10 +62,13 @@ asserted-contains nodes proofs p h e =
     (contains-get_or proofs p (record { equation = record { left = 0; right = 0; pairs = [] }; step = explicit }) h)
     (ap (λ s. if_explicit s (term_pair nodes (equation_at proofs p))) e)
 
+-- so the asserted list has the leaves of each entry
+pub asserted-leaves : (nodes : List DTerm) (proofs : List ProofEntry) (p : ℕ) → HasLeaves (asserted nodes proofs) nodes proofs p
+asserted-leaves nodes proofs p q l = asserted-contains nodes proofs q (leaf-explicit l).0 (leaf-explicit l).1
+
 -- each entry of a proved list holds from the asserted list
 pub proved-holds : (nodes : List DTerm) → Canonical nodes → (proofs : List ProofEntry) → Proved nodes proofs → (p : ℕ) → p < length proofs → HoldsFrom (asserted nodes proofs) nodes (equation_at proofs p)
-proved-holds nodes can proofs proved = entry-holds (asserted nodes proofs) nodes can proofs proved
-    (λ p h e. listed-holds (asserted nodes proofs) nodes can (equation_at proofs p) (proved.over p h) (asserted-contains nodes proofs p h e))
+proved-holds nodes can proofs proved p h = leaves-enough (asserted nodes proofs) nodes can proofs proved p h (asserted-leaves nodes proofs p)
 
 -- what a find says
 module _ (nodes : List DTerm) (found : List Entry) (linked : Linked nodes found) where

@@ -23,6 +23,7 @@ pub mod Ordered
 pub mod Finding
 pub mod Found
 pub mod Steps
+pub mod Leaves
 pub mod FindProofs
 pub mod Entering
 pub mod Linking
@@ -87,5 +88,6 @@ pub mod ExtractionExamples
 pub mod PremiseExamples
 pub mod FillingExamples
 pub mod StepExamples
+pub mod LeafExamples
 pub mod JoiningExample
 pub mod CongruenceLaws

@@ -12,6 +12,7 @@ pub mod Correspondence
 pub mod CorrespondenceClaims
 pub mod Find
 pub mod ProofList
+pub mod Leaves
 pub mod Link
 pub mod Sound
 pub mod SoundnessClaims

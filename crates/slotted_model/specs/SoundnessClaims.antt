@@ -12,6 +12,7 @@ use Rattle.slotted_model.specs.Correspondence.{composite, identity}
 use Rattle.slotted_model.specs.Filling.{IsValid, IsFilling}
 use Rattle.slotted_model.specs.Find.{Entry, entry_at, IsLive, find_class, find_map, used_slots, find, Linked}
 use Rattle.slotted_model.specs.ProofList.{Equation, ProofEntry, explicit, reflexive, equation_of, turned_equation, IsOver, HoldsFrom, IsReflexive, IsSymmetric, IsTransitive, IsCongruent, equation_at, step_at, Proved, left_side, right_side, term_pair, if_explicit, asserted, entry_equation, find_equation, node_of}
+use Rattle.slotted_model.specs.Leaves.{IsLeaf, HasLeaves}
 use Rattle.slotted_model.specs.Normal.{normal, IsFound, IsCongruentByFinds, HasNormalTwin}
 use Rattle.slotted_model.specs.Link.{CanEnter, found_equation, half_found_equation, CanLink, IsLater, with_link, CanDrop, with_slots, kept_equation, with_shortcut, reflexive_equation, with_new_entry, Refines}
 use Rattle.slotted_model.specs.Explained.{Explained}
@@ -103,6 +104,28 @@ StepsAreSound =
     (E : List (DTerm × DTerm)) (nodes : List DTerm) → Canonical nodes → (proofs : List ProofEntry) → Proved nodes proofs →
     ((p : ℕ) → p < length proofs → step_at proofs p ≡ explicit → HoldsFrom E nodes (equation_at proofs p)) →
     (p : ℕ) → p < length proofs → HoldsFrom E nodes (equation_at proofs p)
+
+-- an entry follows from its explicit leaves alone: it holds from each list that has their pairs
+abbrev pub LeavesAreEnough : Type 0
+LeavesAreEnough =
+    (E : List (DTerm × DTerm)) (nodes : List DTerm) → Canonical nodes → (proofs : List ProofEntry) → Proved nodes proofs →
+    (p : ℕ) → p < length proofs → HasLeaves E nodes proofs p → HoldsFrom E nodes (equation_at proofs p)
+
+-- leaves are asserted
+abbrev pub LeavesAreAsserted : Type 0
+LeavesAreAsserted = (nodes : List DTerm) (proofs : List ProofEntry) (p : ℕ) → HasLeaves (asserted nodes proofs) nodes proofs p
+
+-- an entry has finitely many leaves: some list has just these
+abbrev pub LeavesAreListed : Type 0
+LeavesAreListed =
+    (nodes : List DTerm) (proofs : List ProofEntry) → Proved nodes proofs → (p : ℕ) → p < length proofs →
+    (leaves : List ℕ) × ((q : ℕ) → Contains leaves q ↔ IsLeaf proofs p q)
+
+-- and they stay as the list grows
+abbrev pub LeavesStay : Type 0
+LeavesStay =
+    (nodes : List DTerm) (proofs : List ProofEntry) → Proved nodes proofs → (more : List ProofEntry) (p q : ℕ) → p < length proofs →
+    IsLeaf proofs p q ↔ IsLeaf (proofs ++ more) p q
 
 -- all entries hold from the asserted list
 abbrev pub EntriesHold : Type 0
@@ -384,6 +407,10 @@ pub record SoundnessLaws : Type 0 where
   pub transitive_is_sound : TransitiveIsSound
   pub congruent_is_sound : CongruentIsSound
   pub steps_are_sound : StepsAreSound
+  pub leaves_are_enough : LeavesAreEnough
+  pub leaves_are_asserted : LeavesAreAsserted
+  pub leaves_are_listed : LeavesAreListed
+  pub leaves_stay : LeavesStay
   pub entries_hold : EntriesHold
   pub live_finds_are_entries : LiveFindsAreEntries
   pub finds_are_proved_along : FindsAreProvedAlong

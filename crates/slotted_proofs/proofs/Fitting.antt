@@ -9,7 +9,9 @@ use Rattle.slotted_theory.proofs.Values.{node, child_before}
 use Rattle.slotted_model.specs.Applied.{Applied, keys, as_term, applied_of, IsApplied, EachChild}
 use Rattle.slotted_model.specs.Classes.{canonical_slots, IsFull}
 use Rattle.slotted_model.specs.Correspondence.{IsFullMap, CanJoin, same_names, turned}
-use Rattle.slotted_model.specs.ProofList.{Equation, equation_of, AreCongruent, no_more, one_name, one_child, one_binder, node_of, IsCongruent, congruent, explicit, step_at, ProofEntry, IsOver, IsTransitive, IsStepFor, Step, reflexive, symmetric, transitive, equation_at}
+use Rattle.slotted_model.specs.ProofList.{Equation, equation_of, AreCongruent, no_more, one_name, one_child, one_binder, node_of, IsCongruent, congruent, step_at, IsOver, IsTransitive, IsStepFor, Step, reflexive, symmetric, transitive, equation_at}
+use Rattle.slotted_model.specs.Leaves.{parts_of}
+use Rattle.slotted_model.proofs.Leaves.{parts-earlier}
 use Rattle.slotted_model.proofs.Children.{EachChild-map}
 use Rattle.slotted_model.proofs.Congruence.{child-applied}
 use Rattle.slotted_model.proofs.Full.{full-children}
@@ -22,7 +24,6 @@ use Rattle.slotted_proofs.specs.Entries.{Proven, entries_of, proven_at, statemen
 use Rattle.slotted_proofs.specs.Proving.{IsCanonical, IsProvable}
 use Rattle.slotted_proofs.specs.Steps.{AreEntries, AreFull, HasInjectiveSides, IsEntry, Matches, IsReflexiveStep, IsSymmetricStep, IsTransitiveStep, by_step}
 use Rattle.slotted_proofs.specs.StepClaims.{IsOfFull, MatchIsOneStatement, CongruentStepProves, PartsStandEarlier}
-use Rattle.slotted_proofs.specs.Lines.{parts_of}
 use Rattle.slotted_proofs.specs.AlikeNodes.{AreAlikeArgs}
 use Rattle.slotted_proofs.proofs.Entering.{equation_at-entries, length-entries}
 use Rattle.slotted_proofs.proofs.Stepping.{matches-state, state-matches, entry-states, left_full, middle_full}
@@ -208,24 +209,8 @@ step_at-entries [] p = refl
 step_at-entries (x ∷ list) zero = refl
 step_at-entries (x ∷ list) (suc p) = step_at-entries list p
 
-step-earlier : (nodes : List DTerm) (proofs : List ProofEntry) (p q : ℕ) (e : Equation) (s : Step) → IsStepFor nodes proofs p e s → Contains (parts_of s) q → q < p
-step-earlier nodes proofs p q e explicit h c = absurd (Contains-nil q c)
-step-earlier nodes proofs p q e reflexive h c = absurd (Contains-nil q c)
-step-earlier nodes proofs p q e (symmetric r) h c = elim (contains_cases r [] q c) [
-  | inl d ↦ let k : r < p = h.0 in omega arith
-  | inr n ↦ absurd (Contains-nil q n)
-]
-step-earlier nodes proofs p q e (transitive r s) h c = elim (contains_cases r (s ∷ []) q c) [
-  | inl d ↦ let k : r < p = h.0 in omega arith
-  | inr n ↦ elim (contains_cases s [] q n) [
-    | inl d ↦ let k : s < p = h.1 in omega arith
-    | inr m ↦ absurd (Contains-nil q m)
-  ]
-]
-step-earlier nodes proofs p q e (congruent ps) h c = h.0 q c
-
 pub parts_earlier : PartsStandEarlier
 parts_earlier nodes list proved p l =
     let n : length (entries_of list) ≡ length list = length-entries list in
     let parts : List ℕ = parts_of (proven_at list p).step in
-    λ k d m. step-earlier nodes (entries_of list) p (slice_index_or parts k d) (equation_at (entries_of list) p) (step_at (entries_of list) p) (proved.proved.steps p (omega arith)) (subst (λ s. Contains (parts_of s) (slice_index_or parts k d)) (sym (step_at-entries list p)) (All-contains_itself parts k d m))
+    λ k d m. parts-earlier nodes (entries_of list) p (equation_at (entries_of list) p) (step_at (entries_of list) p) (proved.proved.steps p (omega arith)) (slice_index_or parts k d) (subst (λ s. Contains (parts_of s) (slice_index_or parts k d)) (sym (step_at-entries list p)) (All-contains_itself parts k d m))

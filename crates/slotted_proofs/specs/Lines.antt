@@ -1,17 +1,10 @@
 -- The order of lines in which a proof is printed: each entry that it stands on once, parts first, depth first.
 use Rattle.std.specs.Prelude.{◌≡◌, ℕ, ◌<◌, List, [], ◌∷◌, ◌++◌, length, All, Option, Some, None, Bool, true, false, cond, nat_eq}
 use Rattle.std.specs.List.{list_any}
-use Rattle.slotted_model.specs.ProofList.{Step, explicit, reflexive, symmetric, transitive, congruent}
+use Rattle.slotted_model.specs.Leaves.{parts_of}
 use Rattle.slotted_proofs.specs.Entries.{Proven, proven_at}
 
--- the entries that a step names, in its order
-abbrev pub parts_of : Step → List ℕ
-parts_of explicit = []
-parts_of reflexive = []
-parts_of (symmetric p) = p ∷ []
-parts_of (transitive p q) = p ∷ q ∷ []
-parts_of (congruent ps) = ps
-
+-- the entries that the step of an entry names, in its order
 abbrev pub parts_at : List Proven → ℕ → List ℕ
 parts_at list p = parts_of (proven_at list p).step
 

@@ -11,6 +11,7 @@ ghost use Rattle.slotted_proofs.specs.Lines.{PartsAreEarlier};
 ghost use Rattle.slotted_proofs.specs.Proving.{IsProved};
 ghost use Rattle.slotted_core.specs.Canonical.{HasLargeNode};
 ghost use Rattle.slotted_core.specs.Graph.{IsValidId};
+ghost use Rattle.slotted_core.specs.Leaves.{EntriesFollow};
 ghost use Rattle.slotted_core.specs.Nodes.{to_applied};
 
 use super::EGraph;
@@ -75,6 +76,9 @@ impl<L: Language, N: Drop> EGraph<L, N> {
         // slots of their classes.
         ensures proved { IsTrue self.now.failed ⊎ IsProved self.now.image.canonical self.now.image.stored }
         ensures earlier { IsTrue self.now.failed ⊎ PartsAreEarlier self.now.image.stored }
+
+        // So what an entry says follows from the explicit leaves of its tree.
+        ensures leaves { IsTrue self.now.failed ⊎ EntriesFollow self.now.image }
     {
         self.core.proofs()
     }

@@ -5,6 +5,7 @@ ghost use Rattle.slotted_proofs.specs.Equations.{to_applied};
 ghost use Rattle.slotted_proofs.specs.Steps.{IsRefusal};
 ghost use Rattle.slotted_core.specs.Checks.{Fits, CanRunOut, Accepts, entry_by};
 ghost use Rattle.slotted_core.specs.Image.{AreDerivable};
+ghost use Rattle.slotted_core.specs.Leaves.{FollowsFromLeaves};
 
 use crate::egraph::EGraph;
 use slotted_languages::Language;
@@ -34,6 +35,9 @@ pub trait Check {
         // What stands at the answered number follows from what was asserted.
         ensures accepted { IfOk result (Accepts graph.old graph.new (entry_by equation.now (step self.now))) }
         ensures derivable { IfOk result (λ _. AreDerivable graph.old.image (to_applied equation.now.l) (to_applied equation.now.r)) }
+
+        // And from the explicit leaves of its own tree alone.
+        ensures leaves { IfOk result (λ p. FollowsFromLeaves graph.new.image p (to_applied equation.now.l) (to_applied equation.now.r)) }
 
         ensures err { OnErr result (graph.new ≡ graph.old) }
         ensures failed { IsErrOf result Error.Failed ↔ IsTrue graph.old.failed }

@@ -3,7 +3,8 @@ use Rattle.slotted_model.proofs.Correspondences.Pairs.{Contains-value, Contains-
 use Rattle.slotted_model.proofs.Finding.{leads, find_class-live, find_map-live, find_class-follows, find_map-follows}
 use Rattle.slotted_model.proofs.Found.{found-class_live, found-slots, found-valid, found-again, found-renamed, found-same, found-name, full-is_valid, filling-found}
 use Rattle.slotted_model.proofs.Steps.{one_is_enough, reflexive-sound, symmetric-sound, transitive-sound, congruent-sound}
-use Rattle.slotted_model.proofs.FindProofs.{left_side-full, right_side-full, sides-equation, entry-holds, proved-holds, find_equation-live, find_equation-follows, find_equation-composite, found_alike-join, found_alike-equal, found_alike-derivable}
+use Rattle.slotted_model.proofs.Leaves.{leaves-listed, leaves-stay}
+use Rattle.slotted_model.proofs.FindProofs.{left_side-full, right_side-full, sides-equation, entry-holds, leaves-enough, asserted-leaves, proved-holds, find_equation-live, find_equation-follows, find_equation-composite, found_alike-join, found_alike-equal, found_alike-derivable}
 use Rattle.slotted_model.proofs.Entering.{entered-asserted, equation-last, equation-earlier}
 use Rattle.slotted_model.proofs.NewClasses.{later-newer, valid-newer, find-same}
 use Rattle.slotted_model.proofs.Explaining.{found_alike-explained, find_equation-explained, found_equation-explained, by_finds-explained}
@@ -39,6 +40,10 @@ returns c = record {
   transitive_is_sound = transitive-sound;
   congruent_is_sound = congruent-sound;
   steps_are_sound = entry-holds;
+  leaves_are_enough = leaves-enough;
+  leaves_are_asserted = asserted-leaves;
+  leaves_are_listed = leaves-listed;
+  leaves_stay = leaves-stay;
   entries_hold = proved-holds;
   live_finds_are_entries = find_equation-live;
   finds_are_proved_along = λ nodes found l i h. (find_equation-follows nodes found l i h, find_equation-composite nodes found l i h);

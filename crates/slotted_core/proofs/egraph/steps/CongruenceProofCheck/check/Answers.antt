@@ -8,7 +8,7 @@ use Rattle.slotted_core.specs.Kept.{Good, HasFreshSlots, EntersIn, nodes_of}
 use Rattle.slotted_proofs.specs.Equations.{statement_of}
 use Rattle.slotted_proofs.specs.Steps.{by_step}
 use Rattle.slotted_proofs.specs.StepClaims.{IsOfFull}
-use Rattle.slotted_core.proofs.Checking.{both_ok, Checked, congruent_checked, congruent_refused, kept_good, says_refused, says_fits, says_accepted, says_derivable}
+use Rattle.slotted_core.proofs.Checking.{both_ok, Checked, congruent_checked, congruent_refused, kept_good, says_refused, says_fits, says_accepted, says_derivable, says_leaves}
 use Rattle.slotted_core.proofs.egraph.steps.CongruenceProofCheck.check.Goals as goal
 
 pub invariant_of-graph : goal.invariant_of-graph
@@ -78,3 +78,17 @@ returns-clause-derivable g c =
     let ok = subst (λ qs. IfOk r (EntersIn k l (by_step (statement_of e) (congruent qs)))) c.in_ok-copy.ensures.ok c.check_congruent.ensures.ok in
     let checked = both_ok r (λ p. IsOfFull (nodes_of k) e × IsCongruentIn k e ps) (EntersIn k l (by_step (statement_of e) (congruent ps))) (Checked t k l e (congruent ps)) (λ p f x. congruent_checked t k l e ps p h.0 f x) fits ok in
     says_derivable r c.graph.inside.failed t k l e (congruent ps) c.args.graph.now c.graph.view_is checked
+
+pub returns-clause-leaves : goal.returns-clause-leaves
+returns-clause-leaves g c =
+    let k = c.graph.inside.core in
+    let e = c.args.equation.now in
+    let t = c.graph.inside.table in
+    let r = c.check_congruent.result in
+    let l = c.check_congruent.new.self in
+    let ps = c.args.self.now.0.items in
+    let h : Good k × HasFreshSlots t k = elim c.graph.invariant [ inl h ↦ absurd (false≢true (sym c.if-graph.false ∙ h)) | inr h ↦ h ] in
+    let fits = subst (λ qs. IfOk r (λ _. IsOfFull (nodes_of k) e × IsCongruentIn k e qs)) c.in_ok-copy.ensures.ok c.check_congruent.ensures.fits in
+    let ok = subst (λ qs. IfOk r (EntersIn k l (by_step (statement_of e) (congruent qs)))) c.in_ok-copy.ensures.ok c.check_congruent.ensures.ok in
+    let checked = both_ok r (λ p. IsOfFull (nodes_of k) e × IsCongruentIn k e ps) (EntersIn k l (by_step (statement_of e) (congruent ps))) (Checked t k l e (congruent ps)) (λ p f x. congruent_checked t k l e ps p h.0 f x) fits ok in
+    says_leaves r c.graph.inside.failed t k l e (congruent ps) c.args.graph.now c.graph.view_is checked

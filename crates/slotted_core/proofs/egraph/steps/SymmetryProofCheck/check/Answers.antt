@@ -6,7 +6,7 @@ use Rattle.slotted_proofs.specs.Equations.{statement_of}
 use Rattle.slotted_proofs.specs.Steps.{IsSymmetricStep, by_step}
 use Rattle.slotted_proofs.specs.StepClaims.{IsOfFull}
 use Rattle.slotted_core.specs.Kept.{nodes_of}
-use Rattle.slotted_core.proofs.Checking.{both_ok, Checked, symmetric_checked, symmetric_refused, kept_good, says_refused, says_fits, says_accepted, says_derivable}
+use Rattle.slotted_core.proofs.Checking.{both_ok, Checked, symmetric_checked, symmetric_refused, kept_good, says_refused, says_fits, says_accepted, says_derivable, says_leaves}
 use Rattle.slotted_core.proofs.egraph.steps.SymmetryProofCheck.check.Goals as goal
 
 pub invariant_of-graph : goal.invariant_of-graph
@@ -63,3 +63,14 @@ returns-clause-derivable g c =
     let h : Good k × HasFreshSlots t k = elim c.graph.invariant [ inl h ↦ absurd (false≢true (sym c.if-graph.false ∙ h)) | inr h ↦ h ] in
     let checked = both_ok r (λ p. IsOfFull (nodes_of k) e × IsSymmetricStep k.proofs e c.args.self.now.0) (EntersIn k l (by_step (statement_of e) (symmetric c.args.self.now.0))) (Checked t k l e (symmetric c.args.self.now.0)) (λ p f x. symmetric_checked t k l e c.args.self.now.0 p h.0 f x) c.check_symmetric.ensures.fits c.check_symmetric.ensures.ok in
     says_derivable r c.graph.inside.failed t k l e (symmetric c.args.self.now.0) c.args.graph.now c.graph.view_is checked
+
+pub returns-clause-leaves : goal.returns-clause-leaves
+returns-clause-leaves g c =
+    let k = c.graph.inside.core in
+    let e = c.args.equation.now in
+    let t = c.graph.inside.table in
+    let r = c.check_symmetric.result in
+    let l = c.check_symmetric.new.self in
+    let h : Good k × HasFreshSlots t k = elim c.graph.invariant [ inl h ↦ absurd (false≢true (sym c.if-graph.false ∙ h)) | inr h ↦ h ] in
+    let checked = both_ok r (λ p. IsOfFull (nodes_of k) e × IsSymmetricStep k.proofs e c.args.self.now.0) (EntersIn k l (by_step (statement_of e) (symmetric c.args.self.now.0))) (Checked t k l e (symmetric c.args.self.now.0)) (λ p f x. symmetric_checked t k l e c.args.self.now.0 p h.0 f x) c.check_symmetric.ensures.fits c.check_symmetric.ensures.ok in
+    says_leaves r c.graph.inside.failed t k l e (symmetric c.args.self.now.0) c.args.graph.now c.graph.view_is checked

@@ -1,0 +1,12 @@
+-- What the entries of a good graph say follows from their leaves alone.
+use Rattle.std.specs.Prelude.{map}
+use Rattle.slotted_theory.specs.Derives.{nameless_pair}
+use Rattle.slotted_theory.proofs.Backward.{Equal-derives}
+use Rattle.slotted_model.proofs.FindProofs.{leaves-enough}
+use Rattle.slotted_model.proofs.Steps.{Equal-between}
+use Rattle.slotted_core.specs.Kept.{Kept, Good, nodes_of, proofs_of, image_of}
+use Rattle.slotted_core.specs.Leaves.{EntriesFollow}
+
+pub good-entries_follow : (k : Kept) → Good k → EntriesFollow (image_of k)
+good-entries_follow k good p h a b fa fb e E t u has et eu =
+    Equal-derives t u (Equal-between et eu (leaves-enough (map nameless_pair E) (nodes_of k) good.sound.canonical (proofs_of k) good.sound.proved p h has a b fa fb e))
