@@ -9,3 +9,4 @@ pub mod Itself
 pub mod Stepping
 pub mod Fitting
 pub mod Lining
+pub mod LineLeaves
