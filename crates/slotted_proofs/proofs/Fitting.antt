@@ -204,7 +204,7 @@ congruent_fits nodes list e children parts canonical full once alike entries =
 
 -- parts stand earlier
 
-step_at-entries : (list : List Proven) (p : ℕ) → step_at (entries_of list) p ≡ (proven_at list p).step
+pub step_at-entries : (list : List Proven) (p : ℕ) → step_at (entries_of list) p ≡ (proven_at list p).step
 step_at-entries [] p = refl
 step_at-entries (x ∷ list) zero = refl
 step_at-entries (x ∷ list) (suc p) = step_at-entries list p

@@ -10,3 +10,4 @@ pub mod Itself
 pub mod Stepping
 pub mod Fitting
 pub mod Lining
+pub mod LineLeaves

@@ -62,7 +62,7 @@ first-is_new lines (x ∷ ps) q e = elim (first-cases lines ps x (Some q) e) [
 ]
 
 -- a part stands earlier
-before_it : (list : List Proven) → PartsAreEarlier list → (p q : ℕ) → p < length list → Contains (parts_at list p) q → q < p
+pub before_it : (list : List Proven) → PartsAreEarlier list → (p q : ℕ) → p < length list → Contains (parts_at list p) q → q < p
 before_it list earlier p q l c = All-contains (λ x. x < p) (parts_at list p) q (earlier p l) c
 
 module _ (list : List Proven) where
@@ -80,7 +80,7 @@ module _ (list : List Proven) where
   after_passed t (next f a r) = absurd (false≢true (sym f ∙ t))
 
   -- lines stay
-  kept : {lines ps end : List ℕ} → Lines list lines ps end → (x : ℕ) → has_line lines x ≡ true → has_line end x ≡ true
+  pub kept : {lines ps end : List ℕ} → Lines list lines ps end → (x : ℕ) → has_line lines x ≡ true → has_line end x ≡ true
   kept all x h = h
   kept (passed e r) x h = kept r x h
   kept (next {before = b} {p = p} f a r) x h = kept r x (line-kept b p x (kept a x h))

@@ -1,15 +1,16 @@
 -- The laws of steps that fit: what they enter is proved. All are owed by `step_laws_hold` in src/laws.rt.
-use Rattle.std.specs.Prelude.{All, ◌≡◌, ◌↔◌, ℕ, List}
+use Rattle.std.specs.Prelude.{All, ◌≡◌, ◌↔◌, ◌<◌, ℕ, true, List, [], ◌∷◌, length}
 use Rattle.slotted_theory.specs.Nameless.{DTerm}
 use Rattle.slotted_model.specs.Applied.{Applied, keys}
 use Rattle.slotted_model.specs.Classes.{canonical_node, IsFull, Canonical}
 use Rattle.slotted_model.specs.Correspondence.{IsFullMap}
-use Rattle.slotted_model.specs.ProofList.{congruent, reflexive, symmetric, transitive}
+use Rattle.slotted_model.specs.ProofList.{congruent, explicit, reflexive, symmetric, transitive}
+use Rattle.slotted_model.specs.Leaves.{IsLeaf}
 use Rattle.slotted_proofs.specs.declared.equation.Equation.{Equation as Sides}
 use Rattle.slotted_proofs.specs.Equations.{to_applied, equality, statement_of}
-use Rattle.slotted_proofs.specs.Entries.{Proven}
+use Rattle.slotted_proofs.specs.Entries.{Proven, entries_of, proven_at}
 use Rattle.slotted_proofs.specs.Proving.{IsProvable, IsProved}
-use Rattle.slotted_proofs.specs.Lines.{PartsAreEarlier}
+use Rattle.slotted_proofs.specs.Lines.{Lines, PartsAreEarlier, has_line}
 use Rattle.slotted_proofs.specs.AlikeNodes.{AreAlikeNodes}
 use Rattle.slotted_proofs.specs.Steps.{AreEntries, HasInjectiveSides, Matches, IsReflexiveStep, IsSymmetricStep, IsTransitiveStep, by_step}
 
@@ -53,6 +54,12 @@ CongruentStepProves =
 abbrev pub PartsStandEarlier : Type 0
 PartsStandEarlier = (nodes : List DTerm) (list : List Proven) → IsProved nodes list → PartsAreEarlier list
 
+-- the explicit entries that have a line in the proof of an entry are the explicit leaves of its tree
+abbrev pub ExplicitLinesAreLeaves : Type 0
+ExplicitLinesAreLeaves =
+    (list : List Proven) → PartsAreEarlier list → (p : ℕ) (lines : List ℕ) → p < length list → Lines list [] (p ∷ []) lines →
+    (q : ℕ) → IsLeaf (entries_of list) p q ↔ ((has_line lines q ≡ true) × ((proven_at list q).step ≡ explicit))
+
 -- all these laws
 pub record StepLaws : Type 0 where
   pub match_is_one_statement : MatchIsOneStatement
@@ -61,3 +68,4 @@ pub record StepLaws : Type 0 where
   pub transitive_step_proves : TransitiveStepProves
   pub congruent_step_proves : CongruentStepProves
   pub parts_stand_earlier : PartsStandEarlier
+  pub explicit_lines_are_leaves : ExplicitLinesAreLeaves

@@ -1,3 +1,4 @@
+use Rattle.slotted_proofs.proofs.LineLeaves.{explicit_lines}
 use Rattle.slotted_proofs.proofs.Fitting.{match_is_one_statement, reflexive_fits, symmetric_fits, transitive_fits, congruent_fits, parts_earlier}
 use Rattle.slotted_proofs.proofs.laws.step_laws_hold.Goals as goal
 
@@ -9,4 +10,5 @@ returns c = record {
   transitive_step_proves = λ nodes list e p q full h. transitive_fits nodes list e full p q h;
   congruent_step_proves = congruent_fits;
   parts_stand_earlier = parts_earlier;
+  explicit_lines_are_leaves = explicit_lines;
 }
