@@ -10,12 +10,13 @@ use Rattle.slotted_model.specs.ProofList.{equation_of, turned_equation, asserted
 use Rattle.slotted_model.proofs.Entering.{entered-asserted}
 use Rattle.slotted_model.proofs.Steps.{equation-turned}
 use Rattle.slotted_proofs.specs.Equations.{Statement}
-use Rattle.slotted_proofs.specs.Entries.{Proven, entry_of, Enters, asserted_entry, turned_entry}
+use Rattle.slotted_proofs.specs.Entries.{Proven, entry_of, Stands, Enters, asserted_entry, turned_entry}
 use Rattle.slotted_proofs.specs.Proving.{IsProvable}
 use Rattle.slotted_proofs.proofs.Entering.{asserted_provable, new_can_enter, turned_provable, entering_proved, entering_sound, entered_stands, others_assert_nothing}
-use Rattle.slotted_core.specs.Image.{StandsIn, Asserts, asserted_in}
+use Rattle.slotted_core.specs.Image.{StandsIn, Asserts, Records, asserted_in}
 use Rattle.slotted_core.specs.Kept.{Kept, nodes_of, entries_of, proofs_of, image_of, with_proofs, EntersIn, Good, IsAsserted}
 use Rattle.slotted_core.proofs.Entered.{entered-more}
+use Rattle.slotted_core.proofs.Recorded.{records-stood, records-last, records-more}
 use Rattle.slotted_core.proofs.KeptLists.{equation_at-of, length-mapped, length-proofs_of}
 
 module _ (k : Kept) (good : Good k) (a b : Applied) (fa : IsFull (nodes_of k) a) (fb : IsFull (nodes_of k) b) (text : Option (List ℕ)) where
@@ -28,10 +29,14 @@ module _ (k : Kept) (good : Good k) (a b : Applied) (fa : IsFull (nodes_of k) a)
   can : IsProvable nodes k.proofs x
   can = asserted_provable nodes k.proofs a b text fa fb
 
+  stood-in : (p : ℕ) → Stands k.proofs x.statement p → StandsIn (image_of k) (equation_of a b)
+  stood-in p stood =
+      let n : length (proofs_of k) ≡ length k.proofs = length-proofs_of k in
+      (p, omega (arith, stood.in_range), equation_at-of k.proofs p ∙ ap (λ (s : Statement). s.equation) stood.statement)
+
   asserts-list : (ps : List Proven) (p : ℕ) → Enters k.proofs ps x p → (StandsIn (image_of k) (equation_of a b) × (asserted nodes (map entry_of ps) ≡ asserted_in (image_of k))) ⊎ ((¬ StandsIn (image_of k) (equation_of a b)) × (asserted nodes (map entry_of ps) ≡ asserted_in (image_of k) ++ term_pair nodes (equation_of a b) ∷ []))
   asserts-list ps p enters = elim enters.grows [
-    | inl h ↦
-        inl ((p, (let n : length (proofs_of k) ≡ length k.proofs = length-proofs_of k in let l : p < length k.proofs = h.0.in_range in omega arith), equation_at-of k.proofs p ∙ ap (λ (s : Statement). s.equation) h.0.statement), ap (λ qs. asserted nodes (map entry_of qs)) h.1)
+    | inl h ↦ inl (stood-in p h.0, ap (λ qs. asserted nodes (map entry_of qs)) h.1)
     | inr h ↦
         let new : CanEnter nodes (proofs_of k) (entry_of x) = new_can_enter nodes k.proofs good.proved x can h.0 in
         inr ((λ s. new.is_new s.0 s.1 s.2), longer h.2)
@@ -39,6 +44,12 @@ module _ (k : Kept) (good : Good k) (a b : Applied) (fa : IsFull (nodes_of k) a)
     where
       longer : ps ≡ k.proofs ++ x ∷ [] → asserted nodes (map entry_of ps) ≡ asserted_in (image_of k) ++ term_pair nodes (equation_of a b) ∷ []
       longer e = ap (λ qs. asserted nodes (map entry_of qs)) e ∙ (ap (asserted nodes) (map-append entry_of k.proofs (x ∷ [])) ∙ entered-asserted nodes (proofs_of k) (entry_of x))
+
+  recorded : (ps : List Proven) (p : ℕ) → Enters k.proofs ps x p → Records (image_of k) (image_of (with_proofs k ps)) x
+  recorded ps p enters = elim enters.grows [
+    | inl h ↦ records-stood (image_of k) (image_of (with_proofs k ps)) x (stood-in p h.0) h.1
+    | inr h ↦ records-last (image_of k) (image_of (with_proofs k ps)) x h.2
+  ]
 
   -- as it stands
   pub asserted-straight : (l : Kept) (p : ℕ) → EntersIn k l x p → IsAsserted k l x a b p
@@ -51,6 +62,7 @@ module _ (k : Kept) (good : Good k) (a b : Applied) (fa : IsFull (nodes_of k) a)
     proved = entering_proved nodes k.proofs e.proofs x p good.proved can e.enters;
     in_range = e.enters.stands.in_range;
     equation = ap (λ (s : Statement). s.equation) e.enters.stands.statement;
+    records = recorded e.proofs p e.enters;
     asserts = record {
       number = p;
       in_range = (entered_stands k.proofs e.proofs x p e.enters).0;
@@ -82,6 +94,7 @@ module _ (k : Kept) (good : Good k) (a b : Applied) (fa : IsFull (nodes_of k) a)
         proved = entering_proved nodes h.proofs f.proofs y p h.proved provable.0 f.enters;
         in_range = f.enters.stands.in_range;
         equation = ap (λ (s : Statement). s.equation) f.enters.stands.statement ∙ (provable.1 ∙ (ap (turned_equation nodes) h.equation ∙ sym (equation-turned nodes a b fa fb)));
+        records = records-more (image_of k) (image_of (with_proofs k h.proofs)) (image_of (with_proofs k f.proofs)) x (subst (λ (z : Kept). Records (image_of k) (image_of z) x) em h.records) more.0 more.1;
         asserts = record {
           number = stood.number;
           in_range = let r : stood.number < length f.proofs = (kept_at stood.number here).0 in omega arith;

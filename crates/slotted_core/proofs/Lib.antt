@@ -18,6 +18,7 @@ pub mod Checking
 pub mod Partners
 pub mod Frames
 pub mod Naming
+pub mod Recorded
 pub mod Asserting
 pub mod Large
 pub mod Linked

@@ -24,10 +24,11 @@ use Rattle.slotted_proofs.specs.Entries.{Proven, entry_of, statement_at, Enters,
 use Rattle.slotted_proofs.specs.Proving.{IsProvable, IsProved}
 use Rattle.slotted_proofs.proofs.Entering.{entries_meet, turned_provable, composite_provable, entering_proved, entering_sound, entered_stands, others_assert_nothing}
 use Rattle.slotted_core.specs.Alike.{FindOneClass}
-use Rattle.slotted_core.specs.Image.{HasLargeClass, found_id, CanUnite, FoundAlike, StandsIn, Asserts, asserted_in}
+use Rattle.slotted_core.specs.Image.{HasLargeClass, found_id, CanUnite, FoundAlike, StandsIn, Asserts, Records, asserted_in}
 use Rattle.slotted_core.specs.Kept.{Kept, find_at, nodes_of, entries_of, proofs_of, image_of, with_proofs, with_linked, EntersIn, Good, Explains, Proves, IsAsserted, Links, Agrees, asserted_for}
 use Rattle.slotted_core.proofs.Entered.{entered-more, nil-append, entering-proves, explains-nothing, explains-then, explains-stands, at-append}
 use Rattle.slotted_core.proofs.InUse.{found-is_full}
+use Rattle.slotted_core.proofs.Recorded.{records-more, records-from}
 use Rattle.slotted_core.proofs.KeptLists.{length-mapped, equation_at-of, entry_at-of, length-nodes_of, length-proofs_of, found_id-is}
 use Rattle.slotted_core.proofs.Large.{entries_are_large}
 use Rattle.slotted_core.proofs.Linked.{linked-nodes, linked-length, newer, newer-alike, newer-continues, entries_are, linked-good}
@@ -303,14 +304,23 @@ module _ (k : Kept) (good : Good k) (a b : Applied) (fa : IsFull (nodes_of k) a)
         finds-first : (c : Applied) → IsFull ns c → found_id (image_of k) c ≡ find es c
         finds-first c full = found_id-is k c (let n : length ns ≡ length k.classes = length-nodes_of k in let h : c.0 < length ns = full.in_range in omega arith)
 
-        abbrev all_more : List Proven
-        all_more = said.more ++ ((entered-more ls ms (composite_entry ls p r) s half-enters).0 ++ (entered-more ms os (composite_entry ms s q) t whole-enters).0)
+        abbrev grown : List Proven
+        grown = (entered-more ls ms (composite_entry ls p r) s half-enters).0 ++ (entered-more ms os (composite_entry ms s q) t whole-enters).0
 
-        os-grows : os ≡ k.proofs ++ all_more
-        os-grows =
+        grown-is : os ≡ ls ++ grown
+        grown-is =
             let m1 = entered-more ls ms (composite_entry ls p r) s half-enters in
             let m2 = entered-more ms os (composite_entry ms s q) t whole-enters in
-            m2.1 ∙ (ap (λ ps. ps ++ m2.0) m1.1 ∙ (append_assoc ls m1.0 m2.0 ∙ (ap (λ ps. ps ++ (m1.0 ++ m2.0)) said.grows ∙ append_assoc k.proofs said.more (m1.0 ++ m2.0))))
+            m2.1 ∙ (ap (λ ps. ps ++ m2.0) m1.1 ∙ append_assoc ls m1.0 m2.0)
+
+        abbrev all_more : List Proven
+        all_more = said.more ++ grown
+
+        os-grows : os ≡ k.proofs ++ all_more
+        os-grows = grown-is ∙ (ap (λ ps. ps ++ grown) said.grows ∙ append_assoc k.proofs said.more grown)
+
+        ls-records : Records (image_of k) (image_of (with_proofs k ls)) x
+        ls-records = subst (λ (y : Kept). Records (image_of k) (image_of y) x) said.kept said.records
 
         pub linked-all : Links k last x a b
         linked-all =
@@ -327,6 +337,7 @@ module _ (k : Kept) (good : Good k) (a b : Applied) (fa : IsFull (nodes_of k) a)
                 alike = λ c d fc fd e. finds-last c fc ∙ (newer-continues k good a b fa fb differ same t c d fc fd (sym (finds-first c fc) ∙ (e ∙ finds-first d fd)) ∙ sym (finds-last d fd));
               };
               alike = finds-last a fa ∙ (newer-alike k good a b fa fb differ same t ∙ sym (finds-last b fb));
+              records = records-more (image_of k) (image_of (with_proofs k ls)) (image_of last) x ls-records grown grown-is;
               asserts = record {
                 number = ls-asserts.number;
                 in_range = let z : ls-asserts.number < length os = stood.0 in omega arith;
@@ -391,6 +402,10 @@ links-from k k2 l x a b e links differ =
         alike = links'.continues.alike;
       };
       alike = links'.alike;
+      records = records-from (image_of k) (image_of (with_proofs k e.proofs)) (image_of l) x e.more e.grows (λ w. elim (stood x.statement.equation w) [
+        | inl s ↦ s
+        | inr one ↦ absurd (differ one)
+      ]) links'.records;
       asserts = record {
         number = links'.asserts.number;
         in_range = links'.asserts.in_range;
@@ -512,6 +527,7 @@ module _ (k : Kept) (good : Good k) (a b : Applied) (l : Kept) (x : Proven) (p :
     finds = refl;
     continues = record { more = map entry_of said.more; entries = ap (map entry_of) said.grows ∙ map-append entry_of k.proofs said.more; alike = λ c d fc fd e. e };
     asserts = agreed-asserts;
+    records = subst (λ (y : Kept). Records (image_of k) (image_of y) x) said.kept said.records;
   })
 
 -- what the code tests
@@ -561,4 +577,4 @@ module _ (k : Kept) (good : Good k) (a b : Applied) (fa : IsFull (nodes_of k) a)
 
 -- a link unites the ids in either order
 pub links-turned : (k l : Kept) (x : Proven) (a b : Applied) → Links k l x a b → Links k l x b a
-links-turned k l x a b h = record { good = h.good; nodes = h.nodes; continues = h.continues; alike = sym h.alike; asserts = h.asserts }
+links-turned k l x a b h = record { good = h.good; nodes = h.nodes; continues = h.continues; alike = sym h.alike; asserts = h.asserts; records = h.records }

@@ -6,6 +6,7 @@
 --     AddsClasses g h     nothing but new classes
 --     Continues g h       what was proved and found alike stays so
 --     Asserts g h e       the equation e is asserted, if it was not proved
+--     Records g h x       x is an entry now, with its step and its text, if its equation was not proved
 --     CanUnite g a b      a and b find different classes with the same names
 --     IsUnion g h a b y   a union answers y
 --     IsNoUnion g a b     a union is refused for now
@@ -19,7 +20,7 @@ use Rattle.slotted_model.specs.Classes.{canonical_slots, term_of, IsFull}
 use Rattle.slotted_model.specs.Correspondence.{composite}
 use Rattle.slotted_model.specs.ProofList.{Equation, ProofEntry, equation_of, equation_at, term_pair, asserted}
 use Rattle.slotted_core.specs.TermCode.{nameless_code}
-use Rattle.slotted_proofs.specs.Entries.{Proven}
+use Rattle.slotted_proofs.specs.Entries.{Proven, proven_at}
 use Rattle.slotted_core.specs.EntryCode.{pairs_code, proof_entry_code, proven_code}
 
 -- the canonical node of each class, in the order of the class ids; for each class the live class that it finds, with its own slot
@@ -77,6 +78,19 @@ pub record Asserts (g h : Image) (e : Equation) : Type 0 where
   pub in_range : number < length h.entries
   pub stands : equation_at h.entries number ≡ e
   pub asserted : (StandsIn g e × (asserted_in h ≡ asserted_in g)) ⊎ ((¬ StandsIn g e) × (asserted_in h ≡ asserted_in g ++ term_pair g.canonical e ∷ []))
+
+-- x is the entry at a number past the list of g
+pub record IsNewEntry (g h : Image) (x : Proven) : Type 0 where
+  pub number : ℕ
+  pub past : length g.stored ≤ number
+  pub in_range : number < length h.stored
+  pub entry : proven_at h.stored number ≡ x
+
+-- the list with slots and texts grows at its end; and the equation of x stood in it, or x itself is a new entry
+pub record Records (g h : Image) (x : Proven) : Type 0 where
+  pub more : List Proven
+  pub stored : h.stored ≡ g.stored ++ more
+  pub entered : StandsIn g x.statement.equation ⊎ IsNewEntry g h x
 
 -- the ids find different classes with the same names
 pub record CanUnite (g : Image) (a b : Applied) : Type 0 where

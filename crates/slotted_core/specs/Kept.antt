@@ -28,7 +28,7 @@ use Rattle.slotted_proofs.specs.Proving.{IsProved}
 use Rattle.slotted_core.specs.Alike.{FindOneClass, AllInUse}
 use Rattle.slotted_core.specs.EntryCode.{entry_code, proven_code}
 use Rattle.slotted_core.specs.FormCode.{form_code, form_is}
-use Rattle.slotted_core.specs.Image.{Image, FoundAlike, CanUnite, AddsClasses, Continues, Asserts, StandsIn}
+use Rattle.slotted_core.specs.Image.{Image, FoundAlike, CanUnite, AddsClasses, Continues, Asserts, Records, StandsIn}
 use Rattle.slotted_core.specs.Names.{between, with_put}
 use Rattle.slotted_core.specs.Graph.{IsFreshBetween, HasNewClass}
 
@@ -202,6 +202,7 @@ pub record IsAsserted (k l : Kept) (x : Proven) (a b : Applied) (p : ℕ) : Type
   pub in_range : p < length proofs
   pub equation : (list.statement_at proofs p).equation ≡ equation_of a b
   pub asserts : Asserts (image_of k) (image_of l) x.statement.equation
+  pub records : Records (image_of k) (image_of l) x
 
 -- what is asserted of a and b, or turned round of b and a
 abbrev pub asserted_for : Bool → Applied → Applied → Option (List ℕ) → Proven
@@ -215,6 +216,7 @@ pub record Links (k l : Kept) (x : Proven) (a b : Applied) : Type 0 where
   pub continues : Continues (image_of k) (image_of l)
   pub alike : FoundAlike (image_of l) a b
   pub asserts : Asserts (image_of k) (image_of l) x.statement.equation
+  pub records : Records (image_of k) (image_of l) x
 
 -- the equation that x asserts is entered, and no class changes
 pub record Agrees (k l : Kept) (x : Proven) : Type 0 where
@@ -223,6 +225,7 @@ pub record Agrees (k l : Kept) (x : Proven) : Type 0 where
   pub finds : (image_of l).found ≡ (image_of k).found
   pub continues : Continues (image_of k) (image_of l)
   pub asserts : Asserts (image_of k) (image_of l) x.statement.equation
+  pub records : Records (image_of k) (image_of l) x
 
 -- what a union of a and b answers, and what it leaves: true where the ids could be united and are, false where they found alike, and
 -- no answer where they neither find alike nor can be united

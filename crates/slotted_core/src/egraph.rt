@@ -1,5 +1,5 @@
 //! The graph that callers see: a failed one refuses every later call.
-ghost use Rattle.std.specs.Prelude.{[], ◌≡◌, ◌≤◌, ◌<◌, ◌↔◌, ◌⊎◌, ◌^◌, length, false, IsTrue, IsOk, IfOk, IfErr, OnOk, IsErr, IsErrOf, IsOkUnless, IsSome, None, Some, option_map};
+ghost use Rattle.std.specs.Prelude.{[], ◌≡◌, ◌≤◌, ◌<◌, ◌↔◌, ◌⊎◌, ◌^◌, length, false, IsTrue, IsOk, IfOk, IfErr, OnOk, IsErr, IsErrOf, IsOkUnless, IsSome, None, Some, option_map, string_bytes};
 ghost use Rattle.std.specs.Str.{chars};
 ghost use Rattle.slotted_slots.specs.Error.{IsShortage};
 ghost use Rattle.slotted_slots.specs.Table.{KnowsMore};
@@ -10,11 +10,11 @@ ghost use Rattle.slotted_model.specs.Growth.{Extends};
 ghost use Rattle.slotted_model.specs.Classes.{IsFull, Canonical, term_of, layer_of};
 ghost use Rattle.slotted_model.specs.Ids.{id_of, id_of_node};
 ghost use Rattle.slotted_model.specs.ProofList.{Proved};
-ghost use Rattle.slotted_proofs.specs.Entries.{explicit_numbers};
+ghost use Rattle.slotted_proofs.specs.Entries.{asserted_entry, explicit_numbers};
 ghost use Rattle.slotted_terms.specs.Outcome.{Answers};
 ghost use Rattle.slotted_terms.specs.Parsed.{TextReads};
 ghost use Rattle.slotted_terms.specs.Valid.{IsValidTerm};
-ghost use Rattle.slotted_core.specs.Image.{no_classes, FoundAlike, asserted_in, AreDerivable, AddsClasses, IsUnion, IsNoUnion, HasLargeClass};
+ghost use Rattle.slotted_core.specs.Image.{no_classes, FoundAlike, asserted_in, AreDerivable, AddsClasses, IsUnion, IsNoUnion, Records, HasLargeClass};
 ghost use Rattle.slotted_core.specs.Graph.{IsValidId, IsValidNode, HasNewClass};
 ghost use Rattle.slotted_core.specs.Nodes.{to_applied};
 ghost use Rattle.slotted_core.specs.Places.{term_places};
@@ -260,6 +260,7 @@ impl<L: Language, N: Drop> EGraph<L, N> {
         requires left { IsTrue self.old.failed ⊎ IsValidId self.old (to_applied l.now) }
         requires right { IsTrue self.old.failed ⊎ IsValidId self.old (to_applied r.now) }
         ensures union { IfOk result (IsUnion self.old.image self.new.image (to_applied l.now) (to_applied r.now)) }
+        ensures text { OnOk result (Records self.old.image self.new.image (asserted_entry (to_applied l.now) (to_applied r.now) None)) }
         ensures table { self.new.table ≡ self.old.table }
 
         ensures not_yet { IsErrOf result Error.NotYet → IsNoUnion self.old.image (to_applied l.now) (to_applied r.now) × (self.new ≡ self.old) }
@@ -283,6 +284,10 @@ impl<L: Language, N: Drop> EGraph<L, N> {
 
         // True or false as `eq` said no or yes before. The equation then stands in the proof list, and what was there stays.
         ensures union { IfOk result (IsUnion self.old.image self.new.image (to_applied l.now) (to_applied r.now)) }
+
+        // Where it was not proved before, it is a new entry, asserted with the text.
+        ensures text { OnOk result (Records self.old.image self.new.image (asserted_entry (to_applied l.now) (to_applied r.now) (option_map string_bytes text))) }
+
         ensures table { self.new.table ≡ self.old.table }
 
         ensures not_yet { IsErrOf result Error.NotYet → IsNoUnion self.old.image (to_applied l.now) (to_applied r.now) × (self.new ≡ self.old) }
