@@ -6,7 +6,7 @@ use Rattle.std.proofs.Math.Utf8.{scalars}
 use Rattle.std.proofs.lemmas.Str.{scalars-chars}
 use Rattle.slotted_slots.specs.Syntax.{Element, text, applied, name, Lexeme}
 use Rattle.slotted_slots.specs.Table.{Table, IsTable}
-use Rattle.slotted_languages.specs.Form.{Form, children}
+use Rattle.slotted_languages.specs.Form.{Form}
 use Rattle.slotted_languages.specs.Identifier.{HasIdentifiers, HasNullIds, AreNull, HasNullChildren}
 use Rattle.slotted_languages.specs.ReadFrom.{IsReadFrom, applied_count}
 use Rattle.slotted_patterns.specs.Tree.{PatternTree, enode, row_of}
@@ -69,7 +69,7 @@ module _ {L : Type 0} (t : Table) (read : List Element → Option Form) (form : 
       (words node.elements a node.identifiers node.reads) null slots count (children_print ps h.1)
 
   level_printed : (y : Pattern-F L ((p : Pattern L) × IsPrinted p)) → Prints (tree_step form (map-Pattern L (Pattern L) PatternTree (tree_of form) (map-Pattern L ((p : Pattern L) × IsPrinted p) (Pattern L) (λ e. e.0) y))) (text_step written t (map-Pattern L (Pattern L) (List ℕ) (pattern_text written t) (map-Pattern L ((p : Pattern L) × IsPrinted p) (Pattern L) (λ e. e.0) y)))
-  level_printed (Pattern-F.ENode a children) = node_printed a children.items
+  level_printed (Pattern-F.ENode a inner) = node_printed a inner.items
   level_printed (Pattern-F.PVar v) = λ h. variable_prints t read (string_bytes v) h
   level_printed (Pattern-F.Subst body place value) = λ h.
       substitution_prints t read _ _ _ _ _ _ (body.value.1 h.0) (place.value.1 h.1) (value.value.1 h.2)
