@@ -17,6 +17,7 @@ pub mod LeavesOf
 pub mod Checking
 pub mod Partners
 pub mod Frames
+pub mod Wide
 pub mod Naming
 pub mod Recorded
 pub mod Asserting

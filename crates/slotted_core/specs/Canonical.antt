@@ -1,6 +1,8 @@
 -- Canonical nodes as they are given out.
 --     place_count d     how many names and binders stand in a nameless term
 --     HasLargeNode g    a canonical node has 2^30 places or more
+--     node_size d       how many names, binders and children stand in a node
+--     HasWideNode g     a canonical node has 2^29 of them or more
 --     IsBeside f h      h is f but for the ids of its children
 use Rattle.std.specs.Prelude.{◌≡◌, ℕ, ◌+◌, ◌^◌, ◌<◌, ◌≤◌, List, length}
 use Rattle.slotted_theory.specs.Term.{Term}
@@ -21,6 +23,19 @@ place_count d = args_count d.args
 -- the node of some class has 2^30 places or more
 abbrev pub HasLargeNode : List DTerm → Type 0
 HasLargeNode nodes = (i : ℕ) × (i < length nodes) × (2 ^ 30 ≤ place_count (canonical_node nodes i))
+
+abbrev pub args_size : DArgs → ℕ
+args_size stop = 0
+args_size (place x rest) = 1 + args_size rest
+args_size (sub op payloads args rest) = 1 + args_size args + args_size rest
+args_size (scope inner rest) = 1 + args_size inner + args_size rest
+
+abbrev pub node_size : DTerm → ℕ
+node_size d = args_size d.args
+
+-- the node of some class has 2^29 names, binders and children or more: two of its children may have too many names to be numbered
+abbrev pub HasWideNode : List DTerm → Type 0
+HasWideNode nodes = (i : ℕ) × (i < length nodes) × (2 ^ 29 ≤ node_size (canonical_node nodes i))
 
 -- operator, payloads, and what stands beside the children are the same
 pub record IsBeside (f h : Form) : Type 0 where

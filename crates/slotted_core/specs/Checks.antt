@@ -1,7 +1,7 @@
 -- Checked steps: when a step proves an equation over a graph, and what an accepted one leaves.
 --     SaysIn g p a b      the entry with the number p says, up to renaming, that a = b
 --     Fits g e s          the step s proves the equation e over the entries of the graph
---     CanRunOut e s       slots can run out
+--     CanRunOut g e s     slots can run out
 --     Accepts g h x p     the equation of x stands at p: nothing changed, or x is entered last, and nothing else changed
 use Rattle.std.specs.Prelude.{◌≡◌, ◌⊎◌, ℕ, ◌<◌, ◌≤◌, ◌+◌, ◌^◌, List, [], ◌∷◌, ◌++◌, length, slice_index_or}
 use Rattle.slotted_theory.specs.FiniteMaps.{IsInjectiveMap}
@@ -14,6 +14,7 @@ use Rattle.slotted_proofs.specs.Entries.{Proven, entry_of}
 use Rattle.slotted_proofs.specs.Equations.{to_applied, statement_of}
 use Rattle.slotted_proofs.specs.StepClaims.{IsOfFull}
 use Rattle.slotted_proofs.specs.Steps.{Matches, by_step}
+use Rattle.slotted_core.specs.Canonical.{HasWideNode}
 use Rattle.slotted_core.specs.Graph.{Graph}
 use Rattle.slotted_core.specs.Image.{Image, StandsIn}
 
@@ -59,13 +60,13 @@ HasManyNames e = 2 ^ 30 ≤ length e.l.m + length e.r.m
 abbrev pub Fits : Image → Sides → Step → Type 0
 Fits g e s = IsOfFull g.canonical e × FitsBy g e s
 
--- slots can run out where the sides have too many names, or where a step puts names into nodes, whose binders may need new ones
-abbrev pub CanRunOut : Sides → Step → Type 0
-CanRunOut e (congruent parts) = Unit {0}
-CanRunOut e explicit = HasManyNames e
-CanRunOut e reflexive = HasManyNames e
-CanRunOut e (symmetric p) = HasManyNames e
-CanRunOut e (transitive p q) = HasManyNames e
+-- slots can run out where the sides have too many names, or at a congruent step where a canonical node is wide
+abbrev pub CanRunOut : Image → Sides → Step → Type 0
+CanRunOut g e (congruent parts) = HasManyNames e ⊎ HasWideNode g.canonical
+CanRunOut g e explicit = HasManyNames e
+CanRunOut g e reflexive = HasManyNames e
+CanRunOut g e (symmetric p) = HasManyNames e
+CanRunOut g e (transitive p q) = HasManyNames e
 
 -- the entry of an equation by a step
 abbrev pub entry_by : Sides → Step → Proven

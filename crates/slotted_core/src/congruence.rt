@@ -3,10 +3,12 @@ ghost use Rattle.std.specs.Prelude.{◌≡◌, ◌⊎◌, ◌^◌, ◌+◌, ◌�
 ghost use Rattle.slotted_theory.specs.FiniteMaps.{IsInjectiveMap, value_of};
 ghost use Rattle.slotted_theory.specs.Shape.{number_in};
 ghost use Rattle.slotted_slots.specs.Error.{IsOutOfMemory, IsShortage};
+ghost use Rattle.slotted_languages.specs.NodeTerm.{nameless_node};
 ghost use Rattle.slotted_model.specs.Correspondence.{flipped, same_names};
 ghost use Rattle.slotted_proofs.specs.declared.equation.Equation.{Equation as Sides};
 ghost use Rattle.slotted_proofs.specs.Steps.{HasInjectiveSides, Matches};
 ghost use Rattle.slotted_terms.specs.Seen.{lefts, rights};
+ghost use Rattle.slotted_core.specs.Canonical.{node_size};
 ghost use Rattle.slotted_core.specs.Frames.{numbers_under, under, AreAlikeForms};
 ghost use Rattle.slotted_core.specs.Nodes.{to_applied};
 
@@ -77,6 +79,7 @@ pub(crate) fn child_equations<L: Language>(
     ensures alike { IfOk result (λ o. IfSome o (λ v. AreAlikeForms (L.form left.now) (L.form right.now) v.items)) }
     ensures injective { IfOk result (λ o. IfSome o (λ v. All HasInjectiveSides v.items)) }
     ensures none { IfOk result (λ o. IfNone o ((cs : List Sides) → All HasInjectiveSides cs → ¬ AreAlikeForms (L.form left.now) (L.form right.now) cs)) }
+    ensures full { IsErrOf result Error.OutOfSlots → (2 ^ 29 ≤ node_size (nameless_node (L.form left.now))) ⊎ (2 ^ 29 ≤ node_size (nameless_node (L.form right.now))) }
     ensures err { IfErr result IsShortage }
 {
     let Some(nodes) = Outlines::new(alloc, left, right)? else {

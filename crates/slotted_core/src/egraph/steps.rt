@@ -41,7 +41,7 @@ pub trait Check {
 
         ensures err { OnErr result (graph.new ≡ graph.old) }
         ensures failed { IsErrOf result Error.Failed ↔ IsTrue graph.old.failed }
-        ensures full { IsErrOf result Error.OutOfSlots → CanRunOut equation.now (step self.now) }
+        ensures full { IsErrOf result Error.OutOfSlots → CanRunOut graph.old.image equation.now (step self.now) }
         ensures only { IfErr result (λ e. (e ≡ Error.Failed) ⊎ IsRefusal e) };
 }
 

@@ -1,5 +1,5 @@
 //! Steps that callers ask for, over the classes of a graph.
-ghost use Rattle.std.specs.Prelude.{◌≡◌, ◌+◌, ◌^◌, ◌≤◌, length, ◌↔◌, IsTrue, IfOk, OnErr, IfErr, IsErrOf};
+ghost use Rattle.std.specs.Prelude.{◌≡◌, ◌⊎◌, ◌+◌, ◌^◌, ◌≤◌, length, ◌↔◌, IsTrue, IfOk, OnErr, IfErr, IsErrOf};
 ghost use Rattle.slotted_slots.specs.Error.{IsShortage};
 ghost use Rattle.slotted_theory.specs.FiniteMaps.{filled};
 ghost use Rattle.slotted_theory.specs.Nameless.{moved};
@@ -9,12 +9,14 @@ ghost use Rattle.slotted_model.specs.ProofList.{reflexive, symmetric, transitive
 ghost use Rattle.slotted_proofs.specs.Equations.{statement_of};
 ghost use Rattle.slotted_proofs.specs.StepClaims.{IsOfFull};
 ghost use Rattle.slotted_proofs.specs.Steps.{IsRefusal, IsReflexiveStep, IsSymmetricStep, IsTransitiveStep, by_step};
+ghost use Rattle.slotted_core.specs.Canonical.{HasWideNode};
 ghost use Rattle.slotted_core.specs.Frames.{IsCongruentIn};
 ghost use Rattle.slotted_core.specs.Kept.{Good, EntersIn, nodes_of};
 ghost use Rattle.slotted_core.specs.Nodes.{to_applied};
 
 use crate::congruence::child_equations;
 use crate::kernel::Core;
+use crate::names::PLACES;
 use slotted_languages::Language;
 use slotted_proofs::{Equation, ProvenEq};
 use slotted_slots::{AppliedId, Error, SlotTable};
@@ -94,11 +96,19 @@ impl<L: Language> Core<L> {
         requires good { Good self.now }
         requires full { IsFull (nodes_of self.now) (to_applied a.now) }
         ensures ok { IfOk result (λ n. nameless_node (L.form n) ≡ moved (filled a.now.m) (canonical_node (nodes_of self.now) a.now.id.0)) }
+        ensures full { IsErrOf result Error.OutOfSlots → HasWideNode (nodes_of self.now) }
         ensures err { IfErr result IsShortage }
     {
+        let node = self.node_of(a.id.0);
+        if node.slot_count() >= PLACES {
+            return Err(Error::OutOfSlots);
+        }
+        // No slot of the graph is taken: to use up a table of one's own is want of memory.
         let mut table = SlotTable::new(alloc);
-        let named = self.node_of(a.id.0).apply_slotmap(alloc, &a.m, &mut table)?;
-        Ok(named)
+        match node.apply_slotmap(alloc, &a.m, &mut table) {
+            Ok(named) => Ok(named),
+            Err(_) => Err(Error::OutOfMemory),
+        }
     }
 
     /// The equation, if it is one of full ids whose canonical nodes, with the names of the sides put in, agree but for their
@@ -113,6 +123,7 @@ impl<L: Language> Core<L> {
         ensures fits { IfOk result (λ _. IsOfFull (nodes_of self.old) equation.now × IsCongruentIn self.old equation.now parts.items) }
         ensures ok { IfOk result (EntersIn self.old self.new (by_step (statement_of equation.now) (congruent parts.items))) }
         ensures refused { IsErrOf result Error.BadStep → ¬ (IsOfFull (nodes_of self.old) equation.now × IsCongruentIn self.old equation.now parts.items) }
+        ensures full { IsErrOf result Error.OutOfSlots → (2 ^ 30 ≤ length equation.now.l.m + length equation.now.r.m) ⊎ HasWideNode (nodes_of self.old) }
         ensures only { IfErr result IsRefusal }
         ensures err { OnErr result (self.new ≡ self.old) }
     {

@@ -1,4 +1,4 @@
-use Rattle.std.proofs.Common.{◌+◌, ◌≡◌, ◌<◌, ◌∙◌, ℕ, List, [], ◌∷◌, ◌++◌, arith, length, sym, subst, ap}
+use Rattle.std.proofs.Common.{◌+◌, ◌≡◌, ◌<◌, ◌∙◌, ℕ, List, [], ◌∷◌, ◌++◌, arith, length, sym, subst, ap, inl, inr, rules}
 use Rattle.std.specs.Prelude.{IfSome, IfNone}
 use Rattle.std.proofs.lemmas.Bool.{false≢true}
 use Rattle.slotted_languages.specs.Form.{children}
@@ -7,6 +7,7 @@ use Rattle.slotted_core.specs.Nodes.{to_applied}
 use Rattle.slotted_core.proofs.Children.{child_is}
 use Rattle.slotted_core.proofs.Frames.{ids_under, first_match-pushed, forms_alike, forms_owns, same_count, frames_alike, child_matches, left_apart, right_apart, more_apart, first_match-none}
 use Rattle.slotted_core.proofs.NameMaps.{all_differ-iff}
+use Rattle.slotted_core.proofs.Wide.{child_fits_size, one_is_wide, outline_fits_size}
 use Rattle.slotted_core.proofs.congruence.child_equations.Goals as goal
 
 pub returns-in_default-clause-none : goal.returns-in_default-clause-none
@@ -26,6 +27,26 @@ returns-then-not-branch-clause-none g c =
     λ cs once alike. false≢true (sym c.if-not-branch.true ∙ c.in_ok-same_owns.ensures.same.1 (
     ap (λ (b : List (ℕ × ℕ)). owns_seen p (lefts b)) c.new-binders.ensures.items
     ∙ (forms_owns f h p q o cs alike ∙ sym (ap (λ (b : List (ℕ × ℕ)). owns_seen q (rights b)) c.new-binders.ensures.items))))
+
+pub returns-in_err-nodes-clause-full : goal.returns-in_err-nodes-clause-full
+returns-in_err-nodes-clause-full g c e =
+    let f = g.L.LanguageChildren.form c.args.left.now in
+    let h = g.L.LanguageChildren.form c.args.right.now in
+    elim (c.in_err-nodes.ensures.slots (search rules)) [
+      | inl large ↦ inl (omega (arith, large, outline_fits_size f))
+      | inr large ↦ inr (omega (arith, large, outline_fits_size h))
+    ]
+
+pub returns-in_err-child_equation-clause-full : goal.returns-in_err-child_equation-clause-full
+returns-in_err-child_equation-clause-full g c e =
+    let f = g.L.LanguageChildren.form c.args.left.now in
+    let h = g.L.LanguageChildren.form c.args.right.now in
+    let a = c.applied_id-a.result.now in
+    let b = c.applied_id-b.result.now in
+    elim (one_is_wide (length a.m) (length b.m) (c.in_err-child_equation.ensures.full (search rules))) [
+      | inl large ↦ inl (omega (arith, large, child_fits_size f (g.met.L.LanguageChildren.fits c.args.left.now) c.loop-k.k a.m c.applied_id-a.ensures.names))
+      | inr large ↦ inr (omega (arith, large, child_fits_size h (g.met.L.LanguageChildren.fits c.args.right.now) c.loop-k.k b.m c.applied_id-b.ensures.names))
+    ]
 
 pub loop-k-init : goal.loop-k-init
 loop-k-init g c = first_match-none _ _ c.new-equations.result.items c.new-equations.ensures.items
