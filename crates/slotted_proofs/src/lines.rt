@@ -42,7 +42,7 @@ impl ProofLines {
 
     /// Whether there are no lines.
     pub fn is_empty(&self) -> bool
-        ensures { IsTrue result → self.now ≡ [] }
+        ensures { IsTrue result ↔ (self.now ≡ []) }
     {
         self.entries.len() == 0
     }
