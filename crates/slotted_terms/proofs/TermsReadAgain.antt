@@ -1,12 +1,15 @@
 -- A pattern that is a term prints what the term prints.
 use Rattle.std.proofs.Common.{◌≡◌, ℕ, Bool, true, false, List, [], ◌∷◌, length, map, refl, sym, subst, ap, ◌∙◌}
-use Rattle.std.specs.Prelude.{Option, Some, None, ◌==◌, if◌then◌else◌}
+use Rattle.std.specs.Prelude.{Result, Ok, Err, IfOk, Option, Some, None, ◌==◌, if◌then◌else◌}
 use Rattle.std.specs.Str.{chars}
 use Rattle.slotted_theory.specs.Term.{Term}
 use Rattle.slotted_slots.specs.Syntax.{Element}
 use Rattle.slotted_slots.specs.Table.{Table}
 use Rattle.slotted_languages.specs.Form.{Form, children}
 use Rattle.slotted_languages.specs.Filled.{term_of}
+use Rattle.slotted_slots.specs.declared.error.Error.{Error}
+use Rattle.slotted_patterns.specs.Outcome as pattern
+use Rattle.slotted_patterns.specs.Parsed.{PatternReads}
 use Rattle.slotted_patterns.specs.Tree.{PatternTree, enode, row_of}
 use Rattle.slotted_patterns.specs.View.{tree_of, tree_step}
 use Rattle.slotted_patterns.specs.Shown.{pattern_text, text_step, node_text}
@@ -19,7 +22,7 @@ use Rattle.slotted_terms.specs.AsTerm.{over, in_front, as_term, as_terms}
 use Rattle.slotted_terms.specs.Outcome.{parsed}
 use Rattle.slotted_terms.specs.Parsed.{TextReads}
 use Rattle.slotted_terms.specs.Shown.{term_text, IsWrittenAs}
-use Rattle.slotted_terms.specs.ReadAgain.{PrintsAsItsPattern, TermReadsAsItself}
+use Rattle.slotted_terms.specs.ReadAgain.{PrintsAsItsPattern, ReadsAsNodes, TermReadsAsItself}
 use Rattle.slotted_terms.proofs.TermReadings.{reads_term}
 use Rattle.slotted_terms.proofs.TermTexts.{node_text-term}
 
@@ -82,7 +85,12 @@ module _ {L : Type 0} (form : L → Form) (shown : L → List Element) (written 
 
   -- what reads as a pattern reads as the term that it is
   pub term_reads_again : (read : List Element → Option Form) → ReadsAsItself form shown read → TermReadsAsItself form written read
-  term_reads_again read law t u bs p x utf8 sound h e =
-      let again = law t u bs p utf8 sound h in
-      subst (λ cs. TextReads read u (chars cs) (parsed x) u) (prints_as_its_pattern u p x e)
-      (reads_term read u (chars (pattern_text shown u p)) u (tree_of form p) x again e)
+  term_reads_again read law t u bs x utf8 sound h =
+      let again = law t u bs h.nodes utf8 sound h.reads in
+      subst (λ cs. TextReads read u (chars cs) (parsed x) u) (prints_as_its_pattern u h.nodes x h.term)
+      (reads_term read u (chars (pattern_text shown u h.nodes)) u (tree_of form h.nodes) x again h.term)
+
+-- the answer for a text that is a pattern of nodes
+pub answer_nodes : {L : Type 0} (form : L → Form) (read : List Element → Option Form) (t : Table) (cs : List ℕ) (u : Table) (p : Pattern L) (r : Result Term Error) → PatternReads read t cs (pattern.parsed (tree_of form p)) u → IfOk r (λ x. as_term (tree_of form p) ≡ Some x) → IfOk r (λ x. ReadsAsNodes form read t cs x u)
+answer_nodes form read t cs u p (Ok x) h e = record { nodes = p; reads = h; term = e }
+answer_nodes form read t cs u p (Err e) h n = tt

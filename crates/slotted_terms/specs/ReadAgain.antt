@@ -20,9 +20,14 @@ abbrev pub PrintsAsItsPattern : {L : Type 0} → (L → Form) → (L → List El
 PrintsAsItsPattern {L} form shown written =
     (t : Table) (p : Pattern L) (x : Term) → as_term (tree_of form p) ≡ Some x → pattern_text shown t p ≡ term_text written t x
 
+-- the text reads as a pattern of these nodes, and this pattern is the term
+pub record ReadsAsNodes {L : Type 0} (form : L → Form) (read : List Element → Option Form) (t : Table) (cs : List ℕ) (x : Term) (u : Table) : Type 0 where
+  pub nodes : Pattern L
+  pub reads : PatternReads read t cs (pattern.parsed (tree_of form nodes)) u
+  pub term : as_term (tree_of form nodes) ≡ Some x
+
 -- a term that was read from a text prints, over the table that this left, as a text that reads as the same term and leaves
 -- that table as it is
 abbrev pub TermReadsAsItself : {L : Type 0} → (L → Form) → (Term → List Element) → (List Element → Option Form) → Type 0
 TermReadsAsItself {L} form written read =
-    (t u : Table) (bs : List ℕ) (p : Pattern L) (x : Term) → IsUtf8 bs → IsTable u → PatternReads read t (chars bs) (pattern.parsed (tree_of form p)) u → as_term (tree_of form p) ≡ Some x
-    → TextReads read u (chars (term_text written u x)) (parsed x) u
+    (t u : Table) (bs : List ℕ) (x : Term) → IsUtf8 bs → IsTable u → ReadsAsNodes form read t (chars bs) x u → TextReads read u (chars (term_text written u x)) (parsed x) u
