@@ -1,4 +1,4 @@
--- What a term prints is what its pattern prints, and so it reads as that term.
+-- What a term prints reads as that term: the law.
 use Rattle.std.specs.Prelude.{◌≡◌, ℕ, List, Option, Some}
 use Rattle.std.specs.Str.{chars, IsUtf8}
 use Rattle.slotted_theory.specs.Term.{Term}
@@ -7,18 +7,12 @@ use Rattle.slotted_slots.specs.Table.{Table, IsTable}
 use Rattle.slotted_languages.specs.Form.{Form}
 use Rattle.slotted_patterns.specs.Outcome as pattern
 use Rattle.slotted_patterns.specs.Parsed.{PatternReads}
-use Rattle.slotted_patterns.specs.Shown.{pattern_text}
 use Rattle.slotted_patterns.specs.View.{tree_of}
 use Rattle.slotted_patterns.specs.declared.pattern.Pattern.{Pattern}
 use Rattle.slotted_terms.specs.AsTerm.{as_term}
 use Rattle.slotted_terms.specs.Outcome.{parsed}
 use Rattle.slotted_terms.specs.Parsed.{TextReads}
 use Rattle.slotted_terms.specs.Shown.{term_text}
-
--- a pattern that is a term prints what the term prints
-abbrev pub PrintsAsItsPattern : {L : Type 0} → (L → Form) → (L → List Element) → (Term → List Element) → Type 0
-PrintsAsItsPattern {L} form shown written =
-    (t : Table) (p : Pattern L) (x : Term) → as_term (tree_of form p) ≡ Some x → pattern_text shown t p ≡ term_text written t x
 
 -- the text reads as a pattern of these nodes, and this pattern is the term
 pub record ReadsAsNodes {L : Type 0} (form : L → Form) (read : List Element → Option Form) (t : Table) (cs : List ℕ) (x : Term) (u : Table) : Type 0 where
