@@ -1,5 +1,6 @@
 -- Lemmas on alpha-equality of expressions, and on reading texts.
 pub mod TermTexts
+pub mod PatternPrints
 pub mod Seen
 pub mod Opened
 pub mod Binders

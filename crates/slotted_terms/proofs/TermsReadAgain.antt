@@ -1,27 +1,28 @@
--- A pattern that is a term prints what the term prints.
-use Rattle.std.proofs.Common.{◌≡◌, ℕ, Bool, true, false, List, [], ◌∷◌, length, map, refl, sym, subst, ap, ◌∙◌}
-use Rattle.std.specs.Prelude.{Option, Some, None, ◌==◌, if◌then◌else◌}
+-- A term that was read prints as its pattern, whose print reads as it.
+use Rattle.std.proofs.Common.{◌≡◌, ℕ, Bool, true, false, List, [], ◌∷◌, length, refl, subst, ap, ◌∙◌}
+use Rattle.std.specs.Prelude.{Result, Ok, Err, IfOk, Option, Some, None, ◌==◌, if◌then◌else◌}
 use Rattle.std.specs.Str.{chars}
 use Rattle.slotted_theory.specs.Term.{Term}
 use Rattle.slotted_slots.specs.Syntax.{Element}
 use Rattle.slotted_slots.specs.Table.{Table}
+use Rattle.slotted_slots.specs.declared.error.Error.{Error}
 use Rattle.slotted_languages.specs.Form.{Form, children}
 use Rattle.slotted_languages.specs.Filled.{term_of}
-use Rattle.slotted_patterns.specs.Tree.{PatternTree, enode, row_of}
-use Rattle.slotted_patterns.specs.View.{tree_of, tree_step}
-use Rattle.slotted_patterns.specs.Shown.{pattern_text, text_step, node_text}
+use Rattle.slotted_patterns.specs.Outcome as pattern
+use Rattle.slotted_patterns.specs.Parsed.{PatternReads}
 use Rattle.slotted_patterns.specs.ReadAgain.{ReadsAsItself}
+use Rattle.slotted_patterns.specs.Shown.{pattern_text}
+use Rattle.slotted_patterns.specs.Tree.{PatternTree, enode, pvar, substitution, PatternRow, no_more, one_more}
+use Rattle.slotted_patterns.specs.View.{tree_of}
 use Rattle.slotted_patterns.specs.declared.pattern.Pattern.{Pattern}
-use Rattle.slotted_patterns.specs.declared.pattern.Pattern.TheOpen.{Pattern-F}
-use Rattle.slotted_patterns.specs.declared.pattern.Pattern.TheFolds.{fold-roll-Pattern, ind-Pattern, map-Pattern}
-use Rattle.slotted_patterns.specs.declared.pattern.Pattern.TheViews.{roll-Pattern}
 use Rattle.slotted_terms.specs.AsTerm.{over, in_front, as_term, as_terms}
 use Rattle.slotted_terms.specs.Outcome.{parsed}
 use Rattle.slotted_terms.specs.Parsed.{TextReads}
+use Rattle.slotted_terms.specs.ReadAgain.{ReadsAsNodes, TermReadsAsItself}
 use Rattle.slotted_terms.specs.Shown.{term_text, IsWrittenAs}
-use Rattle.slotted_terms.specs.ReadAgain.{PrintsAsItsPattern, TermReadsAsItself}
+use Rattle.slotted_terms.specs.TermPattern.{IsPatternOf, ArePatternsOf}
+use Rattle.slotted_terms.proofs.PatternPrints.{patterns_print}
 use Rattle.slotted_terms.proofs.TermReadings.{reads_term}
-use Rattle.slotted_terms.proofs.TermTexts.{node_text-term}
 
 -- a node that is a term, and patterns that are terms
 over_parts : (f : Form) (o : Option (List Term)) (x : Term) → over f o ≡ Some x → (ts : List Term) × (o ≡ Some ts) × (term_of f ts ≡ x)
@@ -37,52 +38,32 @@ front_parts (Some u) (Some us) ts e = (u, us, refl, refl, cc)
 front_parts (Some u) None ts e = absurd (cc)
 front_parts None p ts e = absurd (cc)
 
-module _ {L : Type 0} (form : L → Form) (shown : L → List Element) (written : Term → List Element) (written_as : (a : L) (us : List Term) → IsWrittenAs (form a) (shown a) (written (term_of (form a) us))) (t : Table) where
-  -- the text is that of the term which the pattern is
-  abbrev Prints : PatternTree → List ℕ → Type 0
-  Prints p bs = (x : Term) → as_term p ≡ Some x → bs ≡ term_text written t x
+-- a pattern that is a term is a pattern of that term's nodes
+mutual
+  term_pattern : (p : PatternTree) (x : Term) → as_term p ≡ Some x → IsPatternOf p x
+  term_pattern (enode f row) x e =
+      let parts = over_parts f (as_terms row) x e in
+      let inner = term_patterns row parts.0 parts.1 in
+      record { ground = inner.ground; value = ap (term_of f) inner.value ∙ parts.2 }
+  term_pattern (pvar v) x e = let e : ◌≡◌ {A = Option Term} None (Some x) = e in absurd (cc)
+  term_pattern (substitution b y v) x e = let e : ◌≡◌ {A = Option Term} None (Some x) = e in absurd (cc)
 
-  abbrev IsPrinted : Pattern L → Type 0
-  IsPrinted p = Prints (tree_of form p) (pattern_text shown t p)
+  term_patterns : (row : PatternRow) (ts : List Term) → as_terms row ≡ Some ts → ArePatternsOf row ts
+  term_patterns no_more ts e = record { ground = tt; value = let e : ◌≡◌ {A = Option (List Term)} (Some []) (Some ts) = e in cc }
+  term_patterns (one_more p rest) ts e =
+      let parts = front_parts (as_term p) (as_terms rest) ts e in
+      let first = term_pattern p parts.0 parts.2 in
+      let more = term_patterns rest parts.1 parts.3 in
+      record { ground = (first.ground, more.ground); value = (λ i. first.value i ∷ more.value i) ∙ parts.4 }
 
-  abbrev trees : List ((p : Pattern L) × IsPrinted p) → List PatternTree
-  trees ps = map (tree_of form) (map (λ e. e.0) ps)
+-- where patterns read as themselves, so do terms
+pub term_reads_again : {L : Type 0} (form : L → Form) (shown : L → List Element) (written : Term → List Element) → ((a : L) (us : List Term) → IsWrittenAs (form a) (shown a) (written (term_of (form a) us))) → (read : List Element → Option Form) → ReadsAsItself form shown read → TermReadsAsItself form written read
+term_reads_again form shown written written_as read law t u bs x utf8 sound h =
+    let again = law t u bs h.nodes utf8 sound h.reads in
+    let printed : pattern_text shown u h.nodes ≡ term_text written u x = patterns_print form shown written written_as u x (term_text written u x) refl h.nodes (term_pattern (tree_of form h.nodes) x h.term) in
+    subst (λ cs. TextReads read u (chars cs) (parsed x) u) printed (reads_term read u (chars (pattern_text shown u h.nodes)) u (tree_of form h.nodes) x again h.term)
 
-  abbrev texts : List ((p : Pattern L) × IsPrinted p) → List (List ℕ)
-  texts ps = map (pattern_text shown t) (map (λ e. e.0) ps)
-
-  children_print : (ps : List ((p : Pattern L) × IsPrinted p)) (ts : List Term) → as_terms (row_of (trees ps)) ≡ Some ts → texts ps ≡ map (term_text written t) ts
-  children_print [] ts e = let same : [] ≡ ts = cc in ap (map (term_text written t)) same
-  children_print (p ∷ ps) ts e =
-      let parts = front_parts (as_term (tree_of form p.0)) (as_terms (row_of (trees ps))) ts e in
-      (λ i. p.1 parts.0 parts.2 i ∷ children_print ps parts.1 parts.3 i) ∙ ap (map (term_text written t)) parts.4
-
-  node_printed : (a : L) (ps : List ((p : Pattern L) × IsPrinted p)) → Prints (enode (form a) (row_of (trees ps))) (node_text t (shown a) (texts ps))
-  node_printed a ps x e =
-      let parts = over_parts (form a) (as_terms (row_of (trees ps))) x e in
-      ap (node_text t (shown a)) (children_print ps parts.0 parts.1)
-      ∙ (node_text-term written t (form a) (shown a) parts.0 (written_as a parts.0) ∙ ap (term_text written t) parts.2)
-
-  level_printed : (y : Pattern-F L ((p : Pattern L) × IsPrinted p)) → Prints (tree_step form (map-Pattern L (Pattern L) PatternTree (tree_of form) (map-Pattern L ((p : Pattern L) × IsPrinted p) (Pattern L) (λ e. e.0) y))) (text_step shown t (map-Pattern L (Pattern L) (List ℕ) (pattern_text shown t) (map-Pattern L ((p : Pattern L) × IsPrinted p) (Pattern L) (λ e. e.0) y)))
-  level_printed (Pattern-F.ENode a inner) = node_printed a inner.items
-  level_printed (Pattern-F.PVar v) = λ x e. let e : ◌≡◌ {A = Option Term} None (Some x) = e in absurd (cc)
-  level_printed (Pattern-F.Subst body place value) = λ x e. let e : ◌≡◌ {A = Option Term} None (Some x) = e in absurd (cc)
-
-  pattern_printed : (p : Pattern L) → IsPrinted p
-  pattern_printed = ind-Pattern L IsPrinted (λ x y is.
-      let tree = fold-roll-Pattern L PatternTree (tree_step form) x in
-      let text = fold-roll-Pattern L (List ℕ) (text_step shown t) x in
-      let level = subst (λ z. Prints (tree_step form (map-Pattern L (Pattern L) PatternTree (tree_of form) z)) (text_step shown t (map-Pattern L (Pattern L) (List ℕ) (pattern_text shown t) z))) is (level_printed y) in
-      subst (λ p. Prints p (pattern_text shown t (roll-Pattern L x))) (sym tree)
-      (subst (λ bs. Prints (tree_step form (map-Pattern L (Pattern L) PatternTree (tree_of form) x)) bs) (sym text) level))
-
-module _ {L : Type 0} (form : L → Form) (shown : L → List Element) (written : Term → List Element) (written_as : (a : L) (us : List Term) → IsWrittenAs (form a) (shown a) (written (term_of (form a) us))) where
-  pub prints_as_its_pattern : PrintsAsItsPattern form shown written
-  prints_as_its_pattern t p x e = pattern_printed form shown written written_as t p x e
-
-  -- what reads as a pattern reads as the term that it is
-  pub term_reads_again : (read : List Element → Option Form) → ReadsAsItself form shown read → TermReadsAsItself form written read
-  term_reads_again read law t u bs p x utf8 sound h e =
-      let again = law t u bs p utf8 sound h in
-      subst (λ cs. TextReads read u (chars cs) (parsed x) u) (prints_as_its_pattern u p x e)
-      (reads_term read u (chars (pattern_text shown u p)) u (tree_of form p) x again e)
+-- the answer for a text that is a pattern of nodes
+pub answer_nodes : {L : Type 0} (form : L → Form) (read : List Element → Option Form) (t : Table) (cs : List ℕ) (u : Table) (p : Pattern L) (r : Result Term Error) → PatternReads read t cs (pattern.parsed (tree_of form p)) u → IfOk r (λ x. as_term (tree_of form p) ≡ Some x) → IfOk r (λ x. ReadsAsNodes form read t cs x u)
+answer_nodes form read t cs u p (Ok x) h e = record { nodes = p; reads = h; term = e }
+answer_nodes form read t cs u p (Err e) h n = tt

@@ -1,12 +1,16 @@
 -- What terms print.
---     term_text written t u   the text of the term u, whose nodes are written as written says
+--     term_text written t u      the text of the term u, whose nodes are written as written says
+--     PrintAs form shown t u bs  the patterns of the nodes of u print bs
 use Rattle.std.specs.Prelude.{◌≡◌, ℕ, zero, suc, List, [], ◌∷◌, ◌++◌, length, map, codes}
 use Rattle.slotted_theory.specs.Term.{Args, Term, done, name, child, bind}
 use Rattle.slotted_languages.specs.Form.{Form, children}
-use Rattle.slotted_patterns.specs.Shown.{node_text, total_width}
+use Rattle.slotted_patterns.specs.Shown.{node_text, total_width, pattern_text}
+use Rattle.slotted_patterns.specs.View.{tree_of}
+use Rattle.slotted_patterns.specs.declared.pattern.Pattern.{Pattern}
 use Rattle.slotted_slots.specs.Syntax.{Element, text, applied}
 use Rattle.slotted_slots.specs.Syntax.{name as slot}
 use Rattle.slotted_slots.specs.Table.{Table}
+use Rattle.slotted_terms.specs.TermPattern.{IsPatternOf}
 
 -- a term with this operator, these elements and texts of its children: the operator 0 stands where a term is missing
 abbrev pub text_over : Table → ℕ → List Element → List (List ℕ) → List ℕ
@@ -35,3 +39,7 @@ without_id (applied i m) = applied 0 []
 pub record IsWrittenAs (f : Form) (es : List Element) (said : List Element) : Type 0 where
   pub same : map without_id es ≡ map without_id said
   pub count : total_width es ≡ length (children f.tree)
+
+-- each pattern of the nodes of the term u prints these bytes, where form and shown say what nodes are and how they are written
+abbrev pub PrintAs : {L : Type 0} → (L → Form) → (L → List Element) → Table → Term → List ℕ → Type 0
+PrintAs {L} form shown t u bs = (p : Pattern L) → IsPatternOf (tree_of form p) u → pattern_text shown t p ≡ bs

@@ -1,7 +1,7 @@
 //! What a term prints reads as that term.
 ghost use Rattle.slotted_languages.specs.Small.{small_form, small_read};
 ghost use Rattle.slotted_patterns.specs.ReadAgain.{IsWordAndPlaces};
-ghost use Rattle.slotted_terms.specs.ReadAgain.{PrintsAsItsPattern, TermReadsAsItself};
+ghost use Rattle.slotted_terms.specs.ReadAgain.{TermReadsAsItself};
 ghost use Rattle.slotted_terms.specs.SmallWritten.{small_written};
 
 use crate::expr::printing::Printable;
@@ -9,11 +9,6 @@ use slotted_languages::{ReadBack, Small};
 use slotted_patterns::read_again::{
     each_print_of_small_reads_as_itself, each_print_reads_as_itself,
 };
-
-/// A pattern that is a term prints what the term prints.
-pub fn each_term_prints_as_its_pattern<L: Printable>()
-    ensures { PrintsAsItsPattern L.form L.shown L.written }
-{}
 
 /// A term that was read from a text, as a pattern and then as the term that this is, prints with the table that was left as a
 /// text that reads as the same term and leaves the table as it is: in each language that reads back, and writes a node as one

@@ -4,7 +4,7 @@ ghost use Rattle.slotted_theory.specs.Term.{Term};
 ghost use Rattle.slotted_slots.specs.Error.{IsOutOfMemory};
 ghost use Rattle.slotted_slots.specs.Syntax.{Element};
 ghost use Rattle.slotted_languages.specs.Filled.{term_of};
-ghost use Rattle.slotted_terms.specs.Shown.{term_text, IsWrittenAs};
+ghost use Rattle.slotted_terms.specs.Shown.{term_text, IsWrittenAs, PrintAs};
 ghost use Rattle.slotted_terms.specs.SmallWritten.{small_written, small_written_as};
 
 use super::RecExpr;
@@ -39,6 +39,7 @@ impl<L: Printable> RecExpr<L> {
     #[cycle(text)]
     pub fn text(&self, alloc: Global, table: &SlotTable) -> Result<String, Error>
         ensures ok { IfOk result (λ s. string_bytes s ≡ term_text L.written table.now self.now) }
+        ensures patterns { IfOk result (λ s. PrintAs L.form L.shown table.now self.now (string_bytes s)) }
         ensures err { IfErr result IsOutOfMemory }
     {
         let mut children = Vec::new(alloc);

@@ -4,6 +4,7 @@ use Rattle.std.proofs.lemmas.List.{take_all}
 use Rattle.slotted_slots.specs.Syntax.{element_of}
 use Rattle.slotted_patterns.specs.Shown.{node_text}
 use Rattle.slotted_terms.specs.Shown.{term_text}
+use Rattle.slotted_terms.proofs.PatternPrints.{patterns_print}
 use Rattle.slotted_terms.proofs.TermTexts.{node_text-term}
 use Rattle.slotted_terms.proofs.expr.RecExpr.+text.Goals as goal
 
@@ -21,3 +22,7 @@ returns-clause-ok g n c =
     ∙ (ap (λ es. node_text t es (map string_bytes c.loop-child.children.items)) c.in_ok-elements.ensures.ok
     ∙ ap (node_text t (g.L.LanguageChildren.shown node)) texts))) in
     listed ∙ (node_text-term w t (g.L.LanguageChildren.form node) (g.L.LanguageChildren.shown node) ts (g.met.L.Printable.written_as node ts) ∙ ap (term_text w t) c.self.view_is)
+
+pub returns-clause-patterns : goal.returns-clause-patterns
+returns-clause-patterns g n c =
+    patterns_print g.L.LanguageChildren.form g.L.LanguageChildren.shown g.L.Printable.written g.met.L.Printable.written_as c.args.table.now c.args.self.now _ (returns-clause-ok g n c)
