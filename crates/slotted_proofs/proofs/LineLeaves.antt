@@ -1,14 +1,14 @@
--- The explicit lines of a proof are the explicit leaves of its tree.
-use Rattle.std.proofs.Common.{◌≡◌, ℕ, ◌<◌, List, [], ◌∷◌, ◌++◌, length, true, sym, ◌∙◌, subst, inl, inr, arith}
+-- The explicit lines of a proof are the explicit leaves of its tree, and these are asserted.
+use Rattle.std.proofs.Common.{◌≡◌, ℕ, zero, suc, ◌<◌, ◌+◌, List, [], ◌∷◌, ◌++◌, length, Bool, true, false, cond, sym, ◌∙◌, ap, subst, inl, inr, arith}
 use Rattle.std.specs.Prelude.{Contains, ◌⊎◌}
 use Rattle.std.proofs.lemmas.Bool.{false≢true}
 use Rattle.slotted_theory.proofs.Lists.{contains_head, contains_tail, contains_cases, Contains-nil}
 use Rattle.slotted_model.specs.Leaves.{parts_of, IsLeaf, here, through}
-use Rattle.slotted_model.specs.ProofList.{explicit}
+use Rattle.slotted_model.specs.ProofList.{ProofEntry, explicit, step_at}
 use Rattle.slotted_model.proofs.Leaves.{leaf-explicit}
-use Rattle.slotted_proofs.specs.Entries.{Proven, entries_of, proven_at}
+use Rattle.slotted_proofs.specs.Entries.{Proven, entries_of, proven_at, is_explicit, explicit_from}
 use Rattle.slotted_proofs.specs.Lines.{Lines, all, passed, next, PartsAreEarlier, has_line, parts_at}
-use Rattle.slotted_proofs.specs.StepClaims.{ExplicitLinesAreLeaves}
+use Rattle.slotted_proofs.specs.StepClaims.{ExplicitLinesAreLeaves, LeavesAreNumbered}
 use Rattle.slotted_proofs.proofs.Entering.{length-entries}
 use Rattle.slotted_proofs.proofs.Fitting.{step_at-entries}
 use Rattle.slotted_proofs.proofs.Lining.{line-kept, line-own, line-from, kept, before_it}
@@ -82,3 +82,19 @@ explicit_lines list earlier p lines l order q = (
     ]
   ],
 )
+
+-- the number of an explicit entry is among those of the explicit entries
+one_more : (b : Bool) (i n : ℕ) (ns : List ℕ) → Contains ns n → Contains (cond b (i ∷ ns) ns) n
+one_more true i n ns c = contains_tail i ns n c
+one_more false i n ns c = c
+
+explicit-numbered : (i : ℕ) (entries : List ProofEntry) (q n : ℕ) → n ≡ i + q → q < length entries → step_at entries q ≡ explicit → Contains (explicit_from i entries) n
+explicit-numbered i [] q n s l e = absurd (omega arith)
+explicit-numbered i (x ∷ entries) zero n s l e =
+    let same : n ≡ i = omega arith in
+    let more : List ℕ = explicit_from (suc i) entries in
+    subst (λ b. Contains (cond b (i ∷ more) more) n) (sym (ap is_explicit e)) (subst (Contains (i ∷ more)) (sym same) (contains_head i more))
+explicit-numbered i (x ∷ entries) (suc q) n s l e = one_more (is_explicit x.step) i n (explicit_from (suc i) entries) (explicit-numbered (suc i) entries q n (omega arith) (omega arith) e)
+
+pub leaf_numbers : LeavesAreNumbered
+leaf_numbers entries p q l = explicit-numbered 0 entries q q (omega arith) (leaf-explicit l).0 (leaf-explicit l).1

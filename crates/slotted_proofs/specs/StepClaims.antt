@@ -1,14 +1,14 @@
 -- The laws of steps that fit: what they enter is proved. All are owed by `step_laws_hold` in src/laws.rt.
-use Rattle.std.specs.Prelude.{All, ◌≡◌, ◌↔◌, ◌<◌, ℕ, true, List, [], ◌∷◌, length}
+use Rattle.std.specs.Prelude.{All, ◌≡◌, ◌↔◌, ◌<◌, ℕ, true, List, [], ◌∷◌, length, Contains}
 use Rattle.slotted_theory.specs.Nameless.{DTerm}
 use Rattle.slotted_model.specs.Applied.{Applied, keys}
 use Rattle.slotted_model.specs.Classes.{canonical_node, IsFull, Canonical}
 use Rattle.slotted_model.specs.Correspondence.{IsFullMap}
-use Rattle.slotted_model.specs.ProofList.{congruent, explicit, reflexive, symmetric, transitive}
+use Rattle.slotted_model.specs.ProofList.{ProofEntry, congruent, explicit, reflexive, symmetric, transitive}
 use Rattle.slotted_model.specs.Leaves.{IsLeaf}
 use Rattle.slotted_proofs.specs.declared.equation.Equation.{Equation as Sides}
 use Rattle.slotted_proofs.specs.Equations.{to_applied, equality, statement_of}
-use Rattle.slotted_proofs.specs.Entries.{Proven, entries_of, proven_at}
+use Rattle.slotted_proofs.specs.Entries.{Proven, entries_of, proven_at, explicit_numbers}
 use Rattle.slotted_proofs.specs.Proving.{IsProvable, IsProved}
 use Rattle.slotted_proofs.specs.Lines.{Lines, PartsAreEarlier, has_line}
 use Rattle.slotted_proofs.specs.AlikeNodes.{AreAlikeNodes}
@@ -60,6 +60,10 @@ ExplicitLinesAreLeaves =
     (list : List Proven) → PartsAreEarlier list → (p : ℕ) (lines : List ℕ) → p < length list → Lines list [] (p ∷ []) lines →
     (q : ℕ) → IsLeaf (entries_of list) p q ↔ ((has_line lines q ≡ true) × ((proven_at list q).step ≡ explicit))
 
+-- and all leaves are among the numbers of the asserted entries
+abbrev pub LeavesAreNumbered : Type 0
+LeavesAreNumbered = (entries : List ProofEntry) (p q : ℕ) → IsLeaf entries p q → Contains (explicit_numbers entries) q
+
 -- all these laws
 pub record StepLaws : Type 0 where
   pub match_is_one_statement : MatchIsOneStatement
@@ -69,3 +73,4 @@ pub record StepLaws : Type 0 where
   pub congruent_step_proves : CongruentStepProves
   pub parts_stand_earlier : PartsStandEarlier
   pub explicit_lines_are_leaves : ExplicitLinesAreLeaves
+  pub leaves_are_numbered : LeavesAreNumbered

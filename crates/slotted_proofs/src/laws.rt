@@ -16,7 +16,8 @@ pub fn proof_list_laws_hold()
 ///
 /// Two equations match exactly if they state the same, and what a step that fits enters, over full ids of a graph, is proved:
 /// so a list into which steps are entered stays proved.
-/// The explicit entries that get a line in the proof of an entry are the explicit leaves of its tree.
+/// The explicit entries that get a line in the proof of an entry are the explicit leaves of its tree, whose numbers are among those
+/// of all explicit entries.
 pub fn step_laws_hold()
     ensures { StepLaws }
 {}

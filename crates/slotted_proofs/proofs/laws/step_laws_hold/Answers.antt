@@ -1,4 +1,4 @@
-use Rattle.slotted_proofs.proofs.LineLeaves.{explicit_lines}
+use Rattle.slotted_proofs.proofs.LineLeaves.{explicit_lines, leaf_numbers}
 use Rattle.slotted_proofs.proofs.Fitting.{match_is_one_statement, reflexive_fits, symmetric_fits, transitive_fits, congruent_fits, parts_earlier}
 use Rattle.slotted_proofs.proofs.laws.step_laws_hold.Goals as goal
 
@@ -11,4 +11,5 @@ returns c = record {
   congruent_step_proves = congruent_fits;
   parts_stand_earlier = parts_earlier;
   explicit_lines_are_leaves = explicit_lines;
+  leaves_are_numbered = leaf_numbers;
 }
