@@ -2,15 +2,25 @@
 use crate::graphs::{empty, refusal};
 use slotted_core::EGraph;
 use slotted_languages::{Language, Small};
-use slotted_slots::Show;
+use slotted_patterns::Pattern;
+use slotted_slots::{Show, SlotTable};
 use std::alloc::Global;
 use std::test::Fail;
+
+// What is printed of a pattern.
+fn shown<L: Language>(
+    alloc: Global,
+    pattern: &Pattern<L>,
+    table: &SlotTable,
+) -> Result<String, Fail> {
+    let shown = pattern.show(table);
+    Ok(format!(in alloc; "{shown}")?)
+}
 
 // What is printed, with the graph's names, of the pattern that a text writes.
 fn printed<L: Language>(alloc: Global, graph: &mut EGraph<L>, text: &str) -> Result<String, Fail> {
     let pattern = graph.parse_pattern(text)?;
-    let shown = pattern.show(graph.table());
-    Ok(format!(in alloc; "{shown}")?)
+    shown(alloc, &pattern, graph.table())
 }
 
 #[test]
