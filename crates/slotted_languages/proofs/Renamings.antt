@@ -46,6 +46,7 @@ pub record AreChosen (t : Table) (xs avoid : List ℕ) (old : ℕ → ℕ) (free
   pub not_avoided : (n y : ℕ) → value_of names n ≡ Some y → value_of free n ≡ None → is_among y avoid ≡ false
   pub kept_or_fresh : (n y : ℕ) → value_of names n ≡ Some y → value_of free n ≡ None → (y ≡ old n) ⊎ (is_among y xs ≡ false)
   pub unused : (n y : ℕ) → value_of names n ≡ Some y → value_of free n ≡ None → is_among (old n) avoid ≡ true → is_known t y ≡ false
+  pub stays : (n y : ℕ) → value_of names n ≡ Some y → value_of free n ≡ None → is_among (old n) avoid ≡ false → y ≡ old n
   pub meet : (b n y : ℕ) → value_of free b ≡ None → value_of names b ≡ Some y → value_of names n ≡ Some y → old b ≡ old n
 
 pub none_chosen : (t : Table) (xs avoid : List ℕ) (old : ℕ → ℕ) (free : List (ℕ × ℕ)) → AreChosen t xs avoid old free []
@@ -54,6 +55,7 @@ none_chosen t xs avoid old free = record {
   not_avoided = λ n y e f. cc;
   kept_or_fresh = λ n y e f. cc;
   unused = λ n y e f g. cc;
+  stays = λ n y e f g. cc;
   meet = λ b n y e f g. cc;
 }
 
@@ -129,6 +131,12 @@ module _ (t : Table) (xs avoid : List ℕ) (old : ℕ → ℕ) (free : List (ℕ
             let k : y ≡ v = at_number v (ap (value_of (with_pair names number y)) (sym d) ∙ e) in
             ap (is_known t) (sym k) ∙ choice.unused (ap (value_of free) (sym d) ∙ f) (ap (λ w. is_among (old w) avoid) (sym d) ∙ a)
         | inr d ↦ c.unused n v (at_other n v d e) f a
+      ];
+      stays = λ n v e f a. elim (cases_eq n number) [
+        | inl d ↦
+            let k : y ≡ v = at_number v (ap (value_of (with_pair names number y)) (sym d) ∙ e) in
+            sym k ∙ (choice.kept (ap (value_of free) (sym d) ∙ f) (ap (λ w. is_among (old w) avoid) (sym d) ∙ a) ∙ ap old (sym d))
+        | inr d ↦ c.stays n v (at_other n v d e) f a
       ];
       meet = λ b n v f e g. elim (cases_eq b number) [
         | inl d ↦
@@ -337,6 +345,9 @@ all_renamed t f h avoid free names i fits e d π ef =
       unused = λ j lt b a.
           let c = chosen_at j lt in
           ap (is_known t) c.2 ∙ d.chosen.unused (slice_index ns j) c.0 c.1 (binds j lt b) (ap (λ x. is_among x avoid) (sym (old_at j lt)) ∙ a);
+      kept = λ j lt b a.
+          let c = chosen_at j lt in
+          c.2 ∙ (d.chosen.stays (slice_index ns j) c.0 c.1 (binds j lt b) (ap (λ x. is_among x avoid) (sym (old_at j lt)) ∙ a) ∙ sym (old_at j lt));
       differ = λ j k lt lk b q.
           let c = chosen_at j lt in
           let o = chosen_at k lk in
