@@ -176,6 +176,7 @@ pub trait Language: LanguageChildren + Ord {
         ensures same { IfOk result (λ r. nameless_node (Self.form r) ≡ nameless_node (Self.form self.now)) }
         ensures fresh { IfOk result (λ r. (j : ℕ) → j < length (Self.form self.now).names → IsBinder (Self.form self.now) j → is_among (slice_index (Self.form r).names j) (Self.form self.now).names ≡ false) }
         ensures unused { IfOk result (λ r. (j : ℕ) → j < length (Self.form self.now).names → IsBinder (Self.form self.now) j → is_known table.old (slice_index (Self.form r).names j) ≡ false) }
+        ensures apart { IfOk result (λ r. (j k : ℕ) → j < length (Self.form self.now).names → k < length (Self.form self.now).names → IsBinder (Self.form self.now) j → IsBinder (Self.form self.now) k → slice_index (Self.form r).names j ≡ slice_index (Self.form r).names k → j ≡ k) }
         ensures differ { IfOk result (λ r. (j k : ℕ) → j < length (Self.form self.now).names → k < length (Self.form self.now).names → IsBinder (Self.form self.now) j → slice_index (Self.form r).names j ≡ slice_index (Self.form r).names k → slice_index (Self.form self.now).names j ≡ slice_index (Self.form self.now).names k) }
 
         // The table knows nothing new but what stands in the answer, or stood in the node.
