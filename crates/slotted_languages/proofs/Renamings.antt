@@ -24,7 +24,7 @@ use Rattle.slotted_languages.proofs.RenamedNumbers.{IsApart, renamed_node}
 use Rattle.slotted_languages.proofs.Shapes.{keys-shape, values-shape}
 use Rattle.slotted_languages.proofs.Walks.{value_of-with_pair_same, value_of-with_pair_other}
 use Rattle.slotted_languages.proofs.WalkNames.{or_zero, Named, names_of_shape}
-use Rattle.slotted_languages.proofs.WalkBinders.{binder_number}
+use Rattle.slotted_languages.proofs.WalkBinders.{binder_number, binders_apart}
 use Rattle.slotted_languages.proofs.WalkSteps.{place_read, place_written}
 
 -- the new name of a number: the chosen one, or else that of its free name
@@ -46,6 +46,8 @@ pub record AreChosen (t : Table) (xs avoid : List ℕ) (old : ℕ → ℕ) (free
   pub not_avoided : (n y : ℕ) → value_of names n ≡ Some y → value_of free n ≡ None → is_among y avoid ≡ false
   pub kept_or_fresh : (n y : ℕ) → value_of names n ≡ Some y → value_of free n ≡ None → (y ≡ old n) ⊎ (is_among y xs ≡ false)
   pub unused : (n y : ℕ) → value_of names n ≡ Some y → value_of free n ≡ None → is_among (old n) avoid ≡ true → is_known t y ≡ false
+  pub stays : (n y : ℕ) → value_of names n ≡ Some y → value_of free n ≡ None → is_among (old n) avoid ≡ false → y ≡ old n
+  pub apart : (b n y : ℕ) → value_of names b ≡ Some y → value_of names n ≡ Some y → value_of free b ≡ None → value_of free n ≡ None → is_among (old b) avoid ≡ true → is_among (old n) avoid ≡ true → b ≡ n
   pub meet : (b n y : ℕ) → value_of free b ≡ None → value_of names b ≡ Some y → value_of names n ≡ Some y → old b ≡ old n
 
 pub none_chosen : (t : Table) (xs avoid : List ℕ) (old : ℕ → ℕ) (free : List (ℕ × ℕ)) → AreChosen t xs avoid old free []
@@ -54,6 +56,8 @@ none_chosen t xs avoid old free = record {
   not_avoided = λ n y e f. cc;
   kept_or_fresh = λ n y e f. cc;
   unused = λ n y e f g. cc;
+  stays = λ n y e f g. cc;
+  apart = λ b n y e g f h a z. cc;
   meet = λ b n y e f g. cc;
 }
 
@@ -130,6 +134,26 @@ module _ (t : Table) (xs avoid : List ℕ) (old : ℕ → ℕ) (free : List (ℕ
             ap (is_known t) (sym k) ∙ choice.unused (ap (value_of free) (sym d) ∙ f) (ap (λ w. is_among (old w) avoid) (sym d) ∙ a)
         | inr d ↦ c.unused n v (at_other n v d e) f a
       ];
+      stays = λ n v e f a. elim (cases_eq n number) [
+        | inl d ↦
+            let k : y ≡ v = at_number v (ap (value_of (with_pair names number y)) (sym d) ∙ e) in
+            sym k ∙ (choice.kept (ap (value_of free) (sym d) ∙ f) (ap (λ w. is_among (old w) avoid) (sym d) ∙ a) ∙ ap old (sym d))
+        | inr d ↦ c.stays n v (at_other n v d e) f a
+      ];
+      apart = λ b n v e g f h a z. elim (cases_eq b number) [
+        | inl d ↦ elim (cases_eq n number) [
+          | inl q ↦ d ∙ sym q
+          | inr q ↦
+              let k : y ≡ v = at_number v (ap (value_of (with_pair names number y)) (sym d) ∙ e) in
+              absurd (not_given n v k (ap (value_of free) (sym d) ∙ f) (ap (λ w. is_among (old w) avoid) (sym d) ∙ a) (at_other n v q g))
+        ]
+        | inr d ↦ elim (cases_eq n number) [
+          | inl q ↦
+              let k : y ≡ v = at_number v (ap (value_of (with_pair names number y)) (sym q) ∙ g) in
+              absurd (not_given b v k (ap (value_of free) (sym q) ∙ h) (ap (λ w. is_among (old w) avoid) (sym q) ∙ z) (at_other b v d e))
+          | inr q ↦ c.apart b n v (at_other b v d e) (at_other n v q g) f h a z
+        ]
+      ];
       meet = λ b n v f e g. elim (cases_eq b number) [
         | inl d ↦
             let k : y ≡ v = at_number v (ap (value_of (with_pair names number y)) (sym d) ∙ e) in
@@ -146,6 +170,9 @@ module _ (t : Table) (xs avoid : List ℕ) (old : ℕ → ℕ) (free : List (ℕ
       ];
     }
       where
+        not_given : (n v : ℕ) → y ≡ v → value_of free number ≡ None → is_among (old number) avoid ≡ true → value_of names n ≡ Some v → ⊥
+        not_given n v k f a e = false≢true (sym (choice.not_new f a) ∙ (ap (λ w. is_among w (values names)) k ∙ is_value names n v e))
+
         chosen_free : value_of free number ≡ None → is_among y avoid ≡ false
         chosen_free f = elim (told_bool (is_among (old number) avoid)) [
           | inl a ↦ choice.not_avoided f a
@@ -337,6 +364,15 @@ all_renamed t f h avoid free names i fits e d π ef =
       unused = λ j lt b a.
           let c = chosen_at j lt in
           ap (is_known t) c.2 ∙ d.chosen.unused (slice_index ns j) c.0 c.1 (binds j lt b) (ap (λ x. is_among x avoid) (sym (old_at j lt)) ∙ a);
+      kept = λ j lt b a.
+          let c = chosen_at j lt in
+          c.2 ∙ (d.chosen.stays (slice_index ns j) c.0 c.1 (binds j lt b) (ap (λ x. is_among x avoid) (sym (old_at j lt)) ∙ a) ∙ sym (old_at j lt));
+      apart = λ j k lt lk b u a z q.
+          let c = chosen_at j lt in
+          let o = chosen_at k lk in
+          let s : o.0 ≡ c.0 = sym o.2 ∙ (sym q ∙ c.2) in
+          binders_apart f j k fits lt lk b u (d.chosen.apart (slice_index ns j) (slice_index ns k) c.0 c.1 (o.1 ∙ ap Some s) (binds j lt b) (binds k lk u)
+          (ap (λ x. is_among x avoid) (sym (old_at j lt)) ∙ a) (ap (λ x. is_among x avoid) (sym (old_at k lk)) ∙ z));
       differ = λ j k lt lk b q.
           let c = chosen_at j lt in
           let o = chosen_at k lk in

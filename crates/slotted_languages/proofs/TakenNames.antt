@@ -96,12 +96,17 @@ within_among start old new names i slot x e s lt before h =
     by (inl d) k = inr (ap (λ w. is_among w names) (sym d ∙ s) ∙ among_index names i lt)
     by (inr n) k = before (sym (ap (λ b. b || is_among x old) (ne_eqb slot x n)) ∙ k)
 
--- so does each value of the map that renames numbers
-pub value_stands : (f g : Form) (π : ℕ → ℕ) (free names : List (ℕ × ℕ)) (z : ℕ) → Fits g → values free ≡ firsts (free_names_of f) → names ≡ moved_names π free → nameless_node g ≡ moved π (nameless_node f) → is_among z (values names) ≡ true → is_among z g.names ≡ true
-value_stands f g π free names z fits ef en e h =
+-- each value of the map that renames numbers is a free name of the renamed node
+pub value_free : (f g : Form) (π : ℕ → ℕ) (free names : List (ℕ × ℕ)) (z : ℕ) → values free ≡ firsts (free_names_of f) → names ≡ moved_names π free → nameless_node g ≡ moved π (nameless_node f) → is_among z (values names) ≡ true → is_among z (free_names_of g) ≡ true
+value_free f g π free names z ef en e h =
     let r = among_of_map π (values free) z (ap (is_among z) (sym (ap values en ∙ values-moved π free)) ∙ h) in
     let here : is_among r.0 (free_names_of f) ≡ true = sym (is_among-firsts r.0 (free_names_of f)) ∙ (ap (is_among r.0) (sym ef) ∙ r.1) in
-    ap (λ w. is_among w g.names) (sym r.2) ∙ moved_stands f g π r.0 fits e here
+    let same : free_names_of g ≡ map π (free_names_of f) = ap (λ (t : DTerm). free_names t.args) e ∙ free_names-moved π (nameless_node f).args in
+    ap (λ w. is_among w (free_names_of g)) (sym r.2) ∙ (ap (is_among (π r.0)) same ∙ among_map π (free_names_of f) r.0 here)
+
+-- so it stands in that node
+pub value_stands : (f g : Form) (π : ℕ → ℕ) (free names : List (ℕ × ℕ)) (z : ℕ) → Fits g → values free ≡ firsts (free_names_of f) → names ≡ moved_names π free → nameless_node g ≡ moved π (nameless_node f) → is_among z (values names) ≡ true → is_among z g.names ≡ true
+value_stands f g π free names z fits ef en e h = free_stands g z fits (value_free f g π free names z ef en e h)
 
 -- an entered name keeps the values of the map
 entered_grows : (t : Table) (xs avoid : List ℕ) (free old new : List (ℕ × ℕ)) (number name y z : ℕ) → IsEntered t xs avoid free old new number name y → is_among z (values old) ≡ true → is_among z (values new) ≡ true

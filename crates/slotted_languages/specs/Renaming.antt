@@ -25,9 +25,12 @@ pub record IsEntered (t : Table) (xs avoid : List ℕ) (free old new : List (ℕ
   pub entered : value_of old number ≡ None → new ≡ with_pair old number y
 
 -- g is the node f with its free names renamed by π, and no name of a binder is one to be avoided. A binder whose name was to be
--- avoided has one that the table t does not know, and no binder has the new name of what had another name before
+-- avoided has one that the table t does not know, every other one has its old name, two such binders have different names, and
+-- no binder has the new name of what had another name before
 pub record IsRenamed (t : Table) (π : ℕ → ℕ) (f : Form) (avoid : List ℕ) (g : Form) : Type 0 where
   pub renamed : nameless_node g ≡ moved π (nameless_node f)
   pub bound : (j : ℕ) → j < length f.names → IsBinder f j → is_among (slice_index g.names j) avoid ≡ false
   pub unused : (j : ℕ) → j < length f.names → IsBinder f j → is_among (slice_index f.names j) avoid ≡ true → is_known t (slice_index g.names j) ≡ false
+  pub kept : (j : ℕ) → j < length f.names → IsBinder f j → is_among (slice_index f.names j) avoid ≡ false → slice_index g.names j ≡ slice_index f.names j
+  pub apart : (j k : ℕ) → j < length f.names → k < length f.names → IsBinder f j → IsBinder f k → is_among (slice_index f.names j) avoid ≡ true → is_among (slice_index f.names k) avoid ≡ true → slice_index g.names j ≡ slice_index g.names k → j ≡ k
   pub differ : (j k : ℕ) → j < length f.names → k < length f.names → IsBinder f j → slice_index g.names j ≡ slice_index g.names k → slice_index f.names j ≡ slice_index f.names k

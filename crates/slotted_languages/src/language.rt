@@ -95,6 +95,9 @@ pub trait Language: LanguageChildren + Ord {
         requires { KnowsAll m.now (free_names_of (Self.form self.now)) }
         ensures renamed { IfOk result (λ r. nameless_node (Self.form r) ≡ moved (filled m.now) (nameless_node (Self.form self.now))) }
 
+        // A bound slot that is no free one of the answer stays.
+        ensures stays { IfOk result (λ r. (j : ℕ) → j < length (Self.form self.now).names → IsBinder (Self.form self.now) j → is_among (slice_index (Self.form self.now).names j) (free_names_of (Self.form r)) ≡ false → slice_index (Self.form r).names j ≡ slice_index (Self.form self.now).names j) }
+
         // The table knows nothing new but what stands in the answer, or stood in the node.
         ensures taken { IfOk result (λ r. Takes table.old table.new (IsInEither (Self.form r).names (Self.form self.now).names)) }
 
@@ -123,6 +126,9 @@ pub trait Language: LanguageChildren + Ord {
         requires { KnowsAll m.now (free_names_of (Self.form self.now)) }
         ensures renamed { IfOk result (λ r. nameless_node (Self.form r) ≡ moved (filled m.now) (nameless_node (Self.form self.now))) }
 
+        // A bound slot that is no free one of the answer stays.
+        ensures stays { IfOk result (λ r. (j : ℕ) → j < length (Self.form self.now).names → IsBinder (Self.form self.now) j → is_among (slice_index (Self.form self.now).names j) (free_names_of (Self.form r)) ≡ false → slice_index (Self.form r).names j ≡ slice_index (Self.form self.now).names j) }
+
         // The table knows nothing new but what stands in the answer, or stood in the node.
         ensures taken { IfOk result (λ r. Takes table.old table.new (IsInEither (Self.form r).names (Self.form self.now).names)) }
         ensures large { 2 ^ 30 ≤ length (Self.form self.now).names → IsErrOf result Error.OutOfSlots }
@@ -144,6 +150,9 @@ pub trait Language: LanguageChildren + Ord {
     where
         Self: Sized,
         ensures renamed { IfOk result (λ r. IsRenamedFresh table.old m.now (Self.form self.now) (Self.form r)) }
+
+        // A bound slot that is no free one of the answer stays.
+        ensures stays { IfOk result (λ r. (j : ℕ) → j < length (Self.form self.now).names → IsBinder (Self.form self.now) j → is_among (slice_index (Self.form self.now).names j) (free_names_of (Self.form r)) ≡ false → slice_index (Self.form r).names j ≡ slice_index (Self.form self.now).names j) }
 
         // The table knows nothing new but what stands in the answer, in the map, or stood in the node.
         ensures taken { IfOk result (λ r. Takes table.old table.new (IsInUse (values m.now) (Self.form r).names (Self.form self.now).names)) }
@@ -167,6 +176,7 @@ pub trait Language: LanguageChildren + Ord {
         ensures same { IfOk result (λ r. nameless_node (Self.form r) ≡ nameless_node (Self.form self.now)) }
         ensures fresh { IfOk result (λ r. (j : ℕ) → j < length (Self.form self.now).names → IsBinder (Self.form self.now) j → is_among (slice_index (Self.form r).names j) (Self.form self.now).names ≡ false) }
         ensures unused { IfOk result (λ r. (j : ℕ) → j < length (Self.form self.now).names → IsBinder (Self.form self.now) j → is_known table.old (slice_index (Self.form r).names j) ≡ false) }
+        ensures apart { IfOk result (λ r. (j k : ℕ) → j < length (Self.form self.now).names → k < length (Self.form self.now).names → IsBinder (Self.form self.now) j → IsBinder (Self.form self.now) k → slice_index (Self.form r).names j ≡ slice_index (Self.form r).names k → j ≡ k) }
         ensures differ { IfOk result (λ r. (j k : ℕ) → j < length (Self.form self.now).names → k < length (Self.form self.now).names → IsBinder (Self.form self.now) j → slice_index (Self.form r).names j ≡ slice_index (Self.form r).names k → slice_index (Self.form self.now).names j ≡ slice_index (Self.form self.now).names k) }
 
         // The table knows nothing new but what stands in the answer, or stood in the node.

@@ -2,9 +2,10 @@ use Rattle.std.proofs.Common.{◌∙◌, sym, inl}
 use Rattle.std.proofs.lemmas.Result.{IfOk-weaker}
 use Rattle.slotted_theory.specs.FiniteMaps.{filled}
 use Rattle.slotted_languages.specs.Shape.{shape}
+use Rattle.slotted_languages.proofs.Occurrences.{lacks_smaller}
 use Rattle.slotted_languages.proofs.Renamings.{has_values, composed_shape}
 use Rattle.slotted_languages.proofs.Shapes.{values-shape}
-use Rattle.slotted_languages.proofs.TakenNames.{avoided_taken, both_ok, value_stands}
+use Rattle.slotted_languages.proofs.TakenNames.{avoided_taken, both_ok, value_free, value_stands}
 use Rattle.slotted_languages.proofs.language.Language.apply_slotmap.Goals as goal
 
 pub rename-requires-clause-avoided : goal.rename-requires-clause-avoided
@@ -19,6 +20,16 @@ returns-clause-taken g c =
     (λ r h k. avoided_taken c.args.table.now c.rename.new.table c.in_ok-avoid.avoid f.names (form r).names
     (λ z p. inl (value_stands f (form r) (filled c.args.m.now) (shape f).1 c.in_ok-names.names z (g.met.Self.LanguageChildren.fits r) (values-shape f) e (h (filled c.args.m.now) e).renamed (sym (c.in_ok-avoid.ensures.members z) ∙ p))) k)
     c.rename.ensures.renamed c.rename.ensures.taken
+
+pub returns-clause-stays : goal.returns-clause-stays
+returns-clause-stays g c =
+    let form = g.Self.LanguageChildren.form in
+    let f = form c.args.self.now in
+    let e = c.in_ok-names.ensures.ok ∙ composed_shape f c.args.m.now c.in_ok-numbered.free c.requires (λ i. (c.in_ok-numbered.ensures.shape i).1) in
+    IfOk-weaker c.rename.result _ _
+    (λ r h j lt b a.
+    let d = h (filled c.args.m.now) e in
+    d.kept j lt b (lacks_smaller _ _ (λ p. value_free f (form r) (filled c.args.m.now) (shape f).1 c.in_ok-names.names _ (values-shape f) e d.renamed (sym (c.in_ok-avoid.ensures.members _) ∙ p)) a)) c.rename.ensures.renamed
 
 pub returns-clause-renamed : goal.returns-clause-renamed
 returns-clause-renamed g c =

@@ -53,3 +53,11 @@ returns-clause-differ g c =
     let p : c.in_ok-numbered.free ≡ (shape f).1 = λ i. (c.in_ok-numbered.ensures.shape i).1 in
     let e : c.in_ok-numbered.free ≡ moved_names (λ x. x) (shape f).1 = p ∙ moved_same (shape f).1 in
     IfOk-weaker c.rename.result _ _ (λ r h j k lt lk b q. (h (λ x. x) e).differ j k lt lk b q) c.rename.ensures.renamed
+
+pub returns-clause-apart : goal.returns-clause-apart
+returns-clause-apart g c =
+    let f = g.Self.LanguageChildren.form c.args.self.now in
+    let p : c.in_ok-numbered.free ≡ (shape f).1 = λ i. (c.in_ok-numbered.ensures.shape i).1 in
+    let e : c.in_ok-numbered.free ≡ moved_names (λ x. x) (shape f).1 = p ∙ moved_same (shape f).1 in
+    IfOk-weaker c.rename.result _ _
+    (λ r h j k lt lk b u q. (h (λ x. x) e).apart j k lt lk b u (c.in_ok-add_names.ensures.added _ (among_index f.names j lt)) (c.in_ok-add_names.ensures.added _ (among_index f.names k lk)) q) c.rename.ensures.renamed
