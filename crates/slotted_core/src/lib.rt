@@ -1,4 +1,5 @@
-//! E-graphs of terms with binders. This crate has the graph without unions: terms go in, and alpha-equal ones get equal ids.
+//! E-graphs of terms with binders: terms go in, alpha-equal ones get equal ids, ids over the same names are united, and each
+//! yes is proved, by entries that a union makes or by steps that a caller asks for. Nothing is rebuilt yet.
 #![tactic(auto)]
 
 mod congruence;

@@ -1,6 +1,6 @@
 //! Worked values of slot maps: each call once, over numeric slots and fresh ones.
-use crate::tests::{assert_map, assert_slots, numeric_map};
-use crate::{AppliedId, Error, Id, Show, Slot, SlotMap, SlotTable};
+use crate::tests::{assert_map, assert_slots, composite, numeric_map};
+use crate::{AppliedId, Error, Id, Show, Slot, SlotMap, SlotTable, SmallHashSet};
 use std::alloc::Global;
 use std::process::Abort;
 
@@ -39,78 +39,94 @@ fn permutations_turn_their_keys_round(rt: HostRuntime) -> Result<(), Error> {
     assert_map(&rt, rt.alloc(), &twice, &[(0, 2), (1, 0), (2, 1)])
 }
 
+// The text of a map.
+fn text_over(alloc: Global, table: &SlotTable, map: &SlotMap) -> Result<String, Error> {
+    Ok(map.show(table).to_string(alloc)?)
+}
+
+// The text of the map that two maps unite to, if they agree.
+fn united(alloc: Global, first: &SlotMap, second: &SlotMap) -> Result<String, Error> {
+    match first.try_union(alloc, second)? {
+        Some(both) => text_over(alloc, &SlotTable::new(alloc), &both),
+        None => Ok(String::from_str(alloc, "none")?),
+    }
+}
+
+fn united_pairs(
+    alloc: Global,
+    first: &[(u32, u32)],
+    second: &[(u32, u32)],
+) -> Result<String, Error> {
+    let first = numeric_map(alloc, first)?;
+    let second = numeric_map(alloc, second)?;
+    united(alloc, &first, &second)
+}
+
 #[test]
 fn maps_that_agree_are_united(rt: HostRuntime) -> Result<(), Error> {
-    let first = numeric_map(rt.alloc(), &[(0, 1), (3, 4)])?;
-    let second = numeric_map(rt.alloc(), &[(0, 1), (2, 5)])?;
-    if let Some(both) = first.try_union(rt.alloc(), &second)? {
-        assert_map(&rt, rt.alloc(), &both, &[(0, 1), (2, 5), (3, 4)])?;
-    }
-    let other = numeric_map(rt.alloc(), &[(0, 2)])?;
-    assert!(rt; first.try_union(rt.alloc(), &second)?.is_some());
-    assert!(rt; first.try_union(rt.alloc(), &other)?.is_none());
+    let both = united_pairs(rt.alloc(), &[(0, 1), (3, 4)], &[(0, 1), (2, 5)])?;
+    assert!(rt; both.as_str() == "[$0 -> $1, $2 -> $5, $3 -> $4]");
+    let none = united_pairs(rt.alloc(), &[(0, 1), (3, 4)], &[(0, 2)])?;
+    assert!(rt; none.as_str() == "none");
     Ok(())
 }
 
-// The value at a numeric slot prints so.
-fn assert_value(
-    rt: &impl Abort,
-    alloc: Global,
-    table: &SlotTable,
-    map: &SlotMap,
-    key: u32,
-    shown: &str,
-) -> Result<(), Error> {
-    let value = map.get(table.numeric(key)?).unwrap_or_default();
-    let print = crate::tests::printed(alloc, table, &value)?;
-    assert!(rt; print.as_str() == shown);
-    Ok(())
+// What a map and then another one make, with fresh slots for values that the other lacks.
+fn composed_fresh(alloc: Global, first: &SlotMap, second: &SlotMap) -> Result<String, Error> {
+    let mut table = SlotTable::new(alloc);
+    let both = first.compose_fresh(alloc, second, &mut table)?;
+    text_over(alloc, &table, &both)
 }
 
 #[test]
 fn lacking_values_are_fresh(rt: HostRuntime) -> Result<(), Error> {
-    let mut table = SlotTable::new(rt.alloc());
     let first = numeric_map(rt.alloc(), &[(0, 1), (1, 2), (2, 3)])?;
     let second = numeric_map(rt.alloc(), &[(2, 9)])?;
-    let both = first.compose_fresh(rt.alloc(), &second, &mut table)?;
-    assert!(rt; both.len() == 3);
-    assert_value(&rt, rt.alloc(), &table, &both, 0, "$f0")?;
-    assert_value(&rt, rt.alloc(), &table, &both, 1, "$9")?;
-    assert_value(&rt, rt.alloc(), &table, &both, 2, "$f1")
+    let both = composed_fresh(rt.alloc(), &first, &second)?;
+    assert!(rt; both.as_str() == "[$0 -> $f0, $1 -> $9, $2 -> $f1]");
+    Ok(())
+}
+
+// The map to a set, from fresh slots.
+fn fresh_to(alloc: Global, set: &SmallHashSet<Slot>) -> Result<String, Error> {
+    let mut table = SlotTable::new(alloc);
+    let map = SlotMap::bijection_from_fresh_to(alloc, set, &mut table)?;
+    text_over(alloc, &table, &map)
 }
 
 #[test]
 fn fresh_slots_go_to_a_set(rt: HostRuntime) -> Result<(), Error> {
-    let mut table = SlotTable::new(rt.alloc());
     let set = numeric_map(rt.alloc(), &[(4, 0), (6, 0)])?.keys(rt.alloc())?;
-    let map = SlotMap::bijection_from_fresh_to(rt.alloc(), &set, &mut table)?;
-    assert_slots(&rt, &map.values_vec(rt.alloc())?, &[4, 6]);
-    let last = table.named("f1")?;
-    assert!(rt; map.contains_key(last) && map.len() == 2);
+    let map = fresh_to(rt.alloc(), &set)?;
+    assert!(rt; map.as_str() == "[$f0 -> $4, $f1 -> $6]");
     Ok(())
 }
 
 // The map prints so.
 fn assert_prints(rt: &impl Abort, alloc: Global, map: &SlotMap, shown: &str) -> Result<(), Error> {
-    let table = SlotTable::new(alloc);
-    assert!(rt; map.show(&table).to_string(alloc)?.as_str() == shown);
+    let text = text_over(alloc, &SlotTable::new(alloc), map)?;
+    assert!(rt; text.as_str() == shown);
     Ok(())
+}
+
+// The map of these pairs prints so.
+fn assert_pairs_print(
+    rt: &impl Abort,
+    alloc: Global,
+    pairs: &[(u32, u32)],
+    shown: &str,
+) -> Result<(), Error> {
+    let map = numeric_map(alloc, pairs)?;
+    assert_prints(rt, alloc, &map, shown)
 }
 
 #[test]
 fn maps_print_by_their_keys(rt: HostRuntime) -> Result<(), Error> {
-    let map = numeric_map(rt.alloc(), &[(1, 2), (0, 3)])?;
-    assert_prints(&rt, rt.alloc(), &map, "[$0 -> $3, $1 -> $2]")?;
-    let overwritten = numeric_map(rt.alloc(), &[(3, 7), (2, 7), (3, 8), (4, 7)])?;
-    assert_prints(
-        &rt,
-        rt.alloc(),
-        &overwritten,
-        "[$2 -> $7, $3 -> $8, $4 -> $7]",
-    )?;
-    let first = numeric_map(rt.alloc(), &[(0, 1), (1, 2)])?;
-    let second = numeric_map(rt.alloc(), &[(1, 5)])?;
-    let both = first.compose_partial(rt.alloc(), &second)?;
+    assert_pairs_print(&rt, rt.alloc(), &[(1, 2), (0, 3)], "[$0 -> $3, $1 -> $2]")?;
+    let overwritten = [(3, 7), (2, 7), (3, 8), (4, 7)];
+    let shown = "[$2 -> $7, $3 -> $8, $4 -> $7]";
+    assert_pairs_print(&rt, rt.alloc(), &overwritten, shown)?;
+    let both = composite(rt.alloc(), &[(0, 1), (1, 2)], &[(1, 5)])?;
     assert_prints(&rt, rt.alloc(), &both, "[$0 -> $5]")
 }
 
@@ -139,25 +155,47 @@ fn applied_to_three(alloc: Global) -> Result<AppliedId, Error> {
     Ok(AppliedId { id: Id(5), m })
 }
 
+// The id sent on by a map, which leaves its slots apart, without the slots that the map lacks.
+fn assert_left_out(
+    rt: &impl Abort,
+    alloc: Global,
+    applied: &AppliedId,
+    on: &SlotMap,
+    shown: &str,
+) -> Result<(), Error> {
+    assert!(rt; applied.m.compose_partial(alloc, on)?.is_bijection());
+    let sent = applied.apply_slotmap_partial(alloc, on)?;
+    assert_applied_prints(rt, alloc, &SlotTable::new(alloc), &sent, shown)
+}
+
 #[test]
 fn unknown_slots_are_left_out(rt: HostRuntime) -> Result<(), Error> {
     let applied = applied_to_three(rt.alloc())?;
     let on = numeric_map(rt.alloc(), &[(1, 7), (3, 8)])?;
-    assert!(rt; applied.m.compose_partial(rt.alloc(), &on)?.is_bijection());
-    let sent = applied.apply_slotmap_partial(rt.alloc(), &on)?;
-    let table = SlotTable::new(rt.alloc());
-    assert_applied_prints(&rt, rt.alloc(), &table, &sent, "id5[$0 -> $7, $2 -> $8]")
+    let shown = "id5[$0 -> $7, $2 -> $8]";
+    assert_left_out(&rt, rt.alloc(), &applied, &on, shown)
+}
+
+// The same with fresh slots in their place.
+fn assert_made_fresh(
+    rt: &impl Abort,
+    alloc: Global,
+    applied: &AppliedId,
+    on: &SlotMap,
+    shown: &str,
+) -> Result<(), Error> {
+    assert!(rt; applied.m.compose_partial(alloc, on)?.is_bijection());
+    let mut table = SlotTable::new(alloc);
+    let sent = applied.apply_slotmap_fresh(alloc, on, &mut table)?;
+    assert_applied_prints(rt, alloc, &table, &sent, shown)
 }
 
 #[test]
 fn unknown_slots_become_fresh(rt: HostRuntime) -> Result<(), Error> {
     let applied = applied_to_three(rt.alloc())?;
     let on = numeric_map(rt.alloc(), &[(1, 7), (3, 8)])?;
-    assert!(rt; applied.m.compose_partial(rt.alloc(), &on)?.is_bijection());
-    let mut table = SlotTable::new(rt.alloc());
-    let sent = applied.apply_slotmap_fresh(rt.alloc(), &on, &mut table)?;
     let shown = "id5[$0 -> $7, $1 -> $f0, $2 -> $8]";
-    assert_applied_prints(&rt, rt.alloc(), &table, &sent, shown)
+    assert_made_fresh(&rt, rt.alloc(), &applied, &on, shown)
 }
 
 #[test]

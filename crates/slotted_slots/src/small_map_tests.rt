@@ -1,9 +1,8 @@
 //! Worked values of small maps: each call once.
 use crate::{Error, SmallHashMap};
+use std::process::Abort;
 
-#[test]
-fn maps_keep_one_value_a_key(rt: HostRuntime) -> Result<(), Error> {
-    let mut map: SmallHashMap<u32, u32> = SmallHashMap::new(rt.alloc());
+fn check_values(rt: &impl Abort, map: &mut SmallHashMap<u32, u32>) -> Result<(), Error> {
     assert!(rt; map.is_empty());
     assert!(rt; map.insert(3, 30)?.is_none() && map.insert(1, 10)?.is_none());
     assert!(rt; map.insert(3, 31)? == Some(30) && map.len() == 2);
@@ -12,8 +11,11 @@ fn maps_keep_one_value_a_key(rt: HostRuntime) -> Result<(), Error> {
 }
 
 #[test]
-fn entries_are_walked_and_taken_out(rt: HostRuntime) -> Result<(), Error> {
-    let mut map: SmallHashMap<u32, u32> = SmallHashMap::new(rt.alloc());
+fn maps_keep_one_value_a_key(rt: HostRuntime) -> Result<(), Error> {
+    check_values(&rt, &mut SmallHashMap::new(rt.alloc()))
+}
+
+fn check_entries(rt: &impl Abort, map: &mut SmallHashMap<u32, u32>) -> Result<(), Error> {
     map.insert(3, 30)?;
     map.insert(1, 10)?;
     let mut entries = map.iter();
@@ -21,4 +23,9 @@ fn entries_are_walked_and_taken_out(rt: HostRuntime) -> Result<(), Error> {
     assert!(rt; entries.next().is_none());
     assert!(rt; map.remove(&3) == Some(30) && map.remove(&3).is_none() && map.len() == 1);
     Ok(())
+}
+
+#[test]
+fn entries_are_walked_and_taken_out(rt: HostRuntime) -> Result<(), Error> {
+    check_entries(&rt, &mut SmallHashMap::new(rt.alloc()))
 }

@@ -10,6 +10,12 @@ pub(crate) fn printed(alloc: Global, table: &SlotTable, slot: &Slot) -> Result<S
     Ok(slot.show(table).to_string(alloc)?)
 }
 
+// What the slot prints that a text names.
+fn shown_as_named(alloc: Global, table: &mut SlotTable, text: &str) -> Result<String, Error> {
+    let slot = table.named(text)?;
+    printed(alloc, table, &slot)
+}
+
 // The text names a slot that prints as shown.
 fn assert_names(
     rt: &impl Abort,
@@ -18,8 +24,7 @@ fn assert_names(
     text: &str,
     shown: &str,
 ) -> Result<(), Error> {
-    let slot = table.named(text)?;
-    let print = printed(alloc, table, &slot)?;
+    let print = shown_as_named(alloc, table, text)?;
     assert!(rt; print.as_str() == shown);
     Ok(())
 }
@@ -92,20 +97,33 @@ fn numbers_have_a_limit(rt: HostRuntime) -> Result<(), Error> {
     Ok(())
 }
 
+// A name of a table of its own.
+fn first_name(alloc: Global) -> Result<Slot, Error> {
+    SlotTable::new(alloc).named("a")
+}
+
 #[test]
 fn an_unknown_name_is_a_mark(rt: HostRuntime) -> Result<(), Error> {
-    let name = SlotTable::new(rt.alloc()).named("a")?;
+    let name = first_name(rt.alloc())?;
     let other = SlotTable::new(rt.alloc());
     assert!(rt; !other.knows(name));
     assert!(rt; printed(rt.alloc(), &other, &name)?.as_str() == "$?");
     Ok(())
 }
 
+// Whether there is a slot, and it is this numeric one.
+fn is_numeric(slot: Option<&Slot>, number: u32) -> bool {
+    match slot {
+        Some(slot) => slot.raw() / 4 == number && slot.raw() % 4 == 0,
+        None => false,
+    }
+}
+
 // The slots are these numeric ones.
 pub(crate) fn assert_slots(rt: &impl Abort, slots: &[Slot], numbers: &[u32]) {
     assert!(rt; slots.len() == numbers.len());
-    for (slot, number) in slots.iter().zip(numbers) {
-        assert!(rt; slot.raw() / 4 == *number && slot.raw() % 4 == 0);
+    for (i, number) in numbers.iter().enumerate() {
+        assert!(rt; is_numeric(slots.get(i), *number));
     }
 }
 
@@ -141,11 +159,20 @@ fn a_later_pair_overwrites(rt: HostRuntime) -> Result<(), Error> {
     Ok(())
 }
 
+// What a map and then another one make.
+pub(crate) fn composite(
+    alloc: Global,
+    first: &[(u32, u32)],
+    second: &[(u32, u32)],
+) -> Result<SlotMap, Error> {
+    let first = numeric_map(alloc, first)?;
+    let second = numeric_map(alloc, second)?;
+    first.compose_partial(alloc, &second)
+}
+
 #[test]
 fn composing_keeps_what_the_other_knows(rt: HostRuntime) -> Result<(), Error> {
-    let first = numeric_map(rt.alloc(), &[(0, 1), (1, 2)])?;
-    let second = numeric_map(rt.alloc(), &[(1, 5)])?;
-    let both = first.compose_partial(rt.alloc(), &second)?;
+    let both = composite(rt.alloc(), &[(0, 1), (1, 2)], &[(1, 5)])?;
     assert_map(&rt, rt.alloc(), &both, &[(0, 5)])
 }
 
