@@ -11,3 +11,4 @@ pub mod AsTerms
 pub mod TermPatterns
 pub mod ValidTexts
 pub mod TermReadings
+pub mod TermsReadAgain

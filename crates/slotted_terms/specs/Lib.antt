@@ -7,3 +7,4 @@ pub mod Parsed
 pub mod Valid
 pub mod Shown
 pub mod SmallWritten
+pub mod ReadAgain

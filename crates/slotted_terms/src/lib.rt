@@ -5,6 +5,7 @@ pub mod expr;
 pub mod outlines;
 pub mod parse;
 pub mod patterns;
+pub mod read_again;
 
 pub use expr::RecExpr;
 pub use patterns::{pattern_to_re, re_to_pattern};

@@ -4,6 +4,7 @@ ghost use Rattle.std.specs.Str.{chars};
 ghost use Rattle.slotted_slots.specs.Table.{KnowsMore};
 ghost use Rattle.slotted_terms.specs.Outcome.{Answers};
 ghost use Rattle.slotted_terms.specs.Parsed.{TextReads, ReadsOneWay, ReadsSomeWay};
+ghost use Rattle.slotted_terms.specs.ReadAgain.{ReadsAsNodes};
 ghost use Rattle.slotted_terms.specs.Valid.{IsValidTerm};
 
 #[cfg(test)]
@@ -25,6 +26,10 @@ impl<L: Language> RecExpr<L> {
     pub fn parse(alloc: Global, text: &str, table: &mut SlotTable) -> Result<RecExpr<L>, Error>
         ensures answer { Answers (λ o. TextReads L.read table.old (chars text.now) o table.new) result }
         ensures valid { IfOk result (λ t. IsValidTerm table.new t) }
+
+        // It was read as a pattern of nodes of the language: so what it prints reads as it (`each_term_reads_as_itself`).
+        ensures nodes { IfOk result (λ x. ReadsAsNodes L.form L.read table.old (chars text.now) x table.new) }
+
         ensures more { KnowsMore table.old table.new }
     {
         let pattern = Pattern::parse(alloc, text, table)?;
