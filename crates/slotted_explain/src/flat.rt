@@ -16,45 +16,18 @@ use std::fmt::Write;
 // An asserted equation that rewrites one place of a term, or an entry that stands for several of these. A turned one rewrites
 // from right to left. The path has the child to go down to at each node from the top.
 #[derive(Drop)]
-struct FlatStep {
+pub(crate) struct FlatStep {
     entry: ProvenEq,
     turned: bool,
     path: Vec<usize>,
 }
 
-/// The proof of an entry as a chain of terms: the canonical term of the left side, then, for each assertion that the proof uses,
-/// in the order of use, a line feed and the whole term after that step.
-///
-/// In each of these the subterm that was put in stands as `(Rewrite=> J T)`, or as `(Rewrite<= J T)` where the assertion is used
-/// from right to left. J is the text of the assertion, or `-` where it has none. The names are those of the left side's term; a
-/// name that only the other side of an assertion has is its own, or a number, where the term has that name already.
-pub fn to_flat_string<L: Printable, N: Drop>(
-    alloc: Global,
-    graph: &mut EGraph<L, N>,
-    p: ProvenEq,
-) -> Result<String, Error>
-    requires { IsTrue graph.old.failed ⊎ (p < length graph.old.image.entries) }
-
-    // Only fresh slots are made, and a refusal does not fail the graph.
-    ensures image { graph.new.image ≡ graph.old.image }
-    ensures same { graph.new.failed ≡ graph.old.failed }
-    ensures names { graph.new.table.names ≡ graph.old.table.names }
-    ensures more { KnowsMore graph.old.table graph.new.table }
-
-    ensures failed { IsErrOf result Error.Failed ↔ IsTrue graph.old.failed }
-    ensures full { IsErrOf result Error.OutOfSlots → (graph.new.table.fresh ≡ 2 ^ 30) ⊎ HasLargeNode graph.old.image.canonical }
-    ensures only { IfErr result (λ e. (e ≡ Error.Failed) ⊎ IsShortage e) }
-{
-    if graph.is_failed() {
-        return Err(Error::Failed);
-    }
-    let steps = flat_steps(alloc, graph.proofs(), p)?;
-    let text = chain_text(alloc, graph, p, &steps)?;
-    Ok(text)
-}
-
 // The assertions that a proof uses, in the order of use.
-fn flat_steps(alloc: Global, proofs: &ProofList, p: ProvenEq) -> Result<Vec<FlatStep>, Error>
+pub(crate) fn flat_steps(
+    alloc: Global,
+    proofs: &ProofList,
+    p: ProvenEq,
+) -> Result<Vec<FlatStep>, Error>
     ensures err { IfErr result IsOutOfMemory }
 {
     let mut steps = Vec::new(alloc);
@@ -137,7 +110,7 @@ fn push_children(
 }
 
 // The left side, and a line for each step. Each entry has a canonical term.
-fn chain_text<L: Printable, N: Drop>(
+pub(crate) fn chain_text<L: Printable, N: Drop>(
     alloc: Global,
     graph: &mut EGraph<L, N>,
     p: ProvenEq,

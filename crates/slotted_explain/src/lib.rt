@@ -1,11 +1,11 @@
 //! Proofs as texts.
 #![tactic(auto)]
 
+mod explanation;
 mod flat;
 mod flat_terms;
 mod print;
 #[cfg(test)]
 mod tests;
 
-pub use flat::to_flat_string;
-pub use print::to_string;
+pub use explanation::Explanation;

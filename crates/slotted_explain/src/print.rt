@@ -15,38 +15,8 @@ use slotted_terms::expr::printing::Printable;
 use std::alloc::Global;
 use std::fmt::Write;
 
-/// The proof of an entry: a line for each entry that it stands on, each once, parts first, numbered from 0.
-///
-/// A line is `i: l = r by X`, ended by a line feed: the sides are canonical terms, and X is the debug form of the optional text,
-/// `refl`, or `symmetry(a)`, `transitivity(a, b)` or `congruence(a, b)` with the numbers of the parts' lines.
-pub fn to_string<L: Printable, N: Drop>(
-    alloc: Global,
-    graph: &mut EGraph<L, N>,
-    p: ProvenEq,
-) -> Result<String, Error>
-    requires { IsTrue graph.old.failed ⊎ (p < length graph.old.image.entries) }
-    ensures text { IfOk result (λ s. IsProofText L.written graph.old p (string_bytes s)) }
-
-    // Only fresh slots are made, and a refusal does not fail the graph.
-    ensures image { graph.new.image ≡ graph.old.image }
-    ensures same { graph.new.failed ≡ graph.old.failed }
-    ensures names { graph.new.table.names ≡ graph.old.table.names }
-    ensures more { KnowsMore graph.old.table graph.new.table }
-
-    ensures failed { IsErrOf result Error.Failed ↔ IsTrue graph.old.failed }
-    ensures full { IsErrOf result Error.OutOfSlots → (graph.new.table.fresh ≡ 2 ^ 30) ⊎ HasLargeNode graph.old.image.canonical }
-    ensures only { IfErr result (λ e. (e ≡ Error.Failed) ⊎ IsShortage e) }
-{
-    if graph.is_failed() {
-        return Err(Error::Failed);
-    }
-    let lines = graph.proofs().lines(alloc, p)?;
-    let text = lines_text(alloc, graph, &lines)?;
-    Ok(text)
-}
-
 // The lines in turn.
-fn lines_text<L: Printable, N: Drop>(
+pub(crate) fn lines_text<L: Printable, N: Drop>(
     alloc: Global,
     graph: &mut EGraph<L, N>,
     lines: &ProofLines,

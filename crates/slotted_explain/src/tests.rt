@@ -1,8 +1,8 @@
 //! Proofs of worked graphs, printed.
-use crate::to_string;
+use crate::Explanation;
 use slotted_core::EGraph;
 use slotted_languages::{Language, Small};
-use slotted_proofs::ProvenEq;
+use slotted_proofs::{Proof, ProvenEq};
 use slotted_slots::{AppliedId, Error, SlotTable};
 use slotted_terms::expr::printing::Printable;
 use std::alloc::Global;
@@ -39,7 +39,7 @@ fn printed<L: Printable>(
     p: ProvenEq,
 ) -> Result<String, Error> {
     if graph.is_valid_proof(p) {
-        to_string(alloc, graph, p)
+        p.to_string(alloc, graph)
     } else {
         Err(Error::BadStep)
     }
@@ -133,5 +133,45 @@ fn a_canonical_term_has_the_names_of_its_id(rt: HostRuntime) -> Result<(), Error
         let text = second_canonical(rt.alloc(), first, second)?;
         assert!(rt; text.as_str() == answer, "{text}");
     }
+    Ok(())
+}
+
+// Whether the entry of an assertion that two terms are equal is explicit and has the text, and its copy the same equation.
+fn is_said<L: Language>(
+    alloc: Global,
+    graph: &EGraph<L>,
+    p: ProvenEq,
+    text: &str,
+) -> Result<bool, Error> {
+    if !graph.is_valid_proof(p) {
+        return Err(Error::BadStep);
+    }
+    let entry = p.entry(alloc, graph)?;
+    let has_text = match p.proof(graph) {
+        Proof::Explicit(why) => why.0.as_deref() == Some(text),
+        _ => false,
+    };
+    Ok(has_text && entry.equ == *p.equ(graph))
+}
+
+fn says_its_text<L: Language>(
+    alloc: Global,
+    graph: &mut EGraph<L>,
+    text: &str,
+) -> Result<bool, Error> {
+    let left = put_text(graph, "a")?;
+    let right = put_text(graph, "b")?;
+    let p = assert_equal(graph, &left, &right, String::from_str(alloc, text)?)?;
+    is_said(alloc, graph, p, text)
+}
+
+fn new_graph_says(alloc: Global, text: &str) -> Result<bool, Error> {
+    let mut graph = EGraph::<Small>::new(alloc, SlotTable::new(alloc), ())?;
+    says_its_text(alloc, &mut graph, text)
+}
+
+#[test]
+fn an_assertion_says_its_text(rt: HostRuntime) -> Result<(), Error> {
+    assert!(rt; new_graph_says(rt.alloc(), "r1")?);
     Ok(())
 }

@@ -1,6 +1,6 @@
 //! Proofs as chains of terms, one test for each shape of proof.
 use super::{assert_equal, printed, put_text};
-use crate::to_flat_string;
+use crate::Explanation;
 use slotted_core::{Check, EGraph};
 use slotted_languages::{Language, Small};
 use slotted_proofs::{
@@ -18,7 +18,7 @@ fn empty(alloc: Global) -> Result<EGraph<Small>, Error> {
 // The proof as a chain of terms, if there is one of this number.
 fn chain<L: Printable>(alloc: Global, graph: &mut EGraph<L>, p: ProvenEq) -> Result<String, Error> {
     if graph.is_valid_proof(p) {
-        to_flat_string(alloc, graph, p)
+        p.to_flat_string(alloc, graph)
     } else {
         Err(Error::BadStep)
     }

@@ -6,7 +6,7 @@ use Rattle.slotted_proofs.specs.Lines.{Lines, PartsAreEarlier}
 use Rattle.slotted_core.proofs.KeptLists.{length-mapped}
 use Rattle.slotted_core.proofs.Layers.{each_at}
 use Rattle.slotted_explain.proofs.LinesBelow.{lines_below}
-use Rattle.slotted_explain.proofs.print.to_string.Goals as goal
+use Rattle.slotted_explain.proofs.explanation.ProvenEqExplanation.to_string.Goals as goal
 
 pub lines-requires-clause-within : goal.lines-requires-clause-within
 lines-requires-clause-within g c = elim c.requires [
@@ -30,16 +30,16 @@ lines_text-requires-clause-within g c k d lt =
       | inl h ↦ absurd (false≢true (sym c.if-is_failed.false ∙ (c.is_failed.ensures.failed ∙ h)))
       | inr h ↦ h
     ] in
-    let below : c.args.p < length stored = elim c.requires [
+    let below : c.args.self < length stored = elim c.requires [
       | inl h ↦ absurd (false≢true (sym c.if-is_failed.false ∙ (c.is_failed.ensures.failed ∙ h)))
       | inr lt ↦ omega (arith, lt, ap length c.proofs.ensures.entries, length-mapped entry_of stored)
     ] in
-    let order : Lines stored [] (c.args.p ∷ []) c.in_ok-lines.lines = subst (λ (ps : List Proven). Lines ps [] (c.args.p ∷ []) c.in_ok-lines.lines) c.proofs.ensures.list c.in_ok-lines.ensures.ok in
+    let order : Lines stored [] (c.args.self ∷ []) c.in_ok-lines.lines = subst (λ (ps : List Proven). Lines ps [] (c.args.self ∷ []) c.in_ok-lines.lines) c.proofs.ensures.list c.in_ok-lines.ensures.ok in
     each_at (λ q. q < length stored) c.in_ok-lines.lines k d lt (lines_below stored earlier order tt (below, tt))
 
 pub returns-clause-text : goal.returns-clause-text
 returns-clause-text g c = record {
   lines = c.in_ok-lines.lines;
-  order = subst (λ (ps : List Proven). Lines ps [] (c.args.p ∷ []) c.in_ok-lines.lines) c.proofs.ensures.list c.in_ok-lines.ensures.ok;
+  order = subst (λ (ps : List Proven). Lines ps [] (c.args.self ∷ []) c.in_ok-lines.lines) c.proofs.ensures.list c.in_ok-lines.ensures.ok;
   printed = c.in_ok-text.ensures.text;
 }

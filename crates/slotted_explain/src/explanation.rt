@@ -1,0 +1,137 @@
+//! An entry of a graph's proof list as the explanation of its equation.
+ghost use Rattle.std.specs.Prelude.{◌≡◌, ◌⊎◌, ◌↔◌, ◌<◌, ◌^◌, ℕ, length, string_bytes, IsTrue, IfOk, IfErr, IsErrOf};
+ghost use Rattle.slotted_slots.specs.Error.{IsOutOfMemory, IsShortage};
+ghost use Rattle.slotted_slots.specs.Table.{KnowsMore};
+ghost use Rattle.slotted_proofs.specs.Entries.{proven_at, statement_at, step_of, text_of};
+ghost use Rattle.slotted_proofs.specs.Equations.{IsWritten};
+ghost use Rattle.slotted_core.specs.Canonical.{HasLargeNode};
+ghost use Rattle.slotted_explain.specs.Printed.{IsProofText};
+
+use crate::flat::{chain_text, flat_steps};
+use crate::print::lines_text;
+use slotted_core::EGraph;
+use slotted_languages::Language;
+use slotted_proofs::{Equation, Proof, ProvenEq, ProvenEqRaw};
+use slotted_slots::Error;
+use slotted_terms::expr::printing::Printable;
+use std::alloc::Global;
+
+/// What an entry of a graph's proof list says, and why. Each call needs `EGraph::is_valid_proof` of the entry.
+pub trait Explanation {
+    // Its number in the list.
+    ghost number: { Self → ℕ };
+
+    /// The equation, with numbered names.
+    fn equ<L: Language, N: Drop>(self, graph: &EGraph<L, N>) -> &Equation
+        requires { number self < length graph.now.image.entries }
+        ensures { IsWritten (statement_at graph.now.image.stored (number self)) result.now };
+
+    /// The step by which it was proved.
+    fn proof<L: Language, N: Drop>(self, graph: &EGraph<L, N>) -> &Proof
+        requires { number self < length graph.now.image.entries }
+        ensures step { step_of result.now ≡ (proven_at graph.now.image.stored (number self)).step }
+        ensures text { text_of result.now ≡ (proven_at graph.now.image.stored (number self)).text };
+
+    /// A copy of the entry.
+    fn entry<L: Language, N: Drop>(
+        self,
+        alloc: Global,
+        graph: &EGraph<L, N>,
+    ) -> Result<ProvenEqRaw, Error>
+        requires { number self < length graph.now.image.entries }
+        ensures equation { IfOk result (λ x. IsWritten (statement_at graph.now.image.stored (number self)) x.equ) }
+        ensures step { IfOk result (λ x. step_of x.proof ≡ (proven_at graph.now.image.stored (number self)).step) }
+        ensures text { IfOk result (λ x. text_of x.proof ≡ (proven_at graph.now.image.stored (number self)).text) }
+        ensures err { IfErr result IsOutOfMemory };
+
+    /// The proof: a line for each entry that it stands on, each once, parts first, numbered from 0.
+    ///
+    /// A line is `i: l = r by X`, ended by a line feed: the sides are canonical terms, and X is the debug form of the optional
+    /// text, `refl`, or `symmetry(a)`, `transitivity(a, b)` or `congruence(a, b)` with the numbers of the parts' lines.
+    fn to_string<L: Printable, N: Drop>(
+        self,
+        alloc: Global,
+        graph: &mut EGraph<L, N>,
+    ) -> Result<String, Error>
+        requires { IsTrue graph.old.failed ⊎ (number self < length graph.old.image.entries) }
+        ensures text { IfOk result (λ s. IsProofText L.written graph.old (number self) (string_bytes s)) }
+
+        // Only fresh slots are made, and a refusal does not fail the graph.
+        ensures image { graph.new.image ≡ graph.old.image }
+        ensures same { graph.new.failed ≡ graph.old.failed }
+        ensures names { graph.new.table.names ≡ graph.old.table.names }
+        ensures more { KnowsMore graph.old.table graph.new.table }
+
+        ensures failed { IsErrOf result Error.Failed ↔ IsTrue graph.old.failed }
+        ensures full { IsErrOf result Error.OutOfSlots → (graph.new.table.fresh ≡ 2 ^ 30) ⊎ HasLargeNode graph.old.image.canonical }
+        ensures only { IfErr result (λ e. (e ≡ Error.Failed) ⊎ IsShortage e) };
+
+    /// The proof as a chain of terms: the canonical term of the left side, then, for each assertion that the proof uses, in the
+    /// order of use, a line feed and the whole term after that step.
+    ///
+    /// In each of these the subterm that was put in stands as `(Rewrite=> J T)`, or as `(Rewrite<= J T)` where the assertion is
+    /// used from right to left. J is the text of the assertion, or `-` where it has none. The names are those of the left side's
+    /// term; a name that only the other side of an assertion has is its own, or a number, where the term has that name already.
+    fn to_flat_string<L: Printable, N: Drop>(
+        self,
+        alloc: Global,
+        graph: &mut EGraph<L, N>,
+    ) -> Result<String, Error>
+        requires { IsTrue graph.old.failed ⊎ (number self < length graph.old.image.entries) }
+
+        // Only fresh slots are made, and a refusal does not fail the graph.
+        ensures image { graph.new.image ≡ graph.old.image }
+        ensures same { graph.new.failed ≡ graph.old.failed }
+        ensures names { graph.new.table.names ≡ graph.old.table.names }
+        ensures more { KnowsMore graph.old.table graph.new.table }
+
+        ensures failed { IsErrOf result Error.Failed ↔ IsTrue graph.old.failed }
+        ensures full { IsErrOf result Error.OutOfSlots → (graph.new.table.fresh ≡ 2 ^ 30) ⊎ HasLargeNode graph.old.image.canonical }
+        ensures only { IfErr result (λ e. (e ≡ Error.Failed) ⊎ IsShortage e) };
+}
+
+impl Explanation for ProvenEq {
+    ghost number = { λ p. p };
+
+    fn equ<L: Language, N: Drop>(self, graph: &EGraph<L, N>) -> &Equation {
+        graph.proofs().equ(self)
+    }
+
+    fn proof<L: Language, N: Drop>(self, graph: &EGraph<L, N>) -> &Proof {
+        graph.proofs().proof(self)
+    }
+
+    fn entry<L: Language, N: Drop>(
+        self,
+        alloc: Global,
+        graph: &EGraph<L, N>,
+    ) -> Result<ProvenEqRaw, Error> {
+        graph.proofs().entry(alloc, self)
+    }
+
+    fn to_string<L: Printable, N: Drop>(
+        self,
+        alloc: Global,
+        graph: &mut EGraph<L, N>,
+    ) -> Result<String, Error> {
+        if graph.is_failed() {
+            return Err(Error::Failed);
+        }
+        let lines = graph.proofs().lines(alloc, self)?;
+        let text = lines_text(alloc, graph, &lines)?;
+        Ok(text)
+    }
+
+    fn to_flat_string<L: Printable, N: Drop>(
+        self,
+        alloc: Global,
+        graph: &mut EGraph<L, N>,
+    ) -> Result<String, Error> {
+        if graph.is_failed() {
+            return Err(Error::Failed);
+        }
+        let steps = flat_steps(alloc, graph.proofs(), self)?;
+        let text = chain_text(alloc, graph, self, &steps)?;
+        Ok(text)
+    }
+}
