@@ -1,9 +1,11 @@
 //! Alpha-equality and copies at the language `Small`, by worked terms.
 use crate::expr::RecExpr;
 use slotted_languages::children::Bind;
+use slotted_languages::language::Language;
 use slotted_languages::small::Small;
 use slotted_slots::{AppliedId, Error, Id, Slot, SlotMap, SlotTable};
 use std::alloc::Global;
+use std::process::Abort;
 
 fn slot(alloc: Global, n: u8) -> Result<Slot, Error> {
     SlotTable::new(alloc).numeric(u32::from(n))
@@ -31,20 +33,16 @@ fn node(alloc: Global, byte: u8, id: usize) -> Result<Small, Error> {
     }
 }
 
-// Takes the last terms of the stack, at most `count`, in their order.
-fn take_last(
-    alloc: Global,
-    stack: &mut Vec<RecExpr<Small>>,
-    count: usize,
-) -> Result<Vec<RecExpr<Small>>, Error> {
-    let mut terms = Vec::new(alloc);
+// Takes the last values of the stack, at most `count`, in their order.
+fn take_last<T: Drop>(alloc: Global, stack: &mut Vec<T>, count: usize) -> Result<Vec<T>, Error> {
+    let mut values = Vec::new(alloc);
     for _ in 0..count {
-        if let Some(term) = stack.pop() {
-            terms.push(term)?;
+        if let Some(value) = stack.pop() {
+            values.push(value)?;
         }
     }
-    terms.reverse();
-    Ok(terms)
+    values.reverse();
+    Ok(values)
 }
 
 // The number 0 over the terms that a text writes, each node after its children.
@@ -69,47 +67,62 @@ fn term(alloc: Global, text: &[u8]) -> Result<RecExpr<Small>, Error> {
     })
 }
 
-fn alike(alloc: Global, one: &[u8], two: &[u8]) -> Result<bool, Error> {
-    term(alloc, one)?.alpha_eq(alloc, &term(alloc, two)?)
+// Whether two terms that were made are alpha-equal.
+fn both_alike<L: Language>(
+    alloc: Global,
+    one: Result<RecExpr<L>, Error>,
+    two: Result<RecExpr<L>, Error>,
+) -> Result<bool, Error> {
+    one?.alpha_eq(alloc, &two?)
 }
+
+// Whether the terms of a line are alpha-equal, which is written `TERM = TERM: WHY`.
+fn are_alike(alloc: Global, line: &str) -> Result<bool, Error> {
+    let (pair, _) = line.split_once(": ").unwrap_or((line, ""));
+    let (one, two) = pair.split_once(" = ").unwrap_or((pair, ""));
+    both_alike(
+        alloc,
+        term(alloc, one.as_bytes()),
+        term(alloc, two.as_bytes()),
+    )
+}
+
+fn check_lines(rt: &impl Abort, alloc: Global, lines: &str, wanted: bool) -> Result<(), Error> {
+    for line in lines.lines() {
+        assert_eq!(rt; are_alike(alloc, line)?, wanted, "{line}");
+    }
+    Ok(())
+}
+
+const ALIKE: &str = "5f = 6g: the identity
+50@f = 10@b: a free name under a binder
+5ff = 2cb: the inner of two binders of one name
+12@dcb = 21@dbc: three binders in another order
+12@bcb = 98@jih: an outer binder that is shadowed
+1b1@ = 2c1@: a free name after a scope
+12@ = 12@
+12 = 12";
 
 #[test]
 fn terms_that_differ_in_bound_names(rt: HostRuntime) -> Result<(), Error> {
-    let pairs: [(&[u8], &[u8]); 8] = [
-        (b"5f", b"6g"), // the identity
-        (b"50@f", b"10@b"), // a free name under a binder
-        (b"5ff", b"2cb"), // the inner of two binders of one name
-        (b"12@dcb", b"21@dbc"), // three binders in another order
-        (b"12@bcb", b"98@jih"), // an outer binder that is shadowed
-        (b"1b1@", b"2c1@"), // a free name after a scope
-        (b"12@", b"12@"),
-        (b"12", b"12"),
-    ];
-    for (one, two) in pairs {
-        assert!(rt; alike(rt.alloc(), one, two)?, "{one:?} {two:?}");
-    }
-    Ok(())
+    check_lines(&rt, rt.alloc(), ALIKE, true)
 }
+
+const OTHERS: &str = "5 = 6: free names
+5f = 5g: a bound and a free name
+50@f = 05@a: a name that is captured
+50@f = 00@a: a free name that is bound
+5ff = 1cb: the outer of two binders
+12@dcb = 12@dbc: two binders in another order
+1b1@ = 2c2@: free names after a scope
+12@ = 12+: operators
+12@ = 13@: second children
+1@ = 11@: a child that is missing
+12 = 1: a child that is too many";
 
 #[test]
 fn terms_that_differ_in_more(rt: HostRuntime) -> Result<(), Error> {
-    let pairs: [(&[u8], &[u8]); 11] = [
-        (b"5", b"6"), // free names
-        (b"5f", b"5g"), // a bound and a free name
-        (b"50@f", b"05@a"), // a name that is captured
-        (b"50@f", b"00@a"), // a free name that is bound
-        (b"5ff", b"1cb"), // the outer of two binders
-        (b"12@dcb", b"12@dbc"), // two binders in another order
-        (b"1b1@", b"2c2@"), // free names after a scope
-        (b"12@", b"12+"), // operators
-        (b"12@", b"13@"), // second children
-        (b"1@", b"11@"), // a child that is missing
-        (b"12", b"1"), // a child that is too many
-    ];
-    for (one, two) in pairs {
-        assert!(rt; !alike(rt.alloc(), one, two)?, "{one:?} {two:?}");
-    }
-    Ok(())
+    check_lines(&rt, rt.alloc(), OTHERS, false)
 }
 
 // Whether a copy has as many children and is the same term.

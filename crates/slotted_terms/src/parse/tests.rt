@@ -1,19 +1,18 @@
 //! Texts of the written language, and those outside it.
 use crate::expr::RecExpr;
+use slotted_languages::language::Language;
 use slotted_languages::payload::Symbol;
 use slotted_languages::small::Small;
 use slotted_slots::{AppliedId, Error, ParseError, Slot, SlotTable, SyntaxElem};
 use std::alloc::Global;
+use std::process::Abort;
 use std::test::Fail;
 
-fn refused_as(alloc: Global, text: &str, answer: &str) -> Result<bool, Fail> {
-    let mut table = SlotTable::new(alloc);
-    match RecExpr::<Small>::parse(alloc, text, &mut table) {
-        Ok(_) => Ok(false),
-        Err(error) => {
-            let printed = format!(in alloc; "{error:?}")?;
-            Ok(printed.as_str() == answer)
-        }
+// The refusal of a text, as it prints, or `Ok`.
+fn refusal<L: Language>(alloc: Global, text: &str) -> Result<String, Fail> {
+    match RecExpr::<L>::parse(alloc, text, &mut SlotTable::new(alloc)) {
+        Ok(_) => Ok(String::from_str(alloc, "Ok")?),
+        Err(error) => Ok(format!(in alloc; "{error:?}")?),
     }
 }
 
@@ -27,34 +26,35 @@ fn word(alloc: Global, text: &str) -> Result<Small, Fail> {
     Ok(Small::Word(Symbol(String::from_str(alloc, text)?)))
 }
 
-#[test]
-fn a_fault_is_answered_with_what_is_left(rt: HostRuntime) -> Result<(), Fail> {
-    for (text, answer) in [
-        ("", "Parse(ParseState([]))"),
-        ("(f $x", "Parse(ParseState([]))"),
-        ("()", "Parse(ParseState([RParen]))"),
-        ("$1", "Parse(ParseState([Slot(Slot(4))]))"),
-        (":= a", "Parse(ParseState([ColonEquals, Ident(\"a\")]))"),
-        ("a b", "Parse(RemainingRest([Ident(\"b\")]))"),
-        ("a\u{3000}b", "Parse(RemainingRest([Ident(\"b\")]))"),
-        (
-            "(f $1)",
-            "Parse(FromSyntaxFailed([String(\"f\"), Slot(Slot(4))]))",
-        ),
-        (
-            "(app (f $1) (",
-            "Parse(FromSyntaxFailed([String(\"f\"), Slot(Slot(4))]))",
-        ),
-        ("?", "Parse(TokenState(\"\"))"),
-        ("$ $1073741824", "Parse(TokenState(\" $1073741824\"))"),
-        ("(var $1073741824", "NumberTooLarge"),
-        ("?x", "NotATerm"),
-        ("?x:=", "NotATerm"),
-        ("a[a := b]", "NotATerm"),
-    ] {
-        assert!(rt; refused_as(rt.alloc(), text, answer)?, "at {text:?}");
+// Each line is a text, an arrow, and its refusal.
+fn check_refusals<L: Language>(rt: &impl Abort, alloc: Global, lines: &str) -> Result<(), Fail> {
+    for line in lines.lines() {
+        let (text, wanted) = line.split_once(" => ").unwrap_or((line, ""));
+        let answer = refusal::<L>(alloc, text)?;
+        assert!(rt; answer.as_str() == wanted, "at {text:?}");
     }
     Ok(())
+}
+
+const REFUSALS: &str = " => Parse(ParseState([]))
+(f $x => Parse(ParseState([]))
+() => Parse(ParseState([RParen]))
+$1 => Parse(ParseState([Slot(Slot(4))]))
+:= a => Parse(ParseState([ColonEquals, Ident(\"a\")]))
+a b => Parse(RemainingRest([Ident(\"b\")]))
+a\u{3000}b => Parse(RemainingRest([Ident(\"b\")]))
+(f $1) => Parse(FromSyntaxFailed([String(\"f\"), Slot(Slot(4))]))
+(app (f $1) ( => Parse(FromSyntaxFailed([String(\"f\"), Slot(Slot(4))]))
+? => Parse(TokenState(\"\"))
+$ $1073741824 => Parse(TokenState(\" $1073741824\"))
+(var $1073741824 => NumberTooLarge
+?x => NotATerm
+?x:= => NotATerm
+a[a := b] => NotATerm";
+
+#[test]
+fn a_fault_is_answered_with_what_is_left(rt: HostRuntime) -> Result<(), Fail> {
+    check_refusals::<Small>(&rt, rt.alloc(), REFUSALS)
 }
 
 // The three elements are the operator `app`, the slot and a null id.
@@ -69,30 +69,38 @@ fn are_app_of(alloc: Global, elements: &[SyntaxElem], slot: Slot) -> bool {
     }
 }
 
+// Whether the text has no term, and these three are what could not be read.
+fn is_refused_at_app<L: Language>(
+    alloc: Global,
+    table: &mut SlotTable,
+    text: &str,
+    slot: Slot,
+) -> bool {
+    match RecExpr::<L>::parse(alloc, text, table) {
+        Err(Error::Parse(ParseError::FromSyntaxFailed(elements))) => {
+            are_app_of(alloc, &elements, slot)
+        }
+        _ => false,
+    }
+}
+
 #[test]
 fn a_child_in_a_fault_is_a_null_id(rt: HostRuntime) -> Result<(), Fail> {
     let mut table = SlotTable::new(rt.alloc());
     let one = table.numeric(1)?;
-    let answer = RecExpr::<Small>::parse(rt.alloc(), "(app $1 a)", &mut table);
-    let expected = match &answer {
-        Err(Error::Parse(ParseError::FromSyntaxFailed(elements))) => {
-            are_app_of(rt.alloc(), elements, one)
-        }
-        _ => false,
-    };
-    assert!(rt; expected);
+    assert!(rt; is_refused_at_app::<Small>(rt.alloc(), &mut table, "(app $1 a)", one));
     Ok(())
+}
+
+fn reads_as_word(alloc: Global, text: &str, name: &str) -> Result<bool, Fail> {
+    let node = word(alloc, name)?;
+    reads_as(alloc, text, &mut SlotTable::new(alloc), &node)
 }
 
 #[test]
 fn a_word_reads_as_one_node(rt: HostRuntime) -> Result<(), Fail> {
-    let mut table = SlotTable::new(rt.alloc());
     for (text, name) in [("g", "g"), ("(g)", "g"), ("a:=b", "a:=b")] {
-        let node = word(rt.alloc(), name)?;
-        assert!(rt;
-            reads_as(rt.alloc(), text, &mut table, &node)?,
-            "at {text:?}"
-        );
+        assert!(rt; reads_as_word(rt.alloc(), text, name)?, "at {text:?}");
     }
     Ok(())
 }
@@ -104,28 +112,22 @@ fn a_number_reads_as_its_node(rt: HostRuntime) -> Result<(), Fail> {
     Ok(())
 }
 
+// A number, that of a fresh slot, and a number too large for one, which is a name.
+fn reads_numbers(alloc: Global, table: &mut SlotTable) -> Result<bool, Fail> {
+    let node = Small::F(table.numeric(5)?, table.named("f7")?);
+    reads_as(alloc, "(f $+5 $f7)", table, &node)
+}
+
+fn reads_a_name(alloc: Global, table: &mut SlotTable) -> Result<bool, Fail> {
+    let node = Small::Var(table.named("4294967296")?);
+    reads_as(alloc, "(var $4294967296)", table, &node)
+}
+
 #[test]
 fn slots_are_those_of_the_table(rt: HostRuntime) -> Result<(), Fail> {
     let mut table = SlotTable::new(rt.alloc());
-    let five = table.numeric(5)?;
-    let seven = table.named("f7")?;
-    let name = table.named("4294967296")?;
-    assert!(rt;
-        reads_as(
-            rt.alloc(),
-            "(f $+5 $f7)",
-            &mut table,
-            &Small::F(five, seven)
-        )?
-    );
-    assert!(rt;
-        reads_as(
-            rt.alloc(),
-            "(var $4294967296)",
-            &mut table,
-            &Small::Var(name)
-        )?
-    );
+    assert!(rt; reads_numbers(rt.alloc(), &mut table)?);
+    assert!(rt; reads_a_name(rt.alloc(), &mut table)?);
     Ok(())
 }
 
@@ -168,6 +170,7 @@ fn hostile_nesting_does_not_fill_the_stack(rt: HostRuntime) -> Result<(), Fail> 
     for _ in 0..200_000 {
         text.push_str("(a ")?;
     }
-    assert!(rt; refused_as(rt.alloc(), &text, "Parse(ParseState([]))")?);
+    let answer = refusal::<Small>(rt.alloc(), &text)?;
+    assert!(rt; answer.as_str() == "Parse(ParseState([]))");
     Ok(())
 }
