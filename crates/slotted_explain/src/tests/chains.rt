@@ -111,6 +111,32 @@ fn a_chain_keeps_the_names_of_its_term(rt: HostRuntime) -> Result<(), Error> {
     Ok(())
 }
 
+// A bound name that is also the number of a free one is none of the names that are carried over.
+#[test]
+fn a_chain_tells_free_names_from_bound_ones(rt: HostRuntime) -> Result<(), Error> {
+    let right = "(app (var $y) (app (var $x) (lam $z (var $z))))";
+    let chains = unjustified(rt.alloc(), "(f $x $y)", right)?;
+    assert!(rt;
+        chains.as_str()
+            == "(f $0 $1)\n(Rewrite=> - (app (var $1) (app (var $0) (lam $0 (var $0))))); (app (var $0) (app (var $1) (lam $0 (var $0))))\n(Rewrite<= - (f $1 $0)); (f $0 $1)",
+        "{chains}"
+    );
+    Ok(())
+}
+
+// Names are carried over at each place of the term.
+#[test]
+fn a_chain_carries_each_name(rt: HostRuntime) -> Result<(), Error> {
+    let right = "(app (g $z) (f $y $x))";
+    let chains = unjustified(rt.alloc(), "(app (f $x $y) (g $z))", right)?;
+    assert!(rt;
+        chains.as_str()
+            == "(app (f $0 $1) (g $2))\n(Rewrite=> - (app (g $2) (f $1 $0))); (app (g $0) (f $1 $2))\n(Rewrite<= - (app (f $2 $1) (g $0))); (app (f $0 $1) (g $2))",
+        "{chains}"
+    );
+    Ok(())
+}
+
 // The chains of two assertions, the first without a text, one after the other, and of these turned round.
 fn chains_of_three<L: Printable>(
     alloc: Global,
