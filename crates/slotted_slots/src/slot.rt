@@ -123,6 +123,7 @@ impl SlotTable {
         ensures large { IsErrOf result Error.NumberTooLarge ↔ (named_of self.old s.now ≡ too_large) }
         ensures full { IsErrOf result Error.OutOfSlots ↔ (named_of self.old s.now ≡ no_place) }
         ensures only { IfErr result IsNamingRefusal }
+        ensures memory { IsErrOf result Error.OutOfMemory → (reading_of s.now ≡ as_word) × (place_of self.old.names s.now ≡ None) }
         ensures err { OnErr result (self.new ≡ self.old) }
 
         // The slot is known from now on, as is all that was known.
@@ -166,6 +167,7 @@ impl SlotTable {
     // What `named` does, as one fact.
     fn make_named(&mut self, s: &str) -> Result<Slot, Error>
         ensures follows { Follows (named_of self.old s.now) self.old self.new result }
+        ensures memory { IsErrOf result Error.OutOfMemory → (reading_of s.now ≡ as_word) × (place_of self.old.names s.now ≡ None) }
         ensures table { IsTable self.new }
     {
         match read_u32(s) {
@@ -180,6 +182,7 @@ impl SlotTable {
     // The fresh slot `$fn`, which is used from now on.
     fn fresh_at(&mut self, n: u32) -> Result<Slot, Error>
         ensures follows { Follows (fresh_outcome self.old n) self.old self.new result }
+        ensures only { IsOkUnless result Error.NumberTooLarge }
         ensures table { IsTable self.new }
     {
         let _ = &self.fresh;
@@ -194,6 +197,7 @@ impl SlotTable {
     fn keep_name(&mut self, s: &str) -> Result<Slot, Error>
         requires { reading_of s.now ≡ as_word }
         ensures follows { Follows (word_outcome self.old s.now (place_of self.old.names s.now)) self.old self.new result }
+        ensures memory { IsErrOf result Error.OutOfMemory → place_of self.old.names s.now ≡ None }
         ensures table { IsTable self.new }
     {
         match self.names.get_index_of(s) {

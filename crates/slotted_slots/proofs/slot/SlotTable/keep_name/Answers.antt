@@ -19,3 +19,7 @@ pub returns-in-None-clause-follows : goal.returns-in-None-clause-follows
 returns-in-None-clause-follows c =
     let absent = ap (λ t. place_of t.names c.args.s.now) (sym c.self.view_is) ∙ (sym (place_of-map string_bytes c.args.s.now c.self.inside.names.keys) ∙ sym c.in-None.ensures.index) in
     subst (λ o. Follows (word_outcome c.args.self.now c.args.s.now o) c.args.self.now c.push_name.new.self c.push_name.result) (sym absent) c.push_name.ensures.follows
+
+pub returns-in-None-clause-memory : goal.returns-in-None-clause-memory
+returns-in-None-clause-memory c =
+    λ _. ap (λ t. place_of t.names c.args.s.now) (sym c.self.view_is) ∙ (sym (place_of-map string_bytes c.args.s.now c.self.inside.names.keys) ∙ sym c.in-None.ensures.index)

@@ -18,3 +18,7 @@ pub returns-in-None-read_fresh-clause-follows : goal.returns-in-None-read_fresh-
 returns-in-None-read_fresh-clause-follows c =
     let word = reading_of-word _ (sym c.read_u32.ensures ∙ c.in-None.is) (sym c.read_fresh.ensures ∙ c.in-None-read_fresh.is) in
     rw (named_of-word _ _ word) c.keep_name.ensures.follows
+
+pub returns-in-None-read_fresh-clause-memory : goal.returns-in-None-read_fresh-clause-memory
+returns-in-None-read_fresh-clause-memory c =
+    λ e. (reading_of-word _ (sym c.read_u32.ensures ∙ c.in-None.is) (sym c.read_fresh.ensures ∙ c.in-None-read_fresh.is), c.keep_name.ensures.memory e)
