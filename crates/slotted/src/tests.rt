@@ -175,6 +175,38 @@ fn streams_that_fail_end_it(rt: HostRuntime) -> Result<(), Fail> {
     Ok(())
 }
 
+// Counts what was written, and how much of it at each flush.
+#[derive(Drop)]
+struct Waiting {
+    written: usize,
+    flushed: Vec<usize>,
+}
+
+impl Write for Waiting {
+    fn write(&mut self, bytes: &[u8]) -> io::Result<usize> {
+        self.written = self.written.saturating_add(bytes.len());
+        Ok(bytes.len())
+    }
+
+    fn flush(&mut self) -> io::Result<()> {
+        self.flushed.push(self.written)?;
+        Ok(())
+    }
+}
+
+// Over a pipe, an answer that is not written out keeps the one who asked waiting.
+#[test]
+fn each_answer_is_written_out(rt: HostRuntime) -> Result<(), Fail> {
+    let mut output = Waiting {
+        written: 0,
+        flushed: Vec::new(rt.alloc()),
+    };
+    let mut input = b"add a\n\neq a == b\n".as_slice();
+    answer_lines(rt.alloc(), &mut input, &mut output)?;
+    assert_eq!(rt; output.flushed.as_slice(), [3usize, 6].as_slice());
+    Ok(())
+}
+
 // `$f1073741823` is the last fresh slot: from there on a class that needs a slot of its own finds none.
 #[test]
 fn used_up_slots_fail_the_graph(rt: HostRuntime) -> Result<(), Fail> {
