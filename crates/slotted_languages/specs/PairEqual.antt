@@ -1,10 +1,10 @@
 -- The laws of a node with two fields, from those of its fields, and of a variant, from that of what it holds.
-use Rattle.std.specs.Prelude.{◌≡◌, ℕ, suc, List, [], ◌∷◌, ◌++◌, length, refl, Bool, true, false, IsTrue, ◌↔◌, ◌&&◌}
+use Rattle.std.specs.Prelude.{◌≡◌, ℕ, suc, length, refl, Bool, true, false, IsTrue, ◌↔◌, ◌&&◌}
 use Rattle.std.proofs.Common.{arith, ap, sym, ◌∙◌, length-append}
 use Rattle.slotted_theory.proofs.Lists.{append_parts}
 use Rattle.slotted_languages.specs.Form.{Form, Tree, leaf, own, child, bind, join, scopes, variant, join_form}
 use Rattle.slotted_languages.specs.Joined.{scopes-join}
-use Rattle.slotted_languages.specs.Equal.{cons_parts, form_ext, tree_child, tree_bind}
+use Rattle.slotted_languages.specs.Equal.{form_ext, tree_child, tree_bind}
 
 -- how many slots, children and binders stand side by side
 abbrev pub side_by_side : Tree → ℕ
