@@ -3,7 +3,7 @@ use Rattle.std.specs.Prelude.{◌<◌, ℕ, List, [], ◌∷◌, ◌++◌, lengt
 use Rattle.std.specs.Str.{IsUtf8}
 use Rattle.slotted_slots.specs.Syntax.{Element}
 use Rattle.slotted_slots.specs.Table.{empty_table}
-use Rattle.slotted_languages.specs.Form.{Form}
+use Rattle.slotted_nodes.specs.Form.{Form}
 use Rattle.slotted_core.specs.Graph.{Graph}
 use Rattle.slotted_core.specs.Image.{no_classes}
 use Rattle.slotted.specs.declared.answer.Answer.{Answer}

@@ -12,7 +12,7 @@ use Rattle.slotted_theory.proofs.Shapes.{shape_iff}
 use Rattle.slotted_theory.proofs.Bijections.{to-injective}
 use Rattle.slotted_slots.specs.Maps.{keys, values}
 use Rattle.slotted_slots.specs.Table.{Table, fresh_slot, empty_table}
-use Rattle.slotted_languages.specs.Form.{Form}
+use Rattle.slotted_nodes.specs.Form.{Form}
 use Rattle.slotted_languages.specs.NodeTerm.{nameless_node}
 use Rattle.slotted_languages.specs.Shape.{shape, Fits, moved_names}
 use Rattle.slotted_languages.proofs.Shapes.{shapes_iff}

@@ -11,8 +11,8 @@ use Rattle.slotted_theory.specs.Renaming.{IsInjective}
 use Rattle.slotted_theory.specs.FiniteMaps.{HasValue, IsInjectiveMap, filled}
 use Rattle.slotted_theory.proofs.Names.{extend-injective}
 use Rattle.slotted_slots.specs.Maps.{keys, values, KnowsAll}
-use Rattle.slotted_languages.specs.Form.{Form, Tree, leaf, own, child, bind, scopes, children, with_child}
-use Rattle.slotted_languages.specs.Joined.{length_children-with_child_in}
+use Rattle.slotted_nodes.specs.Form.{Form, Tree, leaf, own, child, bind, scopes, children, with_child}
+use Rattle.slotted_nodes.specs.Joined.{length_children-with_child_in}
 use Rattle.slotted_languages.specs.Filled as form
 use Rattle.slotted_languages.specs.Shape.{Fits}
 use Rattle.slotted_languages.specs.NodeTerm.{own_names, node_args, nameless_node, free_names_of}

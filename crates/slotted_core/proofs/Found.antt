@@ -10,7 +10,7 @@ use Rattle.slotted_theory.proofs.Values.{child_before}
 use Rattle.slotted_theory.proofs.Shapes.{shape_iff}
 use Rattle.slotted_theory.proofs.Bijections.{to-injective}
 use Rattle.slotted_theory.proofs.Decides.{args_eq_iff}
-use Rattle.slotted_languages.specs.Form.{Form}
+use Rattle.slotted_nodes.specs.Form.{Form}
 use Rattle.slotted_languages.specs.NodeTerm.{nameless_node}
 use Rattle.slotted_languages.specs.Shape.{shape, Fits, moved_names}
 use Rattle.slotted_languages.proofs.Shapes.{shapes_iff, shape-same}

@@ -7,7 +7,7 @@ use Rattle.slotted_theory.specs.Nameless.{DTerm, extend, nameless, nameless_by, 
 use Rattle.slotted_theory.specs.Renaming.{IsInjective}
 use Rattle.slotted_theory.proofs.Names.{extend-injective}
 use Rattle.slotted_theory.proofs.Laws.{moved-nameless}
-use Rattle.slotted_languages.specs.Form.{Form, Tree, leaf, own, child, bind, scopes, children}
+use Rattle.slotted_nodes.specs.Form.{Form, Tree, leaf, own, child, bind, scopes, children}
 use Rattle.slotted_languages.specs.Filled.{filled}
 use Rattle.slotted_languages.specs.Filled as form
 use Rattle.slotted_model.specs.Applied.{Applied, renamed_id, EachChild}

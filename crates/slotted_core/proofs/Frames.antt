@@ -6,7 +6,7 @@ use Rattle.slotted_theory.specs.FiniteMaps.{IsInjectiveMap}
 use Rattle.slotted_theory.specs.Nameless.{nameless_args}
 use Rattle.slotted_theory.specs.Shape.{number_in}
 use Rattle.slotted_theory.proofs.Lists.{append_parts}
-use Rattle.slotted_languages.specs.Form.{Form, Tree, leaf, own, child, bind, scopes, children}
+use Rattle.slotted_nodes.specs.Form.{Form, Tree, leaf, own, child, bind, scopes, children}
 use Rattle.slotted_languages.specs.NodeTerm.{node_args, nameless_node}
 use Rattle.slotted_languages.specs.NodeTerm as node
 use Rattle.slotted_languages.specs.Outline.{outlined, outlined_names}

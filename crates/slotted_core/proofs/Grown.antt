@@ -6,8 +6,8 @@ use Rattle.slotted_theory.specs.Term.{Args, Term, done}
 use Rattle.slotted_theory.specs.Nameless.{nameless, nameless_args}
 use Rattle.slotted_slots.specs.Maps.{keys, values}
 use Rattle.slotted_slots.specs.Table.{Table}
-use Rattle.slotted_languages.specs.Form.{Form, children, with_child}
-use Rattle.slotted_languages.specs.Joined.{length_children-with_child_in}
+use Rattle.slotted_nodes.specs.Form.{Form, children, with_child}
+use Rattle.slotted_nodes.specs.Joined.{length_children-with_child_in}
 use Rattle.slotted_languages.specs.Filled.{filled}
 use Rattle.slotted_languages.specs.Filled as form
 use Rattle.slotted_languages.specs.NodeTerm.{nameless_node}

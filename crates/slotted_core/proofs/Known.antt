@@ -8,7 +8,7 @@ use Rattle.slotted_theory.specs.Nameless.{DTerm, extend, nameless_args, nameless
 use Rattle.slotted_theory.specs.Shape.{outside, free_names}
 use Rattle.slotted_theory.specs.FiniteMaps.{filled}
 use Rattle.slotted_theory.proofs.Names.{extend-same, extend-other}
-use Rattle.slotted_languages.specs.Form.{Form, Tree, leaf, own, child, bind, scopes}
+use Rattle.slotted_nodes.specs.Form.{Form, Tree, leaf, own, child, bind, scopes}
 use Rattle.slotted_languages.specs.NodeTerm.{own_names, node_args, nameless_node}
 use Rattle.slotted_languages.specs.Shape.{Fits}
 use Rattle.slotted_languages.proofs.NodeTerms.{own_fits, child_rest_fits, bind_inner_fits, bind_rest_fits}

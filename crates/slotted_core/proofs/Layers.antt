@@ -6,7 +6,7 @@ use Rattle.slotted_theory.specs.Term.{Term, term_size}
 use Rattle.slotted_theory.specs.Nameless.{DTerm, place, scope, extend, nameless_args, nameless_by, nameless, moved}
 use Rattle.slotted_theory.proofs.Laws.{moved-nameless}
 use Rattle.slotted_theory.proofs.Values.{node, child_before, expand_args, expand}
-use Rattle.slotted_languages.specs.Form.{Form, Tree, leaf, own, child, bind, scopes, children}
+use Rattle.slotted_nodes.specs.Form.{Form, Tree, leaf, own, child, bind, scopes, children}
 use Rattle.slotted_languages.specs.Filled.{filled, children_smaller}
 use Rattle.slotted_languages.specs.Filled as form
 use denote.Param.Weighed.{most}

@@ -8,7 +8,7 @@ use Rattle.slotted_theory.specs.FiniteMaps.{IsInjectiveMap}
 use Rattle.slotted_slots.specs.Ascending as slots
 use Rattle.slotted_slots.specs.Maps.{value_of, with_pair, keys, values, all_differ}
 use Rattle.slotted_slots.specs.Table.{fresh_slot}
-use Rattle.slotted_languages.specs.Form.{Form, with_name}
+use Rattle.slotted_nodes.specs.Form.{Form, with_name}
 use Rattle.slotted_languages.specs.Shape.{with_names}
 use Rattle.slotted_model.specs.Ascending as model
 use Rattle.slotted_model.proofs.Members.{In}

@@ -6,7 +6,7 @@ use Rattle.slotted_slots.specs.Maps as code
 use Rattle.slotted_theory.specs.FiniteMaps.{IsInjectiveMap, filled}
 use Rattle.slotted_theory.specs.Nameless.{DTerm, stop, moved}
 use Rattle.slotted_theory.proofs.Values.{node}
-use Rattle.slotted_languages.specs.Form.{Form}
+use Rattle.slotted_nodes.specs.Form.{Form}
 use Rattle.slotted_languages.specs.NodeTerm.{nameless_node, free_names_of}
 use Rattle.slotted_model.specs.Applied.{Applied, keys}
 use Rattle.slotted_model.specs.Ascending.{names}

@@ -5,8 +5,8 @@ use Rattle.std.specs.List.{zip}
 use Rattle.std.proofs.lemmas.Bool.{lt-ltb, le-ltb, cases_lt}
 use Rattle.slotted_theory.specs.Term.{Args, Term, name}
 use Rattle.slotted_theory.specs.Term as term
-use Rattle.slotted_languages.specs.Form.{Tree, leaf, own, child, bind, scopes, children, child_place, width, with_child_in}
-use Rattle.slotted_languages.specs.Joined.{child_fits, length_children-with_child_in}
+use Rattle.slotted_nodes.specs.Form.{Tree, leaf, own, child, bind, scopes, children, child_place, width, with_child_in}
+use Rattle.slotted_nodes.specs.Joined.{child_fits, length_children-with_child_in}
 use Rattle.slotted_languages.specs.Filled.{filled}
 use Rattle.slotted_core.specs.Nodes.{ids_in}
 use Rattle.slotted_core.proofs.Children.{length-ids, drop-plus, take-take}

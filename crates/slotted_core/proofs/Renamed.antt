@@ -12,7 +12,7 @@ use Rattle.slotted_theory.proofs.Laws.{nameless-renamed}
 use Rattle.slotted_theory.proofs.Filled.{filled-injective}
 use Rattle.slotted_slots.specs.Maps.{keys, values, value_of}
 use Rattle.slotted_slots.specs.Table.{numeric_slot, fresh_slot}
-use Rattle.slotted_languages.specs.Form.{Form, Tree, leaf, own, child, bind, scopes}
+use Rattle.slotted_nodes.specs.Form.{Form, Tree, leaf, own, child, bind, scopes}
 use Rattle.slotted_languages.specs.NodeTerm.{own_names, node_args, node_term, nameless_node}
 use Rattle.slotted_languages.specs.Shape.{Numbers, number_of, free_number, number_at, past_binder, numbered, no_numbers, names_in, with_names, shape, Fits, moved_names}
 use Rattle.slotted_languages.proofs.NodeTerms.{own_fits, child_rest_fits, bind_inner_fits, bind_rest_fits, length-numbers}

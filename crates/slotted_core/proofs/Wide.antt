@@ -10,7 +10,7 @@ use Rattle.slotted_theory.specs.FiniteMaps.{filled}
 use Rattle.slotted_theory.specs.Nameless.{DArgs, DTerm, stop, place, sub, scope, extend, lift, moved, moved_args, nameless_args}
 use Rattle.slotted_theory.proofs.Lists.{contains_cases, Contains-nil}
 use Rattle.slotted_slots.specs.Maps.{values}
-use Rattle.slotted_languages.specs.Form.{Form, Tree, leaf, own, child, bind, scopes, child_names, child_place, width}
+use Rattle.slotted_nodes.specs.Form.{Form, Tree, leaf, own, child, bind, scopes, child_names, child_place, width}
 use Rattle.slotted_languages.specs.NodeTerm.{node_args, nameless_node}
 use Rattle.slotted_languages.specs.Outline.{outlined}
 use Rattle.slotted_languages.specs.Shape.{Fits}

@@ -7,8 +7,8 @@ use Rattle.std.specs.Cmp.Lexicographic.{pointwise}
 use Rattle.std.proofs.Common.{ap, ◌∙◌, sym, append_assoc}
 use Rattle.std.proofs.lemmas.List.{append-nil}
 use Rattle.std.proofs.lemmas.Slice.Eq.{slice_eq-Decides}
-use Rattle.slotted_languages.specs.Form.{Form, Tree, leaf, own, child, bind}
-use Rattle.slotted_languages.specs.Equal.{form_ext, tree_child, tree_bind}
+use Rattle.slotted_nodes.specs.Form.{Form, Tree, leaf, own, child, bind}
+use Rattle.slotted_nodes.specs.Equal.{form_ext, tree_child, tree_bind}
 
 -- one node of a tree: a leaf, an own name, a binder or a child
 abbrev pub Node : Type 0

@@ -4,7 +4,7 @@
 --     IsCongruentIn k e parts  a congruent step over the parts proves the equation
 use Rattle.std.specs.Prelude.{◌≡◌, ℕ, List, All}
 use Rattle.slotted_theory.specs.Shape.{number_in}
-use Rattle.slotted_languages.specs.Form.{Form}
+use Rattle.slotted_nodes.specs.Form.{Form}
 use Rattle.slotted_languages.specs.NodeTerm.{nameless_node}
 use Rattle.slotted_model.specs.Applied.{Applied}
 use Rattle.slotted_model.specs.Classes.{canonical_node}

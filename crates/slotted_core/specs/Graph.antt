@@ -5,7 +5,7 @@ use Rattle.std.specs.Prelude.{refl}
 use Rattle.slotted_theory.specs.Nameless.{DTerm}
 use Rattle.slotted_theory.specs.Shape.{shape}
 use Rattle.slotted_slots.specs.Table.{Table, fresh_slot}
-use Rattle.slotted_languages.specs.Form.{Form, IsSmall}
+use Rattle.slotted_nodes.specs.Form.{Form, IsSmall}
 use Rattle.slotted_terms.specs.Valid.{AllKnown}
 use Rattle.slotted_model.specs.Applied.{Applied, values}
 use Rattle.slotted_model.specs.Classes.{canonical_slots, IsFull}

@@ -11,7 +11,7 @@ use Rattle.std.specs.Coded.{Coded, code_by, coded×, coded_ℕ, coded_list}
 use Rattle.slotted_slots.specs.Table.{Table, empty_table}
 use Rattle.slotted_theory.specs.Term.{Term}
 use Rattle.slotted_theory.specs.Nameless.{DTerm, nameless}
-use Rattle.slotted_languages.specs.Form.{Form, leaf}
+use Rattle.slotted_nodes.specs.Form.{Form, leaf}
 use Rattle.slotted_languages.specs.NodeTerm.{nameless_node}
 use Rattle.slotted_languages.specs.Shape.{shape, Fits}
 use Rattle.slotted_model.specs.Applied.{Applied, keys}

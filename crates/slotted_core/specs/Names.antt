@@ -3,7 +3,7 @@ use Rattle.std.specs.Prelude.{ℕ, zero, suc, List, [], ◌∷◌, map, unwrap_o
 use Rattle.std.specs.List.{zip}
 use Rattle.slotted_slots.specs.Maps.{value_of, with_pair, values}
 use Rattle.slotted_slots.specs.Table.{fresh_slot}
-use Rattle.slotted_languages.specs.Form.{Form}
+use Rattle.slotted_nodes.specs.Form.{Form}
 use Rattle.slotted_languages.specs.Shape.{with_names}
 
 -- pairs put into a map, one after another

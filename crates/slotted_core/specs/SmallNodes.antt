@@ -2,7 +2,7 @@
 -- term does not show them: so this speaks of each node that could stand there.
 use Rattle.std.specs.Prelude.{◌≡◌, List}
 use Rattle.slotted_theory.specs.Term.{Args, Term, done, name, child, bind}
-use Rattle.slotted_languages.specs.Form.{Form, IsSmall}
+use Rattle.slotted_nodes.specs.Form.{Form, IsSmall}
 use Rattle.slotted_languages.specs.Filled.{term_of}
 
 -- each node that stands for the term, over whatever children, has fewer than 2^30 places

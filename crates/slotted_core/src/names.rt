@@ -6,7 +6,7 @@ ghost use Rattle.slotted_terms.specs.Valid.{AllKnown};
 ghost use Rattle.slotted_slots.specs.Error.{IsOutOfMemory};
 ghost use Rattle.slotted_slots.specs.Maps.{keys, values};
 ghost use Rattle.slotted_slots.specs.Table.{KnowsMore};
-ghost use Rattle.slotted_languages.specs.Form.{IsSmall};
+ghost use Rattle.slotted_nodes.specs.Form.{IsSmall};
 ghost use Rattle.slotted_model.specs.Ascending.{ascending};
 ghost use Rattle.slotted_core.specs.Names.{between, fresh_slots, with_put};
 

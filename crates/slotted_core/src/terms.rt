@@ -1,7 +1,7 @@
 //! Which terms a graph can take in.
 ghost use Rattle.std.specs.Prelude.{◌≡◌, ◌↔◌, ◌<◌, ◌⊎◌, ℕ, length, IsTrue, slice_index};
 ghost use Rattle.slotted_slots.specs.Table.{is_known};
-ghost use Rattle.slotted_languages.specs.Form.{IsSmall};
+ghost use Rattle.slotted_nodes.specs.Form.{IsSmall};
 ghost use Rattle.slotted_terms.specs.Valid.{IsValidTerm};
 ghost use Rattle.slotted_core.specs.Nodes.{IsChildPlace};
 ghost use Rattle.slotted_core.specs.SmallNodes.{HasSmallNodes};

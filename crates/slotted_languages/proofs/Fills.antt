@@ -12,7 +12,7 @@ use Rattle.slotted_slots.specs.Maps.{value_of, with_pair, values, is_among, Know
 use Rattle.slotted_slots.specs.Sets.{has, insert_key}
 use Rattle.slotted_slots.specs.Table.{Table, is_known, KnowsMore}
 use Rattle.slotted_slots.proofs.Ascending.{has-is_among, is_among-insert_key}
-use Rattle.slotted_languages.specs.Form.{Form, with_name}
+use Rattle.slotted_nodes.specs.Form.{Form, with_name}
 use Rattle.slotted_languages.specs.Fresh.{IsFilled, IsRefreshed, IsRenamedFresh, replaced}
 use Rattle.slotted_languages.specs.NodeTerm.{nameless_node, free_names_of}
 use Rattle.slotted_languages.specs.Shape.{shape, with_names, Fits}

@@ -1,6 +1,4 @@
--- Lemmas on two fields of one node, and on public places.
-pub mod Pairs
-pub mod PublicPlaces
+-- Lemmas on outlines, shapes, walks over places, and renaming.
 pub mod Outlines
 pub mod Members
 pub mod FilledFrom

@@ -4,8 +4,8 @@ use Rattle.std.proofs.lemmas.List.{length-map, length-take-le}
 use Rattle.std.proofs.Math.Seq.{take-append_seam, drop-append_seam}
 use Rattle.slotted_theory.specs.Term.{Args, name, child, bind}
 use Rattle.slotted_theory.specs.Nameless.{DArgs, stop, place, sub, scope, extend, lift, nameless_args, moved_args}
-use Rattle.slotted_languages.specs.Form.{Tree, leaf, own, scopes}
-use Rattle.slotted_languages.specs.Form.{child as id, bind as binder}
+use Rattle.slotted_nodes.specs.Form.{Tree, leaf, own, scopes}
+use Rattle.slotted_nodes.specs.Form.{child as id, bind as binder}
 use Rattle.slotted_languages.specs.NodeTerm.{own_names, node_args}
 use Rattle.slotted_slots.specs.Table.{numeric_slot}
 use Rattle.slotted_languages.specs.Shape.{Numbers, number_at, past_binder, numbered, names_in}

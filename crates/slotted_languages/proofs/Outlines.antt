@@ -7,11 +7,11 @@ use Rattle.std.proofs.lemmas.Bool.{cases_lt}
 use Rattle.std.proofs.Math.Nat.{sub-zero}
 use Rattle.slotted_theory.specs.Term.{Term}
 use Rattle.slotted_theory.specs.Term.{bind as under, child as sub, name}
-use Rattle.slotted_languages.specs.Form.{Form, Tree, leaf, own, child, bind, scopes, children, with_name, with_child, bind_form, join_form}
+use Rattle.slotted_nodes.specs.Form.{Form, Tree, leaf, own, child, bind, scopes, children, with_name, with_child, bind_form, join_form}
 use Rattle.slotted_languages.specs.Filled.{filled, hole}
 use Rattle.slotted_languages.specs.Outline.{child_mark, outlined, outlined_names, outlined_form, marks, skeleton_form, blank_form}
-use Rattle.slotted_languages.specs.Equal.{form_ext, bind_form_fits}
-use Rattle.slotted_languages.proofs.Pairs.{with_child_left, with_child_right}
+use Rattle.slotted_nodes.specs.Equal.{form_ext, bind_form_fits}
+use Rattle.slotted_nodes.proofs.Pairs.{with_child_left, with_child_right}
 
 pub length_children-outlined : (u : Tree) → length (children (outlined u)) ≡ length (children u)
 length_children-outlined leaf = refl

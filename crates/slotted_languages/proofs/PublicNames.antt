@@ -9,11 +9,11 @@ use Rattle.slotted_theory.specs.Term.{Args, done, name, child, bind}
 use Rattle.slotted_theory.specs.Nameless.{extend, nameless_args}
 use Rattle.slotted_theory.specs.Shape.{outside, free_names}
 use Rattle.slotted_languages.specs.Children.{below}
-use Rattle.slotted_languages.specs.Form.{Form, Tree, leaf, own, scopes, scope_end_of, end_at}
-use Rattle.slotted_languages.specs.Form.{child as id, bind as binder}
+use Rattle.slotted_nodes.specs.Form.{Form, Tree, leaf, own, scopes, scope_end_of, end_at}
+use Rattle.slotted_nodes.specs.Form.{child as id, bind as binder}
 use Rattle.slotted_languages.specs.NodeTerm.{node_args, own_names, free_names_of}
 use Rattle.slotted_languages.specs.Occurrences.{names_where, public_names}
-use Rattle.slotted_languages.specs.Public.{reaches, is_bound_by, is_no_binder, is_public}
+use Rattle.slotted_nodes.specs.Public.{reaches, is_bound_by, is_no_binder, is_public}
 use Rattle.slotted_languages.specs.Shape.{Fits}
 use Rattle.slotted_languages.proofs.NodeTerms.{own_fits, length-child, child_keys_fit, child_rest_fits, bind_inner_fits, bind_rest_fits}
 

@@ -8,8 +8,8 @@ use Rattle.slotted_theory.specs.Renaming.{renamed_args}
 use Rattle.slotted_theory.proofs.Names.{extend-same, extend-other}
 use Rattle.slotted_languages.proofs.Members.{In, In-left, In-right}
 use Rattle.slotted_slots.specs.Table.{numeric_slot}
-use Rattle.slotted_languages.specs.Form.{Form, Tree, leaf, own, scopes}
-use Rattle.slotted_languages.specs.Form.{child as id, bind as binder}
+use Rattle.slotted_nodes.specs.Form.{Form, Tree, leaf, own, scopes}
+use Rattle.slotted_nodes.specs.Form.{child as id, bind as binder}
 use Rattle.slotted_languages.specs.NodeTerm.{own_names, node_args, nameless_node}
 use Rattle.slotted_languages.specs.Shape.{Numbers, number_at, past_binder, numbered, no_numbers, names_in, with_names, shape, Fits}
 use Rattle.slotted_languages.proofs.Numbered.{Knows, IsFreeOf, Taken, Open, Later, Later-same, Later-then, Later-number, Later-binder, Later-numbered, Open-later, Open-binder, named, numbered-to, numbered-back}

@@ -14,7 +14,7 @@ use Rattle.slotted_languages.proofs.Occurrences.{lacks_smaller}
 use Rattle.slotted_slots.specs.Ascending.{AllAbove, IsAscending}
 use Rattle.slotted_slots.specs.Maps.{value_of, with_pair, with_first, composed, values, keys, is_among, KnowsAll}
 use Rattle.slotted_slots.specs.Table.{Table, is_known, KnowsMore}
-use Rattle.slotted_languages.specs.Form.{Form, with_name}
+use Rattle.slotted_nodes.specs.Form.{Form, with_name}
 use Rattle.slotted_languages.specs.NodeTerm.{nameless_node, free_names_of}
 use Rattle.slotted_languages.specs.Shape.{shape, with_names, moved_names, Fits, added, firsts}
 use Rattle.slotted_languages.specs.Renaming.{IsChoice, IsEntered, IsRenamed}

@@ -15,8 +15,8 @@ use Rattle.slotted_theory.proofs.Bijections.{to-injective}
 use Rattle.slotted_theory.proofs.Shapes.{shape-moved, shape_iff}
 use Rattle.slotted_slots.specs.Maps.{keys, values}
 use Rattle.slotted_slots.specs.Ascending.{AllAbove, IsAscending}
-use Rattle.slotted_languages.specs.Equal.{form_ext}
-use Rattle.slotted_languages.specs.Form.{Form}
+use Rattle.slotted_nodes.specs.Equal.{form_ext}
+use Rattle.slotted_nodes.specs.Form.{Form}
 use Rattle.slotted_languages.specs.NodeTerm.{node_args, nameless_node, free_names_of}
 use Rattle.slotted_languages.specs.Shape.{numbered, no_numbers, names_in, shape, firsts, Fits, moved_names, ShapesMove}
 use Rattle.slotted_languages.proofs.Numbered.{Knows, numbered-back}

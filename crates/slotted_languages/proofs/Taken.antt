@@ -7,7 +7,7 @@ use Rattle.slotted_slots.specs.Table.{Table, Takes}
 use Rattle.slotted_slots.specs.Ascending.{AllAbove, IsAscending}
 use Rattle.slotted_slots.specs.Maps.{IsInEither, value_of, with_pair, values, keys, is_among}
 use Rattle.slotted_slots.proofs.Taken.{takes_then, takes_as}
-use Rattle.slotted_languages.specs.Form.{Form}
+use Rattle.slotted_nodes.specs.Form.{Form}
 use Rattle.slotted_languages.specs.Fresh.{IsFilled, IsInUse, IsOrIn, replaced}
 use Rattle.slotted_languages.specs.Shape.{with_names}
 use Rattle.slotted_languages.proofs.Renamings.{is_value}

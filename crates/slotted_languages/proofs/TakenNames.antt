@@ -16,10 +16,10 @@ use Rattle.slotted_slots.specs.Table.{Table, Takes}
 use Rattle.slotted_slots.proofs.Ascending.{is_among-insert_key}
 use Rattle.slotted_slots.proofs.Taken.{takes_then, takes_as}
 use Rattle.slotted_languages.specs.Children.{below}
-use Rattle.slotted_languages.specs.Form.{Form, with_name}
+use Rattle.slotted_nodes.specs.Form.{Form, with_name}
 use Rattle.slotted_languages.specs.Fresh.{IsFilled, IsInUse}
 use Rattle.slotted_languages.specs.NodeTerm.{nameless_node, free_names_of}
-use Rattle.slotted_languages.specs.Public.{is_public}
+use Rattle.slotted_nodes.specs.Public.{is_public}
 use Rattle.slotted_languages.specs.Renaming.{IsEntered}
 use Rattle.slotted_languages.specs.Shape.{Fits, firsts, moved_names, shape}
 use Rattle.slotted_languages.proofs.Occurrences.{is_among-append, is_among-firsts}

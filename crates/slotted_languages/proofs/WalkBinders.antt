@@ -4,7 +4,7 @@ use Rattle.std.specs.Prelude.{IsSome, slice_index_or}
 use Rattle.std.proofs.lemmas.Bool.{false≢true, cases_lt}
 use Rattle.slotted_slots.specs.Table.{numeric_slot}
 use Rattle.slotted_languages.specs.Children.{IsBinder}
-use Rattle.slotted_languages.specs.Form.{Form, scopes, end_at}
+use Rattle.slotted_nodes.specs.Form.{Form, scopes, end_at}
 use Rattle.slotted_languages.specs.Shape.{Numbers, number_of, free_number, shape, IsBelow, Fits}
 use Rattle.slotted_languages.specs.Walk.{Walk, numbers, bound_number, walk_binder, walk_own, walk_at, walk, start}
 use Rattle.slotted_languages.proofs.Numbered.{IsFreeOf, Taken, Later, Later-same, Later-then, Later-free, Later-binder, IsBelow-other}

@@ -6,7 +6,7 @@ use Rattle.std.proofs.lemmas.Bool.Decides.{nat_tests}
 use Rattle.slotted_slots.specs.Table.{numeric_slot}
 use Rattle.slotted_slots.specs.Maps.{value_of}
 use Rattle.slotted_languages.specs.declared.shape.Binder.{Binder}
-use Rattle.slotted_languages.specs.Form.{Form, scopes, end_at}
+use Rattle.slotted_nodes.specs.Form.{Form, scopes, end_at}
 use Rattle.slotted_languages.specs.Shape.{number_of, free_number, shape, IsBelow, Fits}
 use Rattle.slotted_languages.specs.Walk.{Walk, numbers, bound_number, walk_binder, walk_own, walk_at, walk, start}
 use Rattle.slotted_languages.proofs.Numbered.{Knows}

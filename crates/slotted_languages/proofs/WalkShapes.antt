@@ -8,8 +8,8 @@ use Rattle.slotted_theory.specs.Nameless.{extend, nameless_args}
 use Rattle.slotted_theory.proofs.Names.{extend-same, extend-other}
 use Rattle.slotted_slots.specs.Table.{numeric_slot}
 use Rattle.slotted_languages.specs.declared.shape.Binder.{Binder}
-use Rattle.slotted_languages.specs.Form.{Form, Tree, leaf, own, scopes, end_at}
-use Rattle.slotted_languages.specs.Form.{child as id, bind as binder}
+use Rattle.slotted_nodes.specs.Form.{Form, Tree, leaf, own, scopes, end_at}
+use Rattle.slotted_nodes.specs.Form.{child as id, bind as binder}
 use Rattle.slotted_languages.specs.NodeTerm.{own_names, node_args}
 use Rattle.slotted_languages.specs.Shape.{Numbers, number_of, free_number, number_at, numbered, names_in, with_names, shape}
 use Rattle.slotted_languages.specs.Walk.{Walk, numbers, bound_number, walk_binder, walk_own, walk_at, walk, start}

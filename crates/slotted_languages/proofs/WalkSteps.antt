@@ -3,7 +3,7 @@ use Rattle.std.proofs.Common.{◌≡◌, ℕ, suc, zero, ◌+◌, ◌<◌, ◌�
 use Rattle.std.specs.Prelude.{slice_index_or}
 use Rattle.std.proofs.lemmas.List.{length-take-le, append-nil}
 use Rattle.std.proofs.Math.Seq.{take-suc, take-length, drop-length}
-use Rattle.slotted_languages.specs.Form.{Form, with_name, scopes, end_at, scope_end_of}
+use Rattle.slotted_nodes.specs.Form.{Form, with_name, scopes, end_at, scope_end_of}
 use Rattle.slotted_languages.specs.Shape.{with_names, shape, number_of}
 use Rattle.slotted_languages.specs.Walk.{Walk, bound_number, walk_own, walk_at, walk, start}
 use Rattle.slotted_languages.proofs.WalkShapes.{walk-shape}

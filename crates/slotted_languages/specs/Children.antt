@@ -3,8 +3,8 @@ use Rattle.std.specs.Prelude.{◌≡◌, ℕ, zero, suc, ◌<◌, List, [], ◌�
 use Rattle.slotted_slots.specs.declared.error.Error.{Error}
 use Rattle.slotted_slots.specs.declared.types.AppliedId.{AppliedId}
 use Rattle.slotted_slots.specs.Maps.{keys, values}
-use Rattle.slotted_languages.specs.Form.{Form, children, child_of, with_child, scopes, scope_end_of}
-use Rattle.slotted_languages.specs.Public.{IsPublic}
+use Rattle.slotted_nodes.specs.Form.{Form, children, child_of, with_child, scopes, scope_end_of}
+use Rattle.slotted_nodes.specs.Public.{IsPublic}
 
 -- an applied id as its id, its keys and its names
 abbrev pub child_value : AppliedId → ℕ × List ℕ × List ℕ

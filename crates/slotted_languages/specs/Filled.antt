@@ -4,8 +4,8 @@ use Rattle.std.specs.Prelude.{◌≡◌, ℕ, zero, suc, ◌+◌, ◌≤◌, Lis
 use Rattle.std.proofs.Common.{arith}
 use denote.Param.Weighed.{most}
 use Rattle.slotted_theory.specs.Term.{Args, Term, done, name, child, bind, args_size, term_size}
-use Rattle.slotted_languages.specs.Form.{Form, Tree, leaf, own, scopes, children}
-use Rattle.slotted_languages.specs.Form.{child as id, bind as binder}
+use Rattle.slotted_nodes.specs.Form.{Form, Tree, leaf, own, scopes, children}
+use Rattle.slotted_nodes.specs.Form.{child as id, bind as binder}
 
 -- terms as arguments, one after another
 abbrev pub children_args : List Term → Args

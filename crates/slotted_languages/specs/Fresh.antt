@@ -3,7 +3,7 @@ use Rattle.std.specs.Prelude.{◌≡◌, ◌⊎◌, ℕ, List, map, Bool, true, 
 use Rattle.slotted_theory.specs.Nameless.{moved}
 use Rattle.slotted_slots.specs.Maps.{IsInEither, value_of, is_among}
 use Rattle.slotted_slots.specs.Table.{Table, is_known}
-use Rattle.slotted_languages.specs.Form.{Form}
+use Rattle.slotted_nodes.specs.Form.{Form}
 use Rattle.slotted_languages.specs.NodeTerm.{nameless_node, free_names_of}
 use Rattle.slotted_languages.specs.Shape.{with_names}
 

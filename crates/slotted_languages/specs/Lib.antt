@@ -1,15 +1,4 @@
--- What nodes are, how they are written, and the laws of the languages here.
-pub mod Form
-pub mod Public
-pub mod Written
-pub mod Joined
-pub mod Equal
-pub mod PairEqual
-pub mod ReadFrom
-pub mod Texts
-pub mod TextLaws
-pub mod Identifier
-pub mod ReadsBack
+-- The language Small with its laws; shapes, outlines, renaming and refreshing of nodes.
 pub mod Small
 pub mod SmallSame
 pub mod SmallRead

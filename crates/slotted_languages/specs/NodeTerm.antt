@@ -3,8 +3,8 @@ use Rattle.std.specs.Prelude.{ℕ, suc, List, [], ◌∷◌, take, drop, length,
 use Rattle.slotted_theory.specs.Term.{Args, Term, done, name, child, bind}
 use Rattle.slotted_theory.specs.Nameless.{DTerm, nameless}
 use Rattle.slotted_theory.specs.Shape.{free_names}
-use Rattle.slotted_languages.specs.Form.{Form, Tree, leaf, own, scopes}
-use Rattle.slotted_languages.specs.Form.{child as id, bind as binder}
+use Rattle.slotted_nodes.specs.Form.{Form, Tree, leaf, own, scopes}
+use Rattle.slotted_nodes.specs.Form.{child as id, bind as binder}
 
 -- own names, one after another
 abbrev pub own_names : List ℕ → Args

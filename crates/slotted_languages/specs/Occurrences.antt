@@ -1,8 +1,8 @@
 -- The names at some places of a node from the left, each as often as it stands.
 use Rattle.std.specs.Prelude.{ℕ, List, length, map, Bool, not, slice_index}
 use Rattle.std.specs.List.{filter}
-use Rattle.slotted_languages.specs.Form.{Form}
-use Rattle.slotted_languages.specs.Public.{is_public}
+use Rattle.slotted_nodes.specs.Form.{Form}
+use Rattle.slotted_nodes.specs.Public.{is_public}
 use Rattle.slotted_languages.specs.Children.{below}
 
 -- the names at those of the first n places where the test says yes

@@ -1,7 +1,7 @@
 -- The outline of a node: the node with each child replaced by one that has a single place. Its places are the node's own
 -- names, children and binders in a row, so what stands where can be read off them.
 use Rattle.std.specs.Prelude.{◌≡◌, ℕ, List, [], ◌∷◌, ◌++◌, length, take, drop, replicate, slice_index}
-use Rattle.slotted_languages.specs.Form.{Form, Tree, leaf, own, child, bind, scopes}
+use Rattle.slotted_nodes.specs.Form.{Form, Tree, leaf, own, child, bind, scopes}
 
 -- the tree with the id 0 under the one key 0 in the place of each child
 abbrev pub outlined : Tree → Tree

@@ -4,7 +4,7 @@ use Rattle.slotted_theory.specs.Nameless.{moved}
 use Rattle.slotted_slots.specs.Maps.{value_of, with_pair, values, is_among}
 use Rattle.slotted_slots.specs.Table.{Table, is_known}
 use Rattle.slotted_languages.specs.Children.{IsBinder}
-use Rattle.slotted_languages.specs.Form.{Form}
+use Rattle.slotted_nodes.specs.Form.{Form}
 use Rattle.slotted_languages.specs.NodeTerm.{nameless_node}
 
 -- y is a new name for a number: for a free name what the map of these says; for a binder its old name, or where that is to

@@ -7,7 +7,7 @@ use Rattle.slotted_theory.specs.Renaming.{IsInjective}
 use Rattle.slotted_theory.specs.Shape.{SameUpToNames}
 use Rattle.slotted_slots.specs.Maps.{is_among}
 use Rattle.slotted_slots.specs.Table.{numeric_slot}
-use Rattle.slotted_languages.specs.Form.{Form, scopes}
+use Rattle.slotted_nodes.specs.Form.{Form, scopes}
 use Rattle.slotted_languages.specs.NodeTerm.{nameless_node}
 
 -- the next number, and the free names that were met, each after its number

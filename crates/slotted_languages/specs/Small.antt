@@ -1,7 +1,7 @@
 -- The language Small: what its nodes are, what they are written as, and what is read as them.
 use Rattle.std.specs.Prelude.{ℕ, List, [], ◌∷◌, Option, Some, None, if◌then◌else◌, codes, decimal, bytes_eq}
 use Rattle.slotted_slots.specs.Syntax.{Element, text, applied, name}
-use Rattle.slotted_languages.specs.Form.{Form, variant, plain, slot_form, child_form, bind_form, join_form}
+use Rattle.slotted_nodes.specs.Form.{Form, variant, plain, slot_form, child_form, bind_form, join_form}
 use Rattle.slotted_slots.specs.Table.{reads_u32}
 use Rattle.slotted_languages.specs.declared.small.Small.{Small}
 use Rattle.slotted_languages.specs.declared.small.Small.TheVariants.{Lam, App, Var, F, G, Add, Mul, Number, Word}

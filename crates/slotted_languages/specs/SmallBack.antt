@@ -4,10 +4,10 @@ use Rattle.std.proofs.Common.{arith, ap, sym, subst, lit<, inl, inr, ◌∙◌}
 use Rattle.slotted_slots.specs.Maps.{keys}
 use Rattle.slotted_slots.specs.Syntax.{Element, text, applied, name}
 use Rattle.slotted_slots.specs.Table.{reads_u32}
-use Rattle.slotted_languages.specs.Equal.{cons_parts}
-use Rattle.slotted_languages.specs.Form.{Form, variant, plain, slot_form, child_form, bind_form, join_form}
-use Rattle.slotted_languages.specs.Identifier.{IsIdentifier, HasIdentifiers, HasNullIds, HasNullChildren}
-use Rattle.slotted_languages.specs.ReadsBack.{ascii_text, u32_back, number_parts}
+use Rattle.slotted_nodes.specs.Equal.{cons_parts}
+use Rattle.slotted_nodes.specs.Form.{Form, variant, plain, slot_form, child_form, bind_form, join_form}
+use Rattle.slotted_nodes.specs.Identifier.{IsIdentifier, HasIdentifiers, HasNullIds, HasNullChildren}
+use Rattle.slotted_nodes.specs.ReadsBack.{ascii_text, u32_back, number_parts}
 use Rattle.slotted_languages.specs.declared.small.Small.{Small}
 use Rattle.slotted_languages.specs.declared.small.Small.TheVariants.{Lam, App, Var, F, G, Add, Mul, Number, Word}
 use Rattle.slotted_languages.specs.Small.{small_form, small_shown, small_read, alone}

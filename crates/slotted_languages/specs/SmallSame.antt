@@ -1,11 +1,11 @@
 -- The laws of a language at Small.
 use Rattle.std.specs.Prelude.{◌≡◌, ℕ, ◌<◌, ◌^◌, [], ◌∷◌, length, refl, Bool, IsTrue, ◌↔◌, nat_eq, ◌&&◌}
 use Rattle.std.proofs.Common.{lit<, arith, ap}
-use Rattle.slotted_languages.specs.Form.{Form, variant, plain, slot_form, child_form, bind_form, join_form, scopes, children}
+use Rattle.slotted_nodes.specs.Form.{Form, variant, plain, slot_form, child_form, bind_form, join_form, scopes, children}
 use Rattle.std.specs.Cmp.Lexicographic.{pointwise}
 use Rattle.slotted_slots.specs.declared.types.AppliedId.{AppliedId}
-use Rattle.slotted_languages.specs.Equal.{applied_id_same, bind_same, bind_form_fits, child_form_fits, slot_same, number_told, bytes_told, plain_same}
-use Rattle.slotted_languages.specs.PairEqual.{AreAlike, join_form_fits, join_form_same, variant_same}
+use Rattle.slotted_nodes.specs.Equal.{applied_id_same, bind_same, bind_form_fits, child_form_fits, slot_same, number_told, bytes_told, plain_same}
+use Rattle.slotted_nodes.specs.PairEqual.{AreAlike, join_form_fits, join_form_same, variant_same}
 use Rattle.slotted_languages.specs.declared.small.Small.{Small}
 use Rattle.slotted_languages.specs.declared.small.Small.TheVariants.{Lam, App, Var, F, G, Add, Mul, Number, Word}
 use Rattle.slotted_languages.specs.Small.{small_form}

@@ -4,7 +4,7 @@ use Rattle.slotted_slots.specs.Table.{numeric_slot}
 use Rattle.slotted_slots.specs.Maps.{value_of}
 use Rattle.slotted_languages.specs.declared.shape.Binder.{Binder}
 use Rattle.slotted_languages.specs.declared.shape.Numbering.{Numbering}
-use Rattle.slotted_languages.specs.Form.{end_at}
+use Rattle.slotted_nodes.specs.Form.{end_at}
 use Rattle.slotted_languages.specs.Shape.{Numbers, number_of, free_number, IsBelow}
 
 -- the next number, the binders that were passed, and the free names that were met, each after its number

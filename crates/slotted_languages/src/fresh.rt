@@ -3,7 +3,7 @@ ghost use Rattle.std.specs.Prelude.{◌≡◌, ◌^◌, ℕ, true, [], ◌∷◌
 ghost use Rattle.slotted_slots.specs.Error.{IsOutOfMemory, IsShortage};
 ghost use Rattle.slotted_slots.specs.Maps.{IsInEither, is_among, values};
 ghost use Rattle.slotted_slots.specs.Table.{KnowsMore, Takes};
-ghost use Rattle.slotted_languages.specs.Form.{IsSmall};
+ghost use Rattle.slotted_nodes.specs.Form.{IsSmall};
 ghost use Rattle.slotted_languages.specs.Fresh.{IsFilled, IsInUse, IsRefreshed, replaced};
 ghost use Rattle.slotted_languages.specs.Shape.{with_names};
 

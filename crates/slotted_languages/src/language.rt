@@ -8,17 +8,17 @@ ghost use Rattle.slotted_slots.specs.Error.{IsOutOfMemory, IsShortage};
 ghost use Rattle.slotted_slots.specs.Maps.{IsInEither, KnowsAll, is_among, keys, values};
 ghost use Rattle.slotted_slots.specs.Table.{KnowsMore, Takes, is_known};
 ghost use Rattle.slotted_languages.specs.Children.{IsBinder, IsBound, NoneFreeAndBound, Refused, Replaced, all_children, below, child_value};
-ghost use Rattle.slotted_languages.specs.Form.{IsSmall, children};
+ghost use Rattle.slotted_nodes.specs.Form.{IsSmall, children};
 ghost use Rattle.slotted_languages.specs.Fresh.{IsInUse, IsRefreshed, IsRenamedFresh};
 ghost use Rattle.slotted_languages.specs.NodeTerm.{nameless_node, free_names_of};
 ghost use Rattle.slotted_languages.specs.Occurrences.{public_names, private_names};
 ghost use Rattle.slotted_languages.specs.Shape.{shape, firsts};
 
-use crate::children::LanguageChildren;
 use crate::fresh::{fill_names, names_outside, names_within, refresh_names};
 use crate::places::{all_names, check_count, hidden_names, name_set, seen_names};
 use crate::renaming::{add_names, rename};
 use crate::shape::{PLACES, number_places};
+use slotted_nodes::LanguageChildren;
 use slotted_slots::{AppliedId, Error, Id, Slot, SlotMap, SlotTable, SmallHashSet};
 use std::alloc::Global;
 

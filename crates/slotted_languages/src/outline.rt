@@ -1,7 +1,7 @@
 //! Outlines of nodes: what is left of a node where each child has a single place.
 ghost use Rattle.std.specs.Prelude.{◌≡◌, IfOk, IfErr};
 ghost use Rattle.slotted_slots.specs.Error.{IsOutOfMemory};
-ghost use Rattle.slotted_languages.specs.Form.{IsSmall};
+ghost use Rattle.slotted_nodes.specs.Form.{IsSmall};
 ghost use Rattle.slotted_languages.specs.Outline.{outlined_form, skeleton_form, blank_form, IsOnlyChild};
 
 use crate::language::Language;

@@ -2,7 +2,7 @@
 ghost use Rattle.std.specs.Prelude.{◌≡◌, ◌↔◌, ◌≤◌, ◌^◌, ℕ, length, IfOk, IfErr, IsErrOf, IsOkUnless};
 ghost use Rattle.slotted_slots.specs.Error.{IsOutOfMemory};
 ghost use Rattle.slotted_slots.specs.Maps.{is_among};
-ghost use Rattle.slotted_languages.specs.Form.{IsSmall};
+ghost use Rattle.slotted_nodes.specs.Form.{IsSmall};
 ghost use Rattle.slotted_languages.specs.NodeTerm.{free_names_of};
 ghost use Rattle.slotted_languages.specs.Occurrences.{public_names, private_names};
 

@@ -3,7 +3,7 @@ ghost use Rattle.std.specs.Prelude.{◌≡◌, ◌^◌, ℕ, true, false, Some, 
 ghost use Rattle.slotted_slots.specs.Error.{IsOutOfMemory, IsShortage};
 ghost use Rattle.slotted_slots.specs.Maps.{IsInEither, is_among, value_of, values};
 ghost use Rattle.slotted_slots.specs.Table.{KnowsMore, Takes, is_known};
-ghost use Rattle.slotted_languages.specs.Form.{IsSmall};
+ghost use Rattle.slotted_nodes.specs.Form.{IsSmall};
 ghost use Rattle.slotted_languages.specs.Fresh.{IsInUse, IsOrIn};
 ghost use Rattle.slotted_languages.specs.Shape.{shape, moved_names};
 ghost use Rattle.slotted_languages.specs.Renaming.{IsChoice, IsEntered, IsRenamed};

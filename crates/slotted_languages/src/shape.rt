@@ -1,7 +1,7 @@
 //! Shapes of nodes: names become numbers in the order in which they first stand.
 ghost use Rattle.std.specs.Prelude.{◌≡◌, ◌<◌, ◌^◌, None, IfOk, IfErr};
 ghost use Rattle.slotted_slots.specs.Error.{IsOutOfMemory};
-ghost use Rattle.slotted_languages.specs.Form.{IsSmall};
+ghost use Rattle.slotted_nodes.specs.Form.{IsSmall};
 ghost use Rattle.slotted_languages.specs.Shape.{shape, ShapeLaws};
 ghost use Rattle.slotted_languages.specs.Walk.{IsNumbering, walk_of, bound_number, walk_binder, walk_free, walk_at, start};
 

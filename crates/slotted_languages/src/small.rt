@@ -2,17 +2,15 @@
 ghost use Rattle.std.specs.Prelude.{◌≡◌, Some, option_map, IfOk, IfErr};
 ghost use Rattle.slotted_slots.specs.Error.{IsOutOfMemory};
 ghost use Rattle.slotted_slots.specs.Syntax.{element_of, applied, text};
-ghost use Rattle.slotted_languages.specs.Form.{child_form};
+ghost use Rattle.slotted_nodes.specs.Form.{child_form};
 ghost use Rattle.slotted_languages.specs.Small.{small_form, small_shown, small_read, alone, over_slot, over_slots, over_binder, over_children};
+ghost use Rattle.slotted_languages.specs.SmallBack.{small_words, small_back, small_null};
 ghost use Rattle.slotted_languages.specs.SmallRead.{small_faithful};
 ghost use Rattle.slotted_languages.specs.SmallSame.{small_fits, small_few, small_same};
 ghost use Rattle.slotted_slots.specs.Table.{reads_u32};
 
-use crate::children::{Bind, LanguageChildren};
 use crate::language::Language;
-use crate::pair;
-use crate::payload::Symbol;
-use crate::payload::texts::parse;
+use slotted_nodes::{Bind, LanguageChildren, ReadBack, Symbol, pair};
 use slotted_slots::{AppliedId, Error, Slot, SyntaxElem};
 use std::alloc::Global;
 
@@ -260,12 +258,19 @@ fn child(alloc: Global, a: &AppliedId) -> Result<SyntaxElem, Error>
     Ok(SyntaxElem::AppliedId(a.copy(alloc)?))
 }
 
+// The number that a text writes.
+fn read_number(text: &str) -> Option<u32>
+    ensures { result ≡ reads_u32 text.now }
+{
+    text.parse().ok()
+}
+
 // The node that a text alone writes.
 fn read_alone(alloc: Global, word: &str) -> Result<Option<Small>, Error>
     ensures ok { IfOk result (λ o. option_map small_form o ≡ Some (alone word.now (reads_u32 word.now))) }
     ensures err { IfErr result IsOutOfMemory }
 {
-    match parse(word) {
+    match read_number(word) {
         Some(n) => Ok(Some(Small::Number(n))),
         None => Ok(Some(Small::Word(Symbol::from_text(alloc, word)?))),
     }
@@ -343,4 +348,12 @@ impl Language for Small {
             Small::Word(_) => 8,
         }
     }
+}
+
+impl ReadBack for Small {
+    ghost words = { small_words };
+
+    ghost back = { small_back };
+
+    ghost null = { small_null };
 }

@@ -8,8 +8,8 @@ use Rattle.slotted_slots.specs.Maps.{is_among}
 use Rattle.slotted_slots.specs.Syntax.{Element, Lexeme}
 use Rattle.slotted_slots.specs.Table.{Table, is_known}
 use Rattle.slotted_slots.specs.declared.error.Error.{Error}
-use Rattle.slotted_languages.specs.Form.{Form}
-use Rattle.slotted_languages.specs.ReadFrom.{IsReadFrom, slots_of, slots_of-append}
+use Rattle.slotted_nodes.specs.Form.{Form}
+use Rattle.slotted_nodes.specs.ReadFrom.{IsReadFrom, slots_of, slots_of-append}
 use Rattle.slotted_patterns.specs.Tree.{PatternTree, row_of}
 use Rattle.slotted_patterns.specs.View.{tree_of}
 use Rattle.slotted_patterns.specs.Known.{AreKnown, HasKnownNames, HaveKnownNames}

@@ -6,9 +6,9 @@ use Rattle.std.proofs.Math.Utf8.{scalars}
 use Rattle.std.proofs.lemmas.Str.{scalars-chars}
 use Rattle.slotted_slots.specs.Syntax.{Element, text, applied, name, Lexeme}
 use Rattle.slotted_slots.specs.Table.{Table, IsTable}
-use Rattle.slotted_languages.specs.Form.{Form}
-use Rattle.slotted_languages.specs.Identifier.{HasIdentifiers, HasNullIds, AreNull, HasNullChildren}
-use Rattle.slotted_languages.specs.ReadFrom.{IsReadFrom, applied_count}
+use Rattle.slotted_nodes.specs.Form.{Form}
+use Rattle.slotted_nodes.specs.Identifier.{HasIdentifiers, HasNullIds, AreNull, HasNullChildren}
+use Rattle.slotted_nodes.specs.ReadFrom.{IsReadFrom, applied_count}
 use Rattle.slotted_patterns.specs.Tree.{PatternTree, enode, row_of}
 use Rattle.slotted_patterns.specs.View.{tree_of, tree_step}
 use Rattle.slotted_patterns.specs.Shown.{pattern_text, text_step, node_text}

@@ -7,9 +7,9 @@ use Rattle.std.proofs.Math.Bool.{or-true}
 use Rattle.slotted_slots.specs.Maps.{is_among}
 use Rattle.slotted_slots.specs.Syntax.{Element, text, applied, name, Lexeme}
 use Rattle.slotted_slots.specs.Table.{Table}
-use Rattle.slotted_languages.specs.Form.{Form, children}
-use Rattle.slotted_languages.specs.Identifier.{IsIdentifier, HasIdentifiers, HasNullIds, HasNullChildren}
-use Rattle.slotted_languages.specs.ReadFrom.{IsReadFrom, slots_of, slots_of-append, applied_count, applied_count-append}
+use Rattle.slotted_nodes.specs.Form.{Form, children}
+use Rattle.slotted_nodes.specs.Identifier.{IsIdentifier, HasIdentifiers, HasNullIds, HasNullChildren}
+use Rattle.slotted_nodes.specs.ReadFrom.{IsReadFrom, slots_of, slots_of-append, applied_count, applied_count-append}
 use Rattle.slotted_patterns.specs.Tree.{PatternTree, enode, pvar, substitution, PatternRow, no_more, one_more, row_of}
 use Rattle.slotted_patterns.specs.Grammar.{Reading, found, fault, Bracket, built, joined, one_text, one_slot, one_child, after, node, ReadsPattern, based, ReadsBase, of_variable, alone, bracket, no_operator, no_base, ReadsBracket, end, then_slot, then_child, ReadsOnAfter, goes_on, faulty_child, ReadsSubstitutions, no_substitution, substituted, faulty_base, ReadsValue, becomes, no_becomes, faulty_place, ReadsClose, closed, not_closed, faulty_value}
 use Rattle.slotted_patterns.proofs.PrintedTokens.{IsRun}

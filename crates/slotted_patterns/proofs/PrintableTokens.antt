@@ -11,7 +11,7 @@ use Rattle.std.proofs.lemmas.List.Sums.{take_while-cons}
 use Rattle.std.proofs.lemmas.Str.{chars-encodes}
 use Rattle.slotted_slots.specs.Syntax.{Lexeme, slot, word, variable, left_paren, right_paren, left_bracket, right_bracket}
 use Rattle.slotted_slots.specs.Table.{Table, NamedOutcome, gives, too_large, no_place, reading_of, named_of, IsTable}
-use Rattle.slotted_languages.specs.Identifier.{are_run_chars, begins_identifier, is_identifier, IsIdentifier}
+use Rattle.slotted_nodes.specs.Identifier.{are_run_chars, begins_identifier, is_identifier, IsIdentifier}
 use Rattle.slotted_patterns.specs.Tokens.{Next, nothing, token, refused, bracket_of, bracket_or, is_of_run, is_colon_equals, run, after_run, after_white_space, variable_token, named_token, slot_token, sign_or_word, token_at, next_token, BeginsWith}
 use Rattle.slotted_patterns.proofs.PrintedTokens.{is_of_run-is, is_run, IsRun, no_equals_sign}
 use Rattle.slotted_patterns.proofs.PrintedSlots.{Grows, Grows-refl, Grows-trans, IsNamed, IsNamed-more, IsNamed-prints, named_of-grows, PrintsAsRun}

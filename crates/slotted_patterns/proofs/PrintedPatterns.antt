@@ -5,9 +5,9 @@ use Rattle.std.specs.Str.{chars}
 use Rattle.slotted_slots.specs.Maps.{values}
 use Rattle.slotted_slots.specs.Syntax.{Element, text, applied, name, Lexeme, slot, word, variable, colon_equals, left_paren, right_paren, left_bracket, right_bracket}
 use Rattle.slotted_slots.specs.Table.{Table, shown_slot}
-use Rattle.slotted_languages.specs.Form.{Form}
-use Rattle.slotted_languages.specs.Identifier.{HasIdentifiers, HasNullIds}
-use Rattle.slotted_languages.specs.ReadFrom.{slots_of, applied_count}
+use Rattle.slotted_nodes.specs.Form.{Form}
+use Rattle.slotted_nodes.specs.Identifier.{HasIdentifiers, HasNullIds}
+use Rattle.slotted_nodes.specs.ReadFrom.{slots_of, applied_count}
 use Rattle.slotted_patterns.specs.Tree.{PatternTree, enode, pvar, substitution, row_of}
 use Rattle.slotted_patterns.specs.Grammar.{Reading, found, Bracket, built, one_text, after, node, begins_pattern, begins_slot_or_end, begins_with_left_bracket, ReadsPattern, based, of_variable, alone, bracket, ReadsBracket, end, then_slot, then_child, goes_on, ReadsSubstitutions, no_substitution, substituted, becomes, closed}
 use Rattle.slotted_patterns.specs.Shown.{part_texts, spaced, node_text}

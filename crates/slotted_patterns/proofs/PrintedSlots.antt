@@ -13,7 +13,7 @@ use Rattle.slotted_slots.specs.Table.{Table, gives, too_large, Reading, as_numbe
 use Rattle.slotted_slots.proofs.NamingLaws.{gives_from_if, full_never, place_of-within, place_of-name}
 use Rattle.slotted_slots.proofs.Printing.{shown_slot-numeric, shown_slot-fresh, shown_slot-name, reads_back}
 use Rattle.slotted_slots.proofs.TableLaws.{remainder_is, quotient_is, is_known-numeric_slot, is_known-fresh_slot, is_known-name_slot}
-use Rattle.slotted_languages.specs.Identifier.{is_run_char, are_run_chars}
+use Rattle.slotted_nodes.specs.Identifier.{is_run_char, are_run_chars}
 use Rattle.slotted_patterns.proofs.PrintedTokens.{is_run, IsRun}
 
 -- the text of a number is a run

@@ -9,7 +9,7 @@ use Rattle.std.proofs.lemmas.Bool.{and_parts, cases_Bool, not-true, eqb-true}
 use Rattle.std.proofs.lemmas.Str.{chars-append, encodes-chars, chars-IsAscii, chars-nil, IsUtf8-from_ascii}
 use Rattle.slotted_slots.specs.Syntax.{Lexeme, slot, word, variable, colon_equals, left_paren, right_paren, left_bracket, right_bracket}
 use Rattle.slotted_slots.specs.Table.{Table, gives, named_of}
-use Rattle.slotted_languages.specs.Identifier.{is_run_char, are_run_chars, begins_identifier, is_identifier, IsIdentifier}
+use Rattle.slotted_nodes.specs.Identifier.{is_run_char, are_run_chars, begins_identifier, is_identifier, IsIdentifier}
 use Rattle.slotted_patterns.specs.Tokens.{token, bracket_of, bracket_or, is_of_run, is_colon_equals, run, after_run, variable_token, named_token, slot_token, sign_or_word, token_at, next_token, HasTokens}
 
 -- a test of one of four characters

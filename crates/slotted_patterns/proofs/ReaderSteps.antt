@@ -9,7 +9,7 @@ use Rattle.slotted_slots.specs.declared.parse.Token.{Token}
 use Rattle.slotted_slots.specs.declared.parse.Token.TheVariants as token
 use Rattle.slotted_slots.specs.declared.slot.Slot.{Slot}
 use Rattle.std.specs.declared.alloc.Global.{Global}
-use Rattle.slotted_languages.specs.Form.{Form}
+use Rattle.slotted_nodes.specs.Form.{Form}
 use Rattle.slotted_patterns.specs.Tree.{PatternTree, pvar, substitution}
 use Rattle.slotted_patterns.specs.View.{tree_of}
 use Rattle.slotted_patterns.specs.Outcome.{Outcome, outside, Refuses}

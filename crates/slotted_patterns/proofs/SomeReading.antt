@@ -3,7 +3,7 @@ use Rattle.std.proofs.Common.{◌≡◌, ℕ, zero, suc, ◌-◌, ◌<◌, ◌�
 use Rattle.std.specs.Prelude.{Option, Some, None}
 use Rattle.slotted_slots.specs.Syntax.{Element, Lexeme, slot, word, variable, colon_equals, left_paren, right_paren, left_bracket, right_bracket, no_pattern, no_colon_equals, no_right_bracket}
 use Rattle.slotted_slots.specs.Table.{Table}
-use Rattle.slotted_languages.specs.Form.{Form}
+use Rattle.slotted_nodes.specs.Form.{Form}
 use Rattle.slotted_patterns.specs.Tree.{PatternTree, pvar, substitution}
 use Rattle.slotted_patterns.specs.Outcome.{Outcome}
 use Rattle.slotted_patterns.specs.Grammar.{Reading, found, fault, Bracket, joined, one_text, one_slot, one_child, after, node, built, begins_slot_or_end, ReadsPattern, based, ReadsBase, of_variable, alone, bracket, no_operator, no_base, ReadsBracket, end, then_slot, then_child, goes_on, faulty_child, ReadsSubstitutions, no_substitution, substituted, faulty_base, ReadsValue, becomes, no_becomes, faulty_place, ReadsClose, closed, not_closed, faulty_value, whole}

@@ -3,7 +3,7 @@ use Rattle.std.proofs.Common.{◌≡◌, ℕ, false, List, [], ◌∷◌, refl, 
 use Rattle.std.specs.Prelude.{Option}
 use Rattle.std.proofs.lemmas.List.{append-nil}
 use Rattle.slotted_slots.specs.Syntax.{Lexeme, word, variable, slot, colon_equals, left_paren, right_paren, left_bracket, right_bracket, no_pattern, no_colon_equals, no_right_bracket, Element, Fault}
-use Rattle.slotted_languages.specs.Form.{Form}
+use Rattle.slotted_nodes.specs.Form.{Form}
 use Rattle.slotted_patterns.specs.Tree.{PatternTree, pvar, substitution}
 use Rattle.slotted_patterns.specs.Grammar.{Reading, found, fault, Bracket, joined, one_text, one_slot, one_child, after, node, begins_with_word, begins_pattern, begins_slot_or_end, begins_with_left_bracket, begins_with_colon_equals, begins_with_right_bracket, ReadsPattern, based, ReadsBase, of_variable, alone, bracket, no_operator, no_base, end, then_slot, then_child, goes_on, faulty_child, no_substitution, substituted, faulty_base, becomes, no_becomes, faulty_place, closed, not_closed, faulty_value}
 use Rattle.slotted_patterns.specs.Stack.{Part, in_bracket, before_place, before_value, Resumes, Continues, ReadsOpen}

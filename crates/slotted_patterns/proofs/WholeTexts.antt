@@ -4,7 +4,7 @@ use Rattle.std.specs.Prelude.{map, Option}
 use Rattle.slotted_slots.specs.Syntax.{Element, Lexeme, lexeme_of, too_much}
 use Rattle.slotted_slots.specs.declared.parse.Token.{Token}
 use Rattle.slotted_slots.specs.declared.error.Error.{Error}
-use Rattle.slotted_languages.specs.Form.{Form}
+use Rattle.slotted_nodes.specs.Form.{Form}
 use Rattle.slotted_patterns.specs.Tree.{PatternTree}
 use Rattle.slotted_patterns.specs.Outcome.{parsed, outside, Refuses}
 use Rattle.slotted_patterns.specs.Grammar.{found, fault, ReadsPattern}

@@ -2,7 +2,7 @@
 -- node, if any, of a list of elements.
 use Rattle.std.specs.Prelude.{◌≡◌, ℕ, Bool, true, false, List, [], ◌∷◌, ◌++◌, Option, Some, None}
 use Rattle.slotted_slots.specs.Syntax.{Lexeme, slot, word, variable, colon_equals, left_paren, right_paren, left_bracket, right_bracket, Element, text, applied, name, Fault, no_pattern, too_much, no_node, no_colon_equals, no_right_bracket}
-use Rattle.slotted_languages.specs.Form.{Form}
+use Rattle.slotted_nodes.specs.Form.{Form}
 use Rattle.slotted_patterns.specs.Tree.{PatternTree, enode, pvar, substitution, row_of}
 use Rattle.slotted_patterns.specs.Outcome.{Outcome, parsed, outside}
 

@@ -2,7 +2,7 @@
 use Rattle.std.specs.Prelude.{◌≡◌, ℕ, List, Option}
 use Rattle.slotted_slots.specs.Syntax.{Lexeme, Element}
 use Rattle.slotted_slots.specs.Table.{Table}
-use Rattle.slotted_languages.specs.Form.{Form}
+use Rattle.slotted_nodes.specs.Form.{Form}
 use Rattle.slotted_patterns.specs.Outcome.{Outcome}
 use Rattle.slotted_patterns.specs.Tree.{PatternTree}
 use Rattle.slotted_patterns.specs.Grammar.{Reading, ReadsPattern, whole}

@@ -4,8 +4,8 @@ use Rattle.std.specs.Str.{chars, IsUtf8}
 use Rattle.slotted_slots.specs.Maps.{keys}
 use Rattle.slotted_slots.specs.Syntax.{Element, text, applied, name}
 use Rattle.slotted_slots.specs.Table.{Table, IsTable}
-use Rattle.slotted_languages.specs.Form.{Form, children}
-use Rattle.slotted_languages.specs.ReadFrom.{slots_of}
+use Rattle.slotted_nodes.specs.Form.{Form, children}
+use Rattle.slotted_nodes.specs.ReadFrom.{slots_of}
 use Rattle.slotted_patterns.specs.Outcome.{parsed}
 use Rattle.slotted_patterns.specs.Parsed.{PatternReads}
 use Rattle.slotted_patterns.specs.Shown.{pattern_text}

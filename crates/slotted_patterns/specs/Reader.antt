@@ -1,7 +1,7 @@
 -- How far a pattern is read, as contracts of the reader see it.
 use Rattle.std.specs.Prelude.{◌≡◌, ℕ, ◌<◌, ◌+◌, ◌*◌, List, ◌∷◌, Option, map, reverse}
 use Rattle.slotted_slots.specs.Syntax.{Lexeme, Element, Fault, element_of}
-use Rattle.slotted_languages.specs.Form.{Form}
+use Rattle.slotted_nodes.specs.Form.{Form}
 use Rattle.slotted_patterns.specs.Tree.{PatternTree}
 use Rattle.slotted_patterns.specs.View.{tree_of}
 use Rattle.slotted_patterns.specs.Outcome.{Outcome, outside}

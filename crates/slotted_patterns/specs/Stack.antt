@@ -1,7 +1,7 @@
 -- What tokens inside parts of a pattern that are still open read as. The parts stand innermost first.
 use Rattle.std.specs.Prelude.{◌≡◌, List, [], ◌∷◌, Option}
 use Rattle.slotted_slots.specs.Syntax.{Lexeme, Element}
-use Rattle.slotted_languages.specs.Form.{Form}
+use Rattle.slotted_nodes.specs.Form.{Form}
 use Rattle.slotted_patterns.specs.Tree.{PatternTree}
 use Rattle.slotted_patterns.specs.Outcome.{Outcome, outside}
 use Rattle.slotted_patterns.specs.Grammar.{Reading, found, fault, Bracket, after, node, ReadsPattern, ReadsBracket, ReadsOnAfter, ReadsSubstitutions, ReadsValue, ReadsClose}

@@ -1,6 +1,6 @@
 -- A pattern as contracts see it: nodes are their forms, and names of variables their bytes.
 use Rattle.std.specs.Prelude.{ℕ, List, [], ◌∷◌}
-use Rattle.slotted_languages.specs.Form.{Form}
+use Rattle.slotted_nodes.specs.Form.{Form}
 
 mutual
   -- a node over child patterns; a variable; the pattern body with value put in the place of place

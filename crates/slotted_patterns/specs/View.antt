@@ -1,6 +1,6 @@
 -- What a pattern of a language is, where form says what its nodes are.
 use Rattle.std.specs.Prelude.{string_bytes}
-use Rattle.slotted_languages.specs.Form.{Form}
+use Rattle.slotted_nodes.specs.Form.{Form}
 use Rattle.slotted_patterns.specs.Tree.{PatternTree, enode, pvar, substitution, row_of}
 use Rattle.slotted_patterns.specs.declared.pattern.Pattern.{Pattern, fold-Pattern}
 use Rattle.slotted_patterns.specs.declared.pattern.Pattern.TheOpen.{Pattern-F}

@@ -6,7 +6,7 @@ use Rattle.slotted_theory.specs.Term.{Term, term_size, args_size}
 use Rattle.slotted_theory.specs.Nameless.{DTerm, extend, nameless_args, nameless_by}
 use Rattle.slotted_theory.specs.Shape.{number_in}
 use Rattle.std.specs.Prelude.{◌↔◌}
-use Rattle.slotted_languages.specs.Form.{Form, Tree, leaf, own, child, bind, scopes, children}
+use Rattle.slotted_nodes.specs.Form.{Form, Tree, leaf, own, child, bind, scopes, children}
 use Rattle.slotted_languages.specs.Filled.{filled, children_args, term_of}
 use Rattle.slotted_languages.specs.Outline.{outlined, outlined_form}
 use Rattle.slotted_languages.proofs.Outlines.{length_children-outlined, filled-outlined}

@@ -5,8 +5,8 @@ use Rattle.std.proofs.lemmas.Result.{IfOk-weaker}
 use Rattle.std.proofs.Math.Nat.{suc_inj}
 use Rattle.std.proofs.lemmas.List.{append-nil, get_or_past, ext_get_or}
 use Rattle.slotted_theory.specs.Shape.{number_in}
-use Rattle.slotted_languages.specs.Form.{Form, Tree, scopes, children, child_place, IsSmall}
-use Rattle.slotted_languages.specs.Equal.{form_ext}
+use Rattle.slotted_nodes.specs.Form.{Form, Tree, scopes, children, child_place, IsSmall}
+use Rattle.slotted_nodes.specs.Equal.{form_ext}
 use Rattle.slotted_languages.specs.Outline.{outlined, marks, outlined_form, skeleton_form}
 use Rattle.slotted_languages.proofs.Outlines.{length-marks, length-outlined_names, outlined-outlined}
 use Rattle.slotted_terms.specs.Seen.{owns, stacks, opened, own_at, AreMatched, AreOutlines, AreAlike, IsOwn, number_at, owns_seen}

@@ -3,7 +3,7 @@ use Rattle.std.proofs.Common.{◌≡◌, ℕ, suc, zero, ◌+◌, ◌-◌, ◌<�
 use Rattle.std.specs.Prelude.{Some, None, Option, nat_lt, cond}
 use Rattle.std.proofs.lemmas.Bool.{lt-ltb, le-ltb, cases_lt}
 use Rattle.std.proofs.lemmas.List.{drop_more, get_or-take, get_or-drop, drop-drop, get_or_append_left, get_or-append_right}
-use Rattle.slotted_languages.specs.Form.{Tree, leaf, own, child, bind, scopes, children, child_place, end_at}
+use Rattle.slotted_nodes.specs.Form.{Tree, leaf, own, child, bind, scopes, children, child_place, end_at}
 use Rattle.slotted_languages.specs.Outline.{outlined, marks}
 use Rattle.slotted_languages.proofs.Outlines.{length-marks}
 use Rattle.slotted_terms.specs.Seen.{owns, stacks, opened, own_at, IsOpen}

@@ -6,7 +6,7 @@ use Rattle.slotted_theory.specs.Term.{Term}
 use Rattle.slotted_theory.specs.Nameless.{DTerm, stop, place, sub, scope, nameless_args, nameless_by}
 use Rattle.slotted_theory.specs.Shape.{number_in}
 use Rattle.slotted_theory.proofs.Lists.{append_parts}
-use Rattle.slotted_languages.specs.Form.{Form, Tree, leaf, own, child, bind, scopes, children}
+use Rattle.slotted_nodes.specs.Form.{Form, Tree, leaf, own, child, bind, scopes, children}
 use Rattle.slotted_languages.specs.Filled.{filled, children_args}
 use Rattle.slotted_languages.specs.Outline.{outlined}
 use Rattle.slotted_terms.specs.Seen.{owns, stacks, seen, above, children_seen}

@@ -6,7 +6,7 @@ use Rattle.std.proofs.lemmas.Bool.{eq-eqb}
 use Rattle.std.proofs.lemmas.List.{length-drop, length-take, map-append}
 use Rattle.std.proofs.Math.Seq.{take-suc}
 use Rattle.slotted_theory.specs.Term.{Term}
-use Rattle.slotted_languages.specs.Form.{Form, Tree, leaf, own, child, bind, scopes, children}
+use Rattle.slotted_nodes.specs.Form.{Form, Tree, leaf, own, child, bind, scopes, children}
 use Rattle.slotted_languages.specs.Filled.{filled, term_of}
 use Rattle.slotted_patterns.specs.Tree.{PatternTree, enode, pvar, substitution, PatternRow, no_more, one_more, row_of}
 use Rattle.slotted_patterns.specs.View.{tree_of}

@@ -6,7 +6,7 @@ use Rattle.slotted_slots.specs.Syntax.{Element}
 use Rattle.slotted_slots.specs.Table.{Table}
 use Rattle.slotted_slots.specs.declared.error.Error.{Error}
 use Rattle.slotted_slots.specs.declared.error.Error.TheVariants.{OutOfMemory, OutOfSlots, Failed, Parse, NotATerm, SubstInSearch, MissingVariable, NotEqual, BadStep, UnknownClass, NumberTooLarge, NotYet}
-use Rattle.slotted_languages.specs.Form.{Form}
+use Rattle.slotted_nodes.specs.Form.{Form}
 use Rattle.slotted_patterns.specs.Tree.{PatternTree}
 use Rattle.slotted_patterns.specs.Outcome as pattern
 use Rattle.slotted_patterns.specs.Parsed.{PatternReads}

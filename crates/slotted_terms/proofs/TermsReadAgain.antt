@@ -6,7 +6,7 @@ use Rattle.slotted_theory.specs.Term.{Term}
 use Rattle.slotted_slots.specs.Syntax.{Element}
 use Rattle.slotted_slots.specs.Table.{Table}
 use Rattle.slotted_slots.specs.declared.error.Error.{Error}
-use Rattle.slotted_languages.specs.Form.{Form, children}
+use Rattle.slotted_nodes.specs.Form.{Form, children}
 use Rattle.slotted_languages.specs.Filled.{term_of}
 use Rattle.slotted_patterns.specs.Outcome as pattern
 use Rattle.slotted_patterns.specs.Parsed.{PatternReads}

@@ -6,7 +6,7 @@ use Rattle.std.proofs.lemmas.List.{length-drop, length-take-le}
 use Rattle.slotted_theory.specs.Term.{Term}
 use Rattle.slotted_slots.specs.Table.{Table, is_known}
 use Rattle.slotted_slots.proofs.TableLaws.{is_known-numeric_slot}
-use Rattle.slotted_languages.specs.Form.{Form, Tree, leaf, own, child, bind, scopes, children}
+use Rattle.slotted_nodes.specs.Form.{Form, Tree, leaf, own, child, bind, scopes, children}
 use Rattle.slotted_languages.specs.Filled.{filled, term_of}
 use Rattle.slotted_patterns.specs.Known.{AreKnown, HaveKnownNames}
 use Rattle.slotted_patterns.specs.Known.{HasKnownNames as IsKnownTree}

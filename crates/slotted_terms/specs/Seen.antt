@@ -6,7 +6,7 @@ use denote.Param.Weighed.{most}
 use Rattle.slotted_theory.specs.Term.{Term, term_size}
 use Rattle.slotted_theory.specs.Nameless.{DTerm, nameless_by}
 use Rattle.slotted_theory.specs.Shape.{number_in}
-use Rattle.slotted_languages.specs.Form.{Form, IsSmall, Tree, leaf, own, child, bind, scopes, scope_end_of}
+use Rattle.slotted_nodes.specs.Form.{Form, IsSmall, Tree, leaf, own, child, bind, scopes, scope_end_of}
 use Rattle.slotted_languages.specs.Outline.{outlined, outlined_form, marks}
 
 -- at each place of an outline the number of an own name, one more, and 0 at children and binders

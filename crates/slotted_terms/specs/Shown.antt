@@ -3,7 +3,7 @@
 --     PrintAs form shown t u bs  the patterns of the nodes of u print bs
 use Rattle.std.specs.Prelude.{◌≡◌, ℕ, zero, suc, List, [], ◌∷◌, ◌++◌, length, map, codes}
 use Rattle.slotted_theory.specs.Term.{Args, Term, done, name, child, bind}
-use Rattle.slotted_languages.specs.Form.{Form, children}
+use Rattle.slotted_nodes.specs.Form.{Form, children}
 use Rattle.slotted_patterns.specs.Shown.{node_text, total_width, pattern_text}
 use Rattle.slotted_patterns.specs.View.{tree_of}
 use Rattle.slotted_patterns.specs.declared.pattern.Pattern.{Pattern}

@@ -2,7 +2,7 @@
 ghost use Rattle.std.specs.Prelude.{◌≡◌, ◌<◌, ◌≤◌, ◌^◌, ◌⊎◌, ◌↔◌, length, take, IsTrue, IfOk, IfErr, IfSome, IfNone, IsErrOf, slice_index};
 ghost use Rattle.slotted_slots.specs.Error.{IsOutOfMemory, IsShortage};
 ghost use Rattle.slotted_theory.specs.Shape.{number_in};
-ghost use Rattle.slotted_languages.specs.Form.{scopes, IsSmall};
+ghost use Rattle.slotted_nodes.specs.Form.{scopes, IsSmall};
 ghost use Rattle.slotted_languages.specs.Outline.{outlined_form};
 ghost use Rattle.slotted_terms.specs.Seen.{AreMatched, AreOutlines, AreAlike, place_count, lefts, rights, IsOpen, opened, above, number_at, IsOwn, owns_seen};
 

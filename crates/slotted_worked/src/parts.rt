@@ -1,7 +1,7 @@
 //! Each kind of part once at a concrete type, through its bound: what is read from a text, what it is written as, its
 //! places and its children.
 ghost use Rattle.std.specs.Prelude.{◌<◌, length};
-ghost use Rattle.slotted_languages.specs.Form.{IsSmall};
+ghost use Rattle.slotted_nodes.specs.Form.{IsSmall};
 
 use slotted_languages::{Bind, Language, LanguageChildren, Small, Symbol};
 use slotted_slots::{AppliedId, Error, Id, Slot, SlotMap, SlotTable, SyntaxElem};

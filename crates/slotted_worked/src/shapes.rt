@@ -5,9 +5,9 @@ ghost use Rattle.std.specs.Prelude.{ℕ, Bool, List, [], ◌∷◌, ◌&&◌, na
 ghost use Rattle.std.specs.Cmp.Lexicographic.{pointwise};
 ghost use Rattle.std.proofs.Common.{lit<};
 ghost use Rattle.slotted_slots.specs.declared.types.AppliedId as applied_id;
-ghost use Rattle.slotted_languages.specs.Equal.{applied_id_same, bind_form_fits, bind_same, child_form_fits, slot_same};
-ghost use Rattle.slotted_languages.specs.Form.{bind_form, child_form, join_form, slot_form};
-ghost use Rattle.slotted_languages.specs.PairEqual.{join_form_fits, join_form_same};
+ghost use Rattle.slotted_nodes.specs.Equal.{applied_id_same, bind_form_fits, bind_same, child_form_fits, slot_same};
+ghost use Rattle.slotted_nodes.specs.Form.{bind_form, child_form, join_form, slot_form};
+ghost use Rattle.slotted_nodes.specs.PairEqual.{join_form_fits, join_form_same};
 
 use crate::parts::{elements_of, marked, read};
 use slotted_languages::{Bind, Language, LanguageChildren, Small, pair};

@@ -1,6 +1,6 @@
 //! Alpha-equality and copies at the language `Small`, by worked terms.
 use crate::expr::RecExpr;
-use slotted_languages::children::Bind;
+use slotted_nodes::children::Bind;
 use slotted_languages::language::Language;
 use slotted_languages::small::Small;
 use slotted_slots::{AppliedId, Error, Id, Slot, SlotMap, SlotTable};

@@ -1,7 +1,7 @@
 //! Texts of the written language, and those outside it.
 use crate::expr::RecExpr;
 use slotted_languages::language::Language;
-use slotted_languages::payload::Symbol;
+use slotted_nodes::payload::Symbol;
 use slotted_languages::small::Small;
 use slotted_slots::{AppliedId, Error, ParseError, Slot, SlotTable, SyntaxElem};
 use std::alloc::Global;

@@ -1,7 +1,7 @@
 use Rattle.std.proofs.Common.{◌+◌, ◌≡◌, ◌<◌, ◌∙◌, ℕ, List, [], ◌∷◌, ◌++◌, arith, length, sym, subst, ap, inl, inr, rules}
 use Rattle.std.specs.Prelude.{IfSome, IfNone}
 use Rattle.std.proofs.lemmas.Bool.{false≢true}
-use Rattle.slotted_languages.specs.Form.{children}
+use Rattle.slotted_nodes.specs.Form.{children}
 use Rattle.slotted_terms.specs.Seen.{lefts, rights, above, AreAlike, AreOutlines, owns_seen}
 use Rattle.slotted_core.specs.Nodes.{to_applied}
 use Rattle.slotted_core.proofs.Children.{child_is}

@@ -1,5 +1,5 @@
 use Rattle.std.proofs.Common.{arith, sym, subst}
-use Rattle.slotted_languages.specs.Form.{Form}
+use Rattle.slotted_nodes.specs.Form.{Form}
 use Rattle.slotted_core.specs.Canonical.{IsBeside}
 use Rattle.slotted_core.specs.Nodes.{to_applied}
 use Rattle.slotted_core.proofs.CanonicalTerms.{beside-itself, beside-step}

@@ -1,7 +1,7 @@
 use Rattle.std.proofs.Common.{◌≡◌, ◌∙◌, List, length, sym, subst, arith}
 use Rattle.std.proofs.lemmas.Bool.{false≢true}
 use Rattle.slotted_theory.specs.Term.{Term}
-use Rattle.slotted_languages.specs.Form.{Form, IsSmall, children}
+use Rattle.slotted_nodes.specs.Form.{Form, IsSmall, children}
 use Rattle.slotted_languages.specs.Filled.{term_of}
 use Rattle.slotted_terms.specs.Valid.{IsWhole, HasKnownNames, IsValidTerm}
 use Rattle.slotted_core.specs.SmallNodes.{HasSmallNodes, HasSmallParts}

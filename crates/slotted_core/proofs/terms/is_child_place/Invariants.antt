@@ -1,5 +1,5 @@
 use Rattle.std.proofs.Common.{◌<◌, ◌≤◌, ◌+◌, ℕ}
-use Rattle.slotted_languages.specs.Form.{child_place, width}
+use Rattle.slotted_nodes.specs.Form.{child_place, width}
 use Rattle.slotted_core.proofs.terms.is_child_place.Given as goal
 
 -- the place is none of a child so far

@@ -1,7 +1,7 @@
 -- The loop has gone through all places.
 use Rattle.std.proofs.Common.{◌≡◌, ◌∙◌, length, ap, arith}
 use Rattle.slotted_languages.specs.Occurrences.{names_where}
-use Rattle.slotted_languages.specs.Public.{is_public}
+use Rattle.slotted_nodes.specs.Public.{is_public}
 use Rattle.slotted_languages.proofs.PublicNames.{public_free}
 use Rattle.slotted_languages.proofs.places.seen_names.Goals as goal
 

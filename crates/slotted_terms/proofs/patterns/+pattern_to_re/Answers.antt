@@ -1,6 +1,6 @@
 use Rattle.std.proofs.Common.{◌≡◌, map, ap, ◌∙◌, sym, rules, arith, length}
 use Rattle.std.proofs.lemmas.Result.{err_from_is_err_and}
-use Rattle.slotted_languages.specs.Form.{children}
+use Rattle.slotted_nodes.specs.Form.{children}
 use Rattle.slotted_patterns.specs.Tree.{row_of}
 use Rattle.slotted_patterns.specs.View.{tree_of}
 use Rattle.slotted_terms.specs.AsTerm.{as_term, as_terms}

@@ -1,6 +1,6 @@
 use Rattle.std.proofs.Common.{◌≡◌, ◌<◌, ◌≤◌, ◌+◌, ◌∙◌, ℕ, List, length, ap, sym, subst, arith, rules, inl, inr}
 use Rattle.slotted_theory.specs.Term.{Term, term_size}
-use Rattle.slotted_languages.specs.Form.{Form}
+use Rattle.slotted_nodes.specs.Form.{Form}
 use Rattle.slotted_languages.specs.Filled.{term_of}
 use Rattle.slotted_terms.specs.Valid.{IsWhole}
 use Rattle.slotted_core.specs.Kept.{AddsTerm}

@@ -2,7 +2,7 @@
 use Rattle.std.proofs.Common.{◌≡◌, ◌<◌, ◌+◌, ◌∙◌, [], length, ap, sym, subst, arith, rules}
 use Rattle.std.specs.Prelude.{slice_index_or}
 use Rattle.std.proofs.lemmas.List.{length_push}
-use Rattle.slotted_languages.specs.Form.{Form, children}
+use Rattle.slotted_nodes.specs.Form.{Form, children}
 use Rattle.slotted_model.specs.Applied.{Applied}
 use Rattle.slotted_core.specs.Kept.{nodes_of}
 use Rattle.slotted_core.specs.Nodes.{to_applied, child_ids}

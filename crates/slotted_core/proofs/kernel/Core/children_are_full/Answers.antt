@@ -1,6 +1,6 @@
 use Rattle.std.proofs.Common.{◌<◌, ◌∙◌, arith, length, sym, subst, refl}
 use Rattle.std.proofs.lemmas.Bool.{false≢true}
-use Rattle.slotted_languages.specs.Form.{children}
+use Rattle.slotted_nodes.specs.Form.{children}
 use Rattle.slotted_model.specs.Classes.{IsFull}
 use Rattle.slotted_core.specs.Kept.{nodes_of}
 use Rattle.slotted_core.specs.Nodes.{to_applied}

@@ -1,7 +1,7 @@
 use Rattle.std.proofs.Common.{◌≡◌, ◌∙◌, ◌↔◌, ap, sym, subst, arith}
 use Rattle.std.specs.Prelude.{IsTrue}
 use Rattle.std.proofs.lemmas.Bool.{false≢true}
-use Rattle.slotted_languages.specs.Equal.{map_same, and_same}
+use Rattle.slotted_nodes.specs.Equal.{map_same, and_same}
 use Rattle.slotted_model.specs.Applied.{Applied}
 use Rattle.slotted_core.specs.Nodes.{to_applied}
 use Rattle.slotted_core.proofs.United.{agrees, found-alike, not-alike, can-unite, one-class, other-names, classes-differ, names-same, links-turned}

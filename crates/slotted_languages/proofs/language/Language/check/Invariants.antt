@@ -1,7 +1,7 @@
 use Rattle.std.proofs.Common.{◌<◌, slice_index}
 use Rattle.std.specs.Prelude.{ℕ}
 use Rattle.slotted_languages.specs.Children.{IsBound}
-use Rattle.slotted_languages.specs.Public.{IsPublic}
+use Rattle.slotted_nodes.specs.Public.{IsPublic}
 use Rattle.slotted_languages.proofs.language.Language.check.Given as goal
 
 abbrev pub invariant-loop-i : goal.invariant-loop-i

@@ -1,5 +1,5 @@
 use Rattle.std.proofs.Common.{◌≡◌, map, take}
-use Rattle.slotted_languages.specs.Form.{children}
+use Rattle.slotted_nodes.specs.Form.{children}
 use Rattle.slotted_languages.proofs.language.Language.ids.Given as goal
 
 abbrev pub invariant-loop-k : goal.invariant-loop-k

@@ -2,8 +2,8 @@ use Rattle.std.proofs.Common.{◌≡◌, ◌∙◌, ap, rules, of_calls, add-one
 use Rattle.std.proofs.lemmas.Fn.{FoldsTo-push, called}
 use Rattle.slotted_slots.specs.Maps.{keys, values}
 use Rattle.slotted_languages.specs.Children.{Replaced, child_value}
-use Rattle.slotted_languages.specs.Form.{children, child_of}
-use Rattle.slotted_languages.specs.Joined.{length_children-with_child_in}
+use Rattle.slotted_nodes.specs.Form.{children, child_of}
+use Rattle.slotted_nodes.specs.Joined.{length_children-with_child_in}
 use Rattle.slotted_languages.proofs.language.Language.map_applied_ids.Goals as goal
 
 pub loop-k-preserved : goal.loop-k-preserved

@@ -1,7 +1,7 @@
 use Rattle.std.proofs.Common.{◌≡◌, length}
 use Rattle.std.specs.List.{FoldsTo}
 use Rattle.slotted_languages.specs.Children.{Replaced, below}
-use Rattle.slotted_languages.specs.Form.{children}
+use Rattle.slotted_nodes.specs.Form.{children}
 use Rattle.slotted_languages.proofs.language.Language.map_applied_ids.Given as goal
 
 abbrev pub invariant-loop-k : goal.invariant-loop-k

@@ -1,0 +1,364 @@
+//! The parts of a node: slots, children, and binders over a part.
+ghost use Rattle.std.specs.Prelude.{◌≡◌, ◌↔◌, ◌<◌, ◌^◌, ℕ, List, [], ◌∷◌, length, map, min, slice_index, slice_index_or, Option, Some, None, option_map, IsTrue, IsSome, IfSome, IfOk, IfErr, refl};
+ghost use Rattle.std.proofs.Common.{lit<};
+ghost use Rattle.slotted_slots.specs.Error.{IsOutOfMemory};
+ghost use Rattle.slotted_slots.specs.Maps.{keys, values};
+ghost use Rattle.slotted_slots.specs.Syntax.{Element, element_of, applied, name};
+ghost use Rattle.slotted_nodes.specs.Form.{Form, IsSmall, children, child_names, child_place, scopes, scope_end_of, with_name, with_child, slot_form, child_form, bind_form};
+ghost use Rattle.slotted_nodes.specs.Equal.{applied_id_same, child_form_fits, bind_form_fits, bind_form_few, bind_same, slot_same};
+ghost use Rattle.slotted_nodes.specs.Public.{IsPublic, is_public};
+ghost use Rattle.slotted_nodes.specs.ReadFrom.{IsReadFrom, slot_faithful, child_faithful, bind_faithful};
+ghost use Rattle.slotted_nodes.specs.Written.{read_slot, read_child, read_bind};
+
+use slotted_slots::{AppliedId, Error, Slot, SyntaxElem};
+use std::alloc::Global;
+use std::fmt::Debug;
+use std::hash::Hash;
+
+/// A part of a node, or a whole node, read by its places.
+///
+/// The *places* are where slots stand, from the left: a slot is one place, a child has one place for each value of its
+/// map in key order, and a binder is a place before those of what stands under it. The *children* are the applied ids,
+/// from the left. Places and children are counted from 0.
+///
+/// What a part is, apart from how it is stored, is its `form`: an operator, its payloads, the tree of its arguments
+/// without names, and the names at its places. Each call says what it reads of the form, or which form it leaves.
+/// From that alone it follows that a call that writes a place or a child changes nothing else, that scopes nest or lie
+/// apart and hold whole children, and that they do not depend on names.
+pub trait LanguageChildren: Debug + Clone + Hash + Eq + Drop {
+    // What the part is.
+    ghost form: { Self → Form };
+
+    // What it is written as.
+    ghost shown: { Self → List Element };
+
+    // What a list of elements writes.
+    ghost read: { List Element → Option Form };
+
+    /// A part that equals this one.
+    fn copy(&self, alloc: Global) -> Result<Self, Error>
+        ensures ok { IfOk result (λ c. c ≡ self.now) }
+        ensures err { IfErr result IsOutOfMemory };
+
+    /// How many places there are, or the largest number where there are more.
+    fn slot_count(&self) -> usize
+        ensures { result ≡ min (length (form self.now).names) usize.MAX };
+
+    /// The name at a place.
+    fn slot(&self, i: usize) -> Slot
+        requires small { IsSmall (form self.now) }
+        requires within { i < length (form self.now).names }
+        ensures { result ≡ slice_index (form self.now).names i };
+
+    /// Puts another name at a place.
+    fn set_slot(&mut self, i: usize, s: Slot)
+        requires small { IsSmall (form self.old) }
+        requires within { i < length (form self.old).names }
+        ensures { form self.new ≡ with_name (form self.old) i s };
+
+    /// The place after the scope of a binder, which begins right after the binder. It is None for what is no binder.
+    fn scope_end(&self, i: usize) -> Option<usize>
+        requires small { IsSmall (form self.now) }
+        requires within { i < length (form self.now).names }
+        ensures { result ≡ scope_end_of (scopes (form self.now).tree) i };
+
+    /// How many children there are.
+    fn applied_id_count(&self) -> usize
+        ensures { result ≡ length (children (form self.now).tree) };
+
+    /// A child, or None past the last one.
+    fn get_applied_id(&self, k: usize) -> Option<&AppliedId>
+        ensures some { IsSome result ↔ (k < length (children (form self.now).tree)) }
+        ensures id { IfSome result (λ a. a.now.id.0 ≡ (slice_index_or (children (form self.now).tree) k (0, [])).0) }
+        ensures keys { IfSome result (λ a. keys a.now.m ≡ (slice_index_or (children (form self.now).tree) k (0, [])).1) }
+        ensures names { IfSome result (λ a. values a.now.m ≡ child_names (form self.now) k) };
+
+    /// The first place of a child. Where the child has no places, it is the place that its first one would have.
+    fn applied_id_place(&self, k: usize) -> usize
+        requires small { IsSmall (form self.now) }
+        requires within { k < length (children (form self.now).tree) }
+        ensures { result ≡ child_place (form self.now).tree k };
+
+    /// Puts another child in the place of a child.
+    fn set_applied_id(&mut self, k: usize, a: AppliedId)
+        requires { k < length (children (form self.old).tree) }
+        ensures { form self.new ≡ with_child (form self.old) k a.id.0 (keys a.m) (values a.m) };
+
+    /// The syntax: texts, slots and children as they are written, from the left.
+    fn to_syntax(&self, alloc: Global) -> Result<Vec<SyntaxElem>, Error>
+        ensures ok { IfOk result (λ v. map element_of v.items ≡ shown self.now) }
+        ensures err { IfErr result IsOutOfMemory };
+
+    /// The part that these elements write, or None where they write none.
+    fn from_syntax(alloc: Global, elements: &[SyntaxElem]) -> Result<Option<Self>, Error>
+        ensures ok { IfOk result (λ o. option_map form o ≡ read (map element_of elements.now)) }
+        ensures err { IfErr result IsOutOfMemory };
+
+    /// A child.
+    final fn applied_id(&self, k: usize) -> &AppliedId
+        requires { k < length (children (form self.now).tree) }
+        ensures id { result.now.id.0 ≡ (slice_index_or (children (form self.now).tree) k (0, [])).0 }
+        ensures keys { keys result.now.m ≡ (slice_index_or (children (form self.now).tree) k (0, [])).1 }
+        ensures names { values result.now.m ≡ child_names (form self.now) k }
+    {
+        self.get_applied_id(k).unwrap()
+    }
+
+    /// Whether a place is public: it is no binder, and no binder that scopes it has its name.
+    final fn is_public(&self, i: usize) -> bool
+        requires small { IsSmall (form self.now) }
+        requires within { i < length (form self.now).names }
+        ensures test { result ≡ is_public (form self.now) i }
+        ensures means { IsTrue result ↔ IsPublic (form self.now) i }
+    {
+        if self.scope_end(i).is_some() {
+            return false;
+        }
+        let name = self.slot(i);
+        for j in 0..i {
+            if let Some(end) = self.scope_end(j)
+                && i < end
+                && self.slot(j) == name
+            {
+                return false;
+            }
+        }
+        true
+    }
+
+    // There are as many names as the tree has places.
+    ghost fits: { (a : Self) → length (form a).names ≡ length (scopes (form a).tree) };
+
+    // The children can be counted.
+    ghost few: { (a : Self) → length (children (form a).tree) < 2 ^ 30 };
+
+    // Two parts are equal exactly if operator, payloads, places and children are.
+    ghost same: { (a b : Self) → IsTrue (Self.eq a b) ↔ form a ≡ form b };
+
+    // What is read makes up neither slots nor children: it has those of the elements.
+    ghost faithful: { (es : List Element) → IfSome (read es) (IsReadFrom es) };
+}
+
+impl LanguageChildren for Slot {
+    ghost form = { slot_form };
+
+    ghost shown = { λ x. name x ∷ [] };
+
+    ghost read = { read_slot };
+
+    ghost fits = { λ _. refl };
+
+    ghost few = { λ _. lit< tt };
+
+    ghost same = { slot_same };
+
+    ghost faithful = { slot_faithful };
+
+    fn copy(&self, alloc: Global) -> Result<Self, Error> {
+        Ok(*self)
+    }
+
+    fn slot_count(&self) -> usize {
+        1
+    }
+
+    fn slot(&self, i: usize) -> Slot {
+        *self
+    }
+
+    fn set_slot(&mut self, i: usize, s: Slot) {
+        *self = s;
+    }
+
+    fn scope_end(&self, i: usize) -> Option<usize> {
+        None
+    }
+
+    fn applied_id_count(&self) -> usize {
+        0
+    }
+
+    fn get_applied_id(&self, k: usize) -> Option<&AppliedId> {
+        None
+    }
+
+    // A slot has no children: what is asked of one is answered without a condition.
+    fn applied_id_place(&self, k: usize) -> usize
+        ensures { result ≡ 0 }
+    {
+        0
+    }
+
+    fn set_applied_id(&mut self, k: usize, a: AppliedId)
+        ensures { self.new ≡ self.old }
+    {}
+
+    fn to_syntax(&self, alloc: Global) -> Result<Vec<SyntaxElem>, Error> {
+        Ok(vec![in alloc; SyntaxElem::Slot(*self)]?)
+    }
+
+    fn from_syntax(alloc: Global, elements: &[SyntaxElem]) -> Result<Option<Self>, Error> {
+        match elements {
+            [SyntaxElem::Slot(slot)] => Ok(Some(*slot)),
+            _ => Ok(None),
+        }
+    }
+}
+
+impl LanguageChildren for AppliedId {
+    ghost form = { λ a. child_form a.id.0 a.m };
+
+    ghost shown = { λ a. applied a.id.0 a.m ∷ [] };
+
+    ghost read = { read_child };
+
+    ghost fits = { λ a. child_form_fits a.m };
+
+    ghost few = { λ _. lit< tt };
+
+    ghost same = { applied_id_same };
+
+    ghost faithful = { child_faithful };
+
+    fn copy(&self, alloc: Global) -> Result<Self, Error> {
+        AppliedId::copy(self, alloc)
+    }
+
+    fn slot_count(&self) -> usize {
+        self.m.len()
+    }
+
+    fn slot(&self, i: usize) -> Slot {
+        self.m.value_at(i)
+    }
+
+    fn set_slot(&mut self, i: usize, s: Slot) {
+        self.m.set_value_at(i, s);
+    }
+
+    fn scope_end(&self, i: usize) -> Option<usize> {
+        None
+    }
+
+    fn applied_id_count(&self) -> usize {
+        1
+    }
+
+    fn get_applied_id(&self, k: usize) -> Option<&AppliedId> {
+        if k == 0 { Some(self) } else { None }
+    }
+
+    fn applied_id_place(&self, k: usize) -> usize {
+        0
+    }
+
+    fn set_applied_id(&mut self, k: usize, a: AppliedId) {
+        *self = a;
+    }
+
+    fn to_syntax(&self, alloc: Global) -> Result<Vec<SyntaxElem>, Error> {
+        Ok(vec![in alloc; SyntaxElem::AppliedId(self.copy(alloc)?)]?)
+    }
+
+    fn from_syntax(alloc: Global, elements: &[SyntaxElem]) -> Result<Option<Self>, Error> {
+        match elements {
+            [SyntaxElem::AppliedId(child)] => Ok(Some(child.copy(alloc)?)),
+            _ => Ok(None),
+        }
+    }
+}
+
+/// A binder and what stands under it: the slot `slot` is bound in `elem`.
+///
+/// Its first place is the binder, and its scope is all that `elem` has. It is written as the slot, then the element.
+#[derive(Drop, Debug, Clone, PartialEq, Eq, PartialOrd, Ord, Hash)]
+pub struct Bind<T> {
+    pub slot: Slot,
+    pub elem: T,
+}
+
+impl<T: LanguageChildren> LanguageChildren for Bind<T> {
+    ghost form = { λ b. bind_form b.slot (T.form b.elem) };
+
+    ghost shown = { λ b. name b.slot ∷ T.shown b.elem };
+
+    ghost read = { read_bind T.read };
+
+    ghost fits = { λ b. bind_form_fits b.slot (T.form b.elem) (T.fits b.elem) };
+
+    ghost few = { λ b. bind_form_few b.slot (T.form b.elem) (T.few b.elem) };
+
+    ghost same = { λ a b. bind_same (T.eq a.elem b.elem) a.slot b.slot (T.form a.elem) (T.form b.elem) (T.same a.elem b.elem) };
+
+    ghost faithful = { bind_faithful T.read T.faithful };
+
+    fn copy(&self, alloc: Global) -> Result<Self, Error> {
+        Ok(Bind {
+            slot: self.slot,
+            elem: self.elem.copy(alloc)?,
+        })
+    }
+
+    fn slot_count(&self) -> usize {
+        self.elem.slot_count().saturating_add(1)
+    }
+
+    fn slot(&self, i: usize) -> Slot {
+        if i == 0 {
+            self.slot
+        } else {
+            self.elem.slot(i - 1)
+        }
+    }
+
+    fn set_slot(&mut self, i: usize, s: Slot) {
+        if i == 0 {
+            self.slot = s;
+        } else {
+            self.elem.set_slot(i - 1, s);
+        }
+    }
+
+    fn scope_end(&self, i: usize) -> Option<usize> {
+        if i == 0 {
+            Some(self.elem.slot_count() + 1)
+        } else {
+            match self.elem.scope_end(i - 1) {
+                Some(end) => Some(end + 1),
+                None => None,
+            }
+        }
+    }
+
+    fn applied_id_count(&self) -> usize {
+        self.elem.applied_id_count()
+    }
+
+    fn get_applied_id(&self, k: usize) -> Option<&AppliedId> {
+        self.elem.get_applied_id(k)
+    }
+
+    fn applied_id_place(&self, k: usize) -> usize {
+        self.elem.applied_id_place(k) + 1
+    }
+
+    fn set_applied_id(&mut self, k: usize, a: AppliedId) {
+        self.elem.set_applied_id(k, a);
+    }
+
+    fn to_syntax(&self, alloc: Global) -> Result<Vec<SyntaxElem>, Error> {
+        let mut elements = vec![in alloc; SyntaxElem::Slot(self.slot)]?;
+        elements.append(&mut self.elem.to_syntax(alloc)?)?;
+        Ok(elements)
+    }
+
+    fn from_syntax(alloc: Global, elements: &[SyntaxElem]) -> Result<Option<Self>, Error> {
+        let [SyntaxElem::Slot(slot), rest @ ..] = elements else {
+            return Ok(None);
+        };
+        match T::from_syntax(alloc, rest)? {
+            Some(elem) => Ok(Some(Bind { slot: *slot, elem })),
+            None => Ok(None),
+        }
+    }
+}
