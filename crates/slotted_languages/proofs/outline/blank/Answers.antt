@@ -1,5 +1,5 @@
 use Rattle.std.proofs.Common.{◌∙◌, arith}
-use Rattle.slotted_languages.specs.Form.{with_name}
+use Rattle.slotted_nodes.specs.Form.{with_name}
 use Rattle.slotted_languages.proofs.Outlines.{blank_to-more}
 use Rattle.slotted_languages.proofs.outline.blank.Goals as goal
 

@@ -1,6 +1,6 @@
 use Rattle.std.proofs.Common.{length, ◌∙◌, ap, sym, arith}
 use Rattle.slotted_slots.specs.Maps.{keys, values}
-use Rattle.slotted_languages.specs.Form.{with_child, children}
+use Rattle.slotted_nodes.specs.Form.{with_child, children}
 use Rattle.slotted_languages.proofs.Outlines.{first_form-none, first_form-more, first_form-all, length_children-outlined_first}
 use Rattle.slotted_languages.proofs.outline.outline.Goals as goal
 

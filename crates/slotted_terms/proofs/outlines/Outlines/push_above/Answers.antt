@@ -1,6 +1,6 @@
 use Rattle.std.proofs.Common.{◌<◌, ◌≤◌, ◌∙◌, ap, sym, refl, arith, length}
-use Rattle.slotted_languages.specs.Form.{children, scopes}
-use Rattle.slotted_languages.specs.Joined.{child_fits}
+use Rattle.slotted_nodes.specs.Form.{children, scopes}
+use Rattle.slotted_nodes.specs.Joined.{child_fits}
 use Rattle.slotted_terms.specs.Seen.{lefts, rights, opened}
 use Rattle.slotted_terms.proofs.Matched.{above-within, above-past}
 use Rattle.slotted_terms.proofs.outlines.Outlines.push_above.Goals as goal

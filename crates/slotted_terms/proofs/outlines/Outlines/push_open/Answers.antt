@@ -1,6 +1,6 @@
 use Rattle.std.proofs.Common.{◌≤◌, ◌∙◌, sym, ap, arith, length, take, ◌∷◌}
 use Rattle.std.proofs.lemmas.Bool.{false≢true}
-use Rattle.slotted_languages.specs.Form.{scopes}
+use Rattle.slotted_nodes.specs.Form.{scopes}
 use Rattle.slotted_terms.specs.Seen.{IsOpen, lefts, rights}
 use Rattle.slotted_terms.proofs.Binders.{lefts-push, rights-push, kept-push}
 use Rattle.slotted_terms.proofs.Opened.{opened-open, opened-shut}

@@ -1,5 +1,5 @@
 use Rattle.std.proofs.Common.{◌≡◌, ◌-◌, length, take, drop}
-use Rattle.slotted_languages.specs.Form.{scopes}
+use Rattle.slotted_nodes.specs.Form.{scopes}
 use Rattle.slotted_terms.specs.Seen.{opened, lefts, rights}
 use Rattle.slotted_terms.proofs.outlines.Outlines.push_open.Given as goal
 
