@@ -7,7 +7,7 @@ use Rattle.slotted_slots.specs.declared.error.Error.TheVariants.{BadStep}
 use Rattle.slotted_slots.specs.Error.{IsShortage}
 use Rattle.slotted_theory.specs.FiniteMaps.{IsInjectiveMap}
 use Rattle.slotted_model.specs.Applied.{Applied, keys}
-use Rattle.slotted_model.specs.Correspondence.{IsFullMap, IsMatch, CanJoin}
+use Rattle.slotted_model.specs.Correspondence.{IsFullMap, IsMatch, CanJoin, composite, same_names}
 use Rattle.slotted_model.specs.ProofList.{Step}
 use Rattle.slotted_proofs.specs.declared.equation.Equation.{Equation as Sides}
 use Rattle.slotted_proofs.specs.Equations.{Statement, to_applied, AreSides}
@@ -51,6 +51,12 @@ pub record GoesOver (whole first second : Statement) : Type 0 where
 -- the halves go over, and can be joined in the middle
 abbrev pub IsJoined : Statement → Statement → Statement → Type 0
 IsJoined whole first second = GoesOver whole first second × CanJoin whole.equation.pairs first.equation.pairs second.equation.pairs
+
+-- the halves, one after the other, say what the asked pairs say of the slots that the first one knows, and of those that the second one reaches
+abbrev pub AreAsked : Sides → Sides → List (ℕ × ℕ) → Type 0
+AreAsked first second asked =
+    (composite (same_names first.l.m first.r.m) (same_names second.l.m second.r.m) ≡ composite (composite (same_names first.l.m first.r.m) (same_names first.r.m first.l.m)) asked)
+    × (composite (same_names first.l.m first.r.m) (same_names second.l.m second.r.m) ≡ composite (composite asked (same_names second.r.m second.l.m)) (same_names second.l.m second.r.m))
 
 -- the two sides have a name of its own for each of their slots
 pub record AreFull (e : Sides) : Type 0 where

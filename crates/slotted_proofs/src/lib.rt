@@ -17,6 +17,3 @@ pub use proof::{
     CongruenceProof, ExplicitProof, Proof, ProvenEq, ProvenEqRaw, ReflexivityProof, SymmetryProof,
     TransitivityProof,
 };
-
-#[cfg(test)]
-mod tests;

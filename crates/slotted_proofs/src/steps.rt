@@ -7,7 +7,7 @@ ghost use Rattle.slotted_model.specs.Correspondence.{CanJoin, composite, same_na
 ghost use Rattle.slotted_model.specs.ProofList.{congruent, reflexive, symmetric, transitive};
 ghost use Rattle.slotted_proofs.specs.Equations.{to_applied, statement_of};
 ghost use Rattle.slotted_proofs.specs.Entries.{Enters};
-ghost use Rattle.slotted_proofs.specs.Steps.{AreEntries, AreFull, GoesOver, HasInjectiveSides, IsLarge, name_count, IsJoined, IsEntry, IsOver, IsSideOver, IsReflexiveStep, IsSymmetricStep, IsTransitiveStep, IsRefusal, by_step};
+ghost use Rattle.slotted_proofs.specs.Steps.{AreAsked, AreEntries, AreFull, GoesOver, HasInjectiveSides, IsLarge, name_count, IsJoined, IsEntry, IsOver, IsSideOver, IsReflexiveStep, IsSymmetricStep, IsTransitiveStep, IsRefusal, by_step};
 
 use crate::equation::Equation;
 use crate::list::ProofList;
@@ -85,6 +85,70 @@ fn reached_pairs(alloc: Global, asked: &SlotMap, second: &Equation) -> Result<Sl
     Ok(pairs)
 }
 
+// What the two halves say, one after the other.
+fn middle_pairs(alloc: Global, first: &Equation, second: &Equation) -> Result<SlotMap, Error>
+    requires first { IsInjectiveMap first.now.r.m }
+    requires second { IsInjectiveMap second.now.r.m }
+    ensures ok { IfOk result (λ m. m ≡ composite (same_names first.now.l.m first.now.r.m) (same_names second.now.l.m second.now.r.m)) }
+    ensures err { IfErr result IsOutOfMemory }
+{
+    let forth = shared_names(alloc, &first.l.m, &first.r.m)?;
+    let onward = shared_names(alloc, &second.l.m, &second.r.m)?;
+    let over = forth.compose_partial(alloc, &onward)?;
+    Ok(over)
+}
+
+// Whether these pairs are what the asked ones say of the slots that the first half knows.
+fn are_known(
+    alloc: Global,
+    over: &SlotMap,
+    first: &Equation,
+    asked: &SlotMap,
+) -> Result<bool, Error>
+    requires left { IsInjectiveMap first.now.l.m }
+    requires right { IsInjectiveMap first.now.r.m }
+    ensures ok { IfOk result (λ yes. IsTrue yes ↔ (over.now ≡ composite (composite (same_names first.now.l.m first.now.r.m) (same_names first.now.r.m first.now.l.m)) asked.now)) }
+    ensures err { IfErr result IsOutOfMemory }
+{
+    let known = known_pairs(alloc, first, asked)?;
+    Ok(*over == known)
+}
+
+// Whether they are what the asked ones say of the slots that the second half reaches.
+fn are_reached(
+    alloc: Global,
+    over: &SlotMap,
+    asked: &SlotMap,
+    second: &Equation,
+) -> Result<bool, Error>
+    requires left { IsInjectiveMap second.now.l.m }
+    requires right { IsInjectiveMap second.now.r.m }
+    ensures ok { IfOk result (λ yes. IsTrue yes ↔ (over.now ≡ composite (composite asked.now (same_names second.now.r.m second.now.l.m)) (same_names second.now.l.m second.now.r.m))) }
+    ensures err { IfErr result IsOutOfMemory }
+{
+    let reached = reached_pairs(alloc, asked, second)?;
+    Ok(*over == reached)
+}
+
+// Whether the two halves, one after the other, say what the asked pairs say of the slots that either half knows.
+fn joins_as(
+    alloc: Global,
+    first: &Equation,
+    second: &Equation,
+    asked: &SlotMap,
+) -> Result<bool, Error>
+    requires first { HasInjectiveSides first.now }
+    requires second { HasInjectiveSides second.now }
+    ensures ok { IfOk result (λ yes. IsTrue yes ↔ AreAsked first.now second.now asked.now) }
+    ensures err { IfErr result IsOutOfMemory }
+{
+    let over = middle_pairs(alloc, first, second)?;
+    if !are_known(alloc, &over, first, asked)? {
+        return Ok(false);
+    }
+    are_reached(alloc, &over, asked, second)
+}
+
 // Whether names for the middle can be chosen by which the halves give the equation.
 fn can_join(
     alloc: Global,
@@ -99,16 +163,9 @@ fn can_join(
     ensures ok { IfOk result (λ yes. IsTrue yes ↔ CanJoin (same_names whole.now.l.m whole.now.r.m) (same_names first.now.l.m first.now.r.m) (same_names second.now.l.m second.now.r.m)) }
     ensures err { IfErr result IsOutOfMemory }
 {
-    let forth = shared_names(alloc, &first.l.m, &first.r.m)?;
-    let onward = shared_names(alloc, &second.l.m, &second.r.m)?;
-    let over = forth.compose_partial(alloc, &onward)?;
     let asked = shared_names(alloc, &whole.l.m, &whole.r.m)?;
-    let known = known_pairs(alloc, first, &asked)?;
-    if over != known {
-        return Ok(false);
-    }
-    let reached = reached_pairs(alloc, &asked, second)?;
-    Ok(over == reached)
+    let joins = joins_as(alloc, first, second, &asked)?;
+    Ok(joins)
 }
 
 // Whether the halves give the equation.

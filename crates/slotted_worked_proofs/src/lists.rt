@@ -3,7 +3,7 @@ ghost use Rattle.std.specs.Prelude.{IfOk};
 ghost use Rattle.slotted_theory.specs.FiniteMaps.{IsInjectiveMap};
 ghost use Rattle.slotted_proofs.specs.Steps.{HasInjectiveSides};
 
-use crate::{Equation, Proof, ProofLines, ProofList, ProvenEq};
+use slotted_proofs::{Equation, Proof, ProofLines, ProofList, ProvenEq};
 use slotted_slots::{AppliedId, Error, Id, SlotMap, SlotTable};
 use std::alloc::Global;
 
@@ -49,6 +49,29 @@ fn sent_on(
         return Err(Error::BadStep);
     }
     e.apply_slotmap_fresh(alloc, m, table)
+}
+
+// The sample sent on by a map of a name to another.
+fn sent_sample(alloc: Global, name: u32, image: u32) -> Result<Equation, Error>
+    ensures { IfOk result HasInjectiveSides }
+{
+    let mut table = SlotTable::new(alloc);
+    let on = applied(alloc, 0, &[(name, image)])?.m;
+    sent_on(alloc, &sample(alloc)?, &on, &mut table)
+}
+
+// The equation has these sides once its names are numbered.
+fn is_numbered(
+    alloc: Global,
+    e: &Equation,
+    l: (usize, &[u32]),
+    r: (usize, &[u32]),
+) -> Result<bool, Error>
+    requires left { IsInjectiveMap e.now.l.m }
+    requires right { IsInjectiveMap e.now.r.m }
+{
+    let numbered = e.numbered(alloc)?;
+    Ok(is_equation(&numbered, l, r))
 }
 
 // The map has this numeric slot at a place, and a fresh one at another.
@@ -159,11 +182,9 @@ fn sides_are_exchanged(rt: HostRuntime) -> Result<(), Error> {
 
 #[test]
 fn a_name_without_a_value_becomes_one_fresh_slot(rt: HostRuntime) -> Result<(), Error> {
-    let mut table = SlotTable::new(rt.alloc());
-    let on = applied(rt.alloc(), 0, &[(30, 8)])?.m;
-    let sent = sent_on(rt.alloc(), &sample(rt.alloc())?, &on, &mut table)?;
+    let sent = sent_sample(rt.alloc(), 30, 8)?;
     assert!(rt; has_numeric_and_fresh(&sent.l.m, 0, 8, 1));
-    assert!(rt; is_equation(&sent.numbered(rt.alloc())?, (7, &[0, 1]), (9, &[1, 2])));
+    assert!(rt; is_numbered(rt.alloc(), &sent, (7, &[0, 1]), (9, &[1, 2]))?);
     Ok(())
 }
 
@@ -245,7 +266,20 @@ fn by_symmetry(
     list.check_symmetric(alloc, &Equation { l, r }, &left, &right, p)
 }
 
-// By a transitive one over the first two entries.
+// The number of the asserted entry at this place of them.
+fn asserted_at(list: &ProofList, place: usize) -> Result<ProvenEq, Error> {
+    match list.asserted().get(place) {
+        Some(p) => Ok(*p),
+        None => Err(Error::NotEqual),
+    }
+}
+
+// The first number of a list.
+fn first_number(alloc: Global) -> Result<ProvenEq, Error> {
+    assert_sample(&mut ProofList::new(alloc), alloc, [0, 1, 2], "")
+}
+
+// By a transitive one over the first two asserted entries.
 fn by_transitivity(
     list: &mut ProofList,
     alloc: Global,
@@ -254,15 +288,9 @@ fn by_transitivity(
 ) -> Result<ProvenEq, Error> {
     let left = l.m.keys(alloc)?;
     let right = r.m.keys(alloc)?;
-    let equation = Equation { l, r };
-    list.check_transitive(
-        alloc,
-        &equation,
-        &left,
-        &right,
-        ProvenEq::at(0),
-        ProvenEq::at(1),
-    )
+    let first = asserted_at(list, 0)?;
+    let second = asserted_at(list, 1)?;
+    list.check_transitive(alloc, &Equation { l, r }, &left, &right, first, second)
 }
 
 // By a reflexive one, over these slots on the left.
@@ -323,8 +351,9 @@ fn a_step_over_the_next_number_is_refused(rt: HostRuntime) -> Result<(), Error> 
     let mut list = ProofList::new(rt.alloc());
     let l = applied(rt.alloc(), 7, &[])?;
     let r = applied(rt.alloc(), 8, &[])?;
-    let answer = by_symmetry(&mut list, rt.alloc(), l, r, ProvenEq::at(0));
-    assert!(rt; is_bad(&answer) && list.is_empty());
+    let next = first_number(rt.alloc())?;
+    let answer = by_symmetry(&mut list, rt.alloc(), l, r, next);
+    assert!(rt; next.number() == 0 && is_bad(&answer) && list.is_empty());
     Ok(())
 }
 
@@ -379,15 +408,27 @@ fn leaves_are_congruent(rt: HostRuntime) -> Result<(), Error> {
     Ok(())
 }
 
-// From class 8 to class 7 and back: over the first entry and the third, which is that one turned round.
-fn there_and_back(list: &mut ProofList, alloc: Global) -> Result<ProvenEq, Error> {
-    assert_halves(list, alloc)?;
-    let back = turned(list, alloc, ProvenEq::at(0))?;
+// From class 8 to class 7 and back, by an entry and that one turned round.
+fn there_and_back(
+    list: &mut ProofList,
+    alloc: Global,
+    there: ProvenEq,
+    back: ProvenEq,
+) -> Result<ProvenEq, Error> {
     let l = applied(alloc, 8, &[(3, 2)])?;
     let r = l.copy(alloc)?;
     let slots = l.m.keys(alloc)?;
-    let equation = Equation { l, r };
-    list.check_transitive(alloc, &equation, &slots, &slots, ProvenEq::at(0), back)
+    list.check_transitive(alloc, &Equation { l, r }, &slots, &slots, there, back)
+}
+
+// Two asserted entries, the first one turned round, and a step over the first and the third.
+fn four_entries(list: &mut ProofList, alloc: Global) -> Result<[ProvenEq; 4], Error> {
+    assert_halves(list, alloc)?;
+    let first = asserted_at(list, 0)?;
+    let second = asserted_at(list, 1)?;
+    let third = turned(list, alloc, first)?;
+    let last = there_and_back(list, alloc, first, third)?;
+    Ok([first, second, third, last])
 }
 
 // The lines of an entry's proof.
@@ -399,8 +440,8 @@ fn lines_of(list: &ProofList, alloc: Global, p: ProvenEq) -> Result<ProofLines, 
 }
 
 // The entry has the line of this number.
-fn is_line(lines: &ProofLines, entry: usize, number: usize) -> bool {
-    match lines.line_of(ProvenEq::at(entry)) {
+fn is_line(lines: &ProofLines, entry: ProvenEq, number: usize) -> bool {
+    match lines.line_of(entry) {
         Some(line) => line == number,
         None => false,
     }
@@ -409,10 +450,13 @@ fn is_line(lines: &ProofLines, entry: usize, number: usize) -> bool {
 #[test]
 fn parts_have_their_lines_first(rt: HostRuntime) -> Result<(), Error> {
     let mut list = ProofList::new(rt.alloc());
-    let p = there_and_back(&mut list, rt.alloc())?;
-    let lines = lines_of(&list, rt.alloc(), p)?;
-    assert!(rt; is_line(&lines, 0, 0) && is_line(&lines, 2, 1) && is_line(&lines, 3, 2));
-    assert!(rt; lines.len() == 3 && !lines.is_empty() && !lines.has(ProvenEq::at(1)));
+    let [first, second, third, last] = four_entries(&mut list, rt.alloc())?;
+    let lines = lines_of(&list, rt.alloc(), last)?;
+    assert!(rt;
+        first.number() == 0 && second.number() == 1 && third.number() == 2 && last.number() == 3
+    );
+    assert!(rt; is_line(&lines, first, 0) && is_line(&lines, third, 1) && is_line(&lines, last, 2));
+    assert!(rt; lines.len() == 3 && !lines.is_empty() && !lines.has(second));
     Ok(())
 }
 

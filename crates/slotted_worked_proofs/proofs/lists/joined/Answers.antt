@@ -2,7 +2,7 @@ use Rattle.std.proofs.Common.{◌∙◌, ap, sym}
 use Rattle.slotted_proofs.specs.Equations.{Statement, to_applied, equality}
 use Rattle.slotted_proofs.specs.Entries.{Stands}
 use Rattle.slotted_proofs.proofs.Entering.{still_stands}
-use Rattle.slotted_proofs.proofs.tests.joined.Goals as goal
+use Rattle.slotted_worked_proofs.proofs.lists.joined.Goals as goal
 
 pub enter_transitive-requires-clause-first : goal.enter_transitive-requires-clause-first
 enter_transitive-requires-clause-first c = (still_stands c.in_ok-q.ensures.ok (equality (to_applied c.args.l.now) (to_applied c.args.middle.now)) c.in_ok-p.p c.in_ok-p.ensures.ok.stands).in_range
