@@ -1,6 +1,6 @@
 -- The shape of a node: its nameless form with numbers for names. A free name gets its number where it first stands, and
 -- each binder a new one, which holds in its scope alone.
-use Rattle.std.specs.Prelude.{◌≡◌, ◌↔◌, length, map, ℕ, suc, zero, ◌+◌, ◌<◌, List, [], ◌∷◌, ◌++◌, Option, Some, None, cond, nat_eq}
+use Rattle.std.specs.Prelude.{◌≡◌, ◌↔◌, length, ℕ, suc, zero, ◌+◌, ◌<◌, List, [], ◌∷◌, ◌++◌, Option, Some, None, cond, nat_eq}
 use Rattle.slotted_theory.specs.Term.{Args, done, name, child, bind}
 use Rattle.slotted_theory.specs.Nameless.{DArgs, stop, place, sub, scope, moved}
 use Rattle.slotted_theory.specs.Renaming.{IsInjective}

@@ -96,7 +96,7 @@ full-ext P m n f g h = in_order-ext P m n (full-in_order P m f) (full-in_order P
     let r = full-name P m f s (full-slot P n g s x c) in
     subst (λ y. Contains m (s, y)) (full-one_name P n g s r.0 x (h s r.0 r.1) c) r.1)
 
--- the map with f put on its names
+-- the map with f put on its values
 pub with_values-keys : (f : ℕ → ℕ) (m : List (ℕ × ℕ)) → keys_of (with_values f m) ≡ keys_of m
 with_values-keys f [] = refl
 with_values-keys f (p ∷ m) = ap (λ L. p.0 ∷ L) (with_values-keys f m)
