@@ -11,7 +11,7 @@ use Rattle.slotted_slots.specs.Error.{IsShortage}
 use Rattle.slotted_slots.specs.Table.{KnowsMore}
 use Rattle.slotted_slots.specs.Syntax.{Element}
 use Rattle.slotted_nodes.specs.Form.{Form}
-use Rattle.slotted_terms.specs.Outcome.{parsed, Refuses}
+use Rattle.slotted_patterns.specs.Outcome.{parsed, Refuses}
 use Rattle.slotted_terms.specs.Parsed.{TextReads}
 use Rattle.slotted_model.specs.Applied.{Applied}
 use Rattle.slotted_model.specs.Classes.{term_of}

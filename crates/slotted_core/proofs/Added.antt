@@ -5,7 +5,7 @@ use Rattle.std.proofs.lemmas.Bool.{false≢true}
 use Rattle.std.proofs.lemmas.List.{map-append}
 use Rattle.slotted_theory.specs.Nameless.{DTerm}
 use Rattle.slotted_theory.specs.Renaming.{IsInjective}
-use Rattle.slotted_theory.specs.FiniteMaps.{IsInjectiveMap}
+use Rattle.slotted_theory.specs.FiniteMaps.{IsInjectiveMap, with_values}
 use Rattle.slotted_theory.specs.Shape.{SameUpToNames}
 use Rattle.slotted_theory.specs.Shape as theory
 use Rattle.slotted_theory.proofs.Shapes.{shape_iff}
@@ -14,7 +14,7 @@ use Rattle.slotted_slots.specs.Maps.{keys, values}
 use Rattle.slotted_slots.specs.Table.{Table, fresh_slot, empty_table}
 use Rattle.slotted_nodes.specs.Form.{Form}
 use Rattle.slotted_languages.specs.NodeTerm.{nameless_node}
-use Rattle.slotted_languages.specs.Shape.{shape, Fits, moved_names}
+use Rattle.slotted_languages.specs.Shape.{shape, Fits}
 use Rattle.slotted_languages.proofs.Shapes.{shapes_iff}
 use Rattle.slotted_model.specs.Ascending.{ascending, names}
 use Rattle.slotted_model.specs.Applied.{Applied, map_on, renamed_id, EachChild}
@@ -201,7 +201,7 @@ module _ (t u : Table) (k : Kept) (good : Good k) (over : HasFreshSlots t k) (f 
   fresh_last : (s : ℕ) → In s (names d) → IsFreshBetween t u s
   fresh_last s h = fresh s (In-of_ascending s (values slots) (subst (In s) slots_new h))
 
-  moved_id : (m : List (ℕ × ℕ)) → m ≡ moved_names (λ x. x) m
+  moved_id : (m : List (ℕ × ℕ)) → m ≡ with_values (λ x. x) m
   moved_id [] = refl
   moved_id (p ∷ m) = ap (λ r. p ∷ r) (moved_id m)
 

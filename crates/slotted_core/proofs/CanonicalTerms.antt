@@ -8,7 +8,7 @@ use Rattle.std.proofs.lemmas.List.{get_or_append_left}
 use Rattle.slotted_theory.specs.Term.{Term, Args}
 use Rattle.slotted_theory.specs.Nameless.{DTerm, extend, nameless_args, nameless, moved}
 use Rattle.slotted_theory.specs.Renaming.{IsInjective}
-use Rattle.slotted_theory.specs.FiniteMaps.{HasValue, IsInjectiveMap, filled}
+use Rattle.slotted_theory.specs.FiniteMaps.{HasValue, IsInjectiveMap, filled, with_values}
 use Rattle.slotted_theory.proofs.Names.{extend-injective}
 use Rattle.slotted_slots.specs.Maps.{keys, values, KnowsAll}
 use Rattle.slotted_nodes.specs.Form.{Form, Tree, leaf, own, child, bind, scopes, children, with_child}
@@ -17,7 +17,7 @@ use Rattle.slotted_languages.specs.Filled as form
 use Rattle.slotted_languages.specs.Shape.{Fits}
 use Rattle.slotted_languages.specs.NodeTerm.{own_names, node_args, nameless_node, free_names_of}
 use Rattle.slotted_languages.proofs.NodeTerms.{own_fits, length-child, child_keys_fit, child_rest_fits, bind_inner_fits, bind_rest_fits}
-use Rattle.slotted_model.specs.Applied.{Applied, with_values, renamed_id, EachChild}
+use Rattle.slotted_model.specs.Applied.{Applied, renamed_id, EachChild}
 use Rattle.slotted_model.specs.Ascending.{names}
 use Rattle.slotted_model.specs.Classes.{canonical_node, canonical_slots, term_of, layer_of, terms, IsFull, Canonical}
 use Rattle.slotted_model.proofs.Members.{In}

@@ -7,14 +7,14 @@ use Rattle.slotted_slots.specs.declared.error.Error.TheVariants.{BadStep}
 use Rattle.slotted_slots.specs.Table.{Table, numeric_slot}
 use Rattle.slotted_theory.specs.Nameless.{DTerm}
 use Rattle.slotted_theory.specs.Derives.{Equal}
-use Rattle.slotted_theory.specs.FiniteMaps.{IsInjectiveMap}
+use Rattle.slotted_theory.specs.FiniteMaps.{IsInjectiveMap, with_values}
 use Rattle.slotted_theory.proofs.Backward.{Equal-derives}
 use Rattle.slotted_model.specs.Applied.{Applied, keys}
 use Rattle.slotted_model.specs.Classes.{canonical_slots, term_of, IsFull}
-use Rattle.slotted_model.specs.Correspondence.{AllDifferent, IsFullMap, IsPartialInjection, IsNumberedForm, numbered, same_names, with_names}
+use Rattle.slotted_model.specs.Correspondence.{AllDifferent, IsFullMap, IsPartialInjection, IsNumberedForm, numbered, same_names}
 use Rattle.slotted_model.specs.ProofList.{Equation, Step, explicit, reflexive, symmetric, transitive, congruent, equation_of, equation_at, IsOver, HoldsFrom, asserted}
 use Rattle.slotted_model.proofs.Correspondences.FullIds.{full_map, slots-different}
-use Rattle.slotted_model.proofs.Correspondences.FullMaps.{with_names-keys, with_names-full, same_names-with_names}
+use Rattle.slotted_model.proofs.Correspondences.FullMaps.{with_values-keys, with_values-full, same_names-with_values}
 use Rattle.slotted_model.proofs.Correspondences.Numbers.{numbered-form}
 use Rattle.slotted_model.proofs.FindProofs.{proved-holds}
 use Rattle.slotted_model.proofs.Steps.{Equal-between}
@@ -52,10 +52,10 @@ written_sides nodes list proved p l =
     subst (λ P. IsPartialInjection P s.right_slots s.equation.pairs) (sym c.left) (subst (λ Q. IsPartialInjection (canonical_slots nodes s.equation.left) Q s.equation.pairs) (sym c.right) o.pairs) in
     let form : IsNumberedForm s.left_slots s.right_slots s.equation.pairs (numbered s.left_slots s.right_slots s.equation.pairs).0 (numbered s.left_slots s.right_slots s.equation.pairs).1 =
     numbered-form s.left_slots s.right_slots s.equation.pairs (subst AllDifferent (sym c.left) (slots-different nodes s.equation.left)) (subst AllDifferent (sym c.right) (slots-different nodes s.equation.right)) pairs in
-    let left : IsFullMap s.left_slots (numbered_left s.left_slots s.right_slots s.equation.pairs) = with_names-full numeric_slot s.left_slots (numbered s.left_slots s.right_slots s.equation.pairs).0 form.left (λ x y a b q. omega arith) in
-    let right : IsFullMap s.right_slots (numbered_right s.left_slots s.right_slots s.equation.pairs) = with_names-full numeric_slot s.right_slots (numbered s.left_slots s.right_slots s.equation.pairs).1 form.right (λ x y a b q. omega arith) in
+    let left : IsFullMap s.left_slots (numbered_left s.left_slots s.right_slots s.equation.pairs) = with_values-full numeric_slot s.left_slots (numbered s.left_slots s.right_slots s.equation.pairs).0 form.left (λ x y a b q. omega arith) in
+    let right : IsFullMap s.right_slots (numbered_right s.left_slots s.right_slots s.equation.pairs) = with_values-full numeric_slot s.right_slots (numbered s.left_slots s.right_slots s.equation.pairs).1 form.right (λ x y a b q. omega arith) in
     let shared : same_names (numbered_left s.left_slots s.right_slots s.equation.pairs) (numbered_right s.left_slots s.right_slots s.equation.pairs) ≡ s.equation.pairs =
-    same_names-with_names numeric_slot s.left_slots s.right_slots (numbered s.left_slots s.right_slots s.equation.pairs).0 (numbered s.left_slots s.right_slots s.equation.pairs).1 form.left form.right (λ x y a b q. omega arith) ∙ form.correspondence in (
+    same_names-with_values numeric_slot s.left_slots s.right_slots (numbered s.left_slots s.right_slots s.equation.pairs).0 (numbered s.left_slots s.right_slots s.equation.pairs).1 form.left form.right (λ x y a b q. omega arith) ∙ form.correspondence in (
       (s.equation.left, numbered_left s.left_slots s.right_slots s.equation.pairs),
       (s.equation.right, numbered_right s.left_slots s.right_slots s.equation.pairs),
       record {
@@ -106,7 +106,7 @@ module _ (k : Kept) (good : Good k) where
   -- the middle has a name of its own for each slot
   says_middle : (p : ℕ) (a m : Applied) → IsInjectiveMap m.1 → SaysIn (image_of k) p a m → IsFullMap (keys m.1) m.1
   says_middle p a m once h =
-      let e : keys h.right.1 ≡ keys m.1 = ap keys h.matches.names.right ∙ with_names-keys h.matches.names.name m.1 in
+      let e : keys h.right.1 ≡ keys m.1 = ap keys h.matches.names.right ∙ with_values-keys h.matches.names.name m.1 in
       record { slots = refl; once = subst AllDifferent e (own_map ns h.right h.right_full).once; injective = once }
 
   module _ (e : Sides) (of : IsOfFull ns e) where
@@ -133,9 +133,9 @@ module _ (k : Kept) (good : Good k) where
     )
 
     -- a side that matches a full id has a name of its own for each of its slots
-    matched_map : (c a : Applied) (f : ℕ → ℕ) → IsFull ns c → c.1 ≡ with_names f a.1 → IsFullMap (keys a.1) a.1
+    matched_map : (c a : Applied) (f : ℕ → ℕ) → IsFull ns c → c.1 ≡ with_values f a.1 → IsFullMap (keys a.1) a.1
     matched_map c a f full m =
-        let ks : keys c.1 ≡ keys a.1 = ap keys m ∙ with_names-keys f a.1 in
+        let ks : keys c.1 ≡ keys a.1 = ap keys m ∙ with_values-keys f a.1 in
         record { slots = refl; once = subst AllDifferent ks (own_map ns c full).once; injective = injective_before f a.1 (subst IsInjectiveMap m full.injective) }
 
     says_left : (p : ℕ) (a b : Applied) → SaysIn (image_of k) p a b → IsFullMap (keys a.1) a.1

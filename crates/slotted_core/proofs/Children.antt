@@ -7,12 +7,13 @@ use Rattle.slotted_theory.specs.Nameless.{place, extend, nameless_args}
 use Rattle.slotted_theory.specs.Renaming.{IsInjective}
 use Rattle.slotted_theory.proofs.Names.{extend-injective}
 use Rattle.slotted_theory.proofs.Values.{node}
+use Rattle.slotted_theory.specs.FiniteMaps.{with_values}
 use Rattle.slotted_slots.specs.Maps.{keys, values}
 use Rattle.slotted_nodes.specs.Form.{Form, Tree, leaf, own, child, bind, scopes, children, child_place, child_names, width}
 use Rattle.slotted_nodes.specs.Joined.{at_append, child_fits}
 use Rattle.slotted_languages.specs.NodeTerm.{own_names, node_args}
 use Rattle.slotted_languages.proofs.NodeTerms.{own_fits, child_keys_fit, child_rest_fits, bind_inner_fits, bind_rest_fits}
-use Rattle.slotted_model.specs.Applied.{Applied, with_values, renamed_id, in_places, as_term, EachChild}
+use Rattle.slotted_model.specs.Applied.{Applied, renamed_id, in_places, as_term, EachChild}
 use Rattle.slotted_core.specs.Nodes.{ids_in, child_ids}
 
 -- as many ids as children

@@ -10,9 +10,10 @@ use Rattle.slotted_theory.proofs.Values.{child_before}
 use Rattle.slotted_theory.proofs.Shapes.{shape_iff}
 use Rattle.slotted_theory.proofs.Bijections.{to-injective}
 use Rattle.slotted_theory.proofs.Decides.{args_eq_iff}
+use Rattle.slotted_theory.specs.FiniteMaps.{with_values}
 use Rattle.slotted_nodes.specs.Form.{Form}
 use Rattle.slotted_languages.specs.NodeTerm.{nameless_node}
-use Rattle.slotted_languages.specs.Shape.{shape, Fits, moved_names}
+use Rattle.slotted_languages.specs.Shape.{shape, Fits}
 use Rattle.slotted_languages.proofs.Shapes.{shapes_iff, shape-same}
 use Rattle.slotted_model.specs.Applied.{Applied, map_on}
 use Rattle.slotted_model.specs.Classes.{term_at, canonical_node}
@@ -133,9 +134,9 @@ first_none s (c ∷ cs) p j l e = elim (cases_Bool (term_eq (theory.shape (namel
       none_later s c cs (first_none s cs (no_first (first_shaped s (nameless_nodes cs)) q)) n j l e
 ]
 
-length-moved_names : (f : ℕ → ℕ) (m : List (ℕ × ℕ)) → length (moved_names f m) ≡ length m
-length-moved_names f [] = refl
-length-moved_names f (p ∷ m) = ap suc (length-moved_names f m)
+length-with_values : (f : ℕ → ℕ) (m : List (ℕ × ℕ)) → length (with_values f m) ≡ length m
+length-with_values f [] = refl
+length-with_values f (p ∷ m) = ap suc (length-with_values f m)
 
 -- the answer for a row: its class, with these names for the numbers of the shape
 abbrev pub answer : List (ℕ × ℕ) → ℕ × List (ℕ × ℕ) → Applied
@@ -170,7 +171,7 @@ module _ (k : Kept) (good : Good k) (f : Form) (hf : Fits f) where
       let c : Form = node_in k.classes j in
       let s : (shape f).0 ≡ (shape c).0 = (same_shapes f c hf (good.fits j q.0)).1 q.1 in
       let π : SameUpToNames (nameless_node c) (nameless_node f) = (shapes_iff c f (good.fits j q.0) hf).0 (sym s) in
-      let n : length (shape f).1 ≡ length (shape c).1 = ap length (shape-same π.0.to (to-injective π.0) c f π.1).1 ∙ length-moved_names π.0.to (shape c).1 in
+      let n : length (shape f).1 ≡ length (shape c).1 = ap length (shape-same π.0.to (to-injective π.0) c f π.1).1 ∙ length-with_values π.0.to (shape c).1 in
       ap (λ (x : ℕ × List (ℕ × ℕ)). length x.1) (sym (Some-same (row_at 0 k.classes j) r p)) ∙ sym n
 
   -- a row of the node's shape has as many names

@@ -2,7 +2,7 @@
 use Rattle.std.proofs.Common.{◌≡◌, ℕ, zero, suc, ◌<◌, ◌+◌, List, [], ◌∷◌, ◌++◌, length, take, drop, refl, slice_index, slice_index_or, ap, ◌∙◌, sym, subst, inl, inr, arith, length-append}
 use Rattle.std.specs.Prelude.{map, All, ◌⊎◌}
 use Rattle.std.specs.List.{zip}
-use Rattle.slotted_theory.specs.FiniteMaps.{IsInjectiveMap}
+use Rattle.slotted_theory.specs.FiniteMaps.{IsInjectiveMap, with_values}
 use Rattle.slotted_theory.specs.Nameless.{nameless_args}
 use Rattle.slotted_theory.specs.Shape.{number_in}
 use Rattle.slotted_theory.proofs.Lists.{append_parts}
@@ -12,8 +12,7 @@ use Rattle.slotted_languages.specs.NodeTerm as node
 use Rattle.slotted_languages.specs.Outline.{outlined, outlined_names}
 use Rattle.slotted_languages.proofs.Outlines.{length_children-outlined, length-outlined_names, outlined-outlined}
 use Rattle.slotted_model.specs.Applied.{Applied, own_names, applied_of}
-use Rattle.slotted_model.specs.Correspondence.{with_names}
-use Rattle.slotted_model.proofs.Correspondences.FullMaps.{HasValue-at, at_HasValue, with_names-by}
+use Rattle.slotted_model.proofs.Correspondences.FullMaps.{HasValue-at, at_HasValue, with_values-by}
 use Rattle.slotted_proofs.specs.declared.equation.Equation.{Equation as Sides}
 use Rattle.slotted_proofs.specs.AlikeNodes.{AreAlikeArgs}
 use Rattle.slotted_proofs.specs.Equations.{to_applied}
@@ -246,7 +245,7 @@ twins_owns bs cs u v xs ys h = absurd h
 
 -- the child k below its binders
 
-zip_numbered : (f : ℕ → ℕ) (ks vs : List ℕ) → zip ks (map f vs) ≡ with_names f (zip ks vs)
+zip_numbered : (f : ℕ → ℕ) (ks vs : List ℕ) → zip ks (map f vs) ≡ with_values f (zip ks vs)
 zip_numbered f [] vs = refl
 zip_numbered f (k ∷ ks) [] = refl
 zip_numbered f (k ∷ ks) (v ∷ vs) = ap (λ r. (k, f v) ∷ r) (zip_numbered f ks vs)
@@ -361,12 +360,12 @@ first_match-more ids bs cs k c h m = record {
     last (y ∷ cs) c (suc j) x l = last cs c j x (omega arith)
 
 -- names that are apart after a renaming were apart before
-pub injective_before : (f : ℕ → ℕ) (m : List (ℕ × ℕ)) → IsInjectiveMap (with_names f m) → IsInjectiveMap m
+pub injective_before : (f : ℕ → ℕ) (m : List (ℕ × ℕ)) → IsInjectiveMap (with_values f m) → IsInjectiveMap m
 injective_before f [] i = tt
 injective_before f (p ∷ m) i = (
   λ h.
       let r = at_HasValue m p.1 h in
-      i.0 (HasValue-at (with_names f m) r.0 (f p.1) (with_names-by f m r.0 p.1 r.1)),
+      i.0 (HasValue-at (with_values f m) r.0 (f p.1) (with_values-by f m r.0 p.1 r.1)),
   injective_before f m i.1,
 )
 
@@ -434,8 +433,8 @@ module _ (f g : Form) (cs : List Sides) (once : All HasInjectiveSides cs) (h : A
       let r = match_at (ids_under [] f.tree f.names) (ids_under [] g.tree g.names) cs (forms_twins f g cs h).1 k a a some (omega arith) in
       let s : List ℕ = slice_index_or (stacks [] (outlined f.tree) (outlined_names 0 f.tree f.names)) k [] in
       let q : slice_index_or (ids_under [] f.tree f.names) k a ≡ under s a = id_under-at [] f.tree f.names k [] a a (let m : length (ids_in f.tree f.names) ≡ length (children f.tree) = length-ids f.tree f.names in omega arith) ∙ ap (under s) (sym e) in
-      injective_before (number_in s) a.1 (injective_before r.1.names.name (with_names (number_in s) a.1)
-      (subst IsInjectiveMap (r.1.names.left ∙ ap (λ (z : Applied). with_names r.1.names.name z.1) q) (once k some r.0).left))
+      injective_before (number_in s) a.1 (injective_before r.1.names.name (with_values (number_in s) a.1)
+      (subst IsInjectiveMap (r.1.names.left ∙ ap (λ (z : Applied). with_values r.1.names.name z.1) q) (once k some r.0).left))
 
   pub right_apart : k < length (children g.tree) → k < length (children f.tree) → a ≡ slice_index_or (child_ids g) k a → IsInjectiveMap a.1
   right_apart l l' e =
@@ -443,8 +442,8 @@ module _ (f g : Form) (cs : List Sides) (once : All HasInjectiveSides cs) (h : A
       let r = match_at (ids_under [] f.tree f.names) (ids_under [] g.tree g.names) cs (forms_twins f g cs h).1 k a a some (omega arith) in
       let s : List ℕ = slice_index_or (stacks [] (outlined g.tree) (outlined_names 0 g.tree g.names)) k [] in
       let q : slice_index_or (ids_under [] g.tree g.names) k a ≡ under s a = id_under-at [] g.tree g.names k [] a a (let m : length (ids_in g.tree g.names) ≡ length (children g.tree) = length-ids g.tree g.names in omega arith) ∙ ap (under s) (sym e) in
-      injective_before (number_in s) a.1 (injective_before r.1.names.name (with_names (number_in s) a.1)
-      (subst IsInjectiveMap (r.1.names.right ∙ ap (λ (z : Applied). with_names r.1.names.name z.1) q) (once k some r.0).right))
+      injective_before (number_in s) a.1 (injective_before r.1.names.name (with_values (number_in s) a.1)
+      (subst IsInjectiveMap (r.1.names.right ∙ ap (λ (z : Applied). with_values r.1.names.name z.1) q) (once k some r.0).right))
 
 -- one more equation whose sides are injective
 pub more_apart : (es : List Sides) (c : Sides) → All HasInjectiveSides es → HasInjectiveSides c → All HasInjectiveSides (es ++ c ∷ [])

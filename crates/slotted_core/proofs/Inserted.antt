@@ -3,10 +3,11 @@ use Rattle.std.proofs.Common.{◌≡◌, ◌↔◌, ◌⊎◌, ℕ, List, [], �
 use Rattle.std.specs.Prelude.{Bool, true, false, nat_eq, ◌||◌}
 use Rattle.std.specs.List.{zip}
 use Rattle.std.proofs.lemmas.Bool.{cases_eq, cases_lt, eq-eqb, ne_eqb, lt-ltb, le-ltb}
+use Rattle.slotted_theory.specs.FiniteMaps.{with_values}
 use Rattle.slotted_slots.specs.Maps.{with_pair, values, is_among}
 use Rattle.slotted_nodes.specs.Form.{Form}
 use Rattle.slotted_languages.specs.NodeTerm.{nameless_node, free_names_of}
-use Rattle.slotted_languages.specs.Shape.{shape, added, firsts, moved_names}
+use Rattle.slotted_languages.specs.Shape.{shape, added, firsts}
 use Rattle.slotted_languages.proofs.Shapes.{values-shape}
 use Rattle.slotted_model.specs.Ascending.{with_name, ascending, names}
 use Rattle.slotted_model.specs.Applied.{map_on}
@@ -99,14 +100,14 @@ In-firsts z xs = (λ h. elim ((In-added z xs []).0 h) [ inl k ↦ absurd k | inr
 pub ascending-values : (c : Form) → ascending (values (shape c).1) ≡ names (nameless_node c)
 ascending-values c = ap ascending (values-shape c) ∙ ascending-same (firsts (free_names_of c)) (free_names_of c) (λ z. In-firsts z (free_names_of c))
 
-pub values-moved_names : (f : ℕ → ℕ) (m : List (ℕ × ℕ)) → values (moved_names f m) ≡ map f (values m)
-values-moved_names f [] = refl
-values-moved_names f (p ∷ m) = ap (λ l. f p.1 ∷ l) (values-moved_names f m)
+pub values-with_values : (f : ℕ → ℕ) (m : List (ℕ × ℕ)) → values (with_values f m) ≡ map f (values m)
+values-with_values f [] = refl
+values-with_values f (p ∷ m) = ap (λ l. f p.1 ∷ l) (values-with_values f m)
 
 -- where f takes the names of one map to those of another, the map between them is f
-pub between-moved : (f : ℕ → ℕ) (c : Form) (n : List (ℕ × ℕ)) → n ≡ moved_names f (shape c).1 → between (shape c).1 n ≡ map_on f (names (nameless_node c))
+pub between-moved : (f : ℕ → ℕ) (c : Form) (n : List (ℕ × ℕ)) → n ≡ with_values f (shape c).1 → between (shape c).1 n ≡ map_on f (names (nameless_node c))
 between-moved f c n e =
-    ap (λ vs. with_pairs [] (zip (values (shape c).1) vs)) (ap values e ∙ values-moved_names f (shape c).1)
+    ap (λ vs. with_pairs [] (zip (values (shape c).1) vs)) (ap values e ∙ values-with_values f (shape c).1)
     ∙ (with_pairs-all f (values (shape c).1) ∙ ap (map_on f) (ascending-values c))
 
 map-itself : (xs : List ℕ) → map (λ x. x) xs ≡ xs

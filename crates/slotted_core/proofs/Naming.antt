@@ -3,7 +3,7 @@ use Rattle.std.proofs.Common.{◌≡◌, ℕ, zero, suc, ◌<◌, List, [], ◌�
 use Rattle.std.specs.Prelude.{All, Contains, IsSome, slice_index_or}
 use Rattle.std.proofs.Math.Nat.{suc_inj}
 use Rattle.slotted_slots.specs.Maps as code
-use Rattle.slotted_theory.specs.FiniteMaps.{IsInjectiveMap, filled}
+use Rattle.slotted_theory.specs.FiniteMaps.{IsInjectiveMap, filled, with_values}
 use Rattle.slotted_theory.specs.Nameless.{DTerm, stop, moved}
 use Rattle.slotted_theory.proofs.Values.{node}
 use Rattle.slotted_nodes.specs.Form.{Form}
@@ -12,8 +12,8 @@ use Rattle.slotted_model.specs.Applied.{Applied, keys}
 use Rattle.slotted_model.specs.Ascending.{names}
 use Rattle.slotted_model.specs.Classes.{canonical_node, IsFull}
 use Rattle.slotted_model.proofs.Found.{Contains-ascending}
-use Rattle.slotted_model.specs.Correspondence.{AllDifferent, IsFullMap, with_names}
-use Rattle.slotted_model.proofs.Correspondences.FullMaps.{with_names-keys}
+use Rattle.slotted_model.specs.Correspondence.{AllDifferent, IsFullMap}
+use Rattle.slotted_model.proofs.Correspondences.FullMaps.{with_values-keys}
 use Rattle.slotted_proofs.proofs.Stepping.{matches-state, entry-states, states-entry, left_full, middle_full}
 use Rattle.slotted_proofs.specs.declared.equation.Equation.{Equation as Sides}
 use Rattle.slotted_proofs.specs.AlikeNodes.{AreAlikeArgs, AreAlikeNodes}
@@ -66,15 +66,15 @@ module _ (k : Kept) (e : Sides) (f g : Form) (left : nameless_node f ≡ moved (
 
 -- equations that the same ids match are entries alike
 
-own_side : (a c : Applied) (f : ℕ → ℕ) → c.1 ≡ with_names f a.1 → IsFullMap (keys c.1) c.1 → IsFullMap (keys a.1) a.1
+own_side : (a c : Applied) (f : ℕ → ℕ) → c.1 ≡ with_values f a.1 → IsFullMap (keys c.1) c.1 → IsFullMap (keys a.1) a.1
 own_side a c f e h = record {
   slots = refl;
-  once = subst AllDifferent (ap keys e ∙ with_names-keys f a.1) h.once;
+  once = subst AllDifferent (ap keys e ∙ with_values-keys f a.1) h.once;
   injective = injective_before f a.1 (subst IsInjectiveMap e h.injective);
 }
 
-other_side : (a c : Applied) (f : ℕ → ℕ) → c.1 ≡ with_names f a.1 → IsFullMap (keys a.1) a.1 → IsInjectiveMap c.1 → IsFullMap (keys c.1) c.1
-other_side a c f e h i = record { slots = refl; once = subst AllDifferent (sym (ap keys e ∙ with_names-keys f a.1)) h.once; injective = i }
+other_side : (a c : Applied) (f : ℕ → ℕ) → c.1 ≡ with_values f a.1 → IsFullMap (keys a.1) a.1 → IsInjectiveMap c.1 → IsFullMap (keys c.1) c.1
+other_side a c f e h i = record { slots = refl; once = subst AllDifferent (sym (ap keys e ∙ with_values-keys f a.1)) h.once; injective = i }
 
 entry_again : (list : List Proven) (p : ℕ) (a b : Applied) (c d : Sides) → HasInjectiveSides c → HasInjectiveSides d → Matches a b (to_applied c.l) (to_applied c.r) → Matches a b (to_applied d.l) (to_applied d.r) → IsEntry list p (to_applied d.l) (to_applied d.r) → IsEntry list p (to_applied c.l) (to_applied c.r)
 entry_again list p a b c d hc hd mc md h =

@@ -7,7 +7,7 @@ use Rattle.slotted_theory.specs.Shape.{number_in}
 use Rattle.slotted_theory.proofs.Shapes.{number_in-injective}
 use Rattle.slotted_model.specs.Applied.{Applied, keys}
 use Rattle.slotted_model.specs.Correspondence.{IsFullMap, IsPartialInjection, flipped, same_names, turned}
-use Rattle.slotted_model.proofs.Correspondences.FullMaps.{same_names-partial, same_names-turned, with_names-full, with_names-keys}
+use Rattle.slotted_model.proofs.Correspondences.FullMaps.{same_names-partial, same_names-turned, with_values-full, with_values-keys}
 use Rattle.slotted_model.proofs.Correspondences.Pairs.{value_of-same, value_of-other}
 use Rattle.slotted_proofs.specs.declared.equation.Equation.{Equation as Sides}
 use Rattle.slotted_proofs.specs.Equations.{Statement, equality, to_applied, AreSides}
@@ -75,7 +75,7 @@ pairing_none whole so_far rest more bs A s x h e f = record {
 -- maps below binders
 
 pub under_full : (bs : List ℕ) (m : List (ℕ × ℕ)) → IsAscending (keys m) → IsInjectiveMap m → IsFullMap (keys m) (numbers_under bs m)
-under_full bs m a i = with_names-full (number_in bs) (keys m) m (own_full m a i) (λ x y c d e. number_in-injective bs x y e)
+under_full bs m a i = with_values-full (number_in bs) (keys m) m (own_full m a i) (λ x y c d e. number_in-injective bs x y e)
 
 pub partners_partial : (bs cs : List ℕ) (a b shared : List (ℕ × ℕ)) → IsAscending (keys a) → IsAscending (keys b) → IsInjectiveMap a → IsInjectiveMap b → shared ≡ same_names (numbers_under cs b) (numbers_under bs a) → IsPartialInjection (keys b) (keys a) shared
 partners_partial bs cs a b shared la lb ia ib e =
@@ -87,8 +87,8 @@ partners_equality bs cs a b shared la lb ia ib e =
     let pairs : turned (keys a.1) shared ≡ same_names (numbers_under bs a.1) (numbers_under cs b.1) =
     ap (turned (keys a.1)) e ∙ sym (same_names-turned (keys b.1) (keys a.1) (numbers_under cs b.1) (numbers_under bs a.1) (under_full cs b.1 lb ib) (under_full bs a.1 la ia)) in
     λ i. record {
-      left_slots = sym (with_names-keys (number_in bs) a.1) i;
-      right_slots = sym (with_names-keys (number_in cs) b.1) i;
+      left_slots = sym (with_values-keys (number_in bs) a.1) i;
+      right_slots = sym (with_values-keys (number_in cs) b.1) i;
       equation = record { left = a.0; right = b.0; pairs = pairs i };
     }
 
@@ -97,8 +97,8 @@ pub written_matches : (bs cs : List ℕ) (a b : Applied) (e : Sides) → IsAscen
 written_matches bs cs a b e la lb ia ib w =
     let s : Statement = equality (under bs a) (under cs b) in
     state-matches (under bs a) (under cs b) (to_applied e.l) (to_applied e.r)
-    (subst (λ K. IsFullMap K (numbers_under bs a.1)) (sym (with_names-keys (number_in bs) a.1)) (under_full bs a.1 la ia))
-    (subst (λ K. IsFullMap K (numbers_under cs b.1)) (sym (with_names-keys (number_in cs) b.1)) (under_full cs b.1 lb ib))
+    (subst (λ K. IsFullMap K (numbers_under bs a.1)) (sym (with_values-keys (number_in bs) a.1)) (under_full bs a.1 la ia))
+    (subst (λ K. IsFullMap K (numbers_under cs b.1)) (sym (with_values-keys (number_in cs) b.1)) (under_full cs b.1 lb ib))
     (own_left s (to_applied e.l) (to_applied e.r) w) (own_right s (to_applied e.l) (to_applied e.r) w) (sym (stated s (to_applied e.l) (to_applied e.r) w))
 
 pub written_injective : (s : Statement) (e : Sides) → AreSides s (to_applied e.l) (to_applied e.r) → HasInjectiveSides e

@@ -7,14 +7,14 @@ use Rattle.slotted_theory.specs.Term.{Args, Term, done, name}
 use Rattle.slotted_theory.specs.Term as term
 use Rattle.slotted_theory.specs.Nameless.{DArgs, stop, place, sub, scope, nameless, moved}
 use Rattle.slotted_theory.specs.Renaming.{IsInjective, renamed_args, renamed}
-use Rattle.slotted_theory.specs.FiniteMaps.{HasValue, IsInjectiveMap, top, filled}
+use Rattle.slotted_theory.specs.FiniteMaps.{HasValue, IsInjectiveMap, top, filled, with_values}
 use Rattle.slotted_theory.proofs.Laws.{nameless-renamed}
 use Rattle.slotted_theory.proofs.Filled.{filled-injective}
 use Rattle.slotted_slots.specs.Maps.{keys, values, value_of}
 use Rattle.slotted_slots.specs.Table.{numeric_slot, fresh_slot}
 use Rattle.slotted_nodes.specs.Form.{Form, Tree, leaf, own, child, bind, scopes}
 use Rattle.slotted_languages.specs.NodeTerm.{own_names, node_args, node_term, nameless_node}
-use Rattle.slotted_languages.specs.Shape.{Numbers, number_of, free_number, number_at, past_binder, numbered, no_numbers, names_in, with_names, shape, Fits, moved_names}
+use Rattle.slotted_languages.specs.Shape.{Numbers, number_of, free_number, number_at, past_binder, numbered, no_numbers, names_in, with_names, shape, Fits}
 use Rattle.slotted_languages.proofs.NodeTerms.{own_fits, child_rest_fits, bind_inner_fits, bind_rest_fits, length-numbers}
 use Rattle.slotted_languages.proofs.Shapes.{keys-shape, injective-shape, shape-renamed, shape-same}
 use Rattle.slotted_model.specs.Ascending.{ascending}
@@ -181,16 +181,16 @@ map-agrees : (f g : ℕ → ℕ) (xs : List ℕ) → ((x : ℕ) → In x xs → 
 map-agrees f g [] e = refl
 map-agrees f g (x ∷ xs) e = λ i. e x (inl refl) i ∷ map-agrees f g xs (λ y h. e y (inr h)) i
 
-keys-moved_names : (f : ℕ → ℕ) (m : List (ℕ × ℕ)) → keys (moved_names f m) ≡ keys m
-keys-moved_names f [] = refl
-keys-moved_names f (p ∷ m) = ap (λ l. p.0 ∷ l) (keys-moved_names f m)
+keys-with_values : (f : ℕ → ℕ) (m : List (ℕ × ℕ)) → keys (with_values f m) ≡ keys m
+keys-with_values f [] = refl
+keys-with_values f (p ∷ m) = ap (λ l. p.0 ∷ l) (keys-with_values f m)
 
 -- a map that an injective function does not tell from that of its keys has its keys as values
-same_values : (F : ℕ → ℕ) → IsInjective F → (G : ℕ → ℕ) (m : List (ℕ × ℕ)) → map_on F (keys m) ≡ moved_names F m → moved_names G m ≡ map_on G (keys m)
+same_values : (F : ℕ → ℕ) → IsInjective F → (G : ℕ → ℕ) (m : List (ℕ × ℕ)) → map_on F (keys m) ≡ with_values F m → with_values G m ≡ map_on G (keys m)
 same_values F inj G [] e = refl
 same_values F inj G (p ∷ m) e =
     let h : ◌≡◌ {A = ℕ × ℕ} (p.0, F p.0) (p.0, F p.1) = cc in
-    let t : map_on F (keys m) ≡ moved_names F m = cc in
+    let t : map_on F (keys m) ≡ with_values F m = cc in
     let q : p.1 ≡ p.0 = sym (inj p.0 p.1 (ap (λ (x : ℕ × ℕ). x.1) h)) in
     λ i. (p.0, G (q i)) ∷ same_values F inj G m t i
 
@@ -246,16 +246,16 @@ module _ (f : Form) (hf : Fits f) (slots : List (ℕ × ℕ)) (same_keys : keys 
   moved_put : moved g (nameless_node s) ≡ nameless_node (with_put slots s)
   moved_put = sym (ap nameless_node put_names ∙ nameless-renamed_node g g-injective s fits_shape)
 
-  abbrev of_shape : ((shape s).0 ≡ (shape f).0) × ((shape f).1 ≡ moved_names (filled (shape f).1) (shape s).1)
+  abbrev of_shape : ((shape s).0 ≡ (shape f).0) × ((shape f).1 ≡ with_values (filled (shape f).1) (shape s).1)
   of_shape = shape-same (filled (shape f).1) (filled-injective (shape f).1 (injective-shape f)) s f (shape-renamed f hf)
 
-  abbrev of_put : ((shape s).0 ≡ (shape (with_put slots s)).0) × ((shape (with_put slots s)).1 ≡ moved_names g (shape s).1)
+  abbrev of_put : ((shape s).0 ≡ (shape (with_put slots s)).0) × ((shape (with_put slots s)).1 ≡ with_values g (shape s).1)
   of_put = shape-same g g-injective s (with_put slots s) moved_put
 
   keys_same : keys (shape f).1 ≡ keys (shape s).1
-  keys_same = ap keys of_shape.1 ∙ keys-moved_names (filled (shape f).1) (shape s).1
+  keys_same = ap keys of_shape.1 ∙ keys-with_values (filled (shape f).1) (shape s).1
 
-  on_keys : map_on (filled (shape f).1) (keys (shape s).1) ≡ moved_names (filled (shape f).1) (shape s).1
+  on_keys : map_on (filled (shape f).1) (keys (shape s).1) ≡ with_values (filled (shape f).1) (shape s).1
   on_keys =
       ap (map_on (filled (shape f).1)) (sym keys_same)
       ∙ (map_on-filled (shape f).1 (ascends (keys (shape f).1) (keys-shape f)) ∙ of_shape.1)

@@ -6,7 +6,7 @@ use Rattle.std.proofs.lemmas.Bool.{cases_lt}
 use Rattle.std.proofs.lemmas.List.{length-take}
 use Rattle.std.proofs.lemmas.List.Elements.{Contains-append_cases}
 use Rattle.std.proofs.lemmas.Slice.Zip.{length-zip}
-use Rattle.slotted_theory.specs.FiniteMaps.{filled}
+use Rattle.slotted_theory.specs.FiniteMaps.{filled, with_values}
 use Rattle.slotted_theory.specs.Nameless.{DArgs, DTerm, stop, place, sub, scope, extend, lift, moved, moved_args, nameless_args}
 use Rattle.slotted_theory.proofs.Lists.{contains_cases, Contains-nil}
 use Rattle.slotted_slots.specs.Maps.{values}
@@ -16,7 +16,6 @@ use Rattle.slotted_languages.specs.Outline.{outlined}
 use Rattle.slotted_languages.specs.Shape.{Fits}
 use Rattle.slotted_model.specs.Applied.{Applied, applied_of, own_names}
 use Rattle.slotted_model.specs.Classes.{canonical_node, IsFull}
-use Rattle.slotted_model.specs.Correspondence.{with_names}
 use Rattle.slotted_proofs.specs.declared.equation.Equation.{Equation as Sides}
 use Rattle.slotted_proofs.specs.AlikeNodes.{AreAlikeArgs}
 use Rattle.slotted_proofs.specs.Equations.{to_applied}
@@ -75,7 +74,7 @@ wide_at nodes a full f is large =
 
 -- the equation of two children has no more names than their nodes
 
-length-named : (f : ℕ → ℕ) (m : List (ℕ × ℕ)) → length (with_names f m) ≡ length m
+length-named : (f : ℕ → ℕ) (m : List (ℕ × ℕ)) → length (with_values f m) ≡ length m
 length-named f [] = refl
 length-named f (p ∷ m) = ap suc (length-named f m)
 

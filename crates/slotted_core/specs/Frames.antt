@@ -4,11 +4,11 @@
 --     IsCongruentIn k e parts  a congruent step over the parts proves the equation
 use Rattle.std.specs.Prelude.{◌≡◌, ℕ, List, All}
 use Rattle.slotted_theory.specs.Shape.{number_in}
+use Rattle.slotted_theory.specs.FiniteMaps.{with_values}
 use Rattle.slotted_nodes.specs.Form.{Form}
 use Rattle.slotted_languages.specs.NodeTerm.{nameless_node}
 use Rattle.slotted_model.specs.Applied.{Applied}
 use Rattle.slotted_model.specs.Classes.{canonical_node}
-use Rattle.slotted_model.specs.Correspondence.{with_names}
 use Rattle.slotted_proofs.specs.declared.equation.Equation.{Equation as Sides}
 use Rattle.slotted_proofs.specs.AlikeNodes.{AreAlikeArgs, AreAlikeNodes}
 use Rattle.slotted_proofs.specs.Steps.{AreEntries, HasInjectiveSides}
@@ -16,7 +16,7 @@ use Rattle.slotted_core.specs.Kept.{Kept, nodes_of}
 
 -- the names of a map as numbers below the binders, the innermost first
 abbrev pub numbers_under : List ℕ → List (ℕ × ℕ) → List (ℕ × ℕ)
-numbers_under bs m = with_names (number_in bs) m
+numbers_under bs m = with_values (number_in bs) m
 
 abbrev pub under : List ℕ → Applied → Applied
 under bs a = (a.0, numbers_under bs a.1)

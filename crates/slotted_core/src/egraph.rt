@@ -11,7 +11,7 @@ ghost use Rattle.slotted_model.specs.Classes.{IsFull, Canonical, term_of, layer_
 ghost use Rattle.slotted_model.specs.Ids.{id_of, id_of_node};
 ghost use Rattle.slotted_model.specs.ProofList.{Proved};
 ghost use Rattle.slotted_proofs.specs.Entries.{asserted_entry, explicit_numbers};
-ghost use Rattle.slotted_terms.specs.Outcome.{Answers};
+ghost use Rattle.slotted_patterns.specs.Outcome.{Answers};
 ghost use Rattle.slotted_terms.specs.Parsed.{TextReads};
 ghost use Rattle.slotted_terms.specs.Valid.{IsValidTerm};
 ghost use Rattle.slotted_core.specs.Image.{no_classes, FoundAlike, asserted_in, AreDerivable, AddsClasses, IsUnion, IsNoUnion, Records, HasLargeClass};
@@ -205,7 +205,7 @@ impl<L: Language, N: Drop> EGraph<L, N> {
     /// A text that is refused does not fail the graph, and the names that were read before it stay in the table.
     pub fn parse_expr(&mut self, text: &str) -> Result<RecExpr<L>, Error>
         // The answer is that of the text over the graph's table, and it can be added.
-        ensures answer { self.old.failed ≡ false → Answers (λ o. TextReads L.read self.old.table (chars text.now) o self.new.table) result }
+        ensures answer { self.old.failed ≡ false → Answers (λ t. t) (λ o. TextReads L.read self.old.table (chars text.now) o self.new.table) result }
         ensures valid { IfOk result (λ t. IsValidTerm self.new.table t) }
 
         // Only the table changes, and on a failed graph nothing does.

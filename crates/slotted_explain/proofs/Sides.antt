@@ -1,11 +1,11 @@
 -- The two sides of a proved equation are valid ids.
 use Rattle.std.proofs.Common.{◌≡◌, ◌<◌, ℕ, zero, suc, List, [], ◌∷◌, length, sym, ap, subst, arith, ◌∙◌}
+use Rattle.slotted_theory.specs.FiniteMaps.{with_values}
 use Rattle.slotted_slots.specs.Table.{Table, numeric_slot}
 use Rattle.slotted_slots.proofs.TableLaws.{is_known-numeric_slot}
 use Rattle.slotted_terms.specs.Valid.{AllKnown}
 use Rattle.slotted_model.specs.Applied.{Applied, values}
 use Rattle.slotted_model.specs.Classes.{canonical_slots, IsFull}
-use Rattle.slotted_model.specs.Correspondence.{with_names}
 use Rattle.slotted_proofs.specs.Equations.{Statement, AreSides}
 use Rattle.slotted_model.specs.Correspondence.{numbered}
 use Rattle.slotted_proofs.specs.Entries.{entry_of, entries_of, statement_at}
@@ -16,7 +16,7 @@ use Rattle.slotted_core.specs.Graph.{Graph, IsValidId}
 use Rattle.slotted_core.proofs.KeptLists.{equation_at-of, length-mapped}
 
 -- numeric names are known to each table
-numeric_known : (t : Table) (m : List (ℕ × ℕ)) → AllKnown t (values (with_names numeric_slot m))
+numeric_known : (t : Table) (m : List (ℕ × ℕ)) → AllKnown t (values (with_values numeric_slot m))
 numeric_known t [] k d lt = absurd (omega (arith, lt))
 numeric_known t (p ∷ m) zero d lt = is_known-numeric_slot t p.1
 numeric_known t (p ∷ m) (suc k) d lt = numeric_known t m k d (omega (arith, lt))

@@ -6,12 +6,13 @@ use Rattle.std.proofs.lemmas.List.{map-append}
 use Rattle.slotted_theory.specs.Term.{Args, name, child, bind}
 use Rattle.slotted_theory.specs.Nameless.{DArgs, stop, place, sub, scope, moved_args}
 use Rattle.slotted_theory.specs.Renaming.{IsInjective}
+use Rattle.slotted_theory.specs.FiniteMaps.{with_values}
 use Rattle.slotted_slots.specs.Table.{numeric_slot}
-use Rattle.slotted_languages.specs.Shape.{Numbers, number_of, free_number, number_at, past_binder, numbered, moved_names}
+use Rattle.slotted_languages.specs.Shape.{Numbers, number_of, free_number, number_at, past_binder, numbered}
 use Rattle.slotted_languages.proofs.Numbered.{lifted}
 
 abbrev pub moved_numbers : (ℕ → ℕ) → Numbers → Numbers
-moved_numbers f k = record { next = k.next; free = moved_names f k.free }
+moved_numbers f k = record { next = k.next; free = with_values f k.free }
 
 eq_moved : (f : ℕ → ℕ) → IsInjective f → (x y : ℕ) → nat_eq (f x) (f y) ≡ nat_eq x y
 eq_moved f inj x y = elim (cases_eq x y) [
@@ -19,7 +20,7 @@ eq_moved f inj x y = elim (cases_eq x y) [
   | inr n ↦ ne_eqb (f x) (f y) (λ e. n (inj x y e)) ∙ sym (ne_eqb x y n)
 ]
 
-number_of-moved : (f : ℕ → ℕ) → IsInjective f → (m : List (ℕ × ℕ)) (x : ℕ) → number_of (moved_names f m) (f x) ≡ number_of m x
+number_of-moved : (f : ℕ → ℕ) → IsInjective f → (m : List (ℕ × ℕ)) (x : ℕ) → number_of (with_values f m) (f x) ≡ number_of m x
 number_of-moved f inj [] x = refl
 number_of-moved f inj (p ∷ m) x = λ i. cond (eq_moved f inj p.1 x i) (Some p.0) (number_of-moved f inj m x i)
 

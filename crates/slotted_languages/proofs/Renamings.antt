@@ -7,7 +7,7 @@ use Rattle.std.proofs.lemmas.List.{map-append, length-take-le, append-nil}
 use Rattle.std.proofs.lemmas.List.Elements.{All-head, All-tail, All-nil, All-cons}
 use Rattle.std.proofs.Math.Seq.{take-suc, take-length, drop-length}
 use Rattle.slotted_theory.proofs.Laws.{moved_args-id}
-use Rattle.slotted_theory.specs.FiniteMaps.{top, filled}
+use Rattle.slotted_theory.specs.FiniteMaps.{top, filled, with_values}
 use Rattle.slotted_languages.proofs.FilledFrom.{filled_from, filled-walked}
 use Rattle.slotted_languages.proofs.Members.{In}
 use Rattle.slotted_languages.proofs.Occurrences.{lacks_smaller}
@@ -16,7 +16,7 @@ use Rattle.slotted_slots.specs.Maps.{value_of, with_pair, with_first, composed, 
 use Rattle.slotted_slots.specs.Table.{Table, is_known, KnowsMore}
 use Rattle.slotted_nodes.specs.Form.{Form, with_name}
 use Rattle.slotted_languages.specs.NodeTerm.{nameless_node, free_names_of}
-use Rattle.slotted_languages.specs.Shape.{shape, with_names, moved_names, Fits, added, firsts}
+use Rattle.slotted_languages.specs.Shape.{shape, with_names, Fits, added, firsts}
 use Rattle.slotted_languages.specs.Renaming.{IsChoice, IsEntered, IsRenamed}
 use Rattle.slotted_languages.specs.Children.{IsBinder}
 use Rattle.slotted_languages.proofs.Numbered.{Knows, IsFreeOf}
@@ -305,14 +305,14 @@ Found-later free q π (p ∷ m) a f =
     let n : q.0 ≢ p.0 = omega (arith, a.0) in
     (ap (λ b. cond b (Some q.1) (value_of free p.0)) (ne_eqb q.0 p.0 n) ∙ f.0, Found-later free q π m a.1 f.1)
 
-found_moved : (π : ℕ → ℕ) (m : List (ℕ × ℕ)) → IsAscending (keys m) → Found (moved_names π m) π m
+found_moved : (π : ℕ → ℕ) (m : List (ℕ × ℕ)) → IsAscending (keys m) → Found (with_values π m) π m
 found_moved π [] a = tt
 found_moved π (p ∷ m) a =
-    (ap (λ b. cond b (Some (π p.1)) (value_of (moved_names π m) p.0)) (eq-eqb p.0 p.0 refl), Found-later (moved_names π m) (p.0, π p.1) π m a.0 (found_moved π m a.1))
+    (ap (λ b. cond b (Some (π p.1)) (value_of (with_values π m) p.0)) (eq-eqb p.0 p.0 refl), Found-later (with_values π m) (p.0, π p.1) π m a.0 (found_moved π m a.1))
 
-lacks_moved : (π : ℕ → ℕ) (m : List (ℕ × ℕ)) (b : ℕ) → IsFreeOf b m → value_of (moved_names π m) b ≡ None
+lacks_moved : (π : ℕ → ℕ) (m : List (ℕ × ℕ)) (b : ℕ) → IsFreeOf b m → value_of (with_values π m) b ≡ None
 lacks_moved π [] b h = refl
-lacks_moved π (p ∷ m) b h = ap (λ c. cond c (Some (π p.1)) (value_of (moved_names π m) b)) (ne_eqb p.0 b h.0) ∙ lacks_moved π m b h.1
+lacks_moved π (p ∷ m) b h = ap (λ c. cond c (Some (π p.1)) (value_of (with_values π m) b)) (ne_eqb p.0 b h.0) ∙ lacks_moved π m b h.1
 
 Knows-found : (σ π : ℕ → ℕ) (free m : List (ℕ × ℕ)) → ((n z : ℕ) → value_of free n ≡ Some z → σ n ≡ z) → Found free π m → Knows σ π m
 Knows-found σ π free [] f h = tt
@@ -328,7 +328,7 @@ Covers-index names (n ∷ ns) zero h c = c.0
 Covers-index names (n ∷ ns) (suc j) h c = Covers-index names ns j (omega (arith, h)) c.1
 
 -- all places have their new names
-pub all_renamed : (t : Table) (f h : Form) (avoid : List ℕ) (free names : List (ℕ × ℕ)) (i : ℕ) → Fits f → i ≡ length f.names → IsRenaming t f avoid free names h i → (π : ℕ → ℕ) → free ≡ moved_names π (shape f).1 → IsRenamed t π f avoid h
+pub all_renamed : (t : Table) (f h : Form) (avoid : List ℕ) (free names : List (ℕ × ℕ)) (i : ℕ) → Fits f → i ≡ length f.names → IsRenaming t f avoid free names h i → (π : ℕ → ℕ) → free ≡ with_values π (shape f).1 → IsRenamed t π f avoid h
 all_renamed t f h avoid free names i fits e d π ef =
     let ns = (shape f).0.names in
     let σ = new_name free names in
@@ -418,18 +418,18 @@ Has-from m [] h = tt
 Has-from m (x ∷ xs) h =
     (some_of (value_of m x) (All-head (λ y. IsSome (value_of m y)) x xs h), Has-from m xs (All-tail (λ y. IsSome (value_of m y)) x xs h))
 
-composed_moved : (t : ℕ) (m free : List (ℕ × ℕ)) → Has m (values free) → composed free m ≡ moved_names (filled_from t m) free
+composed_moved : (t : ℕ) (m free : List (ℕ × ℕ)) → Has m (values free) → composed free m ≡ with_values (filled_from t m) free
 composed_moved t m [] h = refl
 composed_moved t m (p ∷ free) h =
     ap (λ o. with_first p.0 o (composed free m)) h.0.1
     ∙ λ i. (p.0, sym (value_of-filled t m p.1 h.0.0 h.0.1) i) ∷ composed_moved t m free h.1 i
 
 -- a map that knows the free names, after the map of a shape
-pub composed_shape : (f : Form) (m free : List (ℕ × ℕ)) → KnowsAll m (free_names_of f) → free ≡ (shape f).1 → composed free m ≡ moved_names (filled m) (shape f).1
+pub composed_shape : (f : Form) (m free : List (ℕ × ℕ)) → KnowsAll m (free_names_of f) → free ≡ (shape f).1 → composed free m ≡ with_values (filled m) (shape f).1
 composed_shape f m free h e =
     let k : Has m (values (shape f).1) = rw (values-shape f) (Has-added m [] (free_names_of f) tt (Has-from m (free_names_of f) h)) in
     ap (λ l. composed l m) e
-    ∙ (composed_moved (top m) m (shape f).1 k ∙ sym (ap (λ (g : ℕ → ℕ). moved_names g (shape f).1) (filled-walked m)))
+    ∙ (composed_moved (top m) m (shape f).1 k ∙ sym (ap (λ (g : ℕ → ℕ). with_values g (shape f).1) (filled-walked m)))
 
 -- a set that has the values of a map has each value
 pub has_values : (names : List (ℕ × ℕ)) (set : List ℕ) → ((v : ℕ) → is_among v set ≡ is_among v (values names)) → (n z : ℕ) → value_of names n ≡ Some z → is_among z set ≡ true
@@ -472,7 +472,7 @@ knows_free f m free e = (
 )
 
 -- names that stay
-pub moved_same : (m : List (ℕ × ℕ)) → m ≡ moved_names (λ x. x) m
+pub moved_same : (m : List (ℕ × ℕ)) → m ≡ with_values (λ x. x) m
 moved_same [] = refl
 moved_same (p ∷ m) = ap (λ l. p ∷ l) (moved_same m)
 

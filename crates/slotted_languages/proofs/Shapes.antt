@@ -5,7 +5,7 @@ use Rattle.std.specs.Prelude.{cond, nat_eq}
 use Rattle.std.proofs.lemmas.Bool.{eq-eqb, ne_eqb}
 use Rattle.slotted_theory.specs.Nameless.{DTerm, nameless_args, moved_args, moved}
 use Rattle.slotted_theory.specs.Renaming.{IsInjective}
-use Rattle.slotted_theory.specs.FiniteMaps.{top, filled, IsInjectiveMap}
+use Rattle.slotted_theory.specs.FiniteMaps.{top, filled, IsInjectiveMap, with_values}
 use Rattle.slotted_languages.proofs.FilledFrom.{filled_from, filled-walked}
 use Rattle.slotted_theory.specs.Shape.{SameUpToNames}
 use Rattle.slotted_theory.specs.Shape as theory
@@ -18,7 +18,7 @@ use Rattle.slotted_slots.specs.Ascending.{AllAbove, IsAscending}
 use Rattle.slotted_nodes.specs.Equal.{form_ext}
 use Rattle.slotted_nodes.specs.Form.{Form}
 use Rattle.slotted_languages.specs.NodeTerm.{node_args, nameless_node, free_names_of}
-use Rattle.slotted_languages.specs.Shape.{numbered, no_numbers, names_in, shape, firsts, Fits, moved_names, ShapesMove}
+use Rattle.slotted_languages.specs.Shape.{numbered, no_numbers, names_in, shape, firsts, Fits, ShapesMove}
 use Rattle.slotted_languages.proofs.Numbered.{Knows, numbered-back}
 use Rattle.slotted_languages.proofs.MovedNumbers.{numbered-moved}
 use Rattle.slotted_languages.proofs.FreeNumbers.{AreDifferent, values-numbered, firsts-different, different-injective, Rising, Rising-numbered}
@@ -66,10 +66,10 @@ shape-renamed f h =
     ∙ nameless_shape f h (filled_from (top m) m) (filled_from-knows (top m) m (keys-shape f))
 
 -- renaming a node by an injective function leaves its shape, and moves the names of the map
-pub shape-same : (π : ℕ → ℕ) → IsInjective π → (f g : Form) → moved π (nameless_node f) ≡ nameless_node g → ((shape f).0 ≡ (shape g).0) × ((shape g).1 ≡ moved_names π (shape f).1)
+pub shape-same : (π : ℕ → ℕ) → IsInjective π → (f g : Form) → moved π (nameless_node f) ≡ nameless_node g → ((shape f).0 ≡ (shape g).0) × ((shape g).1 ≡ with_values π (shape f).1)
 shape-same π inj f g e =
     let d = (nameless_node f).args in
-    let n : numbered [] no_numbers (nameless_node g).args ≡ ((numbered [] no_numbers d).0, record { next = (numbered [] no_numbers d).1.next; free = moved_names π (numbered [] no_numbers d).1.free }) =
+    let n : numbered [] no_numbers (nameless_node g).args ≡ ((numbered [] no_numbers d).0, record { next = (numbered [] no_numbers d).1.next; free = with_values π (numbered [] no_numbers d).1.free }) =
     ap (λ (t : DTerm). numbered [] no_numbers t.args) (sym e) ∙ numbered-moved π inj [] no_numbers d in
     let t : f.tree ≡ g.tree = sym (tree_of-node (λ x. x) f.tree f.names) ∙ (sym (tree_of-moved π d) ∙ (ap (λ (t : DTerm). tree_of t.args) e ∙ tree_of-node (λ x. x) g.tree g.names)) in
     let o : suc f.operator ≡ suc g.operator = ap (λ (t : DTerm). t.op) e in (

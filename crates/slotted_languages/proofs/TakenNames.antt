@@ -5,7 +5,7 @@ use Rattle.std.specs.List.{filter}
 use Rattle.std.specs.Ordering.{nat_cmp}
 use Rattle.std.proofs.lemmas.Bool.{false≢true, cases_eq, eq-eqb, ne_eqb}
 use Rattle.std.proofs.lemmas.Bool.Decides.{nat_tests}
-use Rattle.slotted_theory.specs.FiniteMaps.{filled}
+use Rattle.slotted_theory.specs.FiniteMaps.{filled, with_values}
 use Rattle.slotted_theory.specs.Nameless.{DTerm, moved}
 use Rattle.slotted_theory.specs.Shape.{free_names}
 use Rattle.slotted_theory.proofs.FreeNames.{free_names-moved}
@@ -21,7 +21,7 @@ use Rattle.slotted_languages.specs.Fresh.{IsFilled, IsInUse}
 use Rattle.slotted_languages.specs.NodeTerm.{nameless_node, free_names_of}
 use Rattle.slotted_nodes.specs.Public.{is_public}
 use Rattle.slotted_languages.specs.Renaming.{IsEntered}
-use Rattle.slotted_languages.specs.Shape.{Fits, firsts, moved_names, shape}
+use Rattle.slotted_languages.specs.Shape.{Fits, firsts, shape}
 use Rattle.slotted_languages.proofs.Occurrences.{is_among-append, is_among-firsts}
 use Rattle.slotted_languages.proofs.Fills.{filled_at}
 use Rattle.slotted_languages.proofs.PublicNames.{public_free}
@@ -83,7 +83,7 @@ moved_stands f g π x fits e h =
     let same : free_names_of g ≡ map π (free_names_of f) = ap (λ (t : DTerm). free_names t.args) e ∙ free_names-moved π d.args in
     free_stands g (π x) fits (ap (is_among (π x)) same ∙ among_map π (free_names_of f) x h)
 
-values-moved : (π : ℕ → ℕ) (m : List (ℕ × ℕ)) → values (moved_names π m) ≡ map π (values m)
+values-moved : (π : ℕ → ℕ) (m : List (ℕ × ℕ)) → values (with_values π m) ≡ map π (values m)
 values-moved π [] = refl
 values-moved π (p ∷ m) = ap (λ vs. π p.1 ∷ vs) (values-moved π m)
 
@@ -97,7 +97,7 @@ within_among start old new names i slot x e s lt before h =
     by (inr n) k = before (sym (ap (λ b. b || is_among x old) (ne_eqb slot x n)) ∙ k)
 
 -- each value of the map that renames numbers is a free name of the renamed node
-pub value_free : (f g : Form) (π : ℕ → ℕ) (free names : List (ℕ × ℕ)) (z : ℕ) → values free ≡ firsts (free_names_of f) → names ≡ moved_names π free → nameless_node g ≡ moved π (nameless_node f) → is_among z (values names) ≡ true → is_among z (free_names_of g) ≡ true
+pub value_free : (f g : Form) (π : ℕ → ℕ) (free names : List (ℕ × ℕ)) (z : ℕ) → values free ≡ firsts (free_names_of f) → names ≡ with_values π free → nameless_node g ≡ moved π (nameless_node f) → is_among z (values names) ≡ true → is_among z (free_names_of g) ≡ true
 value_free f g π free names z ef en e h =
     let r = among_of_map π (values free) z (ap (is_among z) (sym (ap values en ∙ values-moved π free)) ∙ h) in
     let here : is_among r.0 (free_names_of f) ≡ true = sym (is_among-firsts r.0 (free_names_of f)) ∙ (ap (is_among r.0) (sym ef) ∙ r.1) in
@@ -105,7 +105,7 @@ value_free f g π free names z ef en e h =
     ap (λ w. is_among w (free_names_of g)) (sym r.2) ∙ (ap (is_among (π r.0)) same ∙ among_map π (free_names_of f) r.0 here)
 
 -- so it stands in that node
-pub value_stands : (f g : Form) (π : ℕ → ℕ) (free names : List (ℕ × ℕ)) (z : ℕ) → Fits g → values free ≡ firsts (free_names_of f) → names ≡ moved_names π free → nameless_node g ≡ moved π (nameless_node f) → is_among z (values names) ≡ true → is_among z g.names ≡ true
+pub value_stands : (f g : Form) (π : ℕ → ℕ) (free names : List (ℕ × ℕ)) (z : ℕ) → Fits g → values free ≡ firsts (free_names_of f) → names ≡ with_values π free → nameless_node g ≡ moved π (nameless_node f) → is_among z (values names) ≡ true → is_among z g.names ≡ true
 value_stands f g π free names z fits ef en e h = free_stands g z fits (value_free f g π free names z ef en e h)
 
 -- an entered name keeps the values of the map

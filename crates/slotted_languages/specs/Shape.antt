@@ -1,9 +1,10 @@
 -- The shape of a node: its nameless form with numbers for names. A free name gets its number where it first stands, and
 -- each binder a new one, which holds in its scope alone.
-use Rattle.std.specs.Prelude.{◌≡◌, ◌↔◌, length, map, ℕ, suc, zero, ◌+◌, ◌<◌, List, [], ◌∷◌, ◌++◌, Option, Some, None, cond, nat_eq}
+use Rattle.std.specs.Prelude.{◌≡◌, ◌↔◌, length, ℕ, suc, zero, ◌+◌, ◌<◌, List, [], ◌∷◌, ◌++◌, Option, Some, None, cond, nat_eq}
 use Rattle.slotted_theory.specs.Term.{Args, done, name, child, bind}
 use Rattle.slotted_theory.specs.Nameless.{DArgs, stop, place, sub, scope, moved}
 use Rattle.slotted_theory.specs.Renaming.{IsInjective}
+use Rattle.slotted_theory.specs.FiniteMaps.{with_values}
 use Rattle.slotted_theory.specs.Shape.{SameUpToNames}
 use Rattle.slotted_slots.specs.Maps.{is_among}
 use Rattle.slotted_slots.specs.Table.{numeric_slot}
@@ -87,17 +88,13 @@ IsBelow n (p ∷ m) = (p.0 < n) × IsBelow n m
 abbrev pub Fits : Form → Type 0
 Fits f = length f.names ≡ length (scopes f.tree)
 
--- the same numbers for other names
-abbrev pub moved_names : (ℕ → ℕ) → List (ℕ × ℕ) → List (ℕ × ℕ)
-moved_names f m = map (λ p. (p.0, f p.1)) m
-
 -- two nodes have equal shapes exactly if a bijection of names takes the one to the other, up to bound names
 abbrev pub ShapesDecide : Type 0
 ShapesDecide = (f g : Form) → Fits f → Fits g → ((shape f).0 ≡ (shape g).0) ↔ SameUpToNames (nameless_node f) (nameless_node g)
 
 -- where an injective function of names takes a node to another, it takes the names of the one's map to the other's
 abbrev pub ShapesMove : Type 0
-ShapesMove = (π : ℕ → ℕ) → IsInjective π → (f g : Form) → moved π (nameless_node f) ≡ nameless_node g → shape g ≡ ((shape f).0, moved_names π (shape f).1)
+ShapesMove = (π : ℕ → ℕ) → IsInjective π → (f g : Form) → moved π (nameless_node f) ≡ nameless_node g → shape g ≡ ((shape f).0, with_values π (shape f).1)
 
 pub record ShapeLaws : Type 0 where
   pub decide : ShapesDecide

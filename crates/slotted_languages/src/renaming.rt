@@ -1,11 +1,12 @@
 //! Renaming of nodes without capture: bound slots are refreshed where a new free name would meet one.
 ghost use Rattle.std.specs.Prelude.{◌≡◌, ◌^◌, ℕ, true, false, Some, IfOk, IfErr, OnOk, IsErrOf, IsOkUnless};
+ghost use Rattle.slotted_theory.specs.FiniteMaps.{with_values};
 ghost use Rattle.slotted_slots.specs.Error.{IsOutOfMemory, IsShortage};
 ghost use Rattle.slotted_slots.specs.Maps.{IsInEither, is_among, value_of, values};
 ghost use Rattle.slotted_slots.specs.Table.{KnowsMore, Takes, is_known};
 ghost use Rattle.slotted_nodes.specs.Form.{IsSmall};
 ghost use Rattle.slotted_languages.specs.Fresh.{IsInUse, IsOrIn};
-ghost use Rattle.slotted_languages.specs.Shape.{shape, moved_names};
+ghost use Rattle.slotted_languages.specs.Shape.{shape};
 ghost use Rattle.slotted_languages.specs.Renaming.{IsChoice, IsEntered, IsRenamed};
 
 use crate::language::Language;
@@ -129,7 +130,7 @@ pub(crate) fn rename<L: Language>(
     requires small { IsSmall (L.form node.now) }
     requires numbered { L.form numbered ≡ (shape (L.form node.now)).0 }
     requires avoided { (n z : ℕ) → value_of free.now n ≡ Some z → is_among z avoid.now ≡ true }
-    ensures renamed { IfOk result (λ r. (π : ℕ → ℕ) → free.now ≡ moved_names π (shape (L.form node.now)).1 → IsRenamed table.old π (L.form node.now) avoid.now (L.form r)) }
+    ensures renamed { IfOk result (λ r. (π : ℕ → ℕ) → free.now ≡ with_values π (shape (L.form node.now)).1 → IsRenamed table.old π (L.form node.now) avoid.now (L.form r)) }
     ensures taken { IfOk result (λ r. Takes table.old table.new (IsInUse avoid.now (L.form r).names (L.form node.now).names)) }
     ensures full { IsErrOf result Error.OutOfSlots → (table.new.fresh ≡ 2 ^ 30) }
     ensures only { IfErr result IsShortage }

@@ -8,7 +8,8 @@ use Rattle.slotted_theory.proofs.Bijections.{to-injective, swap, swapped-first, 
 use Rattle.slotted_theory.proofs.Lists.{Contains-map, above, Contains-below}
 use Rattle.slotted_theory.proofs.Equals.{Equal-through}
 use Rattle.slotted_theory.specs.Derives.{Equal}
-use Rattle.slotted_model.specs.Applied.{Applied, values, with_values, renamed_id}
+use Rattle.slotted_theory.specs.FiniteMaps.{with_values}
+use Rattle.slotted_model.specs.Applied.{Applied, values, renamed_id}
 use Rattle.slotted_model.specs.Classes.{canonical_slots, IsFull}
 use Rattle.slotted_model.specs.Growth.{identity_id}
 use Rattle.slotted_model.specs.Correspondence.{identity, has_slot}

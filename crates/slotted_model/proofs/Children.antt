@@ -4,12 +4,12 @@ use Rattle.std.specs.Prelude.{map}
 use Rattle.std.specs.List.{zip}
 use Rattle.slotted_theory.specs.Nameless.{DArgs, DTerm, stop, place, sub, scope, lift, moved, moved_args}
 use Rattle.slotted_theory.specs.Renaming.{IsInjective}
-use Rattle.slotted_theory.specs.FiniteMaps.{filled}
+use Rattle.slotted_theory.specs.FiniteMaps.{filled, with_values}
 use Rattle.slotted_theory.specs.Shape.{outside, free_names}
 use Rattle.slotted_theory.proofs.Names.{lift-injective}
 use Rattle.slotted_theory.proofs.Values.{node, child_before, expand_args, expand}
 use Rattle.slotted_model.specs.Ascending.{IsAscending}
-use Rattle.slotted_model.specs.Applied.{Applied, keys, values, with_values, renamed_id, in_places, own_names, as_term, IsApplied, EachChild}
+use Rattle.slotted_model.specs.Applied.{Applied, keys, values, renamed_id, in_places, own_names, as_term, IsApplied, EachChild}
 use Rattle.slotted_model.specs.Classes.{term_at, term_by, stands, layer}
 use Rattle.slotted_model.proofs.Members.{In, In-left, In-right, In-append, In-map, In-of_map, In-outside, In-inside}
 use Rattle.slotted_model.proofs.Sets.{SameMembers}

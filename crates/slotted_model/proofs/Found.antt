@@ -4,9 +4,9 @@ use Rattle.std.specs.Prelude.{Contains, option_map, cond, nat_eq}
 use Rattle.std.specs.List.{cons_option}
 use Rattle.std.specs.Map.{keys_of, values_of}
 use Rattle.slotted_theory.specs.Nameless.{DTerm}
-use Rattle.slotted_theory.specs.FiniteMaps.{value_of}
+use Rattle.slotted_theory.specs.FiniteMaps.{value_of, with_values}
 use Rattle.slotted_model.specs.Ascending.{IsAscending, ascending}
-use Rattle.slotted_model.specs.Applied.{Applied, keys, values, with_values, renamed_id}
+use Rattle.slotted_model.specs.Applied.{Applied, keys, values, renamed_id}
 use Rattle.slotted_model.specs.Classes.{canonical_slots, IsFull}
 use Rattle.slotted_model.specs.Correspondence.{IsFullMap, composite, identity}
 use Rattle.slotted_model.specs.Filling.{IsValid, IsFilling}

@@ -3,10 +3,10 @@ use Rattle.std.proofs.Common.{◌≡◌, ℕ, ◌<◌, List, [], ◌∷◌, leng
 use Rattle.std.specs.Prelude.{Contains}
 use Rattle.std.specs.Map.{keys_of, values_of}
 use Rattle.slotted_theory.specs.Nameless.{DTerm}
-use Rattle.slotted_theory.specs.FiniteMaps.{filled}
+use Rattle.slotted_theory.specs.FiniteMaps.{filled, with_values}
 use Rattle.slotted_theory.proofs.Filled.{filled-injective}
 use Rattle.slotted_model.specs.Ascending.{IsAscending}
-use Rattle.slotted_model.specs.Applied.{Applied, keys, map_on, with_values, renamed_id}
+use Rattle.slotted_model.specs.Applied.{Applied, keys, map_on, renamed_id}
 use Rattle.slotted_model.specs.Classes.{canonical_slots, IsFull}
 use Rattle.slotted_model.specs.Correspondence.{IsFullMap, pairs_on, composite, turned, identity, IsPartialInjection}
 use Rattle.slotted_model.specs.Filling.{IsValid}
@@ -19,7 +19,7 @@ use Rattle.slotted_model.proofs.Members.{In-Contains, Contains-In}
 use Rattle.slotted_model.proofs.Maps.{map_on-filled, filled-pair}
 use Rattle.slotted_model.proofs.Correspondences.Pairs.{Contains-key, Contains-value, Contains-of_key, Contains-of_value}
 use Rattle.slotted_model.proofs.Correspondences.PartialInjections.{composite-in_order, composite-over, turned-partial, turned-pair, turned-by, in_order-ext, key_in_order, identity-both}
-use Rattle.slotted_model.proofs.Correspondences.FullMaps.{full-in_order, full-one_name, full-ext, full-from, same_names-over, same_names-by, same_names-partial, with_names-pair, with_names-full}
+use Rattle.slotted_model.proofs.Correspondences.FullMaps.{full-in_order, full-one_name, full-ext, full-from, same_names-over, same_names-by, same_names-partial, with_values-pair, with_values-full}
 use Rattle.slotted_model.proofs.Correspondences.FullIds.{full_map, ascending-different}
 use Rattle.slotted_model.proofs.Ordered.{in_order-ascending}
 use Rattle.slotted_model.proofs.Finding.{Leads, leads, found-in_range, found-live, found_keys, find_map-full}
@@ -175,9 +175,9 @@ module _ (nodes : List DTerm) (found : List Entry) (linked : Linked nodes found)
           let asc : IsAscending (keys m) = (found-valid nodes found linked a va).ascending in
           let inj = filled-injective m (found-valid nodes found linked a va).injective in
           let same : with_values (filled m) B ≡ n =
-          full-ext S (with_values (filled m) B) n (with_names-full (filled m) S B B-full (λ x y c d p. inj x y p)) n-full_too
+          full-ext S (with_values (filled m) B) n (with_values-full (filled m) S B B-full (λ x y c d p. inj x y p)) n-full_too
           (λ t x c.
-          let r = with_names-pair (filled m) B t x c in
+          let r = with_values-pair (filled m) B t x c in
           let w = shares-over r.0 t (turned-pair S q.pairs r.0 t r.1) in
           let f : w.0 ≡ x = sym (filled-pair m r.0 w.0 asc (In-Contains m (r.0, w.0) w.1)) ∙ r.2 in
           subst (λ z. Contains n (t, z)) f w.2) in

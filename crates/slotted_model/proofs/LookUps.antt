@@ -3,12 +3,12 @@ use Rattle.std.proofs.Common.{◌≡◌, ℕ, List, Option, Some, None, sym, ◌
 use Rattle.std.specs.Prelude.{option_map, option_and_then}
 use Rattle.slotted_theory.specs.Nameless.{DArgs, DTerm, stop, place, sub, scope, lift, moved, moved_args}
 use Rattle.slotted_theory.specs.Renaming.{IsInjective}
-use Rattle.slotted_theory.specs.FiniteMaps.{filled}
+use Rattle.slotted_theory.specs.FiniteMaps.{filled, with_values}
 use Rattle.slotted_theory.specs.Shape.{free_names}
 use Rattle.slotted_theory.proofs.Names.{lift-injective}
 use Rattle.slotted_theory.proofs.Shapes.{shape-moved}
 use Rattle.slotted_theory.proofs.Values.{node, child_before}
-use Rattle.slotted_model.specs.Applied.{Applied, keys, with_values, renamed_id, as_term}
+use Rattle.slotted_model.specs.Applied.{Applied, keys, renamed_id, as_term}
 use Rattle.slotted_model.specs.Classes.{canonical_node, IsFull, Canonical}
 use Rattle.slotted_model.specs.LookUp.{both, look_up_args, look_up}
 pub use Rattle.slotted_model.specs.LookUp.{Renames}

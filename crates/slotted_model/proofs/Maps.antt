@@ -3,9 +3,9 @@ use Rattle.std.proofs.Common.{◌≡◌, ◌≢◌, ℕ, ◌+◌, ◌<◌, ◌�
 use Rattle.std.specs.Prelude.{map}
 use Rattle.std.proofs.lemmas.Bool.{cases_eq}
 use Rattle.slotted_theory.specs.Renaming.{IsInjective}
-use Rattle.slotted_theory.specs.FiniteMaps.{HasValue, IsInjectiveMap, top, filled}
+use Rattle.slotted_theory.specs.FiniteMaps.{HasValue, IsInjectiveMap, top, filled, with_values}
 use Rattle.slotted_model.specs.Ascending.{IsAscending}
-use Rattle.slotted_model.specs.Applied.{keys, values, map_on, with_values}
+use Rattle.slotted_model.specs.Applied.{keys, values, map_on}
 use Rattle.slotted_model.proofs.Members.{In, In-map, In-of_map}
 use Rattle.slotted_model.proofs.Sets.{below_each}
 use Rattle.slotted_theory.proofs.Filled as theory

@@ -4,11 +4,11 @@ use Rattle.std.specs.Prelude.{map, Contains}
 use Rattle.std.proofs.lemmas.Bool.{cases_eq}
 use Rattle.slotted_theory.specs.Nameless.{DTerm, moved}
 use Rattle.slotted_theory.specs.Renaming.{Bijection}
-use Rattle.slotted_theory.specs.FiniteMaps.{filled}
+use Rattle.slotted_theory.specs.FiniteMaps.{filled, with_values}
 use Rattle.slotted_theory.proofs.Bijections.{to-injective, then}
 use Rattle.slotted_theory.proofs.Filled.{filled-injective}
 use Rattle.slotted_model.specs.Ascending.{IsAscending}
-use Rattle.slotted_model.specs.Applied.{Applied, keys, values, map_on, with_values, renamed_id}
+use Rattle.slotted_model.specs.Applied.{Applied, keys, values, map_on, renamed_id}
 use Rattle.slotted_model.specs.Classes.{canonical_slots, term_of, Canonical}
 use Rattle.slotted_model.specs.Filling.{IsValid, IsFilling, EqualForSomeFilling, EqualForEveryFilling, RenamedFilling, RenamedTogether}
 use Rattle.slotted_model.proofs.Members.{In, In-map, In-of_map, In-Contains, Contains-In}

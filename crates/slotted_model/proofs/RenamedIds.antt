@@ -4,12 +4,12 @@ use Rattle.std.specs.Prelude.{map, Contains}
 use Rattle.std.specs.List.{zip}
 use Rattle.slotted_theory.specs.Nameless.{DArgs, DTerm, stop, place, sub, scope, lift, moved, moved_args}
 use Rattle.slotted_theory.specs.Renaming.{Bijection, IsInjective}
-use Rattle.slotted_theory.specs.FiniteMaps.{filled}
+use Rattle.slotted_theory.specs.FiniteMaps.{filled, with_values}
 use Rattle.slotted_theory.specs.Shape.{free_names}
 use Rattle.slotted_theory.proofs.Lists.{Contains-nil}
 use Rattle.slotted_theory.proofs.Values.{node, child_before}
 use Rattle.slotted_model.specs.Ascending.{IsAscending}
-use Rattle.slotted_model.specs.Applied.{Applied, keys, with_values, renamed_id, own_names, as_term, applied_of}
+use Rattle.slotted_model.specs.Applied.{Applied, keys, renamed_id, own_names, as_term, applied_of}
 use Rattle.slotted_model.specs.Classes.{canonical_node, IsFull}
 use Rattle.slotted_model.specs.Filling.{IsValid, IsFilling, RenamedFilling}
 use Rattle.slotted_model.specs.Find.{Entry, find}

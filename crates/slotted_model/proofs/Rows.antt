@@ -5,14 +5,14 @@ use Rattle.std.specs.List.{cons_option}
 use Rattle.std.proofs.lemmas.Bool.{cases_Bool}
 use Rattle.slotted_theory.specs.Nameless.{DTerm, moved}
 use Rattle.slotted_theory.specs.Renaming.{Bijection, IsInjective}
-use Rattle.slotted_theory.specs.FiniteMaps.{value_of, filled}
+use Rattle.slotted_theory.specs.FiniteMaps.{value_of, filled, with_values}
 use Rattle.slotted_theory.specs.Shape.{free_names, number_in, shape}
 use Rattle.slotted_theory.proofs.Bijections.{to-injective}
 use Rattle.slotted_theory.proofs.Filled.{filled-injective}
 use Rattle.slotted_theory.proofs.Lists.{contains_head, contains_tail, contains_cases, Contains-nil, Contains-map, Contains-of_map}
 use Rattle.slotted_theory.proofs.Shapes.{shape-moved}
 use Rattle.slotted_model.specs.Ascending.{IsAscending, names}
-use Rattle.slotted_model.specs.Applied.{Applied, keys, values, with_values, renamed_id}
+use Rattle.slotted_model.specs.Applied.{Applied, keys, values, renamed_id}
 use Rattle.slotted_model.specs.Classes.{canonical_node, IsFull}
 use Rattle.slotted_model.specs.Correspondence.{AllDifferent, composite}
 use Rattle.slotted_model.specs.Find.{find_class, find_map, used_slots, find, Linked}

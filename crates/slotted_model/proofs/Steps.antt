@@ -10,9 +10,10 @@ use Rattle.slotted_theory.proofs.Bijections.{to-injective}
 use Rattle.slotted_theory.proofs.Equals.{Equal-from_path}
 use Rattle.slotted_theory.proofs.Lists.{contains_head, contains_tail}
 use Rattle.slotted_theory.proofs.Values.{node, expand_args, expand}
+use Rattle.slotted_theory.specs.FiniteMaps.{with_values}
 use Rattle.slotted_model.specs.Applied.{Applied, as_term, renamed_id}
 use Rattle.slotted_model.specs.Classes.{terms, stands, canonical_slots, term_of, layer_of, IsFull, Canonical}
-use Rattle.slotted_model.specs.Correspondence.{IsFullMap, with_names, same_names, identity, turned, IsPartialInjection}
+use Rattle.slotted_model.specs.Correspondence.{IsFullMap, same_names, identity, turned, IsPartialInjection}
 use Rattle.slotted_model.specs.ProofList.{Equation, equation_of, turned_equation, IsOver, HoldsFrom, IsReflexive, IsSymmetric, IsTransitive, AreCongruent, no_more, one_name, one_child, one_binder, node_of, IsCongruent}
 use Rattle.slotted_model.proofs.Children.{expand-as_term}
 use Rattle.slotted_model.proofs.Full.{term_of-renamed, term_of-layer}
@@ -46,7 +47,7 @@ module _ (R : Applied → Applied → Type 0) (nodes : List DTerm) where
       let Q : List ℕ = canonical_slots nodes b.0 in
       let mc : IsFullMap P c.1 = subst (λ i. IsFullMap (canonical_slots nodes i) c.1) left (full_map nodes c fc) in
       let md : IsFullMap Q d.1 = subst (λ i. IsFullMap (canonical_slots nodes i) d.1) right (full_map nodes d fd) in
-      let s : (π : Bijection) × (c.1 ≡ with_names π.to a.1) × (d.1 ≡ with_names π.to b.1) = same_names-bijection P Q a.1 b.1 c.1 d.1 (full_map nodes a fa) (full_map nodes b fb) mc md (sym (ap (λ (x : Equation). x.pairs) r)) in
+      let s : (π : Bijection) × (c.1 ≡ with_values π.to a.1) × (d.1 ≡ with_values π.to b.1) = same_names-bijection P Q a.1 b.1 c.1 d.1 (full_map nodes a fa) (full_map nodes b fb) mc md (sym (ap (λ (x : Equation). x.pairs) r)) in
       let ec : c ≡ renamed_id s.0.to a = λ i. (left i, s.1 i) in
       let ed : d ≡ renamed_id s.0.to b = λ i. (right i, s.2 i) in
       subst (λ (x : Applied × Applied). R x.0 x.1) (λ i. (sym ec i, sym ed i)) (renames s.0 a b fa fb eq)

@@ -6,7 +6,7 @@
 use Rattle.std.specs.Prelude.{◌≡◌, ℕ, ◌<◌, List, [], ◌∷◌, map}
 use Rattle.std.specs.List.{zip}
 use Rattle.slotted_theory.specs.Nameless.{DArgs, DTerm, stop, place, sub, scope}
-use Rattle.slotted_theory.specs.FiniteMaps.{IsInjectiveMap}
+use Rattle.slotted_theory.specs.FiniteMaps.{IsInjectiveMap, with_values}
 use Rattle.slotted_theory.proofs.Values.{node}
 use Rattle.slotted_model.specs.Ascending.{IsAscending}
 
@@ -29,10 +29,6 @@ IsMap m = IsAscending (keys m) × IsInjectiveMap m
 -- the map that is f on these keys
 abbrev pub map_on : (ℕ → ℕ) → List ℕ → List (ℕ × ℕ)
 map_on f ks = map (λ k. (k, f k)) ks
-
--- the map with f put on its values
-abbrev pub with_values : (ℕ → ℕ) → List (ℕ × ℕ) → List (ℕ × ℕ)
-with_values f m = map (λ p. (p.0, f p.1)) m
 
 -- the applied id with f put on its names
 abbrev pub renamed_id : (ℕ → ℕ) → Applied → Applied

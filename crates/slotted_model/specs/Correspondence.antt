@@ -12,7 +12,7 @@ use Rattle.std.specs.Prelude.{◌≡◌, ◌++◌, ℕ, suc, ◌<◌, List, [], 
 use Rattle.std.specs.List.{list_any, list_all}
 use Rattle.std.specs.Map.{keys_of, values_of}
 use Rattle.slotted_theory.specs.Renaming.{IsInjective}
-use Rattle.slotted_theory.specs.FiniteMaps.{value_of, IsInjectiveMap}
+use Rattle.slotted_theory.specs.FiniteMaps.{value_of, IsInjectiveMap, with_values}
 
 -- no slot stands twice
 abbrev pub AllDifferent : List ℕ → Type 0
@@ -28,10 +28,6 @@ pub record IsFullMap (P : List ℕ) (m : List (ℕ × ℕ)) : Type 0 where
 -- f tells the names of the list apart
 abbrev pub IsInjectiveOn : (ℕ → ℕ) → List ℕ → Type 0
 IsInjectiveOn f xs = (x y : ℕ) → Contains xs x → Contains xs y → f x ≡ f y → x ≡ y
-
--- the map with f put on its names
-abbrev pub with_names : (ℕ → ℕ) → List (ℕ × ℕ) → List (ℕ × ℕ)
-with_names f m = map (λ p. (p.0, f p.1)) m
 
 -- the pairs (s, f s) for the slots s of P of which f says something, in the order of P
 abbrev pub pairs_on : List ℕ → (ℕ → Option ℕ) → List (ℕ × ℕ)
@@ -67,8 +63,8 @@ pub record IsPartialInjection (P Q : List ℕ) (A : List (ℕ × ℕ)) : Type 0 
 pub record IsMatch (m n m' n' : List (ℕ × ℕ)) : Type 0 where
   pub name : ℕ → ℕ
   pub injective : IsInjective name
-  pub left : m' ≡ with_names name m
-  pub right : n' ≡ with_names name n
+  pub left : m' ≡ with_values name m
+  pub right : n' ≡ with_values name n
 
 -- what goes over the middle is in A, and a pair of A with a slot that the one half takes to the middle, or the other half from it, goes over the middle
 pub record CanJoin (A A1 A2 : List (ℕ × ℕ)) : Type 0 where

@@ -2,7 +2,8 @@
 use Rattle.std.specs.Prelude.{◌≡◌, ◌↔◌, ℕ, List, ◌++◌, Contains, ◌⊎◌, IsTrue, filter}
 use Rattle.std.specs.Map.{keys_of, values_of}
 use Rattle.slotted_theory.specs.Renaming.{Bijection}
-use Rattle.slotted_model.specs.Correspondence.{AllDifferent, IsFullMap, IsInjectiveOn, with_names, composite, turned, identity, same_names, IsPartialInjection, IsMatch, CanJoin, can_join, has_slot, numbered, IsNumberedForm}
+use Rattle.slotted_theory.specs.FiniteMaps.{with_values}
+use Rattle.slotted_model.specs.Correspondence.{AllDifferent, IsFullMap, IsInjectiveOn, composite, turned, identity, same_names, IsPartialInjection, IsMatch, CanJoin, can_join, has_slot, numbered, IsNumberedForm}
 
 -- a partial injection in plain words: its first slots are those of P that it speaks of, in the order of P, and its second slots are different ones of Q
 abbrev pub PartialInjectionIsPlain : Type 0
@@ -76,13 +77,13 @@ CorrespondenceIsSharing =
 -- other names, different where the names were, make another full map
 abbrev pub RenamingKeepsFullMaps : Type 0
 RenamingKeepsFullMaps =
-    (f : ℕ → ℕ) (P : List ℕ) (m : List (ℕ × ℕ)) → IsFullMap P m → IsInjectiveOn f (values_of m) → IsFullMap P (with_names f m)
+    (f : ℕ → ℕ) (P : List ℕ) (m : List (ℕ × ℕ)) → IsFullMap P m → IsInjectiveOn f (values_of m) → IsFullMap P (with_values f m)
 
 -- other names, different where the names of either side were, keep the correspondence
 abbrev pub RenamingKeepsCorrespondence : Type 0
 RenamingKeepsCorrespondence =
     (f : ℕ → ℕ) (P Q : List ℕ) (m n : List (ℕ × ℕ)) → IsFullMap P m → IsFullMap Q n →
-    IsInjectiveOn f (values_of m ++ values_of n) → same_names (with_names f m) (with_names f n) ≡ same_names m n
+    IsInjectiveOn f (values_of m ++ values_of n) → same_names (with_values f m) (with_values f n) ≡ same_names m n
 
 -- the sides of an equation exchanged have the inverse as their correspondence
 abbrev pub ExchangedSidesTurn : Type 0
@@ -98,7 +99,7 @@ EqualSidesAreIdentity =
 abbrev pub OneCorrespondenceIsOneBijection : Type 0
 OneCorrespondenceIsOneBijection =
     (P Q : List ℕ) (m n m' n' : List (ℕ × ℕ)) → IsFullMap P m → IsFullMap Q n → IsFullMap P m' → IsFullMap Q n' →
-    (same_names m n ≡ same_names m' n') ↔ ((π : Bijection) × (m' ≡ with_names π.to m) × (n' ≡ with_names π.to n))
+    (same_names m n ≡ same_names m' n') ↔ ((π : Bijection) × (m' ≡ with_values π.to m) × (n' ≡ with_values π.to n))
 
 -- two equations match exactly if they have one correspondence
 abbrev pub MatchIsOneCorrespondence : Type 0

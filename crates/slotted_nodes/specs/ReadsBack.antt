@@ -29,7 +29,7 @@ digit_runs c h = grind (arith, h.0, h.1)
 digit_begins : (c : ℕ) (cs : List ℕ) → IsInRange 48 57 c → begins_identifier c cs ≡ true
 digit_begins c cs h = grind (arith, h.0, h.1)
 
-digits_run : (ds : List ℕ) → AllDigits 10 ds → are_run_chars ds ≡ true
+pub digits_run : (ds : List ℕ) → AllDigits 10 ds → are_run_chars ds ≡ true
 digits_run [] h = refl
 digits_run (c ∷ cs) h = and_from _ _ (digit_runs c (digit_at (c ∷ []) 0 (h.0, tt) (omega arith))) (digits_run cs h.1)
 

@@ -13,7 +13,7 @@ use Rattle.slotted_nodes.specs.ReadFrom.{IsReadFrom, slots_of, slots_of-append}
 use Rattle.slotted_patterns.specs.Tree.{PatternTree, row_of}
 use Rattle.slotted_patterns.specs.View.{tree_of}
 use Rattle.slotted_patterns.specs.Known.{AreKnown, HasKnownNames, HaveKnownNames}
-use Rattle.slotted_patterns.specs.Outcome.{Outcome, parsed, Answers}
+use Rattle.slotted_patterns.specs.Outcome.{PatternOutcome, parsed, Answers}
 use Rattle.slotted_patterns.specs.Grammar.{Reading, found, fault, Bracket, built, joined, one_text, one_slot, one_child, after, node, ReadsPattern, based, ReadsBase, of_variable, alone, bracket, no_operator, no_base, ReadsBracket, end, then_slot, then_child, ReadsOnAfter, goes_on, faulty_child, ReadsSubstitutions, no_substitution, substituted, faulty_base, ReadsValue, becomes, no_becomes, faulty_place, ReadsClose, closed, not_closed, faulty_value, whole}
 use Rattle.slotted_patterns.specs.Parsed.{TokensRead, as_pattern, PatternReads, without_tokens, by_tokens}
 use Rattle.slotted_patterns.specs.declared.pattern.Pattern.{Pattern}
@@ -71,11 +71,11 @@ module _ (table : Table) where
   built_known (Some f) b rest made h k = ((AreKnown-subset f.names (slots_of b.elements) made.slots h.slots, h.children), k)
 
   -- a pattern was read, and the table knows its names
-  abbrev pub IsKnownOutcome : Outcome → Type 0
+  abbrev pub IsKnownOutcome : PatternOutcome → Type 0
   IsKnownOutcome (parsed p) = HasKnownNames table p
   IsKnownOutcome o = Unit {0}
 
-  no_pattern_known : (o : Outcome) → IsNoTerm o → IsKnownOutcome o
+  no_pattern_known : (o : PatternOutcome) → IsNoTerm o → IsKnownOutcome o
   no_pattern_known (parsed p) h = absurd h
   no_pattern_known o h = tt
 
@@ -124,15 +124,15 @@ module _ (table : Table) where
       close_known (not_closed e) h j k = tt
       close_known faulty_value h j k = tt
 
-    tokens_known : {ls : List Lexeme} {o : Outcome} → TokensRead read ls o → AreKnownTokens table ls → IsKnownOutcome o
+    tokens_known : {ls : List Lexeme} {o : PatternOutcome} → TokensRead read ls o → AreKnownTokens table ls → IsKnownOutcome o
     tokens_known (as_pattern {r = r} d) k = whole_known r (pattern_known d k)
 
 -- the names of a text's pattern are known to the table that the text leaves
-pub text_known : (read : List Element → Option Form) → ((es : List Element) → IfSome (read es) (IsReadFrom es)) → (t : Table) (cs : List ℕ) (o : Outcome) (u : Table) → PatternReads read t cs o u → IsKnownOutcome u o
+pub text_known : (read : List Element → Option Form) → ((es : List Element) → IfSome (read es) (IsReadFrom es)) → (t : Table) (cs : List ℕ) (o : PatternOutcome) (u : Table) → PatternReads read t cs o u → IsKnownOutcome u o
 text_known read faithful t cs o u (without_tokens h) = no_pattern_known u o (subst (Learns u) h.3 (next_token-learns u h.1))
 text_known read faithful t cs o u (by_tokens {ls = ls} h d) = tokens_known u read faithful d (BeginsWith-known t cs ls h.0 u h.1).1
 
 -- the same for the answer of a call that reads a text
-pub answer_known : {L : Type 0} (form : L → Form) (read : List Element → Option Form) → ((es : List Element) → IfSome (read es) (IsReadFrom es)) → (t : Table) (cs : List ℕ) (u : Table) (r : Result (Pattern L) Error) → Answers form (λ o. PatternReads read t cs o u) r → IfOk r (λ p. HasKnownNames u (tree_of form p))
+pub answer_known : {L : Type 0} (form : L → Form) (read : List Element → Option Form) → ((es : List Element) → IfSome (read es) (IsReadFrom es)) → (t : Table) (cs : List ℕ) (u : Table) (r : Result (Pattern L) Error) → Answers (tree_of form) (λ o. PatternReads read t cs o u) r → IfOk r (λ p. HasKnownNames u (tree_of form p))
 answer_known form read faithful t cs u (Ok p) h = text_known read faithful t cs (parsed (tree_of form p)) u h
 answer_known form read faithful t cs u (Err e) h = tt

@@ -6,7 +6,7 @@ use Rattle.slotted_slots.specs.Syntax.{Lexeme, slot, left_paren, right_paren, le
 use Rattle.slotted_slots.specs.Table.{Table, NamedOutcome, gives, too_large, no_place, named_of, is_known, KnowsMore}
 use Rattle.slotted_slots.proofs.NamingLaws.{named_of-learns}
 use Rattle.slotted_slots.proofs.TableLaws.{KnowsMore-refl}
-use Rattle.slotted_patterns.specs.Outcome.{Outcome, parsed}
+use Rattle.slotted_patterns.specs.Outcome.{PatternOutcome, parsed}
 use Rattle.slotted_patterns.specs.Tokens.{Next, nothing, token, refused, bracket_or, is_colon_equals, run, after_run, after_white_space, variable_token, named_token, slot_token, sign_or_word, token_at, next_token, BeginsWith}
 
 -- a slot is known, and another token has none
@@ -19,7 +19,7 @@ AreKnownTokens t [] = Unit {0}
 AreKnownTokens t (l ∷ ls) = IsKnownToken t l × AreKnownTokens t ls
 
 -- no pattern was read
-abbrev pub IsNoTerm : Outcome → Type 0
+abbrev pub IsNoTerm : PatternOutcome → Type 0
 IsNoTerm (parsed u) = ⊥
 IsNoTerm o = Unit {0}
 

@@ -5,7 +5,7 @@ use Rattle.slotted_slots.specs.Syntax.{Element, Lexeme}
 use Rattle.slotted_slots.specs.Table.{Table}
 use Rattle.slotted_nodes.specs.Form.{Form}
 use Rattle.slotted_patterns.specs.Tree.{PatternTree}
-use Rattle.slotted_patterns.specs.Outcome.{Outcome}
+use Rattle.slotted_patterns.specs.Outcome.{PatternOutcome}
 use Rattle.slotted_patterns.specs.Grammar.{Reading, Bracket, one_text, one_slot, one_child, after, node, ReadsPattern, based, ReadsBase, of_variable, alone, bracket, no_operator, no_base, ReadsBracket, end, then_slot, then_child, ReadsOnAfter, goes_on, faulty_child, ReadsSubstitutions, no_substitution, substituted, faulty_base, ReadsValue, becomes, no_becomes, faulty_place, ReadsClose, closed, not_closed, faulty_value, whole}
 use Rattle.slotted_patterns.specs.Tokens.{Next, nothing, token, refused, next_token, BeginsWith}
 use Rattle.slotted_patterns.specs.Parsed.{TokensRead, as_pattern, PatternReads, without_tokens, by_tokens}
@@ -70,7 +70,7 @@ module _ (read : List Element → Option Form) where
     one_close (not_closed e) (not_closed e') = refl
     one_close faulty_value faulty_value = refl
 
-  one_outcome : {ls : List Lexeme} {o p : Outcome} → TokensRead read ls o → TokensRead read ls p → o ≡ p
+  one_outcome : {ls : List Lexeme} {o p : PatternOutcome} → TokensRead read ls o → TokensRead read ls p → o ≡ p
   one_outcome (as_pattern d) (as_pattern d') = ap whole (one_pattern d d')
 
 -- a token is no end
@@ -93,7 +93,7 @@ one_beginning t cs (l ∷ ls) (m ∷ ms) rest rest' u u' x y i j h p k q =
 
 module _ (read : List Element → Option Form) where
   -- one text, one outcome, and one table
-  pub one_reading : (t : Table) (cs : List ℕ) (o p : Outcome) (u v : Table) → PatternReads read t cs o u → PatternReads read t cs p v → (o ≡ p) × (u ≡ v)
+  pub one_reading : (t : Table) (cs : List ℕ) (o p : PatternOutcome) (u v : Table) → PatternReads read t cs o u → PatternReads read t cs p v → (o ≡ p) × (u ≡ v)
   one_reading t cs o p u v (without_tokens h) (without_tokens k) =
       let r = one_beginning t cs h.0 k.0 h.1 k.1 u v (refused o) (refused p) tt tt h.2 h.3 k.2 k.3 in
       let e = r.2 in

@@ -13,7 +13,7 @@ use Rattle.slotted_patterns.specs.Tree.{PatternTree, enode, row_of}
 use Rattle.slotted_patterns.specs.View.{tree_of, tree_step}
 use Rattle.slotted_patterns.specs.Shown.{pattern_text, text_step, node_text}
 use Rattle.slotted_patterns.specs.ReadAgain.{applied_ids, IsWordAndPlaces, ReadsAsItself}
-use Rattle.slotted_patterns.specs.Outcome.{Outcome, parsed}
+use Rattle.slotted_patterns.specs.Outcome.{PatternOutcome, parsed}
 use Rattle.slotted_patterns.specs.Grammar.{Reading, found, fault, no_substitution, whole}
 use Rattle.slotted_patterns.specs.Parsed.{TokensRead, as_pattern, PatternReads, without_tokens, by_tokens}
 use Rattle.slotted_patterns.specs.declared.pattern.Pattern.{Pattern}
@@ -84,11 +84,11 @@ module _ {L : Type 0} (t : Table) (read : List Element → Option Form) (form : 
 
 module _ {L : Type 0} (form : L → Form) (written : L → List Element) (read : List Element → Option Form) where
   -- a pattern was read, and it can be printed
-  abbrev IsReadOutcome : Table → Outcome → Type 0
+  abbrev IsReadOutcome : Table → PatternOutcome → Type 0
   IsReadOutcome u (parsed p) = IsReadTree u read p
   IsReadOutcome u o = Unit {0}
 
-  no_pattern_read : (u : Table) (o : Outcome) → IsNoTerm o → IsReadOutcome u o
+  no_pattern_read : (u : Table) (o : PatternOutcome) → IsNoTerm o → IsReadOutcome u o
   no_pattern_read u (parsed p) h = absurd h
   no_pattern_read u o h = tt
 
@@ -98,10 +98,10 @@ module _ {L : Type 0} (form : L → Form) (written : L → List Element) (read :
   whole_read u (fault f) h = tt
 
   module _ (faithful : (es : List Element) → IfSome (read es) (IsReadFrom es)) (null : (es : List Element) → HasNullIds es → IfSome (read es) HasNullChildren) where
-    tokens_read : (u : Table) {ls : List Lexeme} {o : Outcome} → TokensRead read ls o → ArePrintable u ls → IsReadOutcome u o
+    tokens_read : (u : Table) {ls : List Lexeme} {o : PatternOutcome} → TokensRead read ls o → ArePrintable u ls → IsReadOutcome u o
     tokens_read u (as_pattern {r = r} d) k = whole_read u r (pattern_read u read faithful null d k)
 
-    text_read : (t : Table) (cs : List ℕ) (o : Outcome) (u : Table) → IsTable u → scalars cs ≡ true → PatternReads read t cs o u → IsReadOutcome u o
+    text_read : (t : Table) (cs : List ℕ) (o : PatternOutcome) (u : Table) → IsTable u → scalars cs ≡ true → PatternReads read t cs o u → IsReadOutcome u o
     text_read t cs o u sound valid (without_tokens h) = no_pattern_read u o (subst (Learns u) h.3 (next_token-learns u h.1))
     text_read t cs o u sound valid (by_tokens {ls = ls} h d) = tokens_read u d (BeginsWith-prints t cs ls h.0 u sound valid h.1).1
 

@@ -1,29 +1,20 @@
 -- A slot that a text names prints as a run that names it again, as long as the table only grows.
 use Rattle.std.proofs.Common.{◌≡◌, ℕ, zero, suc, ◌+◌, ◌*◌, ◌/◌, ◌^◌, ◌<◌, ◌≤◌, true, nat_lt, List, [], ◌∷◌, ◌++◌, length, get_or, Option, Some, None, refl, sym, subst, ap, ◌∙◌, arith, lit<, decimal, codes, slice_get}
-use Rattle.std.proofs.lemmas.Bool.{lt-ltb, ltb-true, and_from}
+use Rattle.std.proofs.lemmas.Bool.{lt-ltb, ltb-true}
 use Rattle.std.proofs.lemmas.Fmt.{decimal_is_IsNumeral_wide, IsAscii-decimal_wide}
 use Rattle.std.proofs.lemmas.List.{length_push, get_or_push, get_or_append_left}
 use Rattle.std.proofs.lemmas.Option.{slice_get-get_or}
 use Rattle.std.proofs.lemmas.Str.{chars-IsAscii, IsUtf8-from_ascii}
-use Rattle.std.proofs.lemmas.Str.Parse.{digit_at}
-use Rattle.std.specs.Int.{IsInRange}
 use Rattle.std.specs.Str.{IsAscii}
-use Rattle.std.specs.Str.Parse.{AllDigits, IsNumeral}
+use Rattle.std.specs.Str.Parse.{IsNumeral}
 use Rattle.slotted_slots.specs.Table.{Table, gives, too_large, Reading, as_number, as_fresh, as_word, word_outcome, outcome_of, reading_of, place_of, named_of, shown_slot, ReadsBack, IsTable}
 use Rattle.slotted_slots.proofs.NamingLaws.{gives_from_if, full_never, place_of-within, place_of-name}
 use Rattle.slotted_slots.proofs.Printing.{shown_slot-numeric, shown_slot-fresh, shown_slot-name, reads_back}
 use Rattle.slotted_slots.proofs.TableLaws.{remainder_is, quotient_is, is_known-numeric_slot, is_known-fresh_slot, is_known-name_slot}
-use Rattle.slotted_nodes.specs.Identifier.{is_run_char, are_run_chars}
+use Rattle.slotted_nodes.specs.ReadsBack.{digits_run}
 use Rattle.slotted_patterns.proofs.PrintedTokens.{is_run, IsRun}
 
 -- the text of a number is a run
-digit_runs : (c : ℕ) → IsInRange 48 57 c → is_run_char c ≡ true
-digit_runs c h = grind (arith, h.0, h.1)
-
-digits_run : (ds : List ℕ) → AllDigits 10 ds → are_run_chars ds ≡ true
-digits_run [] h = refl
-digits_run (c ∷ cs) h = and_from _ _ (digit_runs c (digit_at (c ∷ []) 0 (h.0, tt) (omega arith))) (digits_run cs h.1)
-
 numeral_run : (ds : List ℕ) → IsNumeral 10 ds → is_run ds ≡ true
 numeral_run [] h = absurd (omega (arith, h.0))
 numeral_run (c ∷ cs) h = digits_run (c ∷ cs) h.1

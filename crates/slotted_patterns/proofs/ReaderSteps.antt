@@ -12,7 +12,7 @@ use Rattle.std.specs.declared.alloc.Global.{Global}
 use Rattle.slotted_nodes.specs.Form.{Form}
 use Rattle.slotted_patterns.specs.Tree.{PatternTree, pvar, substitution}
 use Rattle.slotted_patterns.specs.View.{tree_of}
-use Rattle.slotted_patterns.specs.Outcome.{Outcome, outside, Refuses}
+use Rattle.slotted_patterns.specs.Outcome.{PatternOutcome, outside, Refuses}
 use Rattle.slotted_patterns.specs.Grammar.{Reading, found, fault, joined, one_text, one_slot, one_child, node, begins_with_word, begins_pattern, begins_slot_or_end, begins_with_left_bracket, begins_with_colon_equals, begins_with_right_bracket, ReadsPattern, based, no_base, faulty_base}
 use Rattle.slotted_patterns.specs.Stack as stack
 use Rattle.slotted_patterns.specs.Stack.{in_bracket, before_place, before_value, IsOutside, Resumes, Continues, ReadsOpen, IsFault}
@@ -77,10 +77,10 @@ module _ {L : Type 0} (form : L → Form) where
 
   module _ (read : List Element → Option Form) where
     -- a fault of a base inside these parts is the fault of all
-    abbrev FaultOpen : List stack.Part → List Lexeme → Outcome → Type 0
+    abbrev FaultOpen : List stack.Part → List Lexeme → PatternOutcome → Type 0
     FaultOpen parts ls o = (f : Fault) × (o ≡ outside f) × ReadsOpen read parts ls (fault f)
 
-    faulty_base_open : (parts inner : List stack.Part) (ls : List Lexeme) (b : Reading PatternTree) (o : Outcome) → ((r : Reading PatternTree) → Continues read inner b r → ReadsOpen read parts ls r) → IsFault b o → FaultOpen parts ls o
+    faulty_base_open : (parts inner : List stack.Part) (ls : List Lexeme) (b : Reading PatternTree) (o : PatternOutcome) → ((r : Reading PatternTree) → Continues read inner b r → ReadsOpen read parts ls r) → IsFault b o → FaultOpen parts ls o
     faulty_base_open parts inner ls (found t rest) o k h = absurd h
     faulty_base_open parts inner ls (fault f) o k h = (f, h, k (fault f) (Continues-fault read inner f))
 
@@ -108,19 +108,19 @@ module _ {L : Type 0} (form : L → Form) where
     reads_outside (before_place b ∷ parts) ls h e = (fault (no_pattern ls), based (no_base e) faulty_base, Resumes-fault read (before_place b ∷ parts) (no_pattern ls))
     reads_outside (before_value b x ∷ parts) ls h e = (fault (no_pattern ls), based (no_base e) faulty_base, Resumes-fault read (before_value b x ∷ parts) (no_pattern ls))
 
-    pub refuses_outside : (st : List (Part L)) (ls : List Lexeme) (e : Error) → IsOutside (parts_of form st) → begins_pattern ls ≡ false → Refuses (λ o. o ≡ outside (no_pattern ls)) e → Refuses (IsFaultFrom form read st Due ls) e
-    refuses_outside st ls e h k q = Refuses-weaker (λ o. o ≡ outside (no_pattern ls)) (IsFaultFrom form read st Due ls) e q (λ o p. (no_pattern ls, p, reads_outside (parts_of form st) ls h k))
+    pub refuses_outside : (st : List (Part L)) (ls : List Lexeme) (e : Error) → IsOutside (parts_of form st) → begins_pattern ls ≡ false → Refuses (λ (o : PatternOutcome). o ≡ outside (no_pattern ls)) e → Refuses (IsFaultFrom form read st Due ls) e
+    refuses_outside st ls e h k q = Refuses-weaker (λ (o : PatternOutcome). o ≡ outside (no_pattern ls)) (IsFaultFrom form read st Due ls) e q (λ o p. (no_pattern ls, p, reads_outside (parts_of form st) ls h k))
 
     -- what begins no base
-    pub refuses_no_base : (st : List (Part L)) (ls : List Lexeme) (e : Error) → begins_pattern ls ≡ false → begins_slot_or_end ls ≡ false → Refuses (λ o. o ≡ outside (no_pattern ls)) e → Refuses (IsFaultFrom form read st Due ls) e
-    refuses_no_base st ls e h k q = Refuses-weaker (λ o. o ≡ outside (no_pattern ls)) (IsFaultFrom form read st Due ls) e q (λ o p. (no_pattern ls, p, reads_no_base read (parts_of form st) ls h k))
+    pub refuses_no_base : (st : List (Part L)) (ls : List Lexeme) (e : Error) → begins_pattern ls ≡ false → begins_slot_or_end ls ≡ false → Refuses (λ (o : PatternOutcome). o ≡ outside (no_pattern ls)) e → Refuses (IsFaultFrom form read st Due ls) e
+    refuses_no_base st ls e h k q = Refuses-weaker (λ (o : PatternOutcome). o ≡ outside (no_pattern ls)) (IsFaultFrom form read st Due ls) e q (λ o p. (no_pattern ls, p, reads_no_base read (parts_of form st) ls h k))
 
-    pub refuses_nothing : (st : List (Part L)) (items rest : List Token) (e : Error) → items ≡ rest → length items ≡ 0 → Refuses (λ o. o ≡ outside (no_pattern (map lexeme_of rest))) e → Refuses (IsFaultFrom form read st Due (map lexeme_of items)) e
+    pub refuses_nothing : (st : List (Part L)) (items rest : List Token) (e : Error) → items ≡ rest → length items ≡ 0 → Refuses (λ (o : PatternOutcome). o ≡ outside (no_pattern (map lexeme_of rest))) e → Refuses (IsFaultFrom form read st Due (map lexeme_of items)) e
     refuses_nothing st [] [] e p n h = refuses_no_base st [] e refl refl h
     refuses_nothing st [] (x ∷ rest) e p n h = absurd (cc)
     refuses_nothing st (x ∷ items) rest e p n h = absurd (omega (arith, n))
 
-    pub refuses_other : (st : List (Part L)) (items rest : List Token) (x : Token) (e : Error) → items ≡ x ∷ rest → IsOther x → Refuses (λ o. o ≡ outside (no_pattern (lexeme_of x ∷ map lexeme_of rest))) e → Refuses (IsFaultFrom form read st Due (map lexeme_of items)) e
+    pub refuses_other : (st : List (Part L)) (items rest : List Token) (x : Token) (e : Error) → items ≡ x ∷ rest → IsOther x → Refuses (λ (o : PatternOutcome). o ≡ outside (no_pattern (lexeme_of x ∷ map lexeme_of rest))) e → Refuses (IsFaultFrom form read st Due (map lexeme_of items)) e
     refuses_other st items rest x e p n h =
         let o = other_begins x (map lexeme_of rest) n in
         subst (λ ls. Refuses (IsFaultFrom form read st Due ls) e) (sym (ap (map lexeme_of) p)) (refuses_no_base st (lexeme_of x ∷ map lexeme_of rest) e o.0 o.1 h)
@@ -131,10 +131,10 @@ module _ {L : Type 0} (form : L → Form) where
         subst (λ x. ReadsOpen read (parts_of form st) x r) (sym p)
         (reads_begin read (parts_of form st) w ls r (subst (λ x. ReadsOpen read x ls r) (parts_of-pushed st st' (Node b) k ∙ ap (λ x. in_bracket x ∷ parts_of form st) e) h))
 
-    pub refuses_no_operator : (st : List (Part L)) (all ls : List Lexeme) (e : Error) → all ≡ left_paren ∷ ls → Refuses (λ o. (o ≡ outside (no_pattern ls)) × (begins_with_word ls ≡ false)) e → Refuses (IsFaultFrom form read st Due all) e
+    pub refuses_no_operator : (st : List (Part L)) (all ls : List Lexeme) (e : Error) → all ≡ left_paren ∷ ls → Refuses (λ (o : PatternOutcome). (o ≡ outside (no_pattern ls)) × (begins_with_word ls ≡ false)) e → Refuses (IsFaultFrom form read st Due all) e
     refuses_no_operator st all ls e p h =
         subst (λ x. Refuses (IsFaultFrom form read st Due x) e) (sym p)
-        (Refuses-weaker (λ o. (o ≡ outside (no_pattern ls)) × (begins_with_word ls ≡ false)) (IsFaultFrom form read st Due (left_paren ∷ ls)) e h (λ o q. (no_pattern ls, q.0, reads_no_operator read (parts_of form st) ls q.1)))
+        (Refuses-weaker (λ (o : PatternOutcome). (o ≡ outside (no_pattern ls)) × (begins_with_word ls ≡ false)) (IsFaultFrom form read st Due (left_paren ∷ ls)) e h (λ o q. (no_pattern ls, q.0, reads_no_operator read (parts_of form st) ls q.1)))
 
     -- a word alone, and a variable
     pub stepped_word : (st : List (Part L)) (b : Open L) (p : Pattern L) (all ls : List Lexeme) (w : List ℕ) → all ≡ word w ∷ ls → bracket_of form b ≡ one_text w → ((ls : List Lexeme) → node read (found (bracket_of form b) ls) ≡ found (tree_of form p) ls) → ReadsAs form read st Due all st (Base p) ls
@@ -199,9 +199,9 @@ module _ {L : Type 0} (form : L → Form) where
         subst (λ x. Resumes read (before_place (tree_of form body) ∷ parts_of form st) (found (tree_of form place) x) r) (sym p)
         (reads_colon_equals read (tree_of form body) (parts_of form st) (tree_of form place) ls r (subst (λ x. ReadsOpen read x ls r) (parts_of-pushed st st' (Value body place) k) h))
 
-    pub refuses_no_colon_equals : (st : List (Part L)) (body place : Pattern L) (all ls : List Lexeme) (e : Error) → ls ≡ all → begins_with_colon_equals all ≡ false → Refuses (λ o. o ≡ outside (no_colon_equals ls)) e → Refuses (IsFaultAfter form read st (Place body) place all) e
+    pub refuses_no_colon_equals : (st : List (Part L)) (body place : Pattern L) (all ls : List Lexeme) (e : Error) → ls ≡ all → begins_with_colon_equals all ≡ false → Refuses (λ (o : PatternOutcome). o ≡ outside (no_colon_equals ls)) e → Refuses (IsFaultAfter form read st (Place body) place all) e
     refuses_no_colon_equals st body place all ls e p n h =
-        Refuses-weaker (λ o. o ≡ outside (no_colon_equals ls)) (IsFaultAfter form read st (Place body) place all) e h (λ o q.
+        Refuses-weaker (λ (o : PatternOutcome). o ≡ outside (no_colon_equals ls)) (IsFaultAfter form read st (Place body) place all) e h (λ o q.
         (no_colon_equals all, q ∙ ap (λ x. outside (no_colon_equals x)) p, reads_no_colon_equals read (tree_of form body) (parts_of form st) (tree_of form place) all n))
 
     -- `]` and what else may stand there
@@ -210,9 +210,9 @@ module _ {L : Type 0} (form : L → Form) where
         subst (λ x. Resumes read (before_value (tree_of form body) (tree_of form place) ∷ parts_of form st) (found (tree_of form value) x) r) (sym e)
         (reads_right_bracket read (tree_of form body) (tree_of form place) (parts_of form st) (tree_of form value) ls r (subst (λ t. Continues read (parts_of form st) (found t ls) r) k h))
 
-    pub refuses_no_right_bracket : (st : List (Part L)) (body place value : Pattern L) (all ls : List Lexeme) (e : Error) → ls ≡ all → begins_with_right_bracket all ≡ false → Refuses (λ o. o ≡ outside (no_right_bracket ls)) e → Refuses (IsFaultAfter form read st (Value body place) value all) e
+    pub refuses_no_right_bracket : (st : List (Part L)) (body place value : Pattern L) (all ls : List Lexeme) (e : Error) → ls ≡ all → begins_with_right_bracket all ≡ false → Refuses (λ (o : PatternOutcome). o ≡ outside (no_right_bracket ls)) e → Refuses (IsFaultAfter form read st (Value body place) value all) e
     refuses_no_right_bracket st body place value all ls e p n h =
-        Refuses-weaker (λ o. o ≡ outside (no_right_bracket ls)) (IsFaultAfter form read st (Value body place) value all) e h (λ o q.
+        Refuses-weaker (λ (o : PatternOutcome). o ≡ outside (no_right_bracket ls)) (IsFaultAfter form read st (Value body place) value all) e h (λ o q.
         (no_right_bracket all, q ∙ ap (λ x. outside (no_right_bracket x)) p, reads_no_right_bracket read (tree_of form body) (tree_of form place) (parts_of form st) (tree_of form value) all n))
 
     -- ---- the whole reading

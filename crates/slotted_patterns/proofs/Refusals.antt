@@ -2,15 +2,12 @@
 use Rattle.std.specs.Prelude.{Result, Ok, Err}
 use Rattle.slotted_slots.specs.declared.error.Error.{Error}
 use Rattle.slotted_slots.specs.declared.error.Error.TheVariants.{OutOfMemory, OutOfSlots, Failed, Parse, NotATerm, SubstInSearch, MissingVariable, NotEqual, BadStep, UnknownClass, NumberTooLarge, NotYet}
-use Rattle.slotted_nodes.specs.Form.{Form}
-use Rattle.slotted_patterns.specs.View.{tree_of}
-use Rattle.slotted_patterns.specs.declared.pattern.Pattern.{Pattern}
 use Rattle.slotted_patterns.specs.Outcome.{Outcome, parsed, Refuses, Answers}
 
 -- a refusal that stands for an outcome of one kind stands for one of a wider kind
-pub Refuses-weaker : (P Q : Outcome → Type 0) (e : Error) → Refuses P e → ((o : Outcome) → P o → Q o) → Refuses Q e
+pub Refuses-weaker : {Value NoTerm : Type 0} (P Q : Outcome Value NoTerm → Type 0) (e : Error) → Refuses P e → ((o : Outcome Value NoTerm) → P o → Q o) → Refuses Q e
 Refuses-weaker P Q (Parse p) h f = f _ h
-Refuses-weaker P Q NotATerm h f = h
+Refuses-weaker P Q NotATerm h f = (h.0, f _ h.1)
 Refuses-weaker P Q NumberTooLarge h f = f _ h
 Refuses-weaker P Q OutOfSlots h f = f _ h
 Refuses-weaker P Q OutOfMemory h f = tt
@@ -23,6 +20,6 @@ Refuses-weaker P Q UnknownClass h f = h
 Refuses-weaker P Q NotYet h f = h
 
 -- the same for an answer
-pub Answers-weaker : {L : Type 0} (form : L → Form) (P Q : Outcome → Type 0) (r : Result (Pattern L) Error) → Answers form P r → ((o : Outcome) → P o → Q o) → Answers form Q r
-Answers-weaker form P Q (Ok p) h f = f (parsed (tree_of form p)) h
-Answers-weaker form P Q (Err e) h f = Refuses-weaker P Q e h f
+pub Answers-weaker : {A Value NoTerm : Type 0} (seen : A → Value) (P Q : Outcome Value NoTerm → Type 0) (r : Result A Error) → Answers seen P r → ((o : Outcome Value NoTerm) → P o → Q o) → Answers seen Q r
+Answers-weaker seen P Q (Ok x) h f = f (parsed (seen x)) h
+Answers-weaker seen P Q (Err e) h f = Refuses-weaker P Q e h f

@@ -5,7 +5,7 @@ use Rattle.slotted_slots.specs.Syntax.{Element, Lexeme, slot, word, variable, co
 use Rattle.slotted_slots.specs.Table.{Table}
 use Rattle.slotted_nodes.specs.Form.{Form}
 use Rattle.slotted_patterns.specs.Tree.{PatternTree, pvar, substitution}
-use Rattle.slotted_patterns.specs.Outcome.{Outcome}
+use Rattle.slotted_patterns.specs.Outcome.{PatternOutcome}
 use Rattle.slotted_patterns.specs.Grammar.{Reading, found, fault, Bracket, joined, one_text, one_slot, one_child, after, node, built, begins_slot_or_end, ReadsPattern, based, ReadsBase, of_variable, alone, bracket, no_operator, no_base, ReadsBracket, end, then_slot, then_child, goes_on, faulty_child, ReadsSubstitutions, no_substitution, substituted, faulty_base, ReadsValue, becomes, no_becomes, faulty_place, ReadsClose, closed, not_closed, faulty_value, whole}
 use Rattle.slotted_patterns.specs.Tokens.{Next, nothing, token, refused, next_token, BeginsWith}
 use Rattle.slotted_patterns.specs.Parsed.{TokensRead, as_pattern, PatternReads, without_tokens, by_tokens}
@@ -167,17 +167,17 @@ module _ (read : List Element → Option Form) where
         substitutions = some_substitutions_by n less.patterns less.substitutions;
       }
 
-  some_outcome : (ls : List Lexeme) → (o : Outcome) × TokensRead read ls o
+  some_outcome : (ls : List Lexeme) → (o : PatternOutcome) × TokensRead read ls o
   unfolding SomePattern
   some_outcome ls = let p = (some_readings (length ls)).patterns ls (omega arith) in (whole p.0, as_pattern p.1)
 
-  pub some_reading : (t : Table) (cs : List ℕ) → (o : Outcome) × (u : Table) × PatternReads read t cs o u
+  pub some_reading : (t : Table) (cs : List ℕ) → (o : PatternOutcome) × (u : Table) × PatternReads read t cs o u
   unfolding Ends
   some_reading t cs =
       let e = some_end (length cs) t cs (omega arith) in
       read_end e.0 e.1 e.2 e.3 (next_token e.2 e.1) refl e.4
     where
-      read_end : (ls : List Lexeme) (rest : List ℕ) (u : Table) → BeginsWith t cs ls rest u → (x : Next) → next_token u rest ≡ x → IsEnd x → (o : Outcome) × (u : Table) × PatternReads read t cs o u
+      read_end : (ls : List Lexeme) (rest : List ℕ) (u : Table) → BeginsWith t cs ls rest u → (x : Next) → next_token u rest ≡ x → IsEnd x → (o : PatternOutcome) × (u : Table) × PatternReads read t cs o u
       read_end ls rest u b nothing p h = let o = some_outcome ls in (o.0, u, by_tokens (rest, b, p) o.1)
       read_end ls rest u b (token l rest' v) p h = absurd h
       read_end ls rest u b (refused o) p h = (o, u, without_tokens (ls, rest, b, p))

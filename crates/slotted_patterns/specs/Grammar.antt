@@ -4,7 +4,7 @@ use Rattle.std.specs.Prelude.{◌≡◌, ℕ, Bool, true, false, List, [], ◌�
 use Rattle.slotted_slots.specs.Syntax.{Lexeme, slot, word, variable, colon_equals, left_paren, right_paren, left_bracket, right_bracket, Element, text, applied, name, Fault, no_pattern, too_much, no_node, no_colon_equals, no_right_bracket}
 use Rattle.slotted_nodes.specs.Form.{Form}
 use Rattle.slotted_patterns.specs.Tree.{PatternTree, enode, pvar, substitution, row_of}
-use Rattle.slotted_patterns.specs.Outcome.{Outcome, parsed, outside}
+use Rattle.slotted_patterns.specs.Outcome.{PatternOutcome, parsed, outside}
 
 -- what was read from the front of the tokens, and the tokens after it; or the fault that was met
 pub data Reading (A : Type 0) : Type 0 where
@@ -126,7 +126,7 @@ mutual
     faulty_value : {b x : PatternTree} {f : Fault} → ReadsClose read b x (fault f) (fault f)
 
 -- tokens are one pattern, with nothing after it
-abbrev pub whole : Reading PatternTree → Outcome
+abbrev pub whole : Reading PatternTree → PatternOutcome
 whole (found p []) = parsed p
 whole (found p (l ∷ ls)) = outside (too_much (l ∷ ls))
 whole (fault f) = outside f

@@ -4,7 +4,7 @@ use Rattle.slotted_slots.specs.Syntax.{Lexeme, Element, Fault, element_of}
 use Rattle.slotted_nodes.specs.Form.{Form}
 use Rattle.slotted_patterns.specs.Tree.{PatternTree}
 use Rattle.slotted_patterns.specs.View.{tree_of}
-use Rattle.slotted_patterns.specs.Outcome.{Outcome, outside}
+use Rattle.slotted_patterns.specs.Outcome.{PatternOutcome, outside}
 use Rattle.slotted_patterns.specs.Grammar.{Reading, found, fault, Bracket, ReadsPattern}
 use Rattle.slotted_patterns.specs.Stack as stack
 use Rattle.slotted_patterns.specs.Stack.{Resumes, Continues, ReadsOpen}
@@ -41,7 +41,7 @@ module _ {L : Type 0} (form : L → Form) where
   ReadsAs read parts at ls parts' at' ls' = (r : Reading PatternTree) → ReadsFrom read parts' at' ls' r → ReadsFrom read parts at ls r
 
   -- the outcome is the fault that is read from a point
-  abbrev pub IsFaultFrom : (List Element → Option Form) → List (Part L) → Point L → List Lexeme → Outcome → Type 0
+  abbrev pub IsFaultFrom : (List Element → Option Form) → List (Part L) → Point L → List Lexeme → PatternOutcome → Type 0
   IsFaultFrom read parts at ls o = (f : Fault) × (o ≡ outside f) × ReadsFrom read parts at ls (fault f)
 
   -- whatever is read from the second point is read after this pattern, inside this part and those of the stack
@@ -50,11 +50,11 @@ module _ {L : Type 0} (form : L → Form) where
       (r : Reading PatternTree) → ReadsFrom read parts' at' ls' r → Resumes read (part_of part ∷ parts_of parts) (found (tree_of form p) ls) r
 
   -- the outcome is the fault that is read after this pattern, inside this part and those of the stack
-  abbrev pub IsFaultAfter : (List Element → Option Form) → List (Part L) → Part L → Pattern L → List Lexeme → Outcome → Type 0
+  abbrev pub IsFaultAfter : (List Element → Option Form) → List (Part L) → Part L → Pattern L → List Lexeme → PatternOutcome → Type 0
   IsFaultAfter read parts part p ls o = (f : Fault) × (o ≡ outside f) × Resumes read (part_of part ∷ parts_of parts) (found (tree_of form p) ls) (fault f)
 
 -- the outcome is the fault of a pattern at the front of the tokens
-abbrev pub IsFaultOf : (List Element → Option Form) → List Lexeme → Outcome → Type 0
+abbrev pub IsFaultOf : (List Element → Option Form) → List Lexeme → PatternOutcome → Type 0
 IsFaultOf read ls o = (f : Fault) × (o ≡ outside f) × ReadsPattern read ls (fault f)
 
 -- a base in hand is one step of the reader

@@ -3,7 +3,7 @@ use Rattle.std.specs.Prelude.{◌≡◌, List, [], ◌∷◌, Option}
 use Rattle.slotted_slots.specs.Syntax.{Lexeme, Element}
 use Rattle.slotted_nodes.specs.Form.{Form}
 use Rattle.slotted_patterns.specs.Tree.{PatternTree}
-use Rattle.slotted_patterns.specs.Outcome.{Outcome, outside}
+use Rattle.slotted_patterns.specs.Outcome.{PatternOutcome, outside}
 use Rattle.slotted_patterns.specs.Grammar.{Reading, found, fault, Bracket, after, node, ReadsPattern, ReadsBracket, ReadsOnAfter, ReadsSubstitutions, ReadsValue, ReadsClose}
 
 -- a part of a pattern whose end was not read yet: a bracket, as what was read of it; `b[`; and `b[x :=`
@@ -35,6 +35,6 @@ ReadsOpen read (in_bracket b ∷ parts) ls r = (more : Reading Bracket) × Reads
 ReadsOpen read parts ls r = (p : Reading PatternTree) × ReadsPattern read ls p × Resumes read parts p r
 
 -- the outcome is the fault that was met
-abbrev pub IsFault : {A : Type 0} → Reading A → Outcome → Type 0
+abbrev pub IsFault : {A : Type 0} → Reading A → PatternOutcome → Type 0
 IsFault (found x rest) o = ⊥
 IsFault (fault f) o = o ≡ outside f

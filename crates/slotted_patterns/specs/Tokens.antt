@@ -4,7 +4,7 @@ use Rattle.std.specs.List.{prefix_len}
 use Rattle.std.specs.Char.{is_whitespace}
 use Rattle.slotted_slots.specs.Syntax.{Lexeme, slot, word, variable, colon_equals, left_paren, right_paren, left_bracket, right_bracket, no_token}
 use Rattle.slotted_slots.specs.Table.{Table, named_of, NamedOutcome, gives, too_large, no_place}
-use Rattle.slotted_patterns.specs.Outcome.{Outcome, outside, number_too_large, out_of_slots}
+use Rattle.slotted_patterns.specs.Outcome.{PatternOutcome, outside, number_too_large, out_of_slots}
 
 -- the token of a round or square bracket
 abbrev pub bracket_of : ℕ → Option Lexeme
@@ -32,7 +32,7 @@ after_white_space cs = drop (prefix_len is_whitespace cs) cs
 pub data Next : Type 0 where
   nothing : Next
   token : (lexeme : Lexeme) (rest : List ℕ) (table : Table) → Next
-  refused : (outcome : Outcome) → Next
+  refused : (outcome : PatternOutcome) → Next
 
 -- a variable of this run, which may not be empty
 abbrev pub variable_token : Table → List ℕ → List ℕ → Next
@@ -85,5 +85,5 @@ abbrev pub HasTokens : Table → List ℕ → List Lexeme → Table → Type 0
 HasTokens t cs ls u = (rest : List ℕ) × BeginsWith t cs ls rest u × (next_token u rest ≡ nothing)
 
 -- the first token from the left that is refused, after any others
-abbrev pub HasBadToken : Table → List ℕ → Outcome → Table → Type 0
+abbrev pub HasBadToken : Table → List ℕ → PatternOutcome → Table → Type 0
 HasBadToken t cs o u = (ls : List Lexeme) × (rest : List ℕ) × BeginsWith t cs ls rest u × (next_token u rest ≡ refused o)

@@ -3,7 +3,7 @@ ghost use Rattle.std.specs.Prelude.{◌≡◌, ◌<◌, ◌+◌, ◌∷◌, ◌+
 ghost use Rattle.std.specs.Option.{option_to_list};
 ghost use Rattle.slotted_slots.specs.Error.{IsOutOfMemory};
 ghost use Rattle.slotted_slots.specs.Syntax.{Lexeme, lexeme_of, word, slot, colon_equals, left_paren, right_paren, left_bracket, right_bracket, no_pattern, no_colon_equals, no_right_bracket};
-ghost use Rattle.slotted_patterns.specs.Outcome.{Refuses, Answers, outside};
+ghost use Rattle.slotted_patterns.specs.Outcome.{PatternOutcome, Refuses, Answers, outside};
 ghost use Rattle.slotted_patterns.specs.Parsed.{TokensRead};
 ghost use Rattle.slotted_patterns.specs.View.{tree_of};
 ghost use Rattle.slotted_patterns.specs.Stack.{in_bracket, IsOutside, IsFault};
@@ -112,7 +112,7 @@ fn remaining(
 /// The refusal of tokens that no pattern begins with.
 fn no_pattern(alloc: Global, first: Option<Token>, rest: &mut VecDeque<Token>) -> Error
     ensures { Refuses
-        (λ o. o ≡ outside (no_pattern (map lexeme_of (option_to_list first ++ rest.old.items)))) result }
+        (λ (o : PatternOutcome). o ≡ outside (no_pattern (map lexeme_of (option_to_list first ++ rest.old.items)))) result }
 {
     match remaining(alloc, first, rest) {
         Ok(tokens) => Error::Parse(ParseError::ParseState(tokens)),
@@ -122,7 +122,7 @@ fn no_pattern(alloc: Global, first: Option<Token>, rest: &mut VecDeque<Token>) -
 
 /// The refusal of tokens among which a `:=` was due.
 fn no_colon_equals(alloc: Global, rest: &mut VecDeque<Token>) -> Error
-    ensures { Refuses (λ o. o ≡ outside (no_colon_equals (map lexeme_of rest.old.items))) result }
+    ensures { Refuses (λ (o : PatternOutcome). o ≡ outside (no_colon_equals (map lexeme_of rest.old.items))) result }
 {
     match remaining(alloc, None, rest) {
         Ok(tokens) => Error::Parse(ParseError::ExpectedColonEquals(tokens)),
@@ -132,7 +132,7 @@ fn no_colon_equals(alloc: Global, rest: &mut VecDeque<Token>) -> Error
 
 /// The refusal of tokens among which a `]` was due.
 fn no_right_bracket(alloc: Global, rest: &mut VecDeque<Token>) -> Error
-    ensures { Refuses (λ o. o ≡ outside (no_right_bracket (map lexeme_of rest.old.items))) result }
+    ensures { Refuses (λ (o : PatternOutcome). o ≡ outside (no_right_bracket (map lexeme_of rest.old.items))) result }
 {
     match remaining(alloc, None, rest) {
         Ok(tokens) => Error::Parse(ParseError::ExpectedRBracket(tokens)),
@@ -145,7 +145,7 @@ fn next_operator(alloc: Global, tokens: &mut VecDeque<Token>) -> Result<String, 
     ensures ok { IfOk result
         (λ w. map lexeme_of tokens.old.items ≡ word (string_bytes w) ∷ map lexeme_of tokens.new.items) }
     ensures none { IfErr result (Refuses
-        (λ o. (o ≡ outside (no_pattern (map lexeme_of tokens.old.items)))
+        (λ (o : PatternOutcome). (o ≡ outside (no_pattern (map lexeme_of tokens.old.items)))
         × (begins_with_word (map lexeme_of tokens.old.items) ≡ false))) }
 {
     let Some(token) = tokens.pop_front() else {
@@ -377,7 +377,7 @@ pub(crate) fn parse_tokens<L: Language>(
     alloc: Global,
     tokens: Vec<Token>,
 ) -> Result<Pattern<L>, Error>
-    ensures { Answers L.form (TokensRead L.read (map lexeme_of tokens.items)) result }
+    ensures { Answers (tree_of L.form) (TokensRead L.read (map lexeme_of tokens.items)) result }
 {
     let mut tokens = VecDeque::from_vec(tokens);
     let pattern = read_pattern(alloc, &mut tokens)?;

@@ -24,7 +24,7 @@ impl<L: Language> Pattern<L> {
     /// All tokens are read before the grammar is applied, and each slot's name is looked up or kept in the table as its
     /// token is read. A refusal leaves in the table the names that were read before it.
     pub fn parse(alloc: Global, text: &str, table: &mut SlotTable) -> Result<Pattern<L>, Error>
-        ensures answer { Answers L.form (λ o. PatternReads L.read table.old (chars text.now) o table.new) result }
+        ensures answer { Answers (tree_of L.form) (λ o. PatternReads L.read table.old (chars text.now) o table.new) result }
         ensures known { IfOk result (λ p. HasKnownNames table.new (tree_of L.form p)) }
         ensures more { KnowsMore table.old table.new }
     {

@@ -3,24 +3,24 @@ use Rattle.std.proofs.Common.{◌≡◌, ℕ, zero, suc, ◌+◌, ◌<◌, ◌�
 use Rattle.std.specs.Prelude.{Contains, option_map, unwrap_or, is_some, cond, ◌==◌}
 use Rattle.std.specs.List.{cons_option}
 use Rattle.std.specs.Map.{values_of}
-use Rattle.slotted_theory.specs.FiniteMaps.{value_of}
+use Rattle.slotted_theory.specs.FiniteMaps.{value_of, with_values}
 use Rattle.slotted_slots.specs.Ascending.{AllAbove, IsAscending}
 use Rattle.slotted_slots.specs.Maps.{with_value_at, with_pair, composed}
 use Rattle.slotted_slots.specs.Maps as code
 use Rattle.slotted_slots.specs.Table.{numeric_slot}
 use Rattle.slotted_slots.proofs.MapLemmas.{with_pair-after}
 use Rattle.slotted_model.specs.Applied.{keys}
-use Rattle.slotted_model.specs.Correspondence.{AllDifferent, IsFullMap, IsInjectiveOn, with_names, numbered_from, numbered_after, numbered, composite, turned, flipped, same_names, IsPartialInjection, IsNumberedForm}
+use Rattle.slotted_model.specs.Correspondence.{AllDifferent, IsFullMap, IsInjectiveOn, numbered_from, numbered_after, numbered, composite, turned, flipped, same_names, IsPartialInjection, IsNumberedForm}
 use Rattle.slotted_model.proofs.Correspondences.Pairs.{Contains-flipped, Contains-of_flipped, Contains-value_of, value_of-only, same_options, Contains-composite, Contains-of_composite}
 use Rattle.slotted_model.proofs.Correspondences.PartialInjections.{one_partner, turned-pair, turned-by, turned-partial, composite-partial, turned-composite}
-use Rattle.slotted_model.proofs.Correspondences.FullMaps.{with_names-full, same_names-with_names, same_names-partial, same_names-turned}
+use Rattle.slotted_model.proofs.Correspondences.FullMaps.{with_values-full, same_names-with_values, same_names-partial, same_names-turned}
 use Rattle.slotted_model.proofs.Correspondences.Numbers.{numbered-form}
 use Rattle.slotted_proofs.specs.Equations.{Statement, AreSides, numbered_left, numbered_right}
 use Rattle.slotted_proofs.proofs.Bridges.{value_of-model, composed-model}
 
 -- the map whose first i slots have the numbers from k on
 abbrev pub named_so_far : ℕ → ℕ → List (ℕ × ℕ) → List (ℕ × ℕ)
-named_so_far k i m = with_names numeric_slot (numbered_from k (take i (keys m))) ++ drop i m
+named_so_far k i m = with_values numeric_slot (numbered_from k (take i (keys m))) ++ drop i m
 
 -- one more slot has its number
 pub named_so_far-step : (k i v : ℕ) (m : List (ℕ × ℕ)) → i < length m → v ≡ numeric_slot (k + i) → with_value_at (named_so_far k i m) i v ≡ named_so_far k (suc i) m
@@ -34,7 +34,7 @@ length-named_so_far k (suc i) [] = refl
 length-named_so_far k (suc i) (p ∷ m) = ap suc (length-named_so_far (suc k) i m)
 
 -- all slots have their numbers
-pub named_so_far-all : (k i : ℕ) (m : List (ℕ × ℕ)) → length m ≤ i → named_so_far k i m ≡ with_names numeric_slot (numbered_from k (keys m))
+pub named_so_far-all : (k i : ℕ) (m : List (ℕ × ℕ)) → length m ≤ i → named_so_far k i m ≡ with_values numeric_slot (numbered_from k (keys m))
 named_so_far-all k zero [] l = refl
 named_so_far-all k zero (p ∷ m) l = absurd (omega arith)
 named_so_far-all k (suc i) [] l = refl
@@ -42,15 +42,15 @@ named_so_far-all k (suc i) (p ∷ m) l = ap (λ r. (p.0, numeric_slot k) ∷ r) 
 
 -- keys of numbered maps
 
-pub keys-numbered_from : (k : ℕ) (P : List ℕ) → keys (with_names numeric_slot (numbered_from k P)) ≡ P
+pub keys-numbered_from : (k : ℕ) (P : List ℕ) → keys (with_values numeric_slot (numbered_from k P)) ≡ P
 keys-numbered_from k [] = refl
 keys-numbered_from k (s ∷ P) = ap (λ L. s ∷ L) (keys-numbered_from (suc k) P)
 
-pub keys-numbered_after : (f : ℕ → Option ℕ) (k : ℕ) (Q : List ℕ) → keys (with_names numeric_slot (numbered_after f k Q)) ≡ Q
+pub keys-numbered_after : (f : ℕ → Option ℕ) (k : ℕ) (Q : List ℕ) → keys (with_values numeric_slot (numbered_after f k Q)) ≡ Q
 keys-numbered_after f k [] = refl
 keys-numbered_after f k (t ∷ Q) = ap (λ L. t ∷ L) (keys-numbered_after f (cond (is_some (f t)) k (suc k)) Q)
 
-pub length-numbered_from : (k : ℕ) (P : List ℕ) → length (with_names numeric_slot (numbered_from k P)) ≡ length P
+pub length-numbered_from : (k : ℕ) (P : List ℕ) → length (with_values numeric_slot (numbered_from k P)) ≡ length P
 length-numbered_from k [] = refl
 length-numbered_from k (s ∷ P) = ap suc (length-numbered_from (suc k) P)
 
@@ -64,27 +64,27 @@ option_map-cond : (f : ℕ → ℕ) (b : Bool) (x : ℕ) (o : Option ℕ) → co
 option_map-cond f true x o = refl
 option_map-cond f false x o = refl
 
-value_of-with_names : (f : ℕ → ℕ) (m : List (ℕ × ℕ)) (k : ℕ) → value_of (with_names f m) k ≡ option_map f (value_of m k)
-value_of-with_names f [] k = refl
-value_of-with_names f (p ∷ m) k =
-    ap (cond (k == p.0) (Some (f p.1))) (value_of-with_names f m k)
+value_of-with_values : (f : ℕ → ℕ) (m : List (ℕ × ℕ)) (k : ℕ) → value_of (with_values f m) k ≡ option_map f (value_of m k)
+value_of-with_values f [] k = refl
+value_of-with_values f (p ∷ m) k =
+    ap (cond (k == p.0) (Some (f p.1))) (value_of-with_values f m k)
     ∙ option_map-cond f (k == p.0) p.1 (value_of m k)
 
-with_names-cons_option : (f : ℕ → ℕ) (s : ℕ) (o : Option ℕ) (m : List (ℕ × ℕ)) → cons_option (option_map (λ u. (s, u)) (option_map f o)) (with_names f m) ≡ with_names f (cons_option (option_map (λ u. (s, u)) o) m)
-with_names-cons_option f s None m = refl
-with_names-cons_option f s (Some x) m = refl
+with_values-cons_option : (f : ℕ → ℕ) (s : ℕ) (o : Option ℕ) (m : List (ℕ × ℕ)) → cons_option (option_map (λ u. (s, u)) (option_map f o)) (with_values f m) ≡ with_values f (cons_option (option_map (λ u. (s, u)) o) m)
+with_values-cons_option f s None m = refl
+with_values-cons_option f s (Some x) m = refl
 
-composite-with_names : (f : ℕ → ℕ) (A B : List (ℕ × ℕ)) → composite A (with_names f B) ≡ with_names f (composite A B)
-composite-with_names f [] B = refl
-composite-with_names f (p ∷ A) B =
-    (λ i. cons_option (option_map (λ u. (p.0, u)) (value_of-with_names f B p.1 i)) (composite-with_names f A B i))
-    ∙ with_names-cons_option f p.0 (value_of B p.1) (composite A B)
+composite-with_values : (f : ℕ → ℕ) (A B : List (ℕ × ℕ)) → composite A (with_values f B) ≡ with_values f (composite A B)
+composite-with_values f [] B = refl
+composite-with_values f (p ∷ A) B =
+    (λ i. cons_option (option_map (λ u. (p.0, u)) (value_of-with_values f B p.1 i)) (composite-with_values f A B i))
+    ∙ with_values-cons_option f p.0 (value_of B p.1) (composite A B)
 
-pub known-name : (partners left F : List (ℕ × ℕ)) → left ≡ with_names numeric_slot F → (t : ℕ) → code.value_of (composed partners left) t ≡ option_map numeric_slot (value_of (composite partners F) t)
+pub known-name : (partners left F : List (ℕ × ℕ)) → left ≡ with_values numeric_slot F → (t : ℕ) → code.value_of (composed partners left) t ≡ option_map numeric_slot (value_of (composite partners F) t)
 known-name partners left F e t =
     value_of-model (composed partners left) t
-    ∙ (ap (λ m. value_of m t) (composed-model partners left ∙ (ap (composite partners) e ∙ composite-with_names numeric_slot partners F))
-    ∙ value_of-with_names numeric_slot (composite partners F) t)
+    ∙ (ap (λ m. value_of m t) (composed-model partners left ∙ (ap (composite partners) e ∙ composite-with_values numeric_slot partners F))
+    ∙ value_of-with_values numeric_slot (composite partners F) t)
 
 -- the name that a slot takes, and the next number after it
 pub takes_known : (o : Option ℕ) (n x : ℕ) → option_map numeric_slot o ≡ Some x → (x ≡ numeric_slot (unwrap_or o n)) × (n ≡ cond (is_some o) n (suc n))
@@ -107,12 +107,12 @@ with_pair-last (p ∷ m) rest t v w a =
     ∙ ap (λ r. p ∷ r) (with_pair-last m rest t v w a.1)
 
 -- one more slot of the right side has its name
-pub side-step : (f : ℕ → Option ℕ) (k : ℕ) (P : List ℕ) (side : List (ℕ × ℕ)) (n t v next : ℕ) (Q : List ℕ) → IsAscending P → v ≡ numeric_slot (unwrap_or (f t) n) → next ≡ cond (is_some (f t)) n (suc n) → side ++ with_names numeric_slot (numbered_after f n (t ∷ Q)) ≡ with_names numeric_slot (numbered_after f k P) → with_pair side t v ++ with_names numeric_slot (numbered_after f next Q) ≡ with_names numeric_slot (numbered_after f k P)
+pub side-step : (f : ℕ → Option ℕ) (k : ℕ) (P : List ℕ) (side : List (ℕ × ℕ)) (n t v next : ℕ) (Q : List ℕ) → IsAscending P → v ≡ numeric_slot (unwrap_or (f t) n) → next ≡ cond (is_some (f t)) n (suc n) → side ++ with_values numeric_slot (numbered_after f n (t ∷ Q)) ≡ with_values numeric_slot (numbered_after f k P) → with_pair side t v ++ with_values numeric_slot (numbered_after f next Q) ≡ with_values numeric_slot (numbered_after f k P)
 side-step f k P side n t v next Q a ev en whole =
-    let rest : List (ℕ × ℕ) = with_names numeric_slot (numbered_after f (cond (is_some (f t)) n (suc n)) Q) in
+    let rest : List (ℕ × ℕ) = with_values numeric_slot (numbered_after f (cond (is_some (f t)) n (suc n)) Q) in
     let w : ℕ = numeric_slot (unwrap_or (f t) n) in
     let up : IsAscending (keys (side ++ (t, w) ∷ rest)) = subst IsAscending (sym (ap keys whole ∙ keys-numbered_after f k P)) a in
-    (λ i. with_pair side t (ev i) ++ with_names numeric_slot (numbered_after f (en i) Q))
+    (λ i. with_pair side t (ev i) ++ with_values numeric_slot (numbered_after f (en i) Q))
     ∙ (ap (λ l. l ++ rest) (with_pair-last side rest t w w up)
     ∙ (append_assoc side ((t, w) ∷ []) rest ∙ whole))
 
@@ -154,17 +154,17 @@ module _ (P Q : List ℕ) (X : List (ℕ × ℕ)) (p : AllDifferent P) (q : AllD
       let f : Some y ≡ Some z = sym r.2 ∙ (ap (value_of numbers) e ∙ u.2) in
       (cc))
 
-  same_right : with_names numeric_slot (numbered_after (value_of (composite X numbers)) (length P) Q) ≡ numbered_right P Q pairs
-  same_right = λ i. with_names numeric_slot (numbered_after (λ t. same_said t i) (length P) Q)
+  same_right : with_values numeric_slot (numbered_after (value_of (composite X numbers)) (length P) Q) ≡ numbered_right P Q pairs
+  same_right = λ i. with_values numeric_slot (numbered_after (λ t. same_said t i) (length P) Q)
 
-  pub sides_by_partners : (i j : ℕ) → AreSides (record { left_slots = P; right_slots = Q; equation = record { left = i; right = j; pairs = pairs } }) (i, with_names numeric_slot numbers) (j, with_names numeric_slot (numbered_after (value_of (composite X numbers)) (length P) Q))
+  pub sides_by_partners : (i j : ℕ) → AreSides (record { left_slots = P; right_slots = Q; equation = record { left = i; right = j; pairs = pairs } }) (i, with_values numeric_slot numbers) (j, with_values numeric_slot (numbered_after (value_of (composite X numbers)) (length P) Q))
   sides_by_partners i j =
       let s : Statement = record { left_slots = P; right_slots = Q; equation = record { left = i; right = j; pairs = pairs } } in
-      let l : IsFullMap P (numbered_left P Q pairs) = with_names-full numeric_slot P (numbered P Q pairs).0 form.left (slots_apart (values_of (numbered P Q pairs).0)) in
-      let r : IsFullMap Q (numbered_right P Q pairs) = with_names-full numeric_slot Q (numbered P Q pairs).1 form.right (slots_apart (values_of (numbered P Q pairs).1)) in
+      let l : IsFullMap P (numbered_left P Q pairs) = with_values-full numeric_slot P (numbered P Q pairs).0 form.left (slots_apart (values_of (numbered P Q pairs).0)) in
+      let r : IsFullMap Q (numbered_right P Q pairs) = with_values-full numeric_slot Q (numbered P Q pairs).1 form.right (slots_apart (values_of (numbered P Q pairs).1)) in
       let c : same_names (numbered_left P Q pairs) (numbered_right P Q pairs) ≡ pairs =
-      same_names-with_names numeric_slot P Q (numbered P Q pairs).0 (numbered P Q pairs).1 form.left form.right (slots_apart (values_of (numbered P Q pairs).0 ++ values_of (numbered P Q pairs).1)) ∙ form.correspondence in
-      subst (λ n. AreSides s (i, with_names numeric_slot numbers) (j, n)) (sym same_right) (record {
+      same_names-with_values numeric_slot P Q (numbered P Q pairs).0 (numbered P Q pairs).1 form.left form.right (slots_apart (values_of (numbered P Q pairs).0 ++ values_of (numbered P Q pairs).1)) ∙ form.correspondence in
+      subst (λ n. AreSides s (i, with_values numeric_slot numbers) (j, n)) (sym same_right) (record {
         left = refl;
         right = refl;
         left_full = l;

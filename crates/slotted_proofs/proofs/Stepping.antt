@@ -3,10 +3,10 @@ use Rattle.std.proofs.Common.{◌≡◌, ◌↔◌, ℕ, ◌<◌, List, [], ◌�
 use Rattle.std.specs.Prelude.{IsTrue, ◌&&◌, nat_eq, not}
 use Rattle.slotted_slots.specs.declared.types.AppliedId.{AppliedId}
 use Rattle.slotted_slots.specs.Maps.{doubled}
-use Rattle.slotted_theory.specs.FiniteMaps.{IsInjectiveMap}
+use Rattle.slotted_theory.specs.FiniteMaps.{IsInjectiveMap, with_values}
 use Rattle.slotted_model.specs.Applied.{Applied, keys}
-use Rattle.slotted_model.specs.Correspondence.{AllDifferent, IsFullMap, IsPartialInjection, CanJoin, composite, turned, same_names, with_names, identity}
-use Rattle.slotted_model.proofs.Correspondences.FullMaps.{with_names-keys, same_names-partial, same_names-itself, same_names-turned}
+use Rattle.slotted_model.specs.Correspondence.{AllDifferent, IsFullMap, IsPartialInjection, CanJoin, composite, turned, same_names, identity}
+use Rattle.slotted_model.proofs.Correspondences.FullMaps.{with_values-keys, same_names-partial, same_names-itself, same_names-turned}
 use Rattle.slotted_model.proofs.Correspondences.Matching.{match_iff}
 use Rattle.slotted_model.proofs.Correspondences.Middle.{middle_iff}
 use Rattle.slotted_model.proofs.Correspondences.Restricting.{joined_maps}
@@ -17,8 +17,8 @@ use Rattle.slotted_proofs.specs.Steps.{AreFull, Matches, IsEntry, GoesOver, IsJo
 use Rattle.slotted_proofs.proofs.Written.{stated, sides_eq, sides_eq-same, SameSides, same_statement, written_once, maps_eq, map_same, not_false, not_true}
 
 -- an injective map takes keys to keys
-match-keys : (m m' : List (ℕ × ℕ)) (f : ℕ → ℕ) → m' ≡ with_names f m → keys m ≡ keys m'
-match-keys m m' f e = sym (ap keys e ∙ with_names-keys f m)
+match-keys : (m m' : List (ℕ × ℕ)) (f : ℕ → ℕ) → m' ≡ with_values f m → keys m ≡ keys m'
+match-keys m m' f e = sym (ap keys e ∙ with_values-keys f m)
 
 -- two equations match exactly if they state the same
 module _ (a b c d : Applied) (fa : IsFullMap (keys a.1) a.1) (fb : IsFullMap (keys b.1) b.1) (fc : IsFullMap (keys c.1) c.1) (fd : IsFullMap (keys d.1) d.1) where

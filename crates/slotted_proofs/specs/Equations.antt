@@ -3,10 +3,11 @@
 --     statement_of e    what an equation of the code states
 --     IsWritten s e     the equation of the code states s, and its names are numbered from `$0` as they first occur, left side first
 use Rattle.std.specs.Prelude.{◌≡◌, ℕ, List}
+use Rattle.slotted_theory.specs.FiniteMaps.{with_values}
 use Rattle.slotted_slots.specs.declared.types.AppliedId.{AppliedId}
 use Rattle.slotted_slots.specs.Table.{numeric_slot}
 use Rattle.slotted_model.specs.Applied.{Applied, keys}
-use Rattle.slotted_model.specs.Correspondence.{IsFullMap, with_names, numbered, identity, turned, composite}
+use Rattle.slotted_model.specs.Correspondence.{IsFullMap, numbered, identity, turned, composite}
 use Rattle.slotted_model.specs.ProofList.{Equation, equation_of}
 use Rattle.slotted_proofs.specs.declared.equation.Equation.{Equation as Sides}
 
@@ -55,10 +56,10 @@ composite_statement s t = record {
 
 -- the sides of the correspondence A between the slots P and Q, with the names `$0`, `$1` and so on as they first occur, left side first
 abbrev pub numbered_left : List ℕ → List ℕ → List (ℕ × ℕ) → List (ℕ × ℕ)
-numbered_left P Q A = with_names numeric_slot (numbered P Q A).0
+numbered_left P Q A = with_values numeric_slot (numbered P Q A).0
 
 abbrev pub numbered_right : List ℕ → List ℕ → List (ℕ × ℕ) → List (ℕ × ℕ)
-numbered_right P Q A = with_names numeric_slot (numbered P Q A).1
+numbered_right P Q A = with_values numeric_slot (numbered P Q A).1
 
 -- a and b are the two sides of the statement, with numbered names
 pub record AreSides (s : Statement) (a b : Applied) : Type 0 where

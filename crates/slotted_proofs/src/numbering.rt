@@ -1,11 +1,11 @@
 //! The form of an equation whose names are numbered as they first occur.
 ghost use Rattle.std.specs.Prelude.{◌≡◌, ◌+◌, ◌^◌, ◌<◌, ◌≤◌, ◌↔◌, length, IsTrue, IfOk, IfErr, IsErrOf};
-ghost use Rattle.slotted_theory.specs.FiniteMaps.{IsInjectiveMap, value_of};
+ghost use Rattle.slotted_theory.specs.FiniteMaps.{IsInjectiveMap, value_of, with_values};
 ghost use Rattle.slotted_slots.specs.Ascending.{IsAscending};
 ghost use Rattle.slotted_slots.specs.Error.{IsOutOfMemory, IsShortage};
 ghost use Rattle.slotted_slots.specs.Table.{numeric_slot};
 ghost use Rattle.slotted_model.specs.Applied.{keys};
-ghost use Rattle.slotted_model.specs.Correspondence.{AllDifferent, same_names, turned, composite as one_after_another, with_names, numbered_from, numbered_after, IsPartialInjection};
+ghost use Rattle.slotted_model.specs.Correspondence.{AllDifferent, same_names, turned, composite as one_after_another, numbered_from, numbered_after, IsPartialInjection};
 ghost use Rattle.slotted_proofs.specs.Equations.{to_applied, equality, statement_of, reflexive_statement, composite_statement, Meets, IsWritten};
 
 use crate::equation::Equation;
@@ -40,7 +40,7 @@ fn is_short(l: &AppliedId, r: &AppliedId) -> bool
 // The left side: its slots with the names `$0`, `$1` and so on.
 fn number_left(alloc: Global, map: &SlotMap) -> Result<SlotMap, Error>
     requires { length map.now < 2 ^ 30 }
-    ensures ok { IfOk result (λ m. m ≡ with_names numeric_slot (numbered_from 0 (keys map.now))) }
+    ensures ok { IfOk result (λ m. m ≡ with_values numeric_slot (numbered_from 0 (keys map.now))) }
     ensures err { IfErr result IsOutOfMemory }
 {
     let mut side = map.copy(alloc)?;
@@ -58,8 +58,8 @@ fn number_right(
     partners: &SlotMap,
 ) -> Result<SlotMap, Error>
     requires few { length left.now + length map.now < 2 ^ 30 }
-    requires left { left.now ≡ with_names numeric_slot (numbered_from 0 (keys left.now)) }
-    ensures ok { IfOk result (λ m. m ≡ with_names numeric_slot (numbered_after (value_of (one_after_another partners.now (numbered_from 0 (keys left.now)))) (length left.now) (keys map.now))) }
+    requires left { left.now ≡ with_values numeric_slot (numbered_from 0 (keys left.now)) }
+    ensures ok { IfOk result (λ m. m ≡ with_values numeric_slot (numbered_after (value_of (one_after_another partners.now (numbered_from 0 (keys left.now)))) (length left.now) (keys map.now))) }
     ensures err { IfErr result IsOutOfMemory }
 {
     let known = partners.compose_partial(alloc, left)?;

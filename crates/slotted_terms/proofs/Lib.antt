@@ -6,7 +6,6 @@ pub mod Opened
 pub mod Binders
 pub mod Matched
 pub mod Alike
-pub mod Refusals
 pub mod AsTerms
 pub mod TermPatterns
 pub mod ValidTexts

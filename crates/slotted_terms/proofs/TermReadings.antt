@@ -8,7 +8,7 @@ use Rattle.slotted_slots.specs.declared.error.Error.{Error}
 use Rattle.slotted_slots.specs.declared.error.Error.TheVariants.{OutOfMemory, OutOfSlots, Failed, Parse, NotATerm, SubstInSearch, MissingVariable, NotEqual, BadStep, UnknownClass, NumberTooLarge, NotYet}
 use Rattle.slotted_nodes.specs.Form.{Form}
 use Rattle.slotted_patterns.specs.Tree.{PatternTree}
-use Rattle.slotted_patterns.specs.Outcome as pattern
+use Rattle.slotted_patterns.specs.Outcome.{parsed, Refuses, Answers}
 use Rattle.slotted_patterns.specs.Parsed.{PatternReads}
 use Rattle.slotted_patterns.specs.Known.{HasKnownNames}
 use Rattle.slotted_terms.specs.Valid.{IsValidTerm}
@@ -16,28 +16,27 @@ use Rattle.slotted_terms.proofs.ValidTexts.{term_valid}
 use Rattle.slotted_patterns.proofs.OneReading as unique
 use Rattle.slotted_patterns.proofs.SomeReading as total
 use Rattle.slotted_terms.specs.AsTerm.{as_term, IsRefusal}
-use Rattle.slotted_terms.specs.Outcome.{Outcome, parsed, Refuses, Answers}
-use Rattle.slotted_terms.specs.Parsed.{TextReads, as_pattern, term_outcome, term_or_none}
+use Rattle.slotted_terms.specs.Parsed.{TermOutcome, TextReads, as_pattern, term_outcome, term_or_none}
 
-pub one_reading : (read : List Element → Option Form) (t : Table) (cs : List ℕ) (o p : Outcome) (u v : Table) → TextReads read t cs o u → TextReads read t cs p v → (o ≡ p) × (u ≡ v)
+pub one_reading : (read : List Element → Option Form) (t : Table) (cs : List ℕ) (o p : TermOutcome) (u v : Table) → TextReads read t cs o u → TextReads read t cs p v → (o ≡ p) × (u ≡ v)
 one_reading read t cs o p u v (as_pattern {o = a} h) (as_pattern {o = b} k) =
     let e = unique.one_reading read t cs a b u v h k in
     (ap term_outcome e.0, e.1)
 
-pub some_reading : (read : List Element → Option Form) (t : Table) (cs : List ℕ) → (o : Outcome) × (u : Table) × TextReads read t cs o u
+pub some_reading : (read : List Element → Option Form) (t : Table) (cs : List ℕ) → (o : TermOutcome) × (u : Table) × TextReads read t cs o u
 some_reading read t cs =
     let r = total.some_reading read t cs in
     (term_outcome r.0, r.1, as_pattern r.2)
 
 module _ (read : List Element → Option Form) (t : Table) (cs : List ℕ) (u : Table) where
   -- a pattern that is this term
-  pub reads_term : (p : PatternTree) (x : Term) → PatternReads read t cs (pattern.parsed p) u → as_term p ≡ Some x → TextReads read t cs (parsed x) u
+  pub reads_term : (p : PatternTree) (x : Term) → PatternReads read t cs (parsed p) u → as_term p ≡ Some x → TextReads read t cs (parsed x) u
   reads_term p x h e = subst (λ o. TextReads read t cs (term_or_none o) u) e (as_pattern h)
 
   -- a text that is no pattern
-  pub refuses_pattern : (e : Error) → pattern.Refuses (λ o. PatternReads read t cs o u) e → Refuses (λ o. TextReads read t cs o u) e
+  pub refuses_pattern : (e : Error) → Refuses (λ o. PatternReads read t cs o u) e → Refuses (λ o. TextReads read t cs o u) e
   refuses_pattern (Parse p) h = as_pattern h
-  refuses_pattern NotATerm h = absurd h
+  refuses_pattern NotATerm h = absurd h.0
   refuses_pattern NumberTooLarge h = as_pattern h
   refuses_pattern OutOfSlots h = as_pattern h
   refuses_pattern OutOfMemory h = tt
@@ -50,9 +49,9 @@ module _ (read : List Element → Option Form) (t : Table) (cs : List ℕ) (u : 
   refuses_pattern NotYet h = h
 
   -- a pattern that is no term
-  pub refuses_term : (p : PatternTree) (e : Error) → PatternReads read t cs (pattern.parsed p) u → IsRefusal (as_term p) e → Refuses (λ o. TextReads read t cs o u) e
+  pub refuses_term : (p : PatternTree) (e : Error) → PatternReads read t cs (parsed p) u → IsRefusal (as_term p) e → Refuses (λ o. TextReads read t cs o u) e
   refuses_term p (Parse q) h k = absurd k
-  refuses_term p NotATerm h k = subst (λ o. TextReads read t cs (term_or_none o) u) k (as_pattern h)
+  refuses_term p NotATerm h k = (tt, subst (λ o. TextReads read t cs (term_or_none o) u) k (as_pattern h))
   refuses_term p NumberTooLarge h k = absurd k
   refuses_term p OutOfSlots h k = absurd k
   refuses_term p OutOfMemory h k = tt
@@ -65,7 +64,7 @@ module _ (read : List Element → Option Form) (t : Table) (cs : List ℕ) (u : 
   refuses_term p NotYet h k = k
 
   -- the answer for a text that is a pattern
-  pub answers_term : (p : PatternTree) (r : Result Term Error) → PatternReads read t cs (pattern.parsed p) u → IfOk r (λ x. as_term p ≡ Some x) → IfErr r (IsRefusal (as_term p)) → Answers (λ o. TextReads read t cs o u) r
+  pub answers_term : (p : PatternTree) (r : Result Term Error) → PatternReads read t cs (parsed p) u → IfOk r (λ x. as_term p ≡ Some x) → IfErr r (IsRefusal (as_term p)) → Answers (λ t. t) (λ o. TextReads read t cs o u) r
   answers_term p (Ok x) h e k = reads_term p x h e
   answers_term p (Err e) h n k = refuses_term p e h k
 

@@ -1,6 +1,5 @@
 -- What expressions are seen as, and what texts read as.
 pub mod Seen
-pub mod Outcome
 pub mod AsTerm
 pub mod TermPattern
 pub mod Parsed

@@ -4,32 +4,36 @@ use Rattle.slotted_theory.specs.Term.{Term}
 use Rattle.slotted_slots.specs.Syntax.{Element}
 use Rattle.slotted_slots.specs.Table.{Table}
 use Rattle.slotted_nodes.specs.Form.{Form}
-use Rattle.slotted_patterns.specs.Outcome as pattern
+use Rattle.slotted_patterns.specs.Outcome.{Outcome, PatternOutcome, parsed, outside, not_a_term, number_too_large, out_of_slots}
 use Rattle.slotted_patterns.specs.Parsed.{PatternReads}
 use Rattle.slotted_terms.specs.AsTerm.{as_term}
-use Rattle.slotted_terms.specs.Outcome.{Outcome, parsed, outside, not_a_term, number_too_large, out_of_slots}
+
+-- where terms are read, a pattern that is no term is refused
+abbrev pub TermOutcome : Type 0
+TermOutcome = Outcome Term (Unit {0})
 
 -- the term, if it is one
-abbrev pub term_or_none : Option Term → Outcome
+abbrev pub term_or_none : Option Term → TermOutcome
 term_or_none (Some t) = parsed t
-term_or_none None = not_a_term
+term_or_none None = not_a_term tt
 
 -- what a text writes that reads so as a pattern
-abbrev pub term_outcome : pattern.Outcome → Outcome
-term_outcome (pattern.parsed p) = term_or_none (as_term p)
-term_outcome (pattern.outside f) = outside f
-term_outcome pattern.number_too_large = number_too_large
-term_outcome pattern.out_of_slots = out_of_slots
+abbrev pub term_outcome : PatternOutcome → TermOutcome
+term_outcome (parsed p) = term_or_none (as_term p)
+term_outcome (outside f) = outside f
+term_outcome (not_a_term n) = absurd n
+term_outcome number_too_large = number_too_large
+term_outcome out_of_slots = out_of_slots
 
 -- what the characters of a text read as, with the table before and after: a text reads as a pattern, and that may be a
 -- term
-pub data TextReads (read : List Element → Option Form) (t : Table) (cs : List ℕ) : Outcome → Table → Type 0 where
-  as_pattern : {o : pattern.Outcome} {u : Table} → PatternReads read t cs o u → TextReads read t cs (term_outcome o) u
+pub data TextReads (read : List Element → Option Form) (t : Table) (cs : List ℕ) : TermOutcome → Table → Type 0 where
+  as_pattern : {o : PatternOutcome} {u : Table} → PatternReads read t cs o u → TextReads read t cs (term_outcome o) u
 
 -- a text reads in at most one way, whatever the language
 abbrev pub ReadsOneWay : Type 0
-ReadsOneWay = (read : List Element → Option Form) (t : Table) (cs : List ℕ) (o p : Outcome) (u v : Table) → TextReads read t cs o u → TextReads read t cs p v → (o ≡ p) × (u ≡ v)
+ReadsOneWay = (read : List Element → Option Form) (t : Table) (cs : List ℕ) (o p : TermOutcome) (u v : Table) → TextReads read t cs o u → TextReads read t cs p v → (o ≡ p) × (u ≡ v)
 
 -- a text reads in at least one way, whatever the language
 abbrev pub ReadsSomeWay : Type 0
-ReadsSomeWay = (read : List Element → Option Form) (t : Table) (cs : List ℕ) → (o : Outcome) × (u : Table) × TextReads read t cs o u
+ReadsSomeWay = (read : List Element → Option Form) (t : Table) (cs : List ℕ) → (o : TermOutcome) × (u : Table) × TextReads read t cs o u

@@ -2,7 +2,7 @@
 ghost use Rattle.std.specs.Prelude.{IfOk};
 ghost use Rattle.std.specs.Str.{chars};
 ghost use Rattle.slotted_slots.specs.Table.{KnowsMore};
-ghost use Rattle.slotted_terms.specs.Outcome.{Answers};
+ghost use Rattle.slotted_patterns.specs.Outcome.{Answers};
 ghost use Rattle.slotted_terms.specs.Parsed.{TextReads, ReadsOneWay, ReadsSomeWay};
 ghost use Rattle.slotted_terms.specs.ReadAgain.{ReadsAsNodes};
 ghost use Rattle.slotted_terms.specs.Valid.{IsValidTerm};
@@ -24,7 +24,7 @@ impl<L: Language> RecExpr<L> {
     /// The text is read as a pattern, and `NotATerm` if that is no term. All tokens are read first, and each slot's name is looked up or kept in the table as its
     /// token is read. A refusal leaves in the table the names that were read before it.
     pub fn parse(alloc: Global, text: &str, table: &mut SlotTable) -> Result<RecExpr<L>, Error>
-        ensures answer { Answers (λ o. TextReads L.read table.old (chars text.now) o table.new) result }
+        ensures answer { Answers (λ t. t) (λ o. TextReads L.read table.old (chars text.now) o table.new) result }
         ensures valid { IfOk result (λ t. IsValidTerm table.new t) }
 
         // It was read as a pattern of nodes of the language: so what it prints reads as it (`each_term_reads_as_itself`).

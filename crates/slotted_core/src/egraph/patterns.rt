@@ -17,7 +17,7 @@ impl<L: Language, N: Drop> EGraph<L, N> {
     /// table. A text that is refused does not fail the graph, and the names that were read before it stay in the table.
     pub fn parse_pattern(&mut self, text: &str) -> Result<Pattern<L>, Error>
         // The answer is that of the text over the graph's table, which knows the names of the pattern's nodes from now on.
-        ensures answer { self.old.failed ≡ false → Answers L.form (λ o. PatternReads L.read self.old.table (chars text.now) o self.new.table) result }
+        ensures answer { self.old.failed ≡ false → Answers (tree_of L.form) (λ o. PatternReads L.read self.old.table (chars text.now) o self.new.table) result }
         ensures known { IfOk result (λ p. HasKnownNames self.new.table (tree_of L.form p)) }
 
         // Only the table changes, and on a failed graph nothing does.

@@ -4,9 +4,9 @@ use Rattle.std.specs.Prelude.{◌↔◌, Contains, option_map, ◌++◌}
 use Rattle.std.specs.List.{cons_option}
 use Rattle.std.specs.Map.{keys_of, values_of}
 use Rattle.std.proofs.lemmas.List.Elements.{Contains-append_left, Contains-append_right}
-use Rattle.slotted_theory.specs.FiniteMaps.{value_of, HasValue, IsInjectiveMap}
+use Rattle.slotted_theory.specs.FiniteMaps.{value_of, HasValue, IsInjectiveMap, with_values}
 use Rattle.slotted_theory.proofs.Lists.{contains_head, contains_tail, contains_cases, Contains-nil, Contains-map, Contains-of_map}
-use Rattle.slotted_model.specs.Correspondence.{AllDifferent, IsFullMap, IsInjectiveOn, with_names, pairs_on, flipped, turned, same_names, IsPartialInjection, identity}
+use Rattle.slotted_model.specs.Correspondence.{AllDifferent, IsFullMap, IsInjectiveOn, pairs_on, flipped, turned, same_names, IsPartialInjection, identity}
 use Rattle.slotted_model.proofs.Correspondences.Pairs.{Contains-composite, Contains-flipped, Contains-of_flipped, Contains-key, Contains-of_key, Contains-value, value_of-same, value_of-other, value_of-only, pairs_on-agree}
 use Rattle.slotted_model.proofs.Correspondences.PartialInjections.{in_order-ext, one_partner, composite-in_order, composite-over, pairs_on-in_order, turned-pair, turned-by, identity-in_order, identity-pair, identity-by, identity-both}
 
@@ -96,24 +96,24 @@ full-ext P m n f g h = in_order-ext P m n (full-in_order P m f) (full-in_order P
     let r = full-name P m f s (full-slot P n g s x c) in
     subst (λ y. Contains m (s, y)) (full-one_name P n g s r.0 x (h s r.0 r.1) c) r.1)
 
--- the map with f put on its names
-pub with_names-keys : (f : ℕ → ℕ) (m : List (ℕ × ℕ)) → keys_of (with_names f m) ≡ keys_of m
-with_names-keys f [] = refl
-with_names-keys f (p ∷ m) = ap (λ L. p.0 ∷ L) (with_names-keys f m)
+-- the map with f put on its values
+pub with_values-keys : (f : ℕ → ℕ) (m : List (ℕ × ℕ)) → keys_of (with_values f m) ≡ keys_of m
+with_values-keys f [] = refl
+with_values-keys f (p ∷ m) = ap (λ L. p.0 ∷ L) (with_values-keys f m)
 
-pub with_names-by : (f : ℕ → ℕ) (m : List (ℕ × ℕ)) (s x : ℕ) → Contains m (s, x) → Contains (with_names f m) (s, f x)
-with_names-by f m s x c = Contains-map (λ p. (p.0, f p.1)) m (s, x) c
+pub with_values-by : (f : ℕ → ℕ) (m : List (ℕ × ℕ)) (s x : ℕ) → Contains m (s, x) → Contains (with_values f m) (s, f x)
+with_values-by f m s x c = Contains-map (λ p. (p.0, f p.1)) m (s, x) c
 
-pub with_names-pair : (f : ℕ → ℕ) (m : List (ℕ × ℕ)) (s y : ℕ) → Contains (with_names f m) (s, y) → (x : ℕ) × Contains m (s, x) × (f x ≡ y)
-with_names-pair f m s y c =
+pub with_values-pair : (f : ℕ → ℕ) (m : List (ℕ × ℕ)) (s y : ℕ) → Contains (with_values f m) (s, y) → (x : ℕ) × Contains m (s, x) × (f x ≡ y)
+with_values-pair f m s y c =
     let r : (p : ℕ × ℕ) × Contains m p × (◌≡◌ {A = ℕ × ℕ} (p.0, f p.1) (s, y)) = Contains-of_map (λ p. (p.0, f p.1)) m (s, y) c in
     (r.0.1, subst (λ k. Contains m (k, r.0.1)) (ap (λ q. q.0) r.2) r.1, ap (λ q. q.1) r.2)
 
-pub with_names-full : (f : ℕ → ℕ) (P : List ℕ) (m : List (ℕ × ℕ)) → IsFullMap P m → IsInjectiveOn f (values_of m) → IsFullMap P (with_names f m)
-with_names-full f P m h i = full-from P (with_names f m) (with_names-keys f m ∙ h.slots) h.once
+pub with_values-full : (f : ℕ → ℕ) (P : List ℕ) (m : List (ℕ × ℕ)) → IsFullMap P m → IsInjectiveOn f (values_of m) → IsFullMap P (with_values f m)
+with_values-full f P m h i = full-from P (with_values f m) (with_values-keys f m ∙ h.slots) h.once
     (λ s s' y c d.
-    let r = with_names-pair f m s y c in
-    let q = with_names-pair f m s' y d in
+    let r = with_values-pair f m s y c in
+    let q = with_values-pair f m s' y d in
     let e : r.0 ≡ q.0 = i r.0 q.0 (Contains-value m s r.0 r.1) (Contains-value m s' q.0 q.1) (r.2 ∙ sym q.2) in
     full-one_slot P m h s s' q.0 (subst (λ x. Contains m (s, x)) e r.1) q.1)
 
@@ -147,19 +147,19 @@ same_names-is P Q m n A f g o h k = in_order-ext P (same_names m n) A (same_name
     (λ s t c. let r = k s t c in same_names-by Q m n g s t r.0 r.1 r.2)
 
 -- a map that is injective on the names of both sides keeps the correspondence
-pub same_names-with_names : (f : ℕ → ℕ) (P Q : List ℕ) (m n : List (ℕ × ℕ)) → IsFullMap P m → IsFullMap Q n → IsInjectiveOn f (values_of m ++ values_of n) → same_names (with_names f m) (with_names f n) ≡ same_names m n
-same_names-with_names f P Q m n a b i =
+pub same_names-with_values : (f : ℕ → ℕ) (P Q : List ℕ) (m n : List (ℕ × ℕ)) → IsFullMap P m → IsFullMap Q n → IsInjectiveOn f (values_of m ++ values_of n) → same_names (with_values f m) (with_values f n) ≡ same_names m n
+same_names-with_values f P Q m n a b i =
     let i₁ : IsInjectiveOn f (values_of m) = λ x y c d e. i x y (Contains-append_left (values_of m) (values_of n) x c) (Contains-append_left (values_of m) (values_of n) y d) e in
     let i₂ : IsInjectiveOn f (values_of n) = λ x y c d e. i x y (Contains-append_right (values_of m) (values_of n) x c) (Contains-append_right (values_of m) (values_of n) y d) e in
-    same_names-is P Q (with_names f m) (with_names f n) (same_names m n) (with_names-full f P m a i₁) (with_names-full f Q n b i₂) (same_names-in_order P m n a)
+    same_names-is P Q (with_values f m) (with_values f n) (same_names m n) (with_values-full f P m a i₁) (with_values-full f Q n b i₂) (same_names-in_order P m n a)
     (λ s t y c d.
-    let r = with_names-pair f m s y c in
-    let q = with_names-pair f n t y d in
+    let r = with_values-pair f m s y c in
+    let q = with_values-pair f n t y d in
     let e : r.0 ≡ q.0 = i r.0 q.0 (Contains-append_left (values_of m) (values_of n) r.0 (Contains-value m s r.0 r.1)) (Contains-append_right (values_of m) (values_of n) q.0 (Contains-value n t q.0 q.1)) (r.2 ∙ sym q.2) in
     same_names-by Q m n b s t q.0 (subst (λ x. Contains m (s, x)) e r.1) q.1)
     (λ s t c.
     let r = same_names-over m n s t c in
-    (f r.0, with_names-by f m s r.0 r.1, with_names-by f n t r.0 r.2))
+    (f r.0, with_values-by f m s r.0 r.1, with_values-by f n t r.0 r.2))
 
 -- turning an equation round turns its correspondence
 pub same_names-turned : (P Q : List ℕ) (m n : List (ℕ × ℕ)) → IsFullMap P m → IsFullMap Q n → same_names n m ≡ turned Q (same_names m n)

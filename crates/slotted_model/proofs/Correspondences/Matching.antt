@@ -6,10 +6,11 @@ use Rattle.std.proofs.lemmas.List.Elements.{Contains-append_left, Contains-appen
 use Rattle.slotted_theory.specs.Renaming.{Bijection, IsInjective}
 use Rattle.slotted_theory.proofs.Lists.{contains_head, contains_tail, contains_cases, Contains-nil}
 use Rattle.slotted_theory.proofs.Bijections.{to-injective, then, swap, same, swapped-first, swapped-other}
-use Rattle.slotted_model.specs.Correspondence.{IsFullMap, with_names, flipped, composite, same_names, IsMatch}
+use Rattle.slotted_theory.specs.FiniteMaps.{with_values}
+use Rattle.slotted_model.specs.Correspondence.{IsFullMap, flipped, composite, same_names, IsMatch}
 use Rattle.slotted_model.proofs.Correspondences.Pairs.{Contains-flipped, Contains-of_flipped}
 use Rattle.slotted_model.proofs.Correspondences.PartialInjections.{composite-over, composite-by}
-use Rattle.slotted_model.proofs.Correspondences.FullMaps.{full-in_order, full-name, full-slot, full-one_name, full-one_slot, full-ext, with_names-full, with_names-pair, same_names-over, same_names-by, same_names-with_names}
+use Rattle.slotted_model.proofs.Correspondences.FullMaps.{full-in_order, full-name, full-slot, full-one_name, full-one_slot, full-ext, with_values-full, with_values-pair, same_names-over, same_names-by, same_names-with_values}
 
 -- a bijection of all names that takes the first name of each pair to the second
 pub record Takes (w : List (ℕ × ℕ)) : Type 0 where
@@ -92,29 +93,29 @@ renamings-one_to_one P Q m n m' n' f g f' g' e = record {
 }
 
 -- a map that takes the names of m to those of m' takes m to m'
-with_names-is : (f : ℕ → ℕ) → IsInjective f → (P : List ℕ) (m m' : List (ℕ × ℕ)) → IsFullMap P m → IsFullMap P m' → ((s x y : ℕ) → Contains m (s, x) → Contains m' (s, y) → f x ≡ y) → m' ≡ with_names f m
-with_names-is f inj P m m' a b h = sym (full-ext P (with_names f m) m' (with_names-full f P m a (λ x y c d e. inj x y e)) b
+with_values-is : (f : ℕ → ℕ) → IsInjective f → (P : List ℕ) (m m' : List (ℕ × ℕ)) → IsFullMap P m → IsFullMap P m' → ((s x y : ℕ) → Contains m (s, x) → Contains m' (s, y) → f x ≡ y) → m' ≡ with_values f m
+with_values-is f inj P m m' a b h = sym (full-ext P (with_values f m) m' (with_values-full f P m a (λ x y c d e. inj x y e)) b
     (λ s y c.
-    let r = with_names-pair f m s y c in
+    let r = with_values-pair f m s y c in
     let q = full-name P m' b s (full-slot P m a s r.0 r.1) in
     subst (λ z. Contains m' (s, z)) (sym (h s r.0 q.0 r.1 q.1) ∙ r.2) q.1))
 
 -- two equations have one correspondence exactly if a bijection of names takes the one to the other
-pub same_names-bijection : (P Q : List ℕ) (m n m' n' : List (ℕ × ℕ)) → IsFullMap P m → IsFullMap Q n → IsFullMap P m' → IsFullMap Q n' → same_names m n ≡ same_names m' n' → (π : Bijection) × (m' ≡ with_names π.to m) × (n' ≡ with_names π.to n)
+pub same_names-bijection : (P Q : List ℕ) (m n m' n' : List (ℕ × ℕ)) → IsFullMap P m → IsFullMap Q n → IsFullMap P m' → IsFullMap Q n' → same_names m n ≡ same_names m' n' → (π : Bijection) × (m' ≡ with_values π.to m) × (n' ≡ with_values π.to n)
 same_names-bijection P Q m n m' n' f g f' g' e =
     let r = takes_pairs (renamings m m' ++ renamings n n') (renamings-one_to_one P Q m n m' n' f g f' g' e) in (
       r.bijection,
-      with_names-is r.bijection.to (to-injective r.bijection) P m m' f f'
+      with_values-is r.bijection.to (to-injective r.bijection) P m m' f f'
           (λ s x y c d. r.takes x y (Contains-append_left (renamings m m') (renamings n n') (x, y) (composite-by P (flipped m) m' (full-in_order P m' f') x s y (Contains-flipped m s x c) d))),
-      with_names-is r.bijection.to (to-injective r.bijection) Q n n' g g'
+      with_values-is r.bijection.to (to-injective r.bijection) Q n n' g g'
           (λ t x y c d. r.takes x y (Contains-append_right (renamings m m') (renamings n n') (x, y) (composite-by Q (flipped n) n' (full-in_order Q n' g') x t y (Contains-flipped n t x c) d))),
     )
 
-pub same_names-renamed : (P Q : List ℕ) (m n m' n' : List (ℕ × ℕ)) → IsFullMap P m → IsFullMap Q n → (f : ℕ → ℕ) → IsInjective f → m' ≡ with_names f m → n' ≡ with_names f n → same_names m n ≡ same_names m' n'
+pub same_names-renamed : (P Q : List ℕ) (m n m' n' : List (ℕ × ℕ)) → IsFullMap P m → IsFullMap Q n → (f : ℕ → ℕ) → IsInjective f → m' ≡ with_values f m → n' ≡ with_values f n → same_names m n ≡ same_names m' n'
 same_names-renamed P Q m n m' n' a b f inj p q =
-    sym (same_names-with_names f P Q m n a b (λ x y c d e. inj x y e)) ∙ (λ i. same_names (sym p i) (sym q i))
+    sym (same_names-with_values f P Q m n a b (λ x y c d e. inj x y e)) ∙ (λ i. same_names (sym p i) (sym q i))
 
-pub same_names_iff : (P Q : List ℕ) (m n m' n' : List (ℕ × ℕ)) → IsFullMap P m → IsFullMap Q n → IsFullMap P m' → IsFullMap Q n' → (same_names m n ≡ same_names m' n') ↔ ((π : Bijection) × (m' ≡ with_names π.to m) × (n' ≡ with_names π.to n))
+pub same_names_iff : (P Q : List ℕ) (m n m' n' : List (ℕ × ℕ)) → IsFullMap P m → IsFullMap Q n → IsFullMap P m' → IsFullMap Q n' → (same_names m n ≡ same_names m' n') ↔ ((π : Bijection) × (m' ≡ with_values π.to m) × (n' ≡ with_values π.to n))
 same_names_iff P Q m n m' n' f g f' g' = (
   same_names-bijection P Q m n m' n' f g f' g',
   λ r. same_names-renamed P Q m n m' n' f g r.0.to (to-injective r.0) r.1 r.2,

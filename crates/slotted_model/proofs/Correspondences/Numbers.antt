@@ -5,10 +5,10 @@ use Rattle.std.specs.Map.{keys_of, values_of}
 use Rattle.std.proofs.lemmas.Bool.{cases_eq}
 use Rattle.std.proofs.lemmas.List.Elements.{Contains-append_left, Contains-append_right}
 use Rattle.slotted_theory.specs.Renaming.{IsInjective}
-use Rattle.slotted_theory.specs.FiniteMaps.{value_of}
+use Rattle.slotted_theory.specs.FiniteMaps.{value_of, with_values}
 use Rattle.slotted_theory.proofs.Lists.{contains_head, contains_tail, contains_cases, Contains-nil}
 use Rattle.slotted_theory.proofs.Bijections.{to-injective}
-use Rattle.slotted_model.specs.Correspondence.{AllDifferent, IsFullMap, with_names, flipped, composite, same_names, IsPartialInjection, IsMatch, numbered_from, numbered_after, numbered, IsNumberedAfter, IsNumberedForm}
+use Rattle.slotted_model.specs.Correspondence.{AllDifferent, IsFullMap, flipped, composite, same_names, IsPartialInjection, IsMatch, numbered_from, numbered_after, numbered, IsNumberedAfter, IsNumberedForm}
 use Rattle.slotted_model.proofs.Correspondences.Pairs.{Contains-flipped, Contains-of_flipped, Contains-value_of, value_of-found}
 use Rattle.slotted_model.proofs.Correspondences.PartialInjections.{key_in_order, one_partner, composite-over, composite-by}
 use Rattle.slotted_model.proofs.Correspondences.FullMaps.{full-in_order, full-name, full-one_slot, full-from, same_names-is, same_names-partial}
@@ -225,14 +225,14 @@ numbered-fixed f inj k h (x ∷ xs) (inr a) (inr b) y c =
           xs a.1 b.1 y d
     ]
 
-with_names-fixed : (f : ℕ → ℕ) (m : List (ℕ × ℕ)) → ((x : ℕ) → Contains (values_of m) x → f x ≡ x) → with_names f m ≡ m
-with_names-fixed f [] h = refl
-with_names-fixed f (p ∷ m) h = λ i. (p.0, h p.1 (contains_head p.1 (values_of m)) i) ∷ with_names-fixed f m (λ x c. h x (contains_tail p.1 (values_of m) x c)) i
+with_values-fixed : (f : ℕ → ℕ) (m : List (ℕ × ℕ)) → ((x : ℕ) → Contains (values_of m) x → f x ≡ x) → with_values f m ≡ m
+with_values-fixed f [] h = refl
+with_values-fixed f (p ∷ m) h = λ i. (p.0, h p.1 (contains_head p.1 (values_of m)) i) ∷ with_values-fixed f m (λ x c. h x (contains_tail p.1 (values_of m) x c)) i
 
-with_names-values : (f : ℕ → ℕ) (m n : List (ℕ × ℕ)) → values_of (with_names f m) ++ values_of (with_names f n) ≡ map f (values_of m ++ values_of n)
-with_names-values f [] [] = refl
-with_names-values f [] (p ∷ n) = ap (λ L. f p.1 ∷ L) (with_names-values f [] n)
-with_names-values f (p ∷ m) n = ap (λ L. f p.1 ∷ L) (with_names-values f m n)
+with_values-values : (f : ℕ → ℕ) (m n : List (ℕ × ℕ)) → values_of (with_values f m) ++ values_of (with_values f n) ≡ map f (values_of m ++ values_of n)
+with_values-values f [] [] = refl
+with_values-values f [] (p ∷ n) = ap (λ L. f p.1 ∷ L) (with_values-values f [] n)
+with_values-values f (p ∷ m) n = ap (λ L. f p.1 ∷ L) (with_values-values f m n)
 
 -- two maps whose names are numbered as they first occur are those of their correspondence
 pub numbered-only : (P Q : List ℕ) (m n : List (ℕ × ℕ)) → IsFullMap P m → IsFullMap Q n → IsNumberedAfter 0 (values_of m ++ values_of n) → numbered P Q (same_names m n) ≡ (m, n)
@@ -240,10 +240,10 @@ numbered-only P Q m n f g h =
     let a = same_names-partial P Q m n f g in
     let l = numbered P Q (same_names m n) in
     let r = same_names-bijection P Q m n l.0 l.1 f g (left-full P Q (same_names m n) f.once g.once a) (right-full P Q (same_names m n) f.once g.once a) (sym (numbers-correspond P Q (same_names m n) f.once g.once a)) in
-    let v : IsNumberedAfter 0 (map r.0.to (values_of m ++ values_of n)) = subst (IsNumberedAfter 0) ((λ i. values_of (r.1 i) ++ values_of (r.2 i)) ∙ with_names-values r.0.to m n) (numbers-numbered P Q (same_names m n) f.once g.once a) in
+    let v : IsNumberedAfter 0 (map r.0.to (values_of m ++ values_of n)) = subst (IsNumberedAfter 0) ((λ i. values_of (r.1 i) ++ values_of (r.2 i)) ∙ with_values-values r.0.to m n) (numbers-numbered P Q (same_names m n) f.once g.once a) in
     let e : (x : ℕ) → Contains (values_of m ++ values_of n) x → r.0.to x ≡ x = numbered-fixed r.0.to (to-injective r.0) 0 (λ x b. absurd (omega arith)) (values_of m ++ values_of n) h v in
-    let p : l.0 ≡ m = r.1 ∙ with_names-fixed r.0.to m (λ x c. e x (Contains-append_left (values_of m) (values_of n) x c)) in
-    let q : l.1 ≡ n = r.2 ∙ with_names-fixed r.0.to n (λ x c. e x (Contains-append_right (values_of m) (values_of n) x c)) in
+    let p : l.0 ≡ m = r.1 ∙ with_values-fixed r.0.to m (λ x c. e x (Contains-append_left (values_of m) (values_of n) x c)) in
+    let q : l.1 ≡ n = r.2 ∙ with_values-fixed r.0.to n (λ x c. e x (Contains-append_right (values_of m) (values_of n) x c)) in
     λ i. (p i, q i)
 
 -- the correspondence of the numbered maps is the one that they are made for

@@ -1,5 +1,5 @@
 use Rattle.slotted_model.proofs.Correspondences.PartialInjections.{key_in_order, one_partner, in_order-ext, turned-partial, turned-pair, turned-by, turned-turned, turned-composite, composite-partial, composite-over, composite-by, composite-composite, identity-partial, identity-pair, identity-both, identity-composite, composite-identity}
-use Rattle.slotted_model.proofs.Correspondences.FullMaps.{equal_sides_iff, same_names-partial, same_names-over, same_names-by, with_names-full, same_names-with_names, same_names-turned, full-partial}
+use Rattle.slotted_model.proofs.Correspondences.FullMaps.{equal_sides_iff, same_names-partial, same_names-over, same_names-by, with_values-full, same_names-with_values, same_names-turned, full-partial}
 use Rattle.slotted_model.proofs.Correspondences.Listing.{partial_injection_iff}
 use Rattle.slotted_model.proofs.Correspondences.Matching.{same_names_iff, match_iff}
 use Rattle.slotted_model.proofs.Correspondences.Middle.{each_occurs, middle_iff}
@@ -21,8 +21,8 @@ returns c = record {
   composite_associates = composite-composite;
   identity_is_neutral = λ P Q A a. (identity-composite P Q A a, composite-identity P Q A a);
   correspondence_is_sharing = λ P Q m n f g. (same_names-partial P Q m n f g, λ s t. (same_names-over m n s t, λ r. same_names-by Q m n g s t r.0 r.1 r.2));
-  renaming_keeps_full_maps = with_names-full;
-  renaming_keeps_correspondence = same_names-with_names;
+  renaming_keeps_full_maps = with_values-full;
+  renaming_keeps_correspondence = same_names-with_values;
   exchanged_sides_turn = same_names-turned;
   equal_sides_are_identity = equal_sides_iff;
   one_correspondence_is_one_bijection = same_names_iff;

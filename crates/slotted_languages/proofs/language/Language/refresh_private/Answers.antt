@@ -4,7 +4,8 @@ use Rattle.slotted_slots.specs.Maps.{is_among}
 use Rattle.slotted_languages.specs.NodeTerm.{free_names_of}
 use Rattle.slotted_languages.proofs.TakenNames.{avoided_taken, free_stands}
 use Rattle.std.proofs.lemmas.Result.{IfOk-weaker}
-use Rattle.slotted_languages.specs.Shape.{shape, moved_names}
+use Rattle.slotted_theory.specs.FiniteMaps.{with_values}
+use Rattle.slotted_languages.specs.Shape.{shape}
 use Rattle.slotted_languages.proofs.Occurrences.{is_among-firsts, lacks_smaller}
 use Rattle.slotted_languages.proofs.Renamings.{among_index, has_values, moved_same, renamed_same}
 use Rattle.slotted_languages.proofs.language.Language.refresh_private.Goals as goal
@@ -16,7 +17,7 @@ pub returns-clause-same : goal.returns-clause-same
 returns-clause-same g c =
     let f = g.Self.LanguageChildren.form c.args.self.now in
     let p : c.in_ok-numbered.free ≡ (shape f).1 = λ i. (c.in_ok-numbered.ensures.shape i).1 in
-    let e : c.in_ok-numbered.free ≡ moved_names (λ x. x) (shape f).1 = p ∙ moved_same (shape f).1 in
+    let e : c.in_ok-numbered.free ≡ with_values (λ x. x) (shape f).1 = p ∙ moved_same (shape f).1 in
     IfOk-weaker c.rename.result _ _ (λ r h. renamed_same c.args.table.now f c.add_names.new.set (g.Self.LanguageChildren.form r) (h (λ x. x) e)) c.rename.ensures.renamed
 
 pub returns-clause-taken : goal.returns-clause-taken
@@ -35,7 +36,7 @@ pub returns-clause-fresh : goal.returns-clause-fresh
 returns-clause-fresh g c =
     let f = g.Self.LanguageChildren.form c.args.self.now in
     let p : c.in_ok-numbered.free ≡ (shape f).1 = λ i. (c.in_ok-numbered.ensures.shape i).1 in
-    let e : c.in_ok-numbered.free ≡ moved_names (λ x. x) (shape f).1 = p ∙ moved_same (shape f).1 in
+    let e : c.in_ok-numbered.free ≡ with_values (λ x. x) (shape f).1 = p ∙ moved_same (shape f).1 in
     IfOk-weaker c.rename.result _ _
     (λ r h j lt b. lacks_smaller _ _ (c.in_ok-add_names.ensures.added _) ((h (λ x. x) e).bound j lt b)) c.rename.ensures.renamed
 
@@ -43,7 +44,7 @@ pub returns-clause-unused : goal.returns-clause-unused
 returns-clause-unused g c =
     let f = g.Self.LanguageChildren.form c.args.self.now in
     let p : c.in_ok-numbered.free ≡ (shape f).1 = λ i. (c.in_ok-numbered.ensures.shape i).1 in
-    let e : c.in_ok-numbered.free ≡ moved_names (λ x. x) (shape f).1 = p ∙ moved_same (shape f).1 in
+    let e : c.in_ok-numbered.free ≡ with_values (λ x. x) (shape f).1 = p ∙ moved_same (shape f).1 in
     IfOk-weaker c.rename.result _ _
     (λ r h j lt b. (h (λ x. x) e).unused j lt b (c.in_ok-add_names.ensures.added _ (among_index f.names j lt))) c.rename.ensures.renamed
 
@@ -51,13 +52,13 @@ pub returns-clause-differ : goal.returns-clause-differ
 returns-clause-differ g c =
     let f = g.Self.LanguageChildren.form c.args.self.now in
     let p : c.in_ok-numbered.free ≡ (shape f).1 = λ i. (c.in_ok-numbered.ensures.shape i).1 in
-    let e : c.in_ok-numbered.free ≡ moved_names (λ x. x) (shape f).1 = p ∙ moved_same (shape f).1 in
+    let e : c.in_ok-numbered.free ≡ with_values (λ x. x) (shape f).1 = p ∙ moved_same (shape f).1 in
     IfOk-weaker c.rename.result _ _ (λ r h j k lt lk b q. (h (λ x. x) e).differ j k lt lk b q) c.rename.ensures.renamed
 
 pub returns-clause-apart : goal.returns-clause-apart
 returns-clause-apart g c =
     let f = g.Self.LanguageChildren.form c.args.self.now in
     let p : c.in_ok-numbered.free ≡ (shape f).1 = λ i. (c.in_ok-numbered.ensures.shape i).1 in
-    let e : c.in_ok-numbered.free ≡ moved_names (λ x. x) (shape f).1 = p ∙ moved_same (shape f).1 in
+    let e : c.in_ok-numbered.free ≡ with_values (λ x. x) (shape f).1 = p ∙ moved_same (shape f).1 in
     IfOk-weaker c.rename.result _ _
     (λ r h j k lt lk b u q. (h (λ x. x) e).apart j k lt lk b u (c.in_ok-add_names.ensures.added _ (among_index f.names j lt)) (c.in_ok-add_names.ensures.added _ (among_index f.names k lk)) q) c.rename.ensures.renamed

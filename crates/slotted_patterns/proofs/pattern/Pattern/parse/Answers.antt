@@ -2,6 +2,7 @@ use Rattle.std.proofs.Common.{map}
 use Rattle.std.specs.Str.{chars}
 use Rattle.std.proofs.lemmas.Result.{err_from_is_err_and}
 use Rattle.slotted_slots.specs.Syntax.{lexeme_of}
+use Rattle.slotted_patterns.specs.View.{tree_of}
 use Rattle.slotted_patterns.specs.Tokens.{HasBadToken}
 use Rattle.slotted_patterns.specs.Parsed.{TokensRead, PatternReads, without_tokens, by_tokens}
 use Rattle.slotted_patterns.proofs.Refusals.{Refuses-weaker, Answers-weaker}
@@ -16,7 +17,7 @@ returns-in_err-tokens-clause-answer g c =
 
 pub returns-clause-answer : goal.returns-clause-answer
 returns-clause-answer g c =
-    Answers-weaker g.L.LanguageChildren.form (TokensRead g.L.LanguageChildren.read (map lexeme_of c.in_ok-tokens.tokens.items)) (λ o. PatternReads g.L.LanguageChildren.read c.args.table.now (chars c.args.text.now) o c.tokenize.new.table) c.parse_tokens.result c.parse_tokens.ensures (λ o h. by_tokens c.in_ok-tokens.ensures.ok h)
+    Answers-weaker (tree_of g.L.LanguageChildren.form) (TokensRead g.L.LanguageChildren.read (map lexeme_of c.in_ok-tokens.tokens.items)) (λ o. PatternReads g.L.LanguageChildren.read c.args.table.now (chars c.args.text.now) o c.tokenize.new.table) c.parse_tokens.result c.parse_tokens.ensures (λ o h. by_tokens c.in_ok-tokens.ensures.ok h)
 
 pub returns-clause-known : goal.returns-clause-known
 returns-clause-known g c =
