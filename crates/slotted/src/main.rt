@@ -1,7 +1,7 @@
 // The program `slotted`: one line in, one answer out.
 #![tactic(auto)]
 
-ghost use Rattle.std.specs.Prelude.{IfSome, OnSome, OnOk};
+ghost use Rattle.std.specs.Prelude.{◌≡◌, IfOk, IfErr, IfSome, OnSome, OnOk};
 ghost use Rattle.std.specs.Io.KnownBytes.{Appends, IsAtEnd};
 ghost use Rattle.slotted_languages.specs.Small.{small_read};
 ghost use Rattle.slotted.specs.Streams.{SessionWrites};
@@ -41,9 +41,17 @@ fn answer_streams(rt: &HostRuntime) -> io::Result<()> {
     answer_lines(alloc, &mut input, &mut output)
 }
 
-fn main(rt: HostRuntime) -> ExitCode {
-    match answer_streams(&rt) {
+// The status at the end of a run: 0 where it ended well, and 1 where it did not.
+fn status_of(outcome: &io::Result<()>) -> ExitCode
+    ensures ok { IfOk outcome.now (λ _. result.status ≡ 0) }
+    ensures err { IfErr outcome.now (λ _. result.status ≡ 1) }
+{
+    match outcome {
         Ok(()) => ExitCode::SUCCESS,
         Err(_) => ExitCode::FAILURE,
     }
+}
+
+fn main(rt: HostRuntime) -> ExitCode {
+    status_of(&answer_streams(&rt))
 }
