@@ -5,5 +5,7 @@ mod explanation;
 mod flat;
 mod flat_terms;
 mod print;
+#[cfg(test)]
+mod tests;
 
 pub use explanation::Explanation;

@@ -1,10 +1,5 @@
-//! Worked equations, steps and printed proofs: tests alone. They stand in a crate of their own, since a crate with tests is
-//! proved twice.
+//! Worked equations and steps: tests alone. They stand in a crate of their own, since a crate with tests is proved twice.
 #![tactic(auto)]
 
 #[cfg(test)]
-mod chains;
-#[cfg(test)]
 mod lists;
-#[cfg(test)]
-mod printed;

@@ -1,4 +1,4 @@
-use Rattle.std.proofs.Common.{◌≡◌, ℕ, List, ◌∙◌, sym, subst}
+use Rattle.std.proofs.Common.{◌≡◌, ℕ, List, sym, subst}
 use Rattle.slotted_model.specs.Correspondence.{same_names}
 use Rattle.slotted_proofs.specs.Steps.{AreAsked}
 use Rattle.slotted_proofs.proofs.Stepping.{joined_pairs}

@@ -1,7 +1,7 @@
 //! Proofs as chains of terms, one test for each shape of proof.
-use crate::printed::{assert_equal, printed, put_text};
+use super::{assert_equal, printed, put_text};
+use crate::Explanation;
 use slotted_core::{Check, EGraph};
-use slotted_explain::Explanation;
 use slotted_languages::{Language, Small};
 use slotted_proofs::{
     CongruenceProof, Equation, ProvenEq, ReflexivityProof, SymmetryProof, TransitivityProof,

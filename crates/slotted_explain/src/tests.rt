@@ -1,20 +1,22 @@
 //! Proofs of worked graphs, printed.
+use crate::Explanation;
 use slotted_core::EGraph;
-use slotted_explain::Explanation;
 use slotted_languages::{Language, Small};
 use slotted_proofs::{Proof, ProvenEq};
 use slotted_slots::{AppliedId, Error, SlotTable};
 use slotted_terms::expr::printing::Printable;
 use std::alloc::Global;
 
+mod chains;
+
 // The id of the term that a text writes.
-pub(crate) fn put_text<L: Language>(graph: &mut EGraph<L>, text: &str) -> Result<AppliedId, Error> {
+fn put_text<L: Language>(graph: &mut EGraph<L>, text: &str) -> Result<AppliedId, Error> {
     let term = graph.parse_expr(text)?;
     graph.add_expr(&term)
 }
 
 // Unites two ids, if they are valid, and answers the first asserted number.
-pub(crate) fn assert_equal<L: Language>(
+fn assert_equal<L: Language>(
     graph: &mut EGraph<L>,
     a: &AppliedId,
     b: &AppliedId,
@@ -31,7 +33,7 @@ pub(crate) fn assert_equal<L: Language>(
 }
 
 // The printed proof, if there is one of this number.
-pub(crate) fn printed<L: Printable>(
+fn printed<L: Printable>(
     alloc: Global,
     graph: &mut EGraph<L>,
     p: ProvenEq,
