@@ -7,9 +7,6 @@ ghost use Rattle.slotted_patterns.specs.View.{tree_of};
 ghost use Rattle.slotted_patterns.specs.Known.{HasKnownNames};
 ghost use Rattle.slotted_patterns.specs.Parsed.{PatternReads, ReadsOneWay, ReadsSomeWay};
 
-#[cfg(test)]
-mod tests;
-
 use crate::grammar::parse_tokens;
 use crate::pattern::Pattern;
 use crate::tokens::tokenize;

@@ -17,12 +17,3 @@ pub use slot_map::SlotMap;
 pub use small::SmallHashSet;
 pub use small_map::SmallHashMap;
 pub use types::{AppliedId, Id};
-
-#[cfg(test)]
-mod map_tests;
-#[cfg(test)]
-mod set_tests;
-#[cfg(test)]
-mod small_map_tests;
-#[cfg(test)]
-mod tests;

@@ -13,8 +13,6 @@ use std::alloc::Global;
 use std::marker::Model;
 
 pub mod printing;
-#[cfg(test)]
-mod tests;
 
 /// A term: a node, and the terms that stand in the places of its children. The child ids inside `node` are ignored.
 #[derive(Drop)]

@@ -7,9 +7,6 @@ ghost use Rattle.slotted_terms.specs.Parsed.{TextReads, ReadsOneWay, ReadsSomeWa
 ghost use Rattle.slotted_terms.specs.ReadAgain.{ReadsAsNodes};
 ghost use Rattle.slotted_terms.specs.Valid.{IsValidTerm};
 
-#[cfg(test)]
-mod tests;
-
 use crate::expr::RecExpr;
 use crate::patterns::pattern_to_re;
 use slotted_languages::language::Language;

@@ -12,9 +12,6 @@ use slotted_patterns::Pattern;
 use slotted_slots::Error;
 use std::alloc::Global;
 
-#[cfg(test)]
-mod tests;
-
 /// The term that a pattern is. It is `NotATerm` where a variable or a substitution stands in it, or a node has a wrong
 /// number of child patterns.
 pub fn pattern_to_re<L: Language>(alloc: Global, pattern: &Pattern<L>) -> Result<RecExpr<L>, Error>

@@ -10,9 +10,6 @@ use slotted_slots::{Error, Show, SlotTable};
 use std::alloc::Global;
 use std::fmt;
 
-#[cfg(test)]
-mod tests;
-
 impl<L: Language> Pattern<L> {
     // Where the pattern's memory comes from.
     fn allocator(&self) -> Global {

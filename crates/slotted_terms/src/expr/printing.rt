@@ -15,9 +15,6 @@ use slotted_slots::{Error, Show, SlotTable};
 use std::alloc::Global;
 use std::fmt;
 
-#[cfg(test)]
-mod tests;
-
 /// A language whose terms print. There is nothing to call: an implementation says, to contracts, how a node is written
 /// where only its term is known.
 pub trait Printable: Language {

@@ -1,20 +1,24 @@
 //! What patterns of the written language print.
-use crate::pattern::Pattern;
-use slotted_languages::small::Small;
+use slotted_languages::{Language, Small};
+use slotted_patterns::Pattern;
 use slotted_slots::{Error, Show, SlotTable};
 use std::alloc::Global;
 use std::test::Fail;
 
 // What is printed of a pattern.
-fn shown(alloc: Global, pattern: &Pattern<Small>, table: &SlotTable) -> Result<String, Fail> {
+fn shown<L: Language>(
+    alloc: Global,
+    pattern: &Pattern<L>,
+    table: &SlotTable,
+) -> Result<String, Fail> {
     let shown = pattern.show(table);
     Ok(format!(in alloc; "{shown}")?)
 }
 
 // What is printed of the pattern that the text writes.
-fn printed(alloc: Global, text: &str) -> Result<String, Fail> {
+fn printed<L: Language>(alloc: Global, text: &str) -> Result<String, Fail> {
     let mut table = SlotTable::new(alloc);
-    let pattern = Pattern::parse(alloc, text, &mut table)?;
+    let pattern = Pattern::<L>::parse(alloc, text, &mut table)?;
     shown(alloc, &pattern, &table)
 }
 
@@ -29,14 +33,14 @@ fn a_pattern_prints_with_one_space_between_two_elements(rt: HostRuntime) -> Resu
             "(lam $x ?é)[(var $x) := 5]",
         ),
     ] {
-        let written = printed(rt.alloc(), text)?;
+        let written = printed::<Small>(rt.alloc(), text)?;
         assert!(rt; written.as_str() == answer, "at {text:?}: {written}");
     }
     Ok(())
 }
 
 // As many words as that.
-fn words(alloc: Global, count: usize) -> Result<Vec<Pattern<Small>>, Error> {
+fn words<L: Language>(alloc: Global, count: usize) -> Result<Vec<Pattern<L>>, Error> {
     let mut table = SlotTable::new(alloc);
     let mut patterns = Vec::new(alloc);
     for _ in 0..count {
@@ -46,9 +50,9 @@ fn words(alloc: Global, count: usize) -> Result<Vec<Pattern<Small>>, Error> {
 }
 
 // What is printed of the node of a text over so many words, and nothing of what is no node.
-fn printed_over(alloc: Global, text: &str, count: usize) -> Result<String, Fail> {
+fn printed_over<L: Language>(alloc: Global, text: &str, count: usize) -> Result<String, Fail> {
     let mut table = SlotTable::new(alloc);
-    match Pattern::parse(alloc, text, &mut table)? {
+    match Pattern::<L>::parse(alloc, text, &mut table)? {
         Pattern::ENode(node, _) => shown(
             alloc,
             &Pattern::ENode(node, words(alloc, count)?),
@@ -67,7 +71,7 @@ fn a_missing_child_prints_as_a_mark(rt: HostRuntime) -> Result<(), Fail> {
         ("(lam $x b)", 2, "(lam $x a)"),
         ("b", 1, "b"),
     ] {
-        let written = printed_over(rt.alloc(), text, count)?;
+        let written = printed_over::<Small>(rt.alloc(), text, count)?;
         assert!(rt; written.as_str() == answer, "at {text:?}: {written}");
     }
     Ok(())

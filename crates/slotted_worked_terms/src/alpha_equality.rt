@@ -1,9 +1,7 @@
 //! Alpha-equality and copies at the language `Small`, by worked terms.
-use crate::expr::RecExpr;
-use slotted_nodes::children::Bind;
-use slotted_languages::language::Language;
-use slotted_languages::small::Small;
+use slotted_languages::{Bind, Language, Small};
 use slotted_slots::{AppliedId, Error, Id, Slot, SlotMap, SlotTable};
+use slotted_terms::RecExpr;
 use std::alloc::Global;
 use std::process::Abort;
 
@@ -126,14 +124,14 @@ fn terms_that_differ_in_more(rt: HostRuntime) -> Result<(), Error> {
 }
 
 // Whether a copy has as many children and is the same term.
-fn copies(alloc: Global, text: &[u8]) -> Result<bool, Error> {
-    let source = term(alloc, text)?;
+fn copies<L: Language>(alloc: Global, source: &RecExpr<L>) -> Result<bool, Error> {
     let copy = source.copy(alloc)?;
-    Ok(copy.children.len() == source.children.len() && copy.alpha_eq(alloc, &source)?)
+    Ok(copy.children.len() == source.children.len() && copy.alpha_eq(alloc, source)?)
 }
 
 #[test]
 fn a_copy_is_the_same(rt: HostRuntime) -> Result<(), Error> {
-    assert!(rt; copies(rt.alloc(), b"12@dcb2")?);
+    let source = term(rt.alloc(), b"12@dcb2")?;
+    assert!(rt; copies(rt.alloc(), &source)?);
     Ok(())
 }

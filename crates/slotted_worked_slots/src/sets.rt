@@ -1,7 +1,19 @@
-//! Worked values of small sets: each call once.
-use crate::{Error, SmallHashSet};
+//! Small sets: each call once.
+use slotted_slots::{Error, SmallHashSet};
 use std::alloc::Global;
 use std::process::Abort;
+
+fn check_kept(rt: &impl Abort, set: &mut SmallHashSet<u32>) -> Result<(), Error> {
+    assert!(rt; set.is_empty());
+    assert!(rt; set.insert(3)? && set.insert(1)? && !set.insert(3)?);
+    assert!(rt; set.contains(&1) && set.len() == 2 && set.iter().next() == Some(&1));
+    Ok(())
+}
+
+#[test]
+fn sets_keep_each_element_once(rt: HostRuntime) -> Result<(), Error> {
+    check_kept(&rt, &mut SmallHashSet::new(rt.alloc()))
+}
 
 // The set of some numbers.
 fn set_of(alloc: Global, numbers: &[u32]) -> Result<SmallHashSet<u32>, Error> {

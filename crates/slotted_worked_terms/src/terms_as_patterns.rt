@@ -1,10 +1,8 @@
 //! Terms of the written language as patterns, and back.
-use crate::expr::RecExpr;
-use crate::patterns::{pattern_to_re, re_to_pattern};
-use slotted_languages::language::Language;
-use slotted_languages::small::Small;
+use slotted_languages::{Language, Small};
 use slotted_patterns::Pattern;
 use slotted_slots::{Error, SlotTable};
+use slotted_terms::{RecExpr, pattern_to_re, re_to_pattern};
 use std::alloc::Global;
 
 // Whether the term of a text has the text's pattern.

@@ -1,5 +1,5 @@
-//! Worked values of small maps: each call once.
-use crate::{Error, SmallHashMap};
+//! Small maps: each call once.
+use slotted_slots::{Error, SmallHashMap};
 use std::process::Abort;
 
 fn check_values(rt: &impl Abort, map: &mut SmallHashMap<u32, u32>) -> Result<(), Error> {

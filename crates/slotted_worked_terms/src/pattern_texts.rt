@@ -1,14 +1,14 @@
-//! Texts of the written language, and those outside it.
-use crate::pattern::Pattern;
-use slotted_languages::small::Small;
-use slotted_slots::SlotTable;
+//! Texts of patterns of the written language, and those outside it.
+use slotted_languages::{Language, Small};
+use slotted_patterns::Pattern;
+use slotted_slots::{Error, SlotTable};
 use std::alloc::Global;
 use std::test::Fail;
 
 // The answer for a text that is refused, and `read` for one that is not.
-fn refused_as(alloc: Global, text: &str, answer: &str) -> Result<bool, Fail> {
+fn refused_as<L: Language>(alloc: Global, text: &str, answer: &str) -> Result<bool, Fail> {
     let mut table = SlotTable::new(alloc);
-    match Pattern::<Small>::parse(alloc, text, &mut table) {
+    match Pattern::<L>::parse(alloc, text, &mut table) {
         Ok(_) => Ok(answer == "read"),
         Err(error) => {
             let printed = format!(in alloc; "{error:?}")?;
@@ -40,7 +40,10 @@ fn a_fault_is_answered_with_what_is_left(rt: HostRuntime) -> Result<(), Fail> {
             "Parse(FromSyntaxFailed([String(\"f\"), Slot(Slot(4))]))",
         ),
     ] {
-        assert!(rt; refused_as(rt.alloc(), text, answer)?, "at {text:?}");
+        assert!(rt;
+            refused_as::<Small>(rt.alloc(), text, answer)?,
+            "at {text:?}"
+        );
     }
     Ok(())
 }
@@ -67,7 +70,10 @@ fn a_substitution_lacks_a_sign(rt: HostRuntime) -> Result<(), Fail> {
             "Parse(ParseState([LBracket, Ident(\"a\"), ColonEquals, Ident(\"b\"), RBracket, Ident(\"a\"), RParen]))",
         ),
     ] {
-        assert!(rt; refused_as(rt.alloc(), text, answer)?, "at {text:?}");
+        assert!(rt;
+            refused_as::<Small>(rt.alloc(), text, answer)?,
+            "at {text:?}"
+        );
     }
     Ok(())
 }
@@ -78,11 +84,11 @@ fn each_beginning_of_a_pattern_lacks_something(rt: HostRuntime) -> Result<(), Fa
     let base = "(lam $x (app ?f (var $x)))".len();
     let mut beginning = String::new(rt.alloc());
     for c in text.chars() {
-        let read = refused_as(rt.alloc(), &beginning, "read")?;
+        let read = refused_as::<Small>(rt.alloc(), &beginning, "read")?;
         assert!(rt; read == (beginning.len() == base), "at {beginning:?}");
         beginning.push(c)?;
     }
-    assert!(rt; refused_as(rt.alloc(), &beginning, "read")?);
+    assert!(rt; refused_as::<Small>(rt.alloc(), &beginning, "read")?);
     Ok(())
 }
 
@@ -94,7 +100,7 @@ fn hostile_nesting_does_not_fill_the_stack(rt: HostRuntime) -> Result<(), Fail> 
             text.push_str(part)?;
         }
         assert!(rt;
-            refused_as(rt.alloc(), &text, "Parse(ParseState([]))")?,
+            refused_as::<Small>(rt.alloc(), &text, "Parse(ParseState([]))")?,
             "at {part:?}"
         );
     }
@@ -102,17 +108,21 @@ fn hostile_nesting_does_not_fill_the_stack(rt: HostRuntime) -> Result<(), Fail> 
 }
 
 // `a[b := c][d := e]`: the body of the outer substitution is itself one.
-fn nests_to_the_left(pattern: &Pattern<Small>) -> bool {
+fn nests_to_the_left<L: Language>(pattern: &Pattern<L>) -> bool {
     match pattern {
         Pattern::Subst(body, _, _) => matches!(**body, Pattern::Subst(_, _, _)),
         _ => false,
     }
 }
 
+// Whether the pattern of a text does.
+fn text_nests_to_the_left<L: Language>(alloc: Global, text: &str) -> Result<bool, Error> {
+    let pattern = Pattern::<L>::parse(alloc, text, &mut SlotTable::new(alloc))?;
+    Ok(nests_to_the_left(&pattern))
+}
+
 #[test]
 fn substitutions_follow_one_another_from_the_left(rt: HostRuntime) -> Result<(), Fail> {
-    let mut table = SlotTable::new(rt.alloc());
-    let pattern = Pattern::<Small>::parse(rt.alloc(), "a[b :=c][d := e]", &mut table)?;
-    assert!(rt; nests_to_the_left(&pattern));
+    assert!(rt; text_nests_to_the_left::<Small>(rt.alloc(), "a[b :=c][d := e]")?);
     Ok(())
 }

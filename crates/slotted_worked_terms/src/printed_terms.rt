@@ -1,14 +1,15 @@
 //! What terms of the written language print.
-use crate::expr::RecExpr;
-use slotted_languages::small::Small;
-use slotted_slots::{Error, Show, SlotTable};
+use slotted_languages::Small;
+use slotted_slots::{Show, SlotTable};
+use slotted_terms::RecExpr;
+use slotted_terms::expr::printing::Printable;
 use std::alloc::Global;
 use std::test::Fail;
 
 // What is printed of the term that the text writes.
-fn printed(alloc: Global, text: &str) -> Result<String, Fail> {
+fn printed<L: Printable>(alloc: Global, text: &str) -> Result<String, Fail> {
     let mut table = SlotTable::new(alloc);
-    let term = RecExpr::<Small>::parse(alloc, text, &mut table)?;
+    let term = RecExpr::<L>::parse(alloc, text, &mut table)?;
     let shown = term.show(&table);
     Ok(format!(in alloc; "{shown}")?)
 }
@@ -20,7 +21,7 @@ fn a_term_prints_with_one_space_between_two_elements(rt: HostRuntime) -> Result<
         ("(lam $x (app é (var $f3)))", "(lam $x (app é (var $f3)))"),
         ("(add +5 (mul (f $x $y) (h)))", "(add 5 (mul (f $x $y) h))"),
     ] {
-        let written = printed(rt.alloc(), text)?;
+        let written = printed::<Small>(rt.alloc(), text)?;
         assert!(rt; written.as_str() == answer, "at {text:?}: {written}");
     }
     Ok(())

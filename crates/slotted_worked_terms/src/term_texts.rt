@@ -1,9 +1,7 @@
-//! Texts of the written language, and those outside it.
-use crate::expr::RecExpr;
-use slotted_languages::language::Language;
-use slotted_nodes::payload::Symbol;
-use slotted_languages::small::Small;
+//! Texts of terms of the written language, and those outside it.
+use slotted_languages::{Language, Small, Symbol};
 use slotted_slots::{AppliedId, Error, ParseError, Slot, SlotTable, SyntaxElem};
+use slotted_terms::RecExpr;
 use std::alloc::Global;
 use std::process::Abort;
 use std::test::Fail;
@@ -17,8 +15,13 @@ fn refusal<L: Language>(alloc: Global, text: &str) -> Result<String, Fail> {
 }
 
 // The term is this node alone.
-fn reads_as(alloc: Global, text: &str, table: &mut SlotTable, node: &Small) -> Result<bool, Fail> {
-    let term = RecExpr::<Small>::parse(alloc, text, table)?;
+fn reads_as<L: Language>(
+    alloc: Global,
+    text: &str,
+    table: &mut SlotTable,
+    node: &L,
+) -> Result<bool, Fail> {
+    let term = RecExpr::<L>::parse(alloc, text, table)?;
     Ok(term.node == *node && term.children.is_empty())
 }
 

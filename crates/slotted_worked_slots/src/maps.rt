@@ -1,8 +1,150 @@
-//! Worked values of slot maps: each call once, over numeric slots and fresh ones.
-use crate::tests::{assert_map, assert_slots, composite, numeric_map};
-use crate::{AppliedId, Error, Id, Show, Slot, SlotMap, SlotTable, SmallHashSet};
+//! Slot maps and applied ids: each call once, over numeric slots and fresh ones.
+use slotted_slots::{AppliedId, Error, Id, Show, Slot, SlotMap, SlotTable, SmallHashSet, Token};
 use std::alloc::Global;
 use std::process::Abort;
+
+// Puts a pair of numeric slots.
+fn put_pair(map: &mut SlotMap, table: &SlotTable, pair: (u32, u32)) -> Result<(), Error> {
+    map.insert(table.numeric(pair.0)?, table.numeric(pair.1)?)
+}
+
+// The map of pairs of numeric slots.
+fn numeric_map(alloc: Global, pairs: &[(u32, u32)]) -> Result<SlotMap, Error> {
+    let table = SlotTable::new(alloc);
+    let mut map = SlotMap::new(alloc);
+    for pair in pairs {
+        put_pair(&mut map, &table, *pair)?;
+    }
+    Ok(map)
+}
+
+// Whether there is a slot, and it is this numeric one.
+fn is_numeric(slot: Option<&Slot>, number: u32) -> bool {
+    match slot {
+        Some(slot) => slot.raw() / 4 == number && slot.raw() % 4 == 0,
+        None => false,
+    }
+}
+
+// The slots are these numeric ones.
+fn assert_slots(rt: &impl Abort, slots: &[Slot], numbers: &[u32]) {
+    assert!(rt; slots.len() == numbers.len());
+    for (i, number) in numbers.iter().enumerate() {
+        assert!(rt; is_numeric(slots.get(i), *number));
+    }
+}
+
+// The map has these pairs of numeric slots.
+fn assert_map(
+    rt: &impl Abort,
+    alloc: Global,
+    map: &SlotMap,
+    pairs: &[(u32, u32)],
+) -> Result<(), Error> {
+    let wanted = numeric_map(alloc, pairs)?;
+    assert!(rt; *map == wanted);
+    Ok(())
+}
+
+#[test]
+fn a_later_pair_overwrites(rt: HostRuntime) -> Result<(), Error> {
+    let map = numeric_map(rt.alloc(), &[(3, 7), (2, 7), (3, 8), (4, 7)])?;
+    assert_map(&rt, rt.alloc(), &map, &[(2, 7), (3, 8), (4, 7)])?;
+    assert!(rt; !map.is_bijection());
+    assert!(rt; map.get(Slot::numeric_at(3)) == Some(Slot::numeric_at(8)));
+    Ok(())
+}
+
+// What a map and then another one make.
+fn composite(alloc: Global, first: &[(u32, u32)], second: &[(u32, u32)]) -> Result<SlotMap, Error> {
+    let first = numeric_map(alloc, first)?;
+    let second = numeric_map(alloc, second)?;
+    first.compose_partial(alloc, &second)
+}
+
+#[test]
+fn composing_keeps_what_the_other_knows(rt: HostRuntime) -> Result<(), Error> {
+    let both = composite(rt.alloc(), &[(0, 1), (1, 2)], &[(1, 5)])?;
+    assert_map(&rt, rt.alloc(), &both, &[(0, 5)])
+}
+
+#[test]
+fn the_inverse_goes_back(rt: HostRuntime) -> Result<(), Error> {
+    let map = numeric_map(rt.alloc(), &[(0, 4), (1, 2)])?;
+    assert!(rt; map.is_bijection());
+    let inverse = map.inverse(rt.alloc())?;
+    assert_map(&rt, rt.alloc(), &inverse, &[(2, 1), (4, 0)])
+}
+
+// The identity on the values of a map.
+fn identity_on_values(alloc: Global, map: &SlotMap) -> Result<SlotMap, Error> {
+    let values = map.values(alloc)?;
+    SlotMap::identity(alloc, &values)
+}
+
+#[test]
+fn keys_and_values_are_sets(rt: HostRuntime) -> Result<(), Error> {
+    let map = numeric_map(rt.alloc(), &[(1, 2), (0, 3), (2, 3)])?;
+    assert_slots(&rt, map.keys(rt.alloc())?.as_slice(), &[0, 1, 2]);
+    let identity = identity_on_values(rt.alloc(), &map)?;
+    assert_map(&rt, rt.alloc(), &identity, &[(2, 2), (3, 3)])
+}
+
+#[test]
+fn maps_change_in_place(rt: HostRuntime) -> Result<(), Error> {
+    let mut map = numeric_map(rt.alloc(), &[(0, 3), (1, 2), (2, 5)])?;
+    map.remove(Slot::numeric_at(0));
+    assert!(rt; !map.contains_key(Slot::numeric_at(0)) && map.len() == 2);
+    map.set_value_at(1, Slot::numeric_at(6));
+    assert!(rt; map.value_at(0) == Slot::numeric_at(2));
+    assert_map(&rt, rt.alloc(), &map, &[(1, 2), (2, 6)])
+}
+
+#[test]
+fn maps_are_made_and_copied(rt: HostRuntime) -> Result<(), Error> {
+    let zero = Slot::numeric_at(0);
+    let pairs = [(zero, zero), (Slot::numeric_at(3), zero)];
+    let map = SlotMap::from_pairs(rt.alloc(), &pairs)?;
+    assert!(rt; map.iter().next() == Some((zero, zero)) && !map.is_empty());
+    assert!(rt; map.copy(rt.alloc())? == map);
+    Ok(())
+}
+
+// Whether the clone of a map equals it.
+fn equals_its_clone(map: &SlotMap) -> Result<bool, Error> {
+    Ok(map.clone()? == *map)
+}
+
+// Whether the clone of a token equals it.
+fn token_equals_its_clone(token: &Token) -> Result<bool, Error> {
+    Ok(token.clone()? == *token)
+}
+
+#[test]
+fn clones_are_equal(rt: HostRuntime) -> Result<(), Error> {
+    let map = numeric_map(rt.alloc(), &[(0, 4)])?;
+    assert!(rt; equals_its_clone(&map)?);
+    let token = Token::Ident(String::from_str(rt.alloc(), "app")?);
+    assert!(rt; token_equals_its_clone(&token)?);
+    Ok(())
+}
+
+#[test]
+fn applied_ids_send_their_slots_on(rt: HostRuntime) -> Result<(), Error> {
+    let m = numeric_map(rt.alloc(), &[(0, 4)])?;
+    assert!(rt; m.is_bijection());
+    let applied = AppliedId::new(Id(2), m);
+    assert_slots(&rt, applied.slots(rt.alloc())?.as_slice(), &[4]);
+    assert!(rt; applied.copy(rt.alloc())? == applied);
+    Ok(())
+}
+
+#[test]
+fn null_is_the_id_zero(rt: HostRuntime) -> Result<(), Error> {
+    let null = AppliedId::null(rt.alloc());
+    assert!(rt; null.id == Id(0) && null.m.is_empty());
+    Ok(())
+}
 
 #[test]
 fn keys_and_values_are_lists(rt: HostRuntime) -> Result<(), Error> {
@@ -12,13 +154,18 @@ fn keys_and_values_are_lists(rt: HostRuntime) -> Result<(), Error> {
     Ok(())
 }
 
+// The map that the pairs of a map make.
+fn made_again(alloc: Global, map: &SlotMap) -> Result<SlotMap, Error> {
+    let pairs = map.copy(alloc)?.into_iter();
+    SlotMap::from_iterator(alloc, pairs)
+}
+
 #[test]
 fn maps_are_walked_in_key_order(rt: HostRuntime) -> Result<(), Error> {
     let map = numeric_map(rt.alloc(), &[(2, 7), (1, 3)])?;
     let first = map.values_immut().next();
     assert!(rt; first == Some(Slot::numeric_at(3)) && map.values_immut().count() == 2);
-    let pairs = map.copy(rt.alloc())?.into_iter();
-    assert!(rt; SlotMap::from_iterator(rt.alloc(), pairs)? == map);
+    assert!(rt; made_again(rt.alloc(), &map)? == map);
     Ok(())
 }
 
@@ -30,11 +177,15 @@ fn an_array_is_a_map(rt: HostRuntime) -> Result<(), Error> {
     assert_map(&rt, rt.alloc(), &map, &[(0, 3), (3, 3)])
 }
 
+// Whether the map of these pairs is a permutation.
+fn permutes(alloc: Global, pairs: &[(u32, u32)]) -> Result<bool, Error> {
+    Ok(numeric_map(alloc, pairs)?.is_perm())
+}
+
 #[test]
 fn permutations_turn_their_keys_round(rt: HostRuntime) -> Result<(), Error> {
     let turn = numeric_map(rt.alloc(), &[(0, 1), (1, 2), (2, 0)])?;
-    let constant = numeric_map(rt.alloc(), &[(0, 1), (1, 1)])?;
-    assert!(rt; turn.is_perm() && !constant.is_perm());
+    assert!(rt; turn.is_perm() && !permutes(rt.alloc(), &[(0, 1), (1, 1)])?);
     let twice = turn.compose(rt.alloc(), &turn)?;
     assert_map(&rt, rt.alloc(), &twice, &[(0, 2), (1, 0), (2, 1)])
 }
@@ -78,11 +229,19 @@ fn composed_fresh(alloc: Global, first: &SlotMap, second: &SlotMap) -> Result<St
     text_over(alloc, &table, &both)
 }
 
+fn composed_fresh_pairs(
+    alloc: Global,
+    first: &[(u32, u32)],
+    second: &[(u32, u32)],
+) -> Result<String, Error> {
+    let first = numeric_map(alloc, first)?;
+    let second = numeric_map(alloc, second)?;
+    composed_fresh(alloc, &first, &second)
+}
+
 #[test]
 fn lacking_values_are_fresh(rt: HostRuntime) -> Result<(), Error> {
-    let first = numeric_map(rt.alloc(), &[(0, 1), (1, 2), (2, 3)])?;
-    let second = numeric_map(rt.alloc(), &[(2, 9)])?;
-    let both = composed_fresh(rt.alloc(), &first, &second)?;
+    let both = composed_fresh_pairs(rt.alloc(), &[(0, 1), (1, 2), (2, 3)], &[(2, 9)])?;
     assert!(rt; both.as_str() == "[$0 -> $f0, $1 -> $9, $2 -> $f1]");
     Ok(())
 }
@@ -198,15 +357,19 @@ fn unknown_slots_become_fresh(rt: HostRuntime) -> Result<(), Error> {
     assert_made_fresh(&rt, rt.alloc(), &applied, &on, shown)
 }
 
+// The id 5 applied to `$3`, and sent on by a map that knows that slot.
+fn three_sent_on(rt: &impl Abort, alloc: Global, on: &SlotMap) -> Result<AppliedId, Error> {
+    let three = Slot::numeric_at(3);
+    let mut m = SlotMap::new(alloc);
+    m.insert(Slot::numeric_at(0), three)?;
+    assert!(rt; on.contains_key(three));
+    AppliedId { id: Id(5), m }.apply_slotmap(alloc, on)
+}
+
 #[test]
 fn known_slots_are_sent_on(rt: HostRuntime) -> Result<(), Error> {
-    let three = Slot::numeric_at(3);
-    let mut m = SlotMap::new(rt.alloc());
-    m.insert(Slot::numeric_at(0), three)?;
-    let applied = AppliedId { id: Id(5), m };
     let on = numeric_map(rt.alloc(), &[(3, 7), (4, 7)])?;
-    assert!(rt; on.contains_key(three));
-    let sent = applied.apply_slotmap(rt.alloc(), &on)?;
+    let sent = three_sent_on(&rt, rt.alloc(), &on)?;
     let table = SlotTable::new(rt.alloc());
     assert_applied_prints(&rt, rt.alloc(), &table, &sent, "id5[$0 -> $7]")
 }
