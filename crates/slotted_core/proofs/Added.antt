@@ -15,6 +15,7 @@ use Rattle.slotted_slots.specs.Table.{Table, fresh_slot, empty_table}
 use Rattle.slotted_nodes.specs.Form.{Form}
 use Rattle.slotted_languages.specs.NodeTerm.{nameless_node}
 use Rattle.slotted_languages.specs.Shape.{shape, Fits}
+use Rattle.slotted_languages.proofs.Renamings.{moved_same}
 use Rattle.slotted_languages.proofs.Shapes.{shapes_iff}
 use Rattle.slotted_model.specs.Ascending.{ascending, names}
 use Rattle.slotted_model.specs.Applied.{Applied, map_on, renamed_id, EachChild}
@@ -201,13 +202,9 @@ module _ (t u : Table) (k : Kept) (good : Good k) (over : HasFreshSlots t k) (f 
   fresh_last : (s : ℕ) → In s (names d) → IsFreshBetween t u s
   fresh_last s h = fresh s (In-of_ascending s (values slots) (subst (In s) slots_new h))
 
-  moved_id : (m : List (ℕ × ℕ)) → m ≡ with_values (λ x. x) m
-  moved_id [] = refl
-  moved_id (p ∷ m) = ap (λ r. p ∷ r) (moved_id m)
-
   finds_itself : between slots slots ≡ map_on (λ x. x) (names d)
   finds_itself =
-      (λ i. between (sym put_shape.1 i) (sym put_shape.1 i)) ∙ between-moved (λ x. x) c (shape c).1 (moved_id (shape c).1)
+      (λ i. between (sym put_shape.1 i) (sym put_shape.1 i)) ∙ between-moved (λ x. x) c (shape c).1 (moved_same (shape c).1)
 
   -- the model's lists
 

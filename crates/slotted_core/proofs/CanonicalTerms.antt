@@ -24,6 +24,7 @@ use Rattle.slotted_model.proofs.Members.{In}
 use Rattle.slotted_model.proofs.Sets.{In-ascending}
 use Rattle.slotted_model.proofs.Folds.{as_term-same}
 use Rattle.slotted_model.proofs.Full.{term_of-layer, full-children}
+use Rattle.slotted_model.proofs.Maps.{keys-with_values}
 use Rattle.slotted_core.specs.Kept.{Kept, nodes_of, node_at}
 use Rattle.slotted_core.specs.Nodes.{ids_in, child_ids}
 use Rattle.slotted_core.specs.Canonical.{args_count, place_count, IsBeside}
@@ -64,10 +65,6 @@ HasValue-with_values f (p ∷ m) v (inr h) = inr (HasValue-with_values f m v h)
 IsInjectiveMap-back : (f : ℕ → ℕ) (m : List (ℕ × ℕ)) → IsInjectiveMap (with_values f m) → IsInjectiveMap m
 IsInjectiveMap-back f [] h = tt
 IsInjectiveMap-back f (p ∷ m) h = (λ v. h.0 (HasValue-with_values f m p.1 v), IsInjectiveMap-back f m h.1)
-
-keys-with_values : (f : ℕ → ℕ) (m : List (ℕ × ℕ)) → keys (with_values f m) ≡ keys m
-keys-with_values f [] = refl
-keys-with_values f (p ∷ m) = ap (λ ks. p.0 ∷ ks) (keys-with_values f m)
 
 full-back : (nodes : List DTerm) (f : ℕ → ℕ) (a : Applied) → IsFull nodes (renamed_id f a) → IsFull nodes a
 full-back nodes f a full = record {

@@ -13,6 +13,7 @@ use Rattle.slotted_model.specs.Ascending.{with_name, ascending, names}
 use Rattle.slotted_model.specs.Applied.{map_on}
 use Rattle.slotted_model.proofs.Members.{In}
 use Rattle.slotted_model.proofs.Sets.{ascending-same}
+use Rattle.slotted_model.proofs.Maps.{values-with_values}
 use Rattle.slotted_core.specs.Names.{with_pairs, between}
 
 -- a pair put into the map of a function on some keys
@@ -99,10 +100,6 @@ In-firsts z xs = (λ h. elim ((In-added z xs []).0 h) [ inl k ↦ absurd k | inr
 -- the names of a node, read off the map of its shape
 pub ascending-values : (c : Form) → ascending (values (shape c).1) ≡ names (nameless_node c)
 ascending-values c = ap ascending (values-shape c) ∙ ascending-same (firsts (free_names_of c)) (free_names_of c) (λ z. In-firsts z (free_names_of c))
-
-pub values-with_values : (f : ℕ → ℕ) (m : List (ℕ × ℕ)) → values (with_values f m) ≡ map f (values m)
-values-with_values f [] = refl
-values-with_values f (p ∷ m) = ap (λ l. f p.1 ∷ l) (values-with_values f m)
 
 -- where f takes the names of one map to those of another, the map between them is f
 pub between-moved : (f : ℕ → ℕ) (c : Form) (n : List (ℕ × ℕ)) → n ≡ with_values f (shape c).1 → between (shape c).1 n ≡ map_on f (names (nameless_node c))

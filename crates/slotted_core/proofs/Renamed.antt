@@ -23,7 +23,7 @@ use Rattle.slotted_model.proofs.Theory.{past, past-key, past-other, filled-past}
 use Rattle.slotted_model.specs.Applied.{map_on}
 use Rattle.slotted_model.proofs.Members.{In, In-left, In-right, In-append}
 use Rattle.slotted_model.proofs.Sets.{IsAscending-ascending, In-ascending, In-of_ascending}
-use Rattle.slotted_model.proofs.Maps.{In-values, map_on-agrees, map_on-filled, filled-map_on, IsInjectiveMap-map_on}
+use Rattle.slotted_model.proofs.Maps.{In-values, keys-with_values, map_on-agrees, map_on-filled, filled-map_on, IsInjectiveMap-map_on}
 use Rattle.slotted_core.specs.Names.{put, with_put}
 use Rattle.slotted_proofs.proofs.Bridges.{ascends}
 
@@ -180,10 +180,6 @@ put-filled m k h = put_past (top m) m k h ∙ sym (filled-past m k)
 map-agrees : (f g : ℕ → ℕ) (xs : List ℕ) → ((x : ℕ) → In x xs → f x ≡ g x) → map f xs ≡ map g xs
 map-agrees f g [] e = refl
 map-agrees f g (x ∷ xs) e = λ i. e x (inl refl) i ∷ map-agrees f g xs (λ y h. e y (inr h)) i
-
-keys-with_values : (f : ℕ → ℕ) (m : List (ℕ × ℕ)) → keys (with_values f m) ≡ keys m
-keys-with_values f [] = refl
-keys-with_values f (p ∷ m) = ap (λ l. p.0 ∷ l) (keys-with_values f m)
 
 -- a map that an injective function does not tell from that of its keys has its keys as values
 same_values : (F : ℕ → ℕ) → IsInjective F → (G : ℕ → ℕ) (m : List (ℕ × ℕ)) → map_on F (keys m) ≡ with_values F m → with_values G m ≡ map_on G (keys m)

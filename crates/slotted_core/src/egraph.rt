@@ -13,6 +13,7 @@ ghost use Rattle.slotted_model.specs.ProofList.{Proved};
 ghost use Rattle.slotted_proofs.specs.Entries.{asserted_entry, explicit_numbers};
 ghost use Rattle.slotted_patterns.specs.Outcome.{Answers};
 ghost use Rattle.slotted_terms.specs.Parsed.{TextReads};
+ghost use Rattle.slotted_terms.specs.ReadAgain.{ReadsAsNodes};
 ghost use Rattle.slotted_terms.specs.Valid.{IsValidTerm};
 ghost use Rattle.slotted_core.specs.Image.{no_classes, FoundAlike, asserted_in, AreDerivable, AddsClasses, IsUnion, IsNoUnion, Records, HasLargeClass};
 ghost use Rattle.slotted_core.specs.Graph.{IsValidId, IsValidNode, HasNewClass};
@@ -207,6 +208,9 @@ impl<L: Language, N: Drop> EGraph<L, N> {
         // The answer is that of the text over the graph's table, and it can be added.
         ensures answer { self.old.failed ≡ false → Answers (λ t. t) (λ o. TextReads L.read self.old.table (chars text.now) o self.new.table) result }
         ensures valid { IfOk result (λ t. IsValidTerm self.new.table t) }
+
+        // It was read as a pattern of nodes of the language: so what it prints reads as it (`each_term_reads_as_itself`).
+        ensures nodes { IfOk result (λ x. ReadsAsNodes L.form L.read self.old.table (chars text.now) x self.new.table) }
 
         // Only the table changes, and on a failed graph nothing does.
         ensures image { self.new.image ≡ self.old.image }

@@ -10,7 +10,6 @@ pub mod NamingLaws
 pub mod Printing
 pub mod SetAlgebraLaws
 pub mod SetLemmas
-pub mod SmallMapLaws
 pub mod TableLaws
 pub mod Taken
 pub mod WholeMaps

@@ -8,6 +8,5 @@ pub mod Naming
 pub mod SetAlgebra
 pub mod Sets
 pub mod Shown
-pub mod SmallMaps
 pub mod Syntax
 pub mod Table

@@ -7,7 +7,6 @@ pub mod parse;
 pub mod slot;
 pub mod slot_map;
 pub mod small;
-pub mod small_map;
 pub mod types;
 
 pub use error::Error;
@@ -15,5 +14,4 @@ pub use parse::{ParseError, SyntaxElem, Token};
 pub use slot::{Show, Shown, Slot, SlotTable};
 pub use slot_map::SlotMap;
 pub use small::SmallHashSet;
-pub use small_map::SmallHashMap;
 pub use types::{AppliedId, Id};

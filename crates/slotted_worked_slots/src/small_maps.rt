@@ -1,5 +1,6 @@
 //! Small maps: each call once.
-use slotted_slots::{Error, SmallHashMap};
+use slotted_slots::Error;
+use slotted_small_maps::SmallHashMap;
 use std::process::Abort;
 
 fn check_values(rt: &impl Abort, map: &mut SmallHashMap<u32, u32>) -> Result<(), Error> {
