@@ -1,7 +1,7 @@
 //! The written language `Small`: lambda terms, slots by themselves, sums, products, numbers and words.
-ghost use Rattle.std.specs.Prelude.{◌≡◌, Some, option_map, IfOk, IfErr};
+ghost use Rattle.std.specs.Prelude.{◌≡◌, Some, [], ◌∷◌, map, option_map, IfOk, IfErr};
 ghost use Rattle.slotted_slots.specs.Error.{IsOutOfMemory};
-ghost use Rattle.slotted_slots.specs.Syntax.{element_of, applied, text};
+ghost use Rattle.slotted_slots.specs.Syntax.{element_of, applied, name, text};
 ghost use Rattle.slotted_nodes.specs.Form.{child_form};
 ghost use Rattle.slotted_languages.specs.Small.{small_form, small_shown, small_read, alone, over_slot, over_slots, over_binder, over_children};
 ghost use Rattle.slotted_languages.specs.SmallBack.{small_words, small_back, small_null};
@@ -182,37 +182,17 @@ impl LanguageChildren for Small {
     }
 
     fn to_syntax(&self, alloc: Global) -> Result<Vec<SyntaxElem>, Error> {
-        Ok(match self {
-            Small::Lam(b) => vec![in alloc;
-                word(alloc, "lam")?,
-                SyntaxElem::Slot(b.slot),
-                child(alloc, &b.elem)?,
-            ]?,
-            Small::App(a, b) => vec![in alloc;
-                word(alloc, "app")?,
-                child(alloc, a)?,
-                child(alloc, b)?,
-            ]?,
-            Small::Var(x) => vec![in alloc; word(alloc, "var")?, SyntaxElem::Slot(*x)]?,
-            Small::F(x, y) => vec![in alloc;
-                word(alloc, "f")?,
-                SyntaxElem::Slot(*x),
-                SyntaxElem::Slot(*y),
-            ]?,
-            Small::G(x) => vec![in alloc; word(alloc, "g")?, SyntaxElem::Slot(*x)]?,
-            Small::Add(a, b) => vec![in alloc;
-                word(alloc, "add")?,
-                child(alloc, a)?,
-                child(alloc, b)?,
-            ]?,
-            Small::Mul(a, b) => vec![in alloc;
-                word(alloc, "mul")?,
-                child(alloc, a)?,
-                child(alloc, b)?,
-            ]?,
-            Small::Number(n) => n.to_syntax(alloc)?,
-            Small::Word(w) => w.to_syntax(alloc)?,
-        })
+        match self {
+            Small::Lam(b) => write_over_binder(alloc, "lam", b.slot, &b.elem),
+            Small::App(a, b) => write_over_children(alloc, "app", a, b),
+            Small::Var(x) => write_over_slot(alloc, "var", *x),
+            Small::F(x, y) => write_over_slots(alloc, "f", *x, *y),
+            Small::G(x) => write_over_slot(alloc, "g", *x),
+            Small::Add(a, b) => write_over_children(alloc, "add", a, b),
+            Small::Mul(a, b) => write_over_children(alloc, "mul", a, b),
+            Small::Number(n) => n.to_syntax(alloc),
+            Small::Word(w) => w.to_syntax(alloc),
+        }
     }
 
     fn from_syntax(alloc: Global, elements: &[SyntaxElem]) -> Result<Option<Self>, Error> {
@@ -256,6 +236,61 @@ fn child(alloc: Global, a: &AppliedId) -> Result<SyntaxElem, Error>
     ensures err { IfErr result IsOutOfMemory }
 {
     Ok(SyntaxElem::AppliedId(a.copy(alloc)?))
+}
+
+// What is written of an operator and a slot.
+fn write_over_slot(alloc: Global, operator: &str, x: Slot) -> Result<Vec<SyntaxElem>, Error>
+    ensures ok { IfOk result (λ v. map element_of v.items ≡ text operator.now ∷ name x ∷ []) }
+    ensures err { IfErr result IsOutOfMemory }
+{
+    Ok(vec![in alloc; word(alloc, operator)?, SyntaxElem::Slot(x)]?)
+}
+
+// What is written of an operator and two slots.
+fn write_over_slots(
+    alloc: Global,
+    operator: &str,
+    x: Slot,
+    y: Slot,
+) -> Result<Vec<SyntaxElem>, Error>
+    ensures ok { IfOk result (λ v. map element_of v.items ≡ text operator.now ∷ name x ∷ name y ∷ []) }
+    ensures err { IfErr result IsOutOfMemory }
+{
+    Ok(vec![in alloc;
+        word(alloc, operator)?,
+        SyntaxElem::Slot(x),
+        SyntaxElem::Slot(y),
+    ]?)
+}
+
+// What is written of an operator, a slot and a child.
+fn write_over_binder(
+    alloc: Global,
+    operator: &str,
+    x: Slot,
+    a: &AppliedId,
+) -> Result<Vec<SyntaxElem>, Error>
+    ensures ok { IfOk result (λ v. map element_of v.items ≡ text operator.now ∷ name x ∷ applied a.now.id.0 a.now.m ∷ []) }
+    ensures err { IfErr result IsOutOfMemory }
+{
+    Ok(vec![in alloc;
+        word(alloc, operator)?,
+        SyntaxElem::Slot(x),
+        child(alloc, a)?,
+    ]?)
+}
+
+// What is written of an operator and two children.
+fn write_over_children(
+    alloc: Global,
+    operator: &str,
+    a: &AppliedId,
+    b: &AppliedId,
+) -> Result<Vec<SyntaxElem>, Error>
+    ensures ok { IfOk result (λ v. map element_of v.items ≡ text operator.now ∷ applied a.now.id.0 a.now.m ∷ applied b.now.id.0 b.now.m ∷ []) }
+    ensures err { IfErr result IsOutOfMemory }
+{
+    Ok(vec![in alloc; word(alloc, operator)?, child(alloc, a)?, child(alloc, b)?]?)
 }
 
 // The number that a text writes.
