@@ -5,7 +5,7 @@ use Rattle.std.proofs.lemmas.Bool.{false≢true}
 use Rattle.std.proofs.lemmas.List.{map-append}
 use Rattle.slotted_theory.specs.Nameless.{DTerm}
 use Rattle.slotted_theory.specs.Renaming.{IsInjective}
-use Rattle.slotted_theory.specs.FiniteMaps.{IsInjectiveMap, with_values}
+use Rattle.slotted_theory.specs.FiniteMaps.{IsInjectiveMap}
 use Rattle.slotted_theory.specs.Shape.{SameUpToNames}
 use Rattle.slotted_theory.specs.Shape as theory
 use Rattle.slotted_theory.proofs.Shapes.{shape_iff}

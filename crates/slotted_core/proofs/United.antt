@@ -560,19 +560,10 @@ module _ (k : Kept) (good : Good k) (a b : Applied) (fa : IsFull (nodes_of k) a)
   pub one-class : from.0 ≡ to.0 → ¬ CanUnite (image_of k) a b
   one-class e c = c.differ (ap (λ (y : Applied). y.0) left-found ∙ (e ∙ ap (λ (y : Applied). y.0) (sym right-found)))
 
-  pub other-names : ¬ ((z : ℕ) → Contains (values from.1) z ↔ Contains (values to.1) z) → ¬ CanUnite (image_of k) a b
-  other-names n c = n (λ z. (
+  pub can-names : CanUnite (image_of k) a b → (z : ℕ) → Contains (values from.1) z ↔ Contains (values to.1) z
+  can-names c z = (
     λ d. subst (λ (y : Applied). Contains (values y.1) z) right-found ((c.names z).0 (subst (λ (y : Applied). Contains (values y.1) z) (sym left-found) d)),
     λ d. subst (λ (y : Applied). Contains (values y.1) z) left-found ((c.names z).1 (subst (λ (y : Applied). Contains (values y.1) z) (sym right-found) d)),
-  ))
-
-  pub classes-differ : from.0 ≢ to.0 → find_class (entries_of k) a.0 ≢ find_class (entries_of k) b.0
-  classes-differ n e = n (ap (λ (y : Applied). y.0) ef ∙ (e ∙ ap (λ (y : Applied). y.0) (sym et)))
-
-  pub names-same : ((z : ℕ) → Contains (values from.1) z ↔ Contains (values to.1) z) → (z : ℕ) → Contains (values (find (entries_of k) a).1) z ↔ Contains (values (find (entries_of k) b).1) z
-  names-same h z = (
-    λ c. subst (λ (y : Applied). Contains (values y.1) z) et ((h z).0 (subst (λ (y : Applied). Contains (values y.1) z) (sym ef) c)),
-    λ c. subst (λ (y : Applied). Contains (values y.1) z) ef ((h z).1 (subst (λ (y : Applied). Contains (values y.1) z) (sym et) c)),
   )
 
 -- a link unites the ids in either order

@@ -16,7 +16,7 @@ impl<L: Language> Core<L> {
     // Without memory.
 
     // The live class that a class finds.
-    fn find_class(&self, id: usize) -> usize
+    pub(crate) fn find_class(&self, id: usize) -> usize
         requires good { Good self.now }
         requires within { id < length self.now.classes }
         ensures class { result ≡ find_class (entries_of self.now) id }

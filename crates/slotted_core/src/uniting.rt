@@ -1,13 +1,14 @@
 //! Uniting two classes: proofs of what finds say, and the link.
-ghost use Rattle.std.specs.Prelude.{◌≡◌, ◌≢◌, ◌<◌, ◌↔◌, ℕ, length, Contains, IfOk, IfErr, IsErrOf, OnOk, option_map, string_bytes};
-ghost use Rattle.slotted_core.specs.Image.{HasLargeClass};
-ghost use Rattle.slotted_slots.specs.Error.{IsShortage};
+ghost use Rattle.std.specs.Prelude.{◌≡◌, ◌≢◌, ◌<◌, ◌↔◌, ℕ, length, Contains, IsTrue, IfOk, IfErr, IsErrOf, OnOk, option_map, string_bytes};
+ghost use Rattle.slotted_core.specs.Image.{CanUnite, HasLargeClass};
+ghost use Rattle.slotted_slots.specs.Error.{IsOutOfMemory, IsShortage};
 ghost use Rattle.slotted_slots.specs.Maps.{values};
 ghost use Rattle.slotted_model.specs.Classes.{IsFull};
+ghost use Rattle.slotted_model.specs.Correspondence.{same_names};
 ghost use Rattle.slotted_model.specs.Find.{find_class, find};
 ghost use Rattle.slotted_model.specs.ProofList.{find_equation, turned_equation};
 ghost use Rattle.slotted_proofs.specs.Entries.{asserted_entry};
-ghost use Rattle.slotted_core.specs.Kept.{Good, Proves, IsAsserted, Links, Unites, asserted_for, nodes_of, entries_of};
+ghost use Rattle.slotted_core.specs.Kept.{Good, Proves, IsAsserted, Links, Unites, asserted_for, nodes_of, entries_of, image_of};
 ghost use Rattle.slotted_core.specs.Nodes.{to_applied};
 
 use crate::kernel::Core;
@@ -74,6 +75,24 @@ impl<L: Language> Core<L> {
         Ok(answer)
     }
 
+    // What the class that one id finds leads to once it is dead: the class that the other one finds, with the slot of the dead class
+    // that has the same name for each slot of it.
+    fn heir(&self, alloc: Global, dead: &AppliedId, kept: &AppliedId) -> Result<AppliedId, Error>
+        requires good { Good self.now }
+        requires left { IsFull (nodes_of self.now) (to_applied dead.now) }
+        requires right { IsFull (nodes_of self.now) (to_applied kept.now) }
+        ensures ok { IfOk result (λ h. to_applied h ≡ (find_class (entries_of self.now) kept.now.id.0, same_names (find (entries_of self.now) (to_applied kept.now)).1 (find (entries_of self.now) (to_applied dead.now)).1)) }
+        ensures err { IfErr result IsOutOfMemory }
+    {
+        let from = self.found_id(alloc, dead)?;
+        let to = self.found_id(alloc, kept)?;
+        let names = from.m.inverse(alloc)?;
+        Ok(AppliedId {
+            id: to.id,
+            m: to.m.compose_partial(alloc, &names)?,
+        })
+    }
+
     // The found class of one id dies and leads to that of the other, by what is asserted of the two.
     fn link(
         &mut self,
@@ -92,20 +111,34 @@ impl<L: Language> Core<L> {
         ensures full { IsErrOf result Error.OutOfSlots → HasLargeClass (nodes_of self.old) }
         ensures err { IfErr result IsShortage }
     {
-        let from = self.found_id(alloc, dead)?;
-        let mut to = self.found_id(alloc, kept)?;
-        let names = from.m.inverse(alloc)?;
-        to.m = to.m.compose_partial(alloc, &names)?;
+        let from = self.find_class(dead.id.0);
+        let heir = self.heir(alloc, dead, kept)?;
         let back = self.back_proof(alloc, dead.id.0)?;
         let onward = self.find_proof(alloc, kept.id.0)?;
         let proof = self.assert_sides(alloc, dead, kept, is_turned, text)?;
         let half = self.chain(alloc, back, proof)?;
         let whole = self.chain(alloc, half, onward)?;
-        let heir = to.id.0;
-        self.set_link(from.id.0, to, whole)?;
-        let more = self.weight(from.id.0);
-        self.add_weight(heir, more);
+        let class = heir.id.0;
+        self.set_link(from, heir, whole)?;
+        let more = self.weight(from);
+        self.add_weight(class, more);
         Ok(())
+    }
+
+    // Whether two ids find different classes with the same names.
+    fn can_link(&self, alloc: Global, l: &AppliedId, r: &AppliedId) -> Result<bool, Error>
+        requires good { Good self.now }
+        requires left { IsFull (nodes_of self.now) (to_applied l.now) }
+        requires right { IsFull (nodes_of self.now) (to_applied r.now) }
+        ensures ok { IfOk result (λ can. IsTrue can ↔ CanUnite (image_of self.now) (to_applied l.now) (to_applied r.now)) }
+        ensures err { IfErr result IsOutOfMemory }
+    {
+        let left = self.found_id(alloc, l)?;
+        let right = self.found_id(alloc, r)?;
+        if left.id.0 == right.id.0 {
+            return Ok(false);
+        }
+        Ok(have_same_values(&left.m, &right.m))
     }
 
     /// Two valid ids are equal, because the caller says so, with a text or without one. True if they found different classes,
@@ -125,19 +158,14 @@ impl<L: Language> Core<L> {
         ensures full { IsErrOf result Error.OutOfSlots → HasLargeClass (nodes_of self.old) }
         ensures err { IfErr result IsShortage }
     {
-        let left = self.found_id(alloc, l)?;
-        let right = self.found_id(alloc, r)?;
-        if left == right {
+        if self.eq(l, r) {
             self.assert_sides(alloc, l, r, false, text)?;
             return Ok(Some(false));
         }
-        if left.id.0 == right.id.0 {
+        if !self.can_link(alloc, l, r)? {
             return Ok(None);
         }
-        if !have_same_values(&left.m, &right.m) {
-            return Ok(None);
-        }
-        if self.weight(left.id.0) > self.weight(right.id.0) {
+        if self.weight(self.find_class(l.id.0)) > self.weight(self.find_class(r.id.0)) {
             self.link(alloc, r, l, true, text)?;
             return Ok(Some(true));
         }
