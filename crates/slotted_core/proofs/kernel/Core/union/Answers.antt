@@ -19,8 +19,7 @@ pub returns-then-not-branch-clause-ok : goal.returns-then-not-branch-clause-ok
 returns-then-not-branch-clause-ok g c =
     let k = c.args.self.now in
     let a = to_applied c.args.l.now in
-    let b = to_applied c.args.r.now in
-    (
+    let b = to_applied c.args.r.now in (
       not-alike k c.requires.good a b c.requires.left c.requires.right (find (entries_of k) a) (find (entries_of k) b) refl refl (λ e. false≢true (sym c.if-eq.false ∙ c.eq.ensures.1 e)),
       λ can. false≢true (sym c.if-not-branch.true ∙ c.in_ok-can_link.ensures.ok.1 can),
       refl,
