@@ -9,7 +9,7 @@ use Rattle.slotted_model.specs.Filling.{IsFilling}
 use Rattle.slotted_model.specs.Find.{find}
 use Rattle.slotted_model.proofs.Correspondences.Pairs.{Contains-key}
 use Rattle.slotted_model.proofs.FindProofs.{found_alike-equal, found_alike-derivable}
-use Rattle.slotted_model.proofs.Found.{full-is_valid}
+use Rattle.slotted_model.proofs.NormalIds.{full-is_valid}
 use Rattle.slotted_model.proofs.Unique.{term_of-same}
 use Rattle.slotted_core.specs.Image.{Image, found_id, FoundAlike, asserted_in, AreDerivable}
 use Rattle.slotted_core.specs.Kept.{Kept, nodes_of, entries_of, proofs_of, image_of, Good}

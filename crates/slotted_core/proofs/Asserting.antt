@@ -15,7 +15,7 @@ use Rattle.slotted_proofs.specs.Proving.{IsProvable}
 use Rattle.slotted_proofs.proofs.Entering.{asserted_provable, new_can_enter, turned_provable, entering_proved, entering_sound, entered_stands, others_assert_nothing}
 use Rattle.slotted_core.specs.Image.{StandsIn, Asserts, Records, asserted_in}
 use Rattle.slotted_core.specs.Kept.{Kept, nodes_of, entries_of, proofs_of, image_of, with_proofs, EntersIn, Good, IsAsserted}
-use Rattle.slotted_core.proofs.Entered.{entered-more}
+use Rattle.slotted_core.proofs.ProofListGrowth.{entered-more}
 use Rattle.slotted_core.proofs.Recorded.{records-stood, records-last, records-more}
 use Rattle.slotted_core.proofs.KeptLists.{equation_at-of, length-mapped, length-proofs_of}
 

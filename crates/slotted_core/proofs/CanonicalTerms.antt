@@ -28,7 +28,7 @@ use Rattle.slotted_model.proofs.Maps.{keys-with_values}
 use Rattle.slotted_core.specs.Kept.{Kept, nodes_of, node_at}
 use Rattle.slotted_core.specs.Nodes.{ids_in, child_ids}
 use Rattle.slotted_core.specs.Canonical.{args_count, place_count, IsBeside}
-use Rattle.slotted_core.proofs.Found.{canonical_node-in}
+use Rattle.slotted_core.proofs.RowLookUps.{canonical_node-in}
 use Rattle.slotted_core.proofs.NameMaps.{In-at, In-key, length-keys, length-values}
 use Rattle.slotted_core.proofs.Children.{Each, atom-is, length-ids}
 use Rattle.slotted_core.proofs.Plugged.{plugs}

@@ -34,7 +34,7 @@ use Rattle.slotted_core.specs.Graph.{Graph}
 use Rattle.slotted_core.specs.Image.{AreDerivable}
 use Rattle.slotted_core.specs.Leaves.{FollowsFromLeaves}
 use Rattle.slotted_core.specs.Kept.{Kept, nodes_of, proofs_of, image_of, with_proofs, EntersIn, Good, HasFreshSlots}
-use Rattle.slotted_core.proofs.Entered.{entering-good}
+use Rattle.slotted_core.proofs.ProofListGrowth.{entering-good}
 use Rattle.slotted_core.proofs.LeavesOf.{good-entries_follow}
 use Rattle.slotted_core.proofs.KeptLists.{equation_at-of, length-proofs_of}
 

@@ -11,7 +11,7 @@ use Rattle.slotted_model.specs.Correspondence.{identity, AllDifferent}
 use Rattle.slotted_model.proofs.Correspondences.PartialInjections.{identity-pair}
 use Rattle.slotted_model.proofs.Correspondences.FullMaps.{injective_map-from}
 use Rattle.slotted_model.proofs.Correspondences.FullIds.{ascending-different}
-use Rattle.slotted_model.proofs.Found.{keys-identity}
+use Rattle.slotted_model.proofs.NormalIds.{keys-identity}
 use Rattle.slotted_slots.specs.Ascending.{IsAscending}
 use Rattle.slotted_slots.specs.Maps.{keys, value_of}
 use Rattle.slotted_core.specs.Names.{between}

@@ -23,9 +23,9 @@ use Rattle.slotted_model.proofs.Correspondences.PartialInjections.{turned-by, id
 use Rattle.slotted_model.proofs.Correspondences.FullMaps.{full-partial, same_names-by}
 use Rattle.slotted_model.proofs.Correspondences.FullIds.{full_map}
 use Rattle.slotted_model.proofs.Finding.{leads, find_class-live, find_map-live, found-in_range, find_map-partial, found_keys}
-use Rattle.slotted_model.proofs.Found.{keys-identity, values-identity, used-live, found-full, found-class_live, found-slots, full-is_valid}
+use Rattle.slotted_model.proofs.NormalIds.{keys-identity, values-identity, used-live, found-full, found-class_live, found-slots, full-is_valid}
 use Rattle.slotted_model.proofs.Uniting.{found_equation-shares}
-use Rattle.slotted_core.specs.Alike.{AllInUse}
+use Rattle.slotted_core.specs.EntriesInUse.{AllInUse}
 
 -- lists of slots with the same members
 same_slots : (S : List ℕ) (nodes : List DTerm) (i : ℕ) → ((s : ℕ) → Contains S s ↔ Contains (canonical_slots nodes i) s) → ascending S ≡ canonical_slots nodes i

@@ -11,14 +11,14 @@ use Rattle.slotted_model.specs.Find.{Entry, find_class, find}
 use Rattle.slotted_model.specs.Link.{CanLink, IsLater, found_equation, with_link}
 use Rattle.slotted_model.specs.ProofList.{Equation, equation_of, asserted}
 use Rattle.slotted_model.specs.Sound.{Sound}
-use Rattle.slotted_model.proofs.Found.{full-is_valid}
+use Rattle.slotted_model.proofs.NormalIds.{full-is_valid}
 use Rattle.slotted_model.proofs.Keeping.{link-sound}
 use Rattle.slotted_model.proofs.Linking.{link-refines, link-later}
 use Rattle.slotted_model.proofs.Replacing.{refined-alike}
 use Rattle.slotted_model.proofs.Uniting.{can_link, linked-alike}
 use Rattle.slotted_proofs.specs.Entries.{Proven, entry_of, statement_at}
 use Rattle.slotted_proofs.specs.Proving.{IsProved}
-use Rattle.slotted_core.specs.Alike.{AllInUse}
+use Rattle.slotted_core.specs.EntriesInUse.{AllInUse}
 use Rattle.slotted_core.specs.Kept.{Kept, ClassEntry, RowEntry, no_form, no_entry, node_at, nodes_of, entries_of, rows_from, with_proofs, with_linked, Good}
 use Rattle.slotted_core.proofs.InUse.{link-in_use, found_sides-whole}
 use Rattle.slotted_core.proofs.KeptLists.{length-mapped, at-mapped, equation_at-of}

@@ -7,7 +7,7 @@ use Rattle.slotted_model.specs.Classes.{IsFull}
 use Rattle.slotted_model.specs.Find.{Entry, find, Linked}
 use Rattle.slotted_model.specs.Growth.{Extends}
 use Rattle.slotted_model.specs.Link.{with_new_entry}
-use Rattle.slotted_model.proofs.Found.{full-is_valid}
+use Rattle.slotted_model.proofs.NormalIds.{full-is_valid}
 use Rattle.slotted_model.proofs.NewClasses.{find-same}
 
 module _ (older newer : List DTerm) (x : Extends older newer) (one : length newer ≡ suc (length older)) (found : List Entry) (linked : Linked older found) (proof : ℕ) where

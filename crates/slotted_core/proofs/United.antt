@@ -23,10 +23,10 @@ use Rattle.slotted_proofs.specs.Equations.{Statement, Meets}
 use Rattle.slotted_proofs.specs.Entries.{Proven, entry_of, statement_at, Enters, turned_entry, composite_entry}
 use Rattle.slotted_proofs.specs.Proving.{IsProvable, IsProved}
 use Rattle.slotted_proofs.proofs.Entering.{entries_meet, turned_provable, composite_provable, entering_proved, entering_sound, entered_stands, others_assert_nothing}
-use Rattle.slotted_core.specs.Alike.{FindOneClass}
+use Rattle.slotted_core.specs.EntriesInUse.{FindOneClass}
 use Rattle.slotted_core.specs.Image.{HasLargeClass, found_id, CanUnite, FoundAlike, StandsIn, Asserts, Records, asserted_in}
 use Rattle.slotted_core.specs.Kept.{Kept, find_at, nodes_of, entries_of, proofs_of, image_of, with_proofs, with_linked, EntersIn, Good, Explains, Proves, IsAsserted, Links, Agrees, asserted_for}
-use Rattle.slotted_core.proofs.Entered.{entered-more, nil-append, entering-proves, explains-nothing, explains-then, explains-stands, at-append}
+use Rattle.slotted_core.proofs.ProofListGrowth.{entered-more, nil-append, entering-proves, explains-nothing, explains-then, explains-stands, at-append}
 use Rattle.slotted_core.proofs.InUse.{found-is_full}
 use Rattle.slotted_core.proofs.Recorded.{records-more, records-from}
 use Rattle.slotted_core.proofs.KeptLists.{length-mapped, equation_at-of, entry_at-of, length-nodes_of, length-proofs_of, found_id-is}

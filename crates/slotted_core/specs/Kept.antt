@@ -25,7 +25,7 @@ use Rattle.slotted_model.specs.Sound.{Sound}
 use Rattle.slotted_proofs.specs.Entries.{Proven, Enters, reflexive_entry, asserted_entry}
 use Rattle.slotted_proofs.specs.Entries as list
 use Rattle.slotted_proofs.specs.Proving.{IsProved}
-use Rattle.slotted_core.specs.Alike.{FindOneClass, AllInUse}
+use Rattle.slotted_core.specs.EntriesInUse.{FindOneClass, AllInUse}
 use Rattle.slotted_core.specs.EntryCode.{entry_code, proven_code}
 use Rattle.slotted_core.specs.FormCode.{form_code, form_is}
 use Rattle.slotted_core.specs.Image.{Image, FoundAlike, CanUnite, AddsClasses, Continues, Asserts, Records, StandsIn}

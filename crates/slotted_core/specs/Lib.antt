@@ -7,7 +7,7 @@ pub mod Image
 pub mod Leaves
 pub mod Graph
 pub mod Checks
-pub mod Alike
+pub mod EntriesInUse
 pub mod Kept
 pub mod Places
 pub mod SmallNodes

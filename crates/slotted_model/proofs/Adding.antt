@@ -26,7 +26,7 @@ use Rattle.slotted_model.proofs.Keeping.{new_class-sound, new_class-asserted}
 use Rattle.slotted_model.proofs.Entering.{equation-earlier, step-earlier, step-last, earlier_or_last, longer-length}
 use Rattle.slotted_model.proofs.Children.{EachChild-map}
 use Rattle.slotted_model.proofs.Congruence.{child-applied}
-use Rattle.slotted_model.proofs.Found.{found-again, found-valid, full-is_valid}
+use Rattle.slotted_model.proofs.NormalIds.{found-again, found-valid, full-is_valid}
 use Rattle.slotted_model.proofs.UpTo.{linked_to-same}
 use Rattle.slotted_model.proofs.GoingOn.{goes_on-then, still-row, still-used, still-listed, still-linked, still-equal}
 use Rattle.slotted_model.proofs.GrowingLists.{proofs-go_on, proofs-sane, grow-explicit}

@@ -21,11 +21,11 @@ use Rattle.slotted_model.proofs.Members.{In, In-Contains, Contains-In}
 use Rattle.slotted_model.proofs.Sets.{IsAscending-ascending, same_members}
 use Rattle.slotted_model.proofs.Full.{full-renamed}
 use Rattle.slotted_model.proofs.Growing.{identity-full}
-use Rattle.slotted_model.proofs.Found.{found-same, found-renamed, full-is_valid, of_used}
+use Rattle.slotted_model.proofs.NormalIds.{found-same, found-renamed, full-is_valid, of_used}
 use Rattle.slotted_model.proofs.Finding.{leads, find_map-partial}
 use Rattle.slotted_model.proofs.Spreading.{has_slot-in, in-has_slot}
 use Rattle.slotted_model.proofs.FindProofs.{full-found_alike, exact-holds}
-use Rattle.slotted_model.proofs.Alike.{full-alike, plainly-alike}
+use Rattle.slotted_model.proofs.CanonicalValues.{full-alike, plainly-alike}
 use Rattle.slotted_model.proofs.Correspondences.Pairs.{Contains-value, Contains-of_value}
 use Rattle.slotted_model.proofs.Correspondences.PartialInjections.{composite-by, identity-in_order, identity-by, identity-pair}
 

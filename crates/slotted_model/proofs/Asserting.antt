@@ -24,7 +24,7 @@ use Rattle.slotted_model.proofs.Entering.{entered-asserted, equation-earlier, eq
 use Rattle.slotted_model.proofs.Explaining.{stands_cases}
 use Rattle.slotted_model.proofs.Correspondences.FullMaps.{same_names-partial}
 use Rattle.slotted_model.proofs.Correspondences.FullIds.{full_map}
-use Rattle.slotted_model.proofs.Found.{found-again}
+use Rattle.slotted_model.proofs.NormalIds.{found-again}
 use Rattle.slotted_model.proofs.UpTo.{upto-together}
 use Rattle.slotted_model.proofs.GoingOn.{goes_on-then, still-row, still-listed, still-linked, still-equal}
 use Rattle.slotted_model.proofs.GrowingLists.{proofs-sane}

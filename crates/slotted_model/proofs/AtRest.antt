@@ -24,13 +24,13 @@ use Rattle.slotted_model.specs.Closed.{AreAlikeUpTo, IsAnswered, IsFoundPair, Is
 use Rattle.slotted_model.proofs.Options.{None-Some, Some-same}
 use Rattle.slotted_model.proofs.Children.{EachChild-map}
 use Rattle.slotted_model.proofs.Full.{full-children}
-use Rattle.slotted_model.proofs.Found.{found-again, full-is_valid}
+use Rattle.slotted_model.proofs.NormalIds.{found-again, full-is_valid}
 use Rattle.slotted_model.proofs.Growing.{identity-full}
 use Rattle.slotted_model.proofs.Congruence.{refined-normal}
 use Rattle.slotted_model.proofs.Correspondences.Pairs.{Contains-of_filter_map}
 use Rattle.slotted_model.proofs.FindProofs.{left_side-full, right_side-full, sides-equation, found_alike-derivable}
 use Rattle.slotted_model.proofs.Steps.{Equal-between}
-use Rattle.slotted_model.proofs.Alike.{filled-alike, congruent-alike, equal-look_up, equal-look_up_node, equal_trees-alike, alike-iff}
+use Rattle.slotted_model.proofs.CanonicalValues.{filled-alike, congruent-alike, equal-look_up, equal-look_up_node, equal_trees-alike, alike-iff}
 use Rattle.slotted_model.proofs.Spreading.{is_affected-covers, is_affected-iff}
 use Rattle.slotted_model.proofs.Meeting.{Meeting, meeting}
 use Rattle.slotted_model.proofs.Agreement.{half-agrees, same-slots}

@@ -15,7 +15,7 @@ use Rattle.slotted_model.specs.Trees.{IsTree}
 use Rattle.slotted_model.specs.Cost.{CostFunction, AtMost, IsLawful, tree_cost}
 use Rattle.slotted_model.specs.Extraction.{TableEntry, cost_in, IsInOrder, Fits, Extracts}
 use Rattle.slotted_model.proofs.AtRest.{rest-look_up}
-use Rattle.slotted_model.proofs.Found.{filling-found, full-is_valid}
+use Rattle.slotted_model.proofs.NormalIds.{filling-found, full-is_valid}
 use Rattle.slotted_model.proofs.Growing.{identity-full}
 use Rattle.slotted_model.proofs.LookUpsAreEqual.{found-equal}
 use Rattle.slotted_model.proofs.Options.{Some-same, None-Some}

@@ -20,7 +20,7 @@ use Rattle.slotted_model.specs.Sound.{Sound}
 use Rattle.slotted_model.specs.State.{Row, State, sources, look_up_tree}
 use Rattle.slotted_model.specs.Rest.{IsValidIn, UpToSymmetries, found_alike, LinkedTo, IsRow, IsCurrent, Filed, AtRest, IsAffected}
 use Rattle.slotted_model.proofs.Growing.{added, Canonical-nil}
-use Rattle.slotted_model.proofs.Found.{full-is_valid}
+use Rattle.slotted_model.proofs.NormalIds.{full-is_valid}
 use Rattle.slotted_model.proofs.Uniting.{linked-alike}
 use Rattle.slotted_model.proofs.UpTo.{linked_to-same}
 use Rattle.slotted_model.proofs.Spreading.{is_affected-iff}

@@ -17,7 +17,7 @@ use Rattle.slotted_model.proofs.Members.{In, In-left, In-right, In-append, In-ou
 use Rattle.slotted_model.proofs.Parts.{kind, first_name, first_child, first_scope, after_first}
 use Rattle.slotted_model.proofs.Children.{zip-places, EachChild-map, moved-as_term}
 use Rattle.slotted_model.proofs.Full.{full-children}
-use Rattle.slotted_model.proofs.Found.{found-renamed, found-name, found-class_live, found-slots}
+use Rattle.slotted_model.proofs.NormalIds.{found-renamed, found-name, found-class_live, found-slots}
 use Rattle.slotted_model.proofs.Correspondences.Pairs.{Contains-value, Contains-of_value}
 
 -- the applied id that a child is

@@ -24,7 +24,7 @@ use Rattle.slotted_model.specs.Affected.{HasNoOpenSymmetries}
 use Rattle.slotted_model.specs.Normal.{normal}
 use Rattle.slotted_model.specs.Changes.{ProofsGrow, with_proofs, Unites, finds_alike, left_dies, linked_state}
 use Rattle.slotted_model.specs.Link.{CanEnter}
-use Rattle.slotted_model.proofs.Found.{full-is_valid}
+use Rattle.slotted_model.proofs.NormalIds.{full-is_valid}
 use Rattle.slotted_model.proofs.Entering.{entered-proved}
 use Rattle.slotted_model.proofs.FindProofs.{found_alike-equal}
 use Rattle.slotted_model.proofs.Adding.{adds}

@@ -18,7 +18,7 @@ use Rattle.slotted_model.specs.Affected.{AreAlikeOrAffected}
 use Rattle.slotted_model.specs.SoundnessClaims.{SoundnessLaws}
 use Rattle.slotted_model.specs.CompletenessClaims.{CompletenessLaws}
 use Rattle.slotted_model.specs.RestClaims.{RestLaws}
-use Rattle.slotted_model.proofs.Found.{full-is_valid}
+use Rattle.slotted_model.proofs.NormalIds.{full-is_valid}
 use Rattle.slotted_model.proofs.CongruenceExample.{id, n, id_full, rebuilt, rebuilt_done, one_normal_form}
 
 module _ (laws : SoundnessLaws) where

@@ -13,7 +13,7 @@ use Rattle.slotted_model.specs.ProofList.{Equation, ProofEntry, turned_equation,
 use Rattle.slotted_model.specs.Link.{IsLater, CanDrop, with_slots, kept_equation, Refines}
 use Rattle.slotted_model.proofs.Correspondences.PartialInjections.{value_of-in_order, key_in_order, in_order-ext, composite-in_order, composite-partial, identity-pair, identity-both, turned-pair, turned-by, turned-partial}
 use Rattle.slotted_model.proofs.Correspondences.Joining.{composite-can_join}
-use Rattle.slotted_model.proofs.Found.{keys-identity, values-identity, used-live}
+use Rattle.slotted_model.proofs.NormalIds.{keys-identity, values-identity, used-live}
 use Rattle.slotted_model.proofs.Replacing.{CanReplace, by_entry, at-replaced, replaced-linked, replaced-refines, replaced-exact}
 
 -- the identity turned round is itself

@@ -23,7 +23,7 @@ use Rattle.slotted_model.specs.Changes.{GoesOn, linked_state, dropped_state}
 use Rattle.slotted_model.proofs.Children.{EachChild-map}
 use Rattle.slotted_model.proofs.Congruence.{child-applied}
 use Rattle.slotted_model.proofs.Finding.{leads, find_class-live, find_map-live, slots-ascending}
-use Rattle.slotted_model.proofs.Found.{keys-identity, found-class_live, found-valid, found-again, full-is_valid, used-live}
+use Rattle.slotted_model.proofs.NormalIds.{keys-identity, found-class_live, found-valid, found-again, full-is_valid, used-live}
 use Rattle.slotted_model.proofs.Ordered.{in_order-once}
 use Rattle.slotted_model.proofs.Replacing.{CanReplace, at-other, live-stays, new_leads}
 use Rattle.slotted_model.proofs.Linking.{link-replaces, link-refines}

@@ -29,7 +29,7 @@ use Rattle.slotted_model.proofs.Children.{EachChild-map}
 use Rattle.slotted_model.proofs.Congruence.{child-applied}
 use Rattle.slotted_model.proofs.Events.{normal-found}
 use Rattle.slotted_model.proofs.Fillings.{a_filling}
-use Rattle.slotted_model.proofs.Found.{found-renamed, filling-found, full-is_valid}
+use Rattle.slotted_model.proofs.NormalIds.{found-renamed, filling-found, full-is_valid}
 use Rattle.slotted_model.proofs.Full.{full-renamed, full-children}
 use Rattle.slotted_model.proofs.Marks.{child_classes-moved}
 use Rattle.slotted_model.proofs.Meeting.{Meeting, meeting}

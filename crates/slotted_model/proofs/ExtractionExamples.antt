@@ -21,7 +21,7 @@ use Rattle.slotted_model.specs.Trees.{IsTree}
 use Rattle.slotted_model.specs.Cost.{CostFunction, AtMost, limited_size, tree_cost}
 use Rattle.slotted_model.specs.Extraction.{TableEntry, IsCandidate, IsLeastFirst, IsFinished, Fits, Extracts, by_entry, no_more}
 use Rattle.slotted_model.proofs.Growing.{added, Canonical-nil}
-use Rattle.slotted_model.proofs.Found.{full-is_valid}
+use Rattle.slotted_model.proofs.NormalIds.{full-is_valid}
 use Rattle.slotted_model.proofs.Uniting.{linked-alike}
 use Rattle.slotted_model.proofs.UpTo.{linked_to-same}
 use Rattle.slotted_model.proofs.Spreading.{is_affected-iff}

@@ -20,7 +20,7 @@ use Rattle.slotted_model.proofs.Correspondences.Numbers.{numbered-form}
 use Rattle.slotted_model.proofs.Steps.{Equal-between, one_is_enough, symmetric-sound, transitive-sound}
 use Rattle.slotted_model.proofs.Leaves.{leaf-explicit, leaves-hold}
 use Rattle.slotted_model.proofs.Finding.{Leads, leads, along, find_class-follows, find_map-follows, find_class-live, find_map-live, found-in_range, find_map-partial}
-use Rattle.slotted_model.proofs.Found.{filling-found}
+use Rattle.slotted_model.proofs.NormalIds.{filling-found}
 
 -- the two sides of an equation are full ids with this equation
 pub sides-form : (nodes : List DTerm) (e : Equation) → IsOver nodes e → IsNumberedForm (canonical_slots nodes e.left) (canonical_slots nodes e.right) e.pairs (left_side nodes e).1 (right_side nodes e).1

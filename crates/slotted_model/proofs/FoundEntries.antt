@@ -23,7 +23,7 @@ use Rattle.slotted_model.proofs.Correspondences.FullMaps.{full-in_order, full-on
 use Rattle.slotted_model.proofs.Correspondences.FullIds.{full_map, ascending-different}
 use Rattle.slotted_model.proofs.Ordered.{in_order-ascending}
 use Rattle.slotted_model.proofs.Finding.{Leads, leads, found-in_range, found-live, found_keys, find_map-full}
-use Rattle.slotted_model.proofs.Found.{found-full, found-valid, full-is_valid, used-live}
+use Rattle.slotted_model.proofs.NormalIds.{found-full, found-valid, full-is_valid, used-live}
 use Rattle.slotted_model.proofs.Uniting.{found_equation-over, found_equation-shares}
 
 -- the identity with names put in

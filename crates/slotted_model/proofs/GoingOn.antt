@@ -22,7 +22,7 @@ use Rattle.slotted_model.proofs.Children.{EachChild-map, EachChild-moved}
 use Rattle.slotted_model.proofs.Congruence.{normal-goes_on}
 use Rattle.slotted_model.proofs.Full.{full-children}
 use Rattle.slotted_model.proofs.Finding.{leads, find_map-partial}
-use Rattle.slotted_model.proofs.Found.{keys-identity, of_used, found-valid, found-again, full-is_valid}
+use Rattle.slotted_model.proofs.NormalIds.{keys-identity, of_used, found-valid, found-again, full-is_valid}
 use Rattle.slotted_model.proofs.Correspondences.Pairs.{Contains-of_value}
 use Rattle.slotted_model.proofs.RenamedIds.{valid-renamed}
 

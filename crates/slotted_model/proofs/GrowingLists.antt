@@ -13,7 +13,7 @@ use Rattle.slotted_model.specs.State.{Symmetry, State}
 use Rattle.slotted_model.specs.Rest.{IsListed, Sane}
 use Rattle.slotted_model.specs.Changes.{GoesOn, ProofsGrow, with_proofs, with_symmetry}
 use Rattle.slotted_model.proofs.Members.{In, Contains-In}
-use Rattle.slotted_model.proofs.Found.{found-again}
+use Rattle.slotted_model.proofs.NormalIds.{found-again}
 use Rattle.slotted_model.proofs.Correspondences.Pairs.{Contains-filter_map}
 use Rattle.slotted_model.proofs.GoingOn.{still-row, still-listed}
 

@@ -39,7 +39,7 @@ use Rattle.slotted_model.proofs.Correspondences.Pairs.{Contains-key}
 use Rattle.slotted_model.proofs.Correspondences.PartialInjections.{composite-over, turned-pair, identity-pair}
 use Rattle.slotted_model.proofs.Correspondences.FullMaps.{same_names-over}
 use Rattle.slotted_model.proofs.Finding.{Leads, leads, along, find_class-live, find_map-live, find_class-follows, find_map-follows}
-use Rattle.slotted_model.proofs.Found.{full-is_valid}
+use Rattle.slotted_model.proofs.NormalIds.{full-is_valid}
 use Rattle.slotted_model.proofs.RenamedIds.{normal-moves}
 use Rattle.slotted_model.proofs.UpTo.{left-valid, right-valid}
 use Rattle.slotted_model.proofs.Rows.{row_of-some, row_of-there, one_row}

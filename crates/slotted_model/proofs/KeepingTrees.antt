@@ -12,7 +12,7 @@ use Rattle.slotted_model.specs.Rest.{IsValidIn, AtRest, LookedUp, IsAnswer}
 use Rattle.slotted_model.specs.Adding.{Adds, HasAdded, KeepsLookUps}
 use Rattle.slotted_model.proofs.Options.{Some-same, option_map-some, both-some, and_then-some}
 use Rattle.slotted_model.proofs.Terms.{term_at-seam}
-use Rattle.slotted_model.proofs.Found.{found-valid, full-is_valid}
+use Rattle.slotted_model.proofs.NormalIds.{found-valid, full-is_valid}
 use Rattle.slotted_model.proofs.UpTo.{identity-full}
 use Rattle.slotted_model.proofs.Rows.{rest-nodes}
 use Rattle.slotted_model.proofs.Answers.{node_of-identity, answer-found}

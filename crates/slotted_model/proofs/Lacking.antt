@@ -22,7 +22,7 @@ use Rattle.slotted_model.proofs.Correspondences.PartialInjections.{composite-ove
 use Rattle.slotted_model.proofs.Correspondences.FullMaps.{full-one_name, same_names-by}
 use Rattle.slotted_model.proofs.Correspondences.FullIds.{full_map}
 use Rattle.slotted_model.proofs.Finding.{found_keys, find_map-full}
-use Rattle.slotted_model.proofs.Found.{of_used, used-by, found-name}
+use Rattle.slotted_model.proofs.NormalIds.{of_used, used-by, found-name}
 use Rattle.slotted_model.proofs.FoundEntries.{found-used, shares-over}
 
 -- each number of a list stands in another, or one does not

@@ -21,7 +21,7 @@ pub mod Correspondences
 pub mod CorrespondenceExamples
 pub mod Ordered
 pub mod Finding
-pub mod Found
+pub mod NormalIds
 pub mod Steps
 pub mod Leaves
 pub mod FindProofs
@@ -65,7 +65,7 @@ pub mod TurnExamples
 pub mod Counting
 pub mod Marks
 pub mod LookedUp
-pub mod Alike
+pub mod CanonicalValues
 pub mod Spreading
 pub mod Agreement
 pub mod LookUpsAreEqual

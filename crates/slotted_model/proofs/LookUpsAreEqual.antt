@@ -30,7 +30,7 @@ use Rattle.slotted_model.proofs.Children.{EachChild-map, expand-child, expand-as
 use Rattle.slotted_model.proofs.Full.{full-renamed, full-children, term_of-layer}
 use Rattle.slotted_model.proofs.Fillings.{term_of-filling}
 use Rattle.slotted_model.proofs.Folds.{as_term-same}
-use Rattle.slotted_model.proofs.Found.{filling-found, found-valid, found-again, full-is_valid}
+use Rattle.slotted_model.proofs.NormalIds.{filling-found, found-valid, found-again, full-is_valid}
 use Rattle.slotted_model.proofs.Growing.{identity-full}
 use Rattle.slotted_model.proofs.Congruence.{child-applied}
 use Rattle.slotted_model.proofs.Steps.{Equal-between}

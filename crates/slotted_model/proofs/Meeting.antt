@@ -10,7 +10,7 @@ use Rattle.slotted_model.specs.Correspondence.{IsFullMap, composite, turned, sam
 use Rattle.slotted_model.specs.Find.{Entry, entry_at, find_class, find_map, find, Linked}
 use Rattle.slotted_model.proofs.Growing.{identity-full}
 use Rattle.slotted_model.proofs.Finding.{Leads, leads, find_map-partial, found_keys, find_map-full}
-use Rattle.slotted_model.proofs.Found.{full-is_valid, found-full}
+use Rattle.slotted_model.proofs.NormalIds.{full-is_valid, found-full}
 use Rattle.slotted_model.proofs.Correspondences.PartialInjections.{composite-over, composite-by, composite-partial, turned-partial, turned-by}
 use Rattle.slotted_model.proofs.Correspondences.FullMaps.{full-in_order, full-name, full-slot, full-one_name, full-ext, same_names-over}
 use Rattle.slotted_model.proofs.Correspondences.FullIds.{slots-different, full_map, full_id}

@@ -19,7 +19,7 @@ use Rattle.slotted_model.specs.ProofList.{Equation, Step, ProofEntry, explicit, 
 use Rattle.slotted_model.specs.Link.{IsLater, reflexive_equation, with_new_entry}
 use Rattle.slotted_model.proofs.Correspondences.PartialInjections.{identity-partial}
 use Rattle.slotted_model.proofs.Finding.{Leads, leads, chased-enough, find_map-live}
-use Rattle.slotted_model.proofs.Found.{keys-identity, values-identity}
+use Rattle.slotted_model.proofs.NormalIds.{keys-identity, values-identity}
 use Rattle.slotted_model.proofs.FindProofs.{left_side-full, right_side-full}
 use Rattle.slotted_model.proofs.Dropping.{turned-identity}
 

@@ -20,7 +20,7 @@ use Rattle.slotted_model.specs.Changes.{GoesOn, ProofsGrow, with_proofs}
 use Rattle.slotted_model.specs.Adding.{SameAnswers}
 use Rattle.slotted_model.proofs.Children.{EachChild-map}
 use Rattle.slotted_model.proofs.Finding.{leads, found-live, found-in_range}
-use Rattle.slotted_model.proofs.Found.{found-again, full-is_valid}
+use Rattle.slotted_model.proofs.NormalIds.{found-again, full-is_valid}
 use Rattle.slotted_model.proofs.GoingOn.{still-row, still-listed, still-represents}
 use Rattle.slotted_model.proofs.GrowingLists.{proofs-go_on, proofs-sane, grow-explicit}
 use Rattle.slotted_model.proofs.Rows.{row_of-some}

@@ -24,7 +24,7 @@ use Rattle.slotted_model.proofs.Theory.{moved-agrees, moved-moved, moved-id, fre
 use Rattle.slotted_model.proofs.Maps.{keys-map_on, values-map_on, filled-map_on, IsInjectiveMap-map_on}
 use Rattle.slotted_model.proofs.Children.{EachChild-map, EachChild-moved}
 use Rattle.slotted_model.proofs.Congruence.{normal-goes_on}
-use Rattle.slotted_model.proofs.Found.{found-again, full-is_valid}
+use Rattle.slotted_model.proofs.NormalIds.{found-again, full-is_valid}
 use Rattle.slotted_model.proofs.Twins.{normal-slots}
 use Rattle.slotted_model.proofs.Correspondences.Listing.{different-filter}
 use Rattle.slotted_model.proofs.RenamedIds.{valid-renamed}

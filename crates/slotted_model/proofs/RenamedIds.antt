@@ -20,7 +20,7 @@ use Rattle.slotted_model.proofs.Sets.{In-ascending}
 use Rattle.slotted_model.proofs.Theory.{moved-agrees, moved-moved}
 use Rattle.slotted_model.proofs.Maps.{keys-with_values, filled-with_values, IsInjectiveMap-with_values}
 use Rattle.slotted_model.proofs.Children.{moved-as_term}
-use Rattle.slotted_model.proofs.Found.{found-renamed}
+use Rattle.slotted_model.proofs.NormalIds.{found-renamed}
 use Rattle.slotted_model.proofs.OtherFillings.{renamed_filling}
 
 -- an injective renaming keeps a valid id valid

@@ -16,7 +16,7 @@ use Rattle.slotted_model.proofs.Correspondences.Pairs.{Contains-value, Contains-
 use Rattle.slotted_model.proofs.Correspondences.PartialInjections.{composite-over, composite-composite, composite-identity, identity-pair}
 use Rattle.slotted_model.proofs.Correspondences.FullMaps.{full-partial}
 use Rattle.slotted_model.proofs.Finding.{Leads, leads, live-twice, along, find_class-follows, find_map-follows, find_class-live, find_map-live, found-in_range, find_map-partial}
-use Rattle.slotted_model.proofs.Found.{used-live, used-by, of_used, valid-map, found-valid}
+use Rattle.slotted_model.proofs.NormalIds.{used-live, used-by, of_used, valid-map, found-valid}
 
 -- the newer find of each class factors through the older one
 pub record Factors (nodes : List DTerm) (older newer : List Entry) (i : ℕ) : Type 0 where

@@ -29,7 +29,7 @@ use Rattle.slotted_model.proofs.Maps.{filled-pair, pair-filled}
 use Rattle.slotted_model.proofs.Ids.{term_eq-true, term_eq-same}
 use Rattle.slotted_model.proofs.Full.{full-ascending, full-renamed}
 use Rattle.slotted_model.proofs.LookUps.{Renames, look_up-moved}
-use Rattle.slotted_model.proofs.Found.{found-renamed, found-again, found-valid, full-is_valid, used-by}
+use Rattle.slotted_model.proofs.NormalIds.{found-renamed, found-again, found-valid, full-is_valid, used-by}
 use Rattle.slotted_model.proofs.Correspondences.Pairs.{value_of-only}
 use Rattle.slotted_model.proofs.RenamedIds.{full-bijection, normal-moves, normal-renamed}
 use Rattle.slotted_model.proofs.UpTo.{upto-renamed, upto-class, upto-together}

@@ -16,7 +16,7 @@ use Rattle.slotted_model.proofs.Correspondences.PartialInjections.{identity-comp
 use Rattle.slotted_model.proofs.Correspondences.FullMaps.{full-partial}
 use Rattle.slotted_model.proofs.Correspondences.Pairs.{Contains-value}
 use Rattle.slotted_model.proofs.Finding.{Leads, leads, along, find_class-follows, find_map-follows, find_class-live, find_map-live, found-in_range, found-live, find_map-partial, found_keys, find_map-full}
-use Rattle.slotted_model.proofs.Found.{values-identity}
+use Rattle.slotted_model.proofs.NormalIds.{values-identity}
 
 module _ (nodes : List DTerm) (found : List Entry) (linked : Linked nodes found) (i : ℕ) (proof : ℕ) (hi : i < length nodes) (dead : IsLive found i → ⊥) where
   abbrev newer : List Entry

@@ -19,7 +19,7 @@ use Rattle.slotted_model.proofs.Sets.{IsAscending-ascending}
 use Rattle.slotted_model.proofs.Correspondences.Pairs.{Contains-value, Contains-of_key, Contains-of_value}
 use Rattle.slotted_model.proofs.Correspondences.PartialInjections.{turned-partial, turned-pair, turned-by}
 use Rattle.slotted_model.proofs.Finding.{leads, find_map-partial}
-use Rattle.slotted_model.proofs.Found.{found-again, found-valid, full-is_valid, of_used}
+use Rattle.slotted_model.proofs.NormalIds.{found-again, found-valid, full-is_valid, of_used}
 use Rattle.slotted_model.proofs.Uniting.{linked-alike}
 use Rattle.slotted_model.proofs.Dropping.{kept-can_drop}
 use Rattle.slotted_model.proofs.GoingOn.{goes_on-same, goes_on-then, still-full}

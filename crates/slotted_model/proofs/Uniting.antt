@@ -16,7 +16,7 @@ use Rattle.slotted_model.proofs.Correspondences.FullMaps.{full-in_order, full-on
 use Rattle.slotted_model.proofs.Correspondences.FullIds.{full_map}
 use Rattle.slotted_model.proofs.Correspondences.Joining.{composite-can_join}
 use Rattle.slotted_model.proofs.Finding.{Leads, leads, found-in_range, find_map-partial, found_keys, find_map-full}
-use Rattle.slotted_model.proofs.Found.{found-full, found-slots, found-class_live, full-is_valid}
+use Rattle.slotted_model.proofs.NormalIds.{found-full, found-slots, found-class_live, full-is_valid}
 use Rattle.slotted_model.proofs.Linking.{left-class, right-class, left-map, right-map, link-refines, link_map}
 
 module _ (nodes : List DTerm) (found : List Entry) (linked : Linked nodes found) where

@@ -27,7 +27,7 @@ use Rattle.slotted_model.proofs.Correspondences.Pairs.{Contains-key, Contains-of
 use Rattle.slotted_model.proofs.Correspondences.PartialInjections.{turned-partial, turned-pair, turned-by}
 use Rattle.slotted_model.proofs.Correspondences.FullMaps.{injective_map-from}
 use Rattle.slotted_model.proofs.Ordered.{in_order-ascending, in_order-once}
-use Rattle.slotted_model.proofs.Found.{keys-identity, found-renamed, full-is_valid}
+use Rattle.slotted_model.proofs.NormalIds.{keys-identity, found-renamed, full-is_valid}
 use Rattle.slotted_model.proofs.Full.{full-renamed}
 use Rattle.slotted_model.proofs.RenamedIds.{valid-renamed, full-bijection, normal-renamed}
 

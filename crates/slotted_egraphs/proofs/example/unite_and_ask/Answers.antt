@@ -4,7 +4,7 @@ use Rattle.slotted_slots.specs.declared.error.Error.{Error}
 use Rattle.slotted_model.specs.Applied.{Applied}
 use Rattle.slotted_core.specs.Image.{Image, FoundAlike}
 use Rattle.slotted_core.specs.Nodes.{to_applied}
-use Rattle.slotted_core.proofs.Later.{term_later, id_later, id_same, union_alike, union_nodes}
+use Rattle.slotted_core.proofs.CallerLemmas.{term_later, id_later, id_same, union_alike, union_nodes}
 use Rattle.slotted_first.proofs.unite_and_ask.Goals as goal
 
 -- where ids find alike, an answer that says whether they do is yes

@@ -1,7 +1,7 @@
 use Rattle.slotted_model.specs.Find.{find_class, find}
 use Rattle.slotted_model.proofs.Correspondences.Pairs.{Contains-value, Contains-of_value}
 use Rattle.slotted_model.proofs.Finding.{leads, find_class-live, find_map-live, find_class-follows, find_map-follows}
-use Rattle.slotted_model.proofs.Found.{found-class_live, found-slots, found-valid, found-again, found-renamed, found-same, found-name, full-is_valid, filling-found}
+use Rattle.slotted_model.proofs.NormalIds.{found-class_live, found-slots, found-valid, found-again, found-renamed, found-same, found-name, full-is_valid, filling-found}
 use Rattle.slotted_model.proofs.Steps.{one_is_enough, reflexive-sound, symmetric-sound, transitive-sound, congruent-sound}
 use Rattle.slotted_model.proofs.Leaves.{leaves-listed, leaves-stay}
 use Rattle.slotted_model.proofs.FindProofs.{left_side-full, right_side-full, sides-equation, entry-holds, leaves-enough, asserted-leaves, proved-holds, find_equation-live, find_equation-follows, find_equation-composite, found_alike-join, found_alike-equal, found_alike-derivable}

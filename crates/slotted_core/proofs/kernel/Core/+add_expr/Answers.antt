@@ -6,7 +6,7 @@ use Rattle.slotted_terms.specs.Valid.{IsWhole}
 use Rattle.slotted_core.specs.Kept.{AddsTerm}
 use Rattle.slotted_core.specs.Nodes.{to_applied}
 use Rattle.slotted_core.specs.Places.{term_places}
-use Rattle.slotted_core.proofs.Grown.{IsPart, part_start, part_step, part_full, part_end, part_size}
+use Rattle.slotted_core.proofs.TermAddition.{IsPart, part_start, part_step, part_full, part_end, part_size}
 use Rattle.slotted_core.proofs.Layers.{whole_count, whole_each, each_at, any_default, child_smaller}
 use Rattle.slotted_core.proofs.Sizes.{child_places_fit}
 use Rattle.slotted_core.proofs.kernel.Core.+add_expr.Goals as goal

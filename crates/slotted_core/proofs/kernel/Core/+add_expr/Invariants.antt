@@ -1,6 +1,6 @@
 use Rattle.slotted_theory.specs.Term.{term_size}
 use Rattle.slotted_slots.specs.Table.{KnowsMore}
-use Rattle.slotted_core.proofs.Grown.{IsPart}
+use Rattle.slotted_core.proofs.TermAddition.{IsPart}
 use Rattle.slotted_core.proofs.kernel.Core.+add_expr.Given as goal
 
 abbrev pub decreases-add_expr : goal.decreases-add_expr

@@ -1,9 +1,9 @@
 use Rattle.std.proofs.Common.{◌≡◌, ◌∙◌, ◌+◌, ap, sym, subst, length, arith, rules, inl}
 use Rattle.slotted_slots.specs.Maps.{keys}
 use Rattle.slotted_slots.specs.Table.{Table}
-use Rattle.slotted_core.proofs.Found.{row-names}
+use Rattle.slotted_core.proofs.RowLookUps.{row-names}
 use Rattle.slotted_core.proofs.NameMaps.{length-keys}
-use Rattle.slotted_core.proofs.Added.{fresh_injective, row_adds, class_adds}
+use Rattle.slotted_core.proofs.NodeAddition.{fresh_injective, row_adds, class_adds}
 use Rattle.slotted_core.specs.Kept.{Kept, Adds}
 use Rattle.slotted_core.specs.Names.{fresh_slots}
 use Rattle.slotted_core.specs.Nodes.{to_applied}

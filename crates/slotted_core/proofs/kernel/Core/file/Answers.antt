@@ -1,7 +1,7 @@
 use Rattle.std.proofs.Common.{◌∙◌, ap, ◌∷◌, [], map}
 use Rattle.std.proofs.lemmas.List.{map-append}
 use Rattle.slotted_core.specs.Kept.{Kept, ClassEntry, found, with_filed}
-use Rattle.slotted_core.proofs.Rows.{rows-insert_entry}
+use Rattle.slotted_core.proofs.RowsByForm.{rows-insert_entry}
 use Rattle.slotted_core.specs.declared.kernel.Row.{Row}
 use Rattle.slotted_core.specs.declared.kernel.Class.{Class}
 use Rattle.slotted_core.proofs.kernel.Core.file.Goals as goal

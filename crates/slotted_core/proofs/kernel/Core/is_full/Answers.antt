@@ -6,7 +6,7 @@ use Rattle.slotted_model.specs.Ascending.{ascending}
 use Rattle.slotted_slots.specs.Maps.{values}
 use Rattle.slotted_core.specs.Nodes.{to_applied}
 use Rattle.slotted_core.specs.Kept.{find_at}
-use Rattle.slotted_core.proofs.Ids.{find_differ, other_keys, full_iff}
+use Rattle.slotted_core.proofs.FullIds.{find_differ, other_keys, full_iff}
 use Rattle.slotted_core.proofs.NameMaps.{all_differ-iff}
 use Rattle.slotted_core.proofs.kernel.Core.is_full.Goals as goal
 

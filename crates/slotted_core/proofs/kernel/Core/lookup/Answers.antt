@@ -1,5 +1,5 @@
 use Rattle.std.proofs.Common.{◌∙◌, ap, Some, None}
-use Rattle.slotted_core.proofs.Found.{row-names, row-answers}
+use Rattle.slotted_core.proofs.RowLookUps.{row-names, row-answers}
 use Rattle.slotted_core.proofs.kernel.Core.lookup.Goals as goal
 
 pub class_of_row-requires : goal.class_of_row-requires

@@ -1,7 +1,7 @@
 use Rattle.std.proofs.Common.{◌∙◌, ap}
 use Rattle.std.specs.Prelude.{option_map}
 use Rattle.slotted_core.specs.Kept.{Kept, found}
-use Rattle.slotted_core.proofs.Rows.{option_map-copied, found-lookup}
+use Rattle.slotted_core.proofs.RowsByForm.{option_map-copied, found-lookup}
 use Rattle.slotted_core.specs.declared.kernel.Row.{Row}
 use Rattle.slotted_core.proofs.kernel.Core.row.Goals as goal
 

@@ -33,7 +33,7 @@ use Rattle.slotted_model.proofs.Sets.{In-of_ascending}
 use Rattle.slotted_model.proofs.Maps.{In-values}
 use Rattle.slotted_model.proofs.Children.{EachChild-moved}
 use Rattle.slotted_model.proofs.Full.{full-renamed}
-use Rattle.slotted_model.proofs.Found.{keys-identity}
+use Rattle.slotted_model.proofs.NormalIds.{keys-identity}
 use Rattle.slotted_model.proofs.Growing.{added, node-old, node-new, Extends-same}
 use Rattle.slotted_model.proofs.Keeping.{new_class-sound, new_class-asserted}
 use Rattle.slotted_model.proofs.NewClasses.{later-newer}
@@ -41,7 +41,7 @@ use Rattle.slotted_proofs.specs.Equations.{Statement}
 use Rattle.slotted_proofs.specs.Entries.{Proven, entry_of, IsNew, Enters, reflexive_entry}
 use Rattle.slotted_proofs.specs.Proving.{IsProvable, IsProved}
 use Rattle.slotted_proofs.proofs.Entering.{entering_proved, proved_newer, reflexive_provable}
-use Rattle.slotted_core.specs.Alike.{AllInUse}
+use Rattle.slotted_core.specs.EntriesInUse.{AllInUse}
 use Rattle.slotted_core.specs.FormCode.{form_is, form_Decides}
 use Rattle.slotted_core.specs.Graph.{IsFreshBetween}
 use Rattle.slotted_core.specs.Image.{AddsClasses}
@@ -49,8 +49,8 @@ use Rattle.slotted_core.specs.Kept.{Kept, ClassEntry, RowEntry, no_form, no_entr
 use Rattle.slotted_core.specs.Names.{between, fresh_slots, with_put}
 use Rattle.slotted_core.specs.Nodes.{child_ids}
 use Rattle.slotted_core.proofs.Children.{Each-from_All, EachChild-node_args}
-use Rattle.slotted_core.proofs.Found.{canonical_node-in, answer, look_up-rows, none_has}
-use Rattle.slotted_core.proofs.Ids.{length-classes}
+use Rattle.slotted_core.proofs.RowLookUps.{canonical_node-in, answer, look_up-rows, none_has}
+use Rattle.slotted_core.proofs.FullIds.{length-classes}
 use Rattle.slotted_core.proofs.Images.{adds-nothing}
 use Rattle.slotted_core.proofs.InUse.{new_class-in_use, new_class-lives}
 use Rattle.slotted_core.proofs.KeptLists.{length-entries_of, length-proofs_of, equation_at-of, found_id-is}

@@ -21,7 +21,7 @@ use Rattle.slotted_core.specs.Image.{Image, AddsClasses}
 use Rattle.slotted_core.specs.Kept.{Kept, nodes_of, image_of, Good, HasFreshSlots, Adds, AddsTerm}
 use Rattle.slotted_core.specs.Nodes.{child_ids}
 use Rattle.slotted_core.specs.Places.{args_places, term_places}
-use Rattle.slotted_core.proofs.Added.{full_children}
+use Rattle.slotted_core.proofs.NodeAddition.{full_children}
 use Rattle.slotted_core.proofs.Images.{adds-nothing, adds-then}
 use Rattle.slotted_core.proofs.Children.{length-ids, zip-keys_values}
 use Rattle.slotted_core.proofs.Known.{answer_full, answer_term}

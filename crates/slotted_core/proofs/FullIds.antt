@@ -10,7 +10,7 @@ use Rattle.slotted_model.proofs.Finding.{leads, live-full}
 use Rattle.slotted_core.specs.Kept.{Kept, ClassEntry, find_at, nodes_of, entries_of, Good}
 use Rattle.slotted_core.proofs.InUse.{entry-slots}
 use Rattle.slotted_core.proofs.KeptLists.{entry_at-of}
-use Rattle.slotted_core.proofs.Found.{nameless_nodes}
+use Rattle.slotted_core.proofs.RowLookUps.{nameless_nodes}
 
 length-nodes : (cs : List ClassEntry) → length (nameless_nodes cs) ≡ length cs
 length-nodes [] = refl

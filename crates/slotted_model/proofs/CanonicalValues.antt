@@ -23,7 +23,7 @@ use Rattle.slotted_model.specs.Closed.{AreAlikeUpTo, IsAnswered, IsFoundPair, Is
 use Rattle.slotted_model.proofs.Children.{EachChild-map, expand-child}
 use Rattle.slotted_model.proofs.Congruence.{child-applied}
 use Rattle.slotted_model.proofs.Full.{full-children, term_of-layer}
-use Rattle.slotted_model.proofs.Found.{filling-found}
+use Rattle.slotted_model.proofs.NormalIds.{filling-found}
 use Rattle.slotted_model.proofs.RenamedIds.{normal-moves}
 use Rattle.slotted_model.proofs.Options.{Some-same}
 use Rattle.slotted_model.proofs.FindProofs.{found_alike-equal}
