@@ -135,6 +135,65 @@ module _ (g : State) (sane : Sane g) (c : DTerm) (new : IsNew g.nodes c) where
   not_explicit : ¬ (entry.step ≡ explicit)
   not_explicit e = reflexive-explicit e
 
+  pub last-in_range : i < length newer.nodes
+  last-in_range = let e : length newer.nodes ≡ suc i = one in omega arith
+
+  -- its node is filed
+  module _ (alone : (q : Row) → Contains g.rows q → q.shape ≢ shape (normal_node newer i)) where
+    abbrev filed : State
+    filed = with_new_row newer i
+
+    filed-on : GoesOn newer filed
+    filed-on = record { classes = λ o h. (h, refl); finds = λ a v. (v, sym (found-again newer.nodes newer.found class-sound.linked a v)); proofs = λ p h. (h, refl); symmetries = λ y k. k }
+
+    not_source : ¬ Contains (sources g.rows) i
+    not_source k =
+        let q = of_source g.rows i k in
+        let h : q.0.source < i = (sane.filed.each q.0 q.1).in_range in
+        let e : q.0.source ≡ i = q.2 in
+        omega arith
+
+    abbrev row : Row
+    row = row_for newer i
+
+    filed-sane : Sane filed
+    filed-sane = record {
+      sound = class-sound;
+      filed = record {
+        each = λ q k. elim (contains_cases row g.rows q k) [
+          | inl e ↦ subst (IsRow filed) (sym e) (still-row newer filed class-sound filed-on row (row_for-row newer class-sane i last-in_range))
+          | inr h ↦ still-row newer filed class-sound filed-on q (class-sane.filed.each q h)
+        ];
+        once = (not_source, sane.filed.once);
+        shapes = λ q t k l e. elim (contains_cases row g.rows q k) [
+          | inl a ↦ elim (contains_cases row g.rows t l) [
+            | inl b ↦ ap (λ (x : Row). x.source) (a ∙ sym b)
+            | inr h ↦ absurd (alone t h (sym e ∙ ap (λ (x : Row). x.shape) a))
+          ]
+          | inr h ↦ elim (contains_cases row g.rows t l) [
+            | inl b ↦ absurd (alone q h (e ∙ ap (λ (x : Row). x.shape) b))
+            | inr j ↦ sane.filed.shapes q t h j e
+          ]
+        ];
+        waits_once = (λ k. not_source (sane.filed.waits_for_row i k), sane.filed.waits_once);
+        waits_for_row = λ o k. elim (contains_cases i g.waiting o k) [
+          | inl e ↦ subst (Contains (sources filed.rows)) (sym e) (contains_head i (sources g.rows))
+          | inr h ↦ contains_tail i (sources g.rows) o (sane.filed.waits_for_row o h)
+        ];
+        current = λ q k n. elim (contains_cases row g.rows q k) [
+          | inl e ↦ absurd (n (subst (Contains (i ∷ g.waiting)) (ap (λ (x : Row). x.source) (sym e)) (contains_head i g.waiting)))
+          | inr h ↦
+              let cur : IsCurrent newer q = class-sane.filed.current q h (λ w. n (contains_tail i g.waiting q.source w)) in
+              record { in_normal_form = cur.in_normal_form; covered = cur.covered }
+        ];
+      };
+      each_listed = λ y k. still-listed newer filed class-sound filed-on y (class-sane.each_listed y k);
+      listed_once = sane.listed_once;
+    }
+
+    pub filed-sane_on : Sane filed × GoesOn g filed
+    filed-sane_on = (filed-sane, goes_on-then g newer filed sane.sound.linked class-goes_on filed-on)
+
   -- the classes before it are linked, and what was asserted is respected
   module _ (r : Represents g) where
     old-linked : (o : ℕ) → o < i → (x : ℕ) × Contains (sources g.rows) x × LinkedTo newer o x
@@ -158,73 +217,19 @@ module _ (g : State) (sane : Sane g) (c : DTerm) (new : IsNew g.nodes c) where
       | inr n ↦ let e : length newer.nodes ≡ suc i = one in inl (omega arith)
     ]
 
-    pub last-in_range : i < length newer.nodes
-    last-in_range = let e : length newer.nodes ≡ suc i = one in omega arith
-
     -- its node is filed
     module _ (alone : (q : Row) → Contains g.rows q → q.shape ≢ shape (normal_node newer i)) where
-      abbrev filed : State
-      filed = with_new_row newer i
-
-      filed-on : GoesOn newer filed
-      filed-on = record { classes = λ o h. (h, refl); finds = λ a v. (v, sym (found-again newer.nodes newer.found class-sound.linked a v)); proofs = λ p h. (h, refl); symmetries = λ y k. k }
-
-      not_source : ¬ Contains (sources g.rows) i
-      not_source k =
-          let q = of_source g.rows i k in
-          let h : q.0.source < i = (sane.filed.each q.0 q.1).in_range in
-          let e : q.0.source ≡ i = q.2 in
-          omega arith
-
-      abbrev row : Row
-      row = row_for newer i
-
-      filed-sane : Sane filed
-      filed-sane = record {
-        sound = class-sound;
-        filed = record {
-          each = λ q k. elim (contains_cases row g.rows q k) [
-            | inl e ↦ subst (IsRow filed) (sym e) (still-row newer filed class-sound filed-on row (row_for-row newer class-sane i last-in_range))
-            | inr h ↦ still-row newer filed class-sound filed-on q (class-sane.filed.each q h)
-          ];
-          once = (not_source, sane.filed.once);
-          shapes = λ q t k l e. elim (contains_cases row g.rows q k) [
-            | inl a ↦ elim (contains_cases row g.rows t l) [
-              | inl b ↦ ap (λ (x : Row). x.source) (a ∙ sym b)
-              | inr h ↦ absurd (alone t h (sym e ∙ ap (λ (x : Row). x.shape) a))
-            ]
-            | inr h ↦ elim (contains_cases row g.rows t l) [
-              | inl b ↦ absurd (alone q h (e ∙ ap (λ (x : Row). x.shape) b))
-              | inr j ↦ sane.filed.shapes q t h j e
-            ]
-          ];
-          waits_once = (λ k. not_source (sane.filed.waits_for_row i k), sane.filed.waits_once);
-          waits_for_row = λ o k. elim (contains_cases i g.waiting o k) [
-            | inl e ↦ subst (Contains (sources filed.rows)) (sym e) (contains_head i (sources g.rows))
-            | inr h ↦ contains_tail i (sources g.rows) o (sane.filed.waits_for_row o h)
-          ];
-          current = λ q k n. elim (contains_cases row g.rows q k) [
-            | inl e ↦ absurd (n (subst (Contains (i ∷ g.waiting)) (ap (λ (x : Row). x.source) (sym e)) (contains_head i g.waiting)))
-            | inr h ↦
-                let cur : IsCurrent newer q = class-sane.filed.current q h (λ w. n (contains_tail i g.waiting q.source w)) in
-                record { in_normal_form = cur.in_normal_form; covered = cur.covered }
-          ];
-        };
-        each_listed = λ y k. still-listed newer filed class-sound filed-on y (class-sane.each_listed y k);
-        listed_once = sane.listed_once;
-      }
-
-      filed-represents : Represents filed
+      filed-represents : Represents (filed alone)
       filed-represents = record {
         linked = λ o h. elim (old-or-last o h) [
-          | inl l ↦ let k = old-linked o l in (k.0, contains_tail i (sources g.rows) k.0 k.1, still-linked newer filed class-sound filed-on o k.0 k.2)
-          | inr e ↦ (i, contains_head i (sources g.rows), subst (λ x. LinkedTo filed x i) (sym e) (still-linked newer filed class-sound filed-on i i (linked_to-same newer class-sound.linked i last-in_range)))
+          | inl l ↦ let k = old-linked o l in (k.0, contains_tail i (sources g.rows) k.0 k.1, still-linked newer (filed alone) class-sound (filed-on alone) o k.0 k.2)
+          | inr e ↦ (i, contains_head i (sources g.rows), subst (λ x. LinkedTo (filed alone) x i) (sym e) (still-linked newer (filed alone) class-sound (filed-on alone) i i (linked_to-same newer class-sound.linked i last-in_range)))
         ];
-        asserted = λ p h x a b fa fb e. still-equal newer filed class-sound filed-on (still-asserted p h x a b fa fb e);
+        asserted = λ p h x a b fa fb e. still-equal newer (filed alone) class-sound (filed-on alone) (still-asserted p h x a b fa fb e);
       }
 
-      pub filed-ready : Sane filed × Represents filed × GoesOn g filed
-      filed-ready = (filed-sane, filed-represents, goes_on-then g newer filed sane.sound.linked class-goes_on filed-on)
+      pub filed-ready : Sane (filed alone) × Represents (filed alone) × GoesOn g (filed alone)
+      filed-ready = (filed-sane alone, filed-represents, (filed-sane_on alone).1)
 
     -- or it is united with the class of a row
     module _ (proofs : List ProofEntry) (p : ℕ) (q : Row) (grow : ProofsGrow newer.nodes newer.proofs proofs) (there : Contains g.rows q) (congruence : IsCongruence (with_proofs newer proofs) p i q.source) (f : State) (u : HasUnited p (with_proofs newer proofs) f) where

@@ -63,23 +63,23 @@ lacking-falls p (finds_alike {g = g} l i) sane k lacks = absurd (lacks-not_ident
 lacking-falls p (proves {g = g} {h = h} proofs grow u) sane k lacks =
     let on : GoesOn g (with_proofs g proofs) = proofs-go_on g sane proofs grow in
     lacking-falls p u (proofs-sane g sane proofs grow) (on.proofs p k).0 (subst (λ e. Lacks g (found_equation g.nodes g.found e)) (sym (on.proofs p k).1) lacks)
-lacking-falls p (drops_left {g = g} {h = h} n s used lacks at u) sane k l =
+lacking-falls p (drops_left {g = g} {h = h} n s w used lacks at t u) sane k l =
     let kept : List ℕ = keys_of (found_entry g p).pairs in
     let can = can_drop-left g sane p k in
-    let d : State = dropped_state g (found_entry g p).left kept n in
-    let r : HasUnited p d h = unites p u (drop-sane g sane (found_entry g p).left kept n can at.0 at.1) k in
-    let a : size d < size g = drop-size g sane (found_entry g p).left kept n can at.0 at.1 s used lacks in
+    let d : State = dropped_state g (found_entry g p).left kept n w in
+    let r : HasUnited p d h = unites p u (drop-sane g sane (found_entry g p).left kept n can at.0 at.1 w t) k in
+    let a : size d < size g = drop-size g sane (found_entry g p).left kept n can at.0 at.1 w t s used lacks in
     let b : size h ≤ size d = united-no_larger p d h r in
     omega arith
-lacking-falls p (drops_right {g = g} {h = h} n t all used lacks at u) sane k l =
+lacking-falls p (drops_right {g = g} {h = h} n x w all used lacks at t u) sane k l =
     let kept : List ℕ = keys_of (turned_equation g.nodes (found_entry g p)).pairs in
     let can = can_drop-right g sane p k in
-    let d : State = dropped_state g (found_entry g p).right kept n in
-    let r : HasUnited p d h = unites p u (drop-sane g sane (found_entry g p).right kept n can at.0 at.1) k in
-    let a : size d < size g = drop-size g sane (found_entry g p).right kept n can at.0 at.1 t used (λ c. lacks (back-key g sane p k t c)) in
+    let d : State = dropped_state g (found_entry g p).right kept n w in
+    let r : HasUnited p d h = unites p u (drop-sane g sane (found_entry g p).right kept n can at.0 at.1 w t) k in
+    let a : size d < size g = drop-size g sane (found_entry g p).right kept n can at.0 at.1 w t x used (λ c. lacks (back-key g sane p k x c)) in
     let b : size h ≤ size d = united-no_larger p d h r in
     omega arith
-lacking-falls p (left_dies {g = g} n moment differ all at later) sane k lacks = absurd (lacks-not_all g (found_entry g p) lacks all)
-lacking-falls p (right_dies {g = g} n moment differ all at later) sane k lacks = absurd (lacks-not_all g (found_entry g p) lacks all)
+lacking-falls p (left_dies {g = g} n moment w differ all at later t) sane k lacks = absurd (lacks-not_all g (found_entry g p) lacks all)
+lacking-falls p (right_dies {g = g} n moment w differ all at later t) sane k lacks = absurd (lacks-not_all g (found_entry g p) lacks all)
 lacking-falls p (lists {g = g} n same all moves new at) sane k lacks = absurd (lacks-not_all g (found_entry g p) lacks all)
 lacking-falls p (is_listed {g = g} y same all c is) sane k lacks = absurd (lacks-not_all g (found_entry g p) lacks all)

@@ -150,7 +150,7 @@ adding-ends g rest c new =
     let m : State = with_new_class g c in
     let i : ℕ = length g.nodes in
     let sane : Sane m = class-sane g rest.sane c new in
-    let last : i < length m.nodes = last-in_range g rest.sane c new rest.represents in
+    let last : i < length m.nodes = last-in_range g rest.sane c new in
     elim (one-or-none (λ r. r.shape ≡ shape (normal_node m i)) (shape-decided (shape (normal_node m i))) g.rows) [
       | inl r ↦
           let x : CongruenceEntered m i r.0.source = congruence-entered m sane i last r.0.source (sane.filed.each r.0 r.1).in_range (row-shape m sane i last r.0 r.1 r.2) in

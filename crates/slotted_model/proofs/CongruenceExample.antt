@@ -15,7 +15,7 @@ use Rattle.slotted_model.specs.Growth.{IsNew}
 use Rattle.slotted_model.specs.Filling.{IsFilling}
 use Rattle.slotted_model.specs.Find.{Entry, entry_at, find, find_class}
 use Rattle.slotted_model.specs.ProofList.{Equation, ProofEntry, explicit, symmetric, congruent, equation_of, equation_at, one_child, no_more, node_of, Proved, asserted}
-use Rattle.slotted_model.specs.Correspondence.{IsPartialInjection, identity}
+use Rattle.slotted_model.specs.Correspondence.{AllDifferent, IsPartialInjection, identity}
 use Rattle.slotted_model.specs.State.{Row, Symmetry, State, normal_node, look_up_node}
 use Rattle.slotted_model.specs.Rest.{IsValidIn, IsListed, AtRest, IsAffected, size}
 use Rattle.slotted_model.specs.Rebuild.{IsCongruence, Turn, enters, unites_parents, Runs, takes_turn, starts, refiles, removed_state, IsCovered, HasNothingLeft}
@@ -35,6 +35,7 @@ use Rattle.slotted_model.proofs.AtRest.{rest-alike, rest-iff, rest-alike_iff}
 use Rattle.slotted_model.proofs.Quiet.{proofs-quiet}
 use Rattle.slotted_model.proofs.Affected.{affected-marked}
 use Rattle.slotted_model.proofs.RestExamples.{empty, made}
+use Rattle.slotted_model.proofs.Touching.{touching, touched-is}
 use Rattle.slotted_model.proofs.CompletenessExamples.{one_of}
 
 -- a class is made of a node that is not looked up
@@ -218,15 +219,15 @@ is_later moment (e ∷ found) before (suc i) l = is_later moment found before.1 
 
 -- the class of a dies, so the row of n a waits
 abbrev pub words_united : State
-words_united = linked_state (with_assertion twice (sides 0 1)) (sides 0 1) 6 1
+words_united = linked_state (with_assertion twice (sides 0 1)) (sides 0 1) 6 1 (touching twice 0)
 
 n_a_waits : words_united.waiting ≡ 2 ∷ []
 n_a_waits = refl
 
 pub words_unite : Unites 6 (with_assertion twice (sides 0 1)) words_united
 words_unite =
-    left_dies 6 1 (λ e. omega arith) (record { left = λ s c. c; right = λ s c. c }) (omega arith, refl)
-    (λ i l d. is_later 1 twice.found (omega arith, (omega arith, (omega arith, (omega arith, (omega arith, (omega arith, tt)))))) i l)
+    left_dies 6 1 (touching twice 0) (λ e. omega arith) (record { left = λ s c. c; right = λ s c. c }) (omega arith, refl)
+    (λ i l d. is_later 1 twice.found (omega arith, (omega arith, (omega arith, (omega arith, (omega arith, (omega arith, tt)))))) i l) (touched-is (with_assertion twice (sides 0 1)) tt 0)
 
 pub nothing_paired : IsPartialInjection [] [] []
 nothing_paired = record { in_order = refl; within = λ s t c. absurd (Contains-nil (s, t) c); injective = λ s r t c d. absurd (Contains-nil (s, t) c) }
@@ -241,9 +242,13 @@ n_entered = with_proofs words_united (words_united.proofs ++ n_congruent ∷ [])
 n_same : normal_node words_united 2 ≡ n 1
 n_same = refl
 
+-- what is one number has no number twice
+one_waits : {x : ℕ} → AllDifferent (x ∷ [])
+one_waits {x} = (Contains-nil x, tt)
+
 -- the class of n a dies, so the row of n (n a) waits
 abbrev pub n_united : State
-n_united = linked_state n_entered (sides 2 3) 7 2
+n_united = linked_state n_entered (sides 2 3) 7 2 (touching n_entered 2)
 
 n_n_a_waits : (removed_state n_united 2).waiting ≡ 4 ∷ []
 n_n_a_waits = refl
@@ -292,8 +297,8 @@ n_congruence = record {
 
 pub n_unite : Unites 7 n_entered n_united
 n_unite =
-    left_dies 7 2 (λ e. omega arith) (record { left = λ s c. c; right = λ s c. c }) (omega arith, refl)
-    (λ i l d. is_later 2 n_entered.found (omega arith, (omega arith, (omega arith, (omega arith, (omega arith, (omega arith, tt)))))) i l)
+    left_dies 7 2 (touching n_entered 2) (λ e. omega arith) (record { left = λ s c. c; right = λ s c. c }) (omega arith, refl)
+    (λ i l d. is_later 2 n_entered.found (omega arith, (omega arith, (omega arith, (omega arith, (omega arith, (omega arith, tt)))))) i l) (touched-is n_entered one_waits 2)
 
 -- the row of n over a class
 abbrev n_row : ℕ → ℕ → Row
@@ -320,7 +325,7 @@ n_n_same : normal_node n_turned 4 ≡ n 3
 n_n_same = refl
 
 abbrev n_n_united : State
-n_n_united = linked_state n_n_entered (sides 4 5) 8 3
+n_n_united = linked_state n_n_entered (sides 4 5) 8 3 (touching n_n_entered 4)
 
 abbrev pub rebuilt : State
 rebuilt = removed_state n_n_united 4
@@ -360,8 +365,8 @@ n_n_congruence = record {
 
 n_n_unite : Unites 8 n_n_entered n_n_united
 n_n_unite =
-    left_dies 8 3 (λ e. omega arith) (record { left = λ s c. c; right = λ s c. c }) (omega arith, refl)
-    (λ i l d. is_later 3 n_n_entered.found (omega arith, (omega arith, (omega arith, (omega arith, (omega arith, (omega arith, tt)))))) i l)
+    left_dies 8 3 (touching n_n_entered 4) (λ e. omega arith) (record { left = λ s c. c; right = λ s c. c }) (omega arith, refl)
+    (λ i l d. is_later 3 n_n_entered.found (omega arith, (omega arith, (omega arith, (omega arith, (omega arith, (omega arith, tt)))))) i l) (touched-is n_n_entered one_waits 4)
 
 n_n_turn : Turn n_turned rebuilt
 n_n_turn = enters n_n_entered.proofs n_n_grow (unites_parents 4 8 (n_row 5 3) (contains_head 4 []) (0, omega arith, refl) (λ e. omega arith) refl n_n_congruence n_n_unite)

@@ -14,8 +14,9 @@ use Rattle.slotted_model.specs.Changes.{GoesOn, linked_state, dropped_state, wit
 use Rattle.slotted_model.specs.Rebuild.{Turn, enters, narrows, unites_parents, refiles, Acts, acts, Runs, starts, takes_turn, takes_act}
 use Rattle.slotted_model.proofs.Events.{drop-sane}
 use Rattle.slotted_model.proofs.GrowingLists.{proofs-go_on, proofs-sane}
-use Rattle.slotted_model.proofs.Unions.{can_drop-left, can_drop-right, can_link-left, can_link-right}
+use Rattle.slotted_model.proofs.Unions.{can_drop-left, can_drop-right, can_link-left, can_link-right, unites}
 use Rattle.slotted_model.proofs.Turning.{run, run-no_larger, HasRun}
+use Rattle.slotted_model.proofs.AfterUnions.{united-no_larger}
 
 -- one for a live class
 lives : ℕ → Entry → ℕ
@@ -69,8 +70,8 @@ abbrev lives_in : State → ℕ
 lives_in g = lives_from 0 g.found
 
 -- a link costs one live class, and a drop none
-link-lives : (g : State) → Sane g → (e : Equation) (proof moment : ℕ) → CanLink g.nodes g.found e → lives_in (linked_state g e proof moment) ≤ lives_in g
-link-lives g sane e proof moment can =
+link-lives : (g : State) → Sane g → (e : Equation) (proof moment : ℕ) → CanLink g.nodes g.found e → (w : List ℕ) → lives_in (linked_state g e proof moment w) ≤ lives_in g
+link-lives g sane e proof moment can w =
     let new : Entry = record { class = e.right; pairs = turned (canonical_slots g.nodes e.right) e.pairs; proof = proof; died = moment } in
     let l : length g.found ≡ length g.nodes = sane.sound.linked.entries in
     let k : e.left < length g.nodes = can.over.left in
@@ -79,8 +80,8 @@ link-lives g sane e proof moment can =
     let b : lives e.left new ≡ 0 = lives-dead e.left new (λ p. can.different (sym p)) in
     omega arith
 
-drop-lives_same : (g : State) → Sane g → (c : ℕ) (slots : List ℕ) (proof : ℕ) → CanDrop g.nodes g.found c slots → lives_in (dropped_state g c slots proof) ≡ lives_in g
-drop-lives_same g sane c slots proof can =
+drop-lives_same : (g : State) → Sane g → (c : ℕ) (slots : List ℕ) (proof : ℕ) → CanDrop g.nodes g.found c slots → (w : List ℕ) → lives_in (dropped_state g c slots proof w) ≡ lives_in g
+drop-lives_same g sane c slots proof can w =
     let new : Entry = record { class = c; pairs = identity slots; proof = proof; died = 0 } in
     let l : length g.found ≡ length g.nodes = sane.sound.linked.entries in
     let k : c < length g.nodes = can.in_range in
@@ -94,22 +95,22 @@ unites-lives p (finds_alike l i) sane k = omega arith
 unites-lives p (proves {g = g} {h = h} proofs grow u) sane k =
     let on : GoesOn g (with_proofs g proofs) = proofs-go_on g sane proofs grow in
     unites-lives p u (proofs-sane g sane proofs grow) (on.proofs p k).0
-unites-lives p (drops_left {g = g} {h = h} n s used lacks at u) sane k =
+unites-lives p (drops_left {g = g} {h = h} n s w used lacks at t u) sane k =
     let c : ℕ = (found_entry g p).left in
     let kept : List ℕ = keys_of (found_entry g p).pairs in
     let can = can_drop-left g sane p k in
-    let r : lives_in h ≤ lives_in (dropped_state g c kept n) = unites-lives p u (drop-sane g sane c kept n can at.0 at.1) k in
-    let e : lives_in (dropped_state g c kept n) ≡ lives_in g = drop-lives_same g sane c kept n can in
+    let r : lives_in h ≤ lives_in (dropped_state g c kept n w) = unites-lives p u (drop-sane g sane c kept n can at.0 at.1 w t) k in
+    let e : lives_in (dropped_state g c kept n w) ≡ lives_in g = drop-lives_same g sane c kept n can w in
     omega arith
-unites-lives p (drops_right {g = g} {h = h} n t all used lacks at u) sane k =
+unites-lives p (drops_right {g = g} {h = h} n x w all used lacks at t u) sane k =
     let c : ℕ = (found_entry g p).right in
     let kept : List ℕ = keys_of (turned_equation g.nodes (found_entry g p)).pairs in
     let can = can_drop-right g sane p k in
-    let r : lives_in h ≤ lives_in (dropped_state g c kept n) = unites-lives p u (drop-sane g sane c kept n can at.0 at.1) k in
-    let e : lives_in (dropped_state g c kept n) ≡ lives_in g = drop-lives_same g sane c kept n can in
+    let r : lives_in h ≤ lives_in (dropped_state g c kept n w) = unites-lives p u (drop-sane g sane c kept n can at.0 at.1 w t) k in
+    let e : lives_in (dropped_state g c kept n w) ≡ lives_in g = drop-lives_same g sane c kept n can w in
     omega arith
-unites-lives p (left_dies {g = g} n moment differ all at later) sane k = link-lives g sane (found_entry g p) n moment (can_link-left g sane p k differ all)
-unites-lives p (right_dies {g = g} n moment differ all at later) sane k = link-lives g sane (turned_equation g.nodes (found_entry g p)) n moment (can_link-right g sane p k differ all)
+unites-lives p (left_dies {g = g} n moment w differ all at later t) sane k = link-lives g sane (found_entry g p) n moment (can_link-left g sane p k differ all) w
+unites-lives p (right_dies {g = g} n moment w differ all at later t) sane k = link-lives g sane (turned_equation g.nodes (found_entry g p)) n moment (can_link-right g sane p k differ all) w
 unites-lives p (lists n same all moves new at) sane k = omega arith
 unites-lives p (is_listed y same all c is) sane k = omega arith
 
@@ -143,3 +144,14 @@ run-slots f sane {n} {h} r e =
     let a : size h ≡ lives_in h + slots_from 0 h.found = size-counts 0 h.found in
     let b : size f ≡ lives_in f + slots_from 0 f.found = size-counts 0 f.found in
     omega arith
+
+-- a union never makes live classes more, nor, while they are as many, their slots
+pub unites-counts : (p : ℕ) (g h : State) → Unites p g h → Sane g → p < length g.proofs → (lives_from 0 h.found ≤ lives_from 0 g.found) × (lives_from 0 h.found ≡ lives_from 0 g.found → slots_from 0 h.found ≤ slots_from 0 g.found)
+unites-counts p g h u sane k = (
+  unites-lives p u sane k,
+  λ e.
+      let a : size h ≤ size g = united-no_larger p g h (unites p u sane k) in
+      let b : size g ≡ lives_from 0 g.found + slots_from 0 g.found = size-counts 0 g.found in
+      let c : size h ≡ lives_from 0 h.found + slots_from 0 h.found = size-counts 0 h.found in
+      omega arith,
+)

@@ -26,6 +26,7 @@ use Rattle.slotted_model.proofs.GrowingLists.{proofs-go_on, proofs-sane}
 use Rattle.slotted_model.proofs.Lacking.{missing-cases}
 use Rattle.slotted_model.proofs.Rows.{of_source}
 use Rattle.slotted_model.proofs.Congruences.{row-shape, congruence-entered}
+use Rattle.slotted_model.proofs.Touching.{touched, touched-is}
 use Rattle.slotted_model.proofs.Turning.{turned, acted, ended}
 
 -- whether two lists of numbers are the same
@@ -107,7 +108,7 @@ module _ (p : ℕ) (g : State) (sane : Sane g) (k : p < length g.proofs)
   all_paired : PairsAll g says → Ends p g
   all_paired all = elim (cases_eq says.left says.right) [
     | inl same ↦ one_class same all
-    | inr differ ↦ (_, left_dies forth (moments g.found) differ all forth-at (later g.found))
+    | inr differ ↦ (_, left_dies forth (moments g.found) (touched says.left g.rows g.waiting) differ all forth-at (later g.found) (touched-is g sane.filed.waits_once says.left))
   ]
 
   left_paired : ((s : ℕ) → Contains (used_slots g.found says.left) s → Contains (keys_of says.pairs) s) → Ends p g
@@ -115,10 +116,10 @@ module _ (p : ℕ) (g : State) (sane : Sane g) (k : p < length g.proofs)
     | inl r ↦ all_paired (record { left = all; right = r })
     | inr m ↦
         let can = can_drop-right g sane p k in
-        let d : State = dropped_state g says.right kept kept_right in
-        let r : Ends p d = smaller d (drop-sane g sane says.right kept kept_right can right-at.0 right-at.1) k
-        (drop-size g sane says.right kept kept_right can right-at.0 right-at.1 m.0 m.1 (λ c. m.2 (back-key g sane p k m.0 c))) in
-        (r.0, drops_right kept_right m.0 all m.1 m.2 right-at r.1)
+        let d : State = dropped_state g says.right kept kept_right (touched says.right g.rows g.waiting) in
+        let r : Ends p d = smaller d (drop-sane g sane says.right kept kept_right can right-at.0 right-at.1 (touched says.right g.rows g.waiting) (touched-is g sane.filed.waits_once says.right)) k
+        (drop-size g sane says.right kept kept_right can right-at.0 right-at.1 (touched says.right g.rows g.waiting) (touched-is g sane.filed.waits_once says.right) m.0 m.1 (λ c. m.2 (back-key g sane p k m.0 c))) in
+        (r.0, drops_right kept_right m.0 (touched says.right g.rows g.waiting) all m.1 m.2 right-at (touched-is g sane.filed.waits_once says.right) r.1)
   ]
 
   next-union : Ends p g
@@ -126,10 +127,10 @@ module _ (p : ℕ) (g : State) (sane : Sane g) (k : p < length g.proofs)
     | inl l ↦ left_paired l
     | inr m ↦
         let can = can_drop-left g sane p k in
-        let d : State = dropped_state g says.left (keys_of says.pairs) kept_left in
-        let r : Ends p d = smaller d (drop-sane g sane says.left (keys_of says.pairs) kept_left can left-at.0 left-at.1) k
-        (drop-size g sane says.left (keys_of says.pairs) kept_left can left-at.0 left-at.1 m.0 m.1 m.2) in
-        (r.0, drops_left kept_left m.0 m.1 m.2 left-at r.1)
+        let d : State = dropped_state g says.left (keys_of says.pairs) kept_left (touched says.left g.rows g.waiting) in
+        let r : Ends p d = smaller d (drop-sane g sane says.left (keys_of says.pairs) kept_left can left-at.0 left-at.1 (touched says.left g.rows g.waiting) (touched-is g sane.filed.waits_once says.left)) k
+        (drop-size g sane says.left (keys_of says.pairs) kept_left can left-at.0 left-at.1 (touched says.left g.rows g.waiting) (touched-is g sane.filed.waits_once says.left) m.0 m.1 m.2) in
+        (r.0, drops_left kept_left m.0 (touched says.left g.rows g.waiting) m.1 m.2 left-at (touched-is g sane.filed.waits_once says.left) r.1)
   ]
 
 union-by : (fuel p : ℕ) (g : State) → Sane g → p < length g.proofs → size g < fuel → Ends p g

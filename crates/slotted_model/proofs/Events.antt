@@ -17,7 +17,7 @@ use Rattle.slotted_model.specs.ProofList.{Equation, equation_at}
 use Rattle.slotted_model.specs.Normal.{normal_args}
 use Rattle.slotted_model.specs.Link.{CanLink, IsLater, with_link, CanDrop, with_slots, Refines}
 use Rattle.slotted_model.specs.Sound.{Sound}
-use Rattle.slotted_model.specs.State.{Row, State, filed_node, normal_node, child_classes, touch}
+use Rattle.slotted_model.specs.State.{Row, State, sources, filed_node, normal_node, child_classes, HasTouched}
 use Rattle.slotted_model.specs.Rest.{IsValidIn, IsRow, IsCurrent, Sane, entry_size, size_from, size}
 use Rattle.slotted_model.specs.Changes.{GoesOn, linked_state, dropped_state}
 use Rattle.slotted_model.proofs.Children.{EachChild-map}
@@ -31,7 +31,8 @@ use Rattle.slotted_model.proofs.Linking as linking
 use Rattle.slotted_model.proofs.Dropping.{drop-replaces, drop-refines}
 use Rattle.slotted_model.proofs.Dropping as dropping
 use Rattle.slotted_model.proofs.Keeping.{link-sound, drop-sound}
-use Rattle.slotted_model.proofs.Touching.{touched-keeps, touched-has, touched-from, touched-once, child_classes-moved, different-fewer}
+use Rattle.slotted_model.proofs.Rows.{source-in}
+use Rattle.slotted_model.proofs.Touching.{child_classes-moved, different-fewer}
 use Rattle.slotted_model.proofs.GoingOn.{still-row, still-used, still-listed}
 
 -- an id in normal form, of another class than c
@@ -66,9 +67,9 @@ module _ (g : State) (c : ℕ) (found : List Entry) (leaves : (a : Applied) → 
 
 -- a change of finds that leaves all classes but one, over which rows then wait
 module _ (g : State) (sane : Sane g) (c : ℕ) (found : List Entry) (sound : Sound g.nodes found g.proofs) (refines : Refines g.nodes g.found found)
-    (leaves : (a : Applied) → IsValidIn g a → find g.found a ≡ a → a.0 ≢ c → find found a ≡ a) where
+    (leaves : (a : Applied) → IsValidIn g a → find g.found a ≡ a → a.0 ≢ c → find found a ≡ a) (w : List ℕ) (t : HasTouched g c w) where
   abbrev newer : State
-  newer = touch c (record g { found = found })
+  newer = record g { found = found; waiting = w }
 
   pub changed-goes_on : GoesOn g newer
   changed-goes_on = record { classes = λ i h. (h, refl); finds = refines; proofs = λ p h. (h, refl); symmetries = λ y h. h }
@@ -85,8 +86,8 @@ module _ (g : State) (sane : Sane g) (c : ℕ) (found : List Entry) (sound : Sou
 
   changed-current : (r : Row) → Contains g.rows r → ¬ Contains newer.waiting r.source → IsCurrent newer r
   changed-current r h n =
-      let cur : IsCurrent g r = sane.filed.current r h (λ w. n (touched-keeps c g.rows g.waiting r.source w)) in
-      let stays : filed_node r ≡ normal_node newer r.source = row-stays r h cur (λ k. n (touched-has c g.rows g.waiting r h k)) in
+      let cur : IsCurrent g r = sane.filed.current r h (λ k. n (t.kept r.source k)) in
+      let stays : filed_node r ≡ normal_node newer r.source = row-stays r h cur (λ k. n (t.over r h k)) in
       record {
         in_normal_form = stays;
         covered = λ s u. subst (λ t. Contains (names t) s) (sym cur.in_normal_form ∙ stays) (cur.covered s (still-used g newer sane.sound changed-goes_on r.source s (sane.filed.each r h).in_range u));
@@ -99,10 +100,10 @@ module _ (g : State) (sane : Sane g) (c : ℕ) (found : List Entry) (sound : Sou
       each = λ r h. still-row g newer sane.sound changed-goes_on r (sane.filed.each r h);
       once = sane.filed.once;
       shapes = sane.filed.shapes;
-      waits_once = touched-once c g.rows g.waiting sane.filed.waits_once;
-      waits_for_row = λ o w. elim (touched-from c g.rows g.waiting o w) [
+      waits_once = t.once;
+      waits_for_row = λ o k. elim (t.from o k) [
         | inl h ↦ sane.filed.waits_for_row o h
-        | inr h ↦ h
+        | inr h ↦ subst (Contains (sources g.rows)) h.3 (source-in g.rows h.0 h.1)
       ];
       current = changed-current;
     };
@@ -157,23 +158,23 @@ module _ (g : State) (sane : Sane g) where
   pub size-dead : (i : ℕ) → i < length g.nodes → ¬ IsLive g.found i → entry_size i (entry_at g.found i) ≡ 0
   size-dead i h dead = entry_size-dead i (entry_at g.found i) dead
 
-  module _ (e : Equation) (proof moment : ℕ) (can : CanLink g.nodes g.found e) (later : IsLater g.found moment) (h : proof < length g.proofs) (says : equation_at g.proofs proof ≡ e) where
+  module _ (e : Equation) (proof moment : ℕ) (can : CanLink g.nodes g.found e) (later : IsLater g.found moment) (h : proof < length g.proofs) (says : equation_at g.proofs proof ≡ e) (w : List ℕ) (t : HasTouched g e.left w) where
     abbrev linked_found : List Entry
     linked_found = with_link g.nodes g.found e proof moment
 
-    link-leaves : (a : Applied) → IsValidIn g a → find g.found a ≡ a → a.0 ≢ e.left → find linked_found a ≡ a
+    pub link-leaves : (a : Applied) → IsValidIn g a → find g.found a ≡ a → a.0 ≢ e.left → find linked_found a ≡ a
     link-leaves = replaced-leaves g linked e.left (linking.new_entry g.nodes g.found linked e proof moment can later) (link-replaces g.nodes g.found linked e proof moment can later)
 
     link-still_sound : Sound g.nodes linked_found g.proofs
     link-still_sound = link-sound g.nodes g.found g.proofs e proof moment sane.sound can later h says
 
-    pub link-goes_on : GoesOn g (linked_state g e proof moment)
-    link-goes_on = changed-goes_on g sane e.left linked_found link-still_sound (link-refines g.nodes g.found linked e proof moment can later) link-leaves
+    pub link-goes_on : GoesOn g (linked_state g e proof moment w)
+    link-goes_on = changed-goes_on g sane e.left linked_found link-still_sound (link-refines g.nodes g.found linked e proof moment can later) link-leaves w t
 
-    pub link-sane : Sane (linked_state g e proof moment)
-    link-sane = changed-sane g sane e.left linked_found link-still_sound (link-refines g.nodes g.found linked e proof moment can later) link-leaves
+    pub link-sane : Sane (linked_state g e proof moment w)
+    link-sane = changed-sane g sane e.left linked_found link-still_sound (link-refines g.nodes g.found linked e proof moment can later) link-leaves w t
 
-    pub link-size : size (linked_state g e proof moment) < size g
+    pub link-size : size (linked_state g e proof moment w) < size g
     link-size =
         let new : Entry = linking.new_entry g.nodes g.found linked e proof moment can later in
         let l : length g.found ≡ length g.nodes = linked.entries in
@@ -183,7 +184,7 @@ module _ (g : State) (sane : Sane g) where
         let b : entry_size e.left new ≡ 0 = entry_size-dead e.left new (λ p. can.different (sym p)) in
         omega arith
 
-  module _ (c : ℕ) (slots : List ℕ) (proof : ℕ) (can : CanDrop g.nodes g.found c slots) (h : proof < length g.proofs) (says : equation_at g.proofs proof ≡ record { left = c; right = c; pairs = identity slots }) where
+  module _ (c : ℕ) (slots : List ℕ) (proof : ℕ) (can : CanDrop g.nodes g.found c slots) (h : proof < length g.proofs) (says : equation_at g.proofs proof ≡ record { left = c; right = c; pairs = identity slots }) (w : List ℕ) (t : HasTouched g c w) where
     abbrev dropped_found : List Entry
     dropped_found = with_slots g.found c slots proof
 
@@ -193,14 +194,14 @@ module _ (g : State) (sane : Sane g) where
     drop-still_sound : Sound g.nodes dropped_found g.proofs
     drop-still_sound = drop-sound g.nodes g.found g.proofs c slots proof sane.sound can h says
 
-    pub drop-goes_on : GoesOn g (dropped_state g c slots proof)
-    drop-goes_on = changed-goes_on g sane c dropped_found drop-still_sound (drop-refines g.nodes g.found linked c slots proof can) drop-leaves
+    pub drop-goes_on : GoesOn g (dropped_state g c slots proof w)
+    drop-goes_on = changed-goes_on g sane c dropped_found drop-still_sound (drop-refines g.nodes g.found linked c slots proof can) drop-leaves w t
 
-    pub drop-sane : Sane (dropped_state g c slots proof)
-    drop-sane = changed-sane g sane c dropped_found drop-still_sound (drop-refines g.nodes g.found linked c slots proof can) drop-leaves
+    pub drop-sane : Sane (dropped_state g c slots proof w)
+    drop-sane = changed-sane g sane c dropped_found drop-still_sound (drop-refines g.nodes g.found linked c slots proof can) drop-leaves w t
 
     -- fewer slots than the class had
-    pub drop-size : (s : ℕ) → Contains (used_slots g.found c) s → ¬ Contains slots s → size (dropped_state g c slots proof) < size g
+    pub drop-size : (s : ℕ) → Contains (used_slots g.found c) s → ¬ Contains slots s → size (dropped_state g c slots proof w) < size g
     drop-size s u n =
         let old : Entry = entry_at g.found c in
         let new : Entry = dropping.new_entry g.nodes g.found linked c slots proof can in

@@ -10,7 +10,7 @@ use Rattle.slotted_model.specs.Applied.{Applied, EachChild}
 use Rattle.slotted_model.specs.Classes.{canonical_node, canonical_slots, IsFull}
 use Rattle.slotted_model.specs.Correspondence.{identity}
 use Rattle.slotted_model.specs.Find.{used_slots, find_map, find, Linked}
-use Rattle.slotted_model.specs.ProofList.{Equation, explicit, step_at, node_of}
+use Rattle.slotted_model.specs.ProofList.{explicit, step_at, node_of}
 use Rattle.slotted_model.specs.Normal.{normal}
 use Rattle.slotted_model.specs.Sound.{Sound}
 use Rattle.slotted_model.specs.State.{Row, Symmetry, State, sources, filed_node, normal_node}
@@ -149,12 +149,7 @@ module _ (older newer : State) (sound : Sound older.nodes older.found older.proo
         onto = l.onto;
         moves = l.moves;
         proof = p.0;
-        left = ap (λ (e : Equation). e.left) p.1 ∙ l.left;
-        right = ap (λ (e : Equation). e.right) p.1 ∙ l.right;
-        says = λ s t c d. (
-          λ k. (l.says s t c d).0 (subst (λ (e : Equation). Contains e.pairs (s, t)) p.1 k),
-          λ k. subst (λ (e : Equation). Contains e.pairs (s, t)) (sym p.1) ((l.says s t c d).1 k),
-        );
+        exact = p.1 ∙ l.exact;
       }
 
 -- where no class and no row is missing and nothing more is asserted, the newer graph represents what the older one did

@@ -17,6 +17,7 @@ use Rattle.slotted_model.proofs.Asserting.{asserts}
 use Rattle.slotted_model.proofs.Entering.{entered-proved}
 use Rattle.slotted_model.proofs.RestExamples.{made}
 use Rattle.slotted_model.proofs.CompletenessExamples.{one_of}
+use Rattle.slotted_model.proofs.Touching.{touching, touched-is}
 use Rattle.slotted_model.proofs.CongruenceExample.{words, n, n_a_rests, id, sides, stands_nowhere, is_later, nothing_paired}
 
 -- the words a and b, and n a; b is asserted to equal a
@@ -24,7 +25,7 @@ abbrev three : State
 three = made words (n 0)
 
 abbrev united : State
-united = linked_state (with_assertion three (sides 1 0)) (sides 1 0) 3 1
+united = linked_state (with_assertion three (sides 1 0)) (sides 1 0) 3 1 (touching three 1)
 
 three_full : (i : ℕ) → i < 3 → IsFull three.nodes (id i)
 three_full zero l = record { in_range = omega arith; slots = refl; injective = tt }
@@ -35,7 +36,7 @@ three_full (suc (suc (suc i))) l = absurd (omega arith)
 b_a_asserted : Asserts three (id 1) (id 0) united
 b_a_asserted =
     is_new (stands_nowhere (sides 1 0) three.proofs (omega arith, (omega arith, (omega arith, tt))))
-    (left_dies 3 1 (λ e. omega arith) (record { left = λ s c. c; right = λ s c. c }) (omega arith, refl) (λ i l d. is_later 1 three.found (omega arith, (omega arith, (omega arith, tt))) i l))
+    (left_dies 3 1 (touching three 1) (λ e. omega arith) (record { left = λ s c. c; right = λ s c. c }) (omega arith, refl) (λ i l d. is_later 1 three.found (omega arith, (omega arith, (omega arith, tt))) i l) (touched-is (with_assertion three (sides 1 0)) tt 1))
     starts (refl, λ y c. absurd (Contains-nil y c))
 
 united_rests : AtRest united
@@ -112,12 +113,12 @@ n_congruence = record {
 }
 
 abbrev joined : State
-joined = linked_state entered (sides 3 2) 5 2
+joined = linked_state entered (sides 3 2) 5 2 (touching entered 3)
 
 n_unites : Unites 5 entered joined
 n_unites =
-    left_dies 5 2 (λ e. omega arith) (record { left = λ s c. c; right = λ s c. c }) (omega arith, refl)
-    (λ i l d. is_later 2 entered.found (omega arith, (omega arith, (omega arith, (omega arith, tt)))) i l)
+    left_dies 5 2 (touching entered 3) (λ e. omega arith) (record { left = λ s c. c; right = λ s c. c }) (omega arith, refl)
+    (λ i l d. is_later 2 entered.found (omega arith, (omega arith, (omega arith, (omega arith, tt)))) i l) (touched-is entered tt 3)
 
 abbrev row_n_a : Row
 row_n_a = record { shape = n 0; source = 2; slots = [] }

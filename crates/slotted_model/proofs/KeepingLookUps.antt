@@ -21,7 +21,7 @@ use Rattle.slotted_model.specs.Find.{Entry, entry_at, IsLive, find_class, find_m
 use Rattle.slotted_model.specs.Link.{with_slots}
 use Rattle.slotted_model.specs.Normal.{normal}
 use Rattle.slotted_model.specs.ProofList.{Equation, ProofEntry, turned_equation, equation_at}
-use Rattle.slotted_model.specs.State.{Row, Symmetry, State, normal_node, child_classes, with_waiting, touched, row_of, source_with_names, look_up_node, left_of, right_of}
+use Rattle.slotted_model.specs.State.{Row, Symmetry, State, normal_node, child_classes, row_of, HasTouched, source_with_names, look_up_node, left_of, right_of}
 use Rattle.slotted_model.specs.Rest.{IsValidIn, id_names, Sane, AtRest}
 use Rattle.slotted_model.specs.Changes.{GoesOn, dropped_state, with_proofs, found_entry, PairsAll, Unites, finds_alike, proves, drops_left, drops_right, left_dies, right_dies, lists, is_listed}
 use Rattle.slotted_model.specs.Rebuild.{with_row, row_for, IsCongruence, Turn, enters, narrows, unites_parents, refiles, Acts, acts, Runs, starts, takes_turn, takes_act}
@@ -43,7 +43,7 @@ use Rattle.slotted_model.proofs.NormalIds.{full-is_valid}
 use Rattle.slotted_model.proofs.RenamedIds.{normal-moves}
 use Rattle.slotted_model.proofs.UpTo.{left-valid, right-valid}
 use Rattle.slotted_model.proofs.Rows.{row_of-some, row_of-there, one_row}
-use Rattle.slotted_model.proofs.Touching.{has_slot-cases, child_classes-moved}
+use Rattle.slotted_model.proofs.Touching.{child_classes-moved}
 use Rattle.slotted_model.proofs.GrowingLists.{proofs-go_on, proofs-sane}
 use Rattle.slotted_model.proofs.Events.{normal-found, drop-sane}
 use Rattle.slotted_model.proofs.Dropping.{drop-lives}
@@ -51,14 +51,6 @@ use Rattle.slotted_model.proofs.FoundEntries.{says-all}
 use Rattle.slotted_model.proofs.Unions.{can_drop-left, can_drop-right}
 use Rattle.slotted_model.proofs.Refiling.{with_row-from, without-from, refiled-sane}
 use Rattle.slotted_model.proofs.Adding.{normal_args-agree, filed-ready, finds-same, last-in_range}
-
--- where no row is over a class, nothing more waits when it is touched
-touched-none : (c : ℕ) (rows : List Row) (w : List ℕ) → ((r : Row) → Contains rows r → ¬ Contains (child_classes r.shape.args) c) → touched c rows w ≡ w
-touched-none c [] w n = refl
-touched-none c (r ∷ rows) w n = elim (has_slot-cases (child_classes r.shape.args) c) [
-  | inl h ↦ absurd (n r (contains_head r rows) h.0)
-  | inr h ↦ ap (λ b. cond b (with_waiting r.source (touched c rows w)) (touched c rows w)) h.1 ∙ touched-none c rows w (λ q k. n q (contains_tail r rows q k))
-]
 
 -- a list of equal pairs is the identity of its keys
 equal-pairs : (A : List (ℕ × ℕ)) → ((s t : ℕ) → Contains A (s, t) → s ≡ t) → A ≡ identity (keys_of A)
@@ -123,10 +115,10 @@ module _ (g : State) (rest : AtRest g) (c : DTerm) (new : IsNew g.nodes c) (none
   -- then finds are what they were
   module _ (k : State) (keeps : Keeps k) where
     in-k : (o : ℕ) → o < i → o < length k.nodes
-    in-k o h = let e : length k.nodes ≡ length m.nodes = ap (λ (l : List DTerm). length l) keeps.same_nodes in let l : i < length m.nodes = last-in_range g rest.sane c new rest.represents in omega arith
+    in-k o h = let e : length k.nodes ≡ length m.nodes = ap (λ (l : List DTerm). length l) keeps.same_nodes in let l : i < length m.nodes = last-in_range g rest.sane c new in omega arith
 
     last-in_k : i < length k.nodes
-    last-in_k = subst (λ (l : List DTerm). i < length l) (sym keeps.same_nodes) (last-in_range g rest.sane c new rest.represents)
+    last-in_k = subst (λ (l : List DTerm). i < length l) (sym keeps.same_nodes) (last-in_range g rest.sane c new)
 
     abbrev K : Leads k.nodes k.found
     K = leads k.nodes k.found keeps.sane.sound.linked
@@ -181,9 +173,8 @@ module _ (g : State) (rest : AtRest g) (c : DTerm) (new : IsNew g.nodes c) (none
     found-last o e = ap (find_class k.found) e ∙ find_class-live k.nodes k.found K i last-in_k keeps.live
 
     -- slots of the new class can go
-    dropped-keeps : (x : ℕ) (slots : List ℕ) (n : ℕ) → x ≡ i → Sane (dropped_state k x slots n) → IsLive (with_slots k.found x slots n) x → Keeps (dropped_state k x slots n)
-    dropped-keeps x slots n e sane lives =
-        let same : touched x k.rows k.waiting ≡ k.waiting = touched-none x k.rows k.waiting (λ r h t. let l : x < i = keeps.below r h x t in omega arith) in
+    dropped-keeps : (x : ℕ) (slots : List ℕ) (n : ℕ) (w : List ℕ) → HasTouched k x w → x ≡ i → Sane (dropped_state k x slots n w) → IsLive (with_slots k.found x slots n) x → Keeps (dropped_state k x slots n w)
+    dropped-keeps x slots n w t e sane lives =
         record {
           sane = sane;
           same_nodes = keeps.same_nodes;
@@ -192,7 +183,10 @@ module _ (g : State) (rest : AtRest g) (c : DTerm) (new : IsNew g.nodes c) (none
           rows_kept = keeps.rows_kept;
           rows_from = keeps.rows_from;
           below = keeps.below;
-          only = λ o h. keeps.only o (subst (λ w. Contains w o) same h);
+          only = λ o h. elim (t.from o h) [
+            | inl q ↦ keeps.only o q
+            | inr r ↦ (let l : x < i = keeps.below r.0 r.1 x r.2 in absurd (omega arith))
+          ];
           symmetries = keeps.symmetries;
         }
 
@@ -246,20 +240,20 @@ module _ (g : State) (rest : AtRest g) (c : DTerm) (new : IsNew g.nodes c) (none
         right = ap (λ (e : Equation). e.right) same ∙ own.right;
         pairs = λ s t c. own.pairs s t (subst (λ (e : Equation). Contains e.pairs (s, t)) same c);
       })
-  union-keeps p (drops_left {g = k} {h = h} j s used lacks at u) keeps n own =
+  union-keeps p (drops_left {g = k} {h = h} j s w used lacks at t u) keeps n own =
       let x : ℕ = (found_entry k p).left in
       let slots : List ℕ = keys_of (found_entry k p).pairs in
       let can = can_drop-left k keeps.sane p n in
-      let d : Keeps (dropped_state k x slots j) = dropped-keeps k keeps x slots j (own-left k keeps p own) (drop-sane k keeps.sane x slots j can at.0 at.1) (drop-lives k.nodes k.found keeps.sane.sound.linked x slots j can) in
+      let d : Keeps (dropped_state k x slots j w) = dropped-keeps k keeps x slots j w t (own-left k keeps p own) (drop-sane k keeps.sane x slots j can at.0 at.1 w t) (drop-lives k.nodes k.found keeps.sane.sound.linked x slots j can) in
       union-keeps p u d n (record { left = own.left; right = own.right; pairs = own.pairs })
-  union-keeps p (drops_right {g = k} {h = h} j t all used lacks at u) keeps n own =
+  union-keeps p (drops_right {g = k} {h = h} j y w all used lacks at t u) keeps n own =
       let x : ℕ = (found_entry k p).right in
       let slots : List ℕ = keys_of (turned_equation k.nodes (found_entry k p)).pairs in
       let can = can_drop-right k keeps.sane p n in
-      let d : Keeps (dropped_state k x slots j) = dropped-keeps k keeps x slots j (own-right k keeps p own) (drop-sane k keeps.sane x slots j can at.0 at.1) (drop-lives k.nodes k.found keeps.sane.sound.linked x slots j can) in
+      let d : Keeps (dropped_state k x slots j w) = dropped-keeps k keeps x slots j w t (own-right k keeps p own) (drop-sane k keeps.sane x slots j can at.0 at.1 w t) (drop-lives k.nodes k.found keeps.sane.sound.linked x slots j can) in
       union-keeps p u d n (record { left = own.left; right = own.right; pairs = own.pairs })
-  union-keeps p (left_dies {g = k} j moment differ all at later) keeps n own = absurd (differ (own-left k keeps p own ∙ sym (own-right k keeps p own)))
-  union-keeps p (right_dies {g = k} j moment differ all at later) keeps n own = absurd (differ (own-left k keeps p own ∙ sym (own-right k keeps p own)))
+  union-keeps p (left_dies {g = k} j moment w differ all at later t) keeps n own = absurd (differ (own-left k keeps p own ∙ sym (own-right k keeps p own)))
+  union-keeps p (right_dies {g = k} j moment w differ all at later t) keeps n own = absurd (differ (own-left k keeps p own ∙ sym (own-right k keeps p own)))
   union-keeps p (lists {g = k} j same all moves fresh at) keeps n own = absurd (moves (own-identity k keeps p n own all))
   union-keeps p (is_listed {g = k} y same all there is) keeps n own = keeps
 

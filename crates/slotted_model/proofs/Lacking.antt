@@ -74,7 +74,7 @@ narrow-lacks g sane o p s used lacks c =
     subst (λ e. Lacks g (found_equation g.nodes g.found e)) (sym c.stands.1) (inl (t, t_used, none))
 
 -- two lists with the same members have one ascending list
-same-ascending : (xs ys : List ℕ) → ((z : ℕ) → Contains xs z → Contains ys z) → ((z : ℕ) → Contains ys z → Contains xs z) → ascending xs ≡ ascending ys
+pub same-ascending : (xs ys : List ℕ) → ((z : ℕ) → Contains xs z → Contains ys z) → ((z : ℕ) → Contains ys z → Contains xs z) → ascending xs ≡ ascending ys
 same-ascending xs ys f h = ascending-same xs ys (λ z. (λ k. In-Contains ys z (f z (Contains-In xs z k)), λ k. In-Contains xs z (h z (Contains-In ys z k))))
 
 -- a listed symmetry is aligned if in what its proof says of the found class no slot lacks a partner
@@ -99,7 +99,7 @@ module _ (g : State) (sane : Sane g) (y : Symmetry) (l : IsListed g y) where
   own = record { left = y.class; right = y.class; pairs = A }
 
   own-is : equation_at g.proofs y.proof ≡ own
-  own-is = λ i. record { left = l.left i; right = l.right i; pairs = A }
+  own-is = λ i. record { left = (l.exact i).left; right = (l.exact i).right; pairs = A }
 
   abbrev says : Equation
   says = found_equation g.nodes g.found own
@@ -121,7 +121,7 @@ module _ (g : State) (sane : Sane g) (y : Symmetry) (l : IsListed g y) where
       let k = turned-pair (canonical_slots g.nodes y.class) φ t' r.0 r.2 in
       let zq : q.0 ≡ z = one t q.0 z q.1 d in
       let wr : r.0 ≡ w = one t' r.0 w k e in
-      (l.says z w (listed-slot t z d) (listed-slot t' w e)).0 (subst (λ x. Contains A (x, w)) zq (subst (λ x. Contains A (q.0, x)) wr q.2))
+      subst (λ (x : Equation). Contains x.pairs (z, w)) l.exact (subst (λ x. Contains A (x, w)) zq (subst (λ x. Contains A (q.0, x)) wr q.2))
 
   all-aligned : PairsAll g says → IsAligned g y
   all-aligned all = same-ascending (values_of (composite φ (identity S))) (values_of (composite φ B)) forth back

@@ -50,6 +50,7 @@ pub mod Unions
 pub mod AfterUnions
 pub mod Refiling
 pub mod Lacking
+pub mod Aligned
 pub mod Turning
 pub mod Congruences
 pub mod Preparing

@@ -124,9 +124,7 @@ is_listed = record {
   onto = either_order;
   moves = λ e. let n : ◌≡◌ {A = ℕ} 1 0 = ap (λ (m : List (ℕ × ℕ)). (get_or m 0 (0, 0)).1) e in omega arith;
   proof = omega arith;
-  left = refl;
-  right = refl;
-  says = λ s t _ _. (λ c. c, λ c. c);
+  exact = refl;
 }
 
 -- the sides of the asserted equation are the sides of the listed symmetry, with some names put in

@@ -14,6 +14,7 @@ use Rattle.slotted_model.specs.SoundnessClaims.{SoundnessLaws}
 use Rattle.slotted_model.specs.RestClaims.{RestLaws}
 use Rattle.slotted_model.proofs.CompletenessExamples.{one_of}
 use Rattle.slotted_model.proofs.CongruenceExample.{is_later}
+use Rattle.slotted_model.proofs.Touching.{touching, touched-is}
 use Rattle.slotted_model.proofs.TurnExamples.{redundant, f_asserted, f_sane, f_dropped, not_zero, f_united}
 
 -- f 7 8 is asserted to equal f 7 9, so f can drop its second slot
@@ -54,7 +55,7 @@ module _ (laws : SoundnessLaws) where
 
   module _ (rest : RestLaws) where
     drop_is_event : IsEvent f_asserted f_dropped
-    drop_is_event = rest.drops_are_events f_asserted f_sane 0 (0 ∷ []) 2 1 can_drop (omega arith) refl (contains_tail 0 (1 ∷ []) 1 (contains_head 1 [])) not_zero
+    drop_is_event = rest.drops_are_events f_asserted f_sane 0 (0 ∷ []) 2 1 can_drop (omega arith) refl (contains_tail 0 (1 ∷ []) 1 (contains_head 1 [])) not_zero (touching f_asserted 0) (touched-is f_asserted tt 0)
 
     union_falls : size f_dropped < size f_asserted
     union_falls = rest.lacking_unions_fall 2 f_asserted f_dropped f_united f_sane (omega arith) second_slot

@@ -18,6 +18,7 @@ use Rattle.slotted_model.specs.Changes.{Unites, left_dies, lists, linked_state, 
 use Rattle.slotted_model.specs.Rebuild.{takes_turn, starts, refiles, refiled_state}
 use Rattle.slotted_model.specs.Adding.{with_new_class, with_new_row, with_assertion, Adds, files_row, Asserts, is_new, HasAsserted}
 use Rattle.slotted_model.proofs.Adding.{adds}
+use Rattle.slotted_model.proofs.Touching.{touching, touched-is}
 use Rattle.slotted_model.proofs.Asserting.{asserts, nothing-rests}
 
 abbrev pub empty : State
@@ -97,7 +98,7 @@ abbrev word_equation : Equation
 word_equation = equation_of (0, []) (1, [])
 
 abbrev one_word : State
-one_word = linked_state (with_assertion with_q word_equation) word_equation 2 0
+one_word = linked_state (with_assertion with_q word_equation) word_equation 2 0 (touching with_q 0)
 
 p_full : IsFull with_q.nodes (0, [])
 p_full = record { in_range = omega arith; slots = refl; injective = tt }
@@ -106,7 +107,7 @@ q_full : IsFull with_q.nodes (1, [])
 q_full = record { in_range = omega arith; slots = refl; injective = tt }
 
 words_united : Unites 2 (with_assertion with_q word_equation) one_word
-words_united = left_dies 2 0 (λ e. omega arith) (record { left = λ s c. c; right = λ s c. c }) (omega arith, refl) none_died
+words_united = left_dies 2 0 (touching with_q 0) (λ e. omega arith) (record { left = λ s c. c; right = λ s c. c }) (omega arith, refl) none_died (touched-is (with_assertion with_q word_equation) tt 0)
   where
     none_died : IsLater with_q.found 0
     none_died zero l d = absurd (d refl)

@@ -17,6 +17,7 @@ use Rattle.slotted_model.proofs.Entering.{entered-proved}
 use Rattle.slotted_model.proofs.Asserting.{asserts}
 use Rattle.slotted_model.proofs.Quiet.{proofs-quiet, shortcut-quiet}
 use Rattle.slotted_model.proofs.RestExamples.{made}
+use Rattle.slotted_model.proofs.Touching.{touching, touched-is}
 use Rattle.slotted_model.proofs.CongruenceExample.{made-rests, words, words_rest, id, sides, stands_nowhere, is_later, nothing_paired}
 
 -- words a, b and c, where a = b and then b = c are asserted: the class of a leads to that of c by way of that of b
@@ -33,15 +34,15 @@ word_full (suc (suc zero)) l = record { in_range = omega arith; slots = refl; in
 word_full (suc (suc (suc i))) l = absurd (omega arith)
 
 abbrev pub a_is_b : State
-a_is_b = linked_state (with_assertion three (sides 0 1)) (sides 0 1) 3 1
+a_is_b = linked_state (with_assertion three (sides 0 1)) (sides 0 1) 3 1 (touching three 0)
 
 abbrev pub b_is_c : State
-b_is_c = linked_state (with_assertion a_is_b (sides 1 2)) (sides 1 2) 4 2
+b_is_c = linked_state (with_assertion a_is_b (sides 1 2)) (sides 1 2) 4 2 (touching a_is_b 1)
 
 a_b_asserted : Asserts three (id 0) (id 1) a_is_b
 a_b_asserted =
     is_new (stands_nowhere (sides 0 1) three.proofs (omega arith, (omega arith, (omega arith, tt))))
-    (left_dies 3 1 (λ e. omega arith) (record { left = λ s c. c; right = λ s c. c }) (omega arith, refl) (λ i l d. is_later 1 three.found (omega arith, (omega arith, (omega arith, tt))) i l))
+    (left_dies 3 1 (touching three 0) (λ e. omega arith) (record { left = λ s c. c; right = λ s c. c }) (omega arith, refl) (λ i l d. is_later 1 three.found (omega arith, (omega arith, (omega arith, tt))) i l) (touched-is (with_assertion three (sides 0 1)) tt 0))
     starts (refl, λ y c. absurd (Contains-nil y c))
 
 pub a_b_rests : AtRest a_is_b
@@ -50,7 +51,7 @@ a_b_rests = (asserts three three_rests (id 0) (id 1) (word_full 0 (omega arith))
 b_c_asserted : Asserts a_is_b (id 1) (id 2) b_is_c
 b_c_asserted =
     is_new (stands_nowhere (sides 1 2) a_is_b.proofs (omega arith, (omega arith, (omega arith, (omega arith, tt)))))
-    (left_dies 4 2 (λ e. omega arith) (record { left = λ s c. c; right = λ s c. c }) (omega arith, refl) (λ i l d. is_later 2 a_is_b.found (omega arith, (omega arith, (omega arith, tt))) i l))
+    (left_dies 4 2 (touching a_is_b 1) (λ e. omega arith) (record { left = λ s c. c; right = λ s c. c }) (omega arith, refl) (λ i l d. is_later 2 a_is_b.found (omega arith, (omega arith, (omega arith, tt))) i l) (touched-is (with_assertion a_is_b (sides 1 2)) tt 1))
     starts (refl, λ y c. absurd (Contains-nil y c))
 
 pub b_c_rests : AtRest b_is_c

@@ -4,6 +4,7 @@ use Rattle.std.specs.Prelude.{Contains, IsTrue}
 use Rattle.slotted_theory.specs.Nameless.{stop, place}
 use Rattle.slotted_theory.proofs.Lists.{contains_head, contains_tail, Contains-nil}
 use Rattle.slotted_theory.proofs.Values.{node, child_before}
+use Rattle.slotted_model.specs.Correspondence.{AllDifferent}
 use Rattle.slotted_model.specs.Applied.{Applied, as_term}
 use Rattle.slotted_model.specs.Classes.{IsFull}
 use Rattle.slotted_model.specs.Link.{CanEnter, CanLink, Refines}
@@ -23,6 +24,7 @@ use Rattle.slotted_model.proofs.Asserting.{entry-sane, entry-represents, can_ass
 use Rattle.slotted_model.proofs.CongruenceExample.{id, sides, stands_nowhere, is_later, nothing_paired, twice, twice_rests, id_full, words_united, words_unite, n_entered, n_united, n_unite, n_grow, two_turns, rebuilt, rebuilt_done, one_normal_form}
 use Rattle.slotted_model.proofs.ShortcutExample.{three, three_rests, a_is_b, a_b_rests, b_is_c}
 use Rattle.slotted_model.proofs.TurnExamples.{with_h, exchanged, exchange, exchange_sane, symmetric, not_identity, both_slots, symmetric_sane, narrowed, narrowed_sane, symmetry_acts, f_full, f_dropped, dropped_sane}
+use Rattle.slotted_model.proofs.Touching.{touching, touched-is}
 use Rattle.slotted_model.proofs.CompletenessExamples.{one_of}
 
 -- n (n a) and n (n b) are congruent by finds, so their equation holds and is explained; and a link after a link refines what was found first
@@ -144,10 +146,10 @@ act_runs = takes_act starts symmetry_acts.1
 abbrev both_ways : State
 both_ways = with_assertion (with_assertion twice (sides 0 1)) (sides 1 0)
 
-right_union : Unites 6 both_ways (linked_state both_ways (sides 1 0) 7 1)
+right_union : Unites 6 both_ways (linked_state both_ways (sides 1 0) 7 1 (touching both_ways 1))
 right_union =
-    right_dies 7 1 (λ e. omega arith) (record { left = λ s c. c; right = λ s c. c }) (omega arith, refl)
-    (λ i l d. is_later 1 twice.found (omega arith, (omega arith, (omega arith, (omega arith, (omega arith, (omega arith, tt)))))) i l)
+    right_dies 7 1 (touching both_ways 1) (λ e. omega arith) (record { left = λ s c. c; right = λ s c. c }) (omega arith, refl)
+    (λ i l d. is_later 1 twice.found (omega arith, (omega arith, (omega arith, (omega arith, (omega arith, (omega arith, tt)))))) i l) (touched-is both_ways tt 1)
 
 right_sane : Sane both_ways
 right_sane =
@@ -200,24 +202,27 @@ not_two : Contains {X = ℕ} (2 ∷ []) 3 → ⊥
 not_two c = let e : ◌≡◌ {A = ℕ} 3 2 = one_of c in omega arith
 
 abbrev right_narrowed : State
-right_narrowed = dropped_state right_lacks 1 (2 ∷ []) 4
+right_narrowed = dropped_state right_lacks 1 (2 ∷ []) 4 (touching right_lacks 1)
 
-narrowing_union : Unites 3 right_lacks (linked_state right_narrowed f_is_h 3 1)
+one_waits : {x : ℕ} → AllDifferent (x ∷ [])
+one_waits {x} = (Contains-nil x, tt)
+
+narrowing_union : Unites 3 right_lacks (linked_state right_narrowed f_is_h 3 1 (touching right_narrowed 0))
 narrowing_union =
-    drops_right 4 3 (λ s c. c) (contains_tail 2 (3 ∷ []) 3 (contains_head 3 [])) not_two (omega arith, refl)
-    (left_dies 3 1 (λ e. omega arith) (record { left = λ s c. c; right = λ s c. c }) (omega arith, refl)
-    (λ i l d. is_later 1 right_narrowed.found (omega arith, (omega arith, tt)) i l))
+    drops_right 4 3 (touching right_lacks 1) (λ s c. c) (contains_tail 2 (3 ∷ []) 3 (contains_head 3 [])) not_two (omega arith, refl) (touched-is right_lacks one_waits 1)
+    (left_dies 3 1 (touching right_narrowed 0) (λ e. omega arith) (record { left = λ s c. c; right = λ s c. c }) (omega arith, refl)
+    (λ i l d. is_later 1 right_narrowed.found (omega arith, (omega arith, tt)) i l) (touched-is right_narrowed one_waits 0))
 
 -- all these graphs are sane, so the laws of unions and runs hold of them
 module _ (laws : RestLaws) where
   listed_done : HasUnited 2 symmetric symmetric
   listed_done = laws.unions_unite_sides 2 symmetric symmetric listed_union symmetric_sane (omega arith)
 
-  right_done : HasUnited 6 both_ways (linked_state both_ways (sides 1 0) 7 1)
-  right_done = laws.unions_unite_sides 6 both_ways (linked_state both_ways (sides 1 0) 7 1) right_union right_sane (omega arith)
+  right_done : HasUnited 6 both_ways (linked_state both_ways (sides 1 0) 7 1 (touching both_ways 1))
+  right_done = laws.unions_unite_sides 6 both_ways (linked_state both_ways (sides 1 0) 7 1 (touching both_ways 1)) right_union right_sane (omega arith)
 
-  narrowing_done : HasUnited 3 right_lacks (linked_state right_narrowed f_is_h 3 1)
-  narrowing_done = laws.unions_unite_sides 3 right_lacks (linked_state right_narrowed f_is_h 3 1) narrowing_union right_lacks-sane (omega arith)
+  narrowing_done : HasUnited 3 right_lacks (linked_state right_narrowed f_is_h 3 1 (touching right_narrowed 0))
+  narrowing_done = laws.unions_unite_sides 3 right_lacks (linked_state right_narrowed f_is_h 3 1 (touching right_narrowed 0)) narrowing_union right_lacks-sane (omega arith)
 
   act_rebuilds : IsRebuilt narrowed symmetry_acts.0
   act_rebuilds = (laws.runs_are_counted narrowed 0 symmetry_acts.0 narrowed_sane act_runs).0

@@ -5,8 +5,17 @@ use Rattle.std.proofs.lemmas.Bool.{cases_eq, eq-eqb, ne_eqb}
 use Rattle.slotted_theory.specs.Nameless.{DArgs, stop, place, sub, scope, lift, moved_args}
 use Rattle.slotted_theory.proofs.Lists.{contains_head, contains_tail, contains_cases, Contains-nil}
 use Rattle.slotted_model.specs.Correspondence.{AllDifferent, has_slot}
-use Rattle.slotted_model.specs.State.{Row, sources, child_classes, with_waiting, touched}
+use Rattle.slotted_model.specs.State.{Row, State, child_classes, HasTouched}
 use Rattle.slotted_model.proofs.RenamedIds.{applied_of-moved}
+
+-- a list of what waits with one more member, if it is not there
+abbrev pub with_waiting : ℕ → List ℕ → List ℕ
+with_waiting o waiting = cond (has_slot waiting o) waiting (o ∷ waiting)
+
+-- with the sources of the rows over the class c
+abbrev pub touched : ℕ → List Row → List ℕ → List ℕ
+touched c [] waiting = waiting
+touched c (r ∷ rows) waiting = cond (has_slot (child_classes r.shape.args) c) (with_waiting r.source (touched c rows waiting)) (touched c rows waiting)
 
 -- whether a number stands in a list is decided
 pub has_slot-cases : (P : List ℕ) (s : ℕ) → (Contains P s × (has_slot P s ≡ true)) ⊎ ((¬ Contains P s) × (has_slot P s ≡ false))
@@ -64,7 +73,7 @@ touched-other : (c : ℕ) (r : Row) (rows : List Row) (w : List ℕ) → has_slo
 touched-other c r rows w e = ap (λ b. cond b (with_waiting r.source (touched c rows w)) (touched c rows w)) e
 
 -- what waited waits
-pub touched-keeps : (c : ℕ) (rows : List Row) (w : List ℕ) (x : ℕ) → Contains w x → Contains (touched c rows w) x
+touched-keeps : (c : ℕ) (rows : List Row) (w : List ℕ) (x : ℕ) → Contains w x → Contains (touched c rows w) x
 touched-keeps c [] w x h = h
 touched-keeps c (r ∷ rows) w x h = elim (has_slot-cases (child_classes r.shape.args) c) [
   | inl k ↦ subst (λ v. Contains v x) (sym (touched-row c r rows w k.1)) (waiting-keeps r.source x (touched c rows w) (touched-keeps c rows w x h))
@@ -72,7 +81,7 @@ touched-keeps c (r ∷ rows) w x h = elim (has_slot-cases (child_classes r.shape
 ]
 
 -- the rows over the class wait
-pub touched-has : (c : ℕ) (rows : List Row) (w : List ℕ) (q : Row) → Contains rows q → Contains (child_classes q.shape.args) c → Contains (touched c rows w) q.source
+touched-has : (c : ℕ) (rows : List Row) (w : List ℕ) (q : Row) → Contains rows q → Contains (child_classes q.shape.args) c → Contains (touched c rows w) q.source
 touched-has c [] w q h k = absurd (Contains-nil q h)
 touched-has c (r ∷ rows) w q h k = elim (has_slot-cases (child_classes r.shape.args) c) [
   | inl j ↦ subst (λ v. Contains v q.source) (sym (touched-row c r rows w j.1)) (elim (contains_cases r rows q h) [
@@ -86,26 +95,39 @@ touched-has c (r ∷ rows) w q h k = elim (has_slot-cases (child_classes r.shape
 ]
 
 -- and nothing else
-pub touched-from : (c : ℕ) (rows : List Row) (w : List ℕ) (x : ℕ) → Contains (touched c rows w) x → Contains w x ⊎ Contains (sources rows) x
+touched-from : (c : ℕ) (rows : List Row) (w : List ℕ) (x : ℕ) → Contains (touched c rows w) x → Contains w x ⊎ ((r : Row) × Contains rows r × Contains (child_classes r.shape.args) c × (r.source ≡ x))
 touched-from c [] w x h = inl h
 touched-from c (r ∷ rows) w x h = elim (has_slot-cases (child_classes r.shape.args) c) [
   | inl k ↦ elim (waiting-from r.source x (touched c rows w) (subst (λ v. Contains v x) (touched-row c r rows w k.1) h)) [
-    | inl e ↦ inr (subst (Contains (sources (r ∷ rows))) (sym e) (contains_head r.source (sources rows)))
+    | inl e ↦ inr (r, contains_head r rows, k.0, sym e)
     | inr i ↦ later (touched-from c rows w x i)
   ]
   | inr k ↦ later (touched-from c rows w x (subst (λ v. Contains v x) (touched-other c r rows w k.1) h))
 ]
   where
-    later : Contains w x ⊎ Contains (sources rows) x → Contains w x ⊎ Contains (sources (r ∷ rows)) x
+    later : Contains w x ⊎ ((q : Row) × Contains rows q × Contains (child_classes q.shape.args) c × (q.source ≡ x)) → Contains w x ⊎ ((q : Row) × Contains (r ∷ rows) q × Contains (child_classes q.shape.args) c × (q.source ≡ x))
     later (inl j) = inl j
-    later (inr j) = inr (contains_tail r.source (sources rows) x j)
+    later (inr j) = inr (j.0, contains_tail r rows j.0 j.1, j.2, j.3)
 
-pub touched-once : (c : ℕ) (rows : List Row) (w : List ℕ) → AllDifferent w → AllDifferent (touched c rows w)
+touched-once : (c : ℕ) (rows : List Row) (w : List ℕ) → AllDifferent w → AllDifferent (touched c rows w)
 touched-once c [] w d = d
 touched-once c (r ∷ rows) w d = elim (has_slot-cases (child_classes r.shape.args) c) [
   | inl k ↦ subst AllDifferent (sym (touched-row c r rows w k.1)) (waiting-once r.source (touched c rows w) (touched-once c rows w d))
   | inr k ↦ subst AllDifferent (sym (touched-other c r rows w k.1)) (touched-once c rows w d)
 ]
+
+-- what waits then, in the order of the rows
+abbrev pub touching : State → ℕ → List ℕ
+touching g c = touched c g.rows g.waiting
+
+-- so this list can wait then
+pub touched-is : (g : State) → AllDifferent g.waiting → (c : ℕ) → HasTouched g c (touching g c)
+touched-is g once c = record {
+  once = touched-once c g.rows g.waiting once;
+  kept = touched-keeps c g.rows g.waiting;
+  over = touched-has c g.rows g.waiting;
+  from = touched-from c g.rows g.waiting;
+}
 
 -- the classes of children do not move with names
 pub child_classes-moved : (f : ℕ → ℕ) (d : DArgs) → child_classes (moved_args f d) ≡ child_classes d

@@ -23,6 +23,7 @@ use Rattle.slotted_model.proofs.Congruences.{congruence-entered}
 use Rattle.slotted_model.proofs.Ending.{union-ends}
 use Rattle.slotted_model.proofs.GrowingLists.{proofs-sane}
 use Rattle.slotted_model.proofs.Unions.{unites}
+use Rattle.slotted_model.proofs.Touching.{touching, touched-is}
 use Rattle.slotted_model.proofs.RestExamples.{made, p, q, with_q, q_rests, with_f, f_rests}
 
 -- k p and k q over the words p and q
@@ -118,7 +119,7 @@ abbrev asserted : State
 asserted = with_assertion with_k_q word_equation
 
 abbrev united : State
-united = linked_state asserted word_equation 4 0
+united = linked_state asserted word_equation 4 0 (touching asserted 0)
 
 waits : united.waiting ≡ 2 ∷ []
 waits = refl
@@ -139,7 +140,7 @@ asserted_sane =
     entry-sane with_k_q k_q_rests.sane (record { equation = word_equation; step = explicit }) (can_assert with_k_q (0, []) (1, []) r.0 r.1 not_asserted)
 
 words_united : Unites 4 asserted united
-words_united = left_dies 4 0 (λ e. omega arith) (record { left = λ s c. c; right = λ s c. c }) (omega arith, refl) none_died
+words_united = left_dies 4 0 (touching asserted 0) (λ e. omega arith) (record { left = λ s c. c; right = λ s c. c }) (omega arith, refl) none_died (touched-is asserted tt 0)
   where
     none_died : IsLater with_k_q.found 0
     none_died zero l d = absurd (d refl)
@@ -246,7 +247,7 @@ pub f_sane : Sane f_asserted
 f_sane = entry-sane with_h h_rests.sane (record { equation = redundant; step = explicit }) (can_assert with_h f_7_8 f_7_9 (f_full 7 8 (λ e. omega arith)) (f_full 7 9 (λ e. omega arith)) not_redundant)
 
 abbrev pub f_dropped : State
-f_dropped = dropped_state f_asserted 0 (0 ∷ []) 2
+f_dropped = dropped_state f_asserted 0 (0 ∷ []) 2 (touching f_asserted 0)
 
 pub not_zero : Contains {X = ℕ} (0 ∷ []) 1 → ⊥
 not_zero c = elim (contains_cases 0 [] 1 c) [
@@ -255,7 +256,7 @@ not_zero c = elim (contains_cases 0 [] 1 c) [
 ]
 
 pub f_united : Unites 2 f_asserted f_dropped
-f_united = drops_left 2 1 (contains_tail 0 (1 ∷ []) 1 (contains_head 1 [])) not_zero (omega arith, refl) (finds_alike refl refl)
+f_united = drops_left 2 1 (touching f_asserted 0) (contains_tail 0 (1 ∷ []) 1 (contains_head 1 [])) not_zero (omega arith, refl) (touched-is f_asserted tt 0) (finds_alike refl refl)
 
 pub dropped_sane : Sane f_dropped
 dropped_sane = (unites 2 f_united f_sane (omega arith)).sane
@@ -322,10 +323,10 @@ not_redundant_too (suc (suc zero)) l e = let n : ◌≡◌ {A = ℕ} 2 1 = ap (�
 not_redundant_too (suc (suc (suc n))) l e = omega arith
 
 abbrev pub narrowed : State
-narrowed = dropped_state (with_assertion symmetric redundant) 0 (0 ∷ []) 3
+narrowed = dropped_state (with_assertion symmetric redundant) 0 (0 ∷ []) 3 (touching symmetric 0)
 
 narrowed_united : Unites 3 (with_assertion symmetric redundant) narrowed
-narrowed_united = drops_left 3 1 (contains_tail 0 (1 ∷ []) 1 (contains_head 1 [])) not_zero (omega arith, refl) (finds_alike refl refl)
+narrowed_united = drops_left 3 1 (touching symmetric 0) (contains_tail 0 (1 ∷ []) 1 (contains_head 1 [])) not_zero (omega arith, refl) (touched-is (with_assertion symmetric redundant) tt 0) (finds_alike refl refl)
 
 pub narrowed_sane : Sane narrowed
 narrowed_sane =

@@ -12,7 +12,7 @@ use Rattle.slotted_model.specs.Correspondence.{turned, identity}
 use Rattle.slotted_model.specs.Find.{find_map, used_slots, find, Linked}
 use Rattle.slotted_model.specs.ProofList.{Equation, explicit, equation_of, turned_equation, equation_at, step_at, IsOver, asserted}
 use Rattle.slotted_model.specs.Link.{found_equation, CanLink, CanDrop, IsLater, with_link}
-use Rattle.slotted_model.specs.State.{Symmetry, State, left_of, right_of}
+use Rattle.slotted_model.specs.State.{Symmetry, State, left_of, right_of, HasTouched}
 use Rattle.slotted_model.specs.Rest.{IsValidIn, UpToSymmetries, found_alike, listed, joined, IsListed, Sane, size_from, size}
 use Rattle.slotted_model.specs.Changes.{GoesOn, linked_state, dropped_state, with_proofs, symmetry_of, with_symmetry, found_entry, StandsAt, PairsAll, IsSymmetryOf, Unites, finds_alike, proves, drops_left, drops_right, left_dies, right_dies, lists, is_listed, HasUnited}
 use Rattle.slotted_model.proofs.Sets.{IsAscending-ascending}
@@ -25,7 +25,6 @@ use Rattle.slotted_model.proofs.Dropping.{kept-can_drop}
 use Rattle.slotted_model.proofs.GoingOn.{goes_on-same, goes_on-then, still-full}
 use Rattle.slotted_model.proofs.Events.{link-sane, link-goes_on, link-size, drop-sane, drop-goes_on, drop-size}
 use Rattle.slotted_model.proofs.GrowingLists.{grow-explicit, proofs-go_on, proofs-sane, symmetry-goes_on, symmetry-sane}
-use Rattle.slotted_model.proofs.Touching.{touched-keeps}
 use Rattle.slotted_model.proofs.FoundEntries.{says-over, says-left_lives, says-right_lives, says-left_used, says-right_used, says-all, says-partial, identity-alike, left-renamed, right-renamed, says-turned}
 
 -- what a union does first, and then the rest of it
@@ -168,9 +167,7 @@ module _ (g : State) (sane : Sane g) (p : ℕ) (k : p < length g.proofs) where
     onto = λ t c. all.right t (subst (λ i. Contains (used_slots g.found i) t) same c);
     moves = moves;
     proof = at.0;
-    left = ap (λ (x : Equation). x.left) at.1;
-    right = ap (λ (x : Equation). x.right) at.1 ∙ sym same;
-    says = λ s t c d. (λ h. subst (λ (x : Equation). Contains x.pairs (s, t)) at.1 h, λ h. subst (λ (x : Equation). Contains x.pairs (s, t)) (sym at.1) h);
+    exact = at.1 ∙ (λ i. record { left = says.left; right = sym same i; pairs = says.pairs });
   }
 
   -- after a link the sides find alike
@@ -189,19 +186,19 @@ module _ (g : State) (sane : Sane g) (p : ℕ) (k : p < length g.proofs) where
 
   link-united : (z : Equation) (n moment : ℕ) → CanLink g.nodes g.found z → IsLater g.found moment → StandsAt g n z →
       ((a b : Applied) → IsFull g.nodes a → IsFull g.nodes b → equation_of a b ≡ e → find (with_link g.nodes g.found z n moment) a ≡ find (with_link g.nodes g.found z n moment) b) →
-      HasUnited p g (linked_state g z n moment)
-  link-united z n moment can later at alike =
-      let on : GoesOn g (linked_state g z n moment) = link-goes_on g sane z n moment can later at.0 at.1 in
+      (w : List ℕ) → HasTouched g z.left w → HasUnited p g (linked_state g z n moment w)
+  link-united z n moment can later at alike w t =
+      let on : GoesOn g (linked_state g z n moment w) = link-goes_on g sane z n moment can later at.0 at.1 w t in
       record {
-        sane = link-sane g sane z n moment can later at.0 at.1;
+        sane = link-sane g sane z n moment can later at.0 at.1 w t;
         goes_on = on;
         same_nodes = refl;
         same_rows = refl;
-        still_waits = λ w c. touched-keeps z.left g.rows g.waiting w c;
+        still_waits = t.kept;
         asserts_nothing = λ q h s. (h, s);
         same_asserted = refl;
         equal = λ a b fa fb q. found_alike (on.finds a (full-valid g sane a fa)).0 (on.finds b (full-valid g sane b fb)).0 (alike a b fa fb q);
-        smaller = inl (link-size g sane z n moment can later at.0 at.1);
+        smaller = inl (link-size g sane z n moment can later at.0 at.1 w t);
       }
 
   -- a union that changes no find
@@ -245,24 +242,24 @@ unites p (proves {g = g} {h = h} proofs grow u) sane k =
     let on : GoesOn g (with_proofs g proofs) = proofs-go_on g sane proofs grow in
     united-after p g (with_proofs g proofs) h sane on k refl refl (λ o c. c) (grow-explicit g.nodes g.proofs proofs grow) grow.asserts_nothing (inr (refl, refl))
     (unites p u (proofs-sane g sane proofs grow) (on.proofs p k).0)
-unites p (drops_left {g = g} {h = h} n s used lacks at u) sane k =
+unites p (drops_left {g = g} {h = h} n s w used lacks at t u) sane k =
     let says : Equation = found_entry g p in
     let can = can_drop-left g sane p k in
-    united-after p g (dropped_state g says.left (keys_of says.pairs) n) h sane (drop-goes_on g sane says.left (keys_of says.pairs) n can at.0 at.1) k refl refl
-    (λ o c. touched-keeps says.left g.rows g.waiting o c) (λ q l e. (l, e)) refl (inl (drop-size g sane says.left (keys_of says.pairs) n can at.0 at.1 s used lacks))
-    (unites p u (drop-sane g sane says.left (keys_of says.pairs) n can at.0 at.1) k)
-unites p (drops_right {g = g} {h = h} n t all used lacks at u) sane k =
+    united-after p g (dropped_state g says.left (keys_of says.pairs) n w) h sane (drop-goes_on g sane says.left (keys_of says.pairs) n can at.0 at.1 w t) k refl refl
+    t.kept (λ q l e. (l, e)) refl (inl (drop-size g sane says.left (keys_of says.pairs) n can at.0 at.1 w t s used lacks))
+    (unites p u (drop-sane g sane says.left (keys_of says.pairs) n can at.0 at.1 w t) k)
+unites p (drops_right {g = g} {h = h} n x w all used lacks at t u) sane k =
     let says : Equation = found_entry g p in
     let kept : List ℕ = keys_of (turned_equation g.nodes says).pairs in
     let can = can_drop-right g sane p k in
-    united-after p g (dropped_state g says.right kept n) h sane (drop-goes_on g sane says.right kept n can at.0 at.1) k refl refl
-    (λ o c. touched-keeps says.right g.rows g.waiting o c) (λ q l e. (l, e)) refl (inl (drop-size g sane says.right kept n can at.0 at.1 t used (λ c. lacks (back-key g sane p k t c))))
-    (unites p u (drop-sane g sane says.right kept n can at.0 at.1) k)
-unites p (left_dies {g = g} n moment differ all at later) sane k =
+    united-after p g (dropped_state g says.right kept n w) h sane (drop-goes_on g sane says.right kept n can at.0 at.1 w t) k refl refl
+    t.kept (λ q l e. (l, e)) refl (inl (drop-size g sane says.right kept n can at.0 at.1 w t x used (λ c. lacks (back-key g sane p k x c))))
+    (unites p u (drop-sane g sane says.right kept n can at.0 at.1 w t) k)
+unites p (left_dies {g = g} n moment w differ all at later t) sane k =
     let can = can_link-left g sane p k differ all in
-    link-united g sane p k (found_entry g p) n moment can later at (linked-sides g sane p k n moment can later)
-unites p (right_dies {g = g} n moment differ all at later) sane k =
+    link-united g sane p k (found_entry g p) n moment can later at (linked-sides g sane p k n moment can later) w t
+unites p (right_dies {g = g} n moment w differ all at later t) sane k =
     let can = can_link-right g sane p k differ all in
-    link-united g sane p k (turned_equation g.nodes (found_entry g p)) n moment can later at (linked-back g sane p k n moment can later)
+    link-united g sane p k (turned_equation g.nodes (found_entry g p)) n moment can later at (linked-back g sane p k n moment can later) w t
 unites p (lists {g = g} n same all moves new at) sane k = list-united g sane p k n same all moves new at
 unites p (is_listed {g = g} y same all c is) sane k = same-united g sane p k (λ a b fa fb q. listed-sides g sane a b fa fb y c (equation_at g.proofs p) q same all is)

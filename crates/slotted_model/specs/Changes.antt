@@ -13,7 +13,7 @@ use Rattle.slotted_model.specs.Correspondence.{identity}
 use Rattle.slotted_model.specs.Find.{used_slots, find}
 use Rattle.slotted_model.specs.Link.{found_equation, kept_equation, IsLater, with_link, with_slots}
 use Rattle.slotted_model.specs.ProofList.{Equation, ProofEntry, explicit, equation_of, turned_equation, equation_at, step_at, Proved, asserted}
-use Rattle.slotted_model.specs.State.{Symmetry, State, sources, touch}
+use Rattle.slotted_model.specs.State.{Symmetry, State, sources, HasTouched}
 use Rattle.slotted_model.specs.Rest.{IsValidIn, UpToSymmetries, LinkedTo, Sane, size}
 
 -- the newer graph has the classes, proved equations and listed symmetries of the older one, and its finds go on from what the older one found
@@ -30,12 +30,12 @@ pub record IsEvent (older newer : State) : Type 0 where
   pub smaller : size newer < size older
 
 -- the left class of an equation dies and leads to the right one, and the rows over it wait
-abbrev pub linked_state : State → Equation → ℕ → ℕ → State
-linked_state g e proof moment = touch e.left (record g { found = with_link g.nodes g.found e proof moment })
+abbrev pub linked_state : State → Equation → ℕ → ℕ → List ℕ → State
+linked_state g e proof moment waiting = record g { found = with_link g.nodes g.found e proof moment; waiting = waiting }
 
 -- a live class keeps these slots alone, and the rows over it wait
-abbrev pub dropped_state : State → ℕ → List ℕ → ℕ → State
-dropped_state g c slots proof = touch c (record g { found = with_slots g.found c slots proof })
+abbrev pub dropped_state : State → ℕ → List ℕ → ℕ → List ℕ → State
+dropped_state g c slots proof waiting = record g { found = with_slots g.found c slots proof; waiting = waiting }
 
 -- more entries, which assert nothing, stand after those of a proof list
 pub record ProofsGrow (nodes : List DTerm) (older newer : List ProofEntry) : Type 0 where
@@ -84,15 +84,15 @@ pub record IsSymmetryOf (g : State) (e : Equation) (y : Symmetry) : Type 0 where
 pub data Unites (p : ℕ) : State → State → Type 0 where
   finds_alike : {g : State} → (found_entry g p).left ≡ (found_entry g p).right → (found_entry g p).pairs ≡ identity (used_slots g.found (found_entry g p).left) → Unites p g g
   proves : {g h : State} (proofs : List ProofEntry) → ProofsGrow g.nodes g.proofs proofs → Unites p (with_proofs g proofs) h → Unites p g h
-  drops_left : {g h : State} (n s : ℕ) → Contains (used_slots g.found (found_entry g p).left) s → ¬ Contains (keys_of (found_entry g p).pairs) s → StandsAt g n (kept_equation (found_entry g p)) →
-      Unites p (dropped_state g (found_entry g p).left (keys_of (found_entry g p).pairs) n) h → Unites p g h
-  drops_right : {g h : State} (n t : ℕ) → ((s : ℕ) → Contains (used_slots g.found (found_entry g p).left) s → Contains (keys_of (found_entry g p).pairs) s) →
+  drops_left : {g h : State} (n s : ℕ) (w : List ℕ) → Contains (used_slots g.found (found_entry g p).left) s → ¬ Contains (keys_of (found_entry g p).pairs) s → StandsAt g n (kept_equation (found_entry g p)) →
+      HasTouched g (found_entry g p).left w → Unites p (dropped_state g (found_entry g p).left (keys_of (found_entry g p).pairs) n w) h → Unites p g h
+  drops_right : {g h : State} (n t : ℕ) (w : List ℕ) → ((s : ℕ) → Contains (used_slots g.found (found_entry g p).left) s → Contains (keys_of (found_entry g p).pairs) s) →
       Contains (used_slots g.found (found_entry g p).right) t → ¬ Contains (values_of (found_entry g p).pairs) t → StandsAt g n (kept_equation (turned_equation g.nodes (found_entry g p))) →
-      Unites p (dropped_state g (found_entry g p).right (keys_of (turned_equation g.nodes (found_entry g p)).pairs) n) h → Unites p g h
-  left_dies : {g : State} (n moment : ℕ) → (found_entry g p).left ≢ (found_entry g p).right → PairsAll g (found_entry g p) → StandsAt g n (found_entry g p) → IsLater g.found moment →
-      Unites p g (linked_state g (found_entry g p) n moment)
-  right_dies : {g : State} (n moment : ℕ) → (found_entry g p).left ≢ (found_entry g p).right → PairsAll g (found_entry g p) → StandsAt g n (turned_equation g.nodes (found_entry g p)) → IsLater g.found moment →
-      Unites p g (linked_state g (turned_equation g.nodes (found_entry g p)) n moment)
+      HasTouched g (found_entry g p).right w → Unites p (dropped_state g (found_entry g p).right (keys_of (turned_equation g.nodes (found_entry g p)).pairs) n w) h → Unites p g h
+  left_dies : {g : State} (n moment : ℕ) (w : List ℕ) → (found_entry g p).left ≢ (found_entry g p).right → PairsAll g (found_entry g p) → StandsAt g n (found_entry g p) → IsLater g.found moment → HasTouched g (found_entry g p).left w →
+      Unites p g (linked_state g (found_entry g p) n moment w)
+  right_dies : {g : State} (n moment : ℕ) (w : List ℕ) → (found_entry g p).left ≢ (found_entry g p).right → PairsAll g (found_entry g p) → StandsAt g n (turned_equation g.nodes (found_entry g p)) → IsLater g.found moment → HasTouched g (found_entry g p).right w →
+      Unites p g (linked_state g (turned_equation g.nodes (found_entry g p)) n moment w)
   lists : {g : State} (n : ℕ) → (found_entry g p).left ≡ (found_entry g p).right → PairsAll g (found_entry g p) → (found_entry g p).pairs ≢ identity (used_slots g.found (found_entry g p).left) →
       ((y : Symmetry) → Contains g.symmetries y → ¬ IsSymmetryOf g (found_entry g p) y) → StandsAt g n (found_entry g p) → Unites p g (with_symmetry g (symmetry_of g (found_entry g p) n))
   is_listed : {g : State} (y : Symmetry) → (found_entry g p).left ≡ (found_entry g p).right → PairsAll g (found_entry g p) → Contains g.symmetries y → IsSymmetryOf g (found_entry g p) y → Unites p g g

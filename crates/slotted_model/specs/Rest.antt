@@ -8,7 +8,7 @@
 --     size g                 the number that each change of finds lowers
 --     IsAffected g c         an open symmetry may show in what is looked up for the class c
 --     RestGives g            what a graph at rest owes to completeness
-use Rattle.std.specs.Prelude.{◌≡◌, ◌≢◌, ◌↔◌, ℕ, suc, ◌+◌, ◌<◌, List, [], ◌∷◌, length, Contains, Bool, IsTrue, cond, nat_eq, Some}
+use Rattle.std.specs.Prelude.{◌≡◌, ◌≢◌, ℕ, suc, ◌+◌, ◌<◌, List, [], ◌∷◌, length, Contains, Bool, IsTrue, cond, nat_eq, Some}
 use Rattle.std.specs.Map.{keys_of, values_of}
 use Rattle.slotted_theory.specs.Nameless.{DTerm}
 use Rattle.slotted_theory.specs.Renaming.{IsInjective}
@@ -88,7 +88,7 @@ pub record Filed (g : State) : Type 0 where
   pub waits_for_row : (o : ℕ) → Contains g.waiting o → Contains (sources g.rows) o
   pub current : (r : Row) → Contains g.rows r → ¬ Contains g.waiting r.source → IsCurrent g r
 
--- what holds of each listed symmetry: its slots are canonical slots of the class, and all that the class still uses; it is a bijection of them, not the identity; and its proof says the same of these slots
+-- what holds of each listed symmetry: its slots are canonical slots of the class, and all that the class still uses; it is a bijection of them, not the identity; and its proof says just this
 pub record IsListed (g : State) (y : Symmetry) : Type 0 where
   pub in_range : y.class < length g.nodes
   pub ascending : IsAscending y.slots
@@ -99,9 +99,7 @@ pub record IsListed (g : State) (y : Symmetry) : Type 0 where
   pub onto : (t : ℕ) → Contains y.slots t → Contains (values_of y.pairs) t
   pub moves : y.pairs ≢ identity y.slots
   pub proof : y.proof < length g.proofs
-  pub left : (equation_at g.proofs y.proof).left ≡ y.class
-  pub right : (equation_at g.proofs y.proof).right ≡ y.class
-  pub says : (s t : ℕ) → Contains y.slots s → Contains y.slots t → Contains (equation_at g.proofs y.proof).pairs (s, t) ↔ Contains y.pairs (s, t)
+  pub exact : equation_at g.proofs y.proof ≡ record { left = y.class; right = y.class; pairs = y.pairs }
 
 -- what holds through all changes: sound storage, and what holds of rows and listed symmetries, none of which is listed twice
 pub record Sane (g : State) : Type 0 where

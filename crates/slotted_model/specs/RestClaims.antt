@@ -1,6 +1,6 @@
 -- The laws of a graph at rest and of what leads there, all owed by `rest_laws_hold` in src/rest.rt.
 use Rattle.std.specs.Prelude.{◌≡◌, ◌≢◌, ℕ, suc, ◌+◌, ◌-◌, ◌*◌, ◌<◌, ◌≤◌, length, List, [], Contains, Bool, IsTrue, option_map, None, Some, ◌⊎◌}
-use Rattle.std.specs.Map.{keys_of}
+use Rattle.std.specs.Map.{keys_of, values_of}
 use Rattle.slotted_theory.specs.Nameless.{DTerm, moved}
 use Rattle.slotted_theory.specs.Renaming.{IsInjective}
 use Rattle.slotted_theory.specs.Shape.{shape}
@@ -9,14 +9,14 @@ use Rattle.slotted_model.specs.Classes.{IsFull}
 use Rattle.slotted_model.specs.Correspondence.{identity}
 use Rattle.slotted_model.specs.Find.{entry_at, IsLive, find_class, used_slots, find}
 use Rattle.slotted_model.specs.Link.{CanLink, IsLater, CanDrop, with_shortcut}
-use Rattle.slotted_model.specs.ProofList.{Equation, ProofEntry, explicit, turned_equation, equation_at, step_at, find_equation, node_of}
+use Rattle.slotted_model.specs.ProofList.{Equation, ProofEntry, explicit, equation_of, turned_equation, equation_at, step_at, find_equation, node_of}
 use Rattle.slotted_model.specs.Normal.{normal}
-use Rattle.slotted_model.specs.State.{Row, Symmetry, State, sources, normal_node, look_up_node, look_up_tree}
+use Rattle.slotted_model.specs.State.{Row, Symmetry, State, sources, normal_node, look_up_node, look_up_tree, HasTouched}
 use Rattle.slotted_model.specs.Rest.{IsValidIn, UpToSymmetries, LinkedTo, IsAligned, HasNoOpenSymmetry, IsRow, IsListed, Sane, Represents, AtRest, size, entry_size, lives_from, slots_from, IsAffected, CoversAffected, FoundTogether, IsAnswer, RestGives}
 use Rattle.slotted_model.specs.Changes.{GoesOn, IsEvent, linked_state, dropped_state, ProofsGrow, with_proofs, symmetry_of, with_symmetry, found_entry, StandsAt, PairsAll, Lacks, Unites, HasUnited, RepresentsBut}
 use Rattle.slotted_model.specs.Rebuild.{CongruenceEntered, Turn, Acts, HasNothingLeft, Runs, IsRebuilt, HasTurned, HasActed}
 use Rattle.slotted_model.specs.Growth.{IsNew}
-use Rattle.slotted_model.specs.Adding.{with_new_class, Adds, Asserts, HasAdded, HasAsserted, KeepsLookUps, SameAnswers}
+use Rattle.slotted_model.specs.Adding.{with_new_class, with_new_row, with_assertion, Adds, Asserts, HasAdded, HasAsserted, KeepsLookUps, SameAnswers}
 
 -- a node or a tree with other names is looked up as the same id with those names
 abbrev pub LookUpsMoveWithNames : Type 0
@@ -104,14 +104,41 @@ GoingOnKeepsRows =
 abbrev pub LinksAreEvents : Type 0
 LinksAreEvents =
     (g : State) → Sane g → (e : Equation) (proof moment : ℕ) → CanLink g.nodes g.found e → IsLater g.found moment → proof < length g.proofs → equation_at g.proofs proof ≡ e →
-    IsEvent g (linked_state g e proof moment)
+    (w : List ℕ) → HasTouched g e.left w → IsEvent g (linked_state g e proof moment w)
 
 -- dropping a slot, by an equation that is proved, is an event
 abbrev pub DropsAreEvents : Type 0
 DropsAreEvents =
     (g : State) → Sane g → (c : ℕ) (slots : List ℕ) (proof s : ℕ) → CanDrop g.nodes g.found c slots → proof < length g.proofs →
     equation_at g.proofs proof ≡ record { left = c; right = c; pairs = identity slots } →
-    Contains (used_slots g.found c) s → ¬ Contains slots s → IsEvent g (dropped_state g c slots proof)
+    Contains (used_slots g.found c) s → ¬ Contains slots s → (w : List ℕ) → HasTouched g c w → IsEvent g (dropped_state g c slots proof w)
+
+-- a link by an equation that pairs all slots of both classes keeps listed symmetries aligned
+abbrev pub LinksKeepAligned : Type 0
+LinksKeepAligned =
+    (g : State) → Sane g → (e : Equation) (proof moment : ℕ) → CanLink g.nodes g.found e → IsLater g.found moment → proof < length g.proofs → equation_at g.proofs proof ≡ e →
+    (w : List ℕ) → HasTouched g e.left w → PairsAll g e → ((s : ℕ) → Contains (values_of e.pairs) s → Contains (used_slots g.found e.right) s) →
+    (y : Symmetry) → IsListed g y → IsAligned g y → IsAligned (linked_state g e proof moment w) y
+
+-- a symmetry of all slots that a live class has is aligned
+abbrev pub ListedAreAligned : Type 0
+ListedAreAligned = (g : State) → Sane g → (y : Symmetry) → IsListed g y → IsLive g.found y.class → y.slots ≡ used_slots g.found y.class → IsAligned g y
+
+-- a new class, of which no row is filed yet, keeps a graph sane
+abbrev pub NewClassesKeepSane : Type 0
+NewClassesKeepSane = (g : State) → Sane g → (c : DTerm) → IsNew g.nodes c → Sane (with_new_class g c) × GoesOn g (with_new_class g c)
+
+-- and so does its row, if no other one has the shape
+abbrev pub NewRowsKeepSane : Type 0
+NewRowsKeepSane =
+    (g : State) → Sane g → (c : DTerm) → IsNew g.nodes c → ((r : Row) → Contains g.rows r → r.shape ≢ shape (normal_node (with_new_class g c) (length g.nodes))) →
+    Sane (with_new_row (with_new_class g c) (length g.nodes)) × GoesOn g (with_new_row (with_new_class g c) (length g.nodes))
+
+-- and so does an assertion, which need not be respected yet
+abbrev pub AssertionsKeepSane : Type 0
+AssertionsKeepSane =
+    (g : State) → Sane g → (a b : Applied) → IsFull g.nodes a → IsFull g.nodes b → ((q : ℕ) → q < length g.proofs → equation_at g.proofs q ≢ equation_of a b) →
+    Sane (with_assertion g (equation_of a b)) × GoesOn g (with_assertion g (equation_of a b)) × (Represents g → RepresentsBut (length g.proofs) (with_assertion g (equation_of a b)))
 
 -- the size is one for each live class and one for each of its slots: the entry of a live class has as many pairs as the class has slots
 abbrev pub SizeCountsSlots : Type 0
@@ -155,6 +182,12 @@ FoundEntriesCanBeActedOn =
 -- a union by an entry keeps a graph sane, goes on from it, and makes the sides of the entry equal up to listed symmetries
 abbrev pub UnionsUniteSides : Type 0
 UnionsUniteSides = (p : ℕ) (g h : State) → Unites p g h → Sane g → p < length g.proofs → HasUnited p g h
+
+-- it never makes live classes more, nor, while they are as many, their slots
+abbrev pub UnionsKeepCounts : Type 0
+UnionsKeepCounts =
+    (p : ℕ) (g h : State) → Unites p g h → Sane g → p < length g.proofs →
+    (lives_from 0 h.found ≤ lives_from 0 g.found) × (lives_from 0 h.found ≡ lives_from 0 g.found → slots_from 0 h.found ≤ slots_from 0 g.found)
 
 -- its size falls if a slot of the classes that the sides find has no partner
 abbrev pub LackingUnionsFall : Type 0
@@ -275,12 +308,18 @@ pub record RestLaws : Type 0 where
   pub going_on_keeps_rows : GoingOnKeepsRows
   pub links_are_events : LinksAreEvents
   pub drops_are_events : DropsAreEvents
+  pub links_keep_aligned : LinksKeepAligned
+  pub listed_are_aligned : ListedAreAligned
+  pub new_classes_keep_sane : NewClassesKeepSane
+  pub new_rows_keep_sane : NewRowsKeepSane
+  pub assertions_keep_sane : AssertionsKeepSane
   pub size_counts_slots : SizeCountsSlots
   pub going_on_represents : GoingOnRepresents
   pub new_proofs_keep_sane : NewProofsKeepSane
   pub new_symmetries_keep_sane : NewSymmetriesKeepSane
   pub found_entries_can_be_acted_on : FoundEntriesCanBeActedOn
   pub unions_unite_sides : UnionsUniteSides
+  pub unions_keep_counts : UnionsKeepCounts
   pub lacking_unions_fall : LackingUnionsFall
   pub unions_represent : UnionsRepresent
   pub rows_show_congruence : RowsShowCongruence

@@ -3,14 +3,14 @@
 --     filed_node r       the node that a row files
 --     look_up_node g d   the id of a node over valid ids, by the shape of its normal form
 --     look_up_tree g t   the id of a tree, child by child
---     touch c g          the rows over the class c wait
-use Rattle.std.specs.Prelude.{ℕ, List, [], ◌∷◌, ◌++◌, map, Option, Some, None, option_map, cond, slice_index_or}
+--     HasTouched g c w   w is what waits when the rows over the class c wait too
+use Rattle.std.specs.Prelude.{◌≡◌, ◌⊎◌, ℕ, List, [], ◌∷◌, ◌++◌, map, Contains, Option, Some, None, option_map, cond, slice_index_or}
 use Rattle.slotted_theory.specs.Nameless.{DArgs, DTerm, stop, place, sub, scope, moved}
 use Rattle.slotted_theory.specs.FiniteMaps.{filled}
 use Rattle.slotted_theory.specs.Shape.{free_names, shape}
 use Rattle.slotted_model.specs.Applied.{Applied, applied_of}
 use Rattle.slotted_model.specs.Classes.{canonical_node}
-use Rattle.slotted_model.specs.Correspondence.{has_slot, identity, turned}
+use Rattle.slotted_model.specs.Correspondence.{AllDifferent, identity, turned}
 use Rattle.slotted_model.specs.Find.{Entry, find}
 use Rattle.slotted_model.specs.Ids.{term_eq}
 use Rattle.slotted_model.specs.LookUp.{look_up}
@@ -90,15 +90,13 @@ child_classes (place x rest) = child_classes rest
 child_classes (sub op payloads args rest) = (applied_of payloads args).0 ∷ child_classes rest
 child_classes (scope inner rest) = child_classes inner ++ child_classes rest
 
--- a list of what waits with one more member, if it is not there
-abbrev pub with_waiting : ℕ → List ℕ → List ℕ
-with_waiting o waiting = cond (has_slot waiting o) waiting (o ∷ waiting)
+-- the source of a row over the class c
+abbrev pub IsOver : State → ℕ → ℕ → Type 0
+IsOver g c o = (r : Row) × Contains g.rows r × Contains (child_classes r.shape.args) c × (r.source ≡ o)
 
--- with the sources of the rows over the class c
-abbrev pub touched : ℕ → List Row → List ℕ → List ℕ
-touched c [] waiting = waiting
-touched c (r ∷ rows) waiting = cond (has_slot (child_classes r.shape.args) c) (with_waiting r.source (touched c rows waiting)) (touched c rows waiting)
-
--- the rows over the class c wait
-abbrev pub touch : ℕ → State → State
-touch c g = record g { waiting = touched c g.rows g.waiting }
+-- these wait when the rows over the class c wait too, in whatever order: all that waited, and the sources of the rows over c
+pub record HasTouched (g : State) (c : ℕ) (waiting : List ℕ) : Type 0 where
+  pub once : AllDifferent waiting
+  pub kept : (o : ℕ) → Contains g.waiting o → Contains waiting o
+  pub over : (r : Row) → Contains g.rows r → Contains (child_classes r.shape.args) c → Contains waiting r.source
+  pub from : (o : ℕ) → Contains waiting o → Contains g.waiting o ⊎ IsOver g c o

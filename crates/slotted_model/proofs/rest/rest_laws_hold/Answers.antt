@@ -1,3 +1,5 @@
+use Rattle.slotted_model.specs.Link.{CanEnter}
+use Rattle.slotted_model.specs.ProofList.{ProofEntry, explicit, equation_of}
 use Rattle.slotted_model.proofs.UpTo.{upto-renamed, upto-valid, upto-class, upto-alike, upto-together, linked_to-same, linked_to-turned, linked_to-joined}
 use Rattle.slotted_model.proofs.Rows.{look_up_node-moved, look_up_tree-moved, rest-gives, rest-congruent}
 use Rattle.slotted_model.proofs.Answers.{answer-found}
@@ -10,12 +12,13 @@ use Rattle.slotted_model.proofs.AfterUnions.{lacking-falls, united-represents}
 use Rattle.slotted_model.proofs.Congruences.{row-shape, congruence-entered}
 use Rattle.slotted_model.proofs.Turning.{turned, acted, waits-below, run, run-no_larger, counted, ended}
 use Rattle.slotted_model.proofs.Ending.{union-ends, next-step, rebuilding-ends}
-use Rattle.slotted_model.proofs.Adding.{adds}
-use Rattle.slotted_model.proofs.Asserting.{asserts, asserting-ends, adding-ends, not_looked_up-new, nothing-rests}
+use Rattle.slotted_model.proofs.Adding.{adds, filed-sane_on, class-sane, class-goes_on}
+use Rattle.slotted_model.proofs.Asserting.{can_assert, entry-sane, entry-goes_on, entry-represents, asserts, asserting-ends, adding-ends, not_looked_up-new, nothing-rests}
 use Rattle.slotted_model.proofs.KeepingLookUps.{not_looked_up-unfiled}
 use Rattle.slotted_model.proofs.KeepingTrees.{keeps-look_ups}
 use Rattle.slotted_model.proofs.Quiet.{proofs-quiet, shortcut-quiet}
-use Rattle.slotted_model.proofs.Counting.{size-counts, run-lives, run-slots}
+use Rattle.slotted_model.proofs.Counting.{unites-counts, size-counts, run-lives, run-slots}
+use Rattle.slotted_model.proofs.Aligned.{link-aligned, listed-aligned}
 use Rattle.slotted_model.proofs.rest.rest_laws_hold.Goals as goal
 
 pub returns : goal.returns
@@ -34,14 +37,23 @@ returns c = record {
   going_on_keeps_yeses = λ older newer s on a b. (still-alike older newer s.sound on a b, λ e. still-equal older newer s.sound on e);
   going_on_keeps_normal_forms = λ older newer s on. (still-normal older newer s.sound on, still-same older newer s.sound on, still-linked older newer s.sound on);
   going_on_keeps_rows = λ older newer s on. (still-row older newer s.sound on, still-listed older newer s.sound on);
-  links_are_events = λ g s e proof moment can later h says. record { sane = link-sane g s e proof moment can later h says; goes_on = link-goes_on g s e proof moment can later h says; smaller = link-size g s e proof moment can later h says };
-  drops_are_events = λ g s c slots proof t can h says u n. record { sane = drop-sane g s c slots proof can h says; goes_on = drop-goes_on g s c slots proof can h says; smaller = drop-size g s c slots proof can h says t u n };
+  links_are_events = λ g s e proof moment can later h says w t. record { sane = link-sane g s e proof moment can later h says w t; goes_on = link-goes_on g s e proof moment can later h says w t; smaller = link-size g s e proof moment can later h says w t };
+  drops_are_events = λ g s c slots proof x can h says u n w t. record { sane = drop-sane g s c slots proof can h says w t; goes_on = drop-goes_on g s c slots proof can h says w t; smaller = drop-size g s c slots proof can h says w t x u n };
+  links_keep_aligned = λ g s e proof moment can later h says w t all used. link-aligned g s e proof moment can later h says w t all.left used;
+  listed_are_aligned = listed-aligned;
+  new_classes_keep_sane = λ g s c new. (class-sane g s c new, class-goes_on g s c new);
+  new_rows_keep_sane = λ g s c new alone. filed-sane_on g s c new alone;
+  assertions_keep_sane = λ g s a b fa fb n.
+      let x : ProofEntry = record { equation = equation_of a b; step = explicit } in
+      let can : CanEnter g.nodes g.proofs x = can_assert g a b fa fb n in
+      (entry-sane g s x can, entry-goes_on g s x can, entry-represents g s x can);
   size_counts_slots = λ g s i h. (size-live g s i h, size-dead g s i h);
   going_on_represents = still-represents;
   new_proofs_keep_sane = λ g s proofs grow. (proofs-sane g s proofs grow, proofs-go_on g s proofs grow);
   new_symmetries_keep_sane = λ g s y l new. (symmetry-sane g s y l new, symmetry-goes_on g s y l new);
   found_entries_can_be_acted_on = λ g s p k. (can_drop-left g s p k, can_drop-right g s p k, can_link-left g s p k, can_link-right g s p k, can_list g s p k);
   unions_unite_sides = λ p g h u s k. unites p u s k;
+  unions_keep_counts = unites-counts;
   lacking_unions_fall = λ p g h u s k l. lacking-falls p u s k l;
   unions_represent = united-represents;
   rows_show_congruence = row-shape;
