@@ -16,7 +16,7 @@ use Rattle.slotted_proofs.proofs.Entering.{asserted_provable, new_can_enter, tur
 use Rattle.slotted_core.specs.Image.{StandsIn, Asserts, Records, asserted_in}
 use Rattle.slotted_core.specs.Kept.{Kept, nodes_of, entries_of, proofs_of, image_of, with_proofs, EntersIn, Good, IsAsserted}
 use Rattle.slotted_core.proofs.ProofListGrowth.{entered-more}
-use Rattle.slotted_core.proofs.Recorded.{records-stood, records-last, records-more}
+use Rattle.slotted_core.proofs.EntryTexts.{records-stood, records-last, records-more}
 use Rattle.slotted_core.proofs.KeptLists.{equation_at-of, length-mapped, length-proofs_of}
 
 module _ (k : Kept) (good : Good k) (a b : Applied) (fa : IsFull (nodes_of k) a) (fb : IsFull (nodes_of k) b) (text : Option (List ℕ)) where

@@ -31,7 +31,7 @@ use Rattle.slotted_core.specs.Canonical.{args_count, place_count, IsBeside}
 use Rattle.slotted_core.proofs.RowLookUps.{canonical_node-in}
 use Rattle.slotted_core.proofs.NameMaps.{In-at, In-key, length-keys, length-values}
 use Rattle.slotted_core.proofs.Children.{Each, atom-is, length-ids}
-use Rattle.slotted_core.proofs.Plugged.{plugs}
+use Rattle.slotted_core.proofs.ChildReplacement.{plugs}
 use Rattle.slotted_core.proofs.Layers.{expand-filled, match-from, each_at}
 
 -- what holds of each child of the nameless form, and of an id where it holds of a renamed one, holds of each child

@@ -55,8 +55,8 @@ use Rattle.slotted_core.proofs.Images.{adds-nothing}
 use Rattle.slotted_core.proofs.InUse.{new_class-in_use, new_class-lives}
 use Rattle.slotted_core.proofs.KeptLists.{length-entries_of, length-proofs_of, equation_at-of, found_id-is}
 use Rattle.slotted_core.proofs.NewClass.{full-finds}
-use Rattle.slotted_core.proofs.Inserted.{ascending-values, between-moved}
-use Rattle.slotted_core.proofs.Renamed.{fits_put, shape-put}
+use Rattle.slotted_core.proofs.NamePairs.{ascending-values, between-moved}
+use Rattle.slotted_core.proofs.FreshCanonicalNodes.{fits_put, shape-put}
 
 -- lists with one element more
 

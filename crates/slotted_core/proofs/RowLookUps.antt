@@ -27,7 +27,7 @@ use Rattle.slotted_model.proofs.Theory.{free_names-moved, get_or-number_in}
 use Rattle.slotted_core.specs.FormCode.{form_is, form_Decides}
 use Rattle.slotted_core.specs.Names.{between}
 use Rattle.slotted_core.specs.Kept.{Kept, ClassEntry, no_form, no_entry, found, rows_from, nodes_of, Good}
-use Rattle.slotted_core.proofs.Inserted.{between-moved}
+use Rattle.slotted_core.proofs.NamePairs.{between-moved}
 
 child_same : (d e : DTerm) → child_before d stop ≡ child_before e stop → d ≡ e
 child_same d e p =

@@ -24,11 +24,11 @@ use Rattle.slotted_core.specs.Places.{args_places, term_places}
 use Rattle.slotted_core.proofs.NodeAddition.{full_children}
 use Rattle.slotted_core.proofs.Images.{adds-nothing, adds-then}
 use Rattle.slotted_core.proofs.Children.{length-ids, zip-keys_values}
-use Rattle.slotted_core.proofs.Known.{answer_full, answer_term}
+use Rattle.slotted_core.proofs.KnownNames.{answer_full, answer_term}
 use Rattle.slotted_core.proofs.FoundParts.{children_found, node_has_id}
 use Rattle.slotted_core.proofs.Layers.{match-from, expand-filled, each_at}
 use Rattle.slotted_core.proofs.NameMaps.{length-keys, length-values}
-use Rattle.slotted_core.proofs.Plugged.{plugs}
+use Rattle.slotted_core.proofs.ChildReplacement.{plugs}
 use Rattle.slotted_core.proofs.Sizes.{node_fits}
 
 -- the first i children of h are ids of the terms us, and beside its children h is f

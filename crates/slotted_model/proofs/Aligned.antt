@@ -16,7 +16,7 @@ use Rattle.slotted_model.proofs.Correspondences.Pairs.{Contains-key, Contains-va
 use Rattle.slotted_model.proofs.Correspondences.PartialInjections.{composite-by, composite-over, turned-by, turned-pair, identity-by, identity-pair, identity-in_order, pairs_on-in_order}
 use Rattle.slotted_model.proofs.Correspondences.FullMaps.{full-in_order}
 use Rattle.slotted_model.proofs.Finding.{leads, found_keys, find_map-live}
-use Rattle.slotted_model.proofs.Found.{used-live, found-full, found-slots, found-valid, found-again, found-name}
+use Rattle.slotted_model.proofs.NormalIds.{used-live, found-full, found-slots, found-valid, found-again, found-name}
 use Rattle.slotted_model.proofs.Linking.{link_map, link-refines, left-map}
 use Rattle.slotted_model.proofs.UpTo.{left-valid, right-valid}
 use Rattle.slotted_model.proofs.Lacking.{same-ascending}

@@ -27,7 +27,7 @@ use Rattle.slotted_model.proofs.NormalIds.{filling-found}
 use Rattle.slotted_model.proofs.RenamedIds.{normal-moves}
 use Rattle.slotted_model.proofs.Options.{Some-same}
 use Rattle.slotted_model.proofs.FindProofs.{found_alike-equal}
-use Rattle.slotted_model.proofs.LookedUp.{Answered, answered, value-look_up, look_up-value}
+use Rattle.slotted_model.proofs.LookedUpTrees.{Answered, answered, value-look_up, look_up-value}
 use Rattle.slotted_model.proofs.Folds.{as_term-same}
 use Rattle.slotted_model.proofs.Fillings.{term_of-filling}
 use Rattle.slotted_model.proofs.Marks.{has_marked, has_marked-some, has_marked-moved, step-moved, step-fixed, step-ids, id_value-marked, id_value-plain, id_value-same, valued_args, has_fixed-valued, valued-normal, has_node-normal}

@@ -65,7 +65,7 @@ pub mod Quiet
 pub mod TurnExamples
 pub mod Counting
 pub mod Marks
-pub mod LookedUp
+pub mod LookedUpTrees
 pub mod CanonicalValues
 pub mod Spreading
 pub mod Agreement

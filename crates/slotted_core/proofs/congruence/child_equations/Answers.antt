@@ -7,7 +7,7 @@ use Rattle.slotted_core.specs.Nodes.{to_applied}
 use Rattle.slotted_core.proofs.Children.{child_is}
 use Rattle.slotted_core.proofs.Frames.{ids_under, first_match-pushed, forms_alike, forms_owns, same_count, frames_alike, child_matches, left_apart, right_apart, more_apart, first_match-none}
 use Rattle.slotted_core.proofs.NameMaps.{all_differ-iff}
-use Rattle.slotted_core.proofs.Wide.{child_fits_size, one_is_wide, outline_fits_size}
+use Rattle.slotted_core.proofs.WideNodes.{child_fits_size, one_is_wide, outline_fits_size}
 use Rattle.slotted_core.proofs.congruence.child_equations.Goals as goal
 
 pub returns-in_default-clause-none : goal.returns-in_default-clause-none

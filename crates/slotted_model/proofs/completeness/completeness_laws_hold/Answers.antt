@@ -8,7 +8,7 @@ use Rattle.slotted_model.proofs.Steps.{Equal-between}
 use Rattle.slotted_model.proofs.Marks.{step-moved, value-moved, id_value-same}
 use Rattle.slotted_model.specs.Classes.{term_of}
 use Rattle.slotted_model.proofs.Trees.{term_of-tree}
-use Rattle.slotted_model.proofs.LookedUp.{value-look_up, look_up-value}
+use Rattle.slotted_model.proofs.LookedUpTrees.{value-look_up, look_up-value}
 use Rattle.slotted_model.proofs.CanonicalValues.{value-full, value-pair, full-alike, filled-alike, congruent-alike, equal-look_up, equal_trees-alike, alike-iff}
 use Rattle.slotted_model.proofs.Spreading.{is_affected-covers, is_affected-iff}
 use Rattle.slotted_model.proofs.LookUpsAreEqual.{node-equal, filled-node_equal, found-node_equal, tree-equal, filled-equal, found-equal}

@@ -6,7 +6,7 @@ use Rattle.slotted_terms.specs.Valid.{AllKnown}
 use Rattle.slotted_core.specs.Graph.{Graph}
 use Rattle.slotted_core.specs.Kept.{nodes_of}
 use Rattle.slotted_core.specs.Nodes.{to_applied}
-use Rattle.slotted_core.proofs.Known.{answer_full, answer_term, answer_names}
+use Rattle.slotted_core.proofs.KnownNames.{answer_full, answer_term, answer_names}
 use Rattle.slotted_core.proofs.egraph.EGraph.add.Goals as goal
 
 pub returns-clause-valid : goal.returns-clause-valid

@@ -7,7 +7,7 @@ use Rattle.slotted_core.specs.Graph.{Graph}
 use Rattle.slotted_core.specs.Kept.{nodes_of}
 use Rattle.slotted_core.specs.Nodes.{to_applied}
 use Rattle.slotted_theory.specs.Nameless.{nameless}
-use Rattle.slotted_core.proofs.Known.{term_known}
+use Rattle.slotted_core.proofs.KnownNames.{term_known}
 use Rattle.slotted_core.proofs.egraph.EGraph.add_expr.Goals as goal
 
 pub returns-clause-valid : goal.returns-clause-valid

@@ -5,7 +5,7 @@ use Rattle.slotted_core.specs.Kept.{Kept, find_at, nodes_of, entries_of, EntersI
 use Rattle.slotted_proofs.specs.Equations.{Meets}
 use Rattle.slotted_proofs.specs.Entries.{statement_at, composite_entry}
 use Rattle.slotted_core.proofs.Chasing.{moments_left, next_within, nearer}
-use Rattle.slotted_core.proofs.United.{live-proves, next-first, next-meets, next-large, next-proves}
+use Rattle.slotted_core.proofs.UnionSteps.{live-proves, next-first, next-meets, next-large, next-proves}
 use Rattle.slotted_core.proofs.kernel.Core.+find_proof.Goals as goal
 
 pub returns-then-next-id-clause-ok : goal.returns-then-next-id-clause-ok

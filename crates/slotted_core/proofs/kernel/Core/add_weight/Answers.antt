@@ -1,7 +1,7 @@
 use Rattle.std.proofs.Common.{◌<◌, ◌∙◌, map, length, arith, refl}
 use Rattle.slotted_core.specs.Kept.{ClassEntry}
 use Rattle.slotted_core.specs.declared.kernel.Class.{Class}
-use Rattle.slotted_core.proofs.Linked.{set-unseen}
+use Rattle.slotted_core.proofs.Links.{set-unseen}
 use Rattle.slotted_core.proofs.kernel.Core.add_weight.Goals as goal
 
 pub returns : goal.returns

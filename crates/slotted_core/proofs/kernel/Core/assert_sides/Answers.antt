@@ -3,7 +3,7 @@ use Rattle.std.specs.Prelude.{option_map, string_bytes}
 use Rattle.slotted_core.specs.Kept.{IsAsserted, asserted_for}
 use Rattle.slotted_core.specs.Nodes.{to_applied}
 use Rattle.slotted_core.proofs.Asserting.{asserted-straight, asserted-turned}
-use Rattle.slotted_core.proofs.Large.{ids_are_large, asserted_is_large}
+use Rattle.slotted_core.proofs.LargeEquations.{ids_are_large, asserted_is_large}
 use Rattle.slotted_core.proofs.kernel.Core.assert_sides.Goals as goal
 
 pub returns-then-not-is_turned-clause-ok : goal.returns-then-not-is_turned-clause-ok

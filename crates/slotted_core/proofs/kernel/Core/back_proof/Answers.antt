@@ -1,8 +1,8 @@
 use Rattle.std.proofs.Common.{rules}
 use Rattle.slotted_model.specs.ProofList.{find_equation}
 use Rattle.slotted_core.specs.Kept.{nodes_of, entries_of}
-use Rattle.slotted_core.proofs.United.{find-one, back-proves}
-use Rattle.slotted_core.proofs.Large.{proves_is_large}
+use Rattle.slotted_core.proofs.UnionSteps.{find-one, back-proves}
+use Rattle.slotted_core.proofs.LargeEquations.{proves_is_large}
 use Rattle.slotted_core.proofs.kernel.Core.back_proof.Goals as goal
 
 pub returns-clause-ok : goal.returns-clause-ok

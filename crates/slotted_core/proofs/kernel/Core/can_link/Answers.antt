@@ -1,7 +1,7 @@
 use Rattle.std.proofs.Common.{arith}
 use Rattle.std.proofs.lemmas.Bool.{false≢true}
 use Rattle.slotted_core.specs.Nodes.{to_applied}
-use Rattle.slotted_core.proofs.United.{can-unite, one-class, can-names}
+use Rattle.slotted_core.proofs.UnionSteps.{can-unite, one-class, can-names}
 use Rattle.slotted_core.proofs.kernel.Core.can_link.Goals as goal
 
 pub returns-then-left-right-clause-ok : goal.returns-then-left-right-clause-ok

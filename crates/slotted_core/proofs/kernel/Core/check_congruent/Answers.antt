@@ -5,7 +5,7 @@ use Rattle.slotted_core.specs.Frames.{AreAlikeForms}
 use Rattle.slotted_core.specs.Kept.{Kept, nodes_of}
 use Rattle.slotted_core.specs.Nodes.{to_applied}
 use Rattle.slotted_core.proofs.Naming.{congruent_again}
-use Rattle.slotted_core.proofs.Wide.{large_child, wide_at}
+use Rattle.slotted_core.proofs.WideNodes.{large_child, wide_at}
 use Rattle.slotted_core.proofs.kernel.Core.check_congruent.Goals as goal
 
 pub returns-in-Some-clause-refused : goal.returns-in-Some-clause-refused

@@ -5,7 +5,7 @@ use Rattle.slotted_model.specs.Find.{find}
 use Rattle.slotted_core.specs.Image.{HasLargeClass}
 use Rattle.slotted_core.specs.Kept.{Kept, entries_of, with_linked, Links, asserted_for}
 use Rattle.slotted_core.specs.Nodes.{to_applied}
-use Rattle.slotted_core.proofs.United.{both, ready, step_first, step_second, large_first, large_second, explains-nodes, asserted_for-says, united, dead-within}
+use Rattle.slotted_core.proofs.UnionSteps.{both, ready, step_first, step_second, large_first, large_second, explains-nodes, asserted_for-says, united, dead-within}
 use Rattle.slotted_core.proofs.kernel.Core.link.Goals as goal
 
 pub chain-requires-clause-first : goal.chain-requires-clause-first

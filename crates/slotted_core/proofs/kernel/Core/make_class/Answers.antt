@@ -1,6 +1,6 @@
 use Rattle.std.proofs.Common.{length, ap, sym, subst, arith, rules}
 use Rattle.slotted_theory.specs.FiniteMaps.{IsInjectiveMap}
-use Rattle.slotted_core.proofs.Different.{between_itself-differs, length-between_itself}
+use Rattle.slotted_core.proofs.DistinctValues.{between_itself-differs, length-between_itself}
 use Rattle.slotted_core.proofs.kernel.Core.make_class.Goals as goal
 
 pub enter_reflexive-requires : goal.enter_reflexive-requires

@@ -4,7 +4,7 @@ use Rattle.slotted_core.specs.Kept.{nodes_of}
 use Rattle.slotted_core.specs.Nodes.{to_applied}
 use Rattle.slotted_core.proofs.KeptLists.{length-nodes_of}
 use Rattle.slotted_core.proofs.Naming.{names_all, named, canonical-at}
-use Rattle.slotted_core.proofs.Wide.{wide_class}
+use Rattle.slotted_core.proofs.WideNodes.{wide_class}
 use Rattle.slotted_core.proofs.kernel.Core.named_node.Goals as goal
 
 pub node_of-node-requires : goal.node_of-node-requires

@@ -2,7 +2,7 @@ use Rattle.std.proofs.Common.{◌≡◌, ◌<◌, ◌∙◌, ◌+◌, ap, map, l
 use Rattle.slotted_model.specs.Find.{Entry}
 use Rattle.slotted_core.specs.Kept.{Kept, ClassEntry, with_linked}
 use Rattle.slotted_core.proofs.KeptLists.{length-mapped}
-use Rattle.slotted_core.proofs.Linked.{set_entry}
+use Rattle.slotted_core.proofs.Links.{set_entry}
 use Rattle.slotted_core.specs.declared.kernel.Class.{Class}
 use Rattle.slotted_core.proofs.kernel.Core.set_link.Goals as goal
 

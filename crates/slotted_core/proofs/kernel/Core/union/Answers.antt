@@ -3,7 +3,7 @@ use Rattle.std.proofs.lemmas.Bool.{false≢true}
 use Rattle.slotted_model.specs.Find.{find}
 use Rattle.slotted_core.specs.Kept.{entries_of}
 use Rattle.slotted_core.specs.Nodes.{to_applied}
-use Rattle.slotted_core.proofs.United.{agrees, found-alike, not-alike, one-class, can-names}
+use Rattle.slotted_core.proofs.UnionSteps.{agrees, found-alike, not-alike, one-class, can-names}
 use Rattle.slotted_core.proofs.kernel.Core.union.Goals as goal
 
 pub returns-then-eq-clause-ok : goal.returns-then-eq-clause-ok

@@ -15,7 +15,7 @@ use Rattle.slotted_model.proofs.NormalIds.{keys-identity}
 use Rattle.slotted_slots.specs.Ascending.{IsAscending}
 use Rattle.slotted_slots.specs.Maps.{keys, value_of}
 use Rattle.slotted_core.specs.Names.{between}
-use Rattle.slotted_core.proofs.Inserted.{between-itself}
+use Rattle.slotted_core.proofs.NamePairs.{between-itself}
 use Rattle.slotted_core.proofs.NameMaps.{rising, In-key, In-at, at_In, keys_are, length-values}
 
 length-with_new : (x : ℕ) (ys : List ℕ) → ¬ In x ys → length (with_name x ys) ≡ suc (length ys)

@@ -28,10 +28,10 @@ use Rattle.slotted_core.specs.Image.{HasLargeClass, found_id, CanUnite, FoundAli
 use Rattle.slotted_core.specs.Kept.{Kept, find_at, nodes_of, entries_of, proofs_of, image_of, with_proofs, with_linked, EntersIn, Good, Explains, Proves, IsAsserted, Links, Agrees, asserted_for}
 use Rattle.slotted_core.proofs.ProofListGrowth.{entered-more, nil-append, entering-proves, explains-nothing, explains-then, explains-stands, at-append}
 use Rattle.slotted_core.proofs.InUse.{found-is_full}
-use Rattle.slotted_core.proofs.Recorded.{records-more, records-from}
+use Rattle.slotted_core.proofs.EntryTexts.{records-more, records-from}
 use Rattle.slotted_core.proofs.KeptLists.{length-mapped, equation_at-of, entry_at-of, length-nodes_of, length-proofs_of, found_id-is}
-use Rattle.slotted_core.proofs.Large.{entries_are_large}
-use Rattle.slotted_core.proofs.Linked.{linked-nodes, linked-length, newer, newer-alike, newer-continues, entries_are, linked-good}
+use Rattle.slotted_core.proofs.LargeEquations.{entries_are_large}
+use Rattle.slotted_core.proofs.Links.{linked-nodes, linked-length, newer, newer-alike, newer-continues, entries_are, linked-good}
 
 -- what is explained leaves nodes and entries
 pub explains-nodes : (k l : Kept) → Explains k l → nodes_of l ≡ nodes_of k
