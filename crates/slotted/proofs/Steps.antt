@@ -19,7 +19,7 @@ use Rattle.slotted_model.specs.Classes.{term_of}
 use Rattle.slotted_model.specs.Growth.{Extends}
 use Rattle.slotted_model.specs.Ids.{id_of}
 use Rattle.slotted_core.specs.Places.{term_places}
-use Rattle.slotted_core.specs.Graph.{Graph, IsValidId}
+use Rattle.slotted_core.specs.Graph.{Graph, IsValidId, OnlyReads}
 use Rattle.slotted_core.specs.Image.{FoundAlike, AddsClasses, AreDerivable, IsUnion, IsNoUnion, HasLargeClass, asserted_in}
 use Rattle.slotted_core.specs.Nodes.{to_applied}
 use Rattle.slotted.specs.declared.answer.Answer.{Answer}
@@ -27,14 +27,14 @@ use Rattle.slotted.specs.declared.answer.Answer.TheVariants.{Yes, No, Refused}
 use Rattle.slotted.specs.Commands.{Command, compares, unites}
 use Rattle.slotted.specs.Sessions.{AddsBoth, Answered, FirstIsRefused, Gains, IsAnsweredWith, IsCommand, IsRefused, RunsOut, RunsOutAt, Says, Unites, WritesTerm, WritesTerms, are_different, are_equal, carried_out, has_failed, not_yet, ran_out, refused, refused_here, texts_of, union_ran_out}
 
-module _ (read : List Element → Option Form) (g h : Graph) (text : List ℕ) (image : h.image ≡ g.image) (kept : h.failed ≡ g.failed) (more : KnowsMore g.table h.table) where
+module _ (read : List Element → Option Form) (g h : Graph) (text : List ℕ) (only : OnlyReads g h) where
   -- a text that was read
   pub writes_term : (t : Term) → TextReads read g.table (chars text) (parsed t) h.table → WritesTerm read g text t h
-  writes_term t r = record { reads = r; only = record { image = image; failed = kept; more = more } }
+  writes_term t r = record { reads = r; only = only }
 
   -- a text that was refused
   pub is_refused : (e : Error) → Refuses (λ o. TextReads read g.table (chars text) o h.table) e → IsRefused read g text e h
-  is_refused e r = record { reads = r; only = record { image = image; failed = kept; more = more } }
+  is_refused e r = record { reads = r; only = only }
 
 -- a graph over which a text was read has not failed
 pub sound_graph : {A : Type 0} (b : Bool) (r : Result A Error) (x : A) → r ≡ Ok x → (IsTrue b → r ≡ Err Failed) → b ≡ false
@@ -43,11 +43,11 @@ sound_graph false r x is was = refl
 
 -- the first text of a command was refused
 pub first_is_refused : (read : List Element → Option Form) (g h : Graph) (c : Command) (text : List ℕ) (texts : List (List ℕ)) (e : Error) → IsCommand c → texts_of c ≡ text ∷ texts
-    → h.image ≡ g.image → h.failed ≡ g.failed → KnowsMore g.table h.table → (IsTrue g.failed → h ≡ g) → (IsTrue g.failed → e ≡ Failed)
+    → OnlyReads g h → (IsTrue g.failed → h ≡ g) → (IsTrue g.failed → e ≡ Failed)
     → (g.failed ≡ false → Refuses (λ o. TextReads read g.table (chars text) o h.table) e) → Answered read g h c (Refused e)
-first_is_refused read g h c text texts e command is image same more stays fails answer = elim (cases_Bool g.failed) [
+first_is_refused read g h c text texts e command is reads stays fails answer = elim (cases_Bool g.failed) [
   | inl failed ↦ subst (λ x. Answered read g h c (Refused x)) (sym (fails failed)) (has_failed command failed (stays failed))
-  | inr sound ↦ refused sound (subst (λ ts. FirstIsRefused read g ts e h) (sym is) (refused_here (is_refused read g h text image same more e (answer sound))))
+  | inr sound ↦ refused sound (subst (λ ts. FirstIsRefused read g ts e h) (sym is) (refused_here (is_refused read g h text reads e (answer sound))))
 ]
 
 not_true : (b : Bool) → ¬ (IsTrue b) → b ≡ false
@@ -68,8 +68,8 @@ runs_out g h t (Err x) e is sound was fails full only more =
     subst (λ y. RunsOut g t y h) same (record { failed = fails refl; shortage = short; cause = λ q. full (ap Err q); more = more })
 
 -- a command with two texts of which the first was refused
-pub both_refused : (read : List Element → Option Form) (g h : Graph) (left right : List ℕ) (e : Error) → h.image ≡ g.image → h.failed ≡ g.failed → KnowsMore g.table h.table → (IsTrue g.failed → h ≡ g) → (IsTrue g.failed → e ≡ Failed) → (g.failed ≡ false → Refuses (λ o. TextReads read g.table (chars left) o h.table) e) → IsAnsweredWith read g h left right e
-both_refused read g h left right e image same more stays fails answer c command texts = first_is_refused read g h c left (right ∷ []) e command texts image same more stays fails answer
+pub both_refused : (read : List Element → Option Form) (g h : Graph) (left right : List ℕ) (e : Error) → OnlyReads g h → (IsTrue g.failed → h ≡ g) → (IsTrue g.failed → e ≡ Failed) → (g.failed ≡ false → Refuses (λ o. TextReads read g.table (chars left) o h.table) e) → IsAnsweredWith read g h left right e
+both_refused read g h left right e reads stays fails answer c command texts = first_is_refused read g h c left (right ∷ []) e command texts reads stays fails answer
 
 -- one of which a later text was refused
 pub both_refused_later : (read : List Element → Option Form) (g h : Graph) (left right : List ℕ) (e : Error) → g.failed ≡ false → FirstIsRefused read g (left ∷ right ∷ []) e h → IsAnsweredWith read g h left right e

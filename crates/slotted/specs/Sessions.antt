@@ -19,7 +19,7 @@ use Rattle.slotted_model.specs.Growth.{Extends}
 use Rattle.slotted_model.specs.Ids.{id_of}
 use Rattle.slotted_core.specs.Image.{FoundAlike, AddsClasses, IsUnion, IsNoUnion, HasLargeClass, asserted_in}
 use Rattle.slotted_core.specs.Places.{term_places}
-use Rattle.slotted_core.specs.Graph.{Graph, IsValidId}
+use Rattle.slotted_core.specs.Graph.{Graph, IsValidId, OnlyReads}
 use Rattle.slotted.specs.declared.answer.Answer.{Answer}
 use Rattle.slotted.specs.declared.answer.Answer.TheVariants.{Done, Yes, No, United, WereEqual, Refused, NoCommand}
 use Rattle.slotted.specs.Commands.{Command, adds, compares, unites, no_command}
@@ -37,12 +37,6 @@ IsCommand (adds text) = Unit {0}
 IsCommand (compares left right) = Unit {0}
 IsCommand (unites left right) = Unit {0}
 IsCommand no_command = ⊥
-
--- from g to h nothing but the table changes, which keeps what it knew
-pub record OnlyReads (g h : Graph) : Type 0 where
-  pub image : h.image ≡ g.image
-  pub failed : h.failed ≡ g.failed
-  pub more : KnowsMore g.table h.table
 
 -- over g the text writes the term t, and reading it leaves h
 pub record WritesTerm (read : List Element → Option Form) (g : Graph) (text : List ℕ) (t : Term) (h : Graph) : Type 0 where

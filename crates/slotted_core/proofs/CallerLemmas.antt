@@ -9,7 +9,7 @@ use Rattle.slotted_model.specs.Applied.{Applied, values}
 use Rattle.slotted_model.specs.Classes.{IsFull}
 use Rattle.slotted_model.specs.Correspondence.{composite}
 use Rattle.slotted_model.specs.Growth.{Extends}
-use Rattle.slotted_core.specs.Graph.{Graph, IsValidId}
+use Rattle.slotted_core.specs.Graph.{Graph, IsValidId, OnlyReads, OnlyTakesSlots}
 use Rattle.slotted_core.specs.Image.{Image, FoundAlike, found_id, IsUnion}
 
 -- what a table knows it knows later
@@ -44,3 +44,22 @@ union_alike g h a b false u = same_found a ∙ (u.0 ∙ sym (same_found b))
 pub union_nodes : (g h : Image) (a b : Applied) (y : Bool) → IsUnion g h a b y → h.canonical ≡ g.canonical
 union_nodes g h a b true u = u.3
 union_nodes g h a b false u = u.3
+
+-- calls that change the table alone, one after another
+
+pub reads_twice : (f g h : Graph) → OnlyReads f g → OnlyReads g h → OnlyReads f h
+reads_twice f g h one two = record {
+  image = two.image ∙ one.image;
+  failed = two.failed ∙ one.failed;
+  more = λ s k. two.more s (one.more s k);
+}
+
+pub takes_twice : (f g h : Graph) → OnlyTakesSlots f g → OnlyTakesSlots g h → OnlyTakesSlots f h
+takes_twice f g h one two = record { reads = reads_twice f g h one.reads two.reads; names = two.names ∙ one.names }
+
+-- they leave each id valid
+pub id_read : (g h : Graph) (a : Applied) → OnlyReads g h → IsValidId g a → IsValidId h a
+id_read g h a reads v = record {
+  full = subst (λ (x : Image). IsFull x.canonical a) (sym reads.image) v.full;
+  known = λ k d l. reads.more _ (v.known k d l);
+}

@@ -4,7 +4,7 @@ use Rattle.std.specs.Coded.{Coded, code_by, coded×, coded_bool, coded_ℕ, code
 use Rattle.std.specs.Prelude.{refl}
 use Rattle.slotted_theory.specs.Nameless.{DTerm}
 use Rattle.slotted_theory.specs.Shape.{shape}
-use Rattle.slotted_slots.specs.Table.{Table, fresh_slot}
+use Rattle.slotted_slots.specs.Table.{Table, fresh_slot, KnowsMore}
 use Rattle.slotted_nodes.specs.Form.{Form, IsSmall}
 use Rattle.slotted_terms.specs.Valid.{AllKnown}
 use Rattle.slotted_model.specs.Applied.{Applied, values}
@@ -24,6 +24,17 @@ table_code = code_by (ℕ × List (List ℕ)) (coded× coded_ℕ (coded_list (co
 abbrev pub graph_code : Coded Graph
 graph_code =
     code_by (Bool × (Table × Image)) (coded× coded_bool (coded× table_code image_code)) (λ g. (g.failed, (g.table, g.image))) (λ p. record { failed = p.0; table = p.1.0; image = p.1.1 }) (λ _. refl)
+
+-- from g to h the table of slots alone changes, and it keeps what it knew
+pub record OnlyReads (g h : Graph) : Type 0 where
+  pub image : h.image ≡ g.image
+  pub failed : h.failed ≡ g.failed
+  pub more : KnowsMore g.table h.table
+
+-- the same, and the table keeps no new name: it makes fresh slots at most
+pub record OnlyTakesSlots (g h : Graph) : Type 0 where
+  pub reads : OnlyReads g h
+  pub names : h.table.names ≡ g.table.names
 
 -- a class of the graph, with different known names for exactly its slots
 pub record IsValidId (g : Graph) (a : Applied) : Type 0 where

@@ -16,7 +16,7 @@ ghost use Rattle.slotted_terms.specs.Parsed.{TextReads};
 ghost use Rattle.slotted_terms.specs.ReadAgain.{ReadsAsNodes};
 ghost use Rattle.slotted_terms.specs.Valid.{IsValidTerm};
 ghost use Rattle.slotted_core.specs.Image.{no_classes, FoundAlike, asserted_in, AreDerivable, AddsClasses, IsUnion, IsNoUnion, Records, HasLargeClass};
-ghost use Rattle.slotted_core.specs.Graph.{IsValidId, IsValidNode, HasNewClass};
+ghost use Rattle.slotted_core.specs.Graph.{IsValidId, IsValidNode, HasNewClass, OnlyReads};
 ghost use Rattle.slotted_core.specs.Nodes.{to_applied};
 ghost use Rattle.slotted_core.specs.Places.{term_places};
 ghost use Rattle.slotted_core.specs.SmallNodes.{HasSmallNodes};
@@ -213,9 +213,7 @@ impl<L: Language, N: Drop> EGraph<L, N> {
         ensures nodes { IfOk result (λ x. ReadsAsNodes L.form L.read self.old.table (chars text.now) x self.new.table) }
 
         // Only the table changes, and on a failed graph nothing does.
-        ensures image { self.new.image ≡ self.old.image }
-        ensures same { self.new.failed ≡ self.old.failed }
-        ensures more { KnowsMore self.old.table self.new.table }
+        ensures reads { OnlyReads self.old self.new }
         ensures stays { IsTrue self.old.failed → self.new ≡ self.old }
 
         ensures failed { IsErrOf result Error.Failed ↔ IsTrue self.old.failed }

@@ -1,10 +1,10 @@
 //! An entry of a graph's proof list as the explanation of its equation.
 ghost use Rattle.std.specs.Prelude.{◌≡◌, ◌⊎◌, ◌↔◌, ◌<◌, ◌^◌, ℕ, length, string_bytes, IsTrue, IfOk, IfErr, IsErrOf};
 ghost use Rattle.slotted_slots.specs.Error.{IsOutOfMemory, IsShortage};
-ghost use Rattle.slotted_slots.specs.Table.{KnowsMore};
 ghost use Rattle.slotted_proofs.specs.Entries.{proven_at, statement_at, step_of, text_of};
 ghost use Rattle.slotted_proofs.specs.Equations.{IsWritten};
 ghost use Rattle.slotted_core.specs.Canonical.{HasLargeNode};
+ghost use Rattle.slotted_core.specs.Graph.{OnlyTakesSlots};
 ghost use Rattle.slotted_explain.specs.Printed.{IsProofText};
 
 use crate::flat::{chain_text, flat_steps};
@@ -57,10 +57,7 @@ pub trait Explanation {
         ensures text { IfOk result (λ s. IsProofText L.written graph.old (number self) (string_bytes s)) }
 
         // Only fresh slots are made, and a refusal does not fail the graph.
-        ensures image { graph.new.image ≡ graph.old.image }
-        ensures same { graph.new.failed ≡ graph.old.failed }
-        ensures names { graph.new.table.names ≡ graph.old.table.names }
-        ensures more { KnowsMore graph.old.table graph.new.table }
+        ensures takes { OnlyTakesSlots graph.old graph.new }
 
         ensures failed { IsErrOf result Error.Failed ↔ IsTrue graph.old.failed }
         ensures full { IsErrOf result Error.OutOfSlots → (graph.new.table.fresh ≡ 2 ^ 30) ⊎ HasLargeNode graph.old.image.canonical }
@@ -80,10 +77,7 @@ pub trait Explanation {
         requires { IsTrue graph.old.failed ⊎ (number self < length graph.old.image.entries) }
 
         // Only fresh slots are made, and a refusal does not fail the graph.
-        ensures image { graph.new.image ≡ graph.old.image }
-        ensures same { graph.new.failed ≡ graph.old.failed }
-        ensures names { graph.new.table.names ≡ graph.old.table.names }
-        ensures more { KnowsMore graph.old.table graph.new.table }
+        ensures takes { OnlyTakesSlots graph.old graph.new }
 
         ensures failed { IsErrOf result Error.Failed ↔ IsTrue graph.old.failed }
         ensures full { IsErrOf result Error.OutOfSlots → (graph.new.table.fresh ≡ 2 ^ 30) ⊎ HasLargeNode graph.old.image.canonical }

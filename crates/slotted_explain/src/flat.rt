@@ -1,8 +1,8 @@
 //! A proof printed as a chain of whole terms.
 ghost use Rattle.std.specs.Prelude.{◌≡◌, ◌⊎◌, ◌↔◌, ◌<◌, ◌^◌, length, IsTrue, IfErr, IsErrOf};
 ghost use Rattle.slotted_slots.specs.Error.{IsOutOfMemory, IsShortage};
-ghost use Rattle.slotted_slots.specs.Table.{KnowsMore};
 ghost use Rattle.slotted_core.specs.Canonical.{HasLargeNode};
+ghost use Rattle.slotted_core.specs.Graph.{OnlyTakesSlots};
 
 use crate::flat_terms::{marked, matched_names, name_apart, replaced, slots_of, subterm};
 use slotted_core::EGraph;
@@ -117,10 +117,7 @@ pub(crate) fn chain_text<L: Printable, N: Drop>(
     steps: &[FlatStep],
 ) -> Result<String, Error>
     requires { p < length graph.old.image.stored }
-    ensures image { graph.new.image ≡ graph.old.image }
-    ensures same { graph.new.failed ≡ graph.old.failed }
-    ensures names { graph.new.table.names ≡ graph.old.table.names }
-    ensures more { KnowsMore graph.old.table graph.new.table }
+    ensures takes { OnlyTakesSlots graph.old graph.new }
     ensures full { IsErrOf result Error.OutOfSlots → (graph.new.table.fresh ≡ 2 ^ 30) ⊎ HasLargeNode graph.old.image.canonical }
     ensures only { IfErr result IsShortage }
 {
@@ -138,10 +135,7 @@ fn steps_text<L: Printable, N: Drop>(
     steps: &[FlatStep],
     mut head: RecExpr<L>,
 ) -> Result<String, Error>
-    ensures image { graph.new.image ≡ graph.old.image }
-    ensures same { graph.new.failed ≡ graph.old.failed }
-    ensures names { graph.new.table.names ≡ graph.old.table.names }
-    ensures more { KnowsMore graph.old.table graph.new.table }
+    ensures takes { OnlyTakesSlots graph.old graph.new }
     ensures full { IsErrOf result Error.OutOfSlots → (graph.new.table.fresh ≡ 2 ^ 30) ⊎ HasLargeNode graph.old.image.canonical }
     ensures only { IfErr result IsShortage }
 {
@@ -201,10 +195,7 @@ fn subterm_after<L: Printable, N: Drop>(
     step: &FlatStep,
     head: &RecExpr<L>,
 ) -> Result<Option<RecExpr<L>>, Error>
-    ensures image { graph.new.image ≡ graph.old.image }
-    ensures same { graph.new.failed ≡ graph.old.failed }
-    ensures names { graph.new.table.names ≡ graph.old.table.names }
-    ensures more { KnowsMore graph.old.table graph.new.table }
+    ensures takes { OnlyTakesSlots graph.old graph.new }
     ensures full { IsErrOf result Error.OutOfSlots → (graph.new.table.fresh ≡ 2 ^ 30) ⊎ HasLargeNode graph.old.image.canonical }
     ensures only { IfErr result IsShortage }
 {
@@ -235,10 +226,7 @@ fn names_at<L: Printable, N: Drop>(
     a: &AppliedId,
     at: &RecExpr<L>,
 ) -> Result<Option<SlotMap>, Error>
-    ensures image { graph.new.image ≡ graph.old.image }
-    ensures same { graph.new.failed ≡ graph.old.failed }
-    ensures names { graph.new.table.names ≡ graph.old.table.names }
-    ensures more { KnowsMore graph.old.table graph.new.table }
+    ensures takes { OnlyTakesSlots graph.old graph.new }
     ensures full { IsErrOf result Error.OutOfSlots → (graph.new.table.fresh ≡ 2 ^ 30) ⊎ HasLargeNode graph.old.image.canonical }
     ensures only { IfErr result IsShortage }
 {
@@ -262,10 +250,7 @@ fn renamed_term<L: Printable, N: Drop>(
     a: &AppliedId,
     names: &SlotMap,
 ) -> Result<Option<RecExpr<L>>, Error>
-    ensures image { graph.new.image ≡ graph.old.image }
-    ensures same { graph.new.failed ≡ graph.old.failed }
-    ensures names { graph.new.table.names ≡ graph.old.table.names }
-    ensures more { KnowsMore graph.old.table graph.new.table }
+    ensures takes { OnlyTakesSlots graph.old graph.new }
     ensures full { IsErrOf result Error.OutOfSlots → (graph.new.table.fresh ≡ 2 ^ 30) ⊎ HasLargeNode graph.old.image.canonical }
     ensures only { IfErr result IsShortage }
 {
@@ -282,10 +267,7 @@ fn canonical_term<L: Printable, N: Drop>(
     graph: &mut EGraph<L, N>,
     a: &AppliedId,
 ) -> Result<Option<RecExpr<L>>, Error>
-    ensures image { graph.new.image ≡ graph.old.image }
-    ensures same { graph.new.failed ≡ graph.old.failed }
-    ensures names { graph.new.table.names ≡ graph.old.table.names }
-    ensures more { KnowsMore graph.old.table graph.new.table }
+    ensures takes { OnlyTakesSlots graph.old graph.new }
     ensures full { IsErrOf result Error.OutOfSlots → (graph.new.table.fresh ≡ 2 ^ 30) ⊎ HasLargeNode graph.old.image.canonical }
     ensures only { IfErr result IsShortage }
 {

@@ -1,9 +1,8 @@
 //! A proof printed line by line.
 ghost use Rattle.std.specs.Prelude.{All, ◌≡◌, ◌⊎◌, ◌↔◌, ◌<◌, ◌++◌, ◌^◌, length, List, ℕ, string_bytes, IsTrue, IfOk, OnOk, IfErr, IsErrOf};
 ghost use Rattle.slotted_slots.specs.Error.{IsShortage};
-ghost use Rattle.slotted_slots.specs.Table.{KnowsMore};
 ghost use Rattle.slotted_core.specs.Canonical.{HasLargeNode};
-ghost use Rattle.slotted_core.specs.Graph.{IsValidId};
+ghost use Rattle.slotted_core.specs.Graph.{IsValidId, OnlyTakesSlots};
 ghost use Rattle.slotted_core.specs.Nodes.{to_applied};
 ghost use Rattle.slotted_explain.specs.Printed.{ArePrinted, IsLine, IsProofText, IsSideText};
 
@@ -24,10 +23,7 @@ pub(crate) fn lines_text<L: Printable, N: Drop>(
     requires well { ¬ IsTrue graph.old.failed }
     requires within { All (λ q. q < length graph.old.image.stored) lines.now }
     ensures text { IfOk result (λ s. ArePrinted L.written graph.old lines.now (length lines.now) (string_bytes s)) }
-    ensures image { graph.new.image ≡ graph.old.image }
-    ensures same { graph.new.failed ≡ graph.old.failed }
-    ensures names { graph.new.table.names ≡ graph.old.table.names }
-    ensures more { KnowsMore graph.old.table graph.new.table }
+    ensures takes { OnlyTakesSlots graph.old graph.new }
     ensures full { IsErrOf result Error.OutOfSlots → (graph.new.table.fresh ≡ 2 ^ 30) ⊎ HasLargeNode graph.old.image.canonical }
     ensures only { IfErr result IsShortage }
 {
@@ -52,10 +48,7 @@ fn push_line<L: Printable, N: Drop>(
     requires well { ¬ IsTrue graph.old.failed }
     requires within { p < length graph.old.image.stored }
     ensures line { OnOk result ((bs : List ℕ) × IsLine L.written graph.old lines.now i p bs × (string_bytes text.new ≡ string_bytes text.old ++ bs)) }
-    ensures image { graph.new.image ≡ graph.old.image }
-    ensures same { graph.new.failed ≡ graph.old.failed }
-    ensures names { graph.new.table.names ≡ graph.old.table.names }
-    ensures more { KnowsMore graph.old.table graph.new.table }
+    ensures takes { OnlyTakesSlots graph.old graph.new }
     ensures full { IsErrOf result Error.OutOfSlots → (graph.new.table.fresh ≡ 2 ^ 30) ⊎ HasLargeNode graph.old.image.canonical }
     ensures only { IfErr result IsShortage }
 {
@@ -76,10 +69,7 @@ fn side_text<L: Printable, N: Drop>(
     requires well { ¬ IsTrue graph.old.failed }
     requires valid { IsValidId graph.old (to_applied a.now) }
     ensures text { IfOk result (λ s. IsSideText L.written graph.old (to_applied a.now) (string_bytes s)) }
-    ensures image { graph.new.image ≡ graph.old.image }
-    ensures same { graph.new.failed ≡ graph.old.failed }
-    ensures names { graph.new.table.names ≡ graph.old.table.names }
-    ensures more { KnowsMore graph.old.table graph.new.table }
+    ensures takes { OnlyTakesSlots graph.old graph.new }
     ensures full { IsErrOf result Error.OutOfSlots → (graph.new.table.fresh ≡ 2 ^ 30) ⊎ HasLargeNode graph.old.image.canonical }
     ensures only { IfErr result IsShortage }
 {

@@ -3,14 +3,13 @@ ghost use Rattle.std.specs.Prelude.{◌≡◌, ◌⊎◌, ◌↔◌, ◌<◌, �
 ghost use Rattle.slotted_theory.specs.FiniteMaps.{filled};
 ghost use Rattle.slotted_theory.specs.Nameless.{nameless, moved};
 ghost use Rattle.slotted_slots.specs.Error.{IsShortage};
-ghost use Rattle.slotted_slots.specs.Table.{KnowsMore};
 ghost use Rattle.slotted_languages.specs.NodeTerm.{nameless_node};
 ghost use Rattle.slotted_model.specs.Classes.{canonical_node, term_of};
 ghost use Rattle.slotted_proofs.specs.Entries.{entries_of};
 ghost use Rattle.slotted_proofs.specs.Lines.{PartsAreEarlier};
 ghost use Rattle.slotted_proofs.specs.Proving.{IsProved};
 ghost use Rattle.slotted_core.specs.Canonical.{HasLargeNode};
-ghost use Rattle.slotted_core.specs.Graph.{IsValidId};
+ghost use Rattle.slotted_core.specs.Graph.{IsValidId, OnlyTakesSlots};
 ghost use Rattle.slotted_core.specs.Leaves.{EntriesFollow};
 ghost use Rattle.slotted_core.specs.Nodes.{to_applied};
 
@@ -28,10 +27,7 @@ impl<L: Language, N: Drop> EGraph<L, N> {
         ensures node { IfOk result (λ n. nameless_node (L.form n) ≡ moved (filled a.now.m) (canonical_node self.old.image.canonical a.now.id.0)) }
 
         // Only fresh slots are made, and a refusal does not fail the graph.
-        ensures image { self.new.image ≡ self.old.image }
-        ensures same { self.new.failed ≡ self.old.failed }
-        ensures names { self.new.table.names ≡ self.old.table.names }
-        ensures more { KnowsMore self.old.table self.new.table }
+        ensures takes { OnlyTakesSlots self.old self.new }
         ensures stays { IsTrue self.old.failed → self.new ≡ self.old }
 
         ensures failed { IsErrOf result Error.Failed ↔ IsTrue self.old.failed }
@@ -51,10 +47,7 @@ impl<L: Language, N: Drop> EGraph<L, N> {
         ensures term { IfOk result (λ t. nameless t ≡ term_of self.old.image.canonical (to_applied a.now)) }
 
         // Only fresh slots are made, and a refusal does not fail the graph.
-        ensures image { self.new.image ≡ self.old.image }
-        ensures same { self.new.failed ≡ self.old.failed }
-        ensures names { self.new.table.names ≡ self.old.table.names }
-        ensures more { KnowsMore self.old.table self.new.table }
+        ensures takes { OnlyTakesSlots self.old self.new }
         ensures stays { IsTrue self.old.failed → self.new ≡ self.old }
 
         ensures failed { IsErrOf result Error.Failed ↔ IsTrue self.old.failed }

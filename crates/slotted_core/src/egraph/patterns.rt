@@ -1,11 +1,11 @@
 //! Patterns over the graph's table of slots.
 ghost use Rattle.std.specs.Prelude.{◌≡◌, ◌↔◌, false, IsTrue, IfOk, IsErrOf};
 ghost use Rattle.std.specs.Str.{chars};
-ghost use Rattle.slotted_slots.specs.Table.{KnowsMore};
 ghost use Rattle.slotted_patterns.specs.Known.{HasKnownNames};
 ghost use Rattle.slotted_patterns.specs.Outcome.{Answers};
 ghost use Rattle.slotted_patterns.specs.Parsed.{PatternReads};
 ghost use Rattle.slotted_patterns.specs.View.{tree_of};
+ghost use Rattle.slotted_core.specs.Graph.{OnlyReads};
 
 use super::EGraph;
 use slotted_languages::Language;
@@ -21,9 +21,7 @@ impl<L: Language, N: Drop> EGraph<L, N> {
         ensures known { IfOk result (λ p. HasKnownNames self.new.table (tree_of L.form p)) }
 
         // Only the table changes, and on a failed graph nothing does.
-        ensures image { self.new.image ≡ self.old.image }
-        ensures same { self.new.failed ≡ self.old.failed }
-        ensures more { KnowsMore self.old.table self.new.table }
+        ensures reads { OnlyReads self.old self.new }
         ensures stays { IsTrue self.old.failed → self.new ≡ self.old }
 
         ensures failed { IsErrOf result Error.Failed ↔ IsTrue self.old.failed }

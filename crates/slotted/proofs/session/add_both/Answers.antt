@@ -11,7 +11,7 @@ pub returns-in_err-one-clause-err : goal.returns-in_err-one-clause-err
 returns-in_err-one-clause-err g c =
     let at = c.in_err-one.ensures in
     let p = err_from_is_err_and c.from_residual.result c.from_residual.ensures.1 in
-    rw (p.1, p.2) (both_refused g.L.LanguageChildren.read c.args.graph.now c.parse_expr.new.self c.args.left.now c.args.right.now c.in_err-one.field-0.0 at.image at.same at.more at.stays (λ failed. cc (at.failed.1 failed)) at.answer)
+    rw (p.1, p.2) (both_refused g.L.LanguageChildren.read c.args.graph.now c.parse_expr.new.self c.args.left.now c.args.right.now c.in_err-one.field-0.0 at.reads at.stays (λ failed. cc (at.failed.1 failed)) at.answer)
 
 pub returns-in_err-two-clause-err : goal.returns-in_err-two-clause-err
 returns-in_err-two-clause-err g c =
@@ -19,24 +19,24 @@ returns-in_err-two-clause-err g c =
     let one = c.in_ok-one.ensures in
     let at = c.in_err-two.ensures in
     let p = err_from_is_err_and c.from_residual-in_err-two.result c.from_residual-in_err-two.ensures.1 in
-    let writes_one = writes_term g.L.LanguageChildren.read c.args.graph.now c.parse_expr.new.self c.args.left.now one.image one.same one.more c.in_ok-one.one (one.answer sound) in
+    let writes_one = writes_term g.L.LanguageChildren.read c.args.graph.now c.parse_expr.new.self c.args.left.now one.reads c.in_ok-one.one (one.answer sound) in
     rw (p.1, p.2) (both_refused_later g.L.LanguageChildren.read c.args.graph.now c.parse_expr-2.new.self c.args.left.now c.args.right.now c.in_err-two.field-0.0 sound
-    (refused_later writes_one (refused_here (is_refused g.L.LanguageChildren.read c.parse_expr.new.self c.parse_expr-2.new.self c.args.right.now at.image at.same at.more _ (at.answer (one.same ∙ sound))))))
+    (refused_later writes_one (refused_here (is_refused g.L.LanguageChildren.read c.parse_expr.new.self c.parse_expr-2.new.self c.args.right.now at.reads _ (at.answer (one.reads.failed ∙ sound))))))
 
 pub add_expr-requires : goal.add_expr-requires
-add_expr-requires g c = inr (term_later c.parse_expr.new.self.table c.parse_expr-2.new.self.table c.in_ok-two.ensures.more c.in_ok-one.one c.in_ok-one.ensures.valid)
+add_expr-requires g c = inr (term_later c.parse_expr.new.self.table c.parse_expr-2.new.self.table c.in_ok-two.ensures.reads.more c.in_ok-one.one c.in_ok-one.ensures.valid)
 
 pub returns-in_err-left-clause-err : goal.returns-in_err-left-clause-err
 returns-in_err-left-clause-err g c =
     let sound = sound_graph c.args.graph.now.failed (Ok c.in_ok-one.one) c.in_ok-one.one refl c.in_ok-one.ensures.failed.1 in
     let one = c.in_ok-one.ensures in
     let two = c.in_ok-two.ensures in
-    let writes_one = writes_term g.L.LanguageChildren.read c.args.graph.now c.parse_expr.new.self c.args.left.now one.image one.same one.more c.in_ok-one.one (one.answer sound) in
-    let writes_two = writes_term g.L.LanguageChildren.read c.parse_expr.new.self c.parse_expr-2.new.self c.args.right.now two.image two.same two.more c.in_ok-two.two (two.answer (one.same ∙ sound)) in
+    let writes_one = writes_term g.L.LanguageChildren.read c.args.graph.now c.parse_expr.new.self c.args.left.now one.reads c.in_ok-one.one (one.answer sound) in
+    let writes_two = writes_term g.L.LanguageChildren.read c.parse_expr.new.self c.parse_expr-2.new.self c.args.right.now two.reads c.in_ok-two.two (two.answer (one.reads.failed ∙ sound)) in
     let writes = next_text writes_one (next_text writes_two no_text) in
     let e = c.in_err-left.ensures in
     let p = err_from_is_err_and c.from_residual-in_err-left.result c.from_residual-in_err-left.ensures.1 in
-    let short = runs_out c.parse_expr-2.new.self c.add_expr.new.self c.in_ok-one.one (Err c.in_err-left.field-0.0) c.in_err-left.field-0.0 refl (two.same ∙ (one.same ∙ sound)) e.failed.0 e.fails.1 e.full e.only e.more in
+    let short = runs_out c.parse_expr-2.new.self c.add_expr.new.self c.in_ok-one.one (Err c.in_err-left.field-0.0) c.in_err-left.field-0.0 refl (two.reads.failed ∙ (one.reads.failed ∙ sound)) e.failed.0 e.fails.1 e.full e.only e.more in
     rw (p.1, p.2) (both_run_out g.L.LanguageChildren.read c.args.graph.now c.parse_expr-2.new.self c.add_expr.new.self c.args.left.now c.args.right.now c.in_err-left.field-0.0 c.in_ok-one.one c.in_ok-two.two sound writes (runs_out_here short))
 
 pub add_expr-requires-2 : goal.add_expr-requires-2
@@ -47,8 +47,8 @@ returns-in_err-right-clause-err g c =
     let sound = sound_graph c.args.graph.now.failed (Ok c.in_ok-one.one) c.in_ok-one.one refl c.in_ok-one.ensures.failed.1 in
     let one = c.in_ok-one.ensures in
     let two = c.in_ok-two.ensures in
-    let writes_one = writes_term g.L.LanguageChildren.read c.args.graph.now c.parse_expr.new.self c.args.left.now one.image one.same one.more c.in_ok-one.one (one.answer sound) in
-    let writes_two = writes_term g.L.LanguageChildren.read c.parse_expr.new.self c.parse_expr-2.new.self c.args.right.now two.image two.same two.more c.in_ok-two.two (two.answer (one.same ∙ sound)) in
+    let writes_one = writes_term g.L.LanguageChildren.read c.args.graph.now c.parse_expr.new.self c.args.left.now one.reads c.in_ok-one.one (one.answer sound) in
+    let writes_two = writes_term g.L.LanguageChildren.read c.parse_expr.new.self c.parse_expr-2.new.self c.args.right.now two.reads c.in_ok-two.two (two.answer (one.reads.failed ∙ sound)) in
     let writes = next_text writes_one (next_text writes_two no_text) in
     let left = c.in_ok-left.ensures in
     let gains_one = gains c.parse_expr-2.new.self c.add_expr.new.self c.in_ok-one.one c.in_ok-left.left left.fails.0 left.valid left.term left.found left.extends left.adds left.more in
@@ -62,8 +62,8 @@ returns-clause-ok g c =
     let sound = sound_graph c.args.graph.now.failed (Ok c.in_ok-one.one) c.in_ok-one.one refl c.in_ok-one.ensures.failed.1 in
     let one = c.in_ok-one.ensures in
     let two = c.in_ok-two.ensures in
-    let writes_one = writes_term g.L.LanguageChildren.read c.args.graph.now c.parse_expr.new.self c.args.left.now one.image one.same one.more c.in_ok-one.one (one.answer sound) in
-    let writes_two = writes_term g.L.LanguageChildren.read c.parse_expr.new.self c.parse_expr-2.new.self c.args.right.now two.image two.same two.more c.in_ok-two.two (two.answer (one.same ∙ sound)) in
+    let writes_one = writes_term g.L.LanguageChildren.read c.args.graph.now c.parse_expr.new.self c.args.left.now one.reads c.in_ok-one.one (one.answer sound) in
+    let writes_two = writes_term g.L.LanguageChildren.read c.parse_expr.new.self c.parse_expr-2.new.self c.args.right.now two.reads c.in_ok-two.two (two.answer (one.reads.failed ∙ sound)) in
     let writes = next_text writes_one (next_text writes_two no_text) in
     let left = c.in_ok-left.ensures in
     let gains_one = gains c.parse_expr-2.new.self c.add_expr.new.self c.in_ok-one.one c.in_ok-left.left left.fails.0 left.valid left.term left.found left.extends left.adds left.more in

@@ -13,7 +13,7 @@ yes_if h a b (Ok answer) e f = e.1 f
 yes_if h a b (Err error) e f = tt
 
 pub add_expr-requires : goal.add_expr-requires
-add_expr-requires g c = inr (term_later c.parse_expr.new.self.table c.parse_expr-2.new.self.table c.in_ok-right.ensures.more c.in_ok-left.left c.in_ok-left.ensures.valid)
+add_expr-requires g c = inr (term_later c.parse_expr.new.self.table c.parse_expr-2.new.self.table c.in_ok-right.ensures.reads.more c.in_ok-left.left c.in_ok-left.ensures.valid)
 
 pub add_expr-requires-2 : goal.add_expr-requires-2
 add_expr-requires-2 g c = inr (term_later c.parse_expr-2.new.self.table c.add_expr.new.self.table c.in_ok-left-2.ensures.more c.in_ok-right.right c.in_ok-right.ensures.valid)

@@ -7,5 +7,5 @@ use Rattle.slotted_explain.proofs.flat.steps_text.Goals as goal
 pub returns-in_err-term-clause-full : goal.returns-in_err-term-clause-full
 returns-in_err-term-clause-full g c e = elim (c.in_err-term.ensures.full (search rules)) [
   | inl a ↦ inl a
-  | inr b ↦ inr (subst (λ (x : Image). HasLargeNode x.canonical) c.loop-step.invariant.image b)
+  | inr b ↦ inr (subst (λ (x : Image). HasLargeNode x.canonical) c.loop-step.invariant.reads.image b)
 ]

@@ -1,23 +1,22 @@
 -- Each turn prints one line more.
 use Rattle.std.proofs.Common.{◌<◌, ◌∙◌, length, ap, sym, subst, arith, rules, inl, inr, string_bytes}
-use Rattle.std.specs.Prelude.{IsTrue}
-use Rattle.slotted_slots.specs.Table.{is_known}
 use Rattle.slotted_core.specs.Canonical.{HasLargeNode}
-use Rattle.slotted_core.specs.Graph.{Graph}
+use Rattle.slotted_core.specs.Graph.{OnlyTakesSlots}
 use Rattle.slotted_core.specs.Image.{Image}
+use Rattle.slotted_core.proofs.CallerLemmas.{takes_twice}
 use Rattle.slotted_explain.proofs.PrintedLines.{at_line, one_more, line_in, none_there}
 use Rattle.slotted_explain.proofs.print.lines_text.Goals.{in-Some+in_ok-push_line, in_default}
 use Rattle.slotted_explain.proofs.print.lines_text.Goals as goal
 
 pub push_line-requires-clause-well : goal.push_line-requires-clause-well
-push_line-requires-clause-well g c h = c.requires.well (sym c.loop-i.invariant.same ∙ h)
+push_line-requires-clause-well g c h = c.requires.well (sym c.loop-i.invariant.takes.reads.failed ∙ h)
 
 pub push_line-requires-clause-within : goal.push_line-requires-clause-within
 push_line-requires-clause-within g c =
     let lt : c.loop-i.i < length c.args.lines.now = omega (arith, c.loop-i-test.true, c.len-i-end.ensures) in
     let is = at_line c.args.lines.now c.loop-i.i c.in-Some.entry lt (sym c.get.ensures ∙ c.in-Some.is) in
     let below = c.requires.within c.loop-i.i 0 lt in
-    omega (arith, below, is, ap (λ (x : Image). length x.stored) c.loop-i.invariant.image)
+    omega (arith, below, is, ap (λ (x : Image). length x.stored) c.loop-i.invariant.takes.reads.image)
 
 pub loop-i-preserved : goal.loop-i-preserved
 loop-i-preserved g c =
@@ -29,13 +28,10 @@ loop-i-preserved g c =
           let done = w.in_ok-push_line.ensures in
           let entry = w.in-Some.entry in
           let is = at_line lines c.loop-i.i entry lt (sym c.get.ensures ∙ w.in-Some.is) in
-          let line = line_in g.L.Printable.written c.args.graph.now c.loop-i.graph lines c.loop-i.i entry done.line.0 inv.image inv.names done.line.1 in
+          let line = line_in g.L.Printable.written c.args.graph.now c.loop-i.graph lines c.loop-i.i entry done.line.0 inv.takes.reads.image inv.takes.names done.line.1 in
           record {
             printed = one_more g.L.Printable.written c.args.graph.now lines c.loop-i.i entry (string_bytes c.loop-i.text) done.line.0 (string_bytes c.match-get.text) is inv.printed line (ap string_bytes w.text-is ∙ done.line.2);
-            image = ap (λ (x : Graph). x.image) w.graph-is ∙ (done.image ∙ inv.image);
-            same = ap (λ (x : Graph). x.failed) w.graph-is ∙ (done.same ∙ inv.same);
-            names = ap (λ (x : Graph). x.table.names) w.graph-is ∙ (done.names ∙ inv.names);
-            more = λ s k. subst (λ (x : Graph). IsTrue (is_known x.table s)) (sym w.graph-is) (done.more s (inv.more s k));
+            takes = subst (OnlyTakesSlots c.args.graph.now) (sym w.graph-is) (takes_twice c.args.graph.now c.loop-i.graph _ inv.takes done.takes);
           }
       | in_default w ↦ absurd (none_there lines c.loop-i.i lt (sym c.get.ensures ∙ w.in_default.is))
     ]
@@ -43,5 +39,5 @@ loop-i-preserved g c =
 pub returns-in_err-push_line-clause-full : goal.returns-in_err-push_line-clause-full
 returns-in_err-push_line-clause-full g c e = elim (c.in_err-push_line.ensures.full (search rules)) [
   | inl a ↦ inl a
-  | inr b ↦ inr (subst (λ (x : Image). HasLargeNode x.canonical) c.loop-i.invariant.image b)
+  | inr b ↦ inr (subst (λ (x : Image). HasLargeNode x.canonical) c.loop-i.invariant.takes.reads.image b)
 ]

@@ -29,7 +29,7 @@ pub side_text-requires-2-clause-valid : goal.side_text-requires-2-clause-valid
 side_text-requires-2-clause-valid g c =
     let graph = c.args.graph.now in
     let later = c.side_text.new.graph in
-    let image = c.in_ok-left.ensures.image in
+    let image = c.in_ok-left.ensures.takes.reads.image in
     let proved : IsProved graph.image.canonical graph.image.stored = elim c.proofs.ensures.proved [
       | inl h ↦ absurd (c.requires.well h)
       | inr h ↦ h
@@ -49,7 +49,7 @@ returns-clause-line g c =
     subst (λ (ps : List Proven). IsWritten (statement_at ps p) e) c.proofs.ensures.list (subst (IsWritten (statement_at c.proofs.result.now p)) (sym c.in_ok-equation.ensures.ok) c.equ.ensures) in
     let one = c.in_ok-left.ensures in
     let two = c.in_ok-right.ensures in
-    let stored : c.proofs-2.result.now ≡ graph.image.stored = c.proofs-2.ensures.list ∙ ap (λ (x : Image). x.stored) (two.image ∙ one.image) in
+    let stored : c.proofs-2.result.now ≡ graph.image.stored = c.proofs-2.ensures.list ∙ ap (λ (x : Image). x.stored) (two.takes.reads.image ∙ one.takes.reads.image) in
     let bytes = string_bytes c.in_ok-reason.reason in
     let step : step_of c.proof.result.now ≡ (proven_at graph.image.stored p).step = c.proof.ensures.step ∙ ap (λ (ps : List Proven). (proven_at ps p).step) stored in
     let text : text_of c.proof.result.now ≡ (proven_at graph.image.stored p).text = c.proof.ensures.text ∙ ap (λ (ps : List Proven). (proven_at ps p).text) stored in
@@ -66,8 +66,8 @@ returns-clause-line g c =
       right_is = record {
         term = two.text.term;
         table = two.text.table;
-        is = two.text.is ∙ ap (λ (x : Image). term_of x.canonical (to_applied e.r)) one.image;
-        names = two.text.names ∙ one.names;
+        is = two.text.is ∙ ap (λ (x : Image). term_of x.canonical (to_applied e.r)) one.takes.reads.image;
+        names = two.text.names ∙ one.takes.names;
         bytes = two.text.bytes;
       };
       reason = bytes;
