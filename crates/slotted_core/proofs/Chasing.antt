@@ -109,9 +109,6 @@ module _ (k : Kept) (good : Good k) where
   pub class-next : (i : ℕ) → i < length k.classes → find_class found i ≡ find_class found (find_at k i).class
   class-next i l = find_class-follows nodes found (leads nodes found linked) i (in_nodes i l) ∙ ap (λ (x : Entry). find_class found x.class) (entry_at-of k i)
 
-  pub class-within : (i : ℕ) → i < length k.classes → find_class found i < length k.classes
-  class-within i l = of_nodes (find_class found i) (found-in_range nodes found (leads nodes found linked) i (in_nodes i l))
-
   pub class-lives : (i : ℕ) → i < length k.classes → IsLive found (find_class found i)
   class-lives i l = found-live nodes found (leads nodes found linked) i (in_nodes i l)
 

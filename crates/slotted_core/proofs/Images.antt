@@ -18,7 +18,3 @@ adds-then g h i x p q = record {
   asserted = q.asserted ∙ p.asserted;
   finds = λ a full. q.finds a (x.full a full) ∙ p.finds a full;
 }
-
--- what is only added to goes on
-pub adds-continues : (g h : Image) → AddsClasses g h → Continues g h
-adds-continues g h p = record { more = p.more; entries = p.entries; alike = λ a b fa fb e. p.finds a fa ∙ (e ∙ sym (p.finds b fb)) }

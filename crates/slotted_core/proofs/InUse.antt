@@ -79,13 +79,6 @@ module _ (nodes : List DTerm) (found : List Entry) (linked : Linked nodes found)
       let n : composite (find_map found a.0) a.1 ≡ a.1 = ap (λ A. composite A a.1) m ∙ identity-composite P (values a.1) a.1 (full-partial P (values a.1) a.1 (full_map nodes a full) (λ s x d. Contains-value a.1 s x d)) in
       λ i. (find_class-live nodes found (leads nodes found linked) a.0 full.in_range l i, n i)
 
-  -- the find map of a class is what its own slots find
-  pub identity-finds : (i : ℕ) → i < length nodes → find found (identity_id nodes i) ≡ (find_class found i, find_map found i)
-  identity-finds i h =
-      let e : composite (find_map found i) (identity (canonical_slots nodes i)) ≡ find_map found i =
-      composite-identity (canonical_slots nodes (find_class found i)) (canonical_slots nodes i) (find_map found i) (find_map-partial nodes found (leads nodes found linked) i h) in
-      λ k. (find_class found i, e k)
-
 -- a link by an equation that pairs all slots of the left class
 module _ (nodes : List DTerm) (found : List Entry) (linked : Linked nodes found) (all : AllInUse nodes found) (e : Equation) (proof moment : ℕ) (can : CanLink nodes found e) (whole : (s : ℕ) → Contains (used_slots found e.left) s → Contains (keys_of e.pairs) s) where
   abbrev P : List ℕ

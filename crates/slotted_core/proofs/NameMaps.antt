@@ -148,9 +148,6 @@ same_ascending (x ∷ xs) (y ∷ ys) a b n h = elim (h x (inl refl)) [
 pub keys_are : (ss : List ℕ) (m : List (ℕ × ℕ)) → slots.IsAscending ss → slots.IsAscending (keys m) → length ss ≡ length (keys m) → ((k d : ℕ) → k < length ss → IsSome (value_of m (slice_index_or ss k d))) → keys m ≡ ss
 keys_are ss m a b n h = sym (same_ascending ss (keys m) a b n (λ z i. key-In m z (at_In (λ x. IsSome (value_of m x)) ss h z i)))
 
-pub keys_have : (ss : List ℕ) (m : List (ℕ × ℕ)) → keys m ≡ ss → (k d : ℕ) → k < length ss → IsSome (value_of m (slice_index_or ss k d))
-keys_have ss m e k d l = In-key m (slice_index_or ss k d) (subst (In (slice_index_or ss k d)) (sym e) (In-at ss k d l))
-
 -- the two words for lists that rise
 
 below_above : (x : ℕ) (ys : List ℕ) → model.IsBelowAll x ys → slots.AllAbove x ys

@@ -108,9 +108,3 @@ entries_again list ids bs cs ds parts m n hc hd h =
 pub congruent_again : (k : Kept) (e : Sides) (f g : Form) (left : nameless_node f ≡ moved (filled e.l.m) (canonical_node (nodes_of k) e.l.id.0)) (right : nameless_node g ≡ moved (filled e.r.m) (canonical_node (nodes_of k) e.r.id.0)) (cs : List Sides) (parts : List ℕ) → AreAlikeForms f g cs → All HasInjectiveSides cs → IsCongruentIn k e parts → AreEntries k.proofs parts cs
 congruent_again k e f g left right cs parts h once s =
     entries_again k.proofs (ids_under [] f.tree f.names) (ids_under [] g.tree g.names) cs s.children parts (forms_twins f g cs h).1 (forms_twins f g s.children (alike_forms k e f g left right s.children s.alike)).1 once s.injective s.entries
-
-pub congruent_none : (k : Kept) (e : Sides) (f g : Form) (left : nameless_node f ≡ moved (filled e.l.m) (canonical_node (nodes_of k) e.l.id.0)) (right : nameless_node g ≡ moved (filled e.r.m) (canonical_node (nodes_of k) e.r.id.0)) (parts : List ℕ) → ((cs : List Sides) → All HasInjectiveSides cs → ¬ AreAlikeForms f g cs) → ¬ IsCongruentIn k e parts
-congruent_none k e f g left right parts n s = n s.children s.injective (alike_forms k e f g left right s.children s.alike)
-
-pub congruent_in : (k : Kept) (e : Sides) (f g : Form) (left : nameless_node f ≡ moved (filled e.l.m) (canonical_node (nodes_of k) e.l.id.0)) (right : nameless_node g ≡ moved (filled e.r.m) (canonical_node (nodes_of k) e.r.id.0)) (cs : List Sides) (parts : List ℕ) → AreAlikeForms f g cs → All HasInjectiveSides cs → AreEntries k.proofs parts cs → IsCongruentIn k e parts
-congruent_in k e f g left right cs parts h once s = record { children = cs; injective = once; alike = alike_nodes k e f g left right cs h; entries = s }

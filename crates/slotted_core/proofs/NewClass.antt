@@ -11,10 +11,6 @@ use Rattle.slotted_model.proofs.NormalIds.{full-is_valid}
 use Rattle.slotted_model.proofs.NewClasses.{find-same}
 
 module _ (older newer : List DTerm) (x : Extends older newer) (one : length newer ≡ suc (length older)) (found : List Entry) (linked : Linked older found) (proof : ℕ) where
-  -- an id of an old class that is full now was full before
-  pub full-before : (a : Applied) → a.0 < length older → IsFull newer a → IsFull older a
-  full-before a h full = record { in_range = h; slots = full.slots ∙ ap names (x.classes a.0 h).1; injective = full.injective }
-
   -- full ids find what they found
   pub full-finds : (a : Applied) → IsFull older a → find (with_new_entry newer found proof) a ≡ find found a
   full-finds a full = find-same older newer x one found linked proof a (full-is_valid older found linked a full)

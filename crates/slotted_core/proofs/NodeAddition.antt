@@ -191,9 +191,6 @@ module _ (t u : Table) (k : Kept) (good : Good k) (over : HasFreshSlots t k) (f 
   slots_at : (i : ℕ) → i < length l.classes → canonical_slots (nodes_of l) i ≡ names (nameless_node (node_at l i))
   slots_at i h = ap names (canonical_node-in l.classes i h)
 
-  slots_old : (i : ℕ) → i < length k.classes → canonical_slots (nodes_of l) i ≡ canonical_slots g i
-  slots_old i h = ap (λ (x : List DTerm). canonical_slots x i) nodes_are ∙ ap names (node-old g d i (omega (arith, h, length-classes k)))
-
   slots_last : canonical_slots (nodes_of l) n ≡ names d
   slots_last =
       ap (λ (x : List DTerm). canonical_slots x n) nodes_are

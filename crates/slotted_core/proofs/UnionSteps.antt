@@ -565,7 +565,3 @@ module _ (k : Kept) (good : Good k) (a b : Applied) (fa : IsFull (nodes_of k) a)
     λ d. subst (λ (y : Applied). Contains (values y.1) z) right-found ((c.names z).0 (subst (λ (y : Applied). Contains (values y.1) z) (sym left-found) d)),
     λ d. subst (λ (y : Applied). Contains (values y.1) z) left-found ((c.names z).1 (subst (λ (y : Applied). Contains (values y.1) z) (sym right-found) d)),
   )
-
--- a link unites the ids in either order
-pub links-turned : (k l : Kept) (x : Proven) (a b : Applied) → Links k l x a b → Links k l x b a
-links-turned k l x a b h = record { good = h.good; nodes = h.nodes; continues = h.continues; alike = sym h.alike; asserts = h.asserts; records = h.records }

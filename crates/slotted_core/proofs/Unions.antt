@@ -10,10 +10,6 @@ use Rattle.slotted_core.specs.Image.{IsUnion}
 use Rattle.slotted_core.specs.Kept.{Kept, nodes_of, image_of, Good, HasFreshSlots, Unites}
 use Rattle.slotted_core.proofs.KeptLists.{length-nodes_of}
 
-pub is_union : (k l : Kept) (a b : Applied) (text : Option (List ℕ)) (y : Bool) → Unites k l (asserted_entry a b text) a b (Some y) → IsUnion (image_of k) (image_of l) a b y
-is_union k l a b text true u = (u.0, u.1.alike, u.1.asserts, u.1.nodes, u.1.continues)
-is_union k l a b text false u = (u.0, u.1.finds, u.1.asserts, u.1.nodes, u.1.continues)
-
 pub unites-good : (k l : Kept) (a b : Applied) (text : Option (List ℕ)) (o : Option Bool) → Good k → Unites k l (asserted_entry a b text) a b o → Good l
 unites-good k l a b text None good u = subst Good (sym u.2) good
 unites-good k l a b text (Some true) good u = u.1.good

@@ -1,14 +1,7 @@
-//! A first call from a crate of one's own: two texts are added, united and asked.
-#![tactic(auto)]
-
+//! A first caller: two texts are added, united and asked.
 ghost use Rattle.std.specs.Prelude.{IsTrue, IfOk};
 
-#[cfg(test)]
-mod tests;
-
-use slotted_core::EGraph;
-use slotted_languages::Language;
-use slotted_slots::Error;
+use crate::{EGraph, Error, Language};
 
 /// Adds the terms of two texts, unites them and asks whether they are equal. Where there is an answer it is yes, and this is
 /// proved.

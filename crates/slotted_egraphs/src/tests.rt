@@ -1,7 +1,5 @@
-use super::unite_and_ask;
-use slotted_core::EGraph;
-use slotted_languages::Small;
-use slotted_slots::{Error, SlotTable};
+use crate::example::unite_and_ask;
+use crate::{EGraph, Error, Small, SlotTable};
 
 #[test]
 fn two_nodes_over_the_same_names_are_united(rt: HostRuntime) -> Result<(), Error> {

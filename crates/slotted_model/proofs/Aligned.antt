@@ -100,9 +100,6 @@ module _ (g : State) (sane : Sane g) (y : Symmetry) (l : IsListed g y) (live : I
   own : (s : ℕ) → Contains S s → Contains φ (s, s)
   own s c = subst (λ m. Contains m (s, s)) (sym itself) (identity-by S s c)
 
-  own-pair : (s t : ℕ) → Contains φ (s, t) → Contains S s × (s ≡ t)
-  own-pair s t c = identity-pair S s t (subst (λ m. Contains m (s, t)) itself c)
-
   left-right : (z : ℕ) → Contains (values (composite φ (identity S))) z → Contains (values (composite φ B)) z
   left-right z c =
       let k = Contains-of_value (composite φ (identity S)) z c in

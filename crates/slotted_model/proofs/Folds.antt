@@ -24,10 +24,6 @@ answer_or-moved : (f : ℕ → ℕ) (o : Option Applied) (d : DTerm) → answer_
 answer_or-moved f None d = refl
 answer_or-moved f (Some a) d = sym (moved-as_term f a)
 
--- where the answers for nodes are renamed with the nodes, values do not depend on names
-pub found_or-moved : (look : DTerm → Option Applied) → Renames look → Commutes (found_or look)
-found_or-moved look law f inj d = ap (λ o. answer_or o (moved f d)) (law f inj d) ∙ answer_or-moved f (look d) d
-
 -- what is looked up is the value
 value_args-found : (look : DTerm → Option Applied) (d e : DArgs) → look_up_args look d ≡ Some e → value_args (found_or look) d ≡ e
 value_args-found look stop e p = Some-same stop e p

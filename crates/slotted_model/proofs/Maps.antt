@@ -16,11 +16,6 @@ In-values [] v h = h
 In-values (p ∷ m) v (inl e) = inl e
 In-values (p ∷ m) v (inr h) = inr (In-values m v h)
 
-pub HasValue-In : (m : List (ℕ × ℕ)) (v : ℕ) → In v (values m) → HasValue m v
-HasValue-In [] v h = h
-HasValue-In (p ∷ m) v (inl e) = inl e
-HasValue-In (p ∷ m) v (inr h) = inr (HasValue-In m v h)
-
 pub keys-map_on : (f : ℕ → ℕ) (ks : List ℕ) → keys (map_on f ks) ≡ ks
 keys-map_on f [] = refl
 keys-map_on f (k ∷ ks) = ap (λ l. k ∷ l) (keys-map_on f ks)

@@ -31,7 +31,3 @@ in_order-ascending P A a o = subst (λ (B : List (ℕ × ℕ)). IsAscending (key
 -- no key stands twice
 pub in_order-once : (P : List ℕ) (A : List (ℕ × ℕ)) → IsAscending P → pairs_on P (value_of A) ≡ A → AllDifferent (keys_of A)
 in_order-once P A a o = ascending-different (keys_of A) (in_order-ascending P A a o)
-
--- pairs of some slots of P in their order are in the order of P
-pub in_order-wider : (S P Q : List ℕ) (A : List (ℕ × ℕ)) → IsPartialInjection S Q A → pairs_on P (value_of (identity S)) ≡ identity S → pairs_on P (value_of A) ≡ A
-in_order-wider S P Q A a o = subst (λ (B : List (ℕ × ℕ)). pairs_on P (value_of B) ≡ B) (identity-composite S Q A a) (composite-in_order P (identity S) A o)

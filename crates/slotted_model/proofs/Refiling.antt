@@ -92,10 +92,6 @@ without-length o (x ∷ xs) d c = elim (cases_eq x o) [
       ]))
 ]
 
--- the rows of other sources
-row-keeps : (o : ℕ) (r : Row) (rows : List Row) → Contains rows r → r.source ≢ o → Contains (without_row o rows) r
-row-keeps o r rows c n = filter-keeps (λ (q : Row). not (nat_eq q.source o)) rows r c (other-passes r.source o n)
-
 row-from : (o : ℕ) (r : Row) (rows : List Row) → Contains (without_row o rows) r → Contains rows r × (r.source ≢ o)
 row-from o r rows c = let k = filter-from (λ (q : Row). not (nat_eq q.source o)) rows r c in (k.0, passes-other r.source o k.1)
 

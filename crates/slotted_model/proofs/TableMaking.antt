@@ -94,9 +94,6 @@ module _ {C : Type 0} (g : State) (k : CostFunction C) (law : IsLawful C k) (tot
   still-out : (table : List (TableEntry C)) (r : Row) (rows : List Row) → cost_in table (row_class g r) ≡ None → still table (r ∷ rows) ≡ suc (still table rows)
   still-out table r rows p = ap (λ (o : Option C). cond (is_some o) (still table rows) (suc (still table rows))) p
 
-  still-more : (e : TableEntry C) (table : List (TableEntry C)) (r : Row) (rows : List Row) → e.class ≢ row_class g r → still (e ∷ table) (r ∷ rows) ≡ cond (is_some (cost_in table (row_class g r))) (still (e ∷ table) rows) (suc (still (e ∷ table) rows))
-  still-more e table r rows n = ap (λ (o : Option C). cond (is_some o) (still (e ∷ table) rows) (suc (still (e ∷ table) rows))) (cost-later e table (row_class g r) n)
-
   -- an entry makes them no more, and one less if it is new and a row is of its class
   still-falls : (e : TableEntry C) (table : List (TableEntry C)) → cost_in table e.class ≡ None → (rows : List Row) →
       (still (e ∷ table) rows ≤ still table rows) × ((r : Row) → Contains rows r → row_class g r ≡ e.class → still (e ∷ table) rows < still table rows)

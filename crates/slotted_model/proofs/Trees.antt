@@ -45,12 +45,6 @@ pub IsOwn-operator : (ts : List DTerm) (op : ℕ) → 0 < op → IsOwn (stands t
 IsOwn-operator ts zero h payloads args = absurd (omega arith)
 IsOwn-operator ts (suc op) h payloads args = refl
 
-pub OwnArgs-tree : (ts : List DTerm) (d : DArgs) → HasNoIds d → OwnArgs (stands ts) d
-OwnArgs-tree ts stop h = tt
-OwnArgs-tree ts (place x rest) h = OwnArgs-tree ts rest h
-OwnArgs-tree ts (sub op payloads args rest) h = (IsOwn-operator ts op h.0, OwnArgs-tree ts args h.1, OwnArgs-tree ts rest h.2)
-OwnArgs-tree ts (scope inner rest) h = (OwnArgs-tree ts inner h.0, OwnArgs-tree ts rest h.1)
-
 expand_args-tree : (ts : List DTerm) (d : DArgs) → HasNoIds d → expand_args (stands ts) d ≡ d
 expand_args-tree ts stop h = refl
 expand_args-tree ts (place x rest) h = ap (place x) (expand_args-tree ts rest h)
@@ -59,10 +53,6 @@ expand_args-tree ts (sub op payloads args rest) h =
     IsOwn-operator ts op h.0 payloads (expand_args (stands ts) args) ∙ ap (node op payloads) (expand_args-tree ts args h.1) in
     λ i. child_before (e i) (expand_args-tree ts rest h.2 i)
 expand_args-tree ts (scope inner rest) h = λ i. scope (expand_args-tree ts inner h.0 i) (expand_args-tree ts rest h.1 i)
-
--- a tree stands for itself
-pub layer-tree : (ts : List DTerm) (t : DTerm) → IsTree t → layer ts t ≡ t
-layer-tree ts t h = ap (node t.op t.payloads) (expand_args-tree ts t.args h.children)
 
 -- an operator of the language over full ids is a node
 pub IsNode-full : (nodes : List DTerm) (d : DTerm) → 0 < d.op → EachChild (IsFull nodes) d.args → IsNode d

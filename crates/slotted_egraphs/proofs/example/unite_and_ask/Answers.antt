@@ -1,11 +1,11 @@
 use Rattle.std.proofs.Common.{inr}
 use Rattle.std.specs.Prelude.{Bool, Result, Ok, Err, IsTrue, IfOk, ◌↔◌}
 use Rattle.slotted_slots.specs.declared.error.Error.{Error}
-use Rattle.slotted_model.specs.Applied.{Applied}
-use Rattle.slotted_core.specs.Image.{Image, FoundAlike}
-use Rattle.slotted_core.specs.Nodes.{to_applied}
-use Rattle.slotted_core.proofs.CallerLemmas.{term_later, id_later, id_same, union_alike, union_nodes}
-use Rattle.slotted_first.proofs.unite_and_ask.Goals as goal
+use Rattle.slotted_egraphs.specs.Applied.{Applied}
+use Rattle.slotted_egraphs.specs.Image.{Image, FoundAlike}
+use Rattle.slotted_egraphs.specs.Nodes.{to_applied}
+use Rattle.slotted_egraphs.proofs.CallerLemmas.{term_later, id_later, id_same, union_alike, union_nodes}
+use Rattle.slotted_egraphs.proofs.example.unite_and_ask.Goals as goal
 
 -- where ids find alike, an answer that says whether they do is yes
 yes_if : (h : Image) (a b : Applied) (r : Result Bool Error) → IfOk r (λ yes. IsTrue yes ↔ FoundAlike h a b) → FoundAlike h a b → IfOk r IsTrue

@@ -1,0 +1,2 @@
+-- What callers cite.
+pub use Rattle.slotted_core.proofs.CallerLemmas

@@ -1,0 +1,24 @@
+-- The words of the clauses that callers meet, handed on from the crates that define them.
+--     terms: Term, Nameless, Derives, Valid          slots: Table, Error, Maps
+--     ids and classes: Applied, Classes, Growth, Ids     the graph: Graph, Image, Nodes, Checks, Leaves
+pub use Rattle.slotted_theory.specs.Term
+pub use Rattle.slotted_theory.specs.Nameless
+pub use Rattle.slotted_theory.specs.Derives
+pub use Rattle.slotted_slots.specs.Table
+pub use Rattle.slotted_slots.specs.Error
+pub use Rattle.slotted_slots.specs.Maps
+pub use Rattle.slotted_nodes.specs.Form
+pub use Rattle.slotted_languages.specs.NodeTerm
+pub use Rattle.slotted_patterns.specs.Outcome
+pub use Rattle.slotted_terms.specs.Parsed
+pub use Rattle.slotted_terms.specs.Valid
+pub use Rattle.slotted_model.specs.Applied
+pub use Rattle.slotted_model.specs.Classes
+pub use Rattle.slotted_model.specs.Growth
+pub use Rattle.slotted_model.specs.Ids
+pub use Rattle.slotted_proofs.specs.Entries
+pub use Rattle.slotted_core.specs.Graph
+pub use Rattle.slotted_core.specs.Image
+pub use Rattle.slotted_core.specs.Nodes
+pub use Rattle.slotted_core.specs.Checks
+pub use Rattle.slotted_core.specs.Leaves
