@@ -1,5 +1,5 @@
 -- What was valid stays valid: in the table as names are added to it, in the graph as it grows or ids are united.
-use Rattle.std.proofs.Common.{◌≡◌, List, [], Bool, true, false, sym, ◌∙◌, ap, subst}
+use Rattle.std.proofs.Common.{◌≡◌, ◌⊎◌, List, [], Bool, true, false, sym, ◌∙◌, ap, subst, inr}
 use Rattle.std.specs.Prelude.{IsTrue, slice_index_or}
 use Rattle.slotted_theory.specs.Term.{Args, Term, done, name, child, bind}
 use Rattle.slotted_theory.specs.Nameless.{DTerm}
@@ -63,3 +63,14 @@ id_read g h a reads v = record {
   full = subst (λ (x : Image). IsFull x.canonical a) (sym reads.image) v.full;
   known = λ k d l. reads.more _ (v.known k d l);
 }
+
+-- what a call needs, in a graph that may have failed: a term that could be added to g can be added to h, and an id of g be handed to h
+
+pub can_add : (g h : Graph) (t : Term) → KnowsMore g.table h.table → IsValidTerm g.table t → IsTrue h.failed ⊎ IsValidTerm h.table t
+can_add g h t more v = inr (term_later g.table h.table more t v)
+
+pub can_ask : (g h : Graph) (a : Applied) → Extends g.image.canonical h.image.canonical → KnowsMore g.table h.table → IsValidId g a → IsTrue h.failed ⊎ IsValidId h a
+can_ask g h a extends more v = inr (id_later g h a extends more v)
+
+pub can_ask_united : (g h : Graph) (a b x : Applied) (y : Bool) → IsUnion g.image h.image a b y → h.table ≡ g.table → IsValidId g x → IsTrue h.failed ⊎ IsValidId h x
+can_ask_united g h a b x y united table v = inr (id_same g h x (union_nodes g.image h.image a b y united) table v)

@@ -1,10 +1,11 @@
+-- Each call is handed what the calls before it answered, which the graph still takes; and after a union its sides find alike.
 use Rattle.std.proofs.Common.{inr}
 use Rattle.std.specs.Prelude.{Bool, Result, Ok, Err, IsTrue, IfOk, ◌↔◌}
 use Rattle.slotted_slots.specs.declared.error.Error.{Error}
 use Rattle.slotted_egraphs.specs.Applied.{Applied}
 use Rattle.slotted_egraphs.specs.Image.{Image, FoundAlike}
 use Rattle.slotted_egraphs.specs.Nodes.{to_applied}
-use Rattle.slotted_egraphs.proofs.CallerLemmas.{term_later, id_later, id_same, union_alike, union_nodes}
+use Rattle.slotted_egraphs.proofs.CallerLemmas.{can_add, can_ask, can_ask_united, union_alike}
 use Rattle.slotted_egraphs.proofs.example.unite_and_ask.Goals as goal
 
 -- where ids find alike, an answer that says whether they do is yes
@@ -13,13 +14,15 @@ yes_if h a b (Ok answer) e f = e.1 f
 yes_if h a b (Err error) e f = tt
 
 pub add_expr-requires : goal.add_expr-requires
-add_expr-requires g c = inr (term_later c.parse_expr.new.self.table c.parse_expr-2.new.self.table c.in_ok-right.ensures.reads.more c.in_ok-left.left c.in_ok-left.ensures.valid)
+add_expr-requires g c = can_add c.parse_expr.new.self c.parse_expr-2.new.self c.in_ok-left.left c.in_ok-right.ensures.reads.more c.in_ok-left.ensures.valid
 
 pub add_expr-requires-2 : goal.add_expr-requires-2
-add_expr-requires-2 g c = inr (term_later c.parse_expr-2.new.self.table c.add_expr.new.self.table c.in_ok-left-2.ensures.more c.in_ok-right.right c.in_ok-right.ensures.valid)
+add_expr-requires-2 g c = can_add c.parse_expr-2.new.self c.add_expr.new.self c.in_ok-right.right c.in_ok-left-2.ensures.more c.in_ok-right.ensures.valid
 
 pub union-requires-clause-left : goal.union-requires-clause-left
-union-requires-clause-left g c = inr (id_later c.add_expr.new.self c.add_expr-2.new.self (to_applied c.in_ok-left-2.left) c.in_ok-right-2.ensures.extends c.in_ok-right-2.ensures.more c.in_ok-left-2.ensures.valid)
+union-requires-clause-left g c =
+    let added = c.in_ok-right-2.ensures in
+    can_ask c.add_expr.new.self c.add_expr-2.new.self (to_applied c.in_ok-left-2.left) added.extends added.more c.in_ok-left-2.ensures.valid
 
 pub union-requires-clause-right : goal.union-requires-clause-right
 union-requires-clause-right g c = inr c.in_ok-right-2.ensures.valid
@@ -28,18 +31,20 @@ pub eq-requires-clause-left : goal.eq-requires-clause-left
 eq-requires-clause-left g c =
     let a = to_applied c.in_ok-left-2.left in
     let b = to_applied c.in_ok-right-2.right in
-    inr (id_same c.add_expr-2.new.self c.union.new.self a (union_nodes c.add_expr-2.new.self.image c.union.new.self.image a b c.in_ok-union.field-0 c.in_ok-union.ensures.union) c.union.ensures.table
-    (id_later c.add_expr.new.self c.add_expr-2.new.self a c.in_ok-right-2.ensures.extends c.in_ok-right-2.ensures.more c.in_ok-left-2.ensures.valid))
+    let added = c.in_ok-right-2.ensures in
+    elim can_ask c.add_expr.new.self c.add_expr-2.new.self a added.extends added.more c.in_ok-left-2.ensures.valid [
+      | inl failed ↦ absurd (added.fails.0 failed)
+      | inr valid ↦ can_ask_united c.add_expr-2.new.self c.union.new.self a b a c.in_ok-union.field-0 c.in_ok-union.ensures.union c.union.ensures.table valid
+    ]
 
 pub eq-requires-clause-right : goal.eq-requires-clause-right
 eq-requires-clause-right g c =
     let a = to_applied c.in_ok-left-2.left in
     let b = to_applied c.in_ok-right-2.right in
-    inr (id_same c.add_expr-2.new.self c.union.new.self b (union_nodes c.add_expr-2.new.self.image c.union.new.self.image a b c.in_ok-union.field-0 c.in_ok-union.ensures.union) c.union.ensures.table c.in_ok-right-2.ensures.valid)
+    can_ask_united c.add_expr-2.new.self c.union.new.self a b b c.in_ok-union.field-0 c.in_ok-union.ensures.union c.union.ensures.table c.in_ok-right-2.ensures.valid
 
 pub returns : goal.returns
 returns g c =
     let a = to_applied c.in_ok-left-2.left in
     let b = to_applied c.in_ok-right-2.right in
-    let alike = union_alike c.add_expr-2.new.self.image c.union.new.self.image a b c.in_ok-union.field-0 c.in_ok-union.ensures.union in
-    yes_if c.union.new.self.image a b c.eq.result c.eq.ensures.found alike
+    yes_if c.union.new.self.image a b c.eq.result c.eq.ensures.found (union_alike c.add_expr-2.new.self.image c.union.new.self.image a b c.in_ok-union.field-0 c.in_ok-union.ensures.union)
