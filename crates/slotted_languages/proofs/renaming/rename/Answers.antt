@@ -1,4 +1,3 @@
-use Rattle.std.proofs.lemmas.Grind.{common_steps}
 use Rattle.std.proofs.Common.{◌∙◌, sym, ap, arith, refl}
 use Rattle.std.proofs.lemmas.Bool.{false≢true}
 use Rattle.slotted_slots.specs.Maps.{is_among, values}
@@ -45,21 +44,3 @@ returns-clause-renamed g c =
     let form = g.L.LanguageChildren.form in
     all_renamed c.args.table.now (form c.args.node.now) (form c.loop-i.numbered) c.args.avoid.now c.args.free.now c.loop-i.names c.loop-i.i (g.met.L.LanguageChildren.fits c.args.node.now)
     (omega (arith, c.loop-i-test.false, c.loop-i.auto.i-end, c.slot_count-i-end.ensures, c.requires.small)) c.loop-i.invariant.renamed
-
-pub set_slot-requires-clause-small : goal.set_slot-requires-clause-small
-set_slot-requires-clause-small g c = grind (arith, common_steps)
-
-pub set_slot-requires-clause-within : goal.set_slot-requires-clause-within
-set_slot-requires-clause-within g c = grind (arith, common_steps)
-
-pub slot-name-requires-clause-small : goal.slot-name-requires-clause-small
-slot-name-requires-clause-small g c = grind (arith, common_steps)
-
-pub slot-name-requires-clause-within : goal.slot-name-requires-clause-within
-slot-name-requires-clause-within g c = grind (arith, common_steps)
-
-pub slot-number-requires-clause-small : goal.slot-number-requires-clause-small
-slot-number-requires-clause-small g c = grind (arith, common_steps)
-
-pub slot-number-requires-clause-within : goal.slot-number-requires-clause-within
-slot-number-requires-clause-within g c = grind (arith, common_steps)

@@ -1,4 +1,3 @@
-use Rattle.std.proofs.lemmas.Grind.{common_steps}
 use Rattle.std.proofs.Common.{arith}
 use Rattle.slotted_languages.specs.Walk.{walk_of}
 use Rattle.slotted_languages.proofs.WalkSteps.{one_numbered, all_numbered}
@@ -21,33 +20,3 @@ returns-clause-ok g c =
     let p = all_numbered (form c.args.node.now) (form c.loop-i.node) (walk_of c.loop-i.numbering) c.loop-i.i (g.met.L.LanguageChildren.fits c.args.node.now)
     (omega (arith, c.loop-i-test.false, c.loop-i.auto.i-end, c.slot_count-i-end.ensures, c.requires.small)) c.loop-i.invariant.numbered in
     λ i. (p.0 i, p.1 i)
-
-pub number-requires-clause-few : goal.number-requires-clause-few
-number-requires-clause-few g c = grind (arith, common_steps)
-
-pub number-requires-clause-good : goal.number-requires-clause-good
-number-requires-clause-good g c = grind (arith, common_steps)
-
-pub returns-clause-err : goal.returns-clause-err
-returns-clause-err g c = grind (arith, common_steps)
-
-pub scope_end-scope_end-requires-clause-small : goal.scope_end-scope_end-requires-clause-small
-scope_end-scope_end-requires-clause-small g c = grind (arith, common_steps)
-
-pub scope_end-scope_end-requires-clause-within : goal.scope_end-scope_end-requires-clause-within
-scope_end-scope_end-requires-clause-within g c = grind (arith, common_steps)
-
-pub set_slot-requires-clause-small : goal.set_slot-requires-clause-small
-set_slot-requires-clause-small g c = grind (arith, common_steps)
-
-pub set_slot-requires-clause-within : goal.set_slot-requires-clause-within
-set_slot-requires-clause-within g c = grind (arith, common_steps)
-
-pub slot-name-requires-clause-small : goal.slot-name-requires-clause-small
-slot-name-requires-clause-small g c = grind (arith, common_steps)
-
-pub slot-name-requires-clause-within : goal.slot-name-requires-clause-within
-slot-name-requires-clause-within g c = grind (arith, common_steps)
-
-pub loop-i-init : goal.loop-i-init
-loop-i-init g c = grind (arith, common_steps)
