@@ -15,7 +15,7 @@ use Rattle.slotted_model.proofs.Maps.{keys-map_on, filled-map_on, map_on-agrees,
 use Rattle.slotted_model.proofs.Full.{full-ascending, canonical_term-members}
 use Rattle.slotted_model.proofs.Unique.{term_of-same}
 
-slots-ascending : (nodes : List DTerm) (i : ℕ) → IsAscending (canonical_slots nodes i)
+pub slots-ascending : (nodes : List DTerm) (i : ℕ) → IsAscending (canonical_slots nodes i)
 slots-ascending nodes i = IsAscending-ascending (free_names (canonical_node nodes i).args)
 
 valid-full : (nodes : List DTerm) (a : Applied) → IsValid (canonical_slots nodes) nodes a → IsFull nodes a

@@ -12,6 +12,8 @@ pub mod Unique
 pub mod Ids
 pub mod Growing
 pub mod Fillings
+pub mod FillingEquations
+pub mod FilledNodes
 pub mod Trees
 pub mod LookUps
 pub mod Folds
@@ -31,6 +33,7 @@ pub mod Uniting
 pub mod SoundnessExamples
 pub mod Congruence
 pub mod Twins
+pub mod TwinNumbers
 pub mod Replacing
 pub mod Dropping
 pub mod NewClasses

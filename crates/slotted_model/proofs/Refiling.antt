@@ -34,7 +34,7 @@ use Rattle.slotted_model.proofs.GoingOn.{still-row, still-listed, still-linked, 
 use Rattle.slotted_model.proofs.UpTo.{linked_to-joined}
 
 -- members of a filtered list
-filter-keeps : {X : Type 0} (p : X → Bool) (xs : List X) (x : X) → Contains xs x → p x ≡ true → Contains (filter p xs) x
+pub filter-keeps : {X : Type 0} (p : X → Bool) (xs : List X) (x : X) → Contains xs x → p x ≡ true → Contains (filter p xs) x
 filter-keeps p [] x c e = c
 filter-keeps p (y ∷ xs) x c e = elim (cases_Bool (p y)) [
   | inl t ↦ subst (λ b. Contains (cond b (y ∷ filter p xs) (filter p xs)) x) (sym t) (elim (contains_cases y xs x c) [
@@ -47,7 +47,7 @@ filter-keeps p (y ∷ xs) x c e = elim (cases_Bool (p y)) [
   ])
 ]
 
-filter-from : {X : Type 0} (p : X → Bool) (xs : List X) (x : X) → Contains (filter p xs) x → Contains xs x × (p x ≡ true)
+pub filter-from : {X : Type 0} (p : X → Bool) (xs : List X) (x : X) → Contains (filter p xs) x → Contains xs x × (p x ≡ true)
 filter-from p [] x c = absurd (Contains-nil x c)
 filter-from p (y ∷ xs) x c = elim (cases_Bool (p y)) [
   | inl t ↦ elim (contains_cases y (filter p xs) x (subst (λ b. Contains (cond b (y ∷ filter p xs) (filter p xs)) x) t c)) [

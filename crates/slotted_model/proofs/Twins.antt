@@ -40,7 +40,7 @@ normal-slots nodes can found i h z c =
 Contains-names : (d : DTerm) (z : ℕ) → In z (free_names d.args) → Contains (names d) z
 Contains-names d z h = Contains-In (names d) z (In-ascending z (free_names d.args) h)
 
-names-In : (d : DTerm) (z : ℕ) → Contains (names d) z → In z (free_names d.args)
+pub names-In : (d : DTerm) (z : ℕ) → Contains (names d) z → In z (free_names d.args)
 names-In d z c = In-of_ascending z (free_names d.args) (In-Contains (names d) z c)
 
 module _ (nodes : List DTerm) (can : Canonical nodes) (found : List Entry) (a : Applied) (full : IsFull nodes a) (j : ℕ) (hj : j < length nodes) (π : Bijection) where

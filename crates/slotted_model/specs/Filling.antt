@@ -1,10 +1,11 @@
 -- Applied ids that lack names: which are valid, and the full ids that complete them.
-use Rattle.std.specs.Prelude.{◌≡◌, ℕ, ◌<◌, List, length, Contains}
-use Rattle.slotted_theory.specs.Nameless.{DTerm}
+use Rattle.std.specs.Prelude.{◌≡◌, ℕ, suc, ◌<◌, List, ◌∷◌, length, map, Contains}
+use Rattle.slotted_theory.specs.Nameless.{DArgs, DTerm, stop, place, sub, scope}
 use Rattle.slotted_theory.specs.Renaming.{Bijection}
 use Rattle.slotted_theory.specs.FiniteMaps.{IsInjectiveMap}
+use Rattle.slotted_theory.proofs.Values.{child_before}
 use Rattle.slotted_model.specs.Ascending.{IsAscending}
-use Rattle.slotted_model.specs.Applied.{Applied, keys, values, renamed_id}
+use Rattle.slotted_model.specs.Applied.{Applied, keys, values, renamed_id, as_term, applied_of}
 use Rattle.slotted_model.specs.Classes.{canonical_slots, term_of, IsFull}
 
 -- a class of the graph, with different names for all its slots, and perhaps for more of its canonical slots
@@ -46,3 +47,19 @@ pub record RenamedTogether (b c d e : Applied) : Type 0 where
   pub bijection : Bijection
   pub renames_left : renamed_id bijection.to b ≡ c
   pub renames_right : renamed_id bijection.to d ≡ e
+
+-- the second arguments are the first with each child filled by names that are not given, and that are no binder's: one binder in, the
+-- names outside are one more, and 0 is the binder
+abbrev pub FillsArgs : List DTerm → List ℕ → DArgs → DArgs → Type 0
+FillsArgs nodes given stop e = e ≡ stop
+FillsArgs nodes given (place x rest) e = (r : DArgs) × (e ≡ place x r) × FillsArgs nodes given rest r
+FillsArgs nodes given (sub op payloads args rest) e =
+    (b : Applied) × (r : DArgs) × (e ≡ child_before (as_term b) r) × IsFilling nodes given (applied_of payloads args) b × FillsArgs nodes given rest r
+FillsArgs nodes given (scope inner rest) e =
+    (i : DArgs) × (r : DArgs) × (e ≡ scope i r) × FillsArgs nodes (0 ∷ map suc given) inner i × FillsArgs nodes given rest r
+
+-- e is the node d with each child filled
+pub record FillsNode (nodes : List DTerm) (given : List ℕ) (d e : DTerm) : Type 0 where
+  pub operator : e.op ≡ d.op
+  pub payloads : e.payloads ≡ d.payloads
+  pub children : FillsArgs nodes given d.args e.args

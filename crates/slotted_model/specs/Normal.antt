@@ -2,6 +2,7 @@
 use Rattle.std.specs.Prelude.{◌≡◌, ℕ, List, Contains, ◌↔◌}
 use Rattle.std.specs.Map.{keys_of, values_of}
 use Rattle.slotted_theory.specs.Nameless.{DArgs, DTerm, stop, place, sub, scope}
+use Rattle.slotted_theory.specs.Shape.{free_names, number_in}
 use Rattle.slotted_theory.proofs.Values.{node, child_before}
 use Rattle.slotted_model.specs.Ascending.{names}
 use Rattle.slotted_model.specs.Applied.{Applied, keys, as_term, applied_of}
@@ -46,3 +47,9 @@ pub record HasNormalTwin (nodes : List DTerm) (found : List Entry) (a b : Applie
   pub same : normal found (node_of nodes a) ≡ normal found (node_of nodes b)
   pub left_names : (s : ℕ) → Contains (keys_of (same_names a.1 b.1)) s ↔ Contains (names (normal found (canonical_node nodes a.0))) s
   pub right_names : (t : ℕ) → Contains (values_of (same_names a.1 b.1)) t ↔ Contains (names (normal found (canonical_node nodes b.0))) t
+
+-- a slot of the class i and one of the class j stand in the normal forms of their nodes and have one number in the shapes of these
+pub record HasOneNumber (found : List Entry) (nodes : List DTerm) (i j s t : ℕ) : Type 0 where
+  pub left : Contains (names (normal found (canonical_node nodes i))) s
+  pub right : Contains (names (normal found (canonical_node nodes j))) t
+  pub number : number_in (free_names (normal found (canonical_node nodes i)).args) s ≡ number_in (free_names (normal found (canonical_node nodes j)).args) t

@@ -8,12 +8,12 @@ use Rattle.slotted_theory.specs.Shape.{shape}
 use Rattle.slotted_theory.specs.Derives.{Derives, Equal, nameless_pair}
 use Rattle.slotted_model.specs.Applied.{Applied, keys, values, renamed_id, IsNode, EachChild}
 use Rattle.slotted_model.specs.Classes.{canonical_node, term_of, IsFull, Canonical}
-use Rattle.slotted_model.specs.Correspondence.{composite, identity}
-use Rattle.slotted_model.specs.Filling.{IsValid, IsFilling}
+use Rattle.slotted_model.specs.Correspondence.{composite, identity, same_names}
+use Rattle.slotted_model.specs.Filling.{IsValid, IsFilling, FillsNode}
 use Rattle.slotted_model.specs.Find.{Entry, entry_at, IsLive, find_class, find_map, used_slots, find, Linked}
 use Rattle.slotted_model.specs.ProofList.{Equation, ProofEntry, explicit, reflexive, equation_of, turned_equation, IsOver, HoldsFrom, IsReflexive, IsSymmetric, IsTransitive, IsCongruent, equation_at, step_at, Proved, left_side, right_side, term_pair, if_explicit, asserted, entry_equation, find_equation, node_of}
 use Rattle.slotted_model.specs.Leaves.{IsLeaf, HasLeaves}
-use Rattle.slotted_model.specs.Normal.{normal, IsFound, IsCongruentByFinds, HasNormalTwin}
+use Rattle.slotted_model.specs.Normal.{normal, IsFound, IsCongruentByFinds, HasNormalTwin, HasOneNumber}
 use Rattle.slotted_model.specs.Link.{CanEnter, found_equation, half_found_equation, CanLink, IsLater, with_link, CanDrop, with_slots, kept_equation, with_shortcut, reflexive_equation, with_new_entry, Refines}
 use Rattle.slotted_model.specs.Explained.{Explained}
 use Rattle.slotted_model.specs.Sound.{Sound, United}
@@ -65,6 +65,25 @@ abbrev pub FillingsFindAlike : Type 0
 FillingsFindAlike =
     (nodes : List DTerm) (found : List Entry) → Linked nodes found → (given : List ℕ) (a b : Applied) →
     IsValid (used_slots found) nodes a → IsFilling nodes given a b → find found a ≡ find found b
+
+-- two ids that lack names, each filled by names that the other has not, have the equation that they had
+abbrev pub FillingsKeepEquations : Type 0
+FillingsKeepEquations =
+    (nodes : List DTerm) (slots : ℕ → List ℕ) (a b left right : Applied) → IsValid slots nodes a → IsValid slots nodes b →
+    IsFilling nodes (values b.1) a left → IsFilling nodes (values left.1) b right → equation_of left right ≡ equation_of a b
+
+-- the children of a node can be filled, by names other than those given; then they are full, and the node has the normal form that it had
+abbrev pub FilledNodesAreThere : Type 0
+FilledNodesAreThere =
+    (nodes : List DTerm) (slots : ℕ → List ℕ) (given : List ℕ) (d : DTerm) → EachChild (IsValid slots nodes) d.args → (e : DTerm) × FillsNode nodes given d e
+
+abbrev pub FilledNodesAreFull : Type 0
+FilledNodesAreFull = (nodes : List DTerm) (given : List ℕ) (d e : DTerm) → FillsNode nodes given d e → EachChild (IsFull nodes) e.args
+
+abbrev pub FilledNodesHaveOneNormalForm : Type 0
+FilledNodesHaveOneNormalForm =
+    (nodes : List DTerm) (found : List Entry) → Linked nodes found → (given : List ℕ) (d e : DTerm) →
+    EachChild (IsValid (used_slots found) nodes) d.args → FillsNode nodes given d e → normal found e ≡ normal found d
 
 -- an equation holds if the terms of one pair of full ids with this equation are equal
 abbrev pub OnePairIsEnough : Type 0
@@ -376,6 +395,18 @@ OneNormalFormIsCongruent =
     (nodes : List DTerm) → Canonical nodes → (found : List Entry) (a b : Applied) → IsFull nodes a → IsFull nodes b →
     normal found (node_of nodes a) ≡ normal found (node_of nodes b) → IsCongruentByFinds nodes found (equation_of a b)
 
+-- twins share a name at two slots exactly if these have one number in the shape of the normal form
+abbrev pub TwinsPairByNumbers : Type 0
+TwinsPairByNumbers =
+    (nodes : List DTerm) (found : List Entry) (a b : Applied) → IsFull nodes a → HasNormalTwin nodes found a b →
+    (s t : ℕ) → Contains (same_names a.1 b.1) (s, t) ↔ HasOneNumber found nodes a.0 b.0 s t
+
+-- ids with the equation of twins are twins
+abbrev pub TwinsMoveTogether : Type 0
+TwinsMoveTogether =
+    (nodes : List DTerm) (found : List Entry) (a b c d : Applied) → IsFull nodes a → HasNormalTwin nodes found a b → IsFull nodes c → IsFull nodes d →
+    equation_of c d ≡ equation_of a b → HasNormalTwin nodes found c d
+
 -- where the normal forms of two canonical nodes have one shape, each full id of the one class has a twin of the other
 abbrev pub EqualShapesHaveTwins : Type 0
 EqualShapesHaveTwins =
@@ -400,6 +431,10 @@ pub record SoundnessLaws : Type 0 where
   pub finds_have_old_names : FindsHaveOldNames
   pub full_ids_are_valid : FullIdsAreValid
   pub fillings_find_alike : FillingsFindAlike
+  pub fillings_keep_equations : FillingsKeepEquations
+  pub filled_nodes_are_there : FilledNodesAreThere
+  pub filled_nodes_are_full : FilledNodesAreFull
+  pub filled_nodes_have_one_normal_form : FilledNodesHaveOneNormalForm
   pub one_pair_is_enough : OnePairIsEnough
   pub sides_have_the_equation : SidesHaveTheEquation
   pub reflexive_is_sound : ReflexiveIsSound
@@ -450,5 +485,7 @@ pub record SoundnessLaws : Type 0 where
   pub normal_forms_are_found : NormalFormsAreFound
   pub normal_forms_are_refined : NormalFormsAreRefined
   pub one_normal_form_is_congruent : OneNormalFormIsCongruent
+  pub twins_pair_by_numbers : TwinsPairByNumbers
+  pub twins_move_together : TwinsMoveTogether
   pub equal_shapes_have_twins : EqualShapesHaveTwins
   pub congruent_by_finds_holds : CongruentByFindsHolds

@@ -18,7 +18,7 @@ number_in-injective [] x y e = e
 number_in-injective (b ∷ bs) x y e = extend-injective b (number_in bs) (number_in-injective bs) x y e
 
 -- an injective function on a list and on a name in it keeps the name's number
-number_in-map : (f : ℕ → ℕ) → IsInjective f → (bs : List ℕ) (x : ℕ) → Contains bs x → number_in (map f bs) (f x) ≡ number_in bs x
+pub number_in-map : (f : ℕ → ℕ) → IsInjective f → (bs : List ℕ) (x : ℕ) → Contains bs x → number_in (map f bs) (f x) ≡ number_in bs x
 number_in-map f inj [] x c = absurd (Contains-nil x c)
 number_in-map f inj (b ∷ bs) x c = elim (cases_eq x b) [
   | inl e ↦ extend-same (f b) (number_in (map f bs)) (f x) (ap f e) ∙ sym (extend-same b (number_in bs) x e)

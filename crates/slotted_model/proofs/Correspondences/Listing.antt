@@ -74,7 +74,7 @@ keys-listed P A o =
     ap keys_of (sym o)
     ∙ (keys-pairs_on P (value_of A) ∙ filter_agree (λ s. is_some (value_of A s)) (has_slot (keys_of A)) (found-has_slot A) P)
 
-listed-in_order : (P : List ℕ) (A : List (ℕ × ℕ)) → AllDifferent P → keys_of A ≡ filter (has_slot (keys_of A)) P → pairs_on P (value_of A) ≡ A
+pub listed-in_order : (P : List ℕ) (A : List (ℕ × ℕ)) → AllDifferent P → keys_of A ≡ filter (has_slot (keys_of A)) P → pairs_on P (value_of A) ≡ A
 listed-in_order P A d e =
     pairs_on-filter P (value_of A)
     ∙ (ap (λ K. pairs_on K (value_of A)) (filter_agree (λ s. is_some (value_of A s)) (has_slot (keys_of A)) (found-has_slot A) P ∙ sym e)

@@ -2,6 +2,9 @@ use Rattle.slotted_model.specs.Find.{find_class, find}
 use Rattle.slotted_model.proofs.Correspondences.Pairs.{Contains-value, Contains-of_value}
 use Rattle.slotted_model.proofs.Finding.{leads, find_class-live, find_map-live, find_class-follows, find_map-follows}
 use Rattle.slotted_model.proofs.NormalIds.{found-class_live, found-slots, found-valid, found-again, found-renamed, found-same, found-name, full-is_valid, filling-found}
+use Rattle.slotted_model.proofs.FillingEquations.{filled-equation}
+use Rattle.slotted_model.proofs.TwinNumbers.{twins-pair, twins-move}
+use Rattle.slotted_model.proofs.FilledNodes.{a_filled_node, filled-full, filled-normal}
 use Rattle.slotted_model.proofs.Steps.{one_is_enough, reflexive-sound, symmetric-sound, transitive-sound, congruent-sound}
 use Rattle.slotted_model.proofs.Leaves.{leaves-listed, leaves-stay}
 use Rattle.slotted_model.proofs.FindProofs.{left_side-full, right_side-full, sides-equation, entry-holds, leaves-enough, asserted-leaves, proved-holds, find_equation-live, find_equation-follows, find_equation-composite, found_alike-join, found_alike-equal, found_alike-derivable}
@@ -33,6 +36,10 @@ returns c = record {
       Contains-value a.1 r.0 x r.2;
   full_ids_are_valid = full-is_valid;
   fillings_find_alike = filling-found;
+  fillings_keep_equations = λ nodes slots a b left right va vb f g. filled-equation nodes slots slots a b left right va vb f g;
+  filled_nodes_are_there = a_filled_node;
+  filled_nodes_are_full = filled-full;
+  filled_nodes_have_one_normal_form = filled-normal;
   one_pair_is_enough = one_is_enough;
   sides_have_the_equation = λ nodes e o. (left_side-full nodes e o, right_side-full nodes e o, sides-equation nodes e o);
   reflexive_is_sound = reflexive-sound;
@@ -87,6 +94,8 @@ returns c = record {
   normal_forms_are_found = λ nodes found l d c. normal_args-live nodes found l d.args c;
   normal_forms_are_refined = refined-normal;
   one_normal_form_is_congruent = same_normal-congruent;
+  twins_pair_by_numbers = λ nodes found a b full twin s t. twins-pair nodes found a b full twin s t;
+  twins_move_together = twins-move;
   equal_shapes_have_twins = shape-twin;
   congruent_by_finds_holds = λ nodes found proofs s. by_finds-holds nodes s.canonical found proofs s.linked s.proved s.exact;
 }
