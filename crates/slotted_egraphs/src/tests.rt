@@ -1,5 +1,5 @@
 use crate::example::unite_and_ask;
-use crate::{EGraph, Error, Small, SlotTable};
+use crate::{EGraph, Error, SlotTable, Small};
 
 #[test]
 fn two_nodes_over_the_same_names_are_united(rt: HostRuntime) -> Result<(), Error> {

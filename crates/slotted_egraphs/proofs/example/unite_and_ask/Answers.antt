@@ -1,5 +1,6 @@
 -- Each call is handed what the calls before it answered, which the graph still takes; and after a union its sides find alike.
-use Rattle.std.proofs.Common.{inr}
+use Rattle.std.proofs.Common.{inl, inr}
+use Rattle.std.proofs.lemmas.Bool.{false≢true}
 use Rattle.std.specs.Prelude.{Bool, Result, Ok, Err, IsTrue, IfOk, ◌↔◌}
 use Rattle.slotted_slots.specs.declared.error.Error.{Error}
 use Rattle.slotted_egraphs.specs.Applied.{Applied}
@@ -32,8 +33,8 @@ eq-requires-clause-left g c =
     let a = to_applied c.in_ok-left-2.left in
     let b = to_applied c.in_ok-right-2.right in
     let added = c.in_ok-right-2.ensures in
-    elim can_ask c.add_expr.new.self c.add_expr-2.new.self a added.extends added.more c.in_ok-left-2.ensures.valid [
-      | inl failed ↦ absurd (added.fails.0 failed)
+    elim (can_ask c.add_expr.new.self c.add_expr-2.new.self a added.extends added.more c.in_ok-left-2.ensures.valid) [
+      | inl failed ↦ absurd (false≢true (added.fails.0 failed))
       | inr valid ↦ can_ask_united c.add_expr-2.new.self c.union.new.self a b a c.in_ok-union.field-0 c.in_ok-union.ensures.union c.union.ensures.table valid
     ]
 
