@@ -4,15 +4,9 @@
 ghost use Rattle.std.specs.Prelude.{◌≡◌, IfOk, IfErr, IfSome, OnSome, OnOk};
 ghost use Rattle.std.specs.Io.KnownBytes.{Appends, IsAtEnd};
 ghost use Rattle.slotted_languages.specs.Small.{small_read};
-ghost use Rattle.slotted.specs.Streams.{SessionWrites};
+ghost use Rattle.slotted_commands.specs.Streams.{SessionWrites};
 
-mod answer;
-mod command;
-mod session;
-mod stream;
-#[cfg(test)]
-mod tests;
-
+use slotted_commands::answer_session;
 use slotted_languages::Small;
 use std::alloc::Global;
 use std::io;
@@ -31,7 +25,7 @@ pub fn answer_lines<R: BufRead, W: Write>(
         (Appends (W.contents output.old) (W.contents output.new)))) }
     ensures end { OnOk result (OnSome (R.remaining input.old) (IsAtEnd (R.remaining input.new))) }
 {
-    stream::answer_session::<Small, R, W>(alloc, input, output)
+    answer_session::<Small, R, W>(alloc, input, output)
 }
 
 fn answer_streams(rt: &HostRuntime) -> io::Result<()> {

@@ -1,0 +1,129 @@
+-- What each step of a command leaves the next one.
+use Rattle.std.proofs.Common.{◌≡◌, ◌≤◌, ◌^◌, ◌⊎◌, ℕ, List, [], ◌∷◌, Bool, true, false, inl, inr, refl, sym, ap, ◌∙◌, subst}
+use Rattle.std.specs.Prelude.{Option, Some, IsTrue, Result, Ok, Err, IfErr, IsErr, IsErrOf}
+use Rattle.std.specs.Str.{chars}
+use Rattle.std.proofs.lemmas.Bool.{cases_Bool, false≢true}
+use Rattle.slotted_theory.specs.Term.{Term}
+use Rattle.slotted_theory.specs.Nameless.{nameless}
+use Rattle.slotted_slots.specs.declared.error.Error.{Error}
+use Rattle.slotted_slots.specs.declared.error.Error.TheVariants.{OutOfSlots, Failed, NotYet}
+use Rattle.slotted_slots.specs.declared.types.AppliedId.{AppliedId}
+use Rattle.slotted_slots.specs.Error.{IsShortage}
+use Rattle.slotted_slots.specs.Table.{KnowsMore}
+use Rattle.slotted_slots.specs.Syntax.{Element}
+use Rattle.slotted_nodes.specs.Form.{Form}
+use Rattle.slotted_patterns.specs.Outcome.{parsed, Refuses}
+use Rattle.slotted_terms.specs.Parsed.{TextReads}
+use Rattle.slotted_model.specs.Applied.{Applied}
+use Rattle.slotted_model.specs.Classes.{term_of}
+use Rattle.slotted_model.specs.Growth.{Extends}
+use Rattle.slotted_model.specs.Ids.{id_of}
+use Rattle.slotted_core.specs.Places.{term_places}
+use Rattle.slotted_core.specs.Graph.{Graph, IsValidId, OnlyReads}
+use Rattle.slotted_core.specs.Image.{FoundAlike, AddsClasses, AreDerivable, IsUnion, IsNoUnion, HasLargeClass, asserted_in}
+use Rattle.slotted_core.specs.Nodes.{to_applied}
+use Rattle.slotted_commands.specs.declared.answer.Answer.{Answer}
+use Rattle.slotted_commands.specs.declared.answer.Answer.TheVariants.{Yes, No, Refused}
+use Rattle.slotted_commands.specs.Commands.{Command, compares, unites}
+use Rattle.slotted_commands.specs.Sessions.{AddsBoth, Answered, FirstIsRefused, Gains, IsAnsweredWith, IsCommand, IsRefused, RunsOut, RunsOutAt, Says, Unites, WritesTerm, WritesTerms, are_different, are_equal, carried_out, has_failed, not_yet, ran_out, refused, refused_here, texts_of, union_ran_out}
+
+module _ (read : List Element → Option Form) (g h : Graph) (text : List ℕ) (only : OnlyReads g h) where
+  -- a text that was read
+  pub writes_term : (t : Term) → TextReads read g.table (chars text) (parsed t) h.table → WritesTerm read g text t h
+  writes_term t r = record { reads = r; only = only }
+
+  -- a text that was refused
+  pub is_refused : (e : Error) → Refuses (λ o. TextReads read g.table (chars text) o h.table) e → IsRefused read g text e h
+  is_refused e r = record { reads = r; only = only }
+
+-- a graph over which a text was read has not failed
+pub sound_graph : {A : Type 0} (b : Bool) (r : Result A Error) (x : A) → r ≡ Ok x → (IsTrue b → r ≡ Err Failed) → b ≡ false
+sound_graph true r x is was = let p : r ≡ Err Failed = was refl in cc
+sound_graph false r x is was = refl
+
+-- the first text of a command was refused
+pub first_is_refused : (read : List Element → Option Form) (g h : Graph) (c : Command) (text : List ℕ) (texts : List (List ℕ)) (e : Error) → IsCommand c → texts_of c ≡ text ∷ texts
+    → OnlyReads g h → (IsTrue g.failed → h ≡ g) → (IsTrue g.failed → e ≡ Failed)
+    → (g.failed ≡ false → Refuses (λ o. TextReads read g.table (chars text) o h.table) e) → Answered read g h c (Refused e)
+first_is_refused read g h c text texts e command is reads stays fails answer = elim (cases_Bool g.failed) [
+  | inl failed ↦ subst (λ x. Answered read g h c (Refused x)) (sym (fails failed)) (has_failed command failed (stays failed))
+  | inr sound ↦ refused sound (subst (λ ts. FirstIsRefused read g ts e h) (sym is) (refused_here (is_refused read g h text reads e (answer sound))))
+]
+
+not_true : (b : Bool) → ¬ (IsTrue b) → b ≡ false
+not_true true n = absurd (n refl)
+not_true false n = refl
+
+-- a term that was added
+pub gains : (g h : Graph) (t : Term) (a : AppliedId) → (IsTrue h.failed → false ≡ true) → IsValidId h (to_applied a) → term_of h.image.canonical (to_applied a) ≡ nameless t → id_of h.image.canonical (nameless t) ≡ Some (to_applied a) → Extends g.image.canonical h.image.canonical → AddsClasses g.image h.image → KnowsMore g.table h.table → Gains g t (to_applied a) h
+gains g h t a sound valid term found extends adds more =
+    record { sound = not_true h.failed (λ f. false≢true (sound f)); valid = valid; term = term; found = found; extends = extends; adds = adds; more = more }
+
+-- a term that was not added, since memory or slots ran out
+pub runs_out : {A : Type 0} (g h : Graph) (t : Term) (r : Result A Error) (e : Error) → r ≡ Err e → g.failed ≡ false → (IsErrOf r Failed → IsTrue g.failed) → (IsErr r → IsTrue h.failed) → (IsErrOf r OutOfSlots → (h.table.fresh ≡ 2 ^ 30) ⊎ (2 ^ 30 ≤ term_places t)) → IfErr r (λ x. (x ≡ Failed) ⊎ IsShortage x) → KnowsMore g.table h.table → RunsOut g t e h
+runs_out g h t (Ok a) e is sound was fails full only more = cc
+runs_out g h t (Err x) e is sound was fails full only more =
+    let same : x ≡ e = cc in
+    let short : IsShortage x = elim only [ inl f ↦ absurd (false≢true (sym sound ∙ was (ap Err f))) | inr s ↦ s ] in
+    subst (λ y. RunsOut g t y h) same (record { failed = fails refl; shortage = short; cause = λ q. full (ap Err q); more = more })
+
+-- a command with two texts of which the first was refused
+pub both_refused : (read : List Element → Option Form) (g h : Graph) (left right : List ℕ) (e : Error) → OnlyReads g h → (IsTrue g.failed → h ≡ g) → (IsTrue g.failed → e ≡ Failed) → (g.failed ≡ false → Refuses (λ o. TextReads read g.table (chars left) o h.table) e) → IsAnsweredWith read g h left right e
+both_refused read g h left right e reads stays fails answer c command texts = first_is_refused read g h c left (right ∷ []) e command texts reads stays fails answer
+
+-- one of which a later text was refused
+pub both_refused_later : (read : List Element → Option Form) (g h : Graph) (left right : List ℕ) (e : Error) → g.failed ≡ false → FirstIsRefused read g (left ∷ right ∷ []) e h → IsAnsweredWith read g h left right e
+both_refused_later read g h left right e sound first c command texts = refused sound (subst (λ ts. FirstIsRefused read g ts e h) (sym texts) first)
+
+-- one whose terms could not be added
+pub both_run_out : (read : List Element → Option Form) (g r h : Graph) (left right : List ℕ) (e : Error) (t u : Term) → g.failed ≡ false → WritesTerms read g (left ∷ right ∷ []) (t ∷ u ∷ []) r → RunsOutAt r (t ∷ u ∷ []) e h → IsAnsweredWith read g h left right e
+both_run_out read g r h left right e t u sound writes short c command texts = ran_out (t ∷ u ∷ []) r sound (subst (λ ts. WritesTerms read g ts (t ∷ u ∷ []) r) (sym texts) writes) short
+
+-- what an answer to a command with two texts was is one to its result
+pub answered_with : {A : Type 0} (read : List Element → Option Form) (g h : Graph) (left right : List ℕ) (c : Command) (r : Result A Error) (e : Error) → r ≡ Err e → IfErr r (IsAnsweredWith read g h left right) → IsCommand c → texts_of c ≡ left ∷ right ∷ [] → Answered read g h c (Refused e)
+answered_with read g h left right c (Ok x) e is all command texts = cc
+answered_with read g h left right c (Err x) e is all command texts = let same : x ≡ e = cc in subst (λ y. Answered read g h c (Refused y)) same (all c command texts)
+
+module _ (read : List Element → Option Form) (g h : Graph) (left right : List ℕ) (a b : Applied) (both : AddsBoth read g h left right a b) where
+  -- two ids that find alike
+  pub found_equal : FoundAlike h.image a b → AreDerivable h.image a b → (asserted_in h.image ≡ [] → term_of h.image.canonical a ≡ term_of h.image.canonical b) → Answered read g h (compares left right) Yes
+  found_equal found derivable equal =
+      carried_out (both.first ∷ both.second ∷ []) (a ∷ b ∷ []) both.before h both.sound both.writes both.gains (are_equal (record {
+        found = found;
+        derivable = λ E e. derivable E both.first both.second e (sym both.left_term) (sym both.right_term);
+        equal = λ n. sym both.left_term ∙ (equal n ∙ both.right_term);
+      }))
+
+  -- two that do not
+  pub found_different : ¬ FoundAlike h.image a b → (asserted_in h.image ≡ [] → term_of h.image.canonical a ≡ term_of h.image.canonical b → FoundAlike h.image a b) → Answered read g h (compares left right) No
+  found_different apart equal =
+      carried_out (both.first ∷ both.second ∷ []) (a ∷ b ∷ []) both.before h both.sound both.writes both.gains (are_different (record {
+        found = apart;
+        different = λ n alpha. apart (equal n (both.left_term ∙ (alpha ∙ sym both.right_term)));
+      }))
+
+  -- what a union of the two says
+  pub unites_says : (k : Graph) (x : Answer) → Says h (unites left right) (both.first ∷ both.second ∷ []) (a ∷ b ∷ []) k x → Answered read g k (unites left right) x
+  unites_says k x says = carried_out (both.first ∷ both.second ∷ []) (a ∷ b ∷ []) both.before h both.sound both.writes both.gains says
+
+-- a union that was answered
+pub union_done : (g h : Graph) (a b : Applied) (y : Bool) → IsUnion g.image h.image a b y → ¬ (IsTrue h.failed) → h.table ≡ g.table → Unites g a b h y
+union_done g h a b y union sound table = record { union = union; sound = not_true h.failed sound; table = table }
+
+-- a shortage is no refusal for now
+not_short : {A : Type 0} (x : Error) → IsShortage x → (r : Result A Error) → r ≡ Err x → r ≡ Err NotYet → ⊥
+not_short x (inl m) r e n = cc
+not_short x (inr m) r e n = cc
+
+-- a union that was refused
+pub union_refused : (g h : Graph) (left right : List ℕ) (t u : Term) (a b : Applied) (r : Result Bool Error) (e : Error) → r ≡ Err e → g.failed ≡ false → (IsErrOf r Failed → IsTrue g.failed) → (IsErrOf r NotYet → IsNoUnion g.image a b × (h ≡ g)) → ((IsErr r × ¬ IsErrOf r NotYet) → IsTrue h.failed) → (IsErrOf r OutOfSlots → HasLargeClass g.image.canonical) → IfErr r (λ x. (x ≡ Failed) ⊎ (x ≡ NotYet) ⊎ IsShortage x) → h.table ≡ g.table → Says g (unites left right) (t ∷ u ∷ []) (a ∷ b ∷ []) h (Refused e)
+union_refused g h left right t u a b (Ok y) e is sound was yet fails full only table = cc
+union_refused g h left right t u a b (Err x) e is sound was yet fails full only table =
+    let same : x ≡ e = cc in
+    subst (λ y. Says g (unites left right) (t ∷ u ∷ []) (a ∷ b ∷ []) h (Refused y)) same (elim only [
+      | inl f ↦ absurd (false≢true (sym sound ∙ was (ap Err f)))
+      | inr (inl n) ↦
+          let y = yet (ap Err n) in
+          subst (λ z. Says g (unites left right) (t ∷ u ∷ []) (a ∷ b ∷ []) h (Refused z)) (sym n) (subst (λ k. Says g (unites left right) (t ∷ u ∷ []) (a ∷ b ∷ []) k (Refused NotYet)) (sym y.1) (not_yet y.0))
+      | inr (inr s) ↦ union_ran_out (record { failed = fails (refl, λ n. not_short x s (Err x) refl n); shortage = s; cause = λ q. full (ap Err q); table = table })
+    ])

@@ -1,0 +1,34 @@
+use Rattle.std.proofs.Common.{subst, refl}
+use Rattle.std.specs.Prelude.{true, false, Err}
+use Rattle.std.proofs.lemmas.Bool.{false≢true}
+use Rattle.std.proofs.lemmas.Result.{err_from_is_err_and}
+use Rattle.slotted_core.specs.Image.{IsUnion}
+use Rattle.slotted_core.specs.Nodes.{to_applied}
+use Rattle.slotted_commands.specs.Sessions.{are_united, were_equal}
+use Rattle.slotted_commands.proofs.Steps.{unites_says, union_refused, union_done}
+use Rattle.slotted_commands.proofs.session.unite.Goals as goal
+
+pub returns-in_err-union : goal.returns-in_err-union
+returns-in_err-union g c =
+    let e = c.in_err-union.ensures in
+    let p = err_from_is_err_and c.from_residual-in_err-union.result c.from_residual-in_err-union.ensures.1 in
+    let both = c.in_ok-left.ensures.ok in
+    rw (p.1, p.2) (unites_says g.L.LanguageChildren.read c.args.graph.now c.add_both.new.graph c.args.left.now c.args.right.now (to_applied c.in_ok-left.left) (to_applied c.in_ok-left.right) both c.union.new.self _
+    (union_refused c.add_both.new.graph c.union.new.self c.args.left.now c.args.right.now both.first both.second (to_applied c.in_ok-left.left) (to_applied c.in_ok-left.right) (Err c.in_err-union.field-0.0) c.in_err-union.field-0.0 refl both.sound_now
+    e.failed.0 e.not_yet e.fails.1 e.full e.only e.table))
+
+pub returns-then-branch : goal.returns-then-branch
+returns-then-branch g c =
+    let e = c.in_ok-union.ensures in
+    let a = to_applied c.in_ok-left.left in
+    let b = to_applied c.in_ok-left.right in
+    unites_says g.L.LanguageChildren.read c.args.graph.now c.add_both.new.graph c.args.left.now c.args.right.now a b c.in_ok-left.ensures.ok c.union.new.self _
+    (are_united (union_done c.add_both.new.graph c.union.new.self a b true (subst (IsUnion c.add_both.new.graph.image c.union.new.self.image a b) c.if-branch.true e.union) (λ f. false≢true (e.fails.0 f).0) e.table))
+
+pub returns : goal.returns
+returns g c =
+    let e = c.in_ok-union.ensures in
+    let a = to_applied c.in_ok-left.left in
+    let b = to_applied c.in_ok-left.right in
+    unites_says g.L.LanguageChildren.read c.args.graph.now c.add_both.new.graph c.args.left.now c.args.right.now a b c.in_ok-left.ensures.ok c.union.new.self _
+    (were_equal (union_done c.add_both.new.graph c.union.new.self a b false (subst (IsUnion c.add_both.new.graph.image c.union.new.self.image a b) c.if-branch.false e.union) (λ f. false≢true (e.fails.0 f).0) e.table))

@@ -1,0 +1,15 @@
+-- What an answer reads as.
+use Rattle.std.specs.Prelude.{ℕ, List, ◌++◌, codes, decimal}
+use Rattle.slotted_slots.specs.Error.{number_of, name_of}
+use Rattle.slotted_commands.specs.declared.answer.Answer.{Answer}
+use Rattle.slotted_commands.specs.declared.answer.Answer.TheVariants.{Done, Yes, No, United, WereEqual, Refused, NoCommand}
+
+-- the bytes of an answer
+abbrev pub text_of : Answer → List ℕ
+text_of Done = codes "ok"
+text_of Yes = codes "yes"
+text_of No = codes "no"
+text_of United = codes "true"
+text_of WereEqual = codes "false"
+text_of (Refused e) = codes "error: " ++ (decimal (number_of e) ++ (codes " " ++ name_of e))
+text_of NoCommand = codes "error: 0 Command"

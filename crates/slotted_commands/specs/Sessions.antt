@@ -1,0 +1,157 @@
+-- What a command answers over a graph, and what it leaves of it. A language says which node, if any, a list of elements
+-- writes. The texts of a command are read in turn from the left, before any of their terms is added.
+use Rattle.std.specs.Prelude.{◌≡◌, ◌≤◌, ◌^◌, ◌⊎◌, ℕ, List, [], ◌∷◌, map, Bool, true, false, Option, Some, IsTrue, Result, Ok, Err}
+use Rattle.std.specs.Str.{chars}
+use Rattle.slotted_theory.specs.Term.{Term}
+use Rattle.slotted_theory.specs.Nameless.{Alpha, nameless}
+use Rattle.slotted_theory.specs.Derives.{Derives, nameless_pair}
+use Rattle.slotted_slots.specs.declared.error.Error.{Error}
+use Rattle.slotted_slots.specs.declared.error.Error.TheVariants.{OutOfSlots, Failed, NotYet}
+use Rattle.slotted_slots.specs.Error.{IsShortage}
+use Rattle.slotted_slots.specs.Table.{KnowsMore}
+use Rattle.slotted_slots.specs.Syntax.{Element}
+use Rattle.slotted_nodes.specs.Form.{Form}
+use Rattle.slotted_patterns.specs.Outcome.{parsed, Refuses}
+use Rattle.slotted_terms.specs.Parsed.{TextReads}
+use Rattle.slotted_model.specs.Applied.{Applied}
+use Rattle.slotted_model.specs.Classes.{term_of}
+use Rattle.slotted_model.specs.Growth.{Extends}
+use Rattle.slotted_model.specs.Ids.{id_of}
+use Rattle.slotted_core.specs.Image.{FoundAlike, AddsClasses, IsUnion, IsNoUnion, HasLargeClass, asserted_in}
+use Rattle.slotted_core.specs.Places.{term_places}
+use Rattle.slotted_core.specs.Graph.{Graph, IsValidId, OnlyReads}
+use Rattle.slotted_commands.specs.declared.answer.Answer.{Answer}
+use Rattle.slotted_commands.specs.declared.answer.Answer.TheVariants.{Done, Yes, No, United, WereEqual, Refused, NoCommand}
+use Rattle.slotted_commands.specs.Commands.{Command, adds, compares, unites, no_command}
+
+-- the texts of a command, from the left
+abbrev pub texts_of : Command → List (List ℕ)
+texts_of (adds text) = text ∷ []
+texts_of (compares left right) = left ∷ right ∷ []
+texts_of (unites left right) = left ∷ right ∷ []
+texts_of no_command = []
+
+-- the line is a command
+abbrev pub IsCommand : Command → Type 0
+IsCommand (adds text) = Unit {0}
+IsCommand (compares left right) = Unit {0}
+IsCommand (unites left right) = Unit {0}
+IsCommand no_command = ⊥
+
+-- over g the text writes the term t, and reading it leaves h
+pub record WritesTerm (read : List Element → Option Form) (g : Graph) (text : List ℕ) (t : Term) (h : Graph) : Type 0 where
+  pub reads : TextReads read g.table (chars text) (parsed t) h.table
+  pub only : OnlyReads g h
+
+-- over g the text is refused with e, and reading it leaves h
+pub record IsRefused (read : List Element → Option Form) (g : Graph) (text : List ℕ) (e : Error) (h : Graph) : Type 0 where
+  pub reads : Refuses (λ o. TextReads read g.table (chars text) o h.table) e
+  pub only : OnlyReads g h
+
+-- the texts write these terms, one text read after another
+pub data WritesTerms (read : List Element → Option Form) : Graph → List (List ℕ) → List Term → Graph → Type 0 where
+  no_text : {g : Graph} → WritesTerms read g [] [] g
+  next_text : {g h k : Graph} {text : List ℕ} {texts : List (List ℕ)} {t : Term} {ts : List Term} → WritesTerm read g text t h → WritesTerms read h texts ts k → WritesTerms read g (text ∷ texts) (t ∷ ts) k
+
+-- the first of the texts that writes no term is refused with e
+pub data FirstIsRefused (read : List Element → Option Form) : Graph → List (List ℕ) → Error → Graph → Type 0 where
+  refused_here : {g h : Graph} {text : List ℕ} {texts : List (List ℕ)} {e : Error} → IsRefused read g text e h → FirstIsRefused read g (text ∷ texts) e h
+  refused_later : {g h k : Graph} {text : List ℕ} {texts : List (List ℕ)} {t : Term} {e : Error} → WritesTerm read g text t h → FirstIsRefused read h texts e k → FirstIsRefused read g (text ∷ texts) e k
+
+-- h has all that g has, with nothing more asserted, and a valid id that stands for the term t and is what a look-up of it answers
+pub record Gains (g : Graph) (t : Term) (id : Applied) (h : Graph) : Type 0 where
+  pub sound : h.failed ≡ false
+  pub valid : IsValidId h id
+  pub term : term_of h.image.canonical id ≡ nameless t
+  pub found : id_of h.image.canonical (nameless t) ≡ Some id
+  pub extends : Extends g.image.canonical h.image.canonical
+  pub adds : AddsClasses g.image h.image
+  pub more : KnowsMore g.table h.table
+
+-- adding the term t to g runs out of memory or slots, and leaves the failed graph h
+pub record RunsOut (g : Graph) (t : Term) (e : Error) (h : Graph) : Type 0 where
+  pub failed : IsTrue h.failed
+  pub shortage : IsShortage e
+  pub cause : e ≡ OutOfSlots → (h.table.fresh ≡ 2 ^ 30) ⊎ (2 ^ 30 ≤ term_places t)
+  pub more : KnowsMore g.table h.table
+
+-- the terms are added, one after another, and have these ids
+pub data GainsTerms : Graph → List Term → List Applied → Graph → Type 0 where
+  no_term : {g : Graph} → GainsTerms g [] [] g
+  next_term : {g h k : Graph} {t : Term} {a : Applied} {ts : List Term} {ids : List Applied} → Gains g t a h → GainsTerms h ts ids k → GainsTerms g (t ∷ ts) (a ∷ ids) k
+
+-- adding the terms runs out at one of them
+pub data RunsOutAt : Graph → List Term → Error → Graph → Type 0 where
+  runs_out_here : {g h : Graph} {t : Term} {ts : List Term} {e : Error} → RunsOut g t e h → RunsOutAt g (t ∷ ts) e h
+  runs_out_later : {g h k : Graph} {t : Term} {a : Applied} {ts : List Term} {e : Error} → Gains g t a h → RunsOutAt h ts e k → RunsOutAt g (t ∷ ts) e k
+
+-- the ids of two terms find the same: so the terms are derivable from any named equations that are the asserted list, and where
+-- nothing is asserted they differ in bound names alone
+pub record AreFoundEqual (g : Graph) (t u : Term) (a b : Applied) : Type 0 where
+  pub found : FoundAlike g.image a b
+  pub derivable : (E : List (Term × Term)) → map nameless_pair E ≡ asserted_in g.image → Derives E t u
+  pub equal : asserted_in g.image ≡ [] → Alpha t u
+
+-- they do not, and where nothing is asserted the terms are different
+pub record AreFoundDifferent (g : Graph) (t u : Term) (a b : Applied) : Type 0 where
+  pub found : ¬ FoundAlike g.image a b
+  pub different : asserted_in g.image ≡ [] → ¬ Alpha t u
+
+-- uniting ids of g leaves h and answers true or false
+pub record Unites (g : Graph) (a b : Applied) (h : Graph) (yes : Bool) : Type 0 where
+  pub union : IsUnion g.image h.image a b yes
+  pub sound : h.failed ≡ false
+  pub table : h.table ≡ g.table
+
+-- uniting ids of g runs out of memory or slots, and leaves the failed graph h
+pub record UnionRunsOut (g : Graph) (e : Error) (h : Graph) : Type 0 where
+  pub failed : IsTrue h.failed
+  pub shortage : IsShortage e
+  pub cause : e ≡ OutOfSlots → HasLargeClass g.image.canonical
+  pub table : h.table ≡ g.table
+
+-- what a command says of its terms and their ids once they are added to g, and the graph that it leaves
+pub data Says (g : Graph) : Command → List Term → List Applied → Graph → Answer → Type 0 where
+  done : {text : List ℕ} {t : Term} {a : Applied} → Says g (adds text) (t ∷ []) (a ∷ []) g Done
+  are_equal : {left right : List ℕ} {t u : Term} {a b : Applied} → AreFoundEqual g t u a b → Says g (compares left right) (t ∷ u ∷ []) (a ∷ b ∷ []) g Yes
+  are_different : {left right : List ℕ} {t u : Term} {a b : Applied} → AreFoundDifferent g t u a b → Says g (compares left right) (t ∷ u ∷ []) (a ∷ b ∷ []) g No
+  are_united : {left right : List ℕ} {t u : Term} {a b : Applied} {h : Graph} → Unites g a b h true → Says g (unites left right) (t ∷ u ∷ []) (a ∷ b ∷ []) h United
+  were_equal : {left right : List ℕ} {t u : Term} {a b : Applied} {h : Graph} → Unites g a b h false → Says g (unites left right) (t ∷ u ∷ []) (a ∷ b ∷ []) h WereEqual
+  not_yet : {left right : List ℕ} {t u : Term} {a b : Applied} → IsNoUnion g.image a b → Says g (unites left right) (t ∷ u ∷ []) (a ∷ b ∷ []) g (Refused NotYet)
+  union_ran_out : {left right : List ℕ} {t u : Term} {a b : Applied} {e : Error} {h : Graph} → UnionRunsOut g e h → Says g (unites left right) (t ∷ u ∷ []) (a ∷ b ∷ []) h (Refused e)
+
+-- what a command answers over g, and the graph h that it leaves
+pub data Answered (read : List Element → Option Form) (g h : Graph) (c : Command) : Answer → Type 0 where
+  -- what is no command changes nothing
+  unknown : c ≡ no_command → h ≡ g → Answered read g h c NoCommand
+  -- nor does any command on a graph that has failed
+  has_failed : IsCommand c → IsTrue g.failed → h ≡ g → Answered read g h c (Refused Failed)
+  -- the first text that is refused gives the answer, and no term is added
+  refused : {e : Error} → g.failed ≡ false → FirstIsRefused read g (texts_of c) e h → Answered read g h c (Refused e)
+  -- a shortage while terms are added
+  ran_out : {e : Error} (ts : List Term) (r : Graph) → g.failed ≡ false → WritesTerms read g (texts_of c) ts r → RunsOutAt r ts e h → Answered read g h c (Refused e)
+  -- all texts are read, then all terms are added, and then the command says of them what it does
+  carried_out : {a : Answer} (ts : List Term) (ids : List Applied) (r k : Graph) → g.failed ≡ false → WritesTerms read g (texts_of c) ts r → GainsTerms r ts ids k → Says k c ts ids h a → Answered read g h c a
+
+-- two texts write terms that are added to g and have these ids in h
+pub record AddsBoth (read : List Element → Option Form) (g h : Graph) (left right : List ℕ) (a b : Applied) : Type 0 where
+  pub first : Term
+  pub second : Term
+  pub before : Graph
+  pub sound : g.failed ≡ false
+  pub writes : WritesTerms read g (left ∷ right ∷ []) (first ∷ second ∷ []) before
+  pub gains : GainsTerms before (first ∷ second ∷ []) (a ∷ b ∷ []) h
+  pub sound_now : h.failed ≡ false
+  pub left_valid : IsValidId h a
+  pub right_valid : IsValidId h b
+  pub left_term : term_of h.image.canonical a ≡ nameless first
+  pub right_term : term_of h.image.canonical b ≡ nameless second
+
+-- any command with these two texts is refused with e, and leaves h
+abbrev pub IsAnsweredWith : (List Element → Option Form) → Graph → Graph → List ℕ → List ℕ → Error → Type 0
+IsAnsweredWith read g h left right e = (c : Command) → IsCommand c → texts_of c ≡ left ∷ right ∷ [] → Answered read g h c (Refused e)
+
+-- the answer, where a refusal is an answer too
+abbrev pub answer_of : Result Answer Error → Answer
+answer_of (Ok a) = a
+answer_of (Err e) = Refused e

@@ -1,0 +1,45 @@
+-- What the program writes for what it reads.
+use Rattle.std.specs.Prelude.{◌<◌, ℕ, List, [], ◌∷◌, ◌++◌, length, Option, false, if◌then◌else◌, ◌==◌}
+use Rattle.std.specs.Str.{IsUtf8}
+use Rattle.slotted_slots.specs.Syntax.{Element}
+use Rattle.slotted_slots.specs.Table.{empty_table}
+use Rattle.slotted_nodes.specs.Form.{Form}
+use Rattle.slotted_core.specs.Graph.{Graph}
+use Rattle.slotted_core.specs.Image.{no_classes}
+use Rattle.slotted_commands.specs.declared.answer.Answer.{Answer}
+use Rattle.slotted_commands.specs.Answers.{text_of}
+use Rattle.slotted_commands.specs.Commands.{command_of}
+use Rattle.slotted_commands.specs.Sessions.{Answered}
+
+-- the byte at the front of the first line
+abbrev pub with_first : ℕ → List (List ℕ) → List (List ℕ)
+with_first b [] = (b ∷ []) ∷ []
+with_first b (line ∷ lines) = (b ∷ line) ∷ lines
+
+-- the lines of bytes: each is ended by a line feed, which the last may lack
+abbrev pub lines_of : List ℕ → List (List ℕ)
+lines_of [] = []
+lines_of (b ∷ bs) = if b == 10 then [] ∷ lines_of bs else with_first b (lines_of bs)
+
+-- what one line writes over g, and the graph that it leaves: an empty line writes nothing, and any other, which is UTF-8,
+-- its answer and a line feed
+pub data LineWrites (read : List Element → Option Form) (g : Graph) : List ℕ → List ℕ → Graph → Type 0 where
+  empty_line : LineWrites read g [] [] g
+  one_line : {line : List ℕ} {a : Answer} {h : Graph} → 0 < length line → IsUtf8 line → Answered read g h (command_of line) a → LineWrites read g line (text_of a ++ 10 ∷ []) h
+
+-- what lines write over g, one after another
+pub data LinesWrite (read : List Element → Option Form) : Graph → List (List ℕ) → List ℕ → Graph → Type 0 where
+  no_line : {g : Graph} → LinesWrite read g [] [] g
+  next_line : {g h k : Graph} {line : List ℕ} {lines : List (List ℕ)} {bs cs : List ℕ} → LineWrites read g line bs h → LinesWrite read h lines cs k → LinesWrite read g (line ∷ lines) (bs ++ cs) k
+
+-- the graph without classes, over an empty table
+abbrev pub empty_graph : Graph
+empty_graph = record { failed = false; table = empty_table; image = no_classes }
+
+-- the lines of the input, answered from g on, write bytes of which P holds
+abbrev pub WritesFrom : (List Element → Option Form) → Graph → List ℕ → (List ℕ → Type 0) → Type 0
+WritesFrom read g input P = (bs : List ℕ) × (h : Graph) × LinesWrite read g (lines_of input) bs h × P bs
+
+-- the same from the empty graph on
+abbrev pub SessionWrites : (List Element → Option Form) → List ℕ → (List ℕ → Type 0) → Type 0
+SessionWrites read input P = WritesFrom read empty_graph input P

@@ -1,0 +1,45 @@
+//! What a line is answered with.
+ghost use Rattle.std.specs.Prelude.{Some};
+ghost use Rattle.slotted_commands.specs.Answers.{text_of};
+
+use slotted_slots::Error;
+use std::fmt;
+
+/// What one line is answered with.
+#[derive(Drop)]
+pub enum Answer {
+    /// The term was added.
+    Done,
+    /// The two terms are equal.
+    Yes,
+    /// The two terms are not equal.
+    No,
+    /// The two terms were not equal, and are now.
+    United,
+    /// The two terms to unite were equal already.
+    WereEqual,
+    /// The command was refused.
+    Refused(Error),
+    /// The line is no command.
+    NoCommand,
+}
+
+impl fmt::Display for Answer {
+    ghost output = { λ a. Some (text_of a) };
+
+    fn fmt<W: fmt::Write>(&self, f: &mut fmt::Formatter<W>) -> fmt::Result {
+        match self {
+            Answer::Done => write!(f, "ok"),
+            Answer::Yes => write!(f, "yes"),
+            Answer::No => write!(f, "no"),
+            Answer::United => write!(f, "true"),
+            Answer::WereEqual => write!(f, "false"),
+            Answer::Refused(error) => {
+                let number = error.number();
+                let name = error.name();
+                write!(f, "error: {number} {name}")
+            }
+            Answer::NoCommand => write!(f, "error: 0 Command"),
+        }
+    }
+}

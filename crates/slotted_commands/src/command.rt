@@ -1,0 +1,41 @@
+//! What a line asks.
+ghost use Rattle.std.specs.Prelude.{◌≡◌};
+ghost use Rattle.slotted_commands.specs.Commands.{command_of};
+ghost use Rattle.slotted_commands.specs.Asked.{asked};
+
+/// What one line asks, with the texts that it names.
+#[derive(Drop)]
+pub enum Command<'a> {
+    /// To add a text.
+    Add(&'a str),
+    /// To compare two texts.
+    Eq(&'a str, &'a str),
+    /// To unite two texts.
+    Union(&'a str, &'a str),
+    /// Nothing that is known.
+    Unknown,
+}
+
+impl<'a> Command<'a> {
+    /// What a line asks, which holds no line feed.
+    pub fn read(line: &'a str) -> Command<'a>
+        ensures { asked result ≡ command_of line.now }
+    {
+        if let Some(text) = line.strip_prefix("add ") {
+            return Command::Add(text);
+        }
+        if let Some(texts) = line.strip_prefix("eq ") {
+            return match texts.split_once(" == ") {
+                Some((left, right)) => Command::Eq(left, right),
+                None => Command::Unknown,
+            };
+        }
+        let Some(texts) = line.strip_prefix("union ") else {
+            return Command::Unknown;
+        };
+        match texts.split_once(" == ") {
+            Some((left, right)) => Command::Union(left, right),
+            None => Command::Unknown,
+        }
+    }
+}

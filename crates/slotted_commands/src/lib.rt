@@ -1,0 +1,11 @@
+//! The commands of the program, over any language: a line is answered over a graph, and the lines of a reader on a writer.
+#![tactic(auto)]
+
+mod answer;
+mod command;
+pub mod session;
+mod stream;
+
+pub use answer::Answer;
+pub use command::Command;
+pub use stream::{answer_line, answer_session};

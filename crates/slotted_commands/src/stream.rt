@@ -1,0 +1,83 @@
+//! Lines in, answers out.
+ghost use Rattle.std.specs.Prelude.{◌≡◌, ℕ, List, IfSome, OnSome, IsErr, OnOk};
+ghost use Rattle.std.specs.Str.{IsUtf8};
+ghost use Rattle.std.specs.Io.BufRead.{strip_last};
+ghost use Rattle.std.specs.Io.KnownBytes.{Appends, IsAtEnd, Keeps};
+ghost use Rattle.slotted_commands.specs.Streams.{LineWrites, SessionWrites, WritesFrom};
+
+use crate::session::answer;
+use slotted_core::EGraph;
+use slotted_languages::Language;
+use slotted_slots::SlotTable;
+use std::alloc::Global;
+use std::io;
+use std::io::{BufRead, ErrorKind, Write};
+
+/// Answers each line of `input` on `output`, from a graph without classes on, up to the end of the input. Each answer is
+/// written out before the next line is read. The first read or write that fails ends it, and so do bytes that are not
+/// UTF-8 and want of memory for a line; what was answered before stands.
+pub fn answer_session<L: Language, R: BufRead, W: Write>(
+    alloc: Global,
+    input: &mut R,
+    output: &mut W,
+) -> io::Result<()>
+    ensures answers { OnOk result (IfSome (R.remaining input.old) (λ bytes. SessionWrites L.read bytes
+        (Appends (W.contents output.old) (W.contents output.new)))) }
+    ensures end { OnOk result (OnSome (R.remaining input.old) (IsAtEnd (R.remaining input.new))) }
+{
+    match EGraph::<L>::new(alloc, SlotTable::new(alloc), ()) {
+        Ok(mut graph) => answer_each(alloc, &mut graph, input, output),
+        Err(_) => Err(io::Error::from(ErrorKind::OutOfMemory)),
+    }
+}
+
+// Answers each line over a graph.
+fn answer_each<L: Language, R: BufRead, W: Write>(
+    alloc: Global,
+    graph: &mut EGraph<L>,
+    input: &mut R,
+    output: &mut W,
+) -> io::Result<()>
+    ensures answers { OnOk result (IfSome (R.remaining input.old) (λ bytes. WritesFrom L.read graph.old bytes
+        (Appends (W.contents output.old) (W.contents output.new)))) }
+    ensures end { OnOk result (OnSome (R.remaining input.old) (IsAtEnd (R.remaining input.new))) }
+{
+    let mut line = Vec::new(alloc);
+    for _ in 0..u64::MAX {
+        line.clear();
+        if input.read_until(b'\n', &mut line)? == 0 {
+            return Ok(());
+        }
+        answer_line(graph, &line, output)?;
+    }
+    Err(io::Error::from(ErrorKind::FileTooLarge))
+}
+
+/// Answers one line, which may end in a line feed, on `output`, and writes it out. An empty line has no answer.
+pub fn answer_line<L: Language, W: Write>(
+    graph: &mut EGraph<L>,
+    line: &[u8],
+    output: &mut W,
+) -> io::Result<()>
+    ensures answers { OnOk result ((bs : List ℕ) × LineWrites L.read graph.old (strip_last 10 line.now) bs graph.new
+        × Appends (W.contents output.old) (W.contents output.new) bs) }
+    ensures not_text { ¬ (IsUtf8 (strip_last 10 line.now)) → IsErr result × (graph.new ≡ graph.old)
+        × Keeps (W.contents output.old) (W.contents output.new) }
+{
+    let Ok(text) = str::from_utf8(without_line_feed(line)) else {
+        return Err(io::Error::from(ErrorKind::InvalidData));
+    };
+    if text.is_empty() {
+        return Ok(());
+    }
+    let answer = answer(graph, text);
+    writeln!(output, "{answer}")?;
+    output.flush()
+}
+
+// The line without the line feed that may end it.
+fn without_line_feed(line: &[u8]) -> &[u8]
+    ensures { result.now ≡ strip_last 10 line.now }
+{
+    line.strip_suffix(b"\n").unwrap_or(line)
+}

@@ -1,0 +1,19 @@
+//! Refused memory. `rt try --test --fail-alloc N` has the Nth growth refused.
+use crate::streams::answer;
+use std::alloc::Global;
+use std::process::Abort;
+
+// Answers three lines, and says whether all ended well. A refusal changes no other answer.
+fn ends_well(rt: &impl Abort, alloc: Global) -> bool {
+    let mut output = Vec::new(alloc);
+    let lines = b"add (lam $x (app (f $x $y) (g $x)))\nadd a\neq (lam $x a) == (lam $y a)\n";
+    let is_read = answer(alloc, lines, &mut output).is_ok();
+    assert!(rt; !output.contains(&b'n'));
+    is_read && output.as_slice() == b"ok\nok\nyes\n".as_slice()
+}
+
+// One growth at most is refused: so the lines are answered when they are asked once more.
+#[test]
+fn refused_memory_is_answered(rt: HostRuntime) {
+    assert!(rt; ends_well(&rt, rt.alloc()) || ends_well(&rt, rt.alloc()));
+}

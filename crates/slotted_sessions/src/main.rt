@@ -1,0 +1,105 @@
+//! The program `slotted_sessions`: sessions in, answers out.
+//!
+//! A line `---` ends a session, and the next one has a graph of its own. A line that begins with `# ` is a title. Both are
+//! written as they stand, and each other line is answered as by the program `slotted`.
+#![tactic(auto)]
+
+ghost use Rattle.std.specs.Prelude.{◌≡◌, ◌↔◌, IsTrue, OnOk, codes, nat_eq};
+ghost use Rattle.std.specs.List.{starts_with};
+ghost use Rattle.std.specs.Io.BufRead.{strip_last};
+ghost use Rattle.std.specs.Io.KnownBytes.{Appends};
+
+use slotted_commands::answer_line;
+use slotted_core::EGraph;
+use slotted_languages::{Language, Small};
+use slotted_slots::SlotTable;
+use std::alloc::Global;
+use std::io;
+use std::io::{BufRead, BufReader, BufWriter, ErrorKind, Write};
+
+// Whether a line ends its session.
+fn is_divider(line: &[u8]) -> bool
+    ensures { IsTrue result ↔ strip_last 10 line.now ≡ codes "---" }
+{
+    line.strip_suffix(b"\n").unwrap_or(line) == b"---".as_slice()
+}
+
+// Whether a line is the title of a session.
+fn is_title(line: &[u8]) -> bool
+    ensures { result ≡ starts_with nat_eq line.now (codes "# ") }
+{
+    line.starts_with(b"# ")
+}
+
+// Answers a line over a graph, or writes it as it stands.
+fn answer_or_repeat<L: Language, W: Write>(
+    graph: &mut EGraph<L>,
+    line: &[u8],
+    output: &mut W,
+) -> io::Result<()>
+    ensures title { IsTrue (starts_with nat_eq line.now (codes "# ")) → (graph.new ≡ graph.old)
+        × OnOk result (Appends (W.contents output.old) (W.contents output.new) line.now) }
+    ensures divider { strip_last 10 line.now ≡ codes "---" → (graph.new ≡ graph.old)
+        × OnOk result (Appends (W.contents output.old) (W.contents output.new) line.now) }
+{
+    if is_title(line) || is_divider(line) {
+        output.write_all(line)
+    } else {
+        answer_line(graph, line, output)
+    }
+}
+
+// Answers lines over a graph up to the end of their session, and says whether a line `---` ended it.
+fn answer_lines<L: Language, R: BufRead, W: Write>(
+    alloc: Global,
+    graph: &mut EGraph<L>,
+    input: &mut R,
+    output: &mut W,
+) -> io::Result<bool> {
+    let mut line = Vec::new(alloc);
+    for _ in 0..u64::MAX {
+        line.clear();
+        if input.read_until(b'\n', &mut line)? == 0 {
+            return Ok(false);
+        }
+        answer_or_repeat(graph, &line, output)?;
+        if is_divider(&line) {
+            return Ok(true);
+        }
+    }
+    Err(io::Error::from(ErrorKind::FileTooLarge))
+}
+
+// Answers a session over a graph of its own, and says whether a line `---` ended it.
+fn answer_next<L: Language, R: BufRead, W: Write>(
+    alloc: Global,
+    input: &mut R,
+    output: &mut W,
+) -> io::Result<bool> {
+    match EGraph::<L>::new(alloc, SlotTable::new(alloc), ()) {
+        Ok(mut graph) => answer_lines(alloc, &mut graph, input, output),
+        Err(_) => Err(io::Error::from(ErrorKind::OutOfMemory)),
+    }
+}
+
+// Answers one session after another up to the end of the input.
+fn answer_sessions<L: Language, R: BufRead, W: Write>(
+    alloc: Global,
+    input: &mut R,
+    output: &mut W,
+) -> io::Result<()> {
+    for _ in 0..u64::MAX {
+        if !answer_next::<L, R, W>(alloc, input, output)? {
+            return Ok(());
+        }
+    }
+    Err(io::Error::from(ErrorKind::FileTooLarge))
+}
+
+fn main(rt: HostRuntime) -> io::Result<()> {
+    let alloc = rt.alloc();
+    let mut input = BufReader::new(alloc, rt.reader())?;
+    let mut output = BufWriter::new(alloc, io::writer(&rt))?;
+    answer_sessions::<Small, _, _>(alloc, &mut input, &mut output)?;
+    output.flush()
+}
