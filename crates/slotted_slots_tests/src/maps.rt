@@ -24,8 +24,10 @@ fn maps_print_by_their_keys(rt: HostRuntime) {
     }
 }
 
-// Over `[$2 -> $7, $3 -> $8, $4 -> $7]`.
-fn check_in_place(rt: &impl Abort, map: &mut SlotMap) {
+#[test]
+fn maps_change_in_place(rt: HostRuntime) {
+    let mut map = map_of(&rt, "3:7 2:7 3:8 4:7");
+    assert!(rt; !map.is_bijection());
     let three = Slot::numeric_at(3);
     let eight = Slot::numeric_at(8);
     assert!(rt; map.len() == 3);
@@ -36,13 +38,6 @@ fn check_in_place(rt: &impl Abort, map: &mut SlotMap) {
     assert!(rt; map.get(three) == Some(three));
     map.remove(three);
     assert!(rt; !map.contains_key(three));
-}
-
-#[test]
-fn maps_change_in_place(rt: HostRuntime) {
-    let mut map = map_of(&rt, "3:7 2:7 3:8 4:7");
-    assert!(rt; !map.is_bijection());
-    check_in_place(&rt, &mut map);
 }
 
 // Over `[$1 -> $3, $2 -> $7, $5 -> $7]`, as are the next ones.

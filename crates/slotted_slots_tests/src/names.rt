@@ -68,6 +68,11 @@ fn an_unknown_name_is_a_mark(rt: HostRuntime) {
 }
 
 #[test]
+fn numeric_slots_are_multiples_of_four(rt: HostRuntime) {
+    assert!(rt; Slot::numeric_at(3).raw() == 12);
+}
+
+#[test]
 fn ids_print_their_numbers(rt: HostRuntime) {
     let text = format!(in rt.alloc(); "{:?}", Id(5)).expect(&rt, "text");
     assert!(rt; text.as_str() == "id5");
