@@ -6,28 +6,6 @@ use slotted_proofs::{ProofList, ProvenEq};
 use slotted_slots::{AppliedId, Error};
 use std::process::Abort;
 
-// An equation stands once, by its first text; another one stands next.
-fn check_asserted(rt: &(impl Abort + AllocGlobal), list: &mut ProofList) {
-    assert!(rt; list.is_empty());
-    let p = asserted(rt, list, "7 1:3 2:4 = 8 3:4", "first");
-    let again = asserted(rt, list, "7 1:8 2:6 = 8 3:6", "again");
-    assert!(rt; p == again && list.len() == 1);
-    let shown = "id7[$1 -> $0, $2 -> $1] = id8[$3 -> $1]";
-    assert_entry(rt, list, Ok(p), 0, shown, "Some(\"first\")");
-    let q = asserted(rt, list, "7 1:8 2:6 = 8 3:8", "second");
-    let shown = "id7[$1 -> $0, $2 -> $1] = id8[$3 -> $0]";
-    assert_entry(rt, list, Ok(q), 1, shown, "Some(\"second\")");
-    assert!(rt; list.asserted() == [p, q].as_slice());
-}
-
-// Turns the first entry round.
-fn check_turned(rt: &(impl Abort + AllocGlobal), list: &mut ProofList, p: ProvenEq) {
-    assert!(rt; list.is_valid(p));
-    let turned = list.enter_symmetric(rt.alloc(), p);
-    let shown = "id8[$3 -> $0] = id7[$1 -> $1, $2 -> $0]";
-    assert_entry(rt, list, turned, 1, shown, "symmetry(0)");
-}
-
 fn check_entry(rt: &(impl Abort + AllocGlobal), list: &ProofList, p: ProvenEq) {
     assert!(rt; list.is_valid(p));
     let entry = list.entry(rt.alloc(), p).expect(rt, "entry");
@@ -37,14 +15,26 @@ fn check_entry(rt: &(impl Abort + AllocGlobal), list: &ProofList, p: ProvenEq) {
 #[test]
 fn an_equation_stands_once(rt: HostRuntime) {
     let mut list = ProofList::new(rt.alloc());
-    check_asserted(&rt, &mut list);
+    assert!(rt; list.is_empty());
+    let p = asserted(&rt, &mut list, "7 1:3 2:4 = 8 3:4", "first");
+    let again = asserted(&rt, &mut list, "7 1:8 2:6 = 8 3:6", "again");
+    assert!(rt; p == again && list.len() == 1);
+    let shown = "id7[$1 -> $0, $2 -> $1] = id8[$3 -> $1]";
+    assert_entry(&rt, &list, Ok(p), 0, shown, "Some(\"first\")");
+    let q = asserted(&rt, &mut list, "7 1:8 2:6 = 8 3:8", "second");
+    let shown = "id7[$1 -> $0, $2 -> $1] = id8[$3 -> $0]";
+    assert_entry(&rt, &list, Ok(q), 1, shown, "Some(\"second\")");
+    assert!(rt; list.asserted() == [p, q].as_slice());
 }
 
 #[test]
 fn entries_turn_round(rt: HostRuntime) {
     let mut list = ProofList::new(rt.alloc());
     let p = asserted(&rt, &mut list, "7 1:3 2:4 = 8 3:4", "");
-    check_turned(&rt, &mut list, p);
+    assert!(rt; list.is_valid(p));
+    let turned = list.enter_symmetric(rt.alloc(), p);
+    let shown = "id8[$3 -> $0] = id7[$1 -> $1, $2 -> $0]";
+    assert_entry(&rt, &list, turned, 1, shown, "symmetry(0)");
     check_entry(&rt, &list, p);
 }
 
@@ -60,8 +50,10 @@ fn check_itself(rt: &(impl Abort + AllocGlobal), list: &mut ProofList) {
 fn check_leaves(rt: &(impl Abort + AllocGlobal), list: &mut ProofList) {
     let e = equation(rt, "7 1:30 2:20 = 9 4:20 5:10");
     let p = list.prove_congruent(rt.alloc(), &e, &[], Vec::new(rt.alloc()));
+    let p = p.expect(rt, "entry");
     let shown = "id7[$1 -> $0, $2 -> $1] = id9[$4 -> $1, $5 -> $2]";
-    assert_entry(rt, list, p, 1, shown, "congruence()");
+    assert_entry(rt, list, Ok(p), 1, shown, "congruence()");
+    check_entry(rt, list, p);
 }
 
 #[test]

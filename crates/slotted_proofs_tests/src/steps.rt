@@ -39,27 +39,6 @@ fn checked(
     check(rt, list, &e, step)
 }
 
-// A symmetric step turns its part; one that keeps it is refused.
-fn check_symmetric(rt: &(impl Abort + AllocGlobal), list: &mut ProofList) {
-    let p = asserted(rt, list, "7 1:3 2:4 = 8 3:4", "p");
-    let kept = checked(rt, list, "7 1:6 2:5 = 8 3:5", Step::Symmetric(p));
-    assert!(rt; is_bad(&kept) && list.len() == 1);
-    let turned = checked(rt, list, "8 3:5 = 7 1:6 2:5", Step::Symmetric(p));
-    let shown = "id8[$3 -> $0] = id7[$1 -> $1, $2 -> $0]";
-    assert_entry(rt, list, turned, 1, shown, "symmetry(0)");
-}
-
-// A transitive step shares nothing else than the middle; one with a shared name is refused.
-fn check_transitive(rt: &(impl Abort + AllocGlobal), list: &mut ProofList) {
-    let p = asserted(rt, list, "8 3:0 = 7 1:0 2:1", "p");
-    let q = asserted(rt, list, "7 1:0 2:1 = 9 4:1", "q");
-    let shared = checked(rt, list, "8 3:2 = 9 4:2", Step::Transitive(p, q));
-    assert!(rt; is_bad(&shared) && list.len() == 2);
-    let apart = checked(rt, list, "8 3:2 = 9 4:3", Step::Transitive(p, q));
-    let shown = "id8[$3 -> $0] = id9[$4 -> $1]";
-    assert_entry(rt, list, apart, 2, shown, "transitivity(0, 1)");
-}
-
 // A reflexive step has equal sides.
 fn check_reflexive(rt: &(impl Abort + AllocGlobal), list: &mut ProofList) {
     let p = checked(rt, list, "7 1:5 = 7 1:5", Step::Reflexive);
@@ -82,13 +61,24 @@ fn check_lacking(
 #[test]
 fn a_symmetric_step_turns_its_part(rt: HostRuntime) {
     let mut list = ProofList::new(rt.alloc());
-    check_symmetric(&rt, &mut list);
+    let p = asserted(&rt, &mut list, "7 1:3 2:4 = 8 3:4", "p");
+    let kept = checked(&rt, &mut list, "7 1:6 2:5 = 8 3:5", Step::Symmetric(p));
+    assert!(rt; is_bad(&kept) && list.len() == 1);
+    let turned = checked(&rt, &mut list, "8 3:5 = 7 1:6 2:5", Step::Symmetric(p));
+    let shown = "id8[$3 -> $0] = id7[$1 -> $1, $2 -> $0]";
+    assert_entry(&rt, &list, turned, 1, shown, "symmetry(0)");
 }
 
 #[test]
 fn a_transitive_step_shares_nothing_else(rt: HostRuntime) {
     let mut list = ProofList::new(rt.alloc());
-    check_transitive(&rt, &mut list);
+    let p = asserted(&rt, &mut list, "8 3:0 = 7 1:0 2:1", "p");
+    let q = asserted(&rt, &mut list, "7 1:0 2:1 = 9 4:1", "q");
+    let shared = checked(&rt, &mut list, "8 3:2 = 9 4:2", Step::Transitive(p, q));
+    assert!(rt; is_bad(&shared) && list.len() == 2);
+    let apart = checked(&rt, &mut list, "8 3:2 = 9 4:3", Step::Transitive(p, q));
+    let shown = "id8[$3 -> $0] = id9[$4 -> $1]";
+    assert_entry(&rt, &list, apart, 2, shown, "transitivity(0, 1)");
 }
 
 #[test]
@@ -126,28 +116,17 @@ fn check_lines(
     assert!(rt; lines.line_of(last) == Some(2) && lines.get(2) == Some(last));
 }
 
-// Enters two equations, the first one turned round, and from class 8 to class 7 and back.
-fn check_back(rt: &(impl Abort + AllocGlobal), list: &mut ProofList) {
-    let first = asserted(rt, list, "8 3:0 = 7 1:0 2:1", "p");
-    let second = asserted(rt, list, "7 1:0 2:1 = 9 4:1", "q");
-    assert!(rt; list.is_valid(first));
-    let third = list.enter_symmetric(rt.alloc(), first).expect(rt, "third");
-    let last = checked(rt, list, "8 3:2 = 8 3:2", Step::Transitive(first, third));
-    let last = last.expect(rt, "last");
-    assert!(rt; second.number() == 1 && third.number() == 2);
-    assert_entry(
-        rt,
-        list,
-        Ok(last),
-        3,
-        "id8[$3 -> $0] = id8[$3 -> $0]",
-        "transitivity(0, 1)",
-    );
-    check_lines(rt, list, second, last);
-}
-
 #[test]
 fn parts_have_their_lines_first(rt: HostRuntime) {
     let mut list = ProofList::new(rt.alloc());
-    check_back(&rt, &mut list);
+    let first = asserted(&rt, &mut list, "8 3:0 = 7 1:0 2:1", "p");
+    let second = asserted(&rt, &mut list, "7 1:0 2:1 = 9 4:1", "q");
+    assert!(rt; list.is_valid(first));
+    let third = list.enter_symmetric(rt.alloc(), first).expect(&rt, "third");
+    let step = Step::Transitive(first, third);
+    let last = checked(&rt, &mut list, "8 3:2 = 8 3:2", step).expect(&rt, "last");
+    assert!(rt; second.number() == 1 && third.number() == 2);
+    let shown = "id8[$3 -> $0] = id8[$3 -> $0]";
+    assert_entry(&rt, &list, Ok(last), 3, shown, "transitivity(0, 1)");
+    check_lines(&rt, &list, second, last);
 }
