@@ -1,0 +1,43 @@
+//! Refusals, tokens and elements of syntax.
+use crate::checks::assert_copied;
+use slotted_slots::{AppliedId, Error, ParseError, SyntaxElem, Token};
+use std::process::Abort;
+
+fn assert_case(rt: &impl Abort, error: &Error, number: u8, name: &str) {
+    assert!(rt; error.number() == number && error.name() == name);
+}
+
+#[test]
+fn refusals_have_numbers_and_names(rt: HostRuntime) {
+    assert_case(&rt, &Error::OutOfMemory, 1, "OutOfMemory");
+    assert_case(&rt, &Error::OutOfSlots, 2, "OutOfSlots");
+    assert_case(&rt, &Error::Failed, 3, "Failed");
+    let parse = ParseError::TokenState(String::new(rt.alloc()));
+    assert_case(&rt, &Error::Parse(parse), 4, "Parse");
+    assert_case(&rt, &Error::NotATerm, 5, "NotATerm");
+    assert_case(&rt, &Error::SubstInSearch, 6, "SubstInSearch");
+    let missing = Error::MissingVariable(String::new(rt.alloc()));
+    assert_case(&rt, &missing, 7, "MissingVariable");
+    assert_case(&rt, &Error::NotEqual, 8, "NotEqual");
+    assert_case(&rt, &Error::BadStep, 9, "BadStep");
+    assert_case(&rt, &Error::UnknownClass, 10, "UnknownClass");
+    assert_case(&rt, &Error::NumberTooLarge, 11, "NumberTooLarge");
+    assert_case(&rt, &Error::NotYet, 12, "NotYet");
+}
+
+fn check_token(rt: &(impl Abort + AllocGlobal), token: &Token) {
+    assert_copied(rt, token, token.copy(rt.alloc()));
+    assert_copied(rt, token, token.clone());
+}
+
+fn check_element(rt: &(impl Abort + AllocGlobal), element: &SyntaxElem) {
+    assert_copied(rt, element, element.copy(rt.alloc()));
+    assert_copied(rt, element, element.clone());
+}
+
+#[test]
+fn tokens_and_elements_are_copied(rt: HostRuntime) {
+    let text = String::from_str(rt.alloc(), "app").expect(&rt, "text");
+    check_token(&rt, &Token::Ident(text));
+    check_element(&rt, &SyntaxElem::AppliedId(AppliedId::null(rt.alloc())));
+}

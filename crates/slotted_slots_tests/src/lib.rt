@@ -1,0 +1,19 @@
+//! Tests of worked values of slots, maps and sets, and nothing else. They stand in a crate of their own, since a crate with
+//! tests is proved twice. A refusal ends a test at once, by `expect`: a `?` would drop all that is held, which is proved for
+//! each.
+#![tactic(auto)]
+
+#[cfg(test)]
+mod applied;
+#[cfg(test)]
+mod checks;
+#[cfg(test)]
+mod elements;
+#[cfg(test)]
+mod maps;
+#[cfg(test)]
+mod names;
+#[cfg(test)]
+mod sets;
+#[cfg(test)]
+mod small_maps;
