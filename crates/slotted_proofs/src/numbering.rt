@@ -26,6 +26,38 @@ pub(crate) fn shared_names(alloc: Global, from: &SlotMap, to: &SlotMap) -> Resul
     Ok(shared)
 }
 
+// Pairs whose second slots are sent on: a slot of the one map to that of the other with the same name.
+pub(crate) fn sent_along(
+    alloc: Global,
+    pairs: &SlotMap,
+    from: &SlotMap,
+    to: &SlotMap,
+) -> Result<SlotMap, Error>
+    requires { IsInjectiveMap to.now }
+    ensures ok { IfOk result (λ m. m ≡ one_after_another pairs.now (same_names from.now to.now)) }
+    ensures err { IfErr result IsOutOfMemory }
+{
+    let names = shared_names(alloc, from, to)?;
+    pairs.compose_partial(alloc, &names)
+}
+
+// From the slots of a map to those of another with the same name, and on from there between two more maps.
+pub(crate) fn shared_over(
+    alloc: Global,
+    from: &SlotMap,
+    to: &SlotMap,
+    next: &SlotMap,
+    last: &SlotMap,
+) -> Result<SlotMap, Error>
+    requires to { IsInjectiveMap to.now }
+    requires last { IsInjectiveMap last.now }
+    ensures ok { IfOk result (λ m. m ≡ one_after_another (same_names from.now to.now) (same_names next.now last.now)) }
+    ensures err { IfErr result IsOutOfMemory }
+{
+    let shared = shared_names(alloc, from, to)?;
+    sent_along(alloc, &shared, next, last)
+}
+
 // Whether the two sides have fewer places than an equation may have.
 fn is_short(l: &AppliedId, r: &AppliedId) -> bool
     ensures short { IsTrue result ↔ (length l.now.m + length r.now.m < 2 ^ 30) }
@@ -171,9 +203,6 @@ pub(crate) fn composite(
         return Err(Error::OutOfSlots);
     }
     prove_eq!(first.r.m.len(), second.l.m.len());
-    let to_left = shared_names(alloc, &first.r.m, &first.l.m)?;
-    let to_middle = shared_names(alloc, &second.r.m, &second.l.m)?;
-    let partners = to_middle.compose_partial(alloc, &to_left)?;
-    let equation = number_sides(alloc, &first.l, &second.r, &partners)?;
-    Ok(equation)
+    let partners = shared_over(alloc, &second.r.m, &second.l.m, &first.r.m, &first.l.m)?;
+    number_sides(alloc, &first.l, &second.r, &partners)
 }
