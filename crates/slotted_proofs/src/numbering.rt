@@ -1,8 +1,9 @@
 //! The form of an equation whose names are numbered as they first occur.
-ghost use Rattle.std.specs.Prelude.{◌≡◌, ◌+◌, ◌^◌, ◌<◌, ◌≤◌, ◌↔◌, length, IsTrue, IfOk, IfErr, IsErrOf};
+ghost use Rattle.std.specs.Prelude.{◌≡◌, ◌+◌, ◌^◌, ◌<◌, ◌≤◌, ◌↔◌, length, cond, is_some, unwrap_or, IsTrue, IfOk, IfErr, IsErrOf};
 ghost use Rattle.slotted_theory.specs.FiniteMaps.{IsInjectiveMap, value_of, with_values};
 ghost use Rattle.slotted_slots.specs.Ascending.{IsAscending};
 ghost use Rattle.slotted_slots.specs.Error.{IsOutOfMemory, IsShortage};
+ghost use Rattle.slotted_slots.specs.Maps.{value_of as found_at};
 ghost use Rattle.slotted_slots.specs.Table.{numeric_slot};
 ghost use Rattle.slotted_model.specs.Applied.{keys};
 ghost use Rattle.slotted_model.specs.Correspondence.{AllDifferent, same_names, turned, composite as one_after_another, numbered_from, numbered_after, IsPartialInjection};
@@ -82,6 +83,22 @@ fn number_left(alloc: Global, map: &SlotMap) -> Result<SlotMap, Error>
     Ok(side)
 }
 
+// The name that a map has for a slot, or else that of the next number, which is then taken.
+fn name_or_next(known: &SlotMap, slot: Slot, next: &mut u32) -> Slot
+    requires { next.old < 2 ^ 30 }
+    ensures name { result ≡ unwrap_or (found_at known.now slot) (numeric_slot next.old) }
+    ensures next { next.new ≡ cond (is_some (found_at known.now slot)) next.old (next.old + 1) }
+{
+    match known.get(slot) {
+        Some(name) => name,
+        None => {
+            let name = Slot::numeric_at(*next);
+            *next += 1;
+            name
+        }
+    }
+}
+
 // The right side: its slots with the names of their partners on the left side, and the next numbers for the rest.
 fn number_right(
     alloc: Global,
@@ -98,13 +115,8 @@ fn number_right(
     let mut side = SlotMap::new(alloc);
     let mut next = left.len() as u32;
     for (slot, _) in map.iter() {
-        match known.get(slot) {
-            Some(name) => side.insert(slot, name)?,
-            None => {
-                side.insert(slot, Slot::numeric_at(next))?;
-                next += 1;
-            }
-        }
+        let name = name_or_next(&known, slot, &mut next);
+        side.insert(slot, name)?;
     }
     Ok(side)
 }

@@ -42,7 +42,7 @@ fn goes_over(
     first: &Equation,
     second: &Equation,
 ) -> Result<bool, Error>
-    requires whole { AreFull whole.now }
+    requires whole { HasInjectiveSides whole.now }
     requires first { AreFull first.now }
     requires second { AreFull second.now }
     ensures ok { IfOk result (λ yes. IsTrue yes ↔ GoesOver (statement_of whole.now) (statement_of first.now) (statement_of second.now)) }
@@ -147,7 +147,7 @@ fn can_join(
     first: &Equation,
     second: &Equation,
 ) -> Result<bool, Error>
-    requires whole { AreFull whole.now }
+    requires whole { HasInjectiveSides whole.now }
     requires first { AreFull first.now }
     requires second { AreFull second.now }
     requires over { GoesOver (statement_of whole.now) (statement_of first.now) (statement_of second.now) }
@@ -165,7 +165,7 @@ fn is_joined(
     first: &Equation,
     second: &Equation,
 ) -> Result<bool, Error>
-    requires whole { AreFull whole.now }
+    requires whole { HasInjectiveSides whole.now }
     requires first { AreFull first.now }
     requires second { AreFull second.now }
     ensures ok { IfOk result (λ yes. IsTrue yes ↔ IsJoined (statement_of whole.now) (statement_of first.now) (statement_of second.now)) }
@@ -298,11 +298,11 @@ impl ProofList {
         if !self.is_valid(p) || !self.is_valid(q) {
             return Err(Error::BadStep);
         }
-        let asked = equation.numbered(alloc)?;
-        if !is_joined(alloc, &asked, self.equ(p), self.equ(q))? {
+        if !is_joined(alloc, equation, self.equ(p), self.equ(q))? {
             return Err(Error::BadStep);
         }
-        let number = self.enter(asked, Proof::Transitivity(TransitivityProof(p, q)))?;
+        let proof = Proof::Transitivity(TransitivityProof(p, q));
+        let number = self.enter_equality(alloc, &equation.l, &equation.r, proof)?;
         Ok(number)
     }
 
