@@ -9,7 +9,7 @@ use Rattle.indexmap.specs.IndexMap.{insert_entry}
 use Rattle.slotted_proofs.specs.declared.equation.Equation.{Equation as Sides}
 use Rattle.slotted_proofs.specs.declared.proof.Proof.{Proof}
 use Rattle.slotted_proofs.specs.Equations.{Statement, statement_of, IsWritten}
-use Rattle.slotted_proofs.specs.Entries.{Proven, proven_of, entries_of, statement_at, is_explicit, explicit_from, Stands, IsNew, Enters}
+use Rattle.slotted_proofs.specs.Entries.{Proven, proven_of, entries_of, statement_at, is_explicit, explicit_from, Stands, IsNew}
 use Rattle.slotted_proofs.specs.Stored.{AreWritten}
 use Rattle.slotted_proofs.proofs.Written.{sides_eq, sides_eq-same, same_statement, written_once}
 
@@ -90,19 +90,6 @@ insert_new (x ∷ es) e proof n = elim (cases_Bool (sides_eq e x.0)) [
 pub written_more : (es : List (Sides × Proof)) (e : Sides) (proof : Proof) → AreWritten es → IsWritten (statement_of e) e → AreWritten (es ++ (e, proof) ∷ [])
 written_more [] e proof w v = (v, tt)
 written_more (x ∷ es) e proof w v = (w.0, written_more es e proof w.1 v)
-
--- the new entry stands last
-stands_last : (list : List Proven) (x : Proven) → Stands (list ++ x ∷ []) x.statement (length list)
-stands_last [] x = record { in_range = omega arith; statement = refl }
-stands_last (y ∷ list) x = stands_later y (list ++ x ∷ []) x.statement (length list) (stands_last list x)
-
--- what a list does that has the equation
-pub enters_old : (list : List Proven) (x : Proven) (p : ℕ) → Stands list x.statement p → Enters list list x p
-enters_old list x p h = record { stands = h; grows = inl (h, refl) }
-
--- what a list does that has it not
-pub enters_new : (list : List Proven) (x : Proven) → IsNew list x.statement → Enters list (list ++ x ∷ []) x (length list)
-enters_new list x n = record { stands = stands_last list x; grows = inr (n, refl, refl) }
 
 pub shown-more : (es : List (Sides × Proof)) (e : Sides) (proof : Proof) → shown (es ++ (e, proof) ∷ []) ≡ shown es ++ proven_of e proof ∷ []
 shown-more es e proof = map-append (λ x. proven_of x.0 x.1) es ((e, proof) ∷ [])

@@ -1,5 +1,5 @@
 -- Numbering the names of the two sides of an equation.
-use Rattle.std.proofs.Common.{◌≡◌, ℕ, zero, suc, ◌+◌, ◌<◌, ◌≤◌, List, [], ◌∷◌, ◌++◌, length, take, drop, Option, Some, None, Bool, true, false, append_assoc, refl, sym, ap, ◌∙◌, subst, arith}
+use Rattle.std.proofs.Common.{◌≡◌, ℕ, zero, suc, ◌+◌, ◌<◌, ◌≤◌, List, [], ◌∷◌, ◌++◌, length, take, drop, Option, Some, None, Bool, true, false, append_assoc, add-one, refl, sym, ap, ◌∙◌, subst, arith}
 use Rattle.std.specs.Prelude.{Contains, option_map, unwrap_or, is_some, cond, ◌==◌}
 use Rattle.std.specs.List.{cons_option}
 use Rattle.std.specs.Map.{values_of}
@@ -87,13 +87,9 @@ known-name partners left F e t =
     ∙ value_of-with_values numeric_slot (composite partners F) t)
 
 -- the name that a slot takes, and the next number after it
-pub takes_known : (o : Option ℕ) (n x : ℕ) → option_map numeric_slot o ≡ Some x → (x ≡ numeric_slot (unwrap_or o n)) × (n ≡ cond (is_some o) n (suc n))
-takes_known None n x e = absurd (cc)
-takes_known (Some y) n x e = (cc, refl)
-
-pub takes_next : (o : Option ℕ) (n : ℕ) → option_map numeric_slot o ≡ None → (numeric_slot n ≡ numeric_slot (unwrap_or o n)) × (suc n ≡ cond (is_some o) n (suc n))
-takes_next None n e = (refl, refl)
-takes_next (Some y) n e = absurd (cc)
+pub takes_name : (o : Option ℕ) (w : Option ℕ) (n x m : ℕ) → w ≡ option_map numeric_slot o → x ≡ unwrap_or w (numeric_slot n) → m ≡ cond (is_some w) n (n + 1) → (x ≡ numeric_slot (unwrap_or o n)) × (m ≡ cond (is_some o) n (suc n))
+takes_name None w n x m e f g = (f ∙ ap (λ z. unwrap_or z (numeric_slot n)) e, g ∙ (ap (λ z. cond (is_some z) n (n + 1)) e ∙ add-one n))
+takes_name (Some y) w n x m e f g = (f ∙ ap (λ z. unwrap_or z (numeric_slot n)) e, g ∙ ap (λ z. cond (is_some z) n (n + 1)) e)
 
 -- a pair whose key is above all others goes last
 above_last : (k : ℕ) (m rest : List (ℕ × ℕ)) (t v : ℕ) → AllAbove k (keys (m ++ (t, v) ∷ rest)) → k < t

@@ -13,7 +13,7 @@ use Rattle.slotted_model.proofs.Correspondences.Restricting.{joined_maps}
 use Rattle.slotted_proofs.specs.declared.equation.Equation.{Equation as Sides}
 use Rattle.slotted_proofs.specs.Equations.{Statement, to_applied, equality, statement_of, reflexive_statement, AreSides, IsWritten}
 use Rattle.slotted_proofs.specs.Entries.{Proven, statement_at}
-use Rattle.slotted_proofs.specs.Steps.{AreFull, Matches, IsEntry, GoesOver, IsJoined, IsTransitiveStep}
+use Rattle.slotted_proofs.specs.Steps.{AreFull, HasInjectiveSides, Matches, IsEntry, GoesOver, IsJoined, IsTransitiveStep}
 use Rattle.slotted_proofs.proofs.Written.{stated, sides_eq, sides_eq-same, SameSides, same_statement, written_once, maps_eq, map_same, not_false, not_true}
 
 -- an injective map takes keys to keys
@@ -136,6 +136,13 @@ middle_full list p a m once h =
     let to_entry : keys m.1 ≡ keys h.right.1 = match-keys m.1 h.right.1 h.matches.names.name h.matches.names.right in
     record { slots = refl; once = subst AllDifferent (sym to_entry) (own_right (statement_at list p) h.left h.right h.written).once; injective = once }
 
+-- what halves go over is full where they are
+pub goes_over_full : (whole first second : Sides) → HasInjectiveSides whole → AreFull first → AreFull second → GoesOver (statement_of whole) (statement_of first) (statement_of second) → AreFull whole
+goes_over_full whole first second once x y over = record {
+  left = record { slots = refl; once = subst AllDifferent (sym over.begins.1) x.left.once; injective = once.left };
+  right = record { slots = refl; once = subst AllDifferent (sym over.ends.1) y.right.once; injective = once.right };
+}
+
 -- a transitive step fits exactly if its halves can be joined
 module _ (list : List Proven) (e f g : Sides) (p q : ℕ) (l : p < length list) (below : q < length list) (v : IsWritten (statement_at list p) f) (w : IsWritten (statement_at list q) g) (el : IsFullMap (keys e.l.m) e.l.m) (er : IsFullMap (keys e.r.m) e.r.m) where
   abbrev s : Statement
@@ -196,15 +203,13 @@ module _ (list : List Proven) (e f g : Sides) (p q : ℕ) (l : p < length list) 
             ((λ i. record { left_slots = (k.1.slots ∙ Q) i; right_slots = R i; equation = record { left = h.0.meets.0 i; right = h.0.ends.0 i; pairs = k.3 i } }) ∙ stated t (to_applied g.l) (to_applied g.r) w);
       }
 
--- the same of an equation in its written form
-pub transitive_told : (list : List Proven) (e asked f g : Sides) (p q : ℕ) → p < length list → q < length list → IsWritten (statement_at list p) f → IsWritten (statement_at list q) g → IsInjectiveMap e.l.m → IsInjectiveMap e.r.m → IsWritten (statement_of e) asked → IsTransitiveStep list e p q ↔ IsJoined (statement_of asked) (statement_of f) (statement_of g)
-transitive_told list e asked f g p q l k v w h i is =
-    let el : IsFullMap (keys e.l.m) e.l.m = record { slots = refl; once = is.left_full.once; injective = h } in
-    let er : IsFullMap (keys e.r.m) e.r.m = record { slots = refl; once = is.right_full.once; injective = i } in
-    let same : statement_of asked ≡ statement_of e = stated (statement_of e) (to_applied asked.l) (to_applied asked.r) is in (
-      λ t. subst (λ s. IsJoined s (statement_of f) (statement_of g)) (sym same) (transitive-joined list e f g p q l k v w el er t),
-      λ j. joined-transitive list e f g p q l k v w el er (subst (λ s. IsJoined s (statement_of f) (statement_of g)) same j),
-    )
+-- the same of an equation that has a name once on each side
+pub transitive_told : (list : List Proven) (e f g : Sides) (p q : ℕ) → p < length list → q < length list → IsWritten (statement_at list p) f → IsWritten (statement_at list q) g → HasInjectiveSides e → IsTransitiveStep list e p q ↔ IsJoined (statement_of e) (statement_of f) (statement_of g)
+transitive_told list e f g p q l k v w h = (
+  λ t. transitive-joined list e f g p q l k v w (left_full list p (to_applied e.l) t.middle h.left t.first) (middle_full list q t.middle (to_applied e.r) h.right t.second) t,
+  λ j. let full = goes_over_full e f g h (own_sides_full (statement_at list p) f v) (own_sides_full (statement_at list q) g w) j.0 in
+      joined-transitive list e f g p q l k v w full.left full.right j,
+)
 
 -- the test of the code: the halves can be joined exactly if what goes over the middle is what is asked of the slots that they know
 pub joined_pairs : (whole first second : Sides) → AreFull whole → AreFull first → AreFull second → GoesOver (statement_of whole) (statement_of first) (statement_of second) →

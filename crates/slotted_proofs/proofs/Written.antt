@@ -8,9 +8,9 @@ use Rattle.std.proofs.lemmas.Slice.Eq.{slice_eq-Decides}
 use Rattle.slotted_theory.specs.FiniteMaps.{IsInjectiveMap}
 use Rattle.slotted_model.specs.Applied.{Applied, keys}
 use Rattle.slotted_model.specs.Correspondence.{IsFullMap}
-use Rattle.slotted_model.proofs.Correspondences.FullMaps.{same_names-turned, same_names-itself}
+use Rattle.slotted_model.proofs.Correspondences.FullMaps.{same_names-turned}
 use Rattle.slotted_proofs.specs.declared.equation.Equation.{Equation as Sides}
-use Rattle.slotted_proofs.specs.Equations.{Statement, to_applied, equality, statement_of, reflexive_statement, turned_statement, AreSides, IsWritten}
+use Rattle.slotted_proofs.specs.Equations.{Statement, to_applied, equality, statement_of, turned_statement, AreSides, IsWritten}
 
 -- the sides of a statement state it
 pub stated : (s : Statement) (a b : Applied) → AreSides s a b → equality a b ≡ s
@@ -19,12 +19,6 @@ stated s a b w = λ i. record { left_slots = w.left_full.slots i; right_slots = 
 -- and so they are the sides of what they state
 pub own_sides : (s : Statement) (a b : Applied) → AreSides s a b → AreSides (equality a b) a b
 own_sides s a b w = subst (λ t. AreSides t a b) (sym (stated s a b w)) w
-
--- an equality with itself is reflexive
-pub equality-itself : (a b c : Applied) → IsInjectiveMap a.1 → AreSides (equality a a) b c → equality a a ≡ reflexive_statement a.0 (keys a.1)
-equality-itself a b c h w =
-    let full : IsFullMap (keys a.1) a.1 = record { slots = refl; once = w.left_full.once; injective = h } in
-    λ i. record { left_slots = keys a.1; right_slots = keys a.1; equation = record { left = a.0; right = a.0; pairs = same_names-itself (keys a.1) a.1 full i } }
 
 -- an equality turned round is the other way round
 pub equality-turned : (a b c d : Applied) → IsInjectiveMap a.1 → IsInjectiveMap b.1 → AreSides (equality b a) c d → equality b a ≡ turned_statement (equality a b)
@@ -57,12 +51,6 @@ not_false false e = e
 pub not_true : (b : Bool) → true ≡ not b → b ≡ true → ⊥
 not_true true e h = false≢true (sym e)
 not_true false e h = false≢true h
-
-pub maps_agree : (m n : List (ℕ × ℕ)) → false ≡ not (maps_eq m n) → m ≡ n
-maps_agree m n e = (map_same m n).0 (not_false (maps_eq m n) e)
-
-pub maps_differ : (m n : List (ℕ × ℕ)) → true ≡ not (maps_eq m n) → ¬ (m ≡ n)
-maps_differ m n e h = not_true (maps_eq m n) e ((map_same m n).1 h)
 
 abbrev pub sides_eq : Sides → Sides → Bool
 sides_eq e f = (nat_eq e.l.id.0 f.l.id.0 && maps_eq e.l.m f.l.m) && (nat_eq e.r.id.0 f.r.id.0 && maps_eq e.r.m f.r.m)

@@ -2,14 +2,15 @@
 ghost use Rattle.std.specs.Prelude.{◌≡◌, ◌++◌, ◌+◌, ◌^◌, ◌≤◌, ◌↔◌, ℕ, length, IsTrue, IfOk, IfErr, IsErrOf};
 ghost use Rattle.std.specs.Ordering.{nat_cmp};
 ghost use Rattle.slotted_theory.specs.FiniteMaps.{IsInjectiveMap};
+ghost use Rattle.slotted_slots.specs.Combining.{IsCompleted};
 ghost use Rattle.slotted_slots.specs.Error.{IsOutOfMemory, IsShortage};
-ghost use Rattle.slotted_slots.specs.Maps.{IsInEither, KnowsAll, all_differ, composed, is_among, values};
+ghost use Rattle.slotted_slots.specs.Maps.{IsInEither, KnowsAll, all_differ, composed, doubled, is_among, values};
 ghost use Rattle.slotted_slots.specs.Sets.{set_of};
 ghost use Rattle.slotted_slots.specs.Table.{KnowsMore, Takes};
 ghost use Rattle.slotted_model.specs.Applied.{keys};
 ghost use Rattle.slotted_model.specs.Correspondence.{IsPartialInjection, same_names, turned};
 ghost use Rattle.slotted_proofs.specs.Equations.{to_applied, statement_of, turned_statement, composite_statement, Meets, IsWritten};
-ghost use Rattle.slotted_proofs.specs.Fresh.{IsSentOn};
+ghost use Rattle.slotted_proofs.specs.Fresh.{IsSentOn, names_of};
 ghost use Rattle.slotted_proofs.specs.Steps.{HasInjectiveSides};
 
 use crate::numbering::{composite, numbered, numbered_by, shared_names};
@@ -66,6 +67,33 @@ impl Equation {
         })
     }
 
+    // Each name that stands on either side, with itself.
+    fn own_names(&self, alloc: Global) -> Result<SlotMap, Error>
+        ensures ok { IfOk result (λ own. own ≡ doubled (names_of self.now)) }
+        ensures err { IfErr result IsOutOfMemory }
+    {
+        let names = self.slots(alloc)?;
+        SlotMap::identity(alloc, &names)
+    }
+
+    // Each name that stands on either side, with what `m` has for it, or else with a slot that was never made before.
+    fn sent_names(
+        &self,
+        alloc: Global,
+        m: &SlotMap,
+        table: &mut SlotTable,
+    ) -> Result<SlotMap, Error>
+        ensures completed { IfOk result (IsCompleted table.old table.new (doubled (names_of self.now)) m.now) }
+        ensures taken { IfOk result (λ c. Takes table.old table.new (IsInEither (values c) (values (doubled (names_of self.now)) ++ values m.now))) }
+        ensures names { table.new.names ≡ table.old.names }
+        ensures more { KnowsMore table.old table.new }
+        ensures full { IsErrOf result Error.OutOfSlots → table.new.fresh ≡ 2 ^ 30 }
+        ensures only { IfErr result IsShortage }
+    {
+        let own = self.own_names(alloc)?;
+        own.compose_fresh(alloc, m, table)
+    }
+
     /// The equation with each name sent on by `m`, which keeps apart those of each side that it knows. The others become slots that
     /// were never made before: one for each name, the same on both sides.
     pub fn apply_slotmap_fresh(
@@ -89,9 +117,7 @@ impl Equation {
         ensures full { IsErrOf result Error.OutOfSlots → table.new.fresh ≡ 2 ^ 30 }
         ensures only { IfErr result IsShortage }
     {
-        let names = self.slots(alloc)?;
-        let own = SlotMap::identity(alloc, &names)?;
-        let completed = own.compose_fresh(alloc, m, table)?;
+        let completed = self.sent_names(alloc, m, table)?;
         let sent = self.apply_slotmap(alloc, &completed)?;
         Ok(sent)
     }

@@ -1,5 +1,5 @@
 //! The order of lines in which a proof is printed.
-ghost use Rattle.std.specs.Prelude.{All, ◌↔◌, ◌≡◌, ◌∷◌, ◌++◌, ◌<◌, [], length, position, slice_get, nat_eq, Some, false, IsTrue, IfOk, IfErr, OnOk};
+ghost use Rattle.std.specs.Prelude.{All, ◌↔◌, ◌≡◌, ◌∷◌, ◌++◌, ◌<◌, [], length, position, slice_get, nat_eq, Some, false, IsTrue, IfSome, IfNone, IfOk, IfErr, OnOk};
 ghost use Rattle.slotted_slots.specs.Error.{IsOutOfMemory};
 ghost use Rattle.slotted_proofs.specs.Lines.{Lines as LinesOf, PartsAreEarlier, first_new, has_line, parts_at};
 
@@ -135,6 +135,29 @@ impl ProofList {
         true
     }
 
+    // The entry from the top of a stack gets its line, or goes back below its first part that has none.
+    fn take_turn(
+        &self,
+        lines: &mut ProofLines,
+        stack: &mut Vec<ProvenEq>,
+        top: ProvenEq,
+    ) -> Result<(), Error>
+        requires within { top < length self.now }
+        requires new { has_line lines.old top ≡ false }
+        ensures part { OnOk result (IfSome (first_new lines.old (parts_at self.now top)) (λ q. (lines.new ≡ lines.old) × (stack.new.items ≡ stack.old.items ++ top ∷ q ∷ []))) }
+        ensures line { OnOk result (IfNone (first_new lines.old (parts_at self.now top)) ((lines.new ≡ lines.old ++ top ∷ []) × (stack.new.items ≡ stack.old.items))) }
+        ensures err { IfErr result IsOutOfMemory }
+    {
+        match self.first_part(lines, top) {
+            Some(part) => {
+                stack.push(top)?;
+                stack.push(part)?;
+                Ok(())
+            }
+            None => lines.push(top),
+        }
+    }
+
     /// The lines of an entry's proof: one for each entry that it stands on, parts first, depth first from the first part that has
     /// no line yet.
     pub fn lines(&self, alloc: Global, p: ProvenEq) -> Result<ProofLines, Error>
@@ -150,13 +173,7 @@ impl ProofList {
             let Some(top) = stack.pop() else {
                 return Ok(lines);
             };
-            match self.first_part(&lines, top) {
-                Some(part) => {
-                    stack.push(top)?;
-                    stack.push(part)?;
-                }
-                None => lines.push(top)?,
-            }
+            self.take_turn(&mut lines, &mut stack, top)?;
         }
         Err(Error::OutOfMemory)
     }

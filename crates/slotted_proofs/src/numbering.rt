@@ -1,8 +1,9 @@
 //! The form of an equation whose names are numbered as they first occur.
-ghost use Rattle.std.specs.Prelude.{◌≡◌, ◌+◌, ◌^◌, ◌<◌, ◌≤◌, ◌↔◌, length, IsTrue, IfOk, IfErr, IsErrOf};
+ghost use Rattle.std.specs.Prelude.{◌≡◌, ◌+◌, ◌^◌, ◌<◌, ◌≤◌, ◌↔◌, length, cond, is_some, unwrap_or, IsTrue, IfOk, IfErr, IsErrOf};
 ghost use Rattle.slotted_theory.specs.FiniteMaps.{IsInjectiveMap, value_of, with_values};
 ghost use Rattle.slotted_slots.specs.Ascending.{IsAscending};
 ghost use Rattle.slotted_slots.specs.Error.{IsOutOfMemory, IsShortage};
+ghost use Rattle.slotted_slots.specs.Maps.{value_of as found_at};
 ghost use Rattle.slotted_slots.specs.Table.{numeric_slot};
 ghost use Rattle.slotted_model.specs.Applied.{keys};
 ghost use Rattle.slotted_model.specs.Correspondence.{AllDifferent, same_names, turned, composite as one_after_another, numbered_from, numbered_after, IsPartialInjection};
@@ -24,6 +25,38 @@ pub(crate) fn shared_names(alloc: Global, from: &SlotMap, to: &SlotMap) -> Resul
     let back = to.inverse(alloc)?;
     let shared = from.compose_partial(alloc, &back)?;
     Ok(shared)
+}
+
+// Pairs whose second slots are sent on: a slot of the one map to that of the other with the same name.
+pub(crate) fn sent_along(
+    alloc: Global,
+    pairs: &SlotMap,
+    from: &SlotMap,
+    to: &SlotMap,
+) -> Result<SlotMap, Error>
+    requires { IsInjectiveMap to.now }
+    ensures ok { IfOk result (λ m. m ≡ one_after_another pairs.now (same_names from.now to.now)) }
+    ensures err { IfErr result IsOutOfMemory }
+{
+    let names = shared_names(alloc, from, to)?;
+    pairs.compose_partial(alloc, &names)
+}
+
+// From the slots of a map to those of another with the same name, and on from there between two more maps.
+pub(crate) fn shared_over(
+    alloc: Global,
+    from: &SlotMap,
+    to: &SlotMap,
+    next: &SlotMap,
+    last: &SlotMap,
+) -> Result<SlotMap, Error>
+    requires to { IsInjectiveMap to.now }
+    requires last { IsInjectiveMap last.now }
+    ensures ok { IfOk result (λ m. m ≡ one_after_another (same_names from.now to.now) (same_names next.now last.now)) }
+    ensures err { IfErr result IsOutOfMemory }
+{
+    let shared = shared_names(alloc, from, to)?;
+    sent_along(alloc, &shared, next, last)
 }
 
 // Whether the two sides have fewer places than an equation may have.
@@ -50,6 +83,22 @@ fn number_left(alloc: Global, map: &SlotMap) -> Result<SlotMap, Error>
     Ok(side)
 }
 
+// The name that a map has for a slot, or else that of the next number, which is then taken.
+fn name_or_next(known: &SlotMap, slot: Slot, next: &mut u32) -> Slot
+    requires { next.old < 2 ^ 30 }
+    ensures name { result ≡ unwrap_or (found_at known.now slot) (numeric_slot next.old) }
+    ensures next { next.new ≡ cond (is_some (found_at known.now slot)) next.old (next.old + 1) }
+{
+    match known.get(slot) {
+        Some(name) => name,
+        None => {
+            let name = Slot::numeric_at(*next);
+            *next += 1;
+            name
+        }
+    }
+}
+
 // The right side: its slots with the names of their partners on the left side, and the next numbers for the rest.
 fn number_right(
     alloc: Global,
@@ -66,13 +115,8 @@ fn number_right(
     let mut side = SlotMap::new(alloc);
     let mut next = left.len() as u32;
     for (slot, _) in map.iter() {
-        match known.get(slot) {
-            Some(name) => side.insert(slot, name)?,
-            None => {
-                side.insert(slot, Slot::numeric_at(next))?;
-                next += 1;
-            }
-        }
+        let name = name_or_next(&known, slot, &mut next);
+        side.insert(slot, name)?;
     }
     Ok(side)
 }
@@ -171,9 +215,6 @@ pub(crate) fn composite(
         return Err(Error::OutOfSlots);
     }
     prove_eq!(first.r.m.len(), second.l.m.len());
-    let to_left = shared_names(alloc, &first.r.m, &first.l.m)?;
-    let to_middle = shared_names(alloc, &second.r.m, &second.l.m)?;
-    let partners = to_middle.compose_partial(alloc, &to_left)?;
-    let equation = number_sides(alloc, &first.l, &second.r, &partners)?;
-    Ok(equation)
+    let partners = shared_over(alloc, &second.r.m, &second.l.m, &first.r.m, &first.l.m)?;
+    number_sides(alloc, &first.l, &second.r, &partners)
 }

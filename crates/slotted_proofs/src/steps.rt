@@ -11,7 +11,7 @@ ghost use Rattle.slotted_proofs.specs.Steps.{AreAsked, AreEntries, AreFull, Goes
 
 use crate::equation::Equation;
 use crate::list::ProofList;
-use crate::numbering::{numbered, numbered_itself, shared_names};
+use crate::numbering::{numbered, numbered_itself, sent_along, shared_names, shared_over};
 use crate::proof::{
     CongruenceProof, Proof, ProvenEq, ReflexivityProof, SymmetryProof, TransitivityProof,
 };
@@ -42,7 +42,7 @@ fn goes_over(
     first: &Equation,
     second: &Equation,
 ) -> Result<bool, Error>
-    requires whole { AreFull whole.now }
+    requires whole { HasInjectiveSides whole.now }
     requires first { AreFull first.now }
     requires second { AreFull second.now }
     ensures ok { IfOk result (λ yes. IsTrue yes ↔ GoesOver (statement_of whole.now) (statement_of first.now) (statement_of second.now)) }
@@ -64,11 +64,8 @@ fn known_pairs(alloc: Global, first: &Equation, asked: &SlotMap) -> Result<SlotM
     ensures ok { IfOk result (λ m. m ≡ composite (composite (same_names first.now.l.m first.now.r.m) (same_names first.now.r.m first.now.l.m)) asked.now) }
     ensures err { IfErr result IsOutOfMemory }
 {
-    let forth = shared_names(alloc, &first.l.m, &first.r.m)?;
-    let back = shared_names(alloc, &first.r.m, &first.l.m)?;
-    let known = forth.compose_partial(alloc, &back)?;
-    let pairs = known.compose_partial(alloc, asked)?;
-    Ok(pairs)
+    let known = shared_over(alloc, &first.l.m, &first.r.m, &first.r.m, &first.l.m)?;
+    known.compose_partial(alloc, asked)
 }
 
 // What the asked pairs say of the slots that the second half reaches.
@@ -78,11 +75,8 @@ fn reached_pairs(alloc: Global, asked: &SlotMap, second: &Equation) -> Result<Sl
     ensures ok { IfOk result (λ m. m ≡ composite (composite asked.now (same_names second.now.r.m second.now.l.m)) (same_names second.now.l.m second.now.r.m)) }
     ensures err { IfErr result IsOutOfMemory }
 {
-    let back = shared_names(alloc, &second.r.m, &second.l.m)?;
-    let forth = shared_names(alloc, &second.l.m, &second.r.m)?;
-    let reached = asked.compose_partial(alloc, &back)?;
-    let pairs = reached.compose_partial(alloc, &forth)?;
-    Ok(pairs)
+    let reached = sent_along(alloc, asked, &second.r.m, &second.l.m)?;
+    sent_along(alloc, &reached, &second.l.m, &second.r.m)
 }
 
 // What the two halves say, one after the other.
@@ -92,10 +86,7 @@ fn middle_pairs(alloc: Global, first: &Equation, second: &Equation) -> Result<Sl
     ensures ok { IfOk result (λ m. m ≡ composite (same_names first.now.l.m first.now.r.m) (same_names second.now.l.m second.now.r.m)) }
     ensures err { IfErr result IsOutOfMemory }
 {
-    let forth = shared_names(alloc, &first.l.m, &first.r.m)?;
-    let onward = shared_names(alloc, &second.l.m, &second.r.m)?;
-    let over = forth.compose_partial(alloc, &onward)?;
-    Ok(over)
+    shared_over(alloc, &first.l.m, &first.r.m, &second.l.m, &second.r.m)
 }
 
 // Whether these pairs are what the asked ones say of the slots that the first half knows.
@@ -156,7 +147,7 @@ fn can_join(
     first: &Equation,
     second: &Equation,
 ) -> Result<bool, Error>
-    requires whole { AreFull whole.now }
+    requires whole { HasInjectiveSides whole.now }
     requires first { AreFull first.now }
     requires second { AreFull second.now }
     requires over { GoesOver (statement_of whole.now) (statement_of first.now) (statement_of second.now) }
@@ -164,8 +155,7 @@ fn can_join(
     ensures err { IfErr result IsOutOfMemory }
 {
     let asked = shared_names(alloc, &whole.l.m, &whole.r.m)?;
-    let joins = joins_as(alloc, first, second, &asked)?;
-    Ok(joins)
+    joins_as(alloc, first, second, &asked)
 }
 
 // Whether the halves give the equation.
@@ -175,7 +165,7 @@ fn is_joined(
     first: &Equation,
     second: &Equation,
 ) -> Result<bool, Error>
-    requires whole { AreFull whole.now }
+    requires whole { HasInjectiveSides whole.now }
     requires first { AreFull first.now }
     requires second { AreFull second.now }
     ensures ok { IfOk result (λ yes. IsTrue yes ↔ IsJoined (statement_of whole.now) (statement_of first.now) (statement_of second.now)) }
@@ -184,8 +174,7 @@ fn is_joined(
     if !goes_over(alloc, whole, first, second)? {
         return Ok(false);
     }
-    let joins = can_join(alloc, whole, first, second)?;
-    Ok(joins)
+    can_join(alloc, whole, first, second)
 }
 
 // Equations over the slots of their classes.
@@ -309,11 +298,11 @@ impl ProofList {
         if !self.is_valid(p) || !self.is_valid(q) {
             return Err(Error::BadStep);
         }
-        let asked = equation.numbered(alloc)?;
-        if !is_joined(alloc, &asked, self.equ(p), self.equ(q))? {
+        if !is_joined(alloc, equation, self.equ(p), self.equ(q))? {
             return Err(Error::BadStep);
         }
-        let number = self.enter(asked, Proof::Transitivity(TransitivityProof(p, q)))?;
+        let proof = Proof::Transitivity(TransitivityProof(p, q));
+        let number = self.enter_equality(alloc, &equation.l, &equation.r, proof)?;
         Ok(number)
     }
 

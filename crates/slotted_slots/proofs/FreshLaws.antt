@@ -1,9 +1,8 @@
 -- Lists whose holes were filled by fresh slots, and the maps that have them as values or keys.
-use Rattle.std.proofs.Common.{◌≡◌, ℕ, ◌<◌, ◌≤◌, true, false, not, ◌||◌, List, [], ◌∷◌, ◌++◌, ◌+◌, length, get_or, take, map, Option, Some, None, refl, sym, ap, subst, inl, inr, arith, ◌∙◌}
+use Rattle.std.proofs.Common.{◌≡◌, ℕ, ◌<◌, ◌≤◌, true, false, not, List, [], ◌∷◌, ◌++◌, ◌+◌, length, get_or, take, map, Option, Some, None, refl, sym, ap, subst, inl, inr, arith, ◌∙◌}
 use Rattle.std.specs.Prelude.{◌⊎◌}
 use Rattle.std.proofs.lemmas.Bool.{cases_eq, cases_Bool, eq-eqb, ne_eqb, and_parts, and_from, true≢false, not-true, lt-ltb, le-ltb}
 use Rattle.std.proofs.lemmas.List.{take_more}
-use Rattle.std.proofs.lemmas.List.Folds.{list_any-append}
 use Rattle.slotted_slots.specs.Ascending.{AllAbove, IsAscending}
 use Rattle.slotted_slots.specs.Combining.{sent_on, IsFreshFrom, IsFilled, IsNew, IsCompleted}
 use Rattle.slotted_slots.specs.Maps.{keys, values, value_of, is_among, all_differ, composed, with_first}
@@ -190,10 +189,6 @@ all_differ-filled used low high (p ∷ m) n (s ∷ ss) within filled differ =
 pub among_second : (xs ys : List ℕ) (v : ℕ) → is_among v ys ≡ true → is_among v (xs ++ ys) ≡ true
 among_second [] ys v there = there
 among_second (x ∷ xs) ys v there = is_among-more v x (xs ++ ys) (among_second xs ys v there)
-
--- what no list has, both in one lack
-pub among_neither : (xs ys : List ℕ) (v : ℕ) → is_among v xs ≡ false → is_among v ys ≡ false → is_among v (xs ++ ys) ≡ false
-among_neither xs ys v first second = list_any-append _ xs ys ∙ (λ i. first i || second i)
 
 -- a list with a hole for each number
 abbrev pub holes : List ℕ → List (Option ℕ)

@@ -1,5 +1,8 @@
 -- What holds where a loop has gone through a whole list.
-use Rattle.std.proofs.Common.{◌≡◌, ℕ, ◌≤◌, List, [], ◌++◌, length, drop, sym, ap, ◌∙◌}
+use Rattle.std.proofs.Common.{◌≡◌, ℕ, ◌+◌, ◌<◌, ◌≤◌, Bool, true, false, List, [], ◌∷◌, ◌++◌, length, drop, get_or, append_assoc, add-one, sym, ap, ◌∙◌}
+use Rattle.std.specs.Prelude.{cond}
+use Rattle.std.specs.List.{filter}
+use Rattle.std.proofs.Math.Seq.{drop-cons}
 use Rattle.std.proofs.lemmas.List.{append-nil, drop_all}
 
 -- what was gathered is what the whole list gives, since nothing is left
@@ -10,3 +13,25 @@ gathered_all f nil acc xs i le so_far =
 -- a state that the rest of the list takes to the end is the end
 pub folded_all : {S Y : Type 0} (f : S → List Y → S) → ((s : S) → f s [] ≡ s) → (s end : S) (xs : List Y) (i : ℕ) → length xs ≤ i → f s (drop i xs) ≡ end → s ≡ end
 folded_all f nil s end xs i le so_far = sym (ap (f s) (drop_all i xs le) ∙ nil s) ∙ so_far
+
+-- an element and the rest after it
+pub next_element : {X : Type 0} (xs : List X) (i : ℕ) (x : X) → i < length xs → x ≡ get_or xs i x → drop i xs ≡ x ∷ drop (i + 1) xs
+next_element xs i x le is = drop-cons xs i x le ∙ (λ t. sym is t ∷ drop (sym (add-one i) t) xs)
+
+-- one more element was gathered
+pub gathered_one : {X Y : Type 0} (f : List Y → List X) (acc next : List X) (x : X) (xs : List Y) (i : ℕ) (y : Y) → f (y ∷ drop (i + 1) xs) ≡ x ∷ f (drop (i + 1) xs) → i < length xs → y ≡ get_or xs i y → next ≡ acc ++ x ∷ [] → next ++ f (drop (i + 1) xs) ≡ acc ++ f (drop i xs)
+gathered_one f acc next x xs i y gives le is put =
+    ap (λ l. l ++ f (drop (i + 1) xs)) put
+    ∙ (append_assoc acc (x ∷ []) (f (drop (i + 1) xs)) ∙ ap (λ l. acc ++ l) (sym (ap f (next_element xs i y le is) ∙ gives)))
+
+-- one more element passes a test, or fails it
+pub passes : {X : Type 0} (p : X → Bool) (x : X) (xs : List X) → p x ≡ true → filter p (x ∷ xs) ≡ x ∷ filter p xs
+passes p x xs holds = ap (λ (b : Bool). cond b (x ∷ filter p xs) (filter p xs)) holds
+
+pub fails : {X : Type 0} (p : X → Bool) (x : X) (xs : List X) → p x ≡ false → filter p (x ∷ xs) ≡ filter p xs
+fails p x xs lacks = ap (λ (b : Bool). cond b (x ∷ filter p xs) (filter p xs)) lacks
+
+-- one more element was left out
+pub left_out : {X : Type 0} (p : X → Bool) (acc next xs : List X) (i : ℕ) (x : X) → p x ≡ false → i < length xs → x ≡ get_or xs i x → next ≡ acc → next ++ filter p (drop (i + 1) xs) ≡ acc ++ filter p (drop i xs)
+left_out p acc next xs i x lacks le is same =
+    ap (λ l. l ++ filter p (drop (i + 1) xs)) same ∙ ap (λ l. acc ++ l) (sym (ap (filter p) (next_element xs i x le is) ∙ fails p x (drop (i + 1) xs) lacks))

@@ -15,7 +15,7 @@ use Rattle.std.proofs.lemmas.Slice.Eq.{bytes_eq-Decides}
 use Rattle.std.proofs.lemmas.Str.Parse.{IsNumeralModel, numerals_by_value, tells_all_ascii_digits}
 use Rattle.slotted_slots.specs.Table.{Table, NamedOutcome, gives, too_large, no_place, Reading, as_number, as_fresh, as_word, numeric_slot, name_slot, is_numeral_u32, reads_u32, reads_fresh, reading_from, reading_of, numeric_outcome, fresh_outcome, word_outcome, outcome_of, place_of, named_of, is_known, KnowsMore, FindsEach, AllWords, IsTable}
 use Rattle.slotted_slots.specs.declared.error.Error.{Error}
-use Rattle.slotted_slots.specs.declared.error.Error.TheVariants.{OutOfMemory, OutOfSlots, NumberTooLarge}
+use Rattle.slotted_slots.specs.declared.error.Error.TheVariants.{NumberTooLarge}
 use Rattle.slotted_slots.specs.Naming.{Follows}
 use Rattle.slotted_slots.proofs.TableLaws.{is_known-numeric_slot, is_known-fresh_slot, is_known-name_slot, KnowsMore-grows, KnowsMore-refl}
 
@@ -219,24 +219,6 @@ Follows-too_large outcome t e = record {
   large = (λ _. e, λ _. refl);
   full = (λ wrong. absurd (cc), λ wrong. absurd (cc));
   only = inr refl;
-  err = refl;
-}
-
-pub Follows-no_place : (outcome : NamedOutcome) (t : Table) → outcome ≡ no_place → Follows outcome t t (Err OutOfSlots)
-Follows-no_place outcome t e = record {
-  slot = tt;
-  large = (λ wrong. absurd (cc), λ wrong. absurd (cc));
-  full = (λ _. e, λ _. refl);
-  only = inl (inr refl);
-  err = refl;
-}
-
-pub Follows-no_memory : (outcome : NamedOutcome) (t u : Table) (s : ℕ) → outcome ≡ gives s u → Follows outcome t t (Err OutOfMemory)
-Follows-no_memory outcome t u s e = record {
-  slot = tt;
-  large = (λ wrong. absurd (cc), λ wrong. absurd (cc));
-  full = (λ wrong. absurd (cc), λ wrong. absurd (cc));
-  only = inl (inl refl);
   err = refl;
 }
 

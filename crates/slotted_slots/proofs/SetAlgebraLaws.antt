@@ -1,5 +1,5 @@
 -- Which elements the sets have that are made of two.
-use Rattle.std.proofs.Common.{◌≡◌, ℕ, zero, suc, Bool, true, false, not, ◌&&◌, ◌||◌, List, [], ◌∷◌, get_or, refl, sym, ap, subst, inl, inr, arith, ◌∙◌}
+use Rattle.std.proofs.Common.{◌≡◌, ℕ, zero, suc, ◌<◌, length, Bool, true, false, not, ◌&&◌, ◌||◌, List, [], ◌∷◌, get_or, refl, sym, ap, subst, inl, inr, arith, ◌∙◌}
 use Rattle.std.specs.Prelude.{◌⊎◌, cond}
 use Rattle.std.specs.declared.cmp.Ordering.{Ordering}
 use Rattle.std.specs.declared.cmp.Ordering.TheVariants.{Less, Equal, Greater}
@@ -7,7 +7,7 @@ use Rattle.std.specs.Cmp.{IsTotalOrder, IsEquivalence, tied_itself, tied_back, a
 use Rattle.std.specs.List.{AllByRecursion, list_all, remove}
 use Rattle.std.specs.List.Sorted.{IsStrictlySortedBy}
 use Rattle.std.specs.Ordering.{eq_by_cmp, is_eq, match_ordering, ordering_reverse}
-use Rattle.std.proofs.lemmas.Bool.{cases_Bool, and_parts, and_from, true≢false, not-true}
+use Rattle.std.proofs.lemmas.Bool.{cases_Bool, and_parts, true≢false, not-true}
 use Rattle.std.proofs.lemmas.Map.Keys.{Less-from_sorted, sorted_tail}
 use Rattle.std.proofs.lemmas.Map.Made.{is_member-filter}
 use Rattle.slotted_slots.specs.Sets.{has, insert_key, IsPlaceOf}
@@ -51,6 +51,12 @@ module _ {T : Type 0} {cmp : T → T → Ordering} (o : IsTotalOrder cmp) where
   or_second true b e = refl
   or_second false b e = e
 
+  -- an element of a list is had
+  pub has-element : (xs : List T) (i : ℕ) (x : T) → i < length xs → x ≡ get_or xs i x → has cmp xs x ≡ true
+  has-element [] i x le is = absurd (omega (arith, le))
+  has-element (y ∷ ys) zero x le is = or_first _ _ (ap (eq_by_cmp cmp x) (sym is) ∙ equals.refl x)
+  has-element (y ∷ ys) (suc i) x le is = or_second _ _ (has-element ys i x (omega (arith, le)) is)
+
   -- a test that does not tell equal elements apart holds of all that a list has, where it holds of its elements
   pub passes_had : (p : T → Bool) → ((t u : T) → eq_by_cmp cmp t u ≡ true → p t ≡ p u) → (xs : List T) → list_all p xs ≡ true → (t : T) → has cmp xs t ≡ true → p t ≡ true
   passes_had p alike [] all t there = absurd (true≢false (sym there))
@@ -61,24 +67,13 @@ module _ {T : Type 0} {cmp : T → T → Ordering} (o : IsTotalOrder cmp) where
         | inr rest ↦ passes_had p alike xs parts.1 t rest
       ]
 
-  pub all_pass : (p : T → Bool) (xs : List T) → ((t : T) → has cmp xs t ≡ true → p t ≡ true) → list_all p xs ≡ true
-  all_pass p [] each = refl
-  all_pass p (x ∷ xs) each =
-      and_from _ _ (each x (or_first _ _ (equals.refl x))) (all_pass p xs (λ t there. each t (or_second _ _ there)))
-
   -- a list lies within another where the other has all its elements
   pub IsWithin-from_test : (xs ys : List T) → list_all (has cmp ys) xs ≡ true → IsWithin cmp xs ys
   IsWithin-from_test xs ys all t there = passes_had (has cmp ys) (has-alike ys) xs all t there
 
-  pub test_from-IsWithin : (xs ys : List T) → IsWithin cmp xs ys → list_all (has cmp ys) xs ≡ true
-  test_from-IsWithin xs ys within = all_pass (has cmp ys) xs within
-
   -- two lists are apart where the other has none of its elements
   pub AreApart-from_test : (xs ys : List T) → list_all (λ x. not (has cmp ys x)) xs ≡ true → AreApart cmp xs ys
   AreApart-from_test xs ys all t there = not-true _ (passes_had (λ x. not (has cmp ys x)) (λ u v e. ap not (has-alike ys u v e)) xs all t there)
-
-  pub test_from-AreApart : (xs ys : List T) → AreApart cmp xs ys → list_all (λ x. not (has cmp ys x)) xs ≡ true
-  test_from-AreApart xs ys apart = all_pass (λ x. not (has cmp ys x)) xs (λ t there. ap not (apart t there))
 
   -- an element that was put in is had, as is all that was
   or_swap : (a b c : Bool) → (a || (b || c)) ≡ (b || (a || c))

@@ -27,10 +27,6 @@ pub is_known-name_slot : (t : Table) (i : ℕ) → is_known t (name_slot i) ≡ 
 unfolding is_known
 is_known-name_slot t i = rw (remainder_is i 2 (omega arith), quotient_is i 2 (omega arith)) refl
 
--- a test that holds of a lower bound holds of a higher one
-nat_lt-grows : (n a b : ℕ) → a ≤ b → nat_lt n a ≡ true → nat_lt n b ≡ true
-nat_lt-grows n a b le h = grind (arith, nat_tests)
-
 -- a table that made more slots and keeps more names knows more
 pub KnowsMore-grows : (t u : Table) → t.fresh ≤ u.fresh → length t.names ≤ length u.names → KnowsMore t u
 unfolding is_known
@@ -39,7 +35,3 @@ KnowsMore-grows t u more_fresh more_names s known = grind (arith, nat_tests)
 -- a table knows what it knows
 pub KnowsMore-refl : (t : Table) → KnowsMore t t
 KnowsMore-refl t s known = known
-
--- and more still in two steps
-pub KnowsMore-trans : (t u v : Table) → KnowsMore t u → KnowsMore u v → KnowsMore t v
-KnowsMore-trans t u v first second s known = second s (first s known)

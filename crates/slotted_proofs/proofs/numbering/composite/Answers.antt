@@ -1,9 +1,8 @@
-use Rattle.std.proofs.Common.{◌≡◌, ℕ, List, ap, ◌∙◌, sym, subst}
-use Rattle.slotted_slots.specs.Maps.{composed}
+use Rattle.std.proofs.Common.{◌≡◌, ℕ, List, IfOk, ap, ◌∙◌, sym, subst}
 use Rattle.slotted_model.specs.Applied.{keys}
 use Rattle.slotted_model.specs.Correspondence.{IsFullMap, IsPartialInjection, same_names, turned, composite}
-use Rattle.slotted_proofs.specs.Equations.{AreSides, to_applied}
-use Rattle.slotted_proofs.proofs.Bridges.{slots-once, own_full, composed-model}
+use Rattle.slotted_proofs.specs.Equations.{IsWritten}
+use Rattle.slotted_proofs.proofs.Bridges.{slots-once, own_full}
 use Rattle.slotted_proofs.proofs.NumberedSides.{middle-partial, turned-middle}
 use Rattle.slotted_proofs.proofs.numbering.composite.Goals as goal
 
@@ -19,10 +18,7 @@ number_sides-requires-clause-partners c =
     let k = c.args.first.now.r.m in
     let k' = c.args.second.now.l.m in
     let r = c.args.second.now.r.m in
-    let over : c.in_ok-partners.partners ≡ composite (same_names r k') (same_names k l) =
-    c.in_ok-partners.ensures.ok
-    ∙ ((λ i. composed (c.in_ok-to_middle.ensures.ok i) (c.in_ok-to_left.ensures.ok i)) ∙ composed-model (same_names r k') (same_names k l)) in
-    subst (IsPartialInjection (keys r) (keys l)) (sym over)
+    subst (IsPartialInjection (keys r) (keys l)) (sym c.in_ok-partners.ensures.ok)
     (middle-partial (keys l) (keys k') (keys r) l k k' r
     (own_full l c.is_short.ensures.left_ascends c.requires.left)
     (subst (λ K. IsFullMap K k) c.requires.meets.slots (own_full k c.len.ensures.ascending c.requires.middle))
@@ -36,12 +32,11 @@ returns-clause-ok c =
     let k' = c.args.second.now.l.m in
     let r = c.args.second.now.r.m in
     let pairs : turned (keys l) c.in_ok-partners.partners ≡ composite (same_names l k) (same_names k' r) =
-    ap (turned (keys l)) (c.in_ok-partners.ensures.ok
-    ∙ ((λ i. composed (c.in_ok-to_middle.ensures.ok i) (c.in_ok-to_left.ensures.ok i)) ∙ composed-model (same_names r k') (same_names k l)))
+    ap (turned (keys l)) c.in_ok-partners.ensures.ok
     ∙ turned-middle (keys l) (keys k') (keys r) l k k' r
     (own_full l c.is_short.ensures.left_ascends c.requires.left)
     (subst (λ K. IsFullMap K k) c.requires.meets.slots (own_full k c.len.ensures.ascending c.requires.middle))
     (own_full k' c.len-2.ensures.ascending c.requires.other_middle)
     (own_full r c.is_short.ensures.right_ascends c.requires.right) in
-    subst (λ (A : List (ℕ × ℕ)). AreSides (record { left_slots = keys l; right_slots = keys r; equation = record { left = c.args.first.now.l.id.0; right = c.args.second.now.r.id.0; pairs = A } }) (to_applied c.in_ok-equation.equation.l) (to_applied c.in_ok-equation.equation.r)) pairs
-    c.in_ok-equation.ensures.ok
+    subst (λ (A : List (ℕ × ℕ)). IfOk c.number_sides.result (IsWritten (record { left_slots = keys l; right_slots = keys r; equation = record { left = c.args.first.now.l.id.0; right = c.args.second.now.r.id.0; pairs = A } }))) pairs
+    c.number_sides.ensures.ok

@@ -1,12 +1,14 @@
 -- The loop has gone through all elements, and those that it kept rise.
-use Rattle.std.proofs.Common.{refl, sym, ap, subst, ◌∙◌}
+use Rattle.std.proofs.Common.{refl, sym, ap, subst, ◌∙◌, Bool}
 use Rattle.std.specs.List.Sorted.{IsStrictlySortedBy}
 use Rattle.std.proofs.lemmas.List.Kept.{IsStrictlySortedBy-filter}
 use Rattle.slotted_slots.specs.Sets.{has}
 use Rattle.slotted_slots.specs.SetAlgebra.{shared}
-use Rattle.slotted_slots.proofs.Loops.{gathered_all}
+use Rattle.slotted_slots.proofs.Loops.{gathered_all, gathered_one, left_out, passes}
 use Rattle.slotted_slots.proofs.SetAlgebraLaws.{has-shared}
+use Rattle.std.specs.List.{filter}
 use Rattle.slotted_slots.proofs.small.SmallHashSet.intersection.Goals as goal
+use Rattle.slotted_slots.proofs.small.SmallHashSet.intersection.Goals.{then-shares+in_ok-push, else-shares}
 
 pub invariant_of-result : goal.invariant_of-result
 invariant_of-result g c =
@@ -23,3 +25,19 @@ returns-clause-members g c t =
     let whole = gathered_all (λ xs. shared cmp xs c.args.other.now) refl c.loop-item.items.items items c.loop-item.item-index c.loop-item-test.false c.loop-item.invariant in
     let same = c.as_slice-item-items.ensures ∙ c.self.view_is in
     ap (λ s. has cmp s t) (whole ∙ ap (λ xs. shared cmp xs c.args.other.now) same) ∙ has-shared g.met.T.Ord.total c.args.self.now c.args.other.now t
+
+pub loop-item-preserved : goal.loop-item-preserved
+loop-item-preserved g c =
+    let cmp = g.T.Ord.cmp in
+    let other = c.args.other.now in
+    let items = c.as_slice-item-items.result.now in
+    let i = c.loop-item.item-index in
+    let x = c.item-item.result in
+    let acc = c.loop-item.items.items in
+    let kept : g.row.T.Denot → Bool = has cmp other in
+    elim c.if-shares.branch [
+      | then-shares+in_ok-push w ↦
+          gathered_one (filter kept) acc c.if-shares.items.items x items i x (passes kept x _ (sym c.contains-shares.ensures ∙ w.if-shares.true)) c.loop-item-test.true c.item-item.is (ap (λ v. v.items) w.items-is ∙ w.in_ok-push.ensures.ok)
+          ∙ c.loop-item.invariant
+      | else-shares w ↦ left_out kept acc c.if-shares.items.items items i x (sym c.contains-shares.ensures ∙ w.if-shares.false) c.loop-item-test.true c.item-item.is (ap (λ v. v.items) w.items-is) ∙ c.loop-item.invariant
+    ]

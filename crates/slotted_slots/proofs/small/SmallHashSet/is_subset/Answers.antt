@@ -1,9 +1,10 @@
 -- The test on all elements says whether the set lies within the other.
-use Rattle.std.proofs.Common.{refl, sym, ap, ◌∙◌}
+use Rattle.std.proofs.Common.{refl, sym, ap, ◌∙◌, ◌≡◌, subst, true}
 use Rattle.std.specs.List.{list_all}
 use Rattle.std.proofs.lemmas.List.{drop_all}
 use Rattle.slotted_slots.specs.Sets.{has}
-use Rattle.slotted_slots.proofs.SetAlgebraLaws.{IsWithin-from_test}
+use Rattle.slotted_slots.proofs.SetAlgebraLaws.{IsWithin-from_test, has-element}
+use Rattle.std.proofs.lemmas.Bool.{false≢true}
 use Rattle.slotted_slots.proofs.small.SmallHashSet.is_subset.Goals as goal
 
 pub returns : goal.returns
@@ -15,4 +16,14 @@ returns g c =
     let same = c.as_slice-item-items.ensures ∙ c.self.view_is in (
       λ _. IsWithin-from_test g.met.T.Ord.total c.args.self.now c.args.other.now (sym (ap test same) ∙ passed),
       λ _. refl,
+    )
+
+pub returns-then-not-contains : goal.returns-then-not-contains
+returns-then-not-contains g c =
+    let cmp = g.T.Ord.cmp in
+    let items = c.as_slice-item-items.result.now in
+    let x = c.item-item.result in
+    let there = subst (λ s. has cmp s x ≡ true) (c.as_slice-item-items.ensures ∙ c.self.view_is) (has-element g.met.T.Ord.total items c.loop-item.item-index x c.loop-item-test.true c.item-item.is) in (
+      λ y. absurd (false≢true y),
+      λ h. absurd (false≢true (sym c.if-not-contains.true ∙ (c.contains.ensures ∙ h x there))),
     )

@@ -1,7 +1,7 @@
 -- The element goes that was found; with none the set stays.
 use Rattle.std.proofs.Common.{sym}
 use Rattle.slotted_slots.proofs.SetAlgebraLaws.{without-at, without-none, IsStrictlySortedBy-without}
-use Rattle.slotted_slots.proofs.SetLemmas.{has-gap}
+use Rattle.slotted_slots.proofs.SetLemmas.{has-gap, has-at}
 use Rattle.slotted_slots.proofs.small.SmallHashSet.remove.Goals as goal
 
 pub invariant_of-self : goal.invariant_of-self
@@ -17,3 +17,6 @@ returns-in-Err-clause-set g c = sym (without-none g.met.T.Ord.total _ _ (has-gap
 
 pub returns-in-Err-clause-removed : goal.returns-in-Err-clause-removed
 returns-in-Err-clause-removed g c = sym (has-gap g.met.T.Ord.total _ _ _ c.in-Err.ensures.absent)
+
+pub returns-in-Ok-clause-removed : goal.returns-in-Ok-clause-removed
+returns-in-Ok-clause-removed g c = sym (has-at g.met.T.Ord.total _ _ _ c.in-Ok.ensures.found)
