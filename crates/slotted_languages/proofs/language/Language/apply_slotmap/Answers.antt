@@ -1,4 +1,5 @@
-use Rattle.std.proofs.Common.{◌∙◌, sym, inl}
+use Rattle.std.proofs.lemmas.Grind.{common_steps}
+use Rattle.std.proofs.Common.{◌∙◌, sym, inl, arith}
 use Rattle.std.proofs.lemmas.Result.{IfOk-weaker}
 use Rattle.slotted_theory.specs.FiniteMaps.{filled}
 use Rattle.slotted_languages.specs.Shape.{shape}
@@ -36,3 +37,9 @@ returns-clause-renamed g c =
     let f = g.Self.LanguageChildren.form c.args.self.now in
     let e = c.in_ok-names.ensures.ok ∙ composed_shape f c.args.m.now c.in_ok-numbered.free c.requires (λ i. (c.in_ok-numbered.ensures.shape i).1) in
     IfOk-weaker c.rename.result _ _ (λ r h. (h (filled c.args.m.now) e).renamed) c.rename.ensures.renamed
+
+pub rename-requires-clause-numbered : goal.rename-requires-clause-numbered
+rename-requires-clause-numbered g c = grind (arith, common_steps)
+
+pub rename-requires-clause-small : goal.rename-requires-clause-small
+rename-requires-clause-small g c = grind (arith, common_steps)

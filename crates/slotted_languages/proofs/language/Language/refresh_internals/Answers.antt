@@ -1,3 +1,5 @@
+use Rattle.std.proofs.Common.{arith}
+use Rattle.std.proofs.lemmas.Grind.{common_steps}
 use Rattle.std.specs.Prelude.{not}
 use Rattle.std.proofs.lemmas.Result.{IfOk-weaker}
 use Rattle.slotted_slots.specs.Maps.{is_among}
@@ -9,3 +11,12 @@ returns-clause-refreshed g c =
     let form = g.Self.LanguageChildren.form in
     IfOk-weaker c.refresh_names.result _ _
     (λ r h. refreshed_by c.args.table.now c.in_ok-outside.outside (λ x. not (is_among x c.args.public.now)) (form c.args.self.now) (form r) c.in_ok-outside.ensures.ok h) c.refresh_names.ensures.ok
+
+pub refresh_names-requires-clause-own : goal.refresh_names-requires-clause-own
+refresh_names-requires-clause-own g c = grind (arith, common_steps)
+
+pub refresh_names-requires-clause-small : goal.refresh_names-requires-clause-small
+refresh_names-requires-clause-small g c = grind (arith, common_steps)
+
+pub returns-clause-taken : goal.returns-clause-taken
+returns-clause-taken g c = grind (arith, common_steps)
