@@ -2,9 +2,9 @@
 use Rattle.std.proofs.Common.{◌≡◌, ◌≢◌, ℕ, suc, ◌+◌, ◌<◌, List, [], ◌∷◌, ◌++◌, length, take, drop, Option, Some, None, sym, ◌∙◌, ap, refl, subst, inl, inr, arith, map, slice_index, add-one}
 use Rattle.std.specs.Prelude.{Bool, true, false, ◌⊎◌, ◌||◌, ◌&&◌, not, nat_eq, IsSome, unwrap_or, is_some, slice_index_or}
 use Rattle.std.proofs.lemmas.Bool.{eq-eqb, ne_eqb, cases_eq, eqb-true, false≢true}
-use Rattle.std.proofs.lemmas.List.{map-append, length-take-le, append-nil}
+use Rattle.std.proofs.lemmas.List.{map-append, length-take-le}
 use Rattle.std.proofs.lemmas.List.Elements.{All-nil, All-cons}
-use Rattle.std.proofs.Math.Seq.{take-suc, take-length, drop-length}
+use Rattle.std.proofs.Math.Seq.{take-suc}
 use Rattle.std.specs.Ordering.{nat_cmp}
 use Rattle.slotted_theory.specs.FiniteMaps.{top, filled}
 use Rattle.slotted_theory.specs.Nameless.{moved}
@@ -38,17 +38,6 @@ only_name x z e = eqb-true x z (sym (or_false (nat_eq x z)) ∙ e)
 
 first_name : (x : ℕ) → is_among x (x ∷ []) ≡ true
 first_name x = ap (λ b. b || false) (eq-eqb x x refl)
-
--- nothing was asked
-pub none_filled : (t : Table) (xs : List ℕ) (m : List (ℕ × ℕ)) → IsFilled t xs [] m m
-none_filled t xs m = record {
-  kept = λ x y e. e;
-  has = λ x e. absurd (false≢true e);
-  asked = λ x y e f. none_some (value_of m x) y e f;
-  unused = λ x y e f. none_some (value_of m x) y e f;
-  apart = λ x y e f. none_some (value_of m x) y e f;
-  differ = λ x z y e f g. none_some (value_of m x) y e f;
-}
 
 -- the name has a value already
 pub known_filled : (t : Table) (xs : List ℕ) (m : List (ℕ × ℕ)) (x : ℕ) → IsSome (value_of m x) → IsFilled t xs (x ∷ []) m m
@@ -176,9 +165,6 @@ renamed_fresh t m names wanted f g d same e = record {
     value x q = some_of (value_of names x) (d.has x (same x ∙ q))
 
 -- names that are replaced one after another
-pub none_replaced : (f : Form) (m : List (ℕ × ℕ)) → f ≡ with_names f (map (replaced m) (take 0 f.names) ++ drop 0 f.names)
-none_replaced f m = refl
-
 pub one_replaced : (f h k : Form) (m : List (ℕ × ℕ)) (i x y : ℕ) → i < length f.names → h ≡ with_names f (map (replaced m) (take i f.names) ++ drop i f.names) → x ≡ slice_index f.names i → y ≡ replaced m x → k ≡ with_name h i y → k ≡ with_names f (map (replaced m) (take (i + 1) f.names) ++ drop (i + 1) f.names)
 one_replaced f h k m i x y lt e ex ey ek =
     let ps = map (replaced m) (take i f.names) in
@@ -186,11 +172,6 @@ one_replaced f h k m i x y lt e ex ey ek =
     let more : map (replaced m) (take (suc i) f.names) ≡ ps ++ y ∷ [] =
     ap (map (replaced m)) (take-suc f.names i 0 lt) ∙ (map-append (replaced m) (take i f.names) (slice_index f.names i ∷ []) ∙ ap (λ z. ps ++ z ∷ []) (sym (ey ∙ ap (replaced m) ex))) in
     rw (add-one i) (ek ∙ (ap (λ g. with_name g i y) e ∙ ap (with_names f) (place_written ps f.names i y li lt ∙ ap (λ zs. zs ++ drop (suc i) f.names) (sym more))))
-
-pub all_replaced : (f h : Form) (m : List (ℕ × ℕ)) (i : ℕ) → i ≡ length f.names → h ≡ with_names f (map (replaced m) (take i f.names) ++ drop i f.names) → h ≡ with_names f (map (replaced m) f.names)
-all_replaced f h m i l e =
-    let all : take i f.names ≡ f.names = ap (λ n. take n f.names) l ∙ take-length f.names in
-    e ∙ ap (with_names f) ((λ j. map (replaced m) (all j) ++ (ap (λ n. drop n f.names) l ∙ drop-length f.names) j) ∙ append-nil (map (replaced m) f.names))
 
 map_twice : (f g : ℕ → ℕ) (xs : List ℕ) → map (λ x. g (f x)) xs ≡ map g (map f xs)
 map_twice f g [] = refl

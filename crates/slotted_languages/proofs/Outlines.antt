@@ -2,7 +2,7 @@
 use Rattle.std.proofs.Common.{◌≡◌, ℕ, suc, zero, ◌+◌, ◌-◌, ◌<◌, ◌≤◌, List, [], ◌∷◌, ◌++◌, length, take, drop, replicate, refl, slice_index, slice_set, ap, ◌∙◌, sym, append_assoc, arith, length-append, length-drop, length-take, zero-add, add-one, inl, inr}
 use Rattle.std.specs.Prelude.{min, Option, None, map}
 use Rattle.std.proofs.lemmas.Grind.{common_steps}
-use Rattle.std.proofs.lemmas.List.{length-map, take_at, drop_at, take-append-drop, drop_more, set_at, length-replicate, replicate_more, drop_all, append-nil}
+use Rattle.std.proofs.lemmas.List.{length-map, take_at, drop_at, take-append-drop, drop_more, set_at, length-replicate, replicate_more}
 use Rattle.std.proofs.lemmas.Bool.{cases_lt}
 use Rattle.std.proofs.Math.Nat.{sub-zero}
 use Rattle.slotted_theory.specs.Term.{Term}
@@ -265,12 +265,6 @@ blank_to-more f i h =
     ∙ (set_at (replicate i 0) (slice_index ys i) (drop (i + 1) ys) 0 i (length-replicate i 0)
     ∙ (sym (append_assoc (replicate i 0) (0 ∷ []) (drop (i + 1) ys)) ∙ ap (λ zs. zs ++ drop (i + 1) ys) (replicate_more i 0))) in
     ap (λ ns. let r : Form = record f { names = ns } in r) e
-
-pub length-blank_to : (f : Form) (i : ℕ) → i ≤ length f.names → length (blank_to f i).names ≡ length f.names
-length-blank_to f i h = omega (arith, length-append (replicate i 0) (drop i f.names), length-replicate {A = ℕ} i 0, length-drop i f.names)
-
-pub blank_to-all : (f : Form) → blank_to f (length f.names) ≡ blank_form f
-blank_to-all f = ap (λ ns. let r : Form = record f { names = ns } in r) (ap (λ zs. replicate (length f.names) 0 ++ zs) (drop_all (length f.names) f.names (omega arith)) ∙ append-nil (replicate (length f.names) 0))
 
 -- the outline of a blank outline is the skeleton
 pub skeleton_form-blank : (f : Form) → outlined_form child_mark (blank_form (outlined_form 0 f)) ≡ skeleton_form f

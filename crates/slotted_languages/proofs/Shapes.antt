@@ -91,9 +91,6 @@ pub shapes_move : ShapesMove
 shapes_move π inj f g e = let p = shape-same π inj f g e in λ i. (sym p.0 i, p.1 i)
 
 -- what a node and a map are that are the shape of a node
-pub keys_of_shape : (f s : Form) (m : List (ℕ × ℕ)) → ◌≡◌ {A = Form × List (ℕ × ℕ)} (s, m) (shape f) → IsAscending (keys m)
-keys_of_shape f s m e = let p : m ≡ (shape f).1 = ap (λ (r : Form × List (ℕ × ℕ)). r.1) e in rw p (keys-shape f)
-
 pub values_of_shape : (f s : Form) (m : List (ℕ × ℕ)) → ◌≡◌ {A = Form × List (ℕ × ℕ)} (s, m) (shape f) → values m ≡ firsts (free_names_of f)
 values_of_shape f s m e = ap (λ (r : Form × List (ℕ × ℕ)). values r.1) e ∙ values-shape f
 

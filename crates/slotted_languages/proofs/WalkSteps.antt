@@ -70,9 +70,6 @@ pub record IsNumbered (f : Form) (h : Form) (w : Walk) (i : ℕ) : Type 0 where
   pub known : walk (drop i (scopes f.tree)) (drop i f.names) i w ≡ (drop i (walk (scopes f.tree) f.names 0 start).0, (walk (scopes f.tree) f.names 0 start).1)
   pub few : w.next ≤ i
 
-pub none_numbered : (f : Form) → IsNumbered f f start 0
-none_numbered f = record { named = refl; known = refl; few = omega arith }
-
 pub one_numbered : (f h k : Form) (w v : Walk) (i x n : ℕ) (o : Option ℕ) → length f.names ≡ length (scopes f.tree) → i < length f.names → IsNumbered f h w i → x ≡ slice_index h.names i → o ≡ scope_end_of (scopes h.tree) i → (n, v) ≡ walk_at w x i o → k ≡ with_name h i n → IsNumbered f k v (i + 1)
 one_numbered f h k w v i x n o fits lt d ex eo en ek =
     let r = walk (scopes f.tree) f.names 0 start in

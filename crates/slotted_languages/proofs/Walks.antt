@@ -50,10 +50,7 @@ new_below k x l b = IsBelow-more (numeric_slot (k + 1)) (numeric_slot k) x l (om
 pub next_below : (k : ℕ) (l : List (ℕ × ℕ)) → IsBelow (numeric_slot k) l → IsBelow (numeric_slot (k + 1)) l
 next_below k l b = IsBelow-up (numeric_slot k) (numeric_slot (k + 1)) l (omega arith) b
 
--- a free name that was met, and one that was not
-pub found_free : (w : Walk) (x n : ℕ) → number_of w.free x ≡ Some n → (n, w) ≡ walk_free w x
-found_free w x n e = ap (λ o. let r = free_number o (numbers w) x in let s : Walk = record { next = r.1.next; binders = w.binders; free = r.1.free } in (r.0, s)) (sym e)
-
+-- a free name that was not met
 pub missing_free : (w : Walk) (x : ℕ) → number_of w.free x ≡ None → walk_free w x ≡ (numeric_slot w.next, record { next = w.next + 1; binders = w.binders; free = w.free ++ (numeric_slot w.next, x) ∷ [] })
 missing_free w x e = ap (λ o. let r = free_number o (numbers w) x in let s : Walk = record { next = r.1.next; binders = w.binders; free = r.1.free } in (r.0, s)) e
 
