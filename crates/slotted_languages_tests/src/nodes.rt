@@ -155,7 +155,8 @@ fn write_changed<L: Language>(
             )
         }
         "refresh_slots" => refreshed(alloc, node, &m.values(alloc)?, table, text),
-        _ => renamed(alloc, call, node, m, table, text),
+        "apply_slotmap" | "apply_slotmap_partial" => renamed(alloc, call, node, m, table, text),
+        _ => Ok(text.push_str("no call")?),
     }
 }
 
