@@ -1,6 +1,5 @@
-//! Shapes and renamings at nodes with several binders: worked values.
-//!
-//! The two languages here are neither written nor read: their nodes are made from their elements in order.
+//! Two languages with slots beside and after a scope, as no operator of `Small` has them. They are neither written nor read:
+//! their nodes are made from their elements in order.
 ghost use Rattle.std.specs.Prelude.{ℕ, Bool, List, [], ◌∷◌, ◌&&◌, nat_eq, None, refl};
 ghost use Rattle.std.specs.Cmp.Lexicographic.{pointwise};
 ghost use Rattle.std.proofs.Common.{lit<};
@@ -9,11 +8,10 @@ ghost use Rattle.slotted_nodes.specs.Equal.{applied_id_same, bind_form_fits, bin
 ghost use Rattle.slotted_nodes.specs.Form.{bind_form, child_form, join_form, slot_form};
 ghost use Rattle.slotted_nodes.specs.PairEqual.{join_form_fits, join_form_same};
 
-use crate::parts::{elements_of, marked, read};
-use slotted_languages::{Bind, Language, LanguageChildren, Small, pair};
-use slotted_slots::{AppliedId, Error, Id, Slot, SlotMap, SlotTable, SyntaxElem};
+use crate::reading::Made;
+use slotted_languages::{Bind, Language, LanguageChildren, pair};
+use slotted_slots::{AppliedId, Error, Slot, SyntaxElem};
 use std::alloc::Global;
-use std::process::Abort;
 
 // A binder over a child, and a slot after it.
 #[derive(Drop, Debug, Clone, PartialEq, Eq, PartialOrd, Ord, Hash)]
@@ -221,17 +219,6 @@ impl Language for Outer {
     }
 }
 
-// A language whose nodes are made from a text.
-pub(crate) trait Written: Language {
-    fn written(alloc: Global, text: &str) -> Result<Self, Error>;
-}
-
-impl Written for Small {
-    fn written(alloc: Global, text: &str) -> Result<Self, Error> {
-        read::<Small>(alloc, text)?.ok_or(Error::NotATerm)
-    }
-}
-
 // A binder over a child, and a slot, of these elements.
 fn tail_of(alloc: Global, elements: &[SyntaxElem]) -> Result<Tail, Error> {
     match elements {
@@ -247,118 +234,23 @@ fn tail_of(alloc: Global, elements: &[SyntaxElem]) -> Result<Tail, Error> {
     }
 }
 
-impl Written for Tri {
-    fn written(alloc: Global, text: &str) -> Result<Self, Error> {
-        match elements_of(alloc, text)?.as_slice() {
-            [SyntaxElem::Slot(first), rest @ ..] => Ok(Tri(*first, tail_of(alloc, rest)?)),
+impl Made for Tri {
+    fn made(alloc: Global, elements: &[SyntaxElem]) -> Result<Self, Error> {
+        match elements {
+            [SyntaxElem::Slot(slot), rest @ ..] => Ok(Tri(*slot, tail_of(alloc, rest)?)),
             _ => Err(Error::NotATerm),
         }
     }
 }
 
-impl Written for Outer {
-    fn written(alloc: Global, text: &str) -> Result<Self, Error> {
-        match elements_of(alloc, text)?.as_slice() {
-            [SyntaxElem::Slot(slot), rest @ ..] => Ok(Outer(Bind {
-                slot: *slot,
-                elem: tail_of(alloc, rest)?,
-            })),
+impl Made for Outer {
+    fn made(alloc: Global, elements: &[SyntaxElem]) -> Result<Self, Error> {
+        match elements {
+            [SyntaxElem::Slot(slot), rest @ ..] => {
+                let (slot, elem) = (*slot, tail_of(alloc, rest)?);
+                Ok(Outer(Bind { slot, elem }))
+            }
             _ => Err(Error::NotATerm),
         }
     }
-}
-
-// A slot as `$n` or `$fn`.
-pub(crate) fn shown(alloc: Global, slot: Slot) -> Result<String, Error> {
-    let raw = slot.raw();
-    let mark = if raw % 4 == 1 { "$f" } else { "$" };
-    marked(alloc, mark, &(raw / 4))
-}
-
-// The slots at the places of a node.
-pub(crate) fn places<L: Language>(alloc: Global, node: &L) -> Result<String, Error> {
-    let count = node.slot_count();
-    if count >= 1 << 30 {
-        return Err(Error::OutOfSlots);
-    }
-    let mut text = String::new(alloc);
-    for i in 0..count {
-        if i > 0 {
-            text.push(' ')?;
-        }
-        text.push_str(shown(alloc, node.slot(i))?.as_str())?;
-    }
-    Ok(text)
-}
-
-// Writes a slot after a text.
-fn push_slot(alloc: Global, text: &mut String, before: &str, slot: Slot) -> Result<(), Error> {
-    text.push_str(before)?;
-    text.push_str(shown(alloc, slot)?.as_str())?;
-    Ok(())
-}
-
-// Writes a pair of slots as ` $k->$v`.
-fn push_pair(alloc: Global, text: &mut String, key: Slot, value: Slot) -> Result<(), Error> {
-    push_slot(alloc, text, " ", key)?;
-    push_slot(alloc, text, "->", value)
-}
-
-// The places of a node, a bar, and a map.
-fn places_and_map<L: Language>(alloc: Global, node: &L, map: &SlotMap) -> Result<String, Error> {
-    let mut text = places(alloc, node)?;
-    text.push_str(" |")?;
-    for (key, value) in map.iter() {
-        push_pair(alloc, &mut text, key, value)?;
-    }
-    Ok(text)
-}
-
-// The shape of a node and its map.
-fn shape<L: Language>(alloc: Global, node: &L) -> Result<String, Error> {
-    let (numbered, free) = node.weak_shape(alloc)?;
-    places_and_map(alloc, &numbered, &free)
-}
-
-// The same of a node that becomes its shape.
-fn shape_inplace<L: Language>(alloc: Global, mut node: L) -> Result<String, Error> {
-    let free = node.weak_shape_inplace(alloc)?;
-    places_and_map(alloc, &node, &free)
-}
-
-// Each line is a node, an arrow, and its shape.
-fn check_shapes<L: Written>(rt: &impl Abort, alloc: Global, lines: &str) -> Result<(), Error> {
-    for line in lines.lines() {
-        let (text, want) = line.split_once(" => ").unwrap_or((line, ""));
-        let node = L::written(alloc, text)?;
-        assert_eq!(rt; shape(alloc, &node)?.as_str(), want, "{line}");
-        assert_eq!(rt; shape_inplace(alloc, node)?.as_str(), want, "{line}");
-    }
-    Ok(())
-}
-
-const SMALL_SHAPES: &str = "app #7:8,9 #7:9,8 => $0 $1 $1 $0 | $0->$8 $1->$9
-lam $8 #7:8,9 => $0 $0 $1 | $1->$9";
-
-#[test]
-fn names_are_numbered_where_they_first_stand(rt: HostRuntime) -> Result<(), Error> {
-    check_shapes::<Small>(&rt, rt.alloc(), SMALL_SHAPES)
-}
-
-const TRI_SHAPES: &str = "$8 $8 #7:8 $8 => $0 $1 $1 $0 | $0->$8
-$9 $8 #7:8,9 $8 => $0 $1 $1 $0 $2 | $0->$9 $2->$8";
-
-// In the second line the binder's name is free after its scope.
-#[test]
-fn a_number_holds_in_its_scope_alone(rt: HostRuntime) -> Result<(), Error> {
-    check_shapes::<Tri>(&rt, rt.alloc(), TRI_SHAPES)
-}
-
-const OUTER_SHAPES: &str = "$8 $8 #7:8 $8 => $0 $1 $1 $0 |
-$8 $9 #7:8,9,6 $8 => $0 $1 $0 $1 $2 $0 | $2->$6
-$8 $8 #7:8,9 $9 => $0 $1 $1 $2 $2 | $2->$9";
-
-#[test]
-fn an_outer_binder_comes_back(rt: HostRuntime) -> Result<(), Error> {
-    check_shapes::<Outer>(&rt, rt.alloc(), OUTER_SHAPES)
 }

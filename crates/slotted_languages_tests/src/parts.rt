@@ -1,0 +1,179 @@
+//! The parts of nodes and their payloads: what is read from a text, what it is written as, its places and its children.
+ghost use Rattle.std.specs.Prelude.{◌<◌, length};
+ghost use Rattle.slotted_nodes.specs.Form.{IsSmall};
+
+use crate::reading::{child, read};
+use crate::writing::write_elements;
+use slotted_languages::{Bind, LanguageChildren, ReadBack, Small, Symbol};
+use slotted_slots::{AppliedId, Error, Slot, SlotTable, SyntaxElem};
+use std::alloc::Global;
+
+// Whether the elements write this part.
+fn is_read_from<L: LanguageChildren>(
+    alloc: Global,
+    elements: &[SyntaxElem],
+    part: &L,
+) -> Result<bool, Error> {
+    Ok(L::from_syntax(alloc, elements)?.as_ref() == Some(part))
+}
+
+// What a part is written as, then a bar where that reads as the same.
+fn write_syntax<L: ReadBack>(
+    alloc: Global,
+    part: &L,
+    table: &SlotTable,
+    text: &mut String,
+) -> Result<(), Error> {
+    let elements = part.to_syntax(alloc)?;
+    write_elements(elements.as_slice(), table, text)?;
+    if is_read_from(alloc, elements.as_slice(), part)? {
+        text.push('|')?;
+    }
+    Ok(())
+}
+
+// A place: its slot, then where its scope ends for a binder, then a `!` where it is public.
+fn write_place<L: LanguageChildren>(part: &L, i: usize, text: &mut String) -> Result<(), Error>
+    requires small { IsSmall (L.form part.now) }
+    requires within { i < length (L.form part.now).names }
+{
+    let number = part.slot(i).raw() / 4;
+    write!(text, " {number}")?;
+    if let Some(end) = part.scope_end(i) {
+        write!(text, "..{end}")?;
+    }
+    if part.is_public(i) {
+        text.push('!')?;
+    }
+    Ok(())
+}
+
+// The places, and the children with the first place of each.
+fn write_places<L: LanguageChildren>(part: &L, text: &mut String) -> Result<(), Error> {
+    let count = part.slot_count();
+    if count >= 1 << 30 {
+        return Err(Error::OutOfSlots);
+    }
+    for i in 0..count {
+        write_place(part, i, text)?;
+    }
+    text.push_str(" |")?;
+    for k in 0..part.applied_id_count() {
+        let id = part.applied_id(k).id.0;
+        let first = part.applied_id_place(k);
+        write!(text, " {id}@{first}")?;
+    }
+    Ok(())
+}
+
+// A part: what it is written as, its places and its children.
+fn write_part<L: ReadBack>(
+    alloc: Global,
+    part: &L,
+    table: &SlotTable,
+    text: &mut String,
+) -> Result<(), Error> {
+    write_syntax(alloc, part, table, text)?;
+    write_places(part, text)
+}
+
+// Puts another slot at the first place, and another child in the place of the first.
+fn rewrite<L: LanguageChildren>(
+    alloc: Global,
+    part: &mut L,
+    table: &mut SlotTable,
+) -> Result<(), Error> {
+    let count = part.slot_count();
+    if count > 0 && count < 1 << 30 {
+        part.set_slot(0, Slot::numeric_at(9));
+    }
+    if part.get_applied_id(0).is_some() {
+        part.set_applied_id(0, child(alloc, table, "8:2")?);
+    }
+    Ok(())
+}
+
+// A copy of the part that the words write, which may be rewritten first, or `none`.
+fn part<L: ReadBack>(
+    alloc: Global,
+    call: &str,
+    words: &str,
+    table: &mut SlotTable,
+    text: &mut String,
+) -> Result<(), Error> {
+    let Some(mut part) = read::<L>(alloc, table, words)? else {
+        return Ok(text.push_str("none")?);
+    };
+    if call == "rewrite" {
+        rewrite(alloc, &mut part, table)?;
+    }
+    write_part(alloc, &part.copy(alloc)?, table, text)
+}
+
+// The part of an integer type.
+fn write_number(
+    alloc: Global,
+    call: &str,
+    kind: &str,
+    words: &str,
+    table: &mut SlotTable,
+    text: &mut String,
+) -> Result<(), Error> {
+    match kind {
+        "u8" => part::<u8>(alloc, call, words, table, text),
+        "u16" => part::<u16>(alloc, call, words, table, text),
+        "u32" => part::<u32>(alloc, call, words, table, text),
+        "u64" => part::<u64>(alloc, call, words, table, text),
+        "u128" => part::<u128>(alloc, call, words, table, text),
+        "usize" => part::<usize>(alloc, call, words, table, text),
+        "i8" => part::<i8>(alloc, call, words, table, text),
+        "i16" => part::<i16>(alloc, call, words, table, text),
+        "i32" => part::<i32>(alloc, call, words, table, text),
+        "i64" => part::<i64>(alloc, call, words, table, text),
+        "i128" => part::<i128>(alloc, call, words, table, text),
+        "isize" => part::<isize>(alloc, call, words, table, text),
+        _ => Ok(text.push_str("no type")?),
+    }
+}
+
+// The part of a type that the words write.
+pub(crate) fn write_kind(
+    alloc: Global,
+    call: &str,
+    kind: &str,
+    words: &str,
+    table: &mut SlotTable,
+    text: &mut String,
+) -> Result<(), Error> {
+    match kind {
+        "Small" => part::<Small>(alloc, call, words, table, text),
+        "Slot" => part::<Slot>(alloc, call, words, table, text),
+        "AppliedId" => part::<AppliedId>(alloc, call, words, table, text),
+        "Bind" => part::<Bind<AppliedId>>(alloc, call, words, table, text),
+        "Bind2" => part::<Bind<Bind<AppliedId>>>(alloc, call, words, table, text),
+        "Symbol" => part::<Symbol>(alloc, call, words, table, text),
+        "bool" => part::<bool>(alloc, call, words, table, text),
+        "char" => part::<char>(alloc, call, words, table, text),
+        _ => write_number(alloc, call, kind, words, table, text),
+    }
+}
+
+// Whether the words beside a `=` write equal parts.
+pub(crate) fn are_equal<L: LanguageChildren>(
+    alloc: Global,
+    words: &str,
+    table: &mut SlotTable,
+) -> Result<bool, Error> {
+    let (one, other) = words.split_once(" = ").unwrap_or((words, ""));
+    let one = read::<L>(alloc, table, one)?;
+    let other = read::<L>(alloc, table, other)?;
+    Ok(one == other)
+}
+
+// Whether the symbols of the words beside a `<` stand so.
+pub(crate) fn are_ordered(alloc: Global, words: &str) -> Result<bool, Error> {
+    let (one, other) = words.split_once(" < ").unwrap_or((words, ""));
+    let one = Symbol::from_text(alloc, one)?;
+    let other = Symbol::from_text(alloc, other)?;
+    Ok(one < other)
+}

@@ -1,0 +1,83 @@
+//! What the rows are written in: slots as `$8`, children as `#7:8,9`, maps as `$8->$5,$9->$6`, nodes as their elements.
+use slotted_languages::{Language, LanguageChildren, Small};
+use slotted_slots::{AppliedId, Error, Id, Slot, SlotMap, SlotTable, SyntaxElem};
+use std::alloc::Global;
+
+// The slot of a name, which may stand after a `$`.
+fn slot(table: &mut SlotTable, name: &str) -> Result<Slot, Error> {
+    table.named(name.trim_start_matches('$'))
+}
+
+// Puts the pair that the text writes; a slot alone is put under the next of the keys `$0`, `$1`, ..
+fn put(m: &mut SlotMap, table: &mut SlotTable, pair: &str) -> Result<(), Error> {
+    let (key, value) = match pair.split_once("->") {
+        Some((key, value)) => (slot(table, key)?, value),
+        None => (table.numeric(u32::try_from(m.len()).unwrap_or(0))?, pair),
+    };
+    let value = slot(table, value)?;
+    m.insert(key, value)
+}
+
+// The map of these pairs and slots, parted by commas.
+pub(crate) fn map_of(alloc: Global, table: &mut SlotTable, text: &str) -> Result<SlotMap, Error> {
+    let mut m = SlotMap::new(alloc);
+    for pair in text.split_terminator(',') {
+        put(&mut m, table, pair)?;
+    }
+    Ok(m)
+}
+
+// A child written `id` or `id:x,y`, with a map as above.
+pub(crate) fn child(alloc: Global, table: &mut SlotTable, text: &str) -> Result<AppliedId, Error> {
+    let (id, slots) = text.split_once(':').unwrap_or((text, ""));
+    let m = map_of(alloc, table, slots)?;
+    Ok(AppliedId {
+        id: Id(id.parse().unwrap_or(0)),
+        m,
+    })
+}
+
+// An element: `$n` is a slot, `#` and a child a child, all else a text.
+fn element(alloc: Global, table: &mut SlotTable, word: &str) -> Result<SyntaxElem, Error> {
+    if word.starts_with('$') {
+        Ok(SyntaxElem::Slot(slot(table, word)?))
+    } else if let Some(text) = word.strip_prefix('#') {
+        Ok(SyntaxElem::AppliedId(child(alloc, table, text)?))
+    } else {
+        Ok(SyntaxElem::String(String::from_str(alloc, word)?))
+    }
+}
+
+// The elements of a text, parted by spaces.
+fn elements_of(alloc: Global, table: &mut SlotTable, text: &str) -> Result<Vec<SyntaxElem>, Error> {
+    let mut elements = Vec::new(alloc);
+    for word in text.split_whitespace() {
+        elements.push(element(alloc, table, word)?)?;
+    }
+    Ok(elements)
+}
+
+// The part that a text writes.
+pub(crate) fn read<L: LanguageChildren>(
+    alloc: Global,
+    table: &mut SlotTable,
+    text: &str,
+) -> Result<Option<L>, Error> {
+    L::from_syntax(alloc, elements_of(alloc, table, text)?.as_slice())
+}
+
+// A language whose nodes are made from their elements.
+pub(crate) trait Made: Language {
+    fn made(alloc: Global, elements: &[SyntaxElem]) -> Result<Self, Error>;
+}
+
+impl Made for Small {
+    fn made(alloc: Global, elements: &[SyntaxElem]) -> Result<Self, Error> {
+        Small::from_syntax(alloc, elements)?.ok_or(Error::NotATerm)
+    }
+}
+
+// The node that a text writes.
+pub(crate) fn node<L: Made>(alloc: Global, table: &mut SlotTable, text: &str) -> Result<L, Error> {
+    L::made(alloc, elements_of(alloc, table, text)?.as_slice())
+}

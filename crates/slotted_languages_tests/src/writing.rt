@@ -1,0 +1,107 @@
+//! What answers are written as. An answer is handed over as the call gave it, so that its refusal is asked for here alone.
+use slotted_languages::Language;
+use slotted_slots::{
+    AppliedId, Error, Id, Show, Slot, SlotMap, SlotTable, SmallHashSet, SyntaxElem,
+};
+use std::alloc::Global;
+
+pub(crate) fn write_test(holds: Result<bool, Error>, text: &mut String) -> Result<(), Error> {
+    Ok(text.push_str(if holds? { "yes" } else { "no" })?)
+}
+
+// Slots, with a space after each.
+fn write_slots(slots: &[Slot], table: &SlotTable, text: &mut String) -> Result<(), Error> {
+    for slot in slots {
+        let shown = slot.show(table);
+        write!(text, "{shown} ")?;
+    }
+    Ok(())
+}
+
+pub(crate) fn write_list(
+    slots: Result<Vec<Slot>, Error>,
+    table: &SlotTable,
+    text: &mut String,
+) -> Result<(), Error> {
+    write_slots(slots?.as_slice(), table, text)
+}
+
+pub(crate) fn write_set(
+    slots: Result<SmallHashSet<Slot>, Error>,
+    table: &SlotTable,
+    text: &mut String,
+) -> Result<(), Error> {
+    write_slots(slots?.as_slice(), table, text)
+}
+
+// Writes the slots at the places of a node.
+pub(crate) fn write_node<L: Language>(
+    alloc: Global,
+    node: Result<L, Error>,
+    table: &SlotTable,
+    text: &mut String,
+) -> Result<(), Error> {
+    write_list(node?.all_slot_occurrences(alloc), table, text)
+}
+
+// Writes the slots at the places of a node, and its map as `[$0 -> $8, $1 -> $9]`.
+pub(crate) fn write_shape<L: Language>(
+    alloc: Global,
+    numbered: &L,
+    free: &SlotMap,
+    table: &SlotTable,
+    text: &mut String,
+) -> Result<(), Error> {
+    write_list(numbered.all_slot_occurrences(alloc), table, text)?;
+    let free = free.show(table);
+    write!(text, "{free}")?;
+    Ok(())
+}
+
+pub(crate) fn write_ids(ids: &[Id], text: &mut String) -> Result<(), Error> {
+    for id in ids {
+        let number = id.0;
+        write!(text, "{number} ")?;
+    }
+    Ok(())
+}
+
+// Children, as `id7[$0 -> $8]`.
+pub(crate) fn write_children(
+    children: &[&AppliedId],
+    table: &SlotTable,
+    text: &mut String,
+) -> Result<(), Error> {
+    for child in children {
+        let shown = child.show(table);
+        write!(text, "{shown} ")?;
+    }
+    Ok(())
+}
+
+// An element: of a child its id alone.
+fn write_element(element: &SyntaxElem, table: &SlotTable, text: &mut String) -> Result<(), Error> {
+    match element {
+        SyntaxElem::String(word) => write!(text, "{word} ")?,
+        SyntaxElem::Slot(slot) => {
+            let shown = slot.show(table);
+            write!(text, "{shown} ")?;
+        }
+        SyntaxElem::AppliedId(child) => {
+            let number = child.id.0;
+            write!(text, "#{number} ")?;
+        }
+    }
+    Ok(())
+}
+
+pub(crate) fn write_elements(
+    elements: &[SyntaxElem],
+    table: &SlotTable,
+    text: &mut String,
+) -> Result<(), Error> {
+    for element in elements {
+        write_element(element, table, text)?;
+    }
+    Ok(())
+}
