@@ -58,21 +58,12 @@ impl LanguageChildren for Small {
     fn copy(&self, alloc: Global) -> Result<Self, Error> {
         match self {
             Small::Lam(b) => Ok(Small::Lam(b.copy(alloc)?)),
-            Small::App(a, b) => {
-                let (a, b) = copy_pair(alloc, a, b)?;
-                Ok(Small::App(a, b))
-            }
+            Small::App(a, b) => Ok(Small::App(a.copy(alloc)?, b.copy(alloc)?)),
             Small::Var(x) => Ok(Small::Var(*x)),
             Small::F(x, y) => Ok(Small::F(*x, *y)),
             Small::G(x) => Ok(Small::G(*x)),
-            Small::Add(a, b) => {
-                let (a, b) = copy_pair(alloc, a, b)?;
-                Ok(Small::Add(a, b))
-            }
-            Small::Mul(a, b) => {
-                let (a, b) = copy_pair(alloc, a, b)?;
-                Ok(Small::Mul(a, b))
-            }
+            Small::Add(a, b) => Ok(Small::Add(a.copy(alloc)?, b.copy(alloc)?)),
+            Small::Mul(a, b) => Ok(Small::Mul(a.copy(alloc)?, b.copy(alloc)?)),
             Small::Number(n) => Ok(Small::Number(*n)),
             Small::Word(w) => Ok(Small::Word(w.copy(alloc)?)),
         }
@@ -231,16 +222,6 @@ impl LanguageChildren for Small {
     }
 }
 
-// Two children that equal these.
-fn copy_pair(alloc: Global, a: &AppliedId, b: &AppliedId) -> Result<(AppliedId, AppliedId), Error>
-    ensures ok { IfOk result (λ p. p ≡ (a.now, b.now)) }
-    ensures err { IfErr result IsOutOfMemory }
-{
-    let first = a.copy(alloc)?;
-    let second = b.copy(alloc)?;
-    Ok((first, second))
-}
-
 // An operator as an element.
 fn word(alloc: Global, operator: &str) -> Result<SyntaxElem, Error>
     ensures ok { IfOk result (λ e. element_of e ≡ text operator.now) }
@@ -381,18 +362,9 @@ fn read_over_children(
     ensures err { IfErr result IsOutOfMemory }
 {
     match operator {
-        "app" => {
-            let (a, b) = copy_pair(alloc, a, b)?;
-            Ok(Some(Small::App(a, b)))
-        }
-        "add" => {
-            let (a, b) = copy_pair(alloc, a, b)?;
-            Ok(Some(Small::Add(a, b)))
-        }
-        "mul" => {
-            let (a, b) = copy_pair(alloc, a, b)?;
-            Ok(Some(Small::Mul(a, b)))
-        }
+        "app" => Ok(Some(Small::App(a.copy(alloc)?, b.copy(alloc)?))),
+        "add" => Ok(Some(Small::Add(a.copy(alloc)?, b.copy(alloc)?))),
+        "mul" => Ok(Some(Small::Mul(a.copy(alloc)?, b.copy(alloc)?))),
         _ => Ok(None),
     }
 }
