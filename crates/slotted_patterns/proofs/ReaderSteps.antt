@@ -72,9 +72,6 @@ module _ {L : Type 0} (form : L → Form) where
   pub popped_outside : (xs ys : List (Part L)) (o : Option (Part L)) (x : Part L) → xs ≡ ys ++ option_to_list o → o ≡ Some x → IsOutside (part_of form x ∷ parts_of form ys) → IsOutside (parts_of form xs)
   popped_outside xs ys o x p q h = subst IsOutside (sym (parts_of-popped xs ys o x p q)) h
 
-  pub none_outside : (xs : List (Part L)) → length xs ≡ 0 → IsOutside (parts_of form xs)
-  none_outside xs p = subst IsOutside (sym (parts_of-none xs p)) tt
-
   module _ (read : List Element → Option Form) where
     -- a fault of a base inside these parts is the fault of all
     abbrev FaultOpen : List stack.Part → List Lexeme → PatternOutcome → Type 0
@@ -234,8 +231,3 @@ module _ {L : Type 0} (form : L → Form) where
 -- the first of the tokens
 pub first_token : (items rest : List Token) (x y : Token) → items ≡ x ∷ rest → x ≡ y → map lexeme_of items ≡ lexeme_of y ∷ map lexeme_of rest
 first_token items rest x y p q = ap (map lexeme_of) p ∙ ap (λ t. lexeme_of t ∷ map lexeme_of rest) q
-
--- no tokens
-pub no_tokens : (items : List Token) → length items ≡ 0 → map lexeme_of items ≡ []
-no_tokens [] p = refl
-no_tokens (x ∷ xs) p = absurd (omega (arith, p))

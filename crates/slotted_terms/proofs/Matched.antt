@@ -6,10 +6,9 @@ use Rattle.std.proofs.Math.Nat.{suc_inj}
 use Rattle.std.proofs.lemmas.List.{append-nil, get_or_past, ext_get_or}
 use Rattle.slotted_theory.specs.Shape.{number_in}
 use Rattle.slotted_nodes.specs.Form.{Form, Tree, scopes, children, child_place, IsSmall}
-use Rattle.slotted_nodes.specs.Equal.{form_ext}
 use Rattle.slotted_languages.specs.Outline.{outlined, marks, outlined_form, skeleton_form}
 use Rattle.slotted_languages.proofs.Outlines.{length-marks, length-outlined_names, outlined-outlined}
-use Rattle.slotted_terms.specs.Seen.{owns, stacks, opened, own_at, AreMatched, AreOutlines, AreAlike, IsOwn, number_at, owns_seen}
+use Rattle.slotted_terms.specs.Seen.{owns, stacks, opened, own_at, AreMatched, AreOutlines, IsOwn, number_at, owns_seen}
 use Rattle.slotted_terms.proofs.Seen.{length-owns, length-stacks}
 use Rattle.slotted_terms.proofs.Opened.{stack_at, own_seen_at}
 
@@ -99,13 +98,6 @@ module _ (a b f g s z : Form) (left : f ≡ outlined_form 0 a) (right : g ≡ ou
         same = ap (λ h. h.tree) right ∙ (sym o.alike.tree ∙ ap (λ h. h.tree) (sym left));
         marked = ap (λ h. h.names) skeleton;
       }
-
-  -- nodes that are alike have equal skeletons
-  pub same_skeletons : AreAlike a b → s ≡ z
-  same_skeletons h =
-      skeleton ∙ (ap skeleton_form left
-      ∙ (form_ext (skeleton_form (outlined_form 0 a)) (skeleton_form (outlined_form 0 b)) h.operator h.payloads (ap outlined h.tree) (ap marks h.tree)
-      ∙ (ap skeleton_form (sym right) ∙ sym other)))
 
 -- an outline has as many places as its outline
 pub length-outlined_outline : (f a : Form) → f ≡ outlined_form 0 a → length f.names ≡ length (scopes f.tree) → length (outlined_form 0 f).names ≡ length f.names

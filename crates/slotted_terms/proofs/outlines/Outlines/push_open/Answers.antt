@@ -1,7 +1,8 @@
-use Rattle.std.proofs.Common.{◌≤◌, ◌∙◌, sym, ap, arith, length, take, ◌∷◌}
+use Rattle.std.proofs.Common.{◌≡◌, ◌≤◌, ◌-◌, ◌∙◌, sym, ap, arith, length, take, drop, ◌∷◌}
+use Rattle.std.proofs.lemmas.List.{take_all}
 use Rattle.std.proofs.lemmas.Bool.{false≢true}
 use Rattle.slotted_nodes.specs.Form.{scopes}
-use Rattle.slotted_terms.specs.Seen.{IsOpen, lefts, rights}
+use Rattle.slotted_terms.specs.Seen.{IsOpen, lefts, rights, opened}
 use Rattle.slotted_terms.proofs.Binders.{lefts-push, rights-push, kept-push}
 use Rattle.slotted_terms.proofs.Opened.{opened-open, opened-shut}
 use Rattle.slotted_terms.proofs.outlines.Outlines.push_open.Goals as goal
@@ -38,3 +39,30 @@ loop-i-preserved g c =
             kept = ap (take _) e ∙ inv.kept;
           }
     ]
+
+pub loop-i-init : goal.loop-i-init
+loop-i-init g c =
+    let f = g.L.LanguageChildren.form c.args.self.now.one in
+    let n = g.L.LanguageChildren.form c.args.self.now.two in
+    let old = c.args.binders.now.items in
+    let whole : c.args.at - 0 ≡ c.args.at = omega arith in
+    record {
+      left = ap (λ k. opened k (scopes f.tree) f.names (lefts old)) whole;
+      right = ap (λ k. opened k (scopes f.tree) n.names (rights old)) whole;
+      kept = take_all (length old) old (omega arith);
+    }
+
+pub returns-clause-left : goal.returns-clause-left
+returns-clause-left g c =
+    let f = g.L.LanguageChildren.form c.args.self.now.one in
+    let i = c.loop-i.i in
+    let none : c.args.at - i ≡ 0 = omega (arith, c.loop-i-test.false) in
+    sym (ap (λ k. opened k (drop i (scopes f.tree)) (drop i f.names) (lefts c.loop-i.binders.items)) none) ∙ c.loop-i.invariant.left
+
+pub returns-clause-right : goal.returns-clause-right
+returns-clause-right g c =
+    let f = g.L.LanguageChildren.form c.args.self.now.one in
+    let n = g.L.LanguageChildren.form c.args.self.now.two in
+    let i = c.loop-i.i in
+    let none : c.args.at - i ≡ 0 = omega (arith, c.loop-i-test.false) in
+    sym (ap (λ k. opened k (drop i (scopes f.tree)) (drop i n.names) (rights c.loop-i.binders.items)) none) ∙ c.loop-i.invariant.right
