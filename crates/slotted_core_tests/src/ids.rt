@@ -1,0 +1,107 @@
+//! What is asked of the ids of two terms, or of one term twice.
+use crate::graphs::{parted, slot};
+use slotted_core::EGraph;
+use slotted_languages::Language;
+use slotted_proofs::Equation;
+use slotted_slots::{AppliedId, Error, Id, Slot, SlotMap};
+use std::alloc::Global;
+use std::mem;
+
+// Whether two ids are equal, if they are valid.
+pub fn equal<L: Language>(graph: &EGraph<L>, a: &AppliedId, b: &AppliedId) -> Result<bool, Error> {
+    if graph.is_valid(a) && graph.is_valid(b) {
+        graph.eq(a, b)
+    } else {
+        Err(Error::NotATerm)
+    }
+}
+
+// How two ids are related.
+pub fn related<L: Language>(
+    graph: &EGraph<L>,
+    a: &AppliedId,
+    b: &AppliedId,
+) -> Result<&'static str, Error> {
+    if equal(graph, a, b)? {
+        Ok("equal")
+    } else if a.id == b.id {
+        Ok("one class")
+    } else {
+        Ok("two classes")
+    }
+}
+
+// What a union answers, if the ids are valid.
+fn unite<L: Language>(graph: &mut EGraph<L>, sides: &Equation) -> Result<bool, Error> {
+    if graph.is_valid(&sides.l) && graph.is_valid(&sides.r) {
+        graph.union(&sides.l, &sides.r)
+    } else {
+        Err(Error::NotATerm)
+    }
+}
+
+// The same, with a text that says why.
+fn unite_since<L: Language>(
+    graph: &mut EGraph<L>,
+    sides: &Equation,
+    text: String,
+) -> Result<bool, Error> {
+    if graph.is_valid(&sides.l) && graph.is_valid(&sides.r) {
+        graph.union_justified(&sides.l, &sides.r, Some(text))
+    } else {
+        Err(Error::NotATerm)
+    }
+}
+
+// Puts another slot in at a place of the id, if it has the place.
+fn put_slot(id: &mut AppliedId, i: usize, slot: Slot) {
+    if i < id.m.len() {
+        id.m.set_value_at(i, slot);
+    }
+}
+
+// The left id with another slot at a place, with one pair more, as a class of this number without slots, or over the slots of
+// the right one.
+fn change(alloc: Global, sides: &mut Equation, how: &str) -> Result<(), Error> {
+    let (word, name) = parted(how, " ");
+    let slot = slot(alloc, name)?;
+    match word {
+        "first" => put_slot(&mut sides.l, 0, slot),
+        "second" => put_slot(&mut sides.l, 1, slot),
+        "more" => {
+            sides.l.m.insert(slot, slot)?;
+        }
+        "bare" => {
+            sides.l = AppliedId {
+                id: Id(name.parse::<usize>().unwrap_or(0)),
+                m: SlotMap::new(alloc),
+            };
+        }
+        _ => mem::swap(&mut sides.l.m, &mut sides.r.m),
+    }
+    Ok(())
+}
+
+pub fn is_valid_changed<L: Language>(
+    alloc: Global,
+    graph: &EGraph<L>,
+    sides: &mut Equation,
+    how: &str,
+) -> Result<bool, Error> {
+    change(alloc, sides, how)?;
+    Ok(graph.is_valid(&sides.l))
+}
+
+// What a union answers, because of a text if there is one.
+pub fn unite_because<L: Language>(
+    alloc: Global,
+    graph: &mut EGraph<L>,
+    sides: &Equation,
+    text: &str,
+) -> Result<bool, Error> {
+    if text.is_empty() {
+        unite(graph, sides)
+    } else {
+        unite_since(graph, sides, text.replace(alloc, "¶", "\n")?)
+    }
+}

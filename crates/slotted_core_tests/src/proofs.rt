@@ -1,0 +1,100 @@
+//! What is printed of the proofs of a graph.
+use crate::graphs::{parted, yes};
+use crate::steps::part;
+use slotted_core::EGraph;
+use slotted_explain::Explanation;
+use slotted_languages::Language;
+use slotted_proofs::{Proof, ProvenEq};
+use slotted_slots::Error;
+use slotted_terms::expr::printing::Printable;
+use std::alloc::Global;
+
+// The proof by lines, if there is one of this number.
+fn lines<L: Printable>(alloc: Global, graph: &mut EGraph<L>, p: ProvenEq) -> Result<String, Error> {
+    if graph.is_valid_proof(p) {
+        p.to_string(alloc, graph)
+    } else {
+        Err(Error::BadStep)
+    }
+}
+
+// The proof as a chain of terms.
+fn chain<L: Printable>(alloc: Global, graph: &mut EGraph<L>, p: ProvenEq) -> Result<String, Error> {
+    if graph.is_valid_proof(p) {
+        p.to_flat_string(alloc, graph)
+    } else {
+        Err(Error::BadStep)
+    }
+}
+
+// What is printed by a word.
+fn printed<L: Printable>(
+    alloc: Global,
+    graph: &mut EGraph<L>,
+    p: ProvenEq,
+    word: &str,
+) -> Result<String, Error> {
+    match word {
+        "lines" => lines(alloc, graph, p),
+        _ => chain(alloc, graph, p),
+    }
+}
+
+// The text with a sign for each line feed.
+fn in_one_line(alloc: Global, text: &str) -> Result<String, Error> {
+    Ok(text.replace(alloc, "\n", "¶")?)
+}
+
+fn printed_in_one_line<L: Printable>(
+    alloc: Global,
+    graph: &mut EGraph<L>,
+    p: ProvenEq,
+    word: &str,
+) -> Result<String, Error> {
+    let text = printed(alloc, graph, p, word)?;
+    in_one_line(alloc, text.as_str())
+}
+
+// What is printed of the proof that a digit names.
+pub fn answer<L: Printable>(
+    alloc: Global,
+    graph: &mut EGraph<L>,
+    known: &[ProvenEq],
+    ask: &str,
+) -> Result<String, Error> {
+    let (word, digit) = parted(ask, " ");
+    let p = part(known, digit.as_bytes().first())?;
+    printed_in_one_line(alloc, graph, p, word)
+}
+
+// Whether an entry is asserted for this reason.
+fn has_text<L: Language>(graph: &EGraph<L>, p: ProvenEq, text: &str) -> bool {
+    if !graph.is_valid_proof(p) {
+        return false;
+    }
+    match p.proof(graph) {
+        Proof::Explicit(why) => why.0.as_deref() == Some(text),
+        _ => false,
+    }
+}
+
+// Whether the copy of an entry has the same equation.
+fn is_copied<L: Language>(alloc: Global, graph: &EGraph<L>, p: ProvenEq) -> Result<bool, Error> {
+    if !graph.is_valid_proof(p) {
+        return Err(Error::BadStep);
+    }
+    let entry = p.entry(alloc, graph)?;
+    Ok(entry.equ == *p.equ(graph))
+}
+
+// Whether the entry that a digit names is asserted for the reason behind it, and its copy has the same equation.
+pub fn told<L: Language>(
+    alloc: Global,
+    graph: &EGraph<L>,
+    known: &[ProvenEq],
+    ask: &str,
+) -> Result<&'static str, Error> {
+    let (digit, text) = parted(ask, " ");
+    let p = part(known, digit.as_bytes().first())?;
+    Ok(yes(is_copied(alloc, graph, p)? && has_text(graph, p, text)))
+}

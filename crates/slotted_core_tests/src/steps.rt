@@ -1,0 +1,132 @@
+//! Steps that callers ask for, by the names of the steps.
+use crate::graphs::{parted, yes};
+use crate::ids::unite_because;
+use slotted_core::{Check, EGraph};
+use slotted_languages::Language;
+use slotted_proofs::{
+    CongruenceProof, Equation, ProvenEq, ReflexivityProof, SymmetryProof, TransitivityProof,
+};
+use slotted_slots::{AppliedId, Error};
+use std::alloc::Global;
+
+// The number of an equation that is asserted.
+fn asserted<L: Language>(
+    alloc: Global,
+    graph: &mut EGraph<L>,
+    text: &str,
+    equation: &Equation,
+) -> Result<ProvenEq, Error> {
+    unite_because(alloc, graph, equation, text)?;
+    match graph.asserted().last() {
+        Some(p) => Ok(*p),
+        None => Err(Error::NotATerm),
+    }
+}
+
+// The parts that digits name: each is the place of an earlier answer.
+fn parts_of(alloc: Global, known: &[ProvenEq], digits: &str) -> Result<Vec<ProvenEq>, Error> {
+    let mut parts = Vec::new(alloc);
+    for digit in digits.bytes() {
+        if let Some(p) = known.get(usize::from(digit.wrapping_sub(b'0'))) {
+            parts.push(*p)?;
+        }
+    }
+    Ok(parts)
+}
+
+fn congruent<L: Language>(
+    alloc: Global,
+    graph: &mut EGraph<L>,
+    known: &[ProvenEq],
+    digits: &str,
+    equation: &Equation,
+) -> Result<ProvenEq, Error> {
+    let parts = parts_of(alloc, known, digits)?;
+    CongruenceProof(parts).check(equation, graph)
+}
+
+// The part that a digit names.
+pub fn part(known: &[ProvenEq], digit: Option<&u8>) -> Result<ProvenEq, Error> {
+    match digit {
+        Some(digit) => match known.get(usize::from(digit.wrapping_sub(b'0'))) {
+            Some(p) => Ok(*p),
+            None => Err(Error::NotEqual),
+        },
+        None => Err(Error::NotEqual),
+    }
+}
+
+// What a step of this name over these parts answers of the equation.
+fn step_over<L: Language>(
+    alloc: Global,
+    graph: &mut EGraph<L>,
+    known: &[ProvenEq],
+    step: &str,
+    equation: &Equation,
+) -> Result<ProvenEq, Error> {
+    let (name, digits) = parted(step, " ");
+    match name {
+        "reflexive" => ReflexivityProof.check(equation, graph),
+        "symmetric" => SymmetryProof(part(known, digits.as_bytes().first())?).check(
+            equation, graph,
+        ),
+        "transitive" => {
+            let p = part(known, digits.as_bytes().first())?;
+            let q = part(known, digits.as_bytes().last())?;
+            TransitivityProof(p, q).check(equation, graph)
+        }
+        "congruent" => congruent(alloc, graph, known, digits, equation),
+        _ => asserted(alloc, graph, digits, equation),
+    }
+}
+
+// Takes the first slot of the id away.
+fn shorten(a: &mut AppliedId) {
+    let first = a.m.iter().next();
+    if let Some((key, _)) = first {
+        a.m.remove(key);
+    }
+}
+
+// What a step answers: `accepted`, and its number is known from now on, or a refusal, and the graph has as many entries as
+// before. Before a `short` step the right side loses a slot.
+pub fn answer<L: Language>(
+    alloc: Global,
+    graph: &mut EGraph<L>,
+    known: &mut Vec<ProvenEq>,
+    ask: &str,
+    equation: &mut Equation,
+) -> Result<&'static str, Error> {
+    let step = match ask.strip_prefix("short ") {
+        Some(step) => {
+            shorten(&mut equation.r);
+            step
+        }
+        None => ask,
+    };
+    let before = graph.proof_count();
+    match step_over(alloc, graph, known, step, equation) {
+        Ok(p) => {
+            known.push(p)?;
+            Ok("accepted")
+        }
+        Err(_) if graph.is_failed() || graph.proof_count() != before => Ok("changed"),
+        Err(e) => Err(e),
+    }
+}
+
+// Whether the number that a digit names is that of the last entry, of the next one, of the third one or a later one, or valid.
+pub fn numbered<L: Language>(
+    graph: &EGraph<L>,
+    known: &[ProvenEq],
+    ask: &str,
+) -> Result<&'static str, Error> {
+    let (digit, word) = parted(ask, " ");
+    let p = part(known, digit.as_bytes().first())?;
+    match word {
+        "last" => Ok(yes(graph.proof_count().checked_sub(1) == Some(p.number()))),
+        "next" => Ok(yes(graph.proof_count() == p.number())),
+        "third" => Ok(yes(p.number() >= 2 && graph.is_valid_proof(p))),
+        _ => Ok(yes(graph.is_valid_proof(p))),
+    }
+}

@@ -1,0 +1,350 @@
+//! Tables of questions and answers.
+use crate::graphs::empty;
+use crate::rows::{check, check_each, check_in, check_tables};
+use slotted_core::EGraph;
+use slotted_languages::Small;
+use slotted_slots::{Error, SlotTable};
+use slotted_terms::expr::printing::Printable;
+use std::alloc::Global;
+use std::process::Abort;
+
+// A new graph has not failed, has no class, and keeps the table that it was given.
+const NEW: &str = "graph failed => no
+graph null => no
+graph knows x => yes
+count proved => 0
+count asserted => 0
+print term: (lam $y (app (var $x) 5)) => (lam $y (app (var $x) 5))
+print term: (lam $x => Parse
+print term: ?x => NotATerm
+print term: (var $1073741824) => NumberTooLarge
+graph failed => no
+graph null => no
+node first 5: (g $5) => yes";
+
+#[test]
+fn a_new_graph_is_asked(rt: HostRuntime) -> Result<(), Error> {
+    check::<Small>(&rt, rt.alloc(), "x", NEW)
+}
+
+// Ids of one class differ by their names, where the terms are no other name of each other.
+const COMPARED: &str = "ids: (lam $x (var $x)) == (lam $y (var $y)) => equal
+ids: (var $x) == (var $y) => one class
+ids: (lam $x (app (var $x) (var $0))) == (lam $1 (app (var $1) (var $0))) => equal
+ids: (lam $x (app (var $x) (var $0))) == (lam $0 (app (var $0) (var $x))) => one class
+ids: (lam $y (app (var $y) (var $x))) == (lam $x (app (var $x) (var $y))) => one class
+ids: (lam $x (lam $x (var $x))) == (lam $a (lam $b (var $a))) => two classes
+ids: (f $x $y) == (f $y $x) => one class
+ids: (f $x $x) == (f $x $y) => two classes
+ids: (add 2 3) == 5 => two classes";
+
+#[test]
+fn ids_are_compared(rt: HostRuntime) -> Result<(), Error> {
+    check_each::<Small>(&rt, rt.alloc(), COMPARED)
+}
+
+// The shapes of `(app c[$x,$y] c[$y,$x])` and of `(app c[$p,$q] c[$q,$p])` are one, and that of `(app c[$x,$y] c[$x,$y])` is
+// another.
+const FOUND: &str = "node found: (var $y) ? (var $y) => equal
+node found: (var $x) ? (var $y) => one class
+node found: (var $x) ? (g $x) => none
+node found: (app (f $x $y) (f $y $x)) ? (app (f $x $y) (f $y $x)) => equal
+node found: (app (f $x $y) (f $y $x)) ? (app (f $p $q) (f $q $p)) => one class
+node found: (app (f $x $y) (f $y $x)) ? (app (f $x $y) (f $x $y)) => none";
+
+#[test]
+fn a_node_is_found_by_its_shape(rt: HostRuntime) -> Result<(), Error> {
+    check_each::<Small>(&rt, rt.alloc(), FOUND)
+}
+
+// A node that is added by itself gets the id of its term, also where it is there already.
+const ADDED: &str = "node added: (g $x) => yes
+node added: (g $x) => yes
+node added: (g $y) => yes
+node added: 7 => yes
+node added: (lam $x (var $x)) => yes
+node added: (app (f $x $y) (f $y $x)) => yes
+node added: (app (f $p $q) (f $q $p)) => yes";
+
+// An id has different known slots for those of its class, and there is such a class: here `(f $0 $1)` and `a` are the first two.
+// The slots of another class are no slots of its own.
+const VALID_IDS: &str = "graph knows x => no
+valid first 0: (f $0 $1) => yes
+valid first 2: (f $0 $1) => yes
+valid first 1: (f $0 $1) => no
+valid second unknown: (f $0 $1) => no
+valid more 2: (f $0 $1) => no
+valid bare 0: a => no
+valid bare 1: a => yes
+valid bare 2: a => no
+valid over: (g $0) == (g $1) => yes
+valid over: (g $0) == (var $0) => no";
+
+// A node has known slots and valid children: the graph has the class 0 alone.
+const VALID_NODES: &str = "ids: a => equal
+node valid: (g $0) => yes
+node valid: (g $x) => no
+node valid: (add a a) => yes
+node valid: (add a b) => no
+node valid: (lam $0 a) => yes
+node valid: (lam $x a) => no";
+
+// A term has known slots, binders too, and at each node the right number of children.
+const VALID_TERMS: &str = "node term: (lam $0 (var $0)) => yes
+node term: (lam $x (var $0)) => no
+node term: (lam $0 (var $x)) => no
+node term childless: (var $0) => yes
+node term childless: (lam $0 a) => no
+node term above: (lam $0 a) / (var $0) => yes
+node term above: (lam $0 a) / (lam $0 a) => no
+node term above: (var $0) / (var $0) => no";
+
+#[test]
+fn what_is_valid_is_told(rt: HostRuntime) -> Result<(), Error> {
+    check_tables::<Small>(
+        &rt,
+        rt.alloc(),
+        &[ADDED, VALID_IDS, VALID_NODES, VALID_TERMS],
+    )
+}
+
+// A canonical term is read off the class, with the names of the id.
+const CANONICAL: &str = "print canonical: (add (var $p) (g $q)) => (add (var $p) (g $q))
+print canonical: (add (var $x) (g $y)) => (add (var $x) (g $y))
+count children: (add (var $x) (g $y)) => 2
+print canonical: (add (var $p) (g $q)) => (add (var $p) (g $q))
+count children: (lam $x (var $x)) => 1
+count children: 7 => 0";
+
+// A pattern prints with the names of the graph. One that is refused does not fail it.
+const PATTERNS: &str = "print pattern: ?x => ?x
+print pattern: (g $y) => (g $y)
+print pattern: (lam $x (app ?f (var $y)))[(var $x) := ?t] => (lam $x (app ?f (var $y)))[(var $x) := ?t]
+print pattern: a b => Parse
+print pattern: (f $0) => Parse
+print pattern: (g $1073741824) => NumberTooLarge
+graph failed => no";
+
+#[test]
+fn terms_and_patterns_print(rt: HostRuntime) -> Result<(), Error> {
+    check_tables::<Small>(&rt, rt.alloc(), &[CANONICAL, PATTERNS])
+}
+
+// The equation of a union stands once among the asserted ones, behind the entries that each of the two classes equals itself.
+const UNITED: &str = "ids: a == b => two classes
+count proved => 2
+count asserted => 0
+union: a == b => yes
+count asserted => 1
+union: a == b => no
+count asserted => 1
+ids: a == b => equal";
+
+// A union that is refused leaves as many entries.
+const REFUSED: &str = "union: (f $x $y) == (g $x) => NotYet
+graph failed => no
+count proved => 2
+count asserted => 0
+ids: (f $x $y) == (g $x) => two classes";
+
+// A union may say why. It is known from then on, and has one entry.
+const JUSTIFIED: &str = "union r1: a == b => yes
+count asserted => 1
+union r2: a == b => no
+count asserted => 1
+ids: a == b => equal";
+
+#[test]
+fn unions_are_entered(rt: HostRuntime) -> Result<(), Error> {
+    check_tables::<Small>(&rt, rt.alloc(), &[UNITED, REFUSED, JUSTIFIED])
+}
+
+// There has to be a part for each child, in their order, and a turned equation is another one.
+const IN_ORDER: &str = "reflexive: (app a c) == (app b d) => BadStep
+assert: a == b => accepted
+assert: c == d => accepted
+congruent 10: (app a c) == (app b d) => BadStep
+congruent 0: (app a c) == (app b d) => BadStep
+congruent 01: (app a c) == (app b d) => accepted
+symmetric 0: a == b => BadStep
+symmetric 0: b == a => accepted";
+
+// A step enters the last equation.
+const PARENTS: &str = "reflexive: (app a a) == (app b b) => BadStep
+assert: a == b => accepted
+congruent 0: (app a a) == (app b b) => BadStep
+congruent 00: (app a a) == (app b b) => accepted
+number 1 last => yes
+number 1 valid => yes";
+
+// The parts of a transitive step meet in the middle.
+const THROUGH: &str = "assert: a == b => accepted
+assert: b == c => accepted
+transitive 10: a == c => BadStep
+transitive 01: c == a => BadStep
+transitive 01: a == c => accepted";
+
+// That the class of a child equals itself says nothing of which of its slots are bound.
+const BOUND_FIRST: &str = "reflexive: (lam $x (f $x $y)) == (lam $x (f $y $x)) => BadStep
+reflexive: (f $0 $1) == (f $0 $1) => accepted
+congruent 0: (lam $x (f $x $y)) == (lam $x (f $y $x)) => BadStep
+congruent 0: (lam $x (f $x $y)) == (lam $z (f $z $y)) => accepted";
+
+const BOUND_OR_FREE: &str = "reflexive: (lam $x (var $x)) == (lam $x (var $y)) => BadStep
+reflexive: (var $0) == (var $0) => accepted
+congruent 0: (lam $x (var $x)) == (lam $x (var $y)) => BadStep
+congruent 0: (lam $x (var $x)) == (lam $z (var $z)) => accepted";
+
+// Four entries. A number that a larger graph answered is that of the next entry here.
+const PAST_THE_LIST: &str = "other reflexive: (app a a) == (app b b) => BadStep
+other reflexive: c == c => accepted
+reflexive: (app a a) == (app b b) => BadStep
+count proved => 4
+number 0 next => yes
+number 0 valid => no
+symmetric 0: (app b b) == (app a a) => BadStep
+transitive 00: (app a a) == (app b b) => BadStep
+congruent 00: (app a a) == (app b b) => BadStep
+count proved => 4";
+
+// A side that lacks a slot is refused.
+const SHORT: &str = "assert: (f $x $y) == (app (var $y) (var $x)) => accepted
+short symmetric 0: (app (var $y) (var $x)) == (f $x $y) => BadStep
+symmetric 0: (app (var $y) (var $x)) == (f $x $y) => accepted";
+
+#[test]
+fn steps_are_checked(rt: HostRuntime) -> Result<(), Error> {
+    check_tables::<Small>(
+        &rt,
+        rt.alloc(),
+        &[
+            IN_ORDER,
+            PARENTS,
+            THROUGH,
+            BOUND_FIRST,
+            BOUND_OR_FREE,
+            PAST_THE_LIST,
+            SHORT,
+        ],
+    )
+}
+
+// An assertion stands behind the entries of the two classes. A proof of it alone is one line, and its chain rewrites the whole term; turned round, the assertion is used
+// backwards; a reflexive step rewrites nothing. Here and below `¶` stands for a line feed.
+const ASSERTED: &str = r#"assert r1: a == b => accepted
+symmetric 0: b == a => accepted
+reflexive: a == a => accepted
+number 0 third => yes
+entry 0 r1 => yes
+entry 0 r2 => no
+entry 2 r1 => no
+proof lines 0 => 0: a = b by Some("r1")¶
+proof chain 0 => a¶(Rewrite=> r1 b)
+proof chain 1 => b¶(Rewrite<= r1 a)
+proof chain 2 => a"#;
+
+// A text prints as Rust's debug form has it, outside ASCII too.
+const TEXTS: &str = r#"assert Über "x"¶: (f $x $y) == (app (var $x) (var $y)) => accepted
+proof lines 0 => 0: (f $0 $1) = (app (var $0) (var $1)) by Some("Über \"x\"\n")¶"#;
+
+// The names are those of the first term, whatever the entry of the assertion has, and a missing text is a dash.
+const RENAMED: &str = "assert: (f $x $y) == (app (var $y) (var $x)) => accepted
+symmetric 0: (app (var $y) (var $x)) == (f $x $y) => accepted
+reflexive: (f $x $y) == (f $x $y) => accepted
+proof chain 0 => (f $0 $1)¶(Rewrite=> - (app (var $1) (var $0)))
+proof chain 1 => (app (var $0) (var $1))¶(Rewrite<= - (f $1 $0))
+proof chain 2 => (f $0 $1)";
+
+// A bound name that is also the number of a free one is none of the names that are carried over.
+const BOUND: &str =
+    "assert: (f $x $y) == (app (var $y) (app (var $x) (lam $z (var $z)))) => accepted
+symmetric 0: (app (var $y) (app (var $x) (lam $z (var $z)))) == (f $x $y) => accepted
+reflexive: (f $x $y) == (f $x $y) => accepted
+proof chain 0 => (f $0 $1)¶(Rewrite=> - (app (var $1) (app (var $0) (lam $0 (var $0)))))
+proof chain 1 => (app (var $0) (app (var $1) (lam $0 (var $0))))¶(Rewrite<= - (f $1 $0))
+proof chain 2 => (f $0 $1)";
+
+// Names are carried over at each place of the term.
+const CARRIED: &str = "assert: (app (f $x $y) (g $z)) == (app (g $z) (f $y $x)) => accepted
+symmetric 0: (app (g $z) (f $y $x)) == (app (f $x $y) (g $z)) => accepted
+reflexive: (app (f $x $y) (g $z)) == (app (f $x $y) (g $z)) => accepted
+proof chain 0 => (app (f $0 $1) (g $2))¶(Rewrite=> - (app (g $2) (f $1 $0)))
+proof chain 1 => (app (g $0) (f $1 $2))¶(Rewrite<= - (app (f $2 $1) (g $0)))
+proof chain 2 => (app (f $0 $1) (g $2))";
+
+// A turned transitive step takes its second half first.
+const MIDDLE: &str = "assert: a == b => accepted
+assert r2: b == c => accepted
+transitive 01: a == c => accepted
+symmetric 2: c == a => accepted
+proof chain 2 => a¶(Rewrite=> - b)¶(Rewrite=> r2 c)
+proof chain 3 => c¶(Rewrite<= r2 b)¶(Rewrite<= - a)";
+
+// A congruent step takes its children from the left. A part that is used twice has one line.
+const CONGRUENT: &str = r#"reflexive: a == b => BadStep
+reflexive: (app a a) == (app b b) => BadStep
+assert r1: a == b => accepted
+congruent 00: (app a a) == (app b b) => accepted
+proof lines 1 => 0: a = b by Some("r1")¶1: (app a a) = (app b b) by congruence(0, 0)¶
+proof chain 1 => (app a a)¶(app (Rewrite=> r1 b) a)¶(app b (Rewrite=> r1 b))"#;
+
+#[test]
+fn proofs_print(rt: HostRuntime) -> Result<(), Error> {
+    check_tables::<Small>(
+        &rt,
+        rt.alloc(),
+        &[ASSERTED, TEXTS, RENAMED, BOUND, CARRIED, MIDDLE, CONGRUENT],
+    )
+}
+
+// A node whose class needs no slot is added where none is left. One whose class needs one fails the graph.
+const WITHOUT_SLOTS: &str = "node added: 7 => yes
+graph failed => no
+assert: a == b => accepted
+node added: (g $0) => OutOfSlots
+graph failed => yes
+node added: 7 => Failed
+proof lines 0 => Failed
+proof chain 0 => Failed";
+
+#[test]
+fn a_node_without_slots_fails_the_graph(rt: HostRuntime) -> Result<(), Error> {
+    check::<Small>(&rt, rt.alloc(), "f1073741823", WITHOUT_SLOTS)
+}
+
+// The table of a graph over a table that has read a name, after these rows.
+fn table_after<L: Printable>(
+    rt: &impl Abort,
+    alloc: Global,
+    name: &str,
+    rows: &str,
+) -> Result<SlotTable, Error> {
+    let mut graph: EGraph<L> = empty(alloc, name)?;
+    check_in(rt, alloc, &mut graph, rows)?;
+    Ok(graph.into_table())
+}
+
+// The names of a text stand in the table in their order, each once, and a new one after them.
+#[test]
+fn the_table_keeps_the_names(rt: HostRuntime) -> Result<(), Error> {
+    let rows = "ids: (app (f $x $x) (g $y)) => equal";
+    let mut table = table_after::<Small>(&rt, rt.alloc(), "0", rows)?;
+    for (name, number) in [("y", 6), ("x", 2), ("z", 10)] {
+        assert!(rt; table.named(name)?.raw() == number, "at {name}");
+    }
+    Ok(())
+}
+
+// The table of a failed graph comes out as it was.
+#[test]
+fn the_table_of_a_failed_graph_comes_out(rt: HostRuntime) -> Result<(), Error> {
+    let rows = "ids: a => equal
+ids: (var $x) => OutOfSlots
+graph failed => yes
+ids: a => Failed
+graph null => no";
+    let mut table = table_after::<Small>(&rt, rt.alloc(), "f1073741823", rows)?;
+    assert!(rt; matches!(table.fresh(), Err(Error::OutOfSlots)));
+    assert!(rt; table.named("x")?.raw() == 2);
+    Ok(())
+}

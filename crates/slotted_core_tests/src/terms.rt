@@ -1,0 +1,101 @@
+//! What is printed of terms and patterns, and what is counted.
+use crate::graphs::put;
+use slotted_core::EGraph;
+use slotted_languages::Language;
+use slotted_patterns::Pattern;
+use slotted_slots::{AppliedId, Error, Show, SlotTable};
+use slotted_terms::expr::printing::Printable;
+use std::alloc::Global;
+
+// What is printed of a pattern.
+fn shown<L: Language>(
+    alloc: Global,
+    pattern: &Pattern<L>,
+    table: &SlotTable,
+) -> Result<String, Error> {
+    let shown = pattern.show(table);
+    Ok(format!(in alloc; "{shown}")?)
+}
+
+// What is printed, with the graph's names, of the pattern that a text writes.
+fn pattern<L: Language>(alloc: Global, graph: &mut EGraph<L>, text: &str) -> Result<String, Error> {
+    let pattern = graph.parse_pattern(text)?;
+    shown(alloc, &pattern, graph.table())
+}
+
+// The same of the term that a text writes.
+fn term<L: Printable>(alloc: Global, graph: &mut EGraph<L>, text: &str) -> Result<String, Error> {
+    let term = graph.parse_expr(text)?;
+    term.text(alloc, graph.table())
+}
+
+// The canonical term of an id, if it is valid.
+fn canonical_term<L: Printable>(
+    alloc: Global,
+    graph: &mut EGraph<L>,
+    a: &AppliedId,
+) -> Result<String, Error> {
+    if !graph.is_valid(a) {
+        return Err(Error::NotATerm);
+    }
+    let term = graph.get_syn_expr(a)?;
+    term.text(alloc, graph.table())
+}
+
+// The number of children of its canonical node.
+fn child_count<L: Language>(graph: &mut EGraph<L>, a: &AppliedId) -> Result<usize, Error> {
+    if !graph.is_valid(a) {
+        return Err(Error::NotATerm);
+    }
+    let node = graph.get_syn_node(a)?;
+    Ok(node.applied_id_count())
+}
+
+// The canonical term of a text's term.
+fn canonical<L: Printable>(
+    alloc: Global,
+    graph: &mut EGraph<L>,
+    text: &str,
+) -> Result<String, Error> {
+    let id = put(graph, text)?;
+    canonical_term(alloc, graph, &id)
+}
+
+// The number of children of its canonical node.
+fn canonical_children<L: Language>(graph: &mut EGraph<L>, text: &str) -> Result<usize, Error> {
+    let id = put(graph, text)?;
+    child_count(graph, &id)
+}
+
+// A number that is asked by a word.
+fn number<L: Language>(graph: &mut EGraph<L>, word: &str, text: &str) -> Result<usize, Error> {
+    match word {
+        "children" => canonical_children(graph, text),
+        "proved" => Ok(graph.proof_count()),
+        _ => Ok(graph.asserted().len()),
+    }
+}
+
+pub fn count<L: Language>(
+    alloc: Global,
+    graph: &mut EGraph<L>,
+    word: &str,
+    text: &str,
+) -> Result<String, Error> {
+    let number = number(graph, word, text)?;
+    Ok(format!(in alloc; "{number}")?)
+}
+
+// What is printed by a word.
+pub fn answer<L: Printable>(
+    alloc: Global,
+    graph: &mut EGraph<L>,
+    word: &str,
+    text: &str,
+) -> Result<String, Error> {
+    match word {
+        "pattern" => pattern(alloc, graph, text),
+        "term" => term(alloc, graph, text),
+        _ => canonical(alloc, graph, text),
+    }
+}
