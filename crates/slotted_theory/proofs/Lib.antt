@@ -16,3 +16,4 @@ pub mod Shapes
 pub mod Flats
 pub mod Filled
 pub mod Decides
+pub mod NamesBack

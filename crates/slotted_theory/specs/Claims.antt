@@ -16,6 +16,10 @@ DerivableIsEqual =
     (E : List (Term × Term)) (t u : Term) →
     Derives E t u ↔ Equal (map nameless_pair E) (nameless t) (nameless u)
 
+-- each nameless term is the nameless form of some term
+abbrev pub NamelessIsOnto : Type 0
+NamelessIsOnto = (d : DTerm) → (t : Term) × (nameless t ≡ d)
+
 -- from no equation exactly the alpha-equal terms are derivable
 abbrev pub NothingDerivesAlpha : Type 0
 NothingDerivesAlpha = (t u : Term) → Derives [] t u ↔ Alpha t u
@@ -100,6 +104,7 @@ NumbersArePlaced =
 -- all these laws
 pub record Laws : Type 0 where
   pub derivable_is_equal : DerivableIsEqual
+  pub nameless_is_onto : NamelessIsOnto
   pub nothing_derives_alpha : NothingDerivesAlpha
   pub more_derive_more : MoreDeriveMore
   pub derivable_adds_nothing : DerivableAddsNothing

@@ -5,6 +5,7 @@ use Rattle.slotted_theory.proofs.Backward.{Equal-derives}
 use Rattle.slotted_theory.proofs.FromNothing.{Derives-nothing}
 use Rattle.slotted_theory.proofs.MoreEquations.{Derives-more, Derives-through, Derives-one_sided}
 use Rattle.slotted_theory.proofs.FreeNames.{moved-agrees, agrees-from_moved}
+use Rattle.slotted_theory.proofs.NamesBack.{a_named_term}
 use Rattle.slotted_theory.proofs.Binders.{Alpha-bind, Equal-under, Equal-opened}
 use Rattle.slotted_theory.proofs.Tagged.{Alpha-literal}
 use Rattle.slotted_theory.proofs.Shapes.{shape_iff}
@@ -17,6 +18,7 @@ use Rattle.slotted_theory.proofs.laws_hold.Goals as goal
 pub returns : goal.returns
 returns c = record {
   derivable_is_equal = λ E t u. (Derives-equal, Equal-derives t u);
+  nameless_is_onto = a_named_term;
   nothing_derives_alpha = λ t u. (Derives-nothing, alpha);
   more_derive_more = λ E F h t u d. Derives-more h d;
   derivable_adds_nothing = λ E F h t u d. Derives-through h d;
