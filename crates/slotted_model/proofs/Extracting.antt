@@ -34,21 +34,10 @@ use Rattle.slotted_model.proofs.Full.{full-renamed, full-children}
 use Rattle.slotted_model.proofs.Marks.{child_classes-moved}
 use Rattle.slotted_model.proofs.Meeting.{Meeting, meeting}
 use Rattle.slotted_model.proofs.RenamedIds.{full-bijection, normal-moves}
-use Rattle.slotted_model.proofs.Rows.{current-look_up}
+use Rattle.slotted_model.proofs.RowNodes.{source-id, row_node, node-valid, row-normal, row-again}
+use Rattle.slotted_model.proofs.Rows.{current-look_up, rest-current}
 use Rattle.slotted_model.proofs.Costs.{alike-moved}
 use Rattle.slotted_model.proofs.Tables.{cost-later, costs-append, costs-by, costs-each, row-count, IsEntry, entry}
-
--- there is a full id of a class that finds what an id finds, if the two classes lead to one
-source-id : (g : State) → Linked g.nodes g.found → (o : ℕ) → o < length g.nodes → (a : Applied) → IsValidIn g a → find_class g.found o ≡ find_class g.found a.0 →
-    (b : Applied) × IsFull g.nodes b × (b.0 ≡ o) × (find g.found b ≡ find g.found a)
-source-id g linked o h a v same =
-    let m : Meeting g.nodes g.found o a.0 = meeting g.nodes g.found linked o a.0 h v.in_range same in
-    let f : (x : Applied) × IsFilling g.nodes [] a x = a_filling g.nodes (used_slots g.found) [] a v in
-    let p : (π : Bijection) × (renamed_id π.to m.right ≡ f.0) = full-bijection g.nodes m.right f.0 m.right_full f.1.full (m.right_class ∙ sym f.1.class) in
-    let to : ℕ → ℕ = p.0.to in
-    let found : find g.found (renamed_id to m.left) ≡ find g.found a =
-    found-renamed g.found to m.left ∙ (ap (renamed_id to) m.alike ∙ (sym (found-renamed g.found to m.right) ∙ (ap (find g.found) p.1 ∙ sym (filling-found g.nodes g.found linked [] a f.0 v f.1)))) in
-    (renamed_id to m.left, full-renamed g.nodes m.left m.left_full to (λ x y i j. to-injective p.0 x y), m.left_class, found)
 
 -- the same names, binders and places of children
 null_children-extracted : {C : Type 0} {g : State} {table : List (TableEntry C)} {d e : DArgs} → ExtractsArgs g table d e → null_children d ≡ null_children e
@@ -61,27 +50,9 @@ module _ {C : Type 0} (g : State) (k : CostFunction C) (table : List (TableEntry
   abbrev linked : Linked g.nodes g.found
   linked = rest.sane.sound.linked
 
-  -- the node of a row, with the names of a full id of its source
-  abbrev row_node : Row → Applied → DTerm
-  row_node r b = moved (filled b.1) (filed_node r)
-
-  row-current : (r : Row) → Contains g.rows r → IsCurrent g r
-  row-current r c = rest.sane.filed.current r c (λ w. Contains-nil r.source (subst (λ xs. Contains xs r.source) rest.nothing_waits w))
-
-  node-valid : (b : Applied) → IsFull g.nodes b → EachChild (IsValidIn g) (node_of g.nodes b).args
-  node-valid b full = EachChild-map (λ c. (c.0 < b.0) × IsFull g.nodes c) (IsValidIn g) (λ c i. full-is_valid g.nodes g.found linked c i.1) (node_of g.nodes b).args (full-children g.nodes rest.sane.sound.canonical b full)
-
-  -- it is the normal form of the id's node
-  row-normal : (r : Row) → Contains g.rows r → (b : Applied) → b.0 ≡ r.source → row_node r b ≡ normal g.found (node_of g.nodes b)
-  row-normal r c b s =
-      ap (moved (filled b.1)) ((row-current r c).in_normal_form ∙ ap (normal_node g) (sym s)) ∙ sym (normal-moves g.found (filled b.1) (canonical_node g.nodes b.0))
-
-  row-again : (r : Row) → Contains g.rows r → (b : Applied) → IsFull g.nodes b → b.0 ≡ r.source → normal g.found (row_node r b) ≡ row_node r b
-  row-again r c b full s = ap (normal g.found) (row-normal r c b s) ∙ (normal-again g.nodes g.found linked (node_of g.nodes b) (node-valid b full) ∙ sym (row-normal r c b s))
-
   row-classes : (r : Row) → Contains g.rows r → (b : Applied) → IsFull g.nodes b → b.0 ≡ r.source → child_classes (normal_args g.found (row_node r b).args) ≡ child_classes r.shape.args
   row-classes r c b full s =
-      ap (λ (t : DTerm). child_classes t.args) (row-again r c b full s) ∙ (child_classes-moved (filled b.1) (filed_node r).args ∙ child_classes-moved (filled r.slots) r.shape.args)
+      ap (λ (t : DTerm). child_classes t.args) (row-again g rest r c b full s) ∙ (child_classes-moved (filled b.1) (filed_node r).args ∙ child_classes-moved (filled r.slots) r.shape.args)
 
   mutual
     -- what is extracted is looked up as what the id finds
@@ -91,9 +62,9 @@ module _ {C : Type 0} (g : State) (k : CostFunction C) (table : List (TableEntry
         let d : DTerm = row_node e.row b in
         let n : DTerm = node_of g.nodes b in
         let twice : normal g.found (normal g.found d) ≡ normal g.found n =
-        ap (normal g.found) (row-again e.row i.filed b full s ∙ row-normal e.row i.filed b s) ∙ normal-again g.nodes g.found linked n (node-valid b full) in
+        ap (normal g.found) (row-again g rest e.row i.filed b full s ∙ row-normal g rest e.row i.filed b s) ∙ normal-again g.nodes g.found linked n (node-valid g rest b full) in
         ap (option_and_then (λ found. look_up_node g (node d.op d.payloads found))) (extracted-look_up_args h)
-        ∙ (ap (look_up_normal g) twice ∙ (current-look_up g linked rest.sane.filed e.row i.filed (row-current e.row i.filed) b full s ∙ ap Some same))
+        ∙ (ap (look_up_normal g) twice ∙ (current-look_up g linked rest.sane.filed e.row i.filed (rest-current g rest e.row i.filed) b full s ∙ ap Some same))
 
     extracted-look_up_args : {d e : DArgs} → ExtractsArgs g table d e → look_up_args (look_up_node g) e ≡ Some (normal_args g.found d)
     extracted-look_up_args no_more = refl
@@ -186,7 +157,7 @@ module _ {C : Type 0} (g : State) (k : CostFunction C) (table : List (TableEntry
         option_map-some (k.node_cost r.shape) (costs_in entries (child_classes r.shape.args)) e.cost h.0.candidate.cost in
         let classes : child_classes d.args ≡ child_classes r.shape.args = child_classes-moved (filled b.0.1) (filed_node r).args ∙ child_classes-moved (filled r.slots) r.shape.args in
         let found : EachChild P d.args =
-        subst (λ (t : DTerm). EachChild P t.args) (sym (row-normal g k table rest in_order r filed b.0 b.2)) (normal-found g l (node_of g.nodes b.0).args (node-valid g k table rest in_order b.0 b.1)) in
+        subst (λ (t : DTerm). EachChild P t.args) (sym (row-normal g rest r filed b.0 b.2)) (normal-found g l (node_of g.nodes b.0).args (node-valid g rest b.0 b.1)) in
         let there : EachChild (λ c. P c × Q c.0) d.args = each-class P Q d.args found (λ c i. costs-each entries (child_classes r.shape.args) costs.0 costs.1 c (subst (λ cs. Contains cs c) classes i)) in
         let children : EachChild R d.args = EachChild-map (λ c. P c × Q c.0) R (λ c i. (i.0.0, subst Q (ap (λ (z : Applied). z.0) (sym i.0.1)) i.1)) d.args there in
         let made : (args : DArgs) × ExtractsArgs g table d.args args =

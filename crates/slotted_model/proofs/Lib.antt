@@ -82,6 +82,7 @@ pub mod ShortcutExample
 pub mod Costs
 pub mod Tables
 pub mod Optimal
+pub mod RowNodes
 pub mod Extracting
 pub mod Cheapest
 pub mod Queues

@@ -3,6 +3,7 @@ use Rattle.std.specs.Prelude.{◌≡◌, ◌≢◌, ℕ, suc, ◌+◌, ◌-◌, 
 use Rattle.std.specs.Map.{keys_of, values_of}
 use Rattle.slotted_theory.specs.Nameless.{DTerm, moved}
 use Rattle.slotted_theory.specs.Renaming.{IsInjective}
+use Rattle.slotted_theory.specs.FiniteMaps.{filled}
 use Rattle.slotted_theory.specs.Shape.{shape}
 use Rattle.slotted_model.specs.Applied.{Applied, renamed_id, EachChild}
 use Rattle.slotted_model.specs.Classes.{IsFull}
@@ -11,7 +12,7 @@ use Rattle.slotted_model.specs.Find.{entry_at, IsLive, find_class, used_slots, f
 use Rattle.slotted_model.specs.Link.{CanLink, IsLater, CanDrop, with_shortcut}
 use Rattle.slotted_model.specs.ProofList.{Equation, ProofEntry, explicit, equation_of, turned_equation, equation_at, step_at, find_equation, node_of}
 use Rattle.slotted_model.specs.Normal.{normal}
-use Rattle.slotted_model.specs.State.{Row, Symmetry, State, sources, normal_node, look_up_node, look_up_tree, HasTouched}
+use Rattle.slotted_model.specs.State.{Row, Symmetry, State, sources, filed_node, normal_node, look_up_node, look_up_tree, HasTouched}
 use Rattle.slotted_model.specs.Rest.{IsValidIn, UpToSymmetries, LinkedTo, IsAligned, HasNoOpenSymmetry, IsRow, IsListed, Sane, Represents, AtRest, size, entry_size, lives_from, slots_from, IsAffected, CoversAffected, FoundTogether, IsAnswer, RestGives}
 use Rattle.slotted_model.specs.Changes.{GoesOn, IsEvent, linked_state, dropped_state, ProofsGrow, with_proofs, symmetry_of, with_symmetry, found_entry, StandsAt, PairsAll, Lacks, Unites, HasUnited, RepresentsBut}
 use Rattle.slotted_model.specs.Rebuild.{CongruenceEntered, Turn, Acts, HasNothingLeft, Runs, IsRebuilt, HasTurned, HasActed}
@@ -24,6 +25,15 @@ LookUpsMoveWithNames =
     (g : State) → Sane g → (f : ℕ → ℕ) → IsInjective f → (d : DTerm) →
     (look_up_node g (moved f d) ≡ option_map (renamed_id f) (look_up_node g d))
     × (look_up_tree g (moved f d) ≡ option_map (renamed_id f) (look_up_tree g d))
+
+-- at rest a filed node, with the names of a full id of its source, is looked up as what that id finds, and each id of the row's class finds
+-- what such an id finds
+abbrev pub FiledNodesAreLookedUp : Type 0
+FiledNodesAreLookedUp =
+    (g : State) → AtRest g → (r : Row) → Contains g.rows r →
+    ((b : Applied) → IsFull g.nodes b → b.0 ≡ r.source → look_up_node g (moved (filled b.1) (filed_node r)) ≡ Some (find g.found b))
+    × ((a : Applied) → IsValidIn g a → find_class g.found a.0 ≡ find_class g.found r.source →
+        (b : Applied) × IsFull g.nodes b × (b.0 ≡ r.source) × (find g.found b ≡ find g.found a))
 
 -- ids that are equal up to listed symmetries stay so under other names
 abbrev pub EqualityUpToMovesWithNames : Type 0
@@ -293,6 +303,7 @@ ShortcutsShowNowhere =
 -- all these laws
 pub record RestLaws : Type 0 where
   pub look_ups_move_with_names : LookUpsMoveWithNames
+  pub filed_nodes_are_looked_up : FiledNodesAreLookedUp
   pub equality_up_to_moves_with_names : EqualityUpToMovesWithNames
   pub equal_ids_are_valid : EqualIdsAreValid
   pub equal_ids_find_alike : EqualIdsFindAlike
