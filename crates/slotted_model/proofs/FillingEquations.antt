@@ -54,7 +54,7 @@ narrowed S P a b within = same_members S (filter (has_slot S) P) a (ascending-fi
   ],
 ))
 
-keys-identity : (S : List ℕ) → keys (identity S) ≡ S
+pub keys-identity : (S : List ℕ) → keys (identity S) ≡ S
 keys-identity [] = refl
 keys-identity (s ∷ S) = ap (λ K. s ∷ K) (keys-identity S)
 
@@ -62,7 +62,7 @@ identity-wider : (S P : List ℕ) → IsAscending S → IsAscending P → ((s : 
 identity-wider S P a b within = listed-in_order P (identity S) (ascending-different P b) (keys-identity S ∙ (narrowed S P a b within ∙ ap (λ K. filter (has_slot K) P) (sym (keys-identity S))))
 
 -- whether a slot has a name is decided
-named : (m : List (ℕ × ℕ)) (s : ℕ) → ((x : ℕ) × Contains m (s, x)) ⊎ (¬ Contains (keys m) s)
+pub named : (m : List (ℕ × ℕ)) (s : ℕ) → ((x : ℕ) × Contains m (s, x)) ⊎ (¬ Contains (keys m) s)
 named m s = elim (has_slot-cases (keys m) s) [
   | inl h ↦ inl (Contains-of_key m s h.0)
   | inr h ↦ inr h.0

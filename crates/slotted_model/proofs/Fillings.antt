@@ -18,7 +18,7 @@ use Rattle.slotted_model.proofs.Unique.{term_of-same}
 pub slots-ascending : (nodes : List DTerm) (i : ℕ) → IsAscending (canonical_slots nodes i)
 slots-ascending nodes i = IsAscending-ascending (free_names (canonical_node nodes i).args)
 
-valid-full : (nodes : List DTerm) (a : Applied) → IsValid (canonical_slots nodes) nodes a → IsFull nodes a
+pub valid-full : (nodes : List DTerm) (a : Applied) → IsValid (canonical_slots nodes) nodes a → IsFull nodes a
 valid-full nodes a v = record {
   in_range = v.in_range;
   slots = same_members (keys a.1) (canonical_slots nodes a.0) v.ascending (slots-ascending nodes a.0)
@@ -39,7 +39,7 @@ full-valid nodes a full = record {
 pub valid-iff : (nodes : List DTerm) (a : Applied) → IsValid (canonical_slots nodes) nodes a ↔ IsFull nodes a
 valid-iff nodes a = (valid-full nodes a, full-valid nodes a)
 
-fills-itself : (nodes : List DTerm) (given : List ℕ) (a : Applied) → IsFull nodes a → IsFilling nodes given a a
+pub fills-itself : (nodes : List DTerm) (given : List ℕ) (a : Applied) → IsFull nodes a → IsFilling nodes given a a
 fills-itself nodes given a full = record {
   class = refl;
   full = full;

@@ -34,6 +34,7 @@ pub mod SoundnessExamples
 pub mod Congruence
 pub mod Twins
 pub mod TwinNumbers
+pub mod NothingAsserted
 pub mod Replacing
 pub mod Dropping
 pub mod NewClasses

@@ -187,6 +187,13 @@ FoundAlikeAreDerivable =
     IsFilling nodes given a left → IsFilling nodes more_given b right →
     (E : List (Term × Term)) (t u : Term) → map nameless_pair E ≡ asserted nodes proofs → nameless t ≡ term_of nodes left → nameless u ≡ term_of nodes right → Derives E t u
 
+-- where nothing is asserted valid ids lack no name, and ids find alike exactly where they stand for one term
+abbrev pub NothingAssertedIsAlpha : Type 0
+NothingAssertedIsAlpha =
+    (nodes : List DTerm) (found : List Entry) (proofs : List ProofEntry) → Sound nodes found proofs → asserted nodes proofs ≡ [] →
+    ((a : Applied) → IsValid (used_slots found) nodes a → IsFull nodes a)
+    × ((a b : Applied) → IsFull nodes a → IsFull nodes b → (find found a ≡ find found b) ↔ (term_of nodes a ≡ term_of nodes b))
+
 -- the equation of two full ids that find alike can be entered, by steps that assert nothing: each yes is explained
 abbrev pub FoundAlikeAreExplained : Type 0
 FoundAlikeAreExplained =
@@ -452,6 +459,7 @@ pub record SoundnessLaws : Type 0 where
   pub found_alike_are_joined : FoundAlikeAreJoined
   pub found_alike_are_equal : FoundAlikeAreEqual
   pub found_alike_are_derivable : FoundAlikeAreDerivable
+  pub nothing_asserted_is_alpha : NothingAssertedIsAlpha
   pub found_alike_are_explained : FoundAlikeAreExplained
   pub find_equations_are_explained : FindEquationsAreExplained
   pub found_equations_are_explained : FoundEquationsAreExplained

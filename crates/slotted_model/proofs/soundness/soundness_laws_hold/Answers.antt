@@ -3,6 +3,7 @@ use Rattle.slotted_model.proofs.Correspondences.Pairs.{Contains-value, Contains-
 use Rattle.slotted_model.proofs.Finding.{leads, find_class-live, find_map-live, find_class-follows, find_map-follows}
 use Rattle.slotted_model.proofs.NormalIds.{found-class_live, found-slots, found-valid, found-again, found-renamed, found-same, found-name, full-is_valid, filling-found}
 use Rattle.slotted_model.proofs.FillingEquations.{filled-equation}
+use Rattle.slotted_model.proofs.NothingAsserted.{nothing-full, nothing-alpha}
 use Rattle.slotted_model.proofs.TwinNumbers.{twins-pair, twins-move}
 use Rattle.slotted_model.proofs.FilledNodes.{a_filled_node, filled-full, filled-normal}
 use Rattle.slotted_model.proofs.Steps.{one_is_enough, reflexive-sound, symmetric-sound, transitive-sound, congruent-sound}
@@ -57,6 +58,7 @@ returns c = record {
   found_alike_are_joined = found_alike-join;
   found_alike_are_equal = λ nodes found proofs s. found_alike-equal nodes s.canonical found proofs s.linked s.proved s.exact;
   found_alike_are_derivable = λ nodes found proofs s. found_alike-derivable nodes s.canonical found proofs s.linked s.proved s.exact;
+  nothing_asserted_is_alpha = λ nodes found proofs s nothing. (nothing-full nodes found proofs s nothing, nothing-alpha nodes found proofs s nothing);
   found_alike_are_explained = λ nodes found proofs s. found_alike-explained nodes found proofs s.linked s.proved s.exact;
   find_equations_are_explained = λ nodes found proofs s. find_equation-explained nodes found proofs s.linked s.proved s.exact;
   found_equations_are_explained = λ nodes found proofs s. found_equation-explained nodes found proofs s.linked s.proved s.exact;
