@@ -1,18 +1,20 @@
 -- More laws applied to the graphs where n (n a) and n (n b) are found alike by congruence.
-use Rattle.std.proofs.Common.{◌≡◌, ℕ, ◌<◌, List, [], false, refl, arith}
-use Rattle.std.specs.Prelude.{◌↔◌}
-use Rattle.slotted_theory.specs.Nameless.{DTerm, stop}
+use Rattle.std.proofs.Common.{◌≡◌, ℕ, ◌<◌, List, [], Some, false, refl, arith}
+use Rattle.std.specs.Prelude.{◌↔◌, Contains}
+use Rattle.slotted_theory.specs.Nameless.{DTerm, stop, moved}
+use Rattle.slotted_theory.specs.FiniteMaps.{filled}
 use Rattle.slotted_theory.specs.Derives.{Equal}
 use Rattle.slotted_theory.proofs.Lists.{Contains-nil}
 use Rattle.slotted_theory.proofs.Values.{node}
 use Rattle.slotted_model.specs.Applied.{Applied}
-use Rattle.slotted_model.specs.Classes.{term_of}
+use Rattle.slotted_model.specs.Classes.{term_of, IsFull}
+use Rattle.slotted_model.specs.Correspondence.{same_names}
 use Rattle.slotted_model.specs.Closed.{AreAlikeUpTo, IsClosed}
 use Rattle.slotted_model.specs.Filling.{IsFilling}
 use Rattle.slotted_model.specs.Find.{find}
-use Rattle.slotted_model.specs.Normal.{HasNormalTwin}
+use Rattle.slotted_model.specs.Normal.{HasNormalTwin, HasOneNumber}
 use Rattle.slotted_model.specs.ProofList.{IsTransitive, equation_of, turned_equation, find_equation, entry_equation, asserted}
-use Rattle.slotted_model.specs.State.{look_up_node, look_up_tree}
+use Rattle.slotted_model.specs.State.{Row, filed_node, look_up_node, look_up_tree}
 use Rattle.slotted_model.specs.Rest.{IsValidIn, FoundTogether, IsAnswer, RestGives, CoversAffected}
 use Rattle.slotted_model.specs.Affected.{AreAlikeOrAffected}
 use Rattle.slotted_model.specs.SoundnessClaims.{SoundnessLaws}
@@ -24,6 +26,12 @@ use Rattle.slotted_model.proofs.CongruenceExample.{id, n, id_full, rebuilt, rebu
 module _ (laws : SoundnessLaws) where
   twin : (b : Applied) × (b.0 ≡ 5) × HasNormalTwin rebuilt.nodes rebuilt.found (id 4) b
   twin = laws.equal_shapes_have_twins rebuilt.nodes rebuilt_done.rest.sane.sound.canonical rebuilt.found (id 4) (id_full 4 (omega arith)) 5 (omega arith) refl
+
+  twin_numbers : (s t : ℕ) → Contains (same_names (id 4).1 twin.0.1) (s, t) ↔ HasOneNumber rebuilt.found rebuilt.nodes 4 twin.0.0 s t
+  twin_numbers = laws.twins_pair_by_numbers rebuilt.nodes rebuilt.found (id 4) twin.0 (id_full 4 (omega arith)) twin.2
+
+  twin_again : HasNormalTwin rebuilt.nodes rebuilt.found (id 4) twin.0
+  twin_again = laws.twins_move_together rebuilt.nodes rebuilt.found (id 4) twin.0 (id 4) twin.0 (id_full 4 (omega arith)) twin.2 (id_full 4 (omega arith)) twin.2.full refl
 
   joined : IsTransitive (equation_of (id 4) (id 5)) (find_equation rebuilt.nodes rebuilt.found 4) (turned_equation rebuilt.nodes (find_equation rebuilt.nodes rebuilt.found 5))
   joined = laws.found_alike_are_joined rebuilt.nodes rebuilt.found rebuilt_done.rest.sane.sound.linked (id 4) (id 5) (id_full 4 (omega arith)) (id_full 5 (omega arith)) refl
@@ -37,6 +45,11 @@ module _ (laws : RestLaws) where
 
   congruent_together : FoundTogether rebuilt (id 4) (id 5)
   congruent_together = laws.rest_is_congruent rebuilt rebuilt_done.rest (id 4) (id 5) (id_full 4 (omega arith)) (id_full 5 (omega arith)) one_normal_form
+
+  -- what the rows of the graph file is looked up
+  filed : (r : Row) → Contains rebuilt.rows r → (b : Applied) → IsFull rebuilt.nodes b → b.0 ≡ r.source →
+      look_up_node rebuilt (moved (filled b.1) (filed_node r)) ≡ Some (find rebuilt.found b)
+  filed r c = (laws.filed_nodes_are_looked_up rebuilt rebuilt_done.rest r c).0
 
   answer : IsAnswer rebuilt (n 0) (id 3)
   answer = laws.answers_are_found rebuilt rebuilt_done.rest (n 0) (id 3) refl

@@ -8,17 +8,19 @@ use Rattle.slotted_theory.specs.Derives.{Equal, listed, moving}
 use Rattle.slotted_theory.proofs.Filled.{filled-injective}
 use Rattle.slotted_theory.proofs.Lists.{contains_head, contains_tail, contains_cases, Contains-nil}
 use Rattle.slotted_theory.proofs.Values.{node, child_before}
-use Rattle.slotted_model.specs.Applied.{Applied, as_term, EachChild}
+use Rattle.slotted_model.specs.Applied.{Applied, values, as_term, EachChild}
 use Rattle.slotted_model.specs.Classes.{term_of, layer_of, IsFull}
 use Rattle.slotted_model.specs.Closed.{AreAlikeUpTo, IsClosed}
-use Rattle.slotted_model.specs.Filling.{IsFilling}
-use Rattle.slotted_model.specs.Find.{find}
-use Rattle.slotted_model.specs.ProofList.{asserted}
+use Rattle.slotted_model.specs.Filling.{IsFilling, FillsNode}
+use Rattle.slotted_model.specs.Find.{used_slots, find}
+use Rattle.slotted_model.specs.Normal.{normal}
+use Rattle.slotted_model.specs.ProofList.{equation_of, asserted}
 use Rattle.slotted_model.specs.State.{look_up_node}
 use Rattle.slotted_model.specs.Rest.{IsValidIn, IsAffected, CoversAffected}
 use Rattle.slotted_model.specs.Affected.{AreAlikeOrAffected}
 use Rattle.slotted_model.specs.SoundnessClaims.{SoundnessLaws}
 use Rattle.slotted_model.specs.CompletenessClaims.{CompletenessLaws}
+use Rattle.slotted_model.proofs.Fillings.{fills-itself}
 use Rattle.slotted_model.proofs.Spreading.{is_affected-iff}
 use Rattle.slotted_model.proofs.CompletenessExamples.{one_of, nodes, proofs, graph, after, after_sound, at_rest, lam_id}
 
@@ -136,3 +138,18 @@ module _ (laws : CompletenessLaws) where
 
   layer_is_lam : Equal (asserted nodes proofs) (term_of nodes lam_id) (layer_of nodes lam_f_4)
   layer_is_lam = equal_is_looked_up.0 refl
+
+-- f 7 and g 7 have the equation of f 7 8 and g 7; and the node under the binder can be filled, and has the normal form that it had
+module _ (laws : SoundnessLaws) where
+  fillings_keep_equations : equation_of (f_7_and 8) g_7 ≡ equation_of f_7 g_7
+  fillings_keep_equations =
+      laws.fillings_keep_equations nodes (used_slots graph.found) f_7 g_7 (f_7_and 8) g_7 f_7-valid g_7-valid f_7_8-fills (fills-itself nodes (values (f_7_and 8).1) g_7 g_7-full)
+
+  filled_lam : (e : DTerm) × FillsNode nodes (3 ∷ []) lam_f_4 e
+  filled_lam = laws.filled_nodes_are_there nodes (used_slots graph.found) (3 ∷ []) lam_f_4 lam_f_4-children
+
+  filled_lam-full : EachChild (IsFull nodes) filled_lam.0.args
+  filled_lam-full = laws.filled_nodes_are_full nodes (3 ∷ []) lam_f_4 filled_lam.0 filled_lam.1
+
+  filled_lam-normal : normal after filled_lam.0 ≡ normal after lam_f_4
+  filled_lam-normal = laws.filled_nodes_have_one_normal_form nodes after after_sound.linked (3 ∷ []) lam_f_4 filled_lam.0 lam_f_4-children filled_lam.1
