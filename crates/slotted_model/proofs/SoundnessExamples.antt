@@ -1,17 +1,19 @@
 -- Small unions, and what is found after them, computed.
 use Rattle.std.proofs.Common.{◌≡◌, ℕ, zero, suc, ◌<◌, List, [], ◌∷◌, ◌++◌, refl, ap, arith, get_or}
+use Rattle.std.specs.Prelude.{◌↔◌}
 use Rattle.slotted_theory.specs.Nameless.{DTerm, stop, place}
 use Rattle.slotted_theory.specs.Shape.{shape}
 use Rattle.slotted_theory.specs.Derives.{Equal}
 use Rattle.slotted_theory.proofs.Values.{node}
 use Rattle.slotted_model.specs.Applied.{Applied}
-use Rattle.slotted_model.specs.Classes.{canonical_node, IsFull}
+use Rattle.slotted_model.specs.Classes.{canonical_node, term_of, IsFull}
 use Rattle.slotted_model.specs.Growth.{IsNew, Added}
 use Rattle.slotted_model.specs.Correspondence.{identity}
 use Rattle.slotted_model.specs.Find.{Entry, find_class, find_map, used_slots, find}
 use Rattle.slotted_model.specs.ProofList.{Equation, ProofEntry, explicit, reflexive, equation_of, equation_at, asserted, find_equation, entry_equation}
 use Rattle.slotted_model.specs.Link.{CanEnter, IsLater, found_equation, with_link, reflexive_equation}
 use Rattle.slotted_model.specs.Sound.{Sound, United}
+use Rattle.slotted_model.specs.SoundnessClaims.{SoundnessLaws}
 use Rattle.slotted_model.proofs.Growing.{added, Canonical-nil}
 use Rattle.slotted_model.proofs.Correspondences.PartialInjections.{identity-partial}
 use Rattle.slotted_model.proofs.FindProofs.{full-found_alike, exact-holds}
@@ -140,6 +142,11 @@ p_full = record { in_range = omega arith; slots = refl; injective = tt }
 
 q_full : IsFull words (1, [])
 q_full = record { in_range = omega arith; slots = refl; injective = tt }
+
+-- two words of which nothing is asserted are found different, since they are
+module _ (laws : SoundnessLaws) where
+  words_differ : (find two_words (0, []) ≡ find two_words (1, [])) ↔ (term_of words (0, []) ≡ term_of words (1, []))
+  words_differ = (laws.nothing_asserted_is_alpha words two_words reflexive_proofs words_sound refl).1 (0, []) (1, []) p_full q_full
 
 can_assert : CanEnter words reflexive_proofs assertion
 can_assert = record { over = record { left = omega arith; right = omega arith; pairs = identity-partial [] }; proved = tt; is_new = other }

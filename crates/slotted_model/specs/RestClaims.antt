@@ -33,7 +33,7 @@ FiledNodesAreLookedUp =
     (g : State) → AtRest g → (r : Row) → Contains g.rows r →
     ((b : Applied) → IsFull g.nodes b → b.0 ≡ r.source → look_up_node g (moved (filled b.1) (filed_node r)) ≡ Some (find g.found b))
     × ((a : Applied) → IsValidIn g a → find_class g.found a.0 ≡ find_class g.found r.source →
-        (b : Applied) × IsFull g.nodes b × (b.0 ≡ r.source) × (find g.found b ≡ find g.found a))
+    (b : Applied) × IsFull g.nodes b × (b.0 ≡ r.source) × (find g.found b ≡ find g.found a))
 
 -- ids that are equal up to listed symmetries stay so under other names
 abbrev pub EqualityUpToMovesWithNames : Type 0

@@ -40,12 +40,12 @@ named-back ρ σ (place x rest) back =
     λ i. place (back x (contains_head x (free_names rest)) i) (named-back ρ σ rest (λ y c. back y (contains_tail x (free_names rest) y c)) i)
 named-back ρ σ (sub op payloads args rest) back =
     λ i. sub op payloads (named-back ρ σ args (λ y c. back y (Contains-append_left (free_names args) (free_names rest) y c)) i)
-        (named-back ρ σ rest (λ y c. back y (Contains-append_right (free_names args) (free_names rest) y c)) i)
+    (named-back ρ σ rest (λ y c. back y (Contains-append_right (free_names args) (free_names rest) y c)) i)
 named-back ρ σ (scope inner rest) back =
     let z : ℕ = binder_name σ inner in
     let own : (x : ℕ) → Contains (outside (free_names inner)) x → ρ (σ x) ≡ x = λ y c. back y (Contains-append_left (outside (free_names inner)) (free_names rest) y c) in
     λ i. scope (named-back (extend z ρ) (named_under z σ) inner (under-back ρ σ inner own) i)
-        (named-back ρ σ rest (λ y c. back y (Contains-append_right (outside (free_names inner)) (free_names rest) y c)) i)
+    (named-back ρ σ rest (λ y c. back y (Contains-append_right (outside (free_names inner)) (free_names rest) y c)) i)
 
 pub a_named_term : (d : DTerm) → (t : Term) × (nameless t ≡ d)
 a_named_term d =
