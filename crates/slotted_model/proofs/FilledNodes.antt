@@ -7,7 +7,7 @@ use Rattle.slotted_model.specs.Applied.{Applied, as_term, applied_of, EachChild,
 use Rattle.slotted_model.specs.Classes.{IsFull}
 use Rattle.slotted_model.specs.Filling.{IsValid, IsFilling, FillsArgs, FillsNode}
 use Rattle.slotted_model.specs.Find.{Entry, used_slots, find, Linked}
-use Rattle.slotted_model.specs.Normal.{normal_args, normal}
+use Rattle.slotted_model.specs.Normal.{normal_args, normal, EqualInTurn}
 use Rattle.slotted_model.proofs.Congruence.{child-applied}
 use Rattle.slotted_model.proofs.Fillings.{a_filling}
 use Rattle.slotted_model.proofs.NormalIds.{filling-found}
@@ -44,22 +44,36 @@ full-args nodes given (scope inner rest) e f =
 pub filled-full : (nodes : List DTerm) (given : List ℕ) (d e : DTerm) → FillsNode nodes given d e → EachChild (IsFull nodes) e.args
 filled-full nodes given d e f = full-args nodes given d.args e.args f.children
 
-normal-args : (nodes : List DTerm) (found : List Entry) → Linked nodes found → (given : List ℕ) (d e : DArgs) →
-    EachChild (IsValid (used_slots found) nodes) d → FillsArgs nodes given d e → normal_args found e ≡ normal_args found d
-normal-args nodes found linked given stop e v f = ap (normal_args found) f
-normal-args nodes found linked given (place x rest) e v f = ap (normal_args found) f.1 ∙ ap (place x) (normal-args nodes found linked given rest f.0 v f.2)
-normal-args nodes found linked given (sub op payloads args rest) e v f =
-    let a : Applied = applied_of payloads args in
+-- children that find alike in turn have one normal form
+in_turn-args : (found : List Entry) (d e : DArgs) → EqualInTurn found d e → normal_args found d ≡ normal_args found e
+in_turn-args found stop e f = ap (normal_args found) (sym f)
+in_turn-args found (place x rest) e f = ap (place x) (in_turn-args found rest f.0 f.2) ∙ ap (normal_args found) (sym f.1)
+in_turn-args found (sub op payloads args rest) e f =
     let b : Applied = f.0 in
     let own : applied_of (as_term b).payloads (as_term b).args ≡ b = child-applied (λ c. c ≡ b) (as_term b).op (as_term b).payloads (as_term b).args (b, refl, refl) in
-    let same : find found (applied_of (as_term b).payloads (as_term b).args) ≡ find found a =
-    ap (find found) own ∙ sym (filling-found nodes found linked given a b (child-says (IsValid (used_slots found) nodes) op payloads args v.0) f.3) in
-    ap (normal_args found) f.2 ∙ (λ i. child_before (as_term (same i)) (normal-args nodes found linked given rest f.1 v.1 f.4 i))
-normal-args nodes found linked given (scope inner rest) e v f =
-    ap (normal_args found) f.2
-    ∙ (λ i. scope (normal-args nodes found linked (0 ∷ map suc given) inner f.0 v.0 f.3 i) (normal-args nodes found linked given rest f.1 v.1 f.4 i))
+    let same : find found (applied_of payloads args) ≡ find found (applied_of (as_term b).payloads (as_term b).args) = f.3 ∙ ap (find found) (sym own) in
+    (λ i. child_before (as_term (same i)) (in_turn-args found rest f.1 f.4 i)) ∙ ap (normal_args found) (sym f.2)
+in_turn-args found (scope inner rest) e f = (λ i. scope (in_turn-args found inner f.0 f.3 i) (in_turn-args found rest f.1 f.4 i)) ∙ ap (normal_args found) (sym f.2)
+
+pub in_turn-normal : (found : List Entry) (d e : DTerm) → d.op ≡ e.op → d.payloads ≡ e.payloads → EqualInTurn found d.args e.args → normal found d ≡ normal found e
+in_turn-normal found d e op payloads f = λ i. node (op i) (payloads i) (in_turn-args found d.args e.args f i)
+
+-- a child and what fills it find alike
+filled-in_turn : (nodes : List DTerm) (found : List Entry) → Linked nodes found → (given : List ℕ) (d e : DArgs) →
+    EachChild (IsValid (used_slots found) nodes) d → FillsArgs nodes given d e → EqualInTurn found d e
+filled-in_turn nodes found linked given stop e v f = f
+filled-in_turn nodes found linked given (place x rest) e v f = (f.0, f.1, filled-in_turn nodes found linked given rest f.0 v f.2)
+filled-in_turn nodes found linked given (sub op payloads args rest) e v f = (
+  f.0,
+  f.1,
+  f.2,
+  filling-found nodes found linked given (applied_of payloads args) f.0 (child-says (IsValid (used_slots found) nodes) op payloads args v.0) f.3,
+  filled-in_turn nodes found linked given rest f.1 v.1 f.4,
+)
+filled-in_turn nodes found linked given (scope inner rest) e v f =
+    (f.0, f.1, f.2, filled-in_turn nodes found linked (0 ∷ map suc given) inner f.0 v.0 f.3, filled-in_turn nodes found linked given rest f.1 v.1 f.4)
 
 pub filled-normal : (nodes : List DTerm) (found : List Entry) → Linked nodes found → (given : List ℕ) (d e : DTerm) →
     EachChild (IsValid (used_slots found) nodes) d.args → FillsNode nodes given d e → normal found e ≡ normal found d
 filled-normal nodes found linked given d e v f =
-    λ i. node (f.operator i) (f.payloads i) (normal-args nodes found linked given d.args e.args v f.children i)
+    sym (in_turn-normal found d e (sym f.operator) (sym f.payloads) (filled-in_turn nodes found linked given d.args e.args v f.children))

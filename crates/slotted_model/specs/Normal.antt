@@ -53,3 +53,11 @@ pub record HasOneNumber (found : List Entry) (nodes : List DTerm) (i j s t : ℕ
   pub left : Contains (names (normal found (canonical_node nodes i))) s
   pub right : Contains (names (normal found (canonical_node nodes j))) t
   pub number : number_in (free_names (normal found (canonical_node nodes i)).args) s ≡ number_in (free_names (normal found (canonical_node nodes j)).args) t
+
+-- the same places and scopes, and children that find alike in turn
+abbrev pub EqualInTurn : List Entry → DArgs → DArgs → Type 0
+EqualInTurn found stop e = e ≡ stop
+EqualInTurn found (place x rest) e = (r : DArgs) × (e ≡ place x r) × EqualInTurn found rest r
+EqualInTurn found (sub op payloads args rest) e =
+    (b : Applied) × (r : DArgs) × (e ≡ child_before (as_term b) r) × (find found (applied_of payloads args) ≡ find found b) × EqualInTurn found rest r
+EqualInTurn found (scope inner rest) e = (i : DArgs) × (r : DArgs) × (e ≡ scope i r) × EqualInTurn found inner i × EqualInTurn found rest r

@@ -11,7 +11,7 @@ use Rattle.slotted_model.specs.Correspondence.{identity}
 use Rattle.slotted_model.specs.Find.{entry_at, IsLive, find_class, used_slots, find}
 use Rattle.slotted_model.specs.Link.{CanLink, IsLater, CanDrop, with_shortcut}
 use Rattle.slotted_model.specs.ProofList.{Equation, ProofEntry, explicit, equation_of, turned_equation, equation_at, step_at, find_equation, node_of}
-use Rattle.slotted_model.specs.Normal.{normal}
+use Rattle.slotted_model.specs.Normal.{normal, EqualInTurn}
 use Rattle.slotted_model.specs.State.{Row, Symmetry, State, sources, filed_node, normal_node, look_up_node, look_up_tree, HasTouched}
 use Rattle.slotted_model.specs.Rest.{IsValidIn, UpToSymmetries, LinkedTo, IsAligned, HasNoOpenSymmetry, IsRow, IsListed, Sane, Represents, AtRest, size, entry_size, lives_from, slots_from, IsAffected, CoversAffected, FoundTogether, IsAnswer, RestGives}
 use Rattle.slotted_model.specs.Changes.{GoesOn, IsEvent, linked_state, dropped_state, ProofsGrow, with_proofs, symmetry_of, with_symmetry, found_entry, StandsAt, PairsAll, Lacks, Unites, HasUnited, RepresentsBut}
@@ -25,6 +25,11 @@ LookUpsMoveWithNames =
     (g : State) → Sane g → (f : ℕ → ℕ) → IsInjective f → (d : DTerm) →
     (look_up_node g (moved f d) ≡ option_map (renamed_id f) (look_up_node g d))
     × (look_up_tree g (moved f d) ≡ option_map (renamed_id f) (look_up_tree g d))
+
+-- nodes with the same operator, payloads, names and binders whose children find alike in turn are looked up alike
+abbrev pub EqualInTurnIsLookedUpAlike : Type 0
+EqualInTurnIsLookedUpAlike =
+    (g : State) (d e : DTerm) → d.op ≡ e.op → d.payloads ≡ e.payloads → EqualInTurn g.found d.args e.args → look_up_node g d ≡ look_up_node g e
 
 -- at rest a filed node, with the names of a full id of its source, is looked up as what that id finds, and each id of the row's class finds
 -- what such an id finds
@@ -303,6 +308,7 @@ ShortcutsShowNowhere =
 -- all these laws
 pub record RestLaws : Type 0 where
   pub look_ups_move_with_names : LookUpsMoveWithNames
+  pub equal_in_turn_is_looked_up_alike : EqualInTurnIsLookedUpAlike
   pub filed_nodes_are_looked_up : FiledNodesAreLookedUp
   pub equality_up_to_moves_with_names : EqualityUpToMovesWithNames
   pub equal_ids_are_valid : EqualIdsAreValid

@@ -1,7 +1,10 @@
+use Rattle.std.proofs.Common.{ap}
 use Rattle.slotted_model.specs.Link.{CanEnter}
+use Rattle.slotted_model.specs.State.{look_up_normal}
 use Rattle.slotted_model.specs.ProofList.{ProofEntry, explicit, equation_of}
 use Rattle.slotted_model.proofs.UpTo.{upto-renamed, upto-valid, upto-class, upto-alike, upto-together, linked_to-same, linked_to-turned, linked_to-joined}
 use Rattle.slotted_model.proofs.Rows.{look_up_node-moved, look_up_tree-moved, rest-gives, rest-congruent}
+use Rattle.slotted_model.proofs.FilledNodes.{in_turn-normal}
 use Rattle.slotted_model.proofs.RowNodes.{row-looked_up, row-id}
 use Rattle.slotted_model.proofs.Answers.{answer-found}
 use Rattle.slotted_model.proofs.Affected.{affected-marked, unmarked-closed}
@@ -25,6 +28,7 @@ use Rattle.slotted_model.proofs.rest.rest_laws_hold.Goals as goal
 pub returns : goal.returns
 returns c = record {
   look_ups_move_with_names = λ g s f inj d. (look_up_node-moved g s.sound.linked s.filed f inj d, look_up_tree-moved g s.sound.linked s.filed f inj d);
+  equal_in_turn_is_looked_up_alike = λ g d e op payloads f. ap (look_up_normal g) (in_turn-normal g.found d e op payloads f);
   filed_nodes_are_looked_up = λ g rest r c. (row-looked_up g rest r c, row-id g rest r c);
   equality_up_to_moves_with_names = λ g f inj a b e. upto-renamed g f inj e;
   equal_ids_are_valid = λ g s a b e. upto-valid g s.each_listed e;
