@@ -11,7 +11,7 @@ use Rattle.slotted_model.specs.Find.{Entry, entry_at}
 use Rattle.slotted_model.specs.ProofList.{Equation, Step, ProofEntry, explicit, reflexive, symmetric, transitive, congruent, IsOver, IsTransitive, IsSymmetric, IsCongruent, equation_at, step_at, IsStepFor, Proved, term_pair, if_explicit, asserted, Exact}
 use Rattle.slotted_model.specs.Link.{CanEnter}
 
-abbrev no_proof : ProofEntry
+abbrev pub no_proof : ProofEntry
 no_proof = record { equation = record { left = 0; right = 0; pairs = [] }; step = explicit }
 
 -- functions that agree on a list map it alike

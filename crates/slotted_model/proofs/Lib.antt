@@ -68,6 +68,7 @@ pub mod KeepingTrees
 pub mod Quiet
 pub mod TurnExamples
 pub mod Counting
+pub mod EndsGrow
 pub mod Marks
 pub mod LookedUpTrees
 pub mod CanonicalValues

@@ -6,16 +6,16 @@
 --     Asserts g a b h      asserting that a equals b leads from g to h
 --     HasAdded, HasAsserted   what holds then
 --     KeepsLookUps g c h   no look-up has changed
-use Rattle.std.specs.Prelude.{◌≡◌, ◌≢◌, ℕ, ◌<◌, List, [], ◌∷◌, ◌++◌, length, Contains, Some, ◌⊎◌}
+use Rattle.std.specs.Prelude.{◌≡◌, ◌≢◌, ℕ, ◌<◌, ◌≤◌, List, [], ◌∷◌, ◌++◌, length, Contains, Some, ◌⊎◌}
 use Rattle.slotted_theory.specs.Nameless.{DTerm}
 use Rattle.slotted_theory.specs.Shape.{shape}
 use Rattle.slotted_model.specs.Applied.{Applied, EachChild}
 use Rattle.slotted_model.specs.Find.{find}
 use Rattle.slotted_model.specs.Link.{reflexive_equation, with_new_entry}
-use Rattle.slotted_model.specs.ProofList.{Equation, ProofEntry, explicit, reflexive, equation_of, equation_at, term_pair, asserted}
+use Rattle.slotted_model.specs.ProofList.{Equation, ProofEntry, explicit, reflexive, equation_of, equation_at, step_at, term_pair, asserted}
 use Rattle.slotted_model.specs.State.{Row, State, normal_node, look_up_node, look_up_tree}
-use Rattle.slotted_model.specs.Rest.{IsValidIn, AtRest, size, FoundTogether}
-use Rattle.slotted_model.specs.Changes.{GoesOn, StandsAt, ProofsGrow, with_proofs, Unites}
+use Rattle.slotted_model.specs.Rest.{IsValidIn, AtRest, size, lives_from, slots_from, FoundTogether}
+use Rattle.slotted_model.specs.Changes.{GoesOn, StandsAt, ProofsGrow, with_proofs, Unites, GrowsAtEnds}
 use Rattle.slotted_model.specs.Rebuild.{row_for, IsCongruence, Runs, HasNothingLeft}
 
 -- one more class, of this canonical node, with all its slots, which equals itself
@@ -62,6 +62,16 @@ pub record HasAsserted (g : State) (a b : Applied) (h : State) : Type 0 where
   pub together : FoundTogether h a b
   pub stands : (p : ℕ) × StandsAt h p (equation_of a b)
   pub asserted_list : (asserted h.nodes h.proofs ≡ asserted g.nodes g.proofs) ⊎ (asserted h.nodes h.proofs ≡ asserted g.nodes g.proofs ++ term_pair g.nodes (equation_of a b) ∷ [])
+
+-- after a was asserted to equal b: lists have grown at their ends alone; where the equation stood nowhere it is the next entry, an explicit one;
+-- and neither the size nor a count has risen
+pub record IsExactAssertion (g : State) (a b : Applied) (h : State) : Type 0 where
+  pub grows : GrowsAtEnds g h
+  pub is_explicit : ((q : ℕ) → q < length g.proofs → equation_at g.proofs q ≢ equation_of a b) →
+      (step_at h.proofs (length g.proofs) ≡ explicit) × (equation_at h.proofs (length g.proofs) ≡ equation_of a b)
+  pub smaller : size h ≤ size g
+  pub lives : lives_from 0 h.found ≤ lives_from 0 g.found
+  pub slots : lives_from 0 h.found ≡ lives_from 0 g.found → slots_from 0 h.found ≤ slots_from 0 g.found
 
 -- a class was made of the node c, and nothing else has changed: valid ids find what they found, nodes and trees that were looked up are looked up as the same ids, and c is looked up as the new class
 pub record KeepsLookUps (g : State) (c : DTerm) (h : State) : Type 0 where

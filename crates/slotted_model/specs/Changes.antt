@@ -115,3 +115,10 @@ pub record RepresentsBut (p : ℕ) (g : State) : Type 0 where
   pub linked : (i : ℕ) → i < length g.nodes → (o : ℕ) × Contains (sources g.rows) o × LinkedTo g i o
   pub asserted : (q : ℕ) → q < length g.proofs → q ≢ p → step_at g.proofs q ≡ explicit →
       (a b : Applied) → IsFull g.nodes a → IsFull g.nodes b → equation_of a b ≡ equation_at g.proofs q → UpToSymmetries g a b
+
+-- the proof list and the listed symmetries are what they were, with more at their ends
+pub record GrowsAtEnds (older newer : State) : Type 0 where
+  pub more : List ProofEntry
+  pub proofs : newer.proofs ≡ older.proofs ++ more
+  pub listed : List Symmetry
+  pub symmetries : newer.symmetries ≡ older.symmetries ++ listed

@@ -17,7 +17,7 @@ use Rattle.slotted_model.specs.Rest.{IsValidIn, UpToSymmetries, LinkedTo, IsAlig
 use Rattle.slotted_model.specs.Changes.{GoesOn, IsEvent, linked_state, dropped_state, ProofsGrow, with_proofs, symmetry_of, with_symmetry, found_entry, StandsAt, PairsAll, Lacks, Unites, HasUnited, RepresentsBut}
 use Rattle.slotted_model.specs.Rebuild.{CongruenceEntered, Turn, Acts, HasNothingLeft, Runs, IsRebuilt, HasTurned, HasActed}
 use Rattle.slotted_model.specs.Growth.{IsNew}
-use Rattle.slotted_model.specs.Adding.{with_new_class, with_new_row, with_assertion, Adds, Asserts, HasAdded, HasAsserted, KeepsLookUps, SameAnswers}
+use Rattle.slotted_model.specs.Adding.{with_new_class, with_new_row, with_assertion, Adds, Asserts, HasAdded, HasAsserted, KeepsLookUps, SameAnswers, IsExactAssertion}
 
 -- a node or a tree with other names is looked up as the same id with those names
 abbrev pub LookUpsMoveWithNames : Type 0
@@ -295,6 +295,11 @@ AssertingEndsAtRest =
     (g : State) → AtRest g → (a b : Applied) → IsFull g.nodes a → IsFull g.nodes b →
     ((h : State) × Asserts g a b h) × ((h : State) → Asserts g a b h → HasAsserted g a b h)
 
+-- an assertion adds to the ends of lists alone; it is an explicit entry where its equation stood nowhere, and no count rises
+abbrev pub AssertingIsExact : Type 0
+AssertingIsExact =
+    (g : State) → AtRest g → (a b : Applied) → IsFull g.nodes a → IsFull g.nodes b → (h : State) → Asserts g a b h → IsExactAssertion g a b h
+
 -- proofs that assert nothing, as those of explanations, change no answer
 abbrev pub NewProofsShowNowhere : Type 0
 NewProofsShowNowhere = (g : State) → AtRest g → (proofs : List ProofEntry) → ProofsGrow g.nodes g.proofs proofs → SameAnswers g (with_proofs g proofs)
@@ -356,5 +361,6 @@ pub record RestLaws : Type 0 where
   pub nodes_not_looked_up_are_unfiled : NodesNotLookedUpAreUnfiled
   pub adding_keeps_look_ups : AddingKeepsLookUps
   pub asserting_ends_at_rest : AssertingEndsAtRest
+  pub asserting_is_exact : AssertingIsExact
   pub new_proofs_show_nowhere : NewProofsShowNowhere
   pub shortcuts_show_nowhere : ShortcutsShowNowhere

@@ -4,6 +4,7 @@ use Rattle.slotted_model.specs.State.{look_up_normal}
 use Rattle.slotted_model.specs.ProofList.{ProofEntry, explicit, equation_of}
 use Rattle.slotted_model.proofs.UpTo.{upto-renamed, upto-valid, upto-class, upto-alike, upto-together, linked_to-same, linked_to-turned, linked_to-joined}
 use Rattle.slotted_model.proofs.Rows.{look_up_node-moved, look_up_tree-moved, rest-gives, rest-congruent}
+use Rattle.slotted_model.proofs.EndsGrow.{assertion-exact}
 use Rattle.slotted_model.proofs.FilledNodes.{in_turn-normal}
 use Rattle.slotted_model.proofs.RowNodes.{row-looked_up, row-id}
 use Rattle.slotted_model.proofs.Answers.{answer-found}
@@ -79,6 +80,7 @@ returns c = record {
   nodes_not_looked_up_are_unfiled = not_looked_up-unfiled;
   adding_keeps_look_ups = keeps-look_ups;
   asserting_ends_at_rest = λ g r a b fa fb. (asserting-ends g r a b fa fb, asserts g r a b fa fb);
+  asserting_is_exact = assertion-exact;
   new_proofs_show_nowhere = proofs-quiet;
   shortcuts_show_nowhere = shortcut-quiet;
 }
