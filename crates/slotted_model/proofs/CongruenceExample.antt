@@ -375,7 +375,7 @@ pub two_turns : Runs words_united 2 rebuilt
 two_turns = takes_turn (takes_turn starts n_turn) n_n_turn
 
 -- then nothing is left to do, so this is the graph after the assertion
-words_asserted : Asserts twice (id 0) (id 1) rebuilt
+pub words_asserted : Asserts twice (id 0) (id 1) rebuilt
 words_asserted =
     is_new (stands_nowhere (sides 0 1) twice.proofs (omega arith, (omega arith, (omega arith, (omega arith, (omega arith, (omega arith, tt)))))))
     words_unite two_turns (refl, λ y c. absurd (Contains-nil y c))

@@ -21,7 +21,8 @@ use Rattle.slotted_model.specs.SoundnessClaims.{SoundnessLaws}
 use Rattle.slotted_model.specs.CompletenessClaims.{CompletenessLaws}
 use Rattle.slotted_model.specs.RestClaims.{RestLaws}
 use Rattle.slotted_model.proofs.NormalIds.{full-is_valid}
-use Rattle.slotted_model.proofs.CongruenceExample.{id, n, id_full, rebuilt, rebuilt_done, one_normal_form}
+use Rattle.slotted_model.specs.Adding.{IsExactAssertion}
+use Rattle.slotted_model.proofs.CongruenceExample.{id, n, twice, twice_rests, id_full, rebuilt, rebuilt_done, words_asserted, one_normal_form}
 
 module _ (laws : SoundnessLaws) where
   twin : (b : Applied) × (b.0 ≡ 5) × HasNormalTwin rebuilt.nodes rebuilt.found (id 4) b
@@ -50,6 +51,14 @@ module _ (laws : RestLaws) where
   filed : (r : Row) → Contains rebuilt.rows r → (b : Applied) → IsFull rebuilt.nodes b → b.0 ≡ r.source →
       look_up_node rebuilt (moved (filled b.1) (filed_node r)) ≡ Some (find rebuilt.found b)
   filed r c = (laws.filed_nodes_are_looked_up rebuilt rebuilt_done.rest r c).0
+
+  -- the assertion of a = b entered its equation as an explicit one, and three classes fewer live
+  exact : IsExactAssertion twice (id 0) (id 1) rebuilt
+  exact = laws.asserting_is_exact twice twice_rests (id 0) (id 1) (id_full 0 (omega arith)) (id_full 1 (omega arith)) rebuilt words_asserted
+
+  -- nodes over the two words are looked up alike, since these find alike
+  alike_in_turn : look_up_node rebuilt (n 0) ≡ look_up_node rebuilt (n 1)
+  alike_in_turn = laws.equal_in_turn_is_looked_up_alike rebuilt (n 0) (n 1) refl refl (id 1, stop, refl, refl, refl)
 
   answer : IsAnswer rebuilt (n 0) (id 3)
   answer = laws.answers_are_found rebuilt rebuilt_done.rest (n 0) (id 3) refl
