@@ -69,6 +69,7 @@ pub mod Quiet
 pub mod TurnExamples
 pub mod Counting
 pub mod EndsGrow
+pub mod QuietTurns
 pub mod Marks
 pub mod LookedUpTrees
 pub mod CanonicalValues

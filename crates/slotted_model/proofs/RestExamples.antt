@@ -15,8 +15,9 @@ use Rattle.slotted_model.specs.ProofList.{Equation, equation_of, equation_at}
 use Rattle.slotted_model.specs.State.{Row, Symmetry, State, look_up_node, look_up_tree}
 use Rattle.slotted_model.specs.Rest.{AtRest, IsOpen, IsAligned, size, FoundTogether}
 use Rattle.slotted_model.specs.Changes.{Unites, left_dies, lists, linked_state, PairsAll, symmetry_of, with_symmetry}
-use Rattle.slotted_model.specs.Rebuild.{takes_turn, starts, refiles, refiled_state}
-use Rattle.slotted_model.specs.Adding.{with_new_class, with_new_row, with_assertion, Adds, files_row, Asserts, is_new, HasAsserted}
+use Rattle.slotted_model.specs.Rebuild.{Runs, takes_turn, starts, refiles, refiled_state}
+use Rattle.slotted_model.specs.RestClaims.{RestLaws}
+use Rattle.slotted_model.specs.Adding.{with_new_class, with_new_row, with_quiet_row, with_assertion, Adds, files_row, Asserts, is_new, HasAsserted}
 use Rattle.slotted_model.proofs.Adding.{adds}
 use Rattle.slotted_model.proofs.Touching.{touching, touched-is}
 use Rattle.slotted_model.proofs.Asserting.{asserts, nothing-rests}
@@ -53,6 +54,11 @@ p_adds =
 
 p_rests : AtRest with_p
 p_rests = (adds empty nothing-rests p p_new with_p p_adds).rest
+
+-- its turn files its row and changes nothing else
+module _ (laws : RestLaws) where
+  p_is_quiet : Runs (with_new_row (with_new_class empty p) 0) 1 (with_quiet_row (with_new_class empty p) 0)
+  p_is_quiet = laws.quiet_turns (with_new_class empty p) 0 (λ s c. absurd (Contains-nil s c)) (λ r c. absurd (Contains-nil r c)) (λ r c. absurd (Contains-nil r c)) (Contains-nil 0)
 
 p_looked_up : look_up_node with_p p ≡ Some (0, [])
 p_looked_up = refl

@@ -30,6 +30,10 @@ with_new_class g c = record g {
 abbrev pub with_new_row : State → ℕ → State
 with_new_row g i = record g { rows = row_for g i ∷ g.rows; waiting = i ∷ g.waiting }
 
+-- the row of a class is filed, and the class does not wait
+abbrev pub with_quiet_row : State → ℕ → State
+with_quiet_row g i = record g { rows = row_for g i ∷ g.rows }
+
 -- one more explicit entry
 abbrev pub with_assertion : State → Equation → State
 with_assertion g e = record g { proofs = g.proofs ++ record { equation = e; step = explicit } ∷ [] }

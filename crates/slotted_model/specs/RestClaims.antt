@@ -15,9 +15,9 @@ use Rattle.slotted_model.specs.Normal.{normal, EqualInTurn}
 use Rattle.slotted_model.specs.State.{Row, Symmetry, State, sources, filed_node, normal_node, look_up_node, look_up_tree, HasTouched}
 use Rattle.slotted_model.specs.Rest.{IsValidIn, UpToSymmetries, LinkedTo, IsAligned, HasNoOpenSymmetry, IsRow, IsListed, Sane, Represents, AtRest, size, entry_size, lives_from, slots_from, IsAffected, CoversAffected, FoundTogether, IsAnswer, RestGives}
 use Rattle.slotted_model.specs.Changes.{GoesOn, IsEvent, linked_state, dropped_state, ProofsGrow, with_proofs, symmetry_of, with_symmetry, found_entry, StandsAt, PairsAll, Lacks, Unites, HasUnited, RepresentsBut}
-use Rattle.slotted_model.specs.Rebuild.{CongruenceEntered, Turn, Acts, HasNothingLeft, Runs, IsRebuilt, HasTurned, HasActed}
+use Rattle.slotted_model.specs.Rebuild.{CongruenceEntered, IsCovered, Turn, Acts, HasNothingLeft, Runs, IsRebuilt, HasTurned, HasActed}
 use Rattle.slotted_model.specs.Growth.{IsNew}
-use Rattle.slotted_model.specs.Adding.{with_new_class, with_new_row, with_assertion, Adds, Asserts, HasAdded, HasAsserted, KeepsLookUps, SameAnswers, IsExactAssertion}
+use Rattle.slotted_model.specs.Adding.{with_new_class, with_new_row, with_quiet_row, with_assertion, Adds, Asserts, HasAdded, HasAsserted, KeepsLookUps, SameAnswers, IsExactAssertion}
 
 -- a node or a tree with other names is looked up as the same id with those names
 abbrev pub LookUpsMoveWithNames : Type 0
@@ -148,6 +148,12 @@ abbrev pub NewRowsKeepSane : Type 0
 NewRowsKeepSane =
     (g : State) → Sane g → (c : DTerm) → IsNew g.nodes c → ((r : Row) → Contains g.rows r → r.shape ≢ shape (normal_node (with_new_class g c) (length g.nodes))) →
     Sane (with_new_row (with_new_class g c) (length g.nodes)) × GoesOn g (with_new_row (with_new_class g c) (length g.nodes))
+
+-- where the node of a class that has no row is covered, and no row has its shape, one turn files it and changes nothing else
+abbrev pub QuietTurns : Type 0
+QuietTurns =
+    (g : State) (i : ℕ) → IsCovered g i → ((r : Row) → Contains g.rows r → r.source ≢ i) → ((r : Row) → Contains g.rows r → r.shape ≢ shape (normal_node g i)) →
+    ¬ Contains g.waiting i → Runs (with_new_row g i) 1 (with_quiet_row g i)
 
 -- and so does an assertion, which need not be respected yet
 abbrev pub AssertionsKeepSane : Type 0
@@ -334,6 +340,7 @@ pub record RestLaws : Type 0 where
   pub listed_are_aligned : ListedAreAligned
   pub new_classes_keep_sane : NewClassesKeepSane
   pub new_rows_keep_sane : NewRowsKeepSane
+  pub quiet_turns : QuietTurns
   pub assertions_keep_sane : AssertionsKeepSane
   pub size_counts_slots : SizeCountsSlots
   pub going_on_represents : GoingOnRepresents

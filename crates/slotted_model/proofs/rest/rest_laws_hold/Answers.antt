@@ -5,6 +5,7 @@ use Rattle.slotted_model.specs.ProofList.{ProofEntry, explicit, equation_of}
 use Rattle.slotted_model.proofs.UpTo.{upto-renamed, upto-valid, upto-class, upto-alike, upto-together, linked_to-same, linked_to-turned, linked_to-joined}
 use Rattle.slotted_model.proofs.Rows.{look_up_node-moved, look_up_tree-moved, rest-gives, rest-congruent}
 use Rattle.slotted_model.proofs.EndsGrow.{assertion-exact}
+use Rattle.slotted_model.proofs.QuietTurns.{quiet-run}
 use Rattle.slotted_model.proofs.FilledNodes.{in_turn-normal}
 use Rattle.slotted_model.proofs.RowNodes.{row-looked_up, row-id}
 use Rattle.slotted_model.proofs.Answers.{answer-found}
@@ -50,6 +51,7 @@ returns c = record {
   listed_are_aligned = listed-aligned;
   new_classes_keep_sane = λ g s c new. (class-sane g s c new, class-goes_on g s c new);
   new_rows_keep_sane = λ g s c new alone. filed-sane_on g s c new alone;
+  quiet_turns = quiet-run;
   assertions_keep_sane = λ g s a b fa fb n.
       let x : ProofEntry = record { equation = equation_of a b; step = explicit } in
       let can : CanEnter g.nodes g.proofs x = can_assert g a b fa fb n in
