@@ -1,5 +1,6 @@
 -- The table of slots: what a text names in it, which slots it knows, and how a slot prints.
-use Rattle.std.specs.Prelude.{◌≡◌, ℕ, ◌+◌, ◌*◌, ◌/◌, ◌%◌, ◌^◌, ◌<◌, ◌≤◌, Bool, true, false, ◌&&◌, List, [], ◌∷◌, ◌++◌, length, max, Option, Some, None, if◌then◌else◌, ◌==◌, nat_lt, position, slice_get, slice_index_or, IsTrue, decimal, codes}
+use Rattle.std.specs.Prelude.{◌≡◌, ℕ, ◌+◌, ◌*◌, ◌/◌, ◌%◌, ◌^◌, ◌<◌, ◌≤◌, Bool, true, false, ◌&&◌, List, [], ◌∷◌, ◌++◌, length, max, not, Option, Some, None, if◌then◌else◌, ◌==◌, nat_lt, position, slice_get, slice_index_or, IsTrue, decimal, codes}
+use Rattle.std.specs.List.{filter}
 use Rattle.std.specs.Str.{bytes_eq, all_ascii_digits}
 use Rattle.std.specs.Str.Parse.{digits_value, without_leading_plus}
 
@@ -11,6 +12,10 @@ pub record Table : Type 0 where
 -- no fresh slot was made and no name is kept
 abbrev pub empty_table : Table
 empty_table = record { fresh = 0; names = [] }
+
+-- so many slots there are of each kind: numeric ones, fresh ones, those of names. A node has fewer places
+abbrev pub slot_limit : ℕ
+slot_limit = 2 ^ 30
 
 -- the raw number of a numeric slot, of a fresh one, and of the slot of the name at place i
 abbrev pub numeric_slot : ℕ → ℕ
@@ -97,6 +102,18 @@ KnowsMore old new = (s : ℕ) → IsTrue (is_known old s) → IsTrue (is_known n
 -- each slot that the new table knows and the old one does not know is one of these
 abbrev pub Takes : Table → Table → (ℕ → Type 0) → Type 0
 Takes old new these = (z : ℕ) → is_known new z ≡ true → is_known old z ≡ false → these z
+
+-- those of the names that the table does not know, each as often as it stands
+abbrev pub unknown_names : Table → List ℕ → List ℕ
+unknown_names t xs = filter (λ x. not (is_known t x)) xs
+
+-- at most n slots were made, and those of the names at hand that the table did not know, which are passed over
+abbrev pub TakesAtMost : ℕ → List ℕ → Table → Table → Type 0
+TakesAtMost n xs old new = new.fresh ≤ old.fresh + (n + length (unknown_names old xs))
+
+-- n slots, and those of the names at hand that the table does not know, are more than are left
+abbrev pub LacksSlots : ℕ → List ℕ → Table → Type 0
+LacksSlots n xs t = slot_limit < t.fresh + (n + length (unknown_names t xs))
 
 -- the text, or a question mark
 abbrev pub text_or_mark : Option (List ℕ) → List ℕ
