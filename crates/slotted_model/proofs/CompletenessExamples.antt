@@ -173,7 +173,7 @@ row_lam = record { shape = node 5 [] (scope (child_before (as_term (1, (2, 1) �
 abbrev pub graph : State
 graph = record { nodes = nodes; found = after; proofs = proofs; rows = row_f ∷ row_g ∷ row_lam ∷ []; waiting = []; symmetries = [] }
 
-three_of : {X : Type 0} (P : X → Type 0) (x y z : X) → P x → P y → P z → (w : X) → Contains (x ∷ y ∷ z ∷ []) w → P w
+pub three_of : {X : Type 0} (P : X → Type 0) (x y z : X) → P x → P y → P z → (w : X) → Contains (x ∷ y ∷ z ∷ []) w → P w
 three_of P x y z p q r w c = elim (contains_cases x (y ∷ z ∷ []) w c) [
   | inl e ↦ subst P (sym e) p
   | inr c1 ↦ elim (contains_cases y (z ∷ []) w c1) [
@@ -296,7 +296,7 @@ at_rest = record {
 }
 
 -- lam y. g x, which was never added, is equal to lam y. f x y
-abbrev lam_g : DTerm
+abbrev pub lam_g : DTerm
 lam_g = node 5 [] (scope (child_before (node 4 [] (place 4 stop)) stop) stop)
 
 abbrev pub lam_id : Applied

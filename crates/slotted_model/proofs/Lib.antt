@@ -87,12 +87,14 @@ pub mod Tables
 pub mod Optimal
 pub mod RowNodes
 pub mod Extracting
+pub mod ExtractedParts
 pub mod Cheapest
 pub mod Queues
 pub mod TableMaking
 pub mod Sizes
 pub mod Ties
 pub mod ExtractionExamples
+pub mod ExtractedNamesExample
 pub mod PremiseExamples
 pub mod FillingExamples
 pub mod StepExamples

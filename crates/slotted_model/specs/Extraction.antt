@@ -8,6 +8,7 @@
 --     IsQueue g k table queue    each row that can enter waits in the queue
 --     Fits g k table             what extraction needs of a table
 --     Extracts g table a t       t is made of the row of a's class, with a's names put in, and of what is extracted for the row's children
+--     IsMadeBy g table a t e     the same with the entry e named
 use Rattle.std.specs.Prelude.{◌≡◌, ◌≢◌, ◌⊎◌, ℕ, ◌<◌, List, [], ◌∷◌, length, Contains, Option, Some, None, cond, nat_eq, option_map, Bool, IsTrue}
 use Rattle.slotted_theory.specs.Nameless.{DArgs, DTerm, stop, place, sub, scope, moved}
 use Rattle.slotted_theory.specs.FiniteMaps.{filled}
@@ -116,3 +117,13 @@ mutual
     own_name : {x : ℕ} {d e : DArgs} → ExtractsArgs g table d e → ExtractsArgs g table (place x d) (place x e)
     extracted : {op : ℕ} {payloads : List (List ℕ)} {args d e : DArgs} {t : DTerm} → Extracts g table (applied_of payloads args) t → ExtractsArgs g table d e → ExtractsArgs g table (sub op payloads args d) (child_before t e)
     under_binder : {c f d e : DArgs} → ExtractsArgs g table c f → ExtractsArgs g table d e → ExtractsArgs g table (scope c d) (scope f e)
+
+-- t is made by the entry e: it is the node of e's row, under a full id of the row's source that finds what a finds, over what is extracted for the node's children
+pub record IsMadeBy {C : Type 0} (g : State) (table : List (TableEntry C)) (a : Applied) (t : DTerm) (e : TableEntry C) : Type 0 where
+  pub id : Applied
+  pub args : DArgs
+  pub full : IsFull g.nodes id
+  pub source : id.0 ≡ e.row.source
+  pub alike : find g.found id ≡ find g.found a
+  pub children : ExtractsArgs g table (moved (filled id.1) (filed_node e.row)).args args
+  pub term : t ≡ node e.row.shape.op e.row.shape.payloads args

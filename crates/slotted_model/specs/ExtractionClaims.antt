@@ -1,8 +1,9 @@
 -- The laws of extraction over a graph at rest, for costs of any type C, all owed by `extraction_laws_hold` in src/extraction.rt.
 use Rattle.std.specs.Prelude.{◌≡◌, ℕ, suc, ◌<◌, ◌≤◌, min, sum, List, [], ◌∷◌, length, Contains, Some, None, Bool, IsTrue}
-use Rattle.slotted_theory.specs.Nameless.{DTerm}
+use Rattle.slotted_theory.specs.Nameless.{DTerm, moved}
+use Rattle.slotted_theory.specs.Renaming.{IsInjective}
 use Rattle.slotted_theory.specs.Derives.{Equal}
-use Rattle.slotted_model.specs.Applied.{Applied}
+use Rattle.slotted_model.specs.Applied.{Applied, renamed_id}
 use Rattle.slotted_model.specs.Classes.{term_of, IsFull}
 use Rattle.slotted_model.specs.Filling.{IsFilling}
 use Rattle.slotted_model.specs.Find.{IsLive, find_class, find}
@@ -11,7 +12,7 @@ use Rattle.slotted_model.specs.State.{Row, State, look_up_tree}
 use Rattle.slotted_model.specs.Rest.{IsValidIn, AtRest, IsAffected}
 use Rattle.slotted_model.specs.Trees.{IsTree}
 use Rattle.slotted_model.specs.Cost.{CostFunction, AtMost, IsLawful, IsTotal, tree_cost, limited_size}
-use Rattle.slotted_model.specs.Extraction.{TableEntry, cost_in, row_cost, row_class, CanEnterTable, IsLeast, IsInOrder, IsLeastFirst, HasCheaperChildren, BreaksTies, HasTiesBroken, IsFinished, IsQueue, QueueAfter, Fits, Extracts}
+use Rattle.slotted_model.specs.Extraction.{TableEntry, cost_in, row_cost, row_class, CanEnterTable, IsLeast, IsInOrder, IsLeastFirst, HasCheaperChildren, BreaksTies, HasTiesBroken, IsFinished, IsQueue, QueueAfter, Fits, Extracts, IsMadeBy}
 
 -- the size up to a limit is lawful, and total; and over costs within the limit it is 1 and these costs, or the limit
 abbrev pub SizesAreLawful : Type 0
@@ -107,6 +108,18 @@ ExtractionEnds C =
     (g : State) → AtRest g → (k : CostFunction C) (table : List (TableEntry C)) → IsInOrder g k table →
     (a : Applied) → IsValidIn g a → (x : C) → cost_in table (find_class g.found a.0) ≡ Some x → (t : DTerm) × Extracts g table a t
 
+-- what is extracted for an id is extracted for the id with other names, with these names: so a tree can be put under a binder
+abbrev pub ExtractingMovesWithNames : Type 0 → Type 0
+ExtractingMovesWithNames C =
+    (g : State) → AtRest g → (k : CostFunction C) (table : List (TableEntry C)) → IsInOrder g k table → (f : ℕ → ℕ) → IsInjective f →
+    (a : Applied) (t : DTerm) → Extracts g table a t → Extracts g table (renamed_id f a) (moved f t)
+
+-- its operator, payloads, names and children are those of the one entry that its class has
+abbrev pub ExtractedIsOfItsEntry : Type 0 → Type 0
+ExtractedIsOfItsEntry C =
+    (g : State) (k : CostFunction C) (table : List (TableEntry C)) → IsInOrder g k table →
+    (a : Applied) (t : DTerm) → Extracts g table a t → (e : TableEntry C) → Contains table e → e.class ≡ find_class g.found a.0 → IsMadeBy g table a t e
+
 -- what is extracted for an id is a tree that is looked up as what the id finds
 abbrev pub ExtractedIsRepresented : Type 0 → Type 0
 ExtractedIsRepresented C =
@@ -162,6 +175,8 @@ pub record ExtractionLaws (C : Type 0) : Type 0 where
   pub terms_cost_no_less : TermsCostNoLess C
   pub no_table_costs_less : NoTableCostsLess C
   pub extraction_ends : ExtractionEnds C
+  pub extracting_moves_with_names : ExtractingMovesWithNames C
+  pub extracted_is_of_its_entry : ExtractedIsOfItsEntry C
   pub extracted_is_represented : ExtractedIsRepresented C
   pub extracted_costs_as_named : ExtractedCostsAsNamed C
   pub extracted_is_equal : ExtractedIsEqual C

@@ -4,6 +4,7 @@ use Rattle.slotted_model.proofs.Ties.{first-of_ties}
 use Rattle.slotted_model.proofs.TableMaking.{made}
 use Rattle.slotted_model.proofs.Optimal.{finished-covers, finished-fits, tree-at_most, term-at_most}
 use Rattle.slotted_model.proofs.Extracting.{extracts, extracted-tree, extracted-look_up, extracted-cost}
+use Rattle.slotted_model.proofs.ExtractedParts.{extracted-moved, extracted-made}
 use Rattle.slotted_model.proofs.Cheapest.{extracted-equal, least-represented, least-term, least-equal, least-table}
 use Rattle.slotted_model.proofs.Sizes.{size-lawful, size-total, size-within}
 use Rattle.slotted_model.proofs.extraction.extraction_laws_hold.Goals as goal
@@ -26,6 +27,8 @@ returns g c = record {
   terms_cost_no_less = λ s rest k law table fits a full. let m = term-at_most s k table rest law fits a full in (m.cost, m.there, m.at_most);
   no_table_costs_less = least-table;
   extraction_ends = λ s rest k table in_order. extracts s k table rest in_order;
+  extracting_moves_with_names = λ s rest k table in_order f inj a t x. extracted-moved s k table rest in_order f inj x;
+  extracted_is_of_its_entry = λ s k table in_order a t x. extracted-made s k table in_order x;
   extracted_is_represented = λ s rest k table in_order a t x. (extracted-tree s k table rest in_order x, extracted-look_up s k table rest in_order x);
   extracted_costs_as_named = λ s rest k law table in_order a t x. extracted-cost s k table rest in_order law x;
   extracted_is_equal = extracted-equal;
