@@ -30,7 +30,7 @@ use Rattle.slotted_model.proofs.Correspondences.Pairs.{Contains-value, Contains-
 use Rattle.slotted_model.proofs.Correspondences.PartialInjections.{composite-by, identity-in_order, identity-by, identity-pair}
 
 -- a map that a function leaves has no name that the function moves
-unmoved-names : (f : ℕ → ℕ) (m : List (ℕ × ℕ)) → with_values f m ≡ m → (v : ℕ) → In v (values m) → f v ≡ v
+pub unmoved-names : (f : ℕ → ℕ) (m : List (ℕ × ℕ)) → with_values f m ≡ m → (v : ℕ) → In v (values m) → f v ≡ v
 unmoved-names f [] e v h = absurd h
 unmoved-names f (p ∷ m) e v (inl q) = ap f q ∙ (ap (λ (l : List (ℕ × ℕ)). (get_or l 0 (0, 0)).1) e ∙ sym q)
 unmoved-names f (p ∷ m) e v (inr h) = unmoved-names f m (ap (λ (l : List (ℕ × ℕ)). drop 1 l) e) v h

@@ -30,7 +30,7 @@ use Rattle.slotted_model.proofs.Congruence.{refined-normal}
 use Rattle.slotted_model.proofs.Correspondences.Pairs.{Contains-of_filter_map}
 use Rattle.slotted_model.proofs.FindProofs.{left_side-full, right_side-full, sides-equation, found_alike-derivable}
 use Rattle.slotted_model.proofs.Steps.{Equal-between}
-use Rattle.slotted_model.proofs.CanonicalValues.{filled-alike, congruent-alike, equal-look_up, equal-look_up_node, equal_trees-alike, alike-iff}
+use Rattle.slotted_model.proofs.CanonicalValues.{full-alike, filled-alike, congruent-alike, equal-look_up, equal-look_up_node, equal_trees-alike, alike-iff}
 use Rattle.slotted_model.proofs.Spreading.{is_affected-covers, is_affected-iff}
 use Rattle.slotted_model.proofs.Meeting.{Meeting, meeting}
 use Rattle.slotted_model.proofs.Agreement.{half-agrees, same-slots}
@@ -122,7 +122,7 @@ module _ (g : State) (rest : AtRest g) (marked : ℕ → Bool) (covers : CoversA
 unopened-covers : (g : State) → HasNoOpenSymmetries g → CoversAffected g (λ c. false)
 unopened-covers g none = record { symmetries = λ y c o. absurd (none y c o); parents = λ r c h k m. m }
 
-unopened-closed : (g : State) → AtRest g → HasNoOpenSymmetries g → IsClosed g.nodes g.found (asserted g.nodes g.proofs) (look_up_node g) (λ c. false)
+pub unopened-closed : (g : State) → AtRest g → HasNoOpenSymmetries g → IsClosed g.nodes g.found (asserted g.nodes g.proofs) (look_up_node g) (λ c. false)
 unopened-closed g rest none = rest-closed g rest (λ c. false) (unopened-covers g none)
 
 -- terms that are derivable are equal from the asserted list
@@ -146,6 +146,10 @@ module _ (g : State) (rest : AtRest g) where
       Equal (asserted g.nodes g.proofs) (term_of g.nodes left) (term_of g.nodes right) → AreAlikeOrAffected g a b
   rest-alike a b left right given more_given va vb fl fr h =
       or-affected a b (filled-alike g.nodes can g.found (asserted g.nodes g.proofs) (look_up_node g) (is_affected g) affected-closed rest.sane.sound.linked a b left right given more_given va vb fl fr h)
+
+  -- the same of full ids
+  pub rest-full_alike : (a b : Applied) → IsFull g.nodes a → IsFull g.nodes b → Equal (asserted g.nodes g.proofs) (term_of g.nodes a) (term_of g.nodes b) → AreAlikeOrAffected g a b
+  rest-full_alike a b fa fb h = or-affected a b (full-alike g.nodes can g.found (asserted g.nodes g.proofs) (look_up_node g) (is_affected g) affected-closed a b fa fb h)
 
   pub rest-congruent : (a b : Applied) → IsFull g.nodes a → IsFull g.nodes b → normal g.found (node_of g.nodes a) ≡ normal g.found (node_of g.nodes b) → AreAlikeOrAffected g a b
   rest-congruent a b fa fb same = or-affected a b (congruent-alike g.nodes g.found (asserted g.nodes g.proofs) (look_up_node g) (is_affected g) affected-closed a b fa fb same)
@@ -187,7 +191,7 @@ module _ (g : State) (rest : AtRest g) where
     rest-trees t u ht hu e = equal_trees-alike g.nodes can g.found (asserted g.nodes g.proofs) (look_up_node g) (unopened-closed g rest none) t u ht hu e
 
 -- where no symmetry is open, no class is affected
-none-affected : (g : State) → HasNoOpenSymmetries g → (c : ℕ) → ¬ IsAffected g c
+pub none-affected : (g : State) → HasNoOpenSymmetries g → (c : ℕ) → ¬ IsAffected g c
 none-affected g none c a = false≢true (affected-marked g (λ d. false) (unopened-covers g none) a)
 
 -- and a tree is looked up exactly if it is equal to the term of some full id

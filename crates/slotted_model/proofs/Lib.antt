@@ -78,7 +78,13 @@ pub mod Agreement
 pub mod LookUpsAreEqual
 pub mod Meeting
 pub mod AtRest
+pub mod Injections
+pub mod Corresponding
+pub mod SameCounts
 pub mod CompletenessExamples
+pub mod KeptFirstExample
+pub mod KeptSecondExample
+pub mod AgreementExample
 pub mod OpenSymmetryExample
 pub mod CongruenceExample
 pub mod ShortcutExample

@@ -105,7 +105,7 @@ pub with_values-then : (f g : ℕ → ℕ) (m : List (ℕ × ℕ)) → with_valu
 with_values-then f g [] = refl
 with_values-then f g (p ∷ m) = ap (λ l. (p.0, g (f p.1)) ∷ l) (with_values-then f g m)
 
-with_values-same : (f : ℕ → ℕ) (m : List (ℕ × ℕ)) → ((x : ℕ) → In x (values m) → f x ≡ x) → with_values f m ≡ m
+pub with_values-same : (f : ℕ → ℕ) (m : List (ℕ × ℕ)) → ((x : ℕ) → In x (values m) → f x ≡ x) → with_values f m ≡ m
 with_values-same f [] h = refl
 with_values-same f (p ∷ m) h = λ i. (p.0, h p.1 (inl refl) i) ∷ with_values-same f m (λ x k. h x (inr k)) i
 

@@ -18,6 +18,7 @@ use Rattle.slotted_model.specs.Closed.{AreAlikeUpTo, IsClosed}
 use Rattle.slotted_model.specs.State.{State, look_up_node, look_up_tree}
 use Rattle.slotted_model.specs.Rest.{IsValidIn, AtRest, IsAffected, CoversAffected}
 use Rattle.slotted_model.specs.Affected.{is_affected, HasNoOpenSymmetries, AreAlikeOrAffected}
+use Rattle.slotted_model.specs.Agreement.{Knows, Correspond, HasTermsOf, Agree}
 
 -- the value of a tree with other names is its value with the other names
 abbrev pub ValuesMoveWithNames : Type 0
@@ -187,6 +188,24 @@ GraphsAgreeAtRest =
     × ((i j : ℕ) → i < length g.nodes → j < length g.nodes → (find_class g.found i ≡ find_class g.found j) ↔ (find_class h.found i ≡ find_class h.found j))
     × ((i : ℕ) → i < length g.nodes → used_slots g.found i ≡ used_slots h.found i)
 
+-- where h knows what g asserts and has the terms of g's live classes, each full id of g corresponds to one of h
+abbrev pub EachIdCorresponds : Type 0
+EachIdCorresponds =
+    (g h : State) → AtRest g → AtRest h → Knows h g → HasTermsOf h g → (a : Applied) → IsFull g.nodes a → (b : Applied) × Correspond g h a b
+
+-- where h knows what g asserts, what g finds alike h finds alike, for corresponding ids, or it finds classes that an open symmetry affects
+abbrev pub GraphsAgreeButForAffected : Type 0
+GraphsAgreeButForAffected =
+    (g h : State) → AtRest g → AtRest h → Knows h g → (a b x y : Applied) → Correspond g h a b → Correspond g h x y →
+    find g.found a ≡ find g.found x → AreAlikeOrAffected h b y
+
+-- graphs at rest with no open symmetry that know what each other assert, and have the terms of each other's live classes, agree:
+-- whichever classes were kept, and whatever nodes classes were made with
+abbrev pub GraphsAgreeUpToClasses : Type 0
+GraphsAgreeUpToClasses =
+    (g h : State) → AtRest g → AtRest h → HasNoOpenSymmetries g → HasNoOpenSymmetries h →
+    Knows h g → Knows g h → HasTermsOf h g → HasTermsOf g h → Agree g h
+
 -- all these laws
 pub record CompletenessLaws : Type 0 where
   pub values_move_with_names : ValuesMoveWithNames
@@ -217,3 +236,6 @@ pub record CompletenessLaws : Type 0 where
   pub equal_is_represented_at_rest : EqualIsRepresentedAtRest
   pub equal_is_looked_up_alike_at_rest : EqualIsLookedUpAlikeAtRest
   pub graphs_agree_at_rest : GraphsAgreeAtRest
+  pub each_id_corresponds : EachIdCorresponds
+  pub graphs_agree_but_for_affected : GraphsAgreeButForAffected
+  pub graphs_agree_up_to_classes : GraphsAgreeUpToClasses

@@ -27,6 +27,7 @@ pub mod Adding
 pub mod Value
 pub mod Closed
 pub mod Affected
+pub mod Agreement
 pub mod CompletenessClaims
 pub mod Cost
 pub mod Extraction

@@ -7,8 +7,9 @@ ghost use Rattle.slotted_model.specs.CompletenessClaims.{CompletenessLaws};
 /// A tree has a value from the bottom up, by the look-up of its nodes; where all its parts are looked up, that is an id.
 /// Where a graph is closed, the term of an id has the value of what the id finds, and so have all trees that are equal to it by what was asserted.
 /// So ids of equal terms find alike, unless both find classes that are marked, as those are that an open symmetry affects.
-/// A graph at rest is closed. With no open symmetry finding alike is derivability, whatever order led there,
+/// A graph at rest is closed. With no open symmetry finding alike is derivability,
 /// and a tree is looked up exactly if it is equal to the term of an id, also one that was never added.
+/// So graphs of the same terms agree, in whatever order they were united, whichever classes were kept, and whatever nodes classes were made with.
 pub fn completeness_laws_hold()
     ensures { CompletenessLaws }
 {}

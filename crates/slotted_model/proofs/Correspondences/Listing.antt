@@ -64,7 +64,7 @@ different-injective : (m : List (ℕ × ℕ)) → AllDifferent (values_of m) →
 different-injective [] d = tt
 different-injective (p ∷ m) d = (λ h. let r = at_HasValue m p.1 h in d.0 (Contains-value m r.0 p.1 r.1), different-injective m d.1)
 
-injective-different : (m : List (ℕ × ℕ)) → IsInjectiveMap m → AllDifferent (values_of m)
+pub injective-different : (m : List (ℕ × ℕ)) → IsInjectiveMap m → AllDifferent (values_of m)
 injective-different [] i = tt
 injective-different (p ∷ m) i = (λ c. let r = Contains-of_value m p.1 c in i.0 (HasValue-at m r.0 p.1 r.1), injective-different m i.1)
 

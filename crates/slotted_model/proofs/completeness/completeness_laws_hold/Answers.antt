@@ -13,6 +13,8 @@ use Rattle.slotted_model.proofs.CanonicalValues.{value-full, value-pair, full-al
 use Rattle.slotted_model.proofs.Spreading.{is_affected-covers, is_affected-iff}
 use Rattle.slotted_model.proofs.LookUpsAreEqual.{node-equal, filled-node_equal, found-node_equal, tree-equal, filled-equal, found-equal}
 use Rattle.slotted_model.proofs.AtRest.{rest-represented, rest-closed, rest-alike, rest-derivable, rest-iff, rest-congruent, rest-look_up, rest-look_up_node, rest-trees, rest-alike_iff, rest-same_classes, rest-same_slots}
+use Rattle.slotted_model.proofs.Corresponding.{each-corresponds, alike-or_affected}
+use Rattle.slotted_model.proofs.SameCounts.{agree}
 use Rattle.slotted_model.proofs.completeness.completeness_laws_hold.Goals as goal
 
 pub returns : goal.returns
@@ -50,4 +52,7 @@ returns c = record {
     rest-same_classes g h rest_g rest_h none_g none_h same known known_back,
     rest-same_slots g h rest_g rest_h none_g none_h same known known_back,
   );
+  each_id_corresponds = each-corresponds;
+  graphs_agree_but_for_affected = alike-or_affected;
+  graphs_agree_up_to_classes = agree;
 }
