@@ -1,0 +1,3 @@
+pub mod Substituting
+pub mod Replacing
+pub mod SubstitutionExamples

@@ -1,0 +1,2 @@
+pub mod Substitution
+pub mod SubstitutionClaims

@@ -1,0 +1,5 @@
+//! Substitution without capture, instances of patterns, and matching: what rules stand on, over the abstract graph.
+//! The definitions stand in `specs`. This crate has no program: its functions owe their laws.
+#![tactic(auto)]
+
+pub mod substitution;
