@@ -12,8 +12,8 @@ use Rattle.slotted_model.specs.ProofList.{asserted}
 use Rattle.slotted_model.specs.State.{State, look_up_tree}
 use Rattle.slotted_model.specs.Rest.{IsValidIn, AtRest, IsAffected}
 use Rattle.slotted_model.specs.Trees.{IsTree}
-use Rattle.slotted_model.specs.Cost.{CostFunction, AtMost, IsLawful, tree_cost}
-use Rattle.slotted_model.specs.Extraction.{TableEntry, cost_in, IsInOrder, Fits, Extracts}
+use Rattle.slotted_model.specs.Cost.{CostFunction, AtMost, tree_cost}
+use Rattle.slotted_model.specs.Extraction.{IsLawfulFor, TableEntry, cost_in, IsInOrder, Fits, Extracts}
 use Rattle.slotted_model.proofs.AtRest.{rest-look_up}
 use Rattle.slotted_model.proofs.NormalIds.{filling-found, full-is_valid}
 use Rattle.slotted_model.proofs.Growing.{identity-full}
@@ -37,7 +37,7 @@ pub extracted-equal : {C : Type 0} (g : State) → AtRest g → (k : CostFunctio
 extracted-equal g rest k table in_order a v t x b given f =
     found-equal g rest b f.full t (extracted-look_up g k table rest in_order x ∙ ap Some (filling-found g.nodes g.found rest.sane.sound.linked given a b v f))
 
-module _ {C : Type 0} (g : State) (rest : AtRest g) (k : CostFunction C) (law : IsLawful C k) (table : List (TableEntry C)) (fits : Fits C g k table) (a : Applied) (t : DTerm) (x : Extracts g table a t) where
+module _ {C : Type 0} (g : State) (rest : AtRest g) (k : CostFunction C) (law : IsLawfulFor C g k) (table : List (TableEntry C)) (fits : Fits C g k table) (a : Applied) (t : DTerm) (x : Extracts g table a t) where
   -- what costs no less than the found class costs no less than what is extracted
   no_less : (u : DTerm) → CostOfFound C g k table u (find_class g.found a.0) → AtMost k (tree_cost k t) (tree_cost k u)
   no_less u m =
@@ -54,7 +54,7 @@ module _ {C : Type 0} (g : State) (rest : AtRest g) (k : CostFunction C) (law : 
   least-equal b full e n u h p = least-represented u (find g.found b) (rest-look_up g rest b full (subst (λ c. ¬ IsAffected g c) (sym e) n) u h p) e
 
 -- no table of the same graph has a lower cost
-pub least-table : {C : Type 0} (g : State) → AtRest g → (k : CostFunction C) → IsLawful C k → (table other : List (TableEntry C)) → Fits C g k table → IsInOrder g k other →
+pub least-table : {C : Type 0} (g : State) → AtRest g → (k : CostFunction C) → IsLawfulFor C g k → (table other : List (TableEntry C)) → Fits C g k table → IsInOrder g k other →
     (c : ℕ) (x y : C) → cost_in table c ≡ Some x → cost_in other c ≡ Some y → AtMost k x y
 least-table {C} g rest k law table other fits in_order c x y p q =
     let linked = rest.sane.sound.linked in

@@ -11,19 +11,19 @@ use Rattle.slotted_model.specs.Extraction.{TableEntry, IsInOrder, Extracts, by_e
 use Rattle.slotted_model.proofs.CompletenessExamples.{graph, nodes, at_rest, row_f, row_g, row_lam, lam_id, lam_g}
 use Rattle.slotted_model.proofs.ExtractedParts.{extracted-moved, extracted-made}
 
-abbrev k : CostFunction ℕ
+abbrev pub k : CostFunction ℕ
 k = limited_size 100
 
-abbrev entry_g : TableEntry ℕ
+abbrev pub entry_g : TableEntry ℕ
 entry_g = record { class = 1; cost = 1; row = row_g }
 
-abbrev entry_lam : TableEntry ℕ
+abbrev pub entry_lam : TableEntry ℕ
 entry_lam = record { class = 2; cost = 2; row = row_lam }
 
-abbrev table : List (TableEntry ℕ)
+abbrev pub table : List (TableEntry ℕ)
 table = entry_lam ∷ entry_g ∷ []
 
-in_order : IsInOrder graph k table
+pub in_order : IsInOrder graph k table
 in_order = (
   record { class = refl; candidate = record { filed = contains_tail row_f (row_g ∷ row_lam ∷ []) row_lam (contains_tail row_g (row_lam ∷ []) row_lam (contains_head row_lam [])); new = refl; cost = refl } },
   (record { class = refl; candidate = record { filed = contains_tail row_f (row_g ∷ row_lam ∷ []) row_g (contains_head row_g (row_lam ∷ [])); new = refl; cost = refl } }, tt),

@@ -1,39 +1,32 @@
 -- What a fitting table extracts: a tree that is looked up as what the id finds, at the cost of its class; and there is one.
-use Rattle.std.proofs.Common.{◌≡◌, ℕ, ◌<◌, List, [], ◌∷◌, Some, length, sym, ◌∙◌, ap, refl, subst, inl, inr}
+use Rattle.std.proofs.Common.{◌≡◌, ℕ, List, [], ◌∷◌, Some, sym, ◌∙◌, ap, refl, subst, inl, inr}
 use Rattle.std.specs.Prelude.{Contains, option_map, option_and_then}
 use Rattle.std.proofs.lemmas.Bool.{cases_eq}
 use Rattle.std.proofs.lemmas.List.Elements.{Contains-append_left, Contains-append_right}
 use Rattle.slotted_theory.specs.Nameless.{DArgs, DTerm, stop, place, sub, scope, moved}
 use Rattle.slotted_theory.specs.FiniteMaps.{filled}
-use Rattle.slotted_theory.specs.Renaming.{Bijection, IsInjective}
+use Rattle.slotted_theory.specs.Renaming.{IsInjective}
 use Rattle.slotted_theory.specs.Shape.{shape}
-use Rattle.slotted_theory.proofs.Bijections.{to-injective}
 use Rattle.slotted_theory.proofs.Filled.{filled-injective}
-use Rattle.slotted_theory.proofs.Lists.{contains_head, contains_tail, Contains-nil}
+use Rattle.slotted_theory.proofs.Lists.{contains_head, contains_tail}
 use Rattle.slotted_theory.proofs.Values.{node, child_before}
-use Rattle.slotted_model.specs.Applied.{Applied, renamed_id, as_term, applied_of, EachChild}
-use Rattle.slotted_model.specs.Classes.{canonical_node, IsFull}
-use Rattle.slotted_model.specs.Filling.{IsFilling}
-use Rattle.slotted_model.specs.Find.{find_class, used_slots, find, Linked}
+use Rattle.slotted_model.specs.Applied.{Applied, as_term, applied_of, EachChild}
+use Rattle.slotted_model.specs.Classes.{IsFull}
+use Rattle.slotted_model.specs.Find.{find_class, find, Linked}
 use Rattle.slotted_model.specs.LookUp.{both, look_up_args}
 use Rattle.slotted_model.specs.Normal.{normal_args, normal}
 use Rattle.slotted_model.specs.ProofList.{node_of}
-use Rattle.slotted_model.specs.State.{Row, State, filed_node, normal_node, look_up_normal, look_up_node, look_up_tree, child_classes}
-use Rattle.slotted_model.specs.Rest.{IsValidIn, IsCurrent, AtRest}
+use Rattle.slotted_model.specs.State.{Row, State, filed_node, look_up_normal, look_up_node, look_up_tree, child_classes}
+use Rattle.slotted_model.specs.Rest.{IsValidIn, AtRest}
 use Rattle.slotted_model.specs.Trees.{HasNoIds, IsTree}
-use Rattle.slotted_model.specs.Cost.{CostFunction, null_children, AreAlike, IsLawful, child_costs, tree_cost}
-use Rattle.slotted_model.specs.Extraction.{TableEntry, cost_in, costs_in, IsInOrder, Extracts, by_entry, ExtractsArgs, no_more, own_name, extracted, under_binder}
+use Rattle.slotted_model.specs.Cost.{CostFunction, null_children, AreAlike, child_costs, tree_cost}
+use Rattle.slotted_model.specs.Extraction.{IsLawfulFor, TableEntry, cost_in, costs_in, IsInOrder, Extracts, by_entry, ExtractsArgs, no_more, own_name, extracted, under_binder}
 use Rattle.slotted_model.proofs.Options.{option_map-some, Some-same, None-Some}
 use Rattle.slotted_model.proofs.AtRest.{normal-again}
 use Rattle.slotted_model.proofs.Children.{EachChild-map}
 use Rattle.slotted_model.proofs.Congruence.{child-applied}
 use Rattle.slotted_model.proofs.Events.{normal-found}
-use Rattle.slotted_model.proofs.Fillings.{a_filling}
-use Rattle.slotted_model.proofs.NormalIds.{found-renamed, filling-found, full-is_valid}
-use Rattle.slotted_model.proofs.Full.{full-renamed, full-children}
 use Rattle.slotted_model.proofs.Marks.{child_classes-moved}
-use Rattle.slotted_model.proofs.Meeting.{Meeting, meeting}
-use Rattle.slotted_model.proofs.RenamedIds.{full-bijection, normal-moves}
 use Rattle.slotted_model.proofs.RowNodes.{source-id, row_node, node-valid, row-normal, row-again}
 use Rattle.slotted_model.proofs.Rows.{current-look_up, rest-current}
 use Rattle.slotted_model.proofs.Costs.{alike-moved}
@@ -83,7 +76,7 @@ module _ {C : Type 0} (g : State) (k : CostFunction C) (table : List (TableEntry
     extracted-tree_args (extracted x h) = let t = extracted-tree x in (t.operator, t.children, extracted-tree_args h)
     extracted-tree_args (under_binder h l) = (extracted-tree_args h, extracted-tree_args l)
 
-  module _ (law : IsLawful C k) where
+  module _ (law : IsLawfulFor C g k) where
     mutual
       -- its cost is that of the class
       pub extracted-cost : {a : Applied} {t : DTerm} → Extracts g table a t → cost_in table (find_class g.found a.0) ≡ Some (tree_cost k t)
@@ -99,7 +92,7 @@ module _ {C : Type 0} (g : State) (k : CostFunction C) (table : List (TableEntry
           sym (alike-moved (filled r.slots) inj r.shape)
           ∙ (sym (alike-moved (filled b.1) (filled-injective b.1 full.injective) (filed_node r)) ∙ ap (λ z. shape (node r.shape.op r.shape.payloads z)) (null_children-extracted h)) in
           let cost : k.node_cost t xs ≡ e.cost =
-          sym (law.alike r.shape t xs alike (row-count table r xs there)) ∙ Some-same (k.node_cost r.shape xs) e.cost (ap (option_map (k.node_cost r.shape)) (sym there) ∙ i.row) in
+          sym (law.alike r.shape t xs (r, i.filed, refl) (r, i.filed, sym alike) alike (row-count table r xs there)) ∙ Some-same (k.node_cost r.shape xs) e.cost (ap (option_map (k.node_cost r.shape)) (sym there) ∙ i.row) in
           let class : find_class g.found a.0 ≡ e.class = ap (λ (x : Applied). x.0) (sym same) ∙ (ap (find_class g.found) s ∙ i.class) in
           ap (cost_in table) class ∙ (i.cost ∙ ap Some (sym cost))
 

@@ -30,6 +30,7 @@ use Rattle.slotted_model.proofs.Options.{Some-same, None-Some}
 use Rattle.slotted_model.proofs.CompletenessExamples.{one_of}
 use Rattle.slotted_model.proofs.Optimal.{finished-fits}
 use Rattle.slotted_model.proofs.Sizes.{size-lawful}
+use Rattle.slotted_model.proofs.KnownCosts.{lawful-everywhere}
 use Rattle.slotted_model.proofs.Cheapest.{least-represented, least-equal}
 
 abbrev a : DTerm
@@ -229,7 +230,7 @@ finished : IsFinished graph k table
 finished r x n = two_of (λ q. ¬ IsCandidate ℕ graph k table q x) row_a row_f (λ m. None-Some 1 (sym m.new)) (λ m. None-Some 1 (sym m.new)) r n.filed n
 
 fits : Fits ℕ graph k table
-fits = finished-fits graph k table at_rest (size-lawful 100) least_first finished
+fits = finished-fits graph k table at_rest (lawful-everywhere graph k (size-lawful 100)) least_first finished
 
 -- a is extracted for f a
 a_extracted : Extracts graph table f_a_id a
@@ -240,7 +241,7 @@ fff_a_looked_up : look_up_tree graph (f_of (f_of (f_of a))) ≡ Some a_id
 fff_a_looked_up = refl
 
 cheaper : AtMost k (tree_cost k a) (tree_cost k (f_of (f_of (f_of a))))
-cheaper = least-represented graph at_rest k (size-lawful 100) table fits f_a_id a a_extracted (f_of (f_of (f_of a))) a_id fff_a_looked_up refl
+cheaper = least-represented graph at_rest k (lawful-everywhere graph k (size-lawful 100)) table fits f_a_id a a_extracted (f_of (f_of (f_of a))) a_id fff_a_looked_up refl
 
 costs : (tree_cost k a ≡ 1) × (tree_cost k (f_of (f_of (f_of a))) ≡ 4)
 costs = (refl, refl)
@@ -248,4 +249,4 @@ costs = (refl, refl)
 -- nor does any tree cost less that is equal to f a by what was asserted
 least : (t : DTerm) → IsTree t → Equal (asserted nodes proofs) (term_of nodes f_a_id) t → 1 ≤ tree_cost k t
 least t h e =
-    leb-true 1 (tree_cost k t) (least-equal graph at_rest k (size-lawful 100) table fits f_a_id a a_extracted f_a_id (record { in_range = omega arith; slots = refl; injective = tt }) refl (λ i. false≢true ((is_affected-iff graph 0).1 i)) t h e)
+    leb-true 1 (tree_cost k t) (least-equal graph at_rest k (lawful-everywhere graph k (size-lawful 100)) table fits f_a_id a a_extracted f_a_id (record { in_range = omega arith; slots = refl; injective = tt }) refl (λ i. false≢true ((is_affected-iff graph 0).1 i)) t h e)

@@ -98,9 +98,11 @@ pub mod Cheapest
 pub mod Queues
 pub mod TableMaking
 pub mod Sizes
+pub mod KnownCosts
 pub mod Ties
 pub mod ExtractionExamples
 pub mod ExtractedNamesExample
+pub mod PreferenceExamples
 pub mod PremiseExamples
 pub mod FillingExamples
 pub mod StepExamples

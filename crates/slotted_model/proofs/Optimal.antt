@@ -18,8 +18,8 @@ use Rattle.slotted_model.specs.Normal.{normal_args, normal}
 use Rattle.slotted_model.specs.ProofList.{node_of}
 use Rattle.slotted_model.specs.State.{Row, State, normal_node, row_of, source_with_names, look_up_node, look_up_tree, child_classes}
 use Rattle.slotted_model.specs.Rest.{AtRest, LookedUp}
-use Rattle.slotted_model.specs.Cost.{CostFunction, AtMost, EachAtMost, child_count, null_children, without_children, AreAlike, IsLawful, child_costs, tree_cost}
-use Rattle.slotted_model.specs.Extraction.{TableEntry, cost_in, costs_in, row_cost, row_class, IsLeastFirst, IsFinished, Fits}
+use Rattle.slotted_model.specs.Cost.{CostFunction, AtMost, EachAtMost, child_count, null_children, without_children, AreAlike, child_costs, tree_cost}
+use Rattle.slotted_model.specs.Extraction.{IsLawfulFor, TableEntry, cost_in, costs_in, row_cost, row_class, IsLeastFirst, IsFinished, Fits}
 use Rattle.slotted_model.proofs.Options.{option_map-some, both-some, and_then-some, Some-same}
 use Rattle.slotted_model.proofs.Children.{EachChild-map, expand-child}
 use Rattle.slotted_model.proofs.Congruence.{child-applied}
@@ -97,7 +97,7 @@ module _ {C : Type 0} (g : State) (k : CostFunction C) (table : List (TableEntry
       let x : (x : C) × (cost_in table (find_class g.found c) ≡ Some x) = class-covered done (suc c) c (omega arith) h in
       (x.0, ap (cost_in table) (sym (find_class-live g.nodes g.found (leads g.nodes g.found rest.sane.sound.linked) c h live)) ∙ x.1)
 
-  module _ (law : IsLawful C k) where
+  module _ (law : IsLawfulFor C g k) where
     -- what is made least first, to the end, is what extraction needs
     pub finished-fits : IsLeastFirst g k table → IsFinished g k table → Fits C g k table
     finished-fits least done = record {
@@ -117,11 +117,11 @@ module _ {C : Type 0} (g : State) (k : CostFunction C) (table : List (TableEntry
           let y : (y : C) × (cost_in table (row_class g r) ≡ Some y) = fits.covered (row_class g r) in_range live in
           let least : AtMost k y.0 (k.node_cost r.shape xs) = fits.closed r f (k.node_cost r.shape xs) y.0 (ap (option_map (k.node_cost r.shape)) there) y.1 in
           let count : length xs ≡ child_count t.args = at_most-length k xs (child_costs k t.args) most ∙ child_costs-count k t.args in
-          let same : k.node_cost t xs ≡ k.node_cost r.shape xs = law.alike t r.shape xs alike count in
+          let same : k.node_cost t xs ≡ k.node_cost r.shape xs = law.alike t r.shape xs (r, f, alike) (r, f, refl) alike count in
           record {
             cost = y.0;
             there = y.1;
-            at_most = law.transitive y.0 (k.node_cost t xs) (tree_cost k t) (subst (AtMost k y.0) (sym same) least) (law.rises t xs (child_costs k t.args) count most);
+            at_most = law.transitive y.0 (k.node_cost t xs) (tree_cost k t) (subst (AtMost k y.0) (sym same) least) (law.rises t xs (child_costs k t.args) (r, f, alike) count most);
             found = find_class-live g.nodes g.found lead (row_class g r) in_range live;
           }
 

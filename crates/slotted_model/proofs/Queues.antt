@@ -1,9 +1,8 @@
 -- A queue of rows: its least member can enter the table, and the parents of what entered are all that has to be added.
 use Rattle.std.proofs.Common.{◌≡◌, ℕ, List, [], ◌∷◌, Some, None, sym, ◌∙◌, ap, refl, subst, inl, inr, ◌⊎◌}
-use Rattle.std.specs.Prelude.{◌≢◌, Contains, Bool, IsTrue, option_map}
+use Rattle.std.specs.Prelude.{◌≢◌, Contains, option_map}
 use Rattle.std.proofs.lemmas.Bool.{cases_eq}
 use Rattle.slotted_theory.proofs.Lists.{contains_head, contains_tail, contains_cases, Contains-nil}
-use Rattle.slotted_theory.specs.Nameless.{DTerm}
 use Rattle.slotted_model.specs.State.{Row, State, child_classes}
 use Rattle.slotted_model.specs.Cost.{CostFunction, AtMost}
 use Rattle.slotted_model.specs.Extraction.{TableEntry, cost_in, costs_in, row_cost, row_class, IsCandidate, CanEnterTable, IsLeast, HasCheaperChildren, BreaksTies, IsFinished, IsQueue, QueueAfter}
@@ -54,10 +53,10 @@ module _ {C : Type 0} (g : State) (k : CostFunction C) (table : List (TableEntry
           ]
 
   -- if it was chosen so, ties are broken
-  pub queue-breaks_ties : (queue : List (Row × C)) → IsQueue C g k table queue → (comes_first : DTerm → DTerm → Bool) (r : Row) (x : C) →
-      ((q : Row) (y : C) → Contains queue (q, y) → AtMost k y x → HasCheaperChildren k table q y → HasCheaperChildren k table r x × IsTrue (comes_first r.shape q.shape)) →
+  pub queue-breaks_ties : (queue : List (Row × C)) → IsQueue C g k table queue → (comes_first : Row → Row → Type 0) (r : Row) (x : C) →
+      ((q : Row) (y : C) → Contains queue (q, y) → row_class g q ≡ row_class g r → AtMost k y x → HasCheaperChildren k table q y → HasCheaperChildren k table r x × comes_first r q) →
       BreaksTies g k comes_first table (record { class = row_class g r; cost = x; row = r })
-  queue-breaks_ties queue is comes_first r x chosen q y n le over = chosen q y (is.has q y n) le over
+  queue-breaks_ties queue is comes_first r x chosen q y n class le over = chosen q y (is.has q y n) class le over
 
   -- a member whose class is in the table can be passed over
   pub passed_over : (r : Row) (x y : C) (queue : List (Row × C)) → IsQueue C g k table ((r, x) ∷ queue) → cost_in table (row_class g r) ≡ Some y → IsQueue C g k table queue

@@ -46,13 +46,13 @@ module _ (limit : ℕ) where
   size-lawful = record {
     reflexive = λ x. le-leb x x (omega arith);
     transitive = λ x y z p q. let a : x ≤ y = leb-true x y p in let b : y ≤ z = leb-true y z q in le-leb x z (omega arith);
-    alike = λ d e xs a n. refl;
-    rises = λ d xs ys n h.
+    alike = λ d e xs p q a n. refl;
+    rises = λ d xs ys p n h.
         let r = both-rise xs ys h in
         let a : sum xs ≤ sum ys = r.0 in
         let b : dearest xs ≤ dearest ys = r.1 in
         le-leb (min (suc (sum xs)) (max limit (dearest xs))) (min (suc (sum ys)) (max limit (dearest ys))) (omega arith);
-    no_less = λ d xs n x c.
+    no_less = λ d xs p n x c.
         let r = each-within xs x c in
         let a : x ≤ sum xs = r.0 in
         let b : x ≤ dearest xs = r.1 in

@@ -4,12 +4,12 @@ use Rattle.std.specs.Prelude.{◌≢◌, Contains, cond, is_some}
 use Rattle.std.proofs.lemmas.Bool.{cases_eq}
 use Rattle.slotted_theory.proofs.Lists.{contains_head, contains_tail, contains_cases, Contains-nil}
 use Rattle.slotted_model.specs.State.{Row, State}
-use Rattle.slotted_model.specs.Cost.{CostFunction, AtMost, IsLawful, IsTotal}
-use Rattle.slotted_model.specs.Extraction.{TableEntry, cost_in, row_cost, row_class, IsCandidate, IsLeastFirst, IsFinished}
+use Rattle.slotted_model.specs.Cost.{CostFunction, AtMost, IsTotal}
+use Rattle.slotted_model.specs.Extraction.{IsLawfulFor, TableEntry, cost_in, row_cost, row_class, IsCandidate, IsLeastFirst, IsFinished}
 use Rattle.slotted_model.proofs.Options.{Some-same, None-Some}
 use Rattle.slotted_model.proofs.Tables.{cost-here, cost-later}
 
-module _ {C : Type 0} (g : State) (k : CostFunction C) (law : IsLawful C k) (total : IsTotal k) where
+module _ {C : Type 0} (g : State) (k : CostFunction C) (law : IsLawfulFor C g k) (total : IsTotal k) where
   -- a candidate among the rows that costs least among them
   record Least (table : List (TableEntry C)) (rows : List Row) : Type 0 where
     row : Row

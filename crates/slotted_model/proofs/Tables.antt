@@ -5,8 +5,8 @@ use Rattle.std.proofs.lemmas.Bool.{cases_eq, eq-eqb, ne_eqb}
 use Rattle.slotted_theory.proofs.Lists.{contains_head, contains_tail, contains_cases, Contains-nil}
 use Rattle.slotted_model.specs.LookUp.{both}
 use Rattle.slotted_model.specs.State.{Row, State, child_classes}
-use Rattle.slotted_model.specs.Cost.{CostFunction, AtMost, child_count, IsLawful}
-use Rattle.slotted_model.specs.Extraction.{TableEntry, cost_in, costs_in, row_cost, row_class, CanEnterTable, IsInOrder, IsLeastFirst}
+use Rattle.slotted_model.specs.Cost.{CostFunction, AtMost, child_count}
+use Rattle.slotted_model.specs.Extraction.{IsLawfulFor, TableEntry, cost_in, costs_in, row_cost, row_class, CanEnterTable, IsInOrder, IsLeastFirst}
 use Rattle.slotted_model.proofs.Options.{option_map-some, both-some, Some-same, None-Some}
 use Rattle.slotted_model.proofs.Costs.{child_classes-count}
 
@@ -129,22 +129,22 @@ module _ {C : Type 0} (g : State) (k : CostFunction C) where
   least-in_order [] h = tt
   least-in_order (e ∷ table) h = (h.0, least-in_order table h.2)
 
-  module _ (law : IsLawful C k) where
+  module _ (law : IsLawfulFor C g k) where
     -- a row that an entry helps to give a cost had it before, or costs no less than the entry
-    row-split : (e : TableEntry C) (table : List (TableEntry C)) (r : Row) (x : C) → row_cost k (e ∷ table) r ≡ Some x → (row_cost k table r ≡ Some x) ⊎ AtMost k e.cost x
-    row-split e table r x p =
+    row-split : (e : TableEntry C) (table : List (TableEntry C)) (r : Row) → Contains g.rows r → (x : C) → row_cost k (e ∷ table) r ≡ Some x → (row_cost k table r ≡ Some x) ⊎ AtMost k e.cost x
+    row-split e table r c x p =
         let cs : List ℕ = child_classes r.shape.args in
         let q : (xs : List C) × (costs_in (e ∷ table) cs ≡ Some xs) × (k.node_cost r.shape xs ≡ x) = option_map-some (k.node_cost r.shape) (costs_in (e ∷ table) cs) x p in
         elim (costs-split e table cs q.0 q.1) [
           | inl h ↦ inl (ap (option_map (k.node_cost r.shape)) h ∙ ap Some q.2)
-          | inr h ↦ inr (subst (AtMost k e.cost) q.2 (law.no_less r.shape q.0 (row-count (e ∷ table) r q.0 q.1) e.cost h))
+          | inr h ↦ inr (subst (AtMost k e.cost) q.2 (law.no_less r.shape q.0 (r, c, refl) (row-count (e ∷ table) r q.0 q.1) e.cost h))
         ]
 
     -- costs never fall
     pub never-falls : (table : List (TableEntry C)) (e : TableEntry C) → IsLeastFirst g k (e ∷ table) → (c : ℕ) (x : C) → cost_in table c ≡ Some x → AtMost k x e.cost
     never-falls [] e h c x p = absurd (None-Some x p)
     never-falls (d ∷ table) e h c x p =
-        let last : AtMost k d.cost e.cost = elim (row-split d table e.row e.cost h.0.candidate.cost) [
+        let last : AtMost k d.cost e.cost = elim (row-split d table e.row h.0.candidate.filed e.cost h.0.candidate.cost) [
           | inl q ↦ h.2.1 e.row e.cost (record { filed = h.0.candidate.filed; new = none-before d table (row_class g e.row) h.0.candidate.new; cost = q })
           | inr q ↦ q
         ] in
@@ -159,13 +159,13 @@ module _ {C : Type 0} (g : State) (k : CostFunction C) where
     least-closed (e ∷ table) h r c x y p q = elim (cases_eq e.class (row_class g r)) [
       | inl s ↦
           let same : e.cost ≡ y = Some-same e.cost y (sym (cost-here e table (row_class g r) s) ∙ q) in
-          subst (λ z. AtMost k z x) same (elim (row-split e table r x p) [
+          subst (λ z. AtMost k z x) same (elim (row-split e table r c x p) [
             | inl before ↦ h.1 r x (record { filed = c; new = ap (cost_in table) (sym s) ∙ entry-new e table h.0; cost = before })
             | inr m ↦ m
           ])
       | inr n ↦
           let before : cost_in table (row_class g r) ≡ Some y = sym (cost-later e table (row_class g r) n) ∙ q in
-          elim (row-split e table r x p) [
+          elim (row-split e table r c x p) [
             | inl there ↦ least-closed table h.2 r c x y there before
             | inr m ↦ law.transitive y e.cost x (never-falls table e h (row_class g r) y before) m
           ]

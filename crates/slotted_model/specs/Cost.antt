@@ -1,6 +1,7 @@
 -- Costs of trees: a node costs what a function makes of the costs of its children, in any type whose order is a test.
 --     CostFunction C     such a function, and the order
---     IsLawful C k       what is asked of it
+--     IsLawfulOn P C k   what is asked of it on the nodes of which P holds
+--     IsLawful C k       the same on all nodes
 --     tree_cost k t      the cost of a tree, from the bottom up
 --     limited_size n     how many nodes a tree has, up to a limit
 use Rattle.std.specs.Prelude.{◌≡◌, ◌⊎◌, ℕ, suc, ◌+◌, min, max, leb, sum, List, [], ◌∷◌, ◌++◌, length, Contains, Bool, IsTrue}
@@ -45,16 +46,20 @@ without_children d = node d.op d.payloads (null_children d.args)
 abbrev pub AreAlike : DTerm → DTerm → Type 0
 AreAlike d e = shape (without_children d) ≡ shape (without_children e)
 
--- what is asked of a cost function, where there are as many costs as children
-pub record IsLawful (C : Type 0) (k : CostFunction C) : Type 0 where
+-- what is asked of a cost function on the nodes of which P holds, where there are as many costs as children
+pub record IsLawfulOn (P : DTerm → Type 0) (C : Type 0) (k : CostFunction C) : Type 0 where
   pub reflexive : (x : C) → AtMost k x x
   pub transitive : (x y z : C) → AtMost k x y → AtMost k y z → AtMost k x z
   -- alike nodes over children of equal costs cost the same
-  pub alike : (d e : DTerm) (xs : List C) → AreAlike d e → length xs ≡ child_count d.args → k.node_cost d xs ≡ k.node_cost e xs
+  pub alike : (d e : DTerm) (xs : List C) → P d → P e → AreAlike d e → length xs ≡ child_count d.args → k.node_cost d xs ≡ k.node_cost e xs
   -- dearer children never make a node cheaper
-  pub rises : (d : DTerm) (xs ys : List C) → length xs ≡ child_count d.args → EachAtMost k xs ys → AtMost k (k.node_cost d xs) (k.node_cost d ys)
+  pub rises : (d : DTerm) (xs ys : List C) → P d → length xs ≡ child_count d.args → EachAtMost k xs ys → AtMost k (k.node_cost d xs) (k.node_cost d ys)
   -- a node costs no less than any child
-  pub no_less : (d : DTerm) (xs : List C) → length xs ≡ child_count d.args → (x : C) → Contains xs x → AtMost k x (k.node_cost d xs)
+  pub no_less : (d : DTerm) (xs : List C) → P d → length xs ≡ child_count d.args → (x : C) → Contains xs x → AtMost k x (k.node_cost d xs)
+
+-- and on all nodes
+abbrev pub IsLawful : (C : Type 0) → CostFunction C → Type 0
+IsLawful C k = IsLawfulOn (λ d. Unit {0}) C k
 
 -- of two costs one is at most the other
 abbrev pub IsTotal : {C : Type 0} → CostFunction C → Type 0

@@ -1,15 +1,16 @@
 -- Extraction: a table with a least cost and a row for each live class, and the trees that its rows make of an id.
+--     IsLawfulFor C g k          k is lawful on the nodes that are alike to a filed one
 --     TableEntry C               a class with its cost and the row that has this cost
 --     row_cost k table r         the cost of a row from the costs in the table, if all its children are there
 --     IsInOrder g k table        each entry is a row of its class, at its cost from the entries before it
 --     IsLeastFirst g k table     and no row that could have entered then cost less
---     HasTiesBroken g k f table  and among those that cost least it was chosen by the order f, if all its children cost less
+--     HasTiesBroken g k f table  and among those of its class that cost least it was chosen by the order f, if all its children cost less
 --     IsFinished g k table       no row can enter
 --     IsQueue g k table queue    each row that can enter waits in the queue
 --     Fits g k table             what extraction needs of a table
 --     Extracts g table a t       t is made of the row of a's class, with a's names put in, and of what is extracted for the row's children
 --     IsMadeBy g table a t e     the same with the entry e named
-use Rattle.std.specs.Prelude.{◌≡◌, ◌≢◌, ◌⊎◌, ℕ, ◌<◌, List, [], ◌∷◌, length, Contains, Option, Some, None, cond, nat_eq, option_map, Bool, IsTrue}
+use Rattle.std.specs.Prelude.{◌≡◌, ◌≢◌, ◌⊎◌, ℕ, ◌<◌, List, [], ◌∷◌, length, Contains, Option, Some, None, cond, nat_eq, option_map}
 use Rattle.slotted_theory.specs.Nameless.{DArgs, DTerm, stop, place, sub, scope, moved}
 use Rattle.slotted_theory.specs.FiniteMaps.{filled}
 use Rattle.slotted_theory.proofs.Values.{node, child_before}
@@ -18,7 +19,15 @@ use Rattle.slotted_model.specs.Classes.{IsFull}
 use Rattle.slotted_model.specs.LookUp.{both}
 use Rattle.slotted_model.specs.Find.{IsLive, find_class, find}
 use Rattle.slotted_model.specs.State.{Row, State, filed_node, child_classes}
-use Rattle.slotted_model.specs.Cost.{CostFunction, AtMost}
+use Rattle.slotted_model.specs.Cost.{CostFunction, AtMost, AreAlike, IsLawfulOn}
+
+-- the node is alike to one that a row files
+abbrev pub IsAlikeToRow : State → DTerm → Type 0
+IsAlikeToRow g d = (r : Row) × Contains g.rows r × AreAlike d r.shape
+
+-- what extraction asks of costs: they are lawful on the nodes that are alike to a filed one, whatever they are of others
+abbrev pub IsLawfulFor : (C : Type 0) → State → CostFunction C → Type 0
+IsLawfulFor C g k = IsLawfulOn (IsAlikeToRow g) C k
 
 -- a class, its cost, and a row of this class that has this cost
 pub record TableEntry (C : Type 0) : Type 0 where
@@ -73,13 +82,14 @@ IsLeastFirst {C} g k (e ∷ table) = CanEnterTable C g k table e × IsLeast g k 
 abbrev pub HasCheaperChildren : {C : Type 0} → CostFunction C → List (TableEntry C) → Row → C → Type 0
 HasCheaperChildren {C} k table r x = (c : ℕ) → Contains (child_classes r.shape.args) c → (y : C) → cost_in table c ≡ Some y → ¬ AtMost k x y
 
--- if a row that can enter costs no more than the entry and all its children cost less, the entry's do too, and its shape comes first
-abbrev pub BreaksTies : {C : Type 0} → State → CostFunction C → (DTerm → DTerm → Bool) → List (TableEntry C) → TableEntry C → Type 0
+-- if a row of the entry's class that can enter costs no more than the entry and all its children cost less, the entry's do too, and its row comes first
+abbrev pub BreaksTies : {C : Type 0} → State → CostFunction C → (Row → Row → Type 0) → List (TableEntry C) → TableEntry C → Type 0
 BreaksTies {C} g k comes_first table e =
-    (r : Row) (x : C) → IsCandidate C g k table r x → AtMost k x e.cost → HasCheaperChildren k table r x → HasCheaperChildren k table e.row e.cost × IsTrue (comes_first e.row.shape r.shape)
+    (r : Row) (x : C) → IsCandidate C g k table r x → row_class g r ≡ e.class → AtMost k x e.cost → HasCheaperChildren k table r x →
+    HasCheaperChildren k table e.row e.cost × comes_first e.row r
 
 -- each entry was chosen so
-abbrev pub HasTiesBroken : {C : Type 0} → State → CostFunction C → (DTerm → DTerm → Bool) → List (TableEntry C) → Type 0
+abbrev pub HasTiesBroken : {C : Type 0} → State → CostFunction C → (Row → Row → Type 0) → List (TableEntry C) → Type 0
 HasTiesBroken g k comes_first [] = Unit {0}
 HasTiesBroken g k comes_first (e ∷ table) = BreaksTies g k comes_first table e × HasTiesBroken g k comes_first table
 

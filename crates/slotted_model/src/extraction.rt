@@ -1,6 +1,8 @@
 //! Extraction: at rest, a tree of least cost for each id.
 
-ghost use Rattle.slotted_model.specs.ExtractionClaims.{ExtractionLaws};
+ghost use Rattle.slotted_theory.specs.Nameless.{DTerm};
+ghost use Rattle.slotted_model.specs.State.{Row};
+ghost use Rattle.slotted_model.specs.ExtractionClaims.{ExtractionLaws, PreferenceLaws};
 
 /// The laws of tables of least costs, and of the trees that they give, for costs of any type.
 ///
@@ -11,4 +13,19 @@ ghost use Rattle.slotted_model.specs.ExtractionClaims.{ExtractionLaws};
 /// Where no open symmetry affects the class, no tree that is equal to the id's term by what was asserted costs less, also one that was never added.
 pub fn extraction_laws_hold<C>()
     ensures { ExtractionLaws C }
+{}
+
+/// What a caller brings to an extraction beside its costs: of which nodes these speak, and which of two rows comes first. Any relations serve.
+pub trait Preferences {
+    ghost is_known: { DTerm → Type 0 };
+
+    ghost comes_first: { Row → Row → Type 0 };
+}
+
+/// The laws of what a caller prefers.
+///
+/// Costs need to be lawful on known nodes alone, if each filed node is known, and with it all that differ from it in names and children alone.
+/// Where each entry came first among the rows of its class that could enter at no higher cost over cheaper children, it comes first in the whole table.
+pub fn preference_laws_hold<C, P: Preferences>()
+    ensures { PreferenceLaws C P.is_known P.comes_first }
 {}

@@ -1,6 +1,5 @@
 use Rattle.slotted_model.proofs.Tables.{never-falls, least-closed}
-use Rattle.slotted_model.proofs.Queues.{popped-enters, queue-after, queue-breaks_ties, passed_over, empty-finished}
-use Rattle.slotted_model.proofs.Ties.{first-of_ties}
+use Rattle.slotted_model.proofs.Queues.{popped-enters, queue-after, passed_over, empty-finished}
 use Rattle.slotted_model.proofs.TableMaking.{made}
 use Rattle.slotted_model.proofs.Optimal.{finished-covers, finished-fits, tree-at_most, term-at_most}
 use Rattle.slotted_model.proofs.Extracting.{extracts, extracted-tree, extracted-look_up, extracted-cost}
@@ -14,13 +13,11 @@ returns g c = record {
   sizes_are_lawful = λ limit. (size-lawful limit, size-total limit, size-within limit);
   costs_never_fall = never-falls;
   least_first_is_closed = least-closed;
-  ties_are_broken = first-of_ties;
   finished_covers = λ s rest k table. finished-covers s k table rest;
   finished_fits = λ s rest k law table. finished-fits s k table rest law;
   tables_can_be_made = made;
   least_of_queue_enters = popped-enters;
   queues_go_on = queue-after;
-  queues_break_ties = λ s k comes_first table queue is. queue-breaks_ties s k table queue is comes_first;
   queues_pass_over = passed_over;
   empty_queues_finish = empty-finished;
   classes_cost_least = λ s rest k law table fits t a p. let m = tree-at_most s k table rest law fits t a p in (m.cost, m.there, m.at_most);
