@@ -159,7 +159,7 @@ reach-then : (nodes : List DTerm) (proofs longer : List ProofEntry) (e : Equatio
 reach-then nodes proofs longer e g r = record { longer = r.longer; grown = grown-then nodes proofs longer r.longer g r.grown; stands = r.stands }
 
 -- the equation of two full ids is over their classes
-over-full : (nodes : List DTerm) (a b : Applied) → IsFull nodes a → IsFull nodes b → IsOver nodes (equation_of a b)
+pub over-full : (nodes : List DTerm) (a b : Applied) → IsFull nodes a → IsFull nodes b → IsOver nodes (equation_of a b)
 over-full nodes a b fa fb = record {
   left = fa.in_range;
   right = fb.in_range;

@@ -81,6 +81,7 @@ pub mod AtRest
 pub mod Injections
 pub mod Corresponding
 pub mod SameCounts
+pub mod HoldingTrees
 pub mod CompletenessExamples
 pub mod KeptFirstExample
 pub mod KeptSecondExample

@@ -19,6 +19,7 @@ use Rattle.slotted_model.specs.State.{State, look_up_node, look_up_tree}
 use Rattle.slotted_model.specs.Rest.{IsValidIn, AtRest, IsAffected, CoversAffected}
 use Rattle.slotted_model.specs.Affected.{is_affected, HasNoOpenSymmetries, AreAlikeOrAffected}
 use Rattle.slotted_model.specs.Agreement.{Knows, Correspond, HasTermsOf, Agree}
+use Rattle.slotted_model.specs.Sessions.{Session, HoldsJust, Follow, AreAmong}
 
 -- the value of a tree with other names is its value with the other names
 abbrev pub ValuesMoveWithNames : Type 0
@@ -206,6 +207,18 @@ GraphsAgreeUpToClasses =
     (g h : State) → AtRest g → AtRest h → HasNoOpenSymmetries g → HasNoOpenSymmetries h →
     Knows h g → Knows g h → HasTermsOf h g → HasTermsOf g h → Agree g h
 
+-- what a session leads to is at rest, and holds just the trees that were added and the pairs that were asserted
+abbrev pub SessionsHoldJustThat : Type 0
+SessionsHoldJustThat = (trees : List DTerm) (pairs : List (DTerm × DTerm)) (g : State) → Session trees pairs g → HoldsJust g trees pairs
+
+-- so sessions in which the same trees were added, up to their names, and pairs asserted that follow from one another, lead to graphs that
+-- agree where no symmetry is open: whatever the order
+abbrev pub SessionsAgree : Type 0
+SessionsAgree =
+    (trees others : List DTerm) (pairs other_pairs : List (DTerm × DTerm)) (g h : State) → Session trees pairs g → Session others other_pairs h →
+    HasNoOpenSymmetries g → HasNoOpenSymmetries h → Follow pairs other_pairs → Follow other_pairs pairs →
+    AreAmong trees others → AreAmong others trees → Agree g h
+
 -- all these laws
 pub record CompletenessLaws : Type 0 where
   pub values_move_with_names : ValuesMoveWithNames
@@ -239,3 +252,5 @@ pub record CompletenessLaws : Type 0 where
   pub each_id_corresponds : EachIdCorresponds
   pub graphs_agree_but_for_affected : GraphsAgreeButForAffected
   pub graphs_agree_up_to_classes : GraphsAgreeUpToClasses
+  pub sessions_hold_just_that : SessionsHoldJustThat
+  pub sessions_agree : SessionsAgree

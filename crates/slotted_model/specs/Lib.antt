@@ -28,6 +28,7 @@ pub mod Value
 pub mod Closed
 pub mod Affected
 pub mod Agreement
+pub mod Sessions
 pub mod CompletenessClaims
 pub mod Cost
 pub mod Extraction
