@@ -1,5 +1,5 @@
 -- What a session leads to holds just its trees and pairs, so sessions of the same trees and pairs lead to graphs that agree.
-use Rattle.std.proofs.Common.{◌≡◌, ℕ, suc, ◌+◌, ◌<◌, List, [], ◌∷◌, ◌++◌, length, sym, ◌∙◌, ap, refl, subst, arith, inl, inr, ◌⊎◌}
+use Rattle.std.proofs.Common.{◌≡◌, ℕ, ◌+◌, ◌<◌, List, [], ◌∷◌, ◌++◌, length, sym, ap, refl, subst, arith, inl, inr}
 use Rattle.std.specs.Prelude.{Contains}
 use Rattle.std.proofs.lemmas.Bool.{cases_lt}
 use Rattle.std.proofs.lemmas.List.{length-append}
@@ -7,19 +7,19 @@ use Rattle.std.proofs.lemmas.List.Elements.{Contains-append_left, Contains-appen
 use Rattle.slotted_theory.specs.Nameless.{DTerm, moved}
 use Rattle.slotted_theory.specs.Derives.{Equal, listed, turned, joined, moving}
 use Rattle.slotted_theory.specs.Renaming.{Bijection}
-use Rattle.slotted_theory.specs.Shape.{shape, SameUpToNames}
+use Rattle.slotted_theory.specs.Shape.{shape}
 use Rattle.slotted_theory.proofs.Bijections.{to-injective}
 use Rattle.slotted_theory.proofs.Equals.{Equal-through, Equal-more, Equal-along}
 use Rattle.slotted_theory.proofs.Lists.{contains_head, contains_tail, contains_cases, Contains-nil}
 use Rattle.slotted_theory.proofs.Shapes.{shape_iff}
 use Rattle.slotted_model.specs.Applied.{Applied, renamed_id}
-use Rattle.slotted_model.specs.Classes.{canonical_slots, term_of, layer_of, IsFull, Canonical}
+use Rattle.slotted_model.specs.Classes.{term_of, layer_of, IsFull, Canonical}
 use Rattle.slotted_model.specs.Growth.{IsNew, Added, identity_id}
-use Rattle.slotted_model.specs.ProofList.{Equation, IsOver, HoldsFrom, equation_of, equation_at, left_side, right_side, term_pair, asserted}
+use Rattle.slotted_model.specs.ProofList.{IsOver, HoldsFrom, equation_of, equation_at, left_side, right_side, term_pair, asserted}
 use Rattle.slotted_model.specs.State.{State}
 use Rattle.slotted_model.specs.Rest.{AtRest}
 use Rattle.slotted_model.specs.Affected.{HasNoOpenSymmetries}
-use Rattle.slotted_model.specs.Agreement.{Knows, Correspond, HasTermsOf, Agree}
+use Rattle.slotted_model.specs.Agreement.{Knows, HasTermsOf, Agree}
 use Rattle.slotted_model.specs.Adding.{Adds, Asserts, HasAdded, HasAsserted}
 use Rattle.slotted_model.specs.Sessions.{nothing, StandsFor, Session, starts, finds, adds, asserts, keeps, HoldsJust, Follow, AreAmong}
 use Rattle.slotted_model.proofs.Adding.{adds as adds-rest}
@@ -29,7 +29,7 @@ use Rattle.slotted_model.proofs.FindProofs.{proved-holds, left_side-full, right_
 use Rattle.slotted_model.proofs.Full.{full-renamed, term_of-renamed}
 use Rattle.slotted_model.proofs.Growing.{added}
 use Rattle.slotted_model.proofs.SameCounts.{agree}
-use Rattle.slotted_model.proofs.Steps.{Equal-between, one_is_enough}
+use Rattle.slotted_model.proofs.Steps.{one_is_enough}
 
 -- what an id stands for where nodes and equations are the same
 same-stands : (g h : State) → h.nodes ≡ g.nodes → asserted h.nodes h.proofs ≡ asserted g.nodes g.proofs → (a : Applied) (t : DTerm) → StandsFor g a t → StandsFor h a t
@@ -206,17 +206,28 @@ module _ (trees others : List DTerm) (pairs other_pairs : List (DTerm × DTerm))
       let b = right.has u.0 u.1 in
       let f : ℕ → ℕ = n.0.to in
       let can : Canonical h.nodes = right.rest.sane.sound.canonical in
-      let equal : Equal (asserted h.nodes h.proofs) (term_of h.nodes (renamed_id f b.0)) r.1 = Equal-along (sym (term_of-renamed h.nodes can b.0 b.1.0 f)) n.1 (moving f (to-injective n.0) b.1.1) in
-      (r.0, renamed_id f b.0, r.2, record {
-        left_full = r.3.0;
-        right_full = full-renamed h.nodes b.0 b.1.0 f (λ x y j k. to-injective n.0 x y);
-        equal = joined (Equal-through (knows follow) r.3.1) (turned equal);
-      })
+      let equal : Equal (asserted h.nodes h.proofs) (term_of h.nodes (renamed_id f b.0)) r.1 = Equal-along (sym (term_of-renamed h.nodes can b.0 b.1.0 f)) n.1 (moving f (to-injective n.0) b.1.1) in (
+        r.0,
+        renamed_id f b.0,
+        r.2,
+        record {
+          left_full = r.3.0;
+          right_full = full-renamed h.nodes b.0 b.1.0 f (λ x y j k. to-injective n.0 x y);
+          equal = joined (Equal-through (knows follow) r.3.1) (turned equal);
+        },
+      )
+
+-- where the trees of one session are among those of another and its pairs follow from the other's, so it is with the graphs
+pub sessions-terms : (trees others : List DTerm) (pairs other_pairs : List (DTerm × DTerm)) (g h : State) → Session trees pairs g → Session others other_pairs h →
+    Follow pairs other_pairs → AreAmong trees others → Knows h g × HasTermsOf h g
+sessions-terms trees others pairs other_pairs g h s r follow among = (
+  knows trees others pairs other_pairs g h (session-holds s) (session-holds r) follow,
+  has-terms trees others pairs other_pairs g h (session-holds s) (session-holds r) follow among,
+)
 
 pub sessions-agree : (trees others : List DTerm) (pairs other_pairs : List (DTerm × DTerm)) (g h : State) → Session trees pairs g → Session others other_pairs h →
     HasNoOpenSymmetries g → HasNoOpenSymmetries h → Follow pairs other_pairs → Follow other_pairs pairs → AreAmong trees others → AreAmong others trees → Agree g h
 sessions-agree trees others pairs other_pairs g h s r none_g none_h follow follow_back among among_back =
-    let left : HoldsJust g trees pairs = session-holds s in
-    let right : HoldsJust h others other_pairs = session-holds r in
-    agree g h left.rest right.rest none_g none_h (knows trees others pairs other_pairs g h left right follow) (knows others trees other_pairs pairs h g right left follow_back)
-    (has-terms trees others pairs other_pairs g h left right follow among) (has-terms others trees other_pairs pairs h g right left follow_back among_back)
+    let there : Knows h g × HasTermsOf h g = sessions-terms trees others pairs other_pairs g h s r follow among in
+    let back : Knows g h × HasTermsOf g h = sessions-terms others trees other_pairs pairs h g r s follow_back among_back in
+    agree g h (session-holds s).rest (session-holds r).rest none_g none_h there.0 back.0 there.1 back.1

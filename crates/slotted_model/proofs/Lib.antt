@@ -83,9 +83,7 @@ pub mod Corresponding
 pub mod SameCounts
 pub mod HoldingTrees
 pub mod CompletenessExamples
-pub mod KeptFirstExample
-pub mod KeptSecondExample
-pub mod AgreementExample
+pub mod SessionExample
 pub mod OpenSymmetryExample
 pub mod CongruenceExample
 pub mod ShortcutExample

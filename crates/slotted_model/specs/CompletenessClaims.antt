@@ -211,8 +211,14 @@ GraphsAgreeUpToClasses =
 abbrev pub SessionsHoldJustThat : Type 0
 SessionsHoldJustThat = (trees : List DTerm) (pairs : List (DTerm × DTerm)) (g : State) → Session trees pairs g → HoldsJust g trees pairs
 
--- so sessions in which the same trees were added, up to their names, and pairs asserted that follow from one another, lead to graphs that
--- agree where no symmetry is open: whatever the order
+-- where the pairs of one session follow from those of another, and its trees are among the other's, up to their names, the other graph
+-- knows what the one asserts and has the terms of its classes
+abbrev pub SessionsShareTerms : Type 0
+SessionsShareTerms =
+    (trees others : List DTerm) (pairs other_pairs : List (DTerm × DTerm)) (g h : State) → Session trees pairs g → Session others other_pairs h →
+    Follow pairs other_pairs → AreAmong trees others → Knows h g × HasTermsOf h g
+
+-- so sessions of the same trees and pairs lead to graphs that agree where no symmetry is open: whatever the order
 abbrev pub SessionsAgree : Type 0
 SessionsAgree =
     (trees others : List DTerm) (pairs other_pairs : List (DTerm × DTerm)) (g h : State) → Session trees pairs g → Session others other_pairs h →
@@ -253,4 +259,5 @@ pub record CompletenessLaws : Type 0 where
   pub graphs_agree_but_for_affected : GraphsAgreeButForAffected
   pub graphs_agree_up_to_classes : GraphsAgreeUpToClasses
   pub sessions_hold_just_that : SessionsHoldJustThat
+  pub sessions_share_terms : SessionsShareTerms
   pub sessions_agree : SessionsAgree

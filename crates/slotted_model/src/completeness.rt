@@ -9,7 +9,7 @@ ghost use Rattle.slotted_model.specs.CompletenessClaims.{CompletenessLaws};
 /// So ids of equal terms find alike, unless both find classes that are marked, as those are that an open symmetry affects.
 /// A graph at rest is closed. With no open symmetry finding alike is derivability,
 /// and a tree is looked up exactly if it is equal to the term of an id, also one that was never added.
-/// So graphs of the same terms agree, in whatever order they were united, whichever classes were kept, and whatever nodes classes were made with.
+/// So graphs of the same terms agree, whatever nodes their classes were made with: whatever the order of a session, and whichever classes were kept.
 pub fn completeness_laws_hold()
     ensures { CompletenessLaws }
 {}

@@ -15,7 +15,7 @@ use Rattle.slotted_model.proofs.LookUpsAreEqual.{node-equal, filled-node_equal, 
 use Rattle.slotted_model.proofs.AtRest.{rest-represented, rest-closed, rest-alike, rest-derivable, rest-iff, rest-congruent, rest-look_up, rest-look_up_node, rest-trees, rest-alike_iff, rest-same_classes, rest-same_slots}
 use Rattle.slotted_model.proofs.Corresponding.{each-corresponds, alike-or_affected}
 use Rattle.slotted_model.proofs.SameCounts.{agree}
-use Rattle.slotted_model.proofs.HoldingTrees.{session-holds, sessions-agree}
+use Rattle.slotted_model.proofs.HoldingTrees.{session-holds, sessions-terms, sessions-agree}
 use Rattle.slotted_model.proofs.completeness.completeness_laws_hold.Goals as goal
 
 pub returns : goal.returns
@@ -57,5 +57,6 @@ returns c = record {
   graphs_agree_but_for_affected = alike-or_affected;
   graphs_agree_up_to_classes = agree;
   sessions_hold_just_that = λ trees pairs g s. session-holds s;
+  sessions_share_terms = sessions-terms;
   sessions_agree = sessions-agree;
 }
