@@ -84,6 +84,7 @@ pub mod SameCounts
 pub mod HoldingTrees
 pub mod CompletenessExamples
 pub mod SessionExample
+pub mod OpenSessionsExample
 pub mod OpenSymmetryExample
 pub mod CongruenceExample
 pub mod ShortcutExample

@@ -17,7 +17,7 @@ use Rattle.slotted_model.specs.State.{Row, State, normal_node, look_up_tree, chi
 use Rattle.slotted_model.specs.Rest.{lives_from, slots_from}
 use Rattle.slotted_model.specs.Affected.{AreAlikeOrAffected}
 use Rattle.slotted_model.specs.Changes.{linked_state, left_dies}
-use Rattle.slotted_model.specs.Rebuild.{IsCovered, starts as starts_run}
+use Rattle.slotted_model.specs.Rebuild.{IsCovered, HasNothingLeft, starts as starts_run}
 use Rattle.slotted_model.specs.Adding.{with_new_class, with_quiet_row, with_assertion, Adds, files_row, Asserts, is_new}
 use Rattle.slotted_model.specs.Agreement.{Knows, Correspond, HasTermsOf, Agree}
 use Rattle.slotted_model.specs.Sessions.{nothing, Session, starts, adds, asserts, Follow, AreAmong}
@@ -30,17 +30,23 @@ use Rattle.slotted_model.proofs.QuietTurns.{quiet-run}
 operators_differ : {d e : DTerm} → d ≡ e → d.op ≡ e.op
 operators_differ p = ap (λ (t : DTerm). t.op) p
 
--- a class whose node has an operator of its own is filed in one turn
-abbrev with_filed : State → DTerm → State
+-- a class whose node has a shape of its own is filed in one turn
+abbrev pub with_filed : State → DTerm → State
 with_filed g c = with_quiet_row (with_new_class g c) (length g.nodes)
 
-files : (g : State) (c : DTerm) → IsCovered (with_new_class g c) (length g.nodes) →
-    ((r : Row) → Contains g.rows r → (r.source ≢ length g.nodes) × (r.shape.op ≢ c.op)) → g.waiting ≡ [] → g.symmetries ≡ [] → Adds g c (with_filed g c)
-files g c covered other idle none =
-    let m : State = with_new_class g c in
-    let new : (r : Row) → Contains g.rows r → r.shape ≢ shape (normal_node m (length g.nodes)) = λ r k e. (other r k).1 (operators_differ e ∙ ap (λ (t : DTerm). t.op) (node-new g.nodes c)) in
-    files_row new (quiet-run m (length g.nodes) covered (λ r k. (other r k).0) new (λ k. Contains-nil (length g.nodes) (subst (λ w. Contains w (length g.nodes)) idle k)))
-    (idle, λ y k. absurd (Contains-nil y (subst (λ w. Contains w y) none k)))
+pub files_apart : (g : State) (c : DTerm) → IsCovered (with_new_class g c) (length g.nodes) →
+    ((r : Row) → Contains g.rows r → (r.source ≢ length g.nodes) × (r.shape ≢ shape (normal_node (with_new_class g c) (length g.nodes)))) →
+    HasNothingLeft (with_filed g c) → Adds g c (with_filed g c)
+files_apart g c covered other left =
+    let i : ℕ = length g.nodes in
+    files_row (λ r k. (other r k).1)
+    (quiet-run (with_new_class g c) i covered (λ r k. (other r k).0) (λ r k. (other r k).1) (λ k. Contains-nil i (subst (λ w. Contains w i) left.0 k))) left
+
+-- so it is if no row has its operator
+pub files : (g : State) (c : DTerm) → IsCovered (with_new_class g c) (length g.nodes) →
+    ((r : Row) → Contains g.rows r → (r.source ≢ length g.nodes) × (r.shape.op ≢ c.op)) → HasNothingLeft (with_filed g c) → Adds g c (with_filed g c)
+files g c covered other left =
+    files_apart g c covered (λ r k. ((other r k).0, λ e. (other r k).1 (operators_differ e ∙ ap (λ (t : DTerm). t.op) (node-new g.nodes c)))) left
 
 abbrev u_of : ℕ → DTerm
 u_of x = node 3 [] (place x stop)
@@ -56,10 +62,10 @@ abbrev f_over : ℕ → DTerm
 f_over i = node 5 [] (child_before (as_term (i, (0, 0) ∷ [])) stop)
 
 -- what holds of the one row, or of both rows, of a list
-one_row : {X : Type 0} (P : X → Type 0) (x : X) → P x → (y : X) → Contains (x ∷ []) y → P y
+pub one_row : {X : Type 0} (P : X → Type 0) (x : X) → P x → (y : X) → Contains (x ∷ []) y → P y
 one_row P x p y c = subst P (sym (one_of c)) p
 
-two_rows : {X : Type 0} (P : X → Type 0) (x z : X) → P x → P z → (y : X) → Contains (x ∷ z ∷ []) y → P y
+pub two_rows : {X : Type 0} (P : X → Type 0) (x z : X) → P x → P z → (y : X) → Contains (x ∷ z ∷ []) y → P y
 two_rows P x z p q y c = elim (contains_cases x (z ∷ []) y c) [
   | inl e ↦ subst P (sym e) p
   | inr k ↦ one_row P z q y k
@@ -76,7 +82,7 @@ u_is_new : IsNew [] (u_of 0)
 u_is_new = record { operator = omega arith; children = tt; shape_is_new = λ i l p. omega arith }
 
 begun : Session (u_of 0 ∷ []) [] with_u
-begun = adds (u_of 0) (u_of 0) starts u_is_new reflexive (files nothing (u_of 0) (λ s c. c) (λ r k. absurd (Contains-nil r k)) refl refl)
+begun = adds (u_of 0) (u_of 0) starts u_is_new reflexive (files nothing (u_of 0) (λ s c. c) (λ r k. absurd (Contains-nil r k)) (refl, λ y k. absurd (Contains-nil y k)))
 
 -- the early union: v x, then u x = v x, by which u dies, and then f over v
 abbrev early_v : State
@@ -137,10 +143,10 @@ early_session =
     adds (f_of (u_of 0)) (f_over 1)
     (asserts (u_of 0) (v_of 0) (0, (0, 0) ∷ []) (1, (0, 0) ∷ [])
     (adds (v_of 0) (v_of 0) begun early_v_is_new reflexive
-    (files with_u (v_of 0) (λ s c. c) (one_row (λ r. (r.source ≢ 1) × (r.shape.op ≢ 4)) _ (λ e. omega arith, λ e. omega arith)) refl refl))
+    (files with_u (v_of 0) (λ s c. c) (one_row (λ r. (r.source ≢ 1) × (r.shape.op ≢ 4)) _ (λ e. omega arith, λ e. omega arith)) (refl, λ y k. absurd (Contains-nil y k))))
     (early_u_full, reflexive) (early_v_full, reflexive) early_asserts)
     early_f_is_new (within (equal_child {d = v_of 0} {e = u_of 0} (turned (listed (contains_head (u_of 0, v_of 0) []))) equal_done))
-    (files early_union (f_over 1) (λ s c. c) (two_rows (λ r. (r.source ≢ 2) × (r.shape.op ≢ 5)) _ _ (λ e. omega arith, λ e. omega arith) (λ e. omega arith, λ e. omega arith)) refl refl)
+    (files early_union (f_over 1) (λ s c. c) (two_rows (λ r. (r.source ≢ 2) × (r.shape.op ≢ 5)) _ _ (λ e. omega arith, λ e. omega arith) (λ e. omega arith, λ e. omega arith)) (refl, λ y k. absurd (Contains-nil y k)))
 
 -- the late union: f over u, then v of the name 7, and v x = u x, by which v dies
 abbrev late_f : State
@@ -201,9 +207,9 @@ late_session =
     asserts (v_of 0) (u_of 0) (2, (7, 0) ∷ []) (0, (0, 0) ∷ [])
     (adds (v_of 7) (v_of 7)
     (adds (f_of (u_of 0)) (f_over 0) begun late_f_is_new reflexive
-    (files with_u (f_over 0) (λ s c. c) (one_row (λ r. (r.source ≢ 1) × (r.shape.op ≢ 5)) _ (λ e. omega arith, λ e. omega arith)) refl refl))
+    (files with_u (f_over 0) (λ s c. c) (one_row (λ r. (r.source ≢ 1) × (r.shape.op ≢ 5)) _ (λ e. omega arith, λ e. omega arith)) (refl, λ y k. absurd (Contains-nil y k))))
     late_v_is_new reflexive
-    (files late_f (v_of 7) (λ s c. c) (two_rows (λ r. (r.source ≢ 2) × (r.shape.op ≢ 4)) _ _ (λ e. omega arith, λ e. omega arith) (λ e. omega arith, λ e. omega arith)) refl refl))
+    (files late_f (v_of 7) (λ s c. c) (two_rows (λ r. (r.source ≢ 2) × (r.shape.op ≢ 4)) _ _ (λ e. omega arith, λ e. omega arith) (λ e. omega arith, λ e. omega arith)) (refl, λ y k. absurd (Contains-nil y k))))
     (record { in_range = omega arith; slots = refl; injective = (λ k. k, tt) }, reflexive)
     (record { in_range = omega arith; slots = refl; injective = (λ k. k, tt) }, reflexive)
     late_asserts
