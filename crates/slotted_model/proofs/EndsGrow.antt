@@ -1,10 +1,10 @@
 -- Unions, turns and runs put proofs and symmetries at the ends of their lists; so an assertion is an explicit entry where its equation stood nowhere.
-use Rattle.std.proofs.Common.{◌≡◌, ◌≢◌, ℕ, suc, ◌<◌, ◌≤◌, List, [], ◌∷◌, ◌++◌, length, sym, ◌∙◌, ap, refl, subst, append_assoc, arith, inl, inr}
+use Rattle.std.proofs.Common.{◌≡◌, ℕ, suc, ◌<◌, ◌≤◌, List, [], ◌∷◌, ◌++◌, length, sym, ◌∙◌, ap, refl, append_assoc, arith}
 use Rattle.std.specs.Prelude.{slice_index_or}
 use Rattle.std.proofs.lemmas.List.{get_or_append_left, append-nil}
 use Rattle.slotted_model.specs.Applied.{Applied}
 use Rattle.slotted_model.specs.Classes.{IsFull}
-use Rattle.slotted_model.specs.ProofList.{Equation, ProofEntry, Step, explicit, equation_of, equation_at, step_at}
+use Rattle.slotted_model.specs.ProofList.{ProofEntry, explicit, equation_of, equation_at, step_at}
 use Rattle.slotted_model.specs.State.{Symmetry, State}
 use Rattle.slotted_model.specs.Link.{CanEnter}
 use Rattle.slotted_model.specs.Rest.{Sane, AtRest, size, lives_from, slots_from}

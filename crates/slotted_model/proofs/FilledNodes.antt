@@ -5,7 +5,7 @@ use Rattle.slotted_theory.specs.Nameless.{DArgs, DTerm, stop, place, sub, scope}
 use Rattle.slotted_theory.proofs.Values.{node, child_before}
 use Rattle.slotted_model.specs.Applied.{Applied, as_term, applied_of, EachChild, IsApplied}
 use Rattle.slotted_model.specs.Classes.{IsFull}
-use Rattle.slotted_model.specs.Filling.{IsValid, IsFilling, FillsArgs, FillsNode}
+use Rattle.slotted_model.specs.Filling.{IsValid, FillsArgs, FillsNode}
 use Rattle.slotted_model.specs.Find.{Entry, used_slots, find, Linked}
 use Rattle.slotted_model.specs.Normal.{normal_args, normal, EqualInTurn}
 use Rattle.slotted_model.proofs.Congruence.{child-applied}

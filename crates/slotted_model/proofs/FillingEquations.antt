@@ -1,22 +1,21 @@
 -- Fillings keep equations: the pairs of slots with one name are those of the ids that were filled.
 use Rattle.std.proofs.Common.{◌≡◌, ◌⊎◌, ℕ, List, [], ◌∷◌, Bool, true, false, cond, sym, ◌∙◌, ap, refl, subst, inl, inr}
 use Rattle.std.specs.Prelude.{Contains, filter}
-use Rattle.std.specs.Map.{values_of}
 use Rattle.std.proofs.lemmas.Bool.{false≢true}
 use Rattle.slotted_theory.specs.Nameless.{DTerm}
 use Rattle.slotted_theory.specs.FiniteMaps.{value_of}
 use Rattle.slotted_model.specs.Ascending.{IsBelowAll, IsAscending}
 use Rattle.slotted_model.specs.Applied.{Applied, keys, values}
 use Rattle.slotted_model.specs.Classes.{canonical_slots}
-use Rattle.slotted_model.specs.Correspondence.{AllDifferent, IsFullMap, pairs_on, identity, same_names, has_slot}
+use Rattle.slotted_model.specs.Correspondence.{IsFullMap, pairs_on, identity, same_names, has_slot}
 use Rattle.slotted_model.specs.Filling.{IsValid, IsFilling}
-use Rattle.slotted_model.specs.ProofList.{Equation, equation_of}
-use Rattle.slotted_model.proofs.Members.{In, In-Contains, Contains-In}
+use Rattle.slotted_model.specs.ProofList.{equation_of}
+use Rattle.slotted_model.proofs.Members.{In-Contains, Contains-In}
 use Rattle.slotted_model.proofs.Sets.{same_members}
 use Rattle.slotted_model.proofs.Refiling.{filter-keeps, filter-from}
 use Rattle.slotted_model.proofs.Touching.{has_slot-cases}
 use Rattle.slotted_model.proofs.Fillings.{slots-ascending}
-use Rattle.slotted_model.proofs.Correspondences.Pairs.{Contains-key, Contains-of_key, Contains-value}
+use Rattle.slotted_model.proofs.Correspondences.Pairs.{Contains-of_key, Contains-value}
 use Rattle.slotted_model.proofs.Correspondences.Listing.{listed-in_order}
 use Rattle.slotted_model.proofs.Correspondences.PartialInjections.{in_order-ext, composite-in_order, identity-composite}
 use Rattle.slotted_model.proofs.Correspondences.FullMaps.{full-one_name, same_names-over, same_names-by, same_names-in_order, same_names-partial}

@@ -3,7 +3,7 @@ use Rattle.std.proofs.Common.{◌≡◌, ◌↔◌, ℕ, ◌<◌, List, Option, 
 use Rattle.std.specs.Prelude.{option_map, option_and_then}
 use Rattle.slotted_theory.specs.Nameless.{DArgs, DTerm, stop, place, sub, scope, moved}
 use Rattle.slotted_theory.specs.FiniteMaps.{filled}
-use Rattle.slotted_theory.proofs.Values.{node, child_before, value_args, value, Commutes}
+use Rattle.slotted_theory.proofs.Values.{node, child_before, value_args, value}
 use Rattle.slotted_model.specs.Applied.{Applied, renamed_id, as_term, applied_of, EachChild}
 use Rattle.slotted_model.specs.Trees.{HasNoIds, IsTree}
 use Rattle.slotted_model.specs.Classes.{canonical_node, IsFull, Canonical}
@@ -13,7 +13,6 @@ use Rattle.slotted_model.proofs.Options.{and_then-some, option_map-some, both-so
 use Rattle.slotted_model.proofs.Children.{EachChild-map, zip-places, moved-as_term}
 use Rattle.slotted_model.proofs.Full.{full-children}
 use Rattle.slotted_model.proofs.Ids.{Stands, id_of_node-some}
-use Rattle.slotted_model.proofs.LookUps.{Renames}
 
 -- different applied ids are different terms
 pub as_term-same : (a b : Applied) → as_term a ≡ as_term b → a ≡ b

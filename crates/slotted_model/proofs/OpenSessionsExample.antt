@@ -13,7 +13,7 @@ use Rattle.slotted_model.specs.Correspondence.{identity}
 use Rattle.slotted_model.specs.Growth.{IsNew}
 use Rattle.slotted_model.specs.Link.{IsLater}
 use Rattle.slotted_model.specs.ProofList.{Equation, equation_at}
-use Rattle.slotted_model.specs.State.{Row, Symmetry, State, child_classes}
+use Rattle.slotted_model.specs.State.{Symmetry, State, child_classes}
 use Rattle.slotted_model.specs.Rest.{IsAligned, AtRest, lives_from}
 use Rattle.slotted_model.specs.Changes.{linked_state, with_symmetry, left_dies, lists}
 use Rattle.slotted_model.specs.Rebuild.{starts as starts_run}

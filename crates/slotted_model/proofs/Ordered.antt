@@ -5,9 +5,8 @@ use Rattle.std.specs.List.{cons_option}
 use Rattle.std.specs.Map.{keys_of}
 use Rattle.slotted_theory.specs.FiniteMaps.{value_of}
 use Rattle.slotted_model.specs.Ascending.{IsBelowAll, IsAscending}
-use Rattle.slotted_model.specs.Correspondence.{AllDifferent, pairs_on, identity, IsPartialInjection}
+use Rattle.slotted_model.specs.Correspondence.{AllDifferent, pairs_on}
 use Rattle.slotted_model.proofs.Correspondences.FullIds.{ascending-different}
-use Rattle.slotted_model.proofs.Correspondences.PartialInjections.{composite-in_order, identity-composite}
 
 below_option : (x s : ℕ) (o : Option ℕ) (A : List (ℕ × ℕ)) → (IsBelowAll x (s ∷ keys_of A)) → IsBelowAll x (keys_of (cons_option (option_map (λ t. (s, t)) o) A))
 below_option x s None A b = b.1

@@ -1,5 +1,5 @@
 -- The nodes that rows file, with the names of full ids of their sources: at rest they are in normal form and looked up.
-use Rattle.std.proofs.Common.{◌≡◌, ℕ, ◌<◌, List, [], Some, length, sym, ◌∙◌, ap}
+use Rattle.std.proofs.Common.{◌≡◌, ℕ, ◌<◌, [], Some, length, sym, ◌∙◌, ap}
 use Rattle.std.specs.Prelude.{Contains}
 use Rattle.slotted_theory.specs.Nameless.{DTerm, moved}
 use Rattle.slotted_theory.specs.FiniteMaps.{filled}

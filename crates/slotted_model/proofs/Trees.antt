@@ -2,9 +2,9 @@
 use Rattle.std.proofs.Common.{◌≡◌, ℕ, zero, suc, ◌<◌, List, length, sym, ◌∙◌, ap, refl, subst, arith}
 use Rattle.slotted_theory.specs.Nameless.{DArgs, DTerm, stop, place, sub, scope, lift, moved, moved_args}
 use Rattle.slotted_theory.specs.FiniteMaps.{filled}
-use Rattle.slotted_theory.proofs.Values.{node, child_before, expand_args, expand, IsOwn, OwnArgs}
+use Rattle.slotted_theory.proofs.Values.{node, child_before, expand_args, expand, IsOwn}
 use Rattle.slotted_model.specs.Applied.{Applied, IsMap, IsNode, EachChild}
-use Rattle.slotted_model.specs.Classes.{term_by, stands, layer, terms, canonical_node, canonical_term, term_of, IsFull, Canonical}
+use Rattle.slotted_model.specs.Classes.{term_by, stands, terms, canonical_node, canonical_term, term_of, IsFull, Canonical}
 use Rattle.slotted_model.specs.Trees.{HasNoIds, IsTree}
 use Rattle.slotted_model.proofs.Children.{EachChild-map, expand-child}
 use Rattle.slotted_model.proofs.Full.{full-ascending, canonical_term-layer}

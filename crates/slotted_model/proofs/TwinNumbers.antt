@@ -1,9 +1,9 @@
 -- Twins, ids whose nodes have one normal form: they pair the slots that have one number in its shape, and move together.
-use Rattle.std.proofs.Common.{◌≡◌, ◌↔◌, ℕ, ◌<◌, List, length, get_or, sym, ◌∙◌, ap, refl, subst}
+use Rattle.std.proofs.Common.{◌≡◌, ◌↔◌, ℕ, List, get_or, sym, ◌∙◌, ap, refl, subst}
 use Rattle.std.specs.Prelude.{Contains, map}
 use Rattle.std.specs.Map.{keys_of, values_of}
 use Rattle.slotted_theory.specs.Nameless.{DTerm, moved}
-use Rattle.slotted_theory.specs.Renaming.{Bijection, IsInjective}
+use Rattle.slotted_theory.specs.Renaming.{Bijection}
 use Rattle.slotted_theory.specs.FiniteMaps.{filled, with_values}
 use Rattle.slotted_theory.specs.Shape.{free_names, number_in}
 use Rattle.slotted_theory.proofs.Bijections.{to-injective}
@@ -14,9 +14,9 @@ use Rattle.slotted_model.specs.Applied.{Applied, renamed_id}
 use Rattle.slotted_model.specs.Classes.{canonical_node, canonical_slots, IsFull}
 use Rattle.slotted_model.specs.Correspondence.{IsFullMap, same_names}
 use Rattle.slotted_model.specs.Find.{Entry}
-use Rattle.slotted_model.specs.ProofList.{Equation, equation_of, node_of}
+use Rattle.slotted_model.specs.ProofList.{Equation, equation_of}
 use Rattle.slotted_model.specs.Normal.{normal, HasNormalTwin, HasOneNumber}
-use Rattle.slotted_model.proofs.Members.{In, In-Contains, Contains-In}
+use Rattle.slotted_model.proofs.Members.{In-Contains, Contains-In}
 use Rattle.slotted_model.proofs.Theory.{free_names-moved, get_or-number_in}
 use Rattle.slotted_model.proofs.Maps.{filled-pair}
 use Rattle.slotted_model.proofs.Full.{full-ascending, full-renamed}

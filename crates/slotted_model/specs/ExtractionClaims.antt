@@ -20,6 +20,10 @@ SizesAreLawful =
     (limit : ℕ) → IsLawful ℕ (limited_size limit) × IsTotal (limited_size limit) ×
     ((d : DTerm) (xs : List ℕ) → ((x : ℕ) → Contains xs x → x ≤ limit) → (limited_size limit).node_cost d xs ≡ min (suc (sum xs)) limit)
 
+-- costs that are lawful on all nodes are lawful for each graph
+abbrev pub LawfulIsEnough : Type 0 → Type 0
+LawfulIsEnough C = (g : State) (k : CostFunction C) → IsLawful C k → IsLawfulFor C g k
+
 -- where each entry was the least that could enter, no later entry costs less
 abbrev pub CostsNeverFall : Type 0 → Type 0
 CostsNeverFall C =
@@ -146,6 +150,7 @@ ExtractedCostsLeastOfEqual C =
 -- all these laws
 pub record ExtractionLaws (C : Type 0) : Type 0 where
   pub sizes_are_lawful : SizesAreLawful
+  pub lawful_is_enough : LawfulIsEnough C
   pub costs_never_fall : CostsNeverFall C
   pub least_first_is_closed : LeastFirstIsClosed C
   pub finished_covers : FinishedCovers C

@@ -5,12 +5,14 @@ use Rattle.slotted_model.proofs.Optimal.{finished-covers, finished-fits, tree-at
 use Rattle.slotted_model.proofs.Extracting.{extracts, extracted-tree, extracted-look_up, extracted-cost}
 use Rattle.slotted_model.proofs.ExtractedParts.{extracted-moved, extracted-made}
 use Rattle.slotted_model.proofs.Cheapest.{extracted-equal, least-represented, least-term, least-equal, least-table}
+use Rattle.slotted_model.proofs.KnownCosts.{lawful-everywhere}
 use Rattle.slotted_model.proofs.Sizes.{size-lawful, size-total, size-within}
 use Rattle.slotted_model.proofs.extraction.extraction_laws_hold.Goals as goal
 
 pub returns : goal.returns
 returns g c = record {
   sizes_are_lawful = λ limit. (size-lawful limit, size-total limit, size-within limit);
+  lawful_is_enough = lawful-everywhere;
   costs_never_fall = never-falls;
   least_first_is_closed = least-closed;
   finished_covers = λ s rest k table. finished-covers s k table rest;
