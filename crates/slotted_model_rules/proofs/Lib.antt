@@ -1,3 +1,6 @@
 pub mod Substituting
 pub mod Replacing
 pub mod SubstitutionExamples
+pub mod Renamed
+pub mod LookingUp
+pub mod Instantiating

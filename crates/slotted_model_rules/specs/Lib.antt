@@ -1,2 +1,5 @@
 pub mod Substitution
 pub mod SubstitutionClaims
+pub mod Patterns
+pub mod Instances
+pub mod PatternClaims

@@ -2,4 +2,5 @@
 //! The definitions stand in `specs`. This crate has no program: its functions owe their laws.
 #![tactic(auto)]
 
+pub mod pattern;
 pub mod substitution;
