@@ -4,3 +4,5 @@ pub mod SubstitutionExamples
 pub mod Renamed
 pub mod LookingUp
 pub mod Instantiating
+pub mod Walking
+pub mod Answering

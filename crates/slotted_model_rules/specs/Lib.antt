@@ -3,3 +3,5 @@ pub mod SubstitutionClaims
 pub mod Patterns
 pub mod Instances
 pub mod PatternClaims
+pub mod Matcher
+pub mod MatcherClaims
