@@ -6,3 +6,4 @@ pub mod LookingUp
 pub mod Instantiating
 pub mod Walking
 pub mod Answering
+pub mod PatternExamples
