@@ -30,9 +30,18 @@ node_of-identity nodes i =
     moved-agrees (filled (map_on (λ s. s) (canonical_slots nodes i))) (λ s. s) c (λ x h. filled-map_on (λ s. s) (canonical_slots nodes i) x (In-ascending x (free_names c.args) h))
     ∙ moved-id c
 
--- an answer is what a full id finds whose node has the same normal form
-pub answer-found : (g : State) → AtRest g → (d : DTerm) (x : Applied) → look_up_node g d ≡ Some x → IsAnswer g d x
-answer-found g rest d x e =
+-- an answer x to a node d comes from a row: it is what a full id of the row's source finds, whose node has the normal form of d
+pub record RowAnswer (g : State) (d : DTerm) (x : Applied) : Type 0 where
+  pub row : Row
+  pub id : Applied
+  pub filed : Contains g.rows row
+  pub full : IsFull g.nodes id
+  pub source : id.0 ≡ row.source
+  pub same : normal g.found (node_of g.nodes id) ≡ normal g.found d
+  pub found : find g.found id ≡ x
+
+pub answer-row : (g : State) → AtRest g → (d : DTerm) (x : Applied) → look_up_node g d ≡ Some x → RowAnswer g d x
+answer-row g rest d x e =
     let N : DTerm = normal g.found d in
     let k : (r : Row) × (row_of (shape N) g.rows ≡ Some r) × (find g.found (source_with_names N r) ≡ x) = option_map-some (λ (r : Row). find g.found (source_with_names N r)) (row_of (shape N) g.rows) x e in
     let r : Row = k.0 in
@@ -48,4 +57,10 @@ answer-found g rest d x e =
     let same : normal g.found (node_of g.nodes a) ≡ N =
     normal-renamed g.nodes g.found own full f ∙ (ap (λ t. moved f (normal g.found t)) (node_of-identity g.nodes r.source) ∙ π.1) in
     let found : look_up_node g (node_of g.nodes a) ≡ Some (find g.found a) = current-look_up g rest.sane.sound.linked rest.sane.filed r s.0 cur a fa refl in
-    record { id = a; full = fa; same = same; found = Some-same (find g.found a) x (sym found ∙ (ap (look_up_normal g) same ∙ e)) }
+    record { row = r; id = a; filed = s.0; full = fa; source = refl; same = same; found = Some-same (find g.found a) x (sym found ∙ (ap (look_up_normal g) same ∙ e)) }
+
+-- so it is what a full id finds whose node has the same normal form
+pub answer-found : (g : State) → AtRest g → (d : DTerm) (x : Applied) → look_up_node g d ≡ Some x → IsAnswer g d x
+answer-found g rest d x e =
+    let r : RowAnswer g d x = answer-row g rest d x e in
+    record { id = r.id; full = r.full; same = r.same; found = r.found }

@@ -21,23 +21,23 @@ use Rattle.slotted_model.proofs.Children.{moved-as_term}
 use Rattle.slotted_model.proofs.Full.{full-renamed}
 use Rattle.slotted_model.proofs.Ids.{Stands, id_of_node-some, id_of_node-full, id_of_node-none}
 
-place-moved : (f : ℕ → ℕ) (x : ℕ) (o : Option DArgs) → option_map (place (f x)) (option_map (moved_args f) o) ≡ option_map (moved_args f) (option_map (place x) o)
+pub place-moved : (f : ℕ → ℕ) (x : ℕ) (o : Option DArgs) → option_map (place (f x)) (option_map (moved_args f) o) ≡ option_map (moved_args f) (option_map (place x) o)
 place-moved f x None = refl
 place-moved f x (Some d) = refl
 
-scope-moved : (f : ℕ → ℕ) (o r : Option DArgs) → both scope (option_map (moved_args (lift f)) o) (option_map (moved_args f) r) ≡ option_map (moved_args f) (both scope o r)
+pub scope-moved : (f : ℕ → ℕ) (o r : Option DArgs) → both scope (option_map (moved_args (lift f)) o) (option_map (moved_args f) r) ≡ option_map (moved_args f) (both scope o r)
 scope-moved f None r = refl
 scope-moved f (Some d) None = refl
 scope-moved f (Some d) (Some e) = refl
 
-child-moved : (f : ℕ → ℕ) (o : Option Applied) (r : Option DArgs) →
+pub child-moved : (f : ℕ → ℕ) (o : Option Applied) (r : Option DArgs) →
     both (λ a found. child_before (as_term a) found) (option_map (renamed_id f) o) (option_map (moved_args f) r)
     ≡ option_map (moved_args f) (both (λ a found. child_before (as_term a) found) o r)
 child-moved f None r = refl
 child-moved f (Some a) None = refl
 child-moved f (Some a) (Some d) = λ i. Some (child_before (sym (moved-as_term f a) i) (moved_args f d))
 
-answer-moved : (look : DTerm → Option Applied) → Renames look → (f : ℕ → ℕ) → IsInjective f → (op : ℕ) (payloads : List (List ℕ)) (o : Option DArgs) →
+pub answer-moved : (look : DTerm → Option Applied) → Renames look → (f : ℕ → ℕ) → IsInjective f → (op : ℕ) (payloads : List (List ℕ)) (o : Option DArgs) →
     option_and_then (λ found. look (node op payloads found)) (option_map (moved_args f) o) ≡ option_map (renamed_id f) (option_and_then (λ found. look (node op payloads found)) o)
 answer-moved look law f inj op payloads None = refl
 answer-moved look law f inj op payloads (Some d) = law f inj (node op payloads d)

@@ -141,7 +141,7 @@ module _ (found : List Entry) where
       c h
 
 -- a symmetry tests open exactly if it is
-id_eq-same : (a b : Applied) → id_eq a b ≡ true → a ≡ b
+pub id_eq-same : (a b : Applied) → id_eq a b ≡ true → a ≡ b
 id_eq-same a b e = as_term-same a b (term_eq-true (as_term a) (as_term b) e)
 
 open-is_open : (g : State) (y : Symmetry) → IsOpen g y → is_open g y ≡ true

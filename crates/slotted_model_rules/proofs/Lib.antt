@@ -1,3 +1,9 @@
 pub mod Substituting
 pub mod Replacing
 pub mod SubstitutionExamples
+pub mod Renamed
+pub mod LookingUp
+pub mod Instantiating
+pub mod Walking
+pub mod Answering
+pub mod PatternExamples

@@ -1,2 +1,7 @@
 pub mod Substitution
 pub mod SubstitutionClaims
+pub mod Patterns
+pub mod Instances
+pub mod PatternClaims
+pub mod Matcher
+pub mod MatcherClaims

@@ -2,4 +2,6 @@
 //! The definitions stand in `specs`. This crate has no program: its functions owe their laws.
 #![tactic(auto)]
 
+pub mod matcher;
+pub mod pattern;
 pub mod substitution;

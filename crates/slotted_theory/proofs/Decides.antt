@@ -5,7 +5,7 @@ use Rattle.std.proofs.lemmas.Bool.{eqb-true, eq-eqb, and_parts, and_from, false�
 use Rattle.slotted_theory.specs.Nameless.{DArgs, stop, place, sub, scope}
 use Rattle.slotted_theory.specs.Decided.{numbers_eq, lists_eq, args_eq}
 
-numbers_eq-true : (xs ys : List ℕ) → numbers_eq xs ys ≡ true → xs ≡ ys
+pub numbers_eq-true : (xs ys : List ℕ) → numbers_eq xs ys ≡ true → xs ≡ ys
 numbers_eq-true [] [] e = refl
 numbers_eq-true (x ∷ xs) (y ∷ ys) e = let p = and_parts (nat_eq x y) (numbers_eq xs ys) e in λ i. eqb-true x y p.0 i ∷ numbers_eq-true xs ys p.1 i
 numbers_eq-true _ _ e = absurd (false≢true e)
@@ -26,7 +26,7 @@ args_eq-true (sub o p a rest) (sub o' p' a' rest') e =
 args_eq-true (scope a rest) (scope a' rest') e = let p = and_parts (args_eq a a') (args_eq rest rest') e in λ i. scope (args_eq-true a a' p.0 i) (args_eq-true rest rest' p.1 i)
 args_eq-true _ _ e = absurd (false≢true e)
 
-numbers_eq-same : (xs : List ℕ) → numbers_eq xs xs ≡ true
+pub numbers_eq-same : (xs : List ℕ) → numbers_eq xs xs ≡ true
 numbers_eq-same [] = refl
 numbers_eq-same (x ∷ xs) = and_from _ _ (eq-eqb x x refl) (numbers_eq-same xs)
 
