@@ -1,6 +1,6 @@
 -- Slot maps put together, and completed by fresh slots.
-use Rattle.std.specs.Prelude.{◌≡◌, ℕ, ◌<◌, ◌≤◌, Bool, false, ◌==◌, List, ◌++◌, fold, map, Option, Some, None, unwrap_or, IsTrue}
-use Rattle.std.specs.List.{list_all}
+use Rattle.std.specs.Prelude.{◌≡◌, ℕ, ◌<◌, ◌≤◌, Bool, false, not, is_some, ◌==◌, List, ◌++◌, fold, map, Option, Some, None, unwrap_or, IsTrue}
+use Rattle.std.specs.List.{count_by, list_all}
 use Rattle.slotted_slots.specs.Maps.{value_of, with_pair, is_among, keys, values}
 use Rattle.slotted_slots.specs.Table.{Table, fresh_slot, is_known}
 
@@ -28,6 +28,14 @@ either_value None w = w
 -- what n has at each of the values of m
 abbrev pub sent_on : List (ℕ × ℕ) → List (ℕ × ℕ) → List (Option ℕ)
 sent_on m n = map (λ v. value_of n v) (values m)
+
+-- the values of both maps: they are passed over where slots are made to complete the one by the other
+abbrev pub both_values : List (ℕ × ℕ) → List (ℕ × ℕ) → List ℕ
+both_values m n = values m ++ values n
+
+-- at how many of the names the map has no value
+abbrev pub lack_count : List (ℕ × ℕ) → List ℕ → ℕ
+lack_count n xs = count_by (λ x. not (is_some (value_of n x))) xs
 
 -- a fresh slot from an index on, below another, which is none of those in use
 pub record IsFreshFrom (low high : ℕ) (used : List ℕ) (s : ℕ) : Type 0 where
