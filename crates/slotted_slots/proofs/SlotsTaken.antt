@@ -1,6 +1,5 @@
 -- How the slots that calls take add up, and what it means that too few are left.
-use Rattle.std.proofs.Common.{◌≡◌, ℕ, zero, suc, ◌+◌, ◌-◌, ◌<◌, ◌≤◌, true, false, not, List, [], ◌∷◌, length, add-one, refl, sym, ap, subst, inl, inr, arith, ◌∙◌}
-use Rattle.std.specs.Prelude.{◌⊎◌, nat_lt}
+use Rattle.std.proofs.Common.{◌≡◌, ℕ, zero, suc, ◌+◌, ◌-◌, ◌<◌, ◌≤◌, true, false, List, [], ◌∷◌, length, add-one, refl, sym, ap, subst, inl, inr, arith, ◌∙◌}
 use Rattle.std.proofs.lemmas.Bool.{cases_Bool, cases_order, true≢false, lt-ltb, le-ltb}
 use Rattle.slotted_slots.specs.Maps.{is_among}
 use Rattle.slotted_slots.specs.Table.{Table, fresh_slot, is_known, KnowsMore, slot_limit, unknown_names, slots_beside, TakesAtMost, LacksSlots}

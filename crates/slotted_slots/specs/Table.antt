@@ -83,10 +83,18 @@ abbrev pub word_outcome : Table → List ℕ → Option ℕ → NamedOutcome
 word_outcome t bs (Some i) = gives (name_slot i) t
 word_outcome t bs None = if nat_lt (length t.names) slot_limit then gives (name_slot (length t.names)) (record t { names = t.names ++ bs ∷ [] }) else no_place
 
+-- the slot of a word, which is kept from now on
+abbrev pub kept_outcome : Table → List ℕ → NamedOutcome
+kept_outcome t bs = word_outcome t bs (place_of t.names bs)
+
 abbrev pub outcome_of : Table → List ℕ → Reading → NamedOutcome
 outcome_of t bs (as_number n) = numeric_outcome t n
 outcome_of t bs (as_fresh n) = fresh_outcome t n
-outcome_of t bs as_word = word_outcome t bs (place_of t.names bs)
+outcome_of t bs as_word = kept_outcome t bs
+
+-- the text is a word that is not kept yet
+abbrev pub IsNewName : Table → List ℕ → Type 0
+IsNewName t bs = (reading_of bs ≡ as_word) × (place_of t.names bs ≡ None)
 
 -- what `named` does at a text
 unfoldable pub named_of : Table → List ℕ → NamedOutcome
@@ -133,6 +141,10 @@ text_or_mark None = codes "?"
 -- what a slot prints
 unfoldable pub shown_slot : Table → ℕ → List ℕ
 shown_slot t s = codes "$" ++ (if s % 4 == 0 then decimal (s / 4) else (if s % 4 == 1 then codes "f" ++ decimal (s / 4) else (if s % 4 == 2 then text_or_mark (slice_get t.names (s / 4)) else codes "?")))
+
+-- where the text is a word, the slot prints it
+abbrev pub PrintsWord : Table → List ℕ → ℕ → Type 0
+PrintsWord t bs s = reading_of bs ≡ as_word → shown_slot t s ≡ codes "$" ++ bs
 
 -- the slot is read back from what it prints, and the table stays
 abbrev pub ReadsBack : Table → ℕ → Type 0
