@@ -2,14 +2,14 @@
 ghost use Rattle.std.specs.Prelude.{◌≡◌, ◌++◌, ◌+◌, ◌^◌, ◌≤◌, ◌↔◌, ℕ, length, IsTrue, IfOk, IfErr, IsErrOf};
 ghost use Rattle.std.specs.Ordering.{nat_cmp};
 ghost use Rattle.slotted_theory.specs.FiniteMaps.{IsInjectiveMap};
-ghost use Rattle.slotted_slots.specs.Combining.{IsCompleted};
+ghost use Rattle.slotted_slots.specs.Combining.{HaveTheSame, IsCompleted};
 ghost use Rattle.slotted_slots.specs.Error.{IsOutOfMemory, IsShortage};
 ghost use Rattle.slotted_slots.specs.Maps.{IsInEither, KnowsAll, all_differ, composed, doubled, is_among, values};
 ghost use Rattle.slotted_slots.specs.Sets.{set_of};
 ghost use Rattle.slotted_slots.specs.Table.{KnowsMore, Takes};
 ghost use Rattle.slotted_model.specs.Applied.{keys};
-ghost use Rattle.slotted_model.specs.Correspondence.{IsPartialInjection, same_names, turned};
-ghost use Rattle.slotted_proofs.specs.Equations.{to_applied, statement_of, turned_statement, composite_statement, Meets, IsWritten};
+ghost use Rattle.slotted_model.specs.Correspondence.{IsPartialInjection, same_names};
+ghost use Rattle.slotted_proofs.specs.Equations.{to_applied, statement_of, partnered_statement, turned_statement, composite_statement, Meets, IsWritten, HaveManyNames, HasManyNames};
 ghost use Rattle.slotted_proofs.specs.Fresh.{IsSentOn, names_of};
 ghost use Rattle.slotted_proofs.specs.Steps.{HasInjectiveSides};
 
@@ -41,7 +41,7 @@ impl Equation {
     /// The names that stand on either side.
     pub fn slots(&self, alloc: Global) -> Result<SmallHashSet<Slot>, Error>
         ensures ok { IfOk result (λ s. s ≡ set_of nat_cmp (values self.now.l.m ++ values self.now.r.m)) }
-        ensures members { IfOk result (λ s. (v : ℕ) → is_among v s ≡ is_among v (values self.now.l.m ++ values self.now.r.m)) }
+        ensures members { IfOk result (λ s. HaveTheSame s (values self.now.l.m ++ values self.now.r.m)) }
         ensures err { IfErr result IsOutOfMemory }
     {
         let mut slots = self.l.slots(alloc)?;
@@ -136,7 +136,7 @@ impl Equation {
         requires left { IsInjectiveMap self.now.l.m }
         requires right { IsInjectiveMap self.now.r.m }
         ensures ok { IfOk result (IsWritten (statement_of self.now)) }
-        ensures full { IsErrOf result Error.OutOfSlots ↔ (2 ^ 30 ≤ length self.now.l.m + length self.now.r.m) }
+        ensures full { IsErrOf result Error.OutOfSlots ↔ HasManyNames self.now }
         ensures err { IfErr result IsShortage }
     {
         numbered(alloc, &self.l, &self.r)
@@ -147,7 +147,7 @@ impl Equation {
         requires left { IsInjectiveMap self.now.l.m }
         requires right { IsInjectiveMap self.now.r.m }
         ensures ok { IfOk result (IsWritten (turned_statement (statement_of self.now))) }
-        ensures full { IsErrOf result Error.OutOfSlots ↔ (2 ^ 30 ≤ length self.now.l.m + length self.now.r.m) }
+        ensures full { IsErrOf result Error.OutOfSlots ↔ HasManyNames self.now }
         ensures err { IfErr result IsShortage }
     {
         let turned = numbered(alloc, &self.r, &self.l)?;
@@ -163,7 +163,7 @@ impl Equation {
         requires right { IsInjectiveMap other.now.r.m }
         requires meets { Meets (statement_of self.now) (statement_of other.now) }
         ensures ok { IfOk result (IsWritten (composite_statement (statement_of self.now) (statement_of other.now))) }
-        ensures full { IsErrOf result Error.OutOfSlots ↔ (2 ^ 30 ≤ length self.now.l.m + length other.now.r.m) }
+        ensures full { IsErrOf result Error.OutOfSlots ↔ HaveManyNames self.now.l.m other.now.r.m }
         ensures err { IfErr result IsShortage }
     {
         composite(alloc, self, other)
@@ -178,8 +178,8 @@ impl Equation {
         partners: &SlotMap,
     ) -> Result<Equation, Error>
         requires { IsPartialInjection (keys r.now.m) (keys l.now.m) partners.now }
-        ensures ok { IfOk result (IsWritten (record { left_slots = keys l.now.m; right_slots = keys r.now.m; equation = record { left = l.now.id.0; right = r.now.id.0; pairs = turned (keys l.now.m) partners.now } })) }
-        ensures full { IsErrOf result Error.OutOfSlots ↔ (2 ^ 30 ≤ length l.now.m + length r.now.m) }
+        ensures ok { IfOk result (IsWritten (partnered_statement l.now r.now partners.now)) }
+        ensures full { IsErrOf result Error.OutOfSlots ↔ HaveManyNames l.now.m r.now.m }
         ensures err { IfErr result IsShortage }
     {
         let equation = numbered_by(alloc, l, r, partners)?;
