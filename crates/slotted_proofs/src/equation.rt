@@ -1,17 +1,16 @@
 //! Equations of applied ids.
-ghost use Rattle.std.specs.Prelude.{◌≡◌, ◌++◌, ◌+◌, ◌^◌, ◌≤◌, ◌↔◌, ℕ, length, IsTrue, IfOk, IfErr, IsErrOf};
+ghost use Rattle.std.specs.Prelude.{◌≡◌, ◌++◌, ◌↔◌, IsTrue, IfOk, IfErr, IsErrOf};
 ghost use Rattle.std.specs.Ordering.{nat_cmp};
 ghost use Rattle.slotted_theory.specs.FiniteMaps.{IsInjectiveMap};
 ghost use Rattle.slotted_slots.specs.Combining.{HaveTheSame, IsCompleted};
 ghost use Rattle.slotted_slots.specs.Error.{IsOutOfMemory, IsShortage};
-ghost use Rattle.slotted_slots.specs.Maps.{IsInEither, KnowsAll, all_differ, composed, doubled, is_among, values};
+ghost use Rattle.slotted_slots.specs.Maps.{KnowsAll, all_differ, composed, doubled, values};
 ghost use Rattle.slotted_slots.specs.Sets.{set_of};
-ghost use Rattle.slotted_slots.specs.Table.{KnowsMore, Takes};
+ghost use Rattle.slotted_slots.specs.Table.{KnowsMore, slot_limit};
 ghost use Rattle.slotted_model.specs.Applied.{keys};
 ghost use Rattle.slotted_model.specs.Correspondence.{IsPartialInjection, same_names};
 ghost use Rattle.slotted_proofs.specs.Equations.{to_applied, statement_of, partnered_statement, turned_statement, composite_statement, Meets, IsWritten, HaveManyNames, HasManyNames};
-ghost use Rattle.slotted_proofs.specs.Fresh.{IsSentOn, names_of};
-ghost use Rattle.slotted_proofs.specs.Steps.{HasInjectiveSides};
+ghost use Rattle.slotted_proofs.specs.Fresh.{IsSentOn, AreKnownOr, StaysInjective, TakesFor, names_of, side_names};
 
 use crate::numbering::{composite, numbered, numbered_by, shared_names};
 use slotted_slots::{AppliedId, Error, Slot, SlotMap, SlotTable, SmallHashSet};
@@ -84,41 +83,59 @@ impl Equation {
         table: &mut SlotTable,
     ) -> Result<SlotMap, Error>
         ensures completed { IfOk result (IsCompleted table.old table.new (doubled (names_of self.now)) m.now) }
-        ensures taken { IfOk result (λ c. Takes table.old table.new (IsInEither (values c) (values (doubled (names_of self.now)) ++ values m.now))) }
+        ensures taken { IfOk result (λ names. TakesFor table.old table.new self.now m.now (values names)) }
         ensures names { table.new.names ≡ table.old.names }
         ensures more { KnowsMore table.old table.new }
-        ensures full { IsErrOf result Error.OutOfSlots → table.new.fresh ≡ 2 ^ 30 }
+        ensures full { IsErrOf result Error.OutOfSlots → table.new.fresh ≡ slot_limit }
         ensures only { IfErr result IsShortage }
     {
         let own = self.own_names(alloc)?;
         own.compose_fresh(alloc, m, table)
     }
 
-    /// The equation with each name sent on by `m`, which keeps apart those of each side that it knows. The others become slots that
-    /// were never made before: one for each name, the same on both sides.
+    // Both sides, each with its names sent on by a map.
+    fn over(&self, alloc: Global, names: &SlotMap) -> Result<Equation, Error>
+        ensures left { IfOk result (λ e. to_applied e.l ≡ (self.now.l.id.0, composed self.now.l.m names.now)) }
+        ensures right { IfOk result (λ e. to_applied e.r ≡ (self.now.r.id.0, composed self.now.r.m names.now)) }
+        ensures err { IfErr result IsOutOfMemory }
+    {
+        let left = self.l.m.compose_partial(alloc, names)?;
+        let right = self.r.m.compose_partial(alloc, names)?;
+        Ok(Equation {
+            l: AppliedId {
+                id: self.l.id,
+                m: left,
+            },
+            r: AppliedId {
+                id: self.r.id,
+                m: right,
+            },
+        })
+    }
+
+    /// The equation with each name sent on by `m`. Those that it lacks become slots that were never made before: one for each name,
+    /// the same on both sides.
     pub fn apply_slotmap_fresh(
         &self,
         alloc: Global,
         m: &SlotMap,
         table: &mut SlotTable,
     ) -> Result<Equation, Error>
-        requires left { IsInjectiveMap self.now.l.m }
-        requires right { IsInjectiveMap self.now.r.m }
-        requires left_apart { IsTrue (all_differ (values (composed self.now.l.m m.now))) }
-        requires right_apart { IsTrue (all_differ (values (composed self.now.r.m m.now))) }
         ensures sent { IfOk result (IsSentOn table.old table.new m.now self.now) }
-        ensures injective { IfOk result HasInjectiveSides }
+        ensures left_injective { StaysInjective self.now.l.m m.now → IfOk result (λ e. IsInjectiveMap e.l.m) }
+        ensures right_injective { StaysInjective self.now.r.m m.now → IfOk result (λ e. IsInjectiveMap e.r.m) }
+        ensures known { IfOk result (λ e. AreKnownOr table.new (values m.now) (side_names e)) }
 
         // The table went on to make slots, and is else as it was. What it knows in addition is a name of the answer, or one of the
         // equation or of the map.
-        ensures taken { IfOk result (λ e. Takes table.old table.new (IsInEither (values e.l.m ++ values e.r.m) ((values self.now.l.m ++ values self.now.r.m) ++ values m.now))) }
+        ensures taken { IfOk result (λ e. TakesFor table.old table.new self.now m.now (side_names e)) }
         ensures names { table.new.names ≡ table.old.names }
         ensures more { KnowsMore table.old table.new }
-        ensures full { IsErrOf result Error.OutOfSlots → table.new.fresh ≡ 2 ^ 30 }
+        ensures full { IsErrOf result Error.OutOfSlots → table.new.fresh ≡ slot_limit }
         ensures only { IfErr result IsShortage }
     {
-        let completed = self.sent_names(alloc, m, table)?;
-        let sent = self.apply_slotmap(alloc, &completed)?;
+        let names = self.sent_names(alloc, m, table)?;
+        let sent = self.over(alloc, &names)?;
         Ok(sent)
     }
 
