@@ -1,10 +1,10 @@
 -- Lists whose holes were filled by fresh slots, and the maps that have them as values or keys.
-use Rattle.std.proofs.Common.{◌≡◌, ℕ, ◌<◌, ◌≤◌, true, false, not, List, [], ◌∷◌, ◌++◌, ◌+◌, length, get_or, take, map, Option, Some, None, refl, sym, ap, subst, inl, inr, arith, ◌∙◌}
-use Rattle.std.specs.Prelude.{◌⊎◌}
+use Rattle.std.proofs.Common.{◌≡◌, ℕ, zero, suc, ◌<◌, ◌≤◌, true, false, not, List, [], ◌∷◌, ◌++◌, ◌+◌, length, get_or, take, map, Option, Some, None, refl, sym, ap, subst, inl, inr, arith, ◌∙◌}
+use Rattle.std.specs.Prelude.{◌⊎◌, is_some}
 use Rattle.std.proofs.lemmas.Bool.{cases_eq, cases_Bool, eq-eqb, ne_eqb, and_parts, and_from, true≢false, not-true, lt-ltb, le-ltb}
 use Rattle.std.proofs.lemmas.List.{take_more}
 use Rattle.slotted_slots.specs.Ascending.{AllAbove, IsAscending}
-use Rattle.slotted_slots.specs.Combining.{sent_on, IsFreshFrom, IsFilled, IsNew, IsCompleted}
+use Rattle.slotted_slots.specs.Combining.{sent_on, IsFreshFrom, IsFilled, IsNew, IsCompleted, both_values, lacked, TakesForLacked, LacksForLacked, TakesToComplete, LacksToComplete}
 use Rattle.slotted_slots.specs.Maps.{keys, values, value_of, is_among, all_differ, composed, with_first}
 use Rattle.slotted_slots.specs.Table.{Table, fresh_slot, is_known}
 use Rattle.slotted_slots.proofs.MapLaws.{is_among-cons, is_among-first, is_among-more, is_among-value_of}
@@ -242,6 +242,35 @@ sent_on-push (q ∷ m) n p = ap (λ os. value_of n q.1 ∷ os) (sent_on-push m n
 holes-push : (xs : List ℕ) (x : ℕ) → holes (xs ++ x ∷ []) ≡ holes xs ++ None ∷ []
 holes-push [] x = refl
 holes-push (y ∷ xs) x = ap (λ os. None ∷ os) (holes-push xs x)
+
+-- what is lacked of a list, by its parts
+pub lacked-push : (n : List (ℕ × ℕ)) (xs : List ℕ) (x : ℕ) → length (lacked n (xs ++ x ∷ [])) ≡ length (lacked n xs) + length (lacked n (x ∷ []))
+lacked-push n [] x = omega arith
+lacked-push n (y ∷ xs) x = elim (cases_Bool (is_some (value_of n y))) [
+  | inl known ↦ rw known (lacked-push n xs x)
+  | inr absent ↦ rw absent (omega (arith, lacked-push n xs x))
+]
+
+pub lacked_step : (n m : List (ℕ × ℕ)) (i : ℕ) (p : ℕ × ℕ) → i < length m → p ≡ get_or m i p → length (lacked n (values (take (i + 1) m))) ≡ length (lacked n (values (take i m))) + length (lacked n (p.1 ∷ []))
+lacked_step n m i p lt is =
+    let more : take (i + 1) m ≡ take i m ++ p ∷ [] = take_more m i p lt ∙ ap (λ q. take i m ++ q ∷ []) (sym is) in
+    ap (λ l. length (lacked n (values l))) more ∙ (ap (λ l. length (lacked n l)) (values-push (take i m) p) ∙ lacked-push n (values (take i m)) p.1)
+
+-- what a part of a map lacks is no more than what the whole lacks
+pub lacked_part : (n m : List (ℕ × ℕ)) (i : ℕ) → length (lacked n (values (take i m))) ≤ length (lacked n (values m))
+lacked_part n m zero = omega arith
+lacked_part n [] (suc i) = omega arith
+lacked_part n (p ∷ m) (suc i) = elim (cases_Bool (is_some (value_of n p.1))) [
+  | inl known ↦ rw known (lacked_part n m i)
+  | inr absent ↦ rw absent (omega (arith, lacked_part n m i))
+]
+
+-- so what one more value takes is within what the whole map takes, and what lacks for it lacks for the whole
+pub completing_takes : (xs n : List (ℕ × ℕ)) (i : ℕ) (p : ℕ × ℕ) (t u v : Table) → i < length xs → p ≡ get_or xs i p → TakesForLacked n (values (take i xs)) (both_values xs n) t u → TakesForLacked n (p.1 ∷ []) (both_values xs n) u v → TakesToComplete xs n t v
+completing_takes xs n i p t u v lt is so_far last = omega (arith, so_far, last, lacked_step n xs i p lt is, lacked_part n xs (i + 1))
+
+pub completing_lacks : (xs n : List (ℕ × ℕ)) (i : ℕ) (p : ℕ × ℕ) (t u : Table) → i < length xs → p ≡ get_or xs i p → TakesForLacked n (values (take i xs)) (both_values xs n) t u → LacksForLacked n (p.1 ∷ []) (both_values xs n) u → LacksToComplete xs n t
+completing_lacks xs n i p t u lt is so_far lacks = omega (arith, so_far, lacks, lacked_step n xs i p lt is, lacked_part n xs (i + 1))
 
 pub completed_step : (used : List ℕ) (low mid high : ℕ) (xs n items new : List (ℕ × ℕ)) (i : ℕ) (p : ℕ × ℕ) (v : ℕ) → i < length xs → p ≡ get_or xs i p → new ≡ items ++ (p.0, v) ∷ [] → keys items ≡ keys (take i xs) → AreFilled used low mid (sent_on (take i xs) n) (values items) → IsFilled mid high used (value_of n p.1) v → record { keys : keys new ≡ keys (take (i + 1) xs); values : AreFilled used low high (sent_on (take (i + 1) xs) n) (values new) }
 completed_step used low mid high xs n items new i p v lt is pushed ks filled last =

@@ -10,6 +10,7 @@ pub mod NamingLaws
 pub mod Printing
 pub mod SetAlgebraLaws
 pub mod SetLemmas
+pub mod SlotsTaken
 pub mod TableLaws
 pub mod Taken
 pub mod WholeMaps

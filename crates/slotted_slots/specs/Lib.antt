@@ -2,6 +2,8 @@
 pub mod Ascending
 pub mod Combining
 pub mod Error
+pub mod Hashing
+pub mod Iterating
 pub mod Laws
 pub mod Maps
 pub mod Naming

@@ -1,5 +1,5 @@
 -- Slot maps as lists of pairs in key order.
-use Rattle.std.specs.Prelude.{All, IsSome, ℕ, suc, zero, Bool, true, not, ◌&&◌, ◌↔◌, ◌⊎◌, fold, ◌<◌, ◌≤◌, ◌≡◌, List, [], ◌∷◌, length, Option, Some, None, ◌==◌, map, refl, slice_set, slice_index_or, if◌then◌else◌, nat_lt}
+use Rattle.std.specs.Prelude.{All, IsSome, ℕ, suc, zero, Bool, true, not, ◌&&◌, ◌↔◌, ◌⊎◌, fold, ◌<◌, ◌≤◌, ◌≡◌, List, [], ◌∷◌, length, Option, Some, None, ◌==◌, map, refl, slice_set, slice_index_or, if◌then◌else◌, nat_lt, IsTrue}
 use Rattle.std.specs.List.{list_any}
 use Rattle.std.proofs.Common.{ap}
 
@@ -72,6 +72,10 @@ keys m = map (λ p. p.0) m
 -- the values, in key order
 abbrev pub values : List (ℕ × ℕ) → List ℕ
 values m = map (λ p. p.1) m
+
+-- no value stands twice
+abbrev pub HasDifferentValues : List (ℕ × ℕ) → Type 0
+HasDifferentValues m = IsTrue (all_differ (values m))
 
 pub keys-with_value_at : (m : List (ℕ × ℕ)) (i v : ℕ) → keys (with_value_at m i v) ≡ keys m
 keys-with_value_at [] i v = refl

@@ -1,6 +1,6 @@
 -- Small sets beside each other.
 pub use Rattle.std.specs.Set.{remove_key}
-use Rattle.std.specs.Prelude.{◌≡◌, false, not, List, fold, IsTrue}
+use Rattle.std.specs.Prelude.{◌≡◌, false, not, ◌&&◌, ◌||◌, List, fold, IsTrue}
 use Rattle.std.specs.List.{filter}
 use Rattle.std.specs.Ordering.{eq_by_cmp}
 use Rattle.std.specs.declared.cmp.Ordering.{Ordering}
@@ -31,3 +31,15 @@ module _ {T : Type 0} (cmp : T → T → Ordering) where
     -- the elements of xs that ys lacks
     abbrev pub remaining : List T
     remaining = filter (λ x. not (has cmp ys x)) xs
+
+    -- s has the elements of both
+    abbrev pub IsUnion : List T → Type 0
+    IsUnion s = (t : T) → has cmp s t ≡ (has cmp xs t || has cmp ys t)
+
+    -- s has what both have
+    abbrev pub IsIntersection : List T → Type 0
+    IsIntersection s = (t : T) → has cmp s t ≡ (has cmp xs t && has cmp ys t)
+
+    -- s has what xs has and ys lacks
+    abbrev pub IsDifference : List T → Type 0
+    IsDifference s = (t : T) → has cmp s t ≡ (has cmp xs t && not (has cmp ys t))

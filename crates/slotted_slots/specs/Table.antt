@@ -1,8 +1,9 @@
 -- The table of slots: what a text names in it, which slots it knows, and how a slot prints.
-use Rattle.std.specs.Prelude.{◌≡◌, ℕ, ◌+◌, ◌*◌, ◌/◌, ◌%◌, ◌^◌, ◌<◌, ◌≤◌, Bool, true, false, ◌&&◌, List, [], ◌∷◌, ◌++◌, length, max, not, Option, Some, None, if◌then◌else◌, ◌==◌, nat_lt, position, slice_get, slice_index_or, IsTrue, decimal, codes}
+use Rattle.std.specs.Prelude.{◌≡◌, ℕ, zero, suc, ◌+◌, ◌*◌, ◌/◌, ◌%◌, ◌^◌, ◌<◌, ◌≤◌, Bool, true, false, ◌&&◌, List, [], ◌∷◌, ◌++◌, length, max, not, Option, Some, None, if◌then◌else◌, ◌==◌, nat_lt, position, slice_get, slice_index_or, IsTrue, decimal, codes}
 use Rattle.std.specs.List.{filter}
 use Rattle.std.specs.Str.{bytes_eq, all_ascii_digits}
 use Rattle.std.specs.Str.Parse.{digits_value, without_leading_plus}
+use Rattle.slotted_slots.specs.Maps.{is_among, IsInEither}
 
 -- the index of the next fresh slot, and the names that are kept, in the order of their places
 pub record Table : Type 0 where
@@ -67,11 +68,11 @@ pub data NamedOutcome : Type 0 where
 
 -- a numeric slot
 abbrev pub numeric_outcome : Table → ℕ → NamedOutcome
-numeric_outcome t n = if nat_lt n (2 ^ 30) then gives (numeric_slot n) t else too_large
+numeric_outcome t n = if nat_lt n slot_limit then gives (numeric_slot n) t else too_large
 
 -- a fresh slot, which is used from now on
 abbrev pub fresh_outcome : Table → ℕ → NamedOutcome
-fresh_outcome t n = if nat_lt n (2 ^ 30) then gives (fresh_slot n) (record t { fresh = max t.fresh (n + 1) }) else too_large
+fresh_outcome t n = if nat_lt n slot_limit then gives (fresh_slot n) (record t { fresh = max t.fresh (n + 1) }) else too_large
 
 -- the place of a kept name
 abbrev pub place_of : List (List ℕ) → List ℕ → Option ℕ
@@ -80,12 +81,20 @@ place_of names bs = position (bytes_eq bs) names
 -- the slot of a word that is kept at place i, or that is kept from now on
 abbrev pub word_outcome : Table → List ℕ → Option ℕ → NamedOutcome
 word_outcome t bs (Some i) = gives (name_slot i) t
-word_outcome t bs None = if nat_lt (length t.names) (2 ^ 30) then gives (name_slot (length t.names)) (record t { names = t.names ++ bs ∷ [] }) else no_place
+word_outcome t bs None = if nat_lt (length t.names) slot_limit then gives (name_slot (length t.names)) (record t { names = t.names ++ bs ∷ [] }) else no_place
+
+-- the slot of a word, which is kept from now on
+abbrev pub kept_outcome : Table → List ℕ → NamedOutcome
+kept_outcome t bs = word_outcome t bs (place_of t.names bs)
 
 abbrev pub outcome_of : Table → List ℕ → Reading → NamedOutcome
 outcome_of t bs (as_number n) = numeric_outcome t n
 outcome_of t bs (as_fresh n) = fresh_outcome t n
-outcome_of t bs as_word = word_outcome t bs (place_of t.names bs)
+outcome_of t bs as_word = kept_outcome t bs
+
+-- the text is a word that is not kept yet
+abbrev pub IsNewName : Table → List ℕ → Type 0
+IsNewName t bs = (reading_of bs ≡ as_word) × (place_of t.names bs ≡ None)
 
 -- what `named` does at a text
 unfoldable pub named_of : Table → List ℕ → NamedOutcome
@@ -103,17 +112,26 @@ KnowsMore old new = (s : ℕ) → IsTrue (is_known old s) → IsTrue (is_known n
 abbrev pub Takes : Table → Table → (ℕ → Type 0) → Type 0
 Takes old new these = (z : ℕ) → is_known new z ≡ true → is_known old z ≡ false → these z
 
+-- each such slot is one of xs or of ys
+abbrev pub TakesAmong : Table → Table → List ℕ → List ℕ → Type 0
+TakesAmong old new xs ys = Takes old new (IsInEither xs ys)
+
 -- those of the names that the table does not know, each as often as it stands
 abbrev pub unknown_names : Table → List ℕ → List ℕ
 unknown_names t xs = filter (λ x. not (is_known t x)) xs
 
--- at most n slots were made, and those of the names at hand that the table did not know, which are passed over
-abbrev pub TakesAtMost : ℕ → List ℕ → Table → Table → Type 0
-TakesAtMost n xs old new = new.fresh ≤ old.fresh + (n + length (unknown_names old xs))
+-- how many of the first k fresh slots are none of the names xs
+unfoldable pub slots_beside : List ℕ → ℕ → ℕ
+slots_beside xs zero = 0
+slots_beside xs (suc k) = if is_among (fresh_slot k) xs then slots_beside xs k else suc (slots_beside xs k)
 
--- n slots, and those of the names at hand that the table does not know, are more than are left
+-- of the fresh slots that were made, at most n are none of the names at hand
+abbrev pub TakesAtMost : ℕ → List ℕ → Table → Table → Type 0
+TakesAtMost n xs old new = slots_beside xs new.fresh ≤ slots_beside xs old.fresh + n
+
+-- of the fresh slots that are left, fewer than n are none of the names at hand
 abbrev pub LacksSlots : ℕ → List ℕ → Table → Type 0
-LacksSlots n xs t = slot_limit < t.fresh + (n + length (unknown_names t xs))
+LacksSlots n xs t = slots_beside xs slot_limit < slots_beside xs t.fresh + n
 
 -- the text, or a question mark
 abbrev pub text_or_mark : Option (List ℕ) → List ℕ
@@ -123,6 +141,10 @@ text_or_mark None = codes "?"
 -- what a slot prints
 unfoldable pub shown_slot : Table → ℕ → List ℕ
 shown_slot t s = codes "$" ++ (if s % 4 == 0 then decimal (s / 4) else (if s % 4 == 1 then codes "f" ++ decimal (s / 4) else (if s % 4 == 2 then text_or_mark (slice_get t.names (s / 4)) else codes "?")))
+
+-- where the text is a word, the slot prints it
+abbrev pub PrintsWord : Table → List ℕ → ℕ → Type 0
+PrintsWord t bs s = reading_of bs ≡ as_word → shown_slot t s ≡ codes "$" ++ bs
 
 -- the slot is read back from what it prints, and the table stays
 abbrev pub ReadsBack : Table → ℕ → Type 0
@@ -138,7 +160,7 @@ AllWords names = (i : ℕ) → i < length names → reading_of (slice_index_or n
 
 -- what holds of each table
 pub record IsTable (t : Table) : Type 0 where
-  pub fresh_fits : t.fresh ≤ 2 ^ 30
-  pub names_fit : length t.names ≤ 2 ^ 30
+  pub fresh_fits : t.fresh ≤ slot_limit
+  pub names_fit : length t.names ≤ slot_limit
   pub finds_each : FindsEach t.names
   pub all_words : AllWords t.names

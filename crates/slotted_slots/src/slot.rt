@@ -5,7 +5,7 @@ ghost use Rattle.std.specs.Prelude.{◌≡◌, ℕ, ◌+◌, ◌^◌, ◌<◌, �
 ghost use Rattle.std.specs.Fmt.{DisplaysOnOk};
 ghost use Rattle.std.specs.Option.{option_copied};
 ghost use Rattle.slotted_slots.specs.Naming.{IsNamingRefusal, Follows};
-ghost use Rattle.slotted_slots.specs.Table.{Table, empty_table, numeric_slot, fresh_slot, reads_u32, reads_fresh, named_of, fresh_outcome, word_outcome, place_of, reading_of, as_word, gives, too_large, no_place, is_known, KnowsMore, IsTable, ReadsBack, shown_slot};
+ghost use Rattle.slotted_slots.specs.Table.{Table, empty_table, numeric_slot, fresh_slot, reads_u32, reads_fresh, named_of, fresh_outcome, word_outcome, place_of, reading_of, as_word, gives, too_large, no_place, is_known, KnowsMore, IsTable, ReadsBack, shown_slot, slot_limit, kept_outcome, IsNewName, PrintsWord};
 
 use crate::Error;
 use indexmap::IndexSet;
@@ -40,7 +40,7 @@ impl Slot {
 
     /// The numeric slot `$n`, where the number is known to be small. For the crates of this repository: a user asks the table.
     pub const fn numeric_at(n: u32) -> Slot
-        requires { n < 2 ^ 30 }
+        requires { n < slot_limit }
         ensures { result ≡ numeric_slot n }
     {
         Slot(4 * n)
@@ -87,7 +87,7 @@ impl SlotTable {
         ensures known { IfOk result (λ s. IsTrue (is_known self.new s)) }
         ensures more { KnowsMore self.old self.new }
 
-        ensures full { IsErrOf result Error.OutOfSlots ↔ (self.old.fresh ≡ 2 ^ 30) }
+        ensures full { IsErrOf result Error.OutOfSlots ↔ (self.old.fresh ≡ slot_limit) }
         ensures only { IsOkUnless result Error.OutOfSlots }
         ensures err { OnErr result (self.new ≡ self.old) }
         ensures table { IsTable self.new }
@@ -104,7 +104,7 @@ impl SlotTable {
     pub fn numeric(&self, u: u32) -> Result<Slot, Error>
         ensures slot { IfOk result (λ s. s ≡ numeric_slot u) }
         ensures known { IfOk result (λ s. IsTrue (is_known self.now s)) }
-        ensures large { IsErrOf result Error.NumberTooLarge ↔ (2 ^ 30 ≤ u) }
+        ensures large { IsErrOf result Error.NumberTooLarge ↔ (slot_limit ≤ u) }
         ensures only { IsOkUnless result Error.NumberTooLarge }
         ensures table { IsTable self.now }
     {
@@ -123,7 +123,7 @@ impl SlotTable {
         ensures large { IsErrOf result Error.NumberTooLarge ↔ (named_of self.old s.now ≡ too_large) }
         ensures full { IsErrOf result Error.OutOfSlots ↔ (named_of self.old s.now ≡ no_place) }
         ensures only { IfErr result IsNamingRefusal }
-        ensures memory { IsErrOf result Error.OutOfMemory → (reading_of s.now ≡ as_word) × (place_of self.old.names s.now ≡ None) }
+        ensures memory { IsErrOf result Error.OutOfMemory → IsNewName self.old s.now }
         ensures err { OnErr result (self.new ≡ self.old) }
 
         // The slot is known from now on, as is all that was known.
@@ -132,7 +132,7 @@ impl SlotTable {
         ensures table { IsTable self.new }
 
         // A name prints as it was given.
-        ensures shown { IfOk result (λ slot. reading_of s.now ≡ as_word → shown_slot self.new slot ≡ codes "$" ++ s.now) }
+        ensures shown { IfOk result (PrintsWord self.new s.now) }
     {
         self.make_named(s)
     }
@@ -167,7 +167,7 @@ impl SlotTable {
     // What `named` does, as one fact.
     fn make_named(&mut self, s: &str) -> Result<Slot, Error>
         ensures follows { Follows (named_of self.old s.now) self.old self.new result }
-        ensures memory { IsErrOf result Error.OutOfMemory → (reading_of s.now ≡ as_word) × (place_of self.old.names s.now ≡ None) }
+        ensures memory { IsErrOf result Error.OutOfMemory → IsNewName self.old s.now }
         ensures table { IsTable self.new }
     {
         match read_u32(s) {
@@ -196,7 +196,7 @@ impl SlotTable {
     // The slot of a name, which is kept from now on.
     fn keep_name(&mut self, s: &str) -> Result<Slot, Error>
         requires { reading_of s.now ≡ as_word }
-        ensures follows { Follows (word_outcome self.old s.now (place_of self.old.names s.now)) self.old self.new result }
+        ensures follows { Follows (kept_outcome self.old s.now) self.old self.new result }
         ensures memory { IsErrOf result Error.OutOfMemory → place_of self.old.names s.now ≡ None }
         ensures table { IsTable self.new }
     {

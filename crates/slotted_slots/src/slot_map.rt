@@ -6,9 +6,9 @@ ghost use Rattle.std.specs.Cmp.Lexicographic.{pointwise, slice_cmp, slice_partia
 ghost use Rattle.std.proofs.Common.{rules};
 ghost use Rattle.std.specs.Cmp.Rules.{comparing};
 ghost use Rattle.std.specs.Hash as fed;
-ghost use Rattle.std.specs.Hash.{items_Alike};
 ghost use Rattle.slotted_slots.specs.Ascending.{IsAscending};
 ghost use Rattle.slotted_slots.specs.Error.{IsOutOfMemory};
+ghost use Rattle.slotted_slots.specs.Hashing.{lists_alike};
 ghost use Rattle.slotted_slots.specs.Maps.{IsAt, IsGapFor, value_of, with_value_at, with_pair, without_key, map_of, turned, doubled, composed, is_among, all_differ, values, keys, IsInverse};
 ghost use Rattle.slotted_slots.specs.Sets.{set_of};
 
@@ -348,7 +348,7 @@ impl Ord for SlotMap {
 impl Hash for SlotMap {
     ghost hash_input = { fed.slice ⟦<(Slot, Slot) as Hash>⟧.hash_input };
 
-    ghost respects_eq = { (items_Alike {E = ⟦<(Slot, Slot) as PartialEq>⟧.eq} {F = ⟦<(Slot, Slot) as Hash>⟧.hash_input} (record { fed = Prim.search rules })).fed };
+    ghost respects_eq = { lists_alike ⟦<(Slot, Slot) as Hash>⟧.hash_input (Prim.search rules) };
 
     fn hash<H: Hasher>(&self, state: &mut H) {
         self.pairs.hash(state);

@@ -1,12 +1,12 @@
 //! Ids of classes, and ids that are applied to slots.
-ghost use Rattle.std.specs.Prelude.{◌≡◌, ◌<◌, ◌^◌, ◌++◌, ℕ, [], Some, length, codes, decimal, IsTrue, IfOk, IfErr, IsErrOf};
+ghost use Rattle.std.specs.Prelude.{◌≡◌, ◌<◌, ◌++◌, ℕ, [], Some, length, codes, decimal, IsTrue, IfOk, IfErr, IsErrOf};
 ghost use Rattle.std.specs.Ordering.{nat_cmp};
-ghost use Rattle.slotted_slots.specs.Combining.{IsCompleted};
+ghost use Rattle.slotted_slots.specs.Combining.{both_values, IsCompleted, TakesToComplete, LacksToComplete};
 ghost use Rattle.slotted_slots.specs.Error.{IsOutOfMemory, IsShortage};
-ghost use Rattle.slotted_slots.specs.Maps.{IsInEither, KnowsAll, is_among, all_differ, composed, keys, values, with_value_at};
+ghost use Rattle.slotted_slots.specs.Maps.{KnowsAll, is_among, all_differ, composed, keys, values, with_value_at};
 ghost use Rattle.slotted_slots.specs.Sets.{set_of};
 ghost use Rattle.slotted_slots.specs.Shown.{shown_applied};
-ghost use Rattle.slotted_slots.specs.Table.{KnowsMore, Takes};
+ghost use Rattle.slotted_slots.specs.Table.{KnowsMore, TakesAmong, slot_limit};
 
 use crate::{Error, Show, Slot, SlotMap, SlotTable, SmallHashSet};
 use std::alloc::Global;
@@ -89,10 +89,14 @@ impl AppliedId {
         ensures injective { IfOk result (λ a. IsTrue (all_differ (values a.m))) }
 
         // The table went on to make slots, and is else as it was. What it knows in addition is a value of one of the three maps.
-        ensures taken { IfOk result (λ a. Takes table.old table.new (IsInEither (values a.m) (values self.now.m ++ values m.now))) }
+        ensures taken { IfOk result (λ a. TakesAmong table.old table.new (values a.m) (both_values self.now.m m.now)) }
+
+        // Also where it refuses, it makes a slot at most for each that `m` lacks.
+        ensures count { TakesToComplete self.now.m m.now table.old table.new }
         ensures names { table.new.names ≡ table.old.names }
         ensures more { KnowsMore table.old table.new }
-        ensures full { IsErrOf result Error.OutOfSlots → table.new.fresh ≡ 2 ^ 30 }
+        ensures full { IsErrOf result Error.OutOfSlots → LacksToComplete self.now.m m.now table.old }
+        ensures end { IsErrOf result Error.OutOfSlots → table.new.fresh ≡ slot_limit }
         ensures only { IfErr result IsShortage }
     {
         let completed = self.m.compose_fresh(alloc, m, table)?;

@@ -1,11 +1,11 @@
 //! Slot maps put together, completed by fresh slots, and those that turn a set round.
-ghost use Rattle.std.specs.Prelude.{◌≡◌, ℕ, ◌^◌, [], ◌∷◌, ◌++◌, IsTrue, ◌↔◌, is_some, IsSome, IfSome, IfOk, IfErr, IsErrOf};
+ghost use Rattle.std.specs.Prelude.{◌≡◌, ℕ, [], ◌∷◌, length, IsTrue, ◌↔◌, is_some, IsSome, IfSome, IfOk, IfErr, OnErr, IsErrOf, IsOkUnless};
 ghost use Rattle.std.specs.List.{list_all};
 ghost use Rattle.slotted_slots.specs.Ascending.{IsAscending};
-ghost use Rattle.slotted_slots.specs.Combining.{HaveTheSame, Agree, agrees_with, joined, either_value, IsFreshFrom, IsFilled, IsNew, IsCompleted};
+ghost use Rattle.slotted_slots.specs.Combining.{HaveTheSame, Agree, agrees_with, joined, HasEitherValue, both_values, TakesForLacked, LacksForLacked, TakesToComplete, LacksToComplete, IsFreshFrom, IsValueOrMade, IsNew, IsCompleted};
 ghost use Rattle.slotted_slots.specs.Error.{IsOutOfMemory, IsShortage};
-ghost use Rattle.slotted_slots.specs.Maps.{IsInEither, value_of, composed, is_among, all_differ, keys, values};
-ghost use Rattle.slotted_slots.specs.Table.{KnowsMore, Takes};
+ghost use Rattle.slotted_slots.specs.Maps.{value_of, composed, is_among, keys, values, HasDifferentValues};
+ghost use Rattle.slotted_slots.specs.Table.{KnowsMore, TakesAmong, TakesAtMost, LacksSlots, slot_limit};
 
 use super::{SlotMap, has_value};
 use crate::{Error, Slot, SlotTable, SmallHashSet};
@@ -27,7 +27,7 @@ impl SlotMap {
     pub fn union(&self, alloc: Global, other: &SlotMap) -> Result<SlotMap, Error>
         requires { Agree self.now other.now }
         ensures ok { IfOk result (λ m. m ≡ joined self.now other.now) }
-        ensures values { IfOk result (λ m. (k : ℕ) → value_of m k ≡ either_value (value_of self.now k) (value_of other.now k)) }
+        ensures values { IfOk result (HasEitherValue self.now other.now) }
         ensures memory { IfErr result IsOutOfMemory }
     {
         let mut union = self.copy(alloc)?;
@@ -59,13 +59,17 @@ impl SlotMap {
         table: &mut SlotTable,
     ) -> Result<SlotMap, Error>
         ensures completed { IfOk result (IsCompleted table.old table.new self.now other.now) }
-        ensures injective { IsTrue (all_differ (values (composed self.now other.now))) → IfOk result (λ m. IsTrue (all_differ (values m))) }
+        ensures injective { HasDifferentValues (composed self.now other.now) → IfOk result HasDifferentValues }
 
         // The table went on to make slots, and is else as it was. What it knows in addition is a value of one of the three maps.
-        ensures taken { IfOk result (λ m. Takes table.old table.new (IsInEither (values m) (values self.now ++ values other.now))) }
+        ensures taken { IfOk result (λ m. TakesAmong table.old table.new (values m) (both_values self.now other.now)) }
+
+        // Also where it refuses, it makes a slot at most for each value that the other map lacks.
+        ensures count { TakesToComplete self.now other.now table.old table.new }
         ensures names { table.new.names ≡ table.old.names }
         ensures more { KnowsMore table.old table.new }
-        ensures full { IsErrOf result Error.OutOfSlots → table.new.fresh ≡ 2 ^ 30 }
+        ensures full { IsErrOf result Error.OutOfSlots → LacksToComplete self.now other.now table.old }
+        ensures end { IsErrOf result Error.OutOfSlots → table.new.fresh ≡ slot_limit }
         ensures only { IfErr result IsShortage }
     {
         let mut pairs = SmallVec::new(alloc);
@@ -86,10 +90,14 @@ impl SlotMap {
         ensures made { IfOk result (λ m. (s : ℕ) → IsTrue (is_among s (keys m)) → IsNew table.old table.new set.now s) }
 
         // The table went on to make slots, and is else as it was. What it knows in addition is a key, or was in the set.
-        ensures taken { IfOk result (λ m. Takes table.old table.new (IsInEither (keys m) set.now)) }
+        ensures taken { IfOk result (λ m. TakesAmong table.old table.new (keys m) set.now) }
+
+        // Also where it refuses, it makes a slot at most for each of the set.
+        ensures count { TakesAtMost (length set.now) set.now table.old table.new }
         ensures names { table.new.names ≡ table.old.names }
         ensures more { KnowsMore table.old table.new }
-        ensures full { IsErrOf result Error.OutOfSlots → table.new.fresh ≡ 2 ^ 30 }
+        ensures full { IsErrOf result Error.OutOfSlots → LacksSlots (length set.now) set.now table.old }
+        ensures end { IsErrOf result Error.OutOfSlots → table.new.fresh ≡ slot_limit }
         ensures only { IfErr result IsShortage }
     {
         let mut pairs = SmallVec::new(alloc);
@@ -153,9 +161,12 @@ fn value_or_fresh(
     k: Slot,
     table: &mut SlotTable,
 ) -> Result<Slot, Error>
-    ensures value { IfOk result (IsFilled table.old.fresh table.new.fresh (values first.now ++ values second.now) (value_of second.now k)) }
-    ensures taken { IfOk result (λ s. Takes table.old table.new (IsInEither (s ∷ []) (values first.now ++ values second.now))) }
-    ensures full { IfErr result (λ e. (e ≡ Error.OutOfSlots) × (table.new.fresh ≡ 2 ^ 30)) }
+    ensures value { IfOk result (IsValueOrMade table.old table.new first.now second.now k) }
+    ensures taken { IfOk result (λ s. TakesAmong table.old table.new (s ∷ []) (both_values first.now second.now)) }
+    ensures count { TakesForLacked second.now (k ∷ []) (both_values first.now second.now) table.old table.new }
+    ensures full { OnErr result (LacksForLacked second.now (k ∷ []) (both_values first.now second.now) table.old) }
+    ensures end { OnErr result (table.new.fresh ≡ slot_limit) }
+    ensures only { IsOkUnless result Error.OutOfSlots }
     ensures names { table.new.names ≡ table.old.names }
     ensures more { KnowsMore table.old table.new }
 {
@@ -171,9 +182,12 @@ fn fresh_apart(
     second: &[(Slot, Slot)],
     table: &mut SlotTable,
 ) -> Result<Slot, Error>
-    ensures slot { IfOk result (IsFreshFrom table.old.fresh table.new.fresh (values first.now ++ values second.now)) }
-    ensures taken { IfOk result (λ s. Takes table.old table.new (IsInEither (s ∷ []) (values first.now ++ values second.now))) }
-    ensures full { IfErr result (λ e. (e ≡ Error.OutOfSlots) × (table.new.fresh ≡ 2 ^ 30)) }
+    ensures slot { IfOk result (IsFreshFrom table.old.fresh table.new.fresh (both_values first.now second.now)) }
+    ensures taken { IfOk result (λ s. TakesAmong table.old table.new (s ∷ []) (both_values first.now second.now)) }
+    ensures count { TakesAtMost 1 (both_values first.now second.now) table.old table.new }
+    ensures full { OnErr result (LacksSlots 1 (both_values first.now second.now) table.old) }
+    ensures end { OnErr result (table.new.fresh ≡ slot_limit) }
+    ensures only { IsOkUnless result Error.OutOfSlots }
     ensures names { table.new.names ≡ table.old.names }
     ensures more { KnowsMore table.old table.new }
 {
@@ -188,8 +202,11 @@ fn fresh_apart(
 // A fresh slot that is not in the set.
 fn fresh_outside(set: &SmallHashSet<Slot>, table: &mut SlotTable) -> Result<Slot, Error>
     ensures slot { IfOk result (IsFreshFrom table.old.fresh table.new.fresh set.now) }
-    ensures taken { IfOk result (λ s. Takes table.old table.new (IsInEither (s ∷ []) set.now)) }
-    ensures full { IfErr result (λ e. (e ≡ Error.OutOfSlots) × (table.new.fresh ≡ 2 ^ 30)) }
+    ensures taken { IfOk result (λ s. TakesAmong table.old table.new (s ∷ []) set.now) }
+    ensures count { TakesAtMost 1 set.now table.old table.new }
+    ensures full { OnErr result (LacksSlots 1 set.now table.old) }
+    ensures end { OnErr result (table.new.fresh ≡ slot_limit) }
+    ensures only { IsOkUnless result Error.OutOfSlots }
     ensures names { table.new.names ≡ table.old.names }
     ensures more { KnowsMore table.old table.new }
 {

@@ -1,7 +1,8 @@
 //! Slot maps to and from lists, arrays and iterators.
-ghost use Rattle.std.specs.Prelude.{◌≡◌, ℕ, List, IfOk, IfErr};
-ghost use Rattle.std.specs.Iterator.{Drains, IsFinite, YieldsFirst, item_count};
+ghost use Rattle.std.specs.Prelude.{◌≡◌, IfOk, IfErr};
+ghost use Rattle.std.specs.Iterator.{YieldsFirst, item_count};
 ghost use Rattle.slotted_slots.specs.Error.{IsOutOfMemory};
+ghost use Rattle.slotted_slots.specs.Iterating.{EachIteratorEnds, IsMapOfItems};
 ghost use Rattle.slotted_slots.specs.Maps.{map_of, keys, values};
 
 use super::SlotMap;
@@ -26,8 +27,8 @@ impl SlotMap {
         alloc: Global,
         pairs: U,
     ) -> Result<SlotMap, Error>
-        requires { (it : U.IntoIter) → U.into_iter_gives pairs it → U.IntoIter.can_next it × IsFinite (U.IntoIter.remaining it) }
-        ensures ok { IfOk result (λ m. (it : U.IntoIter) × (given : List (ℕ × ℕ)) × U.into_iter_gives pairs it × Drains U.IntoIter.next_gives it given × (m ≡ map_of given)) }
+        requires { EachIteratorEnds U.into_iter_gives U.IntoIter.can_next U.IntoIter.remaining pairs }
+        ensures ok { IfOk result (IsMapOfItems U.into_iter_gives U.IntoIter.next_gives pairs) }
         ensures memory { IfErr result IsOutOfMemory }
     {
         let mut map = SlotMap::new(alloc);

@@ -1,9 +1,8 @@
 //! Small sets beside each other: parts, unions, what they share, what one has alone.
-ghost use Rattle.std.specs.Prelude.{◌≡◌, ◌↔◌, ◌&&◌, ◌||◌, not, IsTrue, IfOk, IfErr};
+ghost use Rattle.std.specs.Prelude.{◌≡◌, ◌↔◌, IsTrue, IfOk, IfErr};
 ghost use Rattle.std.specs.List.Sorted.{IsStrictlySortedBy};
 ghost use Rattle.slotted_slots.specs.Error.{IsOutOfMemory};
-ghost use Rattle.slotted_slots.specs.Sets.{has};
-ghost use Rattle.slotted_slots.specs.SetAlgebra.{IsWithin, AreApart, united, shared, remaining};
+ghost use Rattle.slotted_slots.specs.SetAlgebra.{IsWithin, AreApart, united, shared, remaining, IsUnion, IsIntersection, IsDifference};
 
 use super::SmallHashSet;
 use crate::Error;
@@ -48,7 +47,7 @@ impl<T: Ord + Copy + MadeWith<Global> + Drop> SmallHashSet<T> {
     /// The elements of both sets; of two that compare equal, that of this one.
     pub fn union(&self, alloc: Global, other: &SmallHashSet<T>) -> Result<SmallHashSet<T>, Error>
         ensures ok { IfOk result (λ s. s ≡ united T.cmp self.now other.now) }
-        ensures members { IfOk result (λ s. (t : T) → has T.cmp s t ≡ (has T.cmp self.now t || has T.cmp other.now t)) }
+        ensures members { IfOk result (IsUnion T.cmp self.now other.now) }
         ensures memory { IfErr result IsOutOfMemory }
     {
         let items = SmallVec::from_slice(alloc, self.items.as_slice())?;
@@ -66,7 +65,7 @@ impl<T: Ord + Copy + MadeWith<Global> + Drop> SmallHashSet<T> {
         other: &SmallHashSet<T>,
     ) -> Result<SmallHashSet<T>, Error>
         ensures ok { IfOk result (λ s. s ≡ shared T.cmp self.now other.now) }
-        ensures members { IfOk result (λ s. (t : T) → has T.cmp s t ≡ (has T.cmp self.now t && has T.cmp other.now t)) }
+        ensures members { IfOk result (IsIntersection T.cmp self.now other.now) }
         ensures memory { IfErr result IsOutOfMemory }
     {
         let mut items = SmallVec::new(alloc);
@@ -86,7 +85,7 @@ impl<T: Ord + Copy + MadeWith<Global> + Drop> SmallHashSet<T> {
         other: &SmallHashSet<T>,
     ) -> Result<SmallHashSet<T>, Error>
         ensures ok { IfOk result (λ s. s ≡ remaining T.cmp self.now other.now) }
-        ensures members { IfOk result (λ s. (t : T) → has T.cmp s t ≡ (has T.cmp self.now t && not (has T.cmp other.now t))) }
+        ensures members { IfOk result (IsDifference T.cmp self.now other.now) }
         ensures memory { IfErr result IsOutOfMemory }
     {
         let mut items = SmallVec::new(alloc);

@@ -1,10 +1,10 @@
 -- The loop puts a fresh slot to each element from the left.
-use Rattle.std.proofs.Common.{[], ◌∷◌, take, subst, sym, ◌∙◌}
+use Rattle.std.proofs.Common.{[], ◌∷◌, take, subst, sym, arith, ◌∙◌}
 use Rattle.slotted_slots.specs.Combining.{IsFreshFrom, IsNew}
 use Rattle.slotted_slots.specs.Maps.{IsInEither, keys}
 use Rattle.slotted_slots.proofs.FreshLaws.{IsNew-from_fresh, IsAscending-filled, fresh_among, from_fresh_step}
 use Rattle.slotted_slots.proofs.Taken.{takes_key}
-use Rattle.slotted_slots.specs.Table.{Takes}
+use Rattle.slotted_slots.specs.Table.{Takes, TakesAtMost}
 use Rattle.slotted_slots.proofs.slot_map.SlotMap.bijection_from_fresh_to.Goals as goal
 
 pub loop-slot-preserved : goal.loop-slot-preserved
@@ -14,9 +14,11 @@ loop-slot-preserved c =
     let last = subst (λ used. IsFreshFrom c.loop-slot.table.fresh c.fresh_outside.new.table.fresh used c.in_ok-key.key) (sym c.as_slice-slot-items.ensures.elements) c.in_ok-key.ensures.slot in
     let step = from_fresh_step xs c.args.table.now.fresh c.loop-slot.table.fresh c.fresh_outside.new.table.fresh xs c.loop-slot.pairs.items c.push.new.self.items c.loop-slot.slot-index x c.in_ok-key.key
     c.loop-slot-test.true c.slot-item.is c.in_ok-push.ensures.ok c.loop-slot.invariant.values c.loop-slot.invariant.keys last in
+    let counted = subst (λ used. TakesAtMost 1 used c.loop-slot.table c.fresh_outside.new.table) (sym c.as_slice-slot-items.ensures.elements) c.in_ok-key.ensures.count in
     record {
       taken = takes_key c.args.table.now c.loop-slot.table c.fresh_outside.new.table xs c.loop-slot.pairs.items c.push.new.self.items (c.in_ok-key.key, x) c.in_ok-push.ensures.ok c.loop-slot.invariant.taken
           (subst (λ used. Takes c.loop-slot.table c.fresh_outside.new.table (IsInEither (c.in_ok-key.key ∷ []) used)) (sym c.as_slice-slot-items.ensures.elements) c.in_ok-key.ensures.taken);
+      count = omega (arith, c.loop-slot.invariant.count, counted);
       keys = step.keys;
       values = step.values;
       names = c.in_ok-key.ensures.names ∙ c.loop-slot.invariant.names;
