@@ -4,7 +4,7 @@ use Rattle.std.specs.Prelude.{◌⊎◌, Contains}
 use Rattle.std.proofs.lemmas.Bool.{cases_Bool, and_parts, and_from, true≢false, not-true}
 use Rattle.slotted_theory.specs.FiniteMaps.{IsInjectiveMap}
 use Rattle.slotted_slots.specs.Ascending.{IsAscending}
-use Rattle.slotted_slots.specs.Combining.{IsCompleted}
+use Rattle.slotted_slots.specs.Combining.{IsCompleted, TakesForLacked, LacksForLacked, TakesToComplete, LacksToComplete}
 use Rattle.slotted_slots.specs.Maps.{IsInEither, keys, values, value_of, is_among, all_differ, composed, doubled, with_first}
 use Rattle.slotted_slots.specs.Table.{Table, Takes, is_known}
 use Rattle.slotted_slots.proofs.Ascending.{is_among-set_of, IsAscending-set_of}
@@ -15,7 +15,7 @@ use Rattle.slotted_slots.proofs.Taken.{takes_as, among_first}
 use Rattle.slotted_model.proofs.Correspondences.FullMaps.{at_HasValue, keys-in_order}
 use Rattle.slotted_model.proofs.Correspondences.PartialInjections.{value_of-in_order}
 use Rattle.slotted_proofs.specs.declared.equation.Equation.{Equation as Sides}
-use Rattle.slotted_proofs.specs.Fresh.{names_of, side_names, AreKnownOr, StaysInjective, TakesFor}
+use Rattle.slotted_proofs.specs.Fresh.{names_of, side_names, AreKnownOr, StaysInjective, TakesFor, TakesToSend, LacksToSend}
 use Rattle.slotted_proofs.proofs.Bridges.{among_is, injective_differ, differ_injective, value_of-model, slots-once}
 
 -- each of the numbers has itself
@@ -198,3 +198,9 @@ module _ (old new : Table) (e : Sides) (m own : List (ℕ × ℕ)) (is_own : own
           | inr sent_by ↦ inr (among_second (side_names e) (values m) z sent_by)
         ]
       ])
+
+  pub takes_to_send : TakesToComplete own m old new → TakesToSend e m old new
+  takes_to_send count = subst (λ xs. TakesForLacked m xs (xs ++ values m) old new) its_values count
+
+  pub lacks_to_send : LacksToComplete own m old → LacksToSend e m old
+  lacks_to_send lacks = subst (λ xs. LacksForLacked m xs (xs ++ values m) old) its_values lacks

@@ -1,11 +1,11 @@
 -- Equations whose names are sent on by a map, and become fresh slots where the map lacks them.
-use Rattle.std.specs.Prelude.{◌≡◌, ◌⊎◌, ℕ, List, ◌++◌, IsTrue, true}
+use Rattle.std.specs.Prelude.{◌≡◌, ◌⊎◌, ℕ, List, ◌++◌, true}
 use Rattle.std.specs.Ordering.{nat_cmp}
 use Rattle.slotted_theory.specs.FiniteMaps.{IsInjectiveMap}
-use Rattle.slotted_slots.specs.Combining.{IsCompleted}
-use Rattle.slotted_slots.specs.Maps.{IsInEither, all_differ, composed, doubled, is_among, values}
+use Rattle.slotted_slots.specs.Combining.{IsCompleted, TakesForLacked, LacksForLacked}
+use Rattle.slotted_slots.specs.Maps.{HasDifferentValues, composed, doubled, is_among, values}
 use Rattle.slotted_slots.specs.Sets.{set_of}
-use Rattle.slotted_slots.specs.Table.{Table, Takes, is_known}
+use Rattle.slotted_slots.specs.Table.{Table, TakesAmong, is_known}
 use Rattle.slotted_proofs.specs.declared.equation.Equation.{Equation as Sides}
 use Rattle.slotted_proofs.specs.Equations.{to_applied}
 
@@ -26,7 +26,7 @@ pub record IsSentOn (old new : Table) (m : List (ℕ × ℕ)) (e s : Sides) : Ty
 
 -- the side has a name of its own for each slot, and m keeps apart those that it knows
 abbrev pub StaysInjective : List (ℕ × ℕ) → List (ℕ × ℕ) → Type 0
-StaysInjective a m = IsInjectiveMap a × IsTrue (all_differ (values (composed a m)))
+StaysInjective a m = IsInjectiveMap a × HasDifferentValues (composed a m)
 
 -- each of the names is known to the table, or one of these
 abbrev pub AreKnownOr : Table → List ℕ → List ℕ → Type 0
@@ -34,4 +34,12 @@ AreKnownOr t these xs = (z : ℕ) → is_among z xs ≡ true → (is_known t z �
 
 -- what the table knows in addition is one of these, or a name of the equation or of the map
 abbrev pub TakesFor : Table → Table → Sides → List (ℕ × ℕ) → List ℕ → Type 0
-TakesFor old new e m these = Takes old new (IsInEither these (side_names e ++ values m))
+TakesFor old new e m these = TakesAmong old new these (side_names e ++ values m)
+
+-- a slot was made at most for each name of the equation that m lacks, beside the names of both
+abbrev pub TakesToSend : Sides → List (ℕ × ℕ) → Table → Table → Type 0
+TakesToSend e m old new = TakesForLacked m (names_of e) (names_of e ++ values m) old new
+
+-- fewer slots are left than m lacks of the names
+abbrev pub LacksToSend : Sides → List (ℕ × ℕ) → Table → Type 0
+LacksToSend e m t = LacksForLacked m (names_of e) (names_of e ++ values m) t

@@ -1,16 +1,16 @@
 //! Equations of applied ids.
-ghost use Rattle.std.specs.Prelude.{◌≡◌, ◌++◌, ◌↔◌, IsTrue, IfOk, IfErr, IsErrOf};
+ghost use Rattle.std.specs.Prelude.{◌≡◌, ◌++◌, ◌↔◌, IfOk, IfErr, IsErrOf};
 ghost use Rattle.std.specs.Ordering.{nat_cmp};
 ghost use Rattle.slotted_theory.specs.FiniteMaps.{IsInjectiveMap};
 ghost use Rattle.slotted_slots.specs.Combining.{HaveTheSame, IsCompleted};
 ghost use Rattle.slotted_slots.specs.Error.{IsOutOfMemory, IsShortage};
-ghost use Rattle.slotted_slots.specs.Maps.{KnowsAll, all_differ, composed, doubled, values};
+ghost use Rattle.slotted_slots.specs.Maps.{HasDifferentValues, KnowsAll, composed, doubled, values};
 ghost use Rattle.slotted_slots.specs.Sets.{set_of};
 ghost use Rattle.slotted_slots.specs.Table.{KnowsMore, slot_limit};
 ghost use Rattle.slotted_model.specs.Applied.{keys};
 ghost use Rattle.slotted_model.specs.Correspondence.{IsPartialInjection, same_names};
 ghost use Rattle.slotted_proofs.specs.Equations.{to_applied, statement_of, partnered_statement, turned_statement, composite_statement, Meets, IsWritten, HaveManyNames, HasManyNames};
-ghost use Rattle.slotted_proofs.specs.Fresh.{IsSentOn, AreKnownOr, StaysInjective, TakesFor, names_of, side_names};
+ghost use Rattle.slotted_proofs.specs.Fresh.{IsSentOn, AreKnownOr, StaysInjective, TakesFor, TakesToSend, LacksToSend, names_of, side_names};
 
 use crate::numbering::{composite, numbered, numbered_by, shared_names};
 use slotted_slots::{AppliedId, Error, Slot, SlotMap, SlotTable, SmallHashSet};
@@ -54,8 +54,8 @@ impl Equation {
     pub fn apply_slotmap(&self, alloc: Global, m: &SlotMap) -> Result<Equation, Error>
         requires left_known { KnowsAll m.now (values self.now.l.m) }
         requires right_known { KnowsAll m.now (values self.now.r.m) }
-        requires left_apart { IsTrue (all_differ (values (composed self.now.l.m m.now))) }
-        requires right_apart { IsTrue (all_differ (values (composed self.now.r.m m.now))) }
+        requires left_apart { HasDifferentValues (composed self.now.l.m m.now) }
+        requires right_apart { HasDifferentValues (composed self.now.r.m m.now) }
         ensures left { IfOk result (λ e. to_applied e.l ≡ (self.now.l.id.0, composed self.now.l.m m.now)) }
         ensures right { IfOk result (λ e. to_applied e.r ≡ (self.now.r.id.0, composed self.now.r.m m.now)) }
         ensures err { IfErr result IsOutOfMemory }
@@ -84,9 +84,11 @@ impl Equation {
     ) -> Result<SlotMap, Error>
         ensures completed { IfOk result (IsCompleted table.old table.new (doubled (names_of self.now)) m.now) }
         ensures taken { IfOk result (λ names. TakesFor table.old table.new self.now m.now (values names)) }
+        ensures count { TakesToSend self.now m.now table.old table.new }
         ensures names { table.new.names ≡ table.old.names }
         ensures more { KnowsMore table.old table.new }
-        ensures full { IsErrOf result Error.OutOfSlots → table.new.fresh ≡ slot_limit }
+        ensures full { IsErrOf result Error.OutOfSlots → LacksToSend self.now m.now table.old }
+        ensures end { IsErrOf result Error.OutOfSlots → table.new.fresh ≡ slot_limit }
         ensures only { IfErr result IsShortage }
     {
         let own = self.own_names(alloc)?;
@@ -129,9 +131,13 @@ impl Equation {
         // The table went on to make slots, and is else as it was. What it knows in addition is a name of the answer, or one of the
         // equation or of the map.
         ensures taken { IfOk result (λ e. TakesFor table.old table.new self.now m.now (side_names e)) }
+
+        // Also where it refuses, it makes a slot at most for each name that the map lacks.
+        ensures count { TakesToSend self.now m.now table.old table.new }
         ensures names { table.new.names ≡ table.old.names }
         ensures more { KnowsMore table.old table.new }
-        ensures full { IsErrOf result Error.OutOfSlots → table.new.fresh ≡ slot_limit }
+        ensures full { IsErrOf result Error.OutOfSlots → LacksToSend self.now m.now table.old }
+        ensures end { IsErrOf result Error.OutOfSlots → table.new.fresh ≡ slot_limit }
         ensures only { IfErr result IsShortage }
     {
         let names = self.sent_names(alloc, m, table)?;
