@@ -1,11 +1,12 @@
 -- The lines of a proof by a stack: what is on the stack gets its lines in turn, from the top.
-use Rattle.std.proofs.Common.{◌≡◌, ℕ, ◌<◌, ◌≤◌, List, [], ◌∷◌, ◌++◌, length, Option, Some, None, Bool, true, false, cond, refl, sym, ap, ◌∙◌, subst, inl, inr, arith}
+use Rattle.std.proofs.Common.{◌≡◌, ℕ, zero, suc, ◌+◌, ◌<◌, ◌≤◌, List, [], ◌∷◌, ◌++◌, length, reverse, Option, Some, None, IfSome, IfNone, Bool, true, false, cond, refl, sym, ap, ◌∙◌, subst, inl, inr, arith}
 use Rattle.std.specs.Prelude.{Contains, ◌⊎◌, nat_eq, ◌||◌}
-use Rattle.std.proofs.lemmas.Bool.{false≢true, cases_Bool, eqb-true, eq-eqb}
+use Rattle.std.proofs.lemmas.Bool.{false≢true, cases_Bool, cases_eq, eqb-true, eq-eqb}
+use Rattle.std.proofs.lemmas.List.{reverse-append}
 use Rattle.std.proofs.lemmas.List.Elements.{All-contains}
 use Rattle.slotted_theory.proofs.Lists.{contains_head, contains_tail, contains_cases, Contains-nil}
 use Rattle.slotted_proofs.specs.Entries.{Proven}
-use Rattle.slotted_proofs.specs.Lines.{Lines, all, passed, next, PartsAreEarlier, has_line, first_new, parts_at}
+use Rattle.slotted_proofs.specs.Lines.{Lines, all, passed, next, PartsAreEarlier, TakesTurn, has_line, first_new, parts_at}
 
 -- who has a line after one more
 or_right_true : (b : Bool) → (b || true) ≡ true
@@ -172,3 +173,144 @@ module _ (list : List Proven) where
 
   pub lining_ends : (root : ℕ) (lines : List ℕ) → IsLining root lines [] → Lines list [] (root ∷ []) lines
   lining_ends root lines i = i.goes_on lines all
+
+-- how many numbers below n are left out by f
+abbrev missing : (ℕ → Bool) → ℕ → ℕ
+missing f zero = zero
+missing f (suc n) = cond (f n) (missing f n) (suc (missing f n))
+
+-- whoever has more leaves out fewer
+missing-fewer : (f g : ℕ → Bool) (n : ℕ) → ((x : ℕ) → f x ≡ true → g x ≡ true) → missing g n ≤ missing f n
+missing-fewer f g zero more = let none : zero ≤ zero = omega arith in none
+missing-fewer f g (suc n) more = by (f n) (g n) refl refl (missing-fewer f g n more)
+  where
+    by : (a b : Bool) → f n ≡ a → g n ≡ b → missing g n ≤ missing f n → cond (g n) (missing g n) (suc (missing g n)) ≤ cond (f n) (missing f n) (suc (missing f n))
+    by true true h k i = rw (h, k) (omega arith)
+    by true false h k i = absurd (false≢true (sym k ∙ more n h))
+    by false true h k i = rw (h, k) (omega arith)
+    by false false h k i = rw (h, k) (omega arith)
+
+-- and truly fewer where one of them is new
+missing-less : (f g : ℕ → Bool) (n p : ℕ) → ((x : ℕ) → f x ≡ true → g x ≡ true) → p < n → f p ≡ false → g p ≡ true → missing g n < missing f n
+missing-less f g zero p more l e d = absurd (omega arith)
+missing-less f g (suc n) p more l e d = elim (cases_eq p n) [
+  | inl same ↦
+      let i = missing-fewer f g n more in
+      let out : f n ≡ false = subst (λ x. f x ≡ false) same e in
+      let now : g n ≡ true = subst (λ x. g x ≡ true) same d in
+      let less : cond (g n) (missing g n) (suc (missing g n)) < cond (f n) (missing f n) (suc (missing f n)) = rw (out, now) (omega arith) in
+      less
+  | inr other ↦ by (f n) (g n) refl refl (missing-less f g n p more (omega arith) e d)
+]
+  where
+    by : (a b : Bool) → f n ≡ a → g n ≡ b → missing g n < missing f n → cond (g n) (missing g n) (suc (missing g n)) < cond (f n) (missing f n) (suc (missing f n))
+    by true true h k i = rw (h, k) (omega arith)
+    by true false h k i = absurd (false≢true (sym k ∙ more n h))
+    by false true h k i = rw (h, k) (omega arith)
+    by false false h k i = rw (h, k) (omega arith)
+
+-- who has a line in either of two lists
+in_either : (a b : List ℕ) (x : ℕ) → has_line (a ++ b) x ≡ true → (has_line a x ≡ true) ⊎ (has_line b x ≡ true)
+in_either [] b x h = inr h
+in_either (y ∷ a) b x h = elim (cases_Bool (nat_eq x y)) [
+  | inl t ↦ inl (ap (λ (c : Bool). c || has_line a x) t)
+  | inr f ↦ elim (in_either a b x (sym (ap (λ (c : Bool). c || has_line (a ++ b) x) f) ∙ h)) [
+    | inl u ↦ inl (ap (λ (c : Bool). c || has_line a x) f ∙ u)
+    | inr u ↦ inr u
+  ]
+]
+
+in_first : (a b : List ℕ) (x : ℕ) → has_line a x ≡ true → has_line (a ++ b) x ≡ true
+in_first [] b x h = absurd (false≢true h)
+in_first (y ∷ a) b x h = elim (cases_Bool (nat_eq x y)) [
+  | inl t ↦ ap (λ (c : Bool). c || has_line (a ++ b) x) t
+  | inr f ↦ ap (λ (c : Bool). c || has_line (a ++ b) x) f ∙ in_first a b x (sym (ap (λ (c : Bool). c || has_line a x) f) ∙ h)
+]
+
+in_second : (a b : List ℕ) (x : ℕ) → has_line b x ≡ true → has_line (a ++ b) x ≡ true
+in_second [] b x h = h
+in_second (y ∷ a) b x h = elim (cases_Bool (nat_eq x y)) [
+  | inl t ↦ ap (λ (c : Bool). c || has_line (a ++ b) x) t
+  | inr f ↦ ap (λ (c : Bool). c || has_line (a ++ b) x) f ∙ in_second a b x h
+]
+
+has_line-contains : (xs : List ℕ) (x : ℕ) → has_line xs x ≡ true → Contains xs x
+has_line-contains [] x h = absurd (false≢true h)
+has_line-contains (y ∷ xs) x h = elim (cases_Bool (nat_eq x y)) [
+  | inl t ↦ subst (Contains (y ∷ xs)) (sym (eqb-true x y t)) (contains_head y xs)
+  | inr f ↦ contains_tail y xs x (has_line-contains xs x (sym (ap (λ (c : Bool). c || has_line xs x) f) ∙ h))
+]
+
+in_reverse : (xs : List ℕ) (x : ℕ) → has_line xs x ≡ true → has_line (reverse xs) x ≡ true
+in_reverse [] x h = absurd (false≢true h)
+in_reverse (y ∷ xs) x h = ap (λ l. has_line l x) (reverse-append (y ∷ []) xs) ∙ elim (in_either (y ∷ []) xs x h) [
+  | inl a ↦ in_second (reverse xs) (y ∷ []) x a
+  | inr b ↦ in_first (reverse xs) (y ∷ []) x (in_reverse xs x b)
+]
+
+-- the turns that are left: two for each entry that has no line and is not on the stack, and one for each that is on it
+abbrev pub turns_left : List Proven → List ℕ → List ℕ → ℕ
+turns_left list lines stack = missing (has_line lines) (length list) + missing (has_line (lines ++ stack)) (length list)
+
+-- to get a line is a turn, and so is to wait for a part that was not on the stack
+pub turns-less : (list : List Proven) (top : ℕ) (lines lines' rest stack' : List ℕ) → PartsAreEarlier list → top < length list → has_line lines top ≡ false → ((x : ℕ) → Contains (reverse rest) x → top < x) → TakesTurn list top lines lines' rest stack' → turns_left list lines' stack' < turns_left list lines (rest ++ top ∷ [])
+turns-less list top lines lines' rest stack' earlier within new above turn =
+    by (first_new lines (parts_at list top)) refl turn.part turn.line
+  where
+    n : ℕ
+    n = length list
+
+    at_line : has_line (lines ++ top ∷ []) top ≡ true
+    at_line = line-own lines top
+
+    moved : (x : ℕ) → has_line (lines ++ (rest ++ top ∷ [])) x ≡ true → has_line ((lines ++ top ∷ []) ++ rest) x ≡ true
+    moved x h = elim (in_either lines (rest ++ top ∷ []) x h) [
+      | inl a ↦ in_first (lines ++ top ∷ []) rest x (line-kept lines top x a)
+      | inr b ↦ elim (in_either rest (top ∷ []) x b) [
+        | inl c ↦ in_second (lines ++ top ∷ []) rest x c
+        | inr d ↦ in_first (lines ++ top ∷ []) rest x (in_second lines (top ∷ []) x d)
+      ]
+    ]
+
+    lined : turns_left list (lines ++ top ∷ []) rest < turns_left list lines (rest ++ top ∷ [])
+    lined =
+        let fewer : missing (has_line (lines ++ top ∷ [])) n < missing (has_line lines) n = missing-less (has_line lines) (has_line (lines ++ top ∷ [])) n top (λ x. line-kept lines top x) within new at_line in
+        let same : missing (has_line ((lines ++ top ∷ []) ++ rest)) n ≤ missing (has_line (lines ++ (rest ++ top ∷ []))) n = missing-fewer (has_line (lines ++ (rest ++ top ∷ []))) (has_line ((lines ++ top ∷ []) ++ rest)) n moved in
+        omega arith
+
+    kept_on : (q : ℕ) (x : ℕ) → has_line (lines ++ (rest ++ top ∷ [])) x ≡ true → has_line (lines ++ (rest ++ top ∷ q ∷ [])) x ≡ true
+    kept_on q x h = elim (in_either lines (rest ++ top ∷ []) x h) [
+      | inl a ↦ in_first lines (rest ++ top ∷ q ∷ []) x a
+      | inr b ↦ in_second lines (rest ++ top ∷ q ∷ []) x (elim (in_either rest (top ∷ []) x b) [
+        | inl c ↦ in_first rest (top ∷ q ∷ []) x c
+        | inr d ↦ in_second rest (top ∷ q ∷ []) x (in_first (top ∷ []) (q ∷ []) x d)
+      ])
+    ]
+
+    not_yet : (q : ℕ) → q < top → has_line lines q ≡ false → has_line (lines ++ (rest ++ top ∷ [])) q ≡ false
+    not_yet q k f = not_true (has_line (lines ++ (rest ++ top ∷ [])) q) (λ h. elim (in_either lines (rest ++ top ∷ []) q h) [
+      | inl a ↦ false≢true (sym f ∙ a)
+      | inr b ↦ elim (in_either rest (top ∷ []) q b) [
+        | inl c ↦ let m : top < q = above q (has_line-contains (reverse rest) q (in_reverse rest q c)) in absurd (omega arith)
+        | inr d ↦ elim (contains_cases top [] q (has_line-contains (top ∷ []) q d)) [
+          | inl e ↦ absurd (omega arith)
+          | inr e ↦ absurd (Contains-nil q e)
+        ]
+      ]
+    ])
+
+    waited : (q : ℕ) → first_new lines (parts_at list top) ≡ Some q → turns_left list lines (rest ++ top ∷ q ∷ []) < turns_left list lines (rest ++ top ∷ [])
+    waited q e =
+        let part : (has_line lines q ≡ false) × Contains (parts_at list top) q = first-is_new lines (parts_at list top) q e in
+        let k : q < top = before_it list earlier top q within part.1 in
+        let on : has_line (lines ++ (rest ++ top ∷ q ∷ [])) q ≡ true = in_second lines (rest ++ top ∷ q ∷ []) q (in_second rest (top ∷ q ∷ []) q (in_second (top ∷ []) (q ∷ []) q (line-own [] q))) in
+        let fewer : missing (has_line (lines ++ (rest ++ top ∷ q ∷ []))) n < missing (has_line (lines ++ (rest ++ top ∷ []))) n = missing-less (has_line (lines ++ (rest ++ top ∷ []))) (has_line (lines ++ (rest ++ top ∷ q ∷ []))) n q (kept_on q) (omega arith) (not_yet q k part.0) on in
+        omega arith
+
+    by : (o : Option ℕ) → first_new lines (parts_at list top) ≡ o → IfSome o (λ q. (lines' ≡ lines) × (stack' ≡ rest ++ top ∷ q ∷ [])) → IfNone o ((lines' ≡ lines ++ top ∷ []) × (stack' ≡ rest)) → turns_left list lines' stack' < turns_left list lines (rest ++ top ∷ [])
+    by (Some q) e part line =
+        subst (λ l. turns_left list l stack' < turns_left list lines (rest ++ top ∷ [])) (sym part.0)
+        (subst (λ s. turns_left list lines s < turns_left list lines (rest ++ top ∷ [])) (sym part.1) (waited q e))
+    by None e part line =
+        subst (λ l. turns_left list l stack' < turns_left list lines (rest ++ top ∷ [])) (sym line.0)
+        (subst (λ s. turns_left list (lines ++ top ∷ []) s < turns_left list lines (rest ++ top ∷ [])) (sym line.1) lined)

@@ -1,14 +1,13 @@
 -- A map of names that is completed by fresh slots knows all names, and keeps apart what the map itself keeps apart.
-use Rattle.std.proofs.Common.{◌≡◌, ℕ, true, false, not, List, [], ◌∷◌, ◌++◌, get_or, Option, Some, None, refl, sym, ap, subst, inl, inr, ◌∙◌}
+use Rattle.std.proofs.Common.{◌≡◌, ℕ, true, false, not, List, [], ◌∷◌, ◌++◌, Option, Some, None, refl, sym, ap, subst, inl, inr, ◌∙◌}
 use Rattle.std.specs.Prelude.{◌⊎◌, Contains}
 use Rattle.std.proofs.lemmas.Bool.{cases_Bool, and_parts, and_from, true≢false, not-true}
 use Rattle.slotted_theory.specs.FiniteMaps.{IsInjectiveMap}
 use Rattle.slotted_slots.specs.Ascending.{IsAscending}
-use Rattle.slotted_slots.specs.Combining.{IsCompleted}
-use Rattle.slotted_slots.specs.Maps.{IsInEither, KnowsAll, keys, values, value_of, is_among, all_differ, composed, doubled, with_first}
-use Rattle.slotted_slots.specs.Table.{Table, Takes}
+use Rattle.slotted_slots.specs.Combining.{IsCompleted, TakesForLacked, LacksForLacked, TakesToComplete, LacksToComplete}
+use Rattle.slotted_slots.specs.Maps.{IsInEither, keys, values, value_of, is_among, all_differ, composed, doubled, with_first}
+use Rattle.slotted_slots.specs.Table.{Table, Takes, is_known}
 use Rattle.slotted_slots.proofs.Ascending.{is_among-set_of, IsAscending-set_of}
-use Rattle.slotted_slots.proofs.CombiningLaws.{is_some-value_of, is_among-at}
 use Rattle.slotted_slots.proofs.FreshLaws.{among_second}
 use Rattle.slotted_slots.proofs.MapLaws.{is_among-cons, is_among-first, is_among-more, is_among-value_of, is_among-key, value_of-doubled}
 use Rattle.slotted_slots.proofs.MapLemmas.{keys-doubled}
@@ -16,8 +15,8 @@ use Rattle.slotted_slots.proofs.Taken.{takes_as, among_first}
 use Rattle.slotted_model.proofs.Correspondences.FullMaps.{at_HasValue, keys-in_order}
 use Rattle.slotted_model.proofs.Correspondences.PartialInjections.{value_of-in_order}
 use Rattle.slotted_proofs.specs.declared.equation.Equation.{Equation as Sides}
-use Rattle.slotted_proofs.specs.Fresh.{names_of}
-use Rattle.slotted_proofs.proofs.Bridges.{among_is, injective_differ, value_of-model, slots-once}
+use Rattle.slotted_proofs.specs.Fresh.{names_of, side_names, AreKnownOr, StaysInjective, TakesFor, TakesToSend, LacksToSend}
+use Rattle.slotted_proofs.proofs.Bridges.{among_is, injective_differ, differ_injective, value_of-model, slots-once}
 
 -- each of the numbers has itself
 own_name : (xs : List ℕ) (v : ℕ) → is_among v xs ≡ true → value_of (doubled xs) v ≡ Some v
@@ -26,11 +25,6 @@ own_name xs v there = value_of-doubled xs v ∙ rw there refl
 values-doubled : (xs : List ℕ) → values (doubled xs) ≡ xs
 values-doubled [] = refl
 values-doubled (x ∷ xs) = ap (λ r. x ∷ r) (values-doubled xs)
-
--- a map knows the numbers that are among its keys
-knows_keys : (c : List (ℕ × ℕ)) (names xs : List ℕ) → keys c ≡ names → ((v : ℕ) → is_among v xs ≡ true → is_among v names ≡ true) → KnowsAll c xs
-knows_keys c names xs ks within k d lt =
-    is_some-value_of c (get_or xs k d) ∙ (ap (is_among (get_or xs k d)) ks ∙ within (get_or xs k d) (is_among-at xs k d lt))
 
 -- what is sent on comes from a value of the first map
 among_composed : (a c : List (ℕ × ℕ)) (s : ℕ) → is_among s (values (composed a c)) ≡ true → (v : ℕ) × (is_among v (values a) ≡ true) × (value_of c v ≡ Some s)
@@ -77,6 +71,10 @@ among_either (x ∷ xs) ys z there = elim (is_among-cons z x (xs ++ ys) there) [
     | inr second ↦ inr second
   ]
 ]
+
+-- the names of an equation are those of its sides
+names-among : (e : Sides) (v : ℕ) → is_among v (names_of e) ≡ is_among v (side_names e)
+names-among e v = is_among-set_of v (side_names e)
 
 module _ (old new : Table) (names : List ℕ) (m c : List (ℕ × ℕ)) (completed : IsCompleted old new (doubled names) m c) where
   -- a name that m sends on and one that m lacks are not sent to one slot
@@ -133,52 +131,76 @@ module _ (old new : Table) (names : List ℕ) (m c : List (ℕ × ℕ)) (complet
       ]) differ
       by None found alone differ = differ
 
--- a map from the names of an equation, completed by fresh slots
-module _ (old new : Table) (e : Sides) (m own c : List (ℕ × ℕ)) (is_own : own ≡ doubled (names_of e)) (sent : IsCompleted old new own m c) where
-  completed : IsCompleted old new (doubled (names_of e)) m c
-  completed = subst (λ d. IsCompleted old new d m c) is_own sent
+  -- what a side goes on to is known, or a value of m
+  known_or_sent : (a : List (ℕ × ℕ)) → ((v : ℕ) → is_among v (values a) ≡ true → is_among v names ≡ true) → AreKnownOr new (values m) (values (composed a c))
+  known_or_sent a within z there = let back = among_composed a c z there in by back.0 (within back.0 back.1) back.2 (value_of m back.0) refl
+    where
+      by : (v : ℕ) → is_among v names ≡ true → value_of c v ≡ Some z → (o : Option ℕ) → value_of m v ≡ o → (is_known new z ≡ true) ⊎ (is_among z (values m) ≡ true)
+      by v hv ev (Some w) f = inr (is_among-value_of m v z (f ∙ (sym (completed.sent v v w (own_name names v hv) f) ∙ ev)))
+      by v hv ev None f = inl (completed.made v v z (own_name names v hv) f ev).known
 
+-- a map from the names of an equation, completed by fresh slots
+module _ (old new : Table) (e : Sides) (m c : List (ℕ × ℕ)) (completed : IsCompleted old new (doubled (names_of e)) m c) where
   its_keys : keys c ≡ names_of e
   its_keys = completed.same_keys ∙ keys-doubled (names_of e)
 
-  members : (v : ℕ) → is_among v (names_of e) ≡ is_among v (values e.l.m ++ values e.r.m)
-  members v = is_among-set_of v (values e.l.m ++ values e.r.m)
-
   left_within : (v : ℕ) → is_among v (values e.l.m) ≡ true → is_among v (names_of e) ≡ true
-  left_within v there = members v ∙ among_first (values e.l.m) (values e.r.m) v there
+  left_within v there = names-among e v ∙ among_first (values e.l.m) (values e.r.m) v there
 
   right_within : (v : ℕ) → is_among v (values e.r.m) ≡ true → is_among v (names_of e) ≡ true
-  right_within v there = members v ∙ among_second (values e.l.m) (values e.r.m) v there
+  right_within v there = names-among e v ∙ among_second (values e.l.m) (values e.r.m) v there
 
-  pub left_known : KnowsAll c (values e.l.m)
-  left_known = knows_keys c (names_of e) (values e.l.m) its_keys left_within
+  pub left_stays : StaysInjective e.l.m m → IsInjectiveMap (composed e.l.m c)
+  left_stays stays =
+      differ_injective (composed e.l.m c) (stays_apart old new (names_of e) m c completed e.l.m left_within (injective_differ e.l.m stays.0) stays.1)
 
-  pub right_known : KnowsAll c (values e.r.m)
-  right_known = knows_keys c (names_of e) (values e.r.m) its_keys right_within
+  pub right_stays : StaysInjective e.r.m m → IsInjectiveMap (composed e.r.m c)
+  right_stays stays =
+      differ_injective (composed e.r.m c) (stays_apart old new (names_of e) m c completed e.r.m right_within (injective_differ e.r.m stays.0) stays.1)
 
-  pub left_stays : IsInjectiveMap e.l.m → all_differ (values (composed e.l.m m)) ≡ true → all_differ (values (composed e.l.m c)) ≡ true
-  left_stays once apart = stays_apart old new (names_of e) m c completed e.l.m left_within (injective_differ e.l.m once) apart
-
-  pub right_stays : IsInjectiveMap e.r.m → all_differ (values (composed e.r.m m)) ≡ true → all_differ (values (composed e.r.m c)) ≡ true
-  right_stays once apart = stays_apart old new (names_of e) m c completed e.r.m right_within (injective_differ e.r.m once) apart
+  -- each name that is sent on is known, or a value of m
+  pub known_sent : AreKnownOr new (values m) (values (composed e.l.m c) ++ values (composed e.r.m c))
+  known_sent z there = elim (among_either (values (composed e.l.m c)) (values (composed e.r.m c)) z there) [
+    | inl left ↦ known_or_sent old new (names_of e) m c completed e.l.m left_within z left
+    | inr right ↦ known_or_sent old new (names_of e) m c completed e.r.m right_within z right
+  ]
 
   -- a slot that something is sent to is a name of a side that was sent on
   sent_to : (z : ℕ) → is_among z (values c) ≡ true → is_among z (values (composed e.l.m c) ++ values (composed e.r.m c)) ≡ true
   sent_to z made =
-      let key : (k : ℕ) × (value_of c k ≡ Some z) = value_has_key c (subst IsAscending (sym its_keys) (IsAscending-set_of (values e.l.m ++ values e.r.m))) z made in
+      let key : (k : ℕ) × (value_of c k ≡ Some z) = value_has_key c (subst IsAscending (sym its_keys) (IsAscending-set_of (side_names e))) z made in
       let name : is_among key.0 (names_of e) ≡ true = ap (is_among key.0) (sym its_keys) ∙ is_among-key c key.0 z key.1 in
-      elim (among_either (values e.l.m) (values e.r.m) key.0 (sym (members key.0) ∙ name)) [
+      elim (among_either (values e.l.m) (values e.r.m) key.0 (sym (names-among e key.0) ∙ name)) [
         | inl left ↦ among_first (values (composed e.l.m c)) (values (composed e.r.m c)) z (sent_among e.l.m c key.0 z left key.1)
         | inr right ↦ among_second (values (composed e.l.m c)) (values (composed e.r.m c)) z (sent_among e.r.m c key.0 z right key.1)
       ]
 
-  pub takes_sent : Takes old new (IsInEither (values c) (values own ++ values m)) → Takes old new (IsInEither (values (composed e.l.m c) ++ values (composed e.r.m c)) ((values e.l.m ++ values e.r.m) ++ values m))
+  pub takes_sent : TakesFor old new e m (values c) → TakesFor old new e m (values (composed e.l.m c) ++ values (composed e.r.m c))
   takes_sent taken =
-      takes_as old new (IsInEither (values c) (values own ++ values m)) (IsInEither (values (composed e.l.m c) ++ values (composed e.r.m c)) ((values e.l.m ++ values e.r.m) ++ values m)) taken
+      takes_as old new (IsInEither (values c) (side_names e ++ values m)) (IsInEither (values (composed e.l.m c) ++ values (composed e.r.m c)) (side_names e ++ values m)) taken
       (λ z p. elim p [
         | inl made ↦ inl (sent_to z made)
+        | inr used ↦ inr used
+      ])
+
+-- what a map over the names of an equation takes, said of the equation
+module _ (old new : Table) (e : Sides) (m own : List (ℕ × ℕ)) (is_own : own ≡ doubled (names_of e)) where
+  its_values : values own ≡ names_of e
+  its_values = ap values is_own ∙ values-doubled (names_of e)
+
+  pub takes_names : (c : List (ℕ × ℕ)) → Takes old new (IsInEither (values c) (values own ++ values m)) → TakesFor old new e m (values c)
+  takes_names c taken =
+      takes_as old new (IsInEither (values c) (values own ++ values m)) (IsInEither (values c) (side_names e ++ values m)) taken
+      (λ z p. elim p [
+        | inl made ↦ inl made
         | inr used ↦ elim (among_either (values own) (values m) z used) [
-          | inl name ↦ inr (among_first (values e.l.m ++ values e.r.m) (values m) z (sym (members z) ∙ (ap (is_among z) (sym (ap values is_own ∙ values-doubled (names_of e))) ∙ name)))
-          | inr sent_by ↦ inr (among_second (values e.l.m ++ values e.r.m) (values m) z sent_by)
+          | inl name ↦ inr (among_first (side_names e) (values m) z (sym (names-among e z) ∙ (ap (is_among z) (sym its_values) ∙ name)))
+          | inr sent_by ↦ inr (among_second (side_names e) (values m) z sent_by)
         ]
       ])
+
+  pub takes_to_send : TakesToComplete own m old new → TakesToSend e m old new
+  takes_to_send count = subst (λ xs. TakesForLacked m xs (xs ++ values m) old new) its_values count
+
+  pub lacks_to_send : LacksToComplete own m old → LacksToSend e m old
+  lacks_to_send lacks = subst (λ xs. LacksForLacked m xs (xs ++ values m) old) its_values lacks

@@ -5,12 +5,13 @@
 --     Stands list s p     the statement s stands at the number p
 --     Enters old new x p  the statement of x stands at p: it was there, and nothing changed, or x is new at the end
 use Rattle.std.specs.Prelude.{◌≡◌, ◌⊎◌, ℕ, suc, ◌<◌, Bool, true, false, cond, List, [], ◌∷◌, ◌++◌, length, map, Option, None, option_map, string_bytes, slice_index_or}
+use Rattle.slotted_slots.specs.declared.types.AppliedId.{AppliedId}
 use Rattle.slotted_model.specs.Applied.{Applied}
 use Rattle.slotted_model.specs.ProofList.{ProofEntry, Step, explicit, reflexive, symmetric, transitive, congruent}
 use Rattle.slotted_proofs.specs.declared.equation.Equation.{Equation as Sides}
 use Rattle.slotted_proofs.specs.declared.proof.Proof.{Proof}
 use Rattle.slotted_proofs.specs.declared.proof.Proof.TheVariants.{Explicit, Reflexivity, Symmetry, Transitivity, Congruence}
-use Rattle.slotted_proofs.specs.Equations.{Statement, equality, statement_of, reflexive_statement, turned_statement, composite_statement}
+use Rattle.slotted_proofs.specs.Equations.{Statement, to_applied, equality, statement_of, reflexive_statement, turned_statement, composite_statement}
 
 -- a proved statement, its step, and the text of an explicit step
 pub record Proven : Type 0 where
@@ -93,6 +94,14 @@ pub record Enters (old new : List Proven) (x : Proven) (p : ℕ) : Type 0 where
 -- an asserted equality, with its text
 abbrev pub asserted_entry : Applied → Applied → Option (List ℕ) → Proven
 asserted_entry a b text = record { statement = equality a b; step = explicit; text = text }
+
+-- an asserted equality of two ids of the code
+abbrev pub assertion : AppliedId → AppliedId → Option (List ℕ) → Proven
+assertion l r text = asserted_entry (to_applied l) (to_applied r) text
+
+-- the equality of two ids of the code, with its proof
+abbrev pub equality_entry : AppliedId → AppliedId → Proof → Proven
+equality_entry l r proof = record { statement = equality (to_applied l) (to_applied r); step = step_of proof; text = text_of proof }
 
 -- a class with these slots equals itself
 abbrev pub reflexive_entry : ℕ → List ℕ → Proven

@@ -2,12 +2,13 @@
 --     Statement         an equation over the slots of its two classes
 --     statement_of e    what an equation of the code states
 --     IsWritten s e     the equation of the code states s, and its names are numbered from `$0` as they first occur, left side first
-use Rattle.std.specs.Prelude.{◌≡◌, ℕ, List}
-use Rattle.slotted_theory.specs.FiniteMaps.{with_values}
+--     HasManyNames e    the equation of the code has too many names to be numbered
+use Rattle.std.specs.Prelude.{◌≡◌, ◌≤◌, ◌+◌, ℕ, List, length}
+use Rattle.slotted_theory.specs.FiniteMaps.{value_of, with_values}
 use Rattle.slotted_slots.specs.declared.types.AppliedId.{AppliedId}
-use Rattle.slotted_slots.specs.Table.{numeric_slot}
+use Rattle.slotted_slots.specs.Table.{numeric_slot, slot_limit}
 use Rattle.slotted_model.specs.Applied.{Applied, keys}
-use Rattle.slotted_model.specs.Correspondence.{IsFullMap, numbered, identity, turned, composite}
+use Rattle.slotted_model.specs.Correspondence.{IsFullMap, numbered, numbered_from, numbered_after, identity, turned, composite, same_names}
 use Rattle.slotted_model.specs.ProofList.{Equation, equation_of}
 use Rattle.slotted_proofs.specs.declared.equation.Equation.{Equation as Sides}
 
@@ -28,6 +29,18 @@ equality a b = record { left_slots = keys a.1; right_slots = keys b.1; equation 
 -- what an equation of the code states
 abbrev pub statement_of : Sides → Statement
 statement_of e = equality (to_applied e.l) (to_applied e.r)
+
+-- the slots of the two classes that carry one name
+abbrev pub pairs_of : Sides → List (ℕ × ℕ)
+pairs_of e = same_names e.l.m e.r.m
+
+-- that two classes are equal, over the slots of two ids of them, where right slots carry the names of their partners
+abbrev pub partnered_statement : AppliedId → AppliedId → List (ℕ × ℕ) → Statement
+partnered_statement l r partners = record {
+  left_slots = keys l.m;
+  right_slots = keys r.m;
+  equation = record { left = l.id.0; right = r.id.0; pairs = turned (keys l.m) partners };
+}
 
 -- that a class with these slots equals itself
 abbrev pub reflexive_statement : ℕ → List ℕ → Statement
@@ -61,6 +74,11 @@ numbered_left P Q A = with_values numeric_slot (numbered P Q A).0
 abbrev pub numbered_right : List ℕ → List ℕ → List (ℕ × ℕ) → List (ℕ × ℕ)
 numbered_right P Q A = with_values numeric_slot (numbered P Q A).1
 
+-- the slots Q with the numbered names that their partners have in the left side, and the next ones for those without a partner
+abbrev pub numbered_beside : List (ℕ × ℕ) → List (ℕ × ℕ) → List ℕ → List (ℕ × ℕ)
+numbered_beside left partners Q =
+    with_values numeric_slot (numbered_after (value_of (composite partners (numbered_from 0 (keys left)))) (length left) Q)
+
 -- a and b are the two sides of the statement, with numbered names
 pub record AreSides (s : Statement) (a b : Applied) : Type 0 where
   pub left : a ≡ (s.equation.left, numbered_left s.left_slots s.right_slots s.equation.pairs)
@@ -72,3 +90,15 @@ pub record AreSides (s : Statement) (a b : Applied) : Type 0 where
 -- the equation of the code is the statement in its numbered form
 abbrev pub IsWritten : Statement → Sides → Type 0
 IsWritten s e = AreSides s (to_applied e.l) (to_applied e.r)
+
+-- two sides have too many names between them to number those
+abbrev pub HaveManyNames : List (ℕ × ℕ) → List (ℕ × ℕ) → Type 0
+HaveManyNames left right = slot_limit ≤ length left + length right
+
+-- an equation of the code has
+abbrev pub HasManyNames : Sides → Type 0
+HasManyNames e = HaveManyNames e.l.m e.r.m
+
+-- a statement is over too many slots to number their names
+abbrev pub HasManySlots : Statement → Type 0
+HasManySlots s = slot_limit ≤ length s.left_slots + length s.right_slots

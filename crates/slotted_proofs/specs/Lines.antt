@@ -1,5 +1,5 @@
 -- The order of lines in which a proof is printed: each entry that it stands on once, parts first, depth first.
-use Rattle.std.specs.Prelude.{◌≡◌, ℕ, ◌<◌, List, [], ◌∷◌, ◌++◌, length, All, Option, Some, None, Bool, true, false, cond, nat_eq}
+use Rattle.std.specs.Prelude.{◌≡◌, ℕ, ◌<◌, List, [], ◌∷◌, ◌++◌, length, All, Option, Some, None, IfSome, IfNone, Bool, true, false, cond, nat_eq}
 use Rattle.std.specs.List.{list_any}
 use Rattle.slotted_model.specs.Leaves.{parts_of}
 use Rattle.slotted_proofs.specs.Entries.{Proven, proven_at}
@@ -27,3 +27,9 @@ pub data Lines (list : List Proven) : List ℕ → List ℕ → List ℕ → Typ
 abbrev pub first_new : List ℕ → List ℕ → Option ℕ
 first_new lines [] = None
 first_new lines (p ∷ ps) = cond (has_line lines p) (first_new lines ps) (Some p)
+
+-- a turn of the entry from the top of a stack: if a part of it has no line, it goes back on the stack, and the first such part above
+-- it; else it gets the next line
+pub record TakesTurn (list : List Proven) (top : ℕ) (lines lines' stack stack' : List ℕ) : Type 0 where
+  pub part : IfSome (first_new lines (parts_at list top)) (λ q. (lines' ≡ lines) × (stack' ≡ stack ++ top ∷ q ∷ []))
+  pub line : IfNone (first_new lines (parts_at list top)) ((lines' ≡ lines ++ top ∷ []) × (stack' ≡ stack))

@@ -2,6 +2,8 @@
 use Rattle.std.specs.Prelude.{ℕ, List, [], ◌∷◌, ◌++◌, Option, Some, None, codes, decimal, position, nat_eq}
 use Rattle.std.specs.Fmt.{debug_option, debug_str}
 use Rattle.slotted_model.specs.ProofList.{Step, explicit, reflexive, symmetric, transitive, congruent}
+use Rattle.slotted_proofs.specs.declared.proof.Proof.{Proof}
+use Rattle.slotted_proofs.specs.Entries.{step_of, text_of}
 
 -- the number of a line, or a question mark where there is none
 abbrev pub number_text : Option ℕ → List ℕ
@@ -24,3 +26,7 @@ reason_text lines reflexive text = Some (codes "refl")
 reason_text lines (symmetric p) text = Some (step_text (codes "symmetry") lines (p ∷ []))
 reason_text lines (transitive p q) text = Some (step_text (codes "transitivity") lines (p ∷ q ∷ []))
 reason_text lines (congruent ps) text = Some (step_text (codes "congruence") lines ps)
+
+-- the same of a proof of the code
+abbrev pub reason_of : List ℕ → Proof → Option (List ℕ)
+reason_of lines proof = reason_text lines (step_of proof) (text_of proof)

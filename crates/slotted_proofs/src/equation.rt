@@ -1,17 +1,16 @@
 //! Equations of applied ids.
-ghost use Rattle.std.specs.Prelude.{◌≡◌, ◌++◌, ◌+◌, ◌^◌, ◌≤◌, ◌↔◌, ℕ, length, IsTrue, IfOk, IfErr, IsErrOf};
+ghost use Rattle.std.specs.Prelude.{◌≡◌, ◌++◌, ◌↔◌, IfOk, IfErr, IsErrOf};
 ghost use Rattle.std.specs.Ordering.{nat_cmp};
 ghost use Rattle.slotted_theory.specs.FiniteMaps.{IsInjectiveMap};
-ghost use Rattle.slotted_slots.specs.Combining.{IsCompleted};
+ghost use Rattle.slotted_slots.specs.Combining.{HaveTheSame, IsCompleted};
 ghost use Rattle.slotted_slots.specs.Error.{IsOutOfMemory, IsShortage};
-ghost use Rattle.slotted_slots.specs.Maps.{IsInEither, KnowsAll, all_differ, composed, doubled, is_among, values};
+ghost use Rattle.slotted_slots.specs.Maps.{HasDifferentValues, KnowsAll, composed, doubled, values};
 ghost use Rattle.slotted_slots.specs.Sets.{set_of};
-ghost use Rattle.slotted_slots.specs.Table.{KnowsMore, Takes};
+ghost use Rattle.slotted_slots.specs.Table.{KnowsMore, slot_limit};
 ghost use Rattle.slotted_model.specs.Applied.{keys};
-ghost use Rattle.slotted_model.specs.Correspondence.{IsPartialInjection, same_names, turned};
-ghost use Rattle.slotted_proofs.specs.Equations.{to_applied, statement_of, turned_statement, composite_statement, Meets, IsWritten};
-ghost use Rattle.slotted_proofs.specs.Fresh.{IsSentOn, names_of};
-ghost use Rattle.slotted_proofs.specs.Steps.{HasInjectiveSides};
+ghost use Rattle.slotted_model.specs.Correspondence.{IsPartialInjection, same_names};
+ghost use Rattle.slotted_proofs.specs.Equations.{to_applied, statement_of, partnered_statement, turned_statement, composite_statement, Meets, IsWritten, HaveManyNames, HasManyNames};
+ghost use Rattle.slotted_proofs.specs.Fresh.{IsSentOn, AreKnownOr, StaysInjective, TakesFor, TakesToSend, LacksToSend, names_of, side_names};
 
 use crate::numbering::{composite, numbered, numbered_by, shared_names};
 use slotted_slots::{AppliedId, Error, Slot, SlotMap, SlotTable, SmallHashSet};
@@ -41,7 +40,7 @@ impl Equation {
     /// The names that stand on either side.
     pub fn slots(&self, alloc: Global) -> Result<SmallHashSet<Slot>, Error>
         ensures ok { IfOk result (λ s. s ≡ set_of nat_cmp (values self.now.l.m ++ values self.now.r.m)) }
-        ensures members { IfOk result (λ s. (v : ℕ) → is_among v s ≡ is_among v (values self.now.l.m ++ values self.now.r.m)) }
+        ensures members { IfOk result (λ s. HaveTheSame s (values self.now.l.m ++ values self.now.r.m)) }
         ensures err { IfErr result IsOutOfMemory }
     {
         let mut slots = self.l.slots(alloc)?;
@@ -55,8 +54,8 @@ impl Equation {
     pub fn apply_slotmap(&self, alloc: Global, m: &SlotMap) -> Result<Equation, Error>
         requires left_known { KnowsAll m.now (values self.now.l.m) }
         requires right_known { KnowsAll m.now (values self.now.r.m) }
-        requires left_apart { IsTrue (all_differ (values (composed self.now.l.m m.now))) }
-        requires right_apart { IsTrue (all_differ (values (composed self.now.r.m m.now))) }
+        requires left_apart { HasDifferentValues (composed self.now.l.m m.now) }
+        requires right_apart { HasDifferentValues (composed self.now.r.m m.now) }
         ensures left { IfOk result (λ e. to_applied e.l ≡ (self.now.l.id.0, composed self.now.l.m m.now)) }
         ensures right { IfOk result (λ e. to_applied e.r ≡ (self.now.r.id.0, composed self.now.r.m m.now)) }
         ensures err { IfErr result IsOutOfMemory }
@@ -84,41 +83,65 @@ impl Equation {
         table: &mut SlotTable,
     ) -> Result<SlotMap, Error>
         ensures completed { IfOk result (IsCompleted table.old table.new (doubled (names_of self.now)) m.now) }
-        ensures taken { IfOk result (λ c. Takes table.old table.new (IsInEither (values c) (values (doubled (names_of self.now)) ++ values m.now))) }
+        ensures taken { IfOk result (λ names. TakesFor table.old table.new self.now m.now (values names)) }
+        ensures count { TakesToSend self.now m.now table.old table.new }
         ensures names { table.new.names ≡ table.old.names }
         ensures more { KnowsMore table.old table.new }
-        ensures full { IsErrOf result Error.OutOfSlots → table.new.fresh ≡ 2 ^ 30 }
+        ensures full { IsErrOf result Error.OutOfSlots → LacksToSend self.now m.now table.old }
+        ensures end { IsErrOf result Error.OutOfSlots → table.new.fresh ≡ slot_limit }
         ensures only { IfErr result IsShortage }
     {
         let own = self.own_names(alloc)?;
         own.compose_fresh(alloc, m, table)
     }
 
-    /// The equation with each name sent on by `m`, which keeps apart those of each side that it knows. The others become slots that
-    /// were never made before: one for each name, the same on both sides.
+    // Both sides, each with its names sent on by a map.
+    fn over(&self, alloc: Global, names: &SlotMap) -> Result<Equation, Error>
+        ensures left { IfOk result (λ e. to_applied e.l ≡ (self.now.l.id.0, composed self.now.l.m names.now)) }
+        ensures right { IfOk result (λ e. to_applied e.r ≡ (self.now.r.id.0, composed self.now.r.m names.now)) }
+        ensures err { IfErr result IsOutOfMemory }
+    {
+        let left = self.l.m.compose_partial(alloc, names)?;
+        let right = self.r.m.compose_partial(alloc, names)?;
+        Ok(Equation {
+            l: AppliedId {
+                id: self.l.id,
+                m: left,
+            },
+            r: AppliedId {
+                id: self.r.id,
+                m: right,
+            },
+        })
+    }
+
+    /// The equation with each name sent on by `m`. Those that it lacks become slots that were never made before: one for each name,
+    /// the same on both sides.
     pub fn apply_slotmap_fresh(
         &self,
         alloc: Global,
         m: &SlotMap,
         table: &mut SlotTable,
     ) -> Result<Equation, Error>
-        requires left { IsInjectiveMap self.now.l.m }
-        requires right { IsInjectiveMap self.now.r.m }
-        requires left_apart { IsTrue (all_differ (values (composed self.now.l.m m.now))) }
-        requires right_apart { IsTrue (all_differ (values (composed self.now.r.m m.now))) }
         ensures sent { IfOk result (IsSentOn table.old table.new m.now self.now) }
-        ensures injective { IfOk result HasInjectiveSides }
+        ensures left_injective { StaysInjective self.now.l.m m.now → IfOk result (λ e. IsInjectiveMap e.l.m) }
+        ensures right_injective { StaysInjective self.now.r.m m.now → IfOk result (λ e. IsInjectiveMap e.r.m) }
+        ensures known { IfOk result (λ e. AreKnownOr table.new (values m.now) (side_names e)) }
 
         // The table went on to make slots, and is else as it was. What it knows in addition is a name of the answer, or one of the
         // equation or of the map.
-        ensures taken { IfOk result (λ e. Takes table.old table.new (IsInEither (values e.l.m ++ values e.r.m) ((values self.now.l.m ++ values self.now.r.m) ++ values m.now))) }
+        ensures taken { IfOk result (λ e. TakesFor table.old table.new self.now m.now (side_names e)) }
+
+        // Also where it refuses, it makes a slot at most for each name that the map lacks.
+        ensures count { TakesToSend self.now m.now table.old table.new }
         ensures names { table.new.names ≡ table.old.names }
         ensures more { KnowsMore table.old table.new }
-        ensures full { IsErrOf result Error.OutOfSlots → table.new.fresh ≡ 2 ^ 30 }
+        ensures full { IsErrOf result Error.OutOfSlots → LacksToSend self.now m.now table.old }
+        ensures end { IsErrOf result Error.OutOfSlots → table.new.fresh ≡ slot_limit }
         ensures only { IfErr result IsShortage }
     {
-        let completed = self.sent_names(alloc, m, table)?;
-        let sent = self.apply_slotmap(alloc, &completed)?;
+        let names = self.sent_names(alloc, m, table)?;
+        let sent = self.over(alloc, &names)?;
         Ok(sent)
     }
 
@@ -136,7 +159,7 @@ impl Equation {
         requires left { IsInjectiveMap self.now.l.m }
         requires right { IsInjectiveMap self.now.r.m }
         ensures ok { IfOk result (IsWritten (statement_of self.now)) }
-        ensures full { IsErrOf result Error.OutOfSlots ↔ (2 ^ 30 ≤ length self.now.l.m + length self.now.r.m) }
+        ensures full { IsErrOf result Error.OutOfSlots ↔ HasManyNames self.now }
         ensures err { IfErr result IsShortage }
     {
         numbered(alloc, &self.l, &self.r)
@@ -147,7 +170,7 @@ impl Equation {
         requires left { IsInjectiveMap self.now.l.m }
         requires right { IsInjectiveMap self.now.r.m }
         ensures ok { IfOk result (IsWritten (turned_statement (statement_of self.now))) }
-        ensures full { IsErrOf result Error.OutOfSlots ↔ (2 ^ 30 ≤ length self.now.l.m + length self.now.r.m) }
+        ensures full { IsErrOf result Error.OutOfSlots ↔ HasManyNames self.now }
         ensures err { IfErr result IsShortage }
     {
         let turned = numbered(alloc, &self.r, &self.l)?;
@@ -163,7 +186,7 @@ impl Equation {
         requires right { IsInjectiveMap other.now.r.m }
         requires meets { Meets (statement_of self.now) (statement_of other.now) }
         ensures ok { IfOk result (IsWritten (composite_statement (statement_of self.now) (statement_of other.now))) }
-        ensures full { IsErrOf result Error.OutOfSlots ↔ (2 ^ 30 ≤ length self.now.l.m + length other.now.r.m) }
+        ensures full { IsErrOf result Error.OutOfSlots ↔ HaveManyNames self.now.l.m other.now.r.m }
         ensures err { IfErr result IsShortage }
     {
         composite(alloc, self, other)
@@ -178,8 +201,8 @@ impl Equation {
         partners: &SlotMap,
     ) -> Result<Equation, Error>
         requires { IsPartialInjection (keys r.now.m) (keys l.now.m) partners.now }
-        ensures ok { IfOk result (IsWritten (record { left_slots = keys l.now.m; right_slots = keys r.now.m; equation = record { left = l.now.id.0; right = r.now.id.0; pairs = turned (keys l.now.m) partners.now } })) }
-        ensures full { IsErrOf result Error.OutOfSlots ↔ (2 ^ 30 ≤ length l.now.m + length r.now.m) }
+        ensures ok { IfOk result (IsWritten (partnered_statement l.now r.now partners.now)) }
+        ensures full { IsErrOf result Error.OutOfSlots ↔ HaveManyNames l.now.m r.now.m }
         ensures err { IfErr result IsShortage }
     {
         let equation = numbered_by(alloc, l, r, partners)?;

@@ -1,7 +1,7 @@
 //! The order of lines in which a proof is printed.
-ghost use Rattle.std.specs.Prelude.{All, ◌↔◌, ◌≡◌, ◌∷◌, ◌++◌, ◌<◌, [], length, position, slice_get, nat_eq, Some, false, IsTrue, IfSome, IfNone, IfOk, IfErr, OnOk};
+ghost use Rattle.std.specs.Prelude.{All, ◌↔◌, ◌≡◌, ◌∷◌, ◌++◌, ◌<◌, [], length, position, slice_get, nat_eq, Some, false, IsTrue, IfOk, IfErr, OnOk};
 ghost use Rattle.slotted_slots.specs.Error.{IsOutOfMemory};
-ghost use Rattle.slotted_proofs.specs.Lines.{Lines as LinesOf, PartsAreEarlier, first_new, has_line, parts_at};
+ghost use Rattle.slotted_proofs.specs.Lines.{Lines as LinesOf, PartsAreEarlier, TakesTurn, first_new, has_line, parts_at};
 
 use crate::list::ProofList;
 use crate::proof::{Proof, ProvenEq};
@@ -144,8 +144,7 @@ impl ProofList {
     ) -> Result<(), Error>
         requires within { top < length self.now }
         requires new { has_line lines.old top ≡ false }
-        ensures part { OnOk result (IfSome (first_new lines.old (parts_at self.now top)) (λ q. (lines.new ≡ lines.old) × (stack.new.items ≡ stack.old.items ++ top ∷ q ∷ []))) }
-        ensures line { OnOk result (IfNone (first_new lines.old (parts_at self.now top)) ((lines.new ≡ lines.old ++ top ∷ []) × (stack.new.items ≡ stack.old.items))) }
+        ensures ok { OnOk result (TakesTurn self.now top lines.old lines.new stack.old.items stack.new.items) }
         ensures err { IfErr result IsOutOfMemory }
     {
         match self.first_part(lines, top) {
@@ -169,13 +168,10 @@ impl ProofList {
         let mut lines = ProofLines::new(alloc);
         let mut stack = Vec::new(alloc);
         stack.push(p)?;
-        for _ in 0..u64::MAX {
-            let Some(top) = stack.pop() else {
-                return Ok(lines);
-            };
+        while let Some(top) = stack.pop() {
             self.take_turn(&mut lines, &mut stack, top)?;
         }
-        Err(Error::OutOfMemory)
+        Ok(lines)
     }
 }
 

@@ -1,10 +1,11 @@
 //! The list of proved equations.
-ghost use Rattle.std.specs.Prelude.{◌≡◌, ◌+◌, ◌^◌, ◌<◌, ◌≤◌, ◌↔◌, ◌++◌, ◌∷◌, ℕ, [], false, length, IsTrue, IfSome, IfNone, IfOk, IfErr, OnOk, OnErr, IsErrOf, option_map, string_bytes};
+ghost use Rattle.std.specs.Prelude.{◌≡◌, ◌<◌, ◌≤◌, ◌↔◌, ◌++◌, ◌∷◌, ℕ, [], false, length, IsTrue, IfSome, IfNone, IfOk, IfErr, OnOk, OnErr, IsErrOf, option_map, string_bytes};
 ghost use Rattle.slotted_theory.specs.FiniteMaps.{IsInjectiveMap};
 ghost use Rattle.slotted_slots.specs.Error.{IsOutOfMemory, IsShortage};
+ghost use Rattle.slotted_slots.specs.Table.{slot_limit};
 ghost use Rattle.slotted_model.specs.Applied.{keys};
-ghost use Rattle.slotted_proofs.specs.Equations.{to_applied, equality, statement_of, Meets, IsWritten};
-ghost use Rattle.slotted_proofs.specs.Entries.{proven_at, statement_at, step_of, text_of, proven_of, entries_of, is_explicit, explicit_numbers, Stands, IsNew, Enters, asserted_entry, reflexive_entry, turned_entry, composite_entry};
+ghost use Rattle.slotted_proofs.specs.Equations.{statement_of, Meets, IsWritten, HaveManyNames, HasManySlots};
+ghost use Rattle.slotted_proofs.specs.Entries.{proven_at, statement_at, step_of, text_of, proven_of, entries_of, is_explicit, explicit_numbers, Stands, IsNew, Enters, assertion, equality_entry, reflexive_entry, turned_entry, composite_entry};
 
 use crate::equation::Equation;
 use crate::numbering::{numbered, numbered_itself};
@@ -186,8 +187,8 @@ impl ProofList {
     ) -> Result<ProvenEq, Error>
         requires left { IsInjectiveMap l.now.m }
         requires right { IsInjectiveMap r.now.m }
-        ensures ok { IfOk result (Enters self.old self.new (record { statement = equality (to_applied l.now) (to_applied r.now); step = step_of proof; text = text_of proof })) }
-        ensures full { IsErrOf result Error.OutOfSlots ↔ (2 ^ 30 ≤ length l.now.m + length r.now.m) }
+        ensures ok { IfOk result (Enters self.old self.new (equality_entry l.now r.now proof)) }
+        ensures full { IsErrOf result Error.OutOfSlots ↔ HaveManyNames l.now.m r.now.m }
         ensures only { IfErr result IsShortage }
         ensures err { OnErr result (self.new ≡ self.old) }
     {
@@ -207,8 +208,8 @@ impl ProofList {
     ) -> Result<ProvenEq, Error>
         requires left { IsInjectiveMap l.now.m }
         requires right { IsInjectiveMap r.now.m }
-        ensures ok { IfOk result (Enters self.old self.new (asserted_entry (to_applied l.now) (to_applied r.now) (option_map string_bytes text))) }
-        ensures full { IsErrOf result Error.OutOfSlots ↔ (2 ^ 30 ≤ length l.now.m + length r.now.m) }
+        ensures ok { IfOk result (Enters self.old self.new (assertion l.now r.now (option_map string_bytes text))) }
+        ensures full { IsErrOf result Error.OutOfSlots ↔ HaveManyNames l.now.m r.now.m }
         ensures only { IfErr result IsShortage }
         ensures err { OnErr result (self.new ≡ self.old) }
     {
@@ -219,7 +220,7 @@ impl ProofList {
     pub fn enter_reflexive(&mut self, alloc: Global, a: &AppliedId) -> Result<ProvenEq, Error>
         requires { IsInjectiveMap a.now.m }
         ensures ok { IfOk result (Enters self.old self.new (reflexive_entry a.now.id.0 (keys a.now.m))) }
-        ensures full { IsErrOf result Error.OutOfSlots ↔ (2 ^ 30 ≤ length a.now.m) }
+        ensures full { IsErrOf result Error.OutOfSlots ↔ (slot_limit ≤ length a.now.m) }
         ensures only { IfErr result IsShortage }
         ensures err { OnErr result (self.new ≡ self.old) }
     {
@@ -231,7 +232,7 @@ impl ProofList {
     pub fn enter_symmetric(&mut self, alloc: Global, p: ProvenEq) -> Result<ProvenEq, Error>
         requires { p < length self.old }
         ensures ok { IfOk result (Enters self.old self.new (turned_entry self.old p)) }
-        ensures full { IsErrOf result Error.OutOfSlots ↔ (2 ^ 30 ≤ length (statement_at self.old p).left_slots + length (statement_at self.old p).right_slots) }
+        ensures full { IsErrOf result Error.OutOfSlots ↔ HasManySlots (statement_at self.old p) }
         ensures only { IfErr result IsShortage }
         ensures err { OnErr result (self.new ≡ self.old) }
     {
@@ -251,7 +252,7 @@ impl ProofList {
         requires second { q < length self.old }
         requires meets { Meets (statement_at self.old p) (statement_at self.old q) }
         ensures ok { IfOk result (Enters self.old self.new (composite_entry self.old p q)) }
-        ensures full { IsErrOf result Error.OutOfSlots ↔ (2 ^ 30 ≤ length (statement_at self.old p).left_slots + length (statement_at self.old q).right_slots) }
+        ensures full { IsErrOf result Error.OutOfSlots ↔ HasManySlots (composite_entry self.old p q).statement }
         ensures only { IfErr result IsShortage }
         ensures err { OnErr result (self.new ≡ self.old) }
     {

@@ -1,13 +1,13 @@
 //! The form of an equation whose names are numbered as they first occur.
-ghost use Rattle.std.specs.Prelude.{◌≡◌, ◌+◌, ◌^◌, ◌<◌, ◌≤◌, ◌↔◌, length, cond, is_some, unwrap_or, IsTrue, IfOk, IfErr, IsErrOf};
-ghost use Rattle.slotted_theory.specs.FiniteMaps.{IsInjectiveMap, value_of, with_values};
+ghost use Rattle.std.specs.Prelude.{◌≡◌, ◌+◌, ◌<◌, ◌≤◌, ◌↔◌, length, cond, is_some, unwrap_or, IsTrue, IfOk, IfErr, IsErrOf};
+ghost use Rattle.slotted_theory.specs.FiniteMaps.{IsInjectiveMap, with_values};
 ghost use Rattle.slotted_slots.specs.Ascending.{IsAscending};
 ghost use Rattle.slotted_slots.specs.Error.{IsOutOfMemory, IsShortage};
 ghost use Rattle.slotted_slots.specs.Maps.{value_of as found_at};
-ghost use Rattle.slotted_slots.specs.Table.{numeric_slot};
+ghost use Rattle.slotted_slots.specs.Table.{numeric_slot, slot_limit};
 ghost use Rattle.slotted_model.specs.Applied.{keys};
-ghost use Rattle.slotted_model.specs.Correspondence.{AllDifferent, same_names, turned, composite as one_after_another, numbered_from, numbered_after, IsPartialInjection};
-ghost use Rattle.slotted_proofs.specs.Equations.{to_applied, equality, statement_of, reflexive_statement, composite_statement, Meets, IsWritten};
+ghost use Rattle.slotted_model.specs.Correspondence.{AllDifferent, same_names, composite as one_after_another, numbered_from, IsPartialInjection};
+ghost use Rattle.slotted_proofs.specs.Equations.{to_applied, equality, statement_of, partnered_statement, reflexive_statement, composite_statement, numbered_beside, Meets, IsWritten, HaveManyNames};
 
 use crate::equation::Equation;
 use slotted_slots::{AppliedId, Error, Slot, SlotMap};
@@ -61,7 +61,7 @@ pub(crate) fn shared_over(
 
 // Whether the two sides have fewer places than an equation may have.
 fn is_short(l: &AppliedId, r: &AppliedId) -> bool
-    ensures short { IsTrue result ↔ (length l.now.m + length r.now.m < 2 ^ 30) }
+    ensures short { IsTrue result ↔ (length l.now.m + length r.now.m < slot_limit) }
     ensures left_ascends { IsAscending (keys l.now.m) }
     ensures right_ascends { IsAscending (keys r.now.m) }
 {
@@ -72,7 +72,7 @@ fn is_short(l: &AppliedId, r: &AppliedId) -> bool
 
 // The left side: its slots with the names `$0`, `$1` and so on.
 fn number_left(alloc: Global, map: &SlotMap) -> Result<SlotMap, Error>
-    requires { length map.now < 2 ^ 30 }
+    requires { length map.now < slot_limit }
     ensures ok { IfOk result (λ m. m ≡ with_values numeric_slot (numbered_from 0 (keys map.now))) }
     ensures err { IfErr result IsOutOfMemory }
 {
@@ -85,7 +85,7 @@ fn number_left(alloc: Global, map: &SlotMap) -> Result<SlotMap, Error>
 
 // The name that a map has for a slot, or else that of the next number, which is then taken.
 fn name_or_next(known: &SlotMap, slot: Slot, next: &mut u32) -> Slot
-    requires { next.old < 2 ^ 30 }
+    requires { next.old < slot_limit }
     ensures name { result ≡ unwrap_or (found_at known.now slot) (numeric_slot next.old) }
     ensures next { next.new ≡ cond (is_some (found_at known.now slot)) next.old (next.old + 1) }
 {
@@ -106,9 +106,9 @@ fn number_right(
     left: &SlotMap,
     partners: &SlotMap,
 ) -> Result<SlotMap, Error>
-    requires few { length left.now + length map.now < 2 ^ 30 }
+    requires few { length left.now + length map.now < slot_limit }
     requires left { left.now ≡ with_values numeric_slot (numbered_from 0 (keys left.now)) }
-    ensures ok { IfOk result (λ m. m ≡ with_values numeric_slot (numbered_after (value_of (one_after_another partners.now (numbered_from 0 (keys left.now)))) (length left.now) (keys map.now))) }
+    ensures ok { IfOk result (λ m. m ≡ numbered_beside left.now partners.now (keys map.now)) }
     ensures err { IfErr result IsOutOfMemory }
 {
     let known = partners.compose_partial(alloc, left)?;
@@ -128,11 +128,11 @@ fn number_sides(
     r: &AppliedId,
     partners: &SlotMap,
 ) -> Result<Equation, Error>
-    requires few { length l.now.m + length r.now.m < 2 ^ 30 }
+    requires few { length l.now.m + length r.now.m < slot_limit }
     requires left_once { AllDifferent (keys l.now.m) }
     requires right_once { AllDifferent (keys r.now.m) }
     requires partners { IsPartialInjection (keys r.now.m) (keys l.now.m) partners.now }
-    ensures ok { IfOk result (IsWritten (record { left_slots = keys l.now.m; right_slots = keys r.now.m; equation = record { left = l.now.id.0; right = r.now.id.0; pairs = turned (keys l.now.m) partners.now } })) }
+    ensures ok { IfOk result (IsWritten (partnered_statement l.now r.now partners.now)) }
     ensures err { IfErr result IsOutOfMemory }
 {
     let left = number_left(alloc, &l.m)?;
@@ -151,8 +151,8 @@ pub(crate) fn numbered_by(
     partners: &SlotMap,
 ) -> Result<Equation, Error>
     requires { IsPartialInjection (keys r.now.m) (keys l.now.m) partners.now }
-    ensures ok { IfOk result (IsWritten (record { left_slots = keys l.now.m; right_slots = keys r.now.m; equation = record { left = l.now.id.0; right = r.now.id.0; pairs = turned (keys l.now.m) partners.now } })) }
-    ensures full { IsErrOf result Error.OutOfSlots ↔ (2 ^ 30 ≤ length l.now.m + length r.now.m) }
+    ensures ok { IfOk result (IsWritten (partnered_statement l.now r.now partners.now)) }
+    ensures full { IsErrOf result Error.OutOfSlots ↔ HaveManyNames l.now.m r.now.m }
     ensures err { IfErr result IsShortage }
 {
     if !is_short(l, r) {
@@ -167,7 +167,7 @@ pub(crate) fn numbered(alloc: Global, l: &AppliedId, r: &AppliedId) -> Result<Eq
     requires left { IsInjectiveMap l.now.m }
     requires right { IsInjectiveMap r.now.m }
     ensures ok { IfOk result (IsWritten (equality (to_applied l.now) (to_applied r.now))) }
-    ensures full { IsErrOf result Error.OutOfSlots ↔ (2 ^ 30 ≤ length l.now.m + length r.now.m) }
+    ensures full { IsErrOf result Error.OutOfSlots ↔ HaveManyNames l.now.m r.now.m }
     ensures err { IfErr result IsShortage }
 {
     if !is_short(l, r) {
@@ -182,7 +182,7 @@ pub(crate) fn numbered(alloc: Global, l: &AppliedId, r: &AppliedId) -> Result<Eq
 pub(crate) fn numbered_itself(alloc: Global, a: &AppliedId) -> Result<Equation, Error>
     requires { IsInjectiveMap a.now.m }
     ensures ok { IfOk result (IsWritten (reflexive_statement a.now.id.0 (keys a.now.m))) }
-    ensures full { IsErrOf result Error.OutOfSlots ↔ (2 ^ 30 ≤ length a.now.m) }
+    ensures full { IsErrOf result Error.OutOfSlots ↔ (slot_limit ≤ length a.now.m) }
     ensures err { IfErr result IsShortage }
 {
     if a.m.len() >= PLACES {
@@ -208,7 +208,7 @@ pub(crate) fn composite(
     requires right { IsInjectiveMap second.now.r.m }
     requires meets { Meets (statement_of first.now) (statement_of second.now) }
     ensures ok { IfOk result (IsWritten (composite_statement (statement_of first.now) (statement_of second.now))) }
-    ensures full { IsErrOf result Error.OutOfSlots ↔ (2 ^ 30 ≤ length first.now.l.m + length second.now.r.m) }
+    ensures full { IsErrOf result Error.OutOfSlots ↔ HaveManyNames first.now.l.m second.now.r.m }
     ensures err { IfErr result IsShortage }
 {
     if !is_short(&first.l, &second.r) {

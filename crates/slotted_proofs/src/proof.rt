@@ -123,3 +123,17 @@ pub struct ProvenEqRaw {
     #[derive_where(skip(EqHashOrd))]
     pub proof: Proof,
 }
+
+impl ProvenEqRaw {
+    /// An entry with the same equation, by the same step, with the same text.
+    pub fn copy(&self, alloc: Global) -> Result<ProvenEqRaw, Error>
+        ensures equation { IfOk result (λ c. c.equ ≡ self.now.equ) }
+        ensures step { IfOk result (λ c. step_of c.proof ≡ step_of self.now.proof) }
+        ensures text { IfOk result (λ c. text_of c.proof ≡ text_of self.now.proof) }
+        ensures err { IfErr result IsOutOfMemory }
+    {
+        let equ = self.equ.copy(alloc)?;
+        let proof = self.proof.copy(alloc)?;
+        Ok(ProvenEqRaw { equ, proof })
+    }
+}

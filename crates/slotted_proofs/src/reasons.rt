@@ -1,8 +1,7 @@
 //! How an entry was proved, as its line in a printed proof says it.
 ghost use Rattle.std.specs.Prelude.{◌≡◌, ◌++◌, string_bytes, codes, IfOk, OnOk, IfErr, IfSome, Option};
 ghost use Rattle.slotted_slots.specs.Error.{IsOutOfMemory};
-ghost use Rattle.slotted_proofs.specs.Entries.{step_of, text_of};
-ghost use Rattle.slotted_proofs.specs.Reasons.{number_text, step_text, reason_text};
+ghost use Rattle.slotted_proofs.specs.Reasons.{number_text, step_text, reason_of};
 
 use crate::lines::ProofLines;
 use crate::proof::{Proof, ProvenEq};
@@ -13,7 +12,7 @@ use std::fmt::Write;
 /// The reason in the line of an entry with this proof: the debug form of the optional text, `refl`, or `symmetry`,
 /// `transitivity` or `congruence` with the numbers of the parts' lines.
 pub fn reason(alloc: Global, proof: &Proof, lines: &ProofLines) -> Result<String, Error>
-    ensures ok { IfOk result (λ s. IfSome (reason_text lines.now (step_of proof.now) (text_of proof.now)) (λ bs. string_bytes s ≡ bs)) }
+    ensures ok { IfOk result (λ s. IfSome (reason_of lines.now proof.now) (λ bs. string_bytes s ≡ bs)) }
     ensures err { IfErr result IsOutOfMemory }
 {
     match proof {

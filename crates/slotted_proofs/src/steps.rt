@@ -1,13 +1,12 @@
 //! Steps that callers ask for: an equation is entered by a step only where the step fits it.
-ghost use Rattle.std.specs.Prelude.{All, ◌≡◌, ◌⊎◌, ◌+◌, ◌^◌, ◌≤◌, ◌↔◌, length, IsTrue, IfOk, IfErr, OnErr, IsErrOf};
+ghost use Rattle.std.specs.Prelude.{All, ◌≡◌, ◌⊎◌, ◌≤◌, ◌↔◌, length, IsTrue, IfOk, IfErr, OnErr, IsErrOf};
 ghost use Rattle.slotted_theory.specs.FiniteMaps.{IsInjectiveMap};
 ghost use Rattle.slotted_slots.specs.Error.{IsOutOfMemory, IsShortage};
+ghost use Rattle.slotted_slots.specs.Table.{slot_limit};
 ghost use Rattle.slotted_model.specs.Applied.{keys};
-ghost use Rattle.slotted_model.specs.Correspondence.{CanJoin, composite, same_names};
 ghost use Rattle.slotted_model.specs.ProofList.{congruent, reflexive, symmetric, transitive};
-ghost use Rattle.slotted_proofs.specs.Equations.{to_applied, statement_of};
-ghost use Rattle.slotted_proofs.specs.Entries.{Enters};
-ghost use Rattle.slotted_proofs.specs.Steps.{AreAsked, AreEntries, AreFull, GoesOver, HasInjectiveSides, IsLarge, name_count, IsJoined, IsEntry, IsOver, IsSideOver, IsReflexiveStep, IsSymmetricStep, IsTransitiveStep, IsRefusal, by_step};
+ghost use Rattle.slotted_proofs.specs.Equations.{to_applied, HaveManyNames, HasManyNames};
+ghost use Rattle.slotted_proofs.specs.Steps.{AreAsked, AreEntries, AreFull, HasInjectiveSides, IsLarge, HalvesGoOver, HalvesJoin, PairsJoin, IsEntry, IsOver, IsSideOver, IsReflexiveStep, IsSymmetricStep, IsTransitiveStep, FitsReflexive, FitsSymmetric, FitsTransitive, IsRefusal, EntersStep, middle_pairs, known_pairs, reached_pairs};
 
 use crate::equation::Equation;
 use crate::list::ProofList;
@@ -45,7 +44,7 @@ fn goes_over(
     requires whole { HasInjectiveSides whole.now }
     requires first { AreFull first.now }
     requires second { AreFull second.now }
-    ensures ok { IfOk result (λ yes. IsTrue yes ↔ GoesOver (statement_of whole.now) (statement_of first.now) (statement_of second.now)) }
+    ensures ok { IfOk result (λ yes. IsTrue yes ↔ HalvesGoOver whole.now first.now second.now) }
     ensures err { IfErr result IsOutOfMemory }
 {
     if !have_one_class(alloc, &whole.l, &first.l)? {
@@ -61,7 +60,7 @@ fn goes_over(
 fn known_pairs(alloc: Global, first: &Equation, asked: &SlotMap) -> Result<SlotMap, Error>
     requires left { IsInjectiveMap first.now.l.m }
     requires right { IsInjectiveMap first.now.r.m }
-    ensures ok { IfOk result (λ m. m ≡ composite (composite (same_names first.now.l.m first.now.r.m) (same_names first.now.r.m first.now.l.m)) asked.now) }
+    ensures ok { IfOk result (λ m. m ≡ known_pairs first.now asked.now) }
     ensures err { IfErr result IsOutOfMemory }
 {
     let known = shared_over(alloc, &first.l.m, &first.r.m, &first.r.m, &first.l.m)?;
@@ -72,7 +71,7 @@ fn known_pairs(alloc: Global, first: &Equation, asked: &SlotMap) -> Result<SlotM
 fn reached_pairs(alloc: Global, asked: &SlotMap, second: &Equation) -> Result<SlotMap, Error>
     requires left { IsInjectiveMap second.now.l.m }
     requires right { IsInjectiveMap second.now.r.m }
-    ensures ok { IfOk result (λ m. m ≡ composite (composite asked.now (same_names second.now.r.m second.now.l.m)) (same_names second.now.l.m second.now.r.m)) }
+    ensures ok { IfOk result (λ m. m ≡ reached_pairs asked.now second.now) }
     ensures err { IfErr result IsOutOfMemory }
 {
     let reached = sent_along(alloc, asked, &second.r.m, &second.l.m)?;
@@ -83,7 +82,7 @@ fn reached_pairs(alloc: Global, asked: &SlotMap, second: &Equation) -> Result<Sl
 fn middle_pairs(alloc: Global, first: &Equation, second: &Equation) -> Result<SlotMap, Error>
     requires first { IsInjectiveMap first.now.r.m }
     requires second { IsInjectiveMap second.now.r.m }
-    ensures ok { IfOk result (λ m. m ≡ composite (same_names first.now.l.m first.now.r.m) (same_names second.now.l.m second.now.r.m)) }
+    ensures ok { IfOk result (λ m. m ≡ middle_pairs first.now second.now) }
     ensures err { IfErr result IsOutOfMemory }
 {
     shared_over(alloc, &first.l.m, &first.r.m, &second.l.m, &second.r.m)
@@ -98,7 +97,7 @@ fn are_known(
 ) -> Result<bool, Error>
     requires left { IsInjectiveMap first.now.l.m }
     requires right { IsInjectiveMap first.now.r.m }
-    ensures ok { IfOk result (λ yes. IsTrue yes ↔ (over.now ≡ composite (composite (same_names first.now.l.m first.now.r.m) (same_names first.now.r.m first.now.l.m)) asked.now)) }
+    ensures ok { IfOk result (λ yes. IsTrue yes ↔ (over.now ≡ known_pairs first.now asked.now)) }
     ensures err { IfErr result IsOutOfMemory }
 {
     let known = known_pairs(alloc, first, asked)?;
@@ -114,7 +113,7 @@ fn are_reached(
 ) -> Result<bool, Error>
     requires left { IsInjectiveMap second.now.l.m }
     requires right { IsInjectiveMap second.now.r.m }
-    ensures ok { IfOk result (λ yes. IsTrue yes ↔ (over.now ≡ composite (composite asked.now (same_names second.now.r.m second.now.l.m)) (same_names second.now.l.m second.now.r.m))) }
+    ensures ok { IfOk result (λ yes. IsTrue yes ↔ (over.now ≡ reached_pairs asked.now second.now)) }
     ensures err { IfErr result IsOutOfMemory }
 {
     let reached = reached_pairs(alloc, asked, second)?;
@@ -150,8 +149,8 @@ fn can_join(
     requires whole { HasInjectiveSides whole.now }
     requires first { AreFull first.now }
     requires second { AreFull second.now }
-    requires over { GoesOver (statement_of whole.now) (statement_of first.now) (statement_of second.now) }
-    ensures ok { IfOk result (λ yes. IsTrue yes ↔ CanJoin (same_names whole.now.l.m whole.now.r.m) (same_names first.now.l.m first.now.r.m) (same_names second.now.l.m second.now.r.m)) }
+    requires over { HalvesGoOver whole.now first.now second.now }
+    ensures ok { IfOk result (λ yes. IsTrue yes ↔ PairsJoin whole.now first.now second.now) }
     ensures err { IfErr result IsOutOfMemory }
 {
     let asked = shared_names(alloc, &whole.l.m, &whole.r.m)?;
@@ -168,7 +167,7 @@ fn is_joined(
     requires whole { HasInjectiveSides whole.now }
     requires first { AreFull first.now }
     requires second { AreFull second.now }
-    ensures ok { IfOk result (λ yes. IsTrue yes ↔ IsJoined (statement_of whole.now) (statement_of first.now) (statement_of second.now)) }
+    ensures ok { IfOk result (λ yes. IsTrue yes ↔ HalvesJoin whole.now first.now second.now) }
     ensures err { IfErr result IsOutOfMemory }
 {
     if !goes_over(alloc, whole, first, second)? {
@@ -223,7 +222,7 @@ impl ProofList {
         requires left { IsInjectiveMap l.now.m }
         requires right { IsInjectiveMap r.now.m }
         ensures ok { IfOk result (λ yes. IsTrue yes ↔ IsEntry self.now p (to_applied l.now) (to_applied r.now)) }
-        ensures full { IsErrOf result Error.OutOfSlots ↔ (2 ^ 30 ≤ length l.now.m + length r.now.m) }
+        ensures full { IsErrOf result Error.OutOfSlots ↔ HaveManyNames l.now.m r.now.m }
         ensures err { IfErr result IsShortage }
     {
         let asked = numbered(alloc, l, r)?;
@@ -240,9 +239,9 @@ impl ProofList {
         requires left { IsInjectiveMap equation.now.l.m }
         requires right { IsInjectiveMap equation.now.r.m }
         ensures fits { IfOk result (λ _. IsReflexiveStep equation.now) }
-        ensures ok { IfOk result (Enters self.old self.new (by_step (statement_of equation.now) reflexive)) }
+        ensures ok { IfOk result (EntersStep self.old self.new equation.now reflexive) }
         ensures refused { IsErrOf result Error.BadStep → ¬ IsReflexiveStep equation.now }
-        ensures full { IsErrOf result Error.OutOfSlots → 2 ^ 30 ≤ length equation.now.l.m }
+        ensures full { IsErrOf result Error.OutOfSlots → slot_limit ≤ length equation.now.l.m }
         ensures only { IfErr result IsRefusal }
         ensures err { OnErr result (self.new ≡ self.old) }
     {
@@ -264,9 +263,9 @@ impl ProofList {
         requires left { IsInjectiveMap equation.now.l.m }
         requires right { IsInjectiveMap equation.now.r.m }
         ensures fits { IfOk result (λ _. IsSymmetricStep self.old equation.now p) }
-        ensures ok { IfOk result (Enters self.old self.new (by_step (statement_of equation.now) (symmetric p))) }
+        ensures ok { IfOk result (EntersStep self.old self.new equation.now (symmetric p)) }
         ensures refused { IsErrOf result Error.BadStep → ¬ IsSymmetricStep self.old equation.now p }
-        ensures full { IsErrOf result Error.OutOfSlots ↔ (2 ^ 30 ≤ length equation.now.l.m + length equation.now.r.m) }
+        ensures full { IsErrOf result Error.OutOfSlots ↔ HasManyNames equation.now }
         ensures only { IfErr result IsRefusal }
         ensures err { OnErr result (self.new ≡ self.old) }
     {
@@ -289,9 +288,9 @@ impl ProofList {
         requires left { IsInjectiveMap equation.now.l.m }
         requires right { IsInjectiveMap equation.now.r.m }
         ensures fits { IfOk result (λ _. IsTransitiveStep self.old equation.now p q) }
-        ensures ok { IfOk result (Enters self.old self.new (by_step (statement_of equation.now) (transitive p q))) }
+        ensures ok { IfOk result (EntersStep self.old self.new equation.now (transitive p q)) }
         ensures refused { IsErrOf result Error.BadStep → ¬ IsTransitiveStep self.old equation.now p q }
-        ensures full { IsErrOf result Error.OutOfSlots → 2 ^ 30 ≤ length equation.now.l.m + length equation.now.r.m }
+        ensures full { IsErrOf result Error.OutOfSlots → HasManyNames equation.now }
         ensures only { IfErr result IsRefusal }
         ensures err { OnErr result (self.new ≡ self.old) }
     {
@@ -343,9 +342,9 @@ impl ProofList {
         requires right { IsInjectiveMap equation.now.r.m }
         requires children { All HasInjectiveSides children.now }
         ensures fits { IfOk result (λ _. AreEntries self.old parts.items children.now) }
-        ensures ok { IfOk result (Enters self.old self.new (by_step (statement_of equation.now) (congruent parts.items))) }
+        ensures ok { IfOk result (EntersStep self.old self.new equation.now (congruent parts.items)) }
         ensures refused { IsErrOf result Error.BadStep → ¬ AreEntries self.old parts.items children.now }
-        ensures full { IsErrOf result Error.OutOfSlots → (2 ^ 30 ≤ name_count equation.now) ⊎ IsLarge children.now }
+        ensures full { IsErrOf result Error.OutOfSlots → HasManyNames equation.now ⊎ IsLarge children.now }
         ensures only { IfErr result IsRefusal }
         ensures err { OnErr result (self.new ≡ self.old) }
     {
@@ -367,10 +366,10 @@ impl ProofList {
         left: &SmallHashSet<Slot>,
         right: &SmallHashSet<Slot>,
     ) -> Result<ProvenEq, Error>
-        ensures fits { IfOk result (λ _. IsOver equation.now left.now right.now × IsReflexiveStep equation.now) }
-        ensures ok { IfOk result (Enters self.old self.new (by_step (statement_of equation.now) reflexive)) }
-        ensures refused { IsErrOf result Error.BadStep → ¬ (IsOver equation.now left.now right.now × IsReflexiveStep equation.now) }
-        ensures full { IsErrOf result Error.OutOfSlots → 2 ^ 30 ≤ length equation.now.l.m }
+        ensures fits { IfOk result (λ _. FitsReflexive equation.now left.now right.now) }
+        ensures ok { IfOk result (EntersStep self.old self.new equation.now reflexive) }
+        ensures refused { IsErrOf result Error.BadStep → ¬ FitsReflexive equation.now left.now right.now }
+        ensures full { IsErrOf result Error.OutOfSlots → slot_limit ≤ length equation.now.l.m }
         ensures only { IfErr result IsRefusal }
         ensures err { OnErr result (self.new ≡ self.old) }
     {
@@ -390,10 +389,10 @@ impl ProofList {
         right: &SmallHashSet<Slot>,
         p: ProvenEq,
     ) -> Result<ProvenEq, Error>
-        ensures fits { IfOk result (λ _. IsOver equation.now left.now right.now × IsSymmetricStep self.old equation.now p) }
-        ensures ok { IfOk result (Enters self.old self.new (by_step (statement_of equation.now) (symmetric p))) }
-        ensures refused { IsErrOf result Error.BadStep → ¬ (IsOver equation.now left.now right.now × IsSymmetricStep self.old equation.now p) }
-        ensures full { IsErrOf result Error.OutOfSlots → 2 ^ 30 ≤ length equation.now.l.m + length equation.now.r.m }
+        ensures fits { IfOk result (λ _. FitsSymmetric self.old equation.now left.now right.now p) }
+        ensures ok { IfOk result (EntersStep self.old self.new equation.now (symmetric p)) }
+        ensures refused { IsErrOf result Error.BadStep → ¬ FitsSymmetric self.old equation.now left.now right.now p }
+        ensures full { IsErrOf result Error.OutOfSlots → HasManyNames equation.now }
         ensures only { IfErr result IsRefusal }
         ensures err { OnErr result (self.new ≡ self.old) }
     {
@@ -414,10 +413,10 @@ impl ProofList {
         p: ProvenEq,
         q: ProvenEq,
     ) -> Result<ProvenEq, Error>
-        ensures fits { IfOk result (λ _. IsOver equation.now left.now right.now × IsTransitiveStep self.old equation.now p q) }
-        ensures ok { IfOk result (Enters self.old self.new (by_step (statement_of equation.now) (transitive p q))) }
-        ensures refused { IsErrOf result Error.BadStep → ¬ (IsOver equation.now left.now right.now × IsTransitiveStep self.old equation.now p q) }
-        ensures full { IsErrOf result Error.OutOfSlots → 2 ^ 30 ≤ length equation.now.l.m + length equation.now.r.m }
+        ensures fits { IfOk result (λ _. FitsTransitive self.old equation.now left.now right.now p q) }
+        ensures ok { IfOk result (EntersStep self.old self.new equation.now (transitive p q)) }
+        ensures refused { IsErrOf result Error.BadStep → ¬ FitsTransitive self.old equation.now left.now right.now p q }
+        ensures full { IsErrOf result Error.OutOfSlots → HasManyNames equation.now }
         ensures only { IfErr result IsRefusal }
         ensures err { OnErr result (self.new ≡ self.old) }
     {

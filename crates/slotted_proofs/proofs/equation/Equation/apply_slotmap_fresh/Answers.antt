@@ -1,43 +1,35 @@
 -- One completed map, over which each side goes on.
-use Rattle.std.proofs.Common.{◌∙◌, ◌++◌, ℕ, List, refl, sym, ap, subst}
-use Rattle.slotted_slots.specs.Maps.{IsInEither, all_differ, composed, doubled, values}
-use Rattle.slotted_slots.specs.Table.{Takes}
+use Rattle.std.proofs.Common.{◌++◌, sym, subst}
+use Rattle.slotted_theory.specs.FiniteMaps.{IsInjectiveMap}
+use Rattle.slotted_slots.specs.Maps.{composed, values}
 use Rattle.slotted_model.specs.Applied.{Applied}
-use Rattle.slotted_proofs.specs.Fresh.{names_of}
-use Rattle.slotted_proofs.proofs.Bridges.{differ_injective}
-use Rattle.slotted_proofs.proofs.SentOn.{left_known, right_known, left_stays, right_stays, takes_sent}
+use Rattle.slotted_proofs.specs.Fresh.{AreKnownOr, TakesFor}
+use Rattle.slotted_proofs.proofs.SentOn.{left_stays, right_stays, known_sent, takes_sent}
 use Rattle.slotted_proofs.proofs.equation.Equation.apply_slotmap_fresh.Goals as goal
 
-pub apply_slotmap-requires-clause-left_known : goal.apply_slotmap-requires-clause-left_known
-apply_slotmap-requires-clause-left_known c =
-    left_known c.args.table.now c.sent_names.new.table c.args.self.now c.args.m.now (doubled (names_of c.args.self.now)) c.in_ok-completed.completed refl c.in_ok-completed.ensures.completed
+pub returns-clause-left_injective : goal.returns-clause-left_injective
+returns-clause-left_injective c = λ stays.
+    subst (λ (a : Applied). IsInjectiveMap a.1) (sym c.in_ok-sent.ensures.left)
+    (left_stays c.args.table.now c.sent_names.new.table c.args.self.now c.args.m.now c.in_ok-names.names c.in_ok-names.ensures.completed stays)
 
-pub apply_slotmap-requires-clause-right_known : goal.apply_slotmap-requires-clause-right_known
-apply_slotmap-requires-clause-right_known c =
-    right_known c.args.table.now c.sent_names.new.table c.args.self.now c.args.m.now (doubled (names_of c.args.self.now)) c.in_ok-completed.completed refl c.in_ok-completed.ensures.completed
+pub returns-clause-right_injective : goal.returns-clause-right_injective
+returns-clause-right_injective c = λ stays.
+    subst (λ (a : Applied). IsInjectiveMap a.1) (sym c.in_ok-sent.ensures.right)
+    (right_stays c.args.table.now c.sent_names.new.table c.args.self.now c.args.m.now c.in_ok-names.names c.in_ok-names.ensures.completed stays)
 
-pub apply_slotmap-requires-clause-left_apart : goal.apply_slotmap-requires-clause-left_apart
-apply_slotmap-requires-clause-left_apart c =
-    left_stays c.args.table.now c.sent_names.new.table c.args.self.now c.args.m.now (doubled (names_of c.args.self.now)) c.in_ok-completed.completed refl c.in_ok-completed.ensures.completed c.requires.left c.requires.left_apart
-
-pub apply_slotmap-requires-clause-right_apart : goal.apply_slotmap-requires-clause-right_apart
-apply_slotmap-requires-clause-right_apart c =
-    right_stays c.args.table.now c.sent_names.new.table c.args.self.now c.args.m.now (doubled (names_of c.args.self.now)) c.in_ok-completed.completed refl c.in_ok-completed.ensures.completed c.requires.right c.requires.right_apart
-
-pub returns-clause-injective : goal.returns-clause-injective
-returns-clause-injective c = record {
-  left = differ_injective c.in_ok-sent.sent.l.m (ap (λ (a : Applied). all_differ (values a.1)) c.in_ok-sent.ensures.left
-      ∙ left_stays c.args.table.now c.sent_names.new.table c.args.self.now c.args.m.now (doubled (names_of c.args.self.now)) c.in_ok-completed.completed refl c.in_ok-completed.ensures.completed c.requires.left c.requires.left_apart);
-  right = differ_injective c.in_ok-sent.sent.r.m (ap (λ (a : Applied). all_differ (values a.1)) c.in_ok-sent.ensures.right
-      ∙ right_stays c.args.table.now c.sent_names.new.table c.args.self.now c.args.m.now (doubled (names_of c.args.self.now)) c.in_ok-completed.completed refl c.in_ok-completed.ensures.completed c.requires.right c.requires.right_apart);
-}
+pub returns-clause-known : goal.returns-clause-known
+returns-clause-known c =
+    let new = c.sent_names.new.table in
+    let names = c.in_ok-names.names in
+    subst (λ (a : Applied). AreKnownOr new (values c.args.m.now) (values a.1 ++ values c.in_ok-sent.sent.r.m)) (sym c.in_ok-sent.ensures.left)
+    (subst (λ (a : Applied). AreKnownOr new (values c.args.m.now) (values (composed c.args.self.now.l.m names) ++ values a.1)) (sym c.in_ok-sent.ensures.right)
+    (known_sent c.args.table.now new c.args.self.now c.args.m.now names c.in_ok-names.ensures.completed))
 
 pub returns-clause-taken : goal.returns-clause-taken
 returns-clause-taken c =
-    let l : List (ℕ × ℕ) = c.args.self.now.l.m in
-    let r : List (ℕ × ℕ) = c.args.self.now.r.m in
-    let m : List (ℕ × ℕ) = c.args.m.now in
-    let sent : Takes c.args.table.now c.sent_names.new.table (IsInEither (values (composed l c.in_ok-completed.completed) ++ values (composed r c.in_ok-completed.completed)) ((values l ++ values r) ++ values m)) =
-    takes_sent c.args.table.now c.sent_names.new.table c.args.self.now c.args.m.now (doubled (names_of c.args.self.now)) c.in_ok-completed.completed refl c.in_ok-completed.ensures.completed c.in_ok-completed.ensures.taken in
-    subst (λ (a : Applied). Takes c.args.table.now c.sent_names.new.table (IsInEither (values a.1 ++ values c.in_ok-sent.sent.r.m) ((values l ++ values r) ++ values m))) (sym c.in_ok-sent.ensures.left)
-    (subst (λ (a : Applied). Takes c.args.table.now c.sent_names.new.table (IsInEither (values (composed l c.in_ok-completed.completed) ++ values a.1) ((values l ++ values r) ++ values m))) (sym c.in_ok-sent.ensures.right) sent)
+    let old = c.args.table.now in
+    let new = c.sent_names.new.table in
+    let names = c.in_ok-names.names in
+    subst (λ (a : Applied). TakesFor old new c.args.self.now c.args.m.now (values a.1 ++ values c.in_ok-sent.sent.r.m)) (sym c.in_ok-sent.ensures.left)
+    (subst (λ (a : Applied). TakesFor old new c.args.self.now c.args.m.now (values (composed c.args.self.now.l.m names) ++ values a.1)) (sym c.in_ok-sent.ensures.right)
+    (takes_sent old new c.args.self.now c.args.m.now names c.in_ok-names.ensures.completed c.in_ok-names.ensures.taken))
