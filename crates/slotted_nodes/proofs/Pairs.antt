@@ -1,26 +1,26 @@
 -- Two fields of one node, f and g, as one form.
-use Rattle.std.proofs.Common.{◌≡◌, ℕ, ◌+◌, ◌-◌, ◌<◌, ◌≤◌, ◌^◌, min, List, [], ◌++◌, length, take, drop, Option, Some, None, refl, slice_index_or, ap, ◌∙◌, sym, append_assoc, arith, length-append, length-drop, add_assoc}
+use Rattle.std.proofs.Common.{◌≡◌, ℕ, ◌+◌, ◌-◌, ◌<◌, ◌≤◌, List, [], ◌++◌, length, take, drop, Option, Some, None, refl, slice_index_or, ap, ◌∙◌, sym, append_assoc, arith, length-append, length-drop, add_assoc}
 use Rattle.std.proofs.lemmas.List.{get_or_append_left, get_or-append_right, set-append_left, set-append_right, take-append-le, drop-append-le}
 use Rattle.std.proofs.Math.Seq.{take-append-add, drop-append-add}
 use Rattle.slotted_nodes.specs.Equal.{form_ext}
-use Rattle.slotted_nodes.specs.Form.{Form, join, scopes, children, child_place, child_names, width, with_name, with_child, end_at, scope_end_of, join_form}
+use Rattle.slotted_nodes.specs.Form.{Form, IsPlace, counted, counted_end, join, scopes, children, child_place, child_id, child_keys, child_names, width, with_name, with_child, end_at, scope_end_of, join_form}
 use Rattle.slotted_nodes.specs.Joined.{scopes-join, children-join, child_place-join_left, child_place-join_right, with_child_in-join_left, with_child_in-join_right, child_fits}
 
--- how many places the first field has
-pub first_places : (f g : Form) (n : ℕ) → n ≡ min (length f.names) (2 ^ 64 - 1) → length (f.names ++ g.names) < 2 ^ 30 → n ≡ length f.names
-first_places f g n e small = omega (arith, e, small, length-append f.names g.names)
+-- how many places the first field has, where a place of both is none of them
+pub first_places : (f g : Form) (n i : ℕ) → n ≡ counted (length f.names) → n ≤ i → IsPlace (join_form f g) i → n ≡ length f.names
+first_places f g n i e past within = omega (arith, e, past, within, length-append f.names g.names)
 
 -- a child that is not of the first field is one of the second
 pub second_child : (f g : Form) (n k : ℕ) → n ≡ length (children f.tree) → n ≤ k → k < length (children (join f.tree g.tree)) → k - n < length (children g.tree)
 second_child f g n k e past within =
     omega (arith, e, past, within, length-append (children f.tree) (children g.tree), ap length (children-join f.tree g.tree))
 
--- where a scope ends after n more places
+-- where a scope ends after n more places, as calls answer it
 abbrev pub end_plus : ℕ → Option ℕ → Option ℕ
 end_plus n None = None
-end_plus n (Some e) = Some (e + n)
+end_plus n (Some e) = Some (counted (e + n))
 
-end_at_plus : (i n : ℕ) (o : Option ℕ) → n ≤ i → end_at i o ≡ end_plus n (end_at (i - n) o)
+pub end_at_plus : (i n : ℕ) (o : Option ℕ) → n ≤ i → counted_end (end_at i o) ≡ end_plus n (counted_end (end_at (i - n) o))
 end_at_plus i n None h = refl
 end_at_plus i n (Some k) h = ap Some (omega (arith, h))
 
@@ -28,7 +28,7 @@ module _ (f g : Form) (fits : length f.names ≡ length (scopes f.tree)) where
   pub scope_end_left : (i : ℕ) → i < length f.names → scope_end_of (scopes (join f.tree g.tree)) i ≡ scope_end_of (scopes f.tree) i
   scope_end_left i h = rw (scopes-join f.tree g.tree) (ap (end_at i) (get_or_append_left (scopes f.tree) (scopes g.tree) None i (omega (arith, h, fits))))
 
-  pub scope_end_right : (n i : ℕ) (end : Option ℕ) → n ≡ length f.names → n ≤ i → end ≡ scope_end_of (scopes g.tree) (i - n) → end_plus n end ≡ scope_end_of (scopes (join f.tree g.tree)) i
+  pub scope_end_right : (n i : ℕ) (end : Option ℕ) → n ≡ length f.names → n ≤ i → end ≡ counted_end (scope_end_of (scopes g.tree) (i - n)) → end_plus n end ≡ counted_end (scope_end_of (scopes (join f.tree g.tree)) i)
   scope_end_right n i end e h o =
       rw (o, scopes-join f.tree g.tree, get_or-append_right (scopes f.tree) (scopes g.tree) n i None (sym fits ∙ sym e) h)
       (sym (end_at_plus i n (slice_index_or (scopes g.tree) (i - n) None) h))
@@ -44,6 +44,18 @@ module _ (f g : Form) (fits : length f.names ≡ length (scopes f.tree)) where
 
   pub child_right : (k : ℕ) → length (children f.tree) ≤ k → slice_index_or (children (join f.tree g.tree)) k (0, []) ≡ slice_index_or (children g.tree) (k - length (children f.tree)) (0, [])
   child_right k h = rw (children-join f.tree g.tree) (get_or-append_right (children f.tree) (children g.tree) (length (children f.tree)) k (0, []) refl h)
+
+  pub child_id_left : (k : ℕ) → k < length (children f.tree) → child_id (join_form f g) k ≡ child_id f k
+  child_id_left k h = ap (λ (c : ℕ × List ℕ). c.0) (child_left k h)
+
+  pub child_id_right : (k : ℕ) → length (children f.tree) ≤ k → child_id (join_form f g) k ≡ child_id g (k - length (children f.tree))
+  child_id_right k h = ap (λ (c : ℕ × List ℕ). c.0) (child_right k h)
+
+  pub child_keys_left : (k : ℕ) → k < length (children f.tree) → child_keys (join_form f g) k ≡ child_keys f k
+  child_keys_left k h = ap (λ (c : ℕ × List ℕ). c.1) (child_left k h)
+
+  pub child_keys_right : (k : ℕ) → length (children f.tree) ≤ k → child_keys (join_form f g) k ≡ child_keys g (k - length (children f.tree))
+  child_keys_right k h = ap (λ (c : ℕ × List ℕ). c.1) (child_right k h)
 
   pub child_names_left : (k : ℕ) → k < length (children f.tree) → child_names (join_form f g) k ≡ child_names f k
   child_names_left k h =

@@ -1,10 +1,11 @@
 -- The laws of slots, children, binders and payloads: how many names and children they have, and that they are equal
 -- exactly if their forms are.
-use Rattle.std.specs.Prelude.{◌≡◌, ℕ, ◌^◌, ◌<◌, List, [], ◌∷◌, length, Bool, refl, IsTrue, ◌↔◌, ◌&&◌, nat_eq}
+use Rattle.std.specs.Prelude.{◌≡◌, ℕ, ◌<◌, List, [], ◌∷◌, length, Bool, refl, IsTrue, ◌↔◌, ◌&&◌, nat_eq}
 use Rattle.std.proofs.Common.{ap, ◌∙◌, rules, arith}
 use Rattle.std.proofs.lemmas.List.{length-map, append-nil}
 use Rattle.std.specs.Cmp.Lexicographic.{pointwise}
 use Rattle.slotted_slots.specs.Maps.{keys, values}
+use Rattle.slotted_slots.specs.Table.{slot_limit}
 use Rattle.slotted_slots.specs.declared.types.AppliedId.{AppliedId}
 use Rattle.std.proofs.lemmas.Slice.Eq.{slice_eq-Decides}
 use Rattle.std.specs.Bool.{Decides}
@@ -26,7 +27,7 @@ pub bind_form_fits : (x : ℕ) (f : Form) → length f.names ≡ length (scopes 
 bind_form_fits x f h = grind (arith, append-nil)
 
 -- a binder has the children of what stands under it
-pub bind_form_few : (x : ℕ) (f : Form) → length (children f.tree) < 2 ^ 30 → length (children (bind_form x f).tree) < 2 ^ 30
+pub bind_form_few : (x : ℕ) (f : Form) → length (children f.tree) < slot_limit → length (children (bind_form x f).tree) < slot_limit
 bind_form_few x f h = grind (arith, append-nil)
 
 -- forms with equal parts are equal

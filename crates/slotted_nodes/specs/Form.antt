@@ -1,7 +1,9 @@
 -- What a node is, apart from how it is stored: its operator, its payloads, the tree of its arguments without their
 -- names, and the names at its places from the left.
-use Rattle.std.specs.Prelude.{ℕ, suc, zero, ◌+◌, ◌-◌, List, [], ◌∷◌, ◌++◌, length, map, take, drop, Option, Some, None, cond, nat_lt, slice_index_or, slice_set, ◌<◌, ◌^◌}
+use Rattle.std.specs.Prelude.{ℕ, suc, zero, ◌+◌, ◌-◌, List, [], ◌∷◌, ◌++◌, length, map, take, drop, min, Option, Some, None, cond, nat_lt, slice_index_or, slice_set, ◌<◌, ◌^◌}
 use Rattle.slotted_slots.specs.Maps.{keys, values}
+use Rattle.slotted_slots.specs.Table.{slot_limit}
+use Rattle.slotted_slots.specs.declared.types.AppliedId.{AppliedId}
 
 -- the arguments of a node: own names, children with the keys of their maps, and binders with the arguments under them
 pub data Tree : Type 0 where
@@ -112,6 +114,30 @@ with_child f k j ls xs = record f {
   names = take (child_place f.tree k) f.names ++ xs ++ drop (child_place f.tree k + width f.tree k) f.names;
 }
 
+-- a form with this applied id in the place of a child
+abbrev pub with_applied : Form → ℕ → AppliedId → Form
+with_applied f k a = with_child f k a.id.0 (keys a.m) (values a.m)
+
+-- the id of a child, and its keys
+abbrev pub child_id : Form → ℕ → ℕ
+child_id f k = (slice_index_or (children f.tree) k (0, [])).0
+
+abbrev pub child_keys : Form → ℕ → List ℕ
+child_keys f k = (slice_index_or (children f.tree) k (0, [])).1
+
 -- as many places as slots can number
 abbrev pub IsSmall : Form → Type 0
-IsSmall f = length f.names < 2 ^ 30
+IsSmall f = length f.names < slot_limit
+
+-- a number as a call answers it: the largest one that there is in place of a larger one
+abbrev pub counted : ℕ → ℕ
+counted n = min n (2 ^ 64 - 1)
+
+-- the end of a scope as a call answers it
+abbrev pub counted_end : Option ℕ → Option ℕ
+counted_end None = None
+counted_end (Some e) = Some (counted e)
+
+-- a place that calls reach: it is below the count that they answer
+abbrev pub IsPlace : Form → ℕ → Type 0
+IsPlace f i = i < counted (length f.names)

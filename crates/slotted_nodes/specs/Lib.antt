@@ -3,6 +3,7 @@ pub mod Form
 pub mod Public
 pub mod Written
 pub mod Joined
+pub mod SmallForms
 pub mod Equal
 pub mod PairEqual
 pub mod ReadFrom

@@ -18,8 +18,8 @@ use Rattle.slotted_slots.specs.Table.{reads_u32, is_numeral_u32}
 use Rattle.slotted_nodes.specs.Form.{Form, leaf, plain, bind_form, children}
 use Rattle.slotted_nodes.specs.Identifier.{is_run_char, are_run_chars, begins_identifier, is_identifier, IsIdentifier, HasIdentifiers, HasNullIds, AreNull, HasNullChildren}
 use Rattle.slotted_nodes.specs.Equal.{cons_parts, tree_bind, form_ext}
-use Rattle.slotted_nodes.specs.TextLaws.{unsigned_parses, test_from_numeral}
-use Rattle.slotted_nodes.specs.Texts.{is_numeral, reads_unsigned, reads_signed, fits_beside_sign, reads_bool, bool_text, reads_char, only_char}
+use Rattle.slotted_nodes.specs.TextLaws.{signed_parts, unsigned_parses, test_from_numeral}
+use Rattle.slotted_nodes.specs.Texts.{is_numeral, reads_unsigned, reads_signed, signed_word, fits_beside_sign, reads_bool, bool_text, reads_char, only_char}
 use Rattle.slotted_nodes.specs.Written.{read_slot, read_child, read_bind, read_text}
 
 -- digits are characters of a run, and begin an identifier
@@ -180,6 +180,13 @@ payload_back : {A : Type 0} (word : A → List ℕ) (told : (a b : A) → word a
 payload_back word told reads written law (text bs ∷ []) a h e = law bs a h.0 (payload_read word told (reads bs) a e)
 payload_back word told reads written law es a h e = cc
 
+-- what nodes that were read from identifiers are written as has identifiers again, and reads as the same
+abbrev pub WritesIdentifiers : {A : Type 0} → (A → Form) → (A → List Element) → (List Element → Option Form) → Type 0
+WritesIdentifiers {A} form shown read = (es : List Element) (a : A) → HasIdentifiers es → read es ≡ Some (form a) → HasIdentifiers (shown a)
+
+abbrev pub ReadsAgain : {A : Type 0} → (A → Form) → (A → List Element) → (List Element → Option Form) → Type 0
+ReadsAgain {A} form shown read = (es : List Element) (a : A) → HasIdentifiers es → read es ≡ Some (form a) → read (shown a) ≡ Some (form a)
+
 -- the laws of payloads
 pub payload_words : {A : Type 0} (word : A → List ℕ) (told : (a b : A) → word a ≡ word b → a ≡ b) (reads : List ℕ → Option A) (written : A → List ℕ) → WritesBack reads written
     → (es : List Element) (a : A) → HasIdentifiers es → option_map (word_form word) (read_text reads es) ≡ Some (word_form word a) → HasIdentifiers (text (written a) ∷ [])
@@ -242,3 +249,19 @@ bound_null x (Some f) h = subst AreNull (sym (append-nil (children f.tree))) h
 pub bind_null : (read : List Element → Option Form) → ((es : List Element) → HasNullIds es → IfSome (read es) HasNullChildren) → (es : List Element) → HasNullIds es → IfSome (read_bind read es) HasNullChildren
 bind_null read law (name x ∷ es) h = bound_null x (read es) (law es h)
 bind_null read law es h = tt
+
+-- the numbers of k bits, and those of a sign and k bits
+abbrev number_form : ℕ → Form
+number_form = word_form (λ n. n ∷ [])
+
+pub unsigned_words : (k : ℕ) → 2 ^ k < 10 ^ 64 → WritesIdentifiers number_form (λ n. text (decimal n) ∷ []) (λ es. option_map number_form (read_text (reads_unsigned k) es))
+unsigned_words k wide = payload_words (λ n. n ∷ []) number_parts (reads_unsigned k) decimal (unsigned_back k wide)
+
+pub unsigned_reads : (k : ℕ) → 2 ^ k < 10 ^ 64 → ReadsAgain number_form (λ n. text (decimal n) ∷ []) (λ es. option_map number_form (read_text (reads_unsigned k) es))
+unsigned_reads k wide = payload_reads (λ n. n ∷ []) number_parts (reads_unsigned k) decimal (unsigned_back k wide)
+
+pub signed_words : (k : ℕ) → 2 ^ k < 10 ^ 64 → WritesIdentifiers (word_form signed_word) (λ z. text (signed_decimal z) ∷ []) (λ es. option_map (word_form signed_word) (read_text (reads_signed k) es))
+signed_words k wide = payload_words signed_word signed_parts (reads_signed k) signed_decimal (signed_back k wide)
+
+pub signed_reads : (k : ℕ) → 2 ^ k < 10 ^ 64 → ReadsAgain (word_form signed_word) (λ z. text (signed_decimal z) ∷ []) (λ es. option_map (word_form signed_word) (read_text (reads_signed k) es))
+signed_reads k wide = payload_reads signed_word signed_parts (reads_signed k) signed_decimal (signed_back k wide)

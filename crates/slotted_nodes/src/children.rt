@@ -1,10 +1,11 @@
 //! The parts of a node: slots, children, and binders over a part.
-ghost use Rattle.std.specs.Prelude.{◌≡◌, ◌↔◌, ◌<◌, ◌^◌, ℕ, List, [], ◌∷◌, length, map, min, slice_index, slice_index_or, Option, Some, None, option_map, IsTrue, IsSome, IfSome, IfOk, IfErr, refl};
+ghost use Rattle.std.specs.Prelude.{◌≡◌, ◌↔◌, ◌<◌, ℕ, List, [], ◌∷◌, length, map, slice_index, Option, Some, None, option_map, IsTrue, IsSome, IfSome, IfOk, IfErr, refl};
 ghost use Rattle.std.proofs.Common.{lit<};
 ghost use Rattle.slotted_slots.specs.Error.{IsOutOfMemory};
 ghost use Rattle.slotted_slots.specs.Maps.{keys, values};
+ghost use Rattle.slotted_slots.specs.Table.{slot_limit};
 ghost use Rattle.slotted_slots.specs.Syntax.{Element, element_of, applied, name};
-ghost use Rattle.slotted_nodes.specs.Form.{Form, IsSmall, children, child_names, child_place, scopes, scope_end_of, with_name, with_child, slot_form, child_form, bind_form};
+ghost use Rattle.slotted_nodes.specs.Form.{Form, IsPlace, counted, counted_end, children, child_id, child_keys, child_names, child_place, scopes, scope_end_of, with_name, with_applied, slot_form, child_form, bind_form};
 ghost use Rattle.slotted_nodes.specs.Equal.{applied_id_same, child_form_fits, bind_form_fits, bind_form_few, bind_same, slot_same};
 ghost use Rattle.slotted_nodes.specs.Public.{IsPublic, is_public};
 ghost use Rattle.slotted_nodes.specs.ReadFrom.{IsReadFrom, slot_faithful, child_faithful, bind_faithful};
@@ -19,7 +20,8 @@ use std::hash::Hash;
 ///
 /// The *places* are where slots stand, from the left: a slot is one place, a child has one place for each value of its
 /// map in key order, and a binder is a place before those of what stands under it. The *children* are the applied ids,
-/// from the left. Places and children are counted from 0.
+/// from the left. Places and children are counted from 0, and a call that is handed the number of a place needs it to be
+/// below `slot_count`.
 ///
 /// What a part is, apart from how it is stored, is its `form`: an operator, its payloads, the tree of its arguments
 /// without names, and the names at its places. Each call says what it reads of the form, or which form it leaves.
@@ -42,25 +44,23 @@ pub trait LanguageChildren: Debug + Clone + Hash + Eq + Drop {
 
     /// How many places there are, or the largest number where there are more.
     fn slot_count(&self) -> usize
-        ensures { result ≡ min (length (form self.now).names) usize.MAX };
+        ensures { result ≡ counted (length (form self.now).names) };
 
     /// The name at a place.
     fn slot(&self, i: usize) -> Slot
-        requires small { IsSmall (form self.now) }
-        requires within { i < length (form self.now).names }
+        requires { IsPlace (form self.now) i }
         ensures { result ≡ slice_index (form self.now).names i };
 
     /// Puts another name at a place.
     fn set_slot(&mut self, i: usize, s: Slot)
-        requires small { IsSmall (form self.old) }
-        requires within { i < length (form self.old).names }
+        requires { IsPlace (form self.old) i }
         ensures { form self.new ≡ with_name (form self.old) i s };
 
-    /// The place after the scope of a binder, which begins right after the binder. It is None for what is no binder.
+    /// The place after the scope of a binder, which begins right after the binder, or the largest number where it is a larger
+    /// one. It is None for what is no binder.
     fn scope_end(&self, i: usize) -> Option<usize>
-        requires small { IsSmall (form self.now) }
-        requires within { i < length (form self.now).names }
-        ensures { result ≡ scope_end_of (scopes (form self.now).tree) i };
+        requires { IsPlace (form self.now) i }
+        ensures { result ≡ counted_end (scope_end_of (scopes (form self.now).tree) i) };
 
     /// How many children there are.
     fn applied_id_count(&self) -> usize
@@ -69,20 +69,20 @@ pub trait LanguageChildren: Debug + Clone + Hash + Eq + Drop {
     /// A child, or None past the last one.
     fn get_applied_id(&self, k: usize) -> Option<&AppliedId>
         ensures some { IsSome result ↔ (k < length (children (form self.now).tree)) }
-        ensures id { IfSome result (λ a. a.now.id.0 ≡ (slice_index_or (children (form self.now).tree) k (0, [])).0) }
-        ensures keys { IfSome result (λ a. keys a.now.m ≡ (slice_index_or (children (form self.now).tree) k (0, [])).1) }
+        ensures id { IfSome result (λ a. a.now.id.0 ≡ child_id (form self.now) k) }
+        ensures keys { IfSome result (λ a. keys a.now.m ≡ child_keys (form self.now) k) }
         ensures names { IfSome result (λ a. values a.now.m ≡ child_names (form self.now) k) };
 
-    /// The first place of a child. Where the child has no places, it is the place that its first one would have.
+    /// The first place of a child, or the largest number where it is a larger one. Where the child has no places, it is the
+    /// place that its first one would have.
     fn applied_id_place(&self, k: usize) -> usize
-        requires small { IsSmall (form self.now) }
-        requires within { k < length (children (form self.now).tree) }
-        ensures { result ≡ child_place (form self.now).tree k };
+        requires { k < length (children (form self.now).tree) }
+        ensures { result ≡ counted (child_place (form self.now).tree k) };
 
     /// Puts another child in the place of a child.
     fn set_applied_id(&mut self, k: usize, a: AppliedId)
         requires { k < length (children (form self.old).tree) }
-        ensures { form self.new ≡ with_child (form self.old) k a.id.0 (keys a.m) (values a.m) };
+        ensures { form self.new ≡ with_applied (form self.old) k a };
 
     /// The syntax: texts, slots and children as they are written, from the left.
     fn to_syntax(&self, alloc: Global) -> Result<Vec<SyntaxElem>, Error>
@@ -97,8 +97,8 @@ pub trait LanguageChildren: Debug + Clone + Hash + Eq + Drop {
     /// A child.
     final fn applied_id(&self, k: usize) -> &AppliedId
         requires { k < length (children (form self.now).tree) }
-        ensures id { result.now.id.0 ≡ (slice_index_or (children (form self.now).tree) k (0, [])).0 }
-        ensures keys { keys result.now.m ≡ (slice_index_or (children (form self.now).tree) k (0, [])).1 }
+        ensures id { result.now.id.0 ≡ child_id (form self.now) k }
+        ensures keys { keys result.now.m ≡ child_keys (form self.now) k }
         ensures names { values result.now.m ≡ child_names (form self.now) k }
     {
         self.get_applied_id(k).unwrap()
@@ -106,8 +106,7 @@ pub trait LanguageChildren: Debug + Clone + Hash + Eq + Drop {
 
     /// Whether a place is public: it is no binder, and no binder that scopes it has its name.
     final fn is_public(&self, i: usize) -> bool
-        requires small { IsSmall (form self.now) }
-        requires within { i < length (form self.now).names }
+        requires { IsPlace (form self.now) i }
         ensures test { result ≡ is_public (form self.now) i }
         ensures means { IsTrue result ↔ IsPublic (form self.now) i }
     {
@@ -130,7 +129,7 @@ pub trait LanguageChildren: Debug + Clone + Hash + Eq + Drop {
     ghost fits: { (a : Self) → length (form a).names ≡ length (scopes (form a).tree) };
 
     // The children can be counted.
-    ghost few: { (a : Self) → length (children (form a).tree) < 2 ^ 30 };
+    ghost few: { (a : Self) → length (children (form a).tree) < slot_limit };
 
     // Two parts are equal exactly if operator, payloads, places and children are.
     ghost same: { (a b : Self) → IsTrue (Self.eq a b) ↔ form a ≡ form b };
@@ -288,7 +287,8 @@ impl<T: LanguageChildren> LanguageChildren for Bind<T> {
 
     ghost few = { λ b. bind_form_few b.slot (T.form b.elem) (T.few b.elem) };
 
-    ghost same = { λ a b. bind_same (T.eq a.elem b.elem) a.slot b.slot (T.form a.elem) (T.form b.elem) (T.same a.elem b.elem) };
+    ghost same = { λ a b. bind_same (T.eq a.elem b.elem) a.slot b.slot
+        (T.form a.elem) (T.form b.elem) (T.same a.elem b.elem) };
 
     ghost faithful = { bind_faithful T.read T.faithful };
 
@@ -321,10 +321,10 @@ impl<T: LanguageChildren> LanguageChildren for Bind<T> {
 
     fn scope_end(&self, i: usize) -> Option<usize> {
         if i == 0 {
-            Some(self.elem.slot_count() + 1)
+            Some(self.elem.slot_count().saturating_add(1))
         } else {
             match self.elem.scope_end(i - 1) {
-                Some(end) => Some(end + 1),
+                Some(end) => Some(end.saturating_add(1)),
                 None => None,
             }
         }
@@ -339,7 +339,7 @@ impl<T: LanguageChildren> LanguageChildren for Bind<T> {
     }
 
     fn applied_id_place(&self, k: usize) -> usize {
-        self.elem.applied_id_place(k) + 1
+        self.elem.applied_id_place(k).saturating_add(1)
     }
 
     fn set_applied_id(&mut self, k: usize, a: AppliedId) {

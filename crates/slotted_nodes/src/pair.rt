@@ -2,24 +2,23 @@
 //!
 //! These are the calls of [`LanguageChildren`] for a variant with two fields. What has three fields pairs the first with
 //! a struct of the other two.
-ghost use Rattle.std.specs.Prelude.{◌≡◌, ◌↔◌, ◌<◌, IsSome, IfSome, min, [], length, slice_index, slice_index_or};
+ghost use Rattle.std.specs.Prelude.{◌≡◌, ◌↔◌, ◌<◌, IsSome, IfSome, length, slice_index};
 ghost use Rattle.slotted_slots.specs.Maps.{keys, values};
-ghost use Rattle.slotted_nodes.specs.Form.{IsSmall, children, child_names, child_place, join_form, scopes, scope_end_of, with_name, with_child};
+ghost use Rattle.slotted_nodes.specs.Form.{IsPlace, counted, counted_end, children, child_id, child_keys, child_names, child_place, join_form, scopes, scope_end_of, with_name, with_applied};
 
 use crate::children::LanguageChildren;
 use slotted_slots::{AppliedId, Slot};
 
 /// How many places there are, or the largest number where there are more.
 pub fn slot_count<A: LanguageChildren, B: LanguageChildren>(a: &A, b: &B) -> usize
-    ensures { result ≡ min (length (join_form (A.form a.now) (B.form b.now)).names) usize.MAX }
+    ensures { result ≡ counted (length (join_form (A.form a.now) (B.form b.now)).names) }
 {
     a.slot_count().saturating_add(b.slot_count())
 }
 
 /// The name at a place.
 pub fn slot<A: LanguageChildren, B: LanguageChildren>(a: &A, b: &B, i: usize) -> Slot
-    requires small { IsSmall (join_form (A.form a.now) (B.form b.now)) }
-    requires within { i < length (join_form (A.form a.now) (B.form b.now)).names }
+    requires { IsPlace (join_form (A.form a.now) (B.form b.now)) i }
     ensures { result ≡ slice_index (join_form (A.form a.now) (B.form b.now)).names i }
 {
     let n = a.slot_count();
@@ -28,8 +27,7 @@ pub fn slot<A: LanguageChildren, B: LanguageChildren>(a: &A, b: &B, i: usize) ->
 
 /// Puts another name at a place.
 pub fn set_slot<A: LanguageChildren, B: LanguageChildren>(a: &mut A, b: &mut B, i: usize, s: Slot)
-    requires small { IsSmall (join_form (A.form a.old) (B.form b.old)) }
-    requires within { i < length (join_form (A.form a.old) (B.form b.old)).names }
+    requires { IsPlace (join_form (A.form a.old) (B.form b.old)) i }
     ensures { join_form (A.form a.new) (B.form b.new) ≡ with_name (join_form (A.form a.old) (B.form b.old)) i s }
 {
     let n = a.slot_count();
@@ -40,18 +38,17 @@ pub fn set_slot<A: LanguageChildren, B: LanguageChildren>(a: &mut A, b: &mut B, 
     }
 }
 
-/// The place after the scope of a binder, or None for what is no binder.
+/// The place after the scope of a binder, or the largest number where it is a larger one. It is None for what is no binder.
 pub fn scope_end<A: LanguageChildren, B: LanguageChildren>(a: &A, b: &B, i: usize) -> Option<usize>
-    requires small { IsSmall (join_form (A.form a.now) (B.form b.now)) }
-    requires within { i < length (join_form (A.form a.now) (B.form b.now)).names }
-    ensures { result ≡ scope_end_of (scopes (join_form (A.form a.now) (B.form b.now)).tree) i }
+    requires { IsPlace (join_form (A.form a.now) (B.form b.now)) i }
+    ensures { result ≡ counted_end (scope_end_of (scopes (join_form (A.form a.now) (B.form b.now)).tree) i) }
 {
     let n = a.slot_count();
     if i < n {
         a.scope_end(i)
     } else {
         match b.scope_end(i - n) {
-            Some(end) => Some(end + n),
+            Some(end) => Some(end.saturating_add(n)),
             None => None,
         }
     }
@@ -71,8 +68,8 @@ pub fn get_applied_id<'a, A: LanguageChildren, B: LanguageChildren>(
     k: usize,
 ) -> Option<&'a AppliedId>
     ensures some { IsSome result ↔ (k < length (children (join_form (A.form a.now) (B.form b.now)).tree)) }
-    ensures id { IfSome result (λ x. x.now.id.0 ≡ (slice_index_or (children (join_form (A.form a.now) (B.form b.now)).tree) k (0, [])).0) }
-    ensures keys { IfSome result (λ x. keys x.now.m ≡ (slice_index_or (children (join_form (A.form a.now) (B.form b.now)).tree) k (0, [])).1) }
+    ensures id { IfSome result (λ x. x.now.id.0 ≡ child_id (join_form (A.form a.now) (B.form b.now)) k) }
+    ensures keys { IfSome result (λ x. keys x.now.m ≡ child_keys (join_form (A.form a.now) (B.form b.now)) k) }
     ensures names { IfSome result (λ x. values x.now.m ≡ child_names (join_form (A.form a.now) (B.form b.now)) k) }
 {
     let n = a.applied_id_count();
@@ -83,17 +80,16 @@ pub fn get_applied_id<'a, A: LanguageChildren, B: LanguageChildren>(
     }
 }
 
-/// The first place of a child.
+/// The first place of a child, or the largest number where it is a larger one.
 pub fn applied_id_place<A: LanguageChildren, B: LanguageChildren>(a: &A, b: &B, k: usize) -> usize
-    requires small { IsSmall (join_form (A.form a.now) (B.form b.now)) }
-    requires within { k < length (children (join_form (A.form a.now) (B.form b.now)).tree) }
-    ensures { result ≡ child_place (join_form (A.form a.now) (B.form b.now)).tree k }
+    requires { k < length (children (join_form (A.form a.now) (B.form b.now)).tree) }
+    ensures { result ≡ counted (child_place (join_form (A.form a.now) (B.form b.now)).tree k) }
 {
     let n = a.applied_id_count();
     if k < n {
         a.applied_id_place(k)
     } else {
-        b.applied_id_place(k - n) + a.slot_count()
+        b.applied_id_place(k - n).saturating_add(a.slot_count())
     }
 }
 
@@ -105,7 +101,7 @@ pub fn set_applied_id<A: LanguageChildren, B: LanguageChildren>(
     x: AppliedId,
 )
     requires { k < length (children (join_form (A.form a.old) (B.form b.old)).tree) }
-    ensures { join_form (A.form a.new) (B.form b.new) ≡ with_child (join_form (A.form a.old) (B.form b.old)) k x.id.0 (keys x.m) (values x.m) }
+    ensures { join_form (A.form a.new) (B.form b.new) ≡ with_applied (join_form (A.form a.old) (B.form b.old)) k x }
 {
     let n = a.applied_id_count();
     if k < n {

@@ -1,13 +1,12 @@
 //! Languages whose nodes read back from what they are written as.
 ghost use Rattle.std.specs.Prelude.{◌≡◌, List, [], ◌∷◌, Some, IfSome, option_map, decimal, encode_utf8, refl};
-ghost use Rattle.std.specs.Fmt.{signed_decimal};
 ghost use Rattle.std.proofs.Common.{lit<};
 ghost use Rattle.slotted_slots.specs.Syntax.{Element};
 ghost use Rattle.slotted_slots.specs.Table.{reads_u32};
 ghost use Rattle.slotted_nodes.specs.Form.{bind_form};
-ghost use Rattle.slotted_nodes.specs.Identifier.{HasIdentifiers, HasNullIds, HasNullChildren};
-ghost use Rattle.slotted_nodes.specs.ReadsBack.{slot_null, child_null, bound_words, bound_back, bind_null, payload_words, payload_reads, payload_null, number_parts, unsigned_back, u32_back, signed_back, bool_back, char_back, word_back};
-ghost use Rattle.slotted_nodes.specs.TextLaws.{signed_parts, bool_parts};
+ghost use Rattle.slotted_nodes.specs.Identifier.{HasNullIds, HasNullChildren};
+ghost use Rattle.slotted_nodes.specs.ReadsBack.{slot_null, child_null, bound_words, bound_back, bind_null, payload_words, payload_reads, payload_null, number_parts, unsigned_words, unsigned_reads, u32_back, signed_words, signed_reads, WritesIdentifiers, ReadsAgain, bool_back, char_back, word_back};
+ghost use Rattle.slotted_nodes.specs.TextLaws.{bool_parts};
 ghost use Rattle.slotted_nodes.specs.Texts.{reads_unsigned, reads_signed, signed_word, reads_bool, bool_text, bool_word, reads_char};
 
 use crate::children::{Bind, LanguageChildren};
@@ -21,10 +20,10 @@ use slotted_slots::{AppliedId, Slot};
 /// another node, or as none.
 pub trait ReadBack: LanguageChildren {
     // Its texts are identifier tokens too.
-    ghost words: { (es : List Element) (a : Self) → HasIdentifiers es → Self.read es ≡ Some (Self.form a) → HasIdentifiers (Self.shown a) };
+    ghost words: { WritesIdentifiers Self.form Self.shown Self.read };
 
     // It reads as the same.
-    ghost back: { (es : List Element) (a : Self) → HasIdentifiers es → Self.read es ≡ Some (Self.form a) → Self.read (Self.shown a) ≡ Some (Self.form a) };
+    ghost back: { ReadsAgain Self.form Self.shown Self.read };
 
     // Its children are null where the applied ids of the elements are.
     ghost null: { (es : List Element) → HasNullIds es → IfSome (Self.read es) HasNullChildren };
@@ -55,17 +54,17 @@ impl<T: ReadBack> ReadBack for Bind<T> {
 }
 
 impl ReadBack for u8 {
-    ghost words = { payload_words (λ n. n ∷ []) number_parts (reads_unsigned 8) decimal (unsigned_back 8 (lit< tt)) };
+    ghost words = { unsigned_words 8 (lit< tt) };
 
-    ghost back = { payload_reads (λ n. n ∷ []) number_parts (reads_unsigned 8) decimal (unsigned_back 8 (lit< tt)) };
+    ghost back = { unsigned_reads 8 (lit< tt) };
 
     ghost null = { payload_null (λ n. n ∷ []) (reads_unsigned 8) };
 }
 
 impl ReadBack for u16 {
-    ghost words = { payload_words (λ n. n ∷ []) number_parts (reads_unsigned 16) decimal (unsigned_back 16 (lit< tt)) };
+    ghost words = { unsigned_words 16 (lit< tt) };
 
-    ghost back = { payload_reads (λ n. n ∷ []) number_parts (reads_unsigned 16) decimal (unsigned_back 16 (lit< tt)) };
+    ghost back = { unsigned_reads 16 (lit< tt) };
 
     ghost null = { payload_null (λ n. n ∷ []) (reads_unsigned 16) };
 }
@@ -79,73 +78,73 @@ impl ReadBack for u32 {
 }
 
 impl ReadBack for u64 {
-    ghost words = { payload_words (λ n. n ∷ []) number_parts (reads_unsigned 64) decimal (unsigned_back 64 (lit< tt)) };
+    ghost words = { unsigned_words 64 (lit< tt) };
 
-    ghost back = { payload_reads (λ n. n ∷ []) number_parts (reads_unsigned 64) decimal (unsigned_back 64 (lit< tt)) };
+    ghost back = { unsigned_reads 64 (lit< tt) };
 
     ghost null = { payload_null (λ n. n ∷ []) (reads_unsigned 64) };
 }
 
 impl ReadBack for u128 {
-    ghost words = { payload_words (λ n. n ∷ []) number_parts (reads_unsigned 128) decimal (unsigned_back 128 (lit< tt)) };
+    ghost words = { unsigned_words 128 (lit< tt) };
 
-    ghost back = { payload_reads (λ n. n ∷ []) number_parts (reads_unsigned 128) decimal (unsigned_back 128 (lit< tt)) };
+    ghost back = { unsigned_reads 128 (lit< tt) };
 
     ghost null = { payload_null (λ n. n ∷ []) (reads_unsigned 128) };
 }
 
 impl ReadBack for usize {
-    ghost words = { payload_words (λ n. n ∷ []) number_parts (reads_unsigned 64) decimal (unsigned_back 64 (lit< tt)) };
+    ghost words = { unsigned_words 64 (lit< tt) };
 
-    ghost back = { payload_reads (λ n. n ∷ []) number_parts (reads_unsigned 64) decimal (unsigned_back 64 (lit< tt)) };
+    ghost back = { unsigned_reads 64 (lit< tt) };
 
     ghost null = { payload_null (λ n. n ∷ []) (reads_unsigned 64) };
 }
 
 impl ReadBack for i8 {
-    ghost words = { payload_words signed_word signed_parts (reads_signed 7) signed_decimal (signed_back 7 (lit< tt)) };
+    ghost words = { signed_words 7 (lit< tt) };
 
-    ghost back = { payload_reads signed_word signed_parts (reads_signed 7) signed_decimal (signed_back 7 (lit< tt)) };
+    ghost back = { signed_reads 7 (lit< tt) };
 
     ghost null = { payload_null signed_word (reads_signed 7) };
 }
 
 impl ReadBack for i16 {
-    ghost words = { payload_words signed_word signed_parts (reads_signed 15) signed_decimal (signed_back 15 (lit< tt)) };
+    ghost words = { signed_words 15 (lit< tt) };
 
-    ghost back = { payload_reads signed_word signed_parts (reads_signed 15) signed_decimal (signed_back 15 (lit< tt)) };
+    ghost back = { signed_reads 15 (lit< tt) };
 
     ghost null = { payload_null signed_word (reads_signed 15) };
 }
 
 impl ReadBack for i32 {
-    ghost words = { payload_words signed_word signed_parts (reads_signed 31) signed_decimal (signed_back 31 (lit< tt)) };
+    ghost words = { signed_words 31 (lit< tt) };
 
-    ghost back = { payload_reads signed_word signed_parts (reads_signed 31) signed_decimal (signed_back 31 (lit< tt)) };
+    ghost back = { signed_reads 31 (lit< tt) };
 
     ghost null = { payload_null signed_word (reads_signed 31) };
 }
 
 impl ReadBack for i64 {
-    ghost words = { payload_words signed_word signed_parts (reads_signed 63) signed_decimal (signed_back 63 (lit< tt)) };
+    ghost words = { signed_words 63 (lit< tt) };
 
-    ghost back = { payload_reads signed_word signed_parts (reads_signed 63) signed_decimal (signed_back 63 (lit< tt)) };
+    ghost back = { signed_reads 63 (lit< tt) };
 
     ghost null = { payload_null signed_word (reads_signed 63) };
 }
 
 impl ReadBack for i128 {
-    ghost words = { payload_words signed_word signed_parts (reads_signed 127) signed_decimal (signed_back 127 (lit< tt)) };
+    ghost words = { signed_words 127 (lit< tt) };
 
-    ghost back = { payload_reads signed_word signed_parts (reads_signed 127) signed_decimal (signed_back 127 (lit< tt)) };
+    ghost back = { signed_reads 127 (lit< tt) };
 
     ghost null = { payload_null signed_word (reads_signed 127) };
 }
 
 impl ReadBack for isize {
-    ghost words = { payload_words signed_word signed_parts (reads_signed 63) signed_decimal (signed_back 63 (lit< tt)) };
+    ghost words = { signed_words 63 (lit< tt) };
 
-    ghost back = { payload_reads signed_word signed_parts (reads_signed 63) signed_decimal (signed_back 63 (lit< tt)) };
+    ghost back = { signed_reads 63 (lit< tt) };
 
     ghost null = { payload_null signed_word (reads_signed 63) };
 }

@@ -1,5 +1,5 @@
 -- What reading a text gives.
-use Rattle.std.specs.Prelude.{Result, Ok, Err}
+use Rattle.std.specs.Prelude.{◌≡◌, Result, Ok, Err}
 use Rattle.slotted_slots.specs.Syntax.{Fault, fault_of}
 use Rattle.slotted_slots.specs.declared.error.Error.{Error}
 use Rattle.slotted_slots.specs.declared.error.Error.TheVariants.{OutOfMemory, OutOfSlots, Failed, Parse, NotATerm, SubstInSearch, MissingVariable, NotEqual, BadStep, UnknownClass, NumberTooLarge, NotYet}
@@ -17,6 +17,10 @@ pub data Outcome (Value NoTerm : Type 0) : Type 0 where
 -- where patterns are read, each pattern will do
 abbrev pub PatternOutcome : Type 0
 PatternOutcome = Outcome PatternTree ⊥
+
+-- the outcome is this fault
+abbrev pub HasFault : Fault → PatternOutcome → Type 0
+HasFault f o = o ≡ outside f
 
 -- a refusal stands for an outcome of which P holds; want of memory stands for none
 abbrev pub Refuses : {Value NoTerm : Type 0} → (Outcome Value NoTerm → Type 0) → Error → Type 0

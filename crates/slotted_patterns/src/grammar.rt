@@ -3,7 +3,7 @@ ghost use Rattle.std.specs.Prelude.{◌≡◌, ◌<◌, ◌+◌, ◌∷◌, ◌+
 ghost use Rattle.std.specs.Option.{option_to_list};
 ghost use Rattle.slotted_slots.specs.Error.{IsOutOfMemory};
 ghost use Rattle.slotted_slots.specs.Syntax.{Lexeme, lexeme_of, word, slot, colon_equals, left_paren, right_paren, left_bracket, right_bracket, no_pattern, no_colon_equals, no_right_bracket};
-ghost use Rattle.slotted_patterns.specs.Outcome.{PatternOutcome, Refuses, Answers, outside};
+ghost use Rattle.slotted_patterns.specs.Outcome.{PatternOutcome, Refuses, HasFault, Answers, outside};
 ghost use Rattle.slotted_patterns.specs.Parsed.{TokensRead};
 ghost use Rattle.slotted_patterns.specs.View.{tree_of};
 ghost use Rattle.slotted_patterns.specs.Stack.{in_bracket, IsOutside, IsFault};
@@ -111,8 +111,7 @@ fn remaining(
 
 /// The refusal of tokens that no pattern begins with.
 fn no_pattern(alloc: Global, first: Option<Token>, rest: &mut VecDeque<Token>) -> Error
-    ensures { Refuses
-        (λ (o : PatternOutcome). o ≡ outside (no_pattern (map lexeme_of (option_to_list first ++ rest.old.items)))) result }
+    ensures { Refuses (HasFault (no_pattern (map lexeme_of (option_to_list first ++ rest.old.items)))) result }
 {
     match remaining(alloc, first, rest) {
         Ok(tokens) => Error::Parse(ParseError::ParseState(tokens)),
@@ -122,7 +121,7 @@ fn no_pattern(alloc: Global, first: Option<Token>, rest: &mut VecDeque<Token>) -
 
 /// The refusal of tokens among which a `:=` was due.
 fn no_colon_equals(alloc: Global, rest: &mut VecDeque<Token>) -> Error
-    ensures { Refuses (λ (o : PatternOutcome). o ≡ outside (no_colon_equals (map lexeme_of rest.old.items))) result }
+    ensures { Refuses (HasFault (no_colon_equals (map lexeme_of rest.old.items))) result }
 {
     match remaining(alloc, None, rest) {
         Ok(tokens) => Error::Parse(ParseError::ExpectedColonEquals(tokens)),
@@ -132,7 +131,7 @@ fn no_colon_equals(alloc: Global, rest: &mut VecDeque<Token>) -> Error
 
 /// The refusal of tokens among which a `]` was due.
 fn no_right_bracket(alloc: Global, rest: &mut VecDeque<Token>) -> Error
-    ensures { Refuses (λ (o : PatternOutcome). o ≡ outside (no_right_bracket (map lexeme_of rest.old.items))) result }
+    ensures { Refuses (HasFault (no_right_bracket (map lexeme_of rest.old.items))) result }
 {
     match remaining(alloc, None, rest) {
         Ok(tokens) => Error::Parse(ParseError::ExpectedRBracket(tokens)),
@@ -217,7 +216,8 @@ fn read_slot<L: Language>(
     stack: &mut Vec<Part<L>>,
     name: Slot,
 ) -> Result<Point<L>, Error>
-    ensures ok { IfOk result (λ at. ReadsAs L.form L.read stack.old.items Point.Due (slot name ∷ map lexeme_of tokens.old.items)
+    ensures ok { IfOk result (λ at. ReadsAs L.form L.read
+        stack.old.items Point.Due (slot name ∷ map lexeme_of tokens.old.items)
         stack.new.items at (map lexeme_of tokens.new.items)) }
     ensures kept { OnOk result (tokens.new.items ≡ tokens.old.items) }
     ensures none { IfErr result (Refuses
@@ -237,7 +237,8 @@ fn read_end<L: Language>(
     tokens: &mut VecDeque<Token>,
     stack: &mut Vec<Part<L>>,
 ) -> Result<Point<L>, Error>
-    ensures ok { IfOk result (λ at. ReadsAs L.form L.read stack.old.items Point.Due (right_paren ∷ map lexeme_of tokens.old.items)
+    ensures ok { IfOk result (λ at. ReadsAs L.form L.read
+        stack.old.items Point.Due (right_paren ∷ map lexeme_of tokens.old.items)
         stack.new.items at (map lexeme_of tokens.new.items)) }
     ensures kept { OnOk result (tokens.new.items ≡ tokens.old.items) }
     ensures none { IfErr result (Refuses
@@ -255,7 +256,8 @@ fn read_base<L: Language>(
     tokens: &mut VecDeque<Token>,
     stack: &mut Vec<Part<L>>,
 ) -> Result<Point<L>, Error>
-    ensures ok { IfOk result (λ at. ReadsAs L.form L.read stack.old.items Point.Due (map lexeme_of tokens.old.items)
+    ensures ok { IfOk result (λ at. ReadsAs L.form L.read
+        stack.old.items Point.Due (map lexeme_of tokens.old.items)
         stack.new.items at (map lexeme_of tokens.new.items)) }
     ensures shorter { OnOk result (length tokens.new.items < length tokens.old.items) }
     ensures none { IfErr result (Refuses
@@ -286,7 +288,8 @@ fn read_value<L: Language>(
     body: Pattern<L>,
     place: Pattern<L>,
 ) -> Result<Point<L>, Error>
-    ensures ok { IfOk result (λ at. ResumesAs L.form L.read stack.old.items (Part.Place body) place (map lexeme_of tokens.old.items)
+    ensures ok { IfOk result (λ at. ResumesAs L.form L.read
+        stack.old.items (Part.Place body) place (map lexeme_of tokens.old.items)
         stack.new.items at (map lexeme_of tokens.new.items)) }
     ensures less { IfOk result (λ at. IsLess at (length tokens.new.items) (length tokens.old.items)) }
     ensures none { IfErr result (Refuses
@@ -308,7 +311,8 @@ fn read_close<L: Language>(
     place: Pattern<L>,
     value: Pattern<L>,
 ) -> Result<Point<L>, Error>
-    ensures ok { IfOk result (λ at. ResumesAs L.form L.read stack.old.items (Part.Value body place) value (map lexeme_of tokens.old.items)
+    ensures ok { IfOk result (λ at. ResumesAs L.form L.read
+        stack.old.items (Part.Value body place) value (map lexeme_of tokens.old.items)
         stack.new.items at (map lexeme_of tokens.new.items)) }
     ensures less { IfOk result (λ at. IsLess at (length tokens.new.items) (length tokens.old.items)) }
     ensures none { IfErr result (Refuses
@@ -330,7 +334,8 @@ fn read_on<L: Language>(
     stack: &mut Vec<Part<L>>,
     base: Pattern<L>,
 ) -> Result<Point<L>, Error>
-    ensures ok { IfOk result (λ at. ReadsAs L.form L.read stack.old.items (Point.Base base) (map lexeme_of tokens.old.items)
+    ensures ok { IfOk result (λ at. ReadsAs L.form L.read
+        stack.old.items (Point.Base base) (map lexeme_of tokens.old.items)
         stack.new.items at (map lexeme_of tokens.new.items)) }
     ensures less { IfOk result (λ at. IsLess at (length tokens.new.items) (length tokens.old.items)) }
     ensures none { IfErr result (Refuses

@@ -1,11 +1,10 @@
 //! Patterns from their texts.
 ghost use Rattle.std.specs.Prelude.{IfOk};
-ghost use Rattle.std.specs.Str.{chars};
 ghost use Rattle.slotted_slots.specs.Table.{KnowsMore};
 ghost use Rattle.slotted_patterns.specs.Outcome.{Answers};
 ghost use Rattle.slotted_patterns.specs.View.{tree_of};
 ghost use Rattle.slotted_patterns.specs.Known.{HasKnownNames};
-ghost use Rattle.slotted_patterns.specs.Parsed.{PatternReads, ReadsOneWay, ReadsSomeWay};
+ghost use Rattle.slotted_patterns.specs.Parsed.{TextReadsPattern, ReadsOneWay, ReadsSomeWay};
 
 use crate::grammar::parse_tokens;
 use crate::pattern::Pattern;
@@ -21,7 +20,7 @@ impl<L: Language> Pattern<L> {
     /// All tokens are read before the grammar is applied, and each slot's name is looked up or kept in the table as its
     /// token is read. A refusal leaves in the table the names that were read before it.
     pub fn parse(alloc: Global, text: &str, table: &mut SlotTable) -> Result<Pattern<L>, Error>
-        ensures answer { Answers (tree_of L.form) (λ o. PatternReads L.read table.old (chars text.now) o table.new) result }
+        ensures answer { Answers (tree_of L.form) (TextReadsPattern L.read table.old text.now table.new) result }
         ensures known { IfOk result (λ p. HasKnownNames table.new (tree_of L.form p)) }
         ensures more { KnowsMore table.old table.new }
     {

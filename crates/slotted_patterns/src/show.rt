@@ -16,7 +16,8 @@ pub fn node_text(
     children: &[String],
     table: &SlotTable,
 ) -> Result<String, Error>
-    ensures ok { IfOk result (λ s. string_bytes s ≡ node_text table.now (map element_of elements.now) (map string_bytes children.now)) }
+    ensures ok { IfOk result (λ s. string_bytes s
+        ≡ node_text table.now (map element_of elements.now) (map string_bytes children.now)) }
     ensures err { IfErr result IsOutOfMemory }
 {
     let mut text = String::new(alloc);
@@ -62,7 +63,8 @@ fn push_part(
     child: &str,
     table: &SlotTable,
 ) -> Result<(), Error>
-    ensures ok { OnOk result (string_bytes text.new ≡ string_bytes text.old ++ part_text table.now (element_of element.now) child.now) }
+    ensures ok { OnOk result (string_bytes text.new
+        ≡ string_bytes text.old ++ part_text table.now (element_of element.now) child.now) }
     ensures err { IfErr result IsOutOfMemory }
 {
     match element {

@@ -23,7 +23,8 @@ pub(crate) trait Payload: Copy + Display + FromStr<Err: Drop> {
     ghost prints: { (p : Self) → Self.output p ≡ Some (written p) };
 
     // The value is what Rust reads.
-    ghost parses: { (bs : List ℕ) (r : Result Self Self.Err) → IsUtf8 bs → Self.from_str_gives bs r → result_ok r ≡ reads bs };
+    ghost parses: { (bs : List ℕ) (r : Result Self Self.Err) → IsUtf8 bs → Self.from_str_gives bs r
+        → result_ok r ≡ reads bs };
 }
 
 /// The value as the one element that it is written as.

@@ -1,6 +1,6 @@
 -- A child of the first field, or one of the second.
 use Rattle.std.proofs.Common.{arith}
-use Rattle.slotted_nodes.proofs.Pairs.{length_children-join, child_left, child_right, child_names_left, child_names_right}
+use Rattle.slotted_nodes.proofs.Pairs.{length_children-join, child_id_left, child_id_right, child_keys_left, child_keys_right, child_names_left, child_names_right}
 use Rattle.slotted_nodes.proofs.pair.get_applied_id.Goals as goal
 
 pub returns-then-k-n-clause-id : goal.returns-then-k-n-clause-id
@@ -9,7 +9,7 @@ returns-then-k-n-clause-id g c =
     let b = g.B.LanguageChildren.form c.args.b.now in
     let fits = g.met.A.LanguageChildren.fits c.args.a.now in
     let e = c.applied_id_count-n.ensures in
-    rw (child_left a b fits c.args.k (omega (arith, c.if-k-n.true, e))) c.get_applied_id.ensures.id
+    rw (child_id_left a b fits c.args.k (omega (arith, c.if-k-n.true, e))) c.get_applied_id.ensures.id
 
 pub returns-then-k-n-clause-keys : goal.returns-then-k-n-clause-keys
 returns-then-k-n-clause-keys g c =
@@ -17,7 +17,7 @@ returns-then-k-n-clause-keys g c =
     let b = g.B.LanguageChildren.form c.args.b.now in
     let fits = g.met.A.LanguageChildren.fits c.args.a.now in
     let e = c.applied_id_count-n.ensures in
-    rw (child_left a b fits c.args.k (omega (arith, c.if-k-n.true, e))) c.get_applied_id.ensures.keys
+    rw (child_keys_left a b fits c.args.k (omega (arith, c.if-k-n.true, e))) c.get_applied_id.ensures.keys
 
 pub returns-then-k-n-clause-names : goal.returns-then-k-n-clause-names
 returns-then-k-n-clause-names g c =
@@ -33,7 +33,7 @@ returns-else-k-n-clause-id g c =
     let b = g.B.LanguageChildren.form c.args.b.now in
     let fits = g.met.A.LanguageChildren.fits c.args.a.now in
     let e = c.applied_id_count-n.ensures in
-    rw (child_right a b fits c.args.k (omega (arith, c.if-k-n.false, e)), ← e) c.get_applied_id-else-k-n.ensures.id
+    rw (child_id_right a b fits c.args.k (omega (arith, c.if-k-n.false, e)), ← e) c.get_applied_id-else-k-n.ensures.id
 
 pub returns-else-k-n-clause-keys : goal.returns-else-k-n-clause-keys
 returns-else-k-n-clause-keys g c =
@@ -41,7 +41,7 @@ returns-else-k-n-clause-keys g c =
     let b = g.B.LanguageChildren.form c.args.b.now in
     let fits = g.met.A.LanguageChildren.fits c.args.a.now in
     let e = c.applied_id_count-n.ensures in
-    rw (child_right a b fits c.args.k (omega (arith, c.if-k-n.false, e)), ← e) c.get_applied_id-else-k-n.ensures.keys
+    rw (child_keys_right a b fits c.args.k (omega (arith, c.if-k-n.false, e)), ← e) c.get_applied_id-else-k-n.ensures.keys
 
 pub returns-else-k-n-clause-names : goal.returns-else-k-n-clause-names
 returns-else-k-n-clause-names g c =
