@@ -40,12 +40,13 @@ first_name : (x : ℕ) → is_among x (x ∷ []) ≡ true
 first_name x = ap (λ b. b || false) (eq-eqb x x refl)
 
 -- the name has a value already
-pub known_filled : (t : Table) (xs : List ℕ) (m : List (ℕ × ℕ)) (x : ℕ) → IsSome (value_of m x) → IsFilled t xs (x ∷ []) m m
+pub known_filled : (t : Table) (xs : List ℕ) (m : List (ℕ × ℕ)) (x : ℕ) → IsSome (value_of m x) → IsFilled t t xs (x ∷ []) m m
 known_filled t xs m x h = record {
   kept = λ z y e. e;
   has = λ z e. subst (λ w. IsSome (value_of m w)) (only_name x z e) h;
   asked = λ z y e f. none_some (value_of m z) y e f;
   unused = λ z y e f. none_some (value_of m z) y e f;
+  known = λ z y e f. none_some (value_of m z) y e f;
   apart = λ z y e f. none_some (value_of m z) y e f;
   differ = λ z w y e f g. none_some (value_of m z) y e f;
 }
@@ -65,8 +66,8 @@ module _ (m : List (ℕ × ℕ)) (x y : ℕ) (missing : value_of m x ≡ None) w
     | inr n ↦ none_some (value_of m z) v e (at_old z v n f)
   ]
 
-  new_filled : (t : Table) (xs : List ℕ) → is_known t y ≡ false → is_among y xs ≡ false → is_among y (values m) ≡ false → IsFilled t xs (x ∷ []) m (with_pair m x y)
-  new_filled t xs unused apart other = record {
+  new_filled : (t u : Table) (xs : List ℕ) → is_known t y ≡ false → is_known u y ≡ true → is_among y xs ≡ false → is_among y (values m) ≡ false → IsFilled t u xs (x ∷ []) m (with_pair m x y)
+  new_filled t u xs unused known apart other = record {
     kept = λ z v e. elim (cases_eq x z) [
       | inl d ↦ none_some (value_of m x) v missing (ap (value_of m) d ∙ e)
       | inr n ↦ value_of-with_pair_other m x y z n ∙ e
@@ -74,6 +75,7 @@ module _ (m : List (ℕ × ℕ)) (x y : ℕ) (missing : value_of m x ≡ None) w
     has = λ z e. subst (λ w. IsSome (value_of (with_pair m x y) w)) (only_name x z e) (is_some_of (value_of (with_pair m x y) x) y (value_of-with_pair_same m x y));
     asked = λ z v e f. subst (λ w. is_among w (x ∷ []) ≡ true) (is_new z v e f).0 (first_name x);
     unused = λ z v e f. subst (λ w. is_known t w ≡ false) (is_new z v e f).1 unused;
+    known = λ z v e f. subst (λ w. is_known u w ≡ true) (is_new z v e f).1 known;
     apart = λ z v e f. subst (λ w. is_among w xs ≡ false) (is_new z v e f).1 apart;
     differ = λ z w v e f g. elim (cases_eq x w) [
       | inl d ↦ sym (is_new z v e f).0 ∙ d
@@ -84,8 +86,8 @@ module _ (m : List (ℕ × ℕ)) (x y : ℕ) (missing : value_of m x ≡ None) w
   }
 
 -- the name got a slot
-pub one_filled : (t : Table) (xs : List ℕ) (m n : List (ℕ × ℕ)) (x y : ℕ) → value_of m x ≡ None → n ≡ with_pair m x y → is_known t y ≡ false → is_among y xs ≡ false → is_among y (values m) ≡ false → IsFilled t xs (x ∷ []) m n
-one_filled t xs m n x y missing e unused apart other = rw e (new_filled m x y missing t xs unused apart other)
+pub one_filled : (t u : Table) (xs : List ℕ) (m n : List (ℕ × ℕ)) (x y : ℕ) → value_of m x ≡ None → n ≡ with_pair m x y → is_known t y ≡ false → is_known u y ≡ true → is_among y xs ≡ false → is_among y (values m) ≡ false → IsFilled t u xs (x ∷ []) m n
+one_filled t u xs m n x y missing e unused known apart other = rw e (new_filled m x y missing t u xs unused known apart other)
 
 or_left : (a b : Bool) → a ≡ true → (a || b) ≡ true
 or_left true b e = refl
@@ -99,7 +101,7 @@ or_cases : (a b : Bool) → (a || b) ≡ true → (a ≡ true) ⊎ (b ≡ true)
 or_cases true b e = inl refl
 or_cases false b e = inr e
 
-module _ (t u : Table) (xs ws : List ℕ) (w : ℕ) (m n o : List (ℕ × ℕ)) (more : KnowsMore t u) (a : IsFilled t xs ws m n) (b : IsFilled u xs (w ∷ []) n o) where
+module _ (t u v : Table) (xs ws : List ℕ) (w : ℕ) (m n o : List (ℕ × ℕ)) (more : KnowsMore t u) (grows : KnowsMore u v) (a : IsFilled t u xs ws m n) (b : IsFilled u v xs (w ∷ []) n o) where
   early : (x : ℕ) → is_among x ws ≡ true → is_among x (ws ++ w ∷ []) ≡ true
   early x e = is_among-append x ws (w ∷ []) ∙ or_left (is_among x ws) (is_among x (w ∷ [])) e
 
@@ -114,7 +116,7 @@ module _ (t u : Table) (xs ws : List ℕ) (w : ℕ) (m n o : List (ℕ × ℕ)) 
   ]
 
   -- one more name was asked
-  pub more_filled : IsFilled t xs (ws ++ w ∷ []) m o
+  pub more_filled : IsFilled t v xs (ws ++ w ∷ []) m o
   more_filled = record {
     kept = λ x y e. b.kept x y (a.kept x y e);
     has = λ x e. elim (or_cases (is_among x ws) (is_among x (w ∷ [])) (sym (is_among-append x ws (w ∷ [])) ∙ e)) [
@@ -123,6 +125,7 @@ module _ (t u : Table) (xs ws : List ℕ) (w : ℕ) (m n o : List (ℕ × ℕ)) 
     ];
     asked = stage (λ x y. is_among x (ws ++ w ∷ []) ≡ true) (λ x y e f. early x (a.asked x y e f)) (λ x y e f. late x (b.asked x y e f));
     unused = stage (λ x y. is_known t y ≡ false) a.unused (λ x y e f. unknown_before t u y more (b.unused x y e f));
+    known = stage (λ x y. is_known v y ≡ true) (λ x y e f. grows y (a.known x y e f)) b.known;
     apart = stage (λ x y. is_among y xs ≡ false) a.apart b.apart;
     differ = λ x z y e f g. elim (told (value_of n x)) [
       | inr q ↦ b.differ x z y q f g
@@ -147,8 +150,8 @@ pub filled_at : (m : List (ℕ × ℕ)) (x y : ℕ) → value_of m x ≡ Some y 
 filled_at m x y e = ap (λ (g : ℕ → ℕ). g x) (filled-walked m) ∙ value_of-filled (top m) m x y e
 
 -- a node that is renamed by such a map
-pub renamed_fresh : (t : Table) (m names : List (ℕ × ℕ)) (wanted : List ℕ) (f g : Form) → IsFilled t f.names wanted m names → ((x : ℕ) → is_among x wanted ≡ is_among x (free_names_of f)) → nameless_node g ≡ moved (filled names) (nameless_node f) → IsRenamedFresh t m f g
-renamed_fresh t m names wanted f g d same e = record {
+pub renamed_fresh : (t u : Table) (m names : List (ℕ × ℕ)) (wanted : List ℕ) (f g : Form) → IsFilled t u f.names wanted m names → ((x : ℕ) → is_among x wanted ≡ is_among x (free_names_of f)) → nameless_node g ≡ moved (filled names) (nameless_node f) → IsRenamedFresh t m f g
+renamed_fresh t u m names wanted f g d same e = record {
   by = filled names;
   known = λ x y q. filled_at names x y (d.kept x y q);
   unused = λ x q miss. let z = value x q in subst (λ w. is_known t w ≡ false) (sym (filled_at names x z.0 z.1)) (d.unused x z.0 miss z.1);
@@ -197,7 +200,7 @@ all_names_moved f by fits differ =
     ap (λ zs. nameless_node (with_names f zs)) put ∙ renamed_node f w.old new by fits apart (Knows_then w.old by (shape f).1 w.free)
 
 -- a node whose names are replaced by such a map
-module _ (t : Table) (f g : Form) (wanted : List ℕ) (names : List (ℕ × ℕ)) (fits : Fits f) (d : IsFilled t f.names wanted [] names) (put : g ≡ with_names f (map (replaced names) f.names)) where
+module _ (t u : Table) (f g : Form) (wanted : List ℕ) (names : List (ℕ × ℕ)) (fits : Fits f) (d : IsFilled t u f.names wanted [] names) (put : g ≡ with_names f (map (replaced names) f.names)) where
   value_at : (x y : ℕ) → value_of names x ≡ Some y → replaced names x ≡ y
   value_at x y e = ap (λ o. unwrap_or o x) e
 
@@ -314,6 +317,6 @@ lacks_of m x e = go (value_of m x) e
     go (Some y) e = absurd (false≢true (sym e))
 
 -- one more name of a list
-pub next_filled : (t u : Table) (xs ws : List ℕ) (i w : ℕ) (m n o : List (ℕ × ℕ)) → i < length ws → w ≡ slice_index_or ws i w → KnowsMore t u → IsFilled t xs (take i ws) m n → IsFilled u xs (w ∷ []) n o → IsFilled t xs (take (i + 1) ws) m o
-next_filled t u xs ws i w m n o lt e more a b =
-    rw (add-one i) (subst (λ vs. IsFilled t xs vs m o) (sym (take-suc ws i w lt ∙ ap (λ v. take i ws ++ v ∷ []) (sym e))) (more_filled t u xs (take i ws) w m n o more a b))
+pub next_filled : (t u v : Table) (xs ws : List ℕ) (i w : ℕ) (m n o : List (ℕ × ℕ)) → i < length ws → w ≡ slice_index_or ws i w → KnowsMore t u → KnowsMore u v → IsFilled t u xs (take i ws) m n → IsFilled u v xs (w ∷ []) n o → IsFilled t v xs (take (i + 1) ws) m o
+next_filled t u v xs ws i w m n o lt e more grows a b =
+    rw (add-one i) (subst (λ vs. IsFilled t v xs vs m o) (sym (take-suc ws i w lt ∙ ap (λ v. take i ws ++ v ∷ []) (sym e))) (more_filled t u v xs (take i ws) w m n o more grows a b))

@@ -20,3 +20,5 @@ pub mod Fills
 pub mod PublicNames
 pub mod Taken
 pub mod TakenNames
+pub mod FreeAndBound
+pub mod PutIn

@@ -10,7 +10,7 @@ use Rattle.slotted_theory.proofs.Laws.{moved_args-id}
 use Rattle.slotted_theory.specs.FiniteMaps.{top, filled, with_values}
 use Rattle.slotted_languages.proofs.FilledFrom.{filled_from, filled-walked}
 use Rattle.slotted_languages.proofs.Members.{In}
-use Rattle.slotted_languages.proofs.Occurrences.{lacks_smaller}
+use Rattle.slotted_languages.proofs.Occurrences.{is_among-firsts, lacks_smaller}
 use Rattle.slotted_slots.specs.Ascending.{AllAbove, IsAscending}
 use Rattle.slotted_slots.specs.Maps.{value_of, with_pair, with_first, composed, values, keys, is_among, KnowsAll}
 use Rattle.slotted_slots.specs.Table.{Table, is_known, KnowsMore}
@@ -75,7 +75,7 @@ told_bool true = inl refl
 told_bool false = inr refl
 
 module _ (t : Table) (xs avoid : List ℕ) (old : ℕ → ℕ) (free : List (ℕ × ℕ)) (targets : (n z : ℕ) → value_of free n ≡ Some z → is_among z avoid ≡ true) where
-  module _ (names : List (ℕ × ℕ)) (c : AreChosen t xs avoid old free names) (number y : ℕ) (missing : value_of names number ≡ None) (here : is_among (old number) xs ≡ true) (choice : IsChoice t xs avoid free names number (old number) y) where
+  module _ (names : List (ℕ × ℕ)) (c : AreChosen t xs avoid old free names) (number y : ℕ) (missing : value_of names number ≡ None) (here : is_among (old number) xs ≡ true) (u : Table) (choice : IsChoice t u xs avoid free names number (old number) y) where
     -- the chosen name among those chosen before
     choice_meets : (n : ℕ) → (value_of free n ≡ None) ⊎ (value_of free number ≡ None) → value_of names n ≡ Some y → old number ≡ old n
     choice_meets n either e = elim (told (value_of free number)) [
@@ -184,12 +184,12 @@ pub unknown_before : (t u : Table) (s : ℕ) → KnowsMore t u → is_known u s 
 unknown_before t u s more e = lacks_smaller (is_known t s) (is_known u s) (more s) e
 
 -- what is chosen with a later table is a choice with an earlier one
-entered_before : (t u : Table) (xs avoid : List ℕ) (free old new : List (ℕ × ℕ)) (number name y : ℕ) → KnowsMore t u → IsEntered u xs avoid free old new number name y → IsEntered t xs avoid free old new number name y
-entered_before t u xs avoid free old new number name y more e = record {
+entered_before : (t u v : Table) (xs avoid : List ℕ) (free old new : List (ℕ × ℕ)) (number name y : ℕ) → KnowsMore t u → IsEntered u v xs avoid free old new number name y → IsEntered t v xs avoid free old new number name y
+entered_before t u v xs avoid free old new number name y more e = record {
   known = e.known;
   chosen = λ m.
       let c = e.chosen m in
-      record { free_name = c.free_name; kept = c.kept; not_avoided = c.not_avoided; not_old = c.not_old; not_new = c.not_new; unused = λ f a. unknown_before t u y more (c.unused f a) };
+      record { free_name = c.free_name; kept = c.kept; not_avoided = c.not_avoided; not_old = c.not_old; not_new = c.not_new; unused = λ f a. unknown_before t u y more (c.unused f a); known = c.known };
   entered = e.entered;
 }
 
@@ -232,19 +232,58 @@ among_index (x ∷ xs) (suc i) h = ap (λ b. nat_eq x (slice_index xs i) || b) (
     or_true true = refl
     or_true false = refl
 
+-- a new name is the old one, or the table knows it, or it is that of a free name
+abbrev pub AreKnown : Table → (ℕ → ℕ) → List (ℕ × ℕ) → List (ℕ × ℕ) → Type 0
+AreKnown u old free names =
+    (n y : ℕ) → value_of names n ≡ Some y → (y ≡ old n) ⊎ ((is_known u y ≡ true) ⊎ (value_of free n ≡ Some y))
+
+known_later : (u v : Table) (old : ℕ → ℕ) (free names : List (ℕ × ℕ)) → KnowsMore u v → AreKnown u old free names → AreKnown v old free names
+known_later u v old free names more k n y e = elim (k n y e) [
+  | inl q ↦ inl q
+  | inr (inl q) ↦ inr (inl (more y q))
+  | inr (inr q) ↦ inr (inr q)
+]
+
+-- one more name that was entered
+known_entered : (u v : Table) (xs avoid : List ℕ) (old : ℕ → ℕ) (free names more : List (ℕ × ℕ)) (number y : ℕ) → KnowsMore u v → IsEntered u v xs avoid free names more number (old number) y → AreKnown u old free names → AreKnown v old free more
+known_entered u v xs avoid old free names more number y grows e k = elim (told (value_of names number)) [
+  | inl z ↦ subst (AreKnown v old free) (sym (e.known z.0 z.1).1) (known_later u v old free names grows k)
+  | inr missing ↦ subst (AreKnown v old free) (sym (e.entered missing)) (λ n w h. elim (cases_eq number n) [
+    | inl d ↦
+        let q : y ≡ w = same_value (value_of (with_pair names number y) number) y w (value_of-with_pair_same names number y) (ap (value_of (with_pair names number y)) d ∙ h) in
+        subst (λ x. (x ≡ old n) ⊎ ((is_known v x ≡ true) ⊎ (value_of free n ≡ Some x))) q
+        (subst (λ m. (y ≡ old m) ⊎ ((is_known v y ≡ true) ⊎ (value_of free m ≡ Some y))) d (choice (e.chosen missing)))
+    | inr d ↦ known_later u v old free names grows k n w (sym (value_of-with_pair_other names number y n d) ∙ h)
+  ])
+]
+  where
+    same_value : (o : Option ℕ) (a b : ℕ) → o ≡ Some a → o ≡ Some b → a ≡ b
+    same_value o a b p q = cc
+
+    choice : IsChoice u v xs avoid free names number (old number) y → (y ≡ old number) ⊎ ((is_known v y ≡ true) ⊎ (value_of free number ≡ Some y))
+    choice c = elim (told (value_of free number)) [
+      | inl z ↦ inr (inr (z.1 ∙ ap Some (sym (c.free_name z.0 z.1))))
+      | inr f ↦ elim (told_bool (is_among (old number) avoid)) [
+        | inl a ↦ inr (inl (c.known f a))
+        | inr a ↦ inl (c.kept f a)
+      ]
+    ]
+
 -- the first i places have their new names
-pub record IsRenaming (t : Table) (f : Form) (avoid : List ℕ) (free names : List (ℕ × ℕ)) (h : Form) (i : ℕ) : Type 0 where
+pub record IsRenaming (t u : Table) (f : Form) (avoid : List ℕ) (free names : List (ℕ × ℕ)) (h : Form) (i : ℕ) : Type 0 where
   pub was : Named f
   pub named : h ≡ with_names f (map (new_name free names) (take i (shape f).0.names) ++ drop i (shape f).0.names)
   pub covers : Covers names (take i (shape f).0.names)
   pub chosen : AreChosen t f.names avoid was.old free names
+  pub known : AreKnown u was.old free names
 
-pub none_renamed : (t : Table) (f h : Form) (avoid : List ℕ) (free names : List (ℕ × ℕ)) → Fits f → h ≡ (shape f).0 → names ≡ [] → IsRenaming t f avoid free names h 0
+pub none_renamed : (t : Table) (f h : Form) (avoid : List ℕ) (free names : List (ℕ × ℕ)) → Fits f → h ≡ (shape f).0 → names ≡ [] → IsRenaming t t f avoid free names h 0
 none_renamed t f h avoid free names fits e none = record {
   was = names_of_shape f fits;
   named = e;
   covers = tt;
   chosen = rw none (none_chosen t f.names avoid (names_of_shape f fits).old free);
+  known = λ n y e. let q : value_of [] n ≡ Some y = ap (λ m. value_of m n) (sym none) ∙ e in cc;
 }
 
 -- one more number has its name
@@ -253,8 +292,8 @@ record Advanced (t : Table) (xs avoid : List ℕ) (old : ℕ → ℕ) (free name
   extends : Extends names more
   chosen : AreChosen t xs avoid old free more
 
-advanced : (t : Table) (xs avoid : List ℕ) (old : ℕ → ℕ) (free names more : List (ℕ × ℕ)) (number y : ℕ) → ((n z : ℕ) → value_of free n ≡ Some z → is_among z avoid ≡ true) → is_among (old number) xs ≡ true → AreChosen t xs avoid old free names → IsEntered t xs avoid free names more number (old number) y → Advanced t xs avoid old free names more number y
-advanced t xs avoid old free names more number y targets here c e = elim (told (value_of names number)) [
+advanced : (t v : Table) (xs avoid : List ℕ) (old : ℕ → ℕ) (free names more : List (ℕ × ℕ)) (number y : ℕ) → ((n z : ℕ) → value_of free n ≡ Some z → is_among z avoid ≡ true) → is_among (old number) xs ≡ true → AreChosen t xs avoid old free names → IsEntered t v xs avoid free names more number (old number) y → Advanced t xs avoid old free names more number y
+advanced t v xs avoid old free names more number y targets here c e = elim (told (value_of names number)) [
   | inl z ↦
       let k = e.known z.0 z.1 in
       let m : more ≡ names = k.1 in
@@ -264,15 +303,15 @@ advanced t xs avoid old free names more number y targets here c e = elim (told (
       record {
         has = ap (λ l. value_of l number) m ∙ value_of-with_pair_same names number y;
         extends = λ n v d. ap (λ l. value_of l n) m ∙ (value_of-with_pair_other names number y n (λ q. differ n v d missing q) ∙ d);
-        chosen = rw m (one_chosen t xs avoid old free targets names c number y missing here (e.chosen missing));
+        chosen = rw m (one_chosen t xs avoid old free targets names c number y missing here v (e.chosen missing));
       }
 ]
   where
     differ : (n v : ℕ) → value_of names n ≡ Some v → value_of names number ≡ None → number ≡ n → ⊥
     differ n v d missing q = let k : value_of names number ≡ Some v = ap (value_of names) q ∙ d in cc
 
-pub one_renamed : (t u : Table) (f h k : Form) (avoid : List ℕ) (free names more : List (ℕ × ℕ)) (i name number y : ℕ) → i < length f.names → ((n z : ℕ) → value_of free n ≡ Some z → is_among z avoid ≡ true) → KnowsMore t u → IsRenaming t f avoid free names h i → name ≡ slice_index f.names i → number ≡ slice_index h.names i → IsEntered u f.names avoid free names more number name y → k ≡ with_name h i y → IsRenaming t f avoid free more k (i + 1)
-one_renamed t u f h k avoid free names more i name number y lt targets tu d en enum e ek =
+pub one_renamed : (t u v : Table) (f h k : Form) (avoid : List ℕ) (free names more : List (ℕ × ℕ)) (i name number y : ℕ) → i < length f.names → ((n z : ℕ) → value_of free n ≡ Some z → is_among z avoid ≡ true) → KnowsMore t u → KnowsMore u v → IsRenaming t u f avoid free names h i → name ≡ slice_index f.names i → number ≡ slice_index h.names i → IsEntered u v f.names avoid free names more number name y → k ≡ with_name h i y → IsRenaming t v f avoid free more k (i + 1)
+one_renamed t u v f h k avoid free names more i name number y lt targets tu uv d en enum e ek =
     let ns = (shape f).0.names in
     let old = d.was.old in
     let l : length ns ≡ length f.names = sym (mapped_length old ns) ∙ ap length d.was.were in
@@ -280,8 +319,8 @@ one_renamed t u f h k avoid free names more i name number y lt targets tu d en e
     let e1 : number ≡ slice_index ns i = enum ∙ (ap (λ g. slice_index g.names i) d.named ∙ place_read (map (new_name free names) (take i ns)) ns i li) in
     let e2 : name ≡ old number = en ∙ (ap (λ xs. slice_index xs i) (sym d.was.were) ∙ (map_index old ns i (omega (arith, lt, l)) ∙ ap old (sym e1))) in
     let here : is_among (old number) f.names ≡ true = ap (λ x. is_among x f.names) (sym e2 ∙ en) ∙ among_index f.names i lt in
-    let ee : IsEntered t f.names avoid free names more number name y = entered_before t u f.names avoid free names more number name y tu e in
-    let a : Advanced t f.names avoid old free names more number y = advanced t f.names avoid old free names more number y targets here d.chosen (rw e2 at ee) in
+    let ee : IsEntered t v f.names avoid free names more number name y = entered_before t u v f.names avoid free names more number name y tu e in
+    let a : Advanced t f.names avoid old free names more number y = advanced t v f.names avoid old free names more number y targets here d.chosen (rw e2 at ee) in
     let more_taken : take (suc i) ns ≡ take i ns ++ number ∷ [] = take-suc ns i 0 (omega (arith, lt, l)) ∙ ap (λ m. take i ns ++ m ∷ []) (sym e1) in
     let mapped : map (new_name free more) (take (suc i) ns) ≡ map (new_name free names) (take i ns) ++ y ∷ [] =
     ap (map (new_name free more)) more_taken
@@ -292,6 +331,7 @@ one_renamed t u f h k avoid free names more i name number y lt targets tu d en e
       named = ek ∙ (ap (λ g. with_name g i y) d.named ∙ ap (with_names f) (place_written (map (new_name free names) (take i ns)) ns i y li (omega (arith, lt, l)) ∙ ap (λ zs. zs ++ drop (suc i) ns) (sym mapped)));
       covers = rw more_taken (Covers-last more (take i ns) number y (Covers-more names more (take i ns) a.extends d.covers) a.has);
       chosen = a.chosen;
+      known = known_entered u v f.names avoid old free names more number y uv (rw e2 at e) d.known;
     })
 
 -- what the new names of free names are
@@ -327,9 +367,27 @@ Covers-index names [] j h c = absurd (omega (arith, h))
 Covers-index names (n ∷ ns) zero h c = c.0
 Covers-index names (n ∷ ns) (suc j) h c = Covers-index names ns j (omega (arith, h)) c.1
 
+-- the new name of a number of a free name
+free_value : (old π : ℕ → ℕ) (m : List (ℕ × ℕ)) (n y : ℕ) → Knows old (λ x. x) m → value_of (with_values π m) n ≡ Some y → (is_among (old n) (values m) ≡ true) × (y ≡ π (old n))
+free_value old π [] n y k e = cc
+free_value old π (p ∷ m) n y k e = elim (cases_eq p.0 n) [
+  | inl d ↦
+      let q : cond (nat_eq p.0 n) (Some (π p.1)) (value_of (with_values π m) n) ≡ Some (π p.1) = ap (λ b. cond b (Some (π p.1)) (value_of (with_values π m) n)) (eq-eqb p.0 n d) in
+      let here : p.1 ≡ old n = sym k.0 ∙ ap old d in
+      let s : y ≡ π p.1 = cc in
+      (ap (λ b. b || is_among (old n) (values m)) (eq-eqb p.1 (old n) here), s ∙ ap π here)
+  | inr d ↦
+      let r = free_value old π m n y k.1 (sym (ap (λ b. cond b (Some (π p.1)) (value_of (with_values π m) n)) (ne_eqb p.0 n d)) ∙ e) in
+      (ap (λ b. nat_eq p.1 (old n) || b) r.0 ∙ or_true (nat_eq p.1 (old n)), r.1)
+]
+  where
+    or_true : (b : Bool) → (b || true) ≡ true
+    or_true true = refl
+    or_true false = refl
+
 -- all places have their new names
-pub all_renamed : (t : Table) (f h : Form) (avoid : List ℕ) (free names : List (ℕ × ℕ)) (i : ℕ) → Fits f → i ≡ length f.names → IsRenaming t f avoid free names h i → (π : ℕ → ℕ) → free ≡ with_values π (shape f).1 → IsRenamed t π f avoid h
-all_renamed t f h avoid free names i fits e d π ef =
+pub all_renamed : (t u : Table) (f h : Form) (avoid : List ℕ) (free names : List (ℕ × ℕ)) (i : ℕ) → Fits f → i ≡ length f.names → IsRenaming t u f avoid free names h i → (π : ℕ → ℕ) → free ≡ with_values π (shape f).1 → IsRenamed t u π f avoid h
+all_renamed t u f h avoid free names i fits e d π ef =
     let ns = (shape f).0.names in
     let σ = new_name free names in
     let l : i ≡ length ns = omega (arith, e, mapped_length d.was.old ns, ap length d.was.were) in
@@ -378,6 +436,20 @@ all_renamed t f h avoid free names i fits e d π ef =
           let o = chosen_at k lk in
           let s : o.0 ≡ c.0 = sym o.2 ∙ (sym q ∙ c.2) in
           old_at j lt ∙ (d.chosen.meet (slice_index ns j) (slice_index ns k) c.0 (binds j lt b) c.1 (o.1 ∙ ap Some s) ∙ sym (old_at k lk));
+      put = λ j lt.
+          let n = slice_index ns j in
+          let c = chosen_at j lt in
+          elim (d.known n c.0 c.1) [
+            | inl q ↦ inl (c.2 ∙ (q ∙ sym (old_at j lt)))
+            | inr (inl q) ↦ inr (inl (ap (is_known u) c.2 ∙ q))
+            | inr (inr q) ↦
+                let r = free_value d.was.old π (shape f).1 n c.0 d.was.free (ap (λ m. value_of m n) (sym ef) ∙ q) in
+                inr (inr (
+                  ap (λ x. is_among x (free_names_of f)) (old_at j lt) ∙ (sym (is_among-firsts (d.was.old n) (free_names_of f)) ∙ (ap (is_among (d.was.old n)) (sym (values-shape f)) ∙ r.0)),
+                  c.2 ∙ (r.1 ∙ ap π (sym (old_at j lt))),
+                ))
+          ];
+      places = put ∙ ap (λ (g : Form). with_names f g.names) (sym put);
     }
 
 pub value_of-filled : (t : ℕ) (m : List (ℕ × ℕ)) (x v : ℕ) → value_of m x ≡ Some v → filled_from t m x ≡ v
@@ -413,7 +485,7 @@ pub some_of : (o : Option ℕ) → IsSome o → (v : ℕ) × (o ≡ Some v)
 some_of None h = absurd (false≢true h)
 some_of (Some v) h = (v, refl)
 
-Has-from : (m : List (ℕ × ℕ)) (xs : List ℕ) → KnowsAll m xs → Has m xs
+pub Has-from : (m : List (ℕ × ℕ)) (xs : List ℕ) → KnowsAll m xs → Has m xs
 Has-from m [] h = tt
 Has-from m (x ∷ xs) h =
     (some_of (value_of m x) (All-head (λ y. IsSome (value_of m y)) x xs h), Has-from m xs (All-tail (λ y. IsSome (value_of m y)) x xs h))
@@ -435,7 +507,7 @@ composed_shape f m free h e =
 pub has_values : (names : List (ℕ × ℕ)) (set : List ℕ) → ((v : ℕ) → is_among v set ≡ is_among v (values names)) → (n z : ℕ) → value_of names n ≡ Some z → is_among z set ≡ true
 has_values names set h n z e = h z ∙ is_value names n z e
 
-Has-among : (m : List (ℕ × ℕ)) (xs : List ℕ) (x : ℕ) → Has m xs → is_among x xs ≡ true → (v : ℕ) × (value_of m x ≡ Some v)
+pub Has-among : (m : List (ℕ × ℕ)) (xs : List ℕ) (x : ℕ) → Has m xs → is_among x xs ≡ true → (v : ℕ) × (value_of m x ≡ Some v)
 Has-among m [] x h e = absurd (false≢true e)
 Has-among m (y ∷ xs) x h e = elim (cases_eq y x) [
   | inl d ↦ (h.0.0, ap (value_of m) (sym d) ∙ h.0.1)
@@ -476,5 +548,5 @@ pub moved_same : (m : List (ℕ × ℕ)) → m ≡ with_values (λ x. x) m
 moved_same [] = refl
 moved_same (p ∷ m) = ap (λ l. p ∷ l) (moved_same m)
 
-pub renamed_same : (t : Table) (f : Form) (avoid : List ℕ) (g : Form) → IsRenamed t (λ x. x) f avoid g → nameless_node g ≡ nameless_node f
-renamed_same t f avoid g r = r.renamed ∙ λ i. record { op = suc f.operator; payloads = f.payloads; args = moved_args-id (nameless_node f).args i }
+pub renamed_same : (t u : Table) (f : Form) (avoid : List ℕ) (g : Form) → IsRenamed t u (λ x. x) f avoid g → nameless_node g ≡ nameless_node f
+renamed_same t u f avoid g r = r.renamed ∙ λ i. record { op = suc f.operator; payloads = f.payloads; args = moved_args-id (nameless_node f).args i }

@@ -70,7 +70,7 @@ among_map f (y ∷ xs) x h = elim (cases_eq y x) [
     or_last false e = e
 
 -- the values that names were replaced by stand in the node
-pub replaced_taken : (t u : Table) (f g : Form) (wanted : List ℕ) (names : List (ℕ × ℕ)) → IsAscending (keys names) → IsFilled t f.names wanted [] names → ((x : ℕ) → is_among x wanted ≡ true → is_among x f.names ≡ true) → Takes t u (IsInUse wanted (values names) f.names) → g ≡ with_names f (map (replaced names) f.names) → Takes t u (IsInEither g.names f.names)
+pub replaced_taken : (t u : Table) (f g : Form) (wanted : List ℕ) (names : List (ℕ × ℕ)) → IsAscending (keys names) → IsFilled t u f.names wanted [] names → ((x : ℕ) → is_among x wanted ≡ true → is_among x f.names ≡ true) → Takes t u (IsInUse wanted (values names) f.names) → g ≡ with_names f (map (replaced names) f.names) → Takes t u (IsInEither g.names f.names)
 replaced_taken t u f g wanted names up d own h put =
     takes_as t u (IsInUse wanted (values names) f.names) (IsInEither g.names f.names) h (λ z p. elim p [
       | inl q ↦ inr (own z q)

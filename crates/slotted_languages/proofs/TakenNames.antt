@@ -29,7 +29,7 @@ use Rattle.slotted_languages.proofs.Renamings.{IsRenaming, new_name, told, among
 use Rattle.slotted_languages.proofs.Taken.{among_map, grown_taken, keyed, value_kept}
 
 -- what stands among mapped numbers was mapped
-among_of_map : (f : ℕ → ℕ) (xs : List ℕ) (z : ℕ) → is_among z (map f xs) ≡ true → (x : ℕ) × (is_among x xs ≡ true) × (f x ≡ z)
+pub among_of_map : (f : ℕ → ℕ) (xs : List ℕ) (z : ℕ) → is_among z (map f xs) ≡ true → (x : ℕ) × (is_among x xs ≡ true) × (f x ≡ z)
 among_of_map f [] z h = absurd (false≢true h)
 among_of_map f (y ∷ xs) z h = elim (cases_eq (f y) z) [
   | inl d ↦ (y, ap (λ b. b || is_among y xs) (eq-eqb y y refl), d)
@@ -83,7 +83,7 @@ moved_stands f g π x fits e h =
     let same : free_names_of g ≡ map π (free_names_of f) = ap (λ (t : DTerm). free_names t.args) e ∙ free_names-moved π d.args in
     free_stands g (π x) fits (ap (is_among (π x)) same ∙ among_map π (free_names_of f) x h)
 
-values-moved : (π : ℕ → ℕ) (m : List (ℕ × ℕ)) → values (with_values π m) ≡ map π (values m)
+pub values-moved : (π : ℕ → ℕ) (m : List (ℕ × ℕ)) → values (with_values π m) ≡ map π (values m)
 values-moved π [] = refl
 values-moved π (p ∷ m) = ap (λ vs. π p.1 ∷ vs) (values-moved π m)
 
@@ -109,8 +109,8 @@ pub value_stands : (f g : Form) (π : ℕ → ℕ) (free names : List (ℕ × �
 value_stands f g π free names z fits ef en e h = free_stands g z fits (value_free f g π free names z ef en e h)
 
 -- an entered name keeps the values of the map
-entered_grows : (t : Table) (xs avoid : List ℕ) (free old new : List (ℕ × ℕ)) (number name y z : ℕ) → IsEntered t xs avoid free old new number name y → is_among z (values old) ≡ true → is_among z (values new) ≡ true
-entered_grows t xs avoid free old new number name y z d h = elim (told (value_of old number)) [
+entered_grows : (t u : Table) (xs avoid : List ℕ) (free old new : List (ℕ × ℕ)) (number name y z : ℕ) → IsEntered t u xs avoid free old new number name y → is_among z (values old) ≡ true → is_among z (values new) ≡ true
+entered_grows t u xs avoid free old new number name y z d h = elim (told (value_of old number)) [
   | inl k ↦ ap (λ m. is_among z (values m)) (d.known k.0 k.1).1 ∙ h
   | inr k ↦ ap (λ m. is_among z (values m)) (d.entered k) ∙ value_kept old number y z k h
 ]
@@ -158,8 +158,8 @@ among_take (x ∷ xs) (suc i) z h = elim (cases_eq x z) [
     or_last false e = e
 
 -- a name that is entered and put in stands among the first places, as those before it do
-pub entered_stands : (t : Table) (xs avoid : List ℕ) (free old new : List (ℕ × ℕ)) (h k : Form) (i number name y : ℕ) → i < length h.names → IsEntered t xs avoid free old new number name y → k ≡ with_name h i y → ((z : ℕ) → is_among z (values old) ≡ true → is_among z (take i h.names) ≡ true) → (z : ℕ) → is_among z (values new) ≡ true → is_among z (take (i + 1) k.names) ≡ true
-entered_stands t xs avoid free old new h k i number name y lt d ek placed z there =
+pub entered_stands : (t u : Table) (xs avoid : List ℕ) (free old new : List (ℕ × ℕ)) (h k : Form) (i number name y : ℕ) → i < length h.names → IsEntered t u xs avoid free old new number name y → k ≡ with_name h i y → ((z : ℕ) → is_among z (values old) ≡ true → is_among z (take i h.names) ≡ true) → (z : ℕ) → is_among z (values new) ≡ true → is_among z (take (i + 1) k.names) ≡ true
+entered_stands t u xs avoid free old new h k i number name y lt d ek placed z there =
     let kept : is_among z (values old) ≡ true → is_among z (take (suc i) (slice_set h.names i y)) ≡ true = λ q. take_set_kept h.names i y z (placed z q) in
     let put : is_among z (take (suc i) (slice_set h.names i y)) ≡ true = elim (told (value_of old number)) [
       | inl q ↦ kept (ap (λ m. is_among z (values m)) (sym (d.known q.0 q.1).1) ∙ there)
@@ -177,15 +177,15 @@ split_length σ (x ∷ ns) zero = refl
 split_length σ (x ∷ ns) (suc i) = omega (arith, split_length σ ns i)
 
 -- while a node is renamed it keeps its number of places
-pub renaming_length : (t : Table) (f h : Form) (avoid : List ℕ) (free names : List (ℕ × ℕ)) (i : ℕ) → IsRenaming t f avoid free names h i → length h.names ≡ length f.names
-renaming_length t f h avoid free names i d =
+pub renaming_length : (t u : Table) (f h : Form) (avoid : List ℕ) (free names : List (ℕ × ℕ)) (i : ℕ) → IsRenaming t u f avoid free names h i → length h.names ≡ length f.names
+renaming_length t u f h avoid free names i d =
     let ns = (shape f).0.names in
     ap (λ (e : Form). length e.names) d.named ∙ (split_length (new_name free names) ns i ∙ (sym (mapped_length d.was.old ns) ∙ ap length d.was.were))
 
 -- what was taken for the names so far
-pub entered_takes : (t u v : Table) (xs avoid : List ℕ) (free old new : List (ℕ × ℕ)) (number name y : ℕ) → IsEntered u xs avoid free old new number name y → Takes t u (IsInUse avoid (values old) xs) → Takes u v (IsInUse avoid (values new) xs) → Takes t v (IsInUse avoid (values new) xs)
+pub entered_takes : (t u v : Table) (xs avoid : List ℕ) (free old new : List (ℕ × ℕ)) (number name y : ℕ) → IsEntered u v xs avoid free old new number name y → Takes t u (IsInUse avoid (values old) xs) → Takes u v (IsInUse avoid (values new) xs) → Takes t v (IsInUse avoid (values new) xs)
 entered_takes t u v xs avoid free old new number name y d h k =
-    grown_taken t u v avoid xs (values old) (values new) (λ z p. entered_grows u xs avoid free old new number name y z d p) h k
+    grown_taken t u v avoid xs (values old) (values new) (λ z p. entered_grows u v xs avoid free old new number name y z d p) h k
 
 -- in the end it stands in the node
 pub all_taken : (t u : Table) (xs avoid : List ℕ) (names : List (ℕ × ℕ)) (h : Form) (i : ℕ) → ((z : ℕ) → is_among z (values names) ≡ true → is_among z (take i h.names) ≡ true) → Takes t u (IsInUse avoid (values names) xs) → Takes t u (IsInUse avoid h.names xs)
@@ -203,7 +203,7 @@ avoided_taken t u avoid xs ys h k = takes_as t u (IsInUse avoid ys xs) (IsInEith
 ])
 
 -- a value of a map that was filled is one of the map before, or a new name of a free one, which stands in the node
-pub filled_taken : (t u v : Table) (m names : List (ℕ × ℕ)) (wanted : List ℕ) (f g : Form) → Fits f → Fits g → IsAscending (keys names) → IsFilled t f.names wanted m names → ((x : ℕ) → is_among x wanted ≡ is_among x (free_names_of f)) → nameless_node g ≡ moved (filled names) (nameless_node f) → Takes t u (IsInUse wanted (values names) f.names) → Takes u v (IsInEither g.names f.names) → Takes t v (IsInUse (values m) g.names f.names)
+pub filled_taken : (t u v : Table) (m names : List (ℕ × ℕ)) (wanted : List ℕ) (f g : Form) → Fits f → Fits g → IsAscending (keys names) → IsFilled t u f.names wanted m names → ((x : ℕ) → is_among x wanted ≡ is_among x (free_names_of f)) → nameless_node g ≡ moved (filled names) (nameless_node f) → Takes t u (IsInUse wanted (values names) f.names) → Takes u v (IsInEither g.names f.names) → Takes t v (IsInUse (values m) g.names f.names)
 filled_taken t u v m names wanted f g fits fitsg up d w e h k =
     takes_then t u v (IsInUse wanted (values names) f.names) (IsInEither g.names f.names) (IsInUse (values m) g.names f.names) h k
     (λ z p. elim p [

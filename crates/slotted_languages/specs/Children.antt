@@ -1,5 +1,6 @@
 -- The children of a node in turn, and names that are free and bound.
 use Rattle.std.specs.Prelude.{◌≡◌, ℕ, zero, suc, ◌<◌, List, [], ◌∷◌, ◌++◌, length, Result, Ok, Err, IsSome, slice_index}
+use Rattle.std.specs.List.{FoldsTo}
 use Rattle.slotted_slots.specs.declared.error.Error.{Error}
 use Rattle.slotted_slots.specs.declared.types.AppliedId.{AppliedId}
 use Rattle.slotted_slots.specs.Maps.{keys, values}
@@ -52,3 +53,7 @@ pub record Refused {F : Type 0} (step : F → AppliedId → Result AppliedId Err
   pub child : AppliedId
   pub after : F
   pub called : step before child (Err e) after
+
+-- each child from the left was replaced
+abbrev pub ReplacesAll : {F : Type 0} (step : F → AppliedId → Result AppliedId Error → F → Type 0) → F → Form → Form → Type 0
+ReplacesAll {F} step f old new = (last : F) × FoldsTo (Replaced step) (f, old) (below (length (children old.tree))) (last, new)

@@ -12,3 +12,4 @@ pub mod Renaming
 pub mod Children
 pub mod Occurrences
 pub mod Fresh
+pub mod NewNames

@@ -1,11 +1,11 @@
 //! Fresh slots in the place of a node's names.
-ghost use Rattle.std.specs.Prelude.{◌≡◌, ◌^◌, ℕ, true, [], ◌∷◌, map, ◌&&◌, not, IfOk, IfErr, OnOk, IsErrOf};
+ghost use Rattle.std.specs.Prelude.{◌≡◌, [], ◌∷◌, IfOk, IfErr, OnOk, IsErrOf};
 ghost use Rattle.slotted_slots.specs.Error.{IsOutOfMemory, IsShortage};
-ghost use Rattle.slotted_slots.specs.Maps.{IsInEither, is_among, values};
-ghost use Rattle.slotted_slots.specs.Table.{KnowsMore, Takes};
+ghost use Rattle.slotted_slots.specs.Maps.{values};
+ghost use Rattle.slotted_slots.specs.Table.{KnowsMore, Takes, slot_limit};
 ghost use Rattle.slotted_nodes.specs.Form.{IsSmall};
-ghost use Rattle.slotted_languages.specs.Fresh.{IsFilled, IsInUse, IsRefreshed, replaced};
-ghost use Rattle.slotted_languages.specs.Shape.{with_names};
+ghost use Rattle.slotted_languages.specs.Fresh.{HasThoseOutside, HasThoseWithin, IsAtHand, IsFilled, KeepsAll, with_replaced};
+ghost use Rattle.slotted_languages.specs.NewNames.{IsRefreshedAt, PutsIn, StandsIn};
 
 use crate::language::Language;
 use crate::renaming::fresh_apart;
@@ -19,7 +19,7 @@ pub(crate) fn names_within<L: Language>(
     set: &SmallHashSet<Slot>,
 ) -> Result<SmallHashSet<Slot>, Error>
     requires small { IsSmall (L.form node.now) }
-    ensures ok { IfOk result (λ s. (x : ℕ) → is_among x s ≡ (is_among x (L.form node.now).names && is_among x set.now)) }
+    ensures ok { IfOk result (λ s. HasThoseWithin s (L.form node.now).names set.now) }
     ensures err { IfErr result IsOutOfMemory }
 {
     let mut within = SmallHashSet::new(alloc);
@@ -39,7 +39,7 @@ pub(crate) fn names_outside<L: Language>(
     set: &SmallHashSet<Slot>,
 ) -> Result<SmallHashSet<Slot>, Error>
     requires small { IsSmall (L.form node.now) }
-    ensures ok { IfOk result (λ s. (x : ℕ) → is_among x s ≡ (is_among x (L.form node.now).names && not (is_among x set.now))) }
+    ensures ok { IfOk result (λ s. HasThoseOutside s (L.form node.now).names set.now) }
     ensures err { IfErr result IsOutOfMemory }
 {
     let mut outside = SmallHashSet::new(alloc);
@@ -61,10 +61,10 @@ fn fill_name<L: Language>(
     table: &mut SlotTable,
 ) -> Result<(), Error>
     requires small { IsSmall (L.form node.now) }
-    ensures ok { OnOk result (IsFilled table.old (L.form node.now).names (name ∷ []) names.old names.new) }
-    ensures grown { OnOk result ((z : ℕ) → is_among z (values names.old) ≡ true → is_among z (values names.new) ≡ true) }
-    ensures taken { OnOk result (Takes table.old table.new (IsInUse avoid.now (values names.new) (L.form node.now).names)) }
-    ensures full { IsErrOf result Error.OutOfSlots → (table.new.fresh ≡ 2 ^ 30) }
+    ensures ok { OnOk result (IsFilled table.old table.new (L.form node.now).names (name ∷ []) names.old names.new) }
+    ensures grown { OnOk result (KeepsAll (values names.old) (values names.new)) }
+    ensures taken { OnOk result (Takes table.old table.new (IsAtHand avoid.now names.new (L.form node.now))) }
+    ensures full { IsErrOf result Error.OutOfSlots → (table.new.fresh ≡ slot_limit) }
     ensures only { IfErr result IsShortage }
     ensures more { KnowsMore table.old table.new }
     ensures kept { table.new.names ≡ table.old.names }
@@ -85,9 +85,9 @@ pub(crate) fn fill_names<L: Language>(
     table: &mut SlotTable,
 ) -> Result<(), Error>
     requires small { IsSmall (L.form node.now) }
-    ensures ok { OnOk result (IsFilled table.old (L.form node.now).names wanted.now names.old names.new) }
-    ensures taken { OnOk result (Takes table.old table.new (IsInUse wanted.now (values names.new) (L.form node.now).names)) }
-    ensures full { IsErrOf result Error.OutOfSlots → (table.new.fresh ≡ 2 ^ 30) }
+    ensures ok { OnOk result (IsFilled table.old table.new (L.form node.now).names wanted.now names.old names.new) }
+    ensures taken { OnOk result (Takes table.old table.new (IsAtHand wanted.now names.new (L.form node.now))) }
+    ensures full { IsErrOf result Error.OutOfSlots → (table.new.fresh ≡ slot_limit) }
     ensures only { IfErr result IsShortage }
     ensures more { KnowsMore table.old table.new }
     ensures kept { table.new.names ≡ table.old.names }
@@ -101,7 +101,7 @@ pub(crate) fn fill_names<L: Language>(
 // The node with the values of a map in the place of its keys.
 fn replace_names<L: Language>(node: &L, alloc: Global, names: &SlotMap) -> Result<L, Error>
     requires small { IsSmall (L.form node.now) }
-    ensures ok { IfOk result (λ r. L.form r ≡ with_names (L.form node.now) (map (replaced names.now) (L.form node.now).names)) }
+    ensures ok { IfOk result (λ r. L.form r ≡ with_replaced names.now (L.form node.now)) }
     ensures err { IfErr result IsOutOfMemory }
 {
     let mut answer = node.copy(alloc)?;
@@ -120,10 +120,11 @@ pub(crate) fn refresh_names<L: Language>(
     table: &mut SlotTable,
 ) -> Result<L, Error>
     requires small { IsSmall (L.form node.now) }
-    requires own { (x : ℕ) → is_among x wanted.now ≡ true → is_among x (L.form node.now).names ≡ true }
-    ensures ok { IfOk result (λ r. IsRefreshed table.old (λ x. is_among x wanted.now) (L.form node.now) (L.form r)) }
-    ensures taken { IfOk result (λ r. Takes table.old table.new (IsInEither (L.form r).names (L.form node.now).names)) }
-    ensures full { IsErrOf result Error.OutOfSlots → (table.new.fresh ≡ 2 ^ 30) }
+    requires own { KeepsAll wanted.now (L.form node.now).names }
+    ensures ok { IfOk result (λ r. IsRefreshedAt table.old wanted.now (L.form node.now) (L.form r)) }
+    ensures known { IfOk result (λ r. PutsIn table.new [] (L.form node.now) (L.form r)) }
+    ensures taken { IfOk result (λ r. Takes table.old table.new (StandsIn (L.form node.now) (L.form r))) }
+    ensures full { IsErrOf result Error.OutOfSlots → (table.new.fresh ≡ slot_limit) }
     ensures only { IfErr result IsShortage }
     ensures more { KnowsMore table.old table.new }
     ensures kept { table.new.names ≡ table.old.names }

@@ -1,15 +1,14 @@
 // Nodes of a language.
-ghost use Rattle.std.specs.Prelude.{◌≡◌, ◌↔◌, ◌<◌, ◌≤◌, ◌^◌, ℕ, false, slice_index, length, map, not, IsTrue, IfOk, IfErr, OnErr, IsErrOf, ◌⊎◌};
-ghost use Rattle.std.specs.List.{FoldsTo};
-ghost use Rattle.slotted_theory.specs.FiniteMaps.{filled};
-ghost use Rattle.slotted_theory.specs.Nameless.{moved};
+ghost use Rattle.std.specs.Prelude.{◌≡◌, ◌↔◌, ◌⊎◌, ℕ, [], map, IsTrue, IfOk, IfErr, OnErr, IsErrOf};
 ghost use Rattle.slotted_slots.specs.Ascending.{IsAscending};
 ghost use Rattle.slotted_slots.specs.Error.{IsOutOfMemory, IsShortage};
-ghost use Rattle.slotted_slots.specs.Maps.{IsInEither, KnowsAll, is_among, keys, values};
-ghost use Rattle.slotted_slots.specs.Table.{KnowsMore, Takes, is_known};
-ghost use Rattle.slotted_languages.specs.Children.{IsBinder, IsBound, NoneFreeAndBound, Refused, Replaced, all_children, below, child_value};
+ghost use Rattle.slotted_slots.specs.Maps.{KnowsAll, is_among, keys, values};
+ghost use Rattle.slotted_slots.specs.Table.{KnowsMore, Takes, slot_limit};
+ghost use Rattle.slotted_languages.specs.Children.{IsBound, NoneFreeAndBound, Refused, ReplacesAll, all_children, child_value};
 ghost use Rattle.slotted_nodes.specs.Form.{IsSmall, children};
-ghost use Rattle.slotted_languages.specs.Fresh.{IsInUse, IsRefreshed, IsRenamedFresh};
+ghost use Rattle.slotted_languages.specs.Fresh.{IsRenamedFresh};
+ghost use Rattle.slotted_languages.specs.NewNames.{BindersAreNew, BindersAreUnknown, BindersDiffer, BindersMeetAsBefore, BindersStay};
+ghost use Rattle.slotted_languages.specs.NewNames.{GivesBack, IsOneOf, IsRefreshedAt, IsRefreshedBut, IsRenamedBy, IsTooLarge, PutsIn, StandsIn};
 ghost use Rattle.slotted_languages.specs.NodeTerm.{nameless_node, free_names_of};
 ghost use Rattle.slotted_languages.specs.Occurrences.{public_names, private_names};
 ghost use Rattle.slotted_languages.specs.Shape.{shape, firsts};
@@ -39,9 +38,9 @@ pub trait Language: LanguageChildren + Ord {
         // The map has the free names, each once, and put back they give the node, up to bound names.
         ensures keys { IfOk result (λ r. IsAscending (keys r.1)) }
         ensures names { IfOk result (λ r. values r.1 ≡ firsts (free_names_of (Self.form self.now))) }
-        ensures back { IfOk result (λ r. moved (filled r.1) (nameless_node (Self.form r.0)) ≡ nameless_node (Self.form self.now)) }
+        ensures back { IfOk result (λ r. GivesBack r.1 (Self.form r.0) (Self.form self.now)) }
 
-        ensures full { IsErrOf result Error.OutOfSlots ↔ (2 ^ 30 ≤ length (Self.form self.now).names) }
+        ensures full { IsErrOf result Error.OutOfSlots ↔ IsTooLarge (Self.form self.now) }
         ensures only { IfErr result IsShortage }
     {
         if self.slot_count() >= PLACES {
@@ -59,8 +58,8 @@ pub trait Language: LanguageChildren + Ord {
         ensures shape { IfOk result (λ m. (Self.form self.new, m) ≡ shape (Self.form self.old)) }
         ensures keys { IfOk result (λ m. IsAscending (keys m)) }
         ensures names { IfOk result (λ m. values m ≡ firsts (free_names_of (Self.form self.old))) }
-        ensures back { IfOk result (λ m. moved (filled m) (nameless_node (Self.form self.new)) ≡ nameless_node (Self.form self.old)) }
-        ensures full { IsErrOf result Error.OutOfSlots ↔ (2 ^ 30 ≤ length (Self.form self.old).names) }
+        ensures back { IfOk result (λ m. GivesBack m (Self.form self.new) (Self.form self.old)) }
+        ensures full { IsErrOf result Error.OutOfSlots ↔ IsTooLarge (Self.form self.old) }
         ensures only { IfErr result IsShortage }
         ensures err { OnErr result (self.new ≡ self.old) }
     {
@@ -74,7 +73,7 @@ pub trait Language: LanguageChildren + Ord {
     where
         Self: Sized,
         ensures test { IfOk result (λ known. IsTrue known ↔ KnowsAll m.now (free_names_of (Self.form self.now))) }
-        ensures full { IsErrOf result Error.OutOfSlots ↔ (2 ^ 30 ≤ length (Self.form self.now).names) }
+        ensures full { IsErrOf result Error.OutOfSlots ↔ IsTooLarge (Self.form self.now) }
         ensures only { IfErr result IsShortage }
     {
         let (_, free) = self.weak_shape(alloc)?;
@@ -93,17 +92,23 @@ pub trait Language: LanguageChildren + Ord {
     where
         Self: Sized,
         requires { KnowsAll m.now (free_names_of (Self.form self.now)) }
-        ensures renamed { IfOk result (λ r. nameless_node (Self.form r) ≡ moved (filled m.now) (nameless_node (Self.form self.now))) }
+        ensures renamed { IfOk result (λ r. IsRenamedBy m.now (Self.form self.now) (Self.form r)) }
 
         // A bound slot that is no free one of the answer stays.
-        ensures stays { IfOk result (λ r. (j : ℕ) → j < length (Self.form self.now).names → IsBinder (Self.form self.now) j → is_among (slice_index (Self.form self.now).names j) (free_names_of (Self.form r)) ≡ false → slice_index (Self.form r).names j ≡ slice_index (Self.form self.now).names j) }
+        ensures stays { IfOk result (λ r. BindersStay (Self.form self.now) (Self.form r)) }
+
+        // No free name of the answer is that of a binder, wherever that stands.
+        ensures checked { IfOk result (λ r. NoneFreeAndBound (Self.form r)) }
+
+        // A name that is put in is known to the table, or a value of the map.
+        ensures known { IfOk result (λ r. PutsIn table.new (values m.now) (Self.form self.now) (Self.form r)) }
 
         // The table knows nothing new but what stands in the answer, or stood in the node.
-        ensures taken { IfOk result (λ r. Takes table.old table.new (IsInEither (Self.form r).names (Self.form self.now).names)) }
+        ensures taken { IfOk result (λ r. Takes table.old table.new (StandsIn (Self.form self.now) (Self.form r))) }
 
         // Slots run out for a node with too many places, or where the table has no fresh slot left.
-        ensures large { 2 ^ 30 ≤ length (Self.form self.now).names → IsErrOf result Error.OutOfSlots }
-        ensures full { IsErrOf result Error.OutOfSlots → ((2 ^ 30 ≤ length (Self.form self.now).names) ⊎ (table.new.fresh ≡ 2 ^ 30)) }
+        ensures large { IsTooLarge (Self.form self.now) → IsErrOf result Error.OutOfSlots }
+        ensures full { IsErrOf result Error.OutOfSlots → IsTooLarge (Self.form self.now) ⊎ (table.new.fresh ≡ slot_limit) }
         ensures only { IfErr result IsShortage }
         ensures more { KnowsMore table.old table.new }
         ensures kept { table.new.names ≡ table.old.names }
@@ -124,15 +129,21 @@ pub trait Language: LanguageChildren + Ord {
     where
         Self: Sized,
         requires { KnowsAll m.now (free_names_of (Self.form self.now)) }
-        ensures renamed { IfOk result (λ r. nameless_node (Self.form r) ≡ moved (filled m.now) (nameless_node (Self.form self.now))) }
+        ensures renamed { IfOk result (λ r. IsRenamedBy m.now (Self.form self.now) (Self.form r)) }
 
         // A bound slot that is no free one of the answer stays.
-        ensures stays { IfOk result (λ r. (j : ℕ) → j < length (Self.form self.now).names → IsBinder (Self.form self.now) j → is_among (slice_index (Self.form self.now).names j) (free_names_of (Self.form r)) ≡ false → slice_index (Self.form r).names j ≡ slice_index (Self.form self.now).names j) }
+        ensures stays { IfOk result (λ r. BindersStay (Self.form self.now) (Self.form r)) }
+
+        // No free name of the answer is that of a binder, wherever that stands.
+        ensures checked { IfOk result (λ r. NoneFreeAndBound (Self.form r)) }
+
+        // A name that is put in is known to the table, or a value of the map.
+        ensures known { IfOk result (λ r. PutsIn table.new (values m.now) (Self.form self.now) (Self.form r)) }
 
         // The table knows nothing new but what stands in the answer, or stood in the node.
-        ensures taken { IfOk result (λ r. Takes table.old table.new (IsInEither (Self.form r).names (Self.form self.now).names)) }
-        ensures large { 2 ^ 30 ≤ length (Self.form self.now).names → IsErrOf result Error.OutOfSlots }
-        ensures full { IsErrOf result Error.OutOfSlots → ((2 ^ 30 ≤ length (Self.form self.now).names) ⊎ (table.new.fresh ≡ 2 ^ 30)) }
+        ensures taken { IfOk result (λ r. Takes table.old table.new (StandsIn (Self.form self.now) (Self.form r))) }
+        ensures large { IsTooLarge (Self.form self.now) → IsErrOf result Error.OutOfSlots }
+        ensures full { IsErrOf result Error.OutOfSlots → IsTooLarge (Self.form self.now) ⊎ (table.new.fresh ≡ slot_limit) }
         ensures only { IfErr result IsShortage }
         ensures more { KnowsMore table.old table.new }
         ensures kept { table.new.names ≡ table.old.names }
@@ -152,12 +163,18 @@ pub trait Language: LanguageChildren + Ord {
         ensures renamed { IfOk result (λ r. IsRenamedFresh table.old m.now (Self.form self.now) (Self.form r)) }
 
         // A bound slot that is no free one of the answer stays.
-        ensures stays { IfOk result (λ r. (j : ℕ) → j < length (Self.form self.now).names → IsBinder (Self.form self.now) j → is_among (slice_index (Self.form self.now).names j) (free_names_of (Self.form r)) ≡ false → slice_index (Self.form r).names j ≡ slice_index (Self.form self.now).names j) }
+        ensures stays { IfOk result (λ r. BindersStay (Self.form self.now) (Self.form r)) }
+
+        // No free name of the answer is that of a binder, wherever that stands.
+        ensures checked { IfOk result (λ r. NoneFreeAndBound (Self.form r)) }
+
+        // A name that is put in is known to the table, or a value of the map.
+        ensures known { IfOk result (λ r. PutsIn table.new (values m.now) (Self.form self.now) (Self.form r)) }
 
         // The table knows nothing new but what stands in the answer, in the map, or stood in the node.
-        ensures taken { IfOk result (λ r. Takes table.old table.new (IsInUse (values m.now) (Self.form r).names (Self.form self.now).names)) }
-        ensures large { 2 ^ 30 ≤ length (Self.form self.now).names → IsErrOf result Error.OutOfSlots }
-        ensures full { IsErrOf result Error.OutOfSlots → ((2 ^ 30 ≤ length (Self.form self.now).names) ⊎ (table.new.fresh ≡ 2 ^ 30)) }
+        ensures taken { IfOk result (λ r. Takes table.old table.new (IsOneOf (values m.now) (Self.form self.now) (Self.form r))) }
+        ensures large { IsTooLarge (Self.form self.now) → IsErrOf result Error.OutOfSlots }
+        ensures full { IsErrOf result Error.OutOfSlots → IsTooLarge (Self.form self.now) ⊎ (table.new.fresh ≡ slot_limit) }
         ensures only { IfErr result IsShortage }
         ensures more { KnowsMore table.old table.new }
         ensures kept { table.new.names ≡ table.old.names }
@@ -174,15 +191,21 @@ pub trait Language: LanguageChildren + Ord {
     where
         Self: Sized,
         ensures same { IfOk result (λ r. nameless_node (Self.form r) ≡ nameless_node (Self.form self.now)) }
-        ensures fresh { IfOk result (λ r. (j : ℕ) → j < length (Self.form self.now).names → IsBinder (Self.form self.now) j → is_among (slice_index (Self.form r).names j) (Self.form self.now).names ≡ false) }
-        ensures unused { IfOk result (λ r. (j : ℕ) → j < length (Self.form self.now).names → IsBinder (Self.form self.now) j → is_known table.old (slice_index (Self.form r).names j) ≡ false) }
-        ensures apart { IfOk result (λ r. (j k : ℕ) → j < length (Self.form self.now).names → k < length (Self.form self.now).names → IsBinder (Self.form self.now) j → IsBinder (Self.form self.now) k → slice_index (Self.form r).names j ≡ slice_index (Self.form r).names k → j ≡ k) }
-        ensures differ { IfOk result (λ r. (j k : ℕ) → j < length (Self.form self.now).names → k < length (Self.form self.now).names → IsBinder (Self.form self.now) j → slice_index (Self.form r).names j ≡ slice_index (Self.form r).names k → slice_index (Self.form self.now).names j ≡ slice_index (Self.form self.now).names k) }
+        ensures fresh { IfOk result (λ r. BindersAreNew (Self.form self.now) (Self.form r)) }
+        ensures unused { IfOk result (λ r. BindersAreUnknown table.old (Self.form self.now) (Self.form r)) }
+        ensures apart { IfOk result (λ r. BindersDiffer (Self.form self.now) (Self.form r)) }
+        ensures differ { IfOk result (λ r. BindersMeetAsBefore (Self.form self.now) (Self.form r)) }
+
+        // No free name of the answer is that of a binder, wherever that stands.
+        ensures checked { IfOk result (λ r. NoneFreeAndBound (Self.form r)) }
+
+        // A name that is put in is known to the table.
+        ensures known { IfOk result (λ r. PutsIn table.new [] (Self.form self.now) (Self.form r)) }
 
         // The table knows nothing new but what stands in the answer, or stood in the node.
-        ensures taken { IfOk result (λ r. Takes table.old table.new (IsInEither (Self.form r).names (Self.form self.now).names)) }
-        ensures large { 2 ^ 30 ≤ length (Self.form self.now).names → IsErrOf result Error.OutOfSlots }
-        ensures full { IsErrOf result Error.OutOfSlots → ((2 ^ 30 ≤ length (Self.form self.now).names) ⊎ (table.new.fresh ≡ 2 ^ 30)) }
+        ensures taken { IfOk result (λ r. Takes table.old table.new (StandsIn (Self.form self.now) (Self.form r))) }
+        ensures large { IsTooLarge (Self.form self.now) → IsErrOf result Error.OutOfSlots }
+        ensures full { IsErrOf result Error.OutOfSlots → IsTooLarge (Self.form self.now) ⊎ (table.new.fresh ≡ slot_limit) }
         ensures only { IfErr result IsShortage }
         ensures more { KnowsMore table.old table.new }
         ensures kept { table.new.names ≡ table.old.names }
@@ -202,12 +225,18 @@ pub trait Language: LanguageChildren + Ord {
     ) -> Result<Self, Error>
     where
         Self: Sized,
-        ensures refreshed { IfOk result (λ r. IsRefreshed table.old (λ x. is_among x set.now) (Self.form self.now) (Self.form r)) }
+        ensures refreshed { IfOk result (λ r. IsRefreshedAt table.old set.now (Self.form self.now) (Self.form r)) }
+
+        // Where no free name is that of a binder, that stays so.
+        ensures checked { IfOk result (λ r. NoneFreeAndBound (Self.form self.now) → NoneFreeAndBound (Self.form r)) }
+
+        // A name that is put in is known to the table.
+        ensures known { IfOk result (λ r. PutsIn table.new [] (Self.form self.now) (Self.form r)) }
 
         // The table knows nothing new but what stands in the answer, or stood in the node.
-        ensures taken { IfOk result (λ r. Takes table.old table.new (IsInEither (Self.form r).names (Self.form self.now).names)) }
-        ensures large { 2 ^ 30 ≤ length (Self.form self.now).names → IsErrOf result Error.OutOfSlots }
-        ensures full { IsErrOf result Error.OutOfSlots → ((2 ^ 30 ≤ length (Self.form self.now).names) ⊎ (table.new.fresh ≡ 2 ^ 30)) }
+        ensures taken { IfOk result (λ r. Takes table.old table.new (StandsIn (Self.form self.now) (Self.form r))) }
+        ensures large { IsTooLarge (Self.form self.now) → IsErrOf result Error.OutOfSlots }
+        ensures full { IsErrOf result Error.OutOfSlots → IsTooLarge (Self.form self.now) ⊎ (table.new.fresh ≡ slot_limit) }
         ensures only { IfErr result IsShortage }
         ensures more { KnowsMore table.old table.new }
         ensures kept { table.new.names ≡ table.old.names }
@@ -227,12 +256,18 @@ pub trait Language: LanguageChildren + Ord {
     ) -> Result<Self, Error>
     where
         Self: Sized,
-        ensures refreshed { IfOk result (λ r. IsRefreshed table.old (λ x. not (is_among x public.now)) (Self.form self.now) (Self.form r)) }
+        ensures refreshed { IfOk result (λ r. IsRefreshedBut table.old public.now (Self.form self.now) (Self.form r)) }
+
+        // Where no free name is that of a binder, that stays so.
+        ensures checked { IfOk result (λ r. NoneFreeAndBound (Self.form self.now) → NoneFreeAndBound (Self.form r)) }
+
+        // A name that is put in is known to the table.
+        ensures known { IfOk result (λ r. PutsIn table.new [] (Self.form self.now) (Self.form r)) }
 
         // The table knows nothing new but what stands in the answer, or stood in the node.
-        ensures taken { IfOk result (λ r. Takes table.old table.new (IsInEither (Self.form r).names (Self.form self.now).names)) }
-        ensures large { 2 ^ 30 ≤ length (Self.form self.now).names → IsErrOf result Error.OutOfSlots }
-        ensures full { IsErrOf result Error.OutOfSlots → ((2 ^ 30 ≤ length (Self.form self.now).names) ⊎ (table.new.fresh ≡ 2 ^ 30)) }
+        ensures taken { IfOk result (λ r. Takes table.old table.new (StandsIn (Self.form self.now) (Self.form r))) }
+        ensures large { IsTooLarge (Self.form self.now) → IsErrOf result Error.OutOfSlots }
+        ensures full { IsErrOf result Error.OutOfSlots → IsTooLarge (Self.form self.now) ⊎ (table.new.fresh ≡ slot_limit) }
         ensures only { IfErr result IsShortage }
         ensures more { KnowsMore table.old table.new }
         ensures kept { table.new.names ≡ table.old.names }
@@ -247,7 +282,7 @@ pub trait Language: LanguageChildren + Ord {
     where
         Self: Sized,
         ensures members { IfOk result (λ s. (x : ℕ) → is_among x s ≡ is_among x (free_names_of (Self.form self.now))) }
-        ensures full { IsErrOf result Error.OutOfSlots ↔ (2 ^ 30 ≤ length (Self.form self.now).names) }
+        ensures full { IsErrOf result Error.OutOfSlots ↔ IsTooLarge (Self.form self.now) }
         ensures only { IfErr result IsShortage }
     {
         let (_, free) = self.weak_shape(alloc)?;
@@ -259,7 +294,7 @@ pub trait Language: LanguageChildren + Ord {
     where
         Self: Sized,
         ensures ok { IfOk result (λ v. v.items ≡ (Self.form self.now).names) }
-        ensures full { IsErrOf result Error.OutOfSlots ↔ (2 ^ 30 ≤ length (Self.form self.now).names) }
+        ensures full { IsErrOf result Error.OutOfSlots ↔ IsTooLarge (Self.form self.now) }
         ensures only { IfErr result IsShortage }
     {
         check_count(self)?;
@@ -272,7 +307,7 @@ pub trait Language: LanguageChildren + Ord {
         Self: Sized,
         ensures ok { IfOk result (λ v. v.items ≡ public_names (Self.form self.now)) }
         ensures free { IfOk result (λ v. v.items ≡ free_names_of (Self.form self.now)) }
-        ensures full { IsErrOf result Error.OutOfSlots ↔ (2 ^ 30 ≤ length (Self.form self.now).names) }
+        ensures full { IsErrOf result Error.OutOfSlots ↔ IsTooLarge (Self.form self.now) }
         ensures only { IfErr result IsShortage }
     {
         check_count(self)?;
@@ -284,7 +319,7 @@ pub trait Language: LanguageChildren + Ord {
     where
         Self: Sized,
         ensures ok { IfOk result (λ v. v.items ≡ private_names (Self.form self.now)) }
-        ensures full { IsErrOf result Error.OutOfSlots ↔ (2 ^ 30 ≤ length (Self.form self.now).names) }
+        ensures full { IsErrOf result Error.OutOfSlots ↔ IsTooLarge (Self.form self.now) }
         ensures only { IfErr result IsShortage }
     {
         check_count(self)?;
@@ -296,7 +331,7 @@ pub trait Language: LanguageChildren + Ord {
     where
         Self: Sized,
         ensures members { IfOk result (λ s. (x : ℕ) → is_among x s ≡ is_among x (private_names (Self.form self.now))) }
-        ensures full { IsErrOf result Error.OutOfSlots ↔ (2 ^ 30 ≤ length (Self.form self.now).names) }
+        ensures full { IsErrOf result Error.OutOfSlots ↔ IsTooLarge (Self.form self.now) }
         ensures only { IfErr result IsShortage }
     {
         let hidden = self.private_slot_occurrences(alloc)?;
@@ -336,7 +371,7 @@ pub trait Language: LanguageChildren + Ord {
     where
         Self: Sized,
         requires { F.IsAlwaysCallable f }
-        ensures ok { IfOk result (λ r. (last : F) × FoldsTo (Replaced F.step) (f, Self.form self.now) (below (length (children (Self.form self.now).tree))) (last, Self.form r)) }
+        ensures ok { IfOk result (λ r. ReplacesAll F.step f (Self.form self.now) (Self.form r)) }
         ensures only { IfErr result (λ e. IsOutOfMemory e ⊎ Refused F.step e) }
     {
         let mut node = self.copy(alloc)?;

@@ -1,8 +1,9 @@
 //! The names at the places of a node, from the left.
-ghost use Rattle.std.specs.Prelude.{◌≡◌, ◌↔◌, ◌≤◌, ◌^◌, ℕ, length, IfOk, IfErr, IsErrOf, IsOkUnless};
+ghost use Rattle.std.specs.Prelude.{◌≡◌, ◌↔◌, ℕ, IfOk, IfErr, IsErrOf, IsOkUnless};
 ghost use Rattle.slotted_slots.specs.Error.{IsOutOfMemory};
 ghost use Rattle.slotted_slots.specs.Maps.{is_among};
 ghost use Rattle.slotted_nodes.specs.Form.{IsSmall};
+ghost use Rattle.slotted_languages.specs.NewNames.{IsTooLarge};
 ghost use Rattle.slotted_languages.specs.NodeTerm.{free_names_of};
 ghost use Rattle.slotted_languages.specs.Occurrences.{public_names, private_names};
 
@@ -13,7 +14,7 @@ use std::alloc::Global;
 
 // Refuses a node that has too many places.
 pub(crate) fn check_count<L: Language>(node: &L) -> Result<(), Error>
-    ensures full { IsErrOf result Error.OutOfSlots ↔ (2 ^ 30 ≤ length (L.form node.now).names) }
+    ensures full { IsErrOf result Error.OutOfSlots ↔ IsTooLarge (L.form node.now) }
     ensures only { IsOkUnless result Error.OutOfSlots }
 {
     if node.slot_count() >= PLACES {

@@ -1,13 +1,13 @@
 //! Renaming of nodes without capture: bound slots are refreshed where a new free name would meet one.
-ghost use Rattle.std.specs.Prelude.{◌≡◌, ◌^◌, ℕ, true, false, Some, IfOk, IfErr, OnOk, IsErrOf, IsOkUnless};
-ghost use Rattle.slotted_theory.specs.FiniteMaps.{with_values};
+ghost use Rattle.std.specs.Prelude.{◌≡◌, ℕ, true, false, Some, IfOk, IfErr, OnOk, IsErrOf, IsOkUnless};
 ghost use Rattle.slotted_slots.specs.Error.{IsOutOfMemory, IsShortage};
 ghost use Rattle.slotted_slots.specs.Maps.{IsInEither, is_among, value_of, values};
-ghost use Rattle.slotted_slots.specs.Table.{KnowsMore, Takes, is_known};
+ghost use Rattle.slotted_slots.specs.Table.{KnowsMore, Takes, is_known, slot_limit};
 ghost use Rattle.slotted_nodes.specs.Form.{IsSmall};
-ghost use Rattle.slotted_languages.specs.Fresh.{IsInUse, IsOrIn};
+ghost use Rattle.slotted_languages.specs.Fresh.{IsAtHand, IsOrAtHand, KeepsAll};
+ghost use Rattle.slotted_languages.specs.NewNames.{IsOneOf};
 ghost use Rattle.slotted_languages.specs.Shape.{shape};
-ghost use Rattle.slotted_languages.specs.Renaming.{IsChoice, IsEntered, IsRenamed};
+ghost use Rattle.slotted_languages.specs.Renaming.{IsChoice, IsEntered, RenamesAs};
 
 use crate::language::Language;
 use slotted_slots::{Error, Slot, SlotMap, SlotTable, SmallHashSet};
@@ -50,8 +50,9 @@ pub(crate) fn fresh_apart<L: Language>(
     ensures names { IfOk result (λ s. is_among s (values names.now) ≡ false) }
     ensures avoid { IfOk result (λ s. is_among s avoid.now ≡ false) }
     ensures unused { IfOk result (λ s. is_known table.old s ≡ false) }
-    ensures taken { IfOk result (λ s. Takes table.old table.new (IsOrIn s avoid.now (values names.now) (L.form node.now).names)) }
-    ensures full { IsErrOf result Error.OutOfSlots → (table.new.fresh ≡ 2 ^ 30) }
+    ensures known { IfOk result (λ s. is_known table.new s ≡ true) }
+    ensures taken { IfOk result (λ s. Takes table.old table.new (IsOrAtHand s avoid.now names.now (L.form node.now))) }
+    ensures full { IsErrOf result Error.OutOfSlots → (table.new.fresh ≡ slot_limit) }
     ensures only { IsOkUnless result Error.OutOfSlots }
     ensures more { KnowsMore table.old table.new }
     ensures kept { table.new.names ≡ table.old.names }
@@ -75,9 +76,9 @@ fn choose_name<L: Language>(
     table: &mut SlotTable,
 ) -> Result<Slot, Error>
     requires small { IsSmall (L.form node.now) }
-    ensures ok { IfOk result (IsChoice table.old (L.form node.now).names avoid.now free.now names.now number name) }
-    ensures taken { IfOk result (λ s. Takes table.old table.new (IsOrIn s avoid.now (values names.now) (L.form node.now).names)) }
-    ensures full { IsErrOf result Error.OutOfSlots → (table.new.fresh ≡ 2 ^ 30) }
+    ensures ok { IfOk result (IsChoice table.old table.new (L.form node.now).names avoid.now free.now names.now number name) }
+    ensures taken { IfOk result (λ s. Takes table.old table.new (IsOrAtHand s avoid.now names.now (L.form node.now))) }
+    ensures full { IsErrOf result Error.OutOfSlots → (table.new.fresh ≡ slot_limit) }
     ensures only { IsOkUnless result Error.OutOfSlots }
     ensures more { KnowsMore table.old table.new }
     ensures kept { table.new.names ≡ table.old.names }
@@ -102,9 +103,9 @@ fn new_name<L: Language>(
     table: &mut SlotTable,
 ) -> Result<Slot, Error>
     requires small { IsSmall (L.form node.now) }
-    ensures ok { IfOk result (IsEntered table.old (L.form node.now).names avoid.now free.now names.old names.new number name) }
-    ensures taken { IfOk result (λ _. Takes table.old table.new (IsInUse avoid.now (values names.new) (L.form node.now).names)) }
-    ensures full { IsErrOf result Error.OutOfSlots → (table.new.fresh ≡ 2 ^ 30) }
+    ensures ok { IfOk result (IsEntered table.old table.new (L.form node.now).names avoid.now free.now names.old names.new number name) }
+    ensures taken { IfOk result (λ _. Takes table.old table.new (IsAtHand avoid.now names.new (L.form node.now))) }
+    ensures full { IsErrOf result Error.OutOfSlots → (table.new.fresh ≡ slot_limit) }
     ensures only { IfErr result IsShortage }
     ensures more { KnowsMore table.old table.new }
     ensures kept { table.new.names ≡ table.old.names }
@@ -130,9 +131,9 @@ pub(crate) fn rename<L: Language>(
     requires small { IsSmall (L.form node.now) }
     requires numbered { L.form numbered ≡ (shape (L.form node.now)).0 }
     requires avoided { (n z : ℕ) → value_of free.now n ≡ Some z → is_among z avoid.now ≡ true }
-    ensures renamed { IfOk result (λ r. (π : ℕ → ℕ) → free.now ≡ with_values π (shape (L.form node.now)).1 → IsRenamed table.old π (L.form node.now) avoid.now (L.form r)) }
-    ensures taken { IfOk result (λ r. Takes table.old table.new (IsInUse avoid.now (L.form r).names (L.form node.now).names)) }
-    ensures full { IsErrOf result Error.OutOfSlots → (table.new.fresh ≡ 2 ^ 30) }
+    ensures renamed { IfOk result (λ r. RenamesAs table.old table.new free.now avoid.now (L.form node.now) (L.form r)) }
+    ensures taken { IfOk result (λ r. Takes table.old table.new (IsOneOf avoid.now (L.form node.now) (L.form r))) }
+    ensures full { IsErrOf result Error.OutOfSlots → (table.new.fresh ≡ slot_limit) }
     ensures only { IfErr result IsShortage }
     ensures more { KnowsMore table.old table.new }
     ensures kept { table.new.names ≡ table.old.names }
@@ -150,8 +151,8 @@ pub(crate) fn rename<L: Language>(
 // Puts all names of the node into the set.
 pub(crate) fn add_names<L: Language>(node: &L, set: &mut SmallHashSet<Slot>) -> Result<(), Error>
     requires small { IsSmall (L.form node.now) }
-    ensures kept { OnOk result ((x : ℕ) → is_among x set.old ≡ true → is_among x set.new ≡ true) }
-    ensures added { OnOk result ((x : ℕ) → is_among x (L.form node.now).names ≡ true → is_among x set.new ≡ true) }
+    ensures kept { OnOk result (KeepsAll set.old set.new) }
+    ensures added { OnOk result (KeepsAll (L.form node.now).names set.new) }
     ensures within { OnOk result ((x : ℕ) → is_among x set.new ≡ true → IsInEither set.old (L.form node.now).names x) }
     ensures only { IfErr result IsOutOfMemory }
 {

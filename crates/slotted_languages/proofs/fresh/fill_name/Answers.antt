@@ -10,7 +10,7 @@ returns-clause-ok g c =
     let m = c.args.names.now in
     let e = c.in_ok-new.ensures in
     let missing : value_of m c.args.name ≡ None = lacks_of m c.args.name (sym c.contains_key.ensures ∙ c.if-contains_key.false) in
-    one_filled c.args.table.now f.names m c.insert.new.self c.args.name c.in_ok-new.new missing c.in_ok-insert.ensures.ok e.unused e.node e.names
+    one_filled c.args.table.now c.fresh_apart.new.table f.names m c.insert.new.self c.args.name c.in_ok-new.new missing c.in_ok-insert.ensures.ok e.unused e.known e.node e.names
 
 pub returns-clause-grown : goal.returns-clause-grown
 returns-clause-grown g c z h =

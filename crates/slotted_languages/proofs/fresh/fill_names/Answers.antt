@@ -8,8 +8,8 @@ pub loop-name-preserved : goal.loop-name-preserved
 loop-name-preserved g c =
     let f = g.L.LanguageChildren.form c.args.node.now in
     record {
-      filled = next_filled c.args.table.now c.loop-name.table f.names c.as_slice-name-items.result.now c.loop-name.name-index c.name-item.result c.args.names.now c.loop-name.names c.fill_name.new.names
-          (omega (arith, c.loop-name-test.true)) c.name-item.is c.loop-name.invariant.more c.loop-name.invariant.filled c.in_ok-fill_name.ensures.ok;
+      filled = next_filled c.args.table.now c.loop-name.table c.fill_name.new.table f.names c.as_slice-name-items.result.now c.loop-name.name-index c.name-item.result c.args.names.now c.loop-name.names c.fill_name.new.names
+          (omega (arith, c.loop-name-test.true)) c.name-item.is c.loop-name.invariant.more c.fill_name.ensures.more c.loop-name.invariant.filled c.in_ok-fill_name.ensures.ok;
       more = λ s k. c.fill_name.ensures.more s (c.loop-name.invariant.more s k);
       kept = c.fill_name.ensures.kept ∙ c.loop-name.invariant.kept;
       taken = grown_taken c.args.table.now c.loop-name.table c.fill_name.new.table c.args.wanted.now f.names (values c.loop-name.names) (values c.fill_name.new.names)

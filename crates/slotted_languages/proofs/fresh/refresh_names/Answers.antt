@@ -4,6 +4,7 @@ use Rattle.slotted_slots.specs.Ascending.{IsAscending}
 use Rattle.slotted_slots.specs.Maps.{keys}
 use Rattle.slotted_languages.specs.Fresh.{IsFilled}
 use Rattle.slotted_languages.proofs.Fills.{refreshed}
+use Rattle.slotted_languages.proofs.PutIn.{replaced_put}
 use Rattle.slotted_languages.proofs.Taken.{replaced_taken}
 use Rattle.slotted_languages.proofs.fresh.refresh_names.Goals as goal
 
@@ -14,8 +15,9 @@ returns-clause-ok g c =
     let wanted = c.args.wanted.now in
     let names = c.fill_names.new.names in
     let t = c.args.table.now in
-    let d : IsFilled t f.names wanted [] names = subst (λ m. IsFilled t f.names wanted m names) c.new-names.ensures c.in_ok-fill_names.ensures.ok in
-    IfOk-weaker c.replace_names.result _ _ (λ r e. refreshed t f (form r) wanted names (g.met.L.LanguageChildren.fits c.args.node.now) d e) c.replace_names.ensures.ok
+    let u = c.fill_names.new.table in
+    let d : IsFilled t u f.names wanted [] names = subst (λ m. IsFilled t u f.names wanted m names) c.new-names.ensures c.in_ok-fill_names.ensures.ok in
+    IfOk-weaker c.replace_names.result _ _ (λ r e. refreshed t u f (form r) wanted names (g.met.L.LanguageChildren.fits c.args.node.now) d e) c.replace_names.ensures.ok
 
 pub returns-clause-taken : goal.returns-clause-taken
 returns-clause-taken g c =
@@ -24,6 +26,18 @@ returns-clause-taken g c =
     let wanted = c.args.wanted.now in
     let names = c.fill_names.new.names in
     let t = c.args.table.now in
-    let d : IsFilled t f.names wanted [] names = subst (λ m. IsFilled t f.names wanted m names) c.new-names.ensures c.in_ok-fill_names.ensures.ok in
+    let u = c.fill_names.new.table in
+    let d : IsFilled t u f.names wanted [] names = subst (λ m. IsFilled t u f.names wanted m names) c.new-names.ensures c.in_ok-fill_names.ensures.ok in
     let up : IsAscending (keys names) = subst (λ m. IsAscending (keys m)) c.names.view_is c.names.invariant in
     IfOk-weaker c.replace_names.result _ _ (λ r e. replaced_taken t c.fill_names.new.table f (form r) wanted names up d c.requires.own c.in_ok-fill_names.ensures.taken e) c.replace_names.ensures.ok
+
+pub returns-clause-known : goal.returns-clause-known
+returns-clause-known g c =
+    let form = g.L.LanguageChildren.form in
+    let f = form c.args.node.now in
+    let wanted = c.args.wanted.now in
+    let names = c.fill_names.new.names in
+    let t = c.args.table.now in
+    let u = c.fill_names.new.table in
+    let d : IsFilled t u f.names wanted [] names = subst (λ m. IsFilled t u f.names wanted m names) c.new-names.ensures c.in_ok-fill_names.ensures.ok in
+    IfOk-weaker c.replace_names.result _ _ (λ r e. replaced_put t u wanted names f (form r) d e) c.replace_names.ensures.ok

@@ -15,4 +15,5 @@ returns-clause-ok g c =
       not_old = λ _ _. e.node;
       not_new = λ _ _. e.names;
       unused = λ _ _. e.unused;
+      known = λ _ _. e.known;
     }

@@ -21,15 +21,15 @@ loop-i-init g c =
 pub loop-i-preserved : goal.loop-i-preserved
 loop-i-preserved g c =
     let form = g.L.LanguageChildren.form in
-    let same = renaming_length c.args.table.now (form c.args.node.now) (form c.loop-i.numbered) c.args.avoid.now c.args.free.now c.loop-i.names c.loop-i.i c.loop-i.invariant.renamed in
+    let same = renaming_length c.args.table.now c.loop-i.table (form c.args.node.now) (form c.loop-i.numbered) c.args.avoid.now c.args.free.now c.loop-i.names c.loop-i.i c.loop-i.invariant.renamed in
     record {
-      renamed = one_renamed c.args.table.now c.loop-i.table (form c.args.node.now) (form c.loop-i.numbered) (form c.set_slot.new.self) c.args.avoid.now c.args.free.now c.loop-i.names c.new_name.new.names
+      renamed = one_renamed c.args.table.now c.loop-i.table c.new_name.new.table (form c.args.node.now) (form c.loop-i.numbered) (form c.set_slot.new.self) c.args.avoid.now c.args.free.now c.loop-i.names c.new_name.new.names
           c.loop-i.i c.slot-name.result c.slot-number.result c.in_ok-new.new (omega (arith, c.loop-i-test.true, c.slot_count-i-end.ensures)) c.requires.avoided
-          c.loop-i.invariant.more c.loop-i.invariant.renamed c.slot-name.ensures c.slot-number.ensures c.in_ok-new.ensures.ok c.set_slot.ensures;
+          c.loop-i.invariant.more c.in_ok-new.ensures.more c.loop-i.invariant.renamed c.slot-name.ensures c.slot-number.ensures c.in_ok-new.ensures.ok c.set_slot.ensures;
       more = λ s k. c.new_name.ensures.more s (c.loop-i.invariant.more s k);
       taken = entered_takes c.args.table.now c.loop-i.table c.new_name.new.table (form c.args.node.now).names c.args.avoid.now c.args.free.now c.loop-i.names c.new_name.new.names c.slot-number.result c.slot-name.result c.in_ok-new.new
           c.in_ok-new.ensures.ok c.loop-i.invariant.taken c.in_ok-new.ensures.taken;
-      placed = entered_stands c.loop-i.table (form c.args.node.now).names c.args.avoid.now c.args.free.now c.loop-i.names c.new_name.new.names (form c.loop-i.numbered) (form c.set_slot.new.self)
+      placed = entered_stands c.loop-i.table c.new_name.new.table (form c.args.node.now).names c.args.avoid.now c.args.free.now c.loop-i.names c.new_name.new.names (form c.loop-i.numbered) (form c.set_slot.new.self)
           c.loop-i.i c.slot-number.result c.slot-name.result c.in_ok-new.new (omega (arith, c.loop-i-test.true, c.slot_count-i-end.ensures, same)) c.in_ok-new.ensures.ok c.set_slot.ensures c.loop-i.invariant.placed;
       kept = c.new_name.ensures.kept ∙ c.loop-i.invariant.kept;
     }
@@ -42,5 +42,5 @@ returns-clause-taken g c =
 pub returns-clause-renamed : goal.returns-clause-renamed
 returns-clause-renamed g c =
     let form = g.L.LanguageChildren.form in
-    all_renamed c.args.table.now (form c.args.node.now) (form c.loop-i.numbered) c.args.avoid.now c.args.free.now c.loop-i.names c.loop-i.i (g.met.L.LanguageChildren.fits c.args.node.now)
+    all_renamed c.args.table.now c.loop-i.table (form c.args.node.now) (form c.loop-i.numbered) c.args.avoid.now c.args.free.now c.loop-i.names c.loop-i.i (g.met.L.LanguageChildren.fits c.args.node.now)
     (omega (arith, c.loop-i-test.false, c.loop-i.auto.i-end, c.slot_count-i-end.ensures, c.requires.small)) c.loop-i.invariant.renamed

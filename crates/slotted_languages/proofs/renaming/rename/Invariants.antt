@@ -10,7 +10,7 @@ abbrev pub invariant-loop-i : goal.invariant-loop-i
 invariant-loop-i g l =
     let form = g.L.LanguageChildren.form in
     record {
-      renamed : IsRenaming l.fn.table (form l.node) l.avoid l.free l.names (form l.numbered) l.i;
+      renamed : IsRenaming l.fn.table l.table (form l.node) l.avoid l.free l.names (form l.numbered) l.i;
       more : KnowsMore l.fn.table l.table;
       taken : Takes l.fn.table l.table (IsInUse l.avoid (values l.names) (form l.node).names);
       placed : (z : ℕ) → is_among z (values l.names) ≡ true → is_among z (take l.i (form l.numbered).names) ≡ true;

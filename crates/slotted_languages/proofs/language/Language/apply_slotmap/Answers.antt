@@ -3,7 +3,9 @@ use Rattle.std.proofs.Common.{◌∙◌, sym, inl, arith}
 use Rattle.std.proofs.lemmas.Result.{IfOk-weaker}
 use Rattle.slotted_theory.specs.FiniteMaps.{filled}
 use Rattle.slotted_languages.specs.Shape.{shape}
+use Rattle.slotted_languages.proofs.FreeAndBound.{free_is_value, none_meets}
 use Rattle.slotted_languages.proofs.Occurrences.{lacks_smaller}
+use Rattle.slotted_languages.proofs.PutIn.{renamed_put}
 use Rattle.slotted_languages.proofs.Renamings.{has_values, composed_shape}
 use Rattle.slotted_languages.proofs.Shapes.{values-shape}
 use Rattle.slotted_languages.proofs.TakenNames.{avoided_taken, both_ok, value_free, value_stands}
@@ -43,3 +45,27 @@ rename-requires-clause-numbered g c = grind (arith, common_steps)
 
 pub rename-requires-clause-small : goal.rename-requires-clause-small
 rename-requires-clause-small g c = grind (arith, common_steps)
+
+pub returns-clause-known : goal.returns-clause-known
+returns-clause-known g c =
+    let form = g.Self.LanguageChildren.form in
+    let fits = g.met.Self.LanguageChildren.fits in
+    let f = form c.args.self.now in
+    let m = c.args.m.now in
+    let e = c.in_ok-names.ensures.ok ∙ composed_shape f m c.in_ok-numbered.free c.requires (λ i. (c.in_ok-numbered.ensures.shape i).1) in
+    IfOk-weaker c.rename.result _ _
+    (λ r h. renamed_put c.args.table.now c.rename.new.table m f c.in_ok-avoid.avoid (form r) (fits c.args.self.now) (fits r) c.requires (h (filled m) e))
+    c.rename.ensures.renamed
+
+pub returns-clause-checked : goal.returns-clause-checked
+returns-clause-checked g c =
+    let form = g.Self.LanguageChildren.form in
+    let fits = g.met.Self.LanguageChildren.fits in
+    let f = form c.args.self.now in
+    let π = filled c.args.m.now in
+    let avoid = c.in_ok-avoid.avoid in
+    let e = c.in_ok-names.ensures.ok ∙ composed_shape f c.args.m.now c.in_ok-numbered.free c.requires (λ i. (c.in_ok-numbered.ensures.shape i).1) in
+    IfOk-weaker c.rename.result _ _
+    (λ r h. none_meets c.args.table.now c.rename.new.table π f avoid (form r) (fits c.args.self.now) (fits r) (h π e)
+    (λ z p. c.in_ok-avoid.ensures.members z ∙ free_is_value f (form r) π (shape f).1 c.in_ok-names.names (values-shape f) e (h π e).renamed z p))
+    c.rename.ensures.renamed

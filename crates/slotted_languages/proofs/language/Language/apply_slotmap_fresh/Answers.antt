@@ -7,6 +7,7 @@ use Rattle.slotted_slots.specs.Ascending.{IsAscending}
 use Rattle.slotted_slots.specs.Maps.{keys}
 use Rattle.slotted_languages.proofs.TakenNames.{both_ok, filled_taken}
 use Rattle.slotted_languages.proofs.Fills.{knows_each, renamed_fresh}
+use Rattle.slotted_languages.proofs.PutIn.{filled_put}
 use Rattle.slotted_languages.proofs.language.Language.apply_slotmap_fresh.Goals as goal
 
 pub apply_slotmap-requires : goal.apply_slotmap-requires
@@ -23,7 +24,8 @@ returns-clause-taken g c =
     let m = c.args.m.now in
     let wanted = c.in_ok-wanted.wanted in
     let names = c.fill_names.new.names in
-    let d : IsFilled t f.names wanted m names = subst (λ n. IsFilled t f.names wanted n names) c.in_ok-names.ensures.ok c.in_ok-fill_names.ensures.ok in
+    let u = c.fill_names.new.table in
+    let d : IsFilled t u f.names wanted m names = subst (λ n. IsFilled t u f.names wanted n names) c.in_ok-names.ensures.ok c.in_ok-fill_names.ensures.ok in
     let up : IsAscending (keys names) = subst (λ n. IsAscending (keys n)) c.names.view_is c.names.invariant in
     both_ok c.apply_slotmap.result _ _ _
     (λ r e k. filled_taken t c.fill_names.new.table c.apply_slotmap.new.table m names wanted f (form r) (fits c.args.self.now) (fits r) up d c.in_ok-wanted.ensures.members e c.in_ok-fill_names.ensures.taken k)
@@ -36,5 +38,21 @@ returns-clause-renamed g c =
     let t = c.args.table.now in
     let wanted = c.in_ok-wanted.wanted in
     let names = c.fill_names.new.names in
-    let d : IsFilled t f.names wanted c.args.m.now names = subst (λ m. IsFilled t f.names wanted m names) c.in_ok-names.ensures.ok c.in_ok-fill_names.ensures.ok in
-    IfOk-weaker c.apply_slotmap.result _ _ (λ r e. renamed_fresh t c.args.m.now names wanted f (form r) d c.in_ok-wanted.ensures.members e) c.apply_slotmap.ensures.renamed
+    let u = c.fill_names.new.table in
+    let d : IsFilled t u f.names wanted c.args.m.now names = subst (λ m. IsFilled t u f.names wanted m names) c.in_ok-names.ensures.ok c.in_ok-fill_names.ensures.ok in
+    IfOk-weaker c.apply_slotmap.result _ _ (λ r e. renamed_fresh t u c.args.m.now names wanted f (form r) d c.in_ok-wanted.ensures.members e) c.apply_slotmap.ensures.renamed
+
+pub returns-clause-known : goal.returns-clause-known
+returns-clause-known g c =
+    let form = g.Self.LanguageChildren.form in
+    let f = form c.args.self.now in
+    let t = c.args.table.now in
+    let m = c.args.m.now in
+    let wanted = c.in_ok-wanted.wanted in
+    let names = c.fill_names.new.names in
+    let u = c.fill_names.new.table in
+    let d : IsFilled t u f.names wanted m names = subst (λ n. IsFilled t u f.names wanted n names) c.in_ok-names.ensures.ok c.in_ok-fill_names.ensures.ok in
+    let up : IsAscending (keys names) = subst (λ n. IsAscending (keys n)) c.names.view_is c.names.invariant in
+    IfOk-weaker c.apply_slotmap.result _ _
+    (λ r put. filled_put t u c.apply_slotmap.new.table f.names wanted m names f (form r) up d c.apply_slotmap.ensures.more put)
+    c.apply_slotmap.ensures.known

@@ -5,7 +5,11 @@ use Rattle.slotted_languages.specs.NodeTerm.{free_names_of}
 use Rattle.slotted_languages.proofs.TakenNames.{avoided_taken, free_stands}
 use Rattle.std.proofs.lemmas.Result.{IfOk-weaker}
 use Rattle.slotted_theory.specs.FiniteMaps.{with_values}
+use Rattle.slotted_theory.specs.Nameless.{DTerm}
+use Rattle.slotted_theory.specs.Shape.{free_names}
 use Rattle.slotted_languages.specs.Shape.{shape}
+use Rattle.slotted_languages.proofs.FreeAndBound.{none_meets}
+use Rattle.slotted_languages.proofs.PutIn.{same_put}
 use Rattle.slotted_languages.proofs.Occurrences.{is_among-firsts, lacks_smaller}
 use Rattle.slotted_languages.proofs.Renamings.{among_index, has_values, moved_same, renamed_same}
 use Rattle.slotted_languages.proofs.language.Language.refresh_private.Goals as goal
@@ -18,7 +22,7 @@ returns-clause-same g c =
     let f = g.Self.LanguageChildren.form c.args.self.now in
     let p : c.in_ok-numbered.free ≡ (shape f).1 = λ i. (c.in_ok-numbered.ensures.shape i).1 in
     let e : c.in_ok-numbered.free ≡ with_values (λ x. x) (shape f).1 = p ∙ moved_same (shape f).1 in
-    IfOk-weaker c.rename.result _ _ (λ r h. renamed_same c.args.table.now f c.add_names.new.set (g.Self.LanguageChildren.form r) (h (λ x. x) e)) c.rename.ensures.renamed
+    IfOk-weaker c.rename.result _ _ (λ r h. renamed_same c.args.table.now c.rename.new.table f c.add_names.new.set (g.Self.LanguageChildren.form r) (h (λ x. x) e)) c.rename.ensures.renamed
 
 pub returns-clause-taken : goal.returns-clause-taken
 returns-clause-taken g c =
@@ -62,3 +66,29 @@ returns-clause-apart g c =
     let e : c.in_ok-numbered.free ≡ with_values (λ x. x) (shape f).1 = p ∙ moved_same (shape f).1 in
     IfOk-weaker c.rename.result _ _
     (λ r h j k lt lk b u q. (h (λ x. x) e).apart j k lt lk b u (c.in_ok-add_names.ensures.added _ (among_index f.names j lt)) (c.in_ok-add_names.ensures.added _ (among_index f.names k lk)) q) c.rename.ensures.renamed
+
+pub returns-clause-known : goal.returns-clause-known
+returns-clause-known g c =
+    let form = g.Self.LanguageChildren.form in
+    let fits = g.met.Self.LanguageChildren.fits in
+    let f = form c.args.self.now in
+    let p : c.in_ok-numbered.free ≡ (shape f).1 = λ i. (c.in_ok-numbered.ensures.shape i).1 in
+    let e : c.in_ok-numbered.free ≡ with_values (λ x. x) (shape f).1 = p ∙ moved_same (shape f).1 in
+    IfOk-weaker c.rename.result _ _
+    (λ r h. same_put c.args.table.now c.rename.new.table f c.add_names.new.set (form r) (fits c.args.self.now) (fits r) (h (λ x. x) e))
+    c.rename.ensures.renamed
+
+pub returns-clause-checked : goal.returns-clause-checked
+returns-clause-checked g c =
+    let form = g.Self.LanguageChildren.form in
+    let fits = g.met.Self.LanguageChildren.fits in
+    let f = form c.args.self.now in
+    let avoid = c.add_names.new.set in
+    let p : c.in_ok-numbered.free ≡ (shape f).1 = λ i. (c.in_ok-numbered.ensures.shape i).1 in
+    let e : c.in_ok-numbered.free ≡ with_values (λ x. x) (shape f).1 = p ∙ moved_same (shape f).1 in
+    IfOk-weaker c.rename.result _ _
+    (λ r h.
+    let d = h (λ x. x) e in
+    let same : free_names_of (form r) ≡ free_names_of f = ap (λ (n : DTerm). free_names n.args) (renamed_same c.args.table.now c.rename.new.table f avoid (form r) d) in
+    none_meets c.args.table.now c.rename.new.table (λ x. x) f avoid (form r) (fits c.args.self.now) (fits r) d
+    (λ z q. c.in_ok-add_names.ensures.added z (free_stands f z (fits c.args.self.now) (ap (is_among z) (sym same) ∙ q)))) c.rename.ensures.renamed
