@@ -1,5 +1,5 @@
 -- How many slots the calls take that put names into a node.
-use Rattle.std.proofs.Common.{◌≡◌, ℕ, zero, suc, ◌+◌, ◌-◌, ◌<◌, ◌≤◌, List, [], ◌∷◌, ◌++◌, length, take, map, slice_index, Option, Some, None, sym, ◌∙◌, ap, refl, subst, inl, inr, arith, add-one}
+use Rattle.std.proofs.Common.{◌≡◌, ℕ, zero, suc, ◌+◌, ◌-◌, ◌<◌, ◌≤◌, List, [], ◌∷◌, ◌++◌, length, take, slice_index, Option, Some, None, sym, ◌∙◌, ap, refl, subst, inl, inr, arith, add-one}
 use Rattle.std.specs.Prelude.{Bool, true, false, ◌⊎◌, ◌||◌, ◌&&◌, not, nat_eq, cond, is_some, IsSome}
 use Rattle.std.specs.List.{filter}
 use Rattle.std.proofs.lemmas.Bool.{false≢true, cases_eq, cases_Bool, eq-eqb, ne_eqb}
@@ -8,14 +8,13 @@ use Rattle.std.proofs.lemmas.List.Elements.{filter-append}
 use Rattle.slotted_theory.specs.FiniteMaps.{with_values}
 use Rattle.slotted_slots.specs.Ascending.{AllAbove, IsAscending}
 use Rattle.slotted_slots.specs.Maps.{IsInEither, composed, is_among, keys, value_of, values, with_first, with_pair}
-use Rattle.slotted_slots.specs.Table.{KnowsMore, LacksSlots, Table, TakesAtMost, is_known, slot_limit}
+use Rattle.slotted_slots.specs.Table.{KnowsMore, Table, TakesAtMost, is_known, slot_limit}
 use Rattle.slotted_slots.proofs.SlotsTaken.{at_most_beside, at_most_more, at_most_then, fresh_goes_on, lacks_beside, lacks_more, lacks_then}
 use Rattle.slotted_nodes.specs.Form.{Form, scopes, scope_end_of}
 use Rattle.slotted_nodes.specs.Public.{is_bound_by, is_no_binder, is_public}
 use Rattle.slotted_languages.specs.Children.{below, binders, is_binder}
 use Rattle.slotted_languages.specs.Fresh.{IsFilled, IsInUse, KeepsAll, RunsOut, ValuesAreIn, at_hand}
 use Rattle.slotted_languages.specs.NodeTerm.{free_names_of}
-use Rattle.slotted_languages.specs.Occurrences.{public_names}
 use Rattle.slotted_languages.specs.Renaming.{HasName, IsEntered}
 use Rattle.slotted_languages.specs.Shape.{Fits, firsts, shape}
 use Rattle.slotted_languages.proofs.FirstPlaces.{number_met}

@@ -1,5 +1,5 @@
 -- At a place that is no binder stands the number of a free name, or one that stood before.
-use Rattle.std.proofs.Common.{◌≡◌, ℕ, zero, suc, ◌+◌, ◌<◌, List, [], ◌∷◌, ◌++◌, length, take, drop, map, Option, Some, None, sym, ◌∙◌, ap, refl, subst, inl, inr, arith, slice_index}
+use Rattle.std.proofs.Common.{◌≡◌, ℕ, zero, suc, ◌+◌, ◌<◌, List, [], ◌∷◌, ◌++◌, length, take, drop, Option, Some, None, sym, ap, refl, subst, inl, inr, arith, slice_index}
 use Rattle.std.specs.Prelude.{Bool, true, false, ◌⊎◌, ◌&&◌, nat_eq, nat_lt, cond, slice_index_or}
 use Rattle.std.proofs.lemmas.List.{map-append}
 use Rattle.slotted_slots.specs.Maps.{keys}

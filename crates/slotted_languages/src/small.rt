@@ -287,7 +287,8 @@ fn write_over_children(
     a: &AppliedId,
     b: &AppliedId,
 ) -> Result<Vec<SyntaxElem>, Error>
-    ensures ok { IfOk result (λ v. map element_of v.items ≡ text operator.now ∷ id_element a.now ∷ id_element b.now ∷ []) }
+    ensures ok { IfOk result (λ v.
+        map element_of v.items ≡ text operator.now ∷ id_element a.now ∷ id_element b.now ∷ []) }
     ensures err { IfErr result IsOutOfMemory }
 {
     Ok(vec![in alloc; word(alloc, operator)?, child(alloc, a)?, child(alloc, b)?]?)
@@ -358,7 +359,8 @@ fn read_over_children(
     a: &AppliedId,
     b: &AppliedId,
 ) -> Result<Option<Small>, Error>
-    ensures ok { IfOk result (λ o. option_map small_form o ≡ over_children operator.now (id_form a.now) (id_form b.now)) }
+    ensures ok { IfOk result (λ o.
+        option_map small_form o ≡ over_children operator.now (id_form a.now) (id_form b.now)) }
     ensures err { IfErr result IsOutOfMemory }
 {
     match operator {

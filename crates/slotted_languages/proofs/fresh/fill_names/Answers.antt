@@ -1,4 +1,4 @@
-use Rattle.std.proofs.Common.{◌≡◌, ◌+◌, ◌≤◌, ◌∙◌, ap, arith, inl, inr, length, rules, subst, sym}
+use Rattle.std.proofs.Common.{◌≡◌, ◌+◌, ◌∙◌, ap, arith, inl, inr, length, rules}
 use Rattle.slotted_slots.specs.Maps.{values}
 use Rattle.slotted_slots.proofs.Ascending.{IsAscending-from_sorted}
 use Rattle.slotted_slots.proofs.SlotsTaken.{at_most_more, at_most_then}

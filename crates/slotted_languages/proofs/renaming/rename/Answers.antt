@@ -8,7 +8,7 @@ use Rattle.slotted_languages.proofs.Counting.{among_left, among_right, binders_a
 use Rattle.slotted_languages.specs.Fresh.{IsInUse, RunsOut, at_hand}
 use Rattle.slotted_languages.specs.Renaming.{HasName}
 use Rattle.slotted_languages.proofs.TakenNames.{all_taken, entered_stands, entered_takes, renaming_length}
-use Rattle.slotted_languages.proofs.Renamings.{all_renamed, among_index, none_renamed, one_renamed, renaming_number}
+use Rattle.slotted_languages.proofs.Renamings.{all_renamed, among_index, none_renamed, one_renamed}
 use Rattle.slotted_languages.proofs.renaming.rename.Goals as goal
 
 pub loop-i-init : goal.loop-i-init
