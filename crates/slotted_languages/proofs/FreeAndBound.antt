@@ -11,10 +11,9 @@ use Rattle.slotted_slots.specs.Maps.{is_among, values}
 use Rattle.slotted_slots.specs.Table.{Table}
 use Rattle.slotted_nodes.specs.Form.{Form, scopes, scope_end_of}
 use Rattle.slotted_nodes.specs.Public.{IsPublic, reaches, is_bound_by, is_no_binder, is_public}
-use Rattle.slotted_languages.specs.Children.{IsBinder, IsBound, NoneFreeAndBound, below}
+use Rattle.slotted_languages.specs.Children.{IsBinder, NoneFreeAndBound, below}
 use Rattle.slotted_languages.specs.Fresh.{IsRefreshed}
 use Rattle.slotted_languages.specs.NodeTerm.{nameless_node, free_names_of}
-use Rattle.slotted_languages.specs.Occurrences.{public_names}
 use Rattle.slotted_languages.specs.Renaming.{IsRenamed}
 use Rattle.slotted_languages.specs.Shape.{Fits, firsts, with_names}
 use Rattle.slotted_languages.proofs.Occurrences.{is_among-append, is_among-firsts}

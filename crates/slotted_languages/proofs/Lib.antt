@@ -22,3 +22,5 @@ pub mod Taken
 pub mod TakenNames
 pub mod FreeAndBound
 pub mod PutIn
+pub mod FirstPlaces
+pub mod Counting

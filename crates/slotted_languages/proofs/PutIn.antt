@@ -1,6 +1,6 @@
 -- Names that are put into a node are known to the table, or were handed in.
-use Rattle.std.proofs.Common.{◌≡◌, ℕ, zero, suc, ◌<◌, List, [], ◌∷◌, length, map, slice_index, Some, None, sym, ◌∙◌, ap, refl, subst, inl, inr, arith}
-use Rattle.std.specs.Prelude.{Option, true, ◌⊎◌, ◌||◌, All, IsTrue, unwrap_or}
+use Rattle.std.proofs.Common.{◌≡◌, ℕ, zero, suc, ◌<◌, List, [], ◌∷◌, length, map, slice_index, Some, sym, ◌∙◌, ap, refl, inl, inr, arith}
+use Rattle.std.specs.Prelude.{Option, true, ◌||◌, All, IsTrue, unwrap_or}
 use Rattle.std.proofs.lemmas.Bool.{cases_eq, ne_eqb}
 use Rattle.std.proofs.lemmas.List.Elements.{All-head, All-tail, All-nil, All-cons}
 use Rattle.slotted_theory.specs.FiniteMaps.{filled}
@@ -10,7 +10,7 @@ use Rattle.slotted_slots.specs.Table.{KnowsMore, Table, is_known}
 use Rattle.slotted_slots.proofs.TableLaws.{is_known-numeric_slot}
 use Rattle.slotted_nodes.specs.Form.{Form}
 use Rattle.slotted_languages.specs.Fresh.{IsFilled, replaced}
-use Rattle.slotted_languages.specs.NewNames.{IsPutIn, PutsIn}
+use Rattle.slotted_languages.specs.NewNames.{PutsIn}
 use Rattle.slotted_languages.specs.NodeTerm.{free_names_of}
 use Rattle.slotted_languages.specs.Renaming.{IsRenamed}
 use Rattle.slotted_languages.specs.Shape.{Fits, with_names}

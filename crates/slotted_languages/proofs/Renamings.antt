@@ -204,7 +204,7 @@ Covers-last : (names : List (ℕ × ℕ)) (ns : List ℕ) (n y : ℕ) → Covers
 Covers-last names [] n y c e = ((y, e), tt)
 Covers-last names (m ∷ ns) n y c e = (c.0, Covers-last names ns n y c.1 e)
 
-Covers-at : (names : List (ℕ × ℕ)) (ns : List ℕ) (n : ℕ) → Covers names ns → In n ns → (y : ℕ) × (value_of names n ≡ Some y)
+pub Covers-at : (names : List (ℕ × ℕ)) (ns : List ℕ) (n : ℕ) → Covers names ns → In n ns → (y : ℕ) × (value_of names n ≡ Some y)
 Covers-at names [] n c h = absurd h
 Covers-at names (m ∷ ns) n c (inl e) = (c.0.0, ap (value_of names) e ∙ c.0.1)
 Covers-at names (m ∷ ns) n c (inr h) = Covers-at names ns n c.1 h
@@ -285,6 +285,14 @@ none_renamed t f h avoid free names fits e none = record {
   chosen = rw none (none_chosen t f.names avoid (names_of_shape f fits).old free);
   known = λ n y e. let q : value_of [] n ≡ Some y = ap (λ m. value_of m n) (sym none) ∙ e in cc;
 }
+
+-- at a place that has no new name yet stands its number
+pub renaming_number : (t u : Table) (f h : Form) (avoid : List ℕ) (free names : List (ℕ × ℕ)) (i : ℕ) → i < length f.names → IsRenaming t u f avoid free names h i → slice_index h.names i ≡ slice_index (shape f).0.names i
+renaming_number t u f h avoid free names i lt d =
+    let ns = (shape f).0.names in
+    let l : length ns ≡ length f.names = sym (mapped_length d.was.old ns) ∙ ap length d.was.were in
+    let li : length (map (new_name free names) (take i ns)) ≡ i = mapped_length (new_name free names) (take i ns) ∙ length-take-le i ns (omega (arith, lt, l)) in
+    ap (λ g. slice_index g.names i) d.named ∙ place_read (map (new_name free names) (take i ns)) ns i li
 
 -- one more number has its name
 record Advanced (t : Table) (xs avoid : List ℕ) (old : ℕ → ℕ) (free names more : List (ℕ × ℕ)) (number y : ℕ) : Type 0 where

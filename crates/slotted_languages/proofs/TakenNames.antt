@@ -115,7 +115,7 @@ entered_grows t u xs avoid free old new number name y z d h = elim (told (value_
   | inr k ↦ ap (λ m. is_among z (values m)) (d.entered k) ∙ value_kept old number y z k h
 ]
 
-value_put_or : (m : List (ℕ × ℕ)) (x y z : ℕ) → is_among z (values (with_pair m x y)) ≡ true → (z ≡ y) ⊎ (is_among z (values m) ≡ true)
+pub value_put_or : (m : List (ℕ × ℕ)) (x y z : ℕ) → is_among z (values (with_pair m x y)) ≡ true → (z ≡ y) ⊎ (is_among z (values m) ≡ true)
 value_put_or [] x y z h = elim (cases_eq y z) [
   | inl d ↦ inl (sym d)
   | inr n ↦ absurd (false≢true (sym (ap (λ b. b || false) (ne_eqb y z n)) ∙ h))

@@ -1,6 +1,6 @@
 -- The children of a node in turn, and names that are free and bound.
-use Rattle.std.specs.Prelude.{◌≡◌, ℕ, zero, suc, ◌<◌, List, [], ◌∷◌, ◌++◌, length, Result, Ok, Err, IsSome, slice_index}
-use Rattle.std.specs.List.{FoldsTo}
+use Rattle.std.specs.Prelude.{◌≡◌, ℕ, zero, suc, ◌<◌, List, [], ◌∷◌, ◌++◌, length, Bool, Result, Ok, Err, IsSome, is_some, slice_index}
+use Rattle.std.specs.List.{FoldsTo, filter}
 use Rattle.slotted_slots.specs.declared.error.Error.{Error}
 use Rattle.slotted_slots.specs.declared.types.AppliedId.{AppliedId}
 use Rattle.slotted_slots.specs.Maps.{keys, values}
@@ -57,3 +57,11 @@ pub record Refused {F : Type 0} (step : F → AppliedId → Result AppliedId Err
 -- each child from the left was replaced
 abbrev pub ReplacesAll : {F : Type 0} (step : F → AppliedId → Result AppliedId Error → F → Type 0) → F → Form → Form → Type 0
 ReplacesAll {F} step f old new = (last : F) × FoldsTo (Replaced step) (f, old) (below (length (children old.tree))) (last, new)
+
+-- the place is a binder, as a test
+abbrev pub is_binder : Form → ℕ → Bool
+is_binder f j = is_some (scope_end_of (scopes f.tree) j)
+
+-- how many binders there are
+abbrev pub binders : Form → ℕ
+binders f = length (filter (is_binder f) (below (length f.names)))

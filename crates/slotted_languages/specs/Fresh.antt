@@ -1,8 +1,8 @@
 -- Fresh slots in the place of names: each such name gets one unused slot of its own.
-use Rattle.std.specs.Prelude.{◌≡◌, ◌⊎◌, ℕ, List, ◌++◌, map, Bool, ◌&&◌, not, true, false, Some, None, IsSome, unwrap_or}
+use Rattle.std.specs.Prelude.{◌≡◌, ◌⊎◌, ℕ, List, ◌++◌, length, map, Bool, ◌&&◌, not, true, false, Some, None, IsSome, unwrap_or}
 use Rattle.slotted_theory.specs.Nameless.{moved}
 use Rattle.slotted_slots.specs.Maps.{IsInEither, value_of, values, is_among}
-use Rattle.slotted_slots.specs.Table.{Table, is_known}
+use Rattle.slotted_slots.specs.Table.{LacksSlots, Table, TakesAtMost, is_known, slot_limit}
 use Rattle.slotted_nodes.specs.Form.{Form}
 use Rattle.slotted_languages.specs.NodeTerm.{nameless_node, free_names_of}
 use Rattle.slotted_languages.specs.Shape.{with_names}
@@ -75,3 +75,25 @@ HasThoseWithin s xs ys = (x : ℕ) → is_among x s ≡ (is_among x xs && is_amo
 
 abbrev pub HasThoseOutside : List ℕ → List ℕ → List ℕ → Type 0
 HasThoseOutside s xs ys = (x : ℕ) → is_among x s ≡ (is_among x xs && not (is_among x ys))
+
+-- each value of the map is known, or one of these
+abbrev pub ValuesAreIn : Table → List ℕ → List (ℕ × ℕ) → Type 0
+ValuesAreIn t ys names = (z : ℕ) → is_among z (values names) ≡ true → (is_known t z ≡ true) ⊎ (is_among z ys ≡ true)
+
+-- all slots were made by now, and of those that were left before, fewer than n are none of the names at hand
+abbrev pub RunsOut : ℕ → List ℕ → Table → Table → Type 0
+RunsOut n xs t u = (u.fresh ≡ slot_limit) × LacksSlots n xs t
+
+-- at most one slot was made beside all names at hand; or slots ran out, and all that were left are names at hand
+abbrev pub TakesOne : List ℕ → List (ℕ × ℕ) → Form → Table → Table → Type 0
+TakesOne avoid names f t u = TakesAtMost 1 (at_hand avoid names f) t u
+
+abbrev pub LacksOne : List ℕ → List (ℕ × ℕ) → Form → Table → Table → Type 0
+LacksOne avoid names f t u = RunsOut 1 (at_hand avoid names f) t u
+
+-- the same with one slot for each of the names `wanted`
+abbrev pub TakesEach : List ℕ → List (ℕ × ℕ) → Form → Table → Table → Type 0
+TakesEach wanted names f t u = TakesAtMost (length wanted) (at_hand wanted names f) t u
+
+abbrev pub LacksEach : List ℕ → List (ℕ × ℕ) → Form → Table → Table → Type 0
+LacksEach wanted names f t u = RunsOut (length wanted) (at_hand wanted names f) t u

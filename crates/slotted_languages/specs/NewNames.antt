@@ -1,13 +1,13 @@
 -- What the calls that put other names into a node promise: f is the node and g the answer, the table is t before the call
--- and u after it, and vs are the values of the map that is handed in, or none.
+-- and u after it, and m is the map that is handed in, with the values vs; where there is none, it is empty.
 use Rattle.std.specs.Prelude.{◌≡◌, ◌⊎◌, ℕ, ◌<◌, ◌≤◌, List, ◌++◌, length, true, false, not, slice_index}
 use Rattle.slotted_theory.specs.FiniteMaps.{filled}
 use Rattle.slotted_theory.specs.Nameless.{moved}
-use Rattle.slotted_slots.specs.Maps.{IsInEither, is_among}
-use Rattle.slotted_slots.specs.Table.{LacksSlots, Table, TakesAtMost, is_known, slot_limit}
+use Rattle.slotted_slots.specs.Maps.{IsInEither, is_among, values}
+use Rattle.slotted_slots.specs.Table.{Table, TakesAtMost, is_known, slot_limit}
 use Rattle.slotted_nodes.specs.Form.{Form}
-use Rattle.slotted_languages.specs.Children.{IsBinder}
-use Rattle.slotted_languages.specs.Fresh.{IsInUse, IsRefreshed}
+use Rattle.slotted_languages.specs.Children.{IsBinder, binders}
+use Rattle.slotted_languages.specs.Fresh.{IsInUse, IsRefreshed, RunsOut}
 use Rattle.slotted_languages.specs.NodeTerm.{nameless_node, free_names_of}
 
 -- there are more places than slots can number
@@ -61,14 +61,21 @@ PutsIn u vs f g = (j : ℕ) → j < length g.names → IsPutIn u vs (slice_index
 abbrev pub StandsIn : Form → Form → ℕ → Type 0
 StandsIn f g z = IsInEither g.names f.names z
 
--- or it is one of vs
-abbrev pub IsOneOf : List ℕ → Form → Form → ℕ → Type 0
-IsOneOf vs f g z = IsInUse vs g.names f.names z
+-- or it is a value of m
+abbrev pub IsFrom : List (ℕ × ℕ) → Form → Form → ℕ → Type 0
+IsFrom m f g z = IsInUse (values m) g.names f.names z
 
--- at most one slot for each place was made, beside the names at hand: those of f, and vs
-abbrev pub TakesByPlaces : List ℕ → Form → Table → Table → Type 0
-TakesByPlaces vs f t u = TakesAtMost (length f.names) (vs ++ f.names) t u
+-- at most one slot for each binder was made, beside the names at hand: those of f, and the values of m
+abbrev pub TakesPerBinder : List (ℕ × ℕ) → Form → Table → Table → Type 0
+TakesPerBinder m f t u = TakesAtMost (binders f) (values m ++ f.names) t u
 
--- there are too many places, or fewer slots are left beside the names at hand than there are places
-abbrev pub LacksRoom : List ℕ → Form → Table → Type 0
-LacksRoom vs f t = IsTooLarge f ⊎ LacksSlots (length f.names) (vs ++ f.names) t
+-- there are too many places, or slots ran out, and fewer were left beside the names at hand than there are binders
+abbrev pub LacksPerBinder : List (ℕ × ℕ) → Form → Table → Table → Type 0
+LacksPerBinder m f t u = IsTooLarge f ⊎ RunsOut (binders f) (values m ++ f.names) t u
+
+-- the same with one slot for each place
+abbrev pub TakesPerPlace : List (ℕ × ℕ) → Form → Table → Table → Type 0
+TakesPerPlace m f t u = TakesAtMost (length f.names) (values m ++ f.names) t u
+
+abbrev pub LacksPerPlace : List (ℕ × ℕ) → Form → Table → Table → Type 0
+LacksPerPlace m f t u = IsTooLarge f ⊎ RunsOut (length f.names) (values m ++ f.names) t u

@@ -1,11 +1,12 @@
 -- New names for the numbers of a node's shape, chosen one after another.
-use Rattle.std.specs.Prelude.{◌≡◌, ◌⊎◌, ℕ, ◌<◌, List, length, Some, None, true, false, slice_index}
+use Rattle.std.specs.Prelude.{◌≡◌, ◌⊎◌, ℕ, ◌<◌, List, ◌++◌, length, Some, None, IsSome, true, false, slice_index}
 use Rattle.slotted_theory.specs.FiniteMaps.{with_values}
 use Rattle.slotted_theory.specs.Nameless.{moved}
 use Rattle.slotted_slots.specs.Maps.{value_of, with_pair, values, is_among}
-use Rattle.slotted_slots.specs.Table.{Table, is_known}
-use Rattle.slotted_languages.specs.Children.{IsBinder}
+use Rattle.slotted_slots.specs.Table.{Table, TakesAtMost, is_known}
+use Rattle.slotted_languages.specs.Children.{IsBinder, binders}
 use Rattle.slotted_nodes.specs.Form.{Form}
+use Rattle.slotted_languages.specs.Fresh.{IsInUse, RunsOut}
 use Rattle.slotted_languages.specs.NodeTerm.{nameless_node, free_names_of}
 use Rattle.slotted_languages.specs.Shape.{shape, with_names}
 
@@ -20,6 +21,10 @@ pub record IsChoice (t u : Table) (xs avoid : List ℕ) (free names : List (ℕ 
   pub not_new : value_of free number ≡ None → is_among name avoid ≡ true → is_among y (values names) ≡ false
   pub unused : value_of free number ≡ None → is_among name avoid ≡ true → is_known t y ≡ false
   pub known : value_of free number ≡ None → is_among name avoid ≡ true → is_known u y ≡ true
+
+-- the number has a name by now, or is that of a free one
+abbrev pub HasName : List (ℕ × ℕ) → List (ℕ × ℕ) → ℕ → Type 0
+HasName names free number = IsSome (value_of names number) ⊎ IsSome (value_of free number)
 
 -- y is the name that the number has, or a choice that is entered
 pub record IsEntered (t u : Table) (xs avoid : List ℕ) (free old new : List (ℕ × ℕ)) (number name y : ℕ) : Type 0 where
@@ -44,3 +49,14 @@ pub record IsRenamed (t u : Table) (π : ℕ → ℕ) (f : Form) (avoid : List �
 -- g is f renamed as any π by which the map `free` names the free numbers of its shape
 abbrev pub RenamesAs : Table → Table → List (ℕ × ℕ) → List ℕ → Form → Form → Type 0
 RenamesAs t u free avoid f g = (π : ℕ → ℕ) → free ≡ with_values π (shape f).1 → IsRenamed t u π f avoid g
+
+-- z is a name of f or of g, or was to be avoided
+abbrev pub IsAvoidedOr : List ℕ → Form → Form → ℕ → Type 0
+IsAvoidedOr avoid f g z = IsInUse avoid g.names f.names z
+
+-- at most one slot for each binder was made, beside the names to be avoided and those of f; or slots ran out, and fewer were left
+abbrev pub TakesForBinders : List ℕ → Form → Table → Table → Type 0
+TakesForBinders avoid f t u = TakesAtMost (binders f) (avoid ++ f.names) t u
+
+abbrev pub LacksForBinders : List ℕ → Form → Table → Table → Type 0
+LacksForBinders avoid f t u = RunsOut (binders f) (avoid ++ f.names) t u

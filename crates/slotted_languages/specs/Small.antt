@@ -3,6 +3,7 @@ use Rattle.std.specs.Prelude.{ℕ, List, [], ◌∷◌, Option, Some, None, if�
 use Rattle.slotted_slots.specs.Syntax.{Element, text, applied, name}
 use Rattle.slotted_nodes.specs.Form.{Form, variant, plain, slot_form, child_form, bind_form, join_form}
 use Rattle.slotted_slots.specs.Table.{reads_u32}
+use Rattle.slotted_slots.specs.declared.types.AppliedId.{AppliedId}
 use Rattle.slotted_languages.specs.declared.small.Small.{Small}
 use Rattle.slotted_languages.specs.declared.small.Small.TheVariants.{Lam, App, Var, F, G, Add, Mul, Number, Word}
 
@@ -17,6 +18,13 @@ small_form (Add a b) = variant 5 (join_form (child_form a.id.0 a.m) (child_form 
 small_form (Mul a b) = variant 6 (join_form (child_form a.id.0 a.m) (child_form b.id.0 b.m))
 small_form (Number n) = variant 7 (plain ((n ∷ []) ∷ []))
 small_form (Word w) = variant 8 (plain (w ∷ []))
+
+-- a child as a form and as an element
+abbrev pub id_form : AppliedId → Form
+id_form a = child_form a.id.0 a.m
+
+abbrev pub id_element : AppliedId → Element
+id_element a = applied a.id.0 a.m
 
 -- what the nodes are written as
 abbrev pub small_shown : Small → List Element

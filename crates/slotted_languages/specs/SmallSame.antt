@@ -1,8 +1,9 @@
 -- The laws of a language at Small.
-use Rattle.std.specs.Prelude.{◌≡◌, ℕ, ◌<◌, ◌^◌, [], ◌∷◌, length, refl, Bool, IsTrue, ◌↔◌, nat_eq, ◌&&◌}
+use Rattle.std.specs.Prelude.{◌≡◌, ℕ, ◌<◌, [], ◌∷◌, length, refl, Bool, IsTrue, ◌↔◌, nat_eq, ◌&&◌}
 use Rattle.std.proofs.Common.{lit<, arith, ap}
 use Rattle.slotted_nodes.specs.Form.{Form, variant, plain, slot_form, child_form, bind_form, join_form, scopes, children}
 use Rattle.std.specs.Cmp.Lexicographic.{pointwise}
+use Rattle.slotted_slots.specs.Table.{slot_limit}
 use Rattle.slotted_slots.specs.declared.types.AppliedId.{AppliedId}
 use Rattle.slotted_nodes.specs.Equal.{applied_id_same, bind_same, bind_form_fits, child_form_fits, slot_same, number_told, bytes_told, plain_same}
 use Rattle.slotted_nodes.specs.PairEqual.{AreAlike, join_form_fits, join_form_same, variant_same}
@@ -37,7 +38,7 @@ small_fits (Number n) = refl
 small_fits (Word w) = refl
 
 -- a node has at most two children
-pub small_few : (a : Small) → length (children (small_form a).tree) < 2 ^ 30
+pub small_few : (a : Small) → length (children (small_form a).tree) < slot_limit
 small_few (Lam b) = lit< tt
 small_few (App a b) = lit< tt
 small_few (Var x) = lit< tt

@@ -1,11 +1,13 @@
 //! Fresh slots in the place of a node's names.
 ghost use Rattle.std.specs.Prelude.{◌≡◌, [], ◌∷◌, IfOk, IfErr, OnOk, IsErrOf};
+ghost use Rattle.slotted_slots.specs.Ascending.{IsAscending};
 ghost use Rattle.slotted_slots.specs.Error.{IsOutOfMemory, IsShortage};
 ghost use Rattle.slotted_slots.specs.Maps.{values};
-ghost use Rattle.slotted_slots.specs.Table.{KnowsMore, Takes, slot_limit};
+ghost use Rattle.slotted_slots.specs.Table.{KnowsMore, Takes};
 ghost use Rattle.slotted_nodes.specs.Form.{IsSmall};
-ghost use Rattle.slotted_languages.specs.Fresh.{HasThoseOutside, HasThoseWithin, IsAtHand, IsFilled, KeepsAll, with_replaced};
-ghost use Rattle.slotted_languages.specs.NewNames.{IsRefreshedAt, PutsIn, StandsIn};
+ghost use Rattle.slotted_languages.specs.Fresh.{HasThoseOutside, HasThoseWithin, IsAtHand, IsFilled, KeepsAll, ValuesAreIn};
+ghost use Rattle.slotted_languages.specs.Fresh.{LacksEach, LacksOne, TakesEach, TakesOne, with_replaced};
+ghost use Rattle.slotted_languages.specs.NewNames.{IsRefreshedAt, LacksPerPlace, PutsIn, StandsIn, TakesPerPlace};
 
 use crate::language::Language;
 use crate::renaming::fresh_apart;
@@ -64,7 +66,10 @@ fn fill_name<L: Language>(
     ensures ok { OnOk result (IsFilled table.old table.new (L.form node.now).names (name ∷ []) names.old names.new) }
     ensures grown { OnOk result (KeepsAll (values names.old) (values names.new)) }
     ensures taken { OnOk result (Takes table.old table.new (IsAtHand avoid.now names.new (L.form node.now))) }
-    ensures full { IsErrOf result Error.OutOfSlots → (table.new.fresh ≡ slot_limit) }
+    ensures count { TakesOne avoid.now names.old (L.form node.now) table.old table.new }
+    ensures full { IsErrOf result Error.OutOfSlots →
+        LacksOne avoid.now names.old (L.form node.now) table.old table.new }
+    ensures values { OnOk result (ValuesAreIn table.new (values names.old) names.new) }
     ensures only { IfErr result IsShortage }
     ensures more { KnowsMore table.old table.new }
     ensures kept { table.new.names ≡ table.old.names }
@@ -87,7 +92,10 @@ pub(crate) fn fill_names<L: Language>(
     requires small { IsSmall (L.form node.now) }
     ensures ok { OnOk result (IsFilled table.old table.new (L.form node.now).names wanted.now names.old names.new) }
     ensures taken { OnOk result (Takes table.old table.new (IsAtHand wanted.now names.new (L.form node.now))) }
-    ensures full { IsErrOf result Error.OutOfSlots → (table.new.fresh ≡ slot_limit) }
+    ensures sorted { IsAscending wanted.now }
+    ensures count { TakesEach wanted.now names.old (L.form node.now) table.old table.new }
+    ensures full { IsErrOf result Error.OutOfSlots →
+        LacksEach wanted.now names.old (L.form node.now) table.old table.new }
     ensures only { IfErr result IsShortage }
     ensures more { KnowsMore table.old table.new }
     ensures kept { table.new.names ≡ table.old.names }
@@ -124,7 +132,8 @@ pub(crate) fn refresh_names<L: Language>(
     ensures ok { IfOk result (λ r. IsRefreshedAt table.old wanted.now (L.form node.now) (L.form r)) }
     ensures known { IfOk result (λ r. PutsIn table.new [] (L.form node.now) (L.form r)) }
     ensures taken { IfOk result (λ r. Takes table.old table.new (StandsIn (L.form node.now) (L.form r))) }
-    ensures full { IsErrOf result Error.OutOfSlots → (table.new.fresh ≡ slot_limit) }
+    ensures count { TakesPerPlace [] (L.form node.now) table.old table.new }
+    ensures full { IsErrOf result Error.OutOfSlots → LacksPerPlace [] (L.form node.now) table.old table.new }
     ensures only { IfErr result IsShortage }
     ensures more { KnowsMore table.old table.new }
     ensures kept { table.new.names ≡ table.old.names }

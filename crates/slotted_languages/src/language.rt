@@ -3,12 +3,14 @@ ghost use Rattle.std.specs.Prelude.{◌≡◌, ◌↔◌, ◌⊎◌, ℕ, [], ma
 ghost use Rattle.slotted_slots.specs.Ascending.{IsAscending};
 ghost use Rattle.slotted_slots.specs.Error.{IsOutOfMemory, IsShortage};
 ghost use Rattle.slotted_slots.specs.Maps.{KnowsAll, is_among, keys, values};
-ghost use Rattle.slotted_slots.specs.Table.{KnowsMore, Takes, slot_limit};
+ghost use Rattle.slotted_slots.specs.Table.{KnowsMore, Takes};
 ghost use Rattle.slotted_languages.specs.Children.{IsBound, NoneFreeAndBound, Refused, ReplacesAll, all_children, child_value};
 ghost use Rattle.slotted_nodes.specs.Form.{IsSmall, children};
 ghost use Rattle.slotted_languages.specs.Fresh.{IsRenamedFresh};
-ghost use Rattle.slotted_languages.specs.NewNames.{BindersAreNew, BindersAreUnknown, BindersDiffer, BindersMeetAsBefore, BindersStay};
-ghost use Rattle.slotted_languages.specs.NewNames.{GivesBack, IsOneOf, IsRefreshedAt, IsRefreshedBut, IsRenamedBy, IsTooLarge, PutsIn, StandsIn};
+ghost use Rattle.slotted_languages.specs.NewNames.{BindersAreNew, BindersAreUnknown, BindersDiffer, BindersMeetAsBefore};
+ghost use Rattle.slotted_languages.specs.NewNames.{BindersStay, GivesBack, IsFrom, IsRefreshedAt, IsRefreshedBut, IsRenamedBy};
+ghost use Rattle.slotted_languages.specs.NewNames.{IsTooLarge, LacksPerBinder, LacksPerPlace, PutsIn, StandsIn};
+ghost use Rattle.slotted_languages.specs.NewNames.{TakesPerBinder, TakesPerPlace};
 ghost use Rattle.slotted_languages.specs.NodeTerm.{nameless_node, free_names_of};
 ghost use Rattle.slotted_languages.specs.Occurrences.{public_names, private_names};
 ghost use Rattle.slotted_languages.specs.Shape.{shape, firsts};
@@ -108,7 +110,8 @@ pub trait Language: LanguageChildren + Ord {
 
         // Slots run out for a node with too many places, or where the table has no fresh slot left.
         ensures large { IsTooLarge (Self.form self.now) → IsErrOf result Error.OutOfSlots }
-        ensures full { IsErrOf result Error.OutOfSlots → IsTooLarge (Self.form self.now) ⊎ (table.new.fresh ≡ slot_limit) }
+        ensures count { TakesPerBinder m.now (Self.form self.now) table.old table.new }
+        ensures full { IsErrOf result Error.OutOfSlots → LacksPerBinder m.now (Self.form self.now) table.old table.new }
         ensures only { IfErr result IsShortage }
         ensures more { KnowsMore table.old table.new }
         ensures kept { table.new.names ≡ table.old.names }
@@ -143,7 +146,8 @@ pub trait Language: LanguageChildren + Ord {
         // The table knows nothing new but what stands in the answer, or stood in the node.
         ensures taken { IfOk result (λ r. Takes table.old table.new (StandsIn (Self.form self.now) (Self.form r))) }
         ensures large { IsTooLarge (Self.form self.now) → IsErrOf result Error.OutOfSlots }
-        ensures full { IsErrOf result Error.OutOfSlots → IsTooLarge (Self.form self.now) ⊎ (table.new.fresh ≡ slot_limit) }
+        ensures count { TakesPerBinder m.now (Self.form self.now) table.old table.new }
+        ensures full { IsErrOf result Error.OutOfSlots → LacksPerBinder m.now (Self.form self.now) table.old table.new }
         ensures only { IfErr result IsShortage }
         ensures more { KnowsMore table.old table.new }
         ensures kept { table.new.names ≡ table.old.names }
@@ -172,9 +176,10 @@ pub trait Language: LanguageChildren + Ord {
         ensures known { IfOk result (λ r. PutsIn table.new (values m.now) (Self.form self.now) (Self.form r)) }
 
         // The table knows nothing new but what stands in the answer, in the map, or stood in the node.
-        ensures taken { IfOk result (λ r. Takes table.old table.new (IsOneOf (values m.now) (Self.form self.now) (Self.form r))) }
+        ensures taken { IfOk result (λ r. Takes table.old table.new (IsFrom m.now (Self.form self.now) (Self.form r))) }
         ensures large { IsTooLarge (Self.form self.now) → IsErrOf result Error.OutOfSlots }
-        ensures full { IsErrOf result Error.OutOfSlots → IsTooLarge (Self.form self.now) ⊎ (table.new.fresh ≡ slot_limit) }
+        ensures count { TakesPerPlace m.now (Self.form self.now) table.old table.new }
+        ensures full { IsErrOf result Error.OutOfSlots → LacksPerPlace m.now (Self.form self.now) table.old table.new }
         ensures only { IfErr result IsShortage }
         ensures more { KnowsMore table.old table.new }
         ensures kept { table.new.names ≡ table.old.names }
@@ -205,7 +210,8 @@ pub trait Language: LanguageChildren + Ord {
         // The table knows nothing new but what stands in the answer, or stood in the node.
         ensures taken { IfOk result (λ r. Takes table.old table.new (StandsIn (Self.form self.now) (Self.form r))) }
         ensures large { IsTooLarge (Self.form self.now) → IsErrOf result Error.OutOfSlots }
-        ensures full { IsErrOf result Error.OutOfSlots → IsTooLarge (Self.form self.now) ⊎ (table.new.fresh ≡ slot_limit) }
+        ensures count { TakesPerBinder [] (Self.form self.now) table.old table.new }
+        ensures full { IsErrOf result Error.OutOfSlots → LacksPerBinder [] (Self.form self.now) table.old table.new }
         ensures only { IfErr result IsShortage }
         ensures more { KnowsMore table.old table.new }
         ensures kept { table.new.names ≡ table.old.names }
@@ -236,7 +242,8 @@ pub trait Language: LanguageChildren + Ord {
         // The table knows nothing new but what stands in the answer, or stood in the node.
         ensures taken { IfOk result (λ r. Takes table.old table.new (StandsIn (Self.form self.now) (Self.form r))) }
         ensures large { IsTooLarge (Self.form self.now) → IsErrOf result Error.OutOfSlots }
-        ensures full { IsErrOf result Error.OutOfSlots → IsTooLarge (Self.form self.now) ⊎ (table.new.fresh ≡ slot_limit) }
+        ensures count { TakesPerPlace [] (Self.form self.now) table.old table.new }
+        ensures full { IsErrOf result Error.OutOfSlots → LacksPerPlace [] (Self.form self.now) table.old table.new }
         ensures only { IfErr result IsShortage }
         ensures more { KnowsMore table.old table.new }
         ensures kept { table.new.names ≡ table.old.names }
@@ -267,7 +274,8 @@ pub trait Language: LanguageChildren + Ord {
         // The table knows nothing new but what stands in the answer, or stood in the node.
         ensures taken { IfOk result (λ r. Takes table.old table.new (StandsIn (Self.form self.now) (Self.form r))) }
         ensures large { IsTooLarge (Self.form self.now) → IsErrOf result Error.OutOfSlots }
-        ensures full { IsErrOf result Error.OutOfSlots → IsTooLarge (Self.form self.now) ⊎ (table.new.fresh ≡ slot_limit) }
+        ensures count { TakesPerPlace [] (Self.form self.now) table.old table.new }
+        ensures full { IsErrOf result Error.OutOfSlots → LacksPerPlace [] (Self.form self.now) table.old table.new }
         ensures only { IfErr result IsShortage }
         ensures more { KnowsMore table.old table.new }
         ensures kept { table.new.names ≡ table.old.names }

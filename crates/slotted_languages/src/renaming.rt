@@ -1,13 +1,12 @@
 //! Renaming of nodes without capture: bound slots are refreshed where a new free name would meet one.
-ghost use Rattle.std.specs.Prelude.{◌≡◌, ℕ, true, false, Some, IfOk, IfErr, OnOk, IsErrOf, IsOkUnless};
+ghost use Rattle.std.specs.Prelude.{◌≡◌, ℕ, true, false, Some, None, IsSome, IfOk, IfErr, OnOk, IsErrOf, IsOkUnless};
 ghost use Rattle.slotted_slots.specs.Error.{IsOutOfMemory, IsShortage};
-ghost use Rattle.slotted_slots.specs.Maps.{IsInEither, is_among, value_of, values};
-ghost use Rattle.slotted_slots.specs.Table.{KnowsMore, Takes, is_known, slot_limit};
+ghost use Rattle.slotted_slots.specs.Maps.{IsInEither, is_among, keys, value_of, values};
+ghost use Rattle.slotted_slots.specs.Table.{KnowsMore, Takes, is_known};
 ghost use Rattle.slotted_nodes.specs.Form.{IsSmall};
-ghost use Rattle.slotted_languages.specs.Fresh.{IsAtHand, IsOrAtHand, KeepsAll};
-ghost use Rattle.slotted_languages.specs.NewNames.{IsOneOf};
+ghost use Rattle.slotted_languages.specs.Fresh.{IsAtHand, IsOrAtHand, KeepsAll, LacksOne, TakesOne};
 ghost use Rattle.slotted_languages.specs.Shape.{shape};
-ghost use Rattle.slotted_languages.specs.Renaming.{IsChoice, IsEntered, RenamesAs};
+ghost use Rattle.slotted_languages.specs.Renaming.{HasName, IsAvoidedOr, IsChoice, IsEntered, LacksForBinders, RenamesAs, TakesForBinders};
 
 use crate::language::Language;
 use slotted_slots::{Error, Slot, SlotMap, SlotTable, SmallHashSet};
@@ -52,7 +51,9 @@ pub(crate) fn fresh_apart<L: Language>(
     ensures unused { IfOk result (λ s. is_known table.old s ≡ false) }
     ensures known { IfOk result (λ s. is_known table.new s ≡ true) }
     ensures taken { IfOk result (λ s. Takes table.old table.new (IsOrAtHand s avoid.now names.now (L.form node.now))) }
-    ensures full { IsErrOf result Error.OutOfSlots → (table.new.fresh ≡ slot_limit) }
+    ensures count { TakesOne avoid.now names.now (L.form node.now) table.old table.new }
+    ensures full { IsErrOf result Error.OutOfSlots →
+        LacksOne avoid.now names.now (L.form node.now) table.old table.new }
     ensures only { IsOkUnless result Error.OutOfSlots }
     ensures more { KnowsMore table.old table.new }
     ensures kept { table.new.names ≡ table.old.names }
@@ -76,9 +77,14 @@ fn choose_name<L: Language>(
     table: &mut SlotTable,
 ) -> Result<Slot, Error>
     requires small { IsSmall (L.form node.now) }
-    ensures ok { IfOk result (IsChoice table.old table.new (L.form node.now).names avoid.now free.now names.now number name) }
+    ensures ok { IfOk result (IsChoice table.old table.new (L.form node.now).names
+        avoid.now free.now names.now number name) }
     ensures taken { IfOk result (λ s. Takes table.old table.new (IsOrAtHand s avoid.now names.now (L.form node.now))) }
-    ensures full { IsErrOf result Error.OutOfSlots → (table.new.fresh ≡ slot_limit) }
+    ensures count { TakesOne avoid.now names.now (L.form node.now) table.old table.new }
+    ensures full { IsErrOf result Error.OutOfSlots →
+        LacksOne avoid.now names.now (L.form node.now) table.old table.new }
+    ensures spared { IsSome (value_of free.now number) → table.new ≡ table.old }
+    ensures needed { IsErrOf result Error.OutOfSlots → value_of free.now number ≡ None }
     ensures only { IsOkUnless result Error.OutOfSlots }
     ensures more { KnowsMore table.old table.new }
     ensures kept { table.new.names ≡ table.old.names }
@@ -103,9 +109,14 @@ fn new_name<L: Language>(
     table: &mut SlotTable,
 ) -> Result<Slot, Error>
     requires small { IsSmall (L.form node.now) }
-    ensures ok { IfOk result (IsEntered table.old table.new (L.form node.now).names avoid.now free.now names.old names.new number name) }
+    ensures ok { IfOk result (IsEntered table.old table.new (L.form node.now).names
+        avoid.now free.now names.old names.new number name) }
     ensures taken { IfOk result (λ _. Takes table.old table.new (IsAtHand avoid.now names.new (L.form node.now))) }
-    ensures full { IsErrOf result Error.OutOfSlots → (table.new.fresh ≡ slot_limit) }
+    ensures count { TakesOne avoid.now names.old (L.form node.now) table.old table.new }
+    ensures full { IsErrOf result Error.OutOfSlots →
+        LacksOne avoid.now names.old (L.form node.now) table.old table.new }
+    ensures spared { HasName names.old free.now number → table.new ≡ table.old }
+    ensures needed { IsErrOf result Error.OutOfSlots → ¬ (HasName names.old free.now number) }
     ensures only { IfErr result IsShortage }
     ensures more { KnowsMore table.old table.new }
     ensures kept { table.new.names ≡ table.old.names }
@@ -130,10 +141,12 @@ pub(crate) fn rename<L: Language>(
 ) -> Result<L, Error>
     requires small { IsSmall (L.form node.now) }
     requires numbered { L.form numbered ≡ (shape (L.form node.now)).0 }
+    requires free { keys free.now ≡ keys (shape (L.form node.now)).1 }
     requires avoided { (n z : ℕ) → value_of free.now n ≡ Some z → is_among z avoid.now ≡ true }
     ensures renamed { IfOk result (λ r. RenamesAs table.old table.new free.now avoid.now (L.form node.now) (L.form r)) }
-    ensures taken { IfOk result (λ r. Takes table.old table.new (IsOneOf avoid.now (L.form node.now) (L.form r))) }
-    ensures full { IsErrOf result Error.OutOfSlots → (table.new.fresh ≡ slot_limit) }
+    ensures taken { IfOk result (λ r. Takes table.old table.new (IsAvoidedOr avoid.now (L.form node.now) (L.form r))) }
+    ensures count { TakesForBinders avoid.now (L.form node.now) table.old table.new }
+    ensures full { IsErrOf result Error.OutOfSlots → LacksForBinders avoid.now (L.form node.now) table.old table.new }
     ensures only { IfErr result IsShortage }
     ensures more { KnowsMore table.old table.new }
     ensures kept { table.new.names ≡ table.old.names }

@@ -1,9 +1,10 @@
 //! Shapes of nodes: names become numbers in the order in which they first stand.
-ghost use Rattle.std.specs.Prelude.{◌≡◌, ◌<◌, ◌^◌, None, IfOk, IfErr};
+ghost use Rattle.std.specs.Prelude.{◌≡◌, ◌<◌, None, IfOk, IfErr};
 ghost use Rattle.slotted_slots.specs.Error.{IsOutOfMemory};
+ghost use Rattle.slotted_slots.specs.Table.{slot_limit};
 ghost use Rattle.slotted_nodes.specs.Form.{IsSmall};
 ghost use Rattle.slotted_languages.specs.Shape.{shape, ShapeLaws};
-ghost use Rattle.slotted_languages.specs.Walk.{IsNumbering, walk_of, bound_number, walk_binder, walk_free, walk_at, start};
+ghost use Rattle.slotted_languages.specs.Walk.{IsNumbering, bound_number, start, walk_at, walk_binder, walk_free, walk_of};
 
 use crate::language::Language;
 use slotted_slots::{Error, Slot, SlotMap};
@@ -55,7 +56,7 @@ impl Numbering {
 
     // A binder always gets the next number.
     fn number_binder(&mut self, name: Slot, until: usize) -> Result<Slot, Error>
-        requires few { self.old.next < 2 ^ 30 }
+        requires few { self.old.next < slot_limit }
         requires good { IsNumbering self.old }
         ensures ok { IfOk result (λ n. (n, walk_of self.new) ≡ walk_binder (walk_of self.old) name until) }
         ensures good { IfOk result (λ _. IsNumbering self.new) }
@@ -73,7 +74,7 @@ impl Numbering {
 
     // A free name keeps the number that it has, and gets the next one where it first stands.
     fn number_free(&mut self, name: Slot) -> Result<Slot, Error>
-        requires few { self.old.next < 2 ^ 30 }
+        requires few { self.old.next < slot_limit }
         requires good { IsNumbering self.old }
         ensures ok { IfOk result (λ n. (n, walk_of self.new) ≡ walk_free (walk_of self.old) name) }
         ensures good { IfOk result (λ _. IsNumbering self.new) }
@@ -91,7 +92,7 @@ impl Numbering {
 
     // The number of a name at a place.
     fn number(&mut self, name: Slot, place: usize, scope_end: Option<usize>) -> Result<Slot, Error>
-        requires few { self.old.next < 2 ^ 30 }
+        requires few { self.old.next < slot_limit }
         requires good { IsNumbering self.old }
         ensures ok { IfOk result (λ n. (n, walk_of self.new) ≡ walk_at (walk_of self.old) name place scope_end) }
         ensures good { IfOk result (λ _. IsNumbering self.new) }

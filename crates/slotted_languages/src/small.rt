@@ -1,9 +1,9 @@
 //! The written language `Small`: lambda terms, slots by themselves, sums, products, numbers and words.
 ghost use Rattle.std.specs.Prelude.{◌≡◌, Some, [], ◌∷◌, map, option_map, IfOk, IfErr};
 ghost use Rattle.slotted_slots.specs.Error.{IsOutOfMemory};
-ghost use Rattle.slotted_slots.specs.Syntax.{element_of, applied, name, text};
-ghost use Rattle.slotted_nodes.specs.Form.{child_form};
-ghost use Rattle.slotted_languages.specs.Small.{small_form, small_shown, small_read, alone, over_slot, over_slots, over_binder, over_children};
+ghost use Rattle.slotted_slots.specs.Syntax.{element_of, name, text};
+ghost use Rattle.slotted_languages.specs.Small.{small_form, small_shown, small_read, alone, id_element, id_form};
+ghost use Rattle.slotted_languages.specs.Small.{over_slot, over_slots, over_binder, over_children};
 ghost use Rattle.slotted_languages.specs.SmallBack.{small_words, small_back, small_null};
 ghost use Rattle.slotted_languages.specs.SmallRead.{small_faithful};
 ghost use Rattle.slotted_languages.specs.SmallSame.{small_fits, small_few, small_same};
@@ -232,7 +232,7 @@ fn word(alloc: Global, operator: &str) -> Result<SyntaxElem, Error>
 
 // A child as an element.
 fn child(alloc: Global, a: &AppliedId) -> Result<SyntaxElem, Error>
-    ensures ok { IfOk result (λ e. element_of e ≡ applied a.now.id.0 a.now.m) }
+    ensures ok { IfOk result (λ e. element_of e ≡ id_element a.now) }
     ensures err { IfErr result IsOutOfMemory }
 {
     Ok(SyntaxElem::AppliedId(a.copy(alloc)?))
@@ -270,7 +270,7 @@ fn write_over_binder(
     x: Slot,
     a: &AppliedId,
 ) -> Result<Vec<SyntaxElem>, Error>
-    ensures ok { IfOk result (λ v. map element_of v.items ≡ text operator.now ∷ name x ∷ applied a.now.id.0 a.now.m ∷ []) }
+    ensures ok { IfOk result (λ v. map element_of v.items ≡ text operator.now ∷ name x ∷ id_element a.now ∷ []) }
     ensures err { IfErr result IsOutOfMemory }
 {
     Ok(vec![in alloc;
@@ -287,7 +287,8 @@ fn write_over_children(
     a: &AppliedId,
     b: &AppliedId,
 ) -> Result<Vec<SyntaxElem>, Error>
-    ensures ok { IfOk result (λ v. map element_of v.items ≡ text operator.now ∷ applied a.now.id.0 a.now.m ∷ applied b.now.id.0 b.now.m ∷ []) }
+    ensures ok { IfOk result (λ v.
+        map element_of v.items ≡ text operator.now ∷ id_element a.now ∷ id_element b.now ∷ []) }
     ensures err { IfErr result IsOutOfMemory }
 {
     Ok(vec![in alloc; word(alloc, operator)?, child(alloc, a)?, child(alloc, b)?]?)
@@ -339,7 +340,7 @@ fn read_over_binder(
     x: Slot,
     a: &AppliedId,
 ) -> Result<Option<Small>, Error>
-    ensures ok { IfOk result (λ o. option_map small_form o ≡ over_binder operator.now x (child_form a.now.id.0 a.now.m)) }
+    ensures ok { IfOk result (λ o. option_map small_form o ≡ over_binder operator.now x (id_form a.now)) }
     ensures err { IfErr result IsOutOfMemory }
 {
     match operator {
@@ -358,7 +359,8 @@ fn read_over_children(
     a: &AppliedId,
     b: &AppliedId,
 ) -> Result<Option<Small>, Error>
-    ensures ok { IfOk result (λ o. option_map small_form o ≡ over_children operator.now (child_form a.now.id.0 a.now.m) (child_form b.now.id.0 b.now.m)) }
+    ensures ok { IfOk result (λ o.
+        option_map small_form o ≡ over_children operator.now (id_form a.now) (id_form b.now)) }
     ensures err { IfErr result IsOutOfMemory }
 {
     match operator {

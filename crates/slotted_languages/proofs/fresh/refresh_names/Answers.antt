@@ -1,8 +1,9 @@
-use Rattle.std.proofs.Common.{subst, []}
+use Rattle.std.proofs.Common.{[], inr, length, rules, subst}
 use Rattle.std.proofs.lemmas.Result.{IfOk-weaker}
 use Rattle.slotted_slots.specs.Ascending.{IsAscending}
 use Rattle.slotted_slots.specs.Maps.{keys}
-use Rattle.slotted_languages.specs.Fresh.{IsFilled}
+use Rattle.slotted_languages.specs.Fresh.{IsFilled, RunsOut, at_hand}
+use Rattle.slotted_languages.proofs.Counting.{refreshed_runs_out, refreshed_takes}
 use Rattle.slotted_languages.proofs.Fills.{refreshed}
 use Rattle.slotted_languages.proofs.PutIn.{replaced_put}
 use Rattle.slotted_languages.proofs.Taken.{replaced_taken}
@@ -41,3 +42,18 @@ returns-clause-known g c =
     let u = c.fill_names.new.table in
     let d : IsFilled t u f.names wanted [] names = subst (λ m. IsFilled t u f.names wanted m names) c.new-names.ensures c.in_ok-fill_names.ensures.ok in
     IfOk-weaker c.replace_names.result _ _ (λ r e. replaced_put t u wanted names f (form r) d e) c.replace_names.ensures.ok
+
+pub returns-clause-count : goal.returns-clause-count
+returns-clause-count g c =
+    refreshed_takes c.args.table.now c.fill_names.new.table c.args.wanted.now c.new-names.result (g.L.LanguageChildren.form c.args.node.now) c.new-names.ensures c.fill_names.ensures.sorted c.requires.own c.fill_names.ensures.count
+
+pub returns-in_err-fill_names-clause-count : goal.returns-in_err-fill_names-clause-count
+returns-in_err-fill_names-clause-count g c =
+    refreshed_takes c.args.table.now c.fill_names.new.table c.args.wanted.now c.new-names.result (g.L.LanguageChildren.form c.args.node.now) c.new-names.ensures c.fill_names.ensures.sorted c.requires.own c.fill_names.ensures.count
+
+pub returns-in_err-fill_names-clause-full : goal.returns-in_err-fill_names-clause-full
+returns-in_err-fill_names-clause-full g c is =
+    let f = g.L.LanguageChildren.form c.args.node.now in
+    let wanted = c.args.wanted.now in
+    let out : RunsOut (length wanted) (at_hand wanted c.new-names.result f) c.args.table.now c.fill_names.new.table = search rules in
+    inr (refreshed_runs_out c.args.table.now c.fill_names.new.table wanted c.new-names.result f c.new-names.ensures c.fill_names.ensures.sorted c.requires.own c.fill_names.ensures.more out)

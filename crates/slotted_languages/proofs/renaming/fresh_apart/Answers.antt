@@ -1,9 +1,12 @@
 -- What was skipped was in use.
-use Rattle.std.proofs.Common.{◌∙◌, ap, sym, refl, inl, inr}
+use Rattle.std.proofs.Common.{◌≡◌, ◌∙◌, ap, sym, refl, subst, inl, inr, arith, rules}
 use Rattle.slotted_slots.specs.Maps.{values}
 use Rattle.slotted_slots.proofs.Ascending.{has-is_among}
-use Rattle.slotted_languages.specs.Fresh.{IsInUse, IsOrIn}
+use Rattle.slotted_languages.specs.Fresh.{IsInUse, IsOrIn, RunsOut, at_hand}
+use Rattle.slotted_slots.specs.Table.{TakesAtMost, slot_limit}
+use Rattle.slotted_slots.proofs.SlotsTaken.{at_most_more, at_most_one, at_most_then, at_most_used, lacks_at_end}
 use Rattle.slotted_slots.proofs.Taken.{takes_fresh, takes_as}
+use Rattle.slotted_languages.proofs.Counting.{in_use_at_hand}
 use Rattle.slotted_languages.proofs.renaming.fresh_apart.Goals as goal
 use Rattle.slotted_languages.proofs.renaming.fresh_apart.Goals.{else-not-contains-via-then-not-contains+then-not-has_value+else-not-has_name, else-not-contains-via-then-not-contains+else-not-has_value, else-not-contains-via-else-not-contains}
 
@@ -30,8 +33,30 @@ loop-slot-preserved g c =
       | else-not-contains-via-then-not-contains+else-not-has_value w ↦ inr (inl (sym w.has_value.ensures ∙ w.if-not-has_value.false))
       | else-not-contains-via-else-not-contains w ↦ inl (sym (has-is_among avoid s) ∙ (sym c.contains.ensures ∙ w.if-not-contains.false))
     ] in
+    let hand = at_hand avoid c.args.names.now f in
     record {
+      count = at_most_then 0 0 hand c.args.table.now c.loop-slot.table c.fresh.new.self c.loop-slot.invariant.count
+          (at_most_used hand c.loop-slot.table c.fresh.new.self s (ap (λ t. t.fresh) m) c.in_ok-slot.ensures.slot (in_use_at_hand avoid c.args.names.now f s used));
       more = λ z k. c.in_ok-slot.ensures.more z (c.loop-slot.invariant.more z k);
       kept = ap (λ t. t.names) m ∙ c.loop-slot.invariant.kept;
       skipped = takes_fresh c.args.table.now c.loop-slot.table c.fresh.new.self (IsInUse avoid vs f.names) s c.in_ok-slot.ensures.slot (ap (λ t. t.fresh) m) (ap (λ t. t.names) m) c.loop-slot.invariant.skipped used;
     }
+
+pub returns-then-not-has_name-clause-count : goal.returns-then-not-has_name-clause-count
+returns-then-not-has_name-clause-count g c =
+    let hand = at_hand c.args.avoid.now c.args.names.now (g.L.LanguageChildren.form c.args.node.now) in
+    let m = c.in_ok-slot.ensures.moved in
+    at_most_then 0 1 hand c.args.table.now c.loop-slot.table c.fresh.new.self c.loop-slot.invariant.count (at_most_one hand c.loop-slot.table c.fresh.new.self (ap (λ t. t.fresh) m))
+
+pub returns-in_err-slot-clause-count : goal.returns-in_err-slot-clause-count
+returns-in_err-slot-clause-count g c =
+    let hand = at_hand c.args.avoid.now c.args.names.now (g.L.LanguageChildren.form c.args.node.now) in
+    subst (λ u. TakesAtMost 1 hand c.args.table.now u) (sym c.in_err-slot.ensures.err)
+    (at_most_more 0 1 hand c.args.table.now c.loop-slot.table (omega arith) c.loop-slot.invariant.count)
+
+pub returns-in_err-slot-clause-full : goal.returns-in_err-slot-clause-full
+returns-in_err-slot-clause-full g c is =
+    let hand = at_hand c.args.avoid.now c.args.names.now (g.L.LanguageChildren.form c.args.node.now) in
+    let full : c.loop-slot.table.fresh ≡ slot_limit = search rules in
+    subst (λ u. RunsOut 1 hand c.args.table.now u) (sym c.in_err-slot.ensures.err)
+    (full, lacks_at_end 1 0 hand c.args.table.now c.loop-slot.table full (omega arith) c.loop-slot.invariant.count)

@@ -1,5 +1,9 @@
 use Rattle.std.proofs.lemmas.Grind.{common_steps}
-use Rattle.std.proofs.Common.{◌∙◌, sym, inl, arith}
+use Rattle.std.proofs.Common.{◌++◌, ◌∙◌, ap, sym, inl, inr, arith}
+use Rattle.slotted_slots.specs.Maps.{keys, values}
+use Rattle.slotted_slots.proofs.SlotsTaken.{at_most_beside}
+use Rattle.slotted_languages.specs.Children.{binders}
+use Rattle.slotted_languages.proofs.Counting.{composed_within, keys-with_values, runs_out_from}
 use Rattle.std.proofs.lemmas.Result.{IfOk-weaker}
 use Rattle.slotted_theory.specs.FiniteMaps.{filled}
 use Rattle.slotted_languages.specs.Shape.{shape}
@@ -69,3 +73,24 @@ returns-clause-checked g c =
     (λ r h. none_meets c.args.table.now c.rename.new.table π f avoid (form r) (fits c.args.self.now) (fits r) (h π e)
     (λ z p. c.in_ok-avoid.ensures.members z ∙ free_is_value f (form r) π (shape f).1 c.in_ok-names.names (values-shape f) e (h π e).renamed z p))
     c.rename.ensures.renamed
+
+pub rename-requires-clause-free : goal.rename-requires-clause-free
+rename-requires-clause-free g c =
+    let f = g.Self.LanguageChildren.form c.args.self.now in
+    ap keys (c.in_ok-names.ensures.ok ∙ composed_shape f c.args.m.now c.in_ok-numbered.free c.requires (λ i. (c.in_ok-numbered.ensures.shape i).1)) ∙ keys-with_values (filled c.args.m.now) (shape f).1
+
+pub returns-clause-count : goal.returns-clause-count
+returns-clause-count g c =
+    let f = g.Self.LanguageChildren.form c.args.self.now in
+    let avoid = c.in_ok-avoid.avoid in
+    let m = c.args.m.now in
+    at_most_beside (binders f) (avoid ++ f.names) (values m ++ f.names) c.args.table.now c.rename.new.table
+    (λ z now before h. composed_within f avoid c.in_ok-numbered.free m c.in_ok-names.names c.in_ok-avoid.ensures.members c.in_ok-names.ensures.ok z h) c.rename.ensures.count
+
+pub returns-clause-full : goal.returns-clause-full
+returns-clause-full g c is =
+    let f = g.Self.LanguageChildren.form c.args.self.now in
+    let avoid = c.in_ok-avoid.avoid in
+    let m = c.args.m.now in
+    inr (runs_out_from (binders f) (avoid ++ f.names) (values m ++ f.names) c.args.table.now c.rename.new.table c.rename.ensures.more
+    (λ z before h. composed_within f avoid c.in_ok-numbered.free m c.in_ok-names.names c.in_ok-avoid.ensures.members c.in_ok-names.ensures.ok z h) (c.rename.ensures.full is))

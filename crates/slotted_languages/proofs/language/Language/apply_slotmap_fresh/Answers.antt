@@ -1,10 +1,12 @@
 -- The map that was filled knows each free slot.
-use Rattle.std.proofs.Common.{◌∙◌, subst}
+use Rattle.std.proofs.Common.{◌∙◌, inl, inr, length, rules, subst}
 use Rattle.std.proofs.lemmas.Result.{IfOk-weaker}
-use Rattle.slotted_languages.specs.Fresh.{IsFilled}
+use Rattle.slotted_languages.specs.Fresh.{IsFilled, RunsOut, at_hand}
 use Rattle.slotted_languages.specs.NodeTerm.{free_names_of}
 use Rattle.slotted_slots.specs.Ascending.{IsAscending}
 use Rattle.slotted_slots.specs.Maps.{keys}
+use Rattle.slotted_slots.specs.Table.{TakesAtMost}
+use Rattle.slotted_languages.proofs.Counting.{filled_runs_out, filled_takes, filling_runs_out, filling_takes}
 use Rattle.slotted_languages.proofs.TakenNames.{both_ok, filled_taken}
 use Rattle.slotted_languages.proofs.Fills.{knows_each, renamed_fresh}
 use Rattle.slotted_languages.proofs.PutIn.{filled_put}
@@ -56,3 +58,61 @@ returns-clause-known g c =
     IfOk-weaker c.apply_slotmap.result _ _
     (λ r put. filled_put t u c.apply_slotmap.new.table f.names wanted m names f (form r) up d c.apply_slotmap.ensures.more put)
     c.apply_slotmap.ensures.known
+
+pub returns-clause-count : goal.returns-clause-count
+returns-clause-count g c =
+    let form = g.Self.LanguageChildren.form in
+    let f = form c.args.self.now in
+    let fits = g.met.Self.LanguageChildren.fits c.args.self.now in
+    let t = c.args.table.now in
+    let u = c.fill_names.new.table in
+    let m = c.args.m.now in
+    let wanted = c.in_ok-wanted.wanted in
+    let taken = subst (λ n. TakesAtMost (length wanted) (at_hand wanted n f) t u) c.in_ok-names.ensures.ok c.fill_names.ensures.count in
+    let names = c.fill_names.new.names in
+    let d : IsFilled t u f.names wanted m names = subst (λ n. IsFilled t u f.names wanted n names) c.in_ok-names.ensures.ok c.in_ok-fill_names.ensures.ok in
+    let up : IsAscending (keys names) = subst (λ n. IsAscending (keys n)) c.names.view_is c.names.invariant in
+    filled_takes t u wanted m f fits c.fill_names.ensures.sorted c.in_ok-wanted.ensures.members c.apply_slotmap.new.table names up d taken c.apply_slotmap.ensures.count
+
+pub returns-clause-full : goal.returns-clause-full
+returns-clause-full g c is =
+    let form = g.Self.LanguageChildren.form in
+    let f = form c.args.self.now in
+    let fits = g.met.Self.LanguageChildren.fits c.args.self.now in
+    let t = c.args.table.now in
+    let u = c.fill_names.new.table in
+    let m = c.args.m.now in
+    let wanted = c.in_ok-wanted.wanted in
+    let taken = subst (λ n. TakesAtMost (length wanted) (at_hand wanted n f) t u) c.in_ok-names.ensures.ok c.fill_names.ensures.count in
+    let names = c.fill_names.new.names in
+    let d : IsFilled t u f.names wanted m names = subst (λ n. IsFilled t u f.names wanted n names) c.in_ok-names.ensures.ok c.in_ok-fill_names.ensures.ok in
+    let up : IsAscending (keys names) = subst (λ n. IsAscending (keys n)) c.names.view_is c.names.invariant in
+    elim (c.apply_slotmap.ensures.full is) [
+      | inl q ↦ inl q
+      | inr q ↦ inr (filled_runs_out t u wanted m f fits c.fill_names.ensures.sorted c.in_ok-wanted.ensures.members c.apply_slotmap.new.table names up d taken c.apply_slotmap.ensures.more q)
+    ]
+
+pub returns-in_err-fill_names-clause-count : goal.returns-in_err-fill_names-clause-count
+returns-in_err-fill_names-clause-count g c =
+    let form = g.Self.LanguageChildren.form in
+    let f = form c.args.self.now in
+    let fits = g.met.Self.LanguageChildren.fits c.args.self.now in
+    let t = c.args.table.now in
+    let u = c.fill_names.new.table in
+    let m = c.args.m.now in
+    let wanted = c.in_ok-wanted.wanted in
+    let taken = subst (λ n. TakesAtMost (length wanted) (at_hand wanted n f) t u) c.in_ok-names.ensures.ok c.fill_names.ensures.count in
+    filling_takes t u wanted m f fits c.fill_names.ensures.sorted c.in_ok-wanted.ensures.members taken
+
+pub returns-in_err-fill_names-clause-full : goal.returns-in_err-fill_names-clause-full
+returns-in_err-fill_names-clause-full g c is =
+    let form = g.Self.LanguageChildren.form in
+    let f = form c.args.self.now in
+    let fits = g.met.Self.LanguageChildren.fits c.args.self.now in
+    let t = c.args.table.now in
+    let u = c.fill_names.new.table in
+    let m = c.args.m.now in
+    let wanted = c.in_ok-wanted.wanted in
+    let last : RunsOut (length wanted) (at_hand wanted c.in_ok-names.names f) t u = search rules in
+    let out = subst (λ n. RunsOut (length wanted) (at_hand wanted n f) t u) c.in_ok-names.ensures.ok last in
+    inr (filling_runs_out t u wanted m f fits c.fill_names.ensures.sorted c.in_ok-wanted.ensures.members c.fill_names.ensures.more out)

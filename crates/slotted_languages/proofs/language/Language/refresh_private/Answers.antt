@@ -1,6 +1,6 @@
-use Rattle.std.proofs.Common.{◌≡◌, ◌∙◌, ap, sym, inl, inr, true}
+use Rattle.std.proofs.Common.{◌≡◌, ◌++◌, ◌∙◌, ap, sym, inl, inr, true}
 use Rattle.std.specs.Prelude.{ℕ}
-use Rattle.slotted_slots.specs.Maps.{is_among}
+use Rattle.slotted_slots.specs.Maps.{is_among, keys}
 use Rattle.slotted_languages.specs.NodeTerm.{free_names_of}
 use Rattle.slotted_languages.proofs.TakenNames.{avoided_taken, free_stands}
 use Rattle.std.proofs.lemmas.Result.{IfOk-weaker}
@@ -8,6 +8,9 @@ use Rattle.slotted_theory.specs.FiniteMaps.{with_values}
 use Rattle.slotted_theory.specs.Nameless.{DTerm}
 use Rattle.slotted_theory.specs.Shape.{free_names}
 use Rattle.slotted_languages.specs.Shape.{shape}
+use Rattle.slotted_slots.proofs.SlotsTaken.{at_most_beside}
+use Rattle.slotted_languages.specs.Children.{binders}
+use Rattle.slotted_languages.proofs.Counting.{avoided_stands, runs_out_from}
 use Rattle.slotted_languages.proofs.FreeAndBound.{none_meets}
 use Rattle.slotted_languages.proofs.PutIn.{same_put}
 use Rattle.slotted_languages.proofs.Occurrences.{is_among-firsts, lacks_smaller}
@@ -92,3 +95,20 @@ returns-clause-checked g c =
     let same : free_names_of (form r) ≡ free_names_of f = ap (λ (n : DTerm). free_names n.args) (renamed_same c.args.table.now c.rename.new.table f avoid (form r) d) in
     none_meets c.args.table.now c.rename.new.table (λ x. x) f avoid (form r) (fits c.args.self.now) (fits r) d
     (λ z q. c.in_ok-add_names.ensures.added z (free_stands f z (fits c.args.self.now) (ap (is_among z) (sym same) ∙ q)))) c.rename.ensures.renamed
+
+pub rename-requires-clause-free : goal.rename-requires-clause-free
+rename-requires-clause-free g c = λ i. keys (c.in_ok-numbered.ensures.shape i).1
+
+pub returns-clause-count : goal.returns-clause-count
+returns-clause-count g c =
+    let f = g.Self.LanguageChildren.form c.args.self.now in
+    let avoid = c.add_names.new.set in
+    at_most_beside (binders f) (avoid ++ f.names) f.names c.args.table.now c.rename.new.table
+    (λ z now before h. avoided_stands f c.in_ok-avoid.avoid avoid c.in_ok-numbered.free (g.met.Self.LanguageChildren.fits c.args.self.now) c.in_ok-numbered.ensures.names c.in_ok-avoid.ensures.members c.in_ok-add_names.ensures.within z h) c.rename.ensures.count
+
+pub returns-clause-full : goal.returns-clause-full
+returns-clause-full g c is =
+    let f = g.Self.LanguageChildren.form c.args.self.now in
+    let avoid = c.add_names.new.set in
+    inr (runs_out_from (binders f) (avoid ++ f.names) f.names c.args.table.now c.rename.new.table c.rename.ensures.more
+    (λ z before h. avoided_stands f c.in_ok-avoid.avoid avoid c.in_ok-numbered.free (g.met.Self.LanguageChildren.fits c.args.self.now) c.in_ok-numbered.ensures.names c.in_ok-avoid.ensures.members c.in_ok-add_names.ensures.within z h) (c.rename.ensures.full is))
