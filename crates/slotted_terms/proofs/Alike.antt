@@ -1,8 +1,8 @@
 -- Terms that are equal without bound names have nodes that agree but for names and children, and equally many children.
-use Rattle.std.proofs.Common.{◌≡◌, ℕ, suc, ◌<◌, ◌≤◌, List, [], ◌∷◌, length, take, drop, refl, slice_index, ap, ◌∙◌, sym, arith, length-take, length-drop, length-append}
+use Rattle.std.proofs.Common.{◌≡◌, ℕ, suc, ◌<◌, ◌≤◌, List, [], ◌∷◌, length, take, drop, refl, slice_index, ap, ◌∙◌, sym, arith, length-take, length-drop}
 use Rattle.std.proofs.lemmas.List.Elements.{All-head, All-tail, All-take, All-drop}
 use Rattle.std.proofs.Math.Nat.{suc_inj}
-use Rattle.slotted_theory.specs.Term.{Term, term_size, args_size}
+use Rattle.slotted_theory.specs.Term.{Term}
 use Rattle.slotted_theory.specs.Nameless.{DTerm, extend, nameless_args, nameless_by}
 use Rattle.slotted_theory.specs.Shape.{number_in}
 use Rattle.std.specs.Prelude.{◌↔◌}
@@ -10,7 +10,7 @@ use Rattle.slotted_nodes.specs.Form.{Form, Tree, leaf, own, child, bind, scopes,
 use Rattle.slotted_languages.specs.Filled.{filled, children_args, term_of}
 use Rattle.slotted_languages.specs.Outline.{outlined, outlined_form}
 use Rattle.slotted_languages.proofs.Outlines.{length_children-outlined, filled-outlined}
-use Rattle.slotted_terms.specs.Seen.{place_count, AreTerms, AreAlike, AreOutlines, AreMatched, owns, stacks, seen, owns_seen, children_seen}
+use Rattle.slotted_terms.specs.Seen.{AreTerms, AreAlike, AreOutlines, AreMatched, owns, stacks, seen, owns_seen, children_seen}
 use Rattle.slotted_terms.proofs.Seen.{same_from_seen, seen_from_same}
 
 module _ (ρ σ : ℕ → ℕ) where
@@ -125,17 +125,3 @@ term_same a b f g s bs cs ts us o m n =
           let d = ap (nameless_args (number_in bs)) l ∙ (same_from_seen bs cs f.tree f.names g.names ts us n (h.0 ∙ p) (h.1 ∙ q) ∙ ap (nameless_args (number_in cs)) (sym r)) in
           λ i. record { op = suc (o.alike.operator i); payloads = o.alike.payloads i; args = d i },
     )
-
--- a node has no more places than its term is large
-pub place_count-term : (a : Form) (ts : List Term) → place_count a ≤ term_size (term_of a ts)
-place_count-term a ts = places_le a.tree a.names ts
-  where
-    places_le : (u : Tree) (xs : List ℕ) (ts : List Term) → length (scopes (outlined u)) ≤ args_size (filled u xs ts)
-    places_le leaf xs ts = omega arith
-    places_le (own r) xs ts = omega (arith, places_le r (drop 1 xs) ts)
-    places_le (child i ks r) xs [] = omega (arith, places_le r (drop (length ks) xs) [])
-    places_le (child i ks r) xs (t ∷ ts) = omega (arith, places_le r (drop (length ks) xs) ts)
-    places_le (bind u r) xs ts =
-        let n = length (scopes u) in
-        let k = length (children u) in
-        omega (arith, length-append (scopes (outlined u)) (scopes (outlined r)), places_le u (take n (drop 1 xs)) (take k ts), places_le r (drop n (drop 1 xs)) (drop k ts))

@@ -6,6 +6,7 @@ pub mod Opened
 pub mod Binders
 pub mod Matched
 pub mod Alike
+pub mod LargeNodes
 pub mod AsTerms
 pub mod TermPatterns
 pub mod ValidTexts

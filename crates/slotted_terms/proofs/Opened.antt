@@ -1,9 +1,9 @@
 -- What is seen at a place can be read off the places before it.
 use Rattle.std.proofs.Common.{◌≡◌, ℕ, suc, zero, ◌+◌, ◌-◌, ◌<◌, ◌≤◌, List, [], ◌∷◌, ◌++◌, length, take, drop, refl, slice_index, slice_index_or, ap, ◌∙◌, sym, append_assoc, arith, length-append, inl, inr}
-use Rattle.std.specs.Prelude.{Some, None, Option, nat_lt, cond}
-use Rattle.std.proofs.lemmas.Bool.{lt-ltb, le-ltb, cases_lt}
+use Rattle.std.specs.Prelude.{Some, None, Option, false, nat_lt, cond, IsTrue, ◌↔◌}
+use Rattle.std.proofs.lemmas.Bool.{false≢true, ltb-true, lt-ltb, le-ltb, cases_lt}
 use Rattle.std.proofs.lemmas.List.{drop_more, get_or-take, get_or-drop, drop-drop, get_or_append_left, get_or-append_right}
-use Rattle.slotted_nodes.specs.Form.{Tree, leaf, own, child, bind, scopes, children, child_place, end_at}
+use Rattle.slotted_nodes.specs.Form.{Tree, leaf, own, child, bind, scopes, children, child_place, end_at, scope_end_of}
 use Rattle.slotted_languages.specs.Outline.{outlined, marks}
 use Rattle.slotted_languages.proofs.Outlines.{length-marks}
 use Rattle.slotted_terms.specs.Seen.{owns, stacks, opened, own_at, IsOpen}
@@ -188,3 +188,21 @@ module _ (i at : ℕ) (s : List (Option ℕ)) (xs bs : List ℕ) (before : i < a
           let f : i + 1 + n ≡ h.0 = cc in
           let l = h.2 in
           within_scope (slice_index xs i) bs (at - (i + 1)) n (omega arith)
+
+-- a binder whose scope ends there is open before the end, and what is no binder is not open
+pub open_before : (s : List (Option ℕ)) (i at end : ℕ) → Some end ≡ scope_end_of s i → IsTrue (nat_lt at end) ↔ IsOpen s i at
+open_before s i at end e = (
+  λ t. (end, sym e, ltb-true at end t),
+  λ h.
+      let p : Some end ≡ Some h.0 = e ∙ h.1 in
+      let same : end ≡ h.0 = cc in
+      lt-ltb at end (omega (arith, same, h.2)),
+)
+
+pub open_none : (s : List (Option ℕ)) (i at : ℕ) → None ≡ scope_end_of s i → IsTrue false ↔ IsOpen s i at
+open_none s i at e = (
+  λ t. absurd (false≢true t),
+  λ h.
+      let p : None ≡ Some h.0 = e ∙ h.1 in
+      cc,
+)

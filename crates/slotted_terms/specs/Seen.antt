@@ -1,9 +1,8 @@
 -- What alpha-equality sees of an outline under binders: the numbers of its own names, and each child under the binders
 -- that are open where it stands. Binders stand in a list, the innermost first.
-use Rattle.std.specs.Prelude.{◌≡◌, ◌+◌, ◌<◌, map, ℕ, zero, suc, List, [], ◌∷◌, ◌++◌, length, take, drop, reverse, slice_index, slice_index_or, Option, Some, None, if◌then◌else◌, nat_lt}
+use Rattle.std.specs.Prelude.{◌≡◌, ◌<◌, map, ℕ, zero, suc, List, [], ◌∷◌, ◌++◌, length, take, drop, reverse, slice_index, slice_index_or, Option, Some, None, if◌then◌else◌, nat_lt}
 use Rattle.std.specs.List.{All}
-use denote.Param.Weighed.{most}
-use Rattle.slotted_theory.specs.Term.{Term, term_size}
+use Rattle.slotted_theory.specs.Term.{Term}
 use Rattle.slotted_theory.specs.Nameless.{DTerm, nameless_by}
 use Rattle.slotted_theory.specs.Shape.{number_in}
 use Rattle.slotted_nodes.specs.Form.{Form, IsSmall, Tree, leaf, own, child, bind, scopes, scope_end_of}
@@ -73,6 +72,13 @@ pub record AreOutlines (a b f g : Form) : Type 0 where
   pub right : g ≡ outlined_form 0 b
   pub alike : AreAlike a b
 
+-- the same of nodes of a language, by their forms
+abbrev pub AreMatchedBy : {A : Type 0} → (A → Form) → A → A → A → Type 0
+AreMatchedBy form f g s = AreMatched (form f) (form g) (form s)
+
+abbrev pub AreOutlinesBy : {A : Type 0} → (A → Form) → A → A → A → A → Type 0
+AreOutlinesBy form a b f g = AreOutlines (form a) (form b) (form f) (form g)
+
 -- how many names, children and binders a node has
 abbrev pub place_count : Form → ℕ
 place_count a = length (scopes (outlined a.tree))
@@ -101,6 +107,32 @@ IsOwn t i = (slice_index (marks t) i ≡ 0) × (slice_index_or (scopes t) i None
 abbrev pub owns_seen : Form → List ℕ → List ℕ
 owns_seen f bs = owns bs f.tree f.names
 
--- one more than the size of the largest of the terms
-abbrev pub row_size : List Term → ℕ
-row_size ts = most (λ t. term_size t + 1) ts
+-- the names of the binders on the left above a child that stands in the outline f, and of those on the right
+abbrev pub lefts_above : Form → List (ℕ × ℕ) → ℕ → List ℕ
+lefts_above f stack k = above f (lefts stack) k
+
+abbrev pub rights_above : Form → List (ℕ × ℕ) → ℕ → List ℕ
+rights_above f stack k = above f (rights stack) k
+
+-- two terms are one without their bound names, the one below the binders on the left, the other below those on the right
+abbrev pub SameTerm : List (ℕ × ℕ) → Term → Term → Type 0
+SameTerm stack t u = nameless_by (number_in (lefts stack)) t ≡ nameless_by (number_in (rights stack)) u
+
+-- so are two terms where they stand as the children k of the outlines f and g
+abbrev pub SameChild : Form → Form → List (ℕ × ℕ) → ℕ → Term → Term → Type 0
+SameChild f g stack k t u = nameless_by (number_in (lefts_above f stack k)) t ≡ nameless_by (number_in (rights_above g stack k)) u
+
+-- and so are all children of the two outlines
+abbrev pub SameChildren : Form → Form → List (ℕ × ℕ) → List Term → List Term → Type 0
+SameChildren f g stack ts us = children_seen f (lefts stack) ts ≡ children_seen g (rights stack) us
+
+-- the own names of two outlines have the same numbers below the binders: all of them; and what stands at the place i, a name
+-- or anything
+abbrev pub SameOwns : Form → Form → List (ℕ × ℕ) → Type 0
+SameOwns f g stack = owns_seen f (lefts stack) ≡ owns_seen g (rights stack)
+
+abbrev pub SameNumber : Form → Form → List (ℕ × ℕ) → ℕ → Type 0
+SameNumber f g stack i = number_at f (lefts stack) i ≡ number_at g (rights stack) i
+
+abbrev pub SamePlace : Form → Form → List (ℕ × ℕ) → ℕ → Type 0
+SamePlace f g stack i = slice_index (owns_seen f (lefts stack)) i ≡ slice_index (owns_seen g (rights stack)) i

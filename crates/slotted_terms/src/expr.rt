@@ -1,21 +1,20 @@
 // Terms of a language as trees of nodes.
-ghost use Rattle.std.specs.Prelude.{◌≡◌, ℕ, ◌<◌, ◌≤◌, ◌^◌, ◌⊎◌, ◌↔◌, length, IsTrue, IfOk, IfErr, IsErrOf};
+ghost use Rattle.std.specs.Prelude.{◌≡◌, ◌<◌, ◌⊎◌, ◌↔◌, length, IsTrue, IfOk, IfErr, IsErrOf, MatchResult};
 ghost use Rattle.slotted_slots.specs.Error.{IsOutOfMemory, IsShortage};
-ghost use Rattle.slotted_theory.specs.Term.{term_size};
-ghost use Rattle.slotted_theory.specs.Nameless.{Alpha, nameless_by};
-ghost use Rattle.slotted_theory.specs.Shape.{number_in};
-ghost use Rattle.slotted_terms.specs.Seen.{AreMatched, AreTerms, lefts, rights, above, children_seen, row_size};
+ghost use Rattle.slotted_theory.specs.Nameless.{Alpha};
+ghost use Rattle.slotted_terms.specs.LargeNodes.{HasLargeNode, HaveLargeNode};
+ghost use Rattle.slotted_terms.specs.Seen.{AreMatchedBy, AreTerms, SameTerm, SameChild, SameChildren};
 
 use crate::outlines::{Binders, Outlines};
 use slotted_languages::language::Language;
 use slotted_slots::Error;
-use std::alloc::Global;
+use std::alloc::{AllocError, Global};
 use std::marker::Model;
 
 pub mod printing;
 
 /// A term: a node, and the terms that stand in the places of its children. The child ids inside `node` are ignored.
-#[derive(Drop)]
+#[derive(Drop, Debug)]
 #[cycle(expr)]
 pub struct RecExpr<L: Language> {
     pub node: L,
@@ -56,10 +55,9 @@ impl<L: Language> RecExpr<L> {
         other: &RecExpr<L>,
         binders: &mut Binders,
     ) -> Result<bool, Error>
-        ensures same { IfOk result (λ b. IsTrue b
-            ↔ (nameless_by (number_in (lefts binders.old.items)) self.now ≡ nameless_by (number_in (rights binders.old.items)) other.now)) }
+        ensures same { IfOk result (λ b. IsTrue b ↔ SameTerm binders.old.items self.now other.now) }
         ensures kept { IfOk result (λ _. binders.new.items ≡ binders.old.items) }
-        ensures slots { IsErrOf result Error.OutOfSlots → (2 ^ 30 ≤ term_size self.now) ⊎ (2 ^ 30 ≤ term_size other.now) }
+        ensures slots { IsErrOf result Error.OutOfSlots → HasLargeNode self.now ⊎ HasLargeNode other.now }
         ensures err { IfErr result IsShortage }
     {
         if term_count(&self.children) != term_count(&other.children) {
@@ -77,7 +75,7 @@ impl<L: Language> RecExpr<L> {
     /// Whether the two terms are the same up to the choice of bound names.
     pub fn alpha_eq(&self, alloc: Global, other: &RecExpr<L>) -> Result<bool, Error>
         ensures same { IfOk result (λ b. IsTrue b ↔ Alpha self.now other.now) }
-        ensures slots { IsErrOf result Error.OutOfSlots → (2 ^ 30 ≤ term_size self.now) ⊎ (2 ^ 30 ≤ term_size other.now) }
+        ensures slots { IsErrOf result Error.OutOfSlots → HasLargeNode self.now ⊎ HasLargeNode other.now }
         ensures err { IfErr result IsShortage }
     {
         let mut binders = Vec::new(alloc);
@@ -97,6 +95,19 @@ impl<L: Language> RecExpr<L> {
             node: self.node.copy(alloc)?,
             children,
         })
+    }
+}
+
+impl<L: Language> Clone for RecExpr<L> {
+    ghost is_clone = { λ e c. c ≡ e };
+
+    fn clone(&self) -> Result<Self, AllocError>
+        ensures cases { MatchResult result (λ c. c ≡ self.now) (λ _. ¬ ⊥) }
+    {
+        match self.copy(*self.children.allocator()) {
+            Ok(copy) => Ok(copy),
+            Err(_) => Err(AllocError),
+        }
     }
 }
 
@@ -124,12 +135,11 @@ fn alpha_eq_child<L: Language>(
     nodes: &Outlines<L>,
     binders: &mut Binders,
 ) -> Result<bool, Error>
-    requires { AreMatched (L.form nodes.now.one) (L.form nodes.now.two) (L.form nodes.now.skeleton) }
+    requires { AreMatchedBy L.form nodes.now.one nodes.now.two nodes.now.skeleton }
     ensures same { IfOk result (λ b. IsTrue b
-        ↔ (nameless_by (number_in (above (L.form nodes.now.one) (lefts binders.old.items) k)) one.now
-        ≡ nameless_by (number_in (above (L.form nodes.now.two) (rights binders.old.items) k)) two.now)) }
+        ↔ SameChild (L.form nodes.now.one) (L.form nodes.now.two) binders.old.items k one.now two.now) }
     ensures kept { IfOk result (λ _. binders.new.items ≡ binders.old.items) }
-    ensures slots { IsErrOf result Error.OutOfSlots → (2 ^ 30 ≤ term_size one.now) ⊎ (2 ^ 30 ≤ term_size two.now) }
+    ensures slots { IsErrOf result Error.OutOfSlots → HasLargeNode one.now ⊎ HasLargeNode two.now }
     ensures err { IfErr result IsShortage }
 {
     let depth = binders.len();
@@ -148,13 +158,12 @@ fn alpha_eq_children<L: Language>(
     nodes: &Outlines<L>,
     binders: &mut Binders,
 ) -> Result<bool, Error>
-    requires matched { AreMatched (L.form nodes.now.one) (L.form nodes.now.two) (L.form nodes.now.skeleton) }
+    requires matched { AreMatchedBy L.form nodes.now.one nodes.now.two nodes.now.skeleton }
     requires count { length ones.now ≡ length twos.now }
     ensures same { IfOk result (λ b. IsTrue b
-        ↔ (children_seen (L.form nodes.now.one) (lefts binders.old.items) ones.now
-        ≡ children_seen (L.form nodes.now.two) (rights binders.old.items) twos.now)) }
+        ↔ SameChildren (L.form nodes.now.one) (L.form nodes.now.two) binders.old.items ones.now twos.now) }
     ensures kept { IfOk result (λ _. binders.new.items ≡ binders.old.items) }
-    ensures slots { IsErrOf result Error.OutOfSlots → (2 ^ 30 ≤ row_size ones.now) ⊎ (2 ^ 30 ≤ row_size twos.now) }
+    ensures slots { IsErrOf result Error.OutOfSlots → HaveLargeNode ones.now ⊎ HaveLargeNode twos.now }
     ensures err { IfErr result IsShortage }
 {
     for k in 0..ones.len() {

@@ -1,10 +1,11 @@
 //! Two nodes side by side, place by place.
-ghost use Rattle.std.specs.Prelude.{◌≡◌, ◌<◌, ◌≤◌, ◌^◌, ◌⊎◌, ◌↔◌, length, take, IsTrue, IfOk, IfErr, IfSome, IfNone, IsErrOf, slice_index};
+ghost use Rattle.std.specs.Prelude.{◌≡◌, ◌<◌, ◌≤◌, ◌⊎◌, ◌↔◌, length, take, IsTrue, IfOk, IfErr, IfSome, IfNone, IsErrOf, slice_index};
 ghost use Rattle.slotted_slots.specs.Error.{IsOutOfMemory, IsShortage};
+ghost use Rattle.slotted_slots.specs.Table.{slot_limit};
 ghost use Rattle.slotted_theory.specs.Shape.{number_in};
 ghost use Rattle.slotted_nodes.specs.Form.{scopes, IsSmall};
 ghost use Rattle.slotted_languages.specs.Outline.{outlined_form};
-ghost use Rattle.slotted_terms.specs.Seen.{AreMatched, AreOutlines, AreAlike, place_count, lefts, rights, IsOpen, opened, above, number_at, IsOwn, owns_seen};
+ghost use Rattle.slotted_terms.specs.Seen.{AreMatchedBy, AreOutlinesBy, AreAlike, place_count, lefts, rights, lefts_above, rights_above, IsOpen, opened, IsOwn, SameNumber, SameOwns, SamePlace};
 
 use slotted_languages::language::Language;
 use slotted_languages::outline::{outline, skeleton};
@@ -44,7 +45,7 @@ pub fn same_name(binders: &[(Slot, Slot)], x: Slot, y: Slot) -> bool
 fn small_outline<L: Language>(alloc: Global, node: &L) -> Result<L, Error>
     ensures ok { IfOk result (λ n. L.form n ≡ outlined_form 0 (L.form node.now)) }
     ensures small { IfOk result (λ n. IsSmall (L.form n)) }
-    ensures slots { IsErrOf result Error.OutOfSlots → 2 ^ 30 ≤ place_count (L.form node.now) }
+    ensures slots { IsErrOf result Error.OutOfSlots → slot_limit ≤ place_count (L.form node.now) }
     ensures err { IfErr result IsShortage }
 {
     let small = outline(alloc, node, Slot::numeric_at(0))?;
@@ -59,11 +60,11 @@ impl<L: Language> Outlines<L> {
     /// The outlines of two nodes that agree but for names and children, and None where they do not agree.
     #[inline(never)]
     pub fn new(alloc: Global, one: &L, two: &L) -> Result<Option<Outlines<L>>, Error>
-        ensures outlines { IfOk result (λ o. IfSome o (λ p. AreOutlines (L.form one.now) (L.form two.now) (L.form p.one) (L.form p.two))) }
-        ensures matched { IfOk result (λ o. IfSome o (λ p. AreMatched (L.form p.one) (L.form p.two) (L.form p.skeleton))) }
+        ensures outlines { IfOk result (λ o. IfSome o (λ p. AreOutlinesBy L.form one.now two.now p.one p.two)) }
+        ensures matched { IfOk result (λ o. IfSome o (λ p. AreMatchedBy L.form p.one p.two p.skeleton)) }
         ensures none { IfOk result (λ o. IfNone o (¬ AreAlike (L.form one.now) (L.form two.now))) }
         ensures slots { IsErrOf result Error.OutOfSlots
-            → (2 ^ 30 ≤ place_count (L.form one.now)) ⊎ (2 ^ 30 ≤ place_count (L.form two.now)) }
+            → (slot_limit ≤ place_count (L.form one.now)) ⊎ (slot_limit ≤ place_count (L.form two.now)) }
         ensures err { IfErr result IsShortage }
     {
         let one = small_outline(alloc, one)?;
@@ -95,7 +96,7 @@ impl<L: Language> Outlines<L> {
 
     /// Pushes the binders of the two nodes whose scope has the place `at`, from the outermost in.
     pub fn push_open(&self, at: usize, binders: &mut Binders) -> Result<(), Error>
-        requires matched { AreMatched (L.form self.now.one) (L.form self.now.two) (L.form self.now.skeleton) }
+        requires matched { AreMatchedBy L.form self.now.one self.now.two self.now.skeleton }
         requires within { at ≤ length (L.form self.now.one).names }
         ensures left { IfOk result (λ _. lefts binders.new.items
             ≡ opened at (scopes (L.form self.now.one).tree) (L.form self.now.one).names (lefts binders.old.items)) }
@@ -115,9 +116,9 @@ impl<L: Language> Outlines<L> {
     /// Pushes the binders of the two nodes that are above the child `k`: for a child that is too many, none.
     #[inline(never)]
     pub fn push_above(&self, k: usize, binders: &mut Binders) -> Result<(), Error>
-        requires { AreMatched (L.form self.now.one) (L.form self.now.two) (L.form self.now.skeleton) }
-        ensures left { IfOk result (λ _. lefts binders.new.items ≡ above (L.form self.now.one) (lefts binders.old.items) k) }
-        ensures right { IfOk result (λ _. rights binders.new.items ≡ above (L.form self.now.two) (rights binders.old.items) k) }
+        requires { AreMatchedBy L.form self.now.one self.now.two self.now.skeleton }
+        ensures left { IfOk result (λ _. lefts binders.new.items ≡ lefts_above (L.form self.now.one) binders.old.items k) }
+        ensures right { IfOk result (λ _. rights binders.new.items ≡ rights_above (L.form self.now.two) binders.old.items k) }
         ensures kept { IfOk result (λ _. take (length binders.old.items) binders.new.items ≡ binders.old.items) }
         ensures err { IfErr result IsOutOfMemory }
     {
@@ -130,10 +131,10 @@ impl<L: Language> Outlines<L> {
 
     // Whether the names at the place `i` have one number there.
     fn same_own(&self, i: usize, binders: &mut Binders) -> Result<bool, Error>
-        requires matched { AreMatched (L.form self.now.one) (L.form self.now.two) (L.form self.now.skeleton) }
+        requires matched { AreMatchedBy L.form self.now.one self.now.two self.now.skeleton }
         requires within { i < length (L.form self.now.one).names }
         ensures same { IfOk result (λ b. IsTrue b
-            ↔ (number_at (L.form self.now.one) (lefts binders.old.items) i ≡ number_at (L.form self.now.two) (rights binders.old.items) i)) }
+            ↔ SameNumber (L.form self.now.one) (L.form self.now.two) binders.old.items i) }
         ensures kept { IfOk result (λ _. binders.new.items ≡ binders.old.items) }
         ensures err { IfErr result IsOutOfMemory }
     {
@@ -146,7 +147,7 @@ impl<L: Language> Outlines<L> {
 
     // Whether the place `i` has neither a child nor a binder.
     fn is_own(&self, i: usize) -> bool
-        requires matched { AreMatched (L.form self.now.one) (L.form self.now.two) (L.form self.now.skeleton) }
+        requires matched { AreMatchedBy L.form self.now.one self.now.two self.now.skeleton }
         requires within { i < length (L.form self.now.one).names }
         ensures { IsTrue result ↔ IsOwn (L.form self.now.one).tree i }
     {
@@ -155,11 +156,10 @@ impl<L: Language> Outlines<L> {
 
     // Whether the place `i` is seen alike on both sides.
     fn same_place(&self, i: usize, binders: &mut Binders) -> Result<bool, Error>
-        requires matched { AreMatched (L.form self.now.one) (L.form self.now.two) (L.form self.now.skeleton) }
+        requires matched { AreMatchedBy L.form self.now.one self.now.two self.now.skeleton }
         requires within { i < length (L.form self.now.one).names }
         ensures same { IfOk result (λ b. IsTrue b
-            ↔ (slice_index (owns_seen (L.form self.now.one) (lefts binders.old.items)) i
-            ≡ slice_index (owns_seen (L.form self.now.two) (rights binders.old.items)) i)) }
+            ↔ SamePlace (L.form self.now.one) (L.form self.now.two) binders.old.items i) }
         ensures kept { IfOk result (λ _. binders.new.items ≡ binders.old.items) }
         ensures err { IfErr result IsOutOfMemory }
     {
@@ -173,9 +173,9 @@ impl<L: Language> Outlines<L> {
     /// Whether the nodes' own names have the same numbers below the binders.
     #[inline(never)]
     pub fn same_owns(&self, binders: &mut Binders) -> Result<bool, Error>
-        requires { AreMatched (L.form self.now.one) (L.form self.now.two) (L.form self.now.skeleton) }
+        requires { AreMatchedBy L.form self.now.one self.now.two self.now.skeleton }
         ensures same { IfOk result (λ b. IsTrue b
-            ↔ (owns_seen (L.form self.now.one) (lefts binders.old.items) ≡ owns_seen (L.form self.now.two) (rights binders.old.items))) }
+            ↔ SameOwns (L.form self.now.one) (L.form self.now.two) binders.old.items) }
         ensures kept { IfOk result (λ _. binders.new.items ≡ binders.old.items) }
         ensures err { IfErr result IsOutOfMemory }
     {

@@ -1,13 +1,15 @@
 use Rattle.std.specs.Prelude.{◌⊎◌, slice_index_or}
-use Rattle.std.proofs.Common.{◌≡◌, ◌≤◌, ◌^◌, length, ap, sym, ◌∙◌, refl, arith, inl, inr, below_more, rules}
+use Rattle.std.proofs.Common.{◌≡◌, ◌≤◌, length, ap, sym, ◌∙◌, refl, arith, inl, inr, below_more, rules, subst}
 use Rattle.std.proofs.lemmas.Bool.{false≢true}
 use Rattle.slotted_theory.specs.Nameless.{nameless_by}
 use Rattle.slotted_theory.specs.Shape.{number_in}
-use Rattle.slotted_languages.specs.Filled.{children_smaller}
 use Rattle.slotted_terms.specs.Seen.{AreTerms, place_count, children_seen, lefts, rights}
-use Rattle.slotted_theory.specs.Term.{term_size}
+use Rattle.slotted_theory.specs.Term.{Term}
+use Rattle.slotted_slots.specs.Table.{slot_limit}
+use Rattle.slotted_terms.specs.LargeNodes.{node_places, HasLargeNode}
+use Rattle.slotted_terms.proofs.LargeNodes.{large_at, large_below, place_count-places}
 use Rattle.slotted_terms.proofs.Seen.{child_same, row_seen_same}
-use Rattle.slotted_terms.proofs.Alike.{alike, term_same, place_count-term}
+use Rattle.slotted_terms.proofs.Alike.{alike, term_same}
 use Rattle.slotted_terms.proofs.Matched.{IfOk-same}
 use Rattle.slotted_terms.proofs.expr.+alpha.Goals as goal
 
@@ -46,10 +48,10 @@ pub RecExpr::alpha_eq_under-returns-in_err-nodes-clause-slots :
 RecExpr::alpha_eq_under-returns-in_err-nodes-clause-slots g t c = λ h.
     let a = g.L.LanguageChildren.form c.self.inside.node in
     let b = g.L.LanguageChildren.form c.other.inside.node in
-    let k : (2 ^ 30 ≤ place_count a) ⊎ (2 ^ 30 ≤ place_count b) = search rules in
+    let k : (slot_limit ≤ place_count a) ⊎ (slot_limit ≤ place_count b) = search rules in
     elim k [
-      | inl l ↦ inl (omega (arith, l, place_count-term a c.self.inside.children.items, ap term_size c.self.view_is))
-      | inr l ↦ inr (omega (arith, l, place_count-term b c.other.inside.children.items, ap term_size c.other.view_is))
+      | inl l ↦ inl (inl (omega (arith, l, place_count-places a c.self.inside.children.items, ap (λ (t : Term). node_places t.args) c.self.view_is)))
+      | inr l ↦ inr (inl (omega (arith, l, place_count-places b c.other.inside.children.items, ap (λ (t : Term). node_places t.args) c.other.view_is)))
     ]
 
 pub RecExpr::alpha_eq_under-returns-then-not-branch-clause-same :
@@ -94,8 +96,8 @@ RecExpr::alpha_eq_under-returns-clause-slots g t c = λ h.
     let b = g.L.LanguageChildren.form c.other.inside.node in
     let k = rw (c.deref-3.ensures.value, c.deref-4.ensures.value) at c.alpha_eq_children.ensures.slots h in
     elim k [
-      | inl l ↦ inl (omega (arith, l, children_smaller a c.self.inside.children.items, ap term_size c.self.view_is))
-      | inr l ↦ inr (omega (arith, l, children_smaller b c.other.inside.children.items, ap term_size c.other.view_is))
+      | inl l ↦ inl (subst HasLargeNode c.self.view_is (large_below a c.self.inside.children.items l))
+      | inr l ↦ inr (subst HasLargeNode c.other.view_is (large_below b c.other.inside.children.items l))
     ]
 
 pub alpha_eq_children-returns-then-not-branch-clause-same :
@@ -111,6 +113,15 @@ alpha_eq_children-returns-then-not-branch-clause-same g t c =
       λ h. absurd (false≢true (sym c.if-not-branch.true
           ∙ c.in_ok-alpha_eq_child.ensures.same.1 (same.1 (λ d. ap (λ l. slice_index_or l k d) (ap (λ qs. children_seen f (lefts qs) c.args.ones.now) e ∙ (h ∙ ap (λ qs. children_seen n (rights qs) c.args.twos.now) (sym e))))))),
     )
+
+pub alpha_eq_children-returns-in_err-alpha_eq_child-clause-slots :
+    goal.alpha_eq_children-returns-in_err-alpha_eq_child-clause-slots
+alpha_eq_children-returns-in_err-alpha_eq_child-clause-slots g t c = λ h.
+    let k : HasLargeNode c.index-ones-k.result ⊎ HasLargeNode c.index-twos-k.result = search rules in
+    elim k [
+      | inl l ↦ inl (large_at c.args.ones.now c.loop-k.k c.index-ones-k.result (omega arith) c.index-ones-k.is l)
+      | inr l ↦ inr (large_at c.args.twos.now c.loop-k.k c.index-twos-k.result (omega (arith, c.requires.count)) c.index-twos-k.is l)
+    ]
 
 pub alpha_eq_children-loop-k-preserved : goal.alpha_eq_children-loop-k-preserved
 alpha_eq_children-loop-k-preserved g t c =
