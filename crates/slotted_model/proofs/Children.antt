@@ -28,7 +28,7 @@ moved_args-places : (f : ℕ → ℕ) (xs : List ℕ) → moved_args f (in_place
 moved_args-places f [] = refl
 moved_args-places f (x ∷ xs) = ap (place (f x)) (moved_args-places f xs)
 
-free_names-places : (xs : List ℕ) → free_names (in_places xs) ≡ xs
+pub free_names-places : (xs : List ℕ) → free_names (in_places xs) ≡ xs
 free_names-places [] = refl
 free_names-places (x ∷ xs) = ap (λ l. x ∷ l) (free_names-places xs)
 

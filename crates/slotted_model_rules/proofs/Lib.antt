@@ -7,3 +7,6 @@ pub mod Instantiating
 pub mod Walking
 pub mod Answering
 pub mod PatternExamples
+pub mod AllSlots
+pub mod Beside
+pub mod Completing

@@ -108,7 +108,7 @@ module _ (g : State) (rest : AtRest g) (σ : List ℕ → Applied) where
 
   mutual
     -- what is looked up matches
-    looked-pattern : (ρ : ℕ → ℕ) → IsInjective ρ → (p : Pattern) → EachVariable (λ v. IsValidIn g (σ v)) p → (x : Applied) → look_up_pattern g ρ σ p ≡ Some x →
+    pub looked-pattern : (ρ : ℕ → ℕ) → IsInjective ρ → (p : Pattern) → EachVariable (λ v. IsValidIn g (σ v)) p → (x : Applied) → look_up_pattern g ρ σ p ≡ Some x →
         IsFoundId g x × ((a : Applied) → find g.found a ≡ x → Matches g ρ σ p a)
     looked-pattern ρ inj (pattern_node op payloads args) h x e =
         let q : (found : DArgs) × (look_up_arguments g ρ σ args ≡ Some found) × (look_up_node g (node op payloads found) ≡ Some x) =
@@ -134,7 +134,7 @@ module _ (g : State) (rest : AtRest g) (σ : List ℕ → Applied) where
         (subst (IsFoundId g) found (found-valid g.nodes g.found finds b valid, found-again g.nodes g.found finds b valid), λ a f. found ∙ sym f)
     looked-pattern ρ inj (replacing body part value) h x e = absurd (None-Some x e)
 
-    looked-arguments : (ρ : ℕ → ℕ) → IsInjective ρ → (args : PatternArgs) → EachVariableIn (λ v. IsValidIn g (σ v)) args → (d : DArgs) → look_up_arguments g ρ σ args ≡ Some d →
+    pub looked-arguments : (ρ : ℕ → ℕ) → IsInjective ρ → (args : PatternArgs) → EachVariableIn (λ v. IsValidIn g (σ v)) args → (d : DArgs) → look_up_arguments g ρ σ args ≡ Some d →
         EachChild (IsFoundId g) d × MatchesArguments g ρ σ args d
     looked-arguments ρ inj no_argument h d e =
         let q : stop ≡ d = Some-same stop d e in

@@ -5,3 +5,4 @@ pub mod Instances
 pub mod PatternClaims
 pub mod Matcher
 pub mod MatcherClaims
+pub mod Complete
