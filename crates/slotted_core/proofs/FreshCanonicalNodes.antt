@@ -1,5 +1,5 @@
 -- The canonical node of a new class: the shape with fresh slots for the numbers of its free names has that shape.
-use Rattle.std.proofs.Common.{◌≡◌, ◌≢◌, ℕ, zero, suc, List, [], ◌∷◌, ◌++◌, Option, Some, None, length, take, drop, map, cond, sym, ◌∙◌, ap, refl, subst, arith, inl, inr}
+use Rattle.std.proofs.Common.{◌≡◌, ◌≢◌, ◌≤◌, ◌+◌, ℕ, zero, suc, length-append, List, [], ◌∷◌, ◌++◌, Option, Some, None, length, take, drop, map, cond, sym, ◌∙◌, ap, refl, subst, arith, inl, inr}
 use Rattle.std.specs.Prelude.{slice_index, unwrap_or}
 use Rattle.std.proofs.lemmas.Bool.{cases_eq, eq-eqb, ne_eqb}
 use Rattle.std.proofs.lemmas.List.{map-append}
@@ -88,6 +88,30 @@ numeric-shape f = numeric-numbered [] no_numbers (nameless_node f).args numeric_
 
 pub length-shape : (f : Form) → Fits f → length (shape f).0.names ≡ length f.names
 length-shape f h = length-numbers [] no_numbers (λ x. x) f.tree f.names h ∙ sym h
+
+-- a node has no more free names than places
+
+length-number_at : (ns : List ℕ) (k : Numbers) (x : ℕ) → length (number_at ns k x).1.free ≤ suc (length k.free)
+length-number_at [] k x = one_more (number_of k.free x)
+  where
+    one_more : (o : Option ℕ) → length (free_number o k x).1.free ≤ suc (length k.free)
+    one_more (Some n) = omega arith
+    one_more None = omega (arith, length-append k.free ((numeric_slot k.next, x) ∷ []))
+length-number_at (n ∷ ns) k zero = omega arith
+length-number_at (n ∷ ns) k (suc x) = length-number_at ns k x
+
+length-numbered : (ns : List ℕ) (k : Numbers) (a : DArgs) → length (numbered ns k a).1.free ≤ length k.free + length (names_in (numbered ns k a).0)
+length-numbered ns k stop = omega arith
+length-numbered ns k (place x rest) = omega (arith, length-number_at ns k x, length-numbered ns (number_at ns k x).1 rest)
+length-numbered ns k (sub op payloads args rest) =
+    let a = numbered ns k args in
+    omega (arith, length-append (names_in a.0) (names_in (numbered ns a.1 rest).0), length-numbered ns k args, length-numbered ns a.1 rest)
+length-numbered ns k (scope inner rest) =
+    let i = numbered (numeric_slot k.next ∷ ns) (past_binder k) inner in
+    omega (arith, length-append (names_in i.0) (names_in (numbered ns i.1 rest).0), length-numbered (numeric_slot k.next ∷ ns) (past_binder k) inner, length-numbered ns i.1 rest)
+
+pub length-free : (f : Form) → Fits f → length (shape f).1 ≤ length f.names
+length-free f h = omega (arith, length-shape f h, length-numbered [] no_numbers (nameless_node f).args)
 
 -- renaming the places renames the term
 

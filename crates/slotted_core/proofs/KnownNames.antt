@@ -1,6 +1,6 @@
 -- The names of an answer are names of the node, so the table knows them.
 use Rattle.std.proofs.Common.{◌≡◌, ℕ, zero, suc, List, [], ◌∷◌, length, take, drop, map, sym, ◌∙◌, ap, refl, subst, arith, inl, inr}
-use Rattle.std.specs.Prelude.{slice_index, slice_index_or, Some, All, IsTrue}
+use Rattle.std.specs.Prelude.{slice_index, slice_index_or, Option, None, Some, option_map, IfSome, All, IsTrue}
 use Rattle.std.proofs.lemmas.Bool.{cases_eq}
 use Rattle.slotted_theory.specs.Term.{Args, Term, done, name}
 use Rattle.slotted_theory.specs.Term as term
@@ -24,6 +24,9 @@ use Rattle.slotted_model.proofs.Ids.{id_of_node-some}
 use Rattle.slotted_slots.specs.Table.{Table, is_known}
 use Rattle.slotted_model.specs.Ascending.{names}
 use Rattle.slotted_terms.specs.Valid.{AllKnown, HasKnownNames}
+use Rattle.slotted_slots.specs.declared.types.AppliedId.{AppliedId}
+use Rattle.slotted_core.specs.Graph.{Graph, IsValidId, id_of_form, StandsForNode}
+use Rattle.slotted_core.specs.Nodes.{to_applied}
 use Rattle.slotted_core.proofs.NameMaps.{In-at, at_In}
 
 In-take : (n : ℕ) (xs : List ℕ) (x : ℕ) → In x (take n xs) → In x xs
@@ -107,6 +110,19 @@ module _ (g : List DTerm) (f : Form) (a : Applied) (found : id_of_node g (namele
       let v = slice_index_or (values a.1) k d in
       let r = free_from (λ x. x) f.tree f.names hf v (value_free v (In-at (values a.1) k d l)) in
       subst P (sym r.2) (at_In P f.names all r.0 r.1)
+
+-- what a look-up in a graph answers can be handed on, and stands for the node
+module _ (g : Graph) (f : Form) where
+  pub looked_up-valid : Fits f → AllKnown g.table f.names → (o : Option AppliedId) → option_map to_applied o ≡ id_of_form g f → IfSome o (λ a. IsValidId g (to_applied a))
+  looked_up-valid hf known None e = tt
+  looked_up-valid hf known (Some a) e = record {
+    full = answer_full g.image.canonical f (to_applied a) (sym e);
+    known = answer_names g.image.canonical f (to_applied a) (sym e) hf (λ s. IsTrue (is_known g.table s)) known;
+  }
+
+  pub looked_up-term : Canonical g.image.canonical → (o : Option AppliedId) → option_map to_applied o ≡ id_of_form g f → IfSome o (λ a. StandsForNode g (to_applied a) f)
+  looked_up-term can None e = tt
+  looked_up-term can (Some a) e = answer_term g.image.canonical f (to_applied a) (sym e) can
 
 -- the free names of a term are names in it
 term_free : (t : Table) (ρ : ℕ → ℕ) (a : Args) → HasKnownNames t a → (y : ℕ) → In y (free_names (nameless_args ρ a)) → (x : ℕ) × IsTrue (is_known t x) × (y ≡ ρ x)

@@ -33,6 +33,9 @@ pub mod ChildReplacement
 pub mod CallerLemmas
 pub mod Layers
 pub mod FoundParts
+pub mod Filing
+pub mod Tables
 pub mod TermAddition
 pub mod ValidTerms
 pub mod Sizes
+pub mod TermSlots

@@ -34,7 +34,7 @@ use Rattle.slotted_model.proofs.Maps.{In-values}
 use Rattle.slotted_model.proofs.Children.{EachChild-moved}
 use Rattle.slotted_model.proofs.Full.{full-renamed}
 use Rattle.slotted_model.proofs.NormalIds.{keys-identity}
-use Rattle.slotted_model.proofs.Growing.{added, node-old, node-new, Extends-same}
+use Rattle.slotted_model.proofs.Growing.{added, node-new, Extends-same}
 use Rattle.slotted_model.proofs.Keeping.{new_class-sound, new_class-asserted}
 use Rattle.slotted_model.proofs.NewClasses.{later-newer}
 use Rattle.slotted_proofs.specs.Equations.{Statement}
@@ -56,7 +56,7 @@ use Rattle.slotted_core.proofs.InUse.{new_class-in_use, new_class-lives}
 use Rattle.slotted_core.proofs.KeptLists.{length-entries_of, length-proofs_of, equation_at-of, found_id-is}
 use Rattle.slotted_core.proofs.NewClass.{full-finds}
 use Rattle.slotted_core.proofs.NamePairs.{ascending-values, between-moved}
-use Rattle.slotted_core.proofs.FreshCanonicalNodes.{fits_put, shape-put}
+use Rattle.slotted_core.proofs.FreshCanonicalNodes.{fits_put, shape-put, length-free}
 
 -- lists with one element more
 
@@ -119,6 +119,7 @@ adds_none t k good over f hf r e =
       extends = Extends-same (nodes_of k);
       adds = adds-nothing k;
       found = p;
+      filed = λ i past within. absurd (omega (arith, past, within));
       kept = λ s. refl;
       made = λ n. absurd (false≢true (ap is_some (sym n ∙ p)));
     }
@@ -296,6 +297,8 @@ module _ (t u : Table) (k : Kept) (good : Good k) (over : HasFreshSlots t k) (f 
   adds_class = record {
     more = entry ∷ [];
     entries = proofs_are;
+    more_stored = own_entry ∷ [];
+    stored = stands_last.1;
     asserted = nothing_asserted;
     finds = λ a full.
         let h : a.0 < length k.classes = let m : length g ≡ n = length-classes k in let o : a.0 < length g = full.in_range in omega arith in
@@ -326,6 +329,7 @@ module _ (t u : Table) (k : Kept) (good : Good k) (over : HasFreshSlots t k) (f 
     extends = extends;
     adds = adds_class;
     found = found_more;
+    filed = λ i past within. ((n, between slots (shape f).1), last i past within, found_more);
     kept = λ s. absurd (false≢true (sym (ap is_some none_before) ∙ s));
     made = λ p. record {
       node = d;
@@ -334,6 +338,10 @@ module _ (t u : Table) (k : Kept) (good : Good k) (over : HasFreshSlots t k) (f 
       fresh = λ s b. fresh_last s (In-Contains (names d) s (subst (λ (x : List ℕ). Contains x s) (ap (λ (i : ℕ). canonical_slots (nodes_of l) i) (length-classes k) ∙ slots_last) b));
     };
   }
+    where
+      -- one class is new
+      last : (i : ℕ) → length g ≤ i → i < length (nodes_of l) → n ≡ i
+      last i past within = let c : length g ≡ n = length-classes k in omega (arith, past, within, one_more, c)
 
 -- what the code reads: the shape s with its names m
 
@@ -354,3 +362,10 @@ class_adds t u k l good over f hf full a slots s m e =
     subst (ClassAdds t u k l f a slots) (sym e)
     (λ none ks vs mv made ea. subst (λ (x : Kept × Applied). Adds t u k x.0 f x.1) (λ i. (sym made.class i, sym ea i))
     (adds_one t u k good over f hf full (sym none) slots ks vs mv made.proofs made.proof made.enters))
+
+-- the slots of a new class are no more than the places of its node
+
+pub shape-places : (f : Form) → Fits f → (s : Form) (m slots : List (ℕ × ℕ)) → ◌≡◌ {A = Form × List (ℕ × ℕ)} (s, m) (shape f) → slots ≡ m → length slots ≤ length f.names
+shape-places f hf s m slots e copied =
+    let n : length slots ≡ length (shape f).1 = ap length copied ∙ ap (λ (x : Form × List (ℕ × ℕ)). length x.1) e in
+    omega (arith, n, length-free f hf)

@@ -1,5 +1,5 @@
 -- Adding a term from below: the ids of the children stand in the node so far.
-use Rattle.std.proofs.Common.{◌≡◌, ◌<◌, ◌≤◌, ℕ, zero, suc, ◌+◌, List, [], ◌∷◌, length, get_or, sym, ◌∙◌, ap, refl, subst, arith, inl, inr}
+use Rattle.std.proofs.Common.{◌≡◌, ◌<◌, ◌≤◌, ℕ, zero, suc, ◌+◌, List, [], ◌∷◌, length, get_or, Some, sym, ◌∙◌, ap, refl, subst, arith, inl, inr}
 use Rattle.std.specs.Prelude.{slice_set, slice_index_or, All, IsSome}
 use Rattle.std.proofs.lemmas.Bool.{cases_eq}
 use Rattle.slotted_theory.specs.Term.{Args, Term, done}
@@ -17,14 +17,17 @@ use Rattle.slotted_model.specs.Classes.{terms, term_of, layer_of, IsFull, Canoni
 use Rattle.slotted_model.specs.Growth.{Extends}
 use Rattle.slotted_model.proofs.Growing.{Extends-same, Extends-then}
 use Rattle.slotted_model.specs.Ids.{id_of}
+use Rattle.slotted_model.proofs.Ids.{id_of-iff}
 use Rattle.slotted_core.specs.Image.{Image, AddsClasses}
 use Rattle.slotted_core.specs.Kept.{Kept, nodes_of, image_of, Good, HasFreshSlots, Adds, AddsTerm}
 use Rattle.slotted_core.specs.Nodes.{child_ids}
 use Rattle.slotted_core.specs.Places.{args_places, term_places}
+use Rattle.slotted_core.specs.Subterms.{IsSubterm}
 use Rattle.slotted_core.proofs.NodeAddition.{full_children}
 use Rattle.slotted_core.proofs.Images.{adds-nothing, adds-then}
 use Rattle.slotted_core.proofs.Children.{length-ids, zip-keys_values}
 use Rattle.slotted_core.proofs.KnownNames.{answer_full, answer_term}
+use Rattle.slotted_core.proofs.Filing.{Files, of_child, files-nothing, files-then, files-more, files-node}
 use Rattle.slotted_core.proofs.FoundParts.{children_found, node_has_id}
 use Rattle.slotted_core.proofs.Layers.{match-from, expand-filled, each_at}
 use Rattle.slotted_core.proofs.NameMaps.{length-keys, length-values}
@@ -41,6 +44,7 @@ pub record IsPart (k : Kept) (t : Table) (l : Kept) (f h : Form) (us : List Term
   pub payloads : h.payloads ≡ f.payloads
   pub count : length (children h.tree) ≡ length (children f.tree)
   pub outline : (vs : List Term) → length vs ≡ length (children f.tree) → filled h.tree h.names vs ≡ filled f.tree f.names vs
+  pub filed : Files (nodes_of k) (nodes_of l) (form.term_of f us)
   pub kept : IsSome (id_of (nodes_of k) (nameless (form.term_of f us))) → image_of l ≡ image_of k
   pub ids : (j : ℕ) (d : Applied) (e : Term) → j < i → IsFull (nodes_of l) (slice_index_or (child_ids h) j d) × (term_of (nodes_of l) (slice_index_or (child_ids h) j d) ≡ nameless (slice_index_or us j e))
 
@@ -54,6 +58,7 @@ part_start k t good fresh f us = record {
   payloads = refl;
   count = refl;
   outline = λ vs n. refl;
+  filed = files-nothing (nodes_of k) (form.term_of f us);
   kept = λ s. refl;
   ids = λ j d e l. absurd (omega arith);
 }
@@ -86,6 +91,9 @@ part_step k can t v l m f h us nu i a u fits p lt at add =
       payloads = p.payloads;
       count = o ∙ p.count;
       outline = λ vs z. q.1 vs (z ∙ sym p.count) ∙ p.outline vs z;
+      filed = files-then (nodes_of k) (nodes_of l) (nodes_of m) (form.term_of f us) add.extends p.filed
+          (files-more (nodes_of l) (nodes_of m) (form.term_of f us) u
+          (λ s h. of_child s f us i u (omega (arith, lt, nu)) (subst (IsSubterm s) (sym (at u)) h)) add.filed);
       kept = λ s.
           let same = p.kept s in
           let of_part : IsSome (id_of (nodes_of k) (nameless u)) =
@@ -129,9 +137,10 @@ part_end k can t v l m f h us a fits p n add = record {
   fresh_slots = add.fresh_slots;
   extends = Extends-then (nodes_of k) (nodes_of l) (nodes_of m) p.extends add.extends;
   adds = adds-then (image_of k) (image_of l) (image_of m) p.extends p.adds add.adds;
-  full = answer_full (nodes_of m) h a add.found;
-  term = answer_term (nodes_of m) h a add.found add.good.sound.canonical
-      ∙ (add.extends.layers (nameless_node h) (full_children (nodes_of l) h fits (part_full k t l f h us p n)) ∙ part_layer k t l f h us fits p n);
+  full = full;
+  term = stands;
+  filed = files-then (nodes_of k) (nodes_of l) (nodes_of m) (form.term_of f us) add.extends p.filed
+      (files-node (nodes_of l) (nodes_of m) (nameless_node h) (form.term_of f us) a add.found looked_up add.filed);
   kept = λ s.
       let same = p.kept s in
       let here : IsSome (id_of (nodes_of l) (nameless (form.term_of f us))) = subst (λ (x : Image). IsSome (id_of x.canonical (nameless (form.term_of f us)))) (sym same) s in
@@ -140,6 +149,17 @@ part_end k can t v l m f h us a fits p n add = record {
       let filed = node_has_id (nodes_of l) c (nameless_node h) children (nameless (form.term_of f us)) (part_layer k t l f h us fits p n) here in
       add.kept filed ∙ same;
 }
+  where
+    full : IsFull (nodes_of m) a
+    full = answer_full (nodes_of m) h a add.found
+
+    stands : term_of (nodes_of m) a ≡ nameless (form.term_of f us)
+    stands =
+        answer_term (nodes_of m) h a add.found add.good.sound.canonical
+        ∙ (add.extends.layers (nameless_node h) (full_children (nodes_of l) h fits (part_full k t l f h us p n)) ∙ part_layer k t l f h us fits p n)
+
+    looked_up : id_of (nodes_of m) (nameless (form.term_of f us)) ≡ Some a
+    looked_up = (id_of-iff (nodes_of m) add.good.sound.canonical (nameless (form.term_of f us)) a).1 (full, stands)
 
 -- the node has no more places than the term
 pub part_size : (k : Kept) (t : Table) (l : Kept) (f h : Form) (us : List Term) → Fits h → IsPart k t l f h us (length us) → length us ≡ length (children f.tree) → length h.names ≤ term_places (form.term_of f us)

@@ -3,22 +3,26 @@
 --     FoundAlike g a b    a and b find the same
 --     asserted_in g       the pairs of canonical terms of the explicit entries
 --     AreDerivable g a b  the terms of a and b are derivable from these
+--     SaysEqual, SaysDerivable, SaysTerms       what an answer to `eq` says of the terms
 --     AddsClasses g h     nothing but new classes
+--     NewClassesAre       each new class is that of an id of which P holds
 --     Continues g h       what was proved and found alike stays so
 --     Asserts g h e       the equation e is asserted, if it was not proved
 --     Records g h x       x is an entry now, with its step and its text, if its equation was not proved
 --     CanUnite g a b      a and b find different classes with the same names
 --     IsUnion g h a b y   a union answers y
 --     IsNoUnion g a b     a union is refused for now
-use Rattle.std.specs.Prelude.{◌≡◌, ℕ, ◌<◌, ◌≤◌, ◌^◌, ◌⊎◌, List, [], ◌∷◌, ◌++◌, length, map, slice_index_or, refl, ◌≢◌, ◌↔◌, Bool, true, false, Contains}
+use Rattle.std.specs.Prelude.{◌≡◌, ℕ, ◌<◌, ◌≤◌, ◌^◌, ◌⊎◌, List, [], ◌∷◌, ◌++◌, length, map, slice_index_or, refl, ◌≢◌, ◌↔◌, Bool, true, false, Contains, IsTrue, Option, Some, String, option_map, string_bytes}
 use Rattle.std.specs.Coded.{Coded, code_by, coded×, coded_ℕ, coded_list}
 use Rattle.slotted_theory.specs.Term.{Term}
 use Rattle.slotted_theory.specs.Nameless.{DTerm, nameless}
-use Rattle.slotted_theory.specs.Derives.{Derives, nameless_pair}
+use Rattle.slotted_theory.specs.Derives.{Derives, Equal, nameless_pair}
 use Rattle.slotted_model.specs.Applied.{Applied, values}
 use Rattle.slotted_model.specs.Classes.{canonical_slots, term_of, IsFull}
 use Rattle.slotted_model.specs.Correspondence.{composite}
+use Rattle.slotted_model.specs.Ids.{id_of_node, id_of}
 use Rattle.slotted_model.specs.ProofList.{Equation, ProofEntry, equation_of, equation_at, term_pair, asserted}
+use Rattle.slotted_core.specs.Subterms.{IsSubterm}
 use Rattle.slotted_core.specs.TermCode.{nameless_code}
 use Rattle.slotted_proofs.specs.Entries.{Proven, proven_at}
 use Rattle.slotted_core.specs.EntryCode.{pairs_code, proof_entry_code, proven_code}
@@ -55,16 +59,45 @@ asserted_in g = asserted g.canonical g.entries
 abbrev pub AreDerivable : Image → Applied → Applied → Type 0
 AreDerivable g a b = (E : List (Term × Term)) (t u : Term) → map nameless_pair E ≡ asserted_in g → nameless t ≡ term_of g.canonical a → nameless u ≡ term_of g.canonical b → Derives E t u
 
+-- a yes says that by the asserted list the terms of a and b are equal
+abbrev pub SaysEqual : Image → Applied → Applied → Bool → Type 0
+SaysEqual g a b y = IsTrue y → Equal (asserted_in g) (term_of g.canonical a) (term_of g.canonical b)
+
+-- a yes says that they are derivable
+abbrev pub SaysDerivable : Image → Applied → Applied → Bool → Type 0
+SaysDerivable g a b y = IsTrue y → AreDerivable g a b
+
+-- where nothing is asserted the answer is yes exactly if a and b stand for one term
+abbrev pub SaysTerms : Image → Applied → Applied → Bool → Type 0
+SaysTerms g a b y = asserted_in g ≡ [] → IsTrue y ↔ (term_of g.canonical a ≡ term_of g.canonical b)
+
 -- an entry has this equation
 abbrev pub StandsIn : Image → Equation → Type 0
 StandsIn g e = (p : ℕ) × (p < length g.entries) × (equation_at g.entries p ≡ e)
 
--- classes are added, and nothing else: the proof list grows at its end, nothing is asserted, and each id finds what it found
+-- classes are added, and nothing else: the proof list grows at its end, so that each entry stays with its slots and its text, nothing
+-- is asserted, and each id finds what it found
 pub record AddsClasses (g h : Image) : Type 0 where
   pub more : List ProofEntry
   pub entries : h.entries ≡ g.entries ++ more
+  pub more_stored : List Proven
+  pub stored : h.stored ≡ g.stored ++ more_stored
   pub asserted : asserted_in h ≡ asserted_in g
   pub finds : (a : Applied) → IsFull g.canonical a → found_id h a ≡ found_id g a
+
+-- each class of the newer canonical nodes that the older ones do not have is that of an id of which P holds
+abbrev pub NewClassesAre : List DTerm → List DTerm → (Applied → Type 0) → Type 0
+NewClassesAre older newer P = (i : ℕ) → length older ≤ i → i < length newer → (a : Applied) × (a.0 ≡ i) × P a
+
+-- the node is looked up as the id
+abbrev pub IsIdOfNode : List DTerm → DTerm → Applied → Type 0
+IsIdOfNode nodes d a = id_of_node nodes d ≡ Some a
+
+-- a subterm of t is looked up as the id
+pub record IsIdOfSubterm (nodes : List DTerm) (t : Term) (a : Applied) : Type 0 where
+  pub subterm : Term
+  pub stands : IsSubterm subterm t
+  pub found : id_of nodes (nameless subterm) ≡ Some a
 
 -- the proof list grows at its end, and ids that find alike still do
 pub record Continues (g h : Image) : Type 0 where
@@ -91,6 +124,10 @@ pub record Records (g h : Image) (x : Proven) : Type 0 where
   pub more : List Proven
   pub stored : h.stored ≡ g.stored ++ more
   pub entered : StandsIn g x.statement.equation ⊎ IsNewEntry g h x
+
+-- the text of a union, if there is one
+abbrev pub text_bytes : {Z : Type 0} → Option (String Z) → Option (List ℕ)
+text_bytes text = option_map string_bytes text
 
 -- the ids find different classes with the same names
 pub record CanUnite (g : Image) (a b : Applied) : Type 0 where

@@ -6,17 +6,19 @@
 --     image_of k     what contracts see of it
 --     found rs f     what is filed for a shape
 --     Good k         what holds of each graph that has not failed
-use Rattle.std.specs.Prelude.{◌≡◌, ◌⊎◌, ℕ, suc, ◌<◌, List, [], ◌∷◌, ◌++◌, length, map, set, Bool, true, false, Option, Some, None, cond, Contains, IsSome, slice_index_or, refl}
+use Rattle.std.specs.Prelude.{◌≡◌, ◌⊎◌, ℕ, suc, ◌+◌, ◌<◌, ◌≤◌, All, List, [], ◌∷◌, ◌++◌, length, map, set, Bool, true, false, Option, Some, None, cond, Contains, IsSome, slice_index_or, refl}
 use Rattle.std.specs.Coded.{Coded, code_by, coded×, coded_ℕ, coded_list}
-use Rattle.slotted_slots.specs.Table.{Table, empty_table}
+use Rattle.slotted_slots.specs.declared.types.AppliedId.{AppliedId}
+use Rattle.slotted_slots.specs.Table.{Table, empty_table, slot_limit}
 use Rattle.slotted_theory.specs.Term.{Term}
 use Rattle.slotted_theory.specs.Nameless.{DTerm, nameless}
-use Rattle.slotted_nodes.specs.Form.{Form, leaf}
+use Rattle.slotted_nodes.specs.Form.{Form, leaf, IsSmall}
 use Rattle.slotted_languages.specs.NodeTerm.{nameless_node}
 use Rattle.slotted_languages.specs.Shape.{shape, Fits}
-use Rattle.slotted_model.specs.Applied.{Applied, keys}
+use Rattle.slotted_terms.specs.Valid.{AllKnown}
+use Rattle.slotted_model.specs.Applied.{Applied, keys, values}
 use Rattle.slotted_model.specs.Classes.{canonical_slots, term_of, IsFull}
-use Rattle.slotted_model.specs.Find.{Entry, IsLive, find_class, find_map}
+use Rattle.slotted_model.specs.Find.{Entry, IsLive, find_class, find_map, find}
 use Rattle.slotted_model.specs.Growth.{Extends}
 use Rattle.slotted_model.specs.Ids.{id_of_node, id_of}
 use Rattle.slotted_model.specs.Link.{IsLater}
@@ -28,8 +30,11 @@ use Rattle.slotted_proofs.specs.Proving.{IsProved}
 use Rattle.slotted_core.specs.EntriesInUse.{FindOneClass, AllInUse}
 use Rattle.slotted_core.specs.EntryCode.{entry_code, proven_code}
 use Rattle.slotted_core.specs.FormCode.{form_code, form_is}
-use Rattle.slotted_core.specs.Image.{Image, FoundAlike, CanUnite, AddsClasses, Continues, Asserts, Records, StandsIn}
+use Rattle.slotted_core.specs.Image.{Image, FoundAlike, CanUnite, AddsClasses, NewClassesAre, IsIdOfNode, IsIdOfSubterm, Continues, Asserts, Records, StandsIn}
 use Rattle.slotted_core.specs.Names.{between, with_put}
+use Rattle.slotted_core.specs.Nodes.{child_ids, to_applied}
+use Rattle.slotted_core.specs.declared.kernel.Class.{Class}
+use Rattle.slotted_core.specs.declared.kernel.Row.{Row}
 use Rattle.slotted_core.specs.Graph.{IsFreshBetween, HasNewClass}
 
 -- a canonical node, with the find entry of its class
@@ -76,6 +81,10 @@ find_at k i = (class_at k i).1
 abbrev pub nodes_of : Kept → List DTerm
 nodes_of k = map (λ c. nameless_node c.0) k.classes
 
+-- what a node is looked up as
+abbrev pub id_in : Kept → Form → Option Applied
+id_in k f = id_of_node (nodes_of k) (nameless_node f)
+
 -- the find entries
 abbrev pub entries_of : Kept → List Entry
 entries_of k = map (λ c. c.1) k.classes
@@ -88,6 +97,10 @@ proofs_of k = list.entries_of k.proofs
 abbrev pub finds_from : List Entry → ℕ → List Entry → List Applied
 finds_from found i [] = []
 finds_from found i (e ∷ es) = (find_class found i, find_map found i) ∷ finds_from found (suc i) es
+
+-- two ids find the same
+abbrev pub FindAlike : List Entry → Applied → Applied → Type 0
+FindAlike found a b = find found a ≡ find found b
 
 -- what contracts see of it
 abbrev pub image_of : Kept → Image
@@ -132,10 +145,34 @@ pub record EntersIn (k l : Kept) (x : Proven) (p : ℕ) : Type 0 where
   pub enters : Enters k.proofs proofs x p
   pub kept : l ≡ with_proofs k proofs
 
+-- the asserted equation of a and b stands at p, with the text if it is new
+abbrev pub EntersAsserted : Kept → Kept → AppliedId → AppliedId → Option (List ℕ) → ℕ → Type 0
+EntersAsserted k l a b text p = EntersIn k l (asserted_entry (to_applied a) (to_applied b) text) p
+
+-- the left slots of what stands at p and the right slots of what stands at q are too many to be numbered
+abbrev pub HasManySlots : Kept → ℕ → ℕ → Type 0
+HasManySlots k p q = slot_limit ≤ length (list.statement_at k.proofs p).left_slots + length (list.statement_at k.proofs q).right_slots
+
 -- the rows of classes from the number i on: each canonical node is filed by its shape
 abbrev pub rows_from : ℕ → List ClassEntry → List RowEntry
 rows_from i [] = []
 rows_from i (c ∷ cs) = ((shape c.0).0, (i, (shape c.0).1)) ∷ rows_from (suc i) cs
+
+-- a class of the code as the lists have it
+abbrev pub class_entry : {A : Type 0} → (A → Form) → Class A → ClassEntry
+class_entry form c = (form c.node, record { class = c.find.id.0; pairs = c.find.m; proof = c.proof; died = c.died })
+
+-- the class of the code is filed by this row
+abbrev pub with_class : {A : Type 0} → (A → Form) → Kept → A → Row → Class A → Kept
+with_class form k shape row class = with_filed k (form shape) (row.source.0, row.names) (class_entry form class)
+
+-- the id is one of a class, with known slots for names
+abbrev pub IsIdOver : Table → Kept → AppliedId → Type 0
+IsIdOver t k a = IsFull (nodes_of k) (to_applied a) × AllKnown t (values a.m)
+
+-- the node has fewer than 2^30 places, known slots, and ids of classes for children
+abbrev pub IsNodeOver : Table → Kept → Form → Type 0
+IsNodeOver t k f = IsSmall f × AllKnown t f.names × All (IsFull (nodes_of k)) (child_ids f)
 
 -- where nothing is asserted, each class leads to itself
 abbrev pub IsUntouched : Kept → Type 0
@@ -162,6 +199,7 @@ pub record Adds (old new : Table) (k l : Kept) (f : Form) (a : Applied) : Type 0
   pub extends : Extends (nodes_of k) (nodes_of l)
   pub adds : AddsClasses (image_of k) (image_of l)
   pub found : id_of_node (nodes_of l) (nameless_node f) ≡ Some a
+  pub filed : NewClassesAre (nodes_of k) (nodes_of l) (IsIdOfNode (nodes_of l) (nameless_node f))
   pub kept : IsSome (id_of_node (nodes_of k) (nameless_node f)) → image_of l ≡ image_of k
   pub made : id_of_node (nodes_of k) (nameless_node f) ≡ None → HasNewClass old new (nodes_of k) (nodes_of l) (nameless_node f)
 
@@ -173,6 +211,7 @@ pub record AddsTerm (new : Table) (k l : Kept) (t : Term) (a : Applied) : Type 0
   pub adds : AddsClasses (image_of k) (image_of l)
   pub full : IsFull (nodes_of l) a
   pub term : term_of (nodes_of l) a ≡ nameless t
+  pub filed : NewClassesAre (nodes_of k) (nodes_of l) (IsIdOfSubterm (nodes_of l) t)
   pub kept : IsSome (id_of (nodes_of k) (nameless t)) → image_of l ≡ image_of k
 
 -- the proof list grew at its end, of which nothing is asserted, by equations whose two classes find one class, and nothing else changed

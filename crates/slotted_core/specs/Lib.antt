@@ -3,13 +3,15 @@ pub mod TermCode
 pub mod EntryCode
 pub mod Names
 pub mod Nodes
+pub mod Subterms
+pub mod Places
 pub mod Image
 pub mod Leaves
 pub mod Graph
+pub mod Reads
 pub mod Checks
 pub mod EntriesInUse
 pub mod Kept
-pub mod Places
 pub mod SmallNodes
 pub mod Canonical
 pub mod Frames

@@ -1,7 +1,8 @@
 -- The children of a node as applied ids.
-use Rattle.std.specs.Prelude.{ℕ, ◌+◌, ◌<◌, ◌≤◌, List, [], ◌∷◌, ◌++◌, length, take, drop}
+use Rattle.std.specs.Prelude.{ℕ, ◌+◌, ◌<◌, ◌≤◌, ◌⊎◌, List, [], ◌∷◌, ◌++◌, length, take, drop, slice_index, IsTrue}
 use Rattle.std.specs.List.{zip}
 use Rattle.slotted_slots.specs.declared.types.AppliedId.{AppliedId}
+use Rattle.slotted_slots.specs.Table.{Table, is_known}
 use Rattle.slotted_nodes.specs.Form.{Form, Tree, leaf, own, child, bind, scopes, children, child_place, width}
 use Rattle.slotted_model.specs.Applied.{Applied}
 
@@ -23,3 +24,11 @@ child_ids f = ids_in f.tree f.names
 -- the place is one of a child
 abbrev pub IsChildPlace : Tree → ℕ → Type 0
 IsChildPlace t i = (k : ℕ) × (k < length (children t)) × (child_place t k ≤ i) × (i < child_place t k + width t k)
+
+-- it is one of a child, or the table knows the slot there
+abbrev pub IsKnownPlace : Table → Form → ℕ → Type 0
+IsKnownPlace t f i = IsChildPlace f.tree i ⊎ IsTrue (is_known t (slice_index f.names i))
+
+-- each place of the node is such a place
+abbrev pub HasKnownPlaces : Table → Form → Type 0
+HasKnownPlaces t f = (i : ℕ) → i < length f.names → IsKnownPlace t f i

@@ -2,8 +2,10 @@
 -- term does not show them: so this speaks of each node that could stand there.
 use Rattle.std.specs.Prelude.{◌≡◌, List}
 use Rattle.slotted_theory.specs.Term.{Args, Term, done, name, child, bind}
+use Rattle.slotted_slots.specs.Table.{Table}
 use Rattle.slotted_nodes.specs.Form.{Form, IsSmall}
 use Rattle.slotted_languages.specs.Filled.{term_of}
+use Rattle.slotted_terms.specs.Valid.{IsValidTerm}
 
 -- each node that stands for the term, over whatever children, has fewer than 2^30 places
 abbrev pub IsSmallAt : {A : Type 0} → (A → Form) → Term → Type 0
@@ -20,3 +22,7 @@ HasSmallParts form (bind x inner rest) = HasSmallParts form inner × HasSmallPar
 -- and of the term itself
 abbrev pub HasSmallNodes : {A : Type 0} → (A → Form) → Term → Type 0
 HasSmallNodes form u = IsSmallAt form u × HasSmallParts form u.args
+
+-- a valid term, at which no node is too large
+abbrev pub IsSmallValidTerm : {A : Type 0} → (A → Form) → Table → Term → Type 0
+IsSmallValidTerm form t u = IsValidTerm t u × HasSmallNodes form u

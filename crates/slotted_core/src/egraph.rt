@@ -1,25 +1,23 @@
 //! The graph that callers see: a failed one refuses every later call.
-ghost use Rattle.std.specs.Prelude.{[], ◌≡◌, ◌≤◌, ◌<◌, ◌↔◌, ◌⊎◌, ◌^◌, length, false, IsTrue, IsOk, IfOk, IfErr, OnOk, IsErr, IsErrOf, IsOkUnless, IsSome, None, Some, option_map, string_bytes};
-ghost use Rattle.std.specs.Str.{chars};
+ghost use Rattle.std.specs.Prelude.{◌≡◌, ◌<◌, ◌↔◌, ◌⊎◌, length, false, IsTrue, IsOk, IfOk, IfErr, OnOk};
+ghost use Rattle.std.specs.Prelude.{IsErr, IsErrOf, IsOkUnless, IsSome, IfSome, None, Some, option_map};
 ghost use Rattle.slotted_slots.specs.Error.{IsShortage};
 ghost use Rattle.slotted_slots.specs.Table.{KnowsMore};
 ghost use Rattle.slotted_theory.specs.Nameless.{nameless};
-ghost use Rattle.slotted_theory.specs.Derives.{Equal};
-ghost use Rattle.slotted_languages.specs.NodeTerm.{nameless_node};
 ghost use Rattle.slotted_model.specs.Growth.{Extends};
-ghost use Rattle.slotted_model.specs.Classes.{IsFull, Canonical, term_of, layer_of};
-ghost use Rattle.slotted_model.specs.Ids.{id_of, id_of_node};
+ghost use Rattle.slotted_model.specs.Classes.{Canonical, term_of};
 ghost use Rattle.slotted_model.specs.ProofList.{Proved};
-ghost use Rattle.slotted_proofs.specs.Entries.{asserted_entry, explicit_numbers};
-ghost use Rattle.slotted_patterns.specs.Outcome.{Answers};
-ghost use Rattle.slotted_terms.specs.Parsed.{TextReads};
-ghost use Rattle.slotted_terms.specs.ReadAgain.{ReadsAsNodes};
+ghost use Rattle.slotted_proofs.specs.Entries.{explicit_numbers};
 ghost use Rattle.slotted_terms.specs.Valid.{IsValidTerm};
-ghost use Rattle.slotted_core.specs.Image.{no_classes, FoundAlike, asserted_in, AreDerivable, AddsClasses, IsUnion, IsNoUnion, Records, HasLargeClass};
-ghost use Rattle.slotted_core.specs.Graph.{IsValidId, IsValidNode, HasNewClass, OnlyReads};
+ghost use Rattle.slotted_core.specs.Image.{no_classes, FoundAlike, SaysEqual, SaysDerivable, SaysTerms, AddsClasses};
+ghost use Rattle.slotted_core.specs.Image.{IsUnion, HasLargeClass, text_bytes};
+ghost use Rattle.slotted_core.specs.Graph.{IsValidId, IsValidNode, id_of_form, id_of_term, StandsForNode, OnlyReads};
+ghost use Rattle.slotted_core.specs.Graph.{MakesClassWhereNone, FilesOnlyNode, FilesOnlySubterms, RecordsUnion};
+ghost use Rattle.slotted_core.specs.Graph.{IsRefusedForNow, MakesAtMost, RunsOutIn, RunsOutForTerm};
 ghost use Rattle.slotted_core.specs.Nodes.{to_applied};
-ghost use Rattle.slotted_core.specs.Places.{term_places};
-ghost use Rattle.slotted_core.specs.SmallNodes.{HasSmallNodes};
+ghost use Rattle.slotted_core.specs.Places.{term_slots};
+ghost use Rattle.slotted_core.specs.Reads.{AnswersTerm, NodesAreRead};
+ghost use Rattle.slotted_core.specs.SmallNodes.{IsSmallValidTerm};
 
 pub mod steps;
 
@@ -133,7 +131,7 @@ impl<L: Language, N: Drop> EGraph<L, N> {
         ensures valid { IsTrue result → IsValidTerm self.now.table term.now }
 
         // No term shows the ids inside its nodes: so a yes is promised where no node that could stand in the term is too large.
-        ensures exact { self.now.failed ≡ false → IsValidTerm self.now.table term.now → HasSmallNodes L.form term.now → IsTrue result }
+        ensures exact { self.now.failed ≡ false → IsSmallValidTerm L.form self.now.table term.now → IsTrue result }
     {
         !self.failed && is_valid_term(&self.table, term)
     }
@@ -142,12 +140,12 @@ impl<L: Language, N: Drop> EGraph<L, N> {
     pub fn eq(&self, a: &AppliedId, b: &AppliedId) -> Result<bool, Error>
         requires left { IsTrue self.now.failed ⊎ IsValidId self.now (to_applied a.now) }
         requires right { IsTrue self.now.failed ⊎ IsValidId self.now (to_applied b.now) }
-        ensures found { IfOk result (λ yes. IsTrue yes ↔ FoundAlike self.now.image (to_applied a.now) (to_applied b.now)) }
+        ensures found { IfOk result (λ y. IsTrue y ↔ FoundAlike self.now.image (to_applied a.now) (to_applied b.now)) }
 
         // A yes is derivable from what was asserted. Where nothing was, it is a yes exactly if the canonical terms are equal.
-        ensures equal { IfOk result (λ yes. IsTrue yes → Equal (asserted_in self.now.image) (term_of self.now.image.canonical (to_applied a.now)) (term_of self.now.image.canonical (to_applied b.now))) }
-        ensures derivable { IfOk result (λ yes. IsTrue yes → AreDerivable self.now.image (to_applied a.now) (to_applied b.now)) }
-        ensures terms { asserted_in self.now.image ≡ [] → IfOk result (λ yes. IsTrue yes ↔ (term_of self.now.image.canonical (to_applied a.now) ≡ term_of self.now.image.canonical (to_applied b.now))) }
+        ensures equal { IfOk result (SaysEqual self.now.image (to_applied a.now) (to_applied b.now)) }
+        ensures derivable { IfOk result (SaysDerivable self.now.image (to_applied a.now) (to_applied b.now)) }
+        ensures terms { IfOk result (SaysTerms self.now.image (to_applied a.now) (to_applied b.now)) }
 
         ensures failed { IsErrOf result Error.Failed ↔ IsTrue self.now.failed }
         ensures only { IsOkUnless result Error.Failed }
@@ -161,7 +159,12 @@ impl<L: Language, N: Drop> EGraph<L, N> {
     /// The class that holds a node's shape, with the node's names put in.
     pub fn lookup(&self, node: &L) -> Result<Option<AppliedId>, Error>
         requires { IsTrue self.now.failed ⊎ IsValidNode self.now (L.form node.now) }
-        ensures class { IfOk result (λ o. option_map to_applied o ≡ id_of_node self.now.image.canonical (nameless_node (L.form node.now))) }
+        ensures class { IfOk result (λ o. option_map to_applied o ≡ id_of_form self.now (L.form node.now)) }
+
+        // The answer is valid, and stands for the node over what its children stand for.
+        ensures valid { IfOk result (λ o. IfSome o (λ a. IsValidId self.now (to_applied a))) }
+        ensures term { IfOk result (λ o. IfSome o (λ a. StandsForNode self.now (to_applied a) (L.form node.now))) }
+
         ensures failed { IsErrOf result Error.Failed ↔ IsTrue self.now.failed }
         ensures only { IfErr result (λ e. (e ≡ Error.Failed) ⊎ (e ≡ Error.OutOfMemory)) }
     {
@@ -178,19 +181,25 @@ impl<L: Language, N: Drop> EGraph<L, N> {
 
         // The answer is valid, is what a look-up answers from now on, and stands for the node over what its children stand for.
         ensures valid { IfOk result (λ a. IsValidId self.new (to_applied a)) }
-        ensures found { IfOk result (λ a. id_of_node self.new.image.canonical (nameless_node (L.form node)) ≡ Some (to_applied a)) }
-        ensures term { IfOk result (λ a. term_of self.new.image.canonical (to_applied a) ≡ layer_of self.new.image.canonical (nameless_node (L.form node))) }
+        ensures found { IfOk result (λ a. id_of_form self.new (L.form node) ≡ Some (to_applied a)) }
+        ensures term { IfOk result (λ a. StandsForNode self.new (to_applied a) (L.form node)) }
 
-        // A class is made only where there was none, and what was there stays.
-        ensures kept { OnOk result (IsSome (id_of_node self.old.image.canonical (nameless_node (L.form node))) → self.new.image ≡ self.old.image) }
-        ensures made { OnOk result (id_of_node self.old.image.canonical (nameless_node (L.form node)) ≡ None → HasNewClass self.old.table self.new.table self.old.image.canonical self.new.image.canonical (nameless_node (L.form node))) }
+        // A class is made only where there was none, no other class is made, and what was there stays.
+        ensures kept { OnOk result (IsSome (id_of_form self.old (L.form node)) → self.new.image ≡ self.old.image) }
+        ensures made { OnOk result (MakesClassWhereNone self.old self.new (L.form node)) }
+        ensures filed { OnOk result (FilesOnlyNode self.old self.new (L.form node)) }
         ensures extends { OnOk result (Extends self.old.image.canonical self.new.image.canonical) }
         ensures adds { OnOk result (AddsClasses self.old.image self.new.image) }
-        ensures more { KnowsMore self.old.table self.new.table }
 
+        // Where a class is made, fresh slots are made for its names.
+        ensures more { KnowsMore self.old.table self.new.table }
+        ensures takes { MakesAtMost (length (L.form node).names) self.old.table self.new.table }
+        ensures full { IsErrOf result Error.OutOfSlots → RunsOutIn self.old self.new (length (L.form node).names) }
+
+        // A failed graph stays as it is.
+        ensures stays { IsTrue self.old.failed → self.new ≡ self.old }
         ensures failed { IsErrOf result Error.Failed ↔ IsTrue self.old.failed }
         ensures fails { IsTrue self.new.failed ↔ IsErr result }
-        ensures full { IsErrOf result Error.OutOfSlots → self.new.table.fresh ≡ 2 ^ 30 }
         ensures only { IfErr result (λ e. (e ≡ Error.Failed) ⊎ IsShortage e) }
     {
         if self.failed {
@@ -206,11 +215,11 @@ impl<L: Language, N: Drop> EGraph<L, N> {
     /// A text that is refused does not fail the graph, and the names that were read before it stay in the table.
     pub fn parse_expr(&mut self, text: &str) -> Result<RecExpr<L>, Error>
         // The answer is that of the text over the graph's table, and it can be added.
-        ensures answer { self.old.failed ≡ false → Answers (λ t. t) (λ o. TextReads L.read self.old.table (chars text.now) o self.new.table) result }
+        ensures answer { AnswersTerm L.read self.old self.new text.now result }
         ensures valid { IfOk result (λ t. IsValidTerm self.new.table t) }
 
         // It was read as a pattern of nodes of the language: so what it prints reads as it (`each_term_reads_as_itself`).
-        ensures nodes { IfOk result (λ x. ReadsAsNodes L.form L.read self.old.table (chars text.now) x self.new.table) }
+        ensures nodes { IfOk result (NodesAreRead L.form L.read self.old self.new text.now) }
 
         // Only the table changes, and on a failed graph nothing does.
         ensures reads { OnlyReads self.old self.new }
@@ -231,17 +240,24 @@ impl<L: Language, N: Drop> EGraph<L, N> {
         // The answer is valid, stands for the term, and is what a look-up of the term answers from now on.
         ensures valid { IfOk result (λ a. IsValidId self.new (to_applied a)) }
         ensures term { IfOk result (λ a. term_of self.new.image.canonical (to_applied a) ≡ nameless term.now) }
-        ensures found { IfOk result (λ a. id_of self.new.image.canonical (nameless term.now) ≡ Some (to_applied a)) }
+        ensures found { IfOk result (λ a. id_of_term self.new term.now ≡ Some (to_applied a)) }
 
-        // Where the term has an id, nothing changes but the table; and what was there stays.
-        ensures kept { OnOk result (IsSome (id_of self.old.image.canonical (nameless term.now)) → self.new.image ≡ self.old.image) }
+        // Where the term has an id, nothing changes but the table. Each class that is made is what a subterm is looked up as from now
+        // on, and what was there stays.
+        ensures kept { OnOk result (IsSome (id_of_term self.old term.now) → self.new.image ≡ self.old.image) }
+        ensures filed { OnOk result (FilesOnlySubterms self.old self.new term.now) }
         ensures extends { OnOk result (Extends self.old.image.canonical self.new.image.canonical) }
         ensures adds { OnOk result (AddsClasses self.old.image self.new.image) }
-        ensures more { KnowsMore self.old.table self.new.table }
 
+        // Where classes are made, fresh slots are made for their names.
+        ensures more { KnowsMore self.old.table self.new.table }
+        ensures takes { MakesAtMost (term_slots term.now) self.old.table self.new.table }
+        ensures full { IsErrOf result Error.OutOfSlots → RunsOutForTerm term.now self.old.table self.new.table }
+
+        // A failed graph stays as it is.
+        ensures stays { IsTrue self.old.failed → self.new ≡ self.old }
         ensures failed { IsErrOf result Error.Failed ↔ IsTrue self.old.failed }
         ensures fails { IsTrue self.new.failed ↔ IsErr result }
-        ensures full { IsErrOf result Error.OutOfSlots → (self.new.table.fresh ≡ 2 ^ 30) ⊎ (2 ^ 30 ≤ term_places term.now) }
         ensures only { IfErr result (λ e. (e ≡ Error.Failed) ⊎ IsShortage e) }
     {
         if self.failed {
@@ -262,10 +278,10 @@ impl<L: Language, N: Drop> EGraph<L, N> {
         requires left { IsTrue self.old.failed ⊎ IsValidId self.old (to_applied l.now) }
         requires right { IsTrue self.old.failed ⊎ IsValidId self.old (to_applied r.now) }
         ensures union { IfOk result (IsUnion self.old.image self.new.image (to_applied l.now) (to_applied r.now)) }
-        ensures text { OnOk result (Records self.old.image self.new.image (asserted_entry (to_applied l.now) (to_applied r.now) None)) }
+        ensures text { OnOk result (RecordsUnion self.old self.new l.now r.now None) }
         ensures table { self.new.table ≡ self.old.table }
 
-        ensures not_yet { IsErrOf result Error.NotYet → IsNoUnion self.old.image (to_applied l.now) (to_applied r.now) × (self.new ≡ self.old) }
+        ensures not_yet { IsErrOf result Error.NotYet → IsRefusedForNow self.old self.new l.now r.now }
         ensures failed { IsErrOf result Error.Failed ↔ IsTrue self.old.failed }
         ensures fails { IsTrue self.new.failed ↔ (IsErr result × ¬ IsErrOf result Error.NotYet) }
         ensures full { IsErrOf result Error.OutOfSlots → HasLargeClass self.old.image.canonical }
@@ -288,11 +304,11 @@ impl<L: Language, N: Drop> EGraph<L, N> {
         ensures union { IfOk result (IsUnion self.old.image self.new.image (to_applied l.now) (to_applied r.now)) }
 
         // Where it was not proved before, it is a new entry, asserted with the text.
-        ensures text { OnOk result (Records self.old.image self.new.image (asserted_entry (to_applied l.now) (to_applied r.now) (option_map string_bytes text))) }
+        ensures text { OnOk result (RecordsUnion self.old self.new l.now r.now (text_bytes text)) }
 
         ensures table { self.new.table ≡ self.old.table }
 
-        ensures not_yet { IsErrOf result Error.NotYet → IsNoUnion self.old.image (to_applied l.now) (to_applied r.now) × (self.new ≡ self.old) }
+        ensures not_yet { IsErrOf result Error.NotYet → IsRefusedForNow self.old self.new l.now r.now }
         ensures failed { IsErrOf result Error.Failed ↔ IsTrue self.old.failed }
         ensures fails { IsTrue self.new.failed ↔ (IsErr result × ¬ IsErrOf result Error.NotYet) }
         ensures full { IsErrOf result Error.OutOfSlots → HasLargeClass self.old.image.canonical }

@@ -4,7 +4,7 @@ ghost use Rattle.slotted_slots.specs.Error.{IsOutOfMemory};
 ghost use Rattle.slotted_theory.specs.FiniteMaps.{value_of};
 ghost use Rattle.slotted_model.specs.Classes.{IsFull};
 ghost use Rattle.slotted_model.specs.Find.{IsLive, find_class, find_map, find};
-ghost use Rattle.slotted_core.specs.Kept.{Good, nodes_of, entries_of};
+ghost use Rattle.slotted_core.specs.Kept.{Good, FindAlike, nodes_of, entries_of};
 ghost use Rattle.slotted_core.specs.Nodes.{to_applied};
 
 use crate::kernel::Core;
@@ -66,7 +66,7 @@ impl<L: Language> Core<L> {
         requires left_class { class ≡ find_class (entries_of self.now) a.now.id.0 }
         requires right_class { class ≡ find_class (entries_of self.now) b.now.id.0 }
         requires within { class < length self.now.classes }
-        ensures { IsTrue result ↔ (find (entries_of self.now) (to_applied a.now) ≡ find (entries_of self.now) (to_applied b.now)) }
+        ensures { IsTrue result ↔ FindAlike (entries_of self.now) (to_applied a.now) (to_applied b.now) }
     {
         let slots = &self.entry(class).m;
         for i in 0..slots.len() {
@@ -83,7 +83,7 @@ impl<L: Language> Core<L> {
         requires good { Good self.now }
         requires left { IsFull (nodes_of self.now) (to_applied a.now) }
         requires right { IsFull (nodes_of self.now) (to_applied b.now) }
-        ensures { IsTrue result ↔ (find (entries_of self.now) (to_applied a.now) ≡ find (entries_of self.now) (to_applied b.now)) }
+        ensures { IsTrue result ↔ FindAlike (entries_of self.now) (to_applied a.now) (to_applied b.now) }
     {
         let class = self.find_class(a.id.0);
         if self.find_class(b.id.0) != class {

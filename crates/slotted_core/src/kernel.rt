@@ -1,21 +1,22 @@
 //! The lists of a graph: its classes, and the filed nodes by shape.
-ghost use Rattle.std.specs.Prelude.{◌≡◌, ◌+◌, ◌≤◌, ◌<◌, ◌↔◌, ◌⊎◌, ◌^◌, ◌∷◌, [], length, IsTrue, IfOk, IfErr, OnOk, IsErrOf, Option, None, option_map, string_bytes, All};
+ghost use Rattle.std.specs.Prelude.{◌≡◌, ◌+◌, ◌≤◌, ◌<◌, ◌↔◌, length, IsTrue, IfOk, IfErr, OnOk, IsErrOf, None};
+ghost use Rattle.std.specs.Prelude.{option_map, All};
 ghost use Rattle.slotted_theory.specs.FiniteMaps.{IsInjectiveMap};
 ghost use Rattle.slotted_slots.specs.Error.{IsOutOfMemory, IsShortage};
-ghost use Rattle.slotted_slots.specs.Maps.{keys, values};
-ghost use Rattle.slotted_slots.specs.Table.{KnowsMore, is_known};
+ghost use Rattle.slotted_slots.specs.Table.{KnowsMore, slot_limit};
 ghost use Rattle.slotted_nodes.specs.Form.{IsSmall};
-ghost use Rattle.slotted_languages.specs.NodeTerm.{nameless_node};
-ghost use Rattle.slotted_languages.specs.Shape.{shape};
-ghost use Rattle.slotted_model.specs.Classes.{IsFull, term_of};
-ghost use Rattle.slotted_model.specs.Ids.{id_of_node};
+ghost use Rattle.slotted_model.specs.Classes.{IsFull};
 ghost use Rattle.slotted_proofs.specs.Equations.{Meets};
-ghost use Rattle.slotted_proofs.specs.Entries.{statement_at, explicit_numbers, asserted_entry, turned_entry, composite_entry};
-ghost use Rattle.slotted_terms.specs.Valid.{AllKnown, IsWhole};
-ghost use Rattle.slotted_core.specs.Kept.{Good, HasFreshSlots, Adds, AddsTerm, MakesClass, EntersIn, nothing, nodes_of, entries_of, proofs_of, find_at, found, with_filed, with_linked, node_at};
+ghost use Rattle.slotted_proofs.specs.Entries.{statement_at, explicit_numbers, turned_entry, composite_entry};
+ghost use Rattle.slotted_terms.specs.Valid.{IsWhole};
+ghost use Rattle.slotted_core.specs.Graph.{MakesAtMost, RunsOutForNode, RunsOutForTerm};
+ghost use Rattle.slotted_core.specs.Image.{text_bytes};
+ghost use Rattle.slotted_core.specs.Kept.{Good, HasFreshSlots, IsIdOver, IsNodeOver, Adds, AddsTerm, MakesClass, nothing};
+ghost use Rattle.slotted_core.specs.Kept.{EntersIn, EntersAsserted, HasManySlots, nodes_of, proofs_of, find_at, node_at};
+ghost use Rattle.slotted_core.specs.Kept.{id_in, found, with_class, with_linked};
 ghost use Rattle.slotted_core.specs.Names.{between};
 ghost use Rattle.slotted_core.specs.Nodes.{to_applied, child_ids};
-ghost use Rattle.slotted_core.specs.Places.{term_places};
+ghost use Rattle.slotted_core.specs.Places.{term_slots};
 
 mod checking;
 
@@ -61,14 +62,14 @@ pub struct Core<L: Language> {
 
 impl<L: Language> Model for Core<L> {
     ghost use Rattle.std.specs.Prelude.{map};
-    ghost use Rattle.slotted_core.specs.Kept.{Kept, kept_code};
+    ghost use Rattle.slotted_core.specs.Kept.{Kept, class_entry, kept_code};
 
     ghost Value = { Kept };
 
     ghost coded = { kept_code };
 
     ghost view = { λ c. record {
-      classes = map (λ k. (L.form k.node, record { class = k.find.id.0; pairs = k.find.m; proof = k.proof; died = k.died })) c.classes.items;
+      classes = map (class_entry L.form) c.classes.items;
       rows = map (λ e. (L.form e.0, (e.1.source.0, e.1.names))) c.rows.entries;
       proofs = c.proofs;
       moment = c.moment;
@@ -129,7 +130,7 @@ impl<L: Language> Core<L> {
     // A class, and the row that files its node.
     fn file(&mut self, shape: L, row: Row, class: Class<L>) -> Result<(), Error>
         requires { found self.old.rows (L.form shape) ≡ None }
-        ensures ok { OnOk result (self.new ≡ with_filed self.old (L.form shape) (row.source.0, row.names) (L.form class.node, record { class = class.find.id.0; pairs = class.find.m; proof = class.proof; died = class.died })) }
+        ensures ok { OnOk result (self.new ≡ with_class L.form self.old shape row class) }
         ensures err { IfErr result IsOutOfMemory }
     {
         self.rows.insert(shape, row)?;
@@ -147,8 +148,8 @@ impl<L: Language> Core<L> {
     ) -> Result<ProvenEq, Error>
         requires left { IsInjectiveMap l.now.m }
         requires right { IsInjectiveMap r.now.m }
-        ensures ok { IfOk result (EntersIn self.old self.new (asserted_entry (to_applied l.now) (to_applied r.now) (option_map string_bytes text))) }
-        ensures full { IsErrOf result Error.OutOfSlots → 2 ^ 30 ≤ length l.now.m + length r.now.m }
+        ensures ok { IfOk result (EntersAsserted self.old self.new l.now r.now (text_bytes text)) }
+        ensures full { IsErrOf result Error.OutOfSlots → slot_limit ≤ length l.now.m + length r.now.m }
         ensures err { IfErr result IsShortage }
     {
         self.proofs.enter_explicit(alloc, l, r, text)
@@ -158,7 +159,7 @@ impl<L: Language> Core<L> {
     pub(crate) fn turn(&mut self, alloc: Global, p: ProvenEq) -> Result<ProvenEq, Error>
         requires { p < length self.old.proofs }
         ensures ok { IfOk result (EntersIn self.old self.new (turned_entry self.old.proofs p)) }
-        ensures full { IsErrOf result Error.OutOfSlots → 2 ^ 30 ≤ length (statement_at self.old.proofs p).left_slots + length (statement_at self.old.proofs p).right_slots }
+        ensures full { IsErrOf result Error.OutOfSlots → HasManySlots self.old p p }
         ensures err { IfErr result IsShortage }
     {
         self.proofs.enter_symmetric(alloc, p)
@@ -175,7 +176,7 @@ impl<L: Language> Core<L> {
         requires second { q < length self.old.proofs }
         requires meets { Meets (statement_at self.old.proofs p) (statement_at self.old.proofs q) }
         ensures ok { IfOk result (EntersIn self.old self.new (composite_entry self.old.proofs p q)) }
-        ensures full { IsErrOf result Error.OutOfSlots → 2 ^ 30 ≤ length (statement_at self.old.proofs p).left_slots + length (statement_at self.old.proofs q).right_slots }
+        ensures full { IsErrOf result Error.OutOfSlots → HasManySlots self.old p q }
         ensures err { IfErr result IsShortage }
     {
         self.proofs.enter_transitive(alloc, p, q)
@@ -250,7 +251,7 @@ impl<L: Language> Core<L> {
         requires absent { found self.old.rows (L.form shape) ≡ None }
         requires different { IsInjectiveMap slots }
         ensures ok { OnOk result (MakesClass self.old self.new (L.form shape) slots) }
-        ensures full { IsErrOf result Error.OutOfSlots → 2 ^ 30 ≤ length slots }
+        ensures full { IsErrOf result Error.OutOfSlots → slot_limit ≤ length slots }
         ensures err { IfErr result IsShortage }
     {
         let id = Id(self.class_count());
@@ -295,7 +296,7 @@ impl<L: Language> Core<L> {
     /// Whether the id is one of a class, with different known names for exactly its slots.
     pub fn is_valid(&self, table: &SlotTable, a: &AppliedId) -> bool
         requires { Good self.now }
-        ensures { IsTrue result ↔ (IsFull (nodes_of self.now) (to_applied a.now) × AllKnown table.now (values a.now.m)) }
+        ensures { IsTrue result ↔ IsIdOver table.now self.now a.now }
     {
         self.is_full(a) && values_are_known(table, &a.m)
     }
@@ -316,7 +317,7 @@ impl<L: Language> Core<L> {
     /// Whether the node has fewer than 2^30 places, known slots, and valid children.
     pub fn is_valid_node(&self, table: &SlotTable, node: &L) -> bool
         requires { Good self.now }
-        ensures { IsTrue result ↔ (IsSmall (L.form node.now) × AllKnown table.now (L.form node.now).names × All (IsFull (nodes_of self.now)) (child_ids (L.form node.now))) }
+        ensures { IsTrue result ↔ IsNodeOver table.now self.now (L.form node.now) }
     {
         node.slot_count() < PLACES && places_are_known(table, node) && self.children_are_full(node)
     }
@@ -326,8 +327,8 @@ impl<L: Language> Core<L> {
     /// The class that holds the node's shape, with the node's names put in.
     pub fn lookup(&self, alloc: Global, node: &L) -> Result<Option<AppliedId>, Error>
         requires { Good self.now }
-        ensures ok { IfOk result (λ o. option_map to_applied o ≡ id_of_node (nodes_of self.now) (nameless_node (L.form node.now))) }
-        ensures full { IsErrOf result Error.OutOfSlots ↔ (2 ^ 30 ≤ length (L.form node.now).names) }
+        ensures ok { IfOk result (λ o. option_map to_applied o ≡ id_in self.now (L.form node.now)) }
+        ensures full { IsErrOf result Error.OutOfSlots ↔ (slot_limit ≤ length (L.form node.now).names) }
         ensures err { IfErr result IsShortage }
     {
         let (shape, names) = node.weak_shape(alloc)?;
@@ -349,7 +350,8 @@ impl<L: Language> Core<L> {
         requires children { All (IsFull (nodes_of self.old)) (child_ids (L.form node.now)) }
         ensures ok { IfOk result (λ a. Adds table.old table.new self.old self.new (L.form node.now) (to_applied a)) }
         ensures more { KnowsMore table.old table.new }
-        ensures full { IsErrOf result Error.OutOfSlots → (table.new.fresh ≡ 2 ^ 30) ⊎ (2 ^ 30 ≤ length (L.form node.now).names) }
+        ensures takes { MakesAtMost (length (L.form node.now).names) table.old table.new }
+        ensures full { IsErrOf result Error.OutOfSlots → RunsOutForNode (L.form node.now) table.old table.new }
         ensures err { IfErr result IsShortage }
     {
         let (shape, names) = node.weak_shape(alloc)?;
@@ -391,7 +393,8 @@ impl<L: Language> Core<L> {
         requires whole { IsWhole term.now.args }
         ensures ok { IfOk result (λ a. AddsTerm table.new self.old self.new term.now (to_applied a)) }
         ensures more { KnowsMore table.old table.new }
-        ensures full { IsErrOf result Error.OutOfSlots → (table.new.fresh ≡ 2 ^ 30) ⊎ (2 ^ 30 ≤ term_places term.now) }
+        ensures takes { MakesAtMost (term_slots term.now) table.old table.new }
+        ensures full { IsErrOf result Error.OutOfSlots → RunsOutForTerm term.now table.old table.new }
         ensures err { IfErr result IsShortage }
     {
         let mut node = term.node.copy(alloc)?;

@@ -8,6 +8,7 @@ ghost use Rattle.slotted_slots.specs.Maps.{keys, values};
 ghost use Rattle.slotted_slots.specs.Table.{KnowsMore};
 ghost use Rattle.slotted_nodes.specs.Form.{IsSmall};
 ghost use Rattle.slotted_model.specs.Ascending.{ascending};
+ghost use Rattle.slotted_core.specs.Graph.{MakesAtMost, RunsOut};
 ghost use Rattle.slotted_core.specs.Names.{between, fresh_slots, with_put};
 
 use slotted_languages::Language;
@@ -36,7 +37,8 @@ pub(crate) fn renew_values(map: &mut SlotMap, table: &mut SlotTable) -> Result<(
     ensures values { OnOk result (values map.new ≡ fresh_slots table.old.fresh (length map.old)) }
     ensures table { OnOk result (table.new ≡ record table.old { fresh = table.old.fresh + length map.old }) }
     ensures limit { OnOk result (2 ^ 30 ≤ length map.old → table.new.fresh ≡ 2 ^ 30) }
-    ensures full { IfErr result (λ e. (e ≡ Error.OutOfSlots) × (table.new.fresh ≡ 2 ^ 30)) }
+    ensures takes { MakesAtMost (length map.old) table.old table.new }
+    ensures full { IfErr result (λ e. (e ≡ Error.OutOfSlots) × RunsOut (length map.old) table.old table.new) }
     ensures more { KnowsMore table.old table.new }
 {
     for i in 0..map.len() {

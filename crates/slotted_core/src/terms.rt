@@ -1,9 +1,8 @@
 //! Which terms a graph can take in.
-ghost use Rattle.std.specs.Prelude.{◌≡◌, ◌↔◌, ◌<◌, ◌⊎◌, ℕ, length, IsTrue, slice_index};
-ghost use Rattle.slotted_slots.specs.Table.{is_known};
+ghost use Rattle.std.specs.Prelude.{◌↔◌, ◌<◌, length, IsTrue};
 ghost use Rattle.slotted_nodes.specs.Form.{IsSmall};
 ghost use Rattle.slotted_terms.specs.Valid.{IsValidTerm};
-ghost use Rattle.slotted_core.specs.Nodes.{IsChildPlace};
+ghost use Rattle.slotted_core.specs.Nodes.{IsChildPlace, IsKnownPlace, HasKnownPlaces};
 ghost use Rattle.slotted_core.specs.SmallNodes.{HasSmallNodes};
 
 use crate::names::PLACES;
@@ -29,7 +28,7 @@ fn is_child_place<L: Language>(node: &L, i: usize) -> bool
 fn is_known_place<L: Language>(table: &SlotTable, node: &L, i: usize) -> bool
     requires small { IsSmall (L.form node.now) }
     requires within { i < length (L.form node.now).names }
-    ensures { IsTrue result ↔ (IsChildPlace (L.form node.now).tree i ⊎ IsTrue (is_known table.now (slice_index (L.form node.now).names i))) }
+    ensures { IsTrue result ↔ IsKnownPlace table.now (L.form node.now) i }
 {
     if is_child_place(node, i) {
         return true;
@@ -40,7 +39,7 @@ fn is_known_place<L: Language>(table: &SlotTable, node: &L, i: usize) -> bool
 // Whether the table knows the slots at the node's own places and binders. Children are not looked at.
 fn own_places_are_known<L: Language>(table: &SlotTable, node: &L) -> bool
     requires { IsSmall (L.form node.now) }
-    ensures { IsTrue result ↔ ((i : ℕ) → i < length (L.form node.now).names → IsChildPlace (L.form node.now).tree i ⊎ IsTrue (is_known table.now (slice_index (L.form node.now).names i))) }
+    ensures { IsTrue result ↔ HasKnownPlaces table.now (L.form node.now) }
 {
     for i in 0..node.slot_count() {
         if !is_known_place(table, node, i) {

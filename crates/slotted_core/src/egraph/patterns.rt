@@ -1,11 +1,9 @@
 //! Patterns over the graph's table of slots.
-ghost use Rattle.std.specs.Prelude.{◌≡◌, ◌↔◌, false, IsTrue, IfOk, IsErrOf};
-ghost use Rattle.std.specs.Str.{chars};
+ghost use Rattle.std.specs.Prelude.{◌≡◌, ◌↔◌, IsTrue, IfOk, IsErrOf};
 ghost use Rattle.slotted_patterns.specs.Known.{HasKnownNames};
-ghost use Rattle.slotted_patterns.specs.Outcome.{Answers};
-ghost use Rattle.slotted_patterns.specs.Parsed.{PatternReads};
 ghost use Rattle.slotted_patterns.specs.View.{tree_of};
 ghost use Rattle.slotted_core.specs.Graph.{OnlyReads};
+ghost use Rattle.slotted_core.specs.Reads.{AnswersPattern};
 
 use super::EGraph;
 use slotted_languages::Language;
@@ -17,7 +15,7 @@ impl<L: Language, N: Drop> EGraph<L, N> {
     /// table. A text that is refused does not fail the graph, and the names that were read before it stay in the table.
     pub fn parse_pattern(&mut self, text: &str) -> Result<Pattern<L>, Error>
         // The answer is that of the text over the graph's table, which knows the names of the pattern's nodes from now on.
-        ensures answer { self.old.failed ≡ false → Answers (tree_of L.form) (λ o. PatternReads L.read self.old.table (chars text.now) o self.new.table) result }
+        ensures answer { AnswersPattern L.form L.read self.old self.new text.now result }
         ensures known { IfOk result (λ p. HasKnownNames self.new.table (tree_of L.form p)) }
 
         // Only the table changes, and on a failed graph nothing does.

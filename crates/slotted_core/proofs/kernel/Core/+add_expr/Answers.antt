@@ -1,14 +1,15 @@
-use Rattle.std.proofs.Common.{◌≡◌, ◌<◌, ◌≤◌, ◌+◌, ◌∙◌, ℕ, List, length, ap, sym, subst, arith, rules, inl, inr}
+use Rattle.std.proofs.Common.{◌≡◌, ◌<◌, ◌+◌, ◌∙◌, ℕ, List, length, take, sym, subst, arith, rules}
 use Rattle.slotted_theory.specs.Term.{Term, term_size}
 use Rattle.slotted_nodes.specs.Form.{Form}
 use Rattle.slotted_languages.specs.Filled.{term_of}
 use Rattle.slotted_terms.specs.Valid.{IsWhole}
 use Rattle.slotted_core.specs.Kept.{AddsTerm}
 use Rattle.slotted_core.specs.Nodes.{to_applied}
-use Rattle.slotted_core.specs.Places.{term_places}
+use Rattle.slotted_core.specs.Places.{term_slots}
+use Rattle.slotted_core.proofs.Tables.{makes-none, makes-then, child-runs_out}
+use Rattle.slotted_core.proofs.TermSlots.{slots_of, child_within, child_makes, node_makes, node_lacks}
 use Rattle.slotted_core.proofs.TermAddition.{IsPart, part_start, part_step, part_full, part_end, part_size}
 use Rattle.slotted_core.proofs.Layers.{whole_count, whole_each, each_at, any_default, child_smaller}
-use Rattle.slotted_core.proofs.Sizes.{child_places_fit}
 use Rattle.slotted_core.proofs.kernel.Core.+add_expr.Goals as goal
 
 pub add_expr-requires : goal.add_expr-requires
@@ -47,6 +48,7 @@ loop-k-preserved g t c =
           (to_applied c.in_ok-answer.answer) c.child-item.result (g.met.L.LanguageChildren.fits c.loop-k.node) c.loop-k.invariant.part (omega (arith, l, n))
           (λ e. any_default us c.loop-k.k e c.child-item.result l ∙ sym c.child-item.is) c.in_ok-answer.ensures.ok);
       more = λ s h. c.add_expr.ensures.more s (c.loop-k.invariant.more s h);
+      makes = child_makes us c.loop-k.k c.child-item.result c.args.table.now c.loop-k.table c.add_expr.new.table l c.child-item.is c.loop-k.invariant.makes c.add_expr.ensures.takes;
     }
 
 pub add-requires-clause-children : goal.add-requires-clause-children
@@ -73,18 +75,48 @@ returns-clause-ok g t c =
     (part_end c.args.self.now c.requires.good.sound.canonical c.loop-k.table c.add.new.table c.loop-k.self c.add.new.self f (form c.loop-k.node) us a (g.met.L.LanguageChildren.fits c.loop-k.node)
     (subst (λ (i : ℕ). IsPart c.args.self.now c.loop-k.table c.loop-k.self f (form c.loop-k.node) us i) k c.loop-k.invariant.part) n c.in_ok-answer-2.ensures.ok)
 
+-- the slots of the children so far, and of the next one
+pub returns-in_err-answer-clause-takes : goal.returns-in_err-answer-clause-takes
+returns-in_err-answer-clause-takes g t c =
+    let us : List Term = c.deref-child-items.result.now in
+    let n = slots_of (take c.loop-k.k us) in
+    let f : Form = g.L.LanguageChildren.form c.in_ok-node.node in
+    let view : term_of f us ≡ c.args.term.now = (λ i. term_of (g.L.LanguageChildren.form (c.in_ok-node.ensures.ok i)) (c.deref-child-items.ensures.value i)) ∙ c.term.view_is in
+    let l : c.loop-k.k < length us = omega (arith, c.loop-k-test.true, c.deref-child-items.ensures.len) in
+    makes-then n (term_slots c.child-item.result) (term_slots c.args.term.now) c.args.table.now c.loop-k.table c.add_expr.new.table c.loop-k.invariant.makes c.add_expr.ensures.takes
+    (child_within f us c.loop-k.k c.child-item.result c.args.term.now view l c.child-item.is).0
+
 pub returns-in_err-answer-clause-full : goal.returns-in_err-answer-clause-full
 returns-in_err-answer-clause-full g t c e =
-    let form = g.L.LanguageChildren.form in
     let us : List Term = c.deref-child-items.result.now in
-    let view : term_of (form c.in_ok-node.node) us ≡ c.args.term.now = (λ i. term_of (form (c.in_ok-node.ensures.ok i)) (c.deref-child-items.ensures.value i)) ∙ c.term.view_is in
+    let n = slots_of (take c.loop-k.k us) in
+    let f : Form = g.L.LanguageChildren.form c.in_ok-node.node in
+    let view : term_of f us ≡ c.args.term.now = (λ i. term_of (g.L.LanguageChildren.form (c.in_ok-node.ensures.ok i)) (c.deref-child-items.ensures.value i)) ∙ c.term.view_is in
     let l : c.loop-k.k < length us = omega (arith, c.loop-k-test.true, c.deref-child-items.ensures.len) in
-    let fits : term_places c.child-item.result ≤ term_places c.args.term.now =
-    subst (λ (x : Term). term_places c.child-item.result ≤ term_places x) view (subst (λ (x : Term). term_places x ≤ term_places (term_of (form c.in_ok-node.node) us)) (sym c.child-item.is) (child_places_fit (form c.in_ok-node.node) us c.loop-k.k c.child-item.result l)) in
-    elim (c.in_err-answer.ensures.full (search rules)) [
-      | inl a ↦ inl a
-      | inr b ↦ inr (omega (arith, b, fits))
-    ]
+    let w = child_within f us c.loop-k.k c.child-item.result c.args.term.now view l c.child-item.is in
+    child-runs_out n c.child-item.result c.args.term.now c.args.table.now c.loop-k.table c.add_expr.new.table c.loop-k.invariant.makes (c.in_err-answer.ensures.full (search rules)) w.0 w.1
+
+pub returns-in_err-answer-2-clause-takes : goal.returns-in_err-answer-2-clause-takes
+returns-in_err-answer-2-clause-takes g t c =
+    let us : List Term = c.deref-child-items.result.now in
+    let f : Form = g.L.LanguageChildren.form c.in_ok-node.node in
+    let view : term_of f us ≡ c.args.term.now = (λ i. term_of (g.L.LanguageChildren.form (c.in_ok-node.ensures.ok i)) (c.deref-child-items.ensures.value i)) ∙ c.term.view_is in
+    let n = whole_count f.tree f.names us (subst (λ (x : Term). IsWhole x.args) (sym view) c.requires.whole) in
+    let k : c.loop-k.k ≡ length us = omega (arith, c.loop-k-test.false, c.loop-k.auto.k-end, c.deref-child-items.ensures.len) in
+    let s = part_size c.args.self.now c.loop-k.table c.loop-k.self f (g.L.LanguageChildren.form c.loop-k.node) us (g.met.L.LanguageChildren.fits c.loop-k.node)
+    (subst (λ (i : ℕ). IsPart c.args.self.now c.loop-k.table c.loop-k.self f (g.L.LanguageChildren.form c.loop-k.node) us i) k c.loop-k.invariant.part) n in
+    node_makes (g.L.LanguageChildren.form c.loop-k.node) f us c.loop-k.k c.args.term.now view c.args.table.now c.loop-k.table c.add.new.table c.loop-k.invariant.makes c.add.ensures.takes s
+
+pub returns-clause-takes : goal.returns-clause-takes
+returns-clause-takes g t c =
+    let us : List Term = c.deref-child-items.result.now in
+    let f : Form = g.L.LanguageChildren.form c.in_ok-node.node in
+    let view : term_of f us ≡ c.args.term.now = (λ i. term_of (g.L.LanguageChildren.form (c.in_ok-node.ensures.ok i)) (c.deref-child-items.ensures.value i)) ∙ c.term.view_is in
+    let n = whole_count f.tree f.names us (subst (λ (x : Term). IsWhole x.args) (sym view) c.requires.whole) in
+    let k : c.loop-k.k ≡ length us = omega (arith, c.loop-k-test.false, c.loop-k.auto.k-end, c.deref-child-items.ensures.len) in
+    let s = part_size c.args.self.now c.loop-k.table c.loop-k.self f (g.L.LanguageChildren.form c.loop-k.node) us (g.met.L.LanguageChildren.fits c.loop-k.node)
+    (subst (λ (i : ℕ). IsPart c.args.self.now c.loop-k.table c.loop-k.self f (g.L.LanguageChildren.form c.loop-k.node) us i) k c.loop-k.invariant.part) n in
+    node_makes (g.L.LanguageChildren.form c.loop-k.node) f us c.loop-k.k c.args.term.now view c.args.table.now c.loop-k.table c.add.new.table c.loop-k.invariant.makes c.add.ensures.takes s
 
 pub returns-in_err-answer-2-clause-full : goal.returns-in_err-answer-2-clause-full
 returns-in_err-answer-2-clause-full g t c e =
@@ -96,10 +128,10 @@ returns-in_err-answer-2-clause-full g t c e =
     let k : c.loop-k.k ≡ length us = omega (arith, c.loop-k-test.false, c.loop-k.auto.k-end, c.deref-child-items.ensures.len) in
     let s = part_size c.args.self.now c.loop-k.table c.loop-k.self f (form c.loop-k.node) us (g.met.L.LanguageChildren.fits c.loop-k.node)
     (subst (λ (i : ℕ). IsPart c.args.self.now c.loop-k.table c.loop-k.self f (form c.loop-k.node) us i) k c.loop-k.invariant.part) n in
-    elim (c.in_err-answer-2.ensures.full (search rules)) [
-      | inl a ↦ inl a
-      | inr b ↦ inr (omega (arith, b, s, ap term_places view))
-    ]
+    node_lacks (form c.loop-k.node) f us c.loop-k.k c.args.term.now view c.args.table.now c.loop-k.table c.add.new.table c.loop-k.invariant.makes (c.in_err-answer-2.ensures.full (search rules)) s
+
+pub returns-in_err-node-clause-takes : goal.returns-in_err-node-clause-takes
+returns-in_err-node-clause-takes g t c = makes-none (term_slots c.args.term.now) c.args.table.now
 
 pub loop-k-init : goal.loop-k-init
 loop-k-init g t c =
@@ -107,4 +139,5 @@ loop-k-init g t c =
     record {
       part = part_start c.args.self.now c.args.table.now c.requires.good c.requires.fresh_slots (form c.in_ok-node.node) c.deref-child-items.result.now;
       more = λ s h. h;
+      makes = makes-none 0 c.args.table.now;
     }

@@ -1,5 +1,8 @@
+use Rattle.std.specs.Prelude.{take}
 use Rattle.slotted_theory.specs.Term.{term_size}
 use Rattle.slotted_slots.specs.Table.{KnowsMore}
+use Rattle.slotted_core.specs.Graph.{MakesAtMost}
+use Rattle.slotted_core.proofs.TermSlots.{slots_of}
 use Rattle.slotted_core.proofs.TermAddition.{IsPart}
 use Rattle.slotted_core.proofs.kernel.Core.+add_expr.Given as goal
 
@@ -12,4 +15,5 @@ invariant-loop-k g l =
     record {
       part : IsPart l.fn.self l.table l.self (form l.initial.node) (form l.node) l.child-items l.k;
       more : KnowsMore l.fn.table l.table;
+      makes : MakesAtMost (slots_of (take l.k l.child-items)) l.fn.table l.table;
     }

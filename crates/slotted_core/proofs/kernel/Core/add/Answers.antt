@@ -1,9 +1,10 @@
-use Rattle.std.proofs.Common.{◌≡◌, ◌∙◌, ◌+◌, ap, sym, subst, length, arith, rules, inl}
+use Rattle.std.proofs.Common.{◌≡◌, ◌∙◌, ◌+◌, ap, sym, subst, length, arith, rules, inl, inr}
 use Rattle.slotted_slots.specs.Maps.{keys}
 use Rattle.slotted_slots.specs.Table.{Table}
 use Rattle.slotted_core.proofs.RowLookUps.{row-names}
 use Rattle.slotted_core.proofs.NameMaps.{length-keys}
-use Rattle.slotted_core.proofs.NodeAddition.{fresh_injective, row_adds, class_adds}
+use Rattle.slotted_core.proofs.NodeAddition.{fresh_injective, row_adds, class_adds, shape-places}
+use Rattle.slotted_core.proofs.Tables.{makes-more, runs_out-more}
 use Rattle.slotted_core.specs.Kept.{Kept, Adds}
 use Rattle.slotted_core.specs.Names.{fresh_slots}
 use Rattle.slotted_core.specs.Nodes.{to_applied}
@@ -41,6 +42,40 @@ pub make_class-requires-clause-different : goal.make_class-requires-clause-diffe
 make_class-requires-clause-different g c =
     fresh_injective c.renew_values.new.map c.args.table.now.fresh (length c.in_ok-slots.slots) c.in_ok-renew_values.ensures.values
 
+-- at most one slot for each place of the node
+
+pub returns-in_err-renew_values-clause-takes : goal.returns-in_err-renew_values-clause-takes
+returns-in_err-renew_values-clause-takes g c =
+    let f = g.L.LanguageChildren.form c.args.node.now in
+    makes-more (length c.in_ok-slots.slots) (length f.names) c.args.table.now c.renew_values.new.table c.renew_values.ensures.takes
+    (shape-places f (g.met.L.LanguageChildren.fits c.args.node.now) (g.L.LanguageChildren.form c.in_ok-shape.shape) c.in_ok-shape.names c.in_ok-slots.slots c.in_ok-shape.ensures.shape c.in_ok-slots.ensures.ok)
+
+pub returns-in_err-renew_values-clause-full : goal.returns-in_err-renew_values-clause-full
+returns-in_err-renew_values-clause-full g c e =
+    let f = g.L.LanguageChildren.form c.args.node.now in
+    inl (runs_out-more (length c.in_ok-slots.slots) (length f.names) c.args.table.now c.renew_values.new.table c.in_err-renew_values.ensures.full.1
+    (shape-places f (g.met.L.LanguageChildren.fits c.args.node.now) (g.L.LanguageChildren.form c.in_ok-shape.shape) c.in_ok-shape.names c.in_ok-slots.slots c.in_ok-shape.ensures.shape c.in_ok-slots.ensures.ok))
+
 pub returns-in_err-make_class-clause-full : goal.returns-in_err-make_class-clause-full
 returns-in_err-make_class-clause-full g c e =
-    inl (c.in_ok-renew_values.ensures.limit (omega (arith, c.in_err-make_class.ensures.full (search rules), ap length c.in_ok-renew_values.ensures.keys, length-keys c.renew_values.new.map, length-keys c.in_ok-slots.slots)))
+    let f = g.L.LanguageChildren.form c.args.node.now in
+    let n = shape-places f (g.met.L.LanguageChildren.fits c.args.node.now) (g.L.LanguageChildren.form c.in_ok-shape.shape) c.in_ok-shape.names c.in_ok-slots.slots c.in_ok-shape.ensures.shape c.in_ok-slots.ensures.ok in
+    inr (omega (arith, n, c.in_err-make_class.ensures.full (search rules), ap length c.in_ok-renew_values.ensures.keys, length-keys c.renew_values.new.map, length-keys c.in_ok-slots.slots))
+
+pub returns-in_err-map_between-clause-takes : goal.returns-in_err-map_between-clause-takes
+returns-in_err-map_between-clause-takes g c =
+    let f = g.L.LanguageChildren.form c.args.node.now in
+    makes-more (length c.in_ok-slots.slots) (length f.names) c.args.table.now c.renew_values.new.table c.renew_values.ensures.takes
+    (shape-places f (g.met.L.LanguageChildren.fits c.args.node.now) (g.L.LanguageChildren.form c.in_ok-shape.shape) c.in_ok-shape.names c.in_ok-slots.slots c.in_ok-shape.ensures.shape c.in_ok-slots.ensures.ok)
+
+pub returns-in_err-make_class-clause-takes : goal.returns-in_err-make_class-clause-takes
+returns-in_err-make_class-clause-takes g c =
+    let f = g.L.LanguageChildren.form c.args.node.now in
+    makes-more (length c.in_ok-slots.slots) (length f.names) c.args.table.now c.renew_values.new.table c.renew_values.ensures.takes
+    (shape-places f (g.met.L.LanguageChildren.fits c.args.node.now) (g.L.LanguageChildren.form c.in_ok-shape.shape) c.in_ok-shape.names c.in_ok-slots.slots c.in_ok-shape.ensures.shape c.in_ok-slots.ensures.ok)
+
+pub returns-clause-takes : goal.returns-clause-takes
+returns-clause-takes g c =
+    let f = g.L.LanguageChildren.form c.args.node.now in
+    makes-more (length c.in_ok-slots.slots) (length f.names) c.args.table.now c.renew_values.new.table c.renew_values.ensures.takes
+    (shape-places f (g.met.L.LanguageChildren.fits c.args.node.now) (g.L.LanguageChildren.form c.in_ok-shape.shape) c.in_ok-shape.names c.in_ok-slots.slots c.in_ok-shape.ensures.shape c.in_ok-slots.ensures.ok)
