@@ -6,10 +6,12 @@ pub mod Nodes
 pub mod Image
 pub mod Leaves
 pub mod Graph
+pub mod Canonical
+pub mod Causes
 pub mod Checks
 pub mod EntriesInUse
 pub mod Kept
+pub mod Uniting
 pub mod Places
 pub mod SmallNodes
-pub mod Canonical
 pub mod Frames

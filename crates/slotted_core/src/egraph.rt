@@ -15,7 +15,8 @@ ghost use Rattle.slotted_patterns.specs.Outcome.{Answers};
 ghost use Rattle.slotted_terms.specs.Parsed.{TextReads};
 ghost use Rattle.slotted_terms.specs.ReadAgain.{ReadsAsNodes};
 ghost use Rattle.slotted_terms.specs.Valid.{IsValidTerm};
-ghost use Rattle.slotted_core.specs.Image.{no_classes, FoundAlike, asserted_in, AreDerivable, AddsClasses, IsUnion, IsNoUnion, Records, HasLargeClass};
+ghost use Rattle.slotted_core.specs.Image.{no_classes, FoundAlike, asserted_in, AreDerivable, AddsClasses, IsUnion, IsNoUnion, Records};
+ghost use Rattle.slotted_core.specs.Causes.{HaveManyNames};
 ghost use Rattle.slotted_core.specs.Graph.{IsValidId, IsValidNode, HasNewClass, OnlyReads};
 ghost use Rattle.slotted_core.specs.Nodes.{to_applied};
 ghost use Rattle.slotted_core.specs.Places.{term_places};
@@ -268,7 +269,7 @@ impl<L: Language, N: Drop> EGraph<L, N> {
         ensures not_yet { IsErrOf result Error.NotYet → IsNoUnion self.old.image (to_applied l.now) (to_applied r.now) × (self.new ≡ self.old) }
         ensures failed { IsErrOf result Error.Failed ↔ IsTrue self.old.failed }
         ensures fails { IsTrue self.new.failed ↔ (IsErr result × ¬ IsErrOf result Error.NotYet) }
-        ensures full { IsErrOf result Error.OutOfSlots → HasLargeClass self.old.image.canonical }
+        ensures full { IsErrOf result Error.OutOfSlots → HaveManyNames l.now.m r.now.m }
         ensures only { IfErr result (λ e. (e ≡ Error.Failed) ⊎ (e ≡ Error.NotYet) ⊎ IsShortage e) }
     {
         self.union_justified(l, r, None)
@@ -295,7 +296,7 @@ impl<L: Language, N: Drop> EGraph<L, N> {
         ensures not_yet { IsErrOf result Error.NotYet → IsNoUnion self.old.image (to_applied l.now) (to_applied r.now) × (self.new ≡ self.old) }
         ensures failed { IsErrOf result Error.Failed ↔ IsTrue self.old.failed }
         ensures fails { IsTrue self.new.failed ↔ (IsErr result × ¬ IsErrOf result Error.NotYet) }
-        ensures full { IsErrOf result Error.OutOfSlots → HasLargeClass self.old.image.canonical }
+        ensures full { IsErrOf result Error.OutOfSlots → HaveManyNames l.now.m r.now.m }
         ensures only { IfErr result (λ e. (e ≡ Error.Failed) ⊎ (e ≡ Error.NotYet) ⊎ IsShortage e) }
     {
         if self.failed {
