@@ -1,6 +1,6 @@
 -- The canonical node of a new class: the shape with fresh slots for the numbers of its free names has that shape.
 use Rattle.std.proofs.Common.{◌≡◌, ◌≢◌, ◌≤◌, ◌+◌, ℕ, zero, suc, length-append, List, [], ◌∷◌, ◌++◌, Option, Some, None, length, take, drop, map, cond, sym, ◌∙◌, ap, refl, subst, arith, inl, inr}
-use Rattle.std.specs.Prelude.{slice_index, unwrap_or}
+use Rattle.std.specs.Prelude.{slice_index, unwrap_or, ◌⊎◌}
 use Rattle.std.proofs.lemmas.Bool.{cases_eq, eq-eqb, ne_eqb}
 use Rattle.std.proofs.lemmas.List.{map-append}
 use Rattle.slotted_theory.specs.Term.{Args, Term, done, name}
@@ -24,14 +24,10 @@ use Rattle.slotted_model.specs.Applied.{map_on}
 use Rattle.slotted_model.proofs.Members.{In, In-left, In-right, In-append}
 use Rattle.slotted_model.proofs.Sets.{IsAscending-ascending, In-ascending, In-of_ascending}
 use Rattle.slotted_model.proofs.Maps.{In-values, keys-with_values, map_on-agrees, map_on-filled, filled-map_on, IsInjectiveMap-map_on}
-use Rattle.slotted_core.specs.Names.{put, with_put}
+use Rattle.slotted_core.specs.Names.{put, with_put, IsNumeric}
 use Rattle.slotted_proofs.proofs.Bridges.{ascends}
 
 -- all names in a shape are numeric
-
--- the slot is numeric
-abbrev pub IsNumeric : ℕ → Type 0
-IsNumeric x = (n : ℕ) × (x ≡ numeric_slot n)
 
 abbrev pub AreNumeric : List ℕ → Type 0
 AreNumeric xs = (x : ℕ) → In x xs → IsNumeric x
@@ -166,6 +162,16 @@ value_has (p ∷ m) x v e = elim (cases_eq p.0 x) [
   | inl d ↦ let q : Some p.1 ≡ Some v = sym (ap (λ b. cond b (Some p.1) (value_of m x)) (eq-eqb p.0 x d)) ∙ e in let r : p.1 ≡ v = cc in inl (sym r)
   | inr d ↦ inr (value_has m x v (sym (ap (λ b. cond b (Some p.1) (value_of m x)) (ne_eqb p.0 x d)) ∙ e))
 ]
+
+-- what is put in is a value of the map, and what stays is numeric
+pub put_own : (slots : List (ℕ × ℕ)) (xs : List ℕ) → AreNumeric xs → (x : ℕ) → In x (map (put slots) xs) → In x (values slots) ⊎ IsNumeric x
+put_own slots [] a x h = absurd h
+put_own slots (y ∷ xs) a x (inr h) = put_own slots xs (λ z i. a z (inr i)) x h
+put_own slots (y ∷ xs) a x (inl e) = subst (λ z. In z (values slots) ⊎ IsNumeric z) (sym e) (by (value_of slots y) refl)
+  where
+    by : (o : Option ℕ) → value_of slots y ≡ o → In (unwrap_or o y) (values slots) ⊎ IsNumeric (unwrap_or o y)
+    by None q = inr (a y (inl refl))
+    by (Some v) q = inl (In-values slots v (value_has slots y v q))
 
 value_here : (p : ℕ × ℕ) (m : List (ℕ × ℕ)) (x v : ℕ) → p.0 ≡ x → value_of (p ∷ m) x ≡ Some v → p.1 ≡ v
 value_here p m x v d e = let q : Some p.1 ≡ Some v = sym (ap (λ b. cond b (Some p.1) (value_of m x)) (eq-eqb p.0 x d)) ∙ e in cc

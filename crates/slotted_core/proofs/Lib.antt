@@ -18,6 +18,7 @@ pub mod Checking
 pub mod Partners
 pub mod Frames
 pub mod WideNodes
+pub mod LargeParts
 pub mod Naming
 pub mod EntryTexts
 pub mod Asserting

@@ -19,6 +19,7 @@ use Rattle.slotted_model.proofs.Uniting.{can_link, linked-alike}
 use Rattle.slotted_proofs.specs.Entries.{Proven, entry_of, statement_at}
 use Rattle.slotted_proofs.specs.Proving.{IsProved}
 use Rattle.slotted_core.specs.EntriesInUse.{AllInUse}
+use Rattle.slotted_core.specs.Names.{HasNumberedBinders}
 use Rattle.slotted_core.specs.Kept.{Kept, ClassEntry, RowEntry, no_form, no_entry, node_at, nodes_of, entries_of, rows_from, with_proofs, with_linked, Good}
 use Rattle.slotted_core.proofs.InUse.{link-in_use, found_sides-whole}
 use Rattle.slotted_core.proofs.KeptLists.{length-mapped, at-mapped, equation_at-of}
@@ -121,6 +122,7 @@ module _ (k : Kept) (good : Good k) (a b : Applied) (fa : IsFull (nodes_of k) a)
     linked-good = record {
       rows = good.rows ∙ sym (linked-rows (with_proofs k qs) e.left e.right m p);
       fits = λ i r. subst Fits (sym (linked-form (with_proofs k qs) e.left e.right m p i)) (good.fits i (let n : length l.classes ≡ length k.classes = linked-length (with_proofs k qs) e.left e.right m p in omega arith));
+      numbered = λ i r. subst HasNumberedBinders (sym (linked-form (with_proofs k qs) e.left e.right m p i)) (good.numbered i (let n : length l.classes ≡ length k.classes = linked-length (with_proofs k qs) e.left e.right m p in omega arith));
       sound = lists (λ ns es. Sound ns es (map entry_of qs))
           (link-sound nodes found (map entry_of qs) e p k.moment sound can good.later (let n : length (map entry_of qs) ≡ length qs = length-mapped entry_of qs in omega arith) (equation_at-of qs p ∙ proves));
       proved = subst (λ ns. IsProved ns qs) (sym nodes_same) proved;

@@ -28,8 +28,8 @@ use Rattle.slotted_model.specs.Sound.{Sound}
 use Rattle.slotted_model.specs.Growth.{Extends, Added}
 use Rattle.slotted_model.specs.Growth as growth
 use Rattle.slotted_model.specs.Ids.{id_of_node}
-use Rattle.slotted_model.proofs.Members.{In, In-Contains}
-use Rattle.slotted_model.proofs.Sets.{In-of_ascending}
+use Rattle.slotted_model.proofs.Members.{In, In-Contains, Contains-In}
+use Rattle.slotted_model.proofs.Sets.{In-ascending, In-of_ascending}
 use Rattle.slotted_model.proofs.Maps.{In-values}
 use Rattle.slotted_model.proofs.Children.{EachChild-moved}
 use Rattle.slotted_model.proofs.Full.{full-renamed}
@@ -46,7 +46,7 @@ use Rattle.slotted_core.specs.FormCode.{form_is, form_Decides}
 use Rattle.slotted_core.specs.Graph.{IsFreshBetween}
 use Rattle.slotted_core.specs.Image.{AddsClasses}
 use Rattle.slotted_core.specs.Kept.{Kept, ClassEntry, RowEntry, no_form, no_entry, found, rows_from, node_at, nodes_of, entries_of, proofs_of, image_of, with_proofs, with_new_class, MakesClass, Good, HasFreshSlots, Adds}
-use Rattle.slotted_core.specs.Names.{between, fresh_slots, with_put}
+use Rattle.slotted_core.specs.Names.{between, fresh_slots, with_put, HasNumberedBinders}
 use Rattle.slotted_core.specs.Nodes.{child_ids}
 use Rattle.slotted_core.proofs.Children.{Each-from_All, EachChild-node_args}
 use Rattle.slotted_core.proofs.RowLookUps.{canonical_node-in, answer, look_up-rows, none_has}
@@ -56,7 +56,7 @@ use Rattle.slotted_core.proofs.InUse.{new_class-in_use, new_class-lives}
 use Rattle.slotted_core.proofs.KeptLists.{length-entries_of, length-proofs_of, equation_at-of, found_id-is}
 use Rattle.slotted_core.proofs.NewClass.{full-finds}
 use Rattle.slotted_core.proofs.NamePairs.{ascending-values, between-moved}
-use Rattle.slotted_core.proofs.FreshCanonicalNodes.{fits_put, shape-put, length-free}
+use Rattle.slotted_core.proofs.FreshCanonicalNodes.{fits_put, shape-put, length-free, numeric-shape, put_own}
 
 -- lists with one element more
 
@@ -189,6 +189,12 @@ module _ (t u : Table) (k : Kept) (good : Good k) (over : HasFreshSlots t k) (f 
   slots_new : names d ≡ ascending (values slots)
   slots_new = sym (ascending-values c) ∙ ap (λ (m : List (ℕ × ℕ)). ascending (values m)) put_shape.1
 
+  numbered_c : HasNumberedBinders c
+  numbered_c x h = elim (put_own slots (shape f).0.names (numeric-shape f).0 x (In-Contains c.names x h)) [
+    | inl i ↦ inl (Contains-In (names d) x (subst (In x) (sym slots_new) (In-ascending x (values slots) i)))
+    | inr n ↦ inr n
+  ]
+
   slots_at : (i : ℕ) → i < length l.classes → canonical_slots (nodes_of l) i ≡ names (nameless_node (node_at l i))
   slots_at i h = ap names (canonical_node-in l.classes i h)
 
@@ -282,6 +288,7 @@ module _ (t u : Table) (k : Kept) (good : Good k) (over : HasFreshSlots t k) (f 
         ∙ (ap (λ (j : ℕ). rows_from 0 k.classes ++ ((shape c).0, (j, (shape c).1)) ∷ []) (zero_plus n)
         ∙ sym (rows_from-push 0 k.classes (c, own)));
     fits = each_push (λ i e. Fits e.0) k.classes (c, own) (no_form, no_entry) good.fits fits_c;
+    numbered = each_push (λ i e. HasNumberedBinders e.0) k.classes (c, own) (no_form, no_entry) good.numbered numbered_c;
     sound = as_lists (Sound (nodes_of l)) (new_class-sound g (nodes_of l) (entries_of k) (proofs_of k) good.sound canonical extends one_more);
     proved = proved_more;
     later = as_lists (λ es qs. IsLater es k.moment) (later-newer g (nodes_of l) extends one_more (entries_of k) good.sound.linked (length (proofs_of k)) k.moment good.later);

@@ -44,6 +44,7 @@ module _ (k : Kept) (good : Good k) (x : Proven) (can : IsProvable (nodes_of k) 
   entering-good ps p enters = record {
     rows = good.rows;
     fits = good.fits;
+    numbered = good.numbered;
     sound = entering_sound (nodes_of k) (entries_of k) k.proofs ps x p good.sound good.proved can enters;
     proved = entering_proved (nodes_of k) k.proofs ps x p good.proved can enters;
     later = good.later;

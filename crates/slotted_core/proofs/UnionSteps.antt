@@ -23,14 +23,15 @@ use Rattle.slotted_proofs.specs.Equations.{Statement, Meets}
 use Rattle.slotted_proofs.specs.Entries.{Proven, entry_of, statement_at, Enters, turned_entry, composite_entry}
 use Rattle.slotted_proofs.specs.Proving.{IsProvable, IsProved}
 use Rattle.slotted_proofs.proofs.Entering.{entries_meet, turned_provable, composite_provable, entering_proved, entering_sound, entered_stands, others_assert_nothing}
+use Rattle.slotted_core.specs.Causes.{HaveManyNames, IsLargeClass}
 use Rattle.slotted_core.specs.EntriesInUse.{FindOneClass}
-use Rattle.slotted_core.specs.Image.{HasLargeClass, found_id, CanUnite, FoundAlike, StandsIn, Asserts, Records, asserted_in}
+use Rattle.slotted_core.specs.Image.{found_id, CanUnite, FoundAlike, StandsIn, Asserts, Records, asserted_in}
 use Rattle.slotted_core.specs.Kept.{Kept, find_at, nodes_of, entries_of, proofs_of, image_of, with_proofs, with_linked, EntersIn, Good, Explains, Proves, IsAsserted, Links, Agrees, asserted_for}
 use Rattle.slotted_core.proofs.ProofListGrowth.{entered-more, nil-append, entering-proves, explains-nothing, explains-then, explains-stands, at-append}
 use Rattle.slotted_core.proofs.InUse.{found-is_full}
 use Rattle.slotted_core.proofs.EntryTexts.{records-more, records-from}
 use Rattle.slotted_core.proofs.KeptLists.{length-mapped, equation_at-of, entry_at-of, length-nodes_of, length-proofs_of, found_id-is}
-use Rattle.slotted_core.proofs.LargeEquations.{entries_are_large}
+use Rattle.slotted_core.proofs.LargeEquations.{entries-counted, found-counted, full-counted}
 use Rattle.slotted_core.proofs.Links.{linked-nodes, linked-length, newer, newer-alike, newer-continues, entries_are, linked-good}
 
 -- what is explained leaves nodes and entries
@@ -99,8 +100,13 @@ module _ (k : Kept) (good : Good k) (i : ℕ) (h : i < length k.classes) where
     pub next-meets : Meets (statement_at l.proofs p) (statement_at l.proofs q)
     next-meets = entries_meet (nodes_of l) l.proofs rest.explains.good.proved p q next-first rest.in_range next-joins
 
-    pub next-large : 2 ^ 30 ≤ length (statement_at l.proofs p).left_slots + length (statement_at l.proofs q).right_slots → HasLargeClass nodes
-    next-large n = subst HasLargeClass (explains-nodes k l rest.explains) (entries_are_large (nodes_of l) l.proofs rest.explains.good.proved p q next-first rest.in_range n)
+    pub next-large : 2 ^ 30 ≤ length (statement_at l.proofs p).left_slots + length (statement_at l.proofs q).right_slots → IsLargeClass nodes i
+    next-large n =
+        let ends : find_class found j ≡ find_class found i = ap (find_class found) (sym next-class) ∙ sym (find_class-follows nodes found (leads nodes found good.sound.linked) i here) in
+        let c : length (statement_at l.proofs p).left_slots + length (statement_at l.proofs q).right_slots ≡ length (canonical_slots nodes i) + length (canonical_slots nodes (find_class found i)) =
+        subst (λ ns. length (statement_at l.proofs p).left_slots + length (statement_at l.proofs q).right_slots ≡ length (canonical_slots ns i) + length (canonical_slots ns (find_class found i))) (explains-nodes k l rest.explains)
+        (entries-counted (nodes_of l) l.proofs rest.explains.good.proved p q next-first rest.in_range i (find_class found i) (ap (λ (e : Equation). e.left) next-left) (ap (λ (e : Equation). e.right) rest.equation ∙ ends)) in
+        omega (arith, n, c, found-counted nodes found good.sound.linked good.in_use i here)
 
     pub next-proves : (m : Kept) (r : ℕ) → EntersIn l m (composite_entry l.proofs p q) r → Proves k m (find_equation nodes found i) r
     next-proves m r e =
@@ -173,9 +179,17 @@ module _ (k : Kept) (good : Good k) (a b : Applied) (fa : IsFull (nodes_of k) a)
   pub first-meets : Meets (statement_at l.proofs p) (statement_at l.proofs r)
   first-meets = subst (λ ps. Meets (statement_at ps p) (statement_at ps r)) (sym lists) first-meets_in
 
-  pub first-large : 2 ^ 30 ≤ length (statement_at l.proofs p).left_slots + length (statement_at l.proofs r).right_slots → HasLargeClass ns
+  pub first-large : 2 ^ 30 ≤ length (statement_at l.proofs p).left_slots + length (statement_at l.proofs r).right_slots → HaveManyNames a.1 b.1
   first-large n =
-      entries_are_large ns ls said.proved p r (ls-stands p hp).0 said.in_range (subst (λ ps. 2 ^ 30 ≤ length (statement_at ps p).left_slots + length (statement_at ps r).right_slots) lists n)
+      let m : 2 ^ 30 ≤ length (statement_at ls p).left_slots + length (statement_at ls r).right_slots = subst (λ ps. 2 ^ 30 ≤ length (statement_at ps p).left_slots + length (statement_at ps r).right_slots) lists n in
+      omega (
+        arith,
+        m,
+        full-counted ns a fa,
+        full-counted ns b fb,
+        found-counted ns es good.sound.linked good.in_use a.0 fa.in_range,
+        entries-counted ns ls said.proved p r (ls-stands p hp).0 said.in_range (find_class es a.0) b.0 (ap (λ (e : Equation). e.left) first-left) (ap (λ (e : Equation). e.right) said.equation),
+      )
 
   module _ (m : Kept) (s : ℕ) (half : EntersIn l m (composite_entry l.proofs p r) s) where
     abbrev ms : List Proven
@@ -220,9 +234,19 @@ module _ (k : Kept) (good : Good k) (a b : Applied) (fa : IsFull (nodes_of k) a)
     pub second-meets : Meets (statement_at m.proofs s) (statement_at m.proofs q)
     second-meets = subst (λ ps. Meets (statement_at ps s) (statement_at ps q)) (sym half-lists) (entries_meet ns ms half-proved s q half-enters.stands.in_range second-within second-joins)
 
-    pub second-large : 2 ^ 30 ≤ length (statement_at m.proofs s).left_slots + length (statement_at m.proofs q).right_slots → HasLargeClass ns
+    pub second-large : 2 ^ 30 ≤ length (statement_at m.proofs s).left_slots + length (statement_at m.proofs q).right_slots → HaveManyNames a.1 b.1
     second-large n =
-        entries_are_large ns ms half-proved s q half-enters.stands.in_range second-within (subst (λ ps. 2 ^ 30 ≤ length (statement_at ps s).left_slots + length (statement_at ps q).right_slots) half-lists n)
+        let d : 2 ^ 30 ≤ length (statement_at ms s).left_slots + length (statement_at ms q).right_slots = subst (λ ps. 2 ^ 30 ≤ length (statement_at ps s).left_slots + length (statement_at ps q).right_slots) half-lists n in
+        omega (
+          arith,
+          d,
+          full-counted ns a fa,
+          full-counted ns b fb,
+          found-counted ns es good.sound.linked good.in_use a.0 fa.in_range,
+          found-counted ns es good.sound.linked good.in_use b.0 fb.in_range,
+          entries-counted ns ms half-proved s q half-enters.stands.in_range second-within (find_class es a.0) (find_class es b.0)
+              (ap (λ (e : Equation). e.left) half-says ∙ ap (λ (e : Equation). e.left) first-left) (ap (λ (e : Equation). e.right) second-right),
+        )
 
     module _ (n : Kept) (t : ℕ) (whole : EntersIn m n (composite_entry m.proofs s q) t) where
       abbrev os : List Proven
@@ -452,10 +476,10 @@ module _ (k : Kept) (a b : Applied) (p q : ℕ) (R : Ready k a b p q) (l : Kept)
     second-meets k R.good a b R.left R.right R.differ R.same p q R.hp R.hq R.ep R.eq l x r said m s half,
   )
 
-  pub large_first : 2 ^ 30 ≤ length (statement_at l.proofs p).left_slots + length (statement_at l.proofs r).right_slots → HasLargeClass (nodes_of k)
+  pub large_first : 2 ^ 30 ≤ length (statement_at l.proofs p).left_slots + length (statement_at l.proofs r).right_slots → HaveManyNames a.1 b.1
   large_first = first-large k R.good a b R.left R.right R.differ R.same p q R.hp R.hq R.ep R.eq l x r said
 
-  pub large_second : (m : Kept) (s : ℕ) → EntersIn l m (composite_entry l.proofs p r) s → 2 ^ 30 ≤ length (statement_at m.proofs s).left_slots + length (statement_at m.proofs q).right_slots → HasLargeClass (nodes_of k)
+  pub large_second : (m : Kept) (s : ℕ) → EntersIn l m (composite_entry l.proofs p r) s → 2 ^ 30 ≤ length (statement_at m.proofs s).left_slots + length (statement_at m.proofs q).right_slots → HaveManyNames a.1 b.1
   large_second m s half = second-large k R.good a b R.left R.right R.differ R.same p q R.hp R.hq R.ep R.eq l x r said m s half
 
   module _ (m : Kept) (s : ℕ) (half : EntersIn l m (composite_entry l.proofs p r) s) (n : Kept) (t : ℕ) (whole : EntersIn m n (composite_entry m.proofs s q) t) where
@@ -510,6 +534,7 @@ module _ (k : Kept) (good : Good k) (a b : Applied) (l : Kept) (x : Proven) (p :
   agreed-good = record {
     rows = good.rows;
     fits = good.fits;
+    numbered = good.numbered;
     sound = said.sound;
     proved = said.proved;
     later = good.later;

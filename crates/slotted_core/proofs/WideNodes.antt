@@ -21,7 +21,8 @@ use Rattle.slotted_proofs.specs.AlikeNodes.{AreAlikeArgs}
 use Rattle.slotted_proofs.specs.Equations.{to_applied}
 use Rattle.slotted_proofs.specs.Steps.{IsLarge, Matches, name_count}
 use Rattle.slotted_terms.specs.Seen as seen
-use Rattle.slotted_core.specs.Canonical.{args_count, args_size, node_size, HasWideNode}
+use Rattle.slotted_core.specs.Canonical.{args_count, args_size, node_size}
+use Rattle.slotted_core.specs.Causes.{IsWideClass}
 use Rattle.slotted_core.specs.Frames.{AreAlikeForms}
 use Rattle.slotted_core.proofs.CanonicalTerms.{places-counted}
 use Rattle.slotted_core.proofs.NameMaps.{length-values}
@@ -40,8 +41,8 @@ length-taken : (n p : ℕ) (xs : List ℕ) → length (take n (drop p xs)) ≤ l
 length-taken n p xs = omega (arith, length-take n (drop p xs), length-drop p xs)
 
 -- where the node of a class has too many places
-pub wide_class : (nodes : List DTerm) (i : ℕ) → i < length nodes → (f : Form) → Fits f → nameless_node f ≡ canonical_node nodes i → 2 ^ 29 ≤ length f.names → HasWideNode nodes
-wide_class nodes i lt f fits is large = (i, lt, omega (arith, large, names_fit_size f fits, ap node_size is))
+pub wide_class : (nodes : List DTerm) (i : ℕ) (f : Form) → Fits f → nameless_node f ≡ canonical_node nodes i → 2 ^ 29 ≤ length f.names → IsWideClass nodes i
+wide_class nodes i f fits is large = omega (arith, large, names_fit_size f fits, ap node_size is)
 
 -- the names of a child are among those of the node
 pub child_fits_size : (f : Form) → Fits f → (k : ℕ) (m : List (ℕ × ℕ)) → values m ≡ child_names f k → length m ≤ node_size (nameless_node f)
@@ -68,9 +69,8 @@ size-moved f (place x rest) = ap (λ n. 1 + n) (size-moved f rest)
 size-moved f (sub op payloads args rest) = λ i. 1 + size-moved f args i + size-moved f rest i
 size-moved f (scope inner rest) = λ i. 1 + size-moved (lift f) inner i + size-moved f rest i
 
-pub wide_at : (nodes : List DTerm) (a : Applied) → IsFull nodes a → (f : Form) → nameless_node f ≡ moved (filled a.1) (canonical_node nodes a.0) → 2 ^ 29 ≤ node_size (nameless_node f) → HasWideNode nodes
-wide_at nodes a full f is large =
-    (a.0, full.in_range, omega (arith, large, ap node_size is, size-moved (filled a.1) (canonical_node nodes a.0).args))
+pub wide_at : (nodes : List DTerm) (a : Applied) (f : Form) → nameless_node f ≡ moved (filled a.1) (canonical_node nodes a.0) → 2 ^ 29 ≤ node_size (nameless_node f) → IsWideClass nodes a.0
+wide_at nodes a f is large = omega (arith, large, ap node_size is, size-moved (filled a.1) (canonical_node nodes a.0).args)
 
 -- the equation of two children has no more names than their nodes
 

@@ -2,13 +2,16 @@
 --     place_count d     how many names and binders stand in a nameless term
 --     HasLargeNode g    a canonical node has 2^30 places or more
 --     node_size d       how many names, binders and children stand in a node
---     HasWideNode g     a canonical node has 2^29 of them or more
+--     IsNodeOf g a f    f is the canonical node of an id's class, with the names of the id put in
 --     IsBeside f h      h is f but for the ids of its children
 use Rattle.std.specs.Prelude.{◌≡◌, ℕ, ◌+◌, ◌^◌, ◌<◌, ◌≤◌, List, length}
 use Rattle.slotted_theory.specs.Term.{Term}
-use Rattle.slotted_theory.specs.Nameless.{DArgs, DTerm, stop, place, sub, scope}
+use Rattle.slotted_theory.specs.FiniteMaps as maps
+use Rattle.slotted_theory.specs.Nameless.{DArgs, DTerm, stop, place, sub, scope, moved}
 use Rattle.slotted_nodes.specs.Form.{Form, children}
 use Rattle.slotted_languages.specs.Filled.{filled}
+use Rattle.slotted_languages.specs.NodeTerm.{nameless_node}
+use Rattle.slotted_model.specs.Applied.{Applied}
 use Rattle.slotted_model.specs.Classes.{canonical_node}
 
 abbrev pub args_count : DArgs → ℕ
@@ -33,9 +36,9 @@ args_size (scope inner rest) = 1 + args_size inner + args_size rest
 abbrev pub node_size : DTerm → ℕ
 node_size d = args_size d.args
 
--- the node of some class has 2^29 names, binders and children or more: two of its children may have too many names to be numbered
-abbrev pub HasWideNode : List DTerm → Type 0
-HasWideNode nodes = (i : ℕ) × (i < length nodes) × (2 ^ 29 ≤ node_size (canonical_node nodes i))
+-- the canonical node of the id's class, with the names of the id put in
+abbrev pub IsNodeOf : List DTerm → Applied → Form → Type 0
+IsNodeOf nodes a f = nameless_node f ≡ moved (maps.filled a.1) (canonical_node nodes a.0)
 
 -- operator, payloads, and what stands beside the children are the same
 pub record IsBeside (f h : Form) : Type 0 where

@@ -3,7 +3,7 @@
 --     Fits g e s          the step s proves the equation e over the entries of the graph
 --     CanRunOut g e s     slots can run out
 --     Accepts g h x p     the equation of x stands at p: nothing changed, or x is entered last, and nothing else changed
-use Rattle.std.specs.Prelude.{◌≡◌, ◌⊎◌, ℕ, ◌<◌, ◌≤◌, ◌+◌, ◌^◌, List, [], ◌∷◌, ◌++◌, length, slice_index_or}
+use Rattle.std.specs.Prelude.{◌≡◌, ◌⊎◌, ℕ, ◌<◌, List, [], ◌∷◌, ◌++◌, length, slice_index_or}
 use Rattle.slotted_theory.specs.FiniteMaps.{IsInjectiveMap}
 use Rattle.slotted_model.specs.Applied.{Applied}
 use Rattle.slotted_model.specs.Classes.{canonical_node, IsFull}
@@ -14,9 +14,10 @@ use Rattle.slotted_proofs.specs.Entries.{Proven, entry_of}
 use Rattle.slotted_proofs.specs.Equations.{to_applied, statement_of}
 use Rattle.slotted_proofs.specs.StepClaims.{IsOfFull}
 use Rattle.slotted_proofs.specs.Steps.{Matches, by_step}
-use Rattle.slotted_core.specs.Canonical.{HasWideNode}
+use Rattle.slotted_core.specs.Causes.{HasManyNames, SidesRunOut}
 use Rattle.slotted_core.specs.Graph.{Graph}
-use Rattle.slotted_core.specs.Image.{Image, StandsIn}
+use Rattle.slotted_core.specs.Image.{Image, AreDerivable, StandsIn}
+use Rattle.slotted_core.specs.Leaves.{FollowsFromLeaves}
 
 -- the entry with the number p is the equation of some ids, and one injective map of names takes a = b to it on both sides
 pub record SaysIn (g : Image) (p : ℕ) (a b : Applied) : Type 0 where
@@ -51,22 +52,26 @@ FitsBy g e (symmetric p) = SaysIn g p (to_applied e.r) (to_applied e.l)
 FitsBy g e (transitive p q) = GoesBetween g e p q
 FitsBy g e (congruent parts) = IsCongruentStep g e parts
 
--- too many names to be numbered stand on the two sides
-abbrev pub HasManyNames : Sides → Type 0
-HasManyNames e = 2 ^ 30 ≤ length e.l.m + length e.r.m
-
 -- both sides are ids of this graph, with different names for exactly the canonical slots of their classes, and the step proves the
 -- equation
 abbrev pub Fits : Image → Sides → Step → Type 0
 Fits g e s = IsOfFull g.canonical e × FitsBy g e s
 
--- slots can run out where the sides have too many names, or at a congruent step where a canonical node is wide
+-- slots can run out where the sides have too many names, or at a congruent step where the canonical node of one of them is wide
 abbrev pub CanRunOut : Image → Sides → Step → Type 0
-CanRunOut g e (congruent parts) = HasManyNames e ⊎ HasWideNode g.canonical
+CanRunOut g e (congruent parts) = SidesRunOut g.canonical e
 CanRunOut g e explicit = HasManyNames e
 CanRunOut g e reflexive = HasManyNames e
 CanRunOut g e (symmetric p) = HasManyNames e
 CanRunOut g e (transitive p q) = HasManyNames e
+
+-- the equation is derivable from what was asserted
+abbrev pub IsDerivable : Image → Sides → Type 0
+IsDerivable g e = AreDerivable g (to_applied e.l) (to_applied e.r)
+
+-- it follows from the explicit leaves of the entry p
+abbrev pub FollowsFromEntry : Image → Sides → ℕ → Type 0
+FollowsFromEntry g e p = FollowsFromLeaves g p (to_applied e.l) (to_applied e.r)
 
 -- the entry of an equation by a step
 abbrev pub entry_by : Sides → Step → Proven

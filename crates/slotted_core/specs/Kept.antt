@@ -31,7 +31,7 @@ use Rattle.slotted_core.specs.EntriesInUse.{FindOneClass, AllInUse}
 use Rattle.slotted_core.specs.EntryCode.{entry_code, proven_code}
 use Rattle.slotted_core.specs.FormCode.{form_code, form_is}
 use Rattle.slotted_core.specs.Image.{Image, FoundAlike, CanUnite, AddsClasses, NewClassesAre, IsIdOfNode, IsIdOfSubterm, Continues, Asserts, Records, StandsIn}
-use Rattle.slotted_core.specs.Names.{between, with_put}
+use Rattle.slotted_core.specs.Names.{between, with_put, HasNumberedBinders}
 use Rattle.slotted_core.specs.Nodes.{child_ids, to_applied}
 use Rattle.slotted_core.specs.declared.kernel.Class.{Class}
 use Rattle.slotted_core.specs.declared.kernel.Row.{Row}
@@ -178,10 +178,11 @@ IsNodeOver t k f = IsSmall f × AllKnown t f.names × All (IsFull (nodes_of k)) 
 abbrev pub IsUntouched : Kept → Type 0
 IsUntouched k = asserted (nodes_of k) (proofs_of k) ≡ [] → (i : ℕ) → i < length (nodes_of k) → IsLive (entries_of k) i
 
--- rows file the canonical nodes, finds and proofs are sound, and classes use all their slots
+-- rows file the canonical nodes, whose binders are numbered, finds and proofs are sound, and classes use all their slots
 pub record Good (k : Kept) : Type 0 where
   pub rows : k.rows ≡ rows_from 0 k.classes
   pub fits : (i : ℕ) → i < length k.classes → Fits (node_at k i)
+  pub numbered : (i : ℕ) → i < length k.classes → HasNumberedBinders (node_at k i)
   pub sound : Sound (nodes_of k) (entries_of k) (proofs_of k)
   pub proved : IsProved (nodes_of k) k.proofs
   pub later : IsLater (entries_of k) k.moment

@@ -9,9 +9,11 @@ pub mod Image
 pub mod Leaves
 pub mod Graph
 pub mod Reads
+pub mod Canonical
+pub mod Causes
 pub mod Checks
 pub mod EntriesInUse
 pub mod Kept
+pub mod Uniting
 pub mod SmallNodes
-pub mod Canonical
 pub mod Frames

@@ -1,16 +1,10 @@
 //! Nodes that agree but for their children, and the equations of the children.
-ghost use Rattle.std.specs.Prelude.{◌≡◌, ◌⊎◌, ◌^◌, ◌+◌, ◌≤◌, All, length, List, IfOk, IfErr, IfSome, IfNone, IsErrOf};
-ghost use Rattle.slotted_theory.specs.FiniteMaps.{IsInjectiveMap, value_of};
-ghost use Rattle.slotted_theory.specs.Shape.{number_in};
+ghost use Rattle.std.specs.Prelude.{◌≡◌, ◌⊎◌, All, IfOk, IfErr, IfSome, IfNone, IsErrOf};
+ghost use Rattle.slotted_theory.specs.FiniteMaps.{IsInjectiveMap};
 ghost use Rattle.slotted_slots.specs.Error.{IsOutOfMemory, IsShortage};
-ghost use Rattle.slotted_languages.specs.NodeTerm.{nameless_node};
-ghost use Rattle.slotted_model.specs.Correspondence.{flipped, same_names};
-ghost use Rattle.slotted_proofs.specs.declared.equation.Equation.{Equation as Sides};
-ghost use Rattle.slotted_proofs.specs.Steps.{HasInjectiveSides, Matches};
-ghost use Rattle.slotted_terms.specs.Seen.{lefts, rights};
-ghost use Rattle.slotted_core.specs.Canonical.{node_size};
-ghost use Rattle.slotted_core.specs.Frames.{numbers_under, under, AreAlikeForms};
-ghost use Rattle.slotted_core.specs.Nodes.{to_applied};
+ghost use Rattle.slotted_proofs.specs.Steps.{HasInjectiveSides};
+ghost use Rattle.slotted_core.specs.Causes.{HaveManyNames, IsWideNode};
+ghost use Rattle.slotted_core.specs.Frames.{AreAlikeForms, AreNeverAlike, MatchesBelow, partner_of, partners_of};
 
 use slotted_languages::Language;
 use slotted_proofs::Equation;
@@ -20,7 +14,7 @@ use std::alloc::Global;
 
 // The slot of the left child whose name is this one of the right child, below the binders.
 fn partner(binders: &[(Slot, Slot)], left: &SlotMap, name: Slot) -> Option<Slot>
-    ensures { result ≡ value_of (flipped (numbers_under (lefts binders.now) left.now)) (number_in (rights binders.now) name) }
+    ensures { result ≡ partner_of binders.now left.now name }
 {
     for (slot, own) in left.iter() {
         if same_name(binders, own, name) {
@@ -37,7 +31,7 @@ fn partners(
     left: &SlotMap,
     right: &SlotMap,
 ) -> Result<SlotMap, Error>
-    ensures ok { IfOk result (λ m. m ≡ same_names (numbers_under (rights binders.now) right.now) (numbers_under (lefts binders.now) left.now)) }
+    ensures ok { IfOk result (λ m. m ≡ partners_of binders.now left.now right.now) }
     ensures err { IfErr result IsOutOfMemory }
 {
     let mut map = SlotMap::new(alloc);
@@ -58,9 +52,9 @@ fn child_equation(
 ) -> Result<Equation, Error>
     requires left { IsInjectiveMap left.now.m }
     requires right { IsInjectiveMap right.now.m }
-    ensures matches { IfOk result (λ e. Matches (under (lefts binders.now) (to_applied left.now)) (under (rights binders.now) (to_applied right.now)) (to_applied e.l) (to_applied e.r)) }
+    ensures matches { IfOk result (MatchesBelow binders.now left.now right.now) }
     ensures injective { IfOk result HasInjectiveSides }
-    ensures full { IsErrOf result Error.OutOfSlots → 2 ^ 30 ≤ length left.now.m + length right.now.m }
+    ensures full { IsErrOf result Error.OutOfSlots → HaveManyNames left.now.m right.now.m }
     ensures err { IfErr result IsShortage }
 {
     prove_eq!(left.m.len(), left.m.len());
@@ -78,8 +72,8 @@ pub(crate) fn child_equations<L: Language>(
 ) -> Result<Option<Vec<Equation>>, Error>
     ensures alike { IfOk result (λ o. IfSome o (λ v. AreAlikeForms (L.form left.now) (L.form right.now) v.items)) }
     ensures injective { IfOk result (λ o. IfSome o (λ v. All HasInjectiveSides v.items)) }
-    ensures none { IfOk result (λ o. IfNone o ((cs : List Sides) → All HasInjectiveSides cs → ¬ AreAlikeForms (L.form left.now) (L.form right.now) cs)) }
-    ensures full { IsErrOf result Error.OutOfSlots → (2 ^ 29 ≤ node_size (nameless_node (L.form left.now))) ⊎ (2 ^ 29 ≤ node_size (nameless_node (L.form right.now))) }
+    ensures none { IfOk result (λ o. IfNone o (AreNeverAlike (L.form left.now) (L.form right.now))) }
+    ensures full { IsErrOf result Error.OutOfSlots → IsWideNode (L.form left.now) ⊎ IsWideNode (L.form right.now) }
     ensures err { IfErr result IsShortage }
 {
     let Some(nodes) = Outlines::new(alloc, left, right)? else {

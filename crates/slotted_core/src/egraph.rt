@@ -9,11 +9,12 @@ ghost use Rattle.slotted_model.specs.Classes.{Canonical, term_of};
 ghost use Rattle.slotted_model.specs.ProofList.{Proved};
 ghost use Rattle.slotted_proofs.specs.Entries.{explicit_numbers};
 ghost use Rattle.slotted_terms.specs.Valid.{IsValidTerm};
-ghost use Rattle.slotted_core.specs.Image.{no_classes, FoundAlike, SaysEqual, SaysDerivable, SaysTerms, AddsClasses};
-ghost use Rattle.slotted_core.specs.Image.{IsUnion, HasLargeClass, text_bytes};
+ghost use Rattle.slotted_core.specs.Image.{no_classes, FoundAlike, SaysEqual, SaysDerivable, SaysTerms};
+ghost use Rattle.slotted_core.specs.Image.{AddsClasses, IsUnion, text_bytes};
 ghost use Rattle.slotted_core.specs.Graph.{IsValidId, IsValidNode, id_of_form, id_of_term, StandsForNode, OnlyReads};
-ghost use Rattle.slotted_core.specs.Graph.{MakesClassWhereNone, FilesOnlyNode, FilesOnlySubterms, RecordsUnion};
-ghost use Rattle.slotted_core.specs.Graph.{IsRefusedForNow, MakesAtMost, RunsOutIn, RunsOutForTerm};
+ghost use Rattle.slotted_core.specs.Graph.{MakesClassWhereNone, FilesOnlyNode, FilesOnlySubterms};
+ghost use Rattle.slotted_core.specs.Graph.{RecordsUnion, IsRefusedForNow, MakesAtMost, RunsOutIn, RunsOutForTerm};
+ghost use Rattle.slotted_core.specs.Causes.{HaveManyNames};
 ghost use Rattle.slotted_core.specs.Nodes.{to_applied};
 ghost use Rattle.slotted_core.specs.Places.{term_slots};
 ghost use Rattle.slotted_core.specs.Reads.{AnswersTerm, NodesAreRead};
@@ -284,7 +285,7 @@ impl<L: Language, N: Drop> EGraph<L, N> {
         ensures not_yet { IsErrOf result Error.NotYet → IsRefusedForNow self.old self.new l.now r.now }
         ensures failed { IsErrOf result Error.Failed ↔ IsTrue self.old.failed }
         ensures fails { IsTrue self.new.failed ↔ (IsErr result × ¬ IsErrOf result Error.NotYet) }
-        ensures full { IsErrOf result Error.OutOfSlots → HasLargeClass self.old.image.canonical }
+        ensures full { IsErrOf result Error.OutOfSlots → HaveManyNames l.now.m r.now.m }
         ensures only { IfErr result (λ e. (e ≡ Error.Failed) ⊎ (e ≡ Error.NotYet) ⊎ IsShortage e) }
     {
         self.union_justified(l, r, None)
@@ -311,7 +312,7 @@ impl<L: Language, N: Drop> EGraph<L, N> {
         ensures not_yet { IsErrOf result Error.NotYet → IsRefusedForNow self.old self.new l.now r.now }
         ensures failed { IsErrOf result Error.Failed ↔ IsTrue self.old.failed }
         ensures fails { IsTrue self.new.failed ↔ (IsErr result × ¬ IsErrOf result Error.NotYet) }
-        ensures full { IsErrOf result Error.OutOfSlots → HasLargeClass self.old.image.canonical }
+        ensures full { IsErrOf result Error.OutOfSlots → HaveManyNames l.now.m r.now.m }
         ensures only { IfErr result (λ e. (e ≡ Error.Failed) ⊎ (e ≡ Error.NotYet) ⊎ IsShortage e) }
     {
         if self.failed {

@@ -1,12 +1,11 @@
 //! Canonical nodes and terms, with the names of an id put in.
-ghost use Rattle.std.specs.Prelude.{◌≡◌, ◌⊎◌, ◌<◌, ◌^◌, length, IfOk, IfErr, OnOk, IsErrOf};
-ghost use Rattle.slotted_theory.specs.FiniteMaps.{filled};
-ghost use Rattle.slotted_theory.specs.Nameless.{nameless, moved};
+ghost use Rattle.std.specs.Prelude.{◌≡◌, IfOk, IfErr, OnOk, IsErrOf};
+ghost use Rattle.slotted_theory.specs.Nameless.{nameless};
 ghost use Rattle.slotted_slots.specs.Error.{IsOutOfMemory, IsShortage};
 ghost use Rattle.slotted_slots.specs.Table.{KnowsMore};
-ghost use Rattle.slotted_languages.specs.NodeTerm.{nameless_node};
-ghost use Rattle.slotted_model.specs.Classes.{IsFull, canonical_node, term_of};
-ghost use Rattle.slotted_core.specs.Canonical.{HasLargeNode, IsBeside};
+ghost use Rattle.slotted_model.specs.Classes.{IsFull, term_of};
+ghost use Rattle.slotted_core.specs.Canonical.{IsNodeOf, IsBeside};
+ghost use Rattle.slotted_core.specs.Causes.{NodeRunsOut, TermRunsOut};
 ghost use Rattle.slotted_core.specs.Kept.{Good, nodes_of};
 ghost use Rattle.slotted_core.specs.Nodes.{to_applied};
 
@@ -21,10 +20,10 @@ impl<L: Language> Core<L> {
     pub fn syn_node(&self, alloc: Global, table: &mut SlotTable, a: &AppliedId) -> Result<L, Error>
         requires good { Good self.now }
         requires full { IsFull (nodes_of self.now) (to_applied a.now) }
-        ensures node { IfOk result (λ n. nameless_node (L.form n) ≡ moved (filled a.now.m) (canonical_node (nodes_of self.now) a.now.id.0)) }
+        ensures node { IfOk result (λ n. IsNodeOf (nodes_of self.now) (to_applied a.now) (L.form n)) }
         ensures more { KnowsMore table.old table.new }
         ensures kept { table.new.names ≡ table.old.names }
-        ensures full { IsErrOf result Error.OutOfSlots → (table.new.fresh ≡ 2 ^ 30) ⊎ HasLargeNode (nodes_of self.now) }
+        ensures full { IsErrOf result Error.OutOfSlots → NodeRunsOut (nodes_of self.now) a.now.id.0 table.new }
         ensures only { IfErr result IsShortage }
     {
         self.node_of(a.id.0).apply_slotmap(alloc, &a.m, table)
@@ -42,7 +41,7 @@ impl<L: Language> Core<L> {
         ensures term { IfOk result (λ t. nameless t ≡ term_of (nodes_of self.now) (to_applied a.now)) }
         ensures more { KnowsMore table.old table.new }
         ensures kept { table.new.names ≡ table.old.names }
-        ensures full { IsErrOf result Error.OutOfSlots → (table.new.fresh ≡ 2 ^ 30) ⊎ HasLargeNode (nodes_of self.now) }
+        ensures full { IsErrOf result Error.OutOfSlots → TermRunsOut (nodes_of self.now) a.now.id.0 table.new }
         ensures only { IfErr result IsShortage }
     {
         let mut node = self.syn_node(alloc, table, a)?;

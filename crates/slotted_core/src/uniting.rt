@@ -1,15 +1,12 @@
 //! Uniting two classes: proofs of what finds say, and the link.
-ghost use Rattle.std.specs.Prelude.{◌≡◌, ◌≢◌, ◌<◌, ◌↔◌, ℕ, length, Contains, IsTrue, IfOk, IfErr, IsErrOf, OnOk, option_map, string_bytes};
-ghost use Rattle.slotted_core.specs.Image.{CanUnite, HasLargeClass};
+ghost use Rattle.std.specs.Prelude.{◌<◌, ◌↔◌, length, IsTrue, IfOk, IfErr, IsErrOf, OnOk, option_map, string_bytes};
 ghost use Rattle.slotted_slots.specs.Error.{IsOutOfMemory, IsShortage};
-ghost use Rattle.slotted_slots.specs.Maps.{values};
 ghost use Rattle.slotted_model.specs.Classes.{IsFull};
-ghost use Rattle.slotted_model.specs.Correspondence.{same_names};
-ghost use Rattle.slotted_model.specs.Find.{find_class, find};
-ghost use Rattle.slotted_model.specs.ProofList.{find_equation, turned_equation};
-ghost use Rattle.slotted_proofs.specs.Entries.{asserted_entry};
-ghost use Rattle.slotted_core.specs.Kept.{Good, Proves, IsAsserted, Links, Unites, asserted_for, nodes_of, entries_of, image_of};
+ghost use Rattle.slotted_core.specs.Causes.{HaveManyNames, IsLargeClass};
+ghost use Rattle.slotted_core.specs.Kept.{Good, nodes_of};
 ghost use Rattle.slotted_core.specs.Nodes.{to_applied};
+ghost use Rattle.slotted_core.specs.Uniting.{AssertsSides, CanLink, FindOtherClasses, FindSameNames, IsHeir, LinksSides};
+ghost use Rattle.slotted_core.specs.Uniting.{ProvesBack, ProvesFind, UnitesSides};
 
 use crate::kernel::Core;
 use crate::names::have_same_values;
@@ -23,8 +20,8 @@ impl<L: Language> Core<L> {
     fn find_proof(&mut self, alloc: Global, id: usize) -> Result<ProvenEq, Error>
         requires good { Good self.old }
         requires within { id < length self.old.classes }
-        ensures ok { IfOk result (Proves self.old self.new (find_equation (nodes_of self.old) (entries_of self.old) id)) }
-        ensures full { IsErrOf result Error.OutOfSlots → HasLargeClass (nodes_of self.old) }
+        ensures ok { IfOk result (ProvesFind self.old self.new id) }
+        ensures full { IsErrOf result Error.OutOfSlots → IsLargeClass (nodes_of self.old) id }
         ensures err { IfErr result IsShortage }
     {
         let next = self.entry(id).id.0;
@@ -41,8 +38,8 @@ impl<L: Language> Core<L> {
     fn back_proof(&mut self, alloc: Global, id: usize) -> Result<ProvenEq, Error>
         requires good { Good self.old }
         requires within { id < length self.old.classes }
-        ensures ok { IfOk result (Proves self.old self.new (turned_equation (nodes_of self.old) (find_equation (nodes_of self.old) (entries_of self.old) id))) }
-        ensures full { IsErrOf result Error.OutOfSlots → HasLargeClass (nodes_of self.old) }
+        ensures ok { IfOk result (ProvesBack self.old self.new id) }
+        ensures full { IsErrOf result Error.OutOfSlots → IsLargeClass (nodes_of self.old) id }
         ensures err { IfErr result IsShortage }
     {
         let proof = self.find_proof(alloc, id)?;
@@ -62,8 +59,8 @@ impl<L: Language> Core<L> {
         requires good { Good self.old }
         requires left { IsFull (nodes_of self.old) (to_applied a.now) }
         requires right { IsFull (nodes_of self.old) (to_applied b.now) }
-        ensures ok { IfOk result (IsAsserted self.old self.new (asserted_for is_turned (to_applied a.now) (to_applied b.now) (option_map string_bytes text)) (to_applied a.now) (to_applied b.now)) }
-        ensures full { IsErrOf result Error.OutOfSlots → HasLargeClass (nodes_of self.old) }
+        ensures ok { IfOk result (AssertsSides self.old self.new is_turned a.now b.now (option_map string_bytes text)) }
+        ensures full { IsErrOf result Error.OutOfSlots → HaveManyNames a.now.m b.now.m }
         ensures err { IfErr result IsShortage }
     {
         if !is_turned {
@@ -81,7 +78,7 @@ impl<L: Language> Core<L> {
         requires good { Good self.now }
         requires left { IsFull (nodes_of self.now) (to_applied dead.now) }
         requires right { IsFull (nodes_of self.now) (to_applied kept.now) }
-        ensures ok { IfOk result (λ h. to_applied h ≡ (find_class (entries_of self.now) kept.now.id.0, same_names (find (entries_of self.now) (to_applied kept.now)).1 (find (entries_of self.now) (to_applied dead.now)).1)) }
+        ensures ok { IfOk result (IsHeir self.now dead.now kept.now) }
         ensures err { IfErr result IsOutOfMemory }
     {
         let from = self.found_id(alloc, dead)?;
@@ -105,10 +102,10 @@ impl<L: Language> Core<L> {
         requires good { Good self.old }
         requires left { IsFull (nodes_of self.old) (to_applied dead.now) }
         requires right { IsFull (nodes_of self.old) (to_applied kept.now) }
-        requires different { find_class (entries_of self.old) dead.now.id.0 ≢ find_class (entries_of self.old) kept.now.id.0 }
-        requires names { (x : ℕ) → Contains (values (find (entries_of self.old) (to_applied dead.now)).1) x ↔ Contains (values (find (entries_of self.old) (to_applied kept.now)).1) x }
-        ensures ok { OnOk result (Links self.old self.new (asserted_for is_turned (to_applied dead.now) (to_applied kept.now) (option_map string_bytes text)) (to_applied dead.now) (to_applied kept.now)) }
-        ensures full { IsErrOf result Error.OutOfSlots → HasLargeClass (nodes_of self.old) }
+        requires different { FindOtherClasses self.old dead.now kept.now }
+        requires names { FindSameNames self.old dead.now kept.now }
+        ensures ok { OnOk result (LinksSides self.old self.new is_turned dead.now kept.now (option_map string_bytes text)) }
+        ensures full { IsErrOf result Error.OutOfSlots → HaveManyNames dead.now.m kept.now.m }
         ensures err { IfErr result IsShortage }
     {
         let from = self.find_class(dead.id.0);
@@ -130,7 +127,7 @@ impl<L: Language> Core<L> {
         requires good { Good self.now }
         requires left { IsFull (nodes_of self.now) (to_applied l.now) }
         requires right { IsFull (nodes_of self.now) (to_applied r.now) }
-        ensures ok { IfOk result (λ can. IsTrue can ↔ CanUnite (image_of self.now) (to_applied l.now) (to_applied r.now)) }
+        ensures ok { IfOk result (λ can. IsTrue can ↔ CanLink self.now l.now r.now) }
         ensures err { IfErr result IsOutOfMemory }
     {
         let left = self.found_id(alloc, l)?;
@@ -154,8 +151,8 @@ impl<L: Language> Core<L> {
         requires good { Good self.old }
         requires left { IsFull (nodes_of self.old) (to_applied l.now) }
         requires right { IsFull (nodes_of self.old) (to_applied r.now) }
-        ensures ok { IfOk result (Unites self.old self.new (asserted_entry (to_applied l.now) (to_applied r.now) (option_map string_bytes text)) (to_applied l.now) (to_applied r.now)) }
-        ensures full { IsErrOf result Error.OutOfSlots → HasLargeClass (nodes_of self.old) }
+        ensures ok { IfOk result (UnitesSides self.old self.new l.now r.now (option_map string_bytes text)) }
+        ensures full { IsErrOf result Error.OutOfSlots → HaveManyNames l.now.m r.now.m }
         ensures err { IfErr result IsShortage }
     {
         if self.eq(l, r) {

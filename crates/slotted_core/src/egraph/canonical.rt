@@ -1,14 +1,13 @@
 //! Canonical nodes and terms, and the entries of the proof list, as the graph gives them out.
-ghost use Rattle.std.specs.Prelude.{◌≡◌, ◌⊎◌, ◌↔◌, ◌<◌, ◌^◌, length, IsTrue, IfOk, IfErr, IsErrOf};
-ghost use Rattle.slotted_theory.specs.FiniteMaps.{filled};
-ghost use Rattle.slotted_theory.specs.Nameless.{nameless, moved};
+ghost use Rattle.std.specs.Prelude.{◌≡◌, ◌⊎◌, ◌↔◌, ◌<◌, length, IsTrue, IfOk, IfErr, IsErrOf};
+ghost use Rattle.slotted_theory.specs.Nameless.{nameless};
 ghost use Rattle.slotted_slots.specs.Error.{IsShortage};
-ghost use Rattle.slotted_languages.specs.NodeTerm.{nameless_node};
-ghost use Rattle.slotted_model.specs.Classes.{canonical_node, term_of};
+ghost use Rattle.slotted_model.specs.Classes.{term_of};
 ghost use Rattle.slotted_proofs.specs.Entries.{entries_of};
 ghost use Rattle.slotted_proofs.specs.Lines.{PartsAreEarlier};
 ghost use Rattle.slotted_proofs.specs.Proving.{IsProved};
-ghost use Rattle.slotted_core.specs.Canonical.{HasLargeNode};
+ghost use Rattle.slotted_core.specs.Canonical.{IsNodeOf};
+ghost use Rattle.slotted_core.specs.Causes.{NodeRunsOut, TermRunsOut};
 ghost use Rattle.slotted_core.specs.Graph.{IsValidId, OnlyTakesSlots};
 ghost use Rattle.slotted_core.specs.Leaves.{EntriesFollow};
 ghost use Rattle.slotted_core.specs.Nodes.{to_applied};
@@ -24,14 +23,14 @@ impl<L: Language, N: Drop> EGraph<L, N> {
     /// fresh names.
     pub fn get_syn_node(&mut self, a: &AppliedId) -> Result<L, Error>
         requires { IsTrue self.old.failed ⊎ IsValidId self.old (to_applied a.now) }
-        ensures node { IfOk result (λ n. nameless_node (L.form n) ≡ moved (filled a.now.m) (canonical_node self.old.image.canonical a.now.id.0)) }
+        ensures node { IfOk result (λ n. IsNodeOf self.old.image.canonical (to_applied a.now) (L.form n)) }
 
         // Only fresh slots are made, and a refusal does not fail the graph.
         ensures takes { OnlyTakesSlots self.old self.new }
         ensures stays { IsTrue self.old.failed → self.new ≡ self.old }
 
         ensures failed { IsErrOf result Error.Failed ↔ IsTrue self.old.failed }
-        ensures full { IsErrOf result Error.OutOfSlots → (self.new.table.fresh ≡ 2 ^ 30) ⊎ HasLargeNode self.old.image.canonical }
+        ensures full { IsErrOf result Error.OutOfSlots → NodeRunsOut self.old.image.canonical a.now.id.0 self.new.table }
         ensures only { IfErr result (λ e. (e ≡ Error.Failed) ⊎ IsShortage e) }
     {
         if self.failed {
@@ -51,7 +50,7 @@ impl<L: Language, N: Drop> EGraph<L, N> {
         ensures stays { IsTrue self.old.failed → self.new ≡ self.old }
 
         ensures failed { IsErrOf result Error.Failed ↔ IsTrue self.old.failed }
-        ensures full { IsErrOf result Error.OutOfSlots → (self.new.table.fresh ≡ 2 ^ 30) ⊎ HasLargeNode self.old.image.canonical }
+        ensures full { IsErrOf result Error.OutOfSlots → TermRunsOut self.old.image.canonical a.now.id.0 self.new.table }
         ensures only { IfErr result (λ e. (e ≡ Error.Failed) ⊎ IsShortage e) }
     {
         if self.failed {

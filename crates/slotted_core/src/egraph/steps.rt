@@ -1,11 +1,8 @@
 //! Proof steps, each accepted exactly where it is right.
 ghost use Rattle.std.specs.Prelude.{◌≡◌, ◌⊎◌, ◌↔◌, IsTrue, IfOk, OnErr, IfErr, IsErrOf};
 ghost use Rattle.slotted_model.specs.ProofList.{Step, reflexive, symmetric, transitive, congruent};
-ghost use Rattle.slotted_proofs.specs.Equations.{to_applied};
 ghost use Rattle.slotted_proofs.specs.Steps.{IsRefusal};
-ghost use Rattle.slotted_core.specs.Checks.{Fits, CanRunOut, Accepts, entry_by};
-ghost use Rattle.slotted_core.specs.Image.{AreDerivable};
-ghost use Rattle.slotted_core.specs.Leaves.{FollowsFromLeaves};
+ghost use Rattle.slotted_core.specs.Checks.{Fits, CanRunOut, Accepts, IsDerivable, FollowsFromEntry, entry_by};
 
 use crate::egraph::EGraph;
 use slotted_languages::Language;
@@ -34,10 +31,10 @@ pub trait Check {
 
         // What stands at the answered number follows from what was asserted.
         ensures accepted { IfOk result (Accepts graph.old graph.new (entry_by equation.now (step self.now))) }
-        ensures derivable { IfOk result (λ _. AreDerivable graph.old.image (to_applied equation.now.l) (to_applied equation.now.r)) }
+        ensures derivable { IfOk result (λ _. IsDerivable graph.old.image equation.now) }
 
         // And from the explicit leaves of its own tree alone.
-        ensures leaves { IfOk result (λ p. FollowsFromLeaves graph.new.image p (to_applied equation.now.l) (to_applied equation.now.r)) }
+        ensures leaves { IfOk result (FollowsFromEntry graph.new.image equation.now) }
 
         ensures err { OnErr result (graph.new ≡ graph.old) }
         ensures failed { IsErrOf result Error.Failed ↔ IsTrue graph.old.failed }

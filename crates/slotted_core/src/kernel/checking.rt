@@ -1,17 +1,14 @@
 //! Steps that callers ask for, over the classes of a graph.
-ghost use Rattle.std.specs.Prelude.{◌≡◌, ◌⊎◌, ◌+◌, ◌^◌, ◌≤◌, length, ◌↔◌, IsTrue, IfOk, OnErr, IfErr, IsErrOf};
+ghost use Rattle.std.specs.Prelude.{◌≡◌, ◌↔◌, IsTrue, IfOk, OnErr, IfErr, IsErrOf};
 ghost use Rattle.slotted_slots.specs.Error.{IsShortage};
-ghost use Rattle.slotted_theory.specs.FiniteMaps.{filled};
-ghost use Rattle.slotted_theory.specs.Nameless.{moved};
-ghost use Rattle.slotted_languages.specs.NodeTerm.{nameless_node};
-ghost use Rattle.slotted_model.specs.Classes.{IsFull, canonical_node};
+ghost use Rattle.slotted_model.specs.Classes.{IsFull};
 ghost use Rattle.slotted_model.specs.ProofList.{reflexive, symmetric, transitive, congruent};
-ghost use Rattle.slotted_proofs.specs.Equations.{statement_of};
 ghost use Rattle.slotted_proofs.specs.StepClaims.{IsOfFull};
-ghost use Rattle.slotted_proofs.specs.Steps.{IsRefusal, IsReflexiveStep, IsSymmetricStep, IsTransitiveStep, by_step};
-ghost use Rattle.slotted_core.specs.Canonical.{HasWideNode};
-ghost use Rattle.slotted_core.specs.Frames.{IsCongruentIn};
-ghost use Rattle.slotted_core.specs.Kept.{Good, EntersIn, nodes_of};
+ghost use Rattle.slotted_proofs.specs.Steps.{IsRefusal};
+ghost use Rattle.slotted_core.specs.Canonical.{IsNodeOf};
+ghost use Rattle.slotted_core.specs.Causes.{HasManyNames, IsWideClass, SidesRunOut};
+ghost use Rattle.slotted_core.specs.Frames.{EntersBy, FitsCongruent, FitsReflexive, FitsSymmetric, FitsTransitive};
+ghost use Rattle.slotted_core.specs.Kept.{Good, nodes_of};
 ghost use Rattle.slotted_core.specs.Nodes.{to_applied};
 
 use crate::congruence::child_equations;
@@ -34,10 +31,10 @@ impl<L: Language> Core<L> {
     /// The equation, if it is one of full ids, and both sides are equal.
     pub fn check_reflexive(&mut self, alloc: Global, equation: &Equation) -> Result<ProvenEq, Error>
         requires { Good self.old }
-        ensures fits { IfOk result (λ _. IsOfFull (nodes_of self.old) equation.now × IsReflexiveStep equation.now) }
-        ensures ok { IfOk result (EntersIn self.old self.new (by_step (statement_of equation.now) reflexive)) }
-        ensures refused { IsErrOf result Error.BadStep → ¬ (IsOfFull (nodes_of self.old) equation.now × IsReflexiveStep equation.now) }
-        ensures full { IsErrOf result Error.OutOfSlots → 2 ^ 30 ≤ length equation.now.l.m + length equation.now.r.m }
+        ensures fits { IfOk result (λ _. FitsReflexive self.old equation.now) }
+        ensures ok { IfOk result (EntersBy self.old self.new equation.now reflexive) }
+        ensures refused { IsErrOf result Error.BadStep → ¬ FitsReflexive self.old equation.now }
+        ensures full { IsErrOf result Error.OutOfSlots → HasManyNames equation.now }
         ensures only { IfErr result IsRefusal }
         ensures err { OnErr result (self.new ≡ self.old) }
     {
@@ -55,10 +52,10 @@ impl<L: Language> Core<L> {
         p: ProvenEq,
     ) -> Result<ProvenEq, Error>
         requires { Good self.old }
-        ensures fits { IfOk result (λ _. IsOfFull (nodes_of self.old) equation.now × IsSymmetricStep self.old.proofs equation.now p) }
-        ensures ok { IfOk result (EntersIn self.old self.new (by_step (statement_of equation.now) (symmetric p))) }
-        ensures refused { IsErrOf result Error.BadStep → ¬ (IsOfFull (nodes_of self.old) equation.now × IsSymmetricStep self.old.proofs equation.now p) }
-        ensures full { IsErrOf result Error.OutOfSlots → 2 ^ 30 ≤ length equation.now.l.m + length equation.now.r.m }
+        ensures fits { IfOk result (λ _. FitsSymmetric self.old equation.now p) }
+        ensures ok { IfOk result (EntersBy self.old self.new equation.now (symmetric p)) }
+        ensures refused { IsErrOf result Error.BadStep → ¬ FitsSymmetric self.old equation.now p }
+        ensures full { IsErrOf result Error.OutOfSlots → HasManyNames equation.now }
         ensures only { IfErr result IsRefusal }
         ensures err { OnErr result (self.new ≡ self.old) }
     {
@@ -78,10 +75,10 @@ impl<L: Language> Core<L> {
         q: ProvenEq,
     ) -> Result<ProvenEq, Error>
         requires { Good self.old }
-        ensures fits { IfOk result (λ _. IsOfFull (nodes_of self.old) equation.now × IsTransitiveStep self.old.proofs equation.now p q) }
-        ensures ok { IfOk result (EntersIn self.old self.new (by_step (statement_of equation.now) (transitive p q))) }
-        ensures refused { IsErrOf result Error.BadStep → ¬ (IsOfFull (nodes_of self.old) equation.now × IsTransitiveStep self.old.proofs equation.now p q) }
-        ensures full { IsErrOf result Error.OutOfSlots → 2 ^ 30 ≤ length equation.now.l.m + length equation.now.r.m }
+        ensures fits { IfOk result (λ _. FitsTransitive self.old equation.now p q) }
+        ensures ok { IfOk result (EntersBy self.old self.new equation.now (transitive p q)) }
+        ensures refused { IsErrOf result Error.BadStep → ¬ FitsTransitive self.old equation.now p q }
+        ensures full { IsErrOf result Error.OutOfSlots → HasManyNames equation.now }
         ensures only { IfErr result IsRefusal }
         ensures err { OnErr result (self.new ≡ self.old) }
     {
@@ -95,8 +92,8 @@ impl<L: Language> Core<L> {
     fn named_node(&self, alloc: Global, a: &AppliedId) -> Result<L, Error>
         requires good { Good self.now }
         requires full { IsFull (nodes_of self.now) (to_applied a.now) }
-        ensures ok { IfOk result (λ n. nameless_node (L.form n) ≡ moved (filled a.now.m) (canonical_node (nodes_of self.now) a.now.id.0)) }
-        ensures full { IsErrOf result Error.OutOfSlots → HasWideNode (nodes_of self.now) }
+        ensures ok { IfOk result (λ n. IsNodeOf (nodes_of self.now) (to_applied a.now) (L.form n)) }
+        ensures full { IsErrOf result Error.OutOfSlots → IsWideClass (nodes_of self.now) a.now.id.0 }
         ensures err { IfErr result IsShortage }
     {
         let node = self.node_of(a.id.0);
@@ -120,10 +117,10 @@ impl<L: Language> Core<L> {
         parts: Vec<ProvenEq>,
     ) -> Result<ProvenEq, Error>
         requires { Good self.old }
-        ensures fits { IfOk result (λ _. IsOfFull (nodes_of self.old) equation.now × IsCongruentIn self.old equation.now parts.items) }
-        ensures ok { IfOk result (EntersIn self.old self.new (by_step (statement_of equation.now) (congruent parts.items))) }
-        ensures refused { IsErrOf result Error.BadStep → ¬ (IsOfFull (nodes_of self.old) equation.now × IsCongruentIn self.old equation.now parts.items) }
-        ensures full { IsErrOf result Error.OutOfSlots → (2 ^ 30 ≤ length equation.now.l.m + length equation.now.r.m) ⊎ HasWideNode (nodes_of self.old) }
+        ensures fits { IfOk result (λ _. FitsCongruent self.old equation.now parts.items) }
+        ensures ok { IfOk result (EntersBy self.old self.new equation.now (congruent parts.items)) }
+        ensures refused { IsErrOf result Error.BadStep → ¬ FitsCongruent self.old equation.now parts.items }
+        ensures full { IsErrOf result Error.OutOfSlots → SidesRunOut (nodes_of self.old) equation.now }
         ensures only { IfErr result IsRefusal }
         ensures err { OnErr result (self.new ≡ self.old) }
     {

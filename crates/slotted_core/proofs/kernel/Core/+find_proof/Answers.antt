@@ -5,6 +5,7 @@ use Rattle.slotted_core.specs.Kept.{Kept, find_at, nodes_of, entries_of, EntersI
 use Rattle.slotted_proofs.specs.Equations.{Meets}
 use Rattle.slotted_proofs.specs.Entries.{statement_at, composite_entry}
 use Rattle.slotted_core.proofs.Chasing.{moments_left, next_within, nearer}
+use Rattle.slotted_core.proofs.LargeEquations.{next_is_large}
 use Rattle.slotted_core.proofs.UnionSteps.{live-proves, next-first, next-meets, next-large, next-proves}
 use Rattle.slotted_core.proofs.kernel.Core.+find_proof.Goals as goal
 
@@ -43,6 +44,12 @@ returns-clause-ok g t c =
     let next : c.entry.result.now.id.0 ≡ (find_at k c.args.id).class = ap (λ (a : Applied). a.0) c.entry.ensures in
     next-proves k c.requires.good c.args.id c.requires.within l c.in_ok-rest.rest c.entry.result.now.id.0 next c.in_ok-rest.ensures.ok c.chain.new.self c.in_ok-answer.answer
     (subst (λ p. EntersIn l c.chain.new.self (composite_entry l.proofs p c.in_ok-rest.rest) c.in_ok-answer.answer) c.proof_of-proof.ensures c.in_ok-answer.ensures.ok)
+
+pub returns-in_err-rest-clause-full : goal.returns-in_err-rest-clause-full
+returns-in_err-rest-clause-full g t c e =
+    let k : Kept = c.args.self.now in
+    let next : c.entry.result.now.id.0 ≡ (find_at k c.args.id).class = ap (λ (a : Applied). a.0) c.entry.ensures in
+    next_is_large k c.requires.good c.args.id c.requires.within c.entry.result.now.id.0 next (c.in_err-rest.ensures.full (search rules))
 
 pub returns-in_err-answer-clause-full : goal.returns-in_err-answer-clause-full
 returns-in_err-answer-clause-full g t c e =

@@ -1,12 +1,13 @@
 -- A child is earlier and full, and the terms of the children make that of the id.
-use Rattle.std.proofs.Common.{◌≡◌, ◌<◌, ◌+◌, ◌∙◌, [], length, ap, sym, subst, arith, rules}
+use Rattle.std.proofs.Common.{◌≡◌, ◌<◌, ◌+◌, ◌∙◌, [], length, ap, refl, sym, subst, inl, inr, arith, rules}
 use Rattle.std.specs.Prelude.{slice_index_or}
 use Rattle.std.proofs.lemmas.List.{length_push}
 use Rattle.slotted_nodes.specs.Form.{Form, children}
 use Rattle.slotted_model.specs.Applied.{Applied}
 use Rattle.slotted_core.specs.Kept.{nodes_of}
 use Rattle.slotted_core.specs.Nodes.{to_applied, child_ids}
-use Rattle.slotted_core.proofs.Children.{child_is}
+use Rattle.slotted_core.proofs.Children.{child_is, length-ids}
+use Rattle.slotted_core.proofs.LargeParts.{large_child_part}
 use Rattle.slotted_core.proofs.CanonicalTerms.{IsBelow, AreTermsOf, children-below, canonical-term, terms-step}
 use Rattle.slotted_core.proofs.kernel.Core.+syn_expr.Goals as goal
 
@@ -46,3 +47,22 @@ returns-clause-term g t c =
     let n : length us ≡ length (children (form c.in_ok-node.node).tree) = omega (arith, c.loop-k.invariant.count, c.loop-k-test.false, c.loop-k.auto.k-end, c.applied_id_count-k-end.ensures) in
     canonical-term nodes c.requires.good.sound.canonical (to_applied c.args.a.now) c.requires.full (form c.in_ok-node.node) (form c.forget_children.new.node) (g.met.L.LanguageChildren.fits c.in_ok-node.node) c.in_ok-node.ensures.node
     c.forget_children.ensures us n (λ j d e lt. c.loop-k.invariant.terms j d e (omega (arith, lt, c.loop-k.invariant.count)))
+
+pub returns-in_err-node-clause-full : goal.returns-in_err-node-clause-full
+returns-in_err-node-clause-full g t c e = elim (c.in_err-node.ensures.full (search rules)) [
+  | inl none ↦ inl none
+  | inr large ↦ inr (0, c.args.a.now.id.0, refl, large)
+]
+
+pub returns-in_err-term-clause-full : goal.returns-in_err-term-clause-full
+returns-in_err-term-clause-full g t c e =
+    let nodes = nodes_of c.args.self.now in
+    let a = to_applied c.args.a.now in
+    let f : Form = g.L.LanguageChildren.form c.in_ok-node.node in
+    let lt : c.loop-k.k < length (children f.tree) = omega (arith, c.loop-k-test.true, c.applied_id_count-k-end.ensures) in
+    let within : c.loop-k.k < length (child_ids f) = omega (arith, lt, length-ids f.tree f.names) in
+    let is = ap to_applied c.in_ok-child.ensures.ok ∙ child_is f c.loop-k.k (0, []) (to_applied c.applied_id.result.now) lt c.applied_id.ensures.id c.applied_id.ensures.keys c.applied_id.ensures.names in
+    elim (c.in_err-term.ensures.full (search rules)) [
+      | inl none ↦ inl none
+      | inr part ↦ inr (large_child_part nodes a f c.in_ok-node.ensures.node c.loop-k.k (0, []) within (to_applied c.in_ok-child.child) is part)
+    ]

@@ -1,9 +1,10 @@
-use Rattle.std.proofs.Common.{sym, subst, rules}
+use Rattle.std.proofs.Common.{sym, subst, arith, rules}
 use Rattle.std.specs.Prelude.{option_map, string_bytes}
+use Rattle.slotted_core.specs.Causes.{HaveManyNames}
 use Rattle.slotted_core.specs.Kept.{IsAsserted, asserted_for}
 use Rattle.slotted_core.specs.Nodes.{to_applied}
 use Rattle.slotted_core.proofs.Asserting.{asserted-straight, asserted-turned}
-use Rattle.slotted_core.proofs.LargeEquations.{ids_are_large, asserted_is_large}
+use Rattle.slotted_core.proofs.LargeEquations.{asserted_is_large}
 use Rattle.slotted_core.proofs.kernel.Core.assert_sides.Goals as goal
 
 pub returns-then-not-is_turned-clause-ok : goal.returns-then-not-is_turned-clause-ok
@@ -23,19 +24,13 @@ returns-clause-ok g c =
     (asserted-turned c.args.self.now c.requires.good b a c.requires.right c.requires.left text c.assert_equal-2.new.self c.turn.new.self c.in_ok-proof.proof c.in_ok-answer.answer
     (asserted-straight c.args.self.now c.requires.good b a c.requires.right c.requires.left text c.assert_equal-2.new.self c.in_ok-proof.proof c.in_ok-proof.ensures.ok) c.in_ok-answer.ensures.ok)
 
-pub returns-in_err-straight-clause-full : goal.returns-in_err-straight-clause-full
-returns-in_err-straight-clause-full g c e =
-    ids_are_large _ (to_applied c.args.a.now) (to_applied c.args.b.now) c.requires.left c.requires.right (c.in_err-straight.ensures.full (search rules))
-
-pub returns-in_err-proof-clause-full : goal.returns-in_err-proof-clause-full
-returns-in_err-proof-clause-full g c e =
-    ids_are_large _ (to_applied c.args.b.now) (to_applied c.args.a.now) c.requires.right c.requires.left (c.in_err-proof.ensures.full (search rules))
-
 pub returns-in_err-answer-clause-full : goal.returns-in_err-answer-clause-full
 returns-in_err-answer-clause-full g c e =
     let a = to_applied c.args.a.now in
     let b = to_applied c.args.b.now in
     let text = option_map string_bytes c.args.text in
-    asserted_is_large c.args.self.now c.assert_equal-2.new.self _ b a c.in_ok-proof.proof
+    let h : HaveManyNames b.1 a.1 =
+    asserted_is_large c.args.self.now c.assert_equal-2.new.self _ b a c.in_ok-proof.proof c.requires.right c.requires.left
     (asserted-straight c.args.self.now c.requires.good b a c.requires.right c.requires.left text c.assert_equal-2.new.self c.in_ok-proof.proof c.in_ok-proof.ensures.ok)
-    (c.in_err-answer.ensures.full (search rules))
+    (c.in_err-answer.ensures.full (search rules)) in
+    omega (arith, h)

@@ -1,8 +1,9 @@
-use Rattle.std.proofs.Common.{rules}
+use Rattle.std.proofs.Common.{◌<◌, length, arith, rules}
 use Rattle.slotted_model.specs.ProofList.{find_equation}
 use Rattle.slotted_core.specs.Kept.{nodes_of, entries_of}
 use Rattle.slotted_core.proofs.UnionSteps.{find-one, back-proves}
-use Rattle.slotted_core.proofs.LargeEquations.{proves_is_large}
+use Rattle.slotted_core.proofs.KeptLists.{length-nodes_of}
+use Rattle.slotted_core.proofs.LargeEquations.{found_is_large}
 use Rattle.slotted_core.proofs.kernel.Core.back_proof.Goals as goal
 
 pub returns-clause-ok : goal.returns-clause-ok
@@ -11,4 +12,6 @@ returns-clause-ok g c =
 
 pub returns-in_err-answer-clause-full : goal.returns-in_err-answer-clause-full
 returns-in_err-answer-clause-full g c e =
-    proves_is_large c.args.self.now c.find_proof.new.self _ c.in_ok-proof.proof c.in_ok-proof.ensures.ok (c.in_err-answer.ensures.full (search rules))
+    let k = c.args.self.now in
+    let within : c.args.id < length (nodes_of k) = omega (arith, c.requires.within, length-nodes_of k) in
+    found_is_large k c.find_proof.new.self c.requires.good c.args.id within c.in_ok-proof.proof c.in_ok-proof.ensures.ok (c.in_err-answer.ensures.full (search rules))

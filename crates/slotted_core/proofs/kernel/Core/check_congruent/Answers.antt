@@ -27,10 +27,9 @@ returns-in_err-children-clause-full g c x =
     let e = c.args.equation.now in
     let f = g.L.LanguageChildren.form c.in_ok-left.left in
     let h = g.L.LanguageChildren.form c.in_ok-right.right in
-    let full = c.is_of_full.ensures.0 c.if-not-is_of_full.false in
     elim (c.in_err-children.ensures.full (search rules)) [
-      | inl large ↦ inr (wide_at (nodes_of k) (to_applied e.l) full.left f c.in_ok-left.ensures.ok large)
-      | inr large ↦ inr (wide_at (nodes_of k) (to_applied e.r) full.right h c.in_ok-right.ensures.ok large)
+      | inl large ↦ inr (inl (wide_at (nodes_of k) (to_applied e.l) f c.in_ok-left.ensures.ok large))
+      | inr large ↦ inr (inr (wide_at (nodes_of k) (to_applied e.r) h c.in_ok-right.ensures.ok large))
     ]
 
 pub returns-in-Some-clause-full : goal.returns-in-Some-clause-full
@@ -39,13 +38,12 @@ returns-in-Some-clause-full g c x =
     let e = c.args.equation.now in
     let f = g.L.LanguageChildren.form c.in_ok-left.left in
     let h = g.L.LanguageChildren.form c.in_ok-right.right in
-    let full = c.is_of_full.ensures.0 c.if-not-is_of_full.false in
     let cs = c.deref.result.now in
     let alike : AreAlikeForms f h cs = subst (AreAlikeForms f h) (sym c.deref.ensures.value) (subst (λ o. IfSome o (λ v. AreAlikeForms f h v.items)) c.in-Some.is c.in_ok-children.ensures.alike) in
     elim (c.prove_congruent.ensures.full x) [
       | inl many ↦ inl many
       | inr large ↦ elim (large_child f h cs alike large) [
-        | inl wide ↦ inr (wide_at (nodes_of k) (to_applied e.l) full.left f c.in_ok-left.ensures.ok wide)
-        | inr wide ↦ inr (wide_at (nodes_of k) (to_applied e.r) full.right h c.in_ok-right.ensures.ok wide)
+        | inl wide ↦ inr (inl (wide_at (nodes_of k) (to_applied e.l) f c.in_ok-left.ensures.ok wide))
+        | inr wide ↦ inr (inr (wide_at (nodes_of k) (to_applied e.r) h c.in_ok-right.ensures.ok wide))
       ]
     ]

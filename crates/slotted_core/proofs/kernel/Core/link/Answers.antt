@@ -1,10 +1,11 @@
-use Rattle.std.proofs.Common.{◌∙◌, ◌<◌, ap, length, refl, sym, subst, rules}
+use Rattle.std.proofs.Common.{◌∙◌, ◌<◌, ap, inl, inr, length, refl, sym, subst, rules}
 use Rattle.std.specs.Prelude.{option_map, string_bytes}
 use Rattle.slotted_model.specs.Applied.{Applied}
 use Rattle.slotted_model.specs.Find.{find}
-use Rattle.slotted_core.specs.Image.{HasLargeClass}
-use Rattle.slotted_core.specs.Kept.{Kept, entries_of, with_linked, Links, asserted_for}
+use Rattle.slotted_core.specs.Causes.{IsLargeClass}
+use Rattle.slotted_core.specs.Kept.{Kept, nodes_of, entries_of, with_linked, Links, asserted_for}
 use Rattle.slotted_core.specs.Nodes.{to_applied}
+use Rattle.slotted_core.proofs.LargeEquations.{one_side_large}
 use Rattle.slotted_core.proofs.UnionSteps.{both, ready, step_first, step_second, large_first, large_second, explains-nodes, asserted_for-says, united, dead-within}
 use Rattle.slotted_core.proofs.kernel.Core.link.Goals as goal
 
@@ -105,6 +106,22 @@ returns-clause-ok g c =
     c.in_ok-heir.heir.m (ap (λ (y : Applied). y.1) h)
     c.set_link.new.self (c.in_ok-set_link.ensures.ok ∙ (λ i. with_linked c.chain-2.new.self (c.find_class-from.ensures.class i) (h i).0 c.in_ok-heir.heir.m c.in_ok-whole.whole)))
 
+-- both sides have as many names as the dead class has slots, or the kept one
+pub returns-in_err-back-clause-full : goal.returns-in_err-back-clause-full
+returns-in_err-back-clause-full g c h =
+    let k = c.args.self.now in
+    let a = to_applied c.args.dead.now in
+    let b = to_applied c.args.kept.now in
+    one_side_large k c.requires.good a b c.requires.left c.requires.right c.requires.names (inl (c.in_err-back.ensures.full (search rules)))
+
+pub returns-in_err-onward-clause-full : goal.returns-in_err-onward-clause-full
+returns-in_err-onward-clause-full g c h =
+    let k = c.args.self.now in
+    let a = to_applied c.args.dead.now in
+    let b = to_applied c.args.kept.now in
+    let many : IsLargeClass (nodes_of k) b.0 = subst (λ ns. IsLargeClass ns b.0) (explains-nodes k c.back_proof.new.self c.in_ok-back.ensures.ok.explains) (c.in_err-onward.ensures.full (search rules)) in
+    one_side_large k c.requires.good a b c.requires.left c.requires.right c.requires.names (inr many)
+
 pub returns-in_err-half-clause-full : goal.returns-in_err-half-clause-full
 returns-in_err-half-clause-full g c h =
     let k = c.args.self.now in
@@ -114,9 +131,7 @@ returns-in_err-half-clause-full g c h =
     let b = to_applied c.args.kept.now in
     let R = ready k k1 k2 c.requires.good a b c.requires.left c.requires.right c.requires.different c.requires.names c.in_ok-back.back c.in_ok-onward.onward c.in_ok-back.ensures.ok c.in_ok-onward.ensures.ok in
     let x = asserted_for c.args.is_turned a b (option_map string_bytes c.args.text) in
-    let e = both k k1 k2 c.requires.good a b c.requires.left c.requires.right c.requires.different c.requires.names c.in_ok-back.back c.in_ok-onward.onward c.in_ok-back.ensures.ok c.in_ok-onward.ensures.ok in
-    subst HasLargeClass (explains-nodes k k2 e)
-    (large_first k2 a b c.in_ok-back.back c.in_ok-onward.onward R c.assert_sides.new.self x c.in_ok-proof.proof c.in_ok-proof.ensures.ok (c.in_err-half.ensures.full (search rules)))
+    large_first k2 a b c.in_ok-back.back c.in_ok-onward.onward R c.assert_sides.new.self x c.in_ok-proof.proof c.in_ok-proof.ensures.ok (c.in_err-half.ensures.full (search rules))
 
 pub returns-in_err-whole-clause-full : goal.returns-in_err-whole-clause-full
 returns-in_err-whole-clause-full g c h =
@@ -127,6 +142,4 @@ returns-in_err-whole-clause-full g c h =
     let b = to_applied c.args.kept.now in
     let R = ready k k1 k2 c.requires.good a b c.requires.left c.requires.right c.requires.different c.requires.names c.in_ok-back.back c.in_ok-onward.onward c.in_ok-back.ensures.ok c.in_ok-onward.ensures.ok in
     let x = asserted_for c.args.is_turned a b (option_map string_bytes c.args.text) in
-    let e = both k k1 k2 c.requires.good a b c.requires.left c.requires.right c.requires.different c.requires.names c.in_ok-back.back c.in_ok-onward.onward c.in_ok-back.ensures.ok c.in_ok-onward.ensures.ok in
-    subst HasLargeClass (explains-nodes k k2 e)
-    (large_second k2 a b c.in_ok-back.back c.in_ok-onward.onward R c.assert_sides.new.self x c.in_ok-proof.proof c.in_ok-proof.ensures.ok c.chain.new.self c.in_ok-half.half c.in_ok-half.ensures.ok (c.in_err-whole.ensures.full (search rules)))
+    large_second k2 a b c.in_ok-back.back c.in_ok-onward.onward R c.assert_sides.new.self x c.in_ok-proof.proof c.in_ok-proof.ensures.ok c.chain.new.self c.in_ok-half.half c.in_ok-half.ensures.ok (c.in_err-whole.ensures.full (search rules))

@@ -23,5 +23,5 @@ returns-then-slot_count-ge-PLACES-clause-full g c e =
     let k = c.args.self.now in
     let a = to_applied c.args.a.now in
     let f = g.L.LanguageChildren.form c.node_of-node.result.now in
-    wide_class (nodes_of k) a.0 c.requires.full.in_range f (g.met.L.LanguageChildren.fits c.node_of-node.result.now) (ap nameless_node c.node_of-node.ensures ∙ sym (canonical-at k a.0 c.requires.full.in_range))
+    wide_class (nodes_of k) a.0 f (g.met.L.LanguageChildren.fits c.node_of-node.result.now) (ap nameless_node c.node_of-node.ensures ∙ sym (canonical-at k a.0 c.requires.full.in_range))
     (omega (arith, c.slot_count.ensures, c.if-slot_count-ge-PLACES.true))

@@ -23,6 +23,6 @@ returns-clause-full g c e =
     let lt : a.0 < length k.classes = omega (arith, c.requires.full.in_range, length-nodes_of k) in
     let is = ap nameless_node c.node_of.ensures ∙ node_at-is k a.0 lt in
     elim (c.apply_slotmap.ensures.full e) [
-      | inl large ↦ inr (a.0, c.requires.full.in_range, omega (arith, large, ap place_count is, places-counted f (g.met.L.LanguageChildren.fits c.node_of.result.now)))
+      | inl large ↦ inr (c.requires.full.in_range, omega (arith, large, ap place_count is, places-counted f (g.met.L.LanguageChildren.fits c.node_of.result.now)))
       | inr none ↦ inl none
     ]

@@ -1,0 +1,79 @@
+-- Where slots run out, told by what is at hand.
+--     HaveManyNames m n       the maps of two ids have too many names to be numbered
+--     HasManyNames e          so have the two sides of an equation
+--     IsLargeClass nodes i    so have two ids of a class
+--     IsWideClass nodes i     so may have two children of the canonical node of a class
+--     HasWideSide nodes e     the same of a side of an equation
+--     IsLargeNode nodes i     the canonical node of a class has too many places to be numbered
+--     HasLargePart nodes i    so has a node of its canonical term
+use Rattle.std.specs.Prelude.{◌≡◌, ℕ, zero, suc, ◌+◌, ◌^◌, ◌<◌, ◌≤◌, ◌⊎◌, List, [], ◌∷◌, length}
+use Rattle.slotted_slots.specs.Table.{slot_limit}
+use Rattle.slotted_slots.specs.Table.{Table}
+use Rattle.slotted_theory.specs.Nameless.{DArgs, DTerm, stop, place, sub, scope}
+use Rattle.slotted_nodes.specs.Form.{Form}
+use Rattle.slotted_languages.specs.NodeTerm.{nameless_node}
+use Rattle.slotted_model.specs.Classes.{canonical_node, canonical_slots}
+use Rattle.slotted_proofs.specs.declared.equation.Equation.{Equation as Sides}
+use Rattle.slotted_core.specs.Canonical.{node_size, place_count}
+
+-- the two maps together have too many names to be numbered
+abbrev pub HaveManyNames : List (ℕ × ℕ) → List (ℕ × ℕ) → Type 0
+HaveManyNames m n = slot_limit ≤ length m + length n
+
+-- so have the two sides of the equation
+abbrev pub HasManyNames : Sides → Type 0
+HasManyNames e = HaveManyNames e.l.m e.r.m
+
+-- the class has so many slots that two ids of it have too many names
+abbrev pub IsLargeClass : List DTerm → ℕ → Type 0
+IsLargeClass nodes i = 2 ^ 29 ≤ length (canonical_slots nodes i)
+
+-- the canonical node of the class has so many names, binders and children that two of its children may have too many names
+abbrev pub IsWideClass : List DTerm → ℕ → Type 0
+IsWideClass nodes i = 2 ^ 29 ≤ node_size (canonical_node nodes i)
+
+-- the canonical node of the class of one of the two sides is wide
+abbrev pub HasWideSide : List DTerm → Sides → Type 0
+HasWideSide nodes e = IsWideClass nodes e.l.id.0 ⊎ IsWideClass nodes e.r.id.0
+
+-- slots can run out at a congruent step of the equation
+abbrev pub SidesRunOut : List DTerm → Sides → Type 0
+SidesRunOut nodes e = HasManyNames e ⊎ HasWideSide nodes e
+
+-- the node is wide in this sense
+abbrev pub IsWideNode : Form → Type 0
+IsWideNode f = 2 ^ 29 ≤ node_size (nameless_node f)
+
+-- the canonical node of the class has too many places to be numbered
+abbrev pub IsLargeNode : List DTerm → ℕ → Type 0
+IsLargeNode nodes i = (i < length nodes) × (slot_limit ≤ place_count (canonical_node nodes i))
+
+-- the class of a child, as its payload has it
+abbrev pub class_of : List (List ℕ) → ℕ
+class_of [] = 0
+class_of ([] ∷ more) = 0
+class_of ((i ∷ keys) ∷ more) = i
+
+-- a child of the node is an id of the class
+abbrev pub HasChildOf : DArgs → ℕ → Type 0
+HasChildOf stop c = ⊥
+HasChildOf (place x rest) c = HasChildOf rest c
+HasChildOf (sub op payloads args rest) c = (class_of payloads ≡ c) ⊎ HasChildOf rest c
+HasChildOf (scope inner rest) c = HasChildOf inner c ⊎ HasChildOf rest c
+
+-- n steps from a class to that of a child of its canonical node lead from i to j
+abbrev pub Reaches : List DTerm → ℕ → ℕ → ℕ → Type 0
+Reaches nodes zero i j = i ≡ j
+Reaches nodes (suc n) i j = (c : ℕ) × HasChildOf (canonical_node nodes i).args c × Reaches nodes n c j
+
+-- a node of the canonical term of the class has too many places to be numbered
+abbrev pub HasLargePart : List DTerm → ℕ → Type 0
+HasLargePart nodes i = (n : ℕ) × (j : ℕ) × Reaches nodes n i j × IsLargeNode nodes j
+
+-- no fresh slot is left, or the canonical node of the class is too large
+abbrev pub NodeRunsOut : List DTerm → ℕ → Table → Type 0
+NodeRunsOut nodes i t = (t.fresh ≡ slot_limit) ⊎ IsLargeNode nodes i
+
+-- no fresh slot is left, or a node of the canonical term of the class is too large
+abbrev pub TermRunsOut : List DTerm → ℕ → Table → Type 0
+TermRunsOut nodes i t = (t.fresh ≡ slot_limit) ⊎ HasLargePart nodes i
