@@ -26,11 +26,11 @@ use Rattle.slotted_model.proofs.Members.{In, Contains-In}
 use Rattle.slotted_model.proofs.Full.{full-renamed, term_of-renamed}
 use Rattle.slotted_model.proofs.Fillings.{a_filling}
 use Rattle.slotted_model.proofs.Agreement.{unmoved-names}
-use Rattle.slotted_model.proofs.AtRest.{unopened-closed, rest-full_alike, rest-trees, rest-represented}
+use Rattle.slotted_model.proofs.AtRest.{unopened-closed, none-affected, rest-look_up, rest-full_alike, rest-trees, rest-represented}
 use Rattle.slotted_model.proofs.CanonicalValues.{full-alike, plainly-alike}
 use Rattle.slotted_model.proofs.FindProofs.{full-found_alike, exact-holds}
 use Rattle.slotted_model.proofs.Finding.{leads, find_class-live, found-in_range, found-live}
-use Rattle.slotted_model.proofs.LookUpsAreEqual.{tree-equal, filled-equal}
+use Rattle.slotted_model.proofs.LookUpsAreEqual.{tree-equal, filled-equal, found-equal as tree-of}
 use Rattle.slotted_model.proofs.Meeting.{Meeting, meeting}
 use Rattle.slotted_model.proofs.NormalIds.{found-renamed, found-name, full-is_valid}
 use Rattle.slotted_model.proofs.OtherFillings.{with_values-same}
@@ -147,6 +147,12 @@ module _ (g h : State) (rest_g : AtRest g) (rest_h : AtRest h) (none : HasNoOpen
       let a : (a : Applied) × IsFull g.nodes a × Equal (asserted g.nodes g.proofs) (term_of g.nodes a) t = (rest-represented g rest_g none_g t tree).0 r in
       let b : (b : Applied) × Correspond g h a.0 b = each-corresponds g h rest_g rest_h known has a.0 a.1 in
       (rest-represented h rest_h none t tree).1 (b.0, b.1.right_full, joined (turned b.1.equal) (Equal-through known a.2))
+
+  -- a tree that is looked up as what an id finds is looked up in h as what an id finds that corresponds to it
+  pub looked_up-there : (a b : Applied) → Correspond g h a b → (t : DTerm) → IsTree t → look_up_tree g t ≡ Some (find g.found a) → look_up_tree h t ≡ Some (find h.found b)
+  looked_up-there a b c t tree p =
+      rest-look_up h rest_h b c.right_full (none-affected h none (find_class h.found b.0)) t tree
+      (joined (turned c.equal) (Equal-through known (tree-of g rest_g a c.left_full t p)))
 
   -- and those that are looked up alike are so
   pub answer-there : (t u : DTerm) → IsTree t → IsTree u → (x : Applied) → look_up_tree g t ≡ Some x → look_up_tree g t ≡ look_up_tree g u → look_up_tree h t ≡ look_up_tree h u

@@ -97,6 +97,7 @@ pub mod ExtractedParts
 pub mod Cheapest
 pub mod Queues
 pub mod TableMaking
+pub mod AgreeingCosts
 pub mod Sizes
 pub mod KnownCosts
 pub mod Ties

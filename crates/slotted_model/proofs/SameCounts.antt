@@ -12,7 +12,7 @@ use Rattle.slotted_model.specs.Find.{Entry, entry_at, IsLive, find_class, find, 
 use Rattle.slotted_model.specs.Growth.{identity_id}
 use Rattle.slotted_model.specs.Rest.{IsValidIn, AtRest, lives_from, slots_from}
 use Rattle.slotted_model.specs.State.{State}
-use Rattle.slotted_model.proofs.Corresponding.{correspond-back, alike-there, class-there, names-there, each-corresponds, tree-there, answer-there}
+use Rattle.slotted_model.proofs.Corresponding.{correspond-back, alike-there, class-there, names-there, each-corresponds, tree-there, looked_up-there, answer-there}
 use Rattle.slotted_model.proofs.Correspondences.Listing.{injective-different}
 use Rattle.slotted_model.proofs.Finding.{leads, find_class-live, found-in_range, found-live}
 use Rattle.slotted_model.proofs.Growing.{identity-full}
@@ -158,6 +158,10 @@ agree g h rest_g rest_h none_g none_h known known_back has has_back = record {
   names = λ a b c. ascending-same (values (find g.found a).1) (values (find h.found b).1)
       (λ z. (names-there h g rest_h rest_g none_g known_back b a (back a b c) z, names-there g h rest_g rest_h none_h known a b c z));
   trees = λ t tree. (tree-there g h rest_g rest_h none_h known none_g has t tree, tree-there h g rest_h rest_g none_g known_back none_h has_back t tree);
+  looked_up = λ a b c t tree. (
+    looked_up-there g h rest_g rest_h none_h known a b c t tree,
+    looked_up-there h g rest_h rest_g none_g known_back b a (back a b c) t tree,
+  );
   answers = λ t u tree_t tree_u x p. (
     answer-there g h rest_g rest_h none_h known t u tree_t tree_u x p,
     λ e. let y = tree-there g h rest_g rest_h none_h known none_g has t tree_t (x, p) in answer-there h g rest_h rest_g none_g known_back t u tree_t tree_u y.0 y.1 e,

@@ -1,10 +1,13 @@
 -- Two sessions of the same trees and pairs in another order. The one unites u x and v x, keeps v, and adds f (u x), which is made over v x;
 -- the other adds f (u x) first, then v of another name, and keeps u: the nodes differ, and the graphs agree.
-use Rattle.std.proofs.Common.{◌≡◌, ◌≢◌, ◌↔◌, ℕ, zero, suc, ◌<◌, [], ◌∷◌, length, Some, refl, ap, sym, ◌∙◌, subst, arith, inl, inr}
+use Rattle.std.proofs.Common.{◌≡◌, ◌≢◌, ◌↔◌, ℕ, List, zero, suc, ◌<◌, ◌≤◌, [], ◌∷◌, length, Some, refl, ap, sym, ◌∙◌, subst, arith, inl, inr}
 use Rattle.std.specs.Prelude.{Contains, slice_index_or}
 use Rattle.slotted_theory.specs.Nameless.{DTerm, stop, place}
 use Rattle.slotted_theory.specs.Shape.{shape}
-use Rattle.slotted_theory.specs.Derives.{Equal, listed, turned, reflexive, within, equal_child, equal_done}
+use Rattle.slotted_theory.specs.Derives.{Equal, listed, turned, reflexive, within, moving, equal_child, equal_done}
+use Rattle.std.proofs.lemmas.Bool.{leb-true}
+use Rattle.slotted_theory.specs.Renaming.{swapped}
+use Rattle.slotted_theory.proofs.Bijections.{swap, to-injective}
 use Rattle.slotted_theory.proofs.Lists.{contains_head, contains_tail, contains_cases, Contains-nil}
 use Rattle.slotted_theory.proofs.Values.{node, child_before}
 use Rattle.slotted_model.specs.Applied.{Applied, as_term}
@@ -22,6 +25,13 @@ use Rattle.slotted_model.specs.Adding.{with_new_class, with_quiet_row, with_asse
 use Rattle.slotted_model.specs.Agreement.{Knows, Correspond, HasTermsOf, Agree}
 use Rattle.slotted_model.specs.Sessions.{nothing, Session, starts, adds, asserts, Follow, AreAmong}
 use Rattle.slotted_model.proofs.CompletenessExamples.{one_of, three_of}
+use Rattle.slotted_model.specs.Cost.{CostFunction, limited_size}
+use Rattle.slotted_model.specs.Extraction.{TableEntry, cost_in, Fits}
+use Rattle.slotted_model.proofs.AgreeingCosts.{costs-agree}
+use Rattle.slotted_model.proofs.KnownCosts.{lawful-everywhere}
+use Rattle.slotted_model.proofs.Optimal.{finished-fits}
+use Rattle.slotted_model.proofs.Sizes.{size-lawful, size-total}
+use Rattle.slotted_model.proofs.TableMaking.{made}
 use Rattle.slotted_model.proofs.Corresponding.{each-corresponds, alike-or_affected}
 use Rattle.slotted_model.proofs.Growing.{node-new}
 use Rattle.slotted_model.proofs.HoldingTrees.{session-holds, sessions-terms, sessions-agree}
@@ -285,3 +295,29 @@ answers =
 
 computed : (look_up_tree early (f_of (v_of 3)) ≡ Some (2, (0, 3) ∷ [])) × (look_up_tree late (f_of (v_of 3)) ≡ Some (1, (0, 3) ∷ []))
 computed = (refl, refl)
+
+-- f of the early graph and f of the late one have one size, by whatever tables
+abbrev k : CostFunction ℕ
+k = limited_size 100
+
+f_ids : Correspond early late (2, (0, 3) ∷ []) (1, (0, 3) ∷ [])
+f_ids = record {
+  left_full = record { in_range = omega arith; slots = refl; injective = (λ k. k, tt) };
+  right_full = record { in_range = omega arith; slots = refl; injective = (λ k. k, tt) };
+  equal = within (equal_child {d = v_of 3} {e = u_of 3} (moving (swapped 0 3) (to-injective (swap 0 3)) (listed (contains_head (v_of 0, u_of 0) []))) equal_done);
+}
+
+same_size : (table other : List (TableEntry ℕ)) → Fits ℕ early k table → Fits ℕ late k other → (x y : ℕ) → cost_in table 2 ≡ Some x → cost_in other 1 ≡ Some y → x ≡ y
+same_size table other fits other_fits x y p q =
+    let both = costs-agree early late (session-holds early_session).rest (session-holds late_session).rest agreed k (lawful-everywhere early k (size-lawful 100)) (lawful-everywhere late k (size-lawful 100))
+    table other fits other_fits (2, (0, 3) ∷ []) (1, (0, 3) ∷ []) f_ids x y p q in
+    let le : x ≤ y = leb-true x y both.0 in
+    let ge : y ≤ x = leb-true y x both.1 in
+    omega arith
+
+-- there are such tables
+fitting : (table : List (TableEntry ℕ)) × Fits ℕ early k table
+fitting =
+    let law = lawful-everywhere early k (size-lawful 100) in
+    let m = made early k law (size-total 100) in
+    (m.0, finished-fits early k m.0 (session-holds early_session).rest law m.1 m.2)

@@ -47,6 +47,9 @@ pub record Agree (g h : State) : Type 0 where
   -- and the same ones alike
   pub answers : (t u : DTerm) → IsTree t → IsTree u → (x : Applied) → look_up_tree g t ≡ Some x →
       (look_up_tree g t ≡ look_up_tree g u) ↔ (look_up_tree h t ≡ look_up_tree h u)
+  -- a tree is looked up as what an id finds exactly if it is looked up as what an id finds that corresponds to it
+  pub looked_up : (a b : Applied) → Correspond g h a b → (t : DTerm) → IsTree t →
+      (look_up_tree g t ≡ Some (find g.found a)) ↔ (look_up_tree h t ≡ Some (find h.found b))
   -- as many classes live, with as many slots
   pub lives : lives_from 0 g.found ≡ lives_from 0 h.found
   pub slots : slots_from 0 g.found ≡ slots_from 0 h.found

@@ -11,6 +11,7 @@ use Rattle.slotted_model.specs.ProofList.{asserted}
 use Rattle.slotted_model.specs.State.{Row, State, look_up_tree}
 use Rattle.slotted_model.specs.Rest.{IsValidIn, AtRest, IsAffected}
 use Rattle.slotted_model.specs.Trees.{IsTree}
+use Rattle.slotted_model.specs.Agreement.{Correspond, Agree}
 use Rattle.slotted_model.specs.Cost.{CostFunction, AtMost, AreAlike, IsLawfulOn, IsLawful, IsTotal, tree_cost, limited_size}
 use Rattle.slotted_model.specs.Extraction.{IsLawfulFor, TableEntry, cost_in, row_cost, row_class, CanEnterTable, IsLeast, IsInOrder, IsLeastFirst, HasCheaperChildren, BreaksTies, HasTiesBroken, IsFinished, IsQueue, QueueAfter, Fits, Extracts, IsMadeBy}
 
@@ -147,6 +148,13 @@ ExtractedCostsLeastOfEqual C =
     (a : Applied) (t : DTerm) → Extracts g table a t → (b : Applied) → IsFull g.nodes b → find_class g.found b.0 ≡ find_class g.found a.0 → ¬ IsAffected g (find_class g.found a.0) →
     (u : DTerm) → IsTree u → Equal (asserted g.nodes g.proofs) (term_of g.nodes b) u → AtMost k (tree_cost k t) (tree_cost k u)
 
+-- graphs that agree give the same costs to ids that correspond: whatever the order, and whichever classes were kept
+abbrev pub CostsAgree : Type 0 → Type 0
+CostsAgree C =
+    (g h : State) → AtRest g → AtRest h → Agree g h → (k : CostFunction C) → IsLawfulFor C g k → IsLawfulFor C h k →
+    (table other : List (TableEntry C)) → Fits C g k table → Fits C h k other → (a b : Applied) → Correspond g h a b →
+    (x y : C) → cost_in table (find_class g.found a.0) ≡ Some x → cost_in other (find_class h.found b.0) ≡ Some y → AtMost k x y × AtMost k y x
+
 -- all these laws
 pub record ExtractionLaws (C : Type 0) : Type 0 where
   pub sizes_are_lawful : SizesAreLawful
@@ -172,6 +180,7 @@ pub record ExtractionLaws (C : Type 0) : Type 0 where
   pub extracted_costs_least : ExtractedCostsLeast C
   pub extracted_costs_no_more_than_terms : ExtractedCostsNoMoreThanTerms C
   pub extracted_costs_least_of_equal : ExtractedCostsLeastOfEqual C
+  pub costs_agree : CostsAgree C
 
 -- costs that are lawful on known nodes are lawful enough, if each filed node is known, and with it each that is alike: so a caller's
 -- costs need only speak of nodes of its language

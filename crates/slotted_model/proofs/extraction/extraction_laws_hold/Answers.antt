@@ -4,6 +4,7 @@ use Rattle.slotted_model.proofs.TableMaking.{made}
 use Rattle.slotted_model.proofs.Optimal.{finished-covers, finished-fits, tree-at_most, term-at_most}
 use Rattle.slotted_model.proofs.Extracting.{extracts, extracted-tree, extracted-look_up, extracted-cost}
 use Rattle.slotted_model.proofs.ExtractedParts.{extracted-moved, extracted-made}
+use Rattle.slotted_model.proofs.AgreeingCosts.{costs-agree}
 use Rattle.slotted_model.proofs.Cheapest.{extracted-equal, least-represented, least-term, least-equal, least-table}
 use Rattle.slotted_model.proofs.KnownCosts.{lawful-everywhere}
 use Rattle.slotted_model.proofs.Sizes.{size-lawful, size-total, size-within}
@@ -34,4 +35,5 @@ returns g c = record {
   extracted_costs_least = λ s rest k law table fits a t x. least-represented s rest k law table fits a t x;
   extracted_costs_no_more_than_terms = λ s rest k law table fits a t x. least-term s rest k law table fits a t x;
   extracted_costs_least_of_equal = λ s rest k law table fits a t x. least-equal s rest k law table fits a t x;
+  costs_agree = costs-agree;
 }
