@@ -10,6 +10,7 @@ fn check_entry(rt: &(impl Abort + AllocGlobal), list: &ProofList, p: ProvenEq) {
     assert!(rt; list.is_valid(p));
     let entry = list.entry(rt.alloc(), p).expect(rt, "entry");
     assert!(rt; entry.equ == *list.equ(p));
+    assert!(rt; entry.copy(rt.alloc()).expect(rt, "copy") == entry);
 }
 
 #[test]
