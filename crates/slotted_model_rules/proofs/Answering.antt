@@ -61,13 +61,13 @@ value_at-kept v a values none w b e = elim (cases_Bool (numbers_eq v w)) [
 ]
 
 -- what a variable leaves
-record Bound (g : State) (st : MatchState) (v : List ℕ) (a : Applied) (out : MatchState) : Type 0 where
+pub record Bound (g : State) (st : MatchState) (v : List ℕ) (a : Applied) (out : MatchState) : Type 0 where
   grows : Grows st out
   value : Applied
   there : value_at out.values v ≡ Some value
   same : find g.found value ≡ find g.found a
 
-bound : (g : State) (st : MatchState) (v : List ℕ) (a : Applied) (out : MatchState) → In out (with_value g (value_at st.values v) st v a) → Bound g st v a out
+pub bound : (g : State) (st : MatchState) (v : List ℕ) (a : Applied) (out : MatchState) → In out (with_value g (value_at st.values v) st v a) → Bound g st v a out
 bound g st v a out h = go (value_at st.values v) refl h
   where
     go : (o : Option Applied) → value_at st.values v ≡ o → In out (with_value g o st v a) → Bound g st v a out
@@ -131,7 +131,7 @@ module _ (g : State) where
     found-grows (variable v) st a outs found out h = let b : Bound g st v a out = bound g st v a out (subst (In out) found h) in b.grows
     found-grows (replacing body part value) st a outs found out h = absurd (subst (In out) found h)
 
-    inside-grows : (args : PatternArgs) (n : NodeArgs) (st : MatchState) (outs : List MatchState) → FoundIn g args n st outs → (out : MatchState) → In out outs → Grows st out
+    pub inside-grows : (args : PatternArgs) (n : NodeArgs) (st : MatchState) (outs : List MatchState) → FoundIn g args n st outs → (out : MatchState) → In out outs → Grows st out
     inside-grows no_argument n st outs found out h = only (subst (In out) found h)
       where
         only : In out (st ∷ []) → Grows st out

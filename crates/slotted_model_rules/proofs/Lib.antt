@@ -10,3 +10,4 @@ pub mod PatternExamples
 pub mod AllSlots
 pub mod Beside
 pub mod Completing
+pub mod Readings

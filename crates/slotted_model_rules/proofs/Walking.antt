@@ -36,7 +36,7 @@ abbrev pub Keeps : List (ℕ × ℕ) → List (ℕ × ℕ) → Type 0
 Keeps pairs later = (s t : ℕ) → Contains pairs (s, t) → Contains later (s, t)
 
 -- the pair is there afterwards, and all that was
-paired-keeps : (pairs : List (ℕ × ℕ)) (s t : ℕ) (q : List (ℕ × ℕ)) → paired pairs s t ≡ Some q → Contains q (s, t) × Keeps pairs q
+pub paired-keeps : (pairs : List (ℕ × ℕ)) (s t : ℕ) (q : List (ℕ × ℕ)) → paired pairs s t ≡ Some q → Contains q (s, t) × Keeps pairs q
 paired-keeps pairs s t q e = go (value_of pairs s) refl e
   where
     go : (o : Option ℕ) → value_of pairs s ≡ o → paired_with o pairs s t ≡ Some q → Contains q (s, t) × Keeps pairs q

@@ -3,6 +3,7 @@
 --     MatchState                ids for variables, which name of the graph stands for which slot of the pattern, and the names of the graph seen so far
 --     walked args n pairs       the pairs after all names of n were held beside those of the pattern's arguments, if they then are an injective map
 --     Found g p st a outs       from the state st the matcher finds the pattern at the id a in these states, in this order
+--     EachSlot P p              P holds of each slot that the pattern names
 --     Reads g f σ st            the values σ are those of the state, with the names that f gives: a slot of the pattern where there is one
 use Rattle.std.specs.Prelude.{◌≡◌, ◌⊎◌, ℕ, List, [], ◌∷◌, ◌++◌, Contains, Option, Some, None, option_and_then, cond, nat_eq}
 use Rattle.slotted_theory.specs.Nameless.{DArgs, stop, place, scope, extend}
@@ -141,6 +142,19 @@ abbrev mutual
   FoundIn g (own_name x rest) n st outs = FoundIn g rest (rest_of n) st outs
   FoundIn g (child_pattern p rest) n st outs = (mid : List MatchState) × Found g p st (id_of_first n) mid × Gives (λ s here. FoundIn g rest (rest_of n) s here) mid outs
   FoundIn g (binding x inner rest) n st outs = (mid : List MatchState) × FoundIn g inner (inside_first n) st mid × Gives (λ s here. FoundIn g rest (rest_of n) s here) mid outs
+
+abbrev mutual
+  -- P holds of each slot that the pattern names, binders too
+  pub EachSlot : (ℕ → Type 0) → Pattern → Type 0
+  EachSlot P (pattern_node op payloads args) = EachSlotIn P args
+  EachSlot P (variable v) = Unit {0}
+  EachSlot P (replacing body part value) = EachSlot P body × EachSlot P part × EachSlot P value
+
+  pub EachSlotIn : (ℕ → Type 0) → PatternArgs → Type 0
+  EachSlotIn P no_argument = Unit {0}
+  EachSlotIn P (own_name x rest) = P x × EachSlotIn P rest
+  EachSlotIn P (child_pattern p rest) = EachSlot P p × EachSlotIn P rest
+  EachSlotIn P (binding x inner rest) = P x × EachSlotIn P inner × EachSlotIn P rest
 
 -- a live class under its own slots, and the state in which nothing but these was seen
 abbrev pub class_id : State → ℕ → Applied
