@@ -11,3 +11,4 @@ pub mod AllSlots
 pub mod Beside
 pub mod Completing
 pub mod Readings
+pub mod MatchingExamples

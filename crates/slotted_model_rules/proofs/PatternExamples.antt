@@ -26,22 +26,22 @@ use Rattle.slotted_model_rules.proofs.LookingUp.{matches-look_ups}
 use Rattle.slotted_model_rules.proofs.Answering.{found-look_up}
 
 -- the classes of (var $0), (lam $x (var $x)), and (app (lam $x (var $x)) (lam $x (var $x)))
-abbrev var_node : DTerm
+abbrev pub var_node : DTerm
 var_node = node 1 [] (place 0 stop)
 
-abbrev lam_node : DTerm
+abbrev pub lam_node : DTerm
 lam_node = node 2 [] (scope (child_before (as_term (0, (0, 0) ∷ [])) stop) stop)
 
-abbrev app_node : DTerm
+abbrev pub app_node : DTerm
 app_node = node 3 [] (child_before (as_term (1, [])) (child_before (as_term (1, [])) stop))
 
-abbrev one : State
+abbrev pub one : State
 one = made empty var_node
 
-abbrev two : State
+abbrev pub two : State
 two = made one lam_node
 
-abbrev graph : State
+abbrev pub graph : State
 graph = made two app_node
 
 one_rests : AtRest one
@@ -52,7 +52,7 @@ two_rests =
     made-rests one one_rests lam_node (omega arith) ((((0, (0, 0) ∷ []), refl, record { in_range = omega arith; slots = refl; injective = (λ h. h, tt) }), tt), tt)
     refl (λ s c. absurd (Contains-nil s c)) (refl, λ y c. absurd (Contains-nil y c))
 
-rests : AtRest graph
+pub rests : AtRest graph
 rests =
     made-rests two two_rests app_node (omega arith) (
       ((1, []), refl, record { in_range = omega arith; slots = refl; injective = tt }),
@@ -61,10 +61,10 @@ rests =
     refl (λ s c. absurd (Contains-nil s c)) (refl, λ y c. absurd (Contains-nil y c))
 
 -- (lam $7 ?a), and ?a is (var $x)
-abbrev lam_pattern : Pattern
+abbrev pub lam_pattern : Pattern
 lam_pattern = pattern_node 2 [] (binding 7 (child_pattern (variable (97 ∷ [])) no_argument) no_argument)
 
-abbrev var_of : ℕ → List ℕ → Applied
+abbrev pub var_of : ℕ → List ℕ → Applied
 var_of x v = (0, (0, x) ∷ [])
 
 -- where ?a is (var $7) the value is bound by the pattern's binder, and the pattern is there; where it is (var $8) it is not
@@ -75,13 +75,13 @@ free_value : look_up_pattern graph (λ y. y) (var_of 8) lam_pattern ≡ None
 free_value = refl
 
 -- the matcher holds the pattern beside the node (lam $9 0[$9]): the name 9 stands for the slot 7, and ?a is 0[$9]
-abbrev out : MatchState
+abbrev pub out : MatchState
 out = record { values = ((97 ∷ []), (0, (0, 9) ∷ [])) ∷ []; pairs = (9, 7) ∷ []; seen = 9 ∷ 9 ∷ [] }
 
 abbrev lam_names : NodeArgs
 lam_names = a_binder 9 (an_id (0, (0, 9) ∷ []) no_more) no_more
 
-lam_found : Found graph lam_pattern (start_at graph 1) (class_id graph 1) (out ∷ [])
+pub lam_found : Found graph lam_pattern (start_at graph 1) (class_id graph 1) (out ∷ [])
 lam_found = (
   [], out ∷ [], refl, inl (λ h. let e : ◌≡◌ {A = ℕ} 3 2 = h.operator in omega arith, refl),
   (
