@@ -1,7 +1,7 @@
 -- What the matcher finds, and what it misses where a slot was dropped.
-use Rattle.std.proofs.Common.{◌≡◌, ℕ, zero, suc, ◌<◌, List, [], ◌∷◌, length, Some, sym, ap, refl, subst, inl, inr, arith, ◌⊎◌}
+use Rattle.std.proofs.Common.{◌≡◌, ℕ, zero, suc, List, [], ◌∷◌, Some, sym, refl, subst, inl, inr, arith, ◌⊎◌}
 use Rattle.std.specs.Prelude.{Contains}
-use Rattle.slotted_theory.proofs.Lists.{contains_head, contains_tail, contains_cases, Contains-nil}
+use Rattle.slotted_theory.proofs.Lists.{contains_head, contains_cases, Contains-nil}
 use Rattle.slotted_model.specs.Applied.{Applied}
 use Rattle.slotted_model.specs.Rest.{IsValidIn}
 use Rattle.slotted_model.proofs.CompletenessExamples as dropped
@@ -30,7 +30,7 @@ own_binder = record { differ = (Contains-nil 7, tt); in_scope = bound }
 -- so this substitution is a reading of what is found
 lam_is_found : (out : MatchState) × Contains (small.out ∷ []) out × (f : ℕ → ℕ) × Reads small.graph f (small.var_of 7) out
 lam_is_found =
-    finds-all small.graph small.rests all_slots (small.var_of 7) small.lam_pattern ((valid, tt), tt) own_binder (1, []) refl (small.out ∷ []) small.lam_found
+    finds-all small.graph small.rests all_slots small.graph.rows (λ r c. c) (small.var_of 7) small.lam_pattern ((valid, tt), tt) own_binder (1, []) refl (small.out ∷ []) small.lam_found
   where
     valid : IsValidIn small.graph (0, (0, 7) ∷ [])
     valid = full-is_valid small.graph.nodes small.graph.found small.rests.sane.sound.linked (0, (0, 7) ∷ []) (record { in_range = omega arith; slots = refl; injective = (λ h. h, tt) })
@@ -68,15 +68,24 @@ new_name z c = elim (contains_cases 3 (51 ∷ []) z c) [
   | inr k ↦ inr (λ h. not_51 (subst (Contains {X = ℕ} (50 ∷ 3 ∷ 3 ∷ [])) (one_of k) h))
 ]
 
-is_missed : Found dropped.graph lam_f_pattern (start_at dropped.graph 2) (class_id dropped.graph 2) []
+is_missed : Found dropped.graph dropped.graph.rows lam_f_pattern (start_at dropped.graph 2) (class_id dropped.graph 2) []
 is_missed = (
-  [], [], refl, inl (λ h. let e : ◌≡◌ {A = ℕ} 3 5 = h.operator in omega arith, refl),
+  [],
+  [],
+  refl,
+  inl (λ h. let e : ◌≡◌ {A = ℕ} 3 5 = h.operator in omega arith, refl),
   (
-    [], [], refl, inl (λ h. let e : ◌≡◌ {A = ℕ} 4 5 = h.operator in omega arith, refl),
+    [],
+    [],
+    refl,
+    inl (λ h. let e : ◌≡◌ {A = ℕ} 4 5 = h.operator in omega arith, refl),
     (
-      [], [], refl,
+      [],
+      [],
+      refl,
       inr (
-        lam_names, record { class = refl; operator = refl; payloads_same = refl },
+        lam_names,
+        record { class = refl; operator = refl; payloads_same = refl },
         record {
           id = (2, (3, 3) ∷ []);
           of_row = record { filed = (2, omega arith, refl); full = record { in_range = omega arith; slots = refl; injective = (λ h. h, tt) }; source = refl; same = refl };
@@ -93,9 +102,12 @@ is_missed = (
           (
             [],
             (
-              [], [], refl,
+              [],
+              [],
+              refl,
               inr (
-                f_names, record { class = refl; operator = refl; payloads_same = refl },
+                f_names,
+                record { class = refl; operator = refl; payloads_same = refl },
                 record {
                   id = (0, (0, 3) ∷ (1, 51) ∷ []);
                   of_row = record { filed = (0, omega arith, refl); full = record { in_range = omega arith; slots = refl; injective = (differ, (λ h. h, tt)) }; source = refl; same = refl };
@@ -107,7 +119,10 @@ is_missed = (
                 refl,
               ),
               (
-                [], [], refl, inl (λ h. let e : ◌≡◌ {A = ℕ} 4 3 = h.operator in omega arith, refl),
+                [],
+                [],
+                refl,
+                inl (λ h. let e : ◌≡◌ {A = ℕ} 4 3 = h.operator in omega arith, refl),
                 ([], [], refl, inl (λ h. let e : ◌≡◌ {A = ℕ} 5 3 = h.operator in omega arith, refl), refl),
               ),
             ),

@@ -1,9 +1,9 @@
 -- Readings of what the matcher finds: there is one, each slot of the pattern is read as itself, and two differ by a renaming of the other names.
-use Rattle.std.proofs.Common.{◌≡◌, ◌≢◌, ℕ, ◌<◌, List, [], ◌∷◌, ◌++◌, Option, Some, None, Bool, true, false, sym, ◌∙◌, ap, refl, subst, inl, inr, arith}
-use Rattle.std.specs.Prelude.{◌⊎◌, Contains, option_and_then, cond, nat_eq, map, unwrap_or}
+use Rattle.std.proofs.Common.{◌≡◌, ℕ, ◌<◌, List, [], ◌∷◌, ◌++◌, Option, Some, None, Bool, true, false, sym, ◌∙◌, ap, refl, subst, inl, inr}
+use Rattle.std.specs.Prelude.{Contains, option_and_then, cond, map, unwrap_or}
 use Rattle.std.proofs.lemmas.Bool.{cases_eq, cases_Bool, eq-eqb, ne_eqb, false≢true}
-use Rattle.slotted_theory.specs.FiniteMaps.{value_of, HasValue, IsInjectiveMap, filled}
-use Rattle.slotted_theory.specs.Renaming.{Bijection, IsInjective}
+use Rattle.slotted_theory.specs.FiniteMaps.{value_of, IsInjectiveMap, filled}
+use Rattle.slotted_theory.specs.Renaming.{Bijection}
 use Rattle.slotted_theory.specs.Decided.{numbers_eq}
 use Rattle.slotted_theory.proofs.Bijections.{then, opposite, bijection_below, Agrees as AgreesBelow}
 use Rattle.slotted_theory.proofs.Filled.{filled-value_of, filled-injective}
@@ -12,7 +12,7 @@ use Rattle.slotted_model.specs.Affected.{id_eq}
 use Rattle.slotted_model.specs.Applied.{Applied, values, renamed_id}
 use Rattle.slotted_model.specs.Correspondence.{has_slot}
 use Rattle.slotted_model.specs.Find.{find}
-use Rattle.slotted_model.specs.State.{State}
+use Rattle.slotted_model.specs.State.{Row, State}
 use Rattle.slotted_model.proofs.Correspondences.Pairs.{value_of-same, value_of-other}
 use Rattle.slotted_model.proofs.Maps.{In-values}
 use Rattle.slotted_model.proofs.Members.{In, In-left, In-right, In-map, In-Contains, Contains-In}
@@ -20,7 +20,7 @@ use Rattle.slotted_model.proofs.NormalIds.{found-renamed}
 use Rattle.slotted_model.proofs.Options.{Some-same, None-Some, and_then-some}
 use Rattle.slotted_model.proofs.Spreading.{in-has_slot}
 use Rattle.slotted_model_rules.specs.Patterns.{Pattern, PatternArgs, pattern_node, variable, replacing, no_argument, own_name, child_pattern, binding}
-use Rattle.slotted_model_rules.specs.Matcher.{NodeArgs, no_more, a_name, an_id, a_binder, written_names, rest_of, id_of_first, inside_first, MatchState, value_at, paired_with, paired, walked, Gives, with_value, Found, FoundIn, EachSlot, EachSlotIn, class_id, start_at, Reads}
+use Rattle.slotted_model_rules.specs.Matcher.{NodeArgs, no_more, a_name, an_id, a_binder, written_names, rest_of, id_of_first, inside_first, MatchState, value_at, paired_with, paired, walked, with_value, Found, FoundIn, EachSlot, EachSlotIn, class_id, start_at, Reads}
 use Rattle.slotted_model_rules.proofs.AllSlots.{renamed-agrees}
 use Rattle.slotted_model_rules.proofs.Answering.{Grows, AtRow, at_row, found-grows, inside-grows}
 use Rattle.slotted_model_rules.proofs.Renamed.{renamed-twice}
@@ -76,31 +76,31 @@ walked-slots (binding x inner rest) (a_binder y m n) pairs q e =
     )
 walked-slots _ _ pairs q e = absurd (None-Some q e)
 
-module _ (g : State) where
+module _ (g : State) (order : List Row) where
   mutual
     -- each slot of the pattern has a name in the end
-    pub slots-named : (p : Pattern) (st : MatchState) (a : Applied) (outs : List MatchState) → Found g p st a outs → (out : MatchState) → In out outs → EachSlot (IsNamed out.pairs) p
+    pub slots-named : (p : Pattern) (st : MatchState) (a : Applied) (outs : List MatchState) → Found g order p st a outs → (out : MatchState) → In out outs → EachSlot (IsNamed out.pairs) p
     slots-named (pattern_node op payloads args) st a outs found out h =
-        let k : AtRow g op payloads args st a out = at_row g op payloads args st a outs found out h in
+        let k : AtRow g order op payloads args st a out = at_row g order op payloads args st a outs found out h in
         slots-inside args k.names (record { values = st.values; pairs = k.pairs; seen = written_names k.names ++ st.seen }) k.here k.inside out k.member (walked-slots args k.names st.pairs k.pairs k.went)
     slots-named (variable v) st a outs found out h = tt
     slots-named (replacing body part value) st a outs found out h = absurd (subst (In out) found h)
 
-    slots-inside : (args : PatternArgs) (n : NodeArgs) (st : MatchState) (outs : List MatchState) → FoundIn g args n st outs → (out : MatchState) → In out outs → OwnSlots (IsNamed st.pairs) args → EachSlotIn (IsNamed out.pairs) args
+    slots-inside : (args : PatternArgs) (n : NodeArgs) (st : MatchState) (outs : List MatchState) → FoundIn g order args n st outs → (out : MatchState) → In out outs → OwnSlots (IsNamed st.pairs) args → EachSlotIn (IsNamed out.pairs) args
     slots-inside no_argument n st outs found out h own = tt
     slots-inside (own_name x rest) n st outs found out h own =
-        (named-later st.pairs out.pairs (inside-grows g rest (rest_of n) st outs found out h).pairs_kept x own.0, slots-inside rest (rest_of n) st outs found out h own.1)
+        (named-later st.pairs out.pairs (inside-grows g order rest (rest_of n) st outs found out h).pairs_kept x own.0, slots-inside rest (rest_of n) st outs found out h own.1)
     slots-inside (child_pattern p rest) n st outs found out h own =
-        let m = member-given (λ s here. FoundIn g rest (rest_of n) s here) found.0 outs found.2 out h in
-        let first : Grows st m.0 = found-grows g p st (id_of_first n) found.0 found.1 m.0 m.1 in
-        let later : Grows m.0 out = inside-grows g rest (rest_of n) m.0 m.2 m.3 out m.4 in (
+        let m = member-given (λ s here. FoundIn g order rest (rest_of n) s here) found.0 outs found.2 out h in
+        let first : Grows st m.0 = found-grows g order p st (id_of_first n) found.0 found.1 m.0 m.1 in
+        let later : Grows m.0 out = inside-grows g order rest (rest_of n) m.0 m.2 m.3 out m.4 in (
           EachSlot-map (IsNamed m.0.pairs) (IsNamed out.pairs) (named-later m.0.pairs out.pairs later.pairs_kept) p (slots-named p st (id_of_first n) found.0 found.1 m.0 m.1),
           slots-inside rest (rest_of n) m.0 m.2 m.3 out m.4 (OwnSlots-map (IsNamed st.pairs) (IsNamed m.0.pairs) (named-later st.pairs m.0.pairs first.pairs_kept) rest own),
         )
     slots-inside (binding x inner rest) n st outs found out h own =
-        let m = member-given (λ s here. FoundIn g rest (rest_of n) s here) found.0 outs found.2 out h in
-        let first : Grows st m.0 = inside-grows g inner (inside_first n) st found.0 found.1 m.0 m.1 in
-        let later : Grows m.0 out = inside-grows g rest (rest_of n) m.0 m.2 m.3 out m.4 in (
+        let m = member-given (λ s here. FoundIn g order rest (rest_of n) s here) found.0 outs found.2 out h in
+        let first : Grows st m.0 = inside-grows g order inner (inside_first n) st found.0 found.1 m.0 m.1 in
+        let later : Grows m.0 out = inside-grows g order rest (rest_of n) m.0 m.2 m.3 out m.4 in (
           named-later m.0.pairs out.pairs later.pairs_kept x (named-later st.pairs m.0.pairs first.pairs_kept x own.0),
           EachSlotIn-map (IsNamed m.0.pairs) (IsNamed out.pairs) (named-later m.0.pairs out.pairs later.pairs_kept) inner (slots-inside inner (inside_first n) st found.0 found.1 m.0 m.1 own.1),
           slots-inside rest (rest_of n) m.0 m.2 m.3 out m.4 (OwnSlots-map (IsNamed st.pairs) (IsNamed m.0.pairs) (named-later st.pairs m.0.pairs first.pairs_kept) rest own.2),
@@ -153,16 +153,16 @@ with_value-map g (Some b) st v a out is h = go (id_eq (find g.found b) (find g.f
 with_value-map g None st v a out is (inl e) = subst (λ (s : MatchState). IsNameMap s.pairs) (sym e) is
 with_value-map g None st v a out is (inr k) = absurd k
 
-module _ (g : State) where
+module _ (g : State) (order : List Row) where
   mutual
-    found-map : (p : Pattern) (st : MatchState) (a : Applied) (outs : List MatchState) → Found g p st a outs → (out : MatchState) → In out outs → IsNameMap st.pairs → IsNameMap out.pairs
+    found-map : (p : Pattern) (st : MatchState) (a : Applied) (outs : List MatchState) → Found g order p st a outs → (out : MatchState) → In out outs → IsNameMap st.pairs → IsNameMap out.pairs
     found-map (pattern_node op payloads args) st a outs found out h is =
-        let k : AtRow g op payloads args st a out = at_row g op payloads args st a outs found out h in
+        let k : AtRow g order op payloads args st a out = at_row g order op payloads args st a outs found out h in
         inside-map args k.names (record { values = st.values; pairs = k.pairs; seen = written_names k.names ++ st.seen }) k.here k.inside out k.member (walked-map args k.names st.pairs k.pairs is k.went)
     found-map (variable v) st a outs found out h is = with_value-map g (value_at st.values v) st v a out is (subst (In out) found h)
     found-map (replacing body part value) st a outs found out h is = absurd (subst (In out) found h)
 
-    inside-map : (args : PatternArgs) (n : NodeArgs) (st : MatchState) (outs : List MatchState) → FoundIn g args n st outs → (out : MatchState) → In out outs → IsNameMap st.pairs → IsNameMap out.pairs
+    inside-map : (args : PatternArgs) (n : NodeArgs) (st : MatchState) (outs : List MatchState) → FoundIn g order args n st outs → (out : MatchState) → In out outs → IsNameMap st.pairs → IsNameMap out.pairs
     inside-map no_argument n st outs found out h is = only (subst (In out) found h)
       where
         only : In out (st ∷ []) → IsNameMap out.pairs
@@ -170,23 +170,26 @@ module _ (g : State) where
         only (inr k) = absurd k
     inside-map (own_name x rest) n st outs found out h is = inside-map rest (rest_of n) st outs found out h is
     inside-map (child_pattern p rest) n st outs found out h is =
-        let m = member-given (λ s here. FoundIn g rest (rest_of n) s here) found.0 outs found.2 out h in
+        let m = member-given (λ s here. FoundIn g order rest (rest_of n) s here) found.0 outs found.2 out h in
         inside-map rest (rest_of n) m.0 m.2 m.3 out m.4 (found-map p st (id_of_first n) found.0 found.1 m.0 m.1 is)
     inside-map (binding x inner rest) n st outs found out h is =
-        let m = member-given (λ s here. FoundIn g rest (rest_of n) s here) found.0 outs found.2 out h in
+        let m = member-given (λ s here. FoundIn g order rest (rest_of n) s here) found.0 outs found.2 out h in
         inside-map rest (rest_of n) m.0 m.2 m.3 out m.4 (inside-map inner (inside_first n) st found.0 found.1 m.0 m.1 is)
 
   -- what is found at a class can be read
-  pub a-reading : (p : Pattern) (c : ℕ) (outs : List MatchState) → Found g p (start_at g c) (class_id g c) outs → (out : MatchState) → In out outs → (f : ℕ → ℕ) × (σ : List ℕ → Applied) × Reads g f σ out
+  pub a-reading : (p : Pattern) (c : ℕ) (outs : List MatchState) → Found g order p (start_at g c) (class_id g c) outs → (out : MatchState) → In out outs → (f : ℕ → ℕ) × (σ : List ℕ → Applied) × Reads g f σ out
   a-reading p c outs found out h =
       let is : IsNameMap out.pairs = found-map p (start_at g c) (class_id g c) outs found out h (record { injective = tt; once = λ s t k. absurd (Contains-nil (s, t) k) }) in
       let f : ℕ → ℕ = filled out.pairs in
-      let σ : List ℕ → Applied = λ v. renamed_id f (unwrap_or (value_at out.values v) (0, [])) in
-      (f, σ, record {
-        injective = filled-injective out.pairs is.injective;
-        slots = λ s t k. filled-value_of out.pairs s t (is.once s t k);
-        values_read = λ v b e. ap (λ o. find g.found (renamed_id f (unwrap_or o (0, [])))) e ∙ found-renamed g.found f b;
-      })
+      let σ : List ℕ → Applied = λ v. renamed_id f (unwrap_or (value_at out.values v) (0, [])) in (
+        f,
+        σ,
+        record {
+          injective = filled-injective out.pairs is.injective;
+          slots = λ s t k. filled-value_of out.pairs s t (is.once s t k);
+          values_read = λ v b e. ap (λ o. find g.found (renamed_id f (unwrap_or o (0, [])))) e ∙ found-renamed g.found f b;
+        },
+      )
 
 -- the names of the values
 abbrev value_names : State → List (List ℕ × Applied) → List ℕ

@@ -1,6 +1,6 @@
 -- Names held beside each other: what a walk keeps, and what it says of the names.
-use Rattle.std.proofs.Common.{◌≡◌, ◌≢◌, ℕ, List, [], ◌∷◌, ◌++◌, Option, Some, None, sym, ◌∙◌, ap, refl, subst, inl, inr}
-use Rattle.std.specs.Prelude.{Contains, option_and_then, cond, nat_eq}
+use Rattle.std.proofs.Common.{◌≡◌, ℕ, List, [], ◌∷◌, Option, Some, None, sym, ◌∙◌, ap, refl, subst, inl, inr}
+use Rattle.std.specs.Prelude.{Contains, option_and_then, cond}
 use Rattle.std.proofs.lemmas.Bool.{cases_eq, cases_Bool, eq-eqb, ne_eqb}
 use Rattle.slotted_theory.specs.FiniteMaps.{value_of}
 use Rattle.slotted_theory.proofs.Lists.{contains_head, contains_tail}
