@@ -1,5 +1,5 @@
 -- Where no class has dropped a slot: what a full id finds has all of its names, and full ids that find alike are the same.
-use Rattle.std.proofs.Common.{◌≡◌, ℕ, ◌<◌, List, [], ◌∷◌, ◌++◌, map, sym, ◌∙◌, ap, refl, subst, inl, inr}
+use Rattle.std.proofs.Common.{◌≡◌, ℕ, List, [], ◌∷◌, ◌++◌, sym, ◌∙◌, ap, refl, subst, inl, inr}
 use Rattle.std.specs.Prelude.{Contains}
 use Rattle.std.specs.Map.{values_of}
 use Rattle.slotted_theory.specs.Nameless.{DTerm, moved}
@@ -7,11 +7,10 @@ use Rattle.slotted_theory.specs.FiniteMaps.{filled, with_values}
 use Rattle.slotted_theory.specs.Renaming.{IsInjective}
 use Rattle.slotted_theory.specs.Shape.{free_names}
 use Rattle.slotted_theory.proofs.ByBijection.{moved-injective}
-use Rattle.slotted_model.specs.Applied.{Applied, keys, values, renamed_id, as_term, EachChild}
+use Rattle.slotted_model.specs.Applied.{Applied, keys, values, renamed_id, as_term}
 use Rattle.slotted_model.specs.Classes.{canonical_node, canonical_slots, IsFull}
 use Rattle.slotted_model.specs.Correspondence.{AllDifferent, IsPartialInjection}
-use Rattle.slotted_model.specs.Extraction.{row_class}
-use Rattle.slotted_model.specs.Find.{find_class, find_map, used_slots, find, Linked}
+use Rattle.slotted_model.specs.Find.{find_class, find_map, find, Linked}
 use Rattle.slotted_model.specs.Normal.{normal}
 use Rattle.slotted_model.specs.ProofList.{node_of}
 use Rattle.slotted_model.specs.State.{Row, State}

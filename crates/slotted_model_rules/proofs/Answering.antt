@@ -1,9 +1,9 @@
 -- What the matcher finds is looked up: under each reading of a state the pattern is looked up as the id at which it was found.
 use Rattle.std.proofs.Common.{◌≡◌, ◌⊎◌, ℕ, List, [], ◌∷◌, ◌++◌, Option, Some, None, sym, ◌∙◌, ap, refl, subst, inl, inr}
-use Rattle.std.specs.Prelude.{Contains, cond, option_map, option_and_then}
-use Rattle.std.proofs.lemmas.Bool.{cases_Bool, false≢true}
+use Rattle.std.specs.Prelude.{cond, option_map, option_and_then}
+use Rattle.std.proofs.lemmas.Bool.{cases_Bool}
 use Rattle.std.proofs.Math.Path.{fun_ext}
-use Rattle.slotted_theory.specs.Nameless.{DArgs, DTerm, stop, place, scope, extend, lift, moved, moved_args}
+use Rattle.slotted_theory.specs.Nameless.{DTerm, place, scope, extend, lift, moved, moved_args}
 use Rattle.slotted_theory.specs.Renaming.{IsInjective}
 use Rattle.slotted_theory.specs.Decided.{numbers_eq}
 use Rattle.slotted_theory.proofs.Decides.{numbers_eq-true, numbers_eq-same}
@@ -13,7 +13,7 @@ use Rattle.slotted_model.specs.Affected.{id_eq}
 use Rattle.slotted_model.specs.Applied.{Applied, renamed_id, as_term}
 use Rattle.slotted_model.specs.Find.{find, Linked}
 use Rattle.slotted_model.specs.LookUp.{both}
-use Rattle.slotted_model.specs.Normal.{normal_args, normal}
+use Rattle.slotted_model.specs.Normal.{normal_args}
 use Rattle.slotted_model.specs.State.{Row, State, look_up_node}
 use Rattle.slotted_model.specs.Rest.{AtRest}
 use Rattle.slotted_model.proofs.Children.{moved-as_term}
@@ -25,7 +25,7 @@ use Rattle.slotted_model.proofs.RowNodes.{row_node, row-again, row-looked_up}
 use Rattle.slotted_model.proofs.Rows.{look_up_node-moved}
 use Rattle.slotted_model.proofs.Spreading.{id_eq-same}
 use Rattle.slotted_model_rules.specs.Patterns.{Pattern, PatternArgs, pattern_node, variable, replacing, no_argument, own_name, child_pattern, binding, EachVariable, EachVariableIn, look_up_pattern, look_up_arguments, IsOfRow}
-use Rattle.slotted_model_rules.specs.Matcher.{NodeArgs, no_more, a_name, an_id, a_binder, unnamed, written_names, rest_of, id_of_first, inside_first, MatchState, value_at, walked, IsNodeOf, IsRowFor, Gives, IfThere, with_value, Found, FoundIn, Reads}
+use Rattle.slotted_model_rules.specs.Matcher.{NodeArgs, no_more, a_name, an_id, a_binder, unnamed, written_names, rest_of, id_of_first, inside_first, MatchState, value_at, walked, IsNodeOf, IsRowFor, IfThere, with_value, Found, FoundIn, Reads}
 use Rattle.slotted_model_rules.proofs.Renamed.{renamed-twice, renamed-id, applied-as_term}
 use Rattle.slotted_model_rules.proofs.LookingUp.{pattern-moved}
 use Rattle.slotted_model_rules.proofs.Walking.{member-given, Aligned, Keeps, walked-aligned}
@@ -61,13 +61,13 @@ value_at-kept v a values none w b e = elim (cases_Bool (numbers_eq v w)) [
 ]
 
 -- what a variable leaves
-record Bound (g : State) (st : MatchState) (v : List ℕ) (a : Applied) (out : MatchState) : Type 0 where
+pub record Bound (g : State) (st : MatchState) (v : List ℕ) (a : Applied) (out : MatchState) : Type 0 where
   grows : Grows st out
   value : Applied
   there : value_at out.values v ≡ Some value
   same : find g.found value ≡ find g.found a
 
-bound : (g : State) (st : MatchState) (v : List ℕ) (a : Applied) (out : MatchState) → In out (with_value g (value_at st.values v) st v a) → Bound g st v a out
+pub bound : (g : State) (st : MatchState) (v : List ℕ) (a : Applied) (out : MatchState) → In out (with_value g (value_at st.values v) st v a) → Bound g st v a out
 bound g st v a out h = go (value_at st.values v) refl h
   where
     go : (o : Option Applied) → value_at st.values v ≡ o → In out (with_value g o st v a) → Bound g st v a out
@@ -91,7 +91,7 @@ bound g st v a out h = go (value_at st.values v) refl h
     go None e (inr n) = absurd n
 
 -- a row at which a node was found
-pub record AtRow (g : State) (op : ℕ) (payloads : List (List ℕ)) (args : PatternArgs) (st : MatchState) (a : Applied) (out : MatchState) : Type 0 where
+pub record AtRow (g : State) (order : List Row) (op : ℕ) (payloads : List (List ℕ)) (args : PatternArgs) (st : MatchState) (a : Applied) (out : MatchState) : Type 0 where
   pub row : Row
   pub names : NodeArgs
   pub fits : IsRowFor g row op payloads a
@@ -99,39 +99,39 @@ pub record AtRow (g : State) (op : ℕ) (payloads : List (List ℕ)) (args : Pat
   pub pairs : List (ℕ × ℕ)
   pub went : walked args names st.pairs ≡ Some pairs
   pub here : List MatchState
-  pub inside : FoundIn g args names (record { values = st.values; pairs = pairs; seen = written_names names ++ st.seen }) here
+  pub inside : FoundIn g order args names (record { values = st.values; pairs = pairs; seen = written_names names ++ st.seen }) here
   pub member : In out here
 
-pub at_row : (g : State) (op : ℕ) (payloads : List (List ℕ)) (args : PatternArgs) (st : MatchState) (a : Applied) (outs : List MatchState) → Found g (pattern_node op payloads args) st a outs → (out : MatchState) → In out outs →
-    AtRow g op payloads args st a out
-at_row g op payloads args st a outs found out h =
+pub at_row : (g : State) (order : List Row) (op : ℕ) (payloads : List (List ℕ)) (args : PatternArgs) (st : MatchState) (a : Applied) (outs : List MatchState) → Found g order (pattern_node op payloads args) st a outs → (out : MatchState) → In out outs →
+    AtRow g order op payloads args st a out
+at_row g order op payloads args st a outs found out h =
     let m = member-given (λ (r : Row) (here : List MatchState).
-      ((¬ IsRowFor g r op payloads a) × (here ≡ []))
-      ⊎ ((n : NodeArgs) × IsRowFor g r op payloads a × IsNodeOf g st.seen r a n
-        × IfThere (walked args n st.pairs) (λ pairs. FoundIn g args n (record { values = st.values; pairs = pairs; seen = written_names n ++ st.seen }) here) (here ≡ [])))
-    g.rows outs found out h in
+    ((¬ IsRowFor g r op payloads a) × (here ≡ []))
+    ⊎ ((n : NodeArgs) × IsRowFor g r op payloads a × IsNodeOf g st.seen r a n
+    × IfThere (walked args n st.pairs) (λ pairs. FoundIn g order args n (record { values = st.values; pairs = pairs; seen = written_names n ++ st.seen }) here) (here ≡ [])))
+    order outs found out h in
     elim m.3 [
       | inl k ↦ absurd (subst (In out) k.1 m.4)
       | inr k ↦ go m.0 m.2 m.4 k.0 k.1 k.2 (walked args k.0 st.pairs) refl k.3
     ]
   where
     go : (r : Row) (here : List MatchState) → In out here → (n : NodeArgs) → IsRowFor g r op payloads a → IsNodeOf g st.seen r a n → (o : Option (List (ℕ × ℕ))) → walked args n st.pairs ≡ o →
-        IfThere o (λ pairs. FoundIn g args n (record { values = st.values; pairs = pairs; seen = written_names n ++ st.seen }) here) (here ≡ []) → AtRow g op payloads args st a out
+        IfThere o (λ pairs. FoundIn g order args n (record { values = st.values; pairs = pairs; seen = written_names n ++ st.seen }) here) (here ≡ []) → AtRow g order op payloads args st a out
     go r here k n fits is None e i = absurd (subst (In out) i k)
     go r here k n fits is (Some q) e i = record { row = r; names = n; fits = fits; is_node = is; pairs = q; went = e; here = here; inside = i; member = k }
 
-module _ (g : State) where
+module _ (g : State) (order : List Row) where
   mutual
     -- states only grow
-    pub found-grows : (p : Pattern) (st : MatchState) (a : Applied) (outs : List MatchState) → Found g p st a outs → (out : MatchState) → In out outs → Grows st out
+    pub found-grows : (p : Pattern) (st : MatchState) (a : Applied) (outs : List MatchState) → Found g order p st a outs → (out : MatchState) → In out outs → Grows st out
     found-grows (pattern_node op payloads args) st a outs found out h =
-        let r : AtRow g op payloads args st a out = at_row g op payloads args st a outs found out h in
+        let r : AtRow g order op payloads args st a out = at_row g order op payloads args st a outs found out h in
         let mid : MatchState = record { values = st.values; pairs = r.pairs; seen = written_names r.names ++ st.seen } in
         grows-then st mid out (record { pairs_kept = (walked-aligned args r.names st.pairs r.pairs r.went).0; values_kept = λ v b e. e }) (inside-grows args r.names mid r.here r.inside out r.member)
     found-grows (variable v) st a outs found out h = let b : Bound g st v a out = bound g st v a out (subst (In out) found h) in b.grows
     found-grows (replacing body part value) st a outs found out h = absurd (subst (In out) found h)
 
-    inside-grows : (args : PatternArgs) (n : NodeArgs) (st : MatchState) (outs : List MatchState) → FoundIn g args n st outs → (out : MatchState) → In out outs → Grows st out
+    pub inside-grows : (args : PatternArgs) (n : NodeArgs) (st : MatchState) (outs : List MatchState) → FoundIn g order args n st outs → (out : MatchState) → In out outs → Grows st out
     inside-grows no_argument n st outs found out h = only (subst (In out) found h)
       where
         only : In out (st ∷ []) → Grows st out
@@ -139,10 +139,10 @@ module _ (g : State) where
         only (inr k) = absurd k
     inside-grows (own_name x rest) n st outs found out h = inside-grows rest (rest_of n) st outs found out h
     inside-grows (child_pattern p rest) n st outs found out h =
-        let m = member-given (λ s here. FoundIn g rest (rest_of n) s here) found.0 outs found.2 out h in
+        let m = member-given (λ s here. FoundIn g order rest (rest_of n) s here) found.0 outs found.2 out h in
         grows-then st m.0 out (found-grows p st (id_of_first n) found.0 found.1 m.0 m.1) (inside-grows rest (rest_of n) m.0 m.2 m.3 out m.4)
     inside-grows (binding x inner rest) n st outs found out h =
-        let m = member-given (λ s here. FoundIn g rest (rest_of n) s here) found.0 outs found.2 out h in
+        let m = member-given (λ s here. FoundIn g order rest (rest_of n) s here) found.0 outs found.2 out h in
         grows-then st m.0 out (inside-grows inner (inside_first n) st found.0 found.1 m.0 m.1) (inside-grows rest (rest_of n) m.0 m.2 m.3 out m.4)
 
 -- a reading of a later state is one of an earlier one
@@ -153,18 +153,18 @@ earlier g f σ st later h r = record {
   values_read = λ v b e. r.values_read v b (h.values_kept v b e);
 }
 
-module _ (g : State) (rest_state : AtRest g) (f : ℕ → ℕ) (σ : List ℕ → Applied) where
+module _ (g : State) (order : List Row) (rest_state : AtRest g) (f : ℕ → ℕ) (σ : List ℕ → Applied) where
   abbrev linked : Linked g.nodes g.found
   linked = rest_state.sane.sound.linked
 
   mutual
     -- the pattern is looked up as the id, with the names that are read
-    pub found-look_up : (p : Pattern) (st : MatchState) (a : Applied) (outs : List MatchState) → Found g p st a outs → (out : MatchState) → In out outs → Reads g f σ out →
+    pub found-look_up : (p : Pattern) (st : MatchState) (a : Applied) (outs : List MatchState) → Found g order p st a outs → (out : MatchState) → In out outs → Reads g f σ out →
         look_up_pattern g (λ y. y) σ p ≡ Some (renamed_id f (find g.found a))
     found-look_up (pattern_node op payloads args) st a outs found out h r =
-        let k : AtRow g op payloads args st a out = at_row g op payloads args st a outs found out h in
+        let k : AtRow g order op payloads args st a out = at_row g order op payloads args st a outs found out h in
         let mid : MatchState = record { values = st.values; pairs = k.pairs; seen = written_names k.names ++ st.seen } in
-        let later : Reads g f σ mid = earlier g f σ mid out (inside-grows g args k.names mid k.here k.inside out k.member) r in
+        let later : Reads g f σ mid = earlier g f σ mid out (inside-grows g order args k.names mid k.here k.inside out k.member) r in
         let aligned : Aligned f args k.names = (walked-aligned args k.names st.pairs k.pairs k.went).1 f later.slots in
         let of : IsOfRow g k.row k.is_node.id a = k.is_node.of_row in
         let b : Applied = k.is_node.id in
@@ -184,21 +184,21 @@ module _ (g : State) (rest_state : AtRest g) (f : ℕ → ℕ) (σ : List ℕ �
         ap Some (ap (find g.found) (renamed-id (σ v)) ∙ (r.values_read v b.value b.there ∙ ap (renamed_id f) b.same))
     found-look_up (replacing body part value) st a outs found out h r = absurd (subst (In out) found h)
 
-    inside-look_up : (args : PatternArgs) (n : NodeArgs) (st : MatchState) (outs : List MatchState) → FoundIn g args n st outs → (out : MatchState) → In out outs → Reads g f σ out → Aligned f args n →
+    inside-look_up : (args : PatternArgs) (n : NodeArgs) (st : MatchState) (outs : List MatchState) → FoundIn g order args n st outs → (out : MatchState) → In out outs → Reads g f σ out → Aligned f args n →
         (ρ : ℕ → ℕ) → IsInjective ρ → look_up_arguments g ρ σ args ≡ Some (normal_args g.found (unnamed (λ z. ρ (f z)) n))
     inside-look_up no_argument n st outs found out h r al ρ inj = ap (λ m. Some (normal_args g.found (unnamed (λ z. ρ (f z)) m))) (sym al)
     inside-look_up (own_name x rest) n st outs found out h r al ρ inj =
         let e : look_up_arguments g ρ σ rest ≡ Some (normal_args g.found (unnamed (λ z. ρ (f z)) al.1)) =
-        inside-look_up rest al.1 st outs (subst (λ m. FoundIn g rest (rest_of m) st outs) al.2 found) out h r al.4 ρ inj in
+        inside-look_up rest al.1 st outs (subst (λ m. FoundIn g order rest (rest_of m) st outs) al.2 found) out h r al.4 ρ inj in
         ap (option_map (place (ρ x))) e
         ∙ ((λ i. Some (place (ρ (sym al.3 i)) (normal_args g.found (unnamed (λ z. ρ (f z)) al.1))))
         ∙ ap (λ m. Some (normal_args g.found (unnamed (λ z. ρ (f z)) m))) (sym al.2))
     inside-look_up (child_pattern p rest) n st outs found out h r al ρ inj =
-        let m = member-given (λ s here. FoundIn g rest (rest_of n) s here) found.0 outs found.2 out h in
+        let m = member-given (λ s here. FoundIn g order rest (rest_of n) s here) found.0 outs found.2 out h in
         let c : Applied = al.0 in
-        let first : Found g p st c found.0 = subst (λ k. Found g p st (id_of_first k) found.0) al.2 found.1 in
-        let after : FoundIn g rest al.1 m.0 m.2 = subst (λ k. FoundIn g rest (rest_of k) m.0 m.2) al.2 m.3 in
-        let early : Reads g f σ m.0 = earlier g f σ m.0 out (inside-grows g rest al.1 m.0 m.2 after out m.4) r in
+        let first : Found g order p st c found.0 = subst (λ k. Found g order p st (id_of_first k) found.0) al.2 found.1 in
+        let after : FoundIn g order rest al.1 m.0 m.2 = subst (λ k. FoundIn g order rest (rest_of k) m.0 m.2) al.2 m.3 in
+        let early : Reads g f σ m.0 = earlier g f σ m.0 out (inside-grows g order rest al.1 m.0 m.2 after out m.4) r in
         let here : look_up_pattern g ρ σ p ≡ Some (renamed_id ρ (renamed_id f (find g.found c))) =
         pattern-moved g rest_state ρ inj (λ y. y) σ p ∙ ap (option_map (renamed_id ρ)) (found-look_up p st c found.0 first m.0 m.1 early) in
         let id : renamed_id ρ (renamed_id f (find g.found c)) ≡ find g.found (renamed_id (λ z. ρ (f z)) c) =
@@ -209,10 +209,10 @@ module _ (g : State) (rest_state : AtRest g) (f : ℕ → ℕ) (σ : List ℕ �
         ∙ (ap (λ a. Some (child_before (as_term (find g.found a)) (normal_args g.found (unnamed (λ z. ρ (f z)) al.1)))) (sym (applied-as_term (renamed_id (λ z. ρ (f z)) c)))
         ∙ ap (λ k. Some (normal_args g.found (unnamed (λ z. ρ (f z)) k))) (sym al.2)))
     inside-look_up (binding x inner rest) n st outs found out h r al ρ inj =
-        let m = member-given (λ s here. FoundIn g rest (rest_of n) s here) found.0 outs found.2 out h in
-        let first : FoundIn g inner al.1 st found.0 = subst (λ k. FoundIn g inner (inside_first k) st found.0) al.3 found.1 in
-        let after : FoundIn g rest al.2 m.0 m.2 = subst (λ k. FoundIn g rest (rest_of k) m.0 m.2) al.3 m.3 in
-        let early : Reads g f σ m.0 = earlier g f σ m.0 out (inside-grows g rest al.2 m.0 m.2 after out m.4) r in
+        let m = member-given (λ s here. FoundIn g order rest (rest_of n) s here) found.0 outs found.2 out h in
+        let first : FoundIn g order inner al.1 st found.0 = subst (λ k. FoundIn g order inner (inside_first k) st found.0) al.3 found.1 in
+        let after : FoundIn g order rest al.2 m.0 m.2 = subst (λ k. FoundIn g order rest (rest_of k) m.0 m.2) al.3 m.3 in
+        let early : Reads g f σ m.0 = earlier g f σ m.0 out (inside-grows g order rest al.2 m.0 m.2 after out m.4) r in
         let under : (λ z. extend x ρ (f z)) ≡ extend al.0 (λ z. ρ (f z)) =
         ap (λ y. λ z. extend y ρ (f z)) (sym al.4) ∙ fun_ext (extend-renamed f r.injective al.0 ρ) in
         let here : look_up_arguments g (extend x ρ) σ inner ≡ Some (normal_args g.found (unnamed (extend al.0 (λ z. ρ (f z))) al.1)) =
@@ -233,26 +233,26 @@ mutual
   each-kept_in st later k (child_pattern p rest) h = (each-kept st later k p h.0, each-kept_in st later k rest h.1)
   each-kept_in st later k (binding x inner rest) h = (each-kept_in st later k inner h.0, each-kept_in st later k rest h.1)
 
-module _ (g : State) where
+module _ (g : State) (order : List Row) where
   mutual
     -- each variable of the pattern has a value in the end
-    pub found-values : (p : Pattern) (st : MatchState) (a : Applied) (outs : List MatchState) → Found g p st a outs → (out : MatchState) → In out outs →
+    pub found-values : (p : Pattern) (st : MatchState) (a : Applied) (outs : List MatchState) → Found g order p st a outs → (out : MatchState) → In out outs →
         EachVariable (λ v. (b : Applied) × (value_at out.values v ≡ Some b)) p
     found-values (pattern_node op payloads args) st a outs found out h =
-        let k : AtRow g op payloads args st a out = at_row g op payloads args st a outs found out h in
+        let k : AtRow g order op payloads args st a out = at_row g order op payloads args st a outs found out h in
         inside-values args k.names (record { values = st.values; pairs = k.pairs; seen = written_names k.names ++ st.seen }) k.here k.inside out k.member
     found-values (variable v) st a outs found out h = let b : Bound g st v a out = bound g st v a out (subst (In out) found h) in (b.value, b.there)
     found-values (replacing body part value) st a outs found out h = absurd (subst (In out) found h)
 
-    inside-values : (args : PatternArgs) (n : NodeArgs) (st : MatchState) (outs : List MatchState) → FoundIn g args n st outs → (out : MatchState) → In out outs →
+    inside-values : (args : PatternArgs) (n : NodeArgs) (st : MatchState) (outs : List MatchState) → FoundIn g order args n st outs → (out : MatchState) → In out outs →
         EachVariableIn (λ v. (b : Applied) × (value_at out.values v ≡ Some b)) args
     inside-values no_argument n st outs found out h = tt
     inside-values (own_name x rest) n st outs found out h = inside-values rest (rest_of n) st outs found out h
     inside-values (child_pattern p rest) n st outs found out h =
-        let m = member-given (λ s here. FoundIn g rest (rest_of n) s here) found.0 outs found.2 out h in
-        let k : Grows m.0 out = inside-grows g rest (rest_of n) m.0 m.2 m.3 out m.4 in
+        let m = member-given (λ s here. FoundIn g order rest (rest_of n) s here) found.0 outs found.2 out h in
+        let k : Grows m.0 out = inside-grows g order rest (rest_of n) m.0 m.2 m.3 out m.4 in
         (each-kept m.0 out k p (found-values p st (id_of_first n) found.0 found.1 m.0 m.1), inside-values rest (rest_of n) m.0 m.2 m.3 out m.4)
     inside-values (binding x inner rest) n st outs found out h =
-        let m = member-given (λ s here. FoundIn g rest (rest_of n) s here) found.0 outs found.2 out h in
-        let k : Grows m.0 out = inside-grows g rest (rest_of n) m.0 m.2 m.3 out m.4 in
+        let m = member-given (λ s here. FoundIn g order rest (rest_of n) s here) found.0 outs found.2 out h in
+        let k : Grows m.0 out = inside-grows g order rest (rest_of n) m.0 m.2 m.3 out m.4 in
         (each-kept_in m.0 out k inner (inside-values inner (inside_first n) st found.0 found.1 m.0 m.1), inside-values rest (rest_of n) m.0 m.2 m.3 out m.4)

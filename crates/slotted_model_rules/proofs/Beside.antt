@@ -1,8 +1,8 @@
 -- A pattern beside a node with names that is what its arguments are looked up as: the binders can be matched, and then each name stands for the right slot.
-use Rattle.std.proofs.Common.{◌≡◌, ◌≢◌, ℕ, suc, List, [], ◌∷◌, ◌++◌, Option, Some, None, map, sym, ◌∙◌, ap, refl, subst, inl, inr, arith}
-use Rattle.std.specs.Prelude.{◌⊎◌, Contains, option_map, option_and_then, cond, nat_eq}
-use Rattle.std.proofs.lemmas.Bool.{cases_eq, cases_Bool, eq-eqb, false≢true}
-use Rattle.slotted_theory.specs.Nameless.{DArgs, DTerm, stop, place, sub, scope, extend}
+use Rattle.std.proofs.Common.{◌≡◌, ℕ, suc, List, [], ◌∷◌, ◌++◌, Option, Some, None, map, sym, ◌∙◌, ap, refl, subst, inl, inr, arith}
+use Rattle.std.specs.Prelude.{◌⊎◌, Contains, option_and_then, cond}
+use Rattle.std.proofs.lemmas.Bool.{cases_eq, cases_Bool, eq-eqb}
+use Rattle.slotted_theory.specs.Nameless.{DArgs, stop, place, scope, extend}
 use Rattle.slotted_theory.specs.FiniteMaps.{value_of, with_values}
 use Rattle.slotted_theory.specs.Renaming.{IsInjective}
 use Rattle.slotted_theory.specs.Shape.{outside, free_names}
@@ -10,20 +10,19 @@ use Rattle.slotted_theory.proofs.Names.{extend-same, extend-other, extend-inject
 use Rattle.slotted_theory.proofs.Values.{child_before}
 use Rattle.slotted_model.specs.Applied.{Applied, keys, values, renamed_id, in_places, as_term}
 use Rattle.slotted_model.specs.Correspondence.{has_slot}
-use Rattle.slotted_model.specs.LookUp.{both}
 use Rattle.slotted_model.specs.State.{State}
 use Rattle.slotted_model.specs.Rest.{AtRest}
 use Rattle.slotted_model.proofs.Children.{free_names-places}
 use Rattle.slotted_model.proofs.Correspondences.Pairs.{Contains-value_of, Contains-of_value, value_of-found}
 use Rattle.slotted_model.proofs.Folds.{as_term-same}
 use Rattle.slotted_model.proofs.Maps.{values-with_values}
-use Rattle.slotted_model.proofs.Members.{In, In-left, In-right, In-append, In-map, In-outside, In-Contains, Contains-In}
+use Rattle.slotted_model.proofs.Members.{In, In-left, In-right, In-append, In-map, In-outside, Contains-In}
 use Rattle.slotted_model.proofs.Options.{Some-same, None-Some, option_map-some, both-some}
 use Rattle.slotted_model.proofs.Parts.{kind, first_name, first_child, first_scope, after_first}
 use Rattle.slotted_model.proofs.Spreading.{has_slot-in}
 use Rattle.slotted_theory.proofs.Lists.{contains_cases}
 use Rattle.slotted_model_rules.specs.Complete.{own_binders}
-use Rattle.slotted_model_rules.specs.Patterns.{Pattern, PatternArgs, no_argument, own_name, child_pattern, binding, look_up_pattern, look_up_arguments}
+use Rattle.slotted_model_rules.specs.Patterns.{PatternArgs, no_argument, own_name, child_pattern, binding, look_up_pattern, look_up_arguments}
 use Rattle.slotted_model_rules.specs.Matcher.{NodeArgs, no_more, a_name, an_id, a_binder, unnamed, written_names, bound_names, rest_of, inside_first, paired_with, paired, walked}
 use Rattle.slotted_model_rules.proofs.AllSlots.{renamed-injective, renamed-agrees}
 use Rattle.slotted_model_rules.proofs.LookingUp.{pattern-moved}
@@ -136,7 +135,7 @@ names-in ρ (a_name x rest) Q h = (h (ρ x) (inl refl), names-in ρ rest Q (λ w
 names-in ρ (an_id a rest) Q h =
     let own : List ℕ = values (with_values ρ a.1) in (
       λ z i. h (ρ z) (In-left (ρ z) (free_names (in_places own)) (free_names (unnamed ρ rest))
-      (subst (In (ρ z)) (sym (free_names-places own)) (subst (In (ρ z)) (sym (values-with_values ρ a.1)) (In-map ρ (values a.1) z i)))),
+          (subst (In (ρ z)) (sym (free_names-places own)) (subst (In (ρ z)) (sym (values-with_values ρ a.1)) (In-map ρ (values a.1) z i)))),
       names-in ρ rest Q (λ w k. h w (In-right w (free_names (in_places own)) (free_names (unnamed ρ rest)) k)),
     )
 names-in ρ (a_binder x inner rest) Q h =
@@ -214,7 +213,7 @@ module _ (g : State) (rest_state : AtRest g) (σ : List ℕ → Applied) where
         b.3,
         fy,
         answers (extend y κ) (extend x ρ) f (extend-injective x ρ inj) injf (λ z. (z ≡ y) ⊎ S z) under inner b.1 b.4 here.0
-        (λ u v i. pairs u v (inr (In-left (u, v) (bound_pairs inner b.1) (bound_pairs rest b.2) i))),
+            (λ u v i. pairs u v (inr (In-left (u, v) (bound_pairs inner b.1) (bound_pairs rest b.2) i))),
         answers κ ρ f inj injf S agree rest b.2 b.5 here.1 (λ u v i. pairs u v (inr (In-right (u, v) (bound_pairs inner b.1) (bound_pairs rest b.2) i))),
       )
 

@@ -1,12 +1,12 @@
 -- The matcher finds all where no class has dropped a slot: each substitution whose look-up is an id is a reading of a state that it finds.
 use Rattle.std.proofs.Common.{◌≡◌, ◌≢◌, ◌⊎◌, ℕ, suc, List, [], ◌∷◌, ◌++◌, Option, Some, None, true, map, sym, ◌∙◌, ap, refl, subst, inl, inr}
-use Rattle.std.specs.Prelude.{Contains, cond, option_and_then}
-use Rattle.std.proofs.lemmas.Bool.{cases_Bool, cases_eq, false≢true}
+use Rattle.std.specs.Prelude.{Contains, cond}
+use Rattle.std.proofs.lemmas.Bool.{cases_Bool, cases_eq}
 use Rattle.std.proofs.Math.Nat.{suc-ne-zero, suc_inj}
-use Rattle.slotted_theory.specs.Nameless.{DArgs, DTerm, stop, place, scope, extend, moved, moved_args}
+use Rattle.slotted_theory.specs.Nameless.{DArgs, DTerm, stop, place, scope, extend, moved_args}
 use Rattle.slotted_theory.specs.Decided.{numbers_eq}
 use Rattle.slotted_theory.specs.FiniteMaps.{filled, with_values}
-use Rattle.slotted_theory.specs.Renaming.{Bijection, IsInjective}
+use Rattle.slotted_theory.specs.Renaming.{IsInjective}
 use Rattle.slotted_theory.specs.Shape.{outside, free_names}
 use Rattle.slotted_theory.proofs.Bijections.{to-injective}
 use Rattle.slotted_theory.proofs.Decides.{numbers_eq-true}
@@ -18,10 +18,8 @@ use Rattle.slotted_model.specs.Affected.{id_eq}
 use Rattle.slotted_model.specs.Applied.{Applied, keys, values, map_on, renamed_id, as_term, EachChild}
 use Rattle.slotted_model.specs.Classes.{IsFull}
 use Rattle.slotted_model.specs.Correspondence.{AllDifferent, identity}
-use Rattle.slotted_model.specs.Extraction.{row_class}
 use Rattle.slotted_model.specs.Find.{find_class, find_map, used_slots, find, Linked}
 use Rattle.slotted_model.specs.Ascending.{ascending}
-use Rattle.slotted_model.specs.LookUp.{both}
 use Rattle.slotted_model.specs.State.{Row, State, filed_node, normal_node, look_up_node}
 use Rattle.slotted_model.specs.Rest.{IsValidIn, IsCurrent, AtRest}
 use Rattle.slotted_model.proofs.Answers.{RowAnswer, answer-row}
@@ -37,13 +35,12 @@ use Rattle.slotted_model.proofs.Rows.{rest-current}
 use Rattle.slotted_model.proofs.Sets.{In-of_ascending}
 use Rattle.slotted_model.proofs.Theory.{free_names-moved}
 use Rattle.slotted_model.proofs.RowNodes.{row_node, row-normal}
-use Rattle.slotted_model.proofs.Spreading.{id_eq-same}
 use Rattle.slotted_model.proofs.Ids.{term_eq-same}
 use Rattle.slotted_model_rules.specs.Complete.{HasAllSlots, HasOwnBinders, IsFreeInPattern, IsFreeInArguments, own_binders, binders_of, child_binders}
 use Rattle.slotted_model_rules.specs.Patterns.{Pattern, PatternArgs, pattern_node, variable, replacing, no_argument, own_name, child_pattern, binding, EachVariable, EachVariableIn, look_up_pattern, look_up_arguments, IsOfRow}
-use Rattle.slotted_model_rules.specs.Matcher.{NodeArgs, no_more, a_name, an_id, a_binder, unnamed, written_names, bound_names, rest_of, id_of_first, inside_first, MatchState, value_at, walked, IsNodeOf, IsRowFor, Gives, IfThere, with_value, Found, FoundIn, class_id, start_at, Reads}
+use Rattle.slotted_model_rules.specs.Matcher.{NodeArgs, an_id, a_binder, unnamed, written_names, bound_names, rest_of, id_of_first, inside_first, MatchState, value_at, walked, IsNodeOf, IsRowFor, Gives, IfThere, with_value, Found, FoundIn, class_id, start_at, Reads}
 use Rattle.slotted_model_rules.proofs.AllSlots.{different-parts, renamed-injective, renamed-agrees, found-values, all-names, alike-same, row-names, row-moved}
-use Rattle.slotted_model_rules.proofs.Answering.{unnamed-moved, value_at-same}
+use Rattle.slotted_model_rules.proofs.Answering.{unnamed-moved}
 use Rattle.slotted_model_rules.proofs.Beside.{Beside, beside, Answers, bound_pairs, bound_pairs-values, bound_pairs-keys, NamesIn, names-in, written-in, answers, answers-agree, Walk, walks}
 use Rattle.slotted_model_rules.proofs.LookingUp.{IsFoundId, found-args, looked-pattern, looked-arguments}
 use Rattle.slotted_model_rules.proofs.Renamed.{renamed-id}
@@ -143,7 +140,7 @@ extended f inj known args n ks dn da new fresh =
           subst (λ w. In w (own_binders args)) (sym at) (subst (In r.0.1) (bound_pairs-values args n) (In-map (λ (p : ℕ × ℕ). p.1) m r.0 r.1));
     }
 
-module _ (g : State) (rest : AtRest g) (all : HasAllSlots g) (σ : List ℕ → Applied) where
+module _ (g : State) (rest : AtRest g) (all : HasAllSlots g) (order : List Row) (has : (r : Row) → Contains g.rows r → Contains order r) (σ : List ℕ → Applied) where
   abbrev linked : Linked g.nodes g.found
   linked = rest.sane.sound.linked
 
@@ -191,7 +188,7 @@ module _ (g : State) (rest : AtRest g) (all : HasAllSlots g) (σ : List ℕ → 
   -- what is to be shown of the children
   abbrev pub ReachesIn : PatternArgs → Type 0
   ReachesIn args =
-      (f : ℕ → ℕ) (n : NodeArgs) (st : MatchState) (outs : List MatchState) → FoundIn g args n st outs → Reads g f σ st → Known g st → Answers g σ f args n →
+      (f : ℕ → ℕ) (n : NodeArgs) (st : MatchState) (outs : List MatchState) → FoundIn g order args n st outs → Reads g f σ st → Known g st → Answers g σ f args n →
       ((z : ℕ) → In z (written_names n) → Contains st.seen z) → ((y z : ℕ) → In y (child_binders args) → Contains st.seen z → f z ≢ y) → Reached g σ f st (λ z. In z (child_binders args)) outs
 
   -- at a row: the binders are matched, the names are held side by side, and then the children
@@ -201,7 +198,7 @@ module _ (g : State) (rest : AtRest g) (all : HasAllSlots g) (σ : List ℕ → 
       (row : Row) (id : Applied) → Contains g.rows row → IsFull g.nodes id → id.0 ≡ row.source → find g.found id ≡ renamed_id f (find g.found a) →
       (w : DArgs) → look_up_arguments g (λ y. y) σ args ≡ Some w → (row_node row id).args ≡ w →
       (n : NodeArgs) → IsNodeOf g st.seen row a n → (here : List MatchState) →
-      IfThere (walked args n st.pairs) (λ pairs. FoundIn g args n (record { values = st.values; pairs = pairs; seen = written_names n ++ st.seen }) here) (here ≡ []) →
+      IfThere (walked args n st.pairs) (λ pairs. FoundIn g order args n (record { values = st.values; pairs = pairs; seen = written_names n ++ st.seen }) here) (here ≡ []) →
       ((y : MatchState) → In y here → In y outs) → Reached g σ f st (λ z. In z (own_binders args ++ child_binders args)) outs
   at-row op payloads args children da apart f st a outs r k seen fresh row id filed full source found w e whole n is here goes into =
       let b : Applied = is.id in
@@ -226,8 +223,8 @@ module _ (g : State) (rest : AtRest g) (all : HasAllSlots g) (σ : List ℕ → 
       let says : Agrees x.by st.pairs = λ s t c. x.same s (k.in_pairs s t c) ∙ r.slots s t c in
       let walk : Walk x.by args n st.pairs = walks g σ x.by x.injective args n st.pairs says ans in
       let mid : MatchState = record { values = st.values; pairs = walk.after; seen = written_names n ++ st.seen } in
-      let inside : FoundIn g args n mid here =
-      subst (λ o. IfThere o (λ pairs. FoundIn g args n (record { values = st.values; pairs = pairs; seen = written_names n ++ st.seen }) here) (here ≡ [])) walk.went goes in
+      let inside : FoundIn g order args n mid here =
+      subst (λ o. IfThere o (λ pairs. FoundIn g order args n (record { values = st.values; pairs = pairs; seen = written_names n ++ st.seen }) here) (here ≡ [])) walk.went goes in
       let later : (z : ℕ) → Contains st.seen z → Contains mid.seen z = λ z c. Contains-In mid.seen z (In-right z (written_names n) st.seen (In-Contains st.seen z c)) in
       let reads : Reads g x.by σ mid = record {
         injective = x.injective;
@@ -270,7 +267,7 @@ module _ (g : State) (rest : AtRest g) (all : HasAllSlots g) (σ : List ℕ → 
 
   mutual
     -- the matcher finds a state that can be read as σ
-    pub reaches : (p : Pattern) → EachVariable (λ v. IsValidIn g (σ v)) p → AllDifferent (binders_of p) → (f : ℕ → ℕ) (st : MatchState) (a : Applied) (outs : List MatchState) → Found g p st a outs → Reads g f σ st → Known g st →
+    pub reaches : (p : Pattern) → EachVariable (λ v. IsValidIn g (σ v)) p → AllDifferent (binders_of p) → (f : ℕ → ℕ) (st : MatchState) (a : Applied) (outs : List MatchState) → Found g order p st a outs → Reads g f σ st → Known g st →
         ((z : ℕ) → In z (values (find g.found a).1) → Contains st.seen z) → ((y z : ℕ) → In y (binders_of p) → Contains st.seen z → f z ≢ y) →
         look_up_pattern g (λ y. y) σ p ≡ Some (renamed_id f (find g.found a)) → Reached g σ f st (λ z. In z (binders_of p)) outs
     reaches (variable v) valid d f st a outs found r k seen fresh e =
@@ -291,10 +288,10 @@ module _ (g : State) (rest : AtRest g) (all : HasAllSlots g) (σ : List ℕ → 
           payloads_same = ap (λ (t : DTerm). t.payloads) whole;
         } in
         let here = given-for (λ (r : Row) (here : List MatchState).
-          ((¬ IsRowFor g r op payloads a) × (here ≡ []))
-          ⊎ ((n : NodeArgs) × IsRowFor g r op payloads a × IsNodeOf g st.seen r a n
-            × IfThere (walked args n st.pairs) (λ pairs. FoundIn g args n (record { values = st.values; pairs = pairs; seen = written_names n ++ st.seen }) here) (here ≡ [])))
-        g.rows outs found w.row (In-Contains g.rows w.row w.filed) in
+        ((¬ IsRowFor g r op payloads a) × (here ≡ []))
+        ⊎ ((n : NodeArgs) × IsRowFor g r op payloads a × IsNodeOf g st.seen r a n
+        × IfThere (walked args n st.pairs) (λ pairs. FoundIn g order args n (record { values = st.values; pairs = pairs; seen = written_names n ++ st.seen }) here) (here ≡ [])))
+        order outs found w.row (In-Contains order w.row (has w.row w.filed)) in
         elim here.1 [
           | inl other ↦ absurd (other.0 fits)
           | inr fit ↦ at-row op payloads args (reaches-in args valid parts.1) parts.0 parts.2 f st a outs r k seen fresh w.row w.id w.filed w.full w.source w.found q.0 q.1 (ap (λ (t : DTerm). t.args) whole) fit.0 fit.2 here.0 fit.3 here.2
@@ -314,7 +311,7 @@ module _ (g : State) (rest : AtRest g) (all : HasAllSlots g) (σ : List ℕ → 
     }
     reaches-in (own_name x others) valid d f n st outs found r k ans seen fresh =
         let m : NodeArgs = ans.1 in
-        reaches-in others valid d f m st outs (subst (λ l. FoundIn g others (rest_of l) st outs) ans.2 found) r k ans.4 (λ z i. seen z (subst (λ l. In z (written_names l)) (sym ans.2) (inr i))) fresh
+        reaches-in others valid d f m st outs (subst (λ l. FoundIn g order others (rest_of l) st outs) ans.2 found) r k ans.4 (λ z i. seen z (subst (λ l. In z (written_names l)) (sym ans.2) (inr i))) fresh
     reaches-in (child_pattern p others) valid d f n st outs found r k ans seen fresh =
         let c : Applied = ans.0 in
         let m : NodeArgs = ans.1 in
@@ -323,11 +320,11 @@ module _ (g : State) (rest : AtRest g) (all : HasAllSlots g) (σ : List ℕ → 
         let own : (z : ℕ) → In z (values c.1) → Contains st.seen z = λ z i. written z (In-left z (values c.1) (written_names m) i) in
         let form : find g.found (renamed_id f c) ≡ renamed_id f c = (looked-pattern g rest σ (λ y. y) (λ y z e. e) p valid.0 (renamed_id f c) ans.3).0.1 in
         let look : look_up_pattern g (λ y. y) σ p ≡ Some (renamed_id f (find g.found c)) = ans.3 ∙ ap Some (sym form ∙ found-renamed g.found f c) in
-        let first : Found g p st c found.0 = subst (λ l. Found g p st (id_of_first l) found.0) ans.2 found.1 in
+        let first : Found g order p st c found.0 = subst (λ l. Found g order p st (id_of_first l) found.0) ans.2 found.1 in
         let one : Reached g σ f st (λ z. In z (binders_of p)) found.0 =
         reaches p valid.0 parts.0 f st c found.0 first r k (λ z i. own z (found-values g c z i)) (λ y z i. fresh y z (In-left y (binders_of p) (child_binders others) i)) look in
-        let next = given-for (λ s here. FoundIn g others (rest_of n) s here) found.0 outs found.2 one.out one.member in
-        let after : FoundIn g others m one.out next.0 = subst (λ l. FoundIn g others (rest_of l) one.out next.0) ans.2 next.1 in
+        let next = given-for (λ s here. FoundIn g order others (rest_of n) s here) found.0 outs found.2 one.out one.member in
+        let after : FoundIn g order others m one.out next.0 = subst (λ l. FoundIn g order others (rest_of l) one.out next.0) ans.2 next.1 in
         let more : (z : ℕ) → In z (written_names m) → Contains st.seen z = λ z i. written z (In-right z (values c.1) (written_names m) i) in
         let two : Reached g σ one.by one.out (λ z. In z (child_binders others)) next.0 =
         reaches-in others valid.1 parts.1 one.by m one.out next.0 after one.reads one.known (answers-agree g rest σ f one.by others m (λ z i. sym (one.same z (more z i))) ans.4) (λ z i. one.kept z (more z i))
@@ -342,11 +339,11 @@ module _ (g : State) (rest : AtRest g) (all : HasAllSlots g) (σ : List ℕ → 
         let l : NodeArgs = ans.2 in
         let parts : AllDifferent (child_binders inner) × AllDifferent (child_binders others) × ((z : ℕ) → In z (child_binders inner) → In z (child_binders others) → ⊥) = different-parts (child_binders inner) (child_binders others) d in
         let written : (z : ℕ) → In z (written_names (a_binder ans.0 m l)) → Contains st.seen z = λ z i. seen z (subst (λ u. In z (written_names u)) (sym ans.3) i) in
-        let first : FoundIn g inner m st found.0 = subst (λ u. FoundIn g inner (inside_first u) st found.0) ans.3 found.1 in
+        let first : FoundIn g order inner m st found.0 = subst (λ u. FoundIn g order inner (inside_first u) st found.0) ans.3 found.1 in
         let one : Reached g σ f st (λ z. In z (child_binders inner)) found.0 =
         reaches-in inner valid.0 parts.0 f m st found.0 first r k ans.5 (λ z i. written z (inr (In-left z (written_names m) (written_names l) i))) (λ y z i. fresh y z (In-left y (child_binders inner) (child_binders others) i)) in
-        let next = given-for (λ s here. FoundIn g others (rest_of n) s here) found.0 outs found.2 one.out one.member in
-        let after : FoundIn g others l one.out next.0 = subst (λ u. FoundIn g others (rest_of u) one.out next.0) ans.3 next.1 in
+        let next = given-for (λ s here. FoundIn g order others (rest_of n) s here) found.0 outs found.2 one.out one.member in
+        let after : FoundIn g order others l one.out next.0 = subst (λ u. FoundIn g order others (rest_of u) one.out next.0) ans.3 next.1 in
         let more : (z : ℕ) → In z (written_names l) → Contains st.seen z = λ z i. written z (inr (In-right z (written_names m) (written_names l) i)) in
         let two : Reached g σ one.by one.out (λ z. In z (child_binders others)) next.0 =
         reaches-in others valid.1 parts.1 one.by l one.out next.0 after one.reads one.known (answers-agree g rest σ f one.by others l (λ z i. sym (one.same z (more z i))) ans.6) (λ z i. one.kept z (more z i))
@@ -426,9 +423,9 @@ identity-by f [] = refl
 identity-by f (s ∷ S) = ap (λ l. (s, f s) ∷ l) (identity-by f S)
 
 -- each substitution whose look-up is an id is read off a state that is found at the id's class
-pub finds-all : (g : State) (rest : AtRest g) → HasAllSlots g → (σ : List ℕ → Applied) (p : Pattern) → EachVariable (λ v. IsValidIn g (σ v)) p → HasOwnBinders σ p → (x : Applied) → look_up_pattern g (λ y. y) σ p ≡ Some x →
-    (outs : List MatchState) → Found g p (start_at g x.0) (class_id g x.0) outs → (out : MatchState) × Contains outs out × (f : ℕ → ℕ) × Reads g f σ out
-finds-all g rest all σ p valid own x e outs found =
+pub finds-all : (g : State) (rest : AtRest g) → HasAllSlots g → (order : List Row) → ((r : Row) → Contains g.rows r → Contains order r) → (σ : List ℕ → Applied) (p : Pattern) → EachVariable (λ v. IsValidIn g (σ v)) p → HasOwnBinders σ p → (x : Applied) → look_up_pattern g (λ y. y) σ p ≡ Some x →
+    (outs : List MatchState) → Found g order p (start_at g x.0) (class_id g x.0) outs → (out : MatchState) × Contains outs out × (f : ℕ → ℕ) × Reads g f σ out
+finds-all g rest all order has σ p valid own x e outs found =
     let form : IsFoundId g x = (looked-pattern g rest σ (λ y. y) (λ y z q. q) p valid x e).0 in
     let S : List ℕ = used_slots g.found x.0 in
     let slots : keys x.1 ≡ S = subst (λ (c : Applied). keys c.1 ≡ used_slots g.found c.0) form.1 (found-slots g.nodes g.found rest.sane.sound.linked x form.0) in
@@ -445,7 +442,7 @@ finds-all g rest all σ p valid own x e outs found =
     let free : (u : ℕ) × IsFreeInPattern σ u p × (y ≡ u) = names-free g rest σ (λ u. u) (λ u v w. w) p valid x e y (subst (λ w. In w (values x.1)) q there) in
     own.in_scope y (Contains-In (binders_of p) y i) (subst (λ w. IsFreeInPattern σ w p) (sym free.2) free.1) in
     let r : Reached g σ f (start_at g x.0) (λ z. In z (binders_of p)) outs =
-    reaches g rest all σ p valid own.differ f (start_at g x.0) a outs found
+    reaches g rest all order has σ p valid own.differ f (start_at g x.0) a outs found
     (record { injective = inj; slots = λ s t c. absurd (Contains-nil (s, t) c); values_read = λ v b q. absurd (None-Some b q) })
     (record { in_pairs = λ s t c. absurd (Contains-nil (s, t) c); in_values = λ v b q. absurd (None-Some b q) }) seen fresh look in
     (r.out, Contains-In outs r.out r.member, r.by, r.reads)

@@ -11,7 +11,7 @@ use Rattle.slotted_theory.specs.Renaming.{IsInjective}
 use Rattle.slotted_theory.proofs.Lists.{contains_head, contains_tail, contains_cases, Contains-map, Contains-of_map}
 use Rattle.slotted_theory.proofs.Names.{lift-extend, lift-injective, extend-injective, extend-other}
 use Rattle.slotted_theory.proofs.Values.{node, child_before, expand_args, expand}
-use Rattle.slotted_model.specs.Applied.{Applied, keys, renamed_id, as_term, applied_of}
+use Rattle.slotted_model.specs.Applied.{Applied, renamed_id, as_term, applied_of}
 use Rattle.slotted_model.specs.Classes.{stands, terms, term_of, layer_of, IsFull, Canonical}
 use Rattle.slotted_model.specs.Filling.{IsValid, IsFilling, FillsArgs}
 use Rattle.slotted_model.specs.Growth.{Extends}
@@ -102,7 +102,7 @@ module _ (R : DTerm → DTerm → Bool) (moves : MovesWithNames R) (nodes : List
       moved_args f i.1,
       ap (moved_args f) i.2,
       subst (λ r. IsInstanceArgs R nodes (0 ∷ map suc other) σ r inner (moved_args (lift f) i.0)) (fun_ext (lift-extend f x ρ))
-      (arguments-moved (lift f) (lift-injective f inj) (0 ∷ map suc given) (0 ∷ map suc other) (come-lifted f given other h) (extend x ρ) inner i.0 i.3),
+          (arguments-moved (lift f) (lift-injective f inj) (0 ∷ map suc given) (0 ∷ map suc other) (come-lifted f given other h) (extend x ρ) inner i.0 i.3),
       arguments-moved f inj given other h ρ rest i.1 i.4,
     )
 

@@ -10,3 +10,5 @@ pub mod PatternExamples
 pub mod AllSlots
 pub mod Beside
 pub mod Completing
+pub mod Readings
+pub mod MatchingExamples

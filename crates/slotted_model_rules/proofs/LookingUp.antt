@@ -1,6 +1,6 @@
 -- Look-ups of patterns: they move with names, a term as a pattern is looked up as the term, and at rest a pattern is looked up as what it matches by rows.
-use Rattle.std.proofs.Common.{◌≡◌, ◌↔◌, ℕ, List, Option, Some, sym, ◌∙◌, ap, refl, subst}
-use Rattle.std.specs.Prelude.{Contains, option_map, option_and_then}
+use Rattle.std.proofs.Common.{◌≡◌, ◌↔◌, ℕ, List, Some, sym, ◌∙◌, ap, refl, subst}
+use Rattle.std.specs.Prelude.{option_map, option_and_then}
 use Rattle.std.proofs.Math.Path.{fun_ext}
 use Rattle.slotted_theory.specs.Term.{Args, Term, done, name, child, bind}
 use Rattle.slotted_theory.specs.Nameless.{DArgs, DTerm, stop, place, sub, scope, extend, lift, nameless_args, nameless_by, moved_args}
@@ -8,11 +8,9 @@ use Rattle.slotted_theory.specs.Renaming.{IsInjective}
 use Rattle.slotted_theory.proofs.Names.{lift-extend, lift-injective, extend-injective}
 use Rattle.slotted_theory.proofs.Values.{node, child_before}
 use Rattle.slotted_model.specs.Applied.{Applied, renamed_id, as_term, applied_of, EachChild}
-use Rattle.slotted_model.specs.Classes.{IsFull}
 use Rattle.slotted_model.specs.Find.{used_slots, find, Linked}
 use Rattle.slotted_model.specs.LookUp.{both, look_up_args}
-use Rattle.slotted_model.specs.Normal.{normal_args, normal}
-use Rattle.slotted_model.specs.ProofList.{node_of}
+use Rattle.slotted_model.specs.Normal.{normal_args}
 use Rattle.slotted_model.specs.State.{Row, State, look_up_node, look_up_tree}
 use Rattle.slotted_model.specs.Rest.{IsValidIn, AtRest}
 use Rattle.slotted_model.proofs.Answers.{RowAnswer, answer-row}
@@ -118,15 +116,17 @@ module _ (g : State) (rest : AtRest g) (σ : List ℕ → Applied) where
         let r : RowAnswer g n x = answer-row g rest n x q.2 in
         let valid : IsValidIn g r.id = full-is_valid g.nodes g.found finds r.id r.full in
         let same : row_node r.row r.id ≡ n = row-normal g rest r.row r.filed r.id r.source ∙ (r.same ∙ ap (node op payloads) (found-args g q.0 inside.0)) in
-        let form : IsFoundId g x = subst (IsFoundId g) r.found (found-valid g.nodes g.found finds r.id valid, found-again g.nodes g.found finds r.id valid) in
-        (form, λ a f. (
-          r.row,
-          r.id,
-          record { filed = r.filed; full = r.full; source = r.source; same = r.found ∙ sym f },
-          ap (λ (t : DTerm). t.op) same,
-          ap (λ (t : DTerm). t.payloads) same,
-          subst (λ (t : DTerm). MatchesArguments g ρ σ args t.args) (sym same) inside.1,
-        ))
+        let form : IsFoundId g x = subst (IsFoundId g) r.found (found-valid g.nodes g.found finds r.id valid, found-again g.nodes g.found finds r.id valid) in (
+          form,
+          λ a f. (
+            r.row,
+            r.id,
+            record { filed = r.filed; full = r.full; source = r.source; same = r.found ∙ sym f },
+            ap (λ (t : DTerm). t.op) same,
+            ap (λ (t : DTerm). t.payloads) same,
+            subst (λ (t : DTerm). MatchesArguments g ρ σ args t.args) (sym same) inside.1,
+          ),
+        )
     looked-pattern ρ inj (variable v) h x e =
         let b : Applied = renamed_id ρ (σ v) in
         let valid : IsValidIn g b = valid-renamed (used_slots g.found) g.nodes ρ inj (σ v) h in

@@ -9,39 +9,38 @@ use Rattle.slotted_theory.specs.Decided.{numbers_eq}
 use Rattle.slotted_theory.proofs.Bijections.{to-injective, swap}
 use Rattle.slotted_theory.proofs.Values.{node, child_before}
 use Rattle.slotted_model.specs.Applied.{Applied, renamed_id, as_term}
-use Rattle.slotted_model.specs.Classes.{IsFull}
 use Rattle.slotted_model.specs.Filling.{IsFilling}
 use Rattle.slotted_model.specs.Find.{find}
-use Rattle.slotted_model.specs.State.{Row, State}
+use Rattle.slotted_model.specs.State.{State}
 use Rattle.slotted_model.specs.Rest.{IsValidIn, AtRest}
 use Rattle.slotted_model.proofs.CongruenceExample.{made-rests}
 use Rattle.slotted_model.proofs.Asserting.{nothing-rests}
 use Rattle.slotted_model.proofs.NormalIds.{full-is_valid}
 use Rattle.slotted_model.proofs.Options.{Some-same, None-Some}
 use Rattle.slotted_model.proofs.RestExamples.{empty, made}
-use Rattle.slotted_model_rules.specs.Patterns.{Pattern, pattern_node, variable, no_argument, own_name, child_pattern, binding, look_up_pattern, Matches}
+use Rattle.slotted_model_rules.specs.Patterns.{Pattern, pattern_node, variable, no_argument, child_pattern, binding, look_up_pattern, Matches}
 use Rattle.slotted_model_rules.specs.Instances.{is_itself, IsInstance}
-use Rattle.slotted_model_rules.specs.Matcher.{NodeArgs, no_more, an_id, a_binder, MatchState, IsNodeOf, IsRowFor, Found, class_id, start_at, Reads, value_at}
+use Rattle.slotted_model_rules.specs.Matcher.{NodeArgs, no_more, an_id, a_binder, MatchState, Found, class_id, start_at, Reads, value_at}
 use Rattle.slotted_model_rules.proofs.LookingUp.{matches-look_ups}
 use Rattle.slotted_model_rules.proofs.Answering.{found-look_up}
 
 -- the classes of (var $0), (lam $x (var $x)), and (app (lam $x (var $x)) (lam $x (var $x)))
-abbrev var_node : DTerm
+abbrev pub var_node : DTerm
 var_node = node 1 [] (place 0 stop)
 
-abbrev lam_node : DTerm
+abbrev pub lam_node : DTerm
 lam_node = node 2 [] (scope (child_before (as_term (0, (0, 0) ∷ [])) stop) stop)
 
-abbrev app_node : DTerm
+abbrev pub app_node : DTerm
 app_node = node 3 [] (child_before (as_term (1, [])) (child_before (as_term (1, [])) stop))
 
-abbrev one : State
+abbrev pub one : State
 one = made empty var_node
 
-abbrev two : State
+abbrev pub two : State
 two = made one lam_node
 
-abbrev graph : State
+abbrev pub graph : State
 graph = made two app_node
 
 one_rests : AtRest one
@@ -52,7 +51,7 @@ two_rests =
     made-rests one one_rests lam_node (omega arith) ((((0, (0, 0) ∷ []), refl, record { in_range = omega arith; slots = refl; injective = (λ h. h, tt) }), tt), tt)
     refl (λ s c. absurd (Contains-nil s c)) (refl, λ y c. absurd (Contains-nil y c))
 
-rests : AtRest graph
+pub rests : AtRest graph
 rests =
     made-rests two two_rests app_node (omega arith) (
       ((1, []), refl, record { in_range = omega arith; slots = refl; injective = tt }),
@@ -61,10 +60,10 @@ rests =
     refl (λ s c. absurd (Contains-nil s c)) (refl, λ y c. absurd (Contains-nil y c))
 
 -- (lam $7 ?a), and ?a is (var $x)
-abbrev lam_pattern : Pattern
+abbrev pub lam_pattern : Pattern
 lam_pattern = pattern_node 2 [] (binding 7 (child_pattern (variable (97 ∷ [])) no_argument) no_argument)
 
-abbrev var_of : ℕ → List ℕ → Applied
+abbrev pub var_of : ℕ → List ℕ → Applied
 var_of x v = (0, (0, x) ∷ [])
 
 -- where ?a is (var $7) the value is bound by the pattern's binder, and the pattern is there; where it is (var $8) it is not
@@ -75,19 +74,25 @@ free_value : look_up_pattern graph (λ y. y) (var_of 8) lam_pattern ≡ None
 free_value = refl
 
 -- the matcher holds the pattern beside the node (lam $9 0[$9]): the name 9 stands for the slot 7, and ?a is 0[$9]
-abbrev out : MatchState
+abbrev pub out : MatchState
 out = record { values = ((97 ∷ []), (0, (0, 9) ∷ [])) ∷ []; pairs = (9, 7) ∷ []; seen = 9 ∷ 9 ∷ [] }
 
 abbrev lam_names : NodeArgs
 lam_names = a_binder 9 (an_id (0, (0, 9) ∷ []) no_more) no_more
 
-lam_found : Found graph lam_pattern (start_at graph 1) (class_id graph 1) (out ∷ [])
+pub lam_found : Found graph graph.rows lam_pattern (start_at graph 1) (class_id graph 1) (out ∷ [])
 lam_found = (
-  [], out ∷ [], refl, inl (λ h. let e : ◌≡◌ {A = ℕ} 3 2 = h.operator in omega arith, refl),
+  [],
+  out ∷ [],
+  refl,
+  inl (λ h. let e : ◌≡◌ {A = ℕ} 3 2 = h.operator in omega arith, refl),
   (
-    out ∷ [], [], refl,
+    out ∷ [],
+    [],
+    refl,
     inr (
-      lam_names, record { class = refl; operator = refl; payloads_same = refl },
+      lam_names,
+      record { class = refl; operator = refl; payloads_same = refl },
       record {
         id = (1, []);
         of_row = record { filed = (1, omega arith, refl); full = record { in_range = omega arith; slots = refl; injective = tt }; source = refl; same = refl };
@@ -122,7 +127,7 @@ lam_read = record {
     ]
 
 lam_answer : look_up_pattern graph (λ y. y) (var_of 7) lam_pattern ≡ Some (1, [])
-lam_answer = found-look_up graph rests (swapped 9 7) (var_of 7) lam_pattern (start_at graph 1) (class_id graph 1) (out ∷ []) lam_found out (inl refl) lam_read
+lam_answer = found-look_up graph graph.rows rests (swapped 9 7) (var_of 7) lam_pattern (start_at graph 1) (class_id graph 1) (out ∷ []) lam_found out (inl refl) lam_read
 
 -- so it matches the id 1[] by rows
 lam_matches : Matches graph (λ y. y) (var_of 7) lam_pattern (1, [])
@@ -145,7 +150,7 @@ f_of z = node 5 [] (place 0 (place z stop))
 filled_by : (z : ℕ) → 1 < z → IsFilling (f_node ∷ []) (0 ∷ 1 ∷ []) (0, (0, 0) ∷ []) (0, (0, 0) ∷ (1, z) ∷ [])
 filled_by z l = record {
   class = refl;
-  full = record { in_range = omega arith; slots = refl; injective = (λ h. elim h [ | inl e ↦ omega arith | inr n ↦ n ], (λ h. h, tt)) };
+  full = record { in_range = omega arith; slots = refl; injective = (λ h. elim h [ inl e ↦ omega arith | inr n ↦ n ], (λ h. h, tt)) };
   keeps = λ s x c. elim (contains_cases (0, 0) [] (s, x) c) [
     | inl e ↦ subst (Contains ((0, 0) ∷ (1, z) ∷ [])) (sym e) (contains_head (0, 0) ((1, z) ∷ []))
     | inr k ↦ absurd (Contains-nil (s, x) k)
@@ -167,8 +172,46 @@ filled_by z l = record {
 
 filled_twice : IsInstance is_itself (f_node ∷ []) [] (λ v. (0, (0, 8) ∷ [])) (λ y. y) twice_under
     (node 2 [] (scope (child_before (node 2 [] (scope (child_before (node 3 [] (child_before (f_of 12) (child_before (f_of 13) stop))) stop) stop)) stop) stop))
-filled_twice =
-    (_, refl, (_, _, refl, (_, _, refl, (_, refl, (_, _, refl, (_, _, refl, (_, refl, (
-      f_of 12, _, refl, ((0, (0, 0) ∷ (1, 12) ∷ []), filled_by 12 (omega arith), refl),
-      (f_of 13, _, refl, ((0, (0, 0) ∷ (1, 13) ∷ []), filled_by 13 (omega arith), refl), refl),
-    )), refl), refl)), refl), refl))
+filled_twice = (
+  _,
+  refl,
+  (
+    _,
+    _,
+    refl,
+    (
+      _,
+      _,
+      refl,
+      (
+        _,
+        refl,
+        (
+          _,
+          _,
+          refl,
+          (
+            _,
+            _,
+            refl,
+            (
+              _,
+              refl,
+              (
+                f_of 12,
+                _,
+                refl,
+                ((0, (0, 0) ∷ (1, 12) ∷ []), filled_by 12 (omega arith), refl),
+                (f_of 13, _, refl, ((0, (0, 0) ∷ (1, 13) ∷ []), filled_by 13 (omega arith), refl), refl),
+              ),
+            ),
+            refl,
+          ),
+          refl,
+        ),
+      ),
+      refl,
+    ),
+    refl,
+  ),
+)

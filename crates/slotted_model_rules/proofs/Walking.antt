@@ -1,6 +1,6 @@
 -- Names held beside each other: what a walk keeps, and what it says of the names.
-use Rattle.std.proofs.Common.{◌≡◌, ◌≢◌, ℕ, List, [], ◌∷◌, ◌++◌, Option, Some, None, sym, ◌∙◌, ap, refl, subst, inl, inr}
-use Rattle.std.specs.Prelude.{Contains, option_and_then, cond, nat_eq}
+use Rattle.std.proofs.Common.{◌≡◌, ℕ, List, [], ◌∷◌, Option, Some, None, sym, ◌∙◌, ap, refl, subst, inl, inr}
+use Rattle.std.specs.Prelude.{Contains, option_and_then, cond}
 use Rattle.std.proofs.lemmas.Bool.{cases_eq, cases_Bool, eq-eqb, ne_eqb}
 use Rattle.slotted_theory.specs.FiniteMaps.{value_of}
 use Rattle.slotted_theory.proofs.Lists.{contains_head, contains_tail}
@@ -36,7 +36,7 @@ abbrev pub Keeps : List (ℕ × ℕ) → List (ℕ × ℕ) → Type 0
 Keeps pairs later = (s t : ℕ) → Contains pairs (s, t) → Contains later (s, t)
 
 -- the pair is there afterwards, and all that was
-paired-keeps : (pairs : List (ℕ × ℕ)) (s t : ℕ) (q : List (ℕ × ℕ)) → paired pairs s t ≡ Some q → Contains q (s, t) × Keeps pairs q
+pub paired-keeps : (pairs : List (ℕ × ℕ)) (s t : ℕ) (q : List (ℕ × ℕ)) → paired pairs s t ≡ Some q → Contains q (s, t) × Keeps pairs q
 paired-keeps pairs s t q e = go (value_of pairs s) refl e
   where
     go : (o : Option ℕ) → value_of pairs s ≡ o → paired_with o pairs s t ≡ Some q → Contains q (s, t) × Keeps pairs q

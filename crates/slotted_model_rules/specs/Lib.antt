@@ -4,5 +4,5 @@ pub mod Patterns
 pub mod Instances
 pub mod PatternClaims
 pub mod Matcher
-pub mod MatcherClaims
 pub mod Complete
+pub mod MatcherClaims

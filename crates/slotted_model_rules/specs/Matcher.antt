@@ -2,13 +2,14 @@
 --     NodeArgs                  the arguments of a node with names, whose children are ids
 --     MatchState                ids for variables, which name of the graph stands for which slot of the pattern, and the names of the graph seen so far
 --     walked args n pairs       the pairs after all names of n were held beside those of the pattern's arguments, if they then are an injective map
---     Found g p st a outs       from the state st the matcher finds the pattern at the id a in these states, in this order
+--     Found g order p st a outs  from the state st the matcher finds the pattern at the id a in these states, one after another, where it
+--                               goes through the rows of a class in the order in which they stand in the list `order`
+--     EachSlot P p              P holds of each slot that the pattern names
 --     Reads g f σ st            the values σ are those of the state, with the names that f gives: a slot of the pattern where there is one
 use Rattle.std.specs.Prelude.{◌≡◌, ◌⊎◌, ℕ, List, [], ◌∷◌, ◌++◌, Contains, Option, Some, None, option_and_then, cond, nat_eq}
 use Rattle.slotted_theory.specs.Nameless.{DArgs, stop, place, scope, extend}
 use Rattle.slotted_theory.specs.FiniteMaps.{value_of}
 use Rattle.slotted_theory.specs.Renaming.{IsInjective}
-use Rattle.slotted_theory.specs.Shape.{free_names}
 use Rattle.slotted_theory.specs.Decided.{numbers_eq}
 use Rattle.slotted_theory.proofs.Values.{child_before}
 use Rattle.slotted_model.specs.Affected.{id_eq}
@@ -125,22 +126,35 @@ with_value g None st v a = record st { values = (v, a) ∷ st.values } ∷ []
 
 abbrev mutual
   -- a variable takes the id as its value; a node is held beside each row of the id's class in turn, first its names and then child by child
-  pub Found : State → Pattern → MatchState → Applied → List MatchState → Type 0
-  Found g (pattern_node op payloads args) st a outs =
+  pub Found : State → List Row → Pattern → MatchState → Applied → List MatchState → Type 0
+  Found g order (pattern_node op payloads args) st a outs =
       Gives (λ (r : Row) (here : List MatchState).
-        ((¬ IsRowFor g r op payloads a) × (here ≡ []))
-        ⊎ ((n : NodeArgs) × IsRowFor g r op payloads a × IsNodeOf g st.seen r a n
-          × IfThere (walked args n st.pairs) (λ pairs. FoundIn g args n (record { values = st.values; pairs = pairs; seen = written_names n ++ st.seen }) here) (here ≡ [])))
-      g.rows outs
-  Found g (variable v) st a outs = outs ≡ with_value g (value_at st.values v) st v a
-  Found g (replacing body part value) st a outs = outs ≡ []
+      ((¬ IsRowFor g r op payloads a) × (here ≡ []))
+      ⊎ ((n : NodeArgs) × IsRowFor g r op payloads a × IsNodeOf g st.seen r a n
+      × IfThere (walked args n st.pairs) (λ pairs. FoundIn g order args n (record { values = st.values; pairs = pairs; seen = written_names n ++ st.seen }) here) (here ≡ [])))
+      order outs
+  Found g order (variable v) st a outs = outs ≡ with_value g (value_at st.values v) st v a
+  Found g order (replacing body part value) st a outs = outs ≡ []
 
   -- each child pattern at its id, from each state in which the ones before it were found
-  pub FoundIn : State → PatternArgs → NodeArgs → MatchState → List MatchState → Type 0
-  FoundIn g no_argument n st outs = outs ≡ st ∷ []
-  FoundIn g (own_name x rest) n st outs = FoundIn g rest (rest_of n) st outs
-  FoundIn g (child_pattern p rest) n st outs = (mid : List MatchState) × Found g p st (id_of_first n) mid × Gives (λ s here. FoundIn g rest (rest_of n) s here) mid outs
-  FoundIn g (binding x inner rest) n st outs = (mid : List MatchState) × FoundIn g inner (inside_first n) st mid × Gives (λ s here. FoundIn g rest (rest_of n) s here) mid outs
+  pub FoundIn : State → List Row → PatternArgs → NodeArgs → MatchState → List MatchState → Type 0
+  FoundIn g order no_argument n st outs = outs ≡ st ∷ []
+  FoundIn g order (own_name x rest) n st outs = FoundIn g order rest (rest_of n) st outs
+  FoundIn g order (child_pattern p rest) n st outs = (mid : List MatchState) × Found g order p st (id_of_first n) mid × Gives (λ s here. FoundIn g order rest (rest_of n) s here) mid outs
+  FoundIn g order (binding x inner rest) n st outs = (mid : List MatchState) × FoundIn g order inner (inside_first n) st mid × Gives (λ s here. FoundIn g order rest (rest_of n) s here) mid outs
+
+abbrev mutual
+  -- P holds of each slot that the pattern names, binders too
+  pub EachSlot : (ℕ → Type 0) → Pattern → Type 0
+  EachSlot P (pattern_node op payloads args) = EachSlotIn P args
+  EachSlot P (variable v) = Unit {0}
+  EachSlot P (replacing body part value) = EachSlot P body × EachSlot P part × EachSlot P value
+
+  pub EachSlotIn : (ℕ → Type 0) → PatternArgs → Type 0
+  EachSlotIn P no_argument = Unit {0}
+  EachSlotIn P (own_name x rest) = P x × EachSlotIn P rest
+  EachSlotIn P (child_pattern p rest) = EachSlot P p × EachSlotIn P rest
+  EachSlotIn P (binding x inner rest) = P x × EachSlotIn P inner × EachSlotIn P rest
 
 -- a live class under its own slots, and the state in which nothing but these was seen
 abbrev pub class_id : State → ℕ → Applied

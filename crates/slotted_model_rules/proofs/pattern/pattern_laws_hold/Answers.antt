@@ -19,8 +19,12 @@ returns c = record {
   replaced_are_instances = λ R nodes given σ body part value for_body for_part for_value b x y r i j k f l m s a full e. inr (
     full,
     (
-      term_of nodes b, r, term_of nodes x, term_of nodes y,
-      answer-instances R nodes given σ body for_body i b f, s,
+      term_of nodes b,
+      r,
+      term_of nodes x,
+      term_of nodes y,
+      answer-instances R nodes given σ body for_body i b f,
+      s,
       answer-instances R nodes given σ part for_part j x l,
       answer-instances R nodes given σ value for_value k y m,
       e,
