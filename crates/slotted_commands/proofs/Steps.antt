@@ -18,8 +18,7 @@ use Rattle.slotted_model.specs.Applied.{Applied}
 use Rattle.slotted_model.specs.Classes.{term_of}
 use Rattle.slotted_model.specs.Growth.{Extends}
 use Rattle.slotted_model.specs.Ids.{id_of}
-use Rattle.slotted_core.specs.Places.{term_places}
-use Rattle.slotted_core.specs.Graph.{Graph, IsValidId, OnlyReads}
+use Rattle.slotted_core.specs.Graph.{Graph, IsValidId, OnlyReads, RunsOutForTerm}
 use Rattle.slotted_core.specs.Image.{FoundAlike, AddsClasses, AreDerivable, IsUnion, IsNoUnion, HasLargeClass, asserted_in}
 use Rattle.slotted_core.specs.Nodes.{to_applied}
 use Rattle.slotted_commands.specs.declared.answer.Answer.{Answer}
@@ -60,7 +59,7 @@ gains g h t a sound valid term found extends adds more =
     record { sound = not_true h.failed (λ f. false≢true (sound f)); valid = valid; term = term; found = found; extends = extends; adds = adds; more = more }
 
 -- a term that was not added, since memory or slots ran out
-pub runs_out : {A : Type 0} (g h : Graph) (t : Term) (r : Result A Error) (e : Error) → r ≡ Err e → g.failed ≡ false → (IsErrOf r Failed → IsTrue g.failed) → (IsErr r → IsTrue h.failed) → (IsErrOf r OutOfSlots → (h.table.fresh ≡ 2 ^ 30) ⊎ (2 ^ 30 ≤ term_places t)) → IfErr r (λ x. (x ≡ Failed) ⊎ IsShortage x) → KnowsMore g.table h.table → RunsOut g t e h
+pub runs_out : {A : Type 0} (g h : Graph) (t : Term) (r : Result A Error) (e : Error) → r ≡ Err e → g.failed ≡ false → (IsErrOf r Failed → IsTrue g.failed) → (IsErr r → IsTrue h.failed) → (IsErrOf r OutOfSlots → RunsOutForTerm t g.table h.table) → IfErr r (λ x. (x ≡ Failed) ⊎ IsShortage x) → KnowsMore g.table h.table → RunsOut g t e h
 runs_out g h t (Ok a) e is sound was fails full only more = cc
 runs_out g h t (Err x) e is sound was fails full only more =
     let same : x ≡ e = cc in

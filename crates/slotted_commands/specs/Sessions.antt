@@ -18,8 +18,7 @@ use Rattle.slotted_model.specs.Classes.{term_of}
 use Rattle.slotted_model.specs.Growth.{Extends}
 use Rattle.slotted_model.specs.Ids.{id_of}
 use Rattle.slotted_core.specs.Image.{FoundAlike, AddsClasses, IsUnion, IsNoUnion, HasLargeClass, asserted_in}
-use Rattle.slotted_core.specs.Places.{term_places}
-use Rattle.slotted_core.specs.Graph.{Graph, IsValidId, OnlyReads}
+use Rattle.slotted_core.specs.Graph.{Graph, IsValidId, OnlyReads, RunsOutForTerm}
 use Rattle.slotted_commands.specs.declared.answer.Answer.{Answer}
 use Rattle.slotted_commands.specs.declared.answer.Answer.TheVariants.{Done, Yes, No, United, WereEqual, Refused, NoCommand}
 use Rattle.slotted_commands.specs.Commands.{Command, adds, compares, unites, no_command}
@@ -72,7 +71,7 @@ pub record Gains (g : Graph) (t : Term) (id : Applied) (h : Graph) : Type 0 wher
 pub record RunsOut (g : Graph) (t : Term) (e : Error) (h : Graph) : Type 0 where
   pub failed : IsTrue h.failed
   pub shortage : IsShortage e
-  pub cause : e ≡ OutOfSlots → (h.table.fresh ≡ 2 ^ 30) ⊎ (2 ^ 30 ≤ term_places t)
+  pub cause : e ≡ OutOfSlots → RunsOutForTerm t g.table h.table
   pub more : KnowsMore g.table h.table
 
 -- the terms are added, one after another, and have these ids
