@@ -143,7 +143,3 @@ IsNoUnion g a b = (¬ FoundAlike g a b) × (¬ CanUnite g a b)
 abbrev pub IsUnion : Image → Image → Applied → Applied → Bool → Type 0
 IsUnion g h a b true = CanUnite g a b × FoundAlike h a b × Asserts g h (equation_of a b) × (h.canonical ≡ g.canonical) × Continues g h
 IsUnion g h a b false = FoundAlike g a b × (h.found ≡ g.found) × Asserts g h (equation_of a b) × (h.canonical ≡ g.canonical) × Continues g h
-
--- a class has 2^29 slots or more: two of them may have too many to be numbered
-abbrev pub HasLargeClass : List DTerm → Type 0
-HasLargeClass nodes = (i : ℕ) × (i < length nodes) × (2 ^ 29 ≤ length (canonical_slots nodes i))

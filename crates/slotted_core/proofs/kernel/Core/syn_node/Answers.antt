@@ -24,5 +24,5 @@ returns-clause-full g c e =
     let is = ap nameless_node c.node_of.ensures ∙ node_at-is k a.0 lt in
     elim (c.apply_slotmap.ensures.full e) [
       | inl large ↦ inr (c.requires.full.in_range, omega (arith, large, ap place_count is, places-counted f (g.met.L.LanguageChildren.fits c.node_of.result.now)))
-      | inr none ↦ inl none
+      | inr out ↦ inl out.0
     ]
