@@ -15,3 +15,4 @@ pub mod Uniting
 pub mod Places
 pub mod SmallNodes
 pub mod Frames
+pub mod Syn
