@@ -20,7 +20,8 @@ use Rattle.slotted_model.specs.Growth.{Extends}
 use Rattle.slotted_model.specs.Ids.{id_of}
 use Rattle.slotted_core.specs.Places.{term_places}
 use Rattle.slotted_core.specs.Graph.{Graph, IsValidId, OnlyReads}
-use Rattle.slotted_core.specs.Image.{FoundAlike, AddsClasses, AreDerivable, IsUnion, IsNoUnion, HasLargeClass, asserted_in}
+use Rattle.slotted_core.specs.Causes.{HaveManyNames}
+use Rattle.slotted_core.specs.Image.{FoundAlike, AddsClasses, AreDerivable, IsUnion, IsNoUnion, asserted_in}
 use Rattle.slotted_core.specs.Nodes.{to_applied}
 use Rattle.slotted_commands.specs.declared.answer.Answer.{Answer}
 use Rattle.slotted_commands.specs.declared.answer.Answer.TheVariants.{Yes, No, Refused}
@@ -116,7 +117,7 @@ not_short x (inl m) r e n = cc
 not_short x (inr m) r e n = cc
 
 -- a union that was refused
-pub union_refused : (g h : Graph) (left right : List ℕ) (t u : Term) (a b : Applied) (r : Result Bool Error) (e : Error) → r ≡ Err e → g.failed ≡ false → (IsErrOf r Failed → IsTrue g.failed) → (IsErrOf r NotYet → IsNoUnion g.image a b × (h ≡ g)) → ((IsErr r × ¬ IsErrOf r NotYet) → IsTrue h.failed) → (IsErrOf r OutOfSlots → HasLargeClass g.image.canonical) → IfErr r (λ x. (x ≡ Failed) ⊎ (x ≡ NotYet) ⊎ IsShortage x) → h.table ≡ g.table → Says g (unites left right) (t ∷ u ∷ []) (a ∷ b ∷ []) h (Refused e)
+pub union_refused : (g h : Graph) (left right : List ℕ) (t u : Term) (a b : Applied) (r : Result Bool Error) (e : Error) → r ≡ Err e → g.failed ≡ false → (IsErrOf r Failed → IsTrue g.failed) → (IsErrOf r NotYet → IsNoUnion g.image a b × (h ≡ g)) → ((IsErr r × ¬ IsErrOf r NotYet) → IsTrue h.failed) → (IsErrOf r OutOfSlots → HaveManyNames a.1 b.1) → IfErr r (λ x. (x ≡ Failed) ⊎ (x ≡ NotYet) ⊎ IsShortage x) → h.table ≡ g.table → Says g (unites left right) (t ∷ u ∷ []) (a ∷ b ∷ []) h (Refused e)
 union_refused g h left right t u a b (Ok y) e is sound was yet fails full only table = cc
 union_refused g h left right t u a b (Err x) e is sound was yet fails full only table =
     let same : x ≡ e = cc in

@@ -17,7 +17,8 @@ use Rattle.slotted_model.specs.Applied.{Applied}
 use Rattle.slotted_model.specs.Classes.{term_of}
 use Rattle.slotted_model.specs.Growth.{Extends}
 use Rattle.slotted_model.specs.Ids.{id_of}
-use Rattle.slotted_core.specs.Image.{FoundAlike, AddsClasses, IsUnion, IsNoUnion, HasLargeClass, asserted_in}
+use Rattle.slotted_core.specs.Causes.{HaveManyNames}
+use Rattle.slotted_core.specs.Image.{FoundAlike, AddsClasses, IsUnion, IsNoUnion, asserted_in}
 use Rattle.slotted_core.specs.Places.{term_places}
 use Rattle.slotted_core.specs.Graph.{Graph, IsValidId, OnlyReads}
 use Rattle.slotted_commands.specs.declared.answer.Answer.{Answer}
@@ -103,11 +104,11 @@ pub record Unites (g : Graph) (a b : Applied) (h : Graph) (yes : Bool) : Type 0 
   pub sound : h.failed ≡ false
   pub table : h.table ≡ g.table
 
--- uniting ids of g runs out of memory or slots, and leaves the failed graph h
-pub record UnionRunsOut (g : Graph) (e : Error) (h : Graph) : Type 0 where
+-- uniting ids of g runs out of memory, or of slots where the ids have too many, and leaves the failed graph h
+pub record UnionRunsOut (g : Graph) (a b : Applied) (e : Error) (h : Graph) : Type 0 where
   pub failed : IsTrue h.failed
   pub shortage : IsShortage e
-  pub cause : e ≡ OutOfSlots → HasLargeClass g.image.canonical
+  pub cause : e ≡ OutOfSlots → HaveManyNames a.1 b.1
   pub table : h.table ≡ g.table
 
 -- what a command says of its terms and their ids once they are added to g, and the graph that it leaves
@@ -118,7 +119,7 @@ pub data Says (g : Graph) : Command → List Term → List Applied → Graph →
   are_united : {left right : List ℕ} {t u : Term} {a b : Applied} {h : Graph} → Unites g a b h true → Says g (unites left right) (t ∷ u ∷ []) (a ∷ b ∷ []) h United
   were_equal : {left right : List ℕ} {t u : Term} {a b : Applied} {h : Graph} → Unites g a b h false → Says g (unites left right) (t ∷ u ∷ []) (a ∷ b ∷ []) h WereEqual
   not_yet : {left right : List ℕ} {t u : Term} {a b : Applied} → IsNoUnion g.image a b → Says g (unites left right) (t ∷ u ∷ []) (a ∷ b ∷ []) g (Refused NotYet)
-  union_ran_out : {left right : List ℕ} {t u : Term} {a b : Applied} {e : Error} {h : Graph} → UnionRunsOut g e h → Says g (unites left right) (t ∷ u ∷ []) (a ∷ b ∷ []) h (Refused e)
+  union_ran_out : {left right : List ℕ} {t u : Term} {a b : Applied} {e : Error} {h : Graph} → UnionRunsOut g a b e h → Says g (unites left right) (t ∷ u ∷ []) (a ∷ b ∷ []) h (Refused e)
 
 -- what a command answers over g, and the graph h that it leaves
 pub data Answered (read : List Element → Option Form) (g h : Graph) (c : Command) : Answer → Type 0 where
