@@ -103,7 +103,7 @@ pub record Unites (g : Graph) (a b : Applied) (h : Graph) (yes : Bool) : Type 0 
   pub sound : h.failed ≡ false
   pub table : h.table ≡ g.table
 
--- uniting the ids a and b of g runs out of memory or slots, and leaves the failed graph h
+-- uniting ids of g runs out of memory, or of slots where the ids have too many, and leaves the failed graph h
 pub record UnionRunsOut (g : Graph) (a b : Applied) (e : Error) (h : Graph) : Type 0 where
   pub failed : IsTrue h.failed
   pub shortage : IsShortage e

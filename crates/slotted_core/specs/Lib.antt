@@ -17,3 +17,4 @@ pub mod Kept
 pub mod Uniting
 pub mod SmallNodes
 pub mod Frames
+pub mod Syn

@@ -1,7 +1,8 @@
 -- The steps of a union, over ids of the code.
 --     ProvesFind k l i p      the equation of what the find of a class says stands at p
 --     AssertsSides, LinksSides, UnitesSides      what is asserted of two ids, and what a union leaves
-use Rattle.std.specs.Prelude.{◌≡◌, ◌≢◌, ◌↔◌, ℕ, List, Bool, Option, Contains}
+use Rattle.std.specs.Prelude.{◌≡◌, ◌≢◌, ◌↔◌, ℕ, Bool, Option, Contains, String, option_map, string_bytes}
+use Rattle.std.specs.declared.alloc.Global.{Global}
 use Rattle.slotted_slots.specs.declared.types.AppliedId.{AppliedId}
 use Rattle.slotted_model.specs.Applied.{values}
 use Rattle.slotted_model.specs.Correspondence.{same_names}
@@ -21,8 +22,8 @@ abbrev pub ProvesBack : Kept → Kept → ℕ → ℕ → Type 0
 ProvesBack k l i p = Proves k l (turned_equation (nodes_of k) (find_equation (nodes_of k) (entries_of k) i)) p
 
 -- the equation of a and b is asserted, or turned round that of b and a, and stands at p
-abbrev pub AssertsSides : Kept → Kept → Bool → AppliedId → AppliedId → Option (List ℕ) → ℕ → Type 0
-AssertsSides k l is_turned a b text p = IsAsserted k l (asserted_for is_turned (to_applied a) (to_applied b) text) (to_applied a) (to_applied b) p
+abbrev pub AssertsSides : Kept → Kept → Bool → AppliedId → AppliedId → Option (String Global) → ℕ → Type 0
+AssertsSides k l is_turned a b text p = IsAsserted k l (asserted_for is_turned (to_applied a) (to_applied b) (option_map string_bytes text)) (to_applied a) (to_applied b) p
 
 -- two ids find different classes
 abbrev pub FindOtherClasses : Kept → AppliedId → AppliedId → Type 0
@@ -39,13 +40,13 @@ IsHeir k dead kept heir =
     to_applied heir ≡ (find_class (entries_of k) kept.id.0, same_names (find (entries_of k) (to_applied kept)).1 (find (entries_of k) (to_applied dead)).1)
 
 -- by what is asserted the two ids find alike, and all else goes on
-abbrev pub LinksSides : Kept → Kept → Bool → AppliedId → AppliedId → Option (List ℕ) → Type 0
-LinksSides k l is_turned a b text = Links k l (asserted_for is_turned (to_applied a) (to_applied b) text) (to_applied a) (to_applied b)
+abbrev pub LinksSides : Kept → Kept → Bool → AppliedId → AppliedId → Option (String Global) → Type 0
+LinksSides k l is_turned a b text = Links k l (asserted_for is_turned (to_applied a) (to_applied b) (option_map string_bytes text)) (to_applied a) (to_applied b)
 
 -- two ids find different classes with the same names
 abbrev pub CanLink : Kept → AppliedId → AppliedId → Type 0
 CanLink k a b = CanUnite (image_of k) (to_applied a) (to_applied b)
 
 -- what a union answers, and what it leaves
-abbrev pub UnitesSides : Kept → Kept → AppliedId → AppliedId → Option (List ℕ) → Option Bool → Type 0
-UnitesSides k l a b text answer = Unites k l (asserted_entry (to_applied a) (to_applied b) text) (to_applied a) (to_applied b) answer
+abbrev pub UnitesSides : Kept → Kept → AppliedId → AppliedId → Option (String Global) → Option Bool → Type 0
+UnitesSides k l a b text answer = Unites k l (asserted_entry (to_applied a) (to_applied b) (option_map string_bytes text)) (to_applied a) (to_applied b) answer

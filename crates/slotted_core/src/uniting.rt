@@ -1,12 +1,12 @@
 //! Uniting two classes: proofs of what finds say, and the link.
-ghost use Rattle.std.specs.Prelude.{◌<◌, ◌↔◌, length, IsTrue, IfOk, IfErr, IsErrOf, OnOk, option_map, string_bytes};
+ghost use Rattle.std.specs.Prelude.{◌<◌, ◌↔◌, length, IsTrue, IfOk, IfErr, IsErrOf, OnOk};
 ghost use Rattle.slotted_slots.specs.Error.{IsOutOfMemory, IsShortage};
 ghost use Rattle.slotted_model.specs.Classes.{IsFull};
 ghost use Rattle.slotted_core.specs.Causes.{HaveManyNames, IsLargeClass};
 ghost use Rattle.slotted_core.specs.Kept.{Good, nodes_of};
 ghost use Rattle.slotted_core.specs.Nodes.{to_applied};
-ghost use Rattle.slotted_core.specs.Uniting.{AssertsSides, CanLink, FindOtherClasses, FindSameNames, IsHeir, LinksSides};
-ghost use Rattle.slotted_core.specs.Uniting.{ProvesBack, ProvesFind, UnitesSides};
+ghost use Rattle.slotted_core.specs.Uniting.{AssertsSides, CanLink, FindOtherClasses, FindSameNames, IsHeir};
+ghost use Rattle.slotted_core.specs.Uniting.{LinksSides, ProvesBack, ProvesFind, UnitesSides};
 
 use crate::kernel::Core;
 use crate::names::have_same_values;
@@ -59,7 +59,7 @@ impl<L: Language> Core<L> {
         requires good { Good self.old }
         requires left { IsFull (nodes_of self.old) (to_applied a.now) }
         requires right { IsFull (nodes_of self.old) (to_applied b.now) }
-        ensures ok { IfOk result (AssertsSides self.old self.new is_turned a.now b.now (option_map string_bytes text)) }
+        ensures ok { IfOk result (AssertsSides self.old self.new is_turned a.now b.now text) }
         ensures full { IsErrOf result Error.OutOfSlots → HaveManyNames a.now.m b.now.m }
         ensures err { IfErr result IsShortage }
     {
@@ -104,7 +104,7 @@ impl<L: Language> Core<L> {
         requires right { IsFull (nodes_of self.old) (to_applied kept.now) }
         requires different { FindOtherClasses self.old dead.now kept.now }
         requires names { FindSameNames self.old dead.now kept.now }
-        ensures ok { OnOk result (LinksSides self.old self.new is_turned dead.now kept.now (option_map string_bytes text)) }
+        ensures ok { OnOk result (LinksSides self.old self.new is_turned dead.now kept.now text) }
         ensures full { IsErrOf result Error.OutOfSlots → HaveManyNames dead.now.m kept.now.m }
         ensures err { IfErr result IsShortage }
     {
@@ -151,7 +151,7 @@ impl<L: Language> Core<L> {
         requires good { Good self.old }
         requires left { IsFull (nodes_of self.old) (to_applied l.now) }
         requires right { IsFull (nodes_of self.old) (to_applied r.now) }
-        ensures ok { IfOk result (UnitesSides self.old self.new l.now r.now (option_map string_bytes text)) }
+        ensures ok { IfOk result (UnitesSides self.old self.new l.now r.now text) }
         ensures full { IsErrOf result Error.OutOfSlots → HaveManyNames l.now.m r.now.m }
         ensures err { IfErr result IsShortage }
     {

@@ -1,11 +1,10 @@
 //! An entry of a graph's proof list as the explanation of its equation.
-ghost use Rattle.std.specs.Prelude.{◌≡◌, ◌⊎◌, ◌↔◌, ◌<◌, ◌^◌, ℕ, length, string_bytes, IsTrue, IfOk, IfErr, IsErrOf};
-ghost use Rattle.slotted_slots.specs.Error.{IsOutOfMemory, IsShortage};
+ghost use Rattle.std.specs.Prelude.{◌≡◌, ◌⊎◌, ◌↔◌, ◌<◌, ℕ, length, string_bytes, IsTrue, IfOk, IfErr, IsErrOf};
+ghost use Rattle.slotted_slots.specs.Error.{IsShortage};
 ghost use Rattle.slotted_proofs.specs.Entries.{proven_at, statement_at, step_of, text_of};
 ghost use Rattle.slotted_proofs.specs.Equations.{IsWritten};
-ghost use Rattle.slotted_core.specs.Canonical.{HasLargeNode};
 ghost use Rattle.slotted_core.specs.Graph.{OnlyTakesSlots};
-ghost use Rattle.slotted_explain.specs.Printed.{IsProofText};
+ghost use Rattle.slotted_explain.specs.Printed.{GraphRunsOut, IsProofText, ProofRunsOut};
 
 use crate::flat::{chain_text, flat_steps};
 use crate::print::lines_text;
@@ -38,11 +37,12 @@ pub trait Explanation {
         alloc: Global,
         graph: &EGraph<L, N>,
     ) -> Result<ProvenEqRaw, Error>
-        requires { number self < length graph.now.image.entries }
+        requires { IsTrue graph.now.failed ⊎ (number self < length graph.now.image.entries) }
         ensures equation { IfOk result (λ x. IsWritten (statement_at graph.now.image.stored (number self)) x.equ) }
         ensures step { IfOk result (λ x. step_of x.proof ≡ (proven_at graph.now.image.stored (number self)).step) }
         ensures text { IfOk result (λ x. text_of x.proof ≡ (proven_at graph.now.image.stored (number self)).text) }
-        ensures err { IfErr result IsOutOfMemory };
+        ensures failed { IsErrOf result Error.Failed ↔ IsTrue graph.now.failed }
+        ensures only { IfErr result (λ e. (e ≡ Error.Failed) ⊎ (e ≡ Error.OutOfMemory)) };
 
     /// The proof: a line for each entry that it stands on, each once, parts first, numbered from 0.
     ///
@@ -60,7 +60,7 @@ pub trait Explanation {
         ensures takes { OnlyTakesSlots graph.old graph.new }
 
         ensures failed { IsErrOf result Error.Failed ↔ IsTrue graph.old.failed }
-        ensures full { IsErrOf result Error.OutOfSlots → (graph.new.table.fresh ≡ 2 ^ 30) ⊎ HasLargeNode graph.old.image.canonical }
+        ensures full { IsErrOf result Error.OutOfSlots → ProofRunsOut graph.old graph.new (number self) }
         ensures only { IfErr result (λ e. (e ≡ Error.Failed) ⊎ IsShortage e) };
 
     /// The proof as a chain of terms: the canonical term of the left side, then, for each assertion that the proof uses, in the
@@ -80,7 +80,7 @@ pub trait Explanation {
         ensures takes { OnlyTakesSlots graph.old graph.new }
 
         ensures failed { IsErrOf result Error.Failed ↔ IsTrue graph.old.failed }
-        ensures full { IsErrOf result Error.OutOfSlots → (graph.new.table.fresh ≡ 2 ^ 30) ⊎ HasLargeNode graph.old.image.canonical }
+        ensures full { IsErrOf result Error.OutOfSlots → GraphRunsOut graph.old graph.new }
         ensures only { IfErr result (λ e. (e ≡ Error.Failed) ⊎ IsShortage e) };
 }
 
@@ -100,6 +100,9 @@ impl Explanation for ProvenEq {
         alloc: Global,
         graph: &EGraph<L, N>,
     ) -> Result<ProvenEqRaw, Error> {
+        if graph.is_failed() {
+            return Err(Error::Failed);
+        }
         graph.proofs().entry(alloc, self)
     }
 

@@ -1,8 +1,8 @@
 //! A proof printed as a chain of whole terms.
-ghost use Rattle.std.specs.Prelude.{◌≡◌, ◌⊎◌, ◌↔◌, ◌<◌, ◌^◌, length, IsTrue, IfErr, IsErrOf};
+ghost use Rattle.std.specs.Prelude.{◌<◌, length, IfErr, IsErrOf};
 ghost use Rattle.slotted_slots.specs.Error.{IsOutOfMemory, IsShortage};
-ghost use Rattle.slotted_core.specs.Canonical.{HasLargeNode};
 ghost use Rattle.slotted_core.specs.Graph.{OnlyTakesSlots};
+ghost use Rattle.slotted_explain.specs.Printed.{GraphRunsOut};
 
 use crate::flat_terms::{marked, matched_names, name_apart, replaced, slots_of, subterm};
 use slotted_core::EGraph;
@@ -118,7 +118,7 @@ pub(crate) fn chain_text<L: Printable, N: Drop>(
 ) -> Result<String, Error>
     requires { p < length graph.old.image.stored }
     ensures takes { OnlyTakesSlots graph.old graph.new }
-    ensures full { IsErrOf result Error.OutOfSlots → (graph.new.table.fresh ≡ 2 ^ 30) ⊎ HasLargeNode graph.old.image.canonical }
+    ensures full { IsErrOf result Error.OutOfSlots → GraphRunsOut graph.old graph.new }
     ensures only { IfErr result IsShortage }
 {
     let left = graph.proofs().equ(p).l.copy(alloc)?;
@@ -136,7 +136,7 @@ fn steps_text<L: Printable, N: Drop>(
     mut head: RecExpr<L>,
 ) -> Result<String, Error>
     ensures takes { OnlyTakesSlots graph.old graph.new }
-    ensures full { IsErrOf result Error.OutOfSlots → (graph.new.table.fresh ≡ 2 ^ 30) ⊎ HasLargeNode graph.old.image.canonical }
+    ensures full { IsErrOf result Error.OutOfSlots → GraphRunsOut graph.old graph.new }
     ensures only { IfErr result IsShortage }
 {
     let mut text = head.text(alloc, graph.table())?;
@@ -196,7 +196,7 @@ fn subterm_after<L: Printable, N: Drop>(
     head: &RecExpr<L>,
 ) -> Result<Option<RecExpr<L>>, Error>
     ensures takes { OnlyTakesSlots graph.old graph.new }
-    ensures full { IsErrOf result Error.OutOfSlots → (graph.new.table.fresh ≡ 2 ^ 30) ⊎ HasLargeNode graph.old.image.canonical }
+    ensures full { IsErrOf result Error.OutOfSlots → GraphRunsOut graph.old graph.new }
     ensures only { IfErr result IsShortage }
 {
     let Some(at) = subterm(head, &step.path) else {
@@ -227,7 +227,7 @@ fn names_at<L: Printable, N: Drop>(
     at: &RecExpr<L>,
 ) -> Result<Option<SlotMap>, Error>
     ensures takes { OnlyTakesSlots graph.old graph.new }
-    ensures full { IsErrOf result Error.OutOfSlots → (graph.new.table.fresh ≡ 2 ^ 30) ⊎ HasLargeNode graph.old.image.canonical }
+    ensures full { IsErrOf result Error.OutOfSlots → GraphRunsOut graph.old graph.new }
     ensures only { IfErr result IsShortage }
 {
     let Some(term) = canonical_term(graph, a)? else {
@@ -251,7 +251,7 @@ fn renamed_term<L: Printable, N: Drop>(
     names: &SlotMap,
 ) -> Result<Option<RecExpr<L>>, Error>
     ensures takes { OnlyTakesSlots graph.old graph.new }
-    ensures full { IsErrOf result Error.OutOfSlots → (graph.new.table.fresh ≡ 2 ^ 30) ⊎ HasLargeNode graph.old.image.canonical }
+    ensures full { IsErrOf result Error.OutOfSlots → GraphRunsOut graph.old graph.new }
     ensures only { IfErr result IsShortage }
 {
     let m = a.m.compose_partial(alloc, names)?;
@@ -268,7 +268,7 @@ fn canonical_term<L: Printable, N: Drop>(
     a: &AppliedId,
 ) -> Result<Option<RecExpr<L>>, Error>
     ensures takes { OnlyTakesSlots graph.old graph.new }
-    ensures full { IsErrOf result Error.OutOfSlots → (graph.new.table.fresh ≡ 2 ^ 30) ⊎ HasLargeNode graph.old.image.canonical }
+    ensures full { IsErrOf result Error.OutOfSlots → GraphRunsOut graph.old graph.new }
     ensures only { IfErr result IsShortage }
 {
     if !graph.is_valid(a) {

@@ -1,10 +1,10 @@
 //! A proof printed line by line.
-ghost use Rattle.std.specs.Prelude.{All, ◌≡◌, ◌⊎◌, ◌↔◌, ◌<◌, ◌++◌, ◌^◌, length, List, ℕ, string_bytes, IsTrue, IfOk, OnOk, IfErr, IsErrOf};
+ghost use Rattle.std.specs.Prelude.{All, ◌<◌, length, string_bytes, IsTrue, IfOk, OnOk, IfErr, IsErrOf};
 ghost use Rattle.slotted_slots.specs.Error.{IsShortage};
-ghost use Rattle.slotted_core.specs.Canonical.{HasLargeNode};
 ghost use Rattle.slotted_core.specs.Graph.{IsValidId, OnlyTakesSlots};
 ghost use Rattle.slotted_core.specs.Nodes.{to_applied};
-ghost use Rattle.slotted_explain.specs.Printed.{ArePrinted, IsLine, IsProofText, IsSideText};
+ghost use Rattle.slotted_core.specs.Syn.{RunsOutForTermOf};
+ghost use Rattle.slotted_explain.specs.Printed.{AppendsLine, ArePrinted, IsSideText, LineRunsOut, LinesRunOut};
 
 use slotted_core::EGraph;
 use slotted_proofs::reasons::reason;
@@ -24,7 +24,7 @@ pub(crate) fn lines_text<L: Printable, N: Drop>(
     requires within { All (λ q. q < length graph.old.image.stored) lines.now }
     ensures text { IfOk result (λ s. ArePrinted L.written graph.old lines.now (length lines.now) (string_bytes s)) }
     ensures takes { OnlyTakesSlots graph.old graph.new }
-    ensures full { IsErrOf result Error.OutOfSlots → (graph.new.table.fresh ≡ 2 ^ 30) ⊎ HasLargeNode graph.old.image.canonical }
+    ensures full { IsErrOf result Error.OutOfSlots → LinesRunOut graph.old graph.new lines.now }
     ensures only { IfErr result IsShortage }
 {
     let mut text = String::new(alloc);
@@ -47,9 +47,9 @@ fn push_line<L: Printable, N: Drop>(
 ) -> Result<(), Error>
     requires well { ¬ IsTrue graph.old.failed }
     requires within { p < length graph.old.image.stored }
-    ensures line { OnOk result ((bs : List ℕ) × IsLine L.written graph.old lines.now i p bs × (string_bytes text.new ≡ string_bytes text.old ++ bs)) }
+    ensures line { OnOk result (AppendsLine L.written graph.old lines.now i p text.old text.new) }
     ensures takes { OnlyTakesSlots graph.old graph.new }
-    ensures full { IsErrOf result Error.OutOfSlots → (graph.new.table.fresh ≡ 2 ^ 30) ⊎ HasLargeNode graph.old.image.canonical }
+    ensures full { IsErrOf result Error.OutOfSlots → LineRunsOut graph.old graph.new p }
     ensures only { IfErr result IsShortage }
 {
     let equation = graph.proofs().equ(p).copy(alloc)?;
@@ -70,7 +70,7 @@ fn side_text<L: Printable, N: Drop>(
     requires valid { IsValidId graph.old (to_applied a.now) }
     ensures text { IfOk result (λ s. IsSideText L.written graph.old (to_applied a.now) (string_bytes s)) }
     ensures takes { OnlyTakesSlots graph.old graph.new }
-    ensures full { IsErrOf result Error.OutOfSlots → (graph.new.table.fresh ≡ 2 ^ 30) ⊎ HasLargeNode graph.old.image.canonical }
+    ensures full { IsErrOf result Error.OutOfSlots → RunsOutForTermOf graph.old graph.new a.now.id.0 }
     ensures only { IfErr result IsShortage }
 {
     let term = graph.get_syn_expr(a)?;

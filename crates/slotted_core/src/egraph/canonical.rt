@@ -7,10 +7,10 @@ ghost use Rattle.slotted_proofs.specs.Entries.{entries_of};
 ghost use Rattle.slotted_proofs.specs.Lines.{PartsAreEarlier};
 ghost use Rattle.slotted_proofs.specs.Proving.{IsProved};
 ghost use Rattle.slotted_core.specs.Canonical.{IsNodeOf};
-ghost use Rattle.slotted_core.specs.Causes.{NodeRunsOut, TermRunsOut};
 ghost use Rattle.slotted_core.specs.Graph.{IsValidId, OnlyTakesSlots};
 ghost use Rattle.slotted_core.specs.Leaves.{EntriesFollow};
 ghost use Rattle.slotted_core.specs.Nodes.{to_applied};
+ghost use Rattle.slotted_core.specs.Syn.{RunsOutForNodeOf, RunsOutForTermOf};
 
 use super::EGraph;
 use slotted_languages::Language;
@@ -30,7 +30,7 @@ impl<L: Language, N: Drop> EGraph<L, N> {
         ensures stays { IsTrue self.old.failed → self.new ≡ self.old }
 
         ensures failed { IsErrOf result Error.Failed ↔ IsTrue self.old.failed }
-        ensures full { IsErrOf result Error.OutOfSlots → NodeRunsOut self.old.image.canonical a.now.id.0 self.new.table }
+        ensures full { IsErrOf result Error.OutOfSlots → RunsOutForNodeOf self.old self.new a.now.id.0 }
         ensures only { IfErr result (λ e. (e ≡ Error.Failed) ⊎ IsShortage e) }
     {
         if self.failed {
@@ -50,7 +50,7 @@ impl<L: Language, N: Drop> EGraph<L, N> {
         ensures stays { IsTrue self.old.failed → self.new ≡ self.old }
 
         ensures failed { IsErrOf result Error.Failed ↔ IsTrue self.old.failed }
-        ensures full { IsErrOf result Error.OutOfSlots → TermRunsOut self.old.image.canonical a.now.id.0 self.new.table }
+        ensures full { IsErrOf result Error.OutOfSlots → RunsOutForTermOf self.old self.new a.now.id.0 }
         ensures only { IfErr result (λ e. (e ≡ Error.Failed) ⊎ IsShortage e) }
     {
         if self.failed {

@@ -1,9 +1,9 @@
 -- Each turn prints one line more.
 use Rattle.std.proofs.Common.{◌<◌, ◌∙◌, length, ap, sym, subst, arith, rules, inl, inr, string_bytes}
-use Rattle.slotted_core.specs.Canonical.{HasLargeNode}
 use Rattle.slotted_core.specs.Graph.{OnlyTakesSlots}
 use Rattle.slotted_core.specs.Image.{Image}
 use Rattle.slotted_core.proofs.CallerLemmas.{takes_twice}
+use Rattle.slotted_explain.specs.Printed.{HasLargeSide}
 use Rattle.slotted_explain.proofs.PrintedLines.{at_line, one_more, line_in, none_there}
 use Rattle.slotted_explain.proofs.print.lines_text.Goals.{in-Some+in_ok-push_line, in_default}
 use Rattle.slotted_explain.proofs.print.lines_text.Goals as goal
@@ -37,7 +37,10 @@ loop-i-preserved g c =
     ]
 
 pub returns-in_err-push_line-clause-full : goal.returns-in_err-push_line-clause-full
-returns-in_err-push_line-clause-full g c e = elim (c.in_err-push_line.ensures.full (search rules)) [
-  | inl a ↦ inl a
-  | inr b ↦ inr (subst (λ (x : Image). HasLargeNode x.canonical) c.loop-i.invariant.takes.reads.image b)
-]
+returns-in_err-push_line-clause-full g c e =
+    let lt : c.loop-i.i < length c.args.lines.now = omega (arith, c.loop-i-test.true, c.len-i-end.ensures) in
+    let is = at_line c.args.lines.now c.loop-i.i c.in-Some.entry lt (sym c.get.ensures ∙ c.in-Some.is) in
+    elim (c.in_err-push_line.ensures.full (search rules)) [
+      | inl a ↦ inl a
+      | inr b ↦ inr (c.loop-i.i, lt, subst (HasLargeSide c.args.graph.now.image) (sym is) (subst (λ (x : Image). HasLargeSide x c.in-Some.entry) c.loop-i.invariant.takes.reads.image b))
+    ]

@@ -1,5 +1,5 @@
 -- Both sides are valid, and the parts of the line are those of the entry.
-use Rattle.std.proofs.Common.{◌≡◌, ◌∙◌, ℕ, List, [], ◌∷◌, ◌++◌, codes, decimal, Option, ap, sym, subst, refl, inl, inr, string_bytes}
+use Rattle.std.proofs.Common.{◌≡◌, ◌∙◌, ℕ, List, [], ◌∷◌, ◌++◌, codes, decimal, Option, ap, sym, subst, refl, inl, inr, rules, string_bytes}
 use Rattle.std.specs.Prelude.{IfSome}
 use Rattle.slotted_model.specs.Classes.{term_of}
 use Rattle.slotted_model.specs.ProofList.{Step}
@@ -8,7 +8,9 @@ use Rattle.slotted_proofs.specs.Entries.{Proven, proven_at, statement_at, step_o
 use Rattle.slotted_proofs.specs.Proving.{IsProved}
 use Rattle.slotted_proofs.specs.Reasons.{reason_text}
 use Rattle.slotted_core.specs.Image.{Image}
+use Rattle.slotted_core.specs.Causes.{HasLargePart}
 use Rattle.slotted_core.specs.Nodes.{to_applied}
+use Rattle.slotted_model.specs.Applied.{Applied}
 use Rattle.slotted_explain.specs.Printed.{IsLine}
 use Rattle.slotted_explain.proofs.Sides.{left_valid, right_valid}
 use Rattle.slotted_explain.proofs.print.push_line.Goals as goal
@@ -75,3 +77,27 @@ returns-clause-line g c =
       bytes = refl;
     } in
     (bs, line, c.in_ok-writeln.ensures.bytes)
+
+pub returns-in_err-left-clause-full : goal.returns-in_err-left-clause-full
+returns-in_err-left-clause-full g c x =
+    let graph = c.args.graph.now in
+    let e = c.in_ok-equation.equation in
+    let sides : IsWritten (statement_at graph.image.stored c.args.p) e =
+    subst (λ (ps : List Proven). IsWritten (statement_at ps c.args.p) e) c.proofs.ensures.list (subst (IsWritten (statement_at c.proofs.result.now c.args.p)) (sym c.in_ok-equation.ensures.ok) c.equ.ensures) in
+    elim (c.in_err-left.ensures.full (search rules)) [
+      | inl none ↦ inl none
+      | inr part ↦ inr (inl (subst (HasLargePart graph.image.canonical) (ap (λ (a : Applied). a.0) sides.left) part))
+    ]
+
+pub returns-in_err-right-clause-full : goal.returns-in_err-right-clause-full
+returns-in_err-right-clause-full g c x =
+    let graph = c.args.graph.now in
+    let e = c.in_ok-equation.equation in
+    let sides : IsWritten (statement_at graph.image.stored c.args.p) e =
+    subst (λ (ps : List Proven). IsWritten (statement_at ps c.args.p) e) c.proofs.ensures.list (subst (IsWritten (statement_at c.proofs.result.now c.args.p)) (sym c.in_ok-equation.ensures.ok) c.equ.ensures) in
+    elim (c.in_err-right.ensures.full (search rules)) [
+      | inl none ↦ inl none
+      | inr part ↦
+          let here : HasLargePart graph.image.canonical e.r.id.0 = subst (λ (y : Image). HasLargePart y.canonical e.r.id.0) c.in_ok-left.ensures.takes.reads.image part in
+          inr (inr (subst (HasLargePart graph.image.canonical) (ap (λ (a : Applied). a.0) sides.right) here))
+    ]

@@ -1,5 +1,5 @@
 -- The lines are those of the proof list, and stand in it.
-use Rattle.std.proofs.Common.{◌<◌, ◌∙◌, List, [], ◌∷◌, length, ap, sym, subst, arith, inl, inr}
+use Rattle.std.proofs.Common.{◌<◌, ◌∙◌, List, [], ◌∷◌, length, ap, sym, subst, arith, rules, inl, inr}
 use Rattle.std.proofs.lemmas.Bool.{false≢true}
 use Rattle.slotted_proofs.specs.Entries.{Proven, entry_of}
 use Rattle.slotted_proofs.specs.Lines.{Lines, PartsAreEarlier}
@@ -43,3 +43,9 @@ returns-clause-text g c = record {
   order = subst (λ (ps : List Proven). Lines ps [] (c.args.self ∷ []) c.in_ok-lines.lines) c.proofs.ensures.list c.in_ok-lines.ensures.ok;
   printed = c.in_ok-text.ensures.text;
 }
+
+pub returns-in_err-text-clause-full : goal.returns-in_err-text-clause-full
+returns-in_err-text-clause-full g c e = elim (c.in_err-text.ensures.full (search rules)) [
+  | inl none ↦ inl none
+  | inr large ↦ inr (c.in_ok-lines.lines, subst (λ (ps : List Proven). Lines ps [] (c.args.self ∷ []) c.in_ok-lines.lines) c.proofs.ensures.list c.in_ok-lines.ensures.ok, large)
+]
