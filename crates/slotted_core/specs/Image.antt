@@ -12,7 +12,7 @@
 --     CanUnite g a b      a and b find different classes with the same names
 --     IsUnion g h a b y   a union answers y
 --     IsNoUnion g a b     a union is refused for now
-use Rattle.std.specs.Prelude.{◌≡◌, ℕ, ◌<◌, ◌⊎◌, List, [], ◌∷◌, ◌++◌, length, map, slice_index_or, refl, ◌≢◌, ◌↔◌, Bool, true, false, Contains, IsTrue, Option, Some, String, option_map, string_bytes}
+use Rattle.std.specs.Prelude.{◌≡◌, ℕ, ◌<◌, ◌≤◌, ◌⊎◌, List, [], ◌∷◌, ◌++◌, length, map, slice_index_or, refl, ◌≢◌, ◌↔◌, Bool, true, false, Contains, IsTrue, Option, Some, String, option_map, string_bytes}
 use Rattle.std.specs.Coded.{Coded, code_by, coded×, coded_ℕ, coded_list}
 use Rattle.slotted_theory.specs.Term.{Term}
 use Rattle.slotted_theory.specs.Nameless.{DTerm, nameless}
