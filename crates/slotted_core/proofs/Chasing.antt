@@ -16,7 +16,7 @@ use Rattle.slotted_model.proofs.Correspondences.PartialInjections.{value_of-in_o
 use Rattle.slotted_model.proofs.Correspondences.FullMaps.{full-in_order, full-ext, full-slot}
 use Rattle.slotted_model.proofs.Correspondences.FullIds.{full_map}
 use Rattle.slotted_model.proofs.Options.{None-Some, Some-same}
-use Rattle.slotted_model.proofs.Finding.{leads, find_class-live, find_map-live, find_class-follows, find_map-follows, find_map-partial, found-in_range, found-live, found_keys}
+use Rattle.slotted_model.proofs.Finding.{leads, find_class-live, find_map-live, find_class-follows, find_map-follows, find_map-partial, found-live, found_keys}
 use Rattle.slotted_model.proofs.NormalIds.{values-identity, found-full, full-is_valid}
 use Rattle.slotted_model.proofs.Members.{In-Contains}
 use Rattle.slotted_proofs.proofs.Bridges.{value_of-model}

@@ -13,16 +13,16 @@ use Rattle.slotted_model.specs.Classes.{canonical_node, canonical_slots, IsFull}
 use Rattle.slotted_model.specs.Correspondence.{identity, turned, composite}
 use Rattle.slotted_model.specs.Filling.{IsValid}
 use Rattle.slotted_model.specs.Find.{Entry, entry_at, IsLive, find_class, find_map, used_slots, find, Linked}
-use Rattle.slotted_model.specs.Growth.{Extends, identity_id}
+use Rattle.slotted_model.specs.Growth.{Extends}
 use Rattle.slotted_model.specs.Link.{CanLink, found_equation, with_link, with_new_entry}
 use Rattle.slotted_model.specs.ProofList.{Equation, equation_of}
 use Rattle.slotted_model.proofs.Members.{In, In-Contains, Contains-In}
 use Rattle.slotted_model.proofs.Sets.{In-ascending, In-of_ascending, ascending-same}
 use Rattle.slotted_model.proofs.Correspondences.Pairs.{Contains-key, Contains-value, Contains-of_key, Contains-of_value}
-use Rattle.slotted_model.proofs.Correspondences.PartialInjections.{turned-by, identity-composite, composite-identity}
+use Rattle.slotted_model.proofs.Correspondences.PartialInjections.{turned-by, identity-composite}
 use Rattle.slotted_model.proofs.Correspondences.FullMaps.{full-partial, same_names-by}
 use Rattle.slotted_model.proofs.Correspondences.FullIds.{full_map}
-use Rattle.slotted_model.proofs.Finding.{leads, find_class-live, find_map-live, found-in_range, find_map-partial, found_keys}
+use Rattle.slotted_model.proofs.Finding.{leads, find_class-live, find_map-live, found-in_range, found_keys}
 use Rattle.slotted_model.proofs.NormalIds.{keys-identity, values-identity, used-live, found-full, found-class_live, found-slots, full-is_valid}
 use Rattle.slotted_model.proofs.Uniting.{found_equation-shares}
 use Rattle.slotted_core.specs.EntriesInUse.{AllInUse}

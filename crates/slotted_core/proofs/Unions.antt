@@ -6,8 +6,7 @@ use Rattle.slotted_slots.specs.Table.{Table}
 use Rattle.slotted_model.specs.Applied.{Applied}
 use Rattle.slotted_model.specs.Classes.{canonical_slots}
 use Rattle.slotted_proofs.specs.Entries.{asserted_entry}
-use Rattle.slotted_core.specs.Image.{IsUnion}
-use Rattle.slotted_core.specs.Kept.{Kept, nodes_of, image_of, Good, HasFreshSlots, Unites}
+use Rattle.slotted_core.specs.Kept.{Kept, nodes_of, Good, HasFreshSlots, Unites}
 use Rattle.slotted_core.proofs.KeptLists.{length-nodes_of}
 
 pub unites-good : (k l : Kept) (a b : Applied) (text : Option (List ℕ)) (o : Option Bool) → Good k → Unites k l (asserted_entry a b text) a b o → Good l
