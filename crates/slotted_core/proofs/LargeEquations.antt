@@ -8,13 +8,13 @@ use Rattle.slotted_model.specs.Ascending.{ascending}
 use Rattle.slotted_model.specs.Applied.{Applied, keys, values}
 use Rattle.slotted_model.specs.Classes.{canonical_slots, IsFull}
 use Rattle.slotted_model.specs.Find.{Entry, entry_at, find_class, find, Linked}
-use Rattle.slotted_model.specs.ProofList.{Equation, equation_of, find_equation}
+use Rattle.slotted_model.specs.ProofList.{Equation, find_equation}
 use Rattle.slotted_model.proofs.Members.{In-Contains, Contains-In}
 use Rattle.slotted_model.proofs.Sets.{same_members, ascending-same}
 use Rattle.slotted_model.proofs.Ordered.{in_order-ascending}
 use Rattle.slotted_model.proofs.Correspondences.Pairs.{Contains-of_key}
 use Rattle.slotted_model.proofs.Correspondences.PartialInjections.{key_in_order}
-use Rattle.slotted_model.proofs.Finding.{leads, slots-ascending, along, live-full, found-in_range, find_class-live, find_class-follows}
+use Rattle.slotted_model.proofs.Finding.{leads, slots-ascending, along, live-full, find_class-live, find_class-follows}
 use Rattle.slotted_proofs.specs.Entries.{Proven, statement_at}
 use Rattle.slotted_proofs.specs.Proving.{IsProved}
 use Rattle.slotted_core.specs.Causes.{HaveManyNames, IsLargeClass}

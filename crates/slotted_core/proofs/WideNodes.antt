@@ -1,5 +1,5 @@
 -- Where comparing two nodes runs out of slots, one of them is wide.
-use Rattle.std.proofs.Common.{◌≡◌, ◌<◌, ◌≤◌, ◌+◌, ◌^◌, ℕ, suc, List, [], ◌∷◌, length, take, drop, sym, ◌∙◌, ap, refl, subst, arith, inl, inr, length-append, length-drop}
+use Rattle.std.proofs.Common.{◌≡◌, ◌≤◌, ◌+◌, ◌^◌, ℕ, suc, List, [], ◌∷◌, length, take, drop, sym, ◌∙◌, ap, refl, subst, arith, inl, inr, length-append, length-drop}
 use Rattle.std.specs.Prelude.{◌⊎◌, Contains, min, slice_index}
 use Rattle.std.specs.List.{zip}
 use Rattle.std.proofs.lemmas.Bool.{cases_lt}
@@ -15,7 +15,7 @@ use Rattle.slotted_languages.specs.NodeTerm.{node_args, nameless_node}
 use Rattle.slotted_languages.specs.Outline.{outlined}
 use Rattle.slotted_languages.specs.Shape.{Fits}
 use Rattle.slotted_model.specs.Applied.{Applied, applied_of, own_names}
-use Rattle.slotted_model.specs.Classes.{canonical_node, IsFull}
+use Rattle.slotted_model.specs.Classes.{canonical_node}
 use Rattle.slotted_proofs.specs.declared.equation.Equation.{Equation as Sides}
 use Rattle.slotted_proofs.specs.AlikeNodes.{AreAlikeArgs}
 use Rattle.slotted_proofs.specs.Equations.{to_applied}
