@@ -6,23 +6,15 @@
 --     HasWideSide nodes e     the same of a side of an equation
 --     IsLargeNode nodes i     the canonical node of a class has too many places to be numbered
 --     HasLargePart nodes i    so has a node of its canonical term
-use Rattle.std.specs.Prelude.{◌≡◌, ℕ, zero, suc, ◌+◌, ◌^◌, ◌<◌, ◌≤◌, ◌⊎◌, List, [], ◌∷◌, length}
-use Rattle.slotted_slots.specs.Table.{slot_limit}
-use Rattle.slotted_slots.specs.Table.{Table}
+use Rattle.std.specs.Prelude.{◌≡◌, ℕ, zero, suc, ◌^◌, ◌<◌, ◌≤◌, ◌⊎◌, List, [], ◌∷◌, length}
+use Rattle.slotted_slots.specs.Table.{Table, slot_limit}
 use Rattle.slotted_theory.specs.Nameless.{DArgs, DTerm, stop, place, sub, scope}
 use Rattle.slotted_nodes.specs.Form.{Form}
 use Rattle.slotted_languages.specs.NodeTerm.{nameless_node}
 use Rattle.slotted_model.specs.Classes.{canonical_node, canonical_slots}
 use Rattle.slotted_proofs.specs.declared.equation.Equation.{Equation as Sides}
+pub use Rattle.slotted_proofs.specs.Equations.{HaveManyNames, HasManyNames}
 use Rattle.slotted_core.specs.Canonical.{node_size, place_count}
-
--- the two maps together have too many names to be numbered
-abbrev pub HaveManyNames : List (ℕ × ℕ) → List (ℕ × ℕ) → Type 0
-HaveManyNames m n = slot_limit ≤ length m + length n
-
--- so have the two sides of the equation
-abbrev pub HasManyNames : Sides → Type 0
-HasManyNames e = HaveManyNames e.l.m e.r.m
 
 -- the class has so many slots that two ids of it have too many names
 abbrev pub IsLargeClass : List DTerm → ℕ → Type 0
