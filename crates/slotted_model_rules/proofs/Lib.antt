@@ -12,3 +12,4 @@ pub mod Beside
 pub mod Completing
 pub mod Readings
 pub mod MatchingExamples
+pub mod EqualInstances

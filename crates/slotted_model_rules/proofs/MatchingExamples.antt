@@ -10,6 +10,13 @@ use Rattle.slotted_model.proofs.NormalIds.{full-is_valid}
 use Rattle.slotted_model_rules.specs.Complete.{HasAllSlots, HasOwnBinders}
 use Rattle.slotted_model_rules.specs.Patterns.{Pattern, pattern_node, no_argument, own_name, child_pattern, binding, look_up_pattern}
 use Rattle.slotted_model_rules.specs.Matcher.{NodeArgs, no_more, a_name, an_id, a_binder, MatchState, Found, class_id, start_at, Reads}
+use Rattle.slotted_theory.specs.Nameless.{stop, place, scope}
+use Rattle.slotted_theory.specs.Derives.{Equal}
+use Rattle.slotted_theory.proofs.Values.{node, child_before}
+use Rattle.slotted_model.specs.ProofList.{asserted}
+use Rattle.slotted_model.proofs.Fillings.{fills-itself}
+use Rattle.slotted_model_rules.specs.Instances.{is_itself}
+use Rattle.slotted_model_rules.proofs.EqualInstances.{filled-instance_equal}
 use Rattle.slotted_model_rules.proofs.Completing.{finds-all}
 use Rattle.slotted_model_rules.proofs.PatternExamples as small
 
@@ -139,3 +146,14 @@ is_missed = (
     differ : ◌≡◌ {A = ℕ} 3 51 ⊎ ⊥ → ⊥
     differ (inl e) = omega arith
     differ (inr k) = k
+
+-- (lam $7 (g $8)) is looked up as the same id, so it is equal by what was asserted to the id's term, which is (lam $7 (f $8 $7))
+abbrev lam_g_pattern : Pattern
+lam_g_pattern = pattern_node 5 [] (binding 7 (child_pattern (pattern_node 4 [] (own_name 8 no_argument)) no_argument) no_argument)
+
+lam_g_equal : Equal (asserted dropped.graph.nodes dropped.graph.proofs) (node 5 [] (scope (child_before (node 3 [] (place 9 (place 0 stop))) stop) stop)) (node 5 [] (scope (child_before (node 4 [] (place 9 stop)) stop) stop))
+lam_g_equal =
+    filled-instance_equal dropped.graph dropped.at_rest is_itself (λ v. (0, [])) [] [] (λ y. y) (λ x y e. e) lam_g_pattern ((tt, tt), tt) (2, (3, 8) ∷ []) (2, (3, 8) ∷ []) refl
+    (fills-itself dropped.graph.nodes [] (2, (3, 8) ∷ []) (record { in_range = omega arith; slots = refl; injective = (λ h. h, tt) }))
+    (node 5 [] (scope (child_before (node 4 [] (place 9 stop)) stop) stop))
+    (_, refl, (_, _, refl, (_, _, refl, (_, refl, (_, refl, refl)), refl), refl))
