@@ -13,3 +13,4 @@ pub mod Completing
 pub mod Readings
 pub mod MatchingExamples
 pub mod EqualInstances
+pub mod ValidValues

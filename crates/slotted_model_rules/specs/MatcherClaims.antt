@@ -21,6 +21,13 @@ AnswersHaveValues =
     (g : State) (order : List Row) (p : Pattern) (st : MatchState) (a : Applied) (outs : List MatchState) → Found g order p st a outs → (out : MatchState) → Contains outs out →
     EachVariable (λ v. (b : Applied) × (value_at out.values v ≡ Some b)) p
 
+-- at rest these values are valid, if the id at which it was found is and those before were
+abbrev pub AnswersAreValid : Type 0
+AnswersAreValid =
+    (g : State) → AtRest g → (order : List Row) (p : Pattern) (st : MatchState) (a : Applied) (outs : List MatchState) → Found g order p st a outs → IsValidIn g a →
+    ((v : List ℕ) (b : Applied) → value_at st.values v ≡ Some b → IsValidIn g b) → (out : MatchState) → Contains outs out →
+    (v : List ℕ) (b : Applied) → value_at out.values v ≡ Some b → IsValidIn g b
+
 -- and keeps what the state from which it was found had
 abbrev pub AnswersGoOn : Type 0
 AnswersGoOn =
@@ -63,6 +70,7 @@ LookedUpNamesAreFree =
 pub record MatcherLaws : Type 0 where
   pub answers_are_looked_up : AnswersAreLookedUp
   pub answers_have_values : AnswersHaveValues
+  pub answers_are_valid : AnswersAreValid
   pub answers_go_on : AnswersGoOn
   pub slots_are_named : SlotsAreNamed
   pub readings_exist : ReadingsExist
