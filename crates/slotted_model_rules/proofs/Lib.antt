@@ -14,3 +14,4 @@ pub mod Readings
 pub mod MatchingExamples
 pub mod EqualInstances
 pub mod ValidValues
+pub mod Running

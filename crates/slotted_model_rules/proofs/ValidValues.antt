@@ -26,13 +26,13 @@ use Rattle.slotted_model_rules.proofs.LookingUp.{IsFoundId}
 use Rattle.slotted_model_rules.proofs.Walking.{member-given}
 
 -- the node has names, ids and binders where the pattern has names, child patterns and binders
-abbrev Shaped : PatternArgs → NodeArgs → Type 0
+abbrev pub Shaped : PatternArgs → NodeArgs → Type 0
 Shaped no_argument n = n ≡ no_more
 Shaped (own_name x rest) n = (y : ℕ) × (m : NodeArgs) × (n ≡ a_name y m) × Shaped rest m
 Shaped (child_pattern p rest) n = (c : Applied) × (m : NodeArgs) × (n ≡ an_id c m) × Shaped rest m
 Shaped (binding x inner rest) n = (y : ℕ) × (m : NodeArgs) × (k : NodeArgs) × (n ≡ a_binder y m k) × Shaped inner m × Shaped rest k
 
-walked-shaped : (args : PatternArgs) (n : NodeArgs) (pairs q : List (ℕ × ℕ)) → walked args n pairs ≡ Some q → Shaped args n
+pub walked-shaped : (args : PatternArgs) (n : NodeArgs) (pairs q : List (ℕ × ℕ)) → walked args n pairs ≡ Some q → Shaped args n
 walked-shaped no_argument no_more pairs q e = refl
 walked-shaped (own_name x rest) (a_name y n) pairs q e =
     let r : (m : List (ℕ × ℕ)) × (paired pairs y x ≡ Some m) × (walked rest n m ≡ Some q) = and_then-some (walked rest n) (paired pairs y x) q e in
@@ -67,13 +67,13 @@ module _ (g : State) where
       }
 
   -- each id of the node is valid
-  abbrev IdsValid : NodeArgs → Type 0
+  abbrev pub IdsValid : NodeArgs → Type 0
   IdsValid no_more = Unit {0}
   IdsValid (a_name x rest) = IdsValid rest
   IdsValid (an_id a rest) = IsValidIn g a × IdsValid rest
   IdsValid (a_binder x inner rest) = IdsValid inner × IdsValid rest
 
-  ids-valid : (κ : ℕ → ℕ) (n : NodeArgs) → EachChild (IsValidIn g) (unnamed κ n) → IdsValid n
+  pub ids-valid : (κ : ℕ → ℕ) (n : NodeArgs) → EachChild (IsValidIn g) (unnamed κ n) → IdsValid n
   ids-valid κ no_more c = tt
   ids-valid κ (a_name x rest) c = ids-valid κ rest c
   ids-valid κ (an_id a rest) c = (valid-from κ a (subst (IsValidIn g) (sym (as_term-same (renamed_id κ a) c.0.0 c.0.1)) c.0.2), ids-valid κ rest c.1)
@@ -100,7 +100,7 @@ module _ (g : State) (rest : AtRest g) (order : List Row) where
   abbrev linked : Linked g.nodes g.found
   linked = rest.sane.sound.linked
 
-  row-valid : (r : Row) (b a : Applied) → IsOfRow g r b a → EachChild (IsValidIn g) (row_node r b).args
+  pub row-valid : (r : Row) (b a : Applied) → IsOfRow g r b a → EachChild (IsValidIn g) (row_node r b).args
   row-valid r b a of =
       EachChild-map (IsFoundId g) (IsValidIn g) (λ c i. i.0) (row_node r b).args
       (subst (λ (t : DTerm). EachChild (IsFoundId g) t.args) (sym (row-normal g rest r of.filed b of.source)) (normal-found g linked (node_of g.nodes b).args (node-valid g rest b of.full)))

@@ -34,6 +34,12 @@ AnswersGoOn =
     (g : State) (order : List Row) (p : Pattern) (st : MatchState) (a : Applied) (outs : List MatchState) → Found g order p st a outs → (out : MatchState) → Contains outs out →
     ((s t : ℕ) → Contains st.pairs (s, t) → Contains out.pairs (s, t)) × ((v : List ℕ) (b : Applied) → value_at st.values v ≡ Some b → value_at out.values v ≡ Some b)
 
+-- at rest the matcher has a run from each state at each valid id: there are new names for each node that it visits
+abbrev pub RunsExist : Type 0
+RunsExist =
+    (g : State) → AtRest g → (order : List Row) → ((r : Row) → Contains order r → Contains g.rows r) → (p : Pattern) (st : MatchState) (a : Applied) → IsValidIn g a →
+    (outs : List MatchState) × Found g order p st a outs
+
 -- each slot that the pattern names, binders too, has a name of the graph that stands for it: so a reading reads it as itself
 abbrev pub SlotsAreNamed : Type 0
 SlotsAreNamed =
@@ -72,6 +78,7 @@ pub record MatcherLaws : Type 0 where
   pub answers_have_values : AnswersHaveValues
   pub answers_are_valid : AnswersAreValid
   pub answers_go_on : AnswersGoOn
+  pub runs_exist : RunsExist
   pub slots_are_named : SlotsAreNamed
   pub readings_exist : ReadingsExist
   pub readings_are_renamed : ReadingsAreRenamed
