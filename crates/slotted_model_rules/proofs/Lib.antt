@@ -15,3 +15,4 @@ pub mod MatchingExamples
 pub mod EqualInstances
 pub mod ValidValues
 pub mod Running
+pub mod ClassIds

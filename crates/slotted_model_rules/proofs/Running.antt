@@ -1,6 +1,6 @@
 -- The matcher has a run for each pattern, from each state at each valid id: there are names for all nodes that it visits.
-use Rattle.std.proofs.Common.{◌≡◌, ◌≢◌, ℕ, zero, suc, ◌+◌, ◌<◌, ◌≤◌, List, [], ◌∷◌, ◌++◌, Option, Some, None, Bool, true, false, sym, ◌∙◌, ap, refl, subst, inl, inr, arith}
-use Rattle.std.specs.Prelude.{◌⊎◌, Contains, map, max, cond}
+use Rattle.std.proofs.Common.{◌≡◌, ℕ, zero, suc, ◌+◌, ◌<◌, ◌≤◌, List, [], ◌∷◌, ◌++◌, Option, Some, None, sym, ◌∙◌, ap, refl, subst, inl, inr, arith}
+use Rattle.std.specs.Prelude.{◌⊎◌, Contains, max, cond}
 use Rattle.std.proofs.lemmas.Bool.{cases_eq, cases_Bool}
 use Rattle.slotted_theory.specs.Nameless.{DArgs, DTerm, stop, place, sub, scope, extend}
 use Rattle.slotted_theory.specs.Renaming.{IsInjective}
@@ -18,12 +18,12 @@ use Rattle.slotted_model.specs.Rest.{IsValidIn, AtRest}
 use Rattle.slotted_model.proofs.Children.{EachChild-map, free_names-places}
 use Rattle.slotted_model.proofs.Full.{full-renamed}
 use Rattle.slotted_model.proofs.Maps.{values-with_values}
-use Rattle.slotted_model.proofs.Members.{In, In-left, In-right, In-append, In-of_map, In-inside, In-outside, In-Contains, Contains-In}
+use Rattle.slotted_model.proofs.Members.{In, In-left, In-right, In-append, In-of_map, In-outside, In-Contains, Contains-In}
 use Rattle.slotted_model.proofs.NormalIds.{found-renamed}
 use Rattle.slotted_model.proofs.RowNodes.{row_node, row-id}
 use Rattle.slotted_model.proofs.Spreading.{has_slot-in, in-has_slot}
 use Rattle.slotted_model_rules.specs.Patterns.{Pattern, PatternArgs, pattern_node, variable, replacing, no_argument, own_name, child_pattern, binding, IsOfRow}
-use Rattle.slotted_model_rules.specs.Matcher.{NodeArgs, no_more, a_name, an_id, a_binder, unnamed, written_names, bound_names, rest_of, id_of_first, inside_first, MatchState, value_at, walked, IsRowFor, IsNodeOf, Gives, IfThere, with_value, Found, FoundIn}
+use Rattle.slotted_model_rules.specs.Matcher.{NodeArgs, no_more, a_name, an_id, a_binder, unnamed, written_names, bound_names, rest_of, MatchState, value_at, walked, IsRowFor, IsNodeOf, Gives, IfThere, with_value, Found, FoundIn}
 use Rattle.slotted_model_rules.proofs.AllSlots.{renamed-agrees}
 use Rattle.slotted_model_rules.proofs.Renamed.{renamed-twice, renamed-id}
 use Rattle.slotted_model_rules.proofs.Substituting.{same_or_not}
@@ -155,22 +155,24 @@ module _ (g : State) (rest : AtRest g) (order : List Row) (filed : (r : Row) →
       let m : ℕ = max (above seen) (max (above (values id.1)) (above (free_names d))) in
       let w : WithNames (λ y. y) m d =
       with_names (λ y. y) (λ y. y) m d (EachChild-map (IsValidIn g) (λ e. Unit {0}) (λ e i. tt) d (row-valid g rest order r id a of))
-      (λ x i. (refl, let l : x < above (free_names d) = Contains-below (free_names d) x (Contains-In (free_names d) x i) in omega arith)) in
-      (w.names, record {
-        id = id;
-        of_row = of;
-        form = w.form;
-        binders_differ = w.differ;
-        binders_new = λ z i.
-            let l : m ≤ z = (w.between z (In-Contains (bound_names w.names) z i)).0 in
-            (λ h. let o : z < above seen = Contains-below seen z h in omega arith, λ h. let o : z < above (values id.1) = Contains-below (values id.1) z h in omega arith);
-        others_new = λ z i.
-            let p : (y : ℕ) × In y (values b.0.1) × (z ≡ f y) = In-of_map f (values b.0.1) z (subst (In z) (values-with_values f b.0.1) (In-Contains (values id.1) z i)) in
-            elim (goes-up V k p.0) [
-              | inl q ↦ inl (Contains-In V z (subst (λ u. In u V) (sym (p.2 ∙ q.1)) q.0))
-              | inr q ↦ inr (λ h. let o : z < above seen = Contains-below seen z h in let s : z ≡ p.0 + k = p.2 ∙ q in omega arith)
-            ];
-      })
+      (λ x i. (refl, let l : x < above (free_names d) = Contains-below (free_names d) x (Contains-In (free_names d) x i) in omega arith)) in (
+        w.names,
+        record {
+          id = id;
+          of_row = of;
+          form = w.form;
+          binders_differ = w.differ;
+          binders_new = λ z i.
+              let l : m ≤ z = (w.between z (In-Contains (bound_names w.names) z i)).0 in
+              (λ h. let o : z < above seen = Contains-below seen z h in omega arith, λ h. let o : z < above (values id.1) = Contains-below (values id.1) z h in omega arith);
+          others_new = λ z i.
+              let p : (y : ℕ) × In y (values b.0.1) × (z ≡ f y) = In-of_map f (values b.0.1) z (subst (In z) (values-with_values f b.0.1) (In-Contains (values id.1) z i)) in
+              elim (goes-up V k p.0) [
+                | inl q ↦ inl (Contains-In V z (subst (λ u. In u V) (sym (p.2 ∙ q.1)) q.0))
+                | inr q ↦ inr (λ h. let o : z < above seen = Contains-below seen z h in let s : z ≡ p.0 + k = p.2 ∙ q in omega arith)
+              ];
+        },
+      )
 
   -- whether a row fits
   fits-or-not : (r : Row) (op : ℕ) (payloads : List (List ℕ)) (a : Applied) → IsRowFor g r op payloads a ⊎ (¬ IsRowFor g r op payloads a)
@@ -186,8 +188,8 @@ module _ (g : State) (rest : AtRest g) (order : List Row) (filed : (r : Row) →
   at-row : (op : ℕ) (payloads : List (List ℕ)) (args : PatternArgs) → ((n : NodeArgs) (s : MatchState) → IdsValid g n → Shaped args n → (outs : List MatchState) × FoundIn g order args n s outs) →
       (st : MatchState) (a : Applied) → IsValidIn g a → (r : Row) → Contains g.rows r → IsRowFor g r op payloads a ⊎ (¬ IsRowFor g r op payloads a) →
       (here : List MatchState) × (((¬ IsRowFor g r op payloads a) × (here ≡ []))
-        ⊎ ((n : NodeArgs) × IsRowFor g r op payloads a × IsNodeOf g st.seen r a n
-        × IfThere (walked args n st.pairs) (λ pairs. FoundIn g order args n (record { values = st.values; pairs = pairs; seen = written_names n ++ st.seen }) here) (here ≡ [])))
+      ⊎ ((n : NodeArgs) × IsRowFor g r op payloads a × IsNodeOf g st.seen r a n
+      × IfThere (walked args n st.pairs) (λ pairs. FoundIn g order args n (record { values = st.values; pairs = pairs; seen = written_names n ++ st.seen }) here) (here ≡ [])))
   at-row op payloads args children st a va r c (inr n) = ([], inl (n, refl))
   at-row op payloads args children st a va r c (inl fits) =
       let m : (n : NodeArgs) × IsNodeOf g st.seen r a n = a-node st.seen r c a va fits.class in
@@ -206,9 +208,9 @@ module _ (g : State) (rest : AtRest g) (order : List Row) (filed : (r : Row) →
     pub a-run : (p : Pattern) (st : MatchState) (a : Applied) → IsValidIn g a → (outs : List MatchState) × Found g order p st a outs
     a-run (pattern_node op payloads args) st a va =
         gives-all (λ (r : Row) (here : List MatchState).
-          ((¬ IsRowFor g r op payloads a) × (here ≡ []))
-          ⊎ ((n : NodeArgs) × IsRowFor g r op payloads a × IsNodeOf g st.seen r a n
-          × IfThere (walked args n st.pairs) (λ pairs. FoundIn g order args n (record { values = st.values; pairs = pairs; seen = written_names n ++ st.seen }) here) (here ≡ [])))
+        ((¬ IsRowFor g r op payloads a) × (here ≡ []))
+        ⊎ ((n : NodeArgs) × IsRowFor g r op payloads a × IsNodeOf g st.seen r a n
+        × IfThere (walked args n st.pairs) (λ pairs. FoundIn g order args n (record { values = st.values; pairs = pairs; seen = written_names n ++ st.seen }) here) (here ≡ [])))
         order (λ r i. at-row op payloads args (a-run-in args) st a va r (filed r (Contains-In order r i)) (fits-or-not r op payloads a))
     a-run (variable v) st a va = (with_value g (value_at st.values v) st v a, refl)
     a-run (replacing body part value) st a va = ([], refl)
