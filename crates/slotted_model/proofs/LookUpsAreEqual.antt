@@ -52,7 +52,7 @@ module _ (g : State) (rest : AtRest g) where
   E = asserted g.nodes g.proofs
 
   -- valid ids that find alike stand for equal terms, also where they lack names
-  valid-equal : (a b : Applied) → IsValidIn g a → IsValidIn g b → find g.found a ≡ find g.found b → Equal E (term_of g.nodes a) (term_of g.nodes b)
+  pub valid-equal : (a b : Applied) → IsValidIn g a → IsValidIn g b → find g.found a ≡ find g.found b → Equal E (term_of g.nodes a) (term_of g.nodes b)
   valid-equal a b va vb e =
       let l : (x : Applied) × IsFilling g.nodes [] a x × (term_of g.nodes x ≡ term_of g.nodes a) = term_of-filling g.nodes sound.canonical (used_slots g.found) a va in
       let r : (x : Applied) × IsFilling g.nodes [] b x × (term_of g.nodes x ≡ term_of g.nodes b) = term_of-filling g.nodes sound.canonical (used_slots g.found) b vb in

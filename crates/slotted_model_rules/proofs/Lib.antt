@@ -12,3 +12,7 @@ pub mod Beside
 pub mod Completing
 pub mod Readings
 pub mod MatchingExamples
+pub mod EqualInstances
+pub mod ValidValues
+pub mod Running
+pub mod ClassIds

@@ -1,8 +1,8 @@
 -- The laws of the matcher, all owed by `matcher_laws_hold` in src/matcher.rt.
-use Rattle.std.specs.Prelude.{◌≡◌, ℕ, List, Contains, Some}
+use Rattle.std.specs.Prelude.{◌≡◌, ℕ, ◌<◌, List, length, Contains, Some}
 use Rattle.slotted_theory.specs.Renaming.{Bijection}
 use Rattle.slotted_model.specs.Applied.{Applied, values, renamed_id}
-use Rattle.slotted_model.specs.Find.{find}
+use Rattle.slotted_model.specs.Find.{IsLive, find_class, find}
 use Rattle.slotted_model.specs.State.{Row, State}
 use Rattle.slotted_model.specs.Rest.{IsValidIn, AtRest}
 use Rattle.slotted_model_rules.specs.Patterns.{Pattern, EachVariable, look_up_pattern}
@@ -21,11 +21,28 @@ AnswersHaveValues =
     (g : State) (order : List Row) (p : Pattern) (st : MatchState) (a : Applied) (outs : List MatchState) → Found g order p st a outs → (out : MatchState) → Contains outs out →
     EachVariable (λ v. (b : Applied) × (value_at out.values v ≡ Some b)) p
 
+-- at rest these values are valid, if the id at which it was found is and those before were
+abbrev pub AnswersAreValid : Type 0
+AnswersAreValid =
+    (g : State) → AtRest g → (order : List Row) (p : Pattern) (st : MatchState) (a : Applied) (outs : List MatchState) → Found g order p st a outs → IsValidIn g a →
+    ((v : List ℕ) (b : Applied) → value_at st.values v ≡ Some b → IsValidIn g b) → (out : MatchState) → Contains outs out →
+    (v : List ℕ) (b : Applied) → value_at out.values v ≡ Some b → IsValidIn g b
+
 -- and keeps what the state from which it was found had
 abbrev pub AnswersGoOn : Type 0
 AnswersGoOn =
     (g : State) (order : List Row) (p : Pattern) (st : MatchState) (a : Applied) (outs : List MatchState) → Found g order p st a outs → (out : MatchState) → Contains outs out →
     ((s t : ℕ) → Contains st.pairs (s, t) → Contains out.pairs (s, t)) × ((v : List ℕ) (b : Applied) → value_at st.values v ≡ Some b → value_at out.values v ≡ Some b)
+
+-- at rest a class under its own slots is a valid id, and finds its own class if it lives
+abbrev pub ClassIdsAreValid : Type 0
+ClassIdsAreValid = (g : State) → AtRest g → (c : ℕ) → c < length g.nodes → IsValidIn g (class_id g c) × (IsLive g.found c → find_class g.found c ≡ c)
+
+-- at rest the matcher has a run from each state at each valid id: there are new names for each node that it visits
+abbrev pub RunsExist : Type 0
+RunsExist =
+    (g : State) → AtRest g → (order : List Row) → ((r : Row) → Contains order r → Contains g.rows r) → (p : Pattern) (st : MatchState) (a : Applied) → IsValidIn g a →
+    (outs : List MatchState) × Found g order p st a outs
 
 -- each slot that the pattern names, binders too, has a name of the graph that stands for it: so a reading reads it as itself
 abbrev pub SlotsAreNamed : Type 0
@@ -63,7 +80,10 @@ LookedUpNamesAreFree =
 pub record MatcherLaws : Type 0 where
   pub answers_are_looked_up : AnswersAreLookedUp
   pub answers_have_values : AnswersHaveValues
+  pub answers_are_valid : AnswersAreValid
   pub answers_go_on : AnswersGoOn
+  pub class_ids_are_valid : ClassIdsAreValid
+  pub runs_exist : RunsExist
   pub slots_are_named : SlotsAreNamed
   pub readings_exist : ReadingsExist
   pub readings_are_renamed : ReadingsAreRenamed

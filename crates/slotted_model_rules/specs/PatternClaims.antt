@@ -3,12 +3,14 @@ use Rattle.std.specs.Prelude.{◌≡◌, ◌↔◌, ℕ, List, Contains, Some, o
 use Rattle.slotted_theory.specs.Term.{Term}
 use Rattle.slotted_theory.specs.Nameless.{DArgs, DTerm, nameless_by, moved}
 use Rattle.slotted_theory.specs.Renaming.{IsInjective}
+use Rattle.slotted_theory.specs.Derives.{Equal}
 use Rattle.slotted_theory.proofs.Values.{node}
 use Rattle.slotted_model.specs.Applied.{Applied, renamed_id}
 use Rattle.slotted_model.specs.Classes.{term_of, layer_of, IsFull, Canonical}
 use Rattle.slotted_model.specs.Filling.{IsValid, IsFilling, FillsArgs}
 use Rattle.slotted_model.specs.Find.{find}
 use Rattle.slotted_model.specs.Growth.{Extends}
+use Rattle.slotted_model.specs.ProofList.{asserted}
 use Rattle.slotted_model.specs.State.{State, look_up_tree}
 use Rattle.slotted_model.specs.Rest.{IsValidIn, AtRest}
 use Rattle.slotted_model_rules.specs.Substitution.{substituted}
@@ -86,6 +88,13 @@ ReplacedAreInstances =
     IsFilling nodes given for_body b → IsFilling nodes given for_part x → IsFilling nodes given for_value y → IsTrue (R (term_of nodes b) r) →
     (a : Applied) → IsFull nodes a → term_of nodes a ≡ substituted (term_of nodes x) (term_of nodes y) r → IsAnswer R nodes given σ (replacing body part value) a
 
+-- at rest each instance of a pattern that is looked up as an id is equal by what was asserted to the id's term, whatever names fill it
+abbrev pub InstancesAreEqual : Type 0
+InstancesAreEqual =
+    (g : State) → AtRest g → (R : DTerm → DTerm → Bool) (σ : List ℕ → Applied) (given more_given : List ℕ) (ρ : ℕ → ℕ) → IsInjective ρ → (p : Pattern) → EachVariable (λ v. IsValidIn g (σ v)) p →
+    (x b : Applied) → look_up_pattern g ρ σ p ≡ Some x → IsFilling g.nodes more_given x b →
+    (t : DTerm) → IsInstance R g.nodes given σ ρ p t → Equal (asserted g.nodes g.proofs) (term_of g.nodes b) t
+
 -- all these laws
 pub record PatternLaws : Type 0 where
   pub pattern_look_ups_move_with_names : PatternLookUpsMoveWithNames
@@ -99,3 +108,4 @@ pub record PatternLaws : Type 0 where
   pub built_nodes_are_instances : BuiltNodesAreInstances
   pub answers_stand_for_instances : AnswersStandForInstances
   pub replaced_are_instances : ReplacedAreInstances
+  pub instances_are_equal : InstancesAreEqual

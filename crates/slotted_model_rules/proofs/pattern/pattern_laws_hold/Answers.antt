@@ -2,6 +2,7 @@ use Rattle.std.proofs.Common.{inr}
 use Rattle.slotted_model_rules.proofs.LookingUp.{pattern-moved, term-pattern, matches-look_ups}
 use Rattle.slotted_model_rules.proofs.Instantiating.{instance-moved, built-nodes, answer-instances, instance-stays, an-instance, one-instance, term-instances}
 use Rattle.slotted_model.specs.Classes.{term_of}
+use Rattle.slotted_model_rules.proofs.EqualInstances.{filled-instance_equal}
 use Rattle.slotted_model_rules.proofs.pattern.pattern_laws_hold.Goals as goal
 
 pub returns : goal.returns
@@ -30,4 +31,5 @@ returns c = record {
       e,
     ),
   );
+  instances_are_equal = λ g rest R σ given more_given ρ inj p valid x b e f t i. filled-instance_equal g rest R σ given more_given ρ inj p valid x b e f t i;
 }
