@@ -29,13 +29,13 @@ use Rattle.slotted_core.specs.Graph.{Graph, IsValidId, id_of_form, StandsForNode
 use Rattle.slotted_core.specs.Nodes.{to_applied}
 use Rattle.slotted_core.proofs.NameMaps.{In-at, at_In}
 
-In-take : (n : ℕ) (xs : List ℕ) (x : ℕ) → In x (take n xs) → In x xs
+pub In-take : (n : ℕ) (xs : List ℕ) (x : ℕ) → In x (take n xs) → In x xs
 In-take zero xs x h = absurd h
 In-take (suc n) [] x h = absurd h
 In-take (suc n) (y ∷ xs) x (inl e) = inl e
 In-take (suc n) (y ∷ xs) x (inr h) = inr (In-take n xs x h)
 
-In-drop : (n : ℕ) (xs : List ℕ) (x : ℕ) → In x (drop n xs) → In x xs
+pub In-drop : (n : ℕ) (xs : List ℕ) (x : ℕ) → In x (drop n xs) → In x xs
 In-drop zero xs x h = h
 In-drop (suc n) [] x h = absurd h
 In-drop (suc n) (y ∷ xs) x h = inr (In-drop n xs x h)

@@ -40,3 +40,4 @@ pub mod TermAddition
 pub mod ValidTerms
 pub mod Sizes
 pub mod TermSlots
+pub mod GivenNodes

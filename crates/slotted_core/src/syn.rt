@@ -1,13 +1,16 @@
 //! Canonical nodes and terms, with the names of an id put in.
-ghost use Rattle.std.specs.Prelude.{◌≡◌, IfOk, IfErr, OnOk, IsErrOf};
+ghost use Rattle.std.specs.Prelude.{◌≡◌, ◌<◌, IfOk, IfErr, IsErrOf, All};
 ghost use Rattle.slotted_theory.specs.Nameless.{nameless};
 ghost use Rattle.slotted_slots.specs.Error.{IsOutOfMemory, IsShortage};
 ghost use Rattle.slotted_slots.specs.Table.{KnowsMore};
+ghost use Rattle.slotted_nodes.specs.Form.{IsSmall};
+ghost use Rattle.slotted_terms.specs.Valid.{AllKnown, IsValidTerm};
 ghost use Rattle.slotted_model.specs.Classes.{IsFull, term_of};
 ghost use Rattle.slotted_core.specs.Canonical.{IsNodeOf, IsBeside};
 ghost use Rattle.slotted_core.specs.Causes.{NodeRunsOut, TermRunsOut};
 ghost use Rattle.slotted_core.specs.Kept.{Good, nodes_of};
-ghost use Rattle.slotted_core.specs.Nodes.{to_applied};
+ghost use Rattle.slotted_core.specs.Nodes.{child_ids, to_applied};
+ghost use Rattle.slotted_core.specs.Syn.{KnowsSlotsAnd, MakesByPlaces};
 
 use crate::kernel::Core;
 use slotted_languages::Language;
@@ -21,6 +24,13 @@ impl<L: Language> Core<L> {
         requires good { Good self.now }
         requires full { IsFull (nodes_of self.now) (to_applied a.now) }
         ensures node { IfOk result (λ n. IsNodeOf (nodes_of self.now) (to_applied a.now) (L.form n)) }
+
+        // Its children are full, its places can be numbered, and the table knows its names if it knew those that are put in.
+        ensures children { IfOk result (λ n. All (IsFull (nodes_of self.now)) (child_ids (L.form n))) }
+        ensures small { IfOk result (λ n. IsSmall (L.form n)) }
+        ensures known { IfOk result (λ n. KnowsSlotsAnd table.old self.now a.now.m → AllKnown table.new (L.form n).names) }
+
+        ensures takes { MakesByPlaces self.now a.now.id.0 a.now.m table.old table.new }
         ensures more { KnowsMore table.old table.new }
         ensures kept { table.new.names ≡ table.old.names }
         ensures full { IsErrOf result Error.OutOfSlots → NodeRunsOut (nodes_of self.now) a.now.id.0 table.new }
@@ -39,6 +49,11 @@ impl<L: Language> Core<L> {
         requires good { Good self.now }
         requires full { IsFull (nodes_of self.now) (to_applied a.now) }
         ensures term { IfOk result (λ t. nameless t ≡ term_of (nodes_of self.now) (to_applied a.now)) }
+
+        // It can be added to a graph over the table, if that knew the names that are put in.
+        ensures operator { IfOk result (λ t. 0 < t.op) }
+        ensures valid { IfOk result (λ t. KnowsSlotsAnd table.old self.now a.now.m → IsValidTerm table.new t) }
+
         ensures more { KnowsMore table.old table.new }
         ensures kept { table.new.names ≡ table.old.names }
         ensures full { IsErrOf result Error.OutOfSlots → TermRunsOut (nodes_of self.now) a.now.id.0 table.new }

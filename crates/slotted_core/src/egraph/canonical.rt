@@ -2,15 +2,16 @@
 ghost use Rattle.std.specs.Prelude.{◌≡◌, ◌⊎◌, ◌↔◌, ◌<◌, length, IsTrue, IfOk, IfErr, IsErrOf};
 ghost use Rattle.slotted_theory.specs.Nameless.{nameless};
 ghost use Rattle.slotted_slots.specs.Error.{IsShortage};
+ghost use Rattle.slotted_terms.specs.Valid.{IsValidTerm};
 ghost use Rattle.slotted_model.specs.Classes.{term_of};
 ghost use Rattle.slotted_proofs.specs.Entries.{entries_of};
 ghost use Rattle.slotted_proofs.specs.Lines.{PartsAreEarlier};
 ghost use Rattle.slotted_proofs.specs.Proving.{IsProved};
 ghost use Rattle.slotted_core.specs.Canonical.{IsNodeOf};
-ghost use Rattle.slotted_core.specs.Graph.{IsValidId, OnlyTakesSlots};
+ghost use Rattle.slotted_core.specs.Graph.{IsValidId, IsValidNode, OnlyTakesSlots};
 ghost use Rattle.slotted_core.specs.Leaves.{EntriesFollow};
 ghost use Rattle.slotted_core.specs.Nodes.{to_applied};
-ghost use Rattle.slotted_core.specs.Syn.{RunsOutForNodeOf, RunsOutForTermOf};
+ghost use Rattle.slotted_core.specs.Syn.{MakesForNodeOf, RunsOutForNodeOf, RunsOutForTermOf};
 
 use super::EGraph;
 use slotted_languages::Language;
@@ -24,9 +25,11 @@ impl<L: Language, N: Drop> EGraph<L, N> {
     pub fn get_syn_node(&mut self, a: &AppliedId) -> Result<L, Error>
         requires { IsTrue self.old.failed ⊎ IsValidId self.old (to_applied a.now) }
         ensures node { IfOk result (λ n. IsNodeOf self.old.image.canonical (to_applied a.now) (L.form n)) }
+        ensures valid { IfOk result (λ n. IsValidNode self.new (L.form n)) }
 
         // Only fresh slots are made, and a refusal does not fail the graph.
         ensures takes { OnlyTakesSlots self.old self.new }
+        ensures count { MakesForNodeOf self.old self.new a.now.id.0 }
         ensures stays { IsTrue self.old.failed → self.new ≡ self.old }
 
         ensures failed { IsErrOf result Error.Failed ↔ IsTrue self.old.failed }
@@ -44,6 +47,7 @@ impl<L: Language, N: Drop> EGraph<L, N> {
     pub fn get_syn_expr(&mut self, a: &AppliedId) -> Result<RecExpr<L>, Error>
         requires { IsTrue self.old.failed ⊎ IsValidId self.old (to_applied a.now) }
         ensures term { IfOk result (λ t. nameless t ≡ term_of self.old.image.canonical (to_applied a.now)) }
+        ensures valid { IfOk result (λ t. IsValidTerm self.new.table t) }
 
         // Only fresh slots are made, and a refusal does not fail the graph.
         ensures takes { OnlyTakesSlots self.old self.new }

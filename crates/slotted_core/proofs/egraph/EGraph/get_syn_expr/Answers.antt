@@ -1,4 +1,9 @@
-use Rattle.std.proofs.Common.{inl, inr}
+use Rattle.std.proofs.Common.{◌∙◌, ap, subst, sym, inl, inr}
+use Rattle.std.proofs.lemmas.Bool.{false≢true}
+use Rattle.std.proofs.lemmas.Result.{IfOk-weaker}
+use Rattle.slotted_slots.specs.Maps.{values}
+use Rattle.slotted_terms.specs.Valid.{AllKnown, IsValidTerm}
+use Rattle.slotted_core.specs.Graph.{Graph}
 use Rattle.slotted_core.proofs.FreshSlots.{fresh_slots-more}
 use Rattle.slotted_core.proofs.egraph.EGraph.get_syn_expr.Goals as goal
 
@@ -7,3 +12,17 @@ invariant_of-self g c = elim c.self.invariant [
   | inl h ↦ inl h
   | inr h ↦ inr (h.0, fresh_slots-more c.self.inside.table c.syn_expr.new.table c.self.inside.core c.syn_expr.ensures.more h.1)
 ]
+
+pub returns-clause-valid : goal.returns-clause-valid
+returns-clause-valid g c =
+    let m = c.args.a.now.m in
+    elim c.self.invariant [
+      | inl e ↦ absurd (false≢true (sym c.if-self.false ∙ e))
+      | inr inv ↦
+          elim c.requires [
+            | inl e ↦ absurd (false≢true (sym c.if-self.false ∙ (ap (λ (x : Graph). x.failed) c.self.view_is ∙ e)))
+            | inr v ↦
+                let known = subst (λ (x : Graph). AllKnown x.table (values m)) (sym c.self.view_is) v.known in
+                IfOk-weaker c.syn_expr.result _ (λ t. IsValidTerm c.syn_expr.new.table t) (λ t f. f (inv.1, known)) c.syn_expr.ensures.valid
+          ]
+    ]

@@ -1,12 +1,19 @@
 -- A child is earlier and full, and the terms of the children make that of the id.
 use Rattle.std.proofs.Common.{◌≡◌, ◌<◌, ◌+◌, ◌∙◌, [], length, ap, refl, sym, subst, inl, inr, arith, rules}
-use Rattle.std.specs.Prelude.{slice_index_or}
+use Rattle.std.specs.Prelude.{slice_index_or, All, IsTrue}
+use Rattle.std.proofs.lemmas.List.Elements.{All-push}
+use Rattle.slotted_theory.specs.Term.{Term}
+use Rattle.slotted_slots.specs.Maps.{values}
+use Rattle.slotted_slots.specs.Table.{is_known}
+use Rattle.slotted_terms.specs.Valid.{AllKnown, IsValidTerm}
 use Rattle.std.proofs.lemmas.List.{length_push}
 use Rattle.slotted_nodes.specs.Form.{Form, children}
 use Rattle.slotted_model.specs.Applied.{Applied}
 use Rattle.slotted_core.specs.Kept.{nodes_of}
 use Rattle.slotted_core.specs.Nodes.{to_applied, child_ids}
 use Rattle.slotted_core.proofs.Children.{child_is, length-ids}
+use Rattle.slotted_core.proofs.FreshSlots.{fresh_slots-more}
+use Rattle.slotted_core.proofs.GivenNodes.{child_names-known, valid-push, valid-beside}
 use Rattle.slotted_core.proofs.LargeParts.{large_child_part}
 use Rattle.slotted_core.proofs.CanonicalTerms.{IsBelow, AreTermsOf, children-below, canonical-term, terms-step}
 use Rattle.slotted_core.proofs.kernel.Core.+syn_expr.Goals as goal
@@ -37,6 +44,15 @@ loop-k-preserved g t c =
           (terms-step nodes (child_ids f) us u c.loop-k.k (to_applied c.in_ok-child.child) c.loop-k.invariant.count c.loop-k.invariant.terms is c.in_ok-term.ensures.term);
       more = λ s h. c.syn_expr.ensures.more s (c.loop-k.invariant.more s h);
       kept = c.syn_expr.ensures.kept ∙ c.loop-k.invariant.kept;
+      operators = subst (All (λ (v : Term). 0 < v.op)) (sym c.in_ok-push.ensures.items) (All-push (λ (v : Term). 0 < v.op) us u c.loop-k.invariant.operators c.in_ok-term.ensures.operator);
+      known = λ at j d l. c.syn_expr.ensures.more _ (c.loop-k.invariant.known at j d l);
+      valid = λ at.
+          let names = child_names-known (λ s. IsTrue (is_known c.loop-k.table s)) f c.loop-k.k (c.loop-k.invariant.known at) in
+          let given : AllKnown c.loop-k.table (values c.in_ok-child.child.m) =
+          subst (λ (x : Applied). AllKnown c.loop-k.table (values x.1)) (sym (ap to_applied c.in_ok-child.ensures.ok)) (subst (AllKnown c.loop-k.table) (sym c.applied_id.ensures.names) names) in
+          let fresh = fresh_slots-more c.args.table.now c.loop-k.table c.args.self.now c.loop-k.invariant.more at.0 in
+          subst (All (IsValidTerm c.syn_expr.new.table)) (sym c.in_ok-push.ensures.items)
+          (valid-push c.loop-k.table c.syn_expr.new.table c.syn_expr.ensures.more us u (c.loop-k.invariant.valid at) (c.in_ok-term.ensures.valid (fresh, given)));
     }
 
 pub returns-clause-term : goal.returns-clause-term
@@ -66,3 +82,11 @@ returns-in_err-term-clause-full g t c e =
       | inl none ↦ inl none
       | inr part ↦ inr (large_child_part nodes a f c.in_ok-node.ensures.node c.loop-k.k (0, []) within (to_applied c.in_ok-child.child) is part)
     ]
+
+pub returns-clause-valid : goal.returns-clause-valid
+returns-clause-valid g t c at =
+    let form = g.L.LanguageChildren.form in
+    let us = c.loop-k.children.items in
+    let n : length us ≡ length (children (form c.in_ok-node.node).tree) = omega (arith, c.loop-k.invariant.count, c.loop-k-test.false, c.loop-k.auto.k-end, c.applied_id_count-k-end.ensures) in
+    valid-beside c.loop-k.table (form c.in_ok-node.node) (form c.forget_children.new.node) us (g.met.L.LanguageChildren.fits c.in_ok-node.node) c.forget_children.ensures n
+    (c.loop-k.invariant.known at) c.loop-k.invariant.operators (c.loop-k.invariant.valid at)

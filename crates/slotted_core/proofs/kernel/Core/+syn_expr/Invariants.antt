@@ -1,8 +1,12 @@
 -- The terms of the children so far; the class of a child is earlier.
-use Rattle.std.proofs.Common.{◌≡◌, length}
+use Rattle.std.proofs.Common.{◌≡◌, ◌<◌, length}
+use Rattle.std.specs.Prelude.{All}
+use Rattle.slotted_theory.specs.Term.{Term}
 use Rattle.slotted_slots.specs.Table.{KnowsMore}
+use Rattle.slotted_terms.specs.Valid.{AllKnown, IsValidTerm}
 use Rattle.slotted_core.specs.Kept.{nodes_of}
 use Rattle.slotted_core.specs.Nodes.{child_ids}
+use Rattle.slotted_core.specs.Syn.{KnowsSlotsAnd}
 use Rattle.slotted_core.proofs.CanonicalTerms.{AreTermsOf}
 use Rattle.slotted_core.proofs.kernel.Core.+syn_expr.Given as goal
 
@@ -16,4 +20,7 @@ invariant-loop-k g l =
       terms : AreTermsOf (nodes_of l.self) (child_ids (g.L.LanguageChildren.form l.node)) l.children.items l.k;
       more : KnowsMore l.fn.table l.table;
       kept : l.table.names ≡ l.fn.table.names;
+      operators : All (λ (u : Term). 0 < u.op) l.children.items;
+      known : KnowsSlotsAnd l.fn.table l.self l.a.m → AllKnown l.table (g.L.LanguageChildren.form l.node).names;
+      valid : KnowsSlotsAnd l.fn.table l.self l.a.m → All (IsValidTerm l.table) l.children.items;
     }
