@@ -229,8 +229,9 @@ fn steps_are_checked(rt: HostRuntime) -> Result<(), Error> {
     )
 }
 
-// An assertion stands behind the entries of the two classes. A proof of it alone is one line, and its chain rewrites the whole term; turned round, the assertion is used
-// backwards; a reflexive step rewrites nothing. Here and below `¶` stands for a line feed.
+// An assertion stands behind the entries of the two classes. A proof of it alone is one line, and its chain rewrites the
+// whole term; turned round, the assertion is used backwards; a reflexive step rewrites nothing. Here and below `¶` stands for
+// a line feed.
 const ASSERTED: &str = r#"assert r1: a == b => accepted
 symmetric 0: b == a => accepted
 reflexive: a == a => accepted

@@ -1,12 +1,16 @@
 //! The parts of a node: slots, children, and binders over a part.
-ghost use Rattle.std.specs.Prelude.{◌≡◌, ◌↔◌, ◌<◌, ℕ, List, [], ◌∷◌, length, map, slice_index, Option, Some, None, option_map, IsTrue, IsSome, IfSome, IfOk, IfErr, refl};
+ghost use Rattle.std.specs.Prelude.{◌≡◌, ◌↔◌, ◌<◌, ℕ, List, [], ◌∷◌, length, map, slice_index, Option, Some, None};
+ghost use Rattle.std.specs.Prelude.{option_map, IsTrue, IsSome, IfSome, IfOk, IfErr, refl};
 ghost use Rattle.std.proofs.Common.{lit<};
 ghost use Rattle.slotted_slots.specs.Error.{IsOutOfMemory};
 ghost use Rattle.slotted_slots.specs.Maps.{keys, values};
 ghost use Rattle.slotted_slots.specs.Table.{slot_limit};
 ghost use Rattle.slotted_slots.specs.Syntax.{Element, element_of, applied, name};
-ghost use Rattle.slotted_nodes.specs.Form.{Form, IsPlace, counted, counted_end, children, child_id, child_keys, child_names, child_place, scopes, scope_end_of, with_name, with_applied, slot_form, child_form, bind_form};
-ghost use Rattle.slotted_nodes.specs.Equal.{applied_id_same, child_form_fits, bind_form_fits, bind_form_few, bind_same, slot_same};
+ghost use Rattle.slotted_nodes.specs.Form.{Form, IsPlace, counted, counted_end, children, child_id, child_keys};
+ghost use Rattle.slotted_nodes.specs.Form.{child_names, child_place, scopes, scope_end_of, with_name, with_applied};
+ghost use Rattle.slotted_nodes.specs.Form.{slot_form, child_form, bind_form};
+ghost use Rattle.slotted_nodes.specs.Equal.{applied_id_same, child_form_fits, bind_form_fits, bind_form_few};
+ghost use Rattle.slotted_nodes.specs.Equal.{bind_same, slot_same};
 ghost use Rattle.slotted_nodes.specs.Public.{IsPublic, is_public};
 ghost use Rattle.slotted_nodes.specs.ReadFrom.{IsReadFrom, slot_faithful, child_faithful, bind_faithful};
 ghost use Rattle.slotted_nodes.specs.Written.{read_slot, read_child, read_bind};

@@ -4,7 +4,9 @@
 //! a struct of the other two.
 ghost use Rattle.std.specs.Prelude.{◌≡◌, ◌↔◌, ◌<◌, IsSome, IfSome, length, slice_index};
 ghost use Rattle.slotted_slots.specs.Maps.{keys, values};
-ghost use Rattle.slotted_nodes.specs.Form.{IsPlace, counted, counted_end, children, child_id, child_keys, child_names, child_place, join_form, scopes, scope_end_of, with_name, with_applied};
+ghost use Rattle.slotted_nodes.specs.Form.{IsPlace, counted, counted_end, children, child_id, child_keys};
+ghost use Rattle.slotted_nodes.specs.Form.{child_names, child_place, join_form, scopes, scope_end_of, with_name};
+ghost use Rattle.slotted_nodes.specs.Form.{with_applied};
 
 use crate::children::LanguageChildren;
 use slotted_slots::{AppliedId, Slot};

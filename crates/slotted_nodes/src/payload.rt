@@ -2,8 +2,10 @@
 //!
 //! Each payload has an implementation of its own, since one implementation for all of them would hide, from a proof
 //! over a concrete language, which implementation a call has.
-ghost use Rattle.std.specs.Prelude.{◌≡◌, ◌↔◌, ℕ, List, [], ◌∷◌, Option, Some, None, option_map, string_bytes, decimal, nat_eq, IsTrue, IfOk, IfErr, MatchResult, refl};
-ghost use Rattle.std.specs.Cmp.Lexicographic.{pointwise, slice_cmp, lists_per, lists_equiv, lists_total, lists_ties, texts_po};
+ghost use Rattle.std.specs.Prelude.{◌≡◌, ◌↔◌, ℕ, List, [], ◌∷◌, Option, Some, None, option_map, string_bytes};
+ghost use Rattle.std.specs.Prelude.{decimal, nat_eq, IsTrue, IfOk, IfErr, MatchResult, refl};
+ghost use Rattle.std.specs.Cmp.Lexicographic.{pointwise, slice_cmp, lists_per, lists_equiv, lists_total, lists_ties};
+ghost use Rattle.std.specs.Cmp.Lexicographic.{texts_po};
 ghost use Rattle.std.specs.Cmp.Rules.{comparing};
 ghost use Rattle.std.specs.Hash as fed;
 ghost use Rattle.std.specs.Ordering.{nat_cmp};
