@@ -1,0 +1,3 @@
+pub mod Analysis
+pub mod DataPart
+pub mod DataClaims
