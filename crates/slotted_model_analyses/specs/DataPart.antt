@@ -8,7 +8,7 @@
 --     RunsWithData a f s     runs with their data
 --     HasData a g s          at each row that does not wait merging what its node makes changes nothing
 --     size_with_data a g s   live classes, their slots, and the heights of their data
-use Rattle.std.specs.Prelude.{◌≡◌, ◌⊎◌, ℕ, suc, ◌+◌, ◌<◌, List, [], ◌∷◌, length, map, Contains, cond, nat_eq}
+use Rattle.std.specs.Prelude.{◌≡◌, ◌≢◌, ◌⊎◌, ℕ, suc, ◌+◌, ◌<◌, List, [], ◌∷◌, length, map, Contains, cond, nat_eq}
 use Rattle.slotted_theory.specs.Nameless.{DTerm}
 use Rattle.slotted_model.specs.Correspondence.{AllDifferent}
 use Rattle.slotted_model.specs.Find.{Entry, find_class}
@@ -59,16 +59,12 @@ pub data Merges {D : Type 0} (a : Analysis D) (g : State) (s : DataPart D) (c : 
 abbrev pub CarriesLink : {D : Type 0} → Analysis D → State → ℕ → ℕ → DataPart D → DataPart D → Type 0
 CarriesLink a g c d s t = (pending : List ℕ) × HasTouched (with_pending g s) c pending × Merges a g (record s { pending = pending }) d (s.data_of c) t
 
--- the class c drops slots: the rows over it wait
-abbrev pub CarriesDrop : {D : Type 0} → State → ℕ → DataPart D → DataPart D → Type 0
-CarriesDrop g c s t = (pending : List ℕ) × HasTouched (with_pending g s) c pending × (t ≡ record s { pending = pending })
-
--- the data along a union
+-- the data along a union: where slots are dropped, the rows over the class wait
 abbrev pub Carries : {D : Type 0} → Analysis D → {p : ℕ} {g h : State} → Unites p g h → DataPart D → DataPart D → Type 0
 Carries a (finds_alike l i) s t = t ≡ s
 Carries a (proves proofs grow u) s t = Carries a u s t
-Carries {D} a {p} (drops_left {g = g} n x w used lacks at touched u) s t = (m : DataPart D) × CarriesDrop g (found_entry g p).left s m × Carries a u m t
-Carries {D} a {p} (drops_right {g = g} n x w all used lacks at touched u) s t = (m : DataPart D) × CarriesDrop g (found_entry g p).right s m × Carries a u m t
+Carries a {p} (drops_left {g = g} n x w used lacks at touched u) s t = (pending : List ℕ) × HasTouched (with_pending g s) (found_entry g p).left pending × Carries a u (record s { pending = pending }) t
+Carries a {p} (drops_right {g = g} n x w all used lacks at touched u) s t = (pending : List ℕ) × HasTouched (with_pending g s) (found_entry g p).right pending × Carries a u (record s { pending = pending }) t
 Carries a {p} (left_dies {g = g} n moment w differ all at later touched) s t = CarriesLink a g (found_entry g p).left (found_entry g p).right s t
 Carries a {p} (right_dies {g = g} n moment w differ all at later touched) s t = CarriesLink a g (found_entry g p).right (found_entry g p).left s t
 Carries a (lists n same all moves new at) s t = t ≡ s
@@ -97,13 +93,15 @@ pub data RunsWithData {D : Type 0} (a : Analysis D) (f : State) (s : DataPart D)
   takes_data : {n : ℕ} {g : State} {t u : DataPart D} → RunsWithData a f s n g t → TakesData a g t u → RunsWithData a f s (suc n) g u
   takes_act : {n : ℕ} {g h : State} {t u : DataPart D} → RunsWithData a f s n g t → (k : Acts g h) → FollowsAct a k t u → RunsWithData a f s n h u
 
--- what holds through all changes: sources of rows wait, each once, those too that wait as a whole; and at each other row merging what its node makes
--- into the data of its class changes nothing
+-- what holds through all changes: sources of rows wait, each once, those too that wait as a whole; at each other row merging what its node makes into
+-- the data of its class changes nothing; and classes wait to be modified, each once
 pub record HasData {D : Type 0} (a : Analysis D) (g : State) (s : DataPart D) : Type 0 where
   pub waits_once : AllDifferent s.pending
   pub waits_whole : (o : ℕ) → Contains g.waiting o → Contains s.pending o
   pub waits_for_row : (o : ℕ) → Contains s.pending o → Contains (sources g.rows) o
   pub absorbs_made : (r : Row) → Contains g.rows r → ¬ Contains s.pending r.source → Absorbs a (s.data_of (row_class g r)) (made a s r.shape)
+  pub changed_once : AllDifferent s.changed
+  pub changed_in_range : (i : ℕ) → Contains s.changed i → i < length g.nodes
 
 -- the heights of the data of live classes, where i is the class of the first entry
 abbrev pub heights_from : {D : Type 0} → Analysis D → (ℕ → D) → ℕ → List Entry → ℕ
@@ -117,6 +115,14 @@ size_with_data a g s = size g + heights_from a s.data_of 0 g.found
 -- the data of each class of the older graph has only gone down: what its class has now absorbs it
 abbrev pub DataGoesDown : {D : Type 0} → Analysis D → State → DataPart D → State → DataPart D → Type 0
 DataGoesDown a g s h t = (i : ℕ) → i < length g.nodes → Absorbs a (t.data_of (find_class h.found i)) (s.data_of (find_class g.found i))
+
+-- the data of each class has only gone down, and the classes that wait to be modified are those that did, and those whose data has changed
+pub record GoesDown {D : Type 0} (a : Analysis D) (s t : DataPart D) : Type 0 where
+  pub lower : (i : ℕ) → Absorbs a (t.data_of i) (s.data_of i)
+  pub once : AllDifferent s.changed → AllDifferent t.changed
+  pub kept : (i : ℕ) → Contains s.changed i → Contains t.changed i
+  pub noted : (i : ℕ) → t.data_of i ≢ s.data_of i → Contains t.changed i
+  pub from : (i : ℕ) → Contains t.changed i → Contains s.changed i ⊎ (t.data_of i ≢ s.data_of i)
 
 -- nothing waits, not for data either, and each listed symmetry is aligned
 abbrev pub HasNothingLeftWithData : {D : Type 0} → State → DataPart D → Type 0

@@ -1,3 +1,4 @@
 pub mod Analysis
 pub mod DataPart
 pub mod DataClaims
+pub mod RunClaims

@@ -3,3 +3,4 @@
 #![tactic(auto)]
 
 pub mod data;
+pub mod rebuild;
