@@ -8,3 +8,5 @@ pub mod Counts
 pub mod Reaching
 pub mod FiledAgain
 pub mod Rebuilding
+pub mod Growing
+pub mod Writing

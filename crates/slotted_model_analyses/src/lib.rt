@@ -4,3 +4,4 @@
 
 pub mod data;
 pub mod rebuild;
+pub mod write;
