@@ -10,3 +10,4 @@ pub mod FiledAgain
 pub mod Rebuilding
 pub mod Growing
 pub mod Writing
+pub mod CycleExample

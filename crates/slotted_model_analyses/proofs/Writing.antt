@@ -216,7 +216,7 @@ module _ {D : Type 0} (a : Analysis D) (law : IsMerge D a) where
         let m = carry a law p u d has.waits_once has.changed_once in
         let k : HasCarried a law ready d f m.0 = carried a law p u sane congruence.stands.0 d m.0 has m.1 in
         let z : DoneWithData a law f w.sane m.0 k.has = reaching a law f w.sane m.0 k.has in
-        (z.1, z.2, joins_row changed proofs p r noted grow there same congruence u m.1 z.3 z.4)
+        (z.1, z.2, joins_row {n = z.0} {f = f} {h = z.1} {m = m.0} {t = z.2} changed proofs p r noted grow there same congruence u m.1 z.3 z.4)
     adding-from (plain.files_row alone run left) =
         let noted = noted-is i s.changed x.has.changed_once in
         let changed : List ℕ = with_waiting i s.changed in
