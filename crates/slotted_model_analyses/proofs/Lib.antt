@@ -11,3 +11,5 @@ pub mod Rebuilding
 pub mod Growing
 pub mod Writing
 pub mod CycleExample
+pub mod RoundsAtRest
+pub mod AddedTrees

@@ -5,3 +5,4 @@ pub mod RunClaims
 pub mod DataWrites
 pub mod WriteClaims
 pub mod Rounds
+pub mod EditClaims

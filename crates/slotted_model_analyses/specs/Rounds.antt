@@ -5,8 +5,9 @@
 --     Modifies a m g s cs h t     so do the edits of these classes, in order, as m answers them
 --     TakesRound a m g s h t      one round: the live classes that wait, by ascending id
 --     Rounds a m n g s h t        rounds until no live class waits, at most n
+--     AddsExpr a m n g s d h t x  the tree d is added, with rounds after it, and x is answered
 --     IsAsked a m g h p           the pair p was asserted for an edit that m answered for the data of a class in a graph between g and h
-use Rattle.std.specs.Prelude.{◌≡◌, ◌⊎◌, ℕ, suc, ◌<◌, ◌≤◌, List, [], ◌∷◌, length, Contains, ◌↔◌}
+use Rattle.std.specs.Prelude.{◌≡◌, ◌⊎◌, ℕ, suc, ◌<◌, ◌≤◌, List, [], ◌∷◌, length, Contains, Some, None, ◌↔◌}
 use Rattle.slotted_theory.specs.Nameless.{DTerm}
 use Rattle.slotted_model.specs.Ascending.{IsAscending}
 use Rattle.slotted_model.specs.Applied.{Applied, values}
@@ -16,7 +17,7 @@ use Rattle.slotted_model.specs.Filling.{IsFilling}
 use Rattle.slotted_model.specs.Find.{IsLive, used_slots}
 use Rattle.slotted_model.specs.Growth.{IsNew}
 use Rattle.slotted_model.specs.ProofList.{equation_of, term_pair}
-use Rattle.slotted_model.specs.State.{State}
+use Rattle.slotted_model.specs.State.{State, look_up_tree}
 use Rattle.slotted_model.specs.Rest.{AtRest}
 use Rattle.slotted_model.specs.Changes.{GoesOn}
 use Rattle.slotted_model_analyses.specs.Analysis.{Analysis}
@@ -88,6 +89,14 @@ pub record Rounds {D : Type 0} (a : Analysis D) (modify : Modify D) (limit : ℕ
   pub within : taken ≤ limit
   pub rounds : TakesRounds a modify g s taken h t
   pub ends : (taken ≡ limit) ⊎ NoneWaits h t
+
+-- the tree d is added: classes are made until it is looked up, and then rounds follow. An edit may turn the look-up of a part of it, by a symmetry that it
+-- opens, so that the tree is not looked up then; in this case classes are made for it once more, without rounds. What the look-up says then is answered
+pub data AddsExpr {D : Type 0} (a : Analysis D) (modify : Modify D) (limit : ℕ) (g : State) (s : DataPart D) (d : DTerm) : State → DataPart D → Applied → Type 0 where
+  still_there : {h k : State} {t u : DataPart D} {x y : Applied} → AddsNodes a g s h t → look_up_tree h d ≡ Some x → Rounds a modify limit h t k u → look_up_tree k d ≡ Some y →
+      AddsExpr a modify limit g s d k u y
+  turned_away : {h k l : State} {t u v : DataPart D} {x y : Applied} → AddsNodes a g s h t → look_up_tree h d ≡ Some x → Rounds a modify limit h t k u → look_up_tree k d ≡ None →
+      AddsNodes a k u l v → look_up_tree l d ≡ Some y → AddsExpr a modify limit g s d l v y
 
 -- what the edit says of the class c, which had these slots, is that x equals y
 abbrev pub SaysEdit : State → ℕ → List ℕ → Edit → Applied → Applied → Type 0
