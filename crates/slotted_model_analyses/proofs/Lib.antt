@@ -13,3 +13,4 @@ pub mod Writing
 pub mod CycleExample
 pub mod RoundsAtRest
 pub mod AddedTrees
+pub mod AddingTrees

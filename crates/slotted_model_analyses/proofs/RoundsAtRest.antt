@@ -4,8 +4,8 @@ use Rattle.std.specs.Prelude.{◌⊎◌, Contains}
 use Rattle.std.proofs.lemmas.List.Elements.{Contains-append_cases}
 use Rattle.slotted_theory.specs.Nameless.{DTerm}
 use Rattle.slotted_theory.proofs.Lists.{contains_head, contains_tail, contains_cases, Contains-nil}
-use Rattle.slotted_model.specs.Applied.{Applied}
-use Rattle.slotted_model.specs.Classes.{term_of, IsFull}
+use Rattle.slotted_model.specs.Applied.{Applied, EachChild}
+use Rattle.slotted_model.specs.Classes.{term_of, layer_of, IsFull}
 use Rattle.slotted_model.specs.Find.{find_class, used_slots}
 use Rattle.slotted_model.specs.Growth.{Added}
 use Rattle.slotted_model.specs.ProofList.{equation_of, term_pair, asserted}
@@ -15,6 +15,7 @@ use Rattle.slotted_model.specs.Changes.{GoesOn}
 use Rattle.slotted_model.specs.Adding.{HasAdded, HasAsserted}
 use Rattle.slotted_model.proofs.Adding.{adds}
 use Rattle.slotted_model.proofs.Asserting.{asserts}
+use Rattle.slotted_model.proofs.Children.{EachChild-map}
 use Rattle.slotted_model.proofs.GoingOn.{goes_on-same, goes_on-then}
 use Rattle.slotted_model.proofs.Growing.{added}
 use Rattle.slotted_model_analyses.specs.Analysis.{Analysis, IsMerge}
@@ -59,9 +60,10 @@ module _ {D : Type 0} (a : Analysis D) (law : IsMerge D a) where
     pub gone : HasGoneOn g s h t
     pub same_asserted : asserted h.nodes h.proofs ≡ asserted g.nodes g.proofs
     pub terms : (x : Applied) → IsFull g.nodes x → IsFull h.nodes x × (term_of h.nodes x ≡ term_of g.nodes x)
+    pub layers : (d : DTerm) → EachChild (IsFull g.nodes) d.args → layer_of h.nodes d ≡ layer_of g.nodes d
 
   pub nodes-made : {g : State} {s : DataPart D} {h : State} {t : DataPart D} → RestsWithData a g s → AddsNodes a g s h t → HasMadeNodes g s h t
-  nodes-made {g} {s} x no_more = record { gone = gone-same g s x; same_asserted = refl; terms = λ y f. (f, refl) }
+  nodes-made {g} {s} x no_more = record { gone = gone-same g s x; same_asserted = refl; terms = λ y f. (f, refl); layers = λ d e. refl }
   nodes-made {g} {s} x (one_more {h = h} {k = k} {t = t} {u = u} c r new add) =
       let y : HasMadeNodes g s h t = nodes-made x r in
       let z = (adding a law h t y.gone.rest c new).1 k u add in
@@ -75,6 +77,9 @@ module _ {D : Type 0} (a : Analysis D) (law : IsMerge D a) where
               subst (λ ns. IsFull ns b) (sym w.nodes) (grown.extends.full b j.0),
               ap (λ ns. term_of ns b) w.nodes ∙ (grown.extends.terms b j.0 ∙ j.1),
             );
+        layers = λ d e.
+            ap (λ ns. layer_of ns d) w.nodes
+            ∙ (grown.extends.layers d (EachChild-map (IsFull g.nodes) (IsFull h.nodes) (λ b f. (y.terms b f).0) d.args e) ∙ y.layers d e);
       }
 
   -- an assertion
