@@ -14,3 +14,4 @@ pub mod CycleExample
 pub mod RoundsAtRest
 pub mod AddedTrees
 pub mod AddingTrees
+pub mod MakingRounds

@@ -163,7 +163,7 @@ module _ {D : Type 0} (a : Analysis D) (law : IsMerge D a) where
       )
 
   -- the edits of a class
-  edits-made : (c : ℕ) (slots : List ℕ) {g : State} {s : DataPart D} {es : List Edit} {h : State} {t : DataPart D} → RestsWithData a g s → MakesEdits a c slots g s es h t →
+  pub edits-made : (c : ℕ) (slots : List ℕ) {g : State} {s : DataPart D} {es : List Edit} {h : State} {t : DataPart D} → RestsWithData a g s → MakesEdits a c slots g s es h t →
       HasGoneOn g s h t × ((pair : DTerm × DTerm) → Pairs h pair → Pairs g pair ⊎ ((e : Edit) × Contains es e × SaidEdit g h c slots e pair))
   edits-made c slots {g} {s} x all_made = (gone-same g s x, λ pair j. inl j)
   edits-made c slots {g} {s} x (then_edit {h = h} {k = k} {t = t} {u = u} {e = e} {es = es} one more) =
@@ -277,7 +277,7 @@ module _ {D : Type 0} (a : Analysis D) (law : IsMerge D a) where
     modified-on x (passed_over dead more) = modified-on x more
 
     -- with nothing that waits to be modified
-    cleared : (g : State) (s : DataPart D) → RestsWithData a g s → RestsWithData a g (record s { changed = [] })
+    pub cleared : (g : State) (s : DataPart D) → RestsWithData a g s → RestsWithData a g (record s { changed = [] })
     cleared g s x = record {
       rest = x.rest;
       has = record {

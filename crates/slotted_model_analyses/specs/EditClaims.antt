@@ -1,18 +1,20 @@
 -- The laws of edits in rounds, for data of any type D, owed by `edit_laws_hold` in src/edit.rt.
-use Rattle.std.specs.Prelude.{◌≡◌, ◌⊎◌, ℕ, List, [], Contains, Some}
+use Rattle.std.specs.Prelude.{◌≡◌, ◌⊎◌, ℕ, ◌<◌, length, List, [], Contains, Some}
 use Rattle.slotted_theory.specs.Nameless.{DTerm}
 use Rattle.slotted_theory.specs.Derives.{Equal}
 use Rattle.slotted_model.specs.Applied.{Applied}
 use Rattle.slotted_model.specs.Classes.{term_of, IsFull}
 use Rattle.slotted_model.specs.Filling.{IsFilling}
+use Rattle.slotted_model.specs.Find.{used_slots}
 use Rattle.slotted_model.specs.ProofList.{asserted}
 use Rattle.slotted_model.specs.State.{State, look_up_tree}
+use Rattle.slotted_model.specs.Trees.{IsTree}
 use Rattle.slotted_model.specs.Rest.{IsValidIn}
 use Rattle.slotted_model.specs.Changes.{GoesOn}
 use Rattle.slotted_model_analyses.specs.Analysis.{Analysis, IsMerge}
 use Rattle.slotted_model_analyses.specs.DataPart.{DataPart, DataGoesDown, RestsWithData}
 use Rattle.slotted_model_analyses.specs.DataWrites.{HasNotedAll}
-use Rattle.slotted_model_analyses.specs.Rounds.{Edit, Modify, AddsNodes, MakesEdit, TakesRound, Rounds, AddsExpr, IsAsked}
+use Rattle.slotted_model_analyses.specs.Rounds.{Edit, Modify, IsOfTrees, AsksTrees, AddsNodes, AddsTree, MakesEdit, TakesRound, Rounds, AddsExpr, IsAsked}
 
 -- classes that are made, one after another, lead from rest to rest, assert nothing, and leave each full id its term
 abbrev pub NodesCanBeAdded : Type 0 → Type 0
@@ -44,6 +46,15 @@ RoundsEndAtRest D =
     × ((pair : DTerm × DTerm) → Contains (asserted h.nodes h.proofs) pair → Contains (asserted g.nodes g.proofs) pair ⊎ IsAsked a modify g h pair)
     × (limit ≡ 0 → (h ≡ g) × (t ≡ s))
 
+-- each tree can be added; each edit of trees can be made for a class that is asked, at its slots; and where an analysis asks for trees alone there are rounds
+-- for each limit
+abbrev pub RoundsAreThere : Type 0 → Type 0
+RoundsAreThere D =
+    (a : Analysis D) → IsMerge D a → (g : State) (s : DataPart D) → RestsWithData a g s →
+    ((d : DTerm) → IsTree d → (h : State) × (t : DataPart D) × (b : Applied) × AddsTree a g s d h t b)
+    × ((c : ℕ) → c < length g.nodes → (e : Edit) → IsOfTrees e → (h : State) × (t : DataPart D) × MakesEdit a g s c (used_slots g.found c) e h t)
+    × ((modify : Modify D) → AsksTrees modify → (limit : ℕ) → (h : State) × (t : DataPart D) × Rounds a modify limit g s h t)
+
 -- an analysis that asks nothing changes nothing in a round, but that no class waits then
 abbrev pub RoundsOfNothing : Type 0 → Type 0
 RoundsOfNothing D =
@@ -66,5 +77,6 @@ pub record EditLaws (D : Type 0) : Type 0 where
   pub edits_end_at_rest : EditsEndAtRest D
   pub rounds_leave_their_changes : RoundsLeaveTheirChanges D
   pub rounds_end_at_rest : RoundsEndAtRest D
+  pub rounds_are_there : RoundsAreThere D
   pub rounds_of_nothing : RoundsOfNothing D
   pub added_trees_are_looked_up : AddedTreesAreLookedUp D

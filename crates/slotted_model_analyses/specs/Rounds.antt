@@ -18,6 +18,7 @@ use Rattle.slotted_model.specs.Find.{IsLive, used_slots}
 use Rattle.slotted_model.specs.Growth.{IsNew}
 use Rattle.slotted_model.specs.ProofList.{equation_of, term_pair}
 use Rattle.slotted_model.specs.State.{State, look_up_tree}
+use Rattle.slotted_model.specs.Trees.{IsTree}
 use Rattle.slotted_model.specs.Rest.{AtRest}
 use Rattle.slotted_model.specs.Changes.{GoesOn}
 use Rattle.slotted_model_analyses.specs.Analysis.{Analysis}
@@ -30,9 +31,19 @@ pub data Edit : Type 0 where
   equals : DTerm → Edit
   equates : DTerm → DTerm → Edit
 
+-- what is added and asserted are trees
+abbrev pub IsOfTrees : Edit → Type 0
+IsOfTrees (adds d) = IsTree d
+IsOfTrees (equals d) = IsTree d
+IsOfTrees (equates d e) = IsTree d × IsTree e
+
 -- what an analysis asks, by the data and the slots of a class
 abbrev pub Modify : Type 0 → Type 0
 Modify D = D → List ℕ → List Edit
+
+-- it asks for trees alone
+abbrev pub AsksTrees : {D : Type 0} → Modify D → Type 0
+AsksTrees {D} modify = (x : D) (slots : List ℕ) (e : Edit) → Contains (modify x slots) e → IsOfTrees e
 
 -- classes are made, one after another
 pub data AddsNodes {D : Type 0} (a : Analysis D) (g : State) (s : DataPart D) : State → DataPart D → Type 0 where

@@ -1,5 +1,7 @@
 use Rattle.std.proofs.Common.{arith}
 use Rattle.slotted_model_analyses.proofs.AddedTrees.{tree-added}
+use Rattle.slotted_model_analyses.proofs.AddingTrees.{tree-there}
+use Rattle.slotted_model_analyses.proofs.MakingRounds.{class-edit, rounds-there}
 use Rattle.slotted_model_analyses.proofs.RoundsAtRest.{nodes-made, edit-made, round-on, rounds-on, no_rounds-same, none-modified}
 use Rattle.slotted_model_analyses.proofs.edit.edit_laws_hold.Goals as goal
 
@@ -11,6 +13,7 @@ returns g c = record {
   rounds_end_at_rest = λ a law modify limit s d rest h t r.
       let p = rounds-on a law modify rest r.rounds in
       (p.rest, p.goes_on, p.classes, p.asked, λ e. no_rounds-same a modify r.rounds (let l = r.within in omega arith));
+  rounds_are_there = λ a law s d rest. (tree-there a law s d rest, λ k l e trees. class-edit a law s d rest k l e trees, λ modify asks limit. rounds-there a law modify asks s d rest limit);
   rounds_of_nothing = λ a modify none s d h t r. none-modified a modify none r.modifies;
   added_trees_are_looked_up = tree-added;
 }
