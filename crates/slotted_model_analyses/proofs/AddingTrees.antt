@@ -41,7 +41,7 @@ one-below P decide (suc n) = elim (decide n) [
 
 module _ {D : Type 0} (a : Analysis D) (law : IsMerge D a) where
   -- one chain after another
-  nodes-then : {g : State} {s : DataPart D} {h : State} {t : DataPart D} {k : State} {u : DataPart D} → AddsNodes a g s h t → AddsNodes a h t k u → AddsNodes a g s k u
+  pub nodes-then : {g : State} {s : DataPart D} {h : State} {t : DataPart D} {k : State} {u : DataPart D} → AddsNodes a g s h t → AddsNodes a h t k u → AddsNodes a g s k u
   nodes-then n no_more = n
   nodes-then n (one_more c r new add) = one_more c (nodes-then n r) new add
 
@@ -91,7 +91,7 @@ module _ {D : Type 0} (a : Analysis D) (law : IsMerge D a) where
     full : EachChild (IsFull after.nodes) args
     stand : expand_args (stands (terms after.nodes)) args ≡ d
 
-  rests-after : {g : State} {s : DataPart D} {h : State} {t : DataPart D} → RestsWithData a g s → AddsNodes a g s h t → RestsWithData a h t
+  pub rests-after : {g : State} {s : DataPart D} {h : State} {t : DataPart D} → RestsWithData a g s → AddsNodes a g s h t → RestsWithData a h t
   rests-after x n = (nodes-made a law x n).gone.rest
 
   -- arguments over full ids stay as classes are made

@@ -15,3 +15,4 @@ pub mod RoundsAtRest
 pub mod AddedTrees
 pub mod AddingTrees
 pub mod MakingRounds
+pub mod AddingByLookUps

@@ -61,6 +61,13 @@ RoundsOfNothing D =
     (a : Analysis D) (modify : Modify D) → ((x : D) (slots : List ℕ) → modify x slots ≡ []) → (g : State) (s : DataPart D) (h : State) (t : DataPart D) →
     TakesRound a modify g s h t → (h ≡ g) × (t ≡ record s { changed = [] })
 
+-- from rest each tree can be looked up once classes are made for it, child by child; and it can be added with rounds after it, if the analysis asks for trees
+abbrev pub TreesCanBeAdded : Type 0 → Type 0
+TreesCanBeAdded D =
+    (a : Analysis D) → IsMerge D a → (g : State) (s : DataPart D) → RestsWithData a g s → (d : DTerm) → IsTree d →
+    ((h : State) × (t : DataPart D) × (x : Applied) × AddsNodes a g s h t × (look_up_tree h d ≡ Some x))
+    × ((modify : Modify D) → AsksTrees modify → (limit : ℕ) → (h : State) × (t : DataPart D) × (x : Applied) × AddsExpr a modify limit g s d h t x)
+
 -- what adding a tree answers is what the look-up of the tree says afterwards, whether its rounds have turned the look-up of a part or not; it is a valid
 -- id, whose term, however it is filled, is equal to the tree by what was asserted
 abbrev pub AddedTreesAreLookedUp : Type 0 → Type 0
@@ -79,4 +86,5 @@ pub record EditLaws (D : Type 0) : Type 0 where
   pub rounds_end_at_rest : RoundsEndAtRest D
   pub rounds_are_there : RoundsAreThere D
   pub rounds_of_nothing : RoundsOfNothing D
+  pub trees_can_be_added : TreesCanBeAdded D
   pub added_trees_are_looked_up : AddedTreesAreLookedUp D
