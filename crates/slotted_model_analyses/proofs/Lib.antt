@@ -11,6 +11,7 @@ pub mod Rebuilding
 pub mod Growing
 pub mod Writing
 pub mod CycleExample
+pub mod TurnedExample
 pub mod RoundsAtRest
 pub mod AddedTrees
 pub mod AddingTrees
