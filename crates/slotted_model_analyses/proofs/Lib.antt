@@ -10,6 +10,7 @@ pub mod FiledAgain
 pub mod Rebuilding
 pub mod Growing
 pub mod Writing
+pub mod QuietData
 pub mod CycleExample
 pub mod TurnedExample
 pub mod RoundsAtRest
