@@ -12,7 +12,7 @@ use Rattle.slotted_model.specs.Correspondence.{AllDifferent}
 use Rattle.slotted_model.specs.Extraction.{row_class}
 use Rattle.slotted_model.specs.Find.{find_class}
 use Rattle.slotted_model.specs.Growth.{IsNew}
-use Rattle.slotted_model.specs.Link.{IsLater}
+use Rattle.slotted_model.specs.Link.{IsLater, with_shortcut}
 use Rattle.slotted_model.specs.ProofList.{Equation, equation_of, equation_at}
 use Rattle.slotted_model.specs.State.{Row, State, normal_node, child_classes}
 use Rattle.slotted_model.specs.Changes.{Unites, left_dies, linked_state}
@@ -20,6 +20,7 @@ use Rattle.slotted_model.specs.Rebuild.{row_for, with_row, refiled_state, refile
 use Rattle.slotted_model.specs.Adding.{with_new_class, with_assertion, with_new_row, with_quiet_row}
 use Rattle.slotted_model.proofs.RestExamples.{empty, made, p}
 use Rattle.slotted_model.proofs.Touching.{touching, touched-is}
+use Rattle.slotted_model_analyses.proofs.Showing.{proofs-keep, shortcut-keeps}
 use Rattle.slotted_model_analyses.proofs.QuietData.{new-row-same, quiet-run-with}
 use Rattle.slotted_model_analyses.specs.Analysis.{Analysis, IsMerge, MakesAlike}
 use Rattle.slotted_model_analyses.specs.DataPart.{DataPart, with_data, with_pending, taken, absorbed, lowered, Carries, takes, RunsWithData, starts, takes_turn, takes_data, size_with_data, RestsWithData}
@@ -259,3 +260,10 @@ p_is_quiet : RunsWithData steps (with_new_row (with_new_class empty p) 0) (recor
 p_is_quiet =
     quiet-run-with steps (with_new_class empty p) 0 (λ s c. absurd (Contains-nil s c)) (λ r c. absurd (Contains-nil r c)) (λ r c. absurd (Contains-nil r c)) (Contains-nil 0) p_made (Contains-nil 0)
     (new-row-same (λ d. Unit {0}) steps steps_merge steps_alike (λ d e q k. tt) empty start_rests.rest.sane start p p_new tt (0 ∷ []) (noted-is 0 [] tt)).1
+
+-- proofs that assert nothing, here none, and a shortcut of the dead class keep its data
+still_rests : RestsWithData steps cyclic at_end × RestsWithData steps (record cyclic { found = with_shortcut cyclic.found 0 2 }) at_end
+still_rests = (
+  proofs-keep steps cyclic at_end cyclic_rests cyclic.proofs (record { more = []; is = refl; proved = cyclic_rests.rest.sane.sound.proved; asserts_nothing = refl }),
+  shortcut-keeps steps cyclic at_end cyclic_rests 0 2 (omega arith) (λ e. omega arith) (omega arith) refl,
+)

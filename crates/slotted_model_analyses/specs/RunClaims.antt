@@ -7,11 +7,11 @@ use Rattle.slotted_model.specs.Correspondence.{AllDifferent}
 use Rattle.slotted_model.specs.Cost.{AreAlike}
 use Rattle.slotted_model.specs.Find.{find_class}
 use Rattle.slotted_model.specs.State.{Row, State, normal_node, child_classes}
-use Rattle.slotted_model.specs.Rest.{Sane, Represents}
+use Rattle.slotted_model.specs.Rest.{Sane, Represents, lives_from, slots_from}
 use Rattle.slotted_model.specs.Changes.{Unites}
 use Rattle.slotted_model.specs.Rebuild.{with_row, row_for, IsCovered, Turn, Acts, Runs, IsRebuilt}
 use Rattle.slotted_model_analyses.specs.Analysis.{Analysis, IsMerge, MakesAlike, Absorbs}
-use Rattle.slotted_model_analyses.specs.DataPart.{DataPart, Merges, Carries, Follows, FollowsAct, TakesData, RunsWithData, HasData, size_with_data, GoesDown, DataGoesDown, HasNothingLeftWithData, RestsWithData}
+use Rattle.slotted_model_analyses.specs.DataPart.{DataPart, Merges, Carries, Follows, FollowsAct, TakesData, RunsWithData, HasData, size_with_data, GoesDown, DataGoesDown, HasNothingLeftWithData, RestsWithData, heights_from}
 
 -- after a value was merged into the data of a class, that absorbs it; data goes down; and merging the value again changes nothing, whatever the graph
 abbrev pub MergingAgainChangesNothing : Type 0 → Type 0
@@ -61,6 +61,12 @@ FilingAgainChangesNothing =
     (g : State) → Sane g → (r : Row) → Contains g.rows r → ¬ Contains g.waiting r.source →
     IsCovered g r.source × ((q : Row) → Contains g.rows q → q.source ≢ r.source → q.shape ≢ shape (normal_node g r.source))
     × (row_for g r.source ≡ r) × (with_row (row_for g r.source) g.rows ≡ g.rows)
+
+-- the size with heights is the number of live classes, that of their slots, and the heights of their data together
+abbrev pub SizeAddsHeights : Type 0 → Type 0
+SizeAddsHeights D =
+    (a : Analysis D) (g : State) (s : DataPart D) →
+    size_with_data a g s ≡ lives_from 0 g.found + slots_from 0 g.found + heights_from a s.data_of 0 g.found
 
 -- no more rows wait than there are
 abbrev pub NoMorePendingThanRows : Type 0 → Type 0
@@ -121,6 +127,7 @@ pub record RunLaws (D : Type 0) (is_known : DTerm → Type 0) : Type 0 where
   pub data_turns_carry_data : DataTurnsCarryData D
   pub acts_carry_data : ActsCarryData D
   pub filing_again_changes_nothing : FilingAgainChangesNothing
+  pub size_adds_heights : SizeAddsHeights D
   pub no_more_pending_than_rows : NoMorePendingThanRows D
   pub runs_stand_on_runs : RunsStandOnRuns D
   pub runs_with_data_are_counted : RunsWithDataAreCounted D

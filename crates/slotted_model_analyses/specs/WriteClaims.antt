@@ -3,7 +3,7 @@ use Rattle.std.specs.Prelude.{◌≡◌, ℕ, ◌<◌, ◌≤◌, List, [], leng
 use Rattle.slotted_theory.specs.Nameless.{DTerm}
 use Rattle.slotted_model.specs.Applied.{Applied}
 use Rattle.slotted_model.specs.Classes.{IsFull}
-use Rattle.slotted_model.specs.Find.{find_class}
+use Rattle.slotted_model.specs.Find.{find_class, IsLive}
 use Rattle.slotted_model.specs.Growth.{IsNew}
 use Rattle.slotted_model.specs.State.{State, Row, normal_node}
 use Rattle.slotted_model.specs.Rest.{Sane}
@@ -12,6 +12,9 @@ use Rattle.slotted_model.specs.Sessions.{nothing}
 use Rattle.slotted_theory.specs.Shape.{shape}
 use Rattle.slotted_model.specs.Cost.{AreAlike}
 use Rattle.slotted_model.specs.Rebuild.{row_for, IsCovered}
+use Rattle.slotted_model.specs.ProofList.{ProofEntry, equation_at, find_equation}
+use Rattle.slotted_model.specs.Changes.{ProofsGrow, with_proofs}
+use Rattle.slotted_model.specs.Link.{with_shortcut}
 use Rattle.slotted_model_analyses.specs.Analysis.{Analysis, IsMerge, Absorbs, MakesAlike}
 use Rattle.slotted_model_analyses.specs.DataPart.{DataPart, HasNoted, HasData, size_with_data, GoesDown, DataGoesDown, RestsWithData, made, RunsWithData}
 use Rattle.slotted_model_analyses.specs.DataWrites.{MergesInto, made_of_found, with_new_data, with_new_pending, AddsWithData, AssertsWithData, HasNotedAll}
@@ -75,6 +78,14 @@ AssertingEndsAtRestWithData D =
     × Absorbs a (t.data_of (find_class h.found x.0)) (s.data_of (find_class g.found x.0))
     × Absorbs a (t.data_of (find_class h.found x.0)) (s.data_of (find_class g.found y.0)))
 
+-- proofs that assert nothing, as those of explanations, change no data; nor does a shortcut, by which the entry of a dead class leads at once to what is found
+abbrev pub ProofsAndShortcutsKeepData : Type 0 → Type 0
+ProofsAndShortcutsKeepData D =
+    (a : Analysis D) (g : State) (s : DataPart D) → RestsWithData a g s →
+    ((proofs : List ProofEntry) → ProofsGrow g.nodes g.proofs proofs → RestsWithData a (with_proofs g proofs) s)
+    × ((i proof : ℕ) → i < length g.nodes → ¬ IsLive g.found i → proof < length g.proofs →
+    equation_at g.proofs proof ≡ find_equation g.nodes g.found i → RestsWithData a (record g { found = with_shortcut g.found i proof }) s)
+
 -- all these laws
 pub record WriteLaws (D : Type 0) (is_known : DTerm → Type 0) : Type 0 where
   pub nothing_rests_with_data : NothingRestsWithData D
@@ -84,3 +95,4 @@ pub record WriteLaws (D : Type 0) (is_known : DTerm → Type 0) : Type 0 where
   pub quiet_turns_with_data : QuietTurnsWithData D
   pub adding_ends_at_rest_with_data : AddingEndsAtRestWithData D
   pub asserting_ends_at_rest_with_data : AssertingEndsAtRestWithData D
+  pub proofs_and_shortcuts_keep_data : ProofsAndShortcutsKeepData D

@@ -1,4 +1,5 @@
 use Rattle.slotted_model_analyses.proofs.Growing.{class-has, row-has}
+use Rattle.slotted_model_analyses.proofs.Showing.{proofs-keep, shortcut-keeps}
 use Rattle.slotted_model_analyses.proofs.QuietData.{new-row-same, quiet-run-with}
 use Rattle.slotted_model_analyses.proofs.Writing.{nothing-rests-with, merging, adding, asserting}
 use Rattle.slotted_model_analyses.proofs.write.write_laws_hold.Goals as goal
@@ -12,4 +13,8 @@ returns g c = record {
   quiet_turns_with_data = λ a d s i covered other new idle free absorbs. quiet-run-with a d i covered other new idle s free absorbs;
   adding_ends_at_rest_with_data = adding;
   asserting_ends_at_rest_with_data = asserting;
+  proofs_and_shortcuts_keep_data = λ a d s rest. (
+    λ proofs grow. proofs-keep a d s rest proofs grow,
+    λ i proof h dead l e. shortcut-keeps a d s rest i proof h dead l e,
+  );
 }
