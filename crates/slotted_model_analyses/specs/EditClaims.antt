@@ -5,15 +5,15 @@ use Rattle.slotted_theory.specs.Derives.{Equal}
 use Rattle.slotted_model.specs.Applied.{Applied}
 use Rattle.slotted_model.specs.Classes.{term_of, IsFull}
 use Rattle.slotted_model.specs.Filling.{IsFilling}
-use Rattle.slotted_model.specs.Find.{used_slots}
+use Rattle.slotted_model.specs.Find.{used_slots, find_class}
 use Rattle.slotted_model.specs.ProofList.{asserted}
 use Rattle.slotted_model.specs.State.{State, look_up_tree}
 use Rattle.slotted_model.specs.Trees.{IsTree}
 use Rattle.slotted_model.specs.Rest.{IsValidIn}
 use Rattle.slotted_model.specs.Changes.{GoesOn}
-use Rattle.slotted_model_analyses.specs.Analysis.{Analysis, IsMerge}
+use Rattle.slotted_model_analyses.specs.Analysis.{Analysis, IsMerge, Absorbs}
 use Rattle.slotted_model_analyses.specs.DataPart.{DataPart, DataGoesDown, RestsWithData}
-use Rattle.slotted_model_analyses.specs.DataWrites.{HasNotedAll}
+use Rattle.slotted_model_analyses.specs.DataWrites.{HasNotedAll, MergesInto}
 use Rattle.slotted_model_analyses.specs.Rounds.{Edit, Modify, IsOfTrees, AsksTrees, AddsNodes, AddsTree, MakesEdit, TakesRound, Rounds, AddsExpr, IsAsked}
 
 -- classes that are made, one after another, lead from rest to rest, assert nothing, and leave each full id its term
@@ -68,6 +68,13 @@ RoundsOfNothing D =
     (g : State) (s : DataPart D) (h : State) (t : DataPart D) →
     TakesRound a modify g s h t → (h ≡ g) × (t ≡ record s { changed = [] })
 
+-- a value that was merged into the data of a class stays there through the rounds after it: merging it again changes nothing
+abbrev pub MergedValuesStay : Type 0 → Type 0
+MergedValuesStay D =
+    (a : Analysis D) → IsMerge D a → (modify : Modify D) (limit : ℕ) (g : State) (s : DataPart D) → RestsWithData a g s →
+    (i : ℕ) → i < length g.nodes → (v : D) (h k : State) (t u : DataPart D) → MergesInto a g s i v h t → Rounds a modify limit h t k u →
+    RestsWithData a k u × GoesOn g k × Absorbs a (u.data_of (find_class k.found i)) v
+
 -- from rest each tree can be looked up once classes are made for it, child by child; and it can be added with rounds after it, if
 -- the analysis asks for trees
 abbrev pub TreesCanBeAdded : Type 0 → Type 0
@@ -96,5 +103,6 @@ pub record EditLaws (D : Type 0) : Type 0 where
   pub rounds_end_at_rest : RoundsEndAtRest D
   pub rounds_are_there : RoundsAreThere D
   pub rounds_of_nothing : RoundsOfNothing D
+  pub merged_values_stay : MergedValuesStay D
   pub trees_can_be_added : TreesCanBeAdded D
   pub added_trees_are_looked_up : AddedTreesAreLookedUp D
