@@ -16,3 +16,4 @@ pub mod EqualInstances
 pub mod ValidValues
 pub mod Running
 pub mod ClassIds
+pub mod Asking
