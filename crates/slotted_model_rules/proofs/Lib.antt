@@ -17,3 +17,6 @@ pub mod ValidValues
 pub mod Running
 pub mod ClassIds
 pub mod Asking
+pub mod Extending
+pub mod Calling
+pub mod Applying

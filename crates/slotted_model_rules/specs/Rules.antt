@@ -42,6 +42,7 @@ pub record KeepsAll (g h : State) : Type 0 where
   pub same : SameAnswers g h
   pub grows : GrowsAtEnds g h
   pub nodes : h.nodes ≡ g.nodes
+  pub same_lives : lives_from 0 h.found ≡ lives_from 0 g.found
   pub asserts_nothing : (p : ℕ) → p < length h.proofs → step_at h.proofs p ≡ explicit → p < length g.proofs
 
 -- structural writes: a class is made, an equation for which A asks is asserted, or nothing that shows is done
