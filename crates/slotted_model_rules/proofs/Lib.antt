@@ -20,3 +20,5 @@ pub mod Asking
 pub mod Extending
 pub mod Calling
 pub mod Applying
+pub mod Stopping
+pub mod Turns

@@ -9,3 +9,5 @@ pub mod MatcherClaims
 pub mod Conditions
 pub mod Rules
 pub mod RuleClaims
+pub mod Runners
+pub mod RunnerClaims

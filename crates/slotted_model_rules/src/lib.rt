@@ -5,4 +5,5 @@
 pub mod matcher;
 pub mod pattern;
 pub mod rule;
+pub mod runner;
 pub mod substitution;
