@@ -22,3 +22,4 @@ pub mod Calling
 pub mod Applying
 pub mod Stopping
 pub mod Turns
+pub mod RunnerExamples
