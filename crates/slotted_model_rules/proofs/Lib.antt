@@ -23,3 +23,4 @@ pub mod Applying
 pub mod Stopping
 pub mod Turns
 pub mod RunnerExamples
+pub mod RuleExamples
