@@ -14,7 +14,8 @@ use Rattle.slotted_model_rules.specs.Matcher.{value_at}
 abbrev pub Values : Type 0
 Values = List (List ℕ × Applied)
 
--- always; the slot does not stand in the variable's value; the first or the second; the first and the second; not this one; a test of the caller's own
+-- always; the slot does not stand in the variable's value; the first or the second; the first and the second; not this
+-- one; a test of the caller's own
 pub data Condition : Type 0 where
   always : Condition
   slot_free_in : (slot : ℕ) (v : List ℕ) → Condition

@@ -1,12 +1,12 @@
 -- Rules: what an apply does, and what it leaves.
---     IsExtension older newer          classes, proofs and symmetries of the newer graph begin with those of the older one, and finds go on
---     IsBetween g h m                  m is a graph at rest between g and h
---     Calls A g h                      structural writes, each from rest to rest, lead from g to h; A says which equations are asked for besides
---     Rule                             a pattern, another, and a condition
---     IsEquationOfInstances ..         the equation is of instances of both sides of a rule
---     AssertsInstances ..              both sides are built, and asserted to be equal
---     Applies ..                       each substitution whose condition holds just then is asserted, one after another
---     progress g                       how many classes, live classes, and slots of these there are
+--     IsExtension older newer      the lists of the newer graph begin with those of the older one, and finds go on
+--     IsBetween g h m              m is a graph at rest between g and h
+--     Calls A g h                  structural writes lead from g to h; A says which equations are asked for
+--     Rule                         a pattern, another, and a condition
+--     IsEquationOfInstances ..     the equation is of instances of both sides of a rule
+--     AssertsInstances ..          both sides are built, and asserted to be equal
+--     Applies ..                   each substitution whose condition holds just then is asserted, one after another
+--     progress g                   how many classes, live classes, and slots of these there are
 use Rattle.std.specs.Prelude.{◌≡◌, ℕ, ◌<◌, ◌≤◌, List, [], ◌∷◌, ◌++◌, length, Contains, Option, Some, None, Bool, true, false}
 use Rattle.slotted_theory.specs.Nameless.{DTerm}
 use Rattle.slotted_model.specs.Applied.{Applied, values}
@@ -49,7 +49,8 @@ pub record KeepsAll (g h : State) : Type 0 where
 pub data Calls (A : State → Applied → Applied → Type 0) : State → State → Type 0 where
   no_call : {g : State} → Calls A g g
   adds : {g f h : State} (c : DTerm) → IsNew g.nodes c → Adds g c f → Calls A f h → Calls A g h
-  asserts : {g f h : State} (a b : Applied) → IsFull g.nodes a → IsFull g.nodes b → A g a b → Asserts g a b f → Calls A f h → Calls A g h
+  asserts : {g f h : State} (a b : Applied) → IsFull g.nodes a → IsFull g.nodes b → A g a b → Asserts g a b f →
+      Calls A f h → Calls A g h
   keeps : {g f h : State} → KeepsAll g f → Calls A f h → Calls A g h
 
 -- an explicit entry of h that g has not
@@ -82,7 +83,8 @@ abbrev pub valued : Values → List ℕ → Applied
 valued s v = id_or_none (value_at s v)
 
 -- two ids, the terms of which are instances of the two sides, have this equation
-pub record IsEquationOfInstances (R : DTerm → DTerm → Bool) (given : List ℕ) (nodes : List DTerm) (rule : Rule) (s : Values) (e : Equation) : Type 0 where
+pub record IsEquationOfInstances (R : DTerm → DTerm → Bool) (given : List ℕ) (nodes : List DTerm) (rule : Rule)
+    (s : Values) (e : Equation) : Type 0 where
   pub left : Applied
   pub right : Applied
   pub left_full : IsFull nodes left
@@ -91,8 +93,10 @@ pub record IsEquationOfInstances (R : DTerm → DTerm → Bool) (given : List �
   pub left_instance : IsInstance R nodes given (valued s) (λ y. y) rule.left (term_of nodes left)
   pub right_instance : IsInstance R nodes given (valued s) (λ y. y) rule.right (term_of nodes right)
 
--- answers for both sides are there in a graph m, to which building leads, and each with its missing names is asserted to equal the other
-pub record AssertsInstances (A : State → Applied → Applied → Type 0) (R : DTerm → DTerm → Bool) (given : List ℕ) (rule : Rule) (s : Values) (g h : State) : Type 0 where
+-- answers for both sides are there in a graph m, to which building leads, and each with its missing names is asserted
+-- to equal the other
+pub record AssertsInstances (A : State → Applied → Applied → Type 0) (R : DTerm → DTerm → Bool) (given : List ℕ)
+    (rule : Rule) (s : Values) (g h : State) : Type 0 where
   pub built : State
   pub builds : Calls A g built
   pub left : Applied
@@ -105,14 +109,19 @@ pub record AssertsInstances (A : State → Applied → Applied → Type 0) (R : 
   pub right_fills : IsFilling built.nodes (values left_filled.1 ++ given) right right_filled
   pub asserts : Asserts built left_filled right_filled h
 
--- the substitutions in order: the condition of each is asked just before, and where it holds an equation of instances is asserted
-pub data Applies (A : State → Applied → Applied → Type 0) (R : DTerm → DTerm → Bool) (given : List ℕ) (rule : Rule) : List Values → State → State → Type 0 where
+-- the substitutions in order: the condition of each is asked just before, and where it holds an equation of instances
+-- is asserted
+pub data Applies (A : State → Applied → Applied → Type 0) (R : DTerm → DTerm → Bool) (given : List ℕ)
+    (rule : Rule) : List Values → State → State → Type 0 where
   all_done : {g : State} → Applies A R given rule [] g g
-  does_not_hold : {s : Values} {rest : List Values} {g h : State} → holds rule.condition s g ≡ Some false → Applies A R given rule rest g h → Applies A R given rule (s ∷ rest) g h
-  does_hold : {s : Values} {rest : List Values} {g f h : State} → holds rule.condition s g ≡ Some true → AssertsInstances A R given rule s g f → Applies A R given rule rest f h →
+  does_not_hold : {s : Values} {rest : List Values} {g h : State} → holds rule.condition s g ≡ Some false →
+      Applies A R given rule rest g h → Applies A R given rule (s ∷ rest) g h
+  does_hold : {s : Values} {rest : List Values} {g f h : State} → holds rule.condition s g ≡ Some true →
+      AssertsInstances A R given rule s g f → Applies A R given rule rest f h →
       Applies A R given rule (s ∷ rest) g h
 
--- in the graph h an entry of the proof list is an equation of instances of both sides, which are equal up to listed symmetries
+-- in the graph h an entry of the proof list is an equation of instances of both sides, which are equal up to listed
+-- symmetries
 pub record IsApplied (R : DTerm → DTerm → Bool) (given : List ℕ) (rule : Rule) (h : State) (s : Values) : Type 0 where
   pub number : ℕ
   pub in_range : number < length h.proofs
@@ -120,7 +129,8 @@ pub record IsApplied (R : DTerm → DTerm → Bool) (given : List ℕ) (rule : R
   pub equal : UpToSymmetries h instances.left instances.right
 
 -- the equation is of instances under one of these substitutions, whose condition holds in a graph between
-pub record ComesFromRule (R : DTerm → DTerm → Bool) (given : List ℕ) (rule : Rule) (found : List Values) (g h : State) (e : Equation) : Type 0 where
+pub record ComesFromRule (R : DTerm → DTerm → Bool) (given : List ℕ) (rule : Rule) (found : List Values) (g h : State)
+    (e : Equation) : Type 0 where
   pub substitution : Values
   pub is_found : Contains found substitution
   pub moment : State
