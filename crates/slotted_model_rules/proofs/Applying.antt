@@ -19,7 +19,7 @@ use Rattle.slotted_model.proofs.NormalIds.{full-is_valid}
 use Rattle.slotted_model.proofs.UpTo.{upto-class, upto-alike}
 use Rattle.slotted_model_rules.specs.Instances.{IsInstance}
 use Rattle.slotted_model_rules.specs.Conditions.{Values, holds}
-use Rattle.slotted_model_rules.specs.Rules.{IsExtension, IsBetween, Calls, no_call, asserts, IsNewEntry, IsAskedFor, Rule, valued, IsEquationOfInstances, AssertsInstances, Applies, all_done, does_not_hold, does_hold, IsApplied, ComesFromRule, progress}
+use Rattle.slotted_model_rules.specs.Rules.{IsExtension, IsBetween, Calls, no_call, asserts, IsNewEntry, IsAskedFor, Rule, valued, IsEquationOfInstances, AssertsInstances, Applies, all_done, does_not_hold, does_hold, IsApplied, ComesFromRule, IsAskedByRule, progress}
 use Rattle.slotted_model_rules.proofs.Instantiating.{answer-instances, instance-stays}
 use Rattle.slotted_model_rules.proofs.Extending.{extension-same, extension-then, asserting-extends}
 use Rattle.slotted_model_rules.proofs.Calling.{calls-extend, calls-enter, calls-then, calls-more, no-progress, between-later}
@@ -132,20 +132,9 @@ module _ (A : State → Applied → Applied → Type 0) (R : DTerm → DTerm →
         | inr q ↦ held-applied k.0 more s q (λ m b. held m (between-later A g f h m rest k.1 b))
       ]
 
-  -- one of the substitutions, whose condition held in a graph from g on, asks for this equation
-  pub record IsAskedByRule (g : State) (found : List Values) (m : State) (a b : Applied) : Type 0 where
-    pub substitution : Values
-    pub is_found : Contains found substitution
-    pub moment : State
-    pub moment_rests : AtRest moment
-    pub after : IsExtension g moment
-    pub before : IsExtension moment m
-    pub held : holds rule.condition substitution moment ≡ Some true
-    pub instances : IsEquationOfInstances R given m.nodes rule substitution (equation_of a b)
-
-  -- what the apply asserts: that, or what is asked for besides
+  -- what the apply asserts: what a substitution asks for, or what is asked for besides
   abbrev pub Asked : State → List Values → State → Applied → Applied → Type 0
-  Asked g found m a b = A m a b ⊎ IsAskedByRule g found m a b
+  Asked g found m a b = A m a b ⊎ IsAskedByRule R given rule found g m a b
 
   -- with more substitutions, and from an earlier graph
   ask-more : (g f : State) → AtRest g → IsExtension g f → (t : Values) (others : List Values) (m : State) (a b : Applied) → Asked f others m a b → Asked g (t ∷ others) m a b

@@ -24,3 +24,4 @@ pub mod Stopping
 pub mod Turns
 pub mod RunnerExamples
 pub mod RuleExamples
+pub mod Rewriting

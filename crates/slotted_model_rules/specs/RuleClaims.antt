@@ -1,14 +1,19 @@
 -- The laws of conditions and of rules, owed by `condition_laws_hold` and `rule_laws_hold` in src/rule.rt.
 use Rattle.std.specs.Prelude.{◌≡◌, ◌⊎◌, ℕ, ◌≤◌, List, ◌++◌, Contains, Some, None, option_map, Bool, true, false, not}
 use Rattle.slotted_theory.specs.Nameless.{DTerm}
+use Rattle.slotted_theory.specs.Derives.{Equal}
 use Rattle.slotted_model.specs.Applied.{Applied, values}
+use Rattle.slotted_model.specs.Classes.{term_of}
+use Rattle.slotted_model.specs.Filling.{IsFilling}
 use Rattle.slotted_model.specs.Find.{find_class, find}
-use Rattle.slotted_model.specs.ProofList.{Equation, equation_at}
+use Rattle.slotted_model.specs.ProofList.{Equation, equation_at, asserted}
 use Rattle.slotted_model.specs.State.{State}
 use Rattle.slotted_model.specs.Rest.{IsValidIn, HasNoOpenSymmetry, Sane, AtRest}
+use Rattle.slotted_model_rules.specs.Patterns.{EachVariable, look_up_pattern}
+use Rattle.slotted_model_rules.specs.Instances.{IsInstance}
 use Rattle.slotted_model_rules.specs.Matcher.{value_at}
 use Rattle.slotted_model_rules.specs.Conditions.{Values, Condition, always, slot_free_in, either, each_of, opposite, holds, asked, IsOfValues}
-use Rattle.slotted_model_rules.specs.Rules.{IsExtension, IsBetween, Calls, IsNewEntry, IsAskedFor, Rule, IsEquationOfInstances, IsApplied, Applies, ComesFromRule, progress}
+use Rattle.slotted_model_rules.specs.Rules.{IsExtension, IsBetween, Calls, IsNewEntry, IsAskedFor, Rule, valued, IsEquationOfInstances, IsApplied, Applies, ComesFromRule, IsAskedByRule, progress}
 
 -- what each kind of condition answers; and the second of two is asked only where the first leaves it open
 pub record TruthTables : Type 0 where
@@ -66,6 +71,10 @@ abbrev pub CallsEnterWhatIsAskedFor : (State → Applied → Applied → Type 0)
 CallsEnterWhatIsAskedFor A =
     (g h : State) → AtRest g → Calls A g h → (p : ℕ) → IsNewEntry g h p → IsAskedFor A g h (equation_at h.proofs p)
 
+-- one list of them after another is one
+abbrev pub CallsCompose : (State → Applied → Applied → Type 0) → Type 0
+CallsCompose A = (f g h : State) → Calls A f g → Calls A g h → Calls A f h
+
 -- never fewer classes than before; while there are as many, no more live classes, and while these are as many too, no
 -- more slots
 abbrev pub CallsKeepCounts : (State → Applied → Applied → Type 0) → Type 0
@@ -104,6 +113,30 @@ NewEntriesComeFromRules A =
     Applies A R given rule found g h → (p : ℕ) → IsNewEntry g h p →
     ComesFromRule R given rule found g h (equation_at h.proofs p) ⊎ IsAskedFor A g h (equation_at h.proofs p)
 
+-- what is derivable from what a graph asserts is so from what an extension of it asserts
+abbrev pub ExtensionsKeepDerivations : Type 0
+ExtensionsKeepDerivations =
+    (g h : State) → AtRest g → AtRest h → IsExtension g h → (d e : DTerm) →
+    Equal (asserted g.nodes g.proofs) d e → Equal (asserted h.nodes h.proofs) d e
+
+-- what is added is equal to what was matched: where the left side is looked up before the apply, and the condition holds
+-- in every graph between, the term of what it was looked up as is equal to an instance of the right side
+abbrev pub RewritesAreEqual : (State → Applied → Applied → Type 0) → Type 0
+RewritesAreEqual A =
+    (R : DTerm → DTerm → Bool) (given more_given : List ℕ) (rule : Rule) (found : List Values) (g h : State) → AtRest g →
+    Applies A R given rule found g h → (s : Values) → Contains found s →
+    ((m : State) → IsBetween g h m → holds rule.condition s m ≡ Some true) →
+    EachVariable (λ v. IsValidIn g (valued s v)) rule.left → (x b : Applied) →
+    look_up_pattern g (λ y. y) (valued s) rule.left ≡ Some x → IsFilling g.nodes more_given x b →
+    (t : DTerm) × IsInstance R h.nodes given (valued s) (λ y. y) rule.right t
+    × Equal (asserted h.nodes h.proofs) (term_of g.nodes b) t
+
+-- so an apply is a list of structural writes that ask for just that
+abbrev pub AppliesAreCalls : (State → Applied → Applied → Type 0) → Type 0
+AppliesAreCalls A =
+    (R : DTerm → DTerm → Bool) (given : List ℕ) (rule : Rule) (found : List Values) (g h : State) → AtRest g →
+    Applies A R given rule found g h → Calls (λ m a b. A m a b ⊎ IsAskedByRule R given rule found g m a b) g h
+
 -- an apply that leaves progress as it was found both sides equal already, for each substitution whose condition holds
 -- throughout: in one class, and alike where no symmetry of it is open
 abbrev pub SaturatedIsClosed : (State → Applied → Applied → Type 0) → Type 0
@@ -120,9 +153,13 @@ pub record RuleLaws (A : State → Applied → Applied → Type 0) : Type 0 wher
   pub extensions_compose : ExtensionsCompose
   pub calls_extend : CallsExtend A
   pub calls_enter_what_is_asked_for : CallsEnterWhatIsAskedFor A
+  pub calls_compose : CallsCompose A
   pub calls_keep_counts : CallsKeepCounts A
   pub no_progress_is_no_change : NoProgressIsNoChange A
   pub applies_extend : AppliesExtend A
   pub held_substitutions_are_applied : HeldSubstitutionsAreApplied A
   pub new_entries_come_from_rules : NewEntriesComeFromRules A
+  pub extensions_keep_derivations : ExtensionsKeepDerivations
+  pub rewrites_are_equal : RewritesAreEqual A
+  pub applies_are_calls : AppliesAreCalls A
   pub saturated_is_closed : SaturatedIsClosed A

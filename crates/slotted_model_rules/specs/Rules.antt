@@ -138,6 +138,18 @@ pub record ComesFromRule (R : DTerm → DTerm → Bool) (given : List ℕ) (rule
   pub held : holds rule.condition substitution moment ≡ Some true
   pub instances : IsEquationOfInstances R given h.nodes rule substitution e
 
+-- in the graph m one of these substitutions, whose condition held in a graph from g on, asks for an equation of instances
+pub record IsAskedByRule (R : DTerm → DTerm → Bool) (given : List ℕ) (rule : Rule) (found : List Values) (g m : State)
+    (a b : Applied) : Type 0 where
+  pub substitution : Values
+  pub is_found : Contains found substitution
+  pub moment : State
+  pub moment_rests : AtRest moment
+  pub after : IsExtension g moment
+  pub before : IsExtension moment m
+  pub held : holds rule.condition substitution moment ≡ Some true
+  pub instances : IsEquationOfInstances R given m.nodes rule substitution (equation_of a b)
+
 -- how far a graph is. Listed symmetries are not counted
 pub record Progress : Type 0 where
   pub classes : ℕ
