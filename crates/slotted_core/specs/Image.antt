@@ -25,7 +25,7 @@ use Rattle.slotted_model.specs.ProofList.{Equation, ProofEntry, equation_of, equ
 use Rattle.slotted_core.specs.Subterms.{IsSubterm}
 use Rattle.slotted_core.specs.TermCode.{nameless_code}
 use Rattle.slotted_proofs.specs.Entries.{Proven, proven_at}
-use Rattle.slotted_core.specs.EntryCode.{pairs_code, proof_entry_code, proven_code}
+use Rattle.slotted_store.specs.EntryCode.{pairs_code, proof_entry_code, proven_code}
 
 -- the canonical node of each class, in the order of the class ids; for each class the live class that it finds, with its own slot
 -- for each slot of that; and the proof list, as the model has it and with the slots and the texts of its entries
@@ -124,10 +124,6 @@ pub record Records (g h : Image) (x : Proven) : Type 0 where
   pub more : List Proven
   pub stored : h.stored ≡ g.stored ++ more
   pub entered : StandsIn g x.statement.equation ⊎ IsNewEntry g h x
-
--- the text of a union, if there is one
-abbrev pub text_bytes : {Z : Type 0} → Option (String Z) → Option (List ℕ)
-text_bytes text = option_map string_bytes text
 
 -- the ids find different classes with the same names
 pub record CanUnite (g : Image) (a b : Applied) : Type 0 where

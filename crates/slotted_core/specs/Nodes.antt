@@ -6,10 +6,6 @@ use Rattle.slotted_slots.specs.Table.{Table, is_known}
 use Rattle.slotted_nodes.specs.Form.{Form, Tree, leaf, own, child, bind, scopes, children, child_place, width}
 use Rattle.slotted_model.specs.Applied.{Applied}
 
--- an applied id of the code
-abbrev pub to_applied : AppliedId → Applied
-to_applied a = (a.id.0, a.m)
-
 -- the children of a tree with these names at its places, from the left
 abbrev pub ids_in : Tree → List ℕ → List Applied
 ids_in leaf xs = []
