@@ -21,7 +21,7 @@ use Rattle.slotted_model.specs.Ids.{id_of}
 use Rattle.slotted_core.specs.Graph.{Graph, IsValidId, OnlyReads, RunsOutForTerm}
 use Rattle.slotted_core.specs.Image.{FoundAlike, AddsClasses, AreDerivable, IsUnion, IsNoUnion, asserted_in}
 use Rattle.slotted_core.specs.Causes.{HaveManyNames}
-use Rattle.slotted_proofs.specs.Equations.{to_applied}
+use Rattle.slotted_core.specs.Nodes.{to_applied}
 use Rattle.slotted_commands.specs.declared.answer.Answer.{Answer}
 use Rattle.slotted_commands.specs.declared.answer.Answer.TheVariants.{Yes, No, Refused}
 use Rattle.slotted_commands.specs.Commands.{Command, compares, unites}

@@ -1,6 +1,6 @@
 //! What a line does to the graph.
 ghost use Rattle.std.specs.Prelude.{◌≡◌, IfOk, IfErr};
-ghost use Rattle.slotted_proofs.specs.Equations.{to_applied};
+ghost use Rattle.slotted_core.specs.Nodes.{to_applied};
 ghost use Rattle.slotted_commands.specs.Commands.{adds, compares, unites, command_of};
 ghost use Rattle.slotted_commands.specs.Sessions.{Answered, AddsBoth, IsAnsweredWith, answer_of};
 

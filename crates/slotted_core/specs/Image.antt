@@ -12,7 +12,7 @@
 --     CanUnite g a b      a and b find different classes with the same names
 --     IsUnion g h a b y   a union answers y
 --     IsNoUnion g a b     a union is refused for now
-use Rattle.std.specs.Prelude.{◌≡◌, ℕ, ◌<◌, ◌≤◌, ◌⊎◌, List, [], ◌∷◌, ◌++◌, length, map, slice_index_or, refl, ◌≢◌, ◌↔◌, Bool, true, false, Contains, IsTrue, Option, Some, String, option_map, string_bytes}
+use Rattle.std.specs.Prelude.{◌≡◌, ℕ, ◌<◌, ◌≤◌, ◌⊎◌, List, [], ◌∷◌, ◌++◌, length, map, slice_index_or, refl, ◌≢◌, ◌↔◌, Bool, true, false, Contains, IsTrue, Some}
 use Rattle.std.specs.Coded.{Coded, code_by, coded×, coded_ℕ, coded_list}
 use Rattle.slotted_theory.specs.Term.{Term}
 use Rattle.slotted_theory.specs.Nameless.{DTerm, nameless}
@@ -25,6 +25,7 @@ use Rattle.slotted_model.specs.ProofList.{Equation, ProofEntry, equation_of, equ
 use Rattle.slotted_core.specs.Subterms.{IsSubterm}
 use Rattle.slotted_core.specs.TermCode.{nameless_code}
 use Rattle.slotted_proofs.specs.Entries.{Proven, proven_at}
+pub use Rattle.slotted_store.specs.Kept.{text_bytes}
 use Rattle.slotted_store.specs.EntryCode.{pairs_code, proof_entry_code, proven_code}
 
 -- the canonical node of each class, in the order of the class ids; for each class the live class that it finds, with its own slot

@@ -1,7 +1,7 @@
 use Rattle.std.proofs.Common.{[], ◌∷◌, inr, refl, ◌∙◌}
 use Rattle.std.specs.Prelude.{Ok, Err}
 use Rattle.std.proofs.lemmas.Result.{err_from_is_err_and}
-use Rattle.slotted_proofs.specs.Equations.{to_applied}
+use Rattle.slotted_core.specs.Nodes.{to_applied}
 use Rattle.slotted_commands.specs.Commands.{adds}
 use Rattle.slotted_commands.specs.Sessions.{ran_out, runs_out_here, carried_out, next_text, no_text, next_term, no_term, done}
 use Rattle.slotted_commands.proofs.Steps.{sound_graph, first_is_refused, writes_term, gains, runs_out}

@@ -1,7 +1,7 @@
 use Rattle.std.proofs.Common.{inr, refl, ◌∙◌}
 use Rattle.std.specs.Prelude.{Ok, Err}
 use Rattle.std.proofs.lemmas.Result.{err_from_is_err_and}
-use Rattle.slotted_proofs.specs.Equations.{to_applied}
+use Rattle.slotted_core.specs.Nodes.{to_applied}
 use Rattle.slotted_commands.specs.Sessions.{refused_here, refused_later, runs_out_here, runs_out_later, next_text, no_text, next_term, no_term}
 use Rattle.slotted_core.proofs.CallerLemmas.{term_later, id_later}
 use Rattle.slotted_commands.proofs.Steps.{sound_graph, both_refused, both_refused_later, both_run_out, writes_term, is_refused, gains, runs_out}

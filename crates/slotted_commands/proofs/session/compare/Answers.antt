@@ -1,6 +1,6 @@
 use Rattle.std.proofs.Common.{sym, ◌∙◌}
 use Rattle.std.proofs.lemmas.Bool.{false≢true}
-use Rattle.slotted_proofs.specs.Equations.{to_applied}
+use Rattle.slotted_core.specs.Nodes.{to_applied}
 use Rattle.slotted_commands.proofs.Steps.{found_equal, found_different}
 use Rattle.slotted_commands.proofs.session.compare.Goals as goal
 
