@@ -16,3 +16,7 @@ pub mod EqualInstances
 pub mod ValidValues
 pub mod Running
 pub mod ClassIds
+pub mod Asking
+pub mod Extending
+pub mod Calling
+pub mod Applying
