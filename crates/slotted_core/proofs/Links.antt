@@ -1,9 +1,8 @@
 -- What a link leaves: the found class of one id dies and leads to that of the other.
-use Rattle.std.proofs.Common.{◌≡◌, ◌≢◌, ◌↔◌, ℕ, zero, suc, ◌<◌, List, [], ◌∷◌, length, set, get_or, sym, ◌∙◌, ap, refl, subst, arith}
-use Rattle.std.specs.Prelude.{Contains, map, slice_index_or}
+use Rattle.std.proofs.Common.{◌≡◌, ◌≢◌, ◌↔◌, ℕ, suc, ◌<◌, List, [], length, set, sym, ◌∙◌, ap, subst, arith}
+use Rattle.std.specs.Prelude.{Contains, map}
 use Rattle.slotted_theory.specs.Nameless.{DTerm}
-use Rattle.slotted_languages.specs.NodeTerm.{nameless_node}
-use Rattle.slotted_languages.specs.Shape.{shape, Fits}
+use Rattle.slotted_languages.specs.Shape.{Fits}
 use Rattle.slotted_model.specs.Applied.{Applied, values}
 use Rattle.slotted_model.specs.Classes.{canonical_slots, IsFull}
 use Rattle.slotted_model.specs.Correspondence.{turned}
@@ -20,7 +19,7 @@ use Rattle.slotted_proofs.specs.Entries.{Proven, entry_of, statement_at}
 use Rattle.slotted_proofs.specs.Proving.{IsProved}
 use Rattle.slotted_core.specs.EntriesInUse.{AllInUse}
 use Rattle.slotted_store.specs.Names.{HasNumberedBinders}
-use Rattle.slotted_store.specs.Kept.{Kept, ClassEntry, RowEntry, no_form, no_entry, node_at, nodes_of, entries_of, rows_from, with_proofs, with_linked}
+use Rattle.slotted_store.specs.Kept.{Kept, nodes_of, entries_of, with_proofs, with_linked}
 use Rattle.slotted_core.specs.Good.{Good}
 use Rattle.slotted_core.proofs.InUse.{link-in_use, found_sides-whole}
 use Rattle.slotted_store.proofs.Writes.{written-nodes, written-entries, written-length, written-rows, written-form}

@@ -6,7 +6,7 @@ use Rattle.std.specs.Prelude.{◌≡◌, ◌⊎◌, ℕ, suc, ◌<◌, All, List
 use Rattle.slotted_slots.specs.declared.types.AppliedId.{AppliedId}
 use Rattle.slotted_slots.specs.Table.{Table, empty_table}
 use Rattle.slotted_theory.specs.Term.{Term}
-use Rattle.slotted_theory.specs.Nameless.{DTerm, nameless}
+use Rattle.slotted_theory.specs.Nameless.{nameless}
 use Rattle.slotted_nodes.specs.Form.{Form, IsSmall}
 use Rattle.slotted_languages.specs.NodeTerm.{nameless_node}
 use Rattle.slotted_languages.specs.Shape.{Fits}

@@ -18,7 +18,7 @@ use Rattle.slotted_theory.specs.Term.{Term}
 use Rattle.slotted_theory.specs.Nameless.{DTerm, nameless}
 use Rattle.slotted_theory.specs.Derives.{Derives, Equal, nameless_pair}
 use Rattle.slotted_model.specs.Applied.{Applied, values}
-use Rattle.slotted_model.specs.Classes.{canonical_slots, term_of, IsFull}
+use Rattle.slotted_model.specs.Classes.{term_of, IsFull}
 use Rattle.slotted_model.specs.Correspondence.{composite}
 use Rattle.slotted_model.specs.Ids.{id_of_node, id_of}
 use Rattle.slotted_model.specs.ProofList.{Equation, ProofEntry, equation_of, equation_at, term_pair, asserted}

@@ -69,7 +69,11 @@ pub(crate) fn is_valid_node<L: Language>(store: &Store<L>, table: &SlotTable, no
 // Looking up and adding.
 
 /// The class that holds the node's shape, with the node's names put in.
-pub(crate) fn lookup<L: Language>(store: &Store<L>, alloc: Global, node: &L) -> Result<Option<AppliedId>, Error>
+pub(crate) fn lookup<L: Language>(
+    store: &Store<L>,
+    alloc: Global,
+    node: &L,
+) -> Result<Option<AppliedId>, Error>
     requires { Good store.now }
     ensures ok { IfOk result (λ o. option_map to_applied o ≡ id_in store.now (L.form node.now)) }
     ensures full { IsErrOf result Error.OutOfSlots ↔ (slot_limit ≤ length (L.form node.now).names) }

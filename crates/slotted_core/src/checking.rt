@@ -12,8 +12,8 @@ ghost use Rattle.slotted_core.specs.Frames.{FitsCongruent, FitsReflexive, FitsSy
 ghost use Rattle.slotted_core.specs.Good.{Good};
 ghost use Rattle.slotted_proofs.specs.Equations.{to_applied};
 
-use crate::congruence::child_equations;
 use crate::adding::is_full;
+use crate::congruence::child_equations;
 use crate::names::PLACES;
 use slotted_languages::Language;
 use slotted_proofs::{Equation, ProvenEq};
@@ -30,7 +30,11 @@ fn is_of_full<L: Language>(store: &Store<L>, equation: &Equation) -> bool
 }
 
 /// The equation, if it is one of full ids, and both sides are equal.
-pub(crate) fn check_reflexive<L: Language>(store: &mut Store<L>, alloc: Global, equation: &Equation) -> Result<ProvenEq, Error>
+pub(crate) fn check_reflexive<L: Language>(
+    store: &mut Store<L>,
+    alloc: Global,
+    equation: &Equation,
+) -> Result<ProvenEq, Error>
     requires { Good store.old }
     ensures fits { IfOk result (λ _. FitsReflexive store.old equation.now) }
     ensures ok { IfOk result (EntersBy store.old store.new equation.now reflexive) }

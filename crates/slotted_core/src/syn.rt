@@ -16,12 +16,17 @@ ghost use Rattle.slotted_core.specs.Syn.{KnowsSlotsAnd, MakesByPlaces};
 
 use slotted_languages::Language;
 use slotted_slots::{AppliedId, Error, SlotTable};
-use slotted_terms::expr::RecExpr;
 use slotted_store::Store;
+use slotted_terms::expr::RecExpr;
 use std::alloc::Global;
 
 /// The node that a class was made with, with the id's names put in.
-pub(crate) fn syn_node<L: Language>(store: &Store<L>, alloc: Global, table: &mut SlotTable, a: &AppliedId) -> Result<L, Error>
+pub(crate) fn syn_node<L: Language>(
+    store: &Store<L>,
+    alloc: Global,
+    table: &mut SlotTable,
+    a: &AppliedId,
+) -> Result<L, Error>
     requires good { Good store.now }
     requires full { IsFull (nodes_of store.now) (to_applied a.now) }
     ensures node { IfOk result (λ n. IsNodeOf (nodes_of store.now) (to_applied a.now) (L.form n)) }

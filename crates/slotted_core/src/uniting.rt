@@ -12,12 +12,16 @@ ghost use Rattle.slotted_core.specs.Uniting.{LinksSides, ProvesBack, ProvesFind,
 use slotted_languages::Language;
 use slotted_proofs::ProvenEq;
 use slotted_slots::{AppliedId, Error};
-use slotted_store::names::have_same_values;
 use slotted_store::Store;
+use slotted_store::names::have_same_values;
 use std::alloc::Global;
 
 // The proof of what the find of a class says.
-fn find_proof<L: Language>(store: &mut Store<L>, alloc: Global, id: usize) -> Result<ProvenEq, Error>
+fn find_proof<L: Language>(
+    store: &mut Store<L>,
+    alloc: Global,
+    id: usize,
+) -> Result<ProvenEq, Error>
     requires good { Good store.old }
     requires within { id < length store.old.classes }
     ensures ok { IfOk result (ProvesFind store.old store.new id) }
@@ -35,7 +39,11 @@ fn find_proof<L: Language>(store: &mut Store<L>, alloc: Global, id: usize) -> Re
 }
 
 // The proof of the same turned round.
-fn back_proof<L: Language>(store: &mut Store<L>, alloc: Global, id: usize) -> Result<ProvenEq, Error>
+fn back_proof<L: Language>(
+    store: &mut Store<L>,
+    alloc: Global,
+    id: usize,
+) -> Result<ProvenEq, Error>
     requires good { Good store.old }
     requires within { id < length store.old.classes }
     ensures ok { IfOk result (ProvesBack store.old store.new id) }
@@ -74,7 +82,12 @@ fn assert_sides<L: Language>(
 
 // What the class that one id finds leads to once it is dead: the class that the other one finds, with the slot of the dead class
 // that has the same name for each slot of it.
-fn heir<L: Language>(store: &Store<L>, alloc: Global, dead: &AppliedId, kept: &AppliedId) -> Result<AppliedId, Error>
+fn heir<L: Language>(
+    store: &Store<L>,
+    alloc: Global,
+    dead: &AppliedId,
+    kept: &AppliedId,
+) -> Result<AppliedId, Error>
     requires good { Good store.now }
     requires left { IsFull (nodes_of store.now) (to_applied dead.now) }
     requires right { IsFull (nodes_of store.now) (to_applied kept.now) }
@@ -123,7 +136,12 @@ fn link<L: Language>(
 }
 
 // Whether two ids find different classes with the same names.
-fn can_link<L: Language>(store: &Store<L>, alloc: Global, l: &AppliedId, r: &AppliedId) -> Result<bool, Error>
+fn can_link<L: Language>(
+    store: &Store<L>,
+    alloc: Global,
+    l: &AppliedId,
+    r: &AppliedId,
+) -> Result<bool, Error>
     requires good { Good store.now }
     requires left { IsFull (nodes_of store.now) (to_applied l.now) }
     requires right { IsFull (nodes_of store.now) (to_applied r.now) }

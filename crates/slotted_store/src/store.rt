@@ -185,12 +185,7 @@ impl<L: Language> Store<L> {
     }
 
     /// The equations of two proofs, one after the other.
-    pub fn chain(
-        &mut self,
-        alloc: Global,
-        p: ProvenEq,
-        q: ProvenEq,
-    ) -> Result<ProvenEq, Error>
+    pub fn chain(&mut self, alloc: Global, p: ProvenEq, q: ProvenEq) -> Result<ProvenEq, Error>
         requires first { p < length self.old.proofs }
         requires second { q < length self.old.proofs }
         requires meets { Meets (statement_at self.old.proofs p) (statement_at self.old.proofs q) }
@@ -202,12 +197,7 @@ impl<L: Language> Store<L> {
     }
 
     /// A class dies, and leads to another one with a slot of its own for each slot of that, by this proof.
-    pub fn set_link(
-        &mut self,
-        dead: usize,
-        find: AppliedId,
-        proof: ProvenEq,
-    ) -> Result<(), Error>
+    pub fn set_link(&mut self, dead: usize, find: AppliedId, proof: ProvenEq) -> Result<(), Error>
         requires { dead < length self.old.classes }
         ensures ok { OnOk result (self.new ≡ with_linked self.old dead find.id.0 find.m proof) }
         ensures err { IfErr result IsOutOfMemory }

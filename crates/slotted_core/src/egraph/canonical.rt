@@ -13,8 +13,8 @@ ghost use Rattle.slotted_core.specs.Leaves.{EntriesFollow};
 ghost use Rattle.slotted_proofs.specs.Equations.{to_applied};
 ghost use Rattle.slotted_core.specs.Syn.{MakesForNodeOf, RunsOutForNodeOf, RunsOutForTermOf};
 
-use crate::syn;
 use super::EGraph;
+use crate::syn;
 use slotted_languages::Language;
 use slotted_proofs::{ProofList, ProvenEq};
 use slotted_slots::{AppliedId, Error};

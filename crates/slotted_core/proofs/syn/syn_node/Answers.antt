@@ -1,5 +1,5 @@
 -- The id's map knows the names of the canonical node.
-use Rattle.std.proofs.Common.{◌≡◌, ◌<◌, ◌∙◌, ap, sym, subst, arith, length, inl, inr}
+use Rattle.std.proofs.Common.{◌<◌, ◌∙◌, ap, sym, subst, arith, length, inl, inr}
 use Rattle.std.specs.Prelude.{All}
 use Rattle.std.proofs.lemmas.Bool.{cases_lt}
 use Rattle.std.proofs.lemmas.Result.{IfOk-weaker}

@@ -1,4 +1,4 @@
-use Rattle.std.proofs.Common.{◌≡◌, ◌<◌, ◌∙◌, ap, map, length, refl, true, arith}
+use Rattle.std.proofs.Common.{◌<◌, ◌∙◌, ap, map, length, refl, true, arith}
 use Rattle.slotted_model.specs.Find.{Entry}
 use Rattle.slotted_store.specs.Kept.{Kept, ClassEntry, with_fewer, symmetry_entry}
 use Rattle.slotted_store.proofs.KeptLists.{length-mapped}
