@@ -1,0 +1,12 @@
+pub mod Absorbing
+pub mod Heights
+pub mod FoundClasses
+pub mod Merging
+pub mod Carrying
+pub mod Following
+pub mod Counts
+pub mod Reaching
+pub mod FiledAgain
+pub mod Rebuilding
+pub mod Growing
+pub mod Writing
