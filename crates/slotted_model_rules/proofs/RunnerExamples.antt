@@ -1,10 +1,12 @@
 -- Runs that stop for each cause, computed. The graph is how often the rules were applied: the rule (app s ?a) to (app t (app s (app s ?a))) on
 -- (app s a) makes 3 nodes 6, and then adds 2 each time, of which one class is united with another.
-use Rattle.std.proofs.Common.{◌≡◌, ℕ, suc, zero, ◌+◌, ◌-◌, ◌*◌, List, [], ◌∷◌, ◌++◌, length, Option, Some, None, sym, ◌∙◌, ap, refl, subst}
+use Rattle.std.proofs.Common.{◌≡◌, ℕ, suc, zero, ◌+◌, ◌-◌, ◌*◌, List, [], ◌∷◌, ◌++◌, length, Option, Some, None, Bool, true, false, sym, ◌∙◌, ap, refl, subst, ◌≤◌, arith}
 use Rattle.std.specs.Prelude.{cond, nat_eq, option_map}
 use Rattle.slotted_theory.specs.Decided.{numbers_eq}
 use Rattle.slotted_model.proofs.Options.{Some-same, None-Some}
-use Rattle.slotted_model_rules.specs.Runners.{Stop, saturated, iteration_limit, time_limit, node_limit, other, Limits, usual_limits, runner_stop, eqsat_stop, second, Measures, Iteration, Report, after_check, RunnerTurn, RunnerRuns, stops_now, goes_on, Runner, runner_report, RunnerAnswers, starts, after_time, EqsatTurn, EqsatRuns, eqsat_stops, eqsat_goes_on, eqsat_report, EqsatAnswers}
+use Rattle.slotted_model_rules.specs.Runners.{none_searched, one_searched, none_applied, one_applied, AppliesRules, Stop, saturated, iteration_limit, time_limit, node_limit, other, Limits, usual_limits, runner_stop, eqsat_stop, second, Measures, Iteration, Report, after_check, RunnerTurn, RunnerRuns, stops_now, goes_on, RunnerRefuses, refused_now, refused_later, Runner, runner_report, RunnerAnswers, starts, after_time, EqsatTurn, EqsatRuns, eqsat_stops, eqsat_goes_on, eqsat_report, EqsatAnswers}
+use Rattle.slotted_model_rules.specs.RunnerClaims.{EachExtends}
+use Rattle.slotted_model_rules.proofs.Turns.{rules-extend}
 
 -- a machine with one way to go: the rules, the hook, what is read off, and the clock
 module _ (next : ℕ → ℕ) (hook : ℕ → Option (List ℕ)) (m : Measures ℕ ℕ) (clock : ℕ → ℕ) where
@@ -189,3 +191,52 @@ eqsat_stops_by_hook = eqsat-reports suc enough growing stands_still 9 60 0 40 (2
 
 eqsat_stops_saturated : EqsatReports (λ g. g) no_hook empty stands_still 5 60 0 0 (record { iterations = 0; stop_reason = saturated; egraph_nodes = 0; egraph_classes = 0; total_time = 0 })
 eqsat_stops_saturated = eqsat-reports (λ g. g) no_hook empty stands_still 5 60 0 40 (0, 1, 0, saturated) refl
+
+-- the third turn is refused: two are stored, and the graph is what the refusal left
+abbrev refused_third : ℕ → ℕ → ℕ → Type 0
+refused_third g n h = (n ≡ 2) × (h ≡ g)
+
+refused : RunnerRefuses (Step suc no_hook growing stands_still) (Hooks suc no_hook growing stands_still) refused_third growing usual_limits stands_still 0 [] 1 0
+    (kept_of suc no_hook growing stands_still usual_limits 0 0 1 0 ∷ kept_of suc no_hook growing stands_still usual_limits 0 1 3 1 ∷ []) 2
+refused =
+    refused_later (turn suc no_hook growing stands_still usual_limits 0 0 1 0 None refl)
+    (refused_later (turn suc no_hook growing stands_still usual_limits 0 1 3 1 None refl) (refused_now (refl, refl)))
+
+-- two rules, which are both searched on the graph 3 before the first is applied: the one finds it and adds what it found, the other adds one
+abbrev searches_for : Bool → ℕ → ℕ → ℕ → Type 0
+searches_for rule g found h = (found ≡ g) × (h ≡ g)
+
+abbrev adds_found : Bool → ℕ → ℕ → ℕ → Type 0
+adds_found rule found g h = h ≡ cond rule (g + found) (suc g)
+
+both_rules : AppliesRules searches_for adds_found (true ∷ true ∷ false ∷ []) 3 10
+both_rules = record {
+  searched = 3;
+  found = 3 ∷ 3 ∷ 3 ∷ [];
+  by_searches = one_searched (refl, refl) (one_searched (refl, refl) (one_searched (refl, refl) none_searched));
+  by_applies = one_applied refl (one_applied refl (one_applied refl none_applied));
+}
+
+-- none of them makes the graph smaller, nor do turns and runs
+abbrev no_smaller : ℕ → ℕ → Type 0
+no_smaller g h = g ≤ h
+
+abbrev never_stops : ℕ → ℕ → ℕ → Option (List ℕ) → Type 0
+never_stops g n h answer = (h ≡ g) × (answer ≡ None)
+
+grows : EachExtends ℕ (List ℕ) ℕ ℕ Bool searches_for adds_found never_stops refused_third no_smaller
+grows = record {
+  same = λ g. omega arith;
+  joined = λ f g h a b. omega arith;
+  by_search = λ rule g h found s. let e : h ≡ g = s.1 in omega arith;
+  by_apply = λ rule found g h a. grown_by rule found g h a;
+  by_hook = λ g h n answer s. let e : h ≡ g = s.0 in omega arith;
+  by_refusal = λ g h n s. let e : h ≡ g = s.1 in omega arith;
+}
+  where
+    grown_by : (rule : Bool) (found g h : ℕ) → adds_found rule found g h → g ≤ h
+    grown_by true found g h e = let k : h ≡ g + found = e in omega arith
+    grown_by false found g h e = let k : h ≡ suc g = e in omega arith
+
+three_is_no_smaller : no_smaller 3 10
+three_is_no_smaller = rules-extend ℕ (List ℕ) ℕ ℕ Bool searches_for adds_found never_stops refused_third no_smaller grows (true ∷ true ∷ false ∷ []) 3 10 both_rules

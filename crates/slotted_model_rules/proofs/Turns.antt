@@ -1,9 +1,10 @@
 -- Runs of turns: how they end, how many turns they have, what is read and kept, and that they are there.
-use Rattle.std.proofs.Common.{◌≡◌, ℕ, suc, zero, ◌+◌, ◌-◌, ◌*◌, ◌<◌, ◌≤◌, List, [], ◌∷◌, ◌++◌, length, length-append, Option, Some, None, Bool, sym, ◌∙◌, ap, refl, inl, inr, arith}
+use Rattle.std.proofs.Common.{◌≡◌, ℕ, suc, zero, ◌+◌, ◌-◌, ◌*◌, ◌<◌, ◌≤◌, List, [], ◌∷◌, ◌++◌, length, length-append, append_assoc, Option, Some, None, Bool, sym, ◌∙◌, ap, refl, inl, inr, arith}
 use Rattle.std.specs.Prelude.{◌⊎◌}
+use Rattle.std.proofs.lemmas.List.{append-nil}
 use Rattle.slotted_theory.specs.Decided.{numbers_eq}
 use Rattle.slotted_model.proofs.Options.{Some-same, None-Some}
-use Rattle.slotted_model_rules.specs.Runners.{SearchesAll, none_searched, one_searched, AppliesAll, none_applied, one_applied, AppliesRules, Stop, saturated, iteration_limit, time_limit, node_limit, other, Limits, runner_stop, eqsat_stop, Measures, Iteration, Report, last_finish, after_check, RunnerTurn, RunnerRuns, stops_now, goes_on, Runner, runner_report, RunnerAnswers, again, starts, takes_up, after_time, EqsatTurn, EqsatRuns, eqsat_stops, eqsat_goes_on}
+use Rattle.slotted_model_rules.specs.Runners.{SearchesAll, none_searched, one_searched, AppliesAll, none_applied, one_applied, AppliesRules, Stop, saturated, iteration_limit, time_limit, node_limit, other, Limits, runner_stop, eqsat_stop, Measures, Iteration, Report, last_finish, after_check, RunnerTurn, RunnerRuns, stops_now, goes_on, RunnerRefuses, refused_now, refused_later, Runner, runner_report, RunnerAnswers, again, starts, takes_up, after_time, EqsatTurn, EqsatRuns, eqsat_stops, eqsat_goes_on}
 use Rattle.slotted_model_rules.specs.RunnerClaims.{unread, EachExtends}
 use Rattle.slotted_model_rules.proofs.Stopping.{runner-first, eqsat-first}
 
@@ -221,9 +222,16 @@ module _ (S T : Type 0) (step : S → S → Type 0) (hooks : S → ℕ → S →
     pub an-eqsat : (counted k : ℕ) (g : S) → AnEqsat counted k g
     an-eqsat counted k g = an-eqsat_by iterations counted k g (omega arith)
 
+-- a refused turn is not stored
+module _ (S T D : Type 0) (step : S → S → Type 0) (hooks : S → ℕ → S → Option T → Type 0) (refuses : S → ℕ → S → Type 0) (m : Measures S D) (limits : Limits) (clock : ℕ → ℕ) (start : ℕ) where
+  pub not-stored : {stored all : List (Iteration D)} {k : ℕ} {g h : S} → RunnerRefuses step hooks refuses m limits clock start stored k g all h →
+      (more : List (Iteration D)) × (f : S) × (all ≡ stored ++ more) × refuses f (length all) h
+  not-stored {stored} {all} {k} {g} (refused_now r) = ([], g, sym (append-nil stored), r)
+  not-stored {stored} {all} (refused_later {kept = kept} t r) = let k = not-stored r in (kept ∷ k.0, k.1, k.2 ∙ append_assoc stored (kept ∷ []) k.0, k.3)
+
 -- what each step keeps is kept
-module _ (S T D F Q : Type 0) (searches : Q → S → F → S → Type 0) (applies : Q → F → S → S → Type 0) (hooks : S → ℕ → S → Option T → Type 0) (extends : S → S → Type 0)
-    (each : EachExtends S T D F Q searches applies hooks extends) where
+module _ (S T D F Q : Type 0) (searches : Q → S → F → S → Type 0) (applies : Q → F → S → S → Type 0) (hooks : S → ℕ → S → Option T → Type 0) (refuses : S → ℕ → S → Type 0) (extends : S → S → Type 0)
+    (each : EachExtends S T D F Q searches applies hooks refuses extends) where
   searches-extend : {rules : List Q} {found : List F} {g h : S} → SearchesAll searches rules g found h → extends g h
   searches-extend {rules} {found} {g} none_searched = each.same g
   searches-extend {rules} {found} {g} {h} (one_searched {rule = rule} {f = f} {found = x} s more) = each.joined g f h (each.by_search rule g f x s) (searches-extend more)
@@ -248,3 +256,9 @@ module _ (S T D F Q : Type 0) (searches : Q → S → F → S → Type 0) (appli
       each.joined g t.applied h (rules-extend rules g t.applied t.by_rules) (each.by_hook t.applied h counted t.answer t.by_hook)
   eqsat-extends rules progress iterations seconds clock start {counted} {k} {total} {last} {g} {h} (eqsat_goes_on {f = f} t r) =
       each.joined g f h (each.joined g t.applied f (rules-extend rules g t.applied t.by_rules) (each.by_hook t.applied f counted t.answer t.by_hook)) (eqsat-extends rules progress iterations seconds clock start r)
+
+  pub refusals-extend : (rules : List Q) (m : Measures S D) (limits : Limits) (clock : ℕ → ℕ) (start : ℕ) {stored all : List (Iteration D)} {k : ℕ} {g h : S} →
+      RunnerRefuses (AppliesRules searches applies rules) hooks refuses m limits clock start stored k g all h → extends g h
+  refusals-extend rules m limits clock start {stored} {all} {k} {g} {h} (refused_now r) = each.by_refusal g h (length stored) r
+  refusals-extend rules m limits clock start {stored} {all} {k} {g} {h} (refused_later {f = f} t r) =
+      each.joined g f h (each.joined g t.applied f (rules-extend rules g t.applied t.by_rules) (each.by_hook t.applied f (length stored) t.answer t.by_hook)) (refusals-extend rules m limits clock start r)

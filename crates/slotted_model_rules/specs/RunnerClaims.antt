@@ -1,6 +1,6 @@
 -- The laws of runs, all owed by `runner_laws_hold` in src/runner.rt. Rules are of the type Q, and their searches find F.
 use Rattle.std.specs.Prelude.{◌≡◌, ◌↔◌, ℕ, suc, ◌+◌, ◌*◌, ◌<◌, ◌≤◌, List, [], ◌∷◌, ◌++◌, length, Option, Some, None, Bool, true, false}
-use Rattle.slotted_model_rules.specs.Runners.{AppliesRules, Stop, saturated, iteration_limit, time_limit, node_limit, other, Limits, runner_stop, second, eqsat_stop, Measures, Iteration, Report, last_finish, RunnerTurn, RunnerRuns, Runner, runner_report, RunnerAnswers, EqsatTurn, EqsatRuns}
+use Rattle.slotted_model_rules.specs.Runners.{AppliesRules, Stop, saturated, iteration_limit, time_limit, node_limit, other, Limits, runner_stop, second, eqsat_stop, Measures, Iteration, Report, last_finish, RunnerTurn, RunnerRuns, RunnerRefuses, Runner, runner_report, RunnerAnswers, EqsatTurn, EqsatRuns}
 
 -- the cause holds, and none before it
 abbrev pub IsRunnerCause : {T : Type 0} → Limits → Option T → ℕ → ℕ → ℕ → Bool → Stop T → Type 0
@@ -49,7 +49,7 @@ unread node_limit = 0
 unread (other t) = 1
 
 module _ (S T D F Q : Type 0) (searches : Q → S → F → S → Type 0) (applies : Q → F → S → S → Type 0)
-    (hooks : S → ℕ → S → Option T → Type 0) (extends : S → S → Type 0) where
+    (hooks : S → ℕ → S → Option T → Type 0) (refuses : S → ℕ → S → Type 0) (extends : S → S → Type 0) where
   -- the rules once
   abbrev pub Step : List Q → S → S → Type 0
   Step rules = AppliesRules searches applies rules
@@ -90,6 +90,14 @@ module _ (S T D F Q : Type 0) (searches : Q → S → F → S → Type 0) (appli
       (earlier : List (Iteration D)) × (kept : Iteration D) × (final : ℕ)
       × (all ≡ earlier ++ kept ∷ []) × (kept.num_nodes ≡ m.nodes h) × (kept.made ≡ m.made h (length earlier))
       × (last ≡ suc final) × (last_finish all ≡ Some (clock final))
+
+  -- a refused turn is not stored: the stored turns are those before it, and nothing of them is lost
+  abbrev pub RefusedTurnsAreNotStored : Type 0
+  RefusedTurnsAreNotStored =
+      (rules : List Q) (m : Measures S D) (limits : Limits) (clock : ℕ → ℕ) (start : ℕ)
+      (stored all : List (Iteration D)) (k : ℕ) (g h : S) →
+      RunnerRefuses (Step rules) hooks refuses m limits clock start stored k g all h →
+      (more : List (Iteration D)) × (f : S) × (all ≡ stored ++ more) × refuses f (length all) h
 
   -- a runner that has stopped stays so, and reports the same again
   abbrev pub StoppedRunnersReportAgain : Type 0
@@ -144,6 +152,7 @@ module _ (S T D F Q : Type 0) (searches : Q → S → F → S → Type 0) (appli
     pub by_search : (rule : Q) (g h : S) (found : F) → searches rule g found h → extends g h
     pub by_apply : (rule : Q) (found : F) (g h : S) → applies rule found g h → extends g h
     pub by_hook : (g h : S) (n : ℕ) (answer : Option T) → hooks g n h answer → extends g h
+    pub by_refusal : (g h : S) (n : ℕ) → refuses g n h → extends g h
 
   -- the rules, both runs, and what a runner makes of its graph keep it too
   abbrev pub RunsExtend : Type 0
@@ -156,19 +165,23 @@ module _ (S T D F Q : Type 0) (searches : Q → S → F → S → Type 0) (appli
       × ((rules : List Q) (progress : S → List ℕ) (iterations seconds : ℕ) (clock : ℕ → ℕ)
       (start counted k total last : ℕ) (g h : S) (reason : Stop T) →
       EqsatRuns (Step rules) hooks progress iterations seconds clock start counted k g total last h reason → extends g h)
+      × ((rules : List Q) (m : Measures S D) (limits : Limits) (clock : ℕ → ℕ) (start : ℕ)
+      (stored all : List (Iteration D)) (k : ℕ) (g h : S) →
+      RunnerRefuses (Step rules) hooks refuses m limits clock start stored k g all h → extends g h)
 
 -- all these laws
 pub record RunnerLaws (S T D F Q : Type 0) (searches : Q → S → F → S → Type 0) (applies : Q → F → S → S → Type 0)
-    (hooks : S → ℕ → S → Option T → Type 0) (extends : S → S → Type 0) : Type 0 where
+    (hooks : S → ℕ → S → Option T → Type 0) (refuses : S → ℕ → S → Type 0) (extends : S → S → Type 0) : Type 0 where
   pub runners_stop_for_the_first : RunnersStopForTheFirst T
   pub eqsat_stops_for_the_first : EqsatStopsForTheFirst T
-  pub runs_end_in_a_turn : RunsEndInATurn S T D F Q searches applies hooks extends
-  pub runners_are_bounded : RunnersAreBounded S T D F Q searches applies hooks extends
-  pub runners_read_twice : RunnersReadTwice S T D F Q searches applies hooks extends
-  pub last_turns_are_reported : LastTurnsAreReported S T D F Q searches applies hooks extends
-  pub stopped_runners_report_again : StoppedRunnersReportAgain S T D F Q searches applies hooks extends
-  pub runners_end : RunnersEnd S T D F Q searches applies hooks extends
-  pub eqsat_is_bounded : EqsatIsBounded S T D F Q searches applies hooks extends
-  pub eqsat_ends_in_a_turn : EqsatEndsInATurn S T D F Q searches applies hooks extends
-  pub eqsat_ends : EqsatEnds S T D F Q searches applies hooks extends
-  pub runs_extend : RunsExtend S T D F Q searches applies hooks extends
+  pub runs_end_in_a_turn : RunsEndInATurn S T D F Q searches applies hooks refuses extends
+  pub runners_are_bounded : RunnersAreBounded S T D F Q searches applies hooks refuses extends
+  pub runners_read_twice : RunnersReadTwice S T D F Q searches applies hooks refuses extends
+  pub last_turns_are_reported : LastTurnsAreReported S T D F Q searches applies hooks refuses extends
+  pub refused_turns_are_not_stored : RefusedTurnsAreNotStored S T D F Q searches applies hooks refuses extends
+  pub stopped_runners_report_again : StoppedRunnersReportAgain S T D F Q searches applies hooks refuses extends
+  pub runners_end : RunnersEnd S T D F Q searches applies hooks refuses extends
+  pub eqsat_is_bounded : EqsatIsBounded S T D F Q searches applies hooks refuses extends
+  pub eqsat_ends_in_a_turn : EqsatEndsInATurn S T D F Q searches applies hooks refuses extends
+  pub eqsat_ends : EqsatEnds S T D F Q searches applies hooks refuses extends
+  pub runs_extend : RunsExtend S T D F Q searches applies hooks refuses extends

@@ -5,6 +5,7 @@
 --     runner_stop, eqsat_stop     the first cause that holds after a turn, if there is one
 --     Measures S D                what is read off a graph
 --     RunnerTurn, RunnerRuns      a turn of the runner, and turns until one stops
+--     RunnerRefuses               turns until one is refused
 --     Runner, RunnerAnswers       what a runner keeps, and what a call of `run` makes of it
 --     EqsatTurn, EqsatRuns        the same of `run_eqsat`
 --     Report T                    what both answer
@@ -142,6 +143,17 @@ pub data RunnerRuns {S T D : Type 0} (applies : S → S → Type 0) (hooks : S �
       RunnerTurn applies hooks m limits clock start (length stored) k g f None kept next →
       RunnerRuns applies hooks m limits clock start (stored ++ kept ∷ []) next f all last h reason →
       RunnerRuns applies hooks m limits clock start stored k g all last h reason
+
+-- turns that go on, and one in which the rules or the hook, after so many stored turns, are refused: that one is not stored
+pub data RunnerRefuses {S T D : Type 0} (applies : S → S → Type 0) (hooks : S → ℕ → S → Option T → Type 0)
+    (refuses : S → ℕ → S → Type 0) (m : Measures S D) (limits : Limits) (clock : ℕ → ℕ) (start : ℕ) :
+    List (Iteration D) → ℕ → S → List (Iteration D) → S → Type 0 where
+  refused_now : {stored : List (Iteration D)} {k : ℕ} {g h : S} → refuses g (length stored) h →
+      RunnerRefuses applies hooks refuses m limits clock start stored k g stored h
+  refused_later : {stored all : List (Iteration D)} {k next : ℕ} {g f h : S} {kept : Iteration D} →
+      RunnerTurn applies hooks m limits clock start (length stored) k g f None kept next →
+      RunnerRefuses applies hooks refuses m limits clock start (stored ++ kept ∷ []) next f all h →
+      RunnerRefuses applies hooks refuses m limits clock start stored k g all h
 
 -- a runner: its graph, the stored turns, the reading before the first one, and why it has stopped
 pub record Runner (S T D : Type 0) : Type 0 where
