@@ -12,9 +12,11 @@ use Rattle.slotted_model.proofs.FindProofs.{found_alike-equal, found_alike-deriv
 use Rattle.slotted_model.proofs.NormalIds.{full-is_valid}
 use Rattle.slotted_model.proofs.Unique.{term_of-same}
 use Rattle.slotted_core.specs.Image.{Image, found_id, FoundAlike, asserted_in, AreDerivable}
-use Rattle.slotted_core.specs.Kept.{Kept, nodes_of, entries_of, proofs_of, image_of, Good}
+use Rattle.slotted_store.specs.Kept.{Kept, nodes_of, entries_of, proofs_of}
+use Rattle.slotted_core.specs.Good.{image_of, Good}
 use Rattle.slotted_core.proofs.InUse.{untouched-finds}
-use Rattle.slotted_core.proofs.KeptLists.{length-nodes_of, found_id-is}
+use Rattle.slotted_store.proofs.KeptLists.{length-nodes_of}
+use Rattle.slotted_core.proofs.Images.{found_id-is}
 
 -- a full id lacks nothing
 fills_itself : (nodes : List DTerm) (a : Applied) → IsFull nodes a → IsFilling nodes [] a a

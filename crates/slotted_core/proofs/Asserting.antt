@@ -14,10 +14,11 @@ use Rattle.slotted_proofs.specs.Entries.{Proven, entry_of, Stands, Enters, asser
 use Rattle.slotted_proofs.specs.Proving.{IsProvable}
 use Rattle.slotted_proofs.proofs.Entering.{asserted_provable, new_can_enter, turned_provable, entering_proved, entering_sound, entered_stands, others_assert_nothing}
 use Rattle.slotted_core.specs.Image.{StandsIn, Asserts, Records, asserted_in}
-use Rattle.slotted_core.specs.Kept.{Kept, nodes_of, entries_of, proofs_of, image_of, with_proofs, EntersIn, Good, IsAsserted}
+use Rattle.slotted_store.specs.Kept.{Kept, nodes_of, entries_of, proofs_of, with_proofs, EntersIn}
+use Rattle.slotted_core.specs.Good.{image_of, Good, IsAsserted}
 use Rattle.slotted_core.proofs.ProofListGrowth.{entered-more}
 use Rattle.slotted_core.proofs.EntryTexts.{records-stood, records-last, records-more}
-use Rattle.slotted_core.proofs.KeptLists.{equation_at-of, length-mapped, length-proofs_of}
+use Rattle.slotted_store.proofs.KeptLists.{equation_at-of, length-mapped, length-proofs_of}
 
 module _ (k : Kept) (good : Good k) (a b : Applied) (fa : IsFull (nodes_of k) a) (fb : IsFull (nodes_of k) b) (text : Option (List ℕ)) where
   abbrev nodes : List DTerm

@@ -25,11 +25,11 @@ use Rattle.slotted_model.proofs.Sets.{In-ascending}
 use Rattle.slotted_model.proofs.Folds.{as_term-same}
 use Rattle.slotted_model.proofs.Full.{term_of-layer, full-children}
 use Rattle.slotted_model.proofs.Maps.{keys-with_values}
-use Rattle.slotted_core.specs.Kept.{Kept, nodes_of, node_at}
+use Rattle.slotted_store.specs.Kept.{Kept, nodes_of, node_at}
 use Rattle.slotted_core.specs.Nodes.{ids_in, child_ids}
 use Rattle.slotted_core.specs.Canonical.{args_count, place_count, IsBeside}
 use Rattle.slotted_core.proofs.RowLookUps.{canonical_node-in}
-use Rattle.slotted_core.proofs.NameMaps.{In-at, In-key, length-keys, length-values}
+use Rattle.slotted_store.proofs.NameMaps.{In-at, In-key, length-keys, length-values}
 use Rattle.slotted_core.proofs.Children.{Each, atom-is, length-ids}
 use Rattle.slotted_core.proofs.ChildReplacement.{plugs}
 use Rattle.slotted_core.proofs.Layers.{expand-filled, match-from, each_at}

@@ -24,7 +24,7 @@ use Rattle.slotted_model.specs.Applied.{map_on}
 use Rattle.slotted_model.proofs.Members.{In, In-left, In-right, In-append}
 use Rattle.slotted_model.proofs.Sets.{IsAscending-ascending, In-ascending, In-of_ascending}
 use Rattle.slotted_model.proofs.Maps.{In-values, keys-with_values, map_on-agrees, map_on-filled, filled-map_on, IsInjectiveMap-map_on}
-use Rattle.slotted_core.specs.Names.{put, with_put, IsNumeric}
+use Rattle.slotted_store.specs.Names.{put, with_put, IsNumeric}
 use Rattle.slotted_proofs.proofs.Bridges.{ascends}
 
 -- all names in a shape are numeric

@@ -8,9 +8,10 @@ use Rattle.slotted_theory.specs.Nameless.{DTerm}
 use Rattle.slotted_model.specs.Ascending.{names}
 use Rattle.slotted_model.proofs.Members.{Contains-In}
 use Rattle.slotted_terms.specs.Valid.{AllKnown}
-use Rattle.slotted_core.specs.Kept.{Kept, Good, HasFreshSlots, node_at}
+use Rattle.slotted_store.specs.Kept.{Kept, node_at}
+use Rattle.slotted_core.specs.Good.{Good, HasFreshSlots}
 use Rattle.slotted_core.proofs.CanonicalTerms.{node_at-is}
-use Rattle.slotted_core.proofs.NameMaps.{In-at}
+use Rattle.slotted_store.proofs.NameMaps.{In-at}
 
 -- a table that knows more has made the slots of the classes too
 pub fresh_slots-more : (t u : Table) (k : Kept) → KnowsMore t u → HasFreshSlots t k → HasFreshSlots u k

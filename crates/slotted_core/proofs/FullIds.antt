@@ -7,9 +7,10 @@ use Rattle.slotted_model.specs.Applied.{Applied}
 use Rattle.slotted_model.specs.Find.{Entry}
 use Rattle.slotted_model.specs.Classes.{canonical_slots, IsFull}
 use Rattle.slotted_model.proofs.Finding.{leads, live-full}
-use Rattle.slotted_core.specs.Kept.{Kept, ClassEntry, find_at, nodes_of, entries_of, Good}
+use Rattle.slotted_store.specs.Kept.{Kept, ClassEntry, find_at, nodes_of, entries_of}
+use Rattle.slotted_core.specs.Good.{Good}
 use Rattle.slotted_core.proofs.InUse.{entry-slots}
-use Rattle.slotted_core.proofs.KeptLists.{entry_at-of}
+use Rattle.slotted_store.proofs.KeptLists.{entry_at-of}
 use Rattle.slotted_core.proofs.RowLookUps.{nameless_nodes}
 
 length-nodes : (cs : List ClassEntry) → length (nameless_nodes cs) ≡ length cs

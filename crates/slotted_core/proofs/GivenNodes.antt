@@ -1,11 +1,10 @@
 -- A canonical node with the names of an id put in is over full ids, as large as it was, and known where those names are.
-use Rattle.std.proofs.Common.{◌≡◌, ◌<◌, ◌≤◌, ◌+◌, ℕ, zero, suc, List, [], ◌∷◌, ◌++◌, length, cond, not, filter, slice_index_or, sym, ◌∙◌, ap, refl, subst, arith, inr}
+use Rattle.std.proofs.Common.{◌≡◌, ◌<◌, ◌≤◌, ◌+◌, ℕ, suc, List, [], ◌∷◌, ◌++◌, length, cond, not, slice_index_or, sym, ◌∙◌, ap, refl, subst, arith, inr}
 use Rattle.std.specs.Prelude.{All, IsTrue, Result, Ok, Err, IfOk, IsErrOf}
 use Rattle.std.proofs.lemmas.List.Elements.{All-append, All-push}
 use Rattle.slotted_theory.specs.Nameless.{DArgs, DTerm, stop, place, sub, scope, lift, moved_args, moved}
 use Rattle.slotted_theory.specs.FiniteMaps.{filled}
 use Rattle.slotted_theory.specs.Term.{Term}
-use Rattle.slotted_slots.specs.Maps.{values}
 use Rattle.slotted_slots.specs.Table.{Table, KnowsMore, TakesAtMost, is_known, unknown_names}
 use Rattle.slotted_slots.proofs.SlotsTaken.{at_most_known}
 use Rattle.slotted_nodes.specs.Form.{Form, children, child_names, child_place, width}
@@ -23,7 +22,7 @@ use Rattle.slotted_core.proofs.CallerLemmas.{term_later}
 use Rattle.slotted_core.proofs.CanonicalTerms.{children-below, places-counted}
 use Rattle.slotted_core.proofs.Children.{length-ids}
 use Rattle.slotted_core.proofs.KnownNames.{In-take, In-drop}
-use Rattle.slotted_core.proofs.NameMaps.{In-at, at_In}
+use Rattle.slotted_store.proofs.NameMaps.{In-at, at_In}
 use Rattle.slotted_core.proofs.ValidTerms.{valid_term}
 
 -- the children are full

@@ -1,11 +1,17 @@
 -- Images of graphs: what is added and what goes on, step after step.
-use Rattle.std.proofs.Common.{List, [], ◌++◌, sym, ◌∙◌, ap, refl, append_assoc}
+use Rattle.std.proofs.Common.{◌≡◌, ◌<◌, ◌+◌, ℕ, zero, suc, List, [], ◌∷◌, ◌++◌, length, sym, ◌∙◌, ap, refl, append_assoc, arith}
+use Rattle.std.specs.Prelude.{slice_index_or}
 use Rattle.std.proofs.lemmas.List.{append-nil}
+use Rattle.slotted_model.specs.Applied.{Applied}
+use Rattle.slotted_model.specs.Correspondence.{composite}
+use Rattle.slotted_model.specs.Find.{Entry, find_class, find_map, find}
 use Rattle.slotted_model.specs.Growth.{Extends}
 use Rattle.slotted_model.specs.ProofList.{ProofEntry}
 use Rattle.slotted_proofs.specs.Entries.{Proven}
-use Rattle.slotted_core.specs.Image.{Image, AddsClasses}
-use Rattle.slotted_core.specs.Kept.{Kept, proofs_of, image_of}
+use Rattle.slotted_core.specs.Image.{Image, AddsClasses, found_id}
+use Rattle.slotted_store.specs.Kept.{Kept, entries_of, proofs_of}
+use Rattle.slotted_core.specs.Good.{image_of, finds_from}
+use Rattle.slotted_store.proofs.KeptLists.{length-entries_of}
 
 -- nothing is added
 pub adds-nothing : (k : Kept) → AddsClasses (image_of k) (image_of k)
@@ -28,3 +34,20 @@ adds-then g h i x p q = record {
   asserted = q.asserted ∙ p.asserted;
   finds = λ a full. q.finds a (x.full a full) ∙ p.finds a full;
 }
+
+-- what a class finds
+finds-at : (found : List Entry) (i : ℕ) (es : List Entry) (j : ℕ) → j < length es → slice_index_or (finds_from found i es) j (0, []) ≡ (find_class found (i + j), find_map found (i + j))
+finds-at found i [] j l = absurd (omega arith)
+finds-at found i (e ∷ es) zero l = let z : i ≡ i + 0 = omega arith in ap (λ n. (find_class found n, find_map found n)) z
+finds-at found i (e ∷ es) (suc j) l =
+    let z : suc i + j ≡ i + suc j = omega arith in
+    finds-at found (suc i) es j (omega arith) ∙ ap (λ n. (find_class found n, find_map found n)) z
+
+-- an id finds what the entries say
+pub found_id-is : (k : Kept) (a : Applied) → a.0 < length k.classes → found_id (image_of k) a ≡ find (entries_of k) a
+found_id-is k a l =
+    let h : a.0 < length (entries_of k) = let n : length (entries_of k) ≡ length k.classes = length-entries_of k in omega arith in
+    let z : 0 + a.0 ≡ a.0 = omega arith in
+    let e : slice_index_or (finds_from (entries_of k) 0 (entries_of k)) a.0 (0, []) ≡ (find_class (entries_of k) a.0, find_map (entries_of k) a.0) =
+    finds-at (entries_of k) 0 (entries_of k) a.0 h ∙ ap (λ n. (find_class (entries_of k) n, find_map (entries_of k) n)) z in
+    λ i. ((e i).0, composite (e i).1 a.1)

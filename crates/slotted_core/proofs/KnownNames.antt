@@ -26,8 +26,8 @@ use Rattle.slotted_model.specs.Ascending.{names}
 use Rattle.slotted_terms.specs.Valid.{AllKnown, HasKnownNames}
 use Rattle.slotted_slots.specs.declared.types.AppliedId.{AppliedId}
 use Rattle.slotted_core.specs.Graph.{Graph, IsValidId, id_of_form, StandsForNode}
-use Rattle.slotted_core.specs.Nodes.{to_applied}
-use Rattle.slotted_core.proofs.NameMaps.{In-at, at_In}
+use Rattle.slotted_proofs.specs.Equations.{to_applied}
+use Rattle.slotted_store.proofs.NameMaps.{In-at, at_In}
 
 pub In-take : (n : ℕ) (xs : List ℕ) (x : ℕ) → In x (take n xs) → In x xs
 In-take zero xs x h = absurd h

@@ -19,11 +19,12 @@ use Rattle.slotted_proofs.specs.Entries.{Proven, statement_at}
 use Rattle.slotted_proofs.specs.Proving.{IsProved}
 use Rattle.slotted_core.specs.Causes.{HaveManyNames, IsLargeClass}
 use Rattle.slotted_core.specs.EntriesInUse.{AllInUse}
-use Rattle.slotted_core.specs.Kept.{Kept, find_at, nodes_of, entries_of, Good, Proves, IsAsserted}
-use Rattle.slotted_core.proofs.DistinctValues.{length-ascending_values}
+use Rattle.slotted_store.specs.Kept.{Kept, find_at, nodes_of, entries_of}
+use Rattle.slotted_core.specs.Good.{Good, Proves, IsAsserted}
+use Rattle.slotted_store.proofs.DistinctValues.{length-ascending_values}
 use Rattle.slotted_core.proofs.InUse.{entry-slots, found-is_full}
-use Rattle.slotted_core.proofs.KeptLists.{length-mapped, length-nodes_of, entry_at-of}
-use Rattle.slotted_core.proofs.NameMaps.{length-values}
+use Rattle.slotted_store.proofs.KeptLists.{length-mapped, length-nodes_of, entry_at-of}
+use Rattle.slotted_store.proofs.NameMaps.{length-values}
 
 module _ (nodes : List DTerm) (found : List Entry) (linked : Linked nodes found) (all : AllInUse nodes found) where
   -- an entry leads to a class with as many slots

@@ -105,11 +105,6 @@ each_at P [] k d l h = absurd (omega arith)
 each_at P (x ∷ xs) zero d l h = h.0
 each_at P (x ∷ xs) (suc k) d l h = each_at P xs k d (omega arith) h.1
 
-pub any_default : {X : Type 0} (xs : List X) (k : ℕ) (d e : X) → k < length xs → get_or xs k d ≡ get_or xs k e
-any_default [] k d e l = absurd (omega arith)
-any_default (x ∷ xs) zero d e l = refl
-any_default (x ∷ xs) (suc k) d e l = any_default xs k d e (omega arith)
-
 most_at : (us : List Term) (k : ℕ) (d : Term) → k < length us → term_size (get_or us k d) + 1 ≤ most (λ (u : Term). term_size u + 1) us
 most_at [] k d l = absurd (omega arith)
 most_at (u ∷ us) zero d l = omega arith

@@ -4,7 +4,8 @@ use Rattle.slotted_theory.specs.Derives.{nameless_pair}
 use Rattle.slotted_theory.proofs.Backward.{Equal-derives}
 use Rattle.slotted_model.proofs.FindProofs.{leaves-enough}
 use Rattle.slotted_model.proofs.Steps.{Equal-between}
-use Rattle.slotted_core.specs.Kept.{Kept, Good, nodes_of, proofs_of, image_of}
+use Rattle.slotted_store.specs.Kept.{Kept, nodes_of, proofs_of}
+use Rattle.slotted_core.specs.Good.{Good, image_of}
 use Rattle.slotted_core.specs.Leaves.{EntriesFollow}
 
 pub good-entries_follow : (k : Kept) → Good k → EntriesFollow (image_of k)

@@ -1,9 +1,8 @@
 -- What a link leaves: the found class of one id dies and leads to that of the other.
-use Rattle.std.proofs.Common.{◌≡◌, ◌≢◌, ◌↔◌, ℕ, zero, suc, ◌<◌, List, [], ◌∷◌, length, set, get_or, sym, ◌∙◌, ap, refl, subst, arith}
-use Rattle.std.specs.Prelude.{Contains, map, slice_index_or}
+use Rattle.std.proofs.Common.{◌≡◌, ◌≢◌, ◌↔◌, ℕ, suc, ◌<◌, List, [], length, set, sym, ◌∙◌, ap, subst, arith}
+use Rattle.std.specs.Prelude.{Contains, map}
 use Rattle.slotted_theory.specs.Nameless.{DTerm}
-use Rattle.slotted_languages.specs.NodeTerm.{nameless_node}
-use Rattle.slotted_languages.specs.Shape.{shape, Fits}
+use Rattle.slotted_languages.specs.Shape.{Fits}
 use Rattle.slotted_model.specs.Applied.{Applied, values}
 use Rattle.slotted_model.specs.Classes.{canonical_slots, IsFull}
 use Rattle.slotted_model.specs.Correspondence.{turned}
@@ -19,64 +18,12 @@ use Rattle.slotted_model.proofs.Uniting.{can_link, linked-alike}
 use Rattle.slotted_proofs.specs.Entries.{Proven, entry_of, statement_at}
 use Rattle.slotted_proofs.specs.Proving.{IsProved}
 use Rattle.slotted_core.specs.EntriesInUse.{AllInUse}
-use Rattle.slotted_core.specs.Names.{HasNumberedBinders}
-use Rattle.slotted_core.specs.Kept.{Kept, ClassEntry, RowEntry, no_form, no_entry, node_at, nodes_of, entries_of, rows_from, with_proofs, with_linked, Good}
+use Rattle.slotted_store.specs.Names.{HasNumberedBinders}
+use Rattle.slotted_store.specs.Kept.{Kept, nodes_of, entries_of, with_proofs, with_linked}
+use Rattle.slotted_core.specs.Good.{Good}
 use Rattle.slotted_core.proofs.InUse.{link-in_use, found_sides-whole}
-use Rattle.slotted_core.proofs.KeptLists.{length-mapped, at-mapped, equation_at-of}
-use Rattle.slotted_core.proofs.Layers.{any_default}
-
--- lists with another element
-
-map-set : {X Y : Type 0} (f : X → Y) (xs : List X) (i : ℕ) (x : X) → map f (set xs i x) ≡ set (map f xs) i (f x)
-map-set f [] i x = refl
-map-set f (y ∷ xs) zero x = refl
-map-set f (y ∷ xs) (suc i) x = ap (λ r. f y ∷ r) (map-set f xs i x)
-
-set-itself : {X : Type 0} (xs : List X) (i : ℕ) (d : X) → set xs i (get_or xs i d) ≡ xs
-set-itself [] i d = refl
-set-itself (y ∷ xs) zero d = refl
-set-itself (y ∷ xs) (suc i) d = ap (λ r. y ∷ r) (set-itself xs i d)
-
-length-set_at : {X : Type 0} (xs : List X) (i : ℕ) (x : X) → length (set xs i x) ≡ length xs
-length-set_at [] i x = refl
-length-set_at (y ∷ xs) zero x = refl
-length-set_at (y ∷ xs) (suc i) x = ap suc (length-set_at xs i x)
-
--- rows and forms do not depend on find entries
-rows-set : (n : ℕ) (cs : List ClassEntry) (i : ℕ) (e : Entry) (d : ClassEntry) → rows_from n (set cs i ((get_or cs i d).0, e)) ≡ rows_from n cs
-rows-set n [] i e d = refl
-rows-set n (c ∷ cs) zero e d = refl
-rows-set n (c ∷ cs) (suc i) e d = let r : RowEntry = ((shape c.0).0, (n, (shape c.0).1)) in ap (λ rs. r ∷ rs) (rows-set (suc n) cs i e d)
-
-form-set : (cs : List ClassEntry) (i j : ℕ) (e : Entry) (d : ClassEntry) → (get_or (set cs i ((get_or cs i d).0, e)) j d).0 ≡ (get_or cs j d).0
-form-set [] i j e d = refl
-form-set (c ∷ cs) zero zero e d = refl
-form-set (c ∷ cs) zero (suc j) e d = refl
-form-set (c ∷ cs) (suc i) zero e d = refl
-form-set (c ∷ cs) (suc i) (suc j) e d = form-set cs i j e d
-
--- any link leaves the canonical nodes, and changes one find entry
-module _ (k : Kept) (i c : ℕ) (m : List (ℕ × ℕ)) (p : ℕ) where
-  abbrev x : Entry
-  x = record { class = c; pairs = m; proof = p; died = k.moment }
-
-  pub linked-nodes : nodes_of (with_linked k i c m p) ≡ nodes_of k
-  linked-nodes =
-      let f : ClassEntry → DTerm = λ y. nameless_node y.0 in
-      map-set f k.classes i (node_at k i, x)
-      ∙ (ap (set (map f k.classes) i) (sym (at-mapped f k.classes i (no_form, no_entry))) ∙ set-itself (map f k.classes) i (f (no_form, no_entry)))
-
-  pub linked-entries : entries_of (with_linked k i c m p) ≡ set (entries_of k) i x
-  linked-entries = map-set (λ (y : ClassEntry). y.1) k.classes i (node_at k i, x)
-
-  pub linked-length : length (with_linked k i c m p).classes ≡ length k.classes
-  linked-length = length-set_at k.classes i (node_at k i, x)
-
-  linked-rows : rows_from 0 (with_linked k i c m p).classes ≡ rows_from 0 k.classes
-  linked-rows = rows-set 0 k.classes i x (no_form, no_entry)
-
-  linked-form : (j : ℕ) → node_at (with_linked k i c m p) j ≡ node_at k j
-  linked-form j = form-set k.classes i j x (no_form, no_entry)
+use Rattle.slotted_store.proofs.Writes.{written-nodes, written-entries, written-length, written-rows, written-form}
+use Rattle.slotted_store.proofs.KeptLists.{length-mapped, equation_at-of}
 
 module _ (k : Kept) (good : Good k) (a b : Applied) (fa : IsFull (nodes_of k) a) (fb : IsFull (nodes_of k) b)
     (differ : find_class (entries_of k) a.0 ≢ find_class (entries_of k) b.0) (same : (z : ℕ) → Contains (values (find (entries_of k) a).1) z ↔ Contains (values (find (entries_of k) b).1) z)
@@ -106,23 +53,26 @@ module _ (k : Kept) (good : Good k) (a b : Applied) (fa : IsFull (nodes_of k) a)
 
   module _ (qs : List Proven) (h : p < length qs) (proves : (statement_at qs p).equation ≡ e) (sound : Sound nodes found (map entry_of qs)) (proved : IsProved nodes qs)
       (asserts : ¬ (asserted nodes (map entry_of qs) ≡ [])) (m : List (ℕ × ℕ)) (em : m ≡ turned (canonical_slots nodes e.right) e.pairs) where
+    abbrev x : Entry
+    x = record { class = e.right; pairs = m; proof = p; died = k.moment }
+
     abbrev l : Kept
     l = with_linked (with_proofs k qs) e.left e.right m p
 
     abbrev nodes_same : nodes_of l ≡ nodes
-    nodes_same = linked-nodes (with_proofs k qs) e.left e.right m p
+    nodes_same = written-nodes k e.left x
 
     pub entries_are : entries_of l ≡ newer
-    entries_are = linked-entries (with_proofs k qs) e.left e.right m p ∙ (λ i. set found e.left (record { class = e.right; pairs = em i; proof = p; died = k.moment }))
+    entries_are = written-entries k e.left x ∙ (λ i. set found e.left (record { class = e.right; pairs = em i; proof = p; died = k.moment }))
 
     lists : (Q : List DTerm → List Entry → Type 0) → Q nodes newer → Q (nodes_of l) (entries_of l)
     lists Q q = subst (λ (y : List DTerm × List Entry). Q y.0 y.1) (λ i. (sym nodes_same i, sym entries_are i)) q
 
     pub linked-good : Good l
     linked-good = record {
-      rows = good.rows ∙ sym (linked-rows (with_proofs k qs) e.left e.right m p);
-      fits = λ i r. subst Fits (sym (linked-form (with_proofs k qs) e.left e.right m p i)) (good.fits i (let n : length l.classes ≡ length k.classes = linked-length (with_proofs k qs) e.left e.right m p in omega arith));
-      numbered = λ i r. subst HasNumberedBinders (sym (linked-form (with_proofs k qs) e.left e.right m p i)) (good.numbered i (let n : length l.classes ≡ length k.classes = linked-length (with_proofs k qs) e.left e.right m p in omega arith));
+      rows = good.rows ∙ sym (written-rows k e.left x);
+      fits = λ i r. subst Fits (sym (written-form k e.left x i)) (good.fits i (let n : length l.classes ≡ length k.classes = written-length k e.left x in omega arith));
+      numbered = λ i r. subst HasNumberedBinders (sym (written-form k e.left x i)) (good.numbered i (let n : length l.classes ≡ length k.classes = written-length k e.left x in omega arith));
       sound = lists (λ ns es. Sound ns es (map entry_of qs))
           (link-sound nodes found (map entry_of qs) e p k.moment sound can good.later (let n : length (map entry_of qs) ≡ length qs = length-mapped entry_of qs in omega arith) (equation_at-of qs p ∙ proves));
       proved = subst (λ ns. IsProved ns qs) (sym nodes_same) proved;
@@ -130,17 +80,3 @@ module _ (k : Kept) (good : Good k) (a b : Applied) (fa : IsFull (nodes_of k) a)
       in_use = lists AllInUse (link-in_use nodes found good.sound.linked good.in_use e p k.moment can (found_sides-whole nodes found good.sound.linked a b fa fb (λ z. (same z).0)));
       untouched = λ none. absurd (asserts (ap (λ ns. asserted ns (map entry_of qs)) (sym nodes_same) ∙ none));
     }
-
--- a write of one class, seen as entries
-pub set_entry : {C : Type 0} (f : C → ClassEntry) (cs : List C) (i : ℕ) (old new d : C) (x : Entry) → i < length cs → old ≡ get_or cs i d → f new ≡ ((f old).0, x) → map f (set cs i new) ≡ set (map f cs) i ((slice_index_or (map f cs) i (no_form, no_entry)).0, x)
-set_entry f cs i old new d x h e n =
-    let l : i < length (map f cs) = let m : length (map f cs) ≡ length cs = length-mapped f cs in omega arith in
-    let at : slice_index_or (map f cs) i (no_form, no_entry) ≡ f old =
-    any_default (map f cs) i (no_form, no_entry) (f d) l ∙ (at-mapped f cs i d ∙ ap f (sym e)) in
-    map-set f cs i new ∙ ap (set (map f cs) i) (n ∙ ap (λ (y : ClassEntry). (y.0, x)) (sym at))
-
--- another element that is seen as the old one changes nothing that is seen
-pub set-unseen : {C D : Type 0} (f : C → D) (cs : List C) (i : ℕ) (old new d : C) → i < length cs → old ≡ get_or cs i d → f new ≡ f old → map f (set cs i new) ≡ map f cs
-set-unseen f [] i old new d l e n = absurd (omega arith)
-set-unseen f (c ∷ cs) zero old new d l e n = ap (λ y. y ∷ map f cs) (n ∙ ap f e)
-set-unseen f (c ∷ cs) (suc i) old new d l e n = ap (λ r. f c ∷ r) (set-unseen f cs i old new d (omega arith) e n)

@@ -21,10 +21,9 @@ use Rattle.slotted_proofs.specs.Equations.{to_applied}
 use Rattle.slotted_proofs.specs.Entries.{Proven}
 use Rattle.slotted_proofs.specs.Steps.{AreEntries, HasInjectiveSides, IsEntry, Matches}
 use Rattle.slotted_core.specs.Frames.{AreAlikeForms, IsCongruentIn}
-use Rattle.slotted_core.specs.Kept.{Kept, node_at, nodes_of, no_form, no_entry}
+use Rattle.slotted_store.specs.Kept.{Kept, node_at, nodes_of, no_form, no_entry}
 use Rattle.slotted_core.proofs.Frames.{forms_twins, MatchInTurn, match_at, ids_under, injective_before}
-use Rattle.slotted_core.proofs.KeptLists.{at-mapped}
-use Rattle.slotted_core.proofs.Layers.{any_default}
+use Rattle.slotted_store.proofs.KeptLists.{at-mapped, any_default}
 
 -- the canonical node of a class is that of its form
 pub canonical-at : (k : Kept) (i : ℕ) → i < length (nodes_of k) → canonical_node (nodes_of k) i ≡ nameless_node (node_at k i)

@@ -42,20 +42,21 @@ use Rattle.slotted_proofs.specs.Entries.{Proven, entry_of, IsNew, Enters, reflex
 use Rattle.slotted_proofs.specs.Proving.{IsProvable, IsProved}
 use Rattle.slotted_proofs.proofs.Entering.{entering_proved, proved_newer, reflexive_provable}
 use Rattle.slotted_core.specs.EntriesInUse.{AllInUse}
-use Rattle.slotted_core.specs.FormCode.{form_is, form_Decides}
+use Rattle.slotted_store.specs.FormCode.{form_is, form_Decides}
 use Rattle.slotted_core.specs.Graph.{IsFreshBetween}
 use Rattle.slotted_core.specs.Image.{AddsClasses}
-use Rattle.slotted_core.specs.Kept.{Kept, ClassEntry, RowEntry, no_form, no_entry, found, rows_from, node_at, nodes_of, entries_of, proofs_of, image_of, with_proofs, with_new_class, MakesClass, Good, HasFreshSlots, Adds}
-use Rattle.slotted_core.specs.Names.{between, fresh_slots, with_put, HasNumberedBinders}
+use Rattle.slotted_store.specs.Kept.{Kept, ClassEntry, RowEntry, no_form, no_entry, found, rows_from, node_at, nodes_of, entries_of, proofs_of, with_proofs, with_new_class, MakesClass}
+use Rattle.slotted_core.specs.Good.{image_of, Good, HasFreshSlots, Adds}
+use Rattle.slotted_store.specs.Names.{between, fresh_slots, with_put, HasNumberedBinders}
 use Rattle.slotted_core.specs.Nodes.{child_ids}
 use Rattle.slotted_core.proofs.Children.{Each-from_All, EachChild-node_args}
 use Rattle.slotted_core.proofs.RowLookUps.{canonical_node-in, answer, look_up-rows, none_has}
 use Rattle.slotted_core.proofs.FullIds.{length-classes}
-use Rattle.slotted_core.proofs.Images.{adds-nothing}
+use Rattle.slotted_core.proofs.Images.{adds-nothing, found_id-is}
 use Rattle.slotted_core.proofs.InUse.{new_class-in_use, new_class-lives}
-use Rattle.slotted_core.proofs.KeptLists.{length-entries_of, length-proofs_of, equation_at-of, found_id-is}
+use Rattle.slotted_store.proofs.KeptLists.{length-entries_of, length-proofs_of, equation_at-of}
 use Rattle.slotted_core.proofs.NewClass.{full-finds}
-use Rattle.slotted_core.proofs.NamePairs.{ascending-values, between-moved}
+use Rattle.slotted_store.proofs.NamePairs.{ascending-values, between-moved}
 use Rattle.slotted_core.proofs.FreshCanonicalNodes.{fits_put, shape-put, length-free, numeric-shape, put_own}
 
 -- lists with one element more

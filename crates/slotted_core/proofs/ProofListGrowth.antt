@@ -10,7 +10,8 @@ use Rattle.slotted_proofs.specs.Proving.{IsProvable}
 use Rattle.slotted_proofs.proofs.Entering.{entering_proved, entering_sound, entering_asserts, others_assert_nothing}
 use Rattle.slotted_core.specs.EntriesInUse.{FindOneClass}
 use Rattle.slotted_core.specs.Image.{StandsIn}
-use Rattle.slotted_core.specs.Kept.{Kept, nodes_of, entries_of, proofs_of, image_of, with_proofs, EntersIn, Good, Explains, Proves}
+use Rattle.slotted_store.specs.Kept.{Kept, nodes_of, entries_of, proofs_of, with_proofs, EntersIn}
+use Rattle.slotted_core.specs.Good.{image_of, Good, Explains, Proves}
 use Rattle.slotted_model.proofs.Entering.{equation-last, equation-earlier, longer-length}
 use Rattle.std.proofs.lemmas.Bool.{cases_eq}
 

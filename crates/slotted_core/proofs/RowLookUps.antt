@@ -24,10 +24,11 @@ use Rattle.slotted_model.proofs.Options.{None-Some, Some-same, option_map-some}
 use Rattle.slotted_model.proofs.Sets.{In-of_ascending}
 use Rattle.slotted_model.proofs.Maps.{map_on-agrees}
 use Rattle.slotted_model.proofs.Theory.{free_names-moved, get_or-number_in}
-use Rattle.slotted_core.specs.FormCode.{form_is, form_Decides}
-use Rattle.slotted_core.specs.Names.{between}
-use Rattle.slotted_core.specs.Kept.{Kept, ClassEntry, no_form, no_entry, found, rows_from, nodes_of, Good}
-use Rattle.slotted_core.proofs.NamePairs.{between-moved}
+use Rattle.slotted_store.specs.FormCode.{form_is, form_Decides}
+use Rattle.slotted_store.specs.Names.{between}
+use Rattle.slotted_store.specs.Kept.{Kept, ClassEntry, no_form, no_entry, found, rows_from, nodes_of}
+use Rattle.slotted_core.specs.Good.{Good}
+use Rattle.slotted_store.proofs.NamePairs.{between-moved}
 
 child_same : (d e : DTerm) → child_before d stop ≡ child_before e stop → d ≡ e
 child_same d e p =

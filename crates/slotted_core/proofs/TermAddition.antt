@@ -19,7 +19,8 @@ use Rattle.slotted_model.proofs.Growing.{Extends-same, Extends-then}
 use Rattle.slotted_model.specs.Ids.{id_of}
 use Rattle.slotted_model.proofs.Ids.{id_of-iff}
 use Rattle.slotted_core.specs.Image.{Image, AddsClasses}
-use Rattle.slotted_core.specs.Kept.{Kept, nodes_of, image_of, Good, HasFreshSlots, Adds, AddsTerm}
+use Rattle.slotted_store.specs.Kept.{Kept, nodes_of}
+use Rattle.slotted_core.specs.Good.{image_of, Good, HasFreshSlots, Adds, AddsTerm}
 use Rattle.slotted_core.specs.Nodes.{child_ids}
 use Rattle.slotted_core.specs.Places.{args_places, term_places}
 use Rattle.slotted_core.specs.Subterms.{IsSubterm}
@@ -30,7 +31,7 @@ use Rattle.slotted_core.proofs.KnownNames.{answer_full, answer_term}
 use Rattle.slotted_core.proofs.Filing.{Files, of_child, files-nothing, files-then, files-more, files-node}
 use Rattle.slotted_core.proofs.FoundParts.{children_found, node_has_id}
 use Rattle.slotted_core.proofs.Layers.{match-from, expand-filled, each_at}
-use Rattle.slotted_core.proofs.NameMaps.{length-keys, length-values}
+use Rattle.slotted_store.proofs.NameMaps.{length-keys, length-values}
 use Rattle.slotted_core.proofs.ChildReplacement.{plugs}
 use Rattle.slotted_core.proofs.Sizes.{node_fits}
 

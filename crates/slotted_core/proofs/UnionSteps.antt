@@ -26,13 +26,16 @@ use Rattle.slotted_proofs.proofs.Entering.{entries_meet, turned_provable, compos
 use Rattle.slotted_core.specs.Causes.{HaveManyNames, IsLargeClass}
 use Rattle.slotted_core.specs.EntriesInUse.{FindOneClass}
 use Rattle.slotted_core.specs.Image.{found_id, CanUnite, FoundAlike, StandsIn, Asserts, Records, asserted_in}
-use Rattle.slotted_core.specs.Kept.{Kept, find_at, nodes_of, entries_of, proofs_of, image_of, with_proofs, with_linked, EntersIn, Good, Explains, Proves, IsAsserted, Links, Agrees, asserted_for}
+use Rattle.slotted_store.specs.Kept.{Kept, find_at, nodes_of, entries_of, proofs_of, with_proofs, with_linked, EntersIn}
+use Rattle.slotted_core.specs.Good.{image_of, Good, Explains, Proves, IsAsserted, Links, Agrees, asserted_for}
 use Rattle.slotted_core.proofs.ProofListGrowth.{entered-more, nil-append, entering-proves, explains-nothing, explains-then, explains-stands, at-append}
 use Rattle.slotted_core.proofs.InUse.{found-is_full}
 use Rattle.slotted_core.proofs.EntryTexts.{records-more, records-from}
-use Rattle.slotted_core.proofs.KeptLists.{length-mapped, equation_at-of, entry_at-of, length-nodes_of, length-proofs_of, found_id-is}
+use Rattle.slotted_store.proofs.KeptLists.{length-mapped, equation_at-of, entry_at-of, length-nodes_of, length-proofs_of}
+use Rattle.slotted_store.proofs.Writes.{written-nodes, written-length}
+use Rattle.slotted_core.proofs.Images.{found_id-is}
 use Rattle.slotted_core.proofs.LargeEquations.{entries-counted, found-counted, full-counted}
-use Rattle.slotted_core.proofs.Links.{linked-nodes, linked-length, newer, newer-alike, newer-continues, entries_are, linked-good}
+use Rattle.slotted_core.proofs.Links.{newer, newer-alike, newer-continues, entries_are, linked-good}
 
 -- what is explained leaves nodes and entries
 pub explains-nodes : (k l : Kept) → Explains k l → nodes_of l ≡ nodes_of k
@@ -313,7 +316,7 @@ module _ (k : Kept) (good : Good k) (a b : Applied) (fa : IsFull (nodes_of k) a)
         last-good = linked-good k good a b fa fb differ same t os whole-enters.stands.in_range whole-says whole-sound whole-proved some_asserted w ew
 
         last-nodes : nodes_of last ≡ ns
-        last-nodes = linked-nodes (with_proofs k os) (find_class es a.0) (find_class es b.0) w t
+        last-nodes = written-nodes k (find_class es a.0) (record { class = find_class es b.0; pairs = w; proof = t; died = k.moment })
 
         last-entries : entries_of last ≡ new
         last-entries = entries_are k good a b fa fb differ same t os whole-enters.stands.in_range whole-says whole-sound whole-proved some_asserted w ew
@@ -321,7 +324,7 @@ module _ (k : Kept) (good : Good k) (a b : Applied) (fa : IsFull (nodes_of k) a)
         finds-last : (c : Applied) → IsFull ns c → found_id (image_of last) c ≡ find new c
         finds-last c full =
             let n : length ns ≡ length k.classes = length-nodes_of k in
-            let m' : length last.classes ≡ length k.classes = linked-length (with_proofs k os) (find_class es a.0) (find_class es b.0) w t in
+            let m' : length last.classes ≡ length k.classes = written-length k (find_class es a.0) (record { class = find_class es b.0; pairs = w; proof = t; died = k.moment }) in
             let h : c.0 < length ns = full.in_range in
             found_id-is last c (omega arith) ∙ ap (λ y. find y c) last-entries
 

@@ -6,8 +6,9 @@ use Rattle.slotted_slots.specs.Table.{Table}
 use Rattle.slotted_model.specs.Applied.{Applied}
 use Rattle.slotted_model.specs.Classes.{canonical_slots}
 use Rattle.slotted_proofs.specs.Entries.{asserted_entry}
-use Rattle.slotted_core.specs.Kept.{Kept, nodes_of, Good, HasFreshSlots, Unites}
-use Rattle.slotted_core.proofs.KeptLists.{length-nodes_of}
+use Rattle.slotted_store.specs.Kept.{Kept, nodes_of}
+use Rattle.slotted_core.specs.Good.{Good, HasFreshSlots, Unites}
+use Rattle.slotted_store.proofs.KeptLists.{length-nodes_of}
 
 pub unites-good : (k l : Kept) (a b : Applied) (text : Option (List ℕ)) (o : Option Bool) → Good k → Unites k l (asserted_entry a b text) a b o → Good l
 unites-good k l a b text None good u = subst Good (sym u.2) good

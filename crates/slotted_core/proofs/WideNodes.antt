@@ -25,7 +25,7 @@ use Rattle.slotted_core.specs.Canonical.{args_count, args_size, node_size}
 use Rattle.slotted_core.specs.Causes.{IsWideClass}
 use Rattle.slotted_core.specs.Frames.{AreAlikeForms}
 use Rattle.slotted_core.proofs.CanonicalTerms.{places-counted}
-use Rattle.slotted_core.proofs.NameMaps.{length-values}
+use Rattle.slotted_store.proofs.NameMaps.{length-values}
 
 -- names and binders are among names, binders and children
 counted : (d : DArgs) → args_count d ≤ args_size d

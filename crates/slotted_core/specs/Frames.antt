@@ -12,15 +12,13 @@ use Rattle.slotted_languages.specs.NodeTerm.{nameless_node}
 use Rattle.slotted_model.specs.Applied.{Applied}
 use Rattle.slotted_model.specs.Classes.{canonical_node}
 use Rattle.slotted_model.specs.Correspondence.{flipped, same_names}
-use Rattle.slotted_model.specs.ProofList.{Step}
 use Rattle.slotted_proofs.specs.declared.equation.Equation.{Equation as Sides}
 use Rattle.slotted_proofs.specs.AlikeNodes.{AreAlikeArgs, AreAlikeNodes}
-use Rattle.slotted_proofs.specs.Equations.{statement_of}
+use Rattle.slotted_proofs.specs.Equations.{to_applied}
 use Rattle.slotted_proofs.specs.StepClaims.{IsOfFull}
-use Rattle.slotted_proofs.specs.Steps.{AreEntries, HasInjectiveSides, IsReflexiveStep, IsSymmetricStep, IsTransitiveStep, Matches, by_step}
+use Rattle.slotted_proofs.specs.Steps.{AreEntries, HasInjectiveSides, IsReflexiveStep, IsSymmetricStep, IsTransitiveStep, Matches}
 use Rattle.slotted_terms.specs.Seen.{lefts, rights}
-use Rattle.slotted_core.specs.Kept.{Kept, EntersIn, nodes_of}
-use Rattle.slotted_core.specs.Nodes.{to_applied}
+use Rattle.slotted_store.specs.Kept.{Kept, nodes_of}
 
 -- the names of a map as numbers below the binders, the innermost first
 abbrev pub numbers_under : List ℕ → List (ℕ × ℕ) → List (ℕ × ℕ)
@@ -71,7 +69,3 @@ FitsTransitive k e p q = IsOfFull (nodes_of k) e × IsTransitiveStep k.proofs e 
 
 abbrev pub FitsCongruent : Kept → Sides → List ℕ → Type 0
 FitsCongruent k e parts = IsOfFull (nodes_of k) e × IsCongruentIn k e parts
-
--- the equation is entered by the step: it stands at p, and nothing else changed
-abbrev pub EntersBy : Kept → Kept → Sides → Step → ℕ → Type 0
-EntersBy k l e s p = EntersIn k l (by_step (statement_of e) s) p

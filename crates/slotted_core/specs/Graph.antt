@@ -18,7 +18,8 @@ use Rattle.slotted_terms.specs.Valid.{AllKnown}
 use Rattle.slotted_model.specs.Applied.{Applied, values}
 use Rattle.slotted_model.specs.Classes.{canonical_slots, IsFull, term_of, layer_of}
 use Rattle.slotted_model.specs.Ids.{id_of_node, id_of}
-use Rattle.slotted_core.specs.Nodes.{child_ids, to_applied}
+use Rattle.slotted_core.specs.Nodes.{child_ids}
+use Rattle.slotted_proofs.specs.Equations.{to_applied}
 use Rattle.slotted_proofs.specs.Entries.{asserted_entry}
 use Rattle.slotted_core.specs.Image.{Image, NewClassesAre, IsIdOfNode, IsIdOfSubterm, Records, IsNoUnion, image_code}
 use Rattle.slotted_core.specs.Places.{term_places, term_slots}

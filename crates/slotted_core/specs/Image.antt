@@ -12,20 +12,21 @@
 --     CanUnite g a b      a and b find different classes with the same names
 --     IsUnion g h a b y   a union answers y
 --     IsNoUnion g a b     a union is refused for now
-use Rattle.std.specs.Prelude.{◌≡◌, ℕ, ◌<◌, ◌≤◌, ◌⊎◌, List, [], ◌∷◌, ◌++◌, length, map, slice_index_or, refl, ◌≢◌, ◌↔◌, Bool, true, false, Contains, IsTrue, Option, Some, String, option_map, string_bytes}
+use Rattle.std.specs.Prelude.{◌≡◌, ℕ, ◌<◌, ◌≤◌, ◌⊎◌, List, [], ◌∷◌, ◌++◌, length, map, slice_index_or, refl, ◌≢◌, ◌↔◌, Bool, true, false, Contains, IsTrue, Some}
 use Rattle.std.specs.Coded.{Coded, code_by, coded×, coded_ℕ, coded_list}
 use Rattle.slotted_theory.specs.Term.{Term}
 use Rattle.slotted_theory.specs.Nameless.{DTerm, nameless}
 use Rattle.slotted_theory.specs.Derives.{Derives, Equal, nameless_pair}
 use Rattle.slotted_model.specs.Applied.{Applied, values}
-use Rattle.slotted_model.specs.Classes.{canonical_slots, term_of, IsFull}
+use Rattle.slotted_model.specs.Classes.{term_of, IsFull}
 use Rattle.slotted_model.specs.Correspondence.{composite}
 use Rattle.slotted_model.specs.Ids.{id_of_node, id_of}
 use Rattle.slotted_model.specs.ProofList.{Equation, ProofEntry, equation_of, equation_at, term_pair, asserted}
 use Rattle.slotted_core.specs.Subterms.{IsSubterm}
 use Rattle.slotted_core.specs.TermCode.{nameless_code}
 use Rattle.slotted_proofs.specs.Entries.{Proven, proven_at}
-use Rattle.slotted_core.specs.EntryCode.{pairs_code, proof_entry_code, proven_code}
+pub use Rattle.slotted_store.specs.Kept.{text_bytes}
+use Rattle.slotted_store.specs.EntryCode.{pairs_code, proof_entry_code, proven_code}
 
 -- the canonical node of each class, in the order of the class ids; for each class the live class that it finds, with its own slot
 -- for each slot of that; and the proof list, as the model has it and with the slots and the texts of its entries
@@ -124,10 +125,6 @@ pub record Records (g h : Image) (x : Proven) : Type 0 where
   pub more : List Proven
   pub stored : h.stored ≡ g.stored ++ more
   pub entered : StandsIn g x.statement.equation ⊎ IsNewEntry g h x
-
--- the text of a union, if there is one
-abbrev pub text_bytes : {Z : Type 0} → Option (String Z) → Option (List ℕ)
-text_bytes text = option_map string_bytes text
 
 -- the ids find different classes with the same names
 pub record CanUnite (g : Image) (a b : Applied) : Type 0 where

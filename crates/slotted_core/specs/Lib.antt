@@ -1,7 +1,4 @@
-pub mod FormCode
 pub mod TermCode
-pub mod EntryCode
-pub mod Names
 pub mod Nodes
 pub mod Subterms
 pub mod Places
@@ -13,7 +10,7 @@ pub mod Canonical
 pub mod Causes
 pub mod Checks
 pub mod EntriesInUse
-pub mod Kept
+pub mod Good
 pub mod Uniting
 pub mod SmallNodes
 pub mod Frames

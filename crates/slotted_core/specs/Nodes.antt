@@ -1,14 +1,10 @@
 -- The children of a node as applied ids.
 use Rattle.std.specs.Prelude.{ℕ, ◌+◌, ◌<◌, ◌≤◌, ◌⊎◌, List, [], ◌∷◌, ◌++◌, length, take, drop, slice_index, IsTrue}
 use Rattle.std.specs.List.{zip}
-use Rattle.slotted_slots.specs.declared.types.AppliedId.{AppliedId}
 use Rattle.slotted_slots.specs.Table.{Table, is_known}
 use Rattle.slotted_nodes.specs.Form.{Form, Tree, leaf, own, child, bind, scopes, children, child_place, width}
 use Rattle.slotted_model.specs.Applied.{Applied}
-
--- an applied id of the code
-abbrev pub to_applied : AppliedId → Applied
-to_applied a = (a.id.0, a.m)
+pub use Rattle.slotted_proofs.specs.Equations.{to_applied}
 
 -- the children of a tree with these names at its places, from the left
 abbrev pub ids_in : Tree → List ℕ → List Applied

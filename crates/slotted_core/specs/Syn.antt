@@ -7,7 +7,8 @@ use Rattle.slotted_model.specs.Classes.{canonical_node}
 use Rattle.slotted_core.specs.Canonical.{place_count}
 use Rattle.slotted_core.specs.Causes.{NodeRunsOut, TermRunsOut}
 use Rattle.slotted_core.specs.Graph.{Graph, MakesAtMost}
-use Rattle.slotted_core.specs.Kept.{Kept, HasFreshSlots, nodes_of}
+use Rattle.slotted_store.specs.Kept.{Kept, nodes_of}
+use Rattle.slotted_core.specs.Good.{HasFreshSlots}
 
 -- no fresh slot is left, or the canonical node of the class is too large
 abbrev pub RunsOutForNodeOf : Graph → Graph → ℕ → Type 0

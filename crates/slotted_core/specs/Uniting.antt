@@ -10,8 +10,9 @@ use Rattle.slotted_model.specs.Find.{find_class, find}
 use Rattle.slotted_model.specs.ProofList.{find_equation, turned_equation}
 use Rattle.slotted_proofs.specs.Entries.{asserted_entry}
 use Rattle.slotted_core.specs.Image.{CanUnite}
-use Rattle.slotted_core.specs.Kept.{Kept, Proves, IsAsserted, Links, Unites, asserted_for, nodes_of, entries_of, image_of}
-use Rattle.slotted_core.specs.Nodes.{to_applied}
+use Rattle.slotted_store.specs.Kept.{Kept, nodes_of, entries_of}
+use Rattle.slotted_core.specs.Good.{Proves, IsAsserted, Links, Unites, asserted_for, image_of}
+use Rattle.slotted_proofs.specs.Equations.{to_applied}
 
 -- the equation of what the find of a class says stands at p
 abbrev pub ProvesFind : Kept → Kept → ℕ → ℕ → Type 0

@@ -10,23 +10,25 @@ ghost use Rattle.slotted_model.specs.ProofList.{Proved};
 ghost use Rattle.slotted_proofs.specs.Entries.{explicit_numbers};
 ghost use Rattle.slotted_terms.specs.Valid.{IsValidTerm};
 ghost use Rattle.slotted_core.specs.Image.{no_classes, FoundAlike, SaysEqual, SaysDerivable, SaysTerms};
-ghost use Rattle.slotted_core.specs.Image.{AddsClasses, IsUnion, text_bytes};
+ghost use Rattle.slotted_core.specs.Image.{AddsClasses, IsUnion};
+ghost use Rattle.slotted_store.specs.Kept.{text_bytes};
 ghost use Rattle.slotted_core.specs.Graph.{IsValidId, IsValidNode, id_of_form, id_of_term, StandsForNode, OnlyReads};
 ghost use Rattle.slotted_core.specs.Graph.{MakesClassWhereNone, FilesOnlyNode, FilesOnlySubterms};
 ghost use Rattle.slotted_core.specs.Graph.{RecordsUnion, IsRefusedForNow, MakesAtMost, RunsOutIn, RunsOutForTerm};
 ghost use Rattle.slotted_core.specs.Causes.{HaveManyNames};
-ghost use Rattle.slotted_core.specs.Nodes.{to_applied};
+ghost use Rattle.slotted_proofs.specs.Equations.{to_applied};
 ghost use Rattle.slotted_core.specs.Places.{term_slots};
 ghost use Rattle.slotted_core.specs.Reads.{AnswersTerm, NodesAreRead};
 ghost use Rattle.slotted_core.specs.SmallNodes.{IsSmallValidTerm};
 
 pub mod steps;
 
-use crate::kernel::Core;
 use crate::terms::is_valid_term;
+use crate::{adding, uniting};
 use slotted_languages::Language;
 use slotted_proofs::ProvenEq;
 use slotted_slots::{AppliedId, Error, SlotTable};
+use slotted_store::Store;
 use slotted_terms::expr::RecExpr;
 use std::alloc::Global;
 use std::marker::Model;
@@ -45,7 +47,7 @@ mod patterns;
 #[derive(Drop)]
 pub struct EGraph<L: Language, N = ()> {
     failed: bool,
-    core: Core<L>,
+    store: Store<L>,
     table: SlotTable,
     analysis: N,
     alloc: Global,
@@ -54,15 +56,15 @@ pub struct EGraph<L: Language, N = ()> {
 impl<L: Language, N> Model for EGraph<L, N> {
     ghost use Rattle.std.specs.Prelude.{IsTrue, ◌⊎◌};
     ghost use Rattle.slotted_core.specs.Graph.{Graph, graph_code};
-    ghost use Rattle.slotted_core.specs.Kept.{Good, HasFreshSlots, image_of};
+    ghost use Rattle.slotted_core.specs.Good.{Good, HasFreshSlots, image_of};
 
     ghost Value = { Graph };
 
     ghost coded = { graph_code };
 
-    ghost view = { λ s. record { failed = s.failed; table = s.table; image = image_of s.core } };
+    ghost view = { λ s. record { failed = s.failed; table = s.table; image = image_of s.store } };
 
-    ghost invariant = { λ s. IsTrue s.failed ⊎ (Good s.core × HasFreshSlots s.table s.core) };
+    ghost invariant = { λ s. IsTrue s.failed ⊎ (Good s.store × HasFreshSlots s.table s.store) };
 }
 
 impl<L: Language, N: Drop> EGraph<L, N> {
@@ -75,7 +77,7 @@ impl<L: Language, N: Drop> EGraph<L, N> {
     {
         Ok(EGraph {
             failed: false,
-            core: Core::new(alloc),
+            store: Store::new(alloc),
             table,
             analysis,
             alloc,
@@ -113,7 +115,7 @@ impl<L: Language, N: Drop> EGraph<L, N> {
     pub fn is_valid(&self, a: &AppliedId) -> bool
         ensures { IsTrue result ↔ ((self.now.failed ≡ false) × IsValidId self.now (to_applied a.now)) }
     {
-        !self.failed && self.core.is_valid(&self.table, a)
+        !self.failed && adding::is_valid(&self.store, &self.table, a)
     }
 
     /// Whether a node is one over this graph: its slots are known, its children are valid, and it has fewer than 2^30
@@ -121,7 +123,7 @@ impl<L: Language, N: Drop> EGraph<L, N> {
     pub fn is_valid_node(&self, node: &L) -> bool
         ensures { IsTrue result ↔ ((self.now.failed ≡ false) × IsValidNode self.now (L.form node.now)) }
     {
-        !self.failed && self.core.is_valid_node(&self.table, node)
+        !self.failed && adding::is_valid_node(&self.store, &self.table, node)
     }
 
     /// Whether a term can be added: at each node the number of children is right and the own slots are known. The child ids
@@ -154,7 +156,7 @@ impl<L: Language, N: Drop> EGraph<L, N> {
         if self.failed {
             return Err(Error::Failed);
         }
-        Ok(self.core.eq(a, b))
+        Ok(self.store.eq(a, b))
     }
 
     /// The class that holds a node's shape, with the node's names put in.
@@ -172,7 +174,7 @@ impl<L: Language, N: Drop> EGraph<L, N> {
         if self.failed {
             return Err(Error::Failed);
         }
-        self.core.lookup(self.alloc, node)
+        adding::lookup(&self.store, self.alloc, node)
     }
 
     /// The class that holds a node's shape, with the node's names put in. Where there is none, a class is made, whose slots
@@ -207,7 +209,7 @@ impl<L: Language, N: Drop> EGraph<L, N> {
             return Err(Error::Failed);
         }
         self.failed = true;
-        let id = self.core.add(self.alloc, &mut self.table, &node)?;
+        let id = adding::add(&mut self.store, self.alloc, &mut self.table, &node)?;
         self.failed = false;
         Ok(id)
     }
@@ -265,7 +267,7 @@ impl<L: Language, N: Drop> EGraph<L, N> {
             return Err(Error::Failed);
         }
         self.failed = true;
-        let answer = self.core.add_expr(self.alloc, &mut self.table, term)?;
+        let answer = adding::add_expr(&mut self.store, self.alloc, &mut self.table, term)?;
         self.failed = false;
         Ok(answer)
     }
@@ -319,7 +321,7 @@ impl<L: Language, N: Drop> EGraph<L, N> {
             return Err(Error::Failed);
         }
         self.failed = true;
-        let answer = self.core.union(self.alloc, l, r, text)?;
+        let answer = uniting::union(&mut self.store, self.alloc, l, r, text)?;
         self.failed = false;
         match answer {
             Some(yes) => Ok(yes),
@@ -331,13 +333,13 @@ impl<L: Language, N: Drop> EGraph<L, N> {
     pub fn asserted(&self) -> &[ProvenEq]
         ensures { result.now ≡ explicit_numbers self.now.image.entries }
     {
-        self.core.asserted()
+        self.store.asserted()
     }
 
     /// The number of proved equations.
     pub fn proof_count(&self) -> usize
         ensures { result ≡ length self.now.image.entries }
     {
-        self.core.proof_count()
+        self.store.proof_count()
     }
 }

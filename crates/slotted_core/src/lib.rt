@@ -2,10 +2,10 @@
 //! yes is proved, by entries that a union makes or by steps that a caller asks for. Nothing is rebuilt yet.
 #![tactic(auto)]
 
+mod adding;
+mod checking;
 mod congruence;
 pub mod egraph;
-mod finding;
-mod kernel;
 mod names;
 mod syn;
 mod terms;

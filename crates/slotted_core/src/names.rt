@@ -1,35 +1,19 @@
-//! Maps of names that a new class and an answer take.
-ghost use Rattle.std.specs.Prelude.{◌≡◌, ◌↔◌, ◌+◌, ◌<◌, ◌≤◌, ◌^◌, ℕ, length, Contains, IsTrue, IfOk, IfErr, OnOk};
+//! Maps of names that a new class takes, and what ids and nodes are tested for.
+ghost use Rattle.std.specs.Prelude.{◌≡◌, ◌↔◌, ◌+◌, ◌≤◌, ◌^◌, length, IsTrue, IfErr, OnOk};
 ghost use Rattle.slotted_theory.specs.FiniteMaps.{IsInjectiveMap};
-ghost use Rattle.slotted_slots.specs.Ascending.{IsAscending};
 ghost use Rattle.slotted_terms.specs.Valid.{AllKnown};
-ghost use Rattle.slotted_slots.specs.Error.{IsOutOfMemory};
 ghost use Rattle.slotted_slots.specs.Maps.{keys, values};
 ghost use Rattle.slotted_slots.specs.Table.{KnowsMore};
 ghost use Rattle.slotted_nodes.specs.Form.{IsSmall};
 ghost use Rattle.slotted_model.specs.Ascending.{ascending};
+ghost use Rattle.slotted_store.specs.Names.{fresh_slots};
 ghost use Rattle.slotted_core.specs.Graph.{MakesAtMost, RunsOut};
-ghost use Rattle.slotted_core.specs.Names.{between, fresh_slots, with_put};
 
 use slotted_languages::Language;
-use slotted_slots::{Error, Slot, SlotMap, SlotTable};
-use std::alloc::Global;
+use slotted_slots::{Error, SlotMap, SlotTable};
 
 /// Nodes with as many places or more are refused.
 pub(crate) const PLACES: usize = 1 << 30;
-
-// The map from the values of one map to those of another, place by place.
-pub(crate) fn map_between(alloc: Global, from: &SlotMap, to: &SlotMap) -> Result<SlotMap, Error>
-    requires { length from.now ≡ length to.now }
-    ensures ok { IfOk result (λ m. m ≡ between from.now to.now) }
-    ensures err { IfErr result IsOutOfMemory }
-{
-    let mut map = SlotMap::new(alloc);
-    for i in 0..from.len() {
-        map.insert(from.value_at(i), to.value_at(i))?;
-    }
-    Ok(map)
-}
 
 // Puts a fresh slot in the place of each value.
 pub(crate) fn renew_values(map: &mut SlotMap, table: &mut SlotTable) -> Result<(), Error>
@@ -46,17 +30,6 @@ pub(crate) fn renew_values(map: &mut SlotMap, table: &mut SlotTable) -> Result<(
         map.set_value_at(i, slot);
     }
     Ok(())
-}
-
-// Puts the value of each key in the places that have the key.
-pub(crate) fn put_at_places<L: Language>(node: &mut L, map: &SlotMap)
-    requires { IsSmall (L.form node.old) }
-    ensures { L.form node.new ≡ with_put map.now (L.form node.old) }
-{
-    for i in 0..node.slot_count() {
-        let name = node.slot(i);
-        node.set_slot(i, map.get(name).unwrap_or(name));
-    }
 }
 
 // Whether the values of one map, which are all different, are the keys of the other.
@@ -98,35 +71,4 @@ pub(crate) fn places_are_known<L: Language>(table: &SlotTable, node: &L) -> bool
         }
     }
     true
-}
-
-// Whether the slot is a value of the map.
-fn has_value(map: &SlotMap, slot: Slot) -> bool
-    ensures { IsTrue result ↔ Contains (values map.now) slot }
-{
-    for i in 0..map.len() {
-        if map.value_at(i) == slot {
-            return true;
-        }
-    }
-    false
-}
-
-// Whether each value of the first map is one of the other.
-fn has_values_of(map: &SlotMap, other: &SlotMap) -> bool
-    ensures { IsTrue result ↔ ((x : ℕ) → Contains (values map.now) x → Contains (values other.now) x) }
-{
-    for i in 0..map.len() {
-        if !has_value(other, map.value_at(i)) {
-            return false;
-        }
-    }
-    true
-}
-
-// Whether two maps have the same values.
-pub(crate) fn have_same_values(left: &SlotMap, right: &SlotMap) -> bool
-    ensures { IsTrue result ↔ ((x : ℕ) → Contains (values left.now) x ↔ Contains (values right.now) x) }
-{
-    has_values_of(left, right) && has_values_of(right, left)
 }

@@ -8,67 +8,72 @@ ghost use Rattle.slotted_terms.specs.Valid.{AllKnown, IsValidTerm};
 ghost use Rattle.slotted_model.specs.Classes.{IsFull, term_of};
 ghost use Rattle.slotted_core.specs.Canonical.{IsNodeOf, IsBeside};
 ghost use Rattle.slotted_core.specs.Causes.{NodeRunsOut, TermRunsOut};
-ghost use Rattle.slotted_core.specs.Kept.{Good, nodes_of};
-ghost use Rattle.slotted_core.specs.Nodes.{child_ids, to_applied};
+ghost use Rattle.slotted_core.specs.Good.{Good};
+ghost use Rattle.slotted_store.specs.Kept.{nodes_of};
+ghost use Rattle.slotted_core.specs.Nodes.{child_ids};
+ghost use Rattle.slotted_proofs.specs.Equations.{to_applied};
 ghost use Rattle.slotted_core.specs.Syn.{KnowsSlotsAnd, MakesByPlaces};
 
-use crate::kernel::Core;
 use slotted_languages::Language;
 use slotted_slots::{AppliedId, Error, SlotTable};
+use slotted_store::Store;
 use slotted_terms::expr::RecExpr;
 use std::alloc::Global;
 
-impl<L: Language> Core<L> {
-    /// The node that a class was made with, with the id's names put in.
-    pub fn syn_node(&self, alloc: Global, table: &mut SlotTable, a: &AppliedId) -> Result<L, Error>
-        requires good { Good self.now }
-        requires full { IsFull (nodes_of self.now) (to_applied a.now) }
-        ensures node { IfOk result (λ n. IsNodeOf (nodes_of self.now) (to_applied a.now) (L.form n)) }
+/// The node that a class was made with, with the id's names put in.
+pub(crate) fn syn_node<L: Language>(
+    store: &Store<L>,
+    alloc: Global,
+    table: &mut SlotTable,
+    a: &AppliedId,
+) -> Result<L, Error>
+    requires good { Good store.now }
+    requires full { IsFull (nodes_of store.now) (to_applied a.now) }
+    ensures node { IfOk result (λ n. IsNodeOf (nodes_of store.now) (to_applied a.now) (L.form n)) }
 
-        // Its children are full, its places can be numbered, and the table knows its names if it knew those that are put in.
-        ensures children { IfOk result (λ n. All (IsFull (nodes_of self.now)) (child_ids (L.form n))) }
-        ensures small { IfOk result (λ n. IsSmall (L.form n)) }
-        ensures known { IfOk result (λ n. KnowsSlotsAnd table.old self.now a.now.m → AllKnown table.new (L.form n).names) }
+    // Its children are full, its places can be numbered, and the table knows its names if it knew those that are put in.
+    ensures children { IfOk result (λ n. All (IsFull (nodes_of store.now)) (child_ids (L.form n))) }
+    ensures small { IfOk result (λ n. IsSmall (L.form n)) }
+    ensures known { IfOk result (λ n. KnowsSlotsAnd table.old store.now a.now.m → AllKnown table.new (L.form n).names) }
 
-        ensures takes { MakesByPlaces self.now a.now.id.0 a.now.m table.old table.new }
-        ensures more { KnowsMore table.old table.new }
-        ensures kept { table.new.names ≡ table.old.names }
-        ensures full { IsErrOf result Error.OutOfSlots → NodeRunsOut (nodes_of self.now) a.now.id.0 table.new }
-        ensures only { IfErr result IsShortage }
-    {
-        self.node_of(a.id.0).apply_slotmap(alloc, &a.m, table)
+    ensures takes { MakesByPlaces store.now a.now.id.0 a.now.m table.old table.new }
+    ensures more { KnowsMore table.old table.new }
+    ensures kept { table.new.names ≡ table.old.names }
+    ensures full { IsErrOf result Error.OutOfSlots → NodeRunsOut (nodes_of store.now) a.now.id.0 table.new }
+    ensures only { IfErr result IsShortage }
+{
+    store.node_of(a.id.0).apply_slotmap(alloc, &a.m, table)
+}
+
+/// The term that an id stands for: the node that its class was made with, over the terms of its children.
+pub(crate) fn syn_expr<L: Language>(
+    store: &Store<L>,
+    alloc: Global,
+    table: &mut SlotTable,
+    a: &AppliedId,
+) -> Result<RecExpr<L>, Error>
+    requires good { Good store.now }
+    requires full { IsFull (nodes_of store.now) (to_applied a.now) }
+    ensures term { IfOk result (λ t. nameless t ≡ term_of (nodes_of store.now) (to_applied a.now)) }
+
+    // It can be added to a graph over the table, if that knew the names that are put in.
+    ensures operator { IfOk result (λ t. 0 < t.op) }
+    ensures valid { IfOk result (λ t. KnowsSlotsAnd table.old store.now a.now.m → IsValidTerm table.new t) }
+
+    ensures more { KnowsMore table.old table.new }
+    ensures kept { table.new.names ≡ table.old.names }
+    ensures full { IsErrOf result Error.OutOfSlots → TermRunsOut (nodes_of store.now) a.now.id.0 table.new }
+    ensures only { IfErr result IsShortage }
+{
+    let mut node = syn_node(store, alloc, table, a)?;
+    let mut children = Vec::new(alloc);
+    for k in 0..node.applied_id_count() {
+        let child = node.applied_id(k).copy(alloc)?;
+        let term = syn_expr(store, alloc, table, &child)?;
+        children.push(term)?;
     }
-
-    /// The term that an id stands for: the node that its class was made with, over the terms of its children.
-    pub fn syn_expr(
-        &self,
-        alloc: Global,
-        table: &mut SlotTable,
-        a: &AppliedId,
-    ) -> Result<RecExpr<L>, Error>
-        requires good { Good self.now }
-        requires full { IsFull (nodes_of self.now) (to_applied a.now) }
-        ensures term { IfOk result (λ t. nameless t ≡ term_of (nodes_of self.now) (to_applied a.now)) }
-
-        // It can be added to a graph over the table, if that knew the names that are put in.
-        ensures operator { IfOk result (λ t. 0 < t.op) }
-        ensures valid { IfOk result (λ t. KnowsSlotsAnd table.old self.now a.now.m → IsValidTerm table.new t) }
-
-        ensures more { KnowsMore table.old table.new }
-        ensures kept { table.new.names ≡ table.old.names }
-        ensures full { IsErrOf result Error.OutOfSlots → TermRunsOut (nodes_of self.now) a.now.id.0 table.new }
-        ensures only { IfErr result IsShortage }
-    {
-        let mut node = self.syn_node(alloc, table, a)?;
-        let mut children = Vec::new(alloc);
-        for k in 0..node.applied_id_count() {
-            let child = node.applied_id(k).copy(alloc)?;
-            let term = self.syn_expr(alloc, table, &child)?;
-            children.push(term)?;
-        }
-        forget_children(alloc, &mut node);
-        Ok(RecExpr { node, children })
-    }
+    forget_children(alloc, &mut node);
+    Ok(RecExpr { node, children })
 }
 
 // Puts the null id in the place of each child.

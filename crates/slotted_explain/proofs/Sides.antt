@@ -13,7 +13,7 @@ use Rattle.slotted_model.specs.ProofList.{Equation}
 use Rattle.slotted_proofs.specs.Proving.{IsProved}
 use Rattle.slotted_core.specs.Image.{Image}
 use Rattle.slotted_core.specs.Graph.{Graph, IsValidId}
-use Rattle.slotted_core.proofs.KeptLists.{equation_at-of, length-mapped}
+use Rattle.slotted_store.proofs.KeptLists.{equation_at-of, length-mapped}
 
 -- numeric names are known to each table
 numeric_known : (t : Table) (m : List (ℕ × ℕ)) → AllKnown t (values (with_values numeric_slot m))

@@ -2,7 +2,7 @@
 ghost use Rattle.std.specs.Prelude.{All, ◌<◌, length, string_bytes, IsTrue, IfOk, OnOk, IfErr, IsErrOf};
 ghost use Rattle.slotted_slots.specs.Error.{IsShortage};
 ghost use Rattle.slotted_core.specs.Graph.{IsValidId, OnlyTakesSlots};
-ghost use Rattle.slotted_core.specs.Nodes.{to_applied};
+ghost use Rattle.slotted_proofs.specs.Equations.{to_applied};
 ghost use Rattle.slotted_core.specs.Syn.{RunsOutForTermOf};
 ghost use Rattle.slotted_explain.specs.Printed.{AppendsLine, ArePrinted, IsSideText, LineRunsOut, LinesRunOut};
 

@@ -28,7 +28,7 @@ use Rattle.slotted_model.proofs.HoldingTrees.{session-holds, sessions-terms}
 use Rattle.slotted_model.proofs.Parts.{first_name, after_first}
 use Rattle.slotted_model.proofs.SessionExample.{with_filed, files, files_apart, one_row, two_rows}
 
-abbrev h_of : ℕ → ℕ → DTerm
+abbrev pub h_of : ℕ → ℕ → DTerm
 h_of x y = node 3 [] (place x (place y stop))
 
 abbrev app_of : ℕ → ℕ → DTerm
@@ -38,16 +38,16 @@ app_of x y = node 5 [] (child_before (h_of x y) (place 0 stop))
 abbrev app_over : ℕ → ℕ → DTerm
 app_over x y = node 5 [] (child_before (as_term (0, (0, x) ∷ (1, y) ∷ [])) (place 0 stop))
 
-abbrev exchanged : Equation
+abbrev pub exchanged : Equation
 exchanged = record { left = 0; right = 0; pairs = (0, 1) ∷ (1, 0) ∷ [] }
 
-abbrev symmetry : Symmetry
+abbrev pub symmetry : Symmetry
 symmetry = record { class = 0; slots = 0 ∷ 1 ∷ []; pairs = (0, 1) ∷ (1, 0) ∷ []; proof = 1 }
 
-abbrev with_h : State
+abbrev pub with_h : State
 with_h = with_filed nothing (h_of 0 1)
 
-abbrev open_state : State
+abbrev pub open_state : State
 open_state = with_symmetry (with_assertion with_h exchanged) symmetry
 
 abbrev with_one : State
@@ -64,7 +64,7 @@ ones_equal = record { left = 1; right = 2; pairs = (0, 0) ∷ (1, 1) ∷ [] }
 abbrev united : State
 united = linked_state (with_assertion graph ones_equal) ones_equal 4 0 []
 
-h_is_new : IsNew [] (h_of 0 1)
+pub h_is_new : IsNew [] (h_of 0 1)
 h_is_new = record { operator = omega arith; children = tt; shape_is_new = λ i l p. omega arith }
 
 two_differ : {x y : ℕ} → x ≢ y → ◌≡◌ x y ⊎ ⊥ → ⊥
@@ -72,7 +72,7 @@ two_differ n (inl e) = n e
 two_differ n (inr k) = k
 
 -- ids of h, and of both classes of app, with the names 0 and 1
-h_full : (x y : ℕ) → x ≢ y → IsFull with_h.nodes (0, (0, x) ∷ (1, y) ∷ [])
+pub h_full : (x y : ℕ) → x ≢ y → IsFull with_h.nodes (0, (0, x) ∷ (1, y) ∷ [])
 h_full x y n = record { in_range = omega arith; slots = refl; injective = (two_differ n, (λ k. k, tt)) }
 
 one_full : IsFull graph.nodes (1, (0, 0) ∷ (1, 1) ∷ [])
@@ -104,7 +104,7 @@ other_is_new = record { operator = omega arith; children = (((0, (0, 1) ∷ (1, 
 abbrev first_partner : List (ℕ × ℕ) → ℕ
 first_partner m = (get_or m 0 (0, 0)).1
 
-opens : Asserts with_h (0, (0, 0) ∷ (1, 1) ∷ []) (0, (0, 1) ∷ (1, 0) ∷ []) open_state
+pub opens : Asserts with_h (0, (0, 0) ∷ (1, 1) ∷ []) (0, (0, 1) ∷ (1, 0) ∷ []) open_state
 opens = is_new other (lists 1 refl (record { left = λ s c. c; right = both }) moves (λ y c. absurd (Contains-nil y c)) (omega arith, refl)) starts_run
     (refl, one_row (IsAligned open_state) symmetry refl)
   where

@@ -16,3 +16,12 @@ pub mod EqualInstances
 pub mod ValidValues
 pub mod Running
 pub mod ClassIds
+pub mod Asking
+pub mod Extending
+pub mod Calling
+pub mod Applying
+pub mod Stopping
+pub mod Turns
+pub mod RunnerExamples
+pub mod RuleExamples
+pub mod Rewriting

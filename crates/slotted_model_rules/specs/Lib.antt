@@ -6,3 +6,8 @@ pub mod PatternClaims
 pub mod Matcher
 pub mod Complete
 pub mod MatcherClaims
+pub mod Conditions
+pub mod Rules
+pub mod RuleClaims
+pub mod Runners
+pub mod RunnerClaims

@@ -10,10 +10,11 @@ ghost use Rattle.slotted_proofs.specs.Proving.{IsProved};
 ghost use Rattle.slotted_core.specs.Canonical.{IsNodeOf};
 ghost use Rattle.slotted_core.specs.Graph.{IsValidId, IsValidNode, OnlyTakesSlots};
 ghost use Rattle.slotted_core.specs.Leaves.{EntriesFollow};
-ghost use Rattle.slotted_core.specs.Nodes.{to_applied};
+ghost use Rattle.slotted_proofs.specs.Equations.{to_applied};
 ghost use Rattle.slotted_core.specs.Syn.{MakesForNodeOf, RunsOutForNodeOf, RunsOutForTermOf};
 
 use super::EGraph;
+use crate::syn;
 use slotted_languages::Language;
 use slotted_proofs::{ProofList, ProvenEq};
 use slotted_slots::{AppliedId, Error};
@@ -39,7 +40,7 @@ impl<L: Language, N: Drop> EGraph<L, N> {
         if self.failed {
             return Err(Error::Failed);
         }
-        self.core.syn_node(self.alloc, &mut self.table, a)
+        syn::syn_node(&self.store, self.alloc, &mut self.table, a)
     }
 
     /// The term that an id stands for, the canonical one: the node that its class was made with, over the terms of the node's
@@ -60,7 +61,7 @@ impl<L: Language, N: Drop> EGraph<L, N> {
         if self.failed {
             return Err(Error::Failed);
         }
-        self.core.syn_expr(self.alloc, &mut self.table, a)
+        syn::syn_expr(&self.store, self.alloc, &mut self.table, a)
     }
 
     /// The proved equations, with their steps and texts.
@@ -76,7 +77,7 @@ impl<L: Language, N: Drop> EGraph<L, N> {
         // So what an entry says follows from the explicit leaves of its tree.
         ensures leaves { IsTrue self.now.failed ⊎ EntriesFollow self.now.image }
     {
-        self.core.proofs()
+        self.store.proofs()
     }
 
     /// Whether the number is that of a proved equation. It takes no memory.

@@ -4,6 +4,7 @@ ghost use Rattle.slotted_model.specs.ProofList.{Step, reflexive, symmetric, tran
 ghost use Rattle.slotted_proofs.specs.Steps.{IsRefusal};
 ghost use Rattle.slotted_core.specs.Checks.{Fits, CanRunOut, Accepts, IsDerivable, FollowsFromEntry, entry_by};
 
+use crate::checking;
 use crate::egraph::EGraph;
 use slotted_languages::Language;
 use slotted_proofs::{
@@ -53,7 +54,7 @@ impl Check for ReflexivityProof {
         if graph.failed {
             return Err(Error::Failed);
         }
-        graph.core.check_reflexive(graph.alloc, equation)
+        checking::check_reflexive(&mut graph.store, graph.alloc, equation)
     }
 }
 
@@ -68,7 +69,7 @@ impl Check for SymmetryProof {
         if graph.failed {
             return Err(Error::Failed);
         }
-        graph.core.check_symmetric(graph.alloc, equation, self.0)
+        checking::check_symmetric(&mut graph.store, graph.alloc, equation, self.0)
     }
 }
 
@@ -83,9 +84,7 @@ impl Check for TransitivityProof {
         if graph.failed {
             return Err(Error::Failed);
         }
-        graph
-            .core
-            .check_transitive(graph.alloc, equation, self.0, self.1)
+        checking::check_transitive(&mut graph.store, graph.alloc, equation, self.0, self.1)
     }
 }
 
@@ -101,6 +100,6 @@ impl Check for CongruenceProof {
             return Err(Error::Failed);
         }
         let copy = self.copy(graph.alloc)?;
-        graph.core.check_congruent(graph.alloc, equation, copy.0)
+        checking::check_congruent(&mut graph.store, graph.alloc, equation, copy.0)
     }
 }

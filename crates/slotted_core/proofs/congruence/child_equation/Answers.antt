@@ -1,8 +1,7 @@
 use Rattle.std.proofs.Common.{subst}
-use Rattle.slotted_proofs.specs.Equations.{Statement, AreSides}
+use Rattle.slotted_proofs.specs.Equations.{Statement, AreSides, to_applied}
 use Rattle.slotted_proofs.specs.Equations as proofs
 use Rattle.slotted_terms.specs.Seen.{lefts, rights}
-use Rattle.slotted_core.specs.Nodes.{to_applied}
 use Rattle.slotted_core.proofs.Partners.{partners_partial, partners_equality, written_matches, written_injective}
 use Rattle.slotted_core.proofs.congruence.child_equation.Goals as goal
 

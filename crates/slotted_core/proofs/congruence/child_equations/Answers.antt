@@ -3,10 +3,10 @@ use Rattle.std.specs.Prelude.{IfSome, IfNone}
 use Rattle.std.proofs.lemmas.Bool.{false≢true}
 use Rattle.slotted_nodes.specs.Form.{children}
 use Rattle.slotted_terms.specs.Seen.{lefts, rights, above, AreAlike, AreOutlines, owns_seen}
-use Rattle.slotted_core.specs.Nodes.{to_applied}
+use Rattle.slotted_proofs.specs.Equations.{to_applied}
 use Rattle.slotted_core.proofs.Children.{child_is}
 use Rattle.slotted_core.proofs.Frames.{ids_under, first_match-pushed, forms_alike, forms_owns, same_count, frames_alike, child_matches, left_apart, right_apart, more_apart, first_match-none}
-use Rattle.slotted_core.proofs.NameMaps.{all_differ-iff}
+use Rattle.slotted_store.proofs.NameMaps.{all_differ-iff}
 use Rattle.slotted_core.proofs.WideNodes.{child_fits_size, one_is_wide, outline_fits_size}
 use Rattle.slotted_core.proofs.congruence.child_equations.Goals as goal
 

@@ -2,7 +2,7 @@ use Rattle.std.proofs.Common.{◌≡◌, ◌<◌, ◌≤◌, ◌+◌, ◌^◌, �
 use Rattle.std.specs.Prelude.{slice_set}
 use Rattle.slotted_slots.specs.Maps.{keys, values, keys-with_value_at, values-with_value_at}
 use Rattle.slotted_slots.specs.Table.{Table, fresh_slot}
-use Rattle.slotted_core.proofs.NameMaps.{fresh_slots-step, length-values}
+use Rattle.slotted_store.proofs.NameMaps.{fresh_slots-step, length-values}
 use Rattle.slotted_core.proofs.names.renew_values.Goals as goal
 
 pub loop-i-preserved : goal.loop-i-preserved

@@ -1,7 +1,7 @@
 use Rattle.std.proofs.Common.{◌≡◌, ◌<◌, ◌≤◌, ◌+◌, ◌^◌, ◌++◌, drop}
 use Rattle.slotted_slots.specs.Maps.{keys, values}
 use Rattle.slotted_slots.specs.Table.{KnowsMore}
-use Rattle.slotted_core.specs.Names.{fresh_slots}
+use Rattle.slotted_store.specs.Names.{fresh_slots}
 use Rattle.slotted_core.proofs.names.renew_values.Given as goal
 
 -- fresh slots so far, and then the old values

@@ -3,8 +3,8 @@ use Rattle.std.specs.Prelude.{IsSome}
 use Rattle.std.proofs.lemmas.Bool.{false≢true}
 use Rattle.std.proofs.lemmas.Option.{get_or_from_slice_get}
 use Rattle.slotted_slots.specs.Maps.{values, value_of}
-use Rattle.slotted_core.proofs.DistinctValues.{values_keys, keys_values, keys_as_many}
-use Rattle.slotted_core.proofs.NameMaps.{length-values, length-keys, below_next}
+use Rattle.slotted_store.proofs.DistinctValues.{values_keys, keys_values, keys_as_many}
+use Rattle.slotted_store.proofs.NameMaps.{length-values, length-keys, below_next}
 use Rattle.slotted_core.proofs.names.values_are_keys.Goals as goal
 
 pub returns-then-len : goal.returns-then-len

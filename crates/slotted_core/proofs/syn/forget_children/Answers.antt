@@ -1,7 +1,7 @@
 use Rattle.std.proofs.Common.{arith, sym, subst}
 use Rattle.slotted_nodes.specs.Form.{Form}
 use Rattle.slotted_core.specs.Canonical.{IsBeside}
-use Rattle.slotted_core.specs.Nodes.{to_applied}
+use Rattle.slotted_proofs.specs.Equations.{to_applied}
 use Rattle.slotted_core.proofs.CanonicalTerms.{beside-itself, beside-step}
 use Rattle.slotted_core.proofs.syn.forget_children.Goals as goal
 

@@ -3,13 +3,12 @@ use Rattle.std.proofs.Common.{◌≡◌, ◌∙◌, ℕ, List, [], ◌∷◌, �
 use Rattle.std.specs.Prelude.{IfSome}
 use Rattle.slotted_model.specs.Classes.{term_of}
 use Rattle.slotted_model.specs.ProofList.{Step}
-use Rattle.slotted_proofs.specs.Equations.{IsWritten}
+use Rattle.slotted_proofs.specs.Equations.{IsWritten, to_applied}
 use Rattle.slotted_proofs.specs.Entries.{Proven, proven_at, statement_at, step_of, text_of}
 use Rattle.slotted_proofs.specs.Proving.{IsProved}
 use Rattle.slotted_proofs.specs.Reasons.{reason_text}
 use Rattle.slotted_core.specs.Image.{Image}
 use Rattle.slotted_core.specs.Causes.{HasLargePart}
-use Rattle.slotted_core.specs.Nodes.{to_applied}
 use Rattle.slotted_model.specs.Applied.{Applied}
 use Rattle.slotted_explain.specs.Printed.{IsLine}
 use Rattle.slotted_explain.proofs.Sides.{left_valid, right_valid}

@@ -4,8 +4,8 @@ use Rattle.std.proofs.lemmas.Bool.{false≢true}
 use Rattle.slotted_slots.specs.Table.{Table, is_known}
 use Rattle.slotted_terms.specs.Valid.{AllKnown}
 use Rattle.slotted_core.specs.Graph.{Graph}
-use Rattle.slotted_core.specs.Kept.{nodes_of}
-use Rattle.slotted_core.specs.Nodes.{to_applied}
+use Rattle.slotted_store.specs.Kept.{nodes_of}
+use Rattle.slotted_proofs.specs.Equations.{to_applied}
 use Rattle.slotted_core.proofs.KnownNames.{answer_full, answer_term, answer_names}
 use Rattle.slotted_core.proofs.egraph.EGraph.add.Goals as goal
 
@@ -20,15 +20,15 @@ returns-clause-valid g c =
       | inr v ↦ subst (λ (t : Table). AllKnown t f.names) (sym table) v.known
     ] in
     record {
-      full = answer_full (nodes_of c.add.new.self) f a adds.found;
-      known = answer_names (nodes_of c.add.new.self) f a adds.found (g.met.L.LanguageChildren.fits c.args.node) (λ s. IsTrue (is_known c.add.new.table s))
+      full = answer_full (nodes_of c.add.new.store) f a adds.found;
+      known = answer_names (nodes_of c.add.new.store) f a adds.found (g.met.L.LanguageChildren.fits c.args.node) (λ s. IsTrue (is_known c.add.new.table s))
           (λ k d l. c.add.ensures.more _ (known k d l));
     }
 
 pub returns-clause-term : goal.returns-clause-term
 returns-clause-term g c =
     let adds = c.in_ok-id.ensures.ok in
-    answer_term (nodes_of c.add.new.self) (g.L.LanguageChildren.form c.args.node) (to_applied c.in_ok-id.id) adds.found adds.good.sound.canonical
+    answer_term (nodes_of c.add.new.store) (g.L.LanguageChildren.form c.args.node) (to_applied c.in_ok-id.id) adds.found adds.good.sound.canonical
 
 pub add-requires-clause-fresh_slots : goal.add-requires-clause-fresh_slots
 add-requires-clause-fresh_slots g c = elim c.self.invariant [

@@ -1,4 +1,4 @@
-use Rattle.std.proofs.Common.{◌≡◌, ◌∙◌, ap, subst, sym, inl, inr}
+use Rattle.std.proofs.Common.{◌∙◌, ap, subst, sym, inl, inr}
 use Rattle.std.specs.Prelude.{All}
 use Rattle.std.proofs.lemmas.Bool.{false≢true}
 use Rattle.slotted_slots.specs.Maps.{values}
@@ -7,7 +7,7 @@ use Rattle.slotted_terms.specs.Valid.{AllKnown}
 use Rattle.slotted_model.specs.Classes.{canonical_node, IsFull}
 use Rattle.slotted_core.specs.Graph.{Graph, MakesAtMost}
 use Rattle.slotted_core.specs.Canonical.{place_count}
-use Rattle.slotted_core.specs.Kept.{nodes_of}
+use Rattle.slotted_store.specs.Kept.{nodes_of}
 use Rattle.slotted_core.specs.Nodes.{child_ids}
 use Rattle.slotted_core.specs.Syn.{KnowsSlotsAnd}
 use Rattle.slotted_core.proofs.FreshSlots.{fresh_slots-more}
@@ -17,14 +17,14 @@ use Rattle.slotted_core.proofs.egraph.EGraph.get_syn_node.Goals as goal
 pub invariant_of-self : goal.invariant_of-self
 invariant_of-self g c = elim c.self.invariant [
   | inl h ↦ inl h
-  | inr h ↦ inr (h.0, fresh_slots-more c.self.inside.table c.syn_node.new.table c.self.inside.core c.syn_node.ensures.more h.1)
+  | inr h ↦ inr (h.0, fresh_slots-more c.self.inside.table c.syn_node.new.table c.self.inside.store c.syn_node.ensures.more h.1)
 ]
 
 pub returns-clause-valid : goal.returns-clause-valid
 returns-clause-valid g c =
     let form = g.L.LanguageChildren.form in
     let m = c.args.a.now.m in
-    let core = c.self.inside.core in
+    let core = c.self.inside.store in
     let t = c.self.inside.table in
     let u = c.syn_node.new.table in
     elim c.self.invariant [

@@ -5,7 +5,7 @@ use Rattle.std.proofs.lemmas.Result.{IfOk-weaker}
 use Rattle.slotted_slots.specs.declared.types.AppliedId.{AppliedId}
 use Rattle.slotted_model.specs.Classes.{Canonical}
 use Rattle.slotted_core.specs.Graph.{Graph, IsValidId, IsValidNode, id_of_form, StandsForNode}
-use Rattle.slotted_core.specs.Nodes.{to_applied}
+use Rattle.slotted_proofs.specs.Equations.{to_applied}
 use Rattle.slotted_core.proofs.KnownNames.{looked_up-valid, looked_up-term}
 use Rattle.slotted_core.proofs.egraph.EGraph.lookup.Goals as goal
 

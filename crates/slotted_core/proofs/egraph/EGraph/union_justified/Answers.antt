@@ -1,7 +1,7 @@
 use Rattle.std.proofs.Common.{◌∙◌, sym, inl, inr}
 use Rattle.std.specs.Prelude.{option_map, string_bytes}
 use Rattle.std.proofs.lemmas.Bool.{false≢true}
-use Rattle.slotted_core.specs.Nodes.{to_applied}
+use Rattle.slotted_proofs.specs.Equations.{to_applied}
 use Rattle.slotted_core.proofs.Unions.{unites-good, unites-fresh}
 use Rattle.slotted_core.proofs.egraph.EGraph.union_justified.Goals as goal
 
@@ -13,7 +13,7 @@ invariant_of-self-2 g c = elim c.self.invariant [
       let b = to_applied c.args.r.now in
       let text = option_map string_bytes c.args.text in
       inr (
-        unites-good c.self.inside.core c.union.new.self a b text c.in_ok-answer.answer h.0 c.in_ok-answer.ensures.ok,
-        unites-fresh c.self.inside.table c.self.inside.core c.union.new.self a b text c.in_ok-answer.answer h.1 c.in_ok-answer.ensures.ok,
+        unites-good c.self.inside.store c.union.new.store a b text c.in_ok-answer.answer h.0 c.in_ok-answer.ensures.ok,
+        unites-fresh c.self.inside.table c.self.inside.store c.union.new.store a b text c.in_ok-answer.answer h.1 c.in_ok-answer.ensures.ok,
       )
 ]

@@ -2,7 +2,7 @@
 use Rattle.std.proofs.Common.{◌∙◌, length, ap, sym, arith, inl, inr}
 use Rattle.std.proofs.lemmas.Bool.{false≢true}
 use Rattle.slotted_proofs.specs.Entries.{entry_of}
-use Rattle.slotted_core.proofs.KeptLists.{length-mapped}
+use Rattle.slotted_store.proofs.KeptLists.{length-mapped}
 use Rattle.slotted_explain.proofs.explanation.ProvenEqExplanation.to_flat_string.Goals as goal
 
 pub chain_text-requires : goal.chain_text-requires

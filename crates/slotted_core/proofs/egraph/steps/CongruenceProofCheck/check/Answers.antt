@@ -4,20 +4,21 @@ use Rattle.slotted_slots.specs.declared.error.Error.TheVariants.{BadStep}
 use Rattle.std.proofs.lemmas.Bool.{false≢true}
 use Rattle.slotted_model.specs.ProofList.{congruent}
 use Rattle.slotted_core.specs.Frames.{IsCongruentIn}
-use Rattle.slotted_core.specs.Kept.{Good, HasFreshSlots, EntersIn, nodes_of}
+use Rattle.slotted_core.specs.Good.{Good, HasFreshSlots}
+use Rattle.slotted_store.specs.Kept.{EntersIn, nodes_of}
 use Rattle.slotted_proofs.specs.Equations.{statement_of}
 use Rattle.slotted_proofs.specs.Steps.{by_step}
 use Rattle.slotted_proofs.specs.StepClaims.{IsOfFull}
-use Rattle.slotted_core.proofs.Checking.{both_ok, Checked, congruent_checked, congruent_refused, kept_good, says_refused, says_fits, says_accepted, says_derivable, says_leaves}
+use Rattle.slotted_core.proofs.AcceptedSteps.{both_ok, Checked, congruent_checked, congruent_refused, kept_good, says_refused, says_fits, says_accepted, says_derivable, says_leaves}
 use Rattle.slotted_core.proofs.egraph.steps.CongruenceProofCheck.check.Goals as goal
 
 pub invariant_of-graph : goal.invariant_of-graph
 invariant_of-graph g c =
-    let k = c.graph.inside.core in
+    let k = c.graph.inside.store in
     let e = c.args.equation.now in
     let t = c.graph.inside.table in
     let r = c.check_congruent.result in
-    let l = c.check_congruent.new.self in
+    let l = c.check_congruent.new.store in
     let ps = c.args.self.now.0.items in
     let h : Good k × HasFreshSlots t k = elim c.graph.invariant [ inl h ↦ absurd (false≢true (sym c.if-graph.false ∙ h)) | inr h ↦ h ] in
     let fits = subst (λ qs. IfOk r (λ _. IsOfFull (nodes_of k) e × IsCongruentIn k e qs)) c.in_ok-copy.ensures.ok c.check_congruent.ensures.fits in
@@ -27,11 +28,11 @@ invariant_of-graph g c =
 
 pub returns-clause-fits : goal.returns-clause-fits
 returns-clause-fits g c =
-    let k = c.graph.inside.core in
+    let k = c.graph.inside.store in
     let e = c.args.equation.now in
     let t = c.graph.inside.table in
     let r = c.check_congruent.result in
-    let l = c.check_congruent.new.self in
+    let l = c.check_congruent.new.store in
     let ps = c.args.self.now.0.items in
     let h : Good k × HasFreshSlots t k = elim c.graph.invariant [ inl h ↦ absurd (false≢true (sym c.if-graph.false ∙ h)) | inr h ↦ h ] in
     let fits = subst (λ qs. IfOk r (λ _. IsOfFull (nodes_of k) e × IsCongruentIn k e qs)) c.in_ok-copy.ensures.ok c.check_congruent.ensures.fits in
@@ -41,11 +42,11 @@ returns-clause-fits g c =
 
 pub returns-clause-refused : goal.returns-clause-refused
 returns-clause-refused g c =
-    let k = c.graph.inside.core in
+    let k = c.graph.inside.store in
     let e = c.args.equation.now in
     let t = c.graph.inside.table in
     let r = c.check_congruent.result in
-    let l = c.check_congruent.new.self in
+    let l = c.check_congruent.new.store in
     let ps = c.args.self.now.0.items in
     let h : Good k × HasFreshSlots t k = elim c.graph.invariant [ inl h ↦ absurd (false≢true (sym c.if-graph.false ∙ h)) | inr h ↦ h ] in
     let refused = subst (λ qs. IsErrOf r BadStep → ¬ (IsOfFull (nodes_of k) e × IsCongruentIn k e qs)) c.in_ok-copy.ensures.ok c.check_congruent.ensures.refused in
@@ -53,11 +54,11 @@ returns-clause-refused g c =
 
 pub returns-clause-accepted : goal.returns-clause-accepted
 returns-clause-accepted g c =
-    let k = c.graph.inside.core in
+    let k = c.graph.inside.store in
     let e = c.args.equation.now in
     let t = c.graph.inside.table in
     let r = c.check_congruent.result in
-    let l = c.check_congruent.new.self in
+    let l = c.check_congruent.new.store in
     let ps = c.args.self.now.0.items in
     let h : Good k × HasFreshSlots t k = elim c.graph.invariant [ inl h ↦ absurd (false≢true (sym c.if-graph.false ∙ h)) | inr h ↦ h ] in
     let fits = subst (λ qs. IfOk r (λ _. IsOfFull (nodes_of k) e × IsCongruentIn k e qs)) c.in_ok-copy.ensures.ok c.check_congruent.ensures.fits in
@@ -67,11 +68,11 @@ returns-clause-accepted g c =
 
 pub returns-clause-derivable : goal.returns-clause-derivable
 returns-clause-derivable g c =
-    let k = c.graph.inside.core in
+    let k = c.graph.inside.store in
     let e = c.args.equation.now in
     let t = c.graph.inside.table in
     let r = c.check_congruent.result in
-    let l = c.check_congruent.new.self in
+    let l = c.check_congruent.new.store in
     let ps = c.args.self.now.0.items in
     let h : Good k × HasFreshSlots t k = elim c.graph.invariant [ inl h ↦ absurd (false≢true (sym c.if-graph.false ∙ h)) | inr h ↦ h ] in
     let fits = subst (λ qs. IfOk r (λ _. IsOfFull (nodes_of k) e × IsCongruentIn k e qs)) c.in_ok-copy.ensures.ok c.check_congruent.ensures.fits in
@@ -81,11 +82,11 @@ returns-clause-derivable g c =
 
 pub returns-clause-leaves : goal.returns-clause-leaves
 returns-clause-leaves g c =
-    let k = c.graph.inside.core in
+    let k = c.graph.inside.store in
     let e = c.args.equation.now in
     let t = c.graph.inside.table in
     let r = c.check_congruent.result in
-    let l = c.check_congruent.new.self in
+    let l = c.check_congruent.new.store in
     let ps = c.args.self.now.0.items in
     let h : Good k × HasFreshSlots t k = elim c.graph.invariant [ inl h ↦ absurd (false≢true (sym c.if-graph.false ∙ h)) | inr h ↦ h ] in
     let fits = subst (λ qs. IfOk r (λ _. IsOfFull (nodes_of k) e × IsCongruentIn k e qs)) c.in_ok-copy.ensures.ok c.check_congruent.ensures.fits in

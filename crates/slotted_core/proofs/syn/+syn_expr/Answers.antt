@@ -1,0 +1,93 @@
+-- A child is earlier and full, and the terms of the children make that of the id.
+use Rattle.std.proofs.Common.{◌≡◌, ◌<◌, ◌+◌, ◌∙◌, [], length, ap, refl, sym, subst, inl, inr, arith, rules}
+use Rattle.std.specs.Prelude.{slice_index_or, All, IsTrue}
+use Rattle.std.proofs.lemmas.List.Elements.{All-push}
+use Rattle.slotted_theory.specs.Term.{Term}
+use Rattle.slotted_slots.specs.Maps.{values}
+use Rattle.slotted_slots.specs.Table.{is_known}
+use Rattle.slotted_terms.specs.Valid.{AllKnown, IsValidTerm}
+use Rattle.std.proofs.lemmas.List.{length_push}
+use Rattle.slotted_nodes.specs.Form.{Form, children}
+use Rattle.slotted_model.specs.Applied.{Applied}
+use Rattle.slotted_store.specs.Kept.{nodes_of}
+use Rattle.slotted_proofs.specs.Equations.{to_applied}
+use Rattle.slotted_core.specs.Nodes.{child_ids}
+use Rattle.slotted_core.proofs.Children.{child_is, length-ids}
+use Rattle.slotted_core.proofs.FreshSlots.{fresh_slots-more}
+use Rattle.slotted_core.proofs.GivenNodes.{child_names-known, valid-push, valid-beside}
+use Rattle.slotted_core.proofs.LargeParts.{large_child_part}
+use Rattle.slotted_core.proofs.CanonicalTerms.{IsBelow, AreTermsOf, children-below, canonical-term, terms-step}
+use Rattle.slotted_core.proofs.syn.+syn_expr.Goals as goal
+
+pub syn_expr-requires : goal.syn_expr-requires
+syn_expr-requires g t c =
+    let nodes = nodes_of c.args.store.now in
+    let a = to_applied c.args.a.now in
+    let f : Form = g.L.LanguageChildren.form c.in_ok-node.node in
+    let lt : c.loop-k.k < length (children f.tree) = omega (arith, c.loop-k-test.true, c.applied_id_count-k-end.ensures) in
+    let is = ap to_applied c.in_ok-child.ensures.ok ∙ child_is f c.loop-k.k (0, []) (to_applied c.applied_id.result.now) lt c.applied_id.ensures.id c.applied_id.ensures.keys c.applied_id.ensures.names in
+    let below : IsBelow nodes a.0 (to_applied c.in_ok-child.child) = subst (IsBelow nodes a.0) (sym is)
+    (children-below nodes c.requires.good.sound.canonical a c.requires.full f (g.met.L.LanguageChildren.fits c.in_ok-node.node) c.in_ok-node.ensures.node c.loop-k.k (0, []) lt) in
+    λ κs h. (omega (arith, below.0, c.decreases), (search rules, (c.requires.good, below.1)))
+
+pub loop-k-preserved : goal.loop-k-preserved
+loop-k-preserved g t c =
+    let nodes = nodes_of c.args.store.now in
+    let f : Form = g.L.LanguageChildren.form c.in_ok-node.node in
+    let us = c.loop-k.children.items in
+    let u = c.in_ok-term.term in
+    let lt : c.loop-k.k < length (children f.tree) = omega (arith, c.loop-k-test.true, c.applied_id_count-k-end.ensures) in
+    let is : (d : Applied) → to_applied c.in_ok-child.child ≡ slice_index_or (child_ids f) c.loop-k.k d = λ d.
+    ap to_applied c.in_ok-child.ensures.ok ∙ child_is f c.loop-k.k d (to_applied c.applied_id.result.now) lt c.applied_id.ensures.id c.applied_id.ensures.keys c.applied_id.ensures.names in
+    record {
+      count = omega (arith, ap length c.in_ok-push.ensures.items, length_push us u, c.loop-k.invariant.count);
+      terms = subst (λ vs. AreTermsOf nodes (child_ids f) vs (c.loop-k.k + 1)) (sym c.in_ok-push.ensures.items)
+          (terms-step nodes (child_ids f) us u c.loop-k.k (to_applied c.in_ok-child.child) c.loop-k.invariant.count c.loop-k.invariant.terms is c.in_ok-term.ensures.term);
+      more = λ s h. c.syn_expr.ensures.more s (c.loop-k.invariant.more s h);
+      kept = c.syn_expr.ensures.kept ∙ c.loop-k.invariant.kept;
+      operators = subst (All (λ (v : Term). 0 < v.op)) (sym c.in_ok-push.ensures.items) (All-push (λ (v : Term). 0 < v.op) us u c.loop-k.invariant.operators c.in_ok-term.ensures.operator);
+      known = λ at j d l. c.syn_expr.ensures.more _ (c.loop-k.invariant.known at j d l);
+      valid = λ at.
+          let names = child_names-known (λ s. IsTrue (is_known c.loop-k.table s)) f c.loop-k.k (c.loop-k.invariant.known at) in
+          let given : AllKnown c.loop-k.table (values c.in_ok-child.child.m) =
+          subst (λ (x : Applied). AllKnown c.loop-k.table (values x.1)) (sym (ap to_applied c.in_ok-child.ensures.ok)) (subst (AllKnown c.loop-k.table) (sym c.applied_id.ensures.names) names) in
+          let fresh = fresh_slots-more c.args.table.now c.loop-k.table c.args.store.now c.loop-k.invariant.more at.0 in
+          subst (All (IsValidTerm c.syn_expr.new.table)) (sym c.in_ok-push.ensures.items)
+          (valid-push c.loop-k.table c.syn_expr.new.table c.syn_expr.ensures.more us u (c.loop-k.invariant.valid at) (c.in_ok-term.ensures.valid (fresh, given)));
+    }
+
+pub returns-clause-term : goal.returns-clause-term
+returns-clause-term g t c =
+    let nodes = nodes_of c.args.store.now in
+    let form = g.L.LanguageChildren.form in
+    let us = c.loop-k.children.items in
+    let n : length us ≡ length (children (form c.in_ok-node.node).tree) = omega (arith, c.loop-k.invariant.count, c.loop-k-test.false, c.loop-k.auto.k-end, c.applied_id_count-k-end.ensures) in
+    canonical-term nodes c.requires.good.sound.canonical (to_applied c.args.a.now) c.requires.full (form c.in_ok-node.node) (form c.forget_children.new.node) (g.met.L.LanguageChildren.fits c.in_ok-node.node) c.in_ok-node.ensures.node
+    c.forget_children.ensures us n (λ j d e lt. c.loop-k.invariant.terms j d e (omega (arith, lt, c.loop-k.invariant.count)))
+
+pub returns-in_err-node-clause-full : goal.returns-in_err-node-clause-full
+returns-in_err-node-clause-full g t c e = elim (c.in_err-node.ensures.full (search rules)) [
+  | inl none ↦ inl none
+  | inr large ↦ inr (0, c.args.a.now.id.0, refl, large)
+]
+
+pub returns-in_err-term-clause-full : goal.returns-in_err-term-clause-full
+returns-in_err-term-clause-full g t c e =
+    let nodes = nodes_of c.args.store.now in
+    let a = to_applied c.args.a.now in
+    let f : Form = g.L.LanguageChildren.form c.in_ok-node.node in
+    let lt : c.loop-k.k < length (children f.tree) = omega (arith, c.loop-k-test.true, c.applied_id_count-k-end.ensures) in
+    let within : c.loop-k.k < length (child_ids f) = omega (arith, lt, length-ids f.tree f.names) in
+    let is = ap to_applied c.in_ok-child.ensures.ok ∙ child_is f c.loop-k.k (0, []) (to_applied c.applied_id.result.now) lt c.applied_id.ensures.id c.applied_id.ensures.keys c.applied_id.ensures.names in
+    elim (c.in_err-term.ensures.full (search rules)) [
+      | inl none ↦ inl none
+      | inr part ↦ inr (large_child_part nodes a f c.in_ok-node.ensures.node c.loop-k.k (0, []) within (to_applied c.in_ok-child.child) is part)
+    ]
+
+pub returns-clause-valid : goal.returns-clause-valid
+returns-clause-valid g t c at =
+    let form = g.L.LanguageChildren.form in
+    let us = c.loop-k.children.items in
+    let n : length us ≡ length (children (form c.in_ok-node.node).tree) = omega (arith, c.loop-k.invariant.count, c.loop-k-test.false, c.loop-k.auto.k-end, c.applied_id_count-k-end.ensures) in
+    valid-beside c.loop-k.table (form c.in_ok-node.node) (form c.forget_children.new.node) us (g.met.L.LanguageChildren.fits c.in_ok-node.node) c.forget_children.ensures n
+    (c.loop-k.invariant.known at) c.loop-k.invariant.operators (c.loop-k.invariant.valid at)

@@ -1,0 +1,18 @@
+use Rattle.std.proofs.Common.{◌<◌, ◌∙◌, ap, map, length, refl, true, arith}
+use Rattle.slotted_model.specs.Find.{Entry}
+use Rattle.slotted_store.specs.Kept.{Kept, ClassEntry, with_fewer, symmetry_entry}
+use Rattle.slotted_store.proofs.KeptLists.{length-mapped}
+use Rattle.slotted_store.proofs.Writes.{set_entry}
+use Rattle.slotted_store.specs.declared.store.Class.{Class}
+use Rattle.slotted_store.proofs.store.Store.set_slots.Goals as goal
+
+pub returns : goal.returns
+returns g c =
+    let form = g.L.LanguageChildren.form in
+    let entry : Class g.row.L.Denot → ClassEntry = λ k. (form k.node, record { class = k.find.id.0; pairs = k.find.m; proof = k.proof; died = k.died }) in
+    let x : Entry = record { class = c.args.live; pairs = c.args.slots; proof = c.args.proof; died = 0 } in
+    let new : Class g.row.L.Denot = record { node = c.index_mut-class.result.now.node; find = record { id = record { 0 = c.args.live }; m = c.args.slots }; proof = c.args.proof; died = 0; weight = c.index_mut-class.result.now.weight } in
+    let within : c.args.live < length c.self.inside.classes.items = omega (arith, c.requires, ap (λ (k : Kept). length k.classes) c.self.view_is, length-mapped entry c.self.inside.classes.items) in
+    let classes = set_entry entry c.self.inside.classes.items c.args.live c.index_mut-class.result.now new _ x within c.index_mut-class.ensures.value refl in
+    (λ i. record { classes = classes i; rows = map (λ e. (form e.0, (e.1.source.0, e.1.names))) c.self.inside.rows.entries; symmetries = map symmetry_entry c.self.inside.symmetries.items; dropped = true; proofs = c.self.inside.proofs; moment = c.self.inside.moment })
+    ∙ ap (λ (k : Kept). with_fewer k c.args.live c.args.slots c.args.proof) c.self.view_is

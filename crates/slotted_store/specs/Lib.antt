@@ -1,0 +1,5 @@
+pub mod FormCode
+pub mod EntryCode
+pub mod Names
+pub mod Kept
+pub mod Finding

@@ -1,0 +1,396 @@
+//! The lists of a graph: its classes, the filed nodes by shape, the listed symmetries and the proved equations, each write by itself.
+ghost use Rattle.std.specs.Prelude.{◌≡◌, ◌+◌, ◌≤◌, ◌<◌, length, map, IfOk, IfErr, OnOk, OnErr, IsErrOf, None, All, ◌⊎◌};
+ghost use Rattle.std.specs.Prelude.{option_map, ◌↔◌};
+ghost use Rattle.slotted_theory.specs.FiniteMaps.{IsInjectiveMap};
+ghost use Rattle.slotted_slots.specs.Error.{IsOutOfMemory, IsShortage};
+ghost use Rattle.slotted_slots.specs.Table.{slot_limit};
+ghost use Rattle.slotted_nodes.specs.Form.{IsSmall};
+ghost use Rattle.slotted_model.specs.ProofList.{reflexive, symmetric, transitive, congruent};
+ghost use Rattle.slotted_proofs.specs.Equations.{to_applied, Meets, HasManyNames};
+ghost use Rattle.slotted_proofs.specs.Entries.{statement_at, explicit_numbers, turned_entry, composite_entry};
+ghost use Rattle.slotted_proofs.specs.Steps.{IsReflexiveStep, IsSymmetricStep, IsTransitiveStep, AreEntries};
+ghost use Rattle.slotted_proofs.specs.Steps.{HasInjectiveSides, IsLarge, IsRefusal};
+ghost use Rattle.slotted_store.specs.Kept.{MakesClass, EntersIn, EntersAsserted, EntersBy, HasManySlots, text_bytes};
+ghost use Rattle.slotted_store.specs.Kept.{nothing, node_at, find_at, proofs_of, found, symmetry_entry};
+ghost use Rattle.slotted_store.specs.Kept.{with_class, with_linked, with_fewer, with_listed, with_settled};
+
+use crate::names::{map_between, put_at_places};
+use indexmap::IndexMap;
+use slotted_languages::Language;
+use slotted_proofs::{Equation, ProofList, ProvenEq};
+use slotted_slots::{AppliedId, Error, Id, SlotMap};
+use std::alloc::Global;
+use std::marker::Model;
+
+/// A class: the node that it was made with, over its own slots, the class that it leads to, with a slot of its own for each
+/// slot of that, the proof of this, and the moment of its link. A live class leads to itself, and its weight is the number of
+/// filed nodes that are in it or have it as a child.
+#[derive(Drop)]
+pub struct Class<L> {
+    node: L,
+    find: AppliedId,
+    proof: ProvenEq,
+    died: usize,
+    weight: usize,
+}
+
+/// A filed node's source class, and the slot of that class for each number of the shape.
+#[derive(Drop)]
+pub struct Row {
+    pub source: Id,
+    pub names: SlotMap,
+}
+
+/// A symmetry that was met: a class equals itself with the slots that it had then in another order, by a proof.
+#[derive(Drop)]
+pub struct Symmetry {
+    pub equation: Equation,
+    pub proof: ProvenEq,
+}
+
+/// The classes by their ids, the filed nodes by their shapes, the symmetries in the order in which they were met, whether a slot was
+/// dropped since all of them were found aligned, the proved equations, and the number of links.
+#[derive(Drop)]
+pub struct Store<L: Language> {
+    classes: Vec<Class<L>>,
+    rows: IndexMap<L, Row>,
+    symmetries: Vec<Symmetry>,
+    dropped: bool,
+    proofs: ProofList,
+    moment: usize,
+}
+
+impl<L: Language> Model for Store<L> {
+    ghost use Rattle.std.specs.Prelude.{map};
+    ghost use Rattle.slotted_store.specs.Kept.{Kept, class_entry, row_entry, symmetry_entry, kept_code};
+
+    ghost Value = { Kept };
+
+    ghost coded = { kept_code };
+
+    ghost view = { λ c. record {
+      classes = map (class_entry L.form) c.classes.items;
+      rows = map (row_entry L.form) c.rows.entries;
+      symmetries = map symmetry_entry c.symmetries.items;
+      dropped = c.dropped;
+      proofs = c.proofs;
+      moment = c.moment;
+    } };
+}
+
+impl<L: Language> Store<L> {
+    /// The lists of a graph without classes.
+    pub fn new(alloc: Global) -> Self
+        ensures { result ≡ nothing }
+    {
+        Store {
+            classes: Vec::new(alloc),
+            rows: IndexMap::new(alloc),
+            symmetries: Vec::new(alloc),
+            dropped: false,
+            proofs: ProofList::new(alloc),
+            moment: 0,
+        }
+    }
+
+    // Reads and single writes, each said exactly.
+
+    pub fn class_count(&self) -> usize
+        ensures { result ≡ length self.now.classes }
+    {
+        self.classes.len()
+    }
+
+    /// The node that a class was made with.
+    pub fn node_of(&self, id: usize) -> &L
+        requires { id < length self.now.classes }
+        ensures { L.form result.now ≡ node_at self.now id }
+    {
+        &self.classes[id].node
+    }
+
+    /// The class that a class leads to, with a slot of its own for each slot of that.
+    pub fn entry(&self, id: usize) -> &AppliedId
+        requires { id < length self.now.classes }
+        ensures { to_applied result.now ≡ ((find_at self.now id).class, (find_at self.now id).pairs) }
+    {
+        &self.classes[id].find
+    }
+
+    /// The proof of what a class's entry says.
+    pub fn proof_of(&self, id: usize) -> ProvenEq
+        requires { id < length self.now.classes }
+        ensures { result ≡ (find_at self.now id).proof }
+    {
+        self.classes[id].proof
+    }
+
+    /// The row of a shape.
+    pub fn row(&self, shape: &L) -> Option<&Row>
+        ensures { option_map (λ r. (r.now.source.0, r.now.names)) result ≡ found self.now.rows (L.form shape.now) }
+    {
+        self.rows.get(shape)
+    }
+
+    /// The listed symmetries, in the order in which they were met.
+    pub fn symmetries(&self) -> &[Symmetry]
+        ensures { map symmetry_entry result.now ≡ self.now.symmetries }
+    {
+        &self.symmetries
+    }
+
+    /// Whether a slot was dropped since all symmetries were found aligned.
+    pub fn is_dropped(&self) -> bool
+        ensures { result ≡ self.now.dropped }
+    {
+        self.dropped
+    }
+
+    // A class, and the row that files its node.
+    fn file(&mut self, shape: L, row: Row, class: Class<L>) -> Result<(), Error>
+        requires { found self.old.rows (L.form shape) ≡ None }
+        ensures ok { OnOk result (self.new ≡ with_class L.form self.old shape row class) }
+        ensures err { IfErr result IsOutOfMemory }
+    {
+        self.rows.insert(shape, row)?;
+        self.classes.push(class)?;
+        Ok(())
+    }
+
+    /// Two ids are equal because the caller says so.
+    pub fn assert_equal(
+        &mut self,
+        alloc: Global,
+        l: &AppliedId,
+        r: &AppliedId,
+        text: Option<String>,
+    ) -> Result<ProvenEq, Error>
+        requires left { IsInjectiveMap l.now.m }
+        requires right { IsInjectiveMap r.now.m }
+        ensures ok { IfOk result (EntersAsserted self.old self.new l.now r.now (text_bytes text)) }
+        ensures full { IsErrOf result Error.OutOfSlots → slot_limit ≤ length l.now.m + length r.now.m }
+        ensures err { IfErr result IsShortage }
+    {
+        self.proofs.enter_explicit(alloc, l, r, text)
+    }
+
+    /// The equation of a proof turned round.
+    pub fn turn(&mut self, alloc: Global, p: ProvenEq) -> Result<ProvenEq, Error>
+        requires { p < length self.old.proofs }
+        ensures ok { IfOk result (EntersIn self.old self.new (turned_entry self.old.proofs p)) }
+        ensures full { IsErrOf result Error.OutOfSlots → HasManySlots self.old p p }
+        ensures err { IfErr result IsShortage }
+    {
+        self.proofs.enter_symmetric(alloc, p)
+    }
+
+    /// The equations of two proofs, one after the other.
+    pub fn chain(&mut self, alloc: Global, p: ProvenEq, q: ProvenEq) -> Result<ProvenEq, Error>
+        requires first { p < length self.old.proofs }
+        requires second { q < length self.old.proofs }
+        requires meets { Meets (statement_at self.old.proofs p) (statement_at self.old.proofs q) }
+        ensures ok { IfOk result (EntersIn self.old self.new (composite_entry self.old.proofs p q)) }
+        ensures full { IsErrOf result Error.OutOfSlots → HasManySlots self.old p q }
+        ensures err { IfErr result IsShortage }
+    {
+        self.proofs.enter_transitive(alloc, p, q)
+    }
+
+    /// A class dies, and leads to another one with a slot of its own for each slot of that, by this proof.
+    pub fn set_link(&mut self, dead: usize, find: AppliedId, proof: ProvenEq) -> Result<(), Error>
+        requires { dead < length self.old.classes }
+        ensures ok { OnOk result (self.new ≡ with_linked self.old dead find.id.0 find.m proof) }
+        ensures err { IfErr result IsOutOfMemory }
+    {
+        let moment = self.moment;
+        if moment == usize::MAX {
+            return Err(Error::OutOfMemory);
+        }
+        let class = &mut self.classes[dead];
+        class.find = find;
+        class.proof = proof;
+        class.died = moment;
+        self.moment = moment + 1;
+        Ok(())
+    }
+
+    /// The weight of a class. No contract speaks of weights: they decide which class is kept, and so how long finds walk.
+    pub fn weight(&self, id: usize) -> usize {
+        match self.classes.get(id) {
+            Some(class) => class.weight,
+            None => 0,
+        }
+    }
+
+    /// A class becomes heavier.
+    pub fn add_weight(&mut self, id: usize, more: usize)
+        ensures { self.new ≡ self.old }
+    {
+        if id >= self.classes.len() {
+            return;
+        }
+        let class = &mut self.classes[id];
+        class.weight = class.weight.saturating_add(more);
+    }
+
+    /// The proved equations.
+    pub fn proofs(&self) -> &ProofList
+        ensures { result.now ≡ self.now.proofs }
+    {
+        &self.proofs
+    }
+
+    /// The number of proved equations.
+    pub fn proof_count(&self) -> usize
+        ensures { result ≡ length self.now.proofs }
+    {
+        self.proofs.len()
+    }
+
+    /// The numbers of the asserted equations, in order.
+    pub fn asserted(&self) -> &[ProvenEq]
+        ensures { result.now ≡ explicit_numbers (proofs_of self.now) }
+    {
+        self.proofs.asserted()
+    }
+
+    /// A class of its own for a shape, with these slots for its numbers, and the entry that it equals itself.
+    pub fn make_class(&mut self, alloc: Global, shape: L, slots: SlotMap) -> Result<(), Error>
+        requires few { IsSmall (L.form shape) }
+        requires absent { found self.old.rows (L.form shape) ≡ None }
+        requires different { IsInjectiveMap slots }
+        ensures ok { OnOk result (MakesClass self.old self.new (L.form shape) slots) }
+        ensures full { IsErrOf result Error.OutOfSlots → slot_limit ≤ length slots }
+        ensures err { IfErr result IsShortage }
+    {
+        let id = Id(self.class_count());
+        let find = AppliedId {
+            id,
+            m: map_between(alloc, &slots, &slots)?,
+        };
+        let proof = self.proofs.enter_reflexive(alloc, &find)?;
+        let mut node = shape.copy(alloc)?;
+        put_at_places(&mut node, &slots);
+        let row = Row {
+            source: id,
+            names: slots,
+        };
+        let class = Class {
+            node,
+            find,
+            proof,
+            died: 0,
+            weight: 1,
+        };
+        self.file(shape, row, class)?;
+        Ok(())
+    }
+
+    /// A live class keeps fewer slots, by this proof.
+    pub fn set_slots(&mut self, live: usize, slots: SlotMap, proof: ProvenEq)
+        requires { live < length self.old.classes }
+        ensures { self.new ≡ with_fewer self.old live slots proof }
+    {
+        let class = &mut self.classes[live];
+        class.find = AppliedId {
+            id: Id(live),
+            m: slots,
+        };
+        class.proof = proof;
+        class.died = 0;
+        self.dropped = true;
+    }
+
+    /// A symmetry is listed.
+    pub fn list(&mut self, symmetry: Symmetry) -> Result<(), Error>
+        ensures ok { OnOk result (self.new ≡ with_listed self.old (symmetry_entry symmetry)) }
+        ensures err { IfErr result IsOutOfMemory }
+    {
+        self.symmetries.push(symmetry)?;
+        Ok(())
+    }
+
+    /// All symmetries are known to be aligned.
+    pub fn settle(&mut self)
+        ensures { self.new ≡ with_settled self.old }
+    {
+        self.dropped = false;
+    }
+
+    // Steps that are asked for: the proof list alone changes, and a refusal leaves it.
+
+    /// The equation, if both of its sides are equal.
+    pub fn prove_reflexive(&mut self, alloc: Global, equation: &Equation) -> Result<ProvenEq, Error>
+        requires left { IsInjectiveMap equation.now.l.m }
+        requires right { IsInjectiveMap equation.now.r.m }
+        ensures fits { IfOk result (λ _. IsReflexiveStep equation.now) }
+        ensures ok { IfOk result (EntersBy self.old self.new equation.now reflexive) }
+        ensures refused { IsErrOf result Error.BadStep → ¬ IsReflexiveStep equation.now }
+        ensures full { IsErrOf result Error.OutOfSlots → slot_limit ≤ length equation.now.l.m }
+        ensures only { IfErr result IsRefusal }
+        ensures err { OnErr result (self.new ≡ self.old) }
+    {
+        self.proofs.prove_reflexive(alloc, equation)
+    }
+
+    /// The equation, if that of the part, turned round, matches it.
+    pub fn prove_symmetric(
+        &mut self,
+        alloc: Global,
+        equation: &Equation,
+        p: ProvenEq,
+    ) -> Result<ProvenEq, Error>
+        requires left { IsInjectiveMap equation.now.l.m }
+        requires right { IsInjectiveMap equation.now.r.m }
+        ensures fits { IfOk result (λ _. IsSymmetricStep self.old.proofs equation.now p) }
+        ensures ok { IfOk result (EntersBy self.old self.new equation.now (symmetric p)) }
+        ensures refused { IsErrOf result Error.BadStep → ¬ IsSymmetricStep self.old.proofs equation.now p }
+        ensures full { IsErrOf result Error.OutOfSlots ↔ HasManyNames equation.now }
+        ensures only { IfErr result IsRefusal }
+        ensures err { OnErr result (self.new ≡ self.old) }
+    {
+        self.proofs.prove_symmetric(alloc, equation, p)
+    }
+
+    /// The equation, if those of the two parts, one after the other, give it by some names for the middle.
+    pub fn prove_transitive(
+        &mut self,
+        alloc: Global,
+        equation: &Equation,
+        p: ProvenEq,
+        q: ProvenEq,
+    ) -> Result<ProvenEq, Error>
+        requires left { IsInjectiveMap equation.now.l.m }
+        requires right { IsInjectiveMap equation.now.r.m }
+        ensures fits { IfOk result (λ _. IsTransitiveStep self.old.proofs equation.now p q) }
+        ensures ok { IfOk result (EntersBy self.old self.new equation.now (transitive p q)) }
+        ensures refused { IsErrOf result Error.BadStep → ¬ IsTransitiveStep self.old.proofs equation.now p q }
+        ensures full { IsErrOf result Error.OutOfSlots → HasManyNames equation.now }
+        ensures only { IfErr result IsRefusal }
+        ensures err { OnErr result (self.new ≡ self.old) }
+    {
+        self.proofs.prove_transitive(alloc, equation, p, q)
+    }
+
+    /// The equation, if the equation of each part matches that of the children there.
+    pub fn prove_congruent(
+        &mut self,
+        alloc: Global,
+        equation: &Equation,
+        children: &[Equation],
+        parts: Vec<ProvenEq>,
+    ) -> Result<ProvenEq, Error>
+        requires left { IsInjectiveMap equation.now.l.m }
+        requires right { IsInjectiveMap equation.now.r.m }
+        requires children { All HasInjectiveSides children.now }
+        ensures fits { IfOk result (λ _. AreEntries self.old.proofs parts.items children.now) }
+        ensures ok { IfOk result (EntersBy self.old self.new equation.now (congruent parts.items)) }
+        ensures refused { IsErrOf result Error.BadStep → ¬ AreEntries self.old.proofs parts.items children.now }
+        ensures full { IsErrOf result Error.OutOfSlots → HasManyNames equation.now ⊎ IsLarge children.now }
+        ensures only { IfErr result IsRefusal }
+        ensures err { OnErr result (self.new ≡ self.old) }
+    {
+        self.proofs
+            .prove_congruent(alloc, equation, children, parts)
+    }
+}
