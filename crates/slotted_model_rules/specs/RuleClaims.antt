@@ -14,8 +14,11 @@ use Rattle.slotted_model_rules.specs.Patterns.{Pattern, EachVariable, look_up_pa
 use Rattle.slotted_model_rules.specs.Instances.{IsInstance}
 use Rattle.slotted_model_rules.specs.Matcher.{value_at, EachSlot, class_id}
 use Rattle.slotted_model_rules.specs.Complete.{HasAllSlots, HasOwnBinders}
-use Rattle.slotted_model_rules.specs.Conditions.{Values, Condition, always, slot_free_in, either, each_of, opposite, holds, asked, IsOfValues}
-use Rattle.slotted_model_rules.specs.Rules.{IsExtension, IsBetween, Calls, IsNewEntry, IsAskedFor, Rule, valued, IsMatch, Searches, IsEquationOfInstances, IsApplied, Applies, ComesFromRule, IsAskedByRule, progress}
+use Rattle.slotted_model_rules.specs.Conditions.{Values, Condition, always, slot_free_in, either, each_of, opposite}
+use Rattle.slotted_model_rules.specs.Conditions.{holds, asked, IsOfValues}
+use Rattle.slotted_model_rules.specs.Rules.{IsExtension, IsBetween, Calls, IsNewEntry, IsAskedFor, Rule, valued}
+use Rattle.slotted_model_rules.specs.Rules.{IsMatch, Searches, IsEquationOfInstances, IsApplied, Applies, ComesFromRule}
+use Rattle.slotted_model_rules.specs.Rules.{IsAskedByRule, progress}
 
 -- what each kind of condition answers; and the second of two is asked only where the first leaves it open
 pub record TruthTables : Type 0 where

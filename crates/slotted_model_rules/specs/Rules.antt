@@ -8,7 +8,8 @@
 --     AssertsInstances ..          both sides are built, and asserted to be equal
 --     Applies ..                   each substitution whose condition holds just then is asserted, one after another
 --     progress g                   how many classes, live classes, and slots of these there are
-use Rattle.std.specs.Prelude.{◌≡◌, ℕ, ◌<◌, ◌≤◌, List, [], ◌∷◌, ◌++◌, length, Contains, Option, Some, None, Bool, true, false}
+use Rattle.std.specs.Prelude.{◌≡◌, ℕ, ◌<◌, ◌≤◌, List, [], ◌∷◌, ◌++◌, length, Contains, Option, Some, None, Bool, true}
+use Rattle.std.specs.Prelude.{false}
 use Rattle.slotted_theory.specs.Nameless.{DTerm}
 use Rattle.slotted_model.specs.Applied.{Applied, values}
 use Rattle.slotted_model.specs.Classes.{term_of, IsFull}
@@ -100,7 +101,8 @@ pub record IsMatch (g : State) (order : List Row) (p : Pattern) (s : Values) : T
 pub record IsRead (g : State) (order : List Row) (p : Pattern) (found : List Values) (c : ℕ) : Type 0 where
   pub outs : List MatchState
   pub run : Found g order p (start_at g c) (class_id g c) outs
-  pub read : (out : MatchState) → Contains outs out → (s : Values) × Contains found s × (f : ℕ → ℕ) × Reads g f (valued s) out
+  pub read : (out : MatchState) → Contains outs out →
+      (s : Values) × Contains found s × (f : ℕ → ℕ) × Reads g f (valued s) out
 
 -- a search: the matcher is run at each live class, and what is found are readings of its states
 pub record Searches (g : State) (order : List Row) (p : Pattern) (found : List Values) : Type 0 where
