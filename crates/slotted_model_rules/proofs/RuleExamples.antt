@@ -5,14 +5,15 @@ use Rattle.std.specs.Prelude.{Contains, ◌≢◌, nat_eq, not}
 use Rattle.std.proofs.lemmas.List.{append-nil}
 use Rattle.slotted_theory.specs.Nameless.{DTerm}
 use Rattle.slotted_theory.proofs.Lists.{contains_head, contains_cases, Contains-nil}
+use Rattle.slotted_theory.specs.Derives.{Equal}
 use Rattle.slotted_model.specs.Applied.{Applied, renamed_id}
 use Rattle.slotted_model.specs.Changes.{finds_alike}
-use Rattle.slotted_model.specs.Classes.{IsFull}
+use Rattle.slotted_model.specs.Classes.{canonical_slots, term_of, IsFull}
 use Rattle.slotted_model.specs.Filling.{IsFilling}
-use Rattle.slotted_model.specs.Find.{IsLive, find_class, find}
-use Rattle.slotted_model.specs.ProofList.{Equation, equation_at}
+use Rattle.slotted_model.specs.Find.{IsLive, find_class, used_slots, find}
+use Rattle.slotted_model.specs.ProofList.{Equation, equation_at, asserted}
 use Rattle.slotted_model.specs.Rebuild.{starts}
-use Rattle.slotted_model.specs.Rest.{AtRest}
+use Rattle.slotted_model.specs.Rest.{IsValidIn, AtRest}
 use Rattle.slotted_model.specs.State.{State}
 use Rattle.slotted_model.specs.Adding.{stands}
 use Rattle.slotted_model.specs.Sessions.{nothing}
@@ -21,15 +22,17 @@ use Rattle.slotted_model.proofs.Asserting.{nothing-rests}
 use Rattle.slotted_model.proofs.Correspondences.Pairs.{Contains-key}
 use Rattle.slotted_model.proofs.CongruenceExample.{twice, twice_rests, id, id_full, rebuilt, words_asserted, rebuilt_done}
 use Rattle.slotted_model.proofs.OpenSessionsExample.{h_of, with_h, h_is_new, h_full, open_state, opens}
+use Rattle.slotted_model.proofs.NormalIds.{full-is_valid}
 use Rattle.slotted_model.proofs.Quiet.{proofs-quiet}
 use Rattle.slotted_model.proofs.SessionExample.{files}
 use Rattle.slotted_model_rules.specs.Patterns.{Pattern, pattern_node, variable, own_name, no_argument, look_up_pattern}
-use Rattle.slotted_model_rules.specs.Instances.{is_itself}
+use Rattle.slotted_model_rules.specs.Instances.{is_itself, IsInstance}
 use Rattle.slotted_model_rules.specs.Matcher.{MatchState, Reads}
 use Rattle.slotted_model_rules.specs.Conditions.{Values, Condition, always, slot_free_in, either, each_of, own, holds, asked}
 use Rattle.slotted_model_rules.specs.Rules.{id_or_none, valued, IsMatch, IsRead, Searches, IsBetween, KeepsAll, no_call, asserts, keeps, IsNewEntry, IsAskedFor, Rule, IsEquationOfInstances, AssertsInstances, Applies, all_done, does_not_hold, does_hold, IsApplied, ComesFromRule, progress}
 use Rattle.slotted_model_rules.proofs.Renamed.{renamed-id}
-use Rattle.slotted_model_rules.proofs.Searching.{match-looked_up}
+use Rattle.slotted_model_rules.proofs.Searching.{match-looked_up, search-finds}
+use Rattle.slotted_model_rules.proofs.Rewriting.{rewrites-equal}
 use Rattle.slotted_model_rules.proofs.Extending.{extension-same}
 use Rattle.slotted_model_rules.proofs.Calling.{calls-enter}
 use Rattle.slotted_model_rules.proofs.Applying.{applies-extend, held-applied, entries-come, saturated}
@@ -246,3 +249,24 @@ searched = record {
 looked_up_as_class : look_up_pattern with_h (λ y. y) (valued whole_class) (variable (120 ∷ [])) ≡ Some (renamed_id (λ y. y) (find with_h.found left_id))
 unfolding found_class
 looked_up_as_class = match-looked_up with_h with_h_rests with_h.rows (variable (120 ∷ [])) whole_class found_class
+
+-- by any names for the slots of h: the search has found them, up to a renaming
+other_names : (s : Values) × Contains (whole_class ∷ []) s
+other_names =
+    let r = search-finds with_h with_h_rests (λ i l. all_slots i l) with_h.rows (λ r c. c) (variable (120 ∷ [])) (whole_class ∷ []) searched (λ v. five_six) valid
+    (record { differ = tt; in_scope = λ y c f. Contains-nil y c }) (find with_h.found five_six) refl in (r.0, r.1)
+  where
+    five_six : Applied
+    five_six = (0, (0, 5) ∷ (1, 6) ∷ [])
+
+    all_slots : (i : ℕ) → i < 1 → used_slots with_h.found i ≡ canonical_slots with_h.nodes i
+    all_slots zero l = refl
+    all_slots (suc i) l = absurd (omega arith)
+
+    valid : IsValidIn with_h five_six
+    valid = full-is_valid with_h.nodes with_h.found with_h_rests.sane.sound.linked five_six (h_full 5 6 (λ e. omega arith))
+
+-- the word a was matched, and is then equal to an instance of the right side, which is the word b
+a_becomes_b : (t : DTerm) × IsInstance is_itself rebuilt.nodes [] (valued []) (λ y. y) (word 2) t × Equal (asserted rebuilt.nodes rebuilt.proofs) (term_of twice.nodes (id 0)) t
+a_becomes_b =
+    rewrites-equal nothing_else is_itself [] [] (a_is_b always) twice_rests applied_always [] (contains_head [] []) (λ m b. refl) tt (id 0) (id 0) refl (filled_itself twice.nodes [] 0 (id_full 0 (omega arith)))
