@@ -47,7 +47,7 @@ goes_on-then f g h l r s = record {
 }
 
 -- an id with its own name for each slot that its class uses
-used-valid : (g : State) → Linked g.nodes g.found → (i : ℕ) → i < length g.nodes → IsValidIn g (i, identity (used_slots g.found i))
+pub used-valid : (g : State) → Linked g.nodes g.found → (i : ℕ) → i < length g.nodes → IsValidIn g (i, identity (used_slots g.found i))
 used-valid g l i h =
     let S : List ℕ = used_slots g.found i in
     let asc : IsAscending S = IsAscending-ascending (values_of (find_map g.found i)) in

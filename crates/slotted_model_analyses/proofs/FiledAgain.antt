@@ -1,5 +1,5 @@
 -- Filing anew what does not wait, and what the nodes of a graph at rest make.
-use Rattle.std.proofs.Common.{◌≡◌, ℕ, ◌<◌, List, [], ◌∷◌, ◌++◌, length, cond, sym, ◌∙◌, ap, refl, subst, inl, inr, arith}
+use Rattle.std.proofs.Common.{◌≡◌, ◌≢◌, ℕ, ◌<◌, List, [], ◌∷◌, ◌++◌, length, cond, sym, ◌∙◌, ap, refl, subst, inl, inr, arith}
 use Rattle.std.specs.Prelude.{Contains, map, nat_eq}
 use Rattle.std.proofs.lemmas.Bool.{cases_eq, eq-eqb, ne_eqb}
 use Rattle.std.proofs.lemmas.List.{length-map, map-append}
@@ -17,7 +17,7 @@ use Rattle.slotted_model.specs.Growth.{identity_id}
 use Rattle.slotted_model.specs.Normal.{normal_args, normal}
 use Rattle.slotted_model.specs.State.{Row, State, normal_node, name_numbered, child_classes}
 use Rattle.slotted_model.specs.Rest.{IsRow, IsCurrent, Sane, LookedUp}
-use Rattle.slotted_model.specs.Rebuild.{with_row, row_for}
+use Rattle.slotted_model.specs.Rebuild.{with_row, row_for, IsCovered}
 use Rattle.slotted_model.proofs.Members.{In}
 use Rattle.slotted_model.proofs.Sets.{IsAscending-ascending}
 use Rattle.slotted_model.proofs.Maps.{map_on-agrees, map_on-filled}
@@ -46,6 +46,12 @@ module _ (g : State) (sane : Sane g) where
       let same : map_on (name_numbered N) (names (shape N)) ≡ r.slots =
       ap (map_on (name_numbered N)) (ap names s ∙ sym row.numbers) ∙ (map_on-agrees (name_numbered N) (filled r.slots) (keys r.slots) at ∙ map_on-filled r.slots asc) in
       λ i. record { shape = s i; source = r.source; slots = same i }
+
+  -- its node is covered, and no other row has its shape
+  pub alone-again : (r : Row) → Contains g.rows r → ¬ Contains g.waiting r.source → IsCovered g r.source × ((q : Row) → Contains g.rows q → q.source ≢ r.source → q.shape ≢ shape (normal_node g r.source))
+  alone-again r c n =
+      let cur : IsCurrent g r = sane.filed.current r c n in
+      (cur.covered, λ q k m e. m (sane.filed.shapes q r k c (e ∙ current-shape g sane.sound.linked sane.filed r c cur)))
 
   with_row-again : (q : Row) (rows : List Row) → ((r : Row) → Contains rows r → r.source ≡ q.source → r ≡ q) → with_row q rows ≡ rows
   with_row-again q [] h = refl

@@ -10,3 +10,10 @@ pub mod FiledAgain
 pub mod Rebuilding
 pub mod Growing
 pub mod Writing
+pub mod CycleExample
+pub mod TurnedExample
+pub mod RoundsAtRest
+pub mod AddedTrees
+pub mod AddingTrees
+pub mod MakingRounds
+pub mod AddingByLookUps

@@ -1,6 +1,8 @@
 -- From rest to rest with data: a value is merged, a class is made, and an assertion.
-use Rattle.std.proofs.Common.{◌≡◌, ◌≢◌, ℕ, suc, ◌+◌, ◌<◌, ◌≤◌, List, [], length, sym, ◌∙◌, ap, refl, subst, inl, inr, arith}
+use Rattle.std.proofs.Common.{◌≡◌, ◌≢◌, ℕ, suc, ◌+◌, ◌<◌, ◌≤◌, List, [], ◌∷◌, length, sym, ◌∙◌, ap, refl, subst, inl, inr, arith}
 use Rattle.std.specs.Prelude.{Contains}
+use Rattle.std.proofs.lemmas.Bool.{cases_eq}
+use Rattle.std.proofs.lemmas.List.{length-append}
 use Rattle.slotted_theory.specs.Nameless.{DTerm}
 use Rattle.slotted_theory.proofs.Lists.{Contains-nil}
 use Rattle.slotted_model.specs.Applied.{Applied}
@@ -26,8 +28,9 @@ use Rattle.slotted_model.proofs.Turning.{turned}
 use Rattle.slotted_model.proofs.Unions.{unites}
 use Rattle.slotted_model_analyses.specs.Analysis.{Analysis, IsMerge, Absorbs}
 use Rattle.slotted_model_analyses.specs.DataPart.{DataPart, made, HasNoted, Merges, absorbed, lowered, takes, RunsWithData, starts, takes_turn, takes_data, takes_act, HasData, heights_from, size_with_data, GoesDown, DataGoesDown, RestsWithData}
-use Rattle.slotted_model_analyses.specs.DataWrites.{MergesInto, merges_into, made_of_found, with_new_data, with_new_pending, AddsWithData, joins_row, files_row, AssertsWithData, is_new, stands}
+use Rattle.slotted_model_analyses.specs.DataWrites.{MergesInto, merges_into, made_of_found, with_new_data, with_new_pending, AddsWithData, joins_row, files_row, AssertsWithData, is_new, stands, HasNotedAll}
 use Rattle.slotted_model_analyses.proofs.Absorbing.{absorbs-same, absorbs-then}
+use Rattle.slotted_model_analyses.proofs.Heights.{with_data-other}
 use Rattle.slotted_model_analyses.proofs.Merging.{noted-is, down-then, HasMerged, merged, merges-by}
 use Rattle.slotted_model_analyses.proofs.Carrying.{HasCarried, has-proofs, carried}
 use Rattle.slotted_model_analyses.proofs.Counts.{below, HasRunWithData, run-with}
@@ -162,24 +165,41 @@ module _ {D : Type 0} (a : Analysis D) (law : IsMerge D a) where
 
     -- the run after the class has its row, or is united
     after-run : (f h : State) (m t : DataPart D) (changed : List ℕ) → HasNoted i s.changed changed → (sane : Sane f) → HasData a f m → DataGoesDown a newer (with_new_data a g s c changed) f m → GoesDown a (with_new_data a g s c changed) m →
-        f.nodes ≡ newer.nodes → {n : ℕ} → RunsWithData a f m n h t → (AtRest h) → t.pending ≡ [] →
-        RestsWithData a h t × DataGoesDown a g s h t × Absorbs a (t.data_of (find_class h.found i)) (made_of_found a g s c) × Contains t.changed i
-    after-run f h m t changed noted sane has classes down nodes {n} r rest left =
+        f.nodes ≡ newer.nodes → {n : ℕ} → RunsWithData a f m n h t → (AtRest h) → h.nodes ≡ newer.nodes → t.pending ≡ [] →
+        RestsWithData a h t × DataGoesDown a g s h t × Absorbs a (t.data_of (find_class h.found i)) (made_of_found a g s c) × Contains t.changed i × HasNotedAll g s h t
+    after-run f h m t changed noted sane has classes down nodes {n} r rest last left =
         let d : DataPart D = with_new_data a g s c changed in
         let y : HasRunWithData a law f sane m n h t = run-with a law f sane has r in
         let l : i < length newer.nodes = last-in_range g x.rest.sane c new in
         let e : length f.nodes ≡ length newer.nodes = ap length nodes in
+        let goes : GoesDown a d t = down-then a law d m t down y.down in
+        let there : Contains t.changed i = y.down.kept i (down.kept i noted.has) in
         let both : (k : ℕ) → k < length newer.nodes → Absorbs a (t.data_of (find_class h.found k)) (d.data_of (find_class newer.found k)) =
         λ k b. absorbs-then a law (t.data_of (find_class h.found k)) (m.data_of (find_class f.found k)) (d.data_of (find_class newer.found k)) (y.classes k (omega arith)) (classes k b) in (
           record { rest = rest; has = y.has; nothing_waits = left },
           λ k b. absorbs-then a law (t.data_of (find_class h.found k)) (d.data_of (find_class newer.found k)) (s.data_of (find_class g.found k)) (both k (omega arith))
               (old-classes a g x.rest.sane s c new changed noted law k b),
           subst (Absorbs a (t.data_of (find_class h.found i))) (ap d.data_of (new-class a g x.rest.sane s c new changed noted) ∙ new-data a g x.rest.sane s c new changed noted) (both i l),
-          y.down.kept i (down.kept i noted.has),
+          there,
+          record {
+            kept = λ k b. y.down.kept k (down.kept k (noted.kept k b));
+            noted = λ k b free. elim (cases_eq k i) [
+              | inl q ↦ absurd (free (subst (Contains t.changed) (sym q) there))
+              | inr n ↦
+                  let x : length h.nodes ≡ length newer.nodes = ap length last in
+                  let z : length newer.nodes ≡ i + 1 = length-append g.nodes (c ∷ []) in (
+                    omega arith,
+                    elim (law.decided (t.data_of k) (d.data_of k)) [
+                      | inl q ↦ q ∙ with_data-other s.data_of i (made_of_found a g s c) k n
+                      | inr m ↦ absurd (free (goes.noted k m))
+                    ],
+                  )
+            ];
+          },
         )
 
     abbrev pub HasAddedData : State → DataPart D → Type 0
-    HasAddedData h t = Adds g c h × RestsWithData a h t × DataGoesDown a g s h t × Absorbs a (t.data_of (find_class h.found i)) (made_of_found a g s c) × Contains t.changed i
+    HasAddedData h t = Adds g c h × RestsWithData a h t × DataGoesDown a g s h t × Absorbs a (t.data_of (find_class h.found i)) (made_of_found a g s c) × Contains t.changed i × HasNotedAll g s h t
 
     adding-with : (h : State) (t : DataPart D) → AddsWithData a g s c h t → HasAddedData h t
     adding-with h t (joins_row {f = f} {m = m} changed proofs p r noted grow there same congruence u carries run left) =
@@ -190,8 +210,8 @@ module _ {D : Type 0} (a : Analysis D) (law : IsMerge D a) where
         let has : HasData a ready d = has-proofs a law newer d (class-has a g x.rest.sane s c new changed noted x.has) ready refl refl refl refl in
         let k : HasCarried a law ready d f m = carried a law p u sane congruence.stands.0 d m has carries in
         let added : Adds g c h = plain.joins_row proofs p r grow there same congruence u (below a run).2 left.0 in
-        let z = after-run f h m t changed noted w.sane k.has k.classes k.down w.same_nodes run (adds g x.rest c new h added).rest left.1 in
-        (added, z.0, z.1, z.2, z.3)
+        let z = after-run f h m t changed noted w.sane k.has k.classes k.down w.same_nodes run (adds g x.rest c new h added).rest (adds g x.rest c new h added).nodes left.1 in
+        (added, z.0, z.1, z.2, z.3, z.4)
     adding-with h t (files_row changed noted alone run left) =
         let d : DataPart D = with_new_data a g s c changed in
         let f : State = with_new_row newer i in
@@ -200,8 +220,8 @@ module _ {D : Type 0} (a : Analysis D) (law : IsMerge D a) where
         let added : Adds g c h = plain.files_row alone (below a run).2 left.0 in
         let z = after-run f h (with_new_pending a g s c changed) t changed noted sane has (λ k b. absorbs-same a law (d.data_of (find_class newer.found k)))
         (record { lower = λ k. absorbs-same a law (d.data_of k); once = λ b. b; kept = λ k b. b; noted = λ k b. absurd (b refl); from = λ k b. inl b })
-        refl run (adds g x.rest c new h added).rest left.1 in
-        (added, z.0, z.1, z.2, z.3)
+        refl run (adds g x.rest c new h added).rest (adds g x.rest c new h added).nodes left.1 in
+        (added, z.0, z.1, z.2, z.3, z.4)
 
     -- a class can be made
     adding-from : {h : State} → Adds g c h → (k : State) × (t : DataPart D) × AddsWithData a g s c k t
@@ -216,7 +236,7 @@ module _ {D : Type 0} (a : Analysis D) (law : IsMerge D a) where
         let m = carry a law p u d has.waits_once has.changed_once in
         let k : HasCarried a law ready d f m.0 = carried a law p u sane congruence.stands.0 d m.0 has m.1 in
         let z : DoneWithData a law f w.sane m.0 k.has = reaching a law f w.sane m.0 k.has in
-        (z.1, z.2, joins_row changed proofs p r noted grow there same congruence u m.1 z.3 z.4)
+        (z.1, z.2, joins_row {n = z.0} {f = f} {h = z.1} {m = m.0} {t = z.2} changed proofs p r noted grow there same congruence u m.1 z.3 z.4)
     adding-from (plain.files_row alone run left) =
         let noted = noted-is i s.changed x.has.changed_once in
         let changed : List ℕ = with_waiting i s.changed in

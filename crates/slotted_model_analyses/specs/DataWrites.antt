@@ -3,6 +3,7 @@
 --     with_new_data a g s c         the data where a class is made of the node c
 --     AddsWithData a g s c h t      a class is made of the node c
 --     AssertsWithData a g s x y h t x is asserted to equal y
+--     HasNotedAll g s h t           what was made or has changed waits to be modified
 use Rattle.std.specs.Prelude.{◌≡◌, ◌≢◌, ℕ, ◌<◌, List, ◌∷◌, length, map, Contains}
 use Rattle.slotted_theory.specs.Nameless.{DTerm}
 use Rattle.slotted_theory.specs.Shape.{shape}
@@ -50,3 +51,8 @@ pub data AssertsWithData {D : Type 0} (a : Analysis D) (g : State) (s : DataPart
       (u : Unites (length g.proofs) (with_assertion g (equation_of x y)) f) → Carries a u s m → RunsWithData a f m n h t → HasNothingLeftWithData h t → AssertsWithData a g s x y h t
   stands : {n : ℕ} {f h : State} {m t : DataPart D} (p : ℕ) → StandsAt g p (equation_of x y) → (u : Unites p g f) → Carries a u s m → RunsWithData a f m n h t →
       HasNothingLeftWithData h t → AssertsWithData a g s x y h t
+
+-- all classes wait to be modified that did, that were made, or whose data has changed
+pub record HasNotedAll {D : Type 0} (g : State) (s : DataPart D) (h : State) (t : DataPart D) : Type 0 where
+  pub kept : (i : ℕ) → Contains s.changed i → Contains t.changed i
+  pub noted : (i : ℕ) → i < length h.nodes → ¬ Contains t.changed i → (i < length g.nodes) × (t.data_of i ≡ s.data_of i)

@@ -4,3 +4,5 @@ pub mod DataClaims
 pub mod RunClaims
 pub mod DataWrites
 pub mod WriteClaims
+pub mod Rounds
+pub mod EditClaims

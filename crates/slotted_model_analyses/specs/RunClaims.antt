@@ -1,14 +1,15 @@
 -- The laws of rebuilding with data, for data of any type D, owed by `run_laws_hold` in src/rebuild.rt.
-use Rattle.std.specs.Prelude.{◌≡◌, ◌⊎◌, ℕ, suc, ◌+◌, ◌-◌, ◌*◌, ◌<◌, ◌≤◌, length, map, Contains}
+use Rattle.std.specs.Prelude.{◌≡◌, ◌≢◌, ◌⊎◌, ℕ, suc, ◌+◌, ◌-◌, ◌*◌, ◌<◌, ◌≤◌, length, map, Contains}
 use Rattle.slotted_theory.specs.Nameless.{DTerm}
+use Rattle.slotted_theory.specs.Shape.{shape}
 use Rattle.slotted_model.specs.Classes.{canonical_node}
 use Rattle.slotted_model.specs.Correspondence.{AllDifferent}
 use Rattle.slotted_model.specs.Cost.{AreAlike}
 use Rattle.slotted_model.specs.Find.{find_class}
-use Rattle.slotted_model.specs.State.{Row, State, child_classes}
+use Rattle.slotted_model.specs.State.{Row, State, normal_node, child_classes}
 use Rattle.slotted_model.specs.Rest.{Sane, Represents}
 use Rattle.slotted_model.specs.Changes.{Unites}
-use Rattle.slotted_model.specs.Rebuild.{with_row, row_for, Turn, Acts, Runs, IsRebuilt}
+use Rattle.slotted_model.specs.Rebuild.{with_row, row_for, IsCovered, Turn, Acts, Runs, IsRebuilt}
 use Rattle.slotted_model_analyses.specs.Analysis.{Analysis, IsMerge, MakesAlike, Absorbs}
 use Rattle.slotted_model_analyses.specs.DataPart.{DataPart, Merges, Carries, Follows, FollowsAct, TakesData, RunsWithData, HasData, size_with_data, GoesDown, DataGoesDown, HasNothingLeftWithData, RestsWithData}
 
@@ -54,10 +55,12 @@ ActsCarryData D =
     (a : Analysis D) → IsMerge D a → (g h : State) (k : Acts g h) → Sane g → (s t : DataPart D) → HasData a g s → FollowsAct a k s t →
     HasData a h t × DataGoesDown a g s h t × GoesDown a s t × (size_with_data a h t < size_with_data a g s)
 
--- a row that does not wait as a whole may be filed anew: nothing changes
+-- a row that does not wait as a whole may take its turn as if it did: its node is covered, no other row has its shape, and filing it anew changes nothing
 abbrev pub FilingAgainChangesNothing : Type 0
 FilingAgainChangesNothing =
-    (g : State) → Sane g → (r : Row) → Contains g.rows r → ¬ Contains g.waiting r.source → (row_for g r.source ≡ r) × (with_row (row_for g r.source) g.rows ≡ g.rows)
+    (g : State) → Sane g → (r : Row) → Contains g.rows r → ¬ Contains g.waiting r.source →
+    IsCovered g r.source × ((q : Row) → Contains g.rows q → q.source ≢ r.source → q.shape ≢ shape (normal_node g r.source))
+    × (row_for g r.source ≡ r) × (with_row (row_for g r.source) g.rows ≡ g.rows)
 
 -- no more rows wait than there are
 abbrev pub NoMorePendingThanRows : Type 0 → Type 0

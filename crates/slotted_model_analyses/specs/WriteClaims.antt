@@ -11,7 +11,7 @@ use Rattle.slotted_model.specs.Adding.{with_new_class, with_new_row, Adds, Asser
 use Rattle.slotted_model.specs.Sessions.{nothing}
 use Rattle.slotted_model_analyses.specs.Analysis.{Analysis, IsMerge, Absorbs}
 use Rattle.slotted_model_analyses.specs.DataPart.{DataPart, HasNoted, HasData, size_with_data, GoesDown, DataGoesDown, RestsWithData}
-use Rattle.slotted_model_analyses.specs.DataWrites.{MergesInto, made_of_found, with_new_data, with_new_pending, AddsWithData, AssertsWithData}
+use Rattle.slotted_model_analyses.specs.DataWrites.{MergesInto, made_of_found, with_new_data, with_new_pending, AddsWithData, AssertsWithData, HasNotedAll}
 
 -- the empty graph is at rest with any data
 abbrev pub NothingRestsWithData : Type 0 → Type 0
@@ -34,14 +34,14 @@ NewClassesKeepData D =
     HasData a (with_new_class g c) (with_new_data a g s c changed) × HasData a (with_new_row (with_new_class g c) (length g.nodes)) (with_new_pending a g s c changed)
 
 -- from rest a class can be made of each new node, and all is at rest again: the data of the older classes has gone down, the new class's absorbs what its
--- node makes, and it waits to be modified
+-- node makes, and it waits to be modified, as do those whose data has changed
 abbrev pub AddingEndsAtRestWithData : Type 0 → Type 0
 AddingEndsAtRestWithData D =
     (a : Analysis D) → IsMerge D a → (g : State) (s : DataPart D) → RestsWithData a g s → (c : DTerm) → IsNew g.nodes c →
     ((h : State) × (t : DataPart D) × AddsWithData a g s c h t)
     × ((h : State) (t : DataPart D) → AddsWithData a g s c h t →
     Adds g c h × RestsWithData a h t × DataGoesDown a g s h t × Absorbs a (t.data_of (find_class h.found (length g.nodes))) (made_of_found a g s c)
-    × Contains t.changed (length g.nodes))
+    × Contains t.changed (length g.nodes) × HasNotedAll g s h t)
 
 -- from rest each two full ids can be asserted to be equal, and all is at rest again: data has gone down, so that of their class absorbs what both had,
 -- and the size with heights is no larger

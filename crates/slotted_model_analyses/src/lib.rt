@@ -3,5 +3,6 @@
 #![tactic(auto)]
 
 pub mod data;
+pub mod edit;
 pub mod rebuild;
 pub mod write;
