@@ -58,7 +58,7 @@ equal-pairs [] h = refl
 equal-pairs (p ∷ A) h = λ i. (p.0, sym (h p.0 p.1 (contains_head p A)) i) ∷ equal-pairs A (λ s t c. h s t (contains_tail p A (s, t) c)) i
 
 -- the classes of children of which all are below
-children-below : (P : Applied → Type 0) (n : ℕ) → ((a : Applied) → P a → a.0 < n) → (d : DArgs) → EachChild P d → (x : ℕ) → Contains (child_classes d) x → x < n
+pub children-below : (P : Applied → Type 0) (n : ℕ) → ((a : Applied) → P a → a.0 < n) → (d : DArgs) → EachChild P d → (x : ℕ) → Contains (child_classes d) x → x < n
 children-below P n h stop c x k = absurd (Contains-nil x k)
 children-below P n h (place y rest) c x k = children-below P n h rest c x k
 children-below P n h (sub op payloads args rest) c x k = elim (contains_cases (applied_of payloads args).0 (child_classes rest) x k) [

@@ -1,5 +1,5 @@
 -- What adding a tree answers, with rounds after it.
-use Rattle.std.proofs.Common.{◌≡◌, ℕ, List, Some}
+use Rattle.std.proofs.Common.{◌≡◌, ℕ, List, Some, ◌<◌, length, sym, subst}
 use Rattle.slotted_theory.specs.Nameless.{DTerm}
 use Rattle.slotted_theory.specs.Derives.{Equal}
 use Rattle.slotted_model.specs.Applied.{Applied}
@@ -12,7 +12,9 @@ use Rattle.slotted_model.specs.Rest.{IsValidIn}
 use Rattle.slotted_model.specs.Changes.{GoesOn}
 use Rattle.slotted_model.proofs.GoingOn.{goes_on-then}
 use Rattle.slotted_model.proofs.LookUpsAreEqual.{tree-equal, filled-equal}
-use Rattle.slotted_model_analyses.specs.Analysis.{Analysis, IsMerge}
+use Rattle.slotted_model_analyses.proofs.Writing.{merging}
+use Rattle.slotted_model_analyses.specs.DataWrites.{MergesInto}
+use Rattle.slotted_model_analyses.specs.Analysis.{Analysis, IsMerge, Absorbs}
 use Rattle.slotted_model_analyses.specs.DataPart.{DataPart, DataGoesDown, RestsWithData}
 use Rattle.slotted_model_analyses.specs.Rounds.{Modify, AddsNodes, Rounds, AddsExpr, still_there, turned_away}
 use Rattle.slotted_model_analyses.proofs.Absorbing.{absorbs-then}
@@ -53,3 +55,14 @@ module _ {D : Type 0} (a : Analysis D) (law : IsMerge D a) where
       let l = nodes-led r n in
       let b = led-then g m k s u w r l (rounds-led modify limit l.rest rounds) in
       answered-by g s d h t x (led-then g k h s w t r b (nodes-led b.rest more)) q
+
+  -- a merged value stays through rounds
+  pub merged-stays : (modify : Modify D) (limit : ℕ) (g : State) (s : DataPart D) → RestsWithData a g s → (i : ℕ) → i < length g.nodes → (v : D) (h k : State) (t u : DataPart D) →
+      MergesInto a g s i v h t → Rounds a modify limit h t k u → RestsWithData a k u × GoesOn g k × Absorbs a (u.data_of (find_class k.found i)) v
+  merged-stays modify limit g s x i l v h k t u m r =
+      let y = (merging a law g s x i l v).1 h t m in
+      let q = rounds-led modify limit y.1 r in (
+        q.rest,
+        subst (λ f. GoesOn f k) y.0 q.goes_on,
+        absorbs-then a law (u.data_of (find_class k.found i)) (t.data_of (find_class h.found i)) v (q.classes i (subst (λ (f : State). i < length f.nodes) (sym y.0) l)) y.2,
+      )

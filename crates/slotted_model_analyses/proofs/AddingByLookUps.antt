@@ -12,7 +12,7 @@ use Rattle.slotted_model.specs.Normal.{normal}
 use Rattle.slotted_model.specs.State.{State, look_up_normal, look_up_node, look_up_tree}
 use Rattle.slotted_model.specs.Rest.{IsValidIn, IsAnswer}
 use Rattle.slotted_model.specs.Trees.{HasNoIds, IsTree}
-use Rattle.slotted_model.specs.Adding.{Adds, HasAdded, KeepsLookUps}
+use Rattle.slotted_model.specs.Adding.{HasAdded, KeepsLookUps}
 use Rattle.slotted_model.proofs.Adding.{adds}
 use Rattle.slotted_model.proofs.Answers.{answer-found}
 use Rattle.slotted_model.proofs.Asserting.{not_looked_up-new}
@@ -24,6 +24,7 @@ use Rattle.slotted_model.proofs.NormalIds.{found-valid, full-is_valid}
 use Rattle.slotted_model.proofs.Options.{option_map-some, both-some}
 use Rattle.slotted_model_analyses.specs.Analysis.{Analysis, IsMerge}
 use Rattle.slotted_model_analyses.specs.DataPart.{DataPart, RestsWithData}
+use Rattle.slotted_model_analyses.specs.DataWrites.{AddsWithData}
 use Rattle.slotted_model_analyses.specs.Rounds.{Modify, AsksTrees, AddsNodes, no_more, one_more, Rounds, AddsExpr, still_there, turned_away}
 use Rattle.slotted_model_analyses.proofs.AddingTrees.{nodes-then, rests-after}
 use Rattle.slotted_model_analyses.proofs.MakingRounds.{rounds-there}
@@ -66,6 +67,19 @@ module _ {D : Type 0} (a : Analysis D) (law : IsMerge D a) where
       let k : IsAnswer g d x = answer-found g r.rest d x e in
       subst (IsValidIn g) k.found (found-valid g.nodes g.found r.rest.sane.sound.linked k.id (full-is_valid g.nodes g.found r.rest.sane.sound.linked k.id k.full))
 
+  -- a class is made of the node c, whose normal form is that of d
+  node-added : (g : State) (s : DataPart D) → RestsWithData a g s → (d : DTerm) → EachChild (IsValidIn g) d.args → (c : DTerm) → EachChild (IsFull g.nodes) c.args → normal g.found c ≡ normal g.found d →
+      look_up_node g c ≡ None → IsNew g.nodes c → (h : State) (t : DataPart D) → AddsWithData a g s c h t → LooksUpNode g s d
+  node-added g s r d v c full same none new h t add =
+      let y = (adding a law g s r c new).1 h t add in
+      let k : KeepsLookUps g c h = keeps-look_ups g r.rest c new none h y.0 in
+      let w : HasAdded g c h = adds g r.rest c new h y.0 in
+      let cv : EachChild (IsValidIn g) c.args = EachChild-map (IsFull g.nodes) (IsValidIn g) (λ b i. full-is_valid g.nodes g.found r.rest.sane.sound.linked b i) c.args full in
+      let later : normal h.found d ≡ normal h.found c =
+      still-normal g h r.rest.sane.sound w.goes_on d v ∙ (ap (normal h.found) (sym same) ∙ sym (still-normal g h r.rest.sane.sound w.goes_on c cv)) in
+      let there : look_up_node h d ≡ Some k.new_class.0 = ap (look_up_normal h) later ∙ k.new_class.1 in
+      record { after = h; part = t; id = k.new_class.0; nodes = one_more {h = g} {k = h} {t = s} {u = t} c no_more new add; on = k.trees; looked_up = there; valid = answer-valid h t y.1 d k.new_class.0 there }
+
   node-looked_up : (g : State) (s : DataPart D) → RestsWithData a g s → (d : DTerm) → 0 < d.op → EachChild (IsValidIn g) d.args → LooksUpNode g s d
   node-looked_up g s r d op v = go (look_up_node g d) refl
     where
@@ -73,23 +87,12 @@ module _ {D : Type 0} (a : Analysis D) (law : IsMerge D a) where
       go (Some x) e = record { after = g; part = s; id = x; nodes = no_more; on = λ t y p. p; looked_up = e; valid = answer-valid g s r d x e }
       go None e =
           let f = a_filled_node g.nodes (used_slots g.found) [] d v in
-          let c : DTerm = f.0 in
-          let full : EachChild (IsFull g.nodes) c.args = filled-full g.nodes [] d c f.1 in
-          let same : normal g.found c ≡ normal g.found d = filled-normal g.nodes g.found r.rest.sane.sound.linked [] d c v f.1 in
-          let none : look_up_node g c ≡ None = ap (look_up_normal g) same ∙ e in
-          let new : IsNew g.nodes c = not_looked_up-new g r.rest c (subst (λ n. 0 < n) (sym f.1.operator) op) full none in
-          let z = adding a law g s r c new in
-          let h : State = z.0.0 in
-          let t : DataPart D = z.0.1 in
-          let y = z.1 h t z.0.2 in
-          let made : Adds g c h = y.0 in
-          let k : KeepsLookUps g c h = keeps-look_ups g r.rest c new none h made in
-          let w : HasAdded g c h = adds g r.rest c new h made in
-          let cv : EachChild (IsValidIn g) c.args = EachChild-map (IsFull g.nodes) (IsValidIn g) (λ b i. full-is_valid g.nodes g.found r.rest.sane.sound.linked b i) c.args full in
-          let later : normal h.found d ≡ normal h.found c =
-          still-normal g h r.rest.sane.sound w.goes_on d v ∙ (ap (normal h.found) (sym same) ∙ sym (still-normal g h r.rest.sane.sound w.goes_on c cv)) in
-          let there : look_up_node h d ≡ Some k.new_class.0 = ap (look_up_normal h) later ∙ k.new_class.1 in
-          record { after = h; part = t; id = k.new_class.0; nodes = one_more {h = g} {k = h} {t = s} {u = t} c no_more new z.0.2; on = k.trees; looked_up = there; valid = answer-valid h t y.1 d k.new_class.0 there }
+          let full : EachChild (IsFull g.nodes) f.0.args = filled-full g.nodes [] d f.0 f.1 in
+          let same : normal g.found f.0 ≡ normal g.found d = filled-normal g.nodes g.found r.rest.sane.sound.linked [] d f.0 v f.1 in
+          let none : look_up_node g f.0 ≡ None = ap (look_up_normal g) same ∙ e in
+          let new : IsNew g.nodes f.0 = not_looked_up-new g r.rest f.0 (subst (λ n. 0 < n) (sym f.1.operator) op) full none in
+          let z = (adding a law g s r f.0 new).0 in
+          node-added g s r d v f.0 full same none new z.0 z.1 z.2
 
   -- each of these arguments is looked up then
   record LooksUpArgs (g : State) (s : DataPart D) (d : DArgs) : Type 0 where
@@ -120,7 +123,7 @@ module _ {D : Type 0} (a : Analysis D) (law : IsMerge D a) where
         after = q.after;
         part = q.part;
         args = child_before (as_term n.id) q.args;
-        nodes = nodes-then a law (nodes-then a law r.nodes n.nodes) q.nodes;
+        nodes = nodes-then a law {h = n.after} {t = n.part} {k = q.after} {u = q.part} (nodes-then a law {h = r.after} {t = r.part} {k = n.after} {u = n.part} r.nodes n.nodes) q.nodes;
         on = λ t y p. q.on t y (n.on t y (r.on t y p));
         looked_up = λ i. both join (there i) (q.looked_up i);
         valid = ((n.id, refl, ((nodes-made a law xn q.nodes).gone.goes_on.finds n.id n.valid).0), q.valid);
@@ -133,7 +136,7 @@ module _ {D : Type 0} (a : Analysis D) (law : IsMerge D a) where
         after = q.after;
         part = q.part;
         args = scope r.args q.args;
-        nodes = nodes-then a law r.nodes q.nodes;
+        nodes = nodes-then a law {h = r.after} {t = r.part} {k = q.after} {u = q.part} r.nodes q.nodes;
         on = λ t y p. q.on t y (r.on t y p);
         looked_up = λ i. both scope (args-on r.after q.after q.on inner r.args r.looked_up i) (q.looked_up i);
         valid = (valid-after xr q.nodes r.args r.valid, q.valid);

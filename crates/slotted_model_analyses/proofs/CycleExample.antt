@@ -12,17 +12,19 @@ use Rattle.slotted_model.specs.Correspondence.{AllDifferent}
 use Rattle.slotted_model.specs.Extraction.{row_class}
 use Rattle.slotted_model.specs.Find.{find_class}
 use Rattle.slotted_model.specs.Growth.{IsNew}
-use Rattle.slotted_model.specs.Link.{IsLater}
+use Rattle.slotted_model.specs.Link.{IsLater, with_shortcut}
 use Rattle.slotted_model.specs.ProofList.{Equation, equation_of, equation_at}
 use Rattle.slotted_model.specs.State.{Row, State, normal_node, child_classes}
 use Rattle.slotted_model.specs.Changes.{Unites, left_dies, linked_state}
 use Rattle.slotted_model.specs.Rebuild.{row_for, with_row, refiled_state, refiles}
-use Rattle.slotted_model.specs.Adding.{with_new_class, with_assertion}
+use Rattle.slotted_model.specs.Adding.{with_new_class, with_assertion, with_new_row, with_quiet_row}
 use Rattle.slotted_model.proofs.RestExamples.{empty, made, p}
 use Rattle.slotted_model.proofs.Touching.{touching, touched-is}
+use Rattle.slotted_model_analyses.proofs.Showing.{proofs-keep, shortcut-keeps}
+use Rattle.slotted_model_analyses.proofs.QuietData.{new-row-same, quiet-run-with}
 use Rattle.slotted_model_analyses.specs.Analysis.{Analysis, IsMerge, MakesAlike}
 use Rattle.slotted_model_analyses.specs.DataPart.{DataPart, with_data, with_pending, taken, absorbed, lowered, Carries, takes, RunsWithData, starts, takes_turn, takes_data, size_with_data, RestsWithData}
-use Rattle.slotted_model_analyses.specs.DataWrites.{AddsWithData, files_row, AssertsWithData, is_new, MergesInto, merges_into}
+use Rattle.slotted_model_analyses.specs.DataWrites.{AddsWithData, files_row, AssertsWithData, is_new, MergesInto, merges_into, with_new_data}
 use Rattle.slotted_model_analyses.proofs.Merging.{noted-is}
 use Rattle.slotted_model_analyses.proofs.FiledAgain.{canonical-absorbed}
 use Rattle.slotted_model_analyses.proofs.Writing.{nothing-rests-with, adding, asserting, merging}
@@ -249,3 +251,19 @@ told_again h t m = (((merging steps steps_merge with_k k_data k_rests 0 (omega a
 -- at rest the canonical node of each class makes nothing that its class does not absorb
 k_absorbs : min 0 (0 - 1) ≡ 0
 k_absorbs = canonical-absorbed (λ d. Unit {0}) steps steps_alike (λ d e q k. tt) cyclic at_end cyclic_rests (λ r c. tt) 1 (omega arith)
+
+-- the first turn of p files its row and changes nothing else: its row makes what its class was made with
+abbrev p_made : DataPart ℕ
+p_made = with_new_data steps empty start p (0 ∷ [])
+
+p_is_quiet : RunsWithData steps (with_new_row (with_new_class empty p) 0) (record p_made { pending = 0 ∷ [] }) 1 (with_quiet_row (with_new_class empty p) 0) p_made
+p_is_quiet =
+    quiet-run-with steps (with_new_class empty p) 0 (λ s c. absurd (Contains-nil s c)) (λ r c. absurd (Contains-nil r c)) (λ r c. absurd (Contains-nil r c)) (Contains-nil 0) p_made (Contains-nil 0)
+    (new-row-same (λ d. Unit {0}) steps steps_merge steps_alike (λ d e q k. tt) empty start_rests.rest.sane start p p_new tt (0 ∷ []) (noted-is 0 [] tt)).1
+
+-- proofs that assert nothing, here none, and a shortcut of the dead class keep its data
+still_rests : RestsWithData steps cyclic at_end × RestsWithData steps (record cyclic { found = with_shortcut cyclic.found 0 2 }) at_end
+still_rests = (
+  proofs-keep steps cyclic at_end cyclic_rests cyclic.proofs (record { more = []; is = refl; proved = cyclic_rests.rest.sane.sound.proved; asserts_nothing = refl }),
+  shortcut-keeps steps cyclic at_end cyclic_rests 0 2 (omega arith) (λ e. omega arith) (omega arith) refl,
+)

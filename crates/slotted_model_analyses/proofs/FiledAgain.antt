@@ -28,6 +28,16 @@ use Rattle.slotted_model.proofs.Growing.{identity-full}
 use Rattle.slotted_model_analyses.specs.Analysis.{Analysis, MakesAlike, Absorbs}
 use Rattle.slotted_model_analyses.specs.DataPart.{DataPart, RestsWithData}
 
+-- a row in the place of its source is no change where it stands there
+pub with_row-again : (q : Row) (rows : List Row) → ((r : Row) → Contains rows r → r.source ≡ q.source → r ≡ q) → with_row q rows ≡ rows
+with_row-again q [] h = refl
+with_row-again q (r ∷ rows) h =
+    let head : cond (nat_eq r.source q.source) q r ≡ r = elim (cases_eq r.source q.source) [
+      | inl e ↦ ap (λ b. cond b q r) (eq-eqb r.source q.source e) ∙ sym (h r (contains_head r rows) e)
+      | inr n ↦ ap (λ b. cond b q r) (ne_eqb r.source q.source n)
+    ] in
+    λ i. head i ∷ with_row-again q rows (λ x c. h x (contains_tail r rows x c)) i
+
 module _ (g : State) (sane : Sane g) where
   -- the row of a class that does not wait is the one by which it would be filed anew
   pub filed-again : (r : Row) → Contains g.rows r → ¬ Contains g.waiting r.source → row_for g r.source ≡ r
@@ -53,15 +63,6 @@ module _ (g : State) (sane : Sane g) where
       let cur : IsCurrent g r = sane.filed.current r c n in
       (cur.covered, λ q k m e. m (sane.filed.shapes q r k c (e ∙ current-shape g sane.sound.linked sane.filed r c cur)))
 
-  with_row-again : (q : Row) (rows : List Row) → ((r : Row) → Contains rows r → r.source ≡ q.source → r ≡ q) → with_row q rows ≡ rows
-  with_row-again q [] h = refl
-  with_row-again q (r ∷ rows) h =
-      let head : cond (nat_eq r.source q.source) q r ≡ r = elim (cases_eq r.source q.source) [
-        | inl e ↦ ap (λ b. cond b q r) (eq-eqb r.source q.source e) ∙ sym (h r (contains_head r rows) e)
-        | inr n ↦ ap (λ b. cond b q r) (ne_eqb r.source q.source n)
-      ] in
-      λ i. head i ∷ with_row-again q rows (λ x c. h x (contains_tail r rows x c)) i
-
   pub rows-again : (r : Row) → Contains g.rows r → ¬ Contains g.waiting r.source → with_row (row_for g r.source) g.rows ≡ g.rows
   rows-again r c n =
       let e : row_for g r.source ≡ r = filed-again r c n in
@@ -79,7 +80,7 @@ normal-classes found (scope inner rest) =
 pub normal-alike : (found : List Entry) (d : DTerm) → AreAlike (normal found d) d
 normal-alike found d = ap (λ args. shape (node d.op d.payloads args)) (null_children-normal found d.args)
 
-map-map : {X Y Z : Type 0} (f : X → Y) (k : Y → Z) (xs : List X) → map k (map f xs) ≡ map (λ x. k (f x)) xs
+pub map-map : {X Y Z : Type 0} (f : X → Y) (k : Y → Z) (xs : List X) → map k (map f xs) ≡ map (λ x. k (f x)) xs
 map-map f k [] = refl
 map-map f k (x ∷ xs) = ap (λ ys. k (f x) ∷ ys) (map-map f k xs)
 

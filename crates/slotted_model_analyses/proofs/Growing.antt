@@ -1,11 +1,9 @@
 -- A new class with the data that its node makes.
 use Rattle.std.proofs.Common.{◌≡◌, ℕ, suc, ◌<◌, List, [], ◌∷◌, length, sym, ◌∙◌, ap, subst, inl, inr, arith, length-append, ◌+◌}
 use Rattle.std.specs.Prelude.{Contains}
-use Rattle.std.proofs.lemmas.List.Elements.{Contains-append_cases}
 use Rattle.std.proofs.Math.Seq.{get_or-append_seam}
-use Rattle.slotted_theory.specs.Nameless.{DArgs, DTerm, stop, place, sub, scope}
-use Rattle.slotted_theory.proofs.Lists.{contains_head, contains_tail, contains_cases, Contains-nil}
-use Rattle.slotted_model.specs.Applied.{Applied, applied_of, EachChild}
+use Rattle.slotted_theory.specs.Nameless.{DTerm}
+use Rattle.slotted_theory.proofs.Lists.{contains_head, contains_tail, contains_cases}
 use Rattle.slotted_model.specs.Classes.{canonical_slots}
 use Rattle.slotted_model.specs.Correspondence.{identity}
 use Rattle.slotted_model.specs.Find.{Entry, IsLive, find_class}
@@ -16,9 +14,9 @@ use Rattle.slotted_model.specs.Rebuild.{row_for}
 use Rattle.slotted_model.specs.Adding.{with_new_class, with_new_row}
 use Rattle.slotted_model.specs.Extraction.{row_class}
 use Rattle.slotted_model.proofs.Adding.{class-sane, last-in_range}
-use Rattle.slotted_model.proofs.Congruence.{child-applied}
 use Rattle.slotted_model.proofs.Finding.{leads, find_class-live, found-in_range}
 use Rattle.slotted_model.proofs.Growing.{added}
+use Rattle.slotted_model.proofs.KeepingLookUps.{children-below}
 use Rattle.slotted_model.proofs.NewClasses.{find_class-same}
 use Rattle.slotted_model.proofs.Rows.{of_source}
 use Rattle.slotted_model_analyses.specs.Analysis.{Analysis, IsMerge, Absorbs}
@@ -27,22 +25,6 @@ use Rattle.slotted_model_analyses.specs.DataWrites.{made_of_found, with_new_data
 use Rattle.slotted_model_analyses.proofs.Absorbing.{absorbs-same}
 use Rattle.slotted_model_analyses.proofs.Heights.{with_data-here, with_data-other}
 use Rattle.slotted_model_analyses.proofs.Merging.{others-same}
-
--- no child is of a class past the last
-no_child : (P : Applied → Type 0) (n : ℕ) → ((b : Applied) → P b → b.0 < n) → (d : DArgs) → EachChild P d → ¬ Contains (child_classes d) n
-no_child P n h stop c k = Contains-nil n k
-no_child P n h (place x rest) c k = no_child P n h rest c k
-no_child P n h (sub op payloads args rest) c k = elim (contains_cases (applied_of payloads args).0 (child_classes rest) n k) [
-  | inl e ↦
-      let l : c.0.0.0 < n = h c.0.0 c.0.2 in
-      let q : (applied_of payloads args).0 ≡ c.0.0.0 = ap (λ (b : Applied). b.0) (child-applied P op payloads args c.0) in
-      omega arith
-  | inr j ↦ no_child P n h rest c.1 j
-]
-no_child P n h (scope inner rest) c k = elim (Contains-append_cases (child_classes inner) (child_classes rest) n k) [
-  | inl j ↦ no_child P n h inner c.0 j
-  | inr j ↦ no_child P n h rest c.1 j
-]
 
 module _ {D : Type 0} (a : Analysis D) (g : State) (sane : Sane g) (s : DataPart D) (c : DTerm) (new : IsNew g.nodes c) (changed : List ℕ) (noted : HasNoted (length g.nodes) s.changed changed) where
   abbrev newer : State
@@ -54,20 +36,20 @@ module _ {D : Type 0} (a : Analysis D) (g : State) (sane : Sane g) (s : DataPart
   abbrev t : DataPart D
   t = with_new_data a g s c changed
 
-  class-same : (k : ℕ) → k < i → find_class newer.found k ≡ find_class g.found k
+  pub class-same : (k : ℕ) → k < i → find_class newer.found k ≡ find_class g.found k
   class-same k h =
       let grown : Added g.nodes newer.nodes c = added g.nodes c sane.sound.canonical new in
       let e : length newer.nodes ≡ suc i = let l : length newer.nodes ≡ i + 1 = length-append g.nodes (c ∷ []) in omega arith in
       find_class-same g.nodes newer.nodes grown.extends e g.found sane.sound.linked (length g.proofs) k h
 
-  class-below : (k : ℕ) → k < i → find_class g.found k < i
+  pub class-below : (k : ℕ) → k < i → find_class g.found k < i
   class-below k h = found-in_range g.nodes g.found (leads g.nodes g.found sane.sound.linked) k h
 
-  old-data : (k : ℕ) → k < i → t.data_of k ≡ s.data_of k
+  pub old-data : (k : ℕ) → k < i → t.data_of k ≡ s.data_of k
   old-data k h = with_data-other s.data_of i (made_of_found a g s c) k (λ e. omega arith)
 
   made-same : (r : Row) → Contains g.rows r → made a t r.shape ≡ made a s r.shape
-  made-same r k = ap (a.make r.shape) (others-same s.data_of i (made_of_found a g s c) (child_classes r.shape.args) (no_child (IsValidIn g) i (λ b v. v.in_range) r.shape.args (sane.filed.each r k).children))
+  made-same r k = ap (a.make r.shape) (others-same s.data_of i (made_of_found a g s c) (child_classes r.shape.args) (λ d. let l : i < i = children-below (IsValidIn g) i (λ b v. v.in_range) r.shape.args (sane.filed.each r k).children i d in omega arith))
 
   absorbs-still : HasData a g s → (r : Row) → Contains g.rows r → ¬ Contains s.pending r.source → Absorbs a (t.data_of (row_class newer r)) (made a t r.shape)
   absorbs-still has r k n =

@@ -10,6 +10,8 @@ pub mod FiledAgain
 pub mod Rebuilding
 pub mod Growing
 pub mod Writing
+pub mod QuietData
+pub mod Showing
 pub mod CycleExample
 pub mod TurnedExample
 pub mod RoundsAtRest

@@ -13,7 +13,8 @@ pub record Analysis (D : Type 0) : Type 0 where
   pub merge : D → D → D
   pub height : D → ℕ
 
--- whether two data are equal is decided; the merge is commutative, associative and idempotent, and lowers the height of what it changes
+-- whether two data are equal is decided; the merge is commutative, associative and idempotent, and lowers the height of what it
+-- changes
 pub record IsMerge (D : Type 0) (a : Analysis D) : Type 0 where
   pub decided : (x y : D) → (x ≡ y) ⊎ (x ≢ y)
   pub commutative : (x y : D) → a.merge x y ≡ a.merge y x

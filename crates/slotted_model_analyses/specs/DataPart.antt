@@ -19,8 +19,8 @@ use Rattle.slotted_model.specs.Rebuild.{without, row_for, refiled_state, Turn, e
 use Rattle.slotted_model.specs.Extraction.{row_class}
 use Rattle.slotted_model_analyses.specs.Analysis.{Analysis, Absorbs}
 
--- the data of each class, the sources of all rows that wait, as a whole or for data alone, and the classes that wait to be modified, since
--- they were made or their data has changed
+-- the data of each class, the sources of all rows that wait, as a whole or for data alone, and the classes that wait to be
+-- modified, since they were made or their data has changed
 pub record DataPart (D : Type 0) : Type 0 where
   pub data_of : ℕ → D
   pub pending : List ℕ
@@ -52,21 +52,27 @@ pub record HasNoted (c : ℕ) (older newer : List ℕ) : Type 0 where
 -- v is merged into the data of the class c: if this changes it, the rows over the class wait, and the class waits to be modified
 pub data Merges {D : Type 0} (a : Analysis D) (g : State) (s : DataPart D) (c : ℕ) (v : D) : DataPart D → Type 0 where
   absorbed : Absorbs a (s.data_of c) v → Merges a g s c v s
-  lowered : (pending changed : List ℕ) → ¬ Absorbs a (s.data_of c) v → HasTouched (with_pending g s) c pending → HasNoted c s.changed changed →
+  lowered : (pending changed : List ℕ) → ¬ Absorbs a (s.data_of c) v → HasTouched (with_pending g s) c pending →
+      HasNoted c s.changed changed →
       Merges a g s c v (record { data_of = with_data s.data_of c (a.merge (s.data_of c) v); pending = pending; changed = changed })
 
 -- the class c dies and leads to d: the rows over it wait, and its data is merged into that of d
 abbrev pub CarriesLink : {D : Type 0} → Analysis D → State → ℕ → ℕ → DataPart D → DataPart D → Type 0
-CarriesLink a g c d s t = (pending : List ℕ) × HasTouched (with_pending g s) c pending × Merges a g (record s { pending = pending }) d (s.data_of c) t
+CarriesLink a g c d s t = (pending : List ℕ) × HasTouched (with_pending g s) c pending
+    × Merges a g (record s { pending = pending }) d (s.data_of c) t
 
 -- the data along a union: where slots are dropped, the rows over the class wait
 abbrev pub Carries : {D : Type 0} → Analysis D → {p : ℕ} {g h : State} → Unites p g h → DataPart D → DataPart D → Type 0
 Carries a (finds_alike l i) s t = t ≡ s
 Carries a (proves proofs grow u) s t = Carries a u s t
-Carries a {p} (drops_left {g = g} n x w used lacks at touched u) s t = (pending : List ℕ) × HasTouched (with_pending g s) (found_entry g p).left pending × Carries a u (record s { pending = pending }) t
-Carries a {p} (drops_right {g = g} n x w all used lacks at touched u) s t = (pending : List ℕ) × HasTouched (with_pending g s) (found_entry g p).right pending × Carries a u (record s { pending = pending }) t
-Carries a {p} (left_dies {g = g} n moment w differ all at later touched) s t = CarriesLink a g (found_entry g p).left (found_entry g p).right s t
-Carries a {p} (right_dies {g = g} n moment w differ all at later touched) s t = CarriesLink a g (found_entry g p).right (found_entry g p).left s t
+Carries a {p} (drops_left {g = g} n x w used lacks at touched u) s t = (pending : List ℕ)
+    × HasTouched (with_pending g s) (found_entry g p).left pending × Carries a u (record s { pending = pending }) t
+Carries a {p} (drops_right {g = g} n x w all used lacks at touched u) s t = (pending : List ℕ)
+    × HasTouched (with_pending g s) (found_entry g p).right pending × Carries a u (record s { pending = pending }) t
+Carries a {p} (left_dies {g = g} n moment w differ all at later touched) s t =
+    CarriesLink a g (found_entry g p).left (found_entry g p).right s t
+Carries a {p} (right_dies {g = g} n moment w differ all at later touched) s t =
+    CarriesLink a g (found_entry g p).right (found_entry g p).left s t
 Carries a (lists n same all moves new at) s t = t ≡ s
 Carries a (is_listed y same all c is) s t = t ≡ s
 
@@ -75,7 +81,8 @@ abbrev pub Follows : {D : Type 0} → Analysis D → {g h : State} → Turn g h 
 Follows a (enters proofs grow k) s t = Follows a k s t
 Follows a (narrows o p x waits used lacks congruence u) s t = Carries a u s t
 Follows {D} a (unites_parents o p r waits filed differ same congruence u) s t = (m : DataPart D) × Carries a u s m × (t ≡ taken m o)
-Follows a (refiles {g = g} o waits covered alone) s t = Merges a (refiled_state g o) (taken s o) (find_class g.found o) (made a s (row_for g o).shape) t
+Follows a (refiles {g = g} o waits covered alone) s t =
+    Merges a (refiled_state g o) (taken s o) (find_class g.found o) (made a s (row_for g o).shape) t
 
 -- the data along an act
 abbrev pub FollowsAct : {D : Type 0} → Analysis D → {g h : State} → Acts g h → DataPart D → DataPart D → Type 0
@@ -89,17 +96,20 @@ pub data TakesData {D : Type 0} (a : Analysis D) (g : State) (s : DataPart D) : 
 -- turns, turns for data alone, and acts between them, with their data
 pub data RunsWithData {D : Type 0} (a : Analysis D) (f : State) (s : DataPart D) : ℕ → State → DataPart D → Type 0 where
   starts : RunsWithData a f s 0 f s
-  takes_turn : {n : ℕ} {g h : State} {t u : DataPart D} → RunsWithData a f s n g t → (k : Turn g h) → Follows a k t u → RunsWithData a f s (suc n) h u
+  takes_turn : {n : ℕ} {g h : State} {t u : DataPart D} → RunsWithData a f s n g t → (k : Turn g h) → Follows a k t u →
+      RunsWithData a f s (suc n) h u
   takes_data : {n : ℕ} {g : State} {t u : DataPart D} → RunsWithData a f s n g t → TakesData a g t u → RunsWithData a f s (suc n) g u
-  takes_act : {n : ℕ} {g h : State} {t u : DataPart D} → RunsWithData a f s n g t → (k : Acts g h) → FollowsAct a k t u → RunsWithData a f s n h u
+  takes_act : {n : ℕ} {g h : State} {t u : DataPart D} → RunsWithData a f s n g t → (k : Acts g h) → FollowsAct a k t u →
+      RunsWithData a f s n h u
 
--- what holds through all changes: sources of rows wait, each once, those too that wait as a whole; at each other row merging what its node makes into
--- the data of its class changes nothing; and classes wait to be modified, each once
+-- what holds through all changes: sources of rows wait, each once, those too that wait as a whole; at each other row merging what
+-- its node makes into the data of its class changes nothing; and classes wait to be modified, each once
 pub record HasData {D : Type 0} (a : Analysis D) (g : State) (s : DataPart D) : Type 0 where
   pub waits_once : AllDifferent s.pending
   pub waits_whole : (o : ℕ) → Contains g.waiting o → Contains s.pending o
   pub waits_for_row : (o : ℕ) → Contains s.pending o → Contains (sources g.rows) o
-  pub absorbs_made : (r : Row) → Contains g.rows r → ¬ Contains s.pending r.source → Absorbs a (s.data_of (row_class g r)) (made a s r.shape)
+  pub absorbs_made : (r : Row) → Contains g.rows r → ¬ Contains s.pending r.source →
+      Absorbs a (s.data_of (row_class g r)) (made a s r.shape)
   pub changed_once : AllDifferent s.changed
   pub changed_in_range : (i : ℕ) → Contains s.changed i → i < length g.nodes
 
@@ -116,7 +126,8 @@ size_with_data a g s = size g + heights_from a s.data_of 0 g.found
 abbrev pub DataGoesDown : {D : Type 0} → Analysis D → State → DataPart D → State → DataPart D → Type 0
 DataGoesDown a g s h t = (i : ℕ) → i < length g.nodes → Absorbs a (t.data_of (find_class h.found i)) (s.data_of (find_class g.found i))
 
--- the data of each class has only gone down, and the classes that wait to be modified are those that did, and those whose data has changed
+-- the data of each class has only gone down, and the classes that wait to be modified are those that did, and those whose data
+-- has changed
 pub record GoesDown {D : Type 0} (a : Analysis D) (s t : DataPart D) : Type 0 where
   pub lower : (i : ℕ) → Absorbs a (t.data_of i) (s.data_of i)
   pub once : AllDifferent s.changed → AllDifferent t.changed

@@ -6,7 +6,8 @@
 --     TakesRound a m g s h t      one round: the live classes that wait, by ascending id
 --     Rounds a m n g s h t        rounds until no live class waits, at most n
 --     AddsExpr a m n g s d h t x  the tree d is added, with rounds after it, and x is answered
---     IsAsked a m g h p           the pair p was asserted for an edit that m answered for the data of a class in a graph between g and h
+--     IsAsked a m g h p           the pair p was asserted for an edit that m answered for the data of a class in a graph between g and
+-- h
 use Rattle.std.specs.Prelude.{◌≡◌, ◌⊎◌, ℕ, suc, ◌<◌, ◌≤◌, List, [], ◌∷◌, length, Contains, Some, None, ◌↔◌}
 use Rattle.slotted_theory.specs.Nameless.{DTerm}
 use Rattle.slotted_model.specs.Ascending.{IsAscending}
@@ -48,7 +49,8 @@ AsksTrees {D} modify = (x : D) (slots : List ℕ) (e : Edit) → Contains (modif
 -- classes are made, one after another
 pub data AddsNodes {D : Type 0} (a : Analysis D) (g : State) (s : DataPart D) : State → DataPart D → Type 0 where
   no_more : AddsNodes a g s g s
-  one_more : {h k : State} {t u : DataPart D} (c : DTerm) → AddsNodes a g s h t → IsNew h.nodes c → AddsWithData a h t c k u → AddsNodes a g s k u
+  one_more : {h k : State} {t u : DataPart D} (c : DTerm) → AddsNodes a g s h t → IsNew h.nodes c → AddsWithData a h t c k u →
+      AddsNodes a g s k u
 
 -- the tree d is added: classes are made for those of its parts that no id stands for, and b stands for it
 pub record AddsTree {D : Type 0} (a : Analysis D) (g : State) (s : DataPart D) (d : DTerm) (h : State) (t : DataPart D) (b : Applied) : Type 0 where
@@ -57,25 +59,32 @@ pub record AddsTree {D : Type 0} (a : Analysis D) (g : State) (s : DataPart D) (
   pub term : term_of h.nodes b ≡ d
 
 -- an edit of the class c, which had these slots when it was asked
-pub data MakesEdit {D : Type 0} (a : Analysis D) (g : State) (s : DataPart D) (c : ℕ) (slots : List ℕ) : Edit → State → DataPart D → Type 0 where
+pub data MakesEdit {D : Type 0} (a : Analysis D) (g : State) (s : DataPart D) (c : ℕ) (slots : List ℕ) : Edit → State → DataPart D →
+    Type 0 where
   makes_add : {h : State} {t : DataPart D} {b : Applied} (d : DTerm) → AddsTree a g s d h t b → MakesEdit a g s c slots (adds d) h t
-  makes_equal : {h k : State} {t u : DataPart D} {b x : Applied} (d : DTerm) → AddsTree a g s d h t b → IsFilling h.nodes (values b.1) (c, identity slots) x →
+  makes_equal : {h k : State} {t u : DataPart D} {b x : Applied} (d : DTerm) → AddsTree a g s d h t b →
+      IsFilling h.nodes (values b.1) (c, identity slots) x →
       AssertsWithData a h t x b k u → MakesEdit a g s c slots (equals d) k u
-  makes_equate : {h k l : State} {t u v : DataPart D} {b x : Applied} (d e : DTerm) → AddsTree a g s d h t b → AddsTree a h t e k u x → AssertsWithData a k u b x l v →
+  makes_equate : {h k l : State} {t u v : DataPart D} {b x : Applied} (d e : DTerm) → AddsTree a g s d h t b → AddsTree a h t e k u x →
+      AssertsWithData a k u b x l v →
       MakesEdit a g s c slots (equates d e) l v
 
 -- the edits of a class, in order
-pub data MakesEdits {D : Type 0} (a : Analysis D) (c : ℕ) (slots : List ℕ) : State → DataPart D → List Edit → State → DataPart D → Type 0 where
+pub data MakesEdits {D : Type 0} (a : Analysis D) (c : ℕ) (slots : List ℕ) : State → DataPart D → List Edit → State → DataPart D →
+    Type 0 where
   all_made : {g : State} {s : DataPart D} → MakesEdits a c slots g s [] g s
-  then_edit : {g h k : State} {s t u : DataPart D} {e : Edit} {es : List Edit} → MakesEdit a g s c slots e h t → MakesEdits a c slots h t es k u →
+  then_edit : {g h k : State} {s t u : DataPart D} {e : Edit} {es : List Edit} → MakesEdit a g s c slots e h t →
+      MakesEdits a c slots h t es k u →
       MakesEdits a c slots g s (e ∷ es) k u
 
 -- these classes in turn: of a live one the edits that are answered for the data that it has then, and a dead one is passed over
 pub data Modifies {D : Type 0} (a : Analysis D) (modify : Modify D) : State → DataPart D → List ℕ → State → DataPart D → Type 0 where
   all_modified : {g : State} {s : DataPart D} → Modifies a modify g s [] g s
   modified : {g h k : State} {s t u : DataPart D} {c : ℕ} {cs : List ℕ} → c < length g.nodes → IsLive g.found c →
-      MakesEdits a c (used_slots g.found c) g s (modify (s.data_of c) (used_slots g.found c)) h t → Modifies a modify h t cs k u → Modifies a modify g s (c ∷ cs) k u
-  passed_over : {g k : State} {s u : DataPart D} {c : ℕ} {cs : List ℕ} → ¬ IsLive g.found c → Modifies a modify g s cs k u → Modifies a modify g s (c ∷ cs) k u
+      MakesEdits a c (used_slots g.found c) g s (modify (s.data_of c) (used_slots g.found c)) h t → Modifies a modify h t cs k u →
+      Modifies a modify g s (c ∷ cs) k u
+  passed_over : {g k : State} {s u : DataPart D} {c : ℕ} {cs : List ℕ} → ¬ IsLive g.found c → Modifies a modify g s cs k u →
+      Modifies a modify g s (c ∷ cs) k u
 
 -- one round: the live classes that wait to be modified are taken, by ascending id; what changes meanwhile waits for the next
 pub record TakesRound {D : Type 0} (a : Analysis D) (modify : Modify D) (g : State) (s : DataPart D) (h : State) (t : DataPart D) : Type 0 where
@@ -85,9 +94,11 @@ pub record TakesRound {D : Type 0} (a : Analysis D) (modify : Modify D) (g : Sta
   pub modifies : Modifies a modify g (record s { changed = [] }) order h t
 
 -- so many rounds, each where a live class waits
-pub data TakesRounds {D : Type 0} (a : Analysis D) (modify : Modify D) (g : State) (s : DataPart D) : ℕ → State → DataPart D → Type 0 where
+pub data TakesRounds {D : Type 0} (a : Analysis D) (modify : Modify D) (g : State) (s : DataPart D) : ℕ → State → DataPart D →
+    Type 0 where
   no_rounds : TakesRounds a modify g s 0 g s
-  one_round : {n : ℕ} {h k : State} {t u : DataPart D} → TakesRounds a modify g s n h t → (c : ℕ) → Contains t.changed c → IsLive h.found c →
+  one_round : {n : ℕ} {h k : State} {t u : DataPart D} → TakesRounds a modify g s n h t → (c : ℕ) → Contains t.changed c →
+      IsLive h.found c →
       TakesRound a modify h t k u → TakesRounds a modify g s (suc n) k u
 
 -- no live class waits to be modified
@@ -101,12 +112,16 @@ pub record Rounds {D : Type 0} (a : Analysis D) (modify : Modify D) (limit : ℕ
   pub rounds : TakesRounds a modify g s taken h t
   pub ends : (taken ≡ limit) ⊎ NoneWaits h t
 
--- the tree d is added: classes are made until it is looked up, and then rounds follow. An edit may turn the look-up of a part of it, by a symmetry that it
--- opens, so that the tree is not looked up then; in this case classes are made for it once more, without rounds. What the look-up says then is answered
-pub data AddsExpr {D : Type 0} (a : Analysis D) (modify : Modify D) (limit : ℕ) (g : State) (s : DataPart D) (d : DTerm) : State → DataPart D → Applied → Type 0 where
-  still_there : {h k : State} {t u : DataPart D} {x y : Applied} → AddsNodes a g s h t → look_up_tree h d ≡ Some x → Rounds a modify limit h t k u → look_up_tree k d ≡ Some y →
+-- the tree d is added: classes are made until it is looked up, and then rounds follow. An edit may turn the look-up of a part of
+-- it, by a symmetry that it opens, so that the tree is not looked up then; in this case classes are made for it once more,
+-- without rounds. What the look-up says then is answered
+pub data AddsExpr {D : Type 0} (a : Analysis D) (modify : Modify D) (limit : ℕ) (g : State) (s : DataPart D) (d : DTerm) : State →
+    DataPart D → Applied → Type 0 where
+  still_there : {h k : State} {t u : DataPart D} {x y : Applied} → AddsNodes a g s h t → look_up_tree h d ≡ Some x →
+      Rounds a modify limit h t k u → look_up_tree k d ≡ Some y →
       AddsExpr a modify limit g s d k u y
-  turned_away : {h k l : State} {t u v : DataPart D} {x y : Applied} → AddsNodes a g s h t → look_up_tree h d ≡ Some x → Rounds a modify limit h t k u → look_up_tree k d ≡ None →
+  turned_away : {h k l : State} {t u v : DataPart D} {x y : Applied} → AddsNodes a g s h t → look_up_tree h d ≡ Some x →
+      Rounds a modify limit h t k u → look_up_tree k d ≡ None →
       AddsNodes a k u l v → look_up_tree l d ≡ Some y → AddsExpr a modify limit g s d l v y
 
 -- what the edit says of the class c, which had these slots, is that x equals y
@@ -115,7 +130,8 @@ SaysEdit g c slots (adds d) x y = ⊥
 SaysEdit g c slots (equals d) x y = IsFilling g.nodes (values y.1) (c, identity slots) x × (term_of g.nodes y ≡ d)
 SaysEdit g c slots (equates d e) x y = (term_of g.nodes x ≡ d) × (term_of g.nodes y ≡ e)
 
--- the pair was asserted, in a graph between g and h, for an edit that was answered for the data and slots that a live class had in a graph between
+-- the pair was asserted, in a graph between g and h, for an edit that was answered for the data and slots that a live class had
+-- in a graph between
 pub record IsAsked {D : Type 0} (a : Analysis D) (modify : Modify D) (g h : State) (pair : DTerm × DTerm) : Type 0 where
   pub asked : State
   pub part : DataPart D

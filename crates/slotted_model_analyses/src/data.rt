@@ -2,10 +2,11 @@
 
 ghost use Rattle.slotted_model_analyses.specs.DataClaims.{DataLaws};
 
-/// The laws of data alone, of any type, whose merge is commutative, associative, idempotent, and lowers what it changes.
+/// The laws of data alone, of any type, whose merge is commutative, associative, idempotent, and lowers what it
+/// changes.
 ///
-/// Data is ordered by what it absorbs, and a merge is the greatest that absorbs both. So merging a value again changes
-/// nothing, and the order in which values are merged does not matter.
+/// Data is ordered by what it absorbs, and a merge is the greatest that absorbs both. So merging a value again
+/// changes nothing, and the order in which values are merged does not matter.
 pub fn data_laws_hold<D>()
     ensures { DataLaws D }
 {}

@@ -10,9 +10,10 @@ pub trait Known {
 
 /// The laws of rebuilding with data.
 ///
-/// The graphs of a run with data are those of a run without it. Data goes along with each of its steps, and only ever goes down. What does
-/// not wait absorbs what its node makes of its children's data; so at rest all do. A run has no more turns, those for data alone too, than the
-/// size with the heights of all data allows, and it always leads to rest.
+/// The graphs of a run with data are those of a run without it. Data goes along with each of its steps, and only ever
+/// goes down. What does not wait absorbs what its node makes of its children's data; so at rest all do. A run has no
+/// more turns, those for data alone too, than the size with the heights of all data allows, and it always leads to
+/// rest.
 pub fn run_laws_hold<D, P: Known>()
     ensures { RunLaws D P.is_known }
 {}

@@ -1,5 +1,5 @@
 use Rattle.std.proofs.Common.{arith}
-use Rattle.slotted_model_analyses.proofs.AddedTrees.{tree-added}
+use Rattle.slotted_model_analyses.proofs.AddedTrees.{tree-added, merged-stays}
 use Rattle.slotted_model_analyses.proofs.AddingByLookUps.{tree-looked_up, tree-addable}
 use Rattle.slotted_model_analyses.proofs.AddingTrees.{tree-there}
 use Rattle.slotted_model_analyses.proofs.MakingRounds.{class-edit, rounds-there}
@@ -16,6 +16,7 @@ returns g c = record {
       (p.rest, p.goes_on, p.classes, p.asked, λ e. no_rounds-same a modify r.rounds (let l = r.within in omega arith));
   rounds_are_there = λ a law s d rest. (tree-there a law s d rest, λ k l e trees. class-edit a law s d rest k l e trees, λ modify asks limit. rounds-there a law modify asks s d rest limit);
   rounds_of_nothing = λ a modify none s d h t r. none-modified a modify none r.modifies;
+  merged_values_stay = merged-stays;
   trees_can_be_added = λ a law s d rest t tree. (tree-looked_up a law s d rest t tree, λ modify asks limit. tree-addable a law modify asks limit s d rest t tree);
   added_trees_are_looked_up = tree-added;
 }

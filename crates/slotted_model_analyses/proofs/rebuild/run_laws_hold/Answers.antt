@@ -1,6 +1,8 @@
 use Rattle.slotted_theory.proofs.Lists.{Contains-nil}
-use Rattle.std.proofs.Common.{subst}
+use Rattle.std.proofs.Common.{◌+◌, ap, subst}
 use Rattle.std.specs.Prelude.{Contains}
+use Rattle.slotted_model.proofs.Counting.{size-counts}
+use Rattle.slotted_model_analyses.specs.DataPart.{heights_from}
 use Rattle.slotted_model_analyses.proofs.Following.{data-followed, followed, acted-followed}
 use Rattle.slotted_model_analyses.proofs.Counts.{below, pending-below, run-with, counted-with, ended-with}
 use Rattle.slotted_model_analyses.proofs.Reaching.{carry, follow, follow-act, reaching-rest}
@@ -21,6 +23,7 @@ returns g c = record {
   data_turns_carry_data = λ a law g sane s t has k. let x = data-followed a law g sane s t has k in (x.has, x.classes, x.down, x.falls);
   acts_carry_data = λ a law g h k sane s t has f. let x = acted-followed a law k sane s t has f in (x.0.has, x.0.classes, x.0.down, x.1);
   filing_again_changes_nothing = λ g sane r there n. let k = alone-again g sane r there n in (k.0, k.1, filed-again g sane r there n, rows-again g sane r there n);
+  size_adds_heights = λ a d s. ap (λ n. n + heights_from a s.data_of 0 d.found) (size-counts 0 d.found);
   no_more_pending_than_rows = pending-below;
   runs_stand_on_runs = λ a f s n h t r. below a r;
   runs_with_data_are_counted = λ a law f s n h t sane has r. let k = run-with a law f sane has r in (k.rebuilt, k.has, k.smaller, counted-with a law f sane k);
