@@ -25,3 +25,4 @@ pub mod Turns
 pub mod RunnerExamples
 pub mod RuleExamples
 pub mod Rewriting
+pub mod Searching

@@ -44,7 +44,7 @@ OwnSlots-map P Q h (child_pattern p rest) k = OwnSlots-map P Q h rest k
 OwnSlots-map P Q h (binding x inner rest) k = (h x k.0, OwnSlots-map P Q h inner k.1, OwnSlots-map P Q h rest k.2)
 
 mutual
-  EachSlot-map : (P Q : ℕ → Type 0) → ((t : ℕ) → P t → Q t) → (p : Pattern) → EachSlot P p → EachSlot Q p
+  pub EachSlot-map : (P Q : ℕ → Type 0) → ((t : ℕ) → P t → Q t) → (p : Pattern) → EachSlot P p → EachSlot Q p
   EachSlot-map P Q h (pattern_node op payloads args) k = EachSlotIn-map P Q h args k
   EachSlot-map P Q h (variable v) k = tt
   EachSlot-map P Q h (replacing body part value) k = (EachSlot-map P Q h body k.0, EachSlot-map P Q h part k.1, EachSlot-map P Q h value k.2)

@@ -72,7 +72,7 @@ module _ (R : DTerm → DTerm → Bool) (older newer : List DTerm) (extends : Ex
 
 -- P holds of each variable if Q does
 mutual
-  each-variable : (P Q : List ℕ → Type 0) → ((v : List ℕ) → Q v → P v) → (p : Pattern) → EachVariable Q p → EachVariable P p
+  pub each-variable : (P Q : List ℕ → Type 0) → ((v : List ℕ) → Q v → P v) → (p : Pattern) → EachVariable Q p → EachVariable P p
   each-variable P Q h (pattern_node op payloads args) k = each-in P Q h args k
   each-variable P Q h (variable v) k = h v k
   each-variable P Q h (replacing body part value) k = (each-variable P Q h body k.0, each-variable P Q h part k.1, each-variable P Q h value k.2)

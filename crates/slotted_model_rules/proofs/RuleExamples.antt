@@ -1,18 +1,19 @@
 -- Rules on small graphs: conditions of which the second is not asked, one that turns during an apply, a rule that is saturated, and one that is
 -- although an open symmetry stands. The words a and b are the operators 1 and 2, and n is over n over each of them.
-use Rattle.std.proofs.Common.{◌≡◌, ℕ, List, [], ◌∷◌, Some, None, true, false, get_or, sym, ap, refl, inl, inr, arith}
-use Rattle.std.specs.Prelude.{◌≢◌, nat_eq, not}
+use Rattle.std.proofs.Common.{◌≡◌, ◌∙◌, ◌<◌, ℕ, zero, suc, List, [], ◌∷◌, Some, None, true, false, get_or, sym, ap, refl, subst, inl, inr, arith}
+use Rattle.std.specs.Prelude.{Contains, ◌≢◌, nat_eq, not}
 use Rattle.std.proofs.lemmas.List.{append-nil}
 use Rattle.slotted_theory.specs.Nameless.{DTerm}
-use Rattle.slotted_theory.proofs.Lists.{contains_head, Contains-nil}
-use Rattle.slotted_model.specs.Applied.{Applied}
+use Rattle.slotted_theory.proofs.Lists.{contains_head, contains_cases, Contains-nil}
+use Rattle.slotted_theory.specs.Derives.{Equal}
+use Rattle.slotted_model.specs.Applied.{Applied, renamed_id}
 use Rattle.slotted_model.specs.Changes.{finds_alike}
-use Rattle.slotted_model.specs.Classes.{IsFull}
+use Rattle.slotted_model.specs.Classes.{canonical_slots, term_of, IsFull}
 use Rattle.slotted_model.specs.Filling.{IsFilling}
-use Rattle.slotted_model.specs.Find.{find_class, find}
-use Rattle.slotted_model.specs.ProofList.{Equation, equation_at}
+use Rattle.slotted_model.specs.Find.{IsLive, find_class, used_slots, find}
+use Rattle.slotted_model.specs.ProofList.{Equation, equation_at, asserted}
 use Rattle.slotted_model.specs.Rebuild.{starts}
-use Rattle.slotted_model.specs.Rest.{AtRest}
+use Rattle.slotted_model.specs.Rest.{IsValidIn, AtRest}
 use Rattle.slotted_model.specs.State.{State}
 use Rattle.slotted_model.specs.Adding.{stands}
 use Rattle.slotted_model.specs.Sessions.{nothing}
@@ -21,12 +22,17 @@ use Rattle.slotted_model.proofs.Asserting.{nothing-rests}
 use Rattle.slotted_model.proofs.Correspondences.Pairs.{Contains-key}
 use Rattle.slotted_model.proofs.CongruenceExample.{twice, twice_rests, id, id_full, rebuilt, words_asserted, rebuilt_done}
 use Rattle.slotted_model.proofs.OpenSessionsExample.{h_of, with_h, h_is_new, h_full, open_state, opens}
+use Rattle.slotted_model.proofs.NormalIds.{full-is_valid}
 use Rattle.slotted_model.proofs.Quiet.{proofs-quiet}
 use Rattle.slotted_model.proofs.SessionExample.{files}
-use Rattle.slotted_model_rules.specs.Patterns.{Pattern, pattern_node, own_name, no_argument}
-use Rattle.slotted_model_rules.specs.Instances.{is_itself}
+use Rattle.slotted_model_rules.specs.Patterns.{Pattern, pattern_node, variable, own_name, no_argument, look_up_pattern}
+use Rattle.slotted_model_rules.specs.Instances.{is_itself, IsInstance}
+use Rattle.slotted_model_rules.specs.Matcher.{MatchState, Reads}
 use Rattle.slotted_model_rules.specs.Conditions.{Values, Condition, always, slot_free_in, either, each_of, own, holds, asked}
-use Rattle.slotted_model_rules.specs.Rules.{IsBetween, KeepsAll, no_call, asserts, keeps, IsNewEntry, IsAskedFor, Rule, IsEquationOfInstances, AssertsInstances, Applies, all_done, does_not_hold, does_hold, IsApplied, ComesFromRule, progress}
+use Rattle.slotted_model_rules.specs.Rules.{id_or_none, valued, IsMatch, IsRead, Searches, IsBetween, KeepsAll, no_call, asserts, keeps, IsNewEntry, IsAskedFor, Rule, IsEquationOfInstances, AssertsInstances, Applies, all_done, does_not_hold, does_hold, IsApplied, ComesFromRule, progress}
+use Rattle.slotted_model_rules.proofs.Renamed.{renamed-id}
+use Rattle.slotted_model_rules.proofs.Searching.{match-looked_up, search-finds}
+use Rattle.slotted_model_rules.proofs.Rewriting.{rewrites-equal}
 use Rattle.slotted_model_rules.proofs.Extending.{extension-same}
 use Rattle.slotted_model_rules.proofs.Calling.{calls-enter}
 use Rattle.slotted_model_rules.proofs.Applying.{applies-extend, held-applied, entries-come, saturated}
@@ -198,3 +204,69 @@ one_class : (e : Equation) × (i : IsEquationOfInstances is_itself [] with_h.nod
 one_class =
     let s = saturated nothing_else is_itself [] h_is_h with_h_rests (does_hold refl turned_round all_done) refl [] (contains_head [] []) (λ m b. refl) in
     (s.0, s.1, s.2)
+
+-- a search for ?x finds the one class under its own slots, and what is found is looked up as it
+abbrev whole_class : Values
+whole_class = ((120 ∷ []), left_id) ∷ []
+
+abbrev at_class : MatchState
+at_class = record { values = whole_class; pairs = []; seen = 0 ∷ 1 ∷ [] }
+
+reads_class : Reads with_h (λ y. y) (valued whole_class) at_class
+reads_class = record {
+  injective = λ x y e. e;
+  slots = λ s t c. absurd (Contains-nil (s, t) c);
+  values_read = λ v b e. ap (λ o. find with_h.found (id_or_none o)) e ∙ sym (renamed-id (find with_h.found b));
+}
+
+-- the states that are found are this one
+only_at_class : (out : MatchState) → Contains (at_class ∷ []) out → out ≡ at_class
+only_at_class out c = elim (contains_cases at_class [] out c) [
+  | inl e ↦ e
+  | inr k ↦ absurd (Contains-nil out k)
+]
+
+found_class : IsMatch with_h with_h.rows (variable (120 ∷ [])) whole_class
+found_class = record { class = 0; in_range = omega arith; lives = refl; outs = at_class ∷ []; run = refl; out = at_class; is_out = contains_head at_class []; names = λ y. y; reads = reads_class }
+
+searched : Searches with_h with_h.rows (variable (120 ∷ [])) (whole_class ∷ [])
+searched = record {
+  runs = at_each;
+  matches = λ s c. elim (contains_cases whole_class [] s c) [
+    | inl e ↦ subst (IsMatch with_h with_h.rows (variable (120 ∷ []))) (sym e) found_class
+    | inr k ↦ absurd (Contains-nil s k)
+  ];
+}
+  where
+    at_each : (c : ℕ) → c < 1 → IsLive with_h.found c → IsRead with_h with_h.rows (variable (120 ∷ [])) (whole_class ∷ []) c
+    at_each zero l live = record {
+      outs = at_class ∷ [];
+      run = refl;
+      read = λ out c. (whole_class, contains_head whole_class [], λ y. y, subst (Reads with_h (λ y. y) (valued whole_class)) (sym (only_at_class out c)) reads_class);
+    }
+    at_each (suc c) l live = absurd (omega arith)
+
+looked_up_as_class : look_up_pattern with_h (λ y. y) (valued whole_class) (variable (120 ∷ [])) ≡ Some (renamed_id (λ y. y) (find with_h.found left_id))
+unfolding found_class
+looked_up_as_class = match-looked_up with_h with_h_rests with_h.rows (variable (120 ∷ [])) whole_class found_class
+
+-- by any names for the slots of h: the search has found them, up to a renaming
+other_names : (s : Values) × Contains (whole_class ∷ []) s
+other_names =
+    let r = search-finds with_h with_h_rests (λ i l. all_slots i l) with_h.rows (λ r c. c) (variable (120 ∷ [])) (whole_class ∷ []) searched (λ v. five_six) valid
+    (record { differ = tt; in_scope = λ y c f. Contains-nil y c }) (find with_h.found five_six) refl in (r.0, r.1)
+  where
+    five_six : Applied
+    five_six = (0, (0, 5) ∷ (1, 6) ∷ [])
+
+    all_slots : (i : ℕ) → i < 1 → used_slots with_h.found i ≡ canonical_slots with_h.nodes i
+    all_slots zero l = refl
+    all_slots (suc i) l = absurd (omega arith)
+
+    valid : IsValidIn with_h five_six
+    valid = full-is_valid with_h.nodes with_h.found with_h_rests.sane.sound.linked five_six (h_full 5 6 (λ e. omega arith))
+
+-- the word a was matched, and is then equal to an instance of the right side, which is the word b
+a_becomes_b : (t : DTerm) × IsInstance is_itself rebuilt.nodes [] (valued []) (λ y. y) (word 2) t × Equal (asserted rebuilt.nodes rebuilt.proofs) (term_of twice.nodes (id 0)) t
+a_becomes_b =
+    rewrites-equal nothing_else is_itself [] [] (a_is_b always) twice_rests applied_always [] (contains_head [] []) (λ m b. refl) tt (id 0) (id 0) refl (filled_itself twice.nodes [] 0 (id_full 0 (omega arith)))

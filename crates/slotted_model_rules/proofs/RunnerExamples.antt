@@ -6,7 +6,7 @@ use Rattle.slotted_theory.specs.Decided.{numbers_eq}
 use Rattle.slotted_model.proofs.Options.{Some-same, None-Some}
 use Rattle.slotted_model_rules.specs.Runners.{none_searched, one_searched, none_applied, one_applied, AppliesRules, Stop, saturated, iteration_limit, time_limit, node_limit, other, Limits, usual_limits, runner_stop, eqsat_stop, second, Measures, Iteration, Report, after_check, RunnerTurn, RunnerRuns, stops_now, goes_on, RunnerRefuses, refused_now, refused_later, Runner, runner_report, RunnerAnswers, starts, after_time, EqsatTurn, EqsatRuns, eqsat_stops, eqsat_goes_on, eqsat_report, EqsatAnswers}
 use Rattle.slotted_model_rules.specs.RunnerClaims.{EachExtends}
-use Rattle.slotted_model_rules.proofs.Turns.{rules-extend}
+use Rattle.slotted_model_rules.proofs.Turns.{a-run, rules-extend}
 
 -- a machine with one way to go: the rules, the hook, what is read off, and the clock
 module _ (next : ℕ → ℕ) (hook : ℕ → Option (List ℕ)) (m : Measures ℕ ℕ) (clock : ℕ → ℕ) where
@@ -240,3 +240,9 @@ grows = record {
 
 three_is_no_smaller : no_smaller 3 10
 three_is_no_smaller = rules-extend ℕ (List ℕ) ℕ ℕ Bool searches_for adds_found never_stops refused_third no_smaller grows (true ∷ true ∷ false ∷ []) 3 10 both_rules
+
+-- a run is there from each graph, also where one does not count its turns
+a_run_is_there : (all : List (Iteration ℕ)) × (last : ℕ) × (h : ℕ) × (reason : Stop (List ℕ))
+    × RunnerRuns (Step suc no_hook growing stands_still) (Hooks suc no_hook growing stands_still) growing usual_limits stands_still 0 [] 1 0 all last h reason
+a_run_is_there =
+    a-run ℕ (List ℕ) ℕ (Step suc no_hook growing stands_still) (Hooks suc no_hook growing stands_still) growing usual_limits stands_still 0 (λ g. (suc g, refl)) (λ g n. (g, no_hook n, (refl, refl))) [] 1 0

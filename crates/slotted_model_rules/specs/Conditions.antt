@@ -4,7 +4,8 @@
 --     holds c s g       yes or no, or nothing where it is refused
 --     asked c s g       the conditions without parts that are asked for this, in order
 --     IsOfValues c      no condition of the caller's own takes part: the graph is not asked
-use Rattle.std.specs.Prelude.{ℕ, List, [], ◌∷◌, ◌++◌, Option, Some, None, option_map, option_and_then, Bool, true, false, cond, not}
+use Rattle.std.specs.Prelude.{ℕ, List, [], ◌∷◌, ◌++◌, Option, Some, None, option_map, option_and_then, Bool, true}
+use Rattle.std.specs.Prelude.{false, cond, not}
 use Rattle.slotted_model.specs.Applied.{Applied, values}
 use Rattle.slotted_model.specs.Correspondence.{has_slot}
 use Rattle.slotted_model.specs.State.{State}

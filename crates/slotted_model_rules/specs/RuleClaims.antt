@@ -1,19 +1,24 @@
 -- The laws of conditions and of rules, owed by `condition_laws_hold` and `rule_laws_hold` in src/rule.rt.
 use Rattle.std.specs.Prelude.{◌≡◌, ◌⊎◌, ℕ, ◌≤◌, List, ◌++◌, Contains, Some, None, option_map, Bool, true, false, not}
 use Rattle.slotted_theory.specs.Nameless.{DTerm}
+use Rattle.slotted_theory.specs.Renaming.{Bijection}
 use Rattle.slotted_theory.specs.Derives.{Equal}
-use Rattle.slotted_model.specs.Applied.{Applied, values}
+use Rattle.slotted_model.specs.Applied.{Applied, values, renamed_id}
 use Rattle.slotted_model.specs.Classes.{term_of}
 use Rattle.slotted_model.specs.Filling.{IsFilling}
 use Rattle.slotted_model.specs.Find.{find_class, find}
 use Rattle.slotted_model.specs.ProofList.{Equation, equation_at, asserted}
-use Rattle.slotted_model.specs.State.{State}
+use Rattle.slotted_model.specs.State.{Row, State}
 use Rattle.slotted_model.specs.Rest.{IsValidIn, HasNoOpenSymmetry, Sane, AtRest}
-use Rattle.slotted_model_rules.specs.Patterns.{EachVariable, look_up_pattern}
+use Rattle.slotted_model_rules.specs.Patterns.{Pattern, EachVariable, look_up_pattern}
 use Rattle.slotted_model_rules.specs.Instances.{IsInstance}
-use Rattle.slotted_model_rules.specs.Matcher.{value_at}
-use Rattle.slotted_model_rules.specs.Conditions.{Values, Condition, always, slot_free_in, either, each_of, opposite, holds, asked, IsOfValues}
-use Rattle.slotted_model_rules.specs.Rules.{IsExtension, IsBetween, Calls, IsNewEntry, IsAskedFor, Rule, valued, IsEquationOfInstances, IsApplied, Applies, ComesFromRule, IsAskedByRule, progress}
+use Rattle.slotted_model_rules.specs.Matcher.{value_at, EachSlot, class_id}
+use Rattle.slotted_model_rules.specs.Complete.{HasAllSlots, HasOwnBinders}
+use Rattle.slotted_model_rules.specs.Conditions.{Values, Condition, always, slot_free_in, either, each_of, opposite}
+use Rattle.slotted_model_rules.specs.Conditions.{holds, asked, IsOfValues}
+use Rattle.slotted_model_rules.specs.Rules.{IsExtension, IsBetween, Calls, IsNewEntry, IsAskedFor, Rule, valued}
+use Rattle.slotted_model_rules.specs.Rules.{IsMatch, Searches, IsEquationOfInstances, IsApplied, Applies, ComesFromRule}
+use Rattle.slotted_model_rules.specs.Rules.{IsAskedByRule, progress}
 
 -- what each kind of condition answers; and the second of two is asked only where the first leaves it open
 pub record TruthTables : Type 0 where
@@ -113,6 +118,24 @@ NewEntriesComeFromRules A =
     Applies A R given rule found g h → (p : ℕ) → IsNewEntry g h p →
     ComesFromRule R given rule found g h (equation_at h.proofs p) ⊎ IsAskedFor A g h (equation_at h.proofs p)
 
+-- at rest each substitution that a search finds is looked up, as the live class at which it was found
+abbrev pub SearchesFindMatches : Type 0
+SearchesFindMatches =
+    (g : State) → AtRest g → (order : List Row) (p : Pattern) (found : List Values) → Searches g order p found →
+    (s : Values) → Contains found s → (m : IsMatch g order p s)
+    × (look_up_pattern g (λ y. y) (valued s) p ≡ Some (renamed_id m.names (find g.found (class_id g m.class))))
+
+-- where no class has dropped a slot it finds all: each substitution of valid ids that is looked up, if each binder has a
+-- name of its own that stands in its scope alone, up to one renaming that leaves the pattern's slots
+abbrev pub SearchesFindAll : Type 0
+SearchesFindAll =
+    (g : State) → AtRest g → HasAllSlots g → (order : List Row) → ((r : Row) → Contains g.rows r → Contains order r) →
+    (p : Pattern) (found : List Values) → Searches g order p found →
+    (σ : List ℕ → Applied) → EachVariable (λ v. IsValidIn g (σ v)) p → HasOwnBinders σ p → (x : Applied) →
+    look_up_pattern g (λ y. y) σ p ≡ Some x →
+    (s : Values) × Contains found s × (π : Bijection) × EachSlot (λ t. π.to t ≡ t) p
+    × EachVariable (λ v. find g.found (valued s v) ≡ renamed_id π.to (find g.found (σ v))) p
+
 -- what is derivable from what a graph asserts is so from what an extension of it asserts
 abbrev pub ExtensionsKeepDerivations : Type 0
 ExtensionsKeepDerivations =
@@ -159,6 +182,8 @@ pub record RuleLaws (A : State → Applied → Applied → Type 0) : Type 0 wher
   pub applies_extend : AppliesExtend A
   pub held_substitutions_are_applied : HeldSubstitutionsAreApplied A
   pub new_entries_come_from_rules : NewEntriesComeFromRules A
+  pub searches_find_matches : SearchesFindMatches
+  pub searches_find_all : SearchesFindAll
   pub extensions_keep_derivations : ExtensionsKeepDerivations
   pub rewrites_are_equal : RewritesAreEqual A
   pub applies_are_calls : AppliesAreCalls A

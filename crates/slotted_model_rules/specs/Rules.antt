@@ -3,24 +3,27 @@
 --     IsBetween g h m              m is a graph at rest between g and h
 --     Calls A g h                  structural writes lead from g to h; A says which equations are asked for
 --     Rule                         a pattern, another, and a condition
+--     Searches g order p found     what the search of a rule with the left side p finds
 --     IsEquationOfInstances ..     the equation is of instances of both sides of a rule
 --     AssertsInstances ..          both sides are built, and asserted to be equal
 --     Applies ..                   each substitution whose condition holds just then is asserted, one after another
 --     progress g                   how many classes, live classes, and slots of these there are
-use Rattle.std.specs.Prelude.{◌≡◌, ℕ, ◌<◌, ◌≤◌, List, [], ◌∷◌, ◌++◌, length, Contains, Option, Some, None, Bool, true, false}
+use Rattle.std.specs.Prelude.{◌≡◌, ℕ, ◌<◌, ◌≤◌, List, [], ◌∷◌, ◌++◌, length, Contains, Option, Some, None, Bool, true}
+use Rattle.std.specs.Prelude.{false}
 use Rattle.slotted_theory.specs.Nameless.{DTerm}
 use Rattle.slotted_model.specs.Applied.{Applied, values}
 use Rattle.slotted_model.specs.Classes.{term_of, IsFull}
 use Rattle.slotted_model.specs.Filling.{IsFilling}
 use Rattle.slotted_model.specs.Growth.{IsNew, Extends}
 use Rattle.slotted_model.specs.ProofList.{Equation, explicit, equation_of, equation_at, step_at}
-use Rattle.slotted_model.specs.State.{State}
+use Rattle.slotted_model.specs.Find.{IsLive}
+use Rattle.slotted_model.specs.State.{Row, State}
 use Rattle.slotted_model.specs.Rest.{AtRest, UpToSymmetries, lives_from, slots_from}
 use Rattle.slotted_model.specs.Changes.{GoesOn, GrowsAtEnds}
 use Rattle.slotted_model.specs.Adding.{Adds, Asserts, SameAnswers}
 use Rattle.slotted_model_rules.specs.Patterns.{Pattern}
 use Rattle.slotted_model_rules.specs.Instances.{IsInstance, IsAnswer}
-use Rattle.slotted_model_rules.specs.Matcher.{value_at}
+use Rattle.slotted_model_rules.specs.Matcher.{MatchState, value_at, Found, class_id, start_at, Reads}
 use Rattle.slotted_model_rules.specs.Conditions.{Values, Condition, holds}
 
 -- all that the older graph has stands first in the newer one, and finds go on from what they found
@@ -81,6 +84,30 @@ id_or_none None = (0, [])
 
 abbrev pub valued : Values → List ℕ → Applied
 valued s v = id_or_none (value_at s v)
+
+-- the substitution reads a state in which the matcher finds the pattern at a live class, with the names of some function
+pub record IsMatch (g : State) (order : List Row) (p : Pattern) (s : Values) : Type 0 where
+  pub class : ℕ
+  pub in_range : class < length g.nodes
+  pub lives : IsLive g.found class
+  pub outs : List MatchState
+  pub run : Found g order p (start_at g class) (class_id g class) outs
+  pub out : MatchState
+  pub is_out : Contains outs out
+  pub names : ℕ → ℕ
+  pub reads : Reads g names (valued s) out
+
+-- the matcher has a run at this class, each state of which is read by a substitution that is found
+pub record IsRead (g : State) (order : List Row) (p : Pattern) (found : List Values) (c : ℕ) : Type 0 where
+  pub outs : List MatchState
+  pub run : Found g order p (start_at g c) (class_id g c) outs
+  pub read : (out : MatchState) → Contains outs out →
+      (s : Values) × Contains found s × (f : ℕ → ℕ) × Reads g f (valued s) out
+
+-- a search: the matcher is run at each live class, and what is found are readings of its states
+pub record Searches (g : State) (order : List Row) (p : Pattern) (found : List Values) : Type 0 where
+  pub runs : (c : ℕ) → c < length g.nodes → IsLive g.found c → IsRead g order p found c
+  pub matches : (s : Values) → Contains found s → IsMatch g order p s
 
 -- two ids, the terms of which are instances of the two sides, have this equation
 pub record IsEquationOfInstances (R : DTerm → DTerm → Bool) (given : List ℕ) (nodes : List DTerm) (rule : Rule)

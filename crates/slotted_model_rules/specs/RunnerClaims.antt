@@ -1,6 +1,10 @@
 -- The laws of runs, all owed by `runner_laws_hold` in src/runner.rt. Rules are of the type Q, and their searches find F.
-use Rattle.std.specs.Prelude.{◌≡◌, ◌↔◌, ℕ, suc, ◌+◌, ◌*◌, ◌<◌, ◌≤◌, List, [], ◌∷◌, ◌++◌, length, Option, Some, None, Bool, true, false}
-use Rattle.slotted_model_rules.specs.Runners.{AppliesRules, Stop, saturated, iteration_limit, time_limit, node_limit, other, Limits, runner_stop, second, eqsat_stop, Measures, Iteration, Report, last_finish, RunnerTurn, RunnerRuns, RunnerRefuses, Runner, runner_report, RunnerAnswers, EqsatTurn, EqsatRuns}
+use Rattle.std.specs.Prelude.{◌≡◌, ◌↔◌, ℕ, suc, ◌+◌, ◌*◌, ◌<◌, ◌≤◌, List, [], ◌∷◌, ◌++◌, length, Option, Some, None}
+use Rattle.std.specs.Prelude.{Bool, true, false}
+use Rattle.slotted_model_rules.specs.Runners.{AppliesRules, Stop, saturated, iteration_limit, time_limit, node_limit}
+use Rattle.slotted_model_rules.specs.Runners.{other, Limits, runner_stop, second, eqsat_stop, Measures, Iteration}
+use Rattle.slotted_model_rules.specs.Runners.{Report, last_finish, RunnerTurn, RunnerRuns, RunnerRefuses, Runner}
+use Rattle.slotted_model_rules.specs.Runners.{runner_report, RunnerAnswers, EqsatTurn, EqsatRuns}
 
 -- the cause holds, and none before it
 abbrev pub IsRunnerCause : {T : Type 0} → Limits → Option T → ℕ → ℕ → ℕ → Bool → Stop T → Type 0
@@ -18,7 +22,8 @@ abbrev pub RunnersStopForTheFirst : Type 0 → Type 0
 RunnersStopForTheFirst T =
     (limits : Limits) (hook : Option T) (stored nodes elapsed : ℕ) (same : Bool) →
     ((reason : Stop T) →
-    (runner_stop limits hook stored nodes elapsed same ≡ Some reason) ↔ IsRunnerCause limits hook stored nodes elapsed same reason)
+    (runner_stop limits hook stored nodes elapsed same ≡ Some reason)
+    ↔ IsRunnerCause limits hook stored nodes elapsed same reason)
     × ((runner_stop limits hook stored nodes elapsed same ≡ None) ↔ ((hook ≡ None) × (stored ≤ limits.iterations)
     × (nodes ≤ limits.nodes) × (elapsed ≤ limits.time) × (same ≡ false)))
 
@@ -36,7 +41,8 @@ abbrev pub EqsatStopsForTheFirst : Type 0 → Type 0
 EqsatStopsForTheFirst T =
     (iterations seconds : ℕ) (hook : Option T) (same : Bool) (counted elapsed : ℕ) →
     ((reason : Stop T) →
-    (eqsat_stop iterations seconds hook same counted elapsed ≡ Some reason) ↔ IsEqsatCause iterations seconds hook same counted elapsed reason)
+    (eqsat_stop iterations seconds hook same counted elapsed ≡ Some reason)
+    ↔ IsEqsatCause iterations seconds hook same counted elapsed reason)
     × ((eqsat_stop iterations seconds hook same counted elapsed ≡ None) ↔ ((hook ≡ None) × (same ≡ false)
     × (counted < iterations) × (elapsed < seconds * second)))
 

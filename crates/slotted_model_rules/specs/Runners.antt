@@ -129,7 +129,8 @@ pub record RunnerTurn {S T D : Type 0} (applies : S → S → Type 0) (hooks : S
   pub by_hook : hooks applied stored h answer
   pub stops : runner_stop limits answer stored (m.nodes h) (clock k - start)
       (numbers_eq (m.progress g) (m.progress applied)) ≡ stop
-  pub keeps : kept ≡ record { made = m.made h stored; num_nodes = m.nodes h; finish_time = Some (clock (after_check answer k)) }
+  pub keeps : kept
+      ≡ record { made = m.made h stored; num_nodes = m.nodes h; finish_time = Some (clock (after_check answer k)) }
   pub reads : next ≡ suc (after_check answer k)
 
 -- turns until one stops: from the stored ones and the reading k to all that are stored and the reading after them
@@ -181,12 +182,22 @@ pub data RunnerAnswers {S T D : Type 0} (applies : S → S → Type 0) (hooks : 
   starts : {k last : ℕ} {r : Runner S T D} {all : List (Iteration D)} {h : S} {reason : Stop T} → r.stop_reason ≡ None →
       r.start ≡ None →
       RunnerRuns applies hooks m limits clock (clock k) r.stored (suc k) r.graph all last h reason →
-      RunnerAnswers applies hooks m limits clock k r (record { graph = h; stored = all; start = Some (clock k); stop_reason = Some reason })
+      RunnerAnswers applies hooks m limits clock k r (record {
+        graph = h;
+        stored = all;
+        start = Some (clock k);
+        stop_reason = Some reason;
+      })
       (runner_report m (record { graph = h; stored = all; start = Some (clock k); stop_reason = Some reason }) reason)
   takes_up : {k last start : ℕ} {r : Runner S T D} {all : List (Iteration D)} {h : S} {reason : Stop T} →
       r.stop_reason ≡ None → r.start ≡ Some start →
       RunnerRuns applies hooks m limits clock start r.stored k r.graph all last h reason →
-      RunnerAnswers applies hooks m limits clock k r (record { graph = h; stored = all; start = Some start; stop_reason = Some reason })
+      RunnerAnswers applies hooks m limits clock k r (record {
+        graph = h;
+        stored = all;
+        start = Some start;
+        stop_reason = Some reason;
+      })
       (runner_report m (record { graph = h; stored = all; start = Some start; stop_reason = Some reason }) reason)
 
 -- `run_eqsat` reads the clock only where no cause before time holds

@@ -2,6 +2,7 @@ use Rattle.slotted_model_rules.proofs.Extending.{extension-same, extension-then}
 use Rattle.slotted_model_rules.proofs.Calling.{calls-extend, calls-enter, calls-classes, calls-counts, calls-then, no-progress}
 use Rattle.slotted_model_rules.proofs.Applying.{applies-extend, applies-calls, held-applied, entries-come, saturated}
 use Rattle.slotted_model_rules.proofs.Rewriting.{extension-equal, rewrites-equal}
+use Rattle.slotted_model_rules.proofs.Searching.{match-looked_up, search-finds}
 use Rattle.slotted_model_rules.proofs.rule.rule_laws_hold.Goals as goal
 
 pub returns : goal.returns
@@ -15,6 +16,8 @@ returns g c = let A = g.Q.Requests.asks in record {
   applies_extend = λ R given rule found g h rest step. applies-extend A R given rule rest step;
   held_substitutions_are_applied = λ R given rule found g h rest step s c held. held-applied A R given rule rest step s c held;
   new_entries_come_from_rules = λ R given rule found g h rest step p new. entries-come A R given rule rest step p new;
+  searches_find_matches = λ g rest order p found search s c. (search.matches s c, match-looked_up g rest order p s (search.matches s c));
+  searches_find_all = search-finds;
   extensions_keep_derivations = λ g h rest after x d e p. extension-equal g h rest after x p;
   rewrites_are_equal = λ R given more_given rule found g h rest step s c held valid x b e fills. rewrites-equal A R given more_given rule rest step s c held valid x b e fills;
   applies_are_calls = λ R given rule found g h rest step. applies-calls A R given rule rest step;
