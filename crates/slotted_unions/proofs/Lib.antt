@@ -1,0 +1,13 @@
+pub mod ListedSides
+pub mod ListedSoFar
+pub mod EnteredProofs
+pub mod ProofsOfFinds
+pub mod TurnedEntries
+pub mod ChangedEntries
+pub mod KeptSlots
+pub mod SettlingSteps
+pub mod WrittenEntries
+pub mod UniteSteps
+pub mod OneClass
+pub mod NewSymmetries
+pub mod AlikeSides

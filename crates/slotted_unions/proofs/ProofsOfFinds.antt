@@ -1,0 +1,220 @@
+-- The proofs of what finds say, entry by entry, and of what an entry says of the classes that its sides find.
+use Rattle.std.proofs.Common.{◌≡◌, ℕ, ◌<◌, List, length, sym, ◌∙◌, ap, arith}
+use Rattle.slotted_slots.specs.declared.types.AppliedId.{AppliedId}
+use Rattle.slotted_theory.specs.Nameless.{DTerm}
+use Rattle.slotted_model.specs.Applied.{Applied}
+use Rattle.slotted_model.specs.Classes.{canonical_slots}
+use Rattle.slotted_model.specs.Correspondence.{composite, turned}
+use Rattle.slotted_model.specs.Find.{Entry, entry_at, find_class, find_map}
+use Rattle.slotted_model.specs.ProofList.{Equation, equation_at, turned_equation, entry_equation, find_equation}
+use Rattle.slotted_model.specs.Changes.{found_entry}
+use Rattle.slotted_model.specs.Link.{found_equation}
+use Rattle.slotted_model.proofs.Correspondences.PartialInjections.{turned-turned}
+use Rattle.slotted_model.proofs.Finding.{leads, find_class-follows, find_map-partial}
+use Rattle.slotted_model.proofs.FindProofs.{find_equation-live, find_equation-composite}
+use Rattle.slotted_proofs.specs.Equations.{Statement, Meets, to_applied}
+use Rattle.slotted_proofs.specs.Entries.{statement_at, composite_entry}
+use Rattle.slotted_store.specs.Kept.{Kept, find_at, nodes_of, entries_of, proofs_of, EntersIn, HasManySlots}
+use Rattle.slotted_store.proofs.KeptLists.{equation_at-of, entry_at-of, length-nodes_of, length-proofs_of}
+use Rattle.slotted_unions.specs.Proving.{OnlyProves, Proves, ProvesFind, ProvesBack, ProvesFound, HasLargeClass}
+use Rattle.slotted_unions.specs.StateOf.{state_of}
+use Rattle.slotted_unions.specs.Stored.{Stored}
+use Rattle.slotted_unions.proofs.EnteredProofs.{nothing-proved, proved-then, only-nodes, only-entries, only-stands}
+use Rattle.slotted_unions.proofs.EnteredProofs.{then-proves, proves-still, stored-over, stored-meet, chained_equation}
+use Rattle.slotted_unions.proofs.EnteredProofs.{chained-only, then-chained, then-large}
+
+-- the class that a find entry leads to, as the code reads it
+pub next-class_of : (k : Kept) (i : ℕ) (a : AppliedId) → to_applied a ≡ ((find_at k i).class, (find_at k i).pairs) →
+    a.id.0 ≡ (find_at k i).class
+next-class_of k i a e = ap (λ (x : Applied). x.0) e
+
+-- the proof of a find entry
+module _ (k : Kept) (stored : Stored k) (i : ℕ) (h : i < length k.classes) (p : ℕ) (ep : p ≡ (find_at k i).proof) where
+  abbrev nodes : List DTerm
+  nodes = nodes_of k
+
+  abbrev found : List Entry
+  found = entries_of k
+
+  here : i < length nodes
+  here = let n : length nodes ≡ length k.classes = length-nodes_of k in omega arith
+
+  same : (entry_at found i).proof ≡ p
+  same = ap (λ (x : Entry). x.proof) (entry_at-of k i) ∙ sym ep
+
+  proof-within : p < length k.proofs
+  proof-within =
+      let r : (entry_at found i).proof < length (proofs_of k) = stored.sane.sound.exact.in_range i here in
+      let n : length (proofs_of k) ≡ length k.proofs = length-proofs_of k in
+      let e : (entry_at found i).proof ≡ p = same in
+      omega arith
+
+  proof-says : (statement_at k.proofs p).equation ≡ entry_equation nodes found i
+  proof-says = sym (equation_at-of k.proofs p) ∙ (ap (equation_at (proofs_of k)) (sym same)
+      ∙ stored.sane.sound.exact.equations i here)
+
+  -- of a live class the entry's proof is that of the find
+  pub live-proves : (find_at k i).class ≡ i → ProvesFind k k i p
+  live-proves e = record {
+    only = nothing-proved k stored;
+    in_range = proof-within;
+    equation = proof-says ∙ sym (find_equation-live nodes found stored.sane.sound.linked i here
+        (ap (λ (x : Entry). x.class) (entry_at-of k i) ∙ e));
+  }
+
+  -- of another it is put before that of the next class
+  module _ (l : Kept) (q j : ℕ) (ej : j ≡ (find_at k i).class) (rest : ProvesFind k l j q) where
+    next-stands : (p < length l.proofs) × (statement_at l.proofs p ≡ statement_at k.proofs p)
+    next-stands = only-stands k l rest.only p proof-within
+
+    pub next-first : p < length l.proofs
+    next-first = next-stands.0
+
+    next-left : (statement_at l.proofs p).equation ≡ entry_equation nodes found i
+    next-left = ap (λ (s : Statement). s.equation) next-stands.1 ∙ proof-says
+
+    next-class : (entry_at found i).class ≡ j
+    next-class = ap (λ (x : Entry). x.class) (entry_at-of k i) ∙ sym ej
+
+    pub next-meets : Meets (statement_at l.proofs p) (statement_at l.proofs q)
+    next-meets = stored-meet l rest.only.stored p q next-first rest.in_range
+        (ap (λ (e : Equation). e.right) next-left ∙ (next-class ∙ sym (ap (λ (e : Equation). e.left) rest.equation)))
+
+    pub next-large : HasManySlots l p q → HasLargeClass k
+    next-large = then-large k l rest.only p q next-first rest.in_range
+
+    pub next-proves : (m : Kept) (r : ℕ) → EntersIn l m (composite_entry l.proofs p q) r → ProvesFind k m i r
+    next-proves m r e =
+        let first : Proves k l (entry_equation nodes found i) p =
+        record { only = rest.only; in_range = next-first; equation = next-left } in
+        let step = then-chained k l m (entry_equation nodes found i) (find_equation nodes found j) p q r first
+        rest.in_range rest.equation next-class e in
+        record {
+          only = step.only;
+          in_range = step.in_range;
+          equation = step.equation
+              ∙ ((λ t. record {
+                left = i;
+                right = find_class found (sym next-class t);
+                pairs = composite (entry_equation nodes found i).pairs (find_equation nodes found (sym next-class t)).pairs;
+              })
+              ∙ (λ t. record {
+                left = i;
+                right = sym (find_class-follows nodes found (leads nodes found stored.sane.sound.linked) i here) t;
+                pairs = sym (find_equation-composite nodes found stored.sane.sound.linked i here) t;
+              }));
+        }
+
+-- what is proved of a find after other entries
+pub still-finds : (k l m : Kept) (i p : ℕ) → OnlyProves k l → ProvesFind l m i p → ProvesFind k m i p
+still-finds k l m i p only rest =
+    let r : Proves k m (find_equation (nodes_of l) (entries_of l) i) p =
+    then-proves k l m (find_equation (nodes_of l) (entries_of l) i) p only rest in
+    record {
+      only = r.only;
+      in_range = r.in_range;
+      equation = r.equation ∙ (λ t. find_equation (only-nodes k l only t) (only-entries k l only t) i);
+    }
+
+-- the whole way: back along the find of the left side, the entry, and the find of the right side
+module _ (k : Kept) (stored : Stored k) (p : ℕ) (h : p < length k.proofs) where
+  abbrev ns : List DTerm
+  ns = nodes_of k
+
+  abbrev es : List Entry
+  es = entries_of k
+
+  abbrev said : Equation
+  said = (statement_at k.proofs p).equation
+
+  pub left-within : said.left < length k.classes
+  left-within =
+      let n : length ns ≡ length k.classes = length-nodes_of k in
+      let l : said.left < length ns = (stored-over k stored p h).left in
+      omega arith
+
+  pub right-within : said.right < length k.classes
+  right-within =
+      let n : length ns ≡ length k.classes = length-nodes_of k in
+      let l : said.right < length ns = (stored-over k stored p h).right in
+      omega arith
+
+  module _ (l m : Kept) (i j q r : ℕ) (ei : i ≡ said.left) (ej : j ≡ said.right) (back : ProvesBack k l i q)
+      (onward : ProvesFind l m j r) where
+    after : OnlyProves k m
+    after = proved-then k l m back.only onward.only
+
+    back-still : Proves k m (turned_equation ns (find_equation ns es i)) q
+    back-still = proves-still k l m (turned_equation ns (find_equation ns es i)) q back onward.only
+
+    there : (p < length m.proofs) × (statement_at m.proofs p ≡ statement_at k.proofs p)
+    there = only-stands k m after p h
+
+    says : (statement_at m.proofs p).equation ≡ said
+    says = ap (λ (s : Statement). s.equation) there.1
+
+    pub half-first : q < length m.proofs
+    half-first = back-still.in_range
+
+    pub half-second : p < length m.proofs
+    half-second = there.0
+
+    half-joins : (statement_at m.proofs q).equation.right ≡ (statement_at m.proofs p).equation.left
+    half-joins = ap (λ (e : Equation). e.right) back-still.equation ∙ (ei ∙ sym (ap (λ (e : Equation). e.left) says))
+
+    pub half-meets : Meets (statement_at m.proofs q) (statement_at m.proofs p)
+    half-meets = stored-meet m after.stored q p half-first half-second half-joins
+
+    pub half-large : HasManySlots m q p → HasLargeClass k
+    half-large = then-large k m after q p half-first half-second
+
+    abbrev back_equation : Equation
+    back_equation = turned_equation ns (find_equation ns es i)
+
+    module _ (o : Kept) (s : ℕ) (enters : EntersIn m o (composite_entry m.proofs q p) s) where
+      halved : Proves k o (chained_equation back_equation said) s
+      halved = then-chained k m o back_equation said q p s back-still half-second says ei enters
+
+      onward-still : ProvesFind k o j r
+      onward-still =
+          proves-still k m o (find_equation ns es j) r (still-finds k l m j r back.only onward)
+          (chained-only m after.stored o q p s half-first half-second half-joins enters).only
+
+      pub whole-first : s < length o.proofs
+      whole-first = halved.in_range
+
+      pub whole-second : r < length o.proofs
+      whole-second = onward-still.in_range
+
+      pub whole-meets : Meets (statement_at o.proofs s) (statement_at o.proofs r)
+      whole-meets = stored-meet o halved.only.stored s r whole-first whole-second
+          (ap (λ (e : Equation). e.right) halved.equation
+          ∙ (sym ej ∙ sym (ap (λ (e : Equation). e.left) onward-still.equation)))
+
+      pub whole-large : HasManySlots o s r → HasLargeClass k
+      whole-large = then-large k o halved.only s r whole-first whole-second
+
+      is_found : chained_equation (chained_equation back_equation said) (find_equation ns es j) ≡ found_entry (state_of k) p
+      is_found =
+          let n : length ns ≡ length k.classes = length-nodes_of k in
+          let within : said.left < length ns = (stored-over k stored p h).left in
+          let P : List (ℕ × ℕ) = find_map es said.left in
+          let straight : turned (canonical_slots ns (find_class es said.left))
+          (turned (canonical_slots ns said.left) P) ≡ P =
+          turned-turned (canonical_slots ns (find_class es said.left)) (canonical_slots ns said.left) P
+          (find_map-partial ns es (leads ns es stored.sane.sound.linked) said.left within) in
+          (λ t. chained_equation (chained_equation (turned_equation ns (find_equation ns es (ei t))) said)
+          (find_equation ns es (ej t)))
+          ∙ ((λ t. record {
+            left = find_class es said.left;
+            right = find_class es said.right;
+            pairs = composite (composite (straight t) said.pairs)
+                (turned (canonical_slots ns said.right) (find_map es said.right));
+          })
+          ∙ ap (found_equation ns es) (sym (equation_at-of k.proofs p)))
+
+      pub whole-proves : (w : Kept) (z : ℕ) → EntersIn o w (composite_entry o.proofs s r) z → ProvesFound k w p z
+      whole-proves w z e =
+          let step = then-chained k o w (chained_equation back_equation said) (find_equation ns es j) s r z halved
+          whole-second onward-still.equation (sym ej) e in
+          record { only = step.only; in_range = step.in_range; equation = step.equation ∙ is_found }

@@ -1,0 +1,35 @@
+use Rattle.std.proofs.Common.{◌∙◌, sym, subst, arith, rules}
+use Rattle.std.specs.Prelude.{IfSome, IfNone}
+use Rattle.indexmap.proofs.MapLemmas.{OnOk-map}
+use Rattle.slotted_unions.specs.Settling.{IsUnaligned, AreAligned, SettlesAll}
+use Rattle.slotted_unions.proofs.SettlingSteps.{settled-before, settled-now, unaligned-within, act-smaller, settled-then}
+use Rattle.slotted_unions.proofs.settling.+settle_all.Goals as goal
+
+pub returns-then-not-is_dropped-clause-ok : goal.returns-then-not-is_dropped-clause-ok
+returns-then-not-is_dropped-clause-ok g t c =
+    settled-before c.args.store.now c.requires.good (sym c.is_dropped.ensures ∙ c.if-not-is_dropped.true)
+
+pub returns-in_default-clause-ok : goal.returns-in_default-clause-ok
+returns-in_default-clause-ok g t c =
+    let k = c.args.store.now in
+    settled-now k c.settle.new.self c.requires.good (subst (λ o. IfNone o (AreAligned k)) c.in_default.is c.in_ok-p.ensures.none) c.settle.ensures
+
+pub unite-requires-clause-within : goal.unite-requires-clause-within
+unite-requires-clause-within g t c =
+    let k = c.args.store.now in
+    unaligned-within k c.requires.good c.in-Some.p (subst (λ o. IfSome o (IsUnaligned k)) c.in-Some.is c.in_ok-p.ensures.some)
+
+pub settle_all-requires : goal.settle_all-requires
+settle_all-requires g t c =
+    let k = c.args.store.now in
+    let u = subst (λ o. IfSome o (IsUnaligned k)) c.in-Some.is c.in_ok-p.ensures.some in
+    let small = act-smaller k c.requires.good c.in-Some.p u c.unite.new.store c.in_ok-unite.ensures.ok in
+    λ κs h. (omega (arith, small, c.decreases), (search rules, c.in_ok-unite.ensures.ok.stored))
+
+pub returns-clause-ok : goal.returns-clause-ok
+returns-clause-ok g t c =
+    let k = c.args.store.now in
+    let u = subst (λ o. IfSome o (IsUnaligned k)) c.in-Some.is c.in_ok-p.ensures.some in
+    OnOk-map c.settle_all.result (SettlesAll c.unite.new.store c.settle_all.new.store) (SettlesAll k c.settle_all.new.store)
+    (settled-then k c.requires.good c.in-Some.p u c.unite.new.store c.in_ok-unite.ensures.ok c.settle_all.new.store)
+    c.settle_all.ensures.ok

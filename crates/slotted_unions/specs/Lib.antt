@@ -1,0 +1,5 @@
+pub mod StateOf
+pub mod Stored
+pub mod Proving
+pub mod Uniting
+pub mod Settling

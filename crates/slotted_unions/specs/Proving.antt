@@ -1,0 +1,40 @@
+-- Entries that a union makes: the proofs of what finds say, and of what an entry says of the found classes.
+--     OnlyProves k l      nothing but the proof list changed, it grew at its end, and nothing more is asserted
+--     Proves k l e p      so it is, and the equation e stands at p
+--     HasLargeClass k     a class has so many slots that two ids of it have too many names
+use Rattle.std.specs.Prelude.{◌≡◌, ◌^◌, ℕ, ◌<◌, ◌≤◌, List, ◌++◌, length}
+use Rattle.slotted_model.specs.Changes.{ProofsGrow, found_entry}
+use Rattle.slotted_model.specs.Classes.{canonical_slots}
+use Rattle.slotted_model.specs.ProofList.{Equation, find_equation, turned_equation}
+use Rattle.slotted_proofs.specs.Entries.{Proven, statement_at}
+use Rattle.slotted_store.specs.Kept.{Kept, nodes_of, entries_of, proofs_of, with_proofs}
+use Rattle.slotted_unions.specs.StateOf.{state_of}
+use Rattle.slotted_unions.specs.Stored.{Stored}
+
+pub record OnlyProves (k l : Kept) : Type 0 where
+  pub stored : Stored l
+  pub proofs : List Proven
+  pub kept : l ≡ with_proofs k proofs
+  pub more : List Proven
+  pub grows : proofs ≡ k.proofs ++ more
+  pub asserts_nothing : ProofsGrow (nodes_of k) (proofs_of k) (proofs_of l)
+
+pub record Proves (k l : Kept) (e : Equation) (p : ℕ) : Type 0 where
+  pub only : OnlyProves k l
+  pub in_range : p < length l.proofs
+  pub equation : (statement_at l.proofs p).equation ≡ e
+
+-- the equation of what the find of the class i says
+abbrev pub ProvesFind : Kept → Kept → ℕ → ℕ → Type 0
+ProvesFind k l i p = Proves k l (find_equation (nodes_of k) (entries_of k) i) p
+
+-- the same turned round
+abbrev pub ProvesBack : Kept → Kept → ℕ → ℕ → Type 0
+ProvesBack k l i p = Proves k l (turned_equation (nodes_of k) (find_equation (nodes_of k) (entries_of k) i)) p
+
+-- the equation of what the entry p says of the classes that its sides find
+abbrev pub ProvesFound : Kept → Kept → ℕ → ℕ → Type 0
+ProvesFound k l p q = Proves k l (found_entry (state_of k) p) q
+
+abbrev pub HasLargeClass : Kept → Type 0
+HasLargeClass k = (i : ℕ) × (i < length k.classes) × (2 ^ 29 ≤ length (canonical_slots (nodes_of k) i))

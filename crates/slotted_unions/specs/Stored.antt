@@ -1,0 +1,37 @@
+-- What holds of what is kept between all inner steps of a union.
+--     Stored k     the state is sane, its proof list is proved, and each listed symmetry is written over ids that find
+--     Grows k l    classes and rows are as they were, and the proof list and the listed symmetries grew at their ends
+use Rattle.std.specs.Prelude.{◌≡◌, ℕ, List, ◌++◌, Contains, false}
+use Rattle.slotted_model.specs.Applied.{keys}
+use Rattle.slotted_model.specs.Link.{IsLater}
+use Rattle.slotted_model.specs.Rest.{Sane, IsAligned}
+use Rattle.slotted_model.specs.State.{Symmetry}
+use Rattle.slotted_proofs.specs.Entries.{Proven}
+use Rattle.slotted_proofs.specs.Proving.{IsProved}
+use Rattle.slotted_store.specs.Finding.{IsFindable}
+use Rattle.slotted_store.specs.Kept.{Kept, SymmetryEntry, node_at, nodes_of, entries_of}
+use Rattle.slotted_unions.specs.StateOf.{state_of}
+
+-- the sides of a listed symmetry are two ids of one class, over the same slots
+pub record IsOverOneClass (k : Kept) (y : SymmetryEntry) : Type 0 where
+  pub left : IsFindable k y.0.0
+  pub right : IsFindable k y.0.1
+  pub class : y.0.1.0 ≡ y.0.0.0
+  pub slots : keys y.0.1.1 ≡ keys y.0.0.1
+
+pub record Stored (k : Kept) : Type 0 where
+  pub sane : Sane (state_of k)
+  pub proved : IsProved (nodes_of k) k.proofs
+  pub later : IsLater (entries_of k) k.moment
+  pub sides : (y : SymmetryEntry) → Contains k.symmetries y → IsOverOneClass k y
+  pub settled : k.dropped ≡ false → (y : Symmetry) → Contains (state_of k).symmetries y → IsAligned (state_of k) y
+
+-- from k to l no class is made and none gets another node, and entries and symmetries stay, with their texts
+pub record Grows (k l : Kept) : Type 0 where
+  pub nodes : nodes_of l ≡ nodes_of k
+  pub forms : (i : ℕ) → node_at l i ≡ node_at k i
+  pub rows : l.rows ≡ k.rows
+  pub more : List Proven
+  pub proofs : l.proofs ≡ k.proofs ++ more
+  pub listed : List SymmetryEntry
+  pub symmetries : l.symmetries ≡ k.symmetries ++ listed

@@ -1,0 +1,71 @@
+//! Proofs of what finds say, and of what an entry says of the classes that its sides find.
+ghost use Rattle.std.specs.Prelude.{◌<◌, length, IfOk, IfErr, IsErrOf};
+ghost use Rattle.slotted_slots.specs.Error.{IsShortage};
+ghost use Rattle.slotted_unions.specs.Proving.{ProvesFind, ProvesBack, ProvesFound, HasLargeClass};
+ghost use Rattle.slotted_unions.specs.Stored.{Stored};
+
+use slotted_languages::Language;
+use slotted_proofs::ProvenEq;
+use slotted_slots::Error;
+use slotted_store::Store;
+use std::alloc::Global;
+
+/// The proof of what the find of a class says. Of a live class it is that of its own entry.
+pub fn find_proof<L: Language>(
+    store: &mut Store<L>,
+    alloc: Global,
+    id: usize,
+) -> Result<ProvenEq, Error>
+    requires good { Stored store.old }
+    requires within { id < length store.old.classes }
+    ensures ok { IfOk result (ProvesFind store.old store.new id) }
+    ensures full { IsErrOf result Error.OutOfSlots → HasLargeClass store.old }
+    ensures err { IfErr result IsShortage }
+{
+    let next = store.entry(id).id.0;
+    let proof = store.proof_of(id);
+    if next == id {
+        return Ok(proof);
+    }
+    let rest = find_proof(store, alloc, next)?;
+    let answer = store.chain(alloc, proof, rest)?;
+    Ok(answer)
+}
+
+/// The proof of the same turned round.
+pub fn back_proof<L: Language>(
+    store: &mut Store<L>,
+    alloc: Global,
+    id: usize,
+) -> Result<ProvenEq, Error>
+    requires good { Stored store.old }
+    requires within { id < length store.old.classes }
+    ensures ok { IfOk result (ProvesBack store.old store.new id) }
+    ensures full { IsErrOf result Error.OutOfSlots → HasLargeClass store.old }
+    ensures err { IfErr result IsShortage }
+{
+    let proof = find_proof(store, alloc, id)?;
+    let answer = store.turn(alloc, proof)?;
+    Ok(answer)
+}
+
+/// The proof of what an entry says of the classes that its sides find.
+pub fn found_proof<L: Language>(
+    store: &mut Store<L>,
+    alloc: Global,
+    p: ProvenEq,
+) -> Result<ProvenEq, Error>
+    requires good { Stored store.old }
+    requires within { p < length store.old.proofs }
+    ensures ok { IfOk result (ProvesFound store.old store.new p) }
+    ensures full { IsErrOf result Error.OutOfSlots → HasLargeClass store.old }
+    ensures err { IfErr result IsShortage }
+{
+    let left = store.proofs().equ(p).l.id.0;
+    let right = store.proofs().equ(p).r.id.0;
+    let back = back_proof(store, alloc, left)?;
+    let onward = find_proof(store, alloc, right)?;
+    let half = store.chain(alloc, back, p)?;
+    let answer = store.chain(alloc, half, onward)?;
+    Ok(answer)
+}

@@ -1,0 +1,112 @@
+//! The union of two classes by an entry of the proof list.
+ghost use Rattle.std.specs.Prelude.{◌≡◌, ◌↔◌, ◌<◌, length, IsTrue, IfErr, IsErrOf, OnOk, IfOk, ◌≢◌};
+ghost use Rattle.slotted_slots.specs.Error.{IsShortage};
+ghost use Rattle.slotted_model.specs.Changes.{PairsAll, found_entry};
+ghost use Rattle.slotted_unions.specs.Proving.{HasLargeClass};
+ghost use Rattle.slotted_unions.specs.StateOf.{state_of};
+ghost use Rattle.slotted_unions.specs.Stored.{Stored};
+ghost use Rattle.slotted_unions.specs.Uniting.{ActsOn, DropsSide, LinksEither, SaysNothing, UnitesBy, IsOfLive, equation_in};
+
+use crate::dropping::drop_left;
+use crate::linking::link;
+use crate::listing::list_once;
+use crate::proving::found_proof;
+use slotted_languages::Language;
+use slotted_proofs::ProvenEq;
+use slotted_slots::Error;
+use slotted_store::Store;
+use std::alloc::Global;
+
+/// Whether the two sides of an entry find alike. It takes no memory.
+pub fn sides_find_alike<L: Language>(store: &Store<L>, p: ProvenEq) -> bool
+    requires good { Stored store.now }
+    requires within { p < length store.now.proofs }
+    ensures { IsTrue result ↔ SaysNothing store.now (found_entry (state_of store.now) p) }
+{
+    let equation = store.proofs().equ(p);
+    store.eq(&equation.l, &equation.r)
+}
+
+// Of the two classes of an entry or else of the entry turned round the left one drops the slots without a partner.
+fn drop_either<L: Language>(store: &mut Store<L>, alloc: Global, q: ProvenEq) -> Result<bool, Error>
+    requires good { Stored store.old }
+    requires within { q < length store.old.proofs }
+    requires live { IsOfLive store.old (equation_in store.old q) }
+    ensures ok { IfOk result (DropsSide store.old store.new (equation_in store.old q)) }
+    ensures full { IsErrOf result Error.OutOfSlots → HasLargeClass store.old }
+    ensures err { IfErr result IsShortage }
+{
+    if drop_left(store, alloc, q)? {
+        return Ok(true);
+    }
+    let turned = store.turn(alloc, q)?;
+    drop_left(store, alloc, turned)
+}
+
+// Whether the left class of an entry is the one that dies: the one with more canonical slots, and of two with as many the lighter one.
+fn left_dies<L: Language>(store: &Store<L>, q: ProvenEq) -> bool
+    requires { q < length store.now.proofs }
+{
+    let equation = store.proofs().equ(q);
+    let (left, right) = (equation.l.m.len(), equation.r.m.len());
+    if left != right {
+        return left > right;
+    }
+    store.weight(equation.l.id.0) <= store.weight(equation.r.id.0)
+}
+
+// One of the two classes of an entry dies and leads to the other.
+fn link_either<L: Language>(store: &mut Store<L>, alloc: Global, q: ProvenEq) -> Result<(), Error>
+    requires good { Stored store.old }
+    requires within { q < length store.old.proofs }
+    requires live { IsOfLive store.old (equation_in store.old q) }
+    requires different { (equation_in store.old q).left ≢ (equation_in store.old q).right }
+    requires pairs_all { PairsAll (state_of store.old) (equation_in store.old q) }
+    ensures ok { OnOk result (LinksEither store.old store.new (equation_in store.old q)) }
+    ensures full { IsErrOf result Error.OutOfSlots → HasLargeClass store.old }
+    ensures err { IfErr result IsShortage }
+{
+    if left_dies(store, q) {
+        link(store, alloc, q)?;
+        return Ok(());
+    }
+    let turned = store.turn(alloc, q)?;
+    link(store, alloc, turned)?;
+    Ok(())
+}
+
+// What an entry says of two live classes, each slot of which has a partner, is acted on.
+fn act_on<L: Language>(store: &mut Store<L>, alloc: Global, q: ProvenEq) -> Result<(), Error>
+    requires good { Stored store.old }
+    requires within { q < length store.old.proofs }
+    requires live { IsOfLive store.old (equation_in store.old q) }
+    requires pairs_all { PairsAll (state_of store.old) (equation_in store.old q) }
+    requires moves { ¬ SaysNothing store.old (equation_in store.old q) }
+    ensures ok { OnOk result (ActsOn store.old store.new (equation_in store.old q) q) }
+    ensures full { IsErrOf result Error.OutOfSlots → HasLargeClass store.old }
+    ensures err { IfErr result IsShortage }
+{
+    let equation = store.proofs().equ(q);
+    if equation.l.id.0 == equation.r.id.0 {
+        return list_once(store, alloc, q);
+    }
+    link_either(store, alloc, q)
+}
+
+/// What an entry says of the classes that its sides find holds from now on, up to listed symmetries.
+pub fn unite<L: Language>(store: &mut Store<L>, alloc: Global, p: ProvenEq) -> Result<(), Error>
+    requires good { Stored store.old }
+    requires within { p < length store.old.proofs }
+    ensures ok { OnOk result (UnitesBy p store.old store.new) }
+    ensures full { IsErrOf result Error.OutOfSlots → HasLargeClass store.old }
+    ensures err { IfErr result IsShortage }
+{
+    if sides_find_alike(store, p) {
+        return Ok(());
+    }
+    let q = found_proof(store, alloc, p)?;
+    if drop_either(store, alloc, q)? {
+        return unite(store, alloc, p);
+    }
+    act_on(store, alloc, q)
+}
