@@ -20,6 +20,7 @@ use Rattle.slotted_unions.specs.Stored.{Stored, Grows}
 use Rattle.slotted_unions.specs.Uniting.{IsOfLive, IsLackedBy, HasDropped, equation_in}
 use Rattle.slotted_unions.proofs.EnteredProofs.{stored-over, stored-meet, only-stands, only-says, only-grows}
 use Rattle.slotted_unions.proofs.EnteredProofs.{turned-only, then-chained, then-large, proves-stands}
+use Rattle.slotted_unions.proofs.TurnedEntries.{still-live}
 use Rattle.slotted_unions.proofs.ChangedEntries.{untouched, changed-state, changed-stored, changed-grows}
 
 -- what grows, and then grows again
@@ -33,15 +34,6 @@ grows-then k l m a b = record {
   listed = a.listed ++ b.listed;
   symmetries = b.symmetries ∙ (ap (λ ys. ys ++ b.listed) a.symmetries ∙ append_assoc k.symmetries a.listed b.listed);
 }
-
--- classes find as they did where only the proof list grew
-still-live : (k l : Kept) → OnlyProves k l → (e : Equation) → IsOfLive k e → IsOfLive l e
-still-live k l only e live = subst (λ (m : Kept). IsOfLive m e) (sym only.kept) (record {
-  left_lives = live.left_lives;
-  right_lives = live.right_lives;
-  left = live.left;
-  right = live.right;
-})
 
 module _ (k : Kept) (good : Stored k) (q : ℕ) (within : q < length k.proofs) (live : IsOfLive k (equation_in k q)) where
   abbrev e : Equation
@@ -92,7 +84,7 @@ module _ (k : Kept) (good : Stored k) (q : ℕ) (within : q < length k.proofs) (
 
       can : CanDrop h.nodes h.found e.left (keys_of e.pairs)
       can =
-          let still : IsOfLive m e = still-live k m only e live in
+          let still : IsOfLive m e = still-live k m e only live in
           let over : IsOver h.nodes e = subst (λ (z : Kept). IsOver (nodes_of z) e) (sym only.kept) (stored-over k good q within) in
           kept-can_drop h.nodes h.found e over still.left_lives still.left
 

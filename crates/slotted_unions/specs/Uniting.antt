@@ -1,8 +1,9 @@
 -- The steps of a union by an entry, as the mathematics has them.
---     FoundEntry k q       the entry q says of two live classes what it says
+--     IsOfLive k e         the equation is one of live classes, over slots that they have
 --     HasDropped k l e     the left class of the equation has dropped the slots without a partner
 --     HasLinked k l e      the left class of the equation leads to the right one
 --     HasListed k l e      the equation is listed as a symmetry
+--     DropsSide, LinksEither, ActsOn     what a step of a union does, on either side
 --     UnitesBy p k l       the union by the entry p leads from k to l
 use Rattle.std.specs.Prelude.{◌≡◌, ◌≢◌, ◌⊎◌, ℕ, [], Contains, Bool, true, false}
 use Rattle.std.specs.Map.{keys_of, values_of}
