@@ -1,2 +1,3 @@
 -- What callers cite.
 pub use Rattle.slotted_core.proofs.CallerLemmas
+pub mod Asking

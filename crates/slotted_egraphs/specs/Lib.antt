@@ -22,3 +22,5 @@ pub use Rattle.slotted_core.specs.Image
 pub use Rattle.slotted_core.specs.Nodes
 pub use Rattle.slotted_core.specs.Checks
 pub use Rattle.slotted_core.specs.Leaves
+-- what a caller of its own says
+pub mod Filed

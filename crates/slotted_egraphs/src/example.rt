@@ -1,7 +1,10 @@
-//! A first caller: two texts are added, united and asked.
-ghost use Rattle.std.specs.Prelude.{IsTrue, IfOk};
+//! First callers: texts are added, united and asked, a canonical term is added again, and a node is looked up and asked.
+ghost use Rattle.std.specs.Prelude.{◌↔◌, ◌⊎◌, IsTrue, IfOk};
+ghost use Rattle.slotted_egraphs.specs.Filed.{IsFiledAs, SaysNodeEqual};
+ghost use Rattle.slotted_egraphs.specs.Graph.{IsValidId, IsValidNode};
+ghost use Rattle.slotted_egraphs.specs.Nodes.{to_applied};
 
-use crate::{EGraph, Error, Language};
+use crate::{AppliedId, EGraph, Error, Language};
 
 /// Adds the terms of two texts, unites them and asks whether they are equal. Where there is an answer it is yes, and this is
 /// proved.
@@ -18,4 +21,30 @@ pub fn unite_and_ask<L: Language>(
     let right = graph.add_expr(&right)?;
     graph.union(&left, &right)?;
     graph.eq(&left, &right)
+}
+
+/// Adds the term of a text, and then the canonical term of its id. Where there is an answer it says that both got equal ids.
+pub fn add_again<L: Language>(graph: &mut EGraph<L>, text: &str) -> Result<bool, Error>
+    ensures { IfOk result IsTrue }
+{
+    let term = graph.parse_expr(text)?;
+    let id = graph.add_expr(&term)?;
+    let canonical = graph.get_syn_expr(&id)?;
+    let again = graph.add_expr(&canonical)?;
+    graph.eq(&id, &again)
+}
+
+/// Whether a node is looked up as an id that finds what this one finds.
+pub fn is_filed_as<L: Language>(graph: &EGraph<L>, node: &L, id: &AppliedId) -> Result<bool, Error>
+    requires node { IsTrue graph.now.failed ⊎ IsValidNode graph.now (L.form node.now) }
+    requires id { IsTrue graph.now.failed ⊎ IsValidId graph.now (to_applied id.now) }
+
+    // Yes exactly where it is; and a yes says that they are equal by what was asserted.
+    ensures filed { IfOk result (λ y. IsTrue y ↔ IsFiledAs graph.now (L.form node.now) (to_applied id.now)) }
+    ensures equal { IfOk result (SaysNodeEqual graph.now (L.form node.now) (to_applied id.now)) }
+{
+    let Some(found) = graph.lookup(node)? else {
+        return Ok(false);
+    };
+    graph.eq(&found, id)
 }
