@@ -293,7 +293,7 @@ exchange = record { class = 0; slots = 0 ∷ 1 ∷ []; pairs = (0, 1) ∷ (1, 0)
 pub not_identity : exchanged.pairs ≡ identity (0 ∷ 1 ∷ []) → ⊥
 not_identity e = let n : ◌≡◌ {A = ℕ} 1 0 = ap (λ (m : List (ℕ × ℕ)). (get_or m 0 (0, 0)).1) e in omega arith
 
-not_exchanged : (n : ℕ) → n < 2 → equation_at with_h.proofs n ≡ exchanged → ⊥
+pub not_exchanged : (n : ℕ) → n < 2 → equation_at with_h.proofs n ≡ exchanged → ⊥
 not_exchanged zero l e = not_identity (ap (λ (x : Equation). x.pairs) (sym e))
 not_exchanged (suc zero) l e = let n : ◌≡◌ {A = ℕ} 1 0 = ap (λ (x : Equation). x.left) e in omega arith
 not_exchanged (suc (suc n)) l e = omega arith
@@ -316,7 +316,7 @@ exchange_listed = lists 2 refl (record { left = λ s c. c; right = both_slots })
 pub symmetric_sane : Sane symmetric
 symmetric_sane = (unites 2 exchange_listed exchange_sane (omega arith)).sane
 
-not_redundant_too : (n : ℕ) → n < 3 → equation_at symmetric.proofs n ≡ redundant → ⊥
+pub not_redundant_too : (n : ℕ) → n < 3 → equation_at symmetric.proofs n ≡ redundant → ⊥
 not_redundant_too zero l e = not_redundant 0 (omega arith) e
 not_redundant_too (suc zero) l e = not_redundant 1 (omega arith) e
 not_redundant_too (suc (suc zero)) l e = let n : ◌≡◌ {A = ℕ} 2 1 = ap (λ (x : Equation). length x.pairs) e in omega arith
@@ -335,7 +335,7 @@ narrowed_sane =
     (omega arith)).sane
 
 -- now the sides of the symmetry find different names, so it is acted on
-not_aligned : IsAligned narrowed exchange → ⊥
+pub not_aligned : IsAligned narrowed exchange → ⊥
 not_aligned e = let n : ◌≡◌ {A = ℕ} 0 1 = ap (λ (xs : List ℕ). get_or xs 0 7) e in omega arith
 
 pub symmetry_acts : (t : State) × Acts narrowed t

@@ -14,6 +14,8 @@ pub mod QuietData
 pub mod Showing
 pub mod CycleExample
 pub mod TurnedExample
+pub mod AskedExample
+pub mod ActExample
 pub mod RoundsAtRest
 pub mod AddedTrees
 pub mod AddingTrees

@@ -1,0 +1,240 @@
+-- A round that makes an edit of the class itself: the words p and q, where the datum 0 asks that its class equals q. 0 is merged into the data of p; the round
+-- asserts p to equal q, by which the data of the class of q changes. So this waits, and is asked in a second round, which finds what it asks.
+use Rattle.std.proofs.Common.{◌≡◌, ◌≢◌, ℕ, zero, suc, ◌<◌, List, [], ◌∷◌, Some, refl, sym, ap, subst, inl, inr, arith}
+use Rattle.std.specs.Prelude.{Contains, min, cond, nat_eq}
+use Rattle.std.proofs.lemmas.Bool.{cases_eq, cases_lt, ne_eqb}
+use Rattle.slotted_theory.proofs.Lists.{contains_head, contains_cases, Contains-nil}
+use Rattle.slotted_model.specs.Classes.{IsFull}
+use Rattle.slotted_model.specs.Extraction.{row_class}
+use Rattle.slotted_model.specs.Filling.{IsFilling}
+use Rattle.slotted_model.specs.Find.{IsLive, find_class}
+use Rattle.slotted_model.specs.Link.{IsLater}
+use Rattle.slotted_model.specs.ProofList.{Equation, equation_of, equation_at, asserted}
+use Rattle.slotted_model.specs.State.{Row, State, look_up_tree}
+use Rattle.slotted_model.specs.Trees.{IsTree}
+use Rattle.slotted_model.specs.Changes.{Unites, left_dies, finds_alike, linked_state}
+use Rattle.slotted_model.specs.Adding.{with_assertion}
+use Rattle.slotted_model.proofs.CompletenessExamples.{one_of}
+use Rattle.slotted_model.proofs.RestExamples.{p, q, with_q, q_rests}
+use Rattle.slotted_model.proofs.Touching.{touching, touched-is}
+use Rattle.slotted_model_analyses.specs.Analysis.{Analysis, IsMerge, Absorbs}
+use Rattle.slotted_model_analyses.specs.DataPart.{DataPart, with_data, with_pending, made, lowered, Carries, starts, RestsWithData}
+use Rattle.slotted_model_analyses.specs.DataWrites.{AssertsWithData, is_new, stands, MergesInto, merges_into}
+use Rattle.slotted_model_analyses.specs.Rounds.{Modify, IsOfTrees, AsksTrees, adds, equals, AddsTree, MakesEdit, makes_add, makes_equal, all_made, then_edit, all_modified, modified, TakesRound, no_rounds, one_round, Rounds, AddsExpr, still_there, IsAsked}
+use Rattle.slotted_model_analyses.specs.Rounds as rounds
+use Rattle.slotted_model_analyses.proofs.Merging.{noted-is}
+use Rattle.slotted_model_analyses.proofs.AddedTrees.{merged-stays}
+use Rattle.slotted_model_analyses.proofs.MakingRounds.{rounds-there}
+use Rattle.slotted_model_analyses.proofs.RoundsAtRest.{rounds-on, round-on, none-modified}
+use Rattle.slotted_model_analyses.proofs.Writing.{merging}
+
+-- p makes 5, and q makes 7; the least is kept
+abbrev least : Analysis ℕ
+least = record { make = λ d xs. cond (nat_eq d.op 1) 5 7; merge = min; height = λ x. x }
+
+least_merge : IsMerge ℕ least
+least_merge = record {
+  decided = cases_eq;
+  commutative = λ x y. omega arith;
+  associative = λ x y z. omega arith;
+  idempotent = λ x. omega arith;
+  lowers = λ x y n. below x y n;
+}
+  where
+    below : (x y : ℕ) → min x y ≢ x → min x y < x
+    below x y n = elim (cases_lt y x) [
+      | inl l ↦ omega arith
+      | inr l ↦ absurd (n (omega arith))
+    ]
+
+-- a class of which the datum is 0 is to equal q
+abbrev asks : Modify ℕ
+asks x slots = cond (nat_eq x 0) (equals q ∷ []) []
+
+abbrev words : DataPart ℕ
+words = record { data_of = with_data (λ i. 5) 1 7; pending = []; changed = [] }
+
+words_rest : RestsWithData least with_q words
+words_rest = record {
+  rest = q_rests;
+  has = record {
+    waits_once = tt;
+    waits_whole = λ o c. c;
+    waits_for_row = λ o c. absurd (Contains-nil o c);
+    absorbs_made = λ r c n. elim (contains_cases _ (_ ∷ []) r c) [
+      | inl e ↦ subst (λ (x : Row). Absorbs least (words.data_of (row_class with_q x)) (made least words x.shape)) (sym e) refl
+      | inr d ↦ elim (contains_cases _ [] r d) [
+        | inl e ↦ subst (λ (x : Row). Absorbs least (words.data_of (row_class with_q x)) (made least words x.shape)) (sym e) refl
+        | inr k ↦ absurd (Contains-nil r k)
+      ]
+    ];
+    changed_once = tt;
+    changed_in_range = λ i c. absurd (Contains-nil i c);
+  };
+  nothing_waits = refl;
+}
+
+-- 0 is merged into the data of p, which waits to be modified then; no row is over it
+abbrev told : DataPart ℕ
+told = record { data_of = with_data words.data_of 0 0; pending = []; changed = 0 ∷ [] }
+
+p_told : MergesInto least with_q words 0 0 with_q told
+p_told =
+    merges_into (lowered [] (0 ∷ []) (λ e. omega arith) (touched-is (with_pending with_q words) tt 0) (noted-is 0 [] tt)) starts
+    ((refl, λ y c. absurd (Contains-nil y c)), refl)
+
+told_rests : RestsWithData least with_q told
+told_rests = ((merging least least_merge with_q words words_rest 0 (omega arith) 0).1 with_q told p_told).1
+
+-- the first round: of the class of p it is asked to equal q, which is there
+abbrev before_round : DataPart ℕ
+before_round = record told { changed = [] }
+
+q_there : (s : DataPart ℕ) → AddsTree least with_q s q with_q s (1, [])
+q_there s = record { nodes = rounds.no_more; full = record { in_range = omega arith; slots = refl; injective = tt }; term = refl }
+
+-- an id without slots lacks no name
+filled : (g : State) (c : ℕ) (given : List ℕ) → IsFull g.nodes (c, []) → IsFilling g.nodes given (c, []) (c, [])
+filled g c given full = record { class = refl; full = full; keeps = λ s x k. k; fresh = λ s x k n. absurd (Contains-nil (s, x) k) }
+
+abbrev asked_equation : Equation
+asked_equation = equation_of (0, []) (1, [])
+
+abbrev more : State
+more = with_assertion with_q asked_equation
+
+abbrev united : State
+united = linked_state more asked_equation 2 0 (touching more 0)
+
+none_died : IsLater with_q.found 0
+none_died zero l d = absurd (d refl)
+none_died (suc zero) l d = absurd (d refl)
+none_died (suc (suc i)) l d = absurd (omega arith)
+
+abbrev words_unite : Unites 2 more united
+words_unite = left_dies 2 0 (touching more 0) (λ e. omega arith) (record { left = λ s c. c; right = λ s c. c }) (omega arith, refl) none_died (touched-is more tt 0)
+
+-- the class of p dies, so 0 is merged into the data of that of q, which waits
+abbrev q_changed : DataPart ℕ
+q_changed = record { data_of = with_data told.data_of 1 0; pending = []; changed = 1 ∷ [] }
+
+words_carried : Carries least words_unite before_round q_changed
+words_carried = (
+  touching (with_pending more before_round) 0,
+  touched-is (with_pending more before_round) tt 0,
+  lowered [] (1 ∷ []) (λ e. omega arith) (touched-is (with_pending more before_round) tt 1) (noted-is 1 [] tt),
+)
+
+words_asserted : AssertsWithData least with_q before_round (0, []) (1, []) united q_changed
+words_asserted = is_new other words_unite words_carried starts ((refl, λ y c. absurd (Contains-nil y c)), refl)
+  where
+    other : (n : ℕ) → n < 2 → equation_at with_q.proofs n ≡ asked_equation → ⊥
+    other zero l e = let n : ◌≡◌ {A = ℕ} 0 1 = ap (λ (x : Equation). x.right) e in omega arith
+    other (suc zero) l e = let n : ◌≡◌ {A = ℕ} 1 0 = ap (λ (x : Equation). x.left) e in omega arith
+    other (suc (suc n)) l e = omega arith
+
+p_full : IsFull with_q.nodes (0, [])
+p_full = record { in_range = omega arith; slots = refl; injective = tt }
+
+q_full : IsFull with_q.nodes (1, [])
+q_full = record { in_range = omega arith; slots = refl; injective = tt }
+
+edit_made : MakesEdit least with_q before_round 0 [] (equals q) united q_changed
+edit_made = makes_equal q (q_there before_round) (filled with_q 0 [] p_full) words_asserted
+
+first_round : TakesRound least asks with_q told united q_changed
+first_round = record {
+  order = 0 ∷ [];
+  ascending = (tt, tt);
+  waiting = λ c. (λ k. (k, subst (IsLive with_q.found) (sym (one_of k)) refl), λ k. k.0);
+  modifies = modified (omega arith) refl (then_edit edit_made all_made) all_modified;
+}
+
+-- of the two classes that of q alone is live, and its data has changed: it waits for the next round
+united_rests : RestsWithData least united q_changed
+united_rests = (round-on least least_merge asks with_q told told_rests united q_changed first_round).0.rest
+
+q_waits : (q_changed.changed ≡ 1 ∷ []) × (q_changed.data_of (find_class united.found 0) ≡ 0) × (find_class united.found 0 ≡ 1)
+q_waits = (refl, refl, refl)
+
+-- the second round: q equals itself by the entry with which its class was made
+abbrev at_end : DataPart ℕ
+at_end = record q_changed { changed = [] }
+
+second_round : TakesRound least asks united q_changed united at_end
+second_round = record {
+  order = 1 ∷ [];
+  ascending = (tt, tt);
+  waiting = λ c. (λ k. (k, subst (IsLive united.found) (sym (one_of k)) refl), λ k. k.0);
+  modifies =
+      modified (omega arith) refl
+      (then_edit (makes_equal q (record { nodes = rounds.no_more; full = q_full; term = refl }) (filled united 1 [] q_full)
+      (stands 1 (omega arith, refl) (finds_alike refl refl) refl starts ((refl, λ y c. absurd (Contains-nil y c)), refl))) all_made)
+      all_modified;
+}
+
+both_rounds : Rounds least asks 16 with_q told united at_end
+both_rounds = record {
+  taken = 2;
+  within = omega arith;
+  rounds = one_round (one_round no_rounds 0 (contains_head 0 []) refl first_round) 1 (contains_head 1 []) refl second_round;
+  ends = inr (λ c k. absurd (Contains-nil c k));
+}
+
+end_rests : RestsWithData least united at_end
+end_rests = (rounds-on least least_merge asks told_rests both_rounds.rounds).rest
+
+-- one pair is asserted, where none was: so it was asked
+one_asserted : (asserted with_q.nodes with_q.proofs ≡ []) × (asserted united.nodes united.proofs ≡ (p, q) ∷ [])
+one_asserted = (refl, refl)
+
+was_asked : IsAsked least asks with_q united (p, q)
+was_asked = elim ((rounds-on least least_merge asks told_rests both_rounds.rounds).asked (p, q) (contains_head (p, q) [])) [
+  | inl c ↦ absurd (Contains-nil (p, q) c)
+  | inr k ↦ k
+]
+
+-- the value that was merged has stayed
+still_told : Absorbs least (at_end.data_of (find_class united.found 0)) 0
+still_told = (merged-stays least least_merge asks 16 with_q words words_rest 0 (omega arith) 0 with_q united told at_end p_told both_rounds).2
+
+-- an analysis that asks nothing leaves the graph in a round, and no class waits then
+abbrev asks_nothing : Modify ℕ
+asks_nothing x slots = []
+
+quiet_round : TakesRound least asks_nothing with_q told with_q before_round
+quiet_round = record {
+  order = 0 ∷ [];
+  ascending = (tt, tt);
+  waiting = λ c. (λ k. (k, subst (IsLive with_q.found) (sym (one_of k)) refl), λ k. k.0);
+  modifies = modified (omega arith) refl all_made all_modified;
+}
+
+nothing_asked : (h : State) (t : DataPart ℕ) → TakesRound least asks_nothing with_q told h t → (h ≡ with_q) × (t ≡ before_round)
+nothing_asked h t r = none-modified least asks_nothing (λ x slots. refl) r.modifies
+
+-- without rounds all waits for the next write
+no_round : Rounds least asks 0 with_q told with_q told
+no_round = record { taken = 0; within = omega arith; rounds = no_rounds; ends = inl refl }
+
+-- trees alone are asked for, so there are rounds for each limit
+q_is_tree : IsTree q
+q_is_tree = record { operator = omega arith; children = tt }
+
+asks_trees : AsksTrees asks
+asks_trees zero slots e c = subst IsOfTrees (sym (one_of c)) q_is_tree
+asks_trees (suc x) slots e c = absurd (Contains-nil e (subst (λ b. Contains (cond b (equals q ∷ []) []) e) (ne_eqb (suc x) 0 (λ k. omega arith)) c))
+
+rounds_for : (limit : ℕ) → (h : State) × (t : DataPart ℕ) × Rounds least asks limit with_q told h t
+rounds_for limit = rounds-there least least_merge asks asks_trees with_q told told_rests limit
+
+-- an edit that adds q finds it there
+q_added : MakesEdit least with_q told 0 [] (adds q) with_q told
+q_added = makes_add q (q_there told)
+
+-- p is added once more: its class waits, and the rounds lead it to the class of q, which is answered
+p_answered : AddsExpr least asks 16 with_q told p united at_end (1, [])
+p_answered = still_there rounds.no_more looked_up both_rounds refl
+  where
+    looked_up : look_up_tree with_q p ≡ Some (0, [])
+    looked_up = refl
