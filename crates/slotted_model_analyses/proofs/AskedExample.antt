@@ -1,5 +1,6 @@
--- A round that makes an edit of the class itself: the words p and q, where the datum 0 asks that its class equals q. 0 is merged into the data of p; the round
--- asserts p to equal q, by which the data of the class of q changes. So this waits, and is asked in a second round, which finds what it asks.
+-- A round that makes an edit of the class itself: the words p and q, where the datum 0 asks that its class equals q. 0 is merged
+-- into the data of p; the round asserts p to equal q, by which the data of the class of q changes. So this waits, and is asked in a
+-- second round, which finds what it asks.
 use Rattle.std.proofs.Common.{◌≡◌, ◌≢◌, ℕ, zero, suc, ◌<◌, List, [], ◌∷◌, Some, refl, sym, ap, subst, inl, inr, arith}
 use Rattle.std.specs.Prelude.{Contains, min, cond, nat_eq}
 use Rattle.std.proofs.lemmas.Bool.{cases_eq, cases_lt, ne_eqb}
