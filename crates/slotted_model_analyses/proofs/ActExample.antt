@@ -80,14 +80,17 @@ abbrev f_8_7 : Applied
 f_8_7 = (0, (0, 8) ∷ (1, 7) ∷ [])
 
 abbrev listed : Unites 2 (with_assertion with_h exchanged) symmetric
-listed = lists 2 refl (record { left = λ s c. c; right = both_slots }) not_identity (λ y c. absurd (Contains-nil y c)) (omega arith, refl)
+listed =
+    lists 2 refl (record { left = λ s c. c; right = both_slots }) not_identity (λ y c. absurd (Contains-nil y c)) (omega arith, refl)
 
 exchange_asserted : AssertsWithData depth with_h start f_7_8 f_8_7 symmetric start
 exchange_asserted = is_new not_exchanged listed refl starts ((refl, λ y c. subst (IsAligned symmetric) (sym (one_of c)) refl), refl)
 
 symmetric_rests : RestsWithData depth symmetric start
 symmetric_rests =
-    ((asserting depth depth_merge with_h start start_rests f_7_8 f_8_7 (f_full 7 8 (λ e. omega arith)) (f_full 8 7 (λ e. omega arith))).1 symmetric start exchange_asserted).1
+    let full = f_full 7 8 (λ e. omega arith) in
+    let other = f_full 8 7 (λ e. omega arith) in
+    ((asserting depth depth_merge with_h start start_rests f_7_8 f_8_7 full other).1 symmetric start exchange_asserted).1
 
 -- f 7 8 is asserted to equal f 7 9: f drops its second slot, and the row of h waits, for its data too
 abbrev waits : DataPart ℕ
@@ -95,8 +98,8 @@ waits = record start { pending = 1 ∷ [] }
 
 abbrev narrows_f : Unites 3 (with_assertion symmetric redundant) narrowed
 narrows_f =
-    drops_left 3 1 (touching symmetric 0) (contains_tail 0 (1 ∷ []) 1 (contains_head 1 [])) not_zero (omega arith, refl) (touched-is (with_assertion symmetric redundant) tt 0)
-    (finds_alike refl refl)
+    drops_left 3 1 (touching symmetric 0) (contains_tail 0 (1 ∷ []) 1 (contains_head 1 [])) not_zero (omega arith, refl)
+    (touched-is (with_assertion symmetric redundant) tt 0) (finds_alike refl refl)
 
 narrowed_carries : Carries depth narrows_f start waits
 narrowed_carries = (1 ∷ [], touched-is (with_pending (with_assertion symmetric redundant) start) tt 0, refl)
@@ -197,7 +200,8 @@ abbrev act_unites : Unites 2 narrowed acted
 act_unites =
     proves entered.proofs entered_grow
     (proves ready.proofs ready_grow
-    (drops_left 5 0 (touching ready 0) (contains_head 0 []) (Contains-nil 0) (omega arith, refl) (touched-is ready (Contains-nil 1, tt) 0) (finds_alike refl refl)))
+    (drops_left 5 0 (touching ready 0) (contains_head 0 []) (Contains-nil 0) (omega arith, refl)
+    (touched-is ready (Contains-nil 1, tt) 0) (finds_alike refl refl)))
 
 abbrev the_act : Acts narrowed acted
 the_act = acts exchange (contains_head exchange []) not_aligned act_unites
@@ -211,7 +215,9 @@ act_follows = (1 ∷ [], touched-is (with_pending ready waits) (Contains-nil 1, 
 
 -- after the act the data of each class absorbs what it was before, and what does not wait absorbs what it makes
 act_goes_down : DataGoesDown depth narrowed waits acted waits × GoesDown depth waits waits × HasData depth acted waits
-act_goes_down = let x = acted-followed depth depth_merge the_act narrowed_sane waits waits narrowed_has act_follows in (x.0.classes, x.0.down, x.0.has)
+act_goes_down =
+    let x = acted-followed depth depth_merge the_act narrowed_sane waits waits narrowed_has act_follows in
+    (x.0.classes, x.0.down, x.0.has)
 
 -- two classes, of one and two slots, with the heights 4 and 5, and then no slot of f
 sizes : (size_with_data depth narrowed waits ≡ 14) × (size_with_data depth acted waits ≡ 13)

@@ -113,7 +113,9 @@ none_died (suc zero) l d = absurd (d refl)
 none_died (suc (suc i)) l d = absurd (omega arith)
 
 abbrev words_unite : Unites 2 more united
-words_unite = left_dies 2 0 (touching more 0) (λ e. omega arith) (record { left = λ s c. c; right = λ s c. c }) (omega arith, refl) none_died (touched-is more tt 0)
+words_unite =
+    left_dies 2 0 (touching more 0) (λ e. omega arith) (record { left = λ s c. c; right = λ s c. c }) (omega arith, refl) none_died
+    (touched-is more tt 0)
 
 -- the class of p dies, so 0 is merged into the data of that of q, which waits
 abbrev q_changed : DataPart ℕ
@@ -197,7 +199,8 @@ was_asked = elim ((rounds-on least least_merge asks told_rests both_rounds.round
 
 -- the value that was merged has stayed
 still_told : Absorbs least (at_end.data_of (find_class united.found 0)) 0
-still_told = (merged-stays least least_merge asks 16 with_q words words_rest 0 (omega arith) 0 with_q united told at_end p_told both_rounds).2
+still_told =
+    (merged-stays least least_merge asks 16 with_q words words_rest 0 (omega arith) 0 with_q united told at_end p_told both_rounds).2
 
 -- an analysis that asks nothing leaves the graph in a round, and no class waits then
 abbrev asks_nothing : Modify ℕ
@@ -224,7 +227,9 @@ q_is_tree = record { operator = omega arith; children = tt }
 
 asks_trees : AsksTrees asks
 asks_trees zero slots e c = subst IsOfTrees (sym (one_of c)) q_is_tree
-asks_trees (suc x) slots e c = absurd (Contains-nil e (subst (λ b. Contains (cond b (equals q ∷ []) []) e) (ne_eqb (suc x) 0 (λ k. omega arith)) c))
+asks_trees (suc x) slots e c =
+    let none = subst (λ b. Contains (cond b (equals q ∷ []) []) e) (ne_eqb (suc x) 0 (λ k. omega arith)) c in
+    absurd (Contains-nil e none)
 
 rounds_for : (limit : ℕ) → (h : State) × (t : DataPart ℕ) × Rounds least asks limit with_q told h t
 rounds_for limit = rounds-there least least_merge asks asks_trees with_q told told_rests limit
