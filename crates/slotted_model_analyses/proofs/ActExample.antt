@@ -12,23 +12,25 @@ use Rattle.slotted_model.specs.Classes.{IsFull}
 use Rattle.slotted_model.specs.Extraction.{row_class}
 use Rattle.slotted_model.specs.Find.{find_class, used_slots}
 use Rattle.slotted_model.specs.Link.{CanEnter}
-use Rattle.slotted_model.specs.ProofList.{Equation, ProofEntry, transitive, congruent, equation_of, equation_at, no_more, one_child}
+use Rattle.slotted_model.specs.ProofList.{Equation, ProofEntry, explicit, transitive, congruent, equation_of, equation_at, no_more, one_child}
 use Rattle.slotted_model.specs.State.{Row, State, normal_node}
-use Rattle.slotted_model.specs.Rest.{IsAligned, Sane}
+use Rattle.slotted_model.specs.Rest.{IsAligned, Sane, Represents}
 use Rattle.slotted_model.specs.Changes.{ProofsGrow, with_proofs, found_entry, Unites, proves, drops_left, finds_alike, lists, dropped_state}
 use Rattle.slotted_model.specs.Rebuild.{IsCongruence, refiled_state, Turn, enters, narrows, refiles, Acts, acts}
 use Rattle.slotted_model.specs.Adding.{with_assertion}
-use Rattle.slotted_model.proofs.Asserting.{can_assert}
+use Rattle.slotted_model.proofs.Asserting.{entry-sane, entry-represents, can_assert}
 use Rattle.slotted_model.proofs.CompletenessExamples.{one_of}
 use Rattle.slotted_model.proofs.Entering.{entered-proved}
 use Rattle.slotted_model.proofs.GrowingLists.{proofs-sane}
 use Rattle.slotted_model.proofs.Touching.{touching, touched-is}
 use Rattle.slotted_model.proofs.TurnExamples.{with_h, h_rests, f_7_8, f_7_9, f_full, redundant, exchanged, symmetric, exchange, not_identity, both_slots, not_zero, not_exchanged, not_redundant_too, narrowed, narrowed_sane, not_aligned}
 use Rattle.slotted_model.proofs.Unions.{unites}
+use Rattle.slotted_model.proofs.AfterUnions.{united-represents}
 use Rattle.slotted_model_analyses.specs.Analysis.{Analysis, IsMerge, Absorbs}
 use Rattle.slotted_model_analyses.specs.DataPart.{DataPart, with_pending, made, Carries, absorbed, Follows, FollowsAct, RunsWithData, starts, takes_act, HasData, size_with_data, GoesDown, DataGoesDown, RestsWithData}
 use Rattle.slotted_model_analyses.specs.DataPart as with
 use Rattle.slotted_model_analyses.specs.DataWrites.{AssertsWithData, is_new}
+use Rattle.slotted_model_analyses.proofs.Counts.{ended-with}
 use Rattle.slotted_model_analyses.proofs.Following.{acted-followed}
 use Rattle.slotted_model_analyses.proofs.Writing.{asserting}
 
@@ -355,3 +357,24 @@ final_rests =
 
 final_size : (used_slots final.found 1 ≡ []) × (size_with_data depth final start ≡ 11)
 final_size = (refl, refl)
+
+-- where f has dropped its second slot the graph represents what was added and asserted, so the run of these turns ends at rest
+abbrev redundant_entry : ProofEntry
+redundant_entry = record { equation = redundant; step = explicit }
+
+redundant_enters : CanEnter symmetric.nodes symmetric.proofs redundant_entry
+redundant_enters =
+    can_assert symmetric f_7_8 f_7_9 (f_full 7 8 (λ e. omega arith)) (f_full 7 9 (λ e. omega arith)) not_redundant_too
+
+more_sane : Sane (with_assertion symmetric redundant)
+more_sane = entry-sane symmetric symmetric_rests.rest.sane redundant_entry redundant_enters
+
+narrowed_represents : Represents narrowed
+narrowed_represents =
+    let but = entry-represents symmetric symmetric_rests.rest.sane redundant_entry redundant_enters symmetric_rests.rest.represents in
+    united-represents 3 (with_assertion symmetric redundant) narrowed more_sane but (unites 3 narrows_f more_sane (omega arith))
+
+ends_at_rest : RestsWithData depth final start
+ends_at_rest =
+    ended-with depth depth_merge narrowed narrowed_sane narrowed_has narrowed_represents two_turns
+    ((refl, λ y c. subst (IsAligned final) (sym (one_of c)) refl), refl)
