@@ -24,7 +24,7 @@ use Rattle.slotted_model.proofs.CongruenceExample.{words, n, n_a_rests, id, side
 abbrev three : State
 three = made words (n 0)
 
-abbrev united : State
+abbrev pub united : State
 united = linked_state (with_assertion three (sides 1 0)) (sides 1 0) 3 1 (touching three 1)
 
 three_full : (i : ℕ) → i < 3 → IsFull three.nodes (id i)
@@ -39,14 +39,14 @@ b_a_asserted =
     (left_dies 3 1 (touching three 1) (λ e. omega arith) (record { left = λ s c. c; right = λ s c. c }) (omega arith, refl) (λ i l d. is_later 1 three.found (omega arith, (omega arith, (omega arith, tt))) i l) (touched-is (with_assertion three (sides 1 0)) tt 1))
     starts (refl, λ y c. absurd (Contains-nil y c))
 
-united_rests : AtRest united
+pub united_rests : AtRest united
 united_rests = (asserts three n_a_rests (id 1) (id 0) (three_full 1 (omega arith)) (three_full 0 (omega arith)) united b_a_asserted).rest
 
 -- the first child of a node, by which n b is told from n a
 abbrev child_class : DTerm → ℕ
 child_class d = get_or (child_classes d.args) 0 7
 
-n_b_new : IsNew united.nodes (n 1)
+pub n_b_new : IsNew united.nodes (n 1)
 n_b_new = record { operator = omega arith; children = ((id 1, refl, three_full 1 (omega arith)), tt); shape_is_new = other }
   where
     other : (i : ℕ) → i < 3 → ¬ (shape (canonical_node united.nodes i) ≡ shape (n 1))
@@ -59,7 +59,7 @@ n_b_new = record { operator = omega arith; children = ((id 1, refl, three_full 1
 n_b_looked_up : look_up_node united (n 1) ≡ Some (id 2)
 n_b_looked_up = refl
 
-abbrev with_n_b : State
+abbrev pub with_n_b : State
 with_n_b = with_new_class united (n 1)
 
 with_n_b-sane : Sane with_n_b
@@ -76,7 +76,7 @@ four_full (suc (suc (suc (suc i)))) l = absurd (omega arith)
 abbrev n_congruent : ProofEntry
 n_congruent = record { equation = sides 3 2; step = congruent (3 ∷ []) }
 
-abbrev entered : State
+abbrev pub entered : State
 entered = with_proofs with_n_b (with_n_b.proofs ++ n_congruent ∷ [])
 
 n_can_enter : CanEnter with_n_b.nodes with_n_b.proofs n_congruent
@@ -98,10 +98,10 @@ n_can_enter = record {
   is_new = stands_nowhere (sides 3 2) with_n_b.proofs (omega arith, (omega arith, (omega arith, (omega arith, (omega arith, tt)))));
 }
 
-n_grow : ProofsGrow with_n_b.nodes with_n_b.proofs entered.proofs
+pub n_grow : ProofsGrow with_n_b.nodes with_n_b.proofs entered.proofs
 n_grow = record { more = n_congruent ∷ []; is = refl; proved = entered-proved with_n_b.nodes with_n_b.proofs n_congruent with_n_b-sane.sound.proved n_can_enter; asserts_nothing = refl }
 
-n_congruence : IsCongruence entered 5 3 2
+pub n_congruence : IsCongruence entered 5 3 2
 n_congruence = record {
   left = id 3;
   right = id 2;
@@ -112,7 +112,7 @@ n_congruence = record {
   stands = (omega arith, refl);
 }
 
-abbrev joined : State
+abbrev pub joined : State
 joined = linked_state entered (sides 3 2) 5 2 (touching entered 3)
 
 n_unites : Unites 5 entered joined
@@ -120,7 +120,7 @@ n_unites =
     left_dies 5 2 (touching entered 3) (λ e. omega arith) (record { left = λ s c. c; right = λ s c. c }) (omega arith, refl)
     (λ i l d. is_later 2 entered.found (omega arith, (omega arith, (omega arith, (omega arith, tt)))) i l) (touched-is entered tt 3)
 
-abbrev row_n_a : Row
+abbrev pub row_n_a : Row
 row_n_a = record { shape = n 0; source = 2; slots = [] }
 
 n_b_adds : Adds united (n 1) joined

@@ -1,5 +1,6 @@
--- A round that makes an edit of the class itself: the words p and q, where the datum 0 asks that its class equals q. 0 is merged into the data of p; the round
--- asserts p to equal q, by which the data of the class of q changes. So this waits, and is asked in a second round, which finds what it asks.
+-- A round that makes an edit of the class itself: the words p and q, where the datum 0 asks that its class equals q. 0 is merged
+-- into the data of p; the round asserts p to equal q, by which the data of the class of q changes. So this waits, and is asked in a
+-- second round, which finds what it asks.
 use Rattle.std.proofs.Common.{◌≡◌, ◌≢◌, ℕ, zero, suc, ◌<◌, List, [], ◌∷◌, Some, refl, sym, ap, subst, inl, inr, arith}
 use Rattle.std.specs.Prelude.{Contains, min, cond, nat_eq}
 use Rattle.std.proofs.lemmas.Bool.{cases_eq, cases_lt, ne_eqb}
@@ -18,9 +19,9 @@ use Rattle.slotted_model.proofs.CompletenessExamples.{one_of}
 use Rattle.slotted_model.proofs.RestExamples.{p, q, with_q, q_rests}
 use Rattle.slotted_model.proofs.Touching.{touching, touched-is}
 use Rattle.slotted_model_analyses.specs.Analysis.{Analysis, IsMerge, Absorbs}
-use Rattle.slotted_model_analyses.specs.DataPart.{DataPart, with_data, with_pending, made, lowered, Carries, starts, RestsWithData}
+use Rattle.slotted_model_analyses.specs.DataPart.{DataPart, with_data, with_pending, made, absorbed, lowered, Carries, starts, RestsWithData}
 use Rattle.slotted_model_analyses.specs.DataWrites.{AssertsWithData, is_new, stands, MergesInto, merges_into}
-use Rattle.slotted_model_analyses.specs.Rounds.{Modify, IsOfTrees, AsksTrees, adds, equals, AddsTree, MakesEdit, makes_add, makes_equal, all_made, then_edit, all_modified, modified, TakesRound, no_rounds, one_round, Rounds, AddsExpr, still_there, IsAsked}
+use Rattle.slotted_model_analyses.specs.Rounds.{Modify, IsOfTrees, AsksTrees, adds, equals, equates, AddsTree, MakesEdit, makes_add, makes_equal, makes_equate, all_made, then_edit, all_modified, modified, passed_over, TakesRound, no_rounds, one_round, Rounds, AddsExpr, still_there, IsAsked}
 use Rattle.slotted_model_analyses.specs.Rounds as rounds
 use Rattle.slotted_model_analyses.proofs.Merging.{noted-is}
 use Rattle.slotted_model_analyses.proofs.AddedTrees.{merged-stays}
@@ -112,7 +113,9 @@ none_died (suc zero) l d = absurd (d refl)
 none_died (suc (suc i)) l d = absurd (omega arith)
 
 abbrev words_unite : Unites 2 more united
-words_unite = left_dies 2 0 (touching more 0) (λ e. omega arith) (record { left = λ s c. c; right = λ s c. c }) (omega arith, refl) none_died (touched-is more tt 0)
+words_unite =
+    left_dies 2 0 (touching more 0) (λ e. omega arith) (record { left = λ s c. c; right = λ s c. c }) (omega arith, refl) none_died
+    (touched-is more tt 0)
 
 -- the class of p dies, so 0 is merged into the data of that of q, which waits
 abbrev q_changed : DataPart ℕ
@@ -196,7 +199,8 @@ was_asked = elim ((rounds-on least least_merge asks told_rests both_rounds.round
 
 -- the value that was merged has stayed
 still_told : Absorbs least (at_end.data_of (find_class united.found 0)) 0
-still_told = (merged-stays least least_merge asks 16 with_q words words_rest 0 (omega arith) 0 with_q united told at_end p_told both_rounds).2
+still_told =
+    (merged-stays least least_merge asks 16 with_q words words_rest 0 (omega arith) 0 with_q united told at_end p_told both_rounds).2
 
 -- an analysis that asks nothing leaves the graph in a round, and no class waits then
 abbrev asks_nothing : Modify ℕ
@@ -223,7 +227,9 @@ q_is_tree = record { operator = omega arith; children = tt }
 
 asks_trees : AsksTrees asks
 asks_trees zero slots e c = subst IsOfTrees (sym (one_of c)) q_is_tree
-asks_trees (suc x) slots e c = absurd (Contains-nil e (subst (λ b. Contains (cond b (equals q ∷ []) []) e) (ne_eqb (suc x) 0 (λ k. omega arith)) c))
+asks_trees (suc x) slots e c =
+    let none = subst (λ b. Contains (cond b (equals q ∷ []) []) e) (ne_eqb (suc x) 0 (λ k. omega arith)) c in
+    absurd (Contains-nil e none)
 
 rounds_for : (limit : ℕ) → (h : State) × (t : DataPart ℕ) × Rounds least asks limit with_q told h t
 rounds_for limit = rounds-there least least_merge asks asks_trees with_q told told_rests limit
@@ -238,3 +244,75 @@ p_answered = still_there rounds.no_more looked_up both_rounds refl
   where
     looked_up : look_up_tree with_q p ≡ Some (0, [])
     looked_up = refl
+
+-- where q waits too, and the class of p asks that q equals p: the class of q dies before it is taken, and is passed over
+abbrev asks_of_both : Modify ℕ
+asks_of_both x slots = cond (nat_eq x 0) (equates q p ∷ []) []
+
+abbrev both_wait : DataPart ℕ
+both_wait = record told { changed = 0 ∷ 1 ∷ [] }
+
+both_wait_rest : RestsWithData least with_q both_wait
+both_wait_rest = record {
+  rest = q_rests;
+  has = record {
+    waits_once = tt;
+    waits_whole = λ o c. c;
+    waits_for_row = λ o c. absurd (Contains-nil o c);
+    absorbs_made = told_rests.has.absorbs_made;
+    changed_once = (λ c. let e : ◌≡◌ {A = ℕ} 0 1 = one_of c in omega arith, (Contains-nil 1, tt));
+    changed_in_range = λ i c. elim (contains_cases 0 (1 ∷ []) i c) [
+      | inl e ↦ omega arith
+      | inr k ↦ let e : i ≡ 1 = one_of k in omega arith
+    ];
+  };
+  nothing_waits = refl;
+}
+
+abbrev turned_equation : Equation
+turned_equation = equation_of (1, []) (0, [])
+
+abbrev turned_more : State
+turned_more = with_assertion with_q turned_equation
+
+abbrev q_dead : State
+q_dead = linked_state turned_more turned_equation 2 0 (touching turned_more 1)
+
+abbrev q_dies : Unites 2 turned_more q_dead
+q_dies =
+    left_dies 2 0 (touching turned_more 1) (λ e. omega arith) (record { left = λ s c. c; right = λ s c. c }) (omega arith, refl) none_died
+    (touched-is turned_more tt 1)
+
+-- 7 is merged into 0, which absorbs it
+q_carried : Carries least q_dies before_round before_round
+q_carried =
+    (touching (with_pending turned_more before_round) 1, touched-is (with_pending turned_more before_round) tt 1, absorbed refl)
+
+q_asserted : AssertsWithData least with_q before_round (1, []) (0, []) q_dead before_round
+q_asserted = is_new other q_dies q_carried starts ((refl, λ y c. absurd (Contains-nil y c)), refl)
+  where
+    other : (n : ℕ) → n < 2 → equation_at with_q.proofs n ≡ turned_equation → ⊥
+    other zero l e = let n : ◌≡◌ {A = ℕ} 0 1 = ap (λ (x : Equation). x.left) e in omega arith
+    other (suc zero) l e = let n : ◌≡◌ {A = ℕ} 1 0 = ap (λ (x : Equation). x.right) e in omega arith
+    other (suc (suc n)) l e = omega arith
+
+both_live : (c : ℕ) → Contains (0 ∷ 1 ∷ []) c → IsLive with_q.found c
+both_live c k = elim (contains_cases 0 (1 ∷ []) c k) [
+  | inl e ↦ subst (IsLive with_q.found) (sym e) refl
+  | inr j ↦ subst (IsLive with_q.found) (sym (one_of j)) refl
+]
+
+round_of_both : TakesRound least asks_of_both with_q both_wait q_dead before_round
+round_of_both = record {
+  order = 0 ∷ 1 ∷ [];
+  ascending = ((omega arith, tt), (tt, tt));
+  waiting = λ c. (λ k. (k, both_live c k), λ k. k.0);
+  modifies =
+      modified (omega arith) refl
+      (then_edit (makes_equate q p (q_there before_round) (record { nodes = rounds.no_more; full = p_full; term = refl }) q_asserted) all_made)
+      (passed_over (λ e. omega arith) all_modified);
+}
+
+both_round_rests : RestsWithData least q_dead before_round
+both_round_rests =
+    (round-on least least_merge asks_of_both with_q both_wait both_wait_rest q_dead before_round round_of_both).0.rest

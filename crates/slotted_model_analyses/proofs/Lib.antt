@@ -16,6 +16,7 @@ pub mod CycleExample
 pub mod TurnedExample
 pub mod AskedExample
 pub mod ActExample
+pub mod JoinedExample
 pub mod RoundsAtRest
 pub mod AddedTrees
 pub mod AddingTrees
