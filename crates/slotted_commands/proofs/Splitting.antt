@@ -1,10 +1,10 @@
 -- What the text methods of std answer, by what stands behind a word and around it.
 use Rattle.std.proofs.Common.{◌≡◌, ◌<◌, ◌≤◌, ◌+◌, ℕ, zero, suc, List, [], ◌∷◌, ◌++◌, length, take, drop, refl, ap, sym, ◌∙◌, arith}
-use Rattle.std.specs.Prelude.{◌≢◌, Option, Some, None, option_map}
+use Rattle.std.specs.Prelude.{◌≢◌, Option, Some, None, Bool, true, false, if◌then◌else◌, bytes_eq, codes, option_map}
 use Rattle.std.proofs.Common.{inl, inr}
 use Rattle.std.proofs.lemmas.Bool.{cases_eq, eq-eqb, ne_eqb}
 use Rattle.std.specs.Str.Pattern.{FindsText, FindsTextPrefix, LacksTextAt, StripsPrefix, SplitsAroundMatch}
-use Rattle.slotted_commands.specs.Commands.{rest_behind, in_front_or, parts_around}
+use Rattle.slotted_commands.specs.Commands.{rest_behind, in_front_or, parts_around, asked_by, command_of, counts}
 
 rest_behind-append : (w rest : List ℕ) → rest_behind w (w ++ rest) ≡ Some rest
 rest_behind-append [] rest = refl
@@ -61,3 +61,13 @@ parts_around-none w (b ∷ bs) lacks =
 pub split : (w s front back : List ℕ) → SplitsAroundMatch (FindsText w) s front back → parts_around w s ≡ Some (front, back)
 split w s front back h =
     parts_around-found w s h.0 h.1 h.2.0 h.2.1.split h.2.1.ends ∙ (λ n. Some (sym h.3 n, sym h.4 n))
+
+-- what a line asks that is the word alone, and one that is not
+
+pub word_line : (line : List ℕ) → bytes_eq line (codes "symmetries") ≡ true → counts ≡ command_of line
+unfolding command_of
+word_line line e = sym (ap (λ b. if b then counts else asked_by (rest_behind (codes "add ") line) (rest_behind (codes "eq ") line) (rest_behind (codes "union ") line)) e)
+
+pub other_line : (line : List ℕ) → bytes_eq line (codes "symmetries") ≡ false → asked_by (rest_behind (codes "add ") line) (rest_behind (codes "eq ") line) (rest_behind (codes "union ") line) ≡ command_of line
+unfolding command_of
+other_line line e = sym (ap (λ b. if b then counts else asked_by (rest_behind (codes "add ") line) (rest_behind (codes "eq ") line) (rest_behind (codes "union ") line)) e)

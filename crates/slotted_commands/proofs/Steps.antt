@@ -6,7 +6,7 @@ use Rattle.std.proofs.lemmas.Bool.{cases_Bool, false≢true}
 use Rattle.slotted_theory.specs.Term.{Term}
 use Rattle.slotted_theory.specs.Nameless.{nameless}
 use Rattle.slotted_slots.specs.declared.error.Error.{Error}
-use Rattle.slotted_slots.specs.declared.error.Error.TheVariants.{OutOfSlots, Failed, NotYet}
+use Rattle.slotted_slots.specs.declared.error.Error.TheVariants.{OutOfSlots, Failed}
 use Rattle.slotted_slots.specs.declared.types.AppliedId.{AppliedId}
 use Rattle.slotted_slots.specs.Error.{IsShortage}
 use Rattle.slotted_slots.specs.Table.{KnowsMore}
@@ -19,13 +19,13 @@ use Rattle.slotted_model.specs.Classes.{term_of}
 use Rattle.slotted_model.specs.Growth.{Extends}
 use Rattle.slotted_model.specs.Ids.{id_of}
 use Rattle.slotted_core.specs.Graph.{Graph, IsValidId, OnlyReads, RunsOutForTerm}
-use Rattle.slotted_core.specs.Image.{FoundAlike, AddsClasses, AreDerivable, IsUnion, IsNoUnion, asserted_in}
-use Rattle.slotted_core.specs.Causes.{HaveManyNames}
+use Rattle.slotted_core.specs.Image.{FoundAlike, AddsClasses, AreDerivable, IsUnion, asserted_in}
+use Rattle.slotted_core.specs.Causes.{HasLargeClass}
 use Rattle.slotted_core.specs.Nodes.{to_applied}
 use Rattle.slotted_commands.specs.declared.answer.Answer.{Answer}
 use Rattle.slotted_commands.specs.declared.answer.Answer.TheVariants.{Yes, No, Refused}
 use Rattle.slotted_commands.specs.Commands.{Command, compares, unites}
-use Rattle.slotted_commands.specs.Sessions.{AddsBoth, Answered, FirstIsRefused, Gains, IsAnsweredWith, IsCommand, IsRefused, RunsOut, RunsOutAt, Says, Unites, WritesTerm, WritesTerms, are_different, are_equal, carried_out, has_failed, not_yet, ran_out, refused, refused_here, texts_of, union_ran_out}
+use Rattle.slotted_commands.specs.Sessions.{AddsBoth, Answered, FirstIsRefused, Gains, IsAnsweredWith, IsCommand, IsRefused, RunsOut, RunsOutAt, Says, Unites, WritesTerm, WritesTerms, are_different, are_equal, carried_out, has_failed, ran_out, refused, refused_here, texts_of, union_ran_out}
 
 module _ (read : List Element → Option Form) (g h : Graph) (text : List ℕ) (only : OnlyReads g h) where
   -- a text that was read
@@ -110,20 +110,12 @@ module _ (read : List Element → Option Form) (g h : Graph) (left right : List 
 pub union_done : (g h : Graph) (a b : Applied) (y : Bool) → IsUnion g.image h.image a b y → ¬ (IsTrue h.failed) → h.table ≡ g.table → Unites g a b h y
 union_done g h a b y union sound table = record { union = union; sound = not_true h.failed sound; table = table }
 
--- a shortage is no refusal for now
-not_short : {A : Type 0} (x : Error) → IsShortage x → (r : Result A Error) → r ≡ Err x → r ≡ Err NotYet → ⊥
-not_short x (inl m) r e n = cc
-not_short x (inr m) r e n = cc
-
 -- a union that was refused
-pub union_refused : (g h : Graph) (left right : List ℕ) (t u : Term) (a b : Applied) (r : Result Bool Error) (e : Error) → r ≡ Err e → g.failed ≡ false → (IsErrOf r Failed → IsTrue g.failed) → (IsErrOf r NotYet → IsNoUnion g.image a b × (h ≡ g)) → ((IsErr r × ¬ IsErrOf r NotYet) → IsTrue h.failed) → (IsErrOf r OutOfSlots → HaveManyNames a.1 b.1) → IfErr r (λ x. (x ≡ Failed) ⊎ (x ≡ NotYet) ⊎ IsShortage x) → h.table ≡ g.table → Says g (unites left right) (t ∷ u ∷ []) (a ∷ b ∷ []) h (Refused e)
-union_refused g h left right t u a b (Ok y) e is sound was yet fails full only table = cc
-union_refused g h left right t u a b (Err x) e is sound was yet fails full only table =
+pub union_refused : (g h : Graph) (left right : List ℕ) (t u : Term) (a b : Applied) (r : Result Bool Error) (e : Error) → r ≡ Err e → g.failed ≡ false → (IsErrOf r Failed → IsTrue g.failed) → (IsErr r → IsTrue h.failed) → (IsErrOf r OutOfSlots → HasLargeClass g.image.canonical) → IfErr r (λ x. (x ≡ Failed) ⊎ IsShortage x) → h.table ≡ g.table → Says g (unites left right) (t ∷ u ∷ []) (a ∷ b ∷ []) h (Refused e)
+union_refused g h left right t u a b (Ok y) e is sound was fails full only table = cc
+union_refused g h left right t u a b (Err x) e is sound was fails full only table =
     let same : x ≡ e = cc in
     subst (λ y. Says g (unites left right) (t ∷ u ∷ []) (a ∷ b ∷ []) h (Refused y)) same (elim only [
       | inl f ↦ absurd (false≢true (sym sound ∙ was (ap Err f)))
-      | inr (inl n) ↦
-          let y = yet (ap Err n) in
-          subst (λ z. Says g (unites left right) (t ∷ u ∷ []) (a ∷ b ∷ []) h (Refused z)) (sym n) (subst (λ k. Says g (unites left right) (t ∷ u ∷ []) (a ∷ b ∷ []) k (Refused NotYet)) (sym y.1) (not_yet y.0))
-      | inr (inr s) ↦ union_ran_out (record { failed = fails (refl, λ n. not_short x s (Err x) refl n); shortage = s; cause = λ q. full (ap Err q); table = table })
+      | inr s ↦ union_ran_out (record { failed = fails refl; shortage = s; cause = λ q. full (ap Err q); table = table })
     ])

@@ -2,7 +2,7 @@
 use Rattle.std.specs.Prelude.{ℕ, List, ◌++◌, codes, decimal}
 use Rattle.slotted_slots.specs.Error.{number_of, name_of}
 use Rattle.slotted_commands.specs.declared.answer.Answer.{Answer}
-use Rattle.slotted_commands.specs.declared.answer.Answer.TheVariants.{Done, Yes, No, United, WereEqual, Refused, NoCommand}
+use Rattle.slotted_commands.specs.declared.answer.Answer.TheVariants.{Done, Yes, No, United, WereEqual, Symmetries, Refused, NoCommand}
 
 -- the bytes of an answer
 abbrev pub text_of : Answer → List ℕ
@@ -11,5 +11,6 @@ text_of Yes = codes "yes"
 text_of No = codes "no"
 text_of United = codes "true"
 text_of WereEqual = codes "false"
+text_of (Symmetries met left) = decimal met ++ (codes " " ++ decimal left)
 text_of (Refused e) = codes "error: " ++ (decimal (number_of e) ++ (codes " " ++ name_of e))
 text_of NoCommand = codes "error: 0 Command"

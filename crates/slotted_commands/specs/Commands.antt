@@ -1,11 +1,12 @@
--- What a line asks: a command is its word, one space and the rest.
-use Rattle.std.specs.Prelude.{ℕ, List, [], ◌∷◌, Option, Some, None, option_map, if◌then◌else◌, ◌==◌, codes}
+-- What a line asks: a command is its word, one space and the rest, or its word alone.
+use Rattle.std.specs.Prelude.{ℕ, List, [], ◌∷◌, Option, Some, None, option_map, if◌then◌else◌, ◌==◌, bytes_eq, codes}
 
--- to add a text; to compare two texts; to unite two texts; or nothing that is known
+-- to add a text; to compare two texts; to unite two texts; to count symmetries; or nothing that is known
 pub data Command : Type 0 where
   adds : (text : List ℕ) → Command
   compares : (left right : List ℕ) → Command
   unites : (left right : List ℕ) → Command
+  counts : Command
   no_command : Command
 
 -- what follows a word that a text begins with
@@ -36,6 +37,8 @@ asked_by None (Some texts) _ = of_two compares (parts_around (codes " == ") text
 asked_by None None (Some texts) = of_two unites (parts_around (codes " == ") texts)
 asked_by None None None = no_command
 
--- what a line asks
+-- what a line asks: one that is the word `symmetries` asks to count them
 unfoldable pub command_of : List ℕ → Command
-command_of line = asked_by (rest_behind (codes "add ") line) (rest_behind (codes "eq ") line) (rest_behind (codes "union ") line)
+command_of line =
+    if bytes_eq line (codes "symmetries") then counts
+    else asked_by (rest_behind (codes "add ") line) (rest_behind (codes "eq ") line) (rest_behind (codes "union ") line)

@@ -1,12 +1,12 @@
 -- What a command answers over a graph, and what it leaves of it. A language says which node, if any, a list of elements
 -- writes. The texts of a command are read in turn from the left, before any of their terms is added.
-use Rattle.std.specs.Prelude.{◌≡◌, ◌≤◌, ◌^◌, ◌⊎◌, ℕ, List, [], ◌∷◌, map, Bool, true, false, Option, Some, IsTrue, Result, Ok, Err}
+use Rattle.std.specs.Prelude.{◌≡◌, ◌≤◌, ◌^◌, ◌⊎◌, ℕ, List, [], ◌∷◌, length, map, Bool, true, false, Option, Some, IsTrue, Result, Ok, Err}
 use Rattle.std.specs.Str.{chars}
 use Rattle.slotted_theory.specs.Term.{Term}
 use Rattle.slotted_theory.specs.Nameless.{Alpha, nameless}
 use Rattle.slotted_theory.specs.Derives.{Derives, nameless_pair}
 use Rattle.slotted_slots.specs.declared.error.Error.{Error}
-use Rattle.slotted_slots.specs.declared.error.Error.TheVariants.{OutOfSlots, Failed, NotYet}
+use Rattle.slotted_slots.specs.declared.error.Error.TheVariants.{OutOfSlots, Failed}
 use Rattle.slotted_slots.specs.Error.{IsShortage}
 use Rattle.slotted_slots.specs.Table.{KnowsMore}
 use Rattle.slotted_slots.specs.Syntax.{Element}
@@ -17,18 +17,19 @@ use Rattle.slotted_model.specs.Applied.{Applied}
 use Rattle.slotted_model.specs.Classes.{term_of}
 use Rattle.slotted_model.specs.Growth.{Extends}
 use Rattle.slotted_model.specs.Ids.{id_of}
-use Rattle.slotted_core.specs.Image.{FoundAlike, AddsClasses, IsUnion, IsNoUnion, asserted_in}
-use Rattle.slotted_core.specs.Causes.{HaveManyNames}
+use Rattle.slotted_core.specs.Image.{FoundAlike, AddsClasses, IsUnion, CountsOpen, asserted_in}
+use Rattle.slotted_core.specs.Causes.{HasLargeClass}
 use Rattle.slotted_core.specs.Graph.{Graph, IsValidId, OnlyReads, RunsOutForTerm}
 use Rattle.slotted_commands.specs.declared.answer.Answer.{Answer}
-use Rattle.slotted_commands.specs.declared.answer.Answer.TheVariants.{Done, Yes, No, United, WereEqual, Refused, NoCommand}
-use Rattle.slotted_commands.specs.Commands.{Command, adds, compares, unites, no_command}
+use Rattle.slotted_commands.specs.declared.answer.Answer.TheVariants.{Done, Yes, No, United, WereEqual, Symmetries, Refused, NoCommand}
+use Rattle.slotted_commands.specs.Commands.{Command, adds, compares, unites, counts, no_command}
 
 -- the texts of a command, from the left
 abbrev pub texts_of : Command → List (List ℕ)
 texts_of (adds text) = text ∷ []
 texts_of (compares left right) = left ∷ right ∷ []
 texts_of (unites left right) = left ∷ right ∷ []
+texts_of counts = []
 texts_of no_command = []
 
 -- the line is a command
@@ -36,6 +37,7 @@ abbrev pub IsCommand : Command → Type 0
 IsCommand (adds text) = Unit {0}
 IsCommand (compares left right) = Unit {0}
 IsCommand (unites left right) = Unit {0}
+IsCommand counts = Unit {0}
 IsCommand no_command = ⊥
 
 -- over g the text writes the term t, and reading it leaves h
@@ -103,11 +105,11 @@ pub record Unites (g : Graph) (a b : Applied) (h : Graph) (yes : Bool) : Type 0 
   pub sound : h.failed ≡ false
   pub table : h.table ≡ g.table
 
--- uniting ids of g runs out of memory, or of slots where the ids have too many, and leaves the failed graph h
-pub record UnionRunsOut (g : Graph) (a b : Applied) (e : Error) (h : Graph) : Type 0 where
+-- uniting ids of g runs out of memory, or of slots where a class has too many, and leaves the failed graph h
+pub record UnionRunsOut (g : Graph) (e : Error) (h : Graph) : Type 0 where
   pub failed : IsTrue h.failed
   pub shortage : IsShortage e
-  pub cause : e ≡ OutOfSlots → HaveManyNames a.1 b.1
+  pub cause : e ≡ OutOfSlots → HasLargeClass g.image.canonical
   pub table : h.table ≡ g.table
 
 -- what a command says of its terms and their ids once they are added to g, and the graph that it leaves
@@ -117,8 +119,8 @@ pub data Says (g : Graph) : Command → List Term → List Applied → Graph →
   are_different : {left right : List ℕ} {t u : Term} {a b : Applied} → AreFoundDifferent g t u a b → Says g (compares left right) (t ∷ u ∷ []) (a ∷ b ∷ []) g No
   are_united : {left right : List ℕ} {t u : Term} {a b : Applied} {h : Graph} → Unites g a b h true → Says g (unites left right) (t ∷ u ∷ []) (a ∷ b ∷ []) h United
   were_equal : {left right : List ℕ} {t u : Term} {a b : Applied} {h : Graph} → Unites g a b h false → Says g (unites left right) (t ∷ u ∷ []) (a ∷ b ∷ []) h WereEqual
-  not_yet : {left right : List ℕ} {t u : Term} {a b : Applied} → IsNoUnion g.image a b → Says g (unites left right) (t ∷ u ∷ []) (a ∷ b ∷ []) g (Refused NotYet)
-  union_ran_out : {left right : List ℕ} {t u : Term} {a b : Applied} {e : Error} {h : Graph} → UnionRunsOut g a b e h → Says g (unites left right) (t ∷ u ∷ []) (a ∷ b ∷ []) h (Refused e)
+  union_ran_out : {left right : List ℕ} {t u : Term} {a b : Applied} {e : Error} {h : Graph} → UnionRunsOut g e h → Says g (unites left right) (t ∷ u ∷ []) (a ∷ b ∷ []) h (Refused e)
+  counted : {n : ℕ} → CountsOpen g.image g.image.symmetries n → Says g counts [] [] g (Symmetries (length g.image.symmetries) n)
 
 -- what a command answers over g, and the graph h that it leaves
 pub data Answered (read : List Element → Option Form) (g h : Graph) (c : Command) : Answer → Type 0 where

@@ -18,6 +18,8 @@ pub enum Answer {
     United,
     /// The two terms to unite were equal already.
     WereEqual,
+    /// So many symmetries were met, and so many of them are open.
+    Symmetries(usize, usize),
     /// The command was refused.
     Refused(Error),
     /// The line is no command.
@@ -34,6 +36,7 @@ impl fmt::Display for Answer {
             Answer::No => write!(f, "no"),
             Answer::United => write!(f, "true"),
             Answer::WereEqual => write!(f, "false"),
+            Answer::Symmetries(met, open) => write!(f, "{met} {open}"),
             Answer::Refused(error) => {
                 let number = error.number();
                 let name = error.name();

@@ -12,6 +12,8 @@ pub enum Command<'a> {
     Eq(&'a str, &'a str),
     /// To unite two texts.
     Union(&'a str, &'a str),
+    /// To count the symmetries that were met, and the open ones.
+    Symmetries,
     /// Nothing that is known.
     Unknown,
 }
@@ -21,6 +23,9 @@ impl<'a> Command<'a> {
     pub fn read(line: &'a str) -> Command<'a>
         ensures { asked result ≡ command_of line.now }
     {
+        if line == "symmetries" {
+            return Command::Symmetries;
+        }
         if let Some(text) = line.strip_prefix("add ") {
             return Command::Add(text);
         }

@@ -1,7 +1,7 @@
 //! What a line does to the graph.
 ghost use Rattle.std.specs.Prelude.{◌≡◌, IfOk, IfErr};
 ghost use Rattle.slotted_core.specs.Nodes.{to_applied};
-ghost use Rattle.slotted_commands.specs.Commands.{adds, compares, unites, command_of};
+ghost use Rattle.slotted_commands.specs.Commands.{adds, compares, unites, counts, command_of};
 ghost use Rattle.slotted_commands.specs.Sessions.{Answered, AddsBoth, IsAnsweredWith, answer_of};
 
 use crate::answer::Answer;
@@ -18,6 +18,7 @@ pub fn answer<L: Language>(graph: &mut EGraph<L>, line: &str) -> Answer
         Command::Add(text) => to_answer(add(graph, text)),
         Command::Eq(left, right) => to_answer(compare(graph, left, right)),
         Command::Union(left, right) => to_answer(unite(graph, left, right)),
+        Command::Symmetries => to_answer(count_symmetries(graph)),
         Command::Unknown => Answer::NoCommand,
     }
 }
@@ -79,4 +80,13 @@ fn unite<L: Language>(graph: &mut EGraph<L>, left: &str, right: &str) -> Result<
     } else {
         Ok(Answer::WereEqual)
     }
+}
+
+// How many symmetries were met, and how many of them are open.
+fn count_symmetries<L: Language>(graph: &EGraph<L>) -> Result<Answer, Error>
+    ensures { Answered L.read graph.now graph.now counts (answer_of result) }
+{
+    let open = graph.open_symmetries()?;
+    let met = graph.symmetries_met().len();
+    Ok(Answer::Symmetries(met, open))
 }

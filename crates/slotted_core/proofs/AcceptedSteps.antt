@@ -35,7 +35,7 @@ use Rattle.slotted_core.specs.Image.{AreDerivable}
 use Rattle.slotted_core.specs.Leaves.{FollowsFromLeaves}
 use Rattle.slotted_store.specs.Kept.{Kept, nodes_of, proofs_of, with_proofs, EntersIn}
 use Rattle.slotted_core.specs.Good.{image_of, Good, HasFreshSlots}
-use Rattle.slotted_core.proofs.ProofListGrowth.{entering-good}
+use Rattle.slotted_core.proofs.GoodFinds.{entering-good}
 use Rattle.slotted_core.proofs.LeavesOf.{good-entries_follow}
 use Rattle.slotted_store.proofs.KeptLists.{equation_at-of, length-proofs_of}
 
@@ -76,8 +76,8 @@ module _ (k : Kept) (good : Good k) where
   entry_says : (p : ℕ) (a b : Applied) → IsEntry k.proofs p a b → SaysIn (image_of k) p a b
   entry_says p a b h =
       let s : Statement = statement_at k.proofs p in
-      let o : IsOver ns s.equation = entry-over ns k.proofs good.proved p h.in_range in
-      let c : IsCanonical ns s = good.proved.canonical p h.in_range in
+      let o : IsOver ns s.equation = entry-over ns k.proofs good.stored.proved p h.in_range in
+      let c : IsCanonical ns s = good.stored.proved.canonical p h.in_range in
       let el : s.equation.left ≡ h.left.0 = sym (ap (λ (x : Applied). x.0) h.written.left) in
       let er : s.equation.right ≡ h.right.0 = sym (ap (λ (x : Applied). x.0) h.written.right) in
       record {
@@ -95,8 +95,8 @@ module _ (k : Kept) (good : Good k) where
   says_entry p a b fa fb h =
       let s : Statement = statement_at k.proofs p in
       let l : p < length k.proofs = let n : length (proofs_of k) ≡ length k.proofs = length-proofs_of k in let m : p < length (proofs_of k) = h.in_range in omega arith in
-      let w = written_sides ns k.proofs good.proved p l in
-      let c : IsCanonical ns s = good.proved.canonical p l in
+      let w = written_sides ns k.proofs good.stored.proved p l in
+      let c : IsCanonical ns s = good.stored.proved.canonical p l in
       let q : equation_of h.left h.right ≡ s.equation = h.equation ∙ equation_at-of k.proofs p in
       let ls : keys h.left.1 ≡ s.left_slots = h.left_full.slots ∙ (ap (λ (e : Equation). canonical_slots ns e.left) q ∙ sym c.left) in
       let rs : keys h.right.1 ≡ s.right_slots = h.right_full.slots ∙ (ap (λ (e : Equation). canonical_slots ns e.right) q ∙ sym c.right) in
@@ -196,7 +196,7 @@ module _ (t : Table) (k : Kept) (good : Good k) (e : Sides) (of : IsOfFull (node
   after = with_proofs k enters.proofs
 
   after-good : Good after
-  after-good = entering-good k good x can enters.proofs p enters.enters
+  after-good = entering-good k good x can not_explicit after p (record { proofs = enters.proofs; enters = enters.enters; kept = refl })
 
   after-in_range : p < length (proofs_of after)
   after-in_range = let n : length (proofs_of after) ≡ length enters.proofs = length-proofs_of after in let h : p < length enters.proofs = enters.enters.stands.in_range in omega arith
@@ -207,7 +207,7 @@ module _ (t : Table) (k : Kept) (good : Good k) (e : Sides) (of : IsOfFull (node
   -- what states the equation is the statement
   one_statement : (q : ℕ) → q < length k.proofs → (statement_at k.proofs q).equation ≡ (statement_of e).equation → statement_at k.proofs q ≡ statement_of e
   one_statement q h d =
-      let c : IsCanonical nodes (statement_at k.proofs q) = good.proved.canonical q h in
+      let c : IsCanonical nodes (statement_at k.proofs q) = good.stored.proved.canonical q h in
       let ls : (statement_at k.proofs q).left_slots ≡ keys e.l.m = c.left ∙ (ap (λ (y : Equation). canonical_slots nodes y.left) d ∙ sym of.left.slots) in
       let rs : (statement_at k.proofs q).right_slots ≡ keys e.r.m = c.right ∙ (ap (λ (y : Equation). canonical_slots nodes y.right) d ∙ sym of.right.slots) in
       λ i. record { left_slots = ls i; right_slots = rs i; equation = d i }
@@ -226,7 +226,7 @@ module _ (t : Table) (k : Kept) (good : Good k) (e : Sides) (of : IsOfFull (node
             let d : z.0 < length k.proofs = let y : z.0 < length (proofs_of k) = z.1 in omega arith in
             h.0 z.0 (record { in_range = d; statement = one_statement z.0 d (sym (equation_at-of k.proofs z.0) ∙ z.2) })),
         (let d : p ≡ length k.proofs = h.1 in omega arith),
-        λ i. record { failed = b; table = t; image = record { canonical = nodes; found = (image_of k).found; entries = (ap (map entry_of) h.2 ∙ map-append entry_of k.proofs (x ∷ [])) i; stored = h.2 i } },
+        λ i. record { failed = b; table = t; image = record { canonical = nodes; found = (image_of k).found; entries = (ap (map entry_of) h.2 ∙ map-append entry_of k.proofs (x ∷ [])) i; stored = h.2 i; symmetries = k.symmetries } },
       )
     ];
   }
@@ -236,7 +236,7 @@ module _ (t : Table) (k : Kept) (good : Good k) (e : Sides) (of : IsOfFull (node
 
   after-equal : Equal (asserted nodes (proofs_of k)) (term_of nodes (to_applied e.l)) (term_of nodes (to_applied e.r))
   after-equal =
-      let h : HoldsFrom (asserted nodes (proofs_of after)) nodes (equation_at (proofs_of after) p) = proved-holds nodes good.sound.canonical (proofs_of after) after-good.sound.proved p after-in_range in
+      let h : HoldsFrom (asserted nodes (proofs_of after)) nodes (equation_at (proofs_of after) p) = proved-holds nodes good.stored.sane.sound.canonical (proofs_of after) after-good.stored.sane.sound.proved p after-in_range in
       subst (λ (E : List (DTerm × DTerm)). Equal E (term_of nodes (to_applied e.l)) (term_of nodes (to_applied e.r))) none_asserted (h (to_applied e.l) (to_applied e.r) of.left of.right (sym after-stands))
 
   after-derivable : AreDerivable (image_of k) (to_applied e.l) (to_applied e.r)
@@ -272,7 +272,7 @@ transitive_checked t k l e q r p good h enters =
 
 pub congruent_checked : (t : Table) (k l : Kept) (e : Sides) (parts : List ℕ) (p : ℕ) → Good k → IsOfFull (nodes_of k) e × IsCongruentIn k e parts → EntersIn k l (by_step (statement_of e) (congruent parts)) p → Checked t k l e (congruent parts) p
 congruent_checked t k l e parts p good h enters =
-    checked t k good e h.0 (congruent parts) (congruent_fits (nodes_of k) k.proofs e h.1.children parts good.sound.canonical h.0 h.1.injective h.1.alike h.1.entries) (λ z. cc) ((congruent_iff k good e h.0 parts).0 h.1) p l enters
+    checked t k good e h.0 (congruent parts) (congruent_fits (nodes_of k) k.proofs e h.1.children parts good.stored.sane.sound.canonical h.0 h.1.injective h.1.alike h.1.entries) (λ z. cc) ((congruent_iff k good e h.0 parts).0 h.1) p l enters
 
 -- a refused step does not fit
 

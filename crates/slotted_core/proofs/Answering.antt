@@ -10,11 +10,10 @@ use Rattle.slotted_model.specs.Find.{find}
 use Rattle.slotted_model.proofs.Correspondences.Pairs.{Contains-key}
 use Rattle.slotted_model.proofs.FindProofs.{found_alike-equal, found_alike-derivable}
 use Rattle.slotted_model.proofs.NormalIds.{full-is_valid}
-use Rattle.slotted_model.proofs.Unique.{term_of-same}
+use Rattle.slotted_model.proofs.NothingAsserted.{nothing-alpha}
 use Rattle.slotted_core.specs.Image.{Image, found_id, FoundAlike, asserted_in, AreDerivable}
 use Rattle.slotted_store.specs.Kept.{Kept, nodes_of, entries_of, proofs_of}
 use Rattle.slotted_core.specs.Good.{image_of, Good}
-use Rattle.slotted_core.proofs.InUse.{untouched-finds}
 use Rattle.slotted_store.proofs.KeptLists.{length-nodes_of}
 use Rattle.slotted_core.proofs.Images.{found_id-is}
 
@@ -41,22 +40,17 @@ module _ (k : Kept) (good : Good k) (a b : Applied) (fa : IsFull (nodes_of k) a)
 
   pub alike-equal : find (entries_of k) a ≡ find (entries_of k) b → Equal (asserted_in (image_of k)) (term_of (nodes_of k) a) (term_of (nodes_of k) b)
   alike-equal e =
-      found_alike-equal (nodes_of k) good.sound.canonical (entries_of k) (proofs_of k) good.sound.linked good.sound.proved good.sound.exact a b a b [] []
-      (full-is_valid (nodes_of k) (entries_of k) good.sound.linked a fa) (full-is_valid (nodes_of k) (entries_of k) good.sound.linked b fb) e (fills_itself (nodes_of k) a fa) (fills_itself (nodes_of k) b fb)
+      found_alike-equal (nodes_of k) good.stored.sane.sound.canonical (entries_of k) (proofs_of k) good.stored.sane.sound.linked good.stored.sane.sound.proved good.stored.sane.sound.exact a b a b [] []
+      (full-is_valid (nodes_of k) (entries_of k) good.stored.sane.sound.linked a fa) (full-is_valid (nodes_of k) (entries_of k) good.stored.sane.sound.linked b fb) e (fills_itself (nodes_of k) a fa) (fills_itself (nodes_of k) b fb)
 
   pub alike-derivable : find (entries_of k) a ≡ find (entries_of k) b → AreDerivable (image_of k) a b
   alike-derivable e E t u listed et eu =
-      found_alike-derivable (nodes_of k) good.sound.canonical (entries_of k) (proofs_of k) good.sound.linked good.sound.proved good.sound.exact a b a b [] []
-      (full-is_valid (nodes_of k) (entries_of k) good.sound.linked a fa) (full-is_valid (nodes_of k) (entries_of k) good.sound.linked b fb) e (fills_itself (nodes_of k) a fa) (fills_itself (nodes_of k) b fb)
+      found_alike-derivable (nodes_of k) good.stored.sane.sound.canonical (entries_of k) (proofs_of k) good.stored.sane.sound.linked good.stored.sane.sound.proved good.stored.sane.sound.exact a b a b [] []
+      (full-is_valid (nodes_of k) (entries_of k) good.stored.sane.sound.linked a fa) (full-is_valid (nodes_of k) (entries_of k) good.stored.sane.sound.linked b fb) e (fills_itself (nodes_of k) a fa) (fills_itself (nodes_of k) b fb)
       E t u listed et eu
 
   pub alike-terms : asserted_in (image_of k) ≡ [] → (find (entries_of k) a ≡ find (entries_of k) b) ↔ (term_of (nodes_of k) a ≡ term_of (nodes_of k) b)
-  alike-terms none =
-      let itself : (c : Applied) → IsFull (nodes_of k) c → find (entries_of k) c ≡ c = untouched-finds (nodes_of k) (entries_of k) good.sound.linked good.in_use (good.untouched none) in
-      let same = term_of-same (nodes_of k) good.sound.canonical a b fa fb in (
-        λ e. same.1 (sym (itself a fa) ∙ (e ∙ itself b fb)),
-        λ e. itself a fa ∙ (same.0 e ∙ sym (itself b fb)),
-      )
+  alike-terms none = nothing-alpha (nodes_of k) (entries_of k) (proofs_of k) good.stored.sane.sound none a b fa fb
 
   pub says : (y : Bool) → (IsTrue y ↔ (find (entries_of k) a ≡ find (entries_of k) b)) → Says (image_of k) a b y
   says y i = record {

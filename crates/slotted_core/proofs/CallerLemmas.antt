@@ -1,5 +1,5 @@
 -- What was valid stays valid: in the table as names are added to it, in the graph as it grows or ids are united.
-use Rattle.std.proofs.Common.{◌≡◌, ◌⊎◌, List, [], Bool, true, false, sym, ◌∙◌, ap, subst, inr}
+use Rattle.std.proofs.Common.{◌≡◌, ◌⊎◌, ◌↔◌, List, Bool, sym, ◌∙◌, subst, inr}
 use Rattle.std.specs.Prelude.{IsTrue, slice_index_or}
 use Rattle.slotted_theory.specs.Term.{Args, Term, done, name, child, bind}
 use Rattle.slotted_theory.specs.Nameless.{DTerm}
@@ -7,10 +7,9 @@ use Rattle.slotted_slots.specs.Table.{Table, KnowsMore, is_known}
 use Rattle.slotted_terms.specs.Valid.{HasKnownNames, IsValidTerm}
 use Rattle.slotted_model.specs.Applied.{Applied, values}
 use Rattle.slotted_model.specs.Classes.{IsFull}
-use Rattle.slotted_model.specs.Correspondence.{composite}
 use Rattle.slotted_model.specs.Growth.{Extends}
 use Rattle.slotted_core.specs.Graph.{Graph, IsValidId, OnlyReads, OnlyTakesSlots}
-use Rattle.slotted_core.specs.Image.{Image, FoundAlike, found_id, IsUnion}
+use Rattle.slotted_core.specs.Image.{Image, FoundAlike, IsUnion, AreClosed}
 
 -- what a table knows it knows later
 known_later : (t u : Table) → KnowsMore t u → (a : Args) → HasKnownNames t a → HasKnownNames u a
@@ -32,18 +31,9 @@ id_same g h a nodes table v = record {
   known = λ k d l. subst (λ (t : Table). IsTrue (is_known t (slice_index_or (values a.1) k d))) (sym table) (v.known k d l);
 }
 
--- after a union its sides find alike, and no canonical node has changed
-
-pub union_alike : (g h : Image) (a b : Applied) (y : Bool) → IsUnion g h a b y → FoundAlike h a b
-union_alike g h a b true u = u.1
-union_alike g h a b false u = same_found a ∙ (u.0 ∙ sym (same_found b))
-  where
-    same_found : (c : Applied) → found_id h c ≡ found_id g c
-    same_found c = ap (λ (f : List Applied). ((slice_index_or f c.0 (0, [])).0, composite (slice_index_or f c.0 (0, [])).1 c.1)) u.1
-
-pub union_nodes : (g h : Image) (a b : Applied) (y : Bool) → IsUnion g h a b y → h.canonical ≡ g.canonical
-union_nodes g h a b true u = u.3
-union_nodes g h a b false u = u.3
+-- after a union an answer that says whether its sides find alike is yes, where no listed symmetry is open
+pub yes_if_closed : (g h : Image) (a b : Applied) (y : Bool) → IsUnion g h a b y → (answer : Bool) → (IsTrue answer ↔ FoundAlike h a b) → AreClosed h → IsTrue answer
+yes_if_closed g h a b y u answer says closed = says.1 (u.together.alike (λ e c finds. closed e c))
 
 -- calls that change the table alone, one after another
 
@@ -73,4 +63,4 @@ pub can_ask : (g h : Graph) (a : Applied) → Extends g.image.canonical h.image.
 can_ask g h a extends more v = inr (id_later g h a extends more v)
 
 pub can_ask_united : (g h : Graph) (a b x : Applied) (y : Bool) → IsUnion g.image h.image a b y → h.table ≡ g.table → IsValidId g x → IsTrue h.failed ⊎ IsValidId h x
-can_ask_united g h a b x y united table v = inr (id_same g h x (union_nodes g.image h.image a b y united) table v)
+can_ask_united g h a b x y united table v = inr (id_same g h x united.canonical table v)

@@ -1,17 +1,17 @@
--- When an id is full, and the children of a node.
-use Rattle.std.proofs.Common.{◌≡◌, ◌↔◌, ◌<◌, ℕ, suc, List, [], ◌∷◌, length, sym, ◌∙◌, ap, refl, subst, arith}
+-- When an id is full: the slots of its class are read off the row that files the class's node.
+use Rattle.std.proofs.Common.{◌≡◌, ◌↔◌, ◌<◌, ℕ, zero, suc, List, [], ◌∷◌, length, sym, ◌∙◌, ap, refl, subst, arith}
+use Rattle.std.specs.Prelude.{slice_index_or}
 use Rattle.slotted_theory.specs.FiniteMaps.{IsInjectiveMap}
 use Rattle.slotted_slots.specs.Maps.{keys, values}
-use Rattle.slotted_model.specs.Ascending.{ascending}
+use Rattle.slotted_languages.specs.Shape.{shape}
+use Rattle.slotted_languages.proofs.Shapes.{injective-shape}
+use Rattle.slotted_model.specs.Ascending.{ascending, names}
 use Rattle.slotted_model.specs.Applied.{Applied}
-use Rattle.slotted_model.specs.Find.{Entry}
 use Rattle.slotted_model.specs.Classes.{canonical_slots, IsFull}
-use Rattle.slotted_model.proofs.Finding.{leads, live-full}
-use Rattle.slotted_store.specs.Kept.{Kept, ClassEntry, find_at, nodes_of, entries_of}
+use Rattle.slotted_store.specs.Kept.{Kept, ClassEntry, RowEntry, no_form, names_at, nodes_of, rows_from}
+use Rattle.slotted_store.proofs.NamePairs.{ascending-values}
 use Rattle.slotted_core.specs.Good.{Good}
-use Rattle.slotted_core.proofs.InUse.{entry-slots}
-use Rattle.slotted_store.proofs.KeptLists.{entry_at-of}
-use Rattle.slotted_core.proofs.RowLookUps.{nameless_nodes}
+use Rattle.slotted_core.proofs.RowLookUps.{node_in, nameless_nodes, canonical_node-in}
 
 length-nodes : (cs : List ClassEntry) → length (nameless_nodes cs) ≡ length cs
 length-nodes [] = refl
@@ -20,24 +20,40 @@ length-nodes (c ∷ cs) = ap suc (length-nodes cs)
 pub length-classes : (k : Kept) → length (nodes_of k) ≡ length k.classes
 length-classes k = length-nodes k.classes
 
+-- there is a row for each class
+length-from : (i : ℕ) (cs : List ClassEntry) → length (rows_from i cs) ≡ length cs
+length-from i [] = refl
+length-from i (c ∷ cs) = ap suc (length-from (suc i) cs)
+
+pub length-rows : (k : Kept) → Good k → length k.rows ≡ length k.classes
+length-rows k good = ap length good.rows ∙ length-from 0 k.classes
+
+-- its slots are the names of the class's node
+from-names : (i : ℕ) (cs : List ClassEntry) (j : ℕ) → j < length cs → (slice_index_or (rows_from i cs) j (no_form, (0, []))).1.1 ≡ (shape (node_in cs j)).1
+from-names i [] j l = absurd (omega arith)
+from-names i (c ∷ cs) zero l = refl
+from-names i (c ∷ cs) (suc j) l = from-names (suc i) cs j (omega arith)
+
 module _ (k : Kept) (good : Good k) (i : ℕ) (l : i < length k.classes) where
-  abbrev in_nodes : i < length (nodes_of k)
-  in_nodes = let n : length (nodes_of k) ≡ length k.classes = length-classes k in omega arith
+  row-shape : names_at k i ≡ (shape (node_in k.classes i)).1
+  row-shape = ap (λ (rs : List RowEntry). (slice_index_or rs i (no_form, (0, []))).1.1) good.rows ∙ from-names 0 k.classes i l
 
-  -- the slots of a class, read off its entry
-  pub find_values : ascending (values (find_at k i).pairs) ≡ canonical_slots (nodes_of k) i
-  find_values = ap (λ (e : Entry). ascending (values e.pairs)) (sym (entry_at-of k i)) ∙ entry-slots (nodes_of k) (entries_of k) good.sound.linked good.in_use i in_nodes
+  -- the slots of a class, read off its row
+  pub row-values : ascending (values (names_at k i)) ≡ canonical_slots (nodes_of k) i
+  row-values =
+      ap (λ m. ascending (values m)) row-shape
+      ∙ (ascending-values (node_in k.classes i) ∙ ap names (sym (canonical_node-in k.classes i l)))
 
-  pub find_differ : IsInjectiveMap (find_at k i).pairs
-  find_differ = subst (λ (e : Entry). IsInjectiveMap e.pairs) (entry_at-of k i) (live-full (nodes_of k) (entries_of k) (leads (nodes_of k) (entries_of k) good.sound.linked) i in_nodes).injective
+  pub row-differ : IsInjectiveMap (names_at k i)
+  row-differ = subst IsInjectiveMap (sym row-shape) (injective-shape (node_in k.classes i))
 
 module _ (k : Kept) (good : Good k) (a : Applied) where
   -- an id with other keys than the class's slots is not full
-  pub other_keys : a.0 < length k.classes → ¬ (keys a.1 ≡ ascending (values (find_at k a.0).pairs)) → ¬ IsFull (nodes_of k) a
-  other_keys l n full = n (full.slots ∙ sym (find_values k good a.0 l))
+  pub other_keys : a.0 < length k.classes → ¬ (keys a.1 ≡ ascending (values (names_at k a.0))) → ¬ IsFull (nodes_of k) a
+  other_keys l n full = n (full.slots ∙ sym (row-values k good a.0 l))
 
-  pub full_iff : a.0 < length k.classes → keys a.1 ≡ ascending (values (find_at k a.0).pairs) → IsInjectiveMap a.1 ↔ IsFull (nodes_of k) a
+  pub full_iff : a.0 < length k.classes → keys a.1 ≡ ascending (values (names_at k a.0)) → IsInjectiveMap a.1 ↔ IsFull (nodes_of k) a
   full_iff l e = (
-    λ i. record { in_range = omega (arith, l, length-classes k); slots = e ∙ find_values k good a.0 l; injective = i },
+    λ i. record { in_range = omega (arith, l, length-classes k); slots = e ∙ row-values k good a.0 l; injective = i },
     λ full. full.injective,
   )

@@ -21,6 +21,7 @@ adds-nothing k = record {
   more_stored = [];
   stored = sym (append-nil k.proofs);
   asserted = refl;
+  symmetries = refl;
   finds = λ a full. refl;
 }
 
@@ -32,6 +33,7 @@ adds-then g h i x p q = record {
   more_stored = p.more_stored ++ q.more_stored;
   stored = q.stored ∙ (ap (λ (l : List Proven). l ++ q.more_stored) p.stored ∙ append_assoc g.stored p.more_stored q.more_stored);
   asserted = q.asserted ∙ p.asserted;
+  symmetries = q.symmetries ∙ p.symmetries;
   finds = λ a full. q.finds a (x.full a full) ∙ p.finds a full;
 }
 

@@ -10,4 +10,4 @@ use Rattle.slotted_core.specs.Leaves.{EntriesFollow}
 
 pub good-entries_follow : (k : Kept) → Good k → EntriesFollow (image_of k)
 good-entries_follow k good p h a b fa fb e E t u has et eu =
-    Equal-derives t u (Equal-between et eu (leaves-enough (map nameless_pair E) (nodes_of k) good.sound.canonical (proofs_of k) good.sound.proved p h has a b fa fb e))
+    Equal-derives t u (Equal-between et eu (leaves-enough (map nameless_pair E) (nodes_of k) good.stored.sane.sound.canonical (proofs_of k) good.stored.sane.sound.proved p h has a b fa fb e))

@@ -3,11 +3,9 @@ pub mod CanonicalTerms
 pub mod FreshSlots
 pub mod Images
 pub mod RowLookUps
-pub mod InUse
 pub mod NewClass
 pub mod FullIds
 pub mod Answering
-pub mod ProofListGrowth
 pub mod LeavesOf
 pub mod AcceptedSteps
 pub mod Partners
@@ -17,9 +15,8 @@ pub mod LargeParts
 pub mod Naming
 pub mod EntryTexts
 pub mod Asserting
-pub mod LargeEquations
-pub mod Links
-pub mod UnionSteps
+pub mod Symmetries
+pub mod LiveSizes
 pub mod Unions
 pub mod Children
 pub mod FreshCanonicalNodes

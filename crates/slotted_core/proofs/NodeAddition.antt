@@ -21,10 +21,13 @@ use Rattle.slotted_model.specs.Ascending.{ascending, names}
 use Rattle.slotted_model.specs.Applied.{Applied, map_on, renamed_id, EachChild}
 use Rattle.slotted_model.specs.Classes.{canonical_slots, IsFull, Canonical}
 use Rattle.slotted_model.specs.Correspondence.{identity}
-use Rattle.slotted_model.specs.Find.{Entry, IsLive, find}
+use Rattle.slotted_model.specs.Find.{Entry, find}
 use Rattle.slotted_model.specs.Link.{IsLater, with_new_entry, reflexive_equation}
 use Rattle.slotted_model.specs.ProofList.{Equation, ProofEntry, reflexive, equation_at, asserted}
-use Rattle.slotted_model.specs.Sound.{Sound}
+use Rattle.slotted_model.specs.Adding as model
+use Rattle.slotted_model.specs.Changes.{GoesOn}
+use Rattle.slotted_model.specs.Rest.{Sane, IsListed, IsValidIn, id_names}
+use Rattle.slotted_model.specs.State.{State, left_of, right_of}
 use Rattle.slotted_model.specs.Growth.{Extends, Added}
 use Rattle.slotted_model.specs.Growth as growth
 use Rattle.slotted_model.specs.Ids.{id_of_node}
@@ -35,14 +38,17 @@ use Rattle.slotted_model.proofs.Children.{EachChild-moved}
 use Rattle.slotted_model.proofs.Full.{full-renamed}
 use Rattle.slotted_model.proofs.NormalIds.{keys-identity}
 use Rattle.slotted_model.proofs.Growing.{added, node-new, Extends-same}
-use Rattle.slotted_model.proofs.Keeping.{new_class-sound, new_class-asserted}
+use Rattle.slotted_model.proofs.Adding.{finds-same, class-goes_on, class-sane}
+use Rattle.slotted_model.proofs.Keeping.{new_class-asserted}
 use Rattle.slotted_model.proofs.NewClasses.{later-newer}
+use Rattle.slotted_model.proofs.UpTo.{left-valid, right-valid}
 use Rattle.slotted_proofs.specs.Equations.{Statement}
 use Rattle.slotted_proofs.specs.Entries.{Proven, entry_of, IsNew, Enters, reflexive_entry}
 use Rattle.slotted_proofs.specs.Proving.{IsProvable, IsProved}
 use Rattle.slotted_proofs.proofs.Entering.{entering_proved, proved_newer, reflexive_provable}
-use Rattle.slotted_core.specs.EntriesInUse.{AllInUse}
 use Rattle.slotted_store.specs.FormCode.{form_is, form_Decides}
+use Rattle.slotted_unions.specs.StateOf.{state_of}
+use Rattle.slotted_unions.specs.Stored.{Stored, IsOverOneClass}
 use Rattle.slotted_core.specs.Graph.{IsFreshBetween}
 use Rattle.slotted_core.specs.Image.{AddsClasses}
 use Rattle.slotted_store.specs.Kept.{Kept, ClassEntry, RowEntry, no_form, no_entry, found, rows_from, node_at, nodes_of, entries_of, proofs_of, with_proofs, with_new_class, MakesClass}
@@ -53,7 +59,6 @@ use Rattle.slotted_core.proofs.Children.{Each-from_All, EachChild-node_args}
 use Rattle.slotted_core.proofs.RowLookUps.{canonical_node-in, answer, look_up-rows, none_has}
 use Rattle.slotted_core.proofs.FullIds.{length-classes}
 use Rattle.slotted_core.proofs.Images.{adds-nothing, found_id-is}
-use Rattle.slotted_core.proofs.InUse.{new_class-in_use, new_class-lives}
 use Rattle.slotted_store.proofs.KeptLists.{length-entries_of, length-proofs_of, equation_at-of}
 use Rattle.slotted_core.proofs.NewClass.{full-finds}
 use Rattle.slotted_store.proofs.NamePairs.{ascending-values, between-moved}
@@ -180,7 +185,7 @@ module _ (t u : Table) (k : Kept) (good : Good k) (over : HasFreshSlots t k) (f 
   }
 
   adds : Added g (g ++ d ∷ []) d
-  adds = added g d good.sound.canonical is_new
+  adds = added g d good.stored.sane.sound.canonical is_new
 
   nodes_are : nodes_of l ≡ g ++ d ∷ []
   nodes_are = map-append (λ (x : ClassEntry). nameless_node x.0) k.classes ((c, own) ∷ [])
@@ -239,7 +244,7 @@ module _ (t u : Table) (k : Kept) (good : Good k) (over : HasFreshSlots t k) (f 
   unspoken : IsNew k.proofs own_entry.statement
   unspoken q stands =
       let h : q < length (proofs_of k) = let a : length (proofs_of k) ≡ length k.proofs = length-proofs_of k in let b : q < length k.proofs = stands.in_range in omega arith in
-      let o : (equation_at (proofs_of k) q).left < length g = (good.sound.proved.over q h).left in
+      let o : (equation_at (proofs_of k) q).left < length g = (good.stored.sane.sound.proved.over q h).left in
       let e : (equation_at (proofs_of k) q).left ≡ n = ap (λ (x : Equation). x.left) (equation_at-of k.proofs q) ∙ ap (λ (x : Statement). x.equation.left) stands.statement in
       let m : length g ≡ n = length-classes k in
       omega arith
@@ -275,13 +280,48 @@ module _ (t u : Table) (k : Kept) (good : Good k) (over : HasFreshSlots t k) (f 
   as_lists Q h = subst (λ (x : List Entry × List ProofEntry). Q x.0 x.1) (λ i. (sym entries_are i, sym proofs_are i)) h
 
   nothing_asserted : asserted (nodes_of l) (proofs_of l) ≡ asserted g (proofs_of k)
-  nothing_asserted = ap (asserted (nodes_of l)) proofs_are ∙ new_class-asserted g (nodes_of l) (entries_of k) (proofs_of k) good.sound canonical extends one_more
+  nothing_asserted = ap (asserted (nodes_of l)) proofs_are ∙ new_class-asserted g (nodes_of l) (entries_of k) (proofs_of k) good.stored.sane.sound canonical extends one_more
 
   -- the statements are over canonical slots
   proved_more : IsProved (nodes_of l) ps
   proved_more =
-      entering_proved (nodes_of l) k.proofs ps own_entry p (proved_newer g (nodes_of l) k.proofs extends good.proved)
+      entering_proved (nodes_of l) k.proofs ps own_entry p (proved_newer g (nodes_of l) k.proofs extends good.stored.proved)
       (subst (λ S. IsProvable (nodes_of l) k.proofs (reflexive_entry n S)) (sym own_keys) (reflexive_provable (nodes_of l) k.proofs n (let m : length g ≡ n = length-classes k in let o : length (nodes_of l) ≡ suc (length g) = one_more in omega arith)).0) enters
+
+  -- the state is that of the model with one class more
+  abbrev state : State
+  state = state_of k
+
+  state_is : state_of l ≡ model.with_new_class state d
+  state_is i = record {
+    nodes = nodes_are i;
+    found = (entries_are ∙ ap (λ ns. with_new_entry ns (entries_of k) (length (proofs_of k))) nodes_are) i;
+    proofs = (proofs_are ∙ ap (λ ns. proofs_of k ++ record { equation = reflexive_equation ns (length g); step = reflexive } ∷ []) nodes_are) i;
+    rows = [];
+    waiting = [];
+    symmetries = state.symmetries;
+  }
+
+  finds_on : GoesOn state (state_of l)
+  finds_on = subst (GoesOn state) (sym state_is) (class-goes_on state good.stored.sane d is_new)
+
+  same_finds : (a : Applied) → IsValidIn state a → find (entries_of l) a ≡ find (entries_of k) a
+  same_finds a v = subst (λ (x : State). find x.found a ≡ find (entries_of k) a) (sym state_is) (finds-same state good.stored.sane d is_new a v)
+
+  -- symmetries are aligned as they were
+  stored_more : Stored l
+  stored_more = record {
+    sane = subst Sane (sym state_is) (class-sane state good.stored.sane d is_new);
+    proved = proved_more;
+    later = as_lists (λ es qs. IsLater es k.moment) (later-newer g (nodes_of l) extends one_more (entries_of k) good.stored.sane.sound.linked (length (proofs_of k)) k.moment good.stored.later);
+    sides = λ y c.
+        let s : IsOverOneClass k y = good.stored.sides y c in
+        record { left = (finds_on.finds y.0.0 s.left).0; right = (finds_on.finds y.0.1 s.right).0; class = s.class; slots = s.slots };
+    settled = λ dropped y c.
+        let listed : IsListed state y = good.stored.sane.each_listed y c in
+        ap id_names (same_finds (left_of y) (left-valid state y listed))
+        ∙ (good.stored.settled dropped y c ∙ sym (ap id_names (same_finds (right_of y) (right-valid state y listed))));
+  }
 
   pub good_more : Good l
   good_more = record {
@@ -290,12 +330,8 @@ module _ (t u : Table) (k : Kept) (good : Good k) (over : HasFreshSlots t k) (f 
         ∙ sym (rows_from-push 0 k.classes (c, own)));
     fits = each_push (λ i e. Fits e.0) k.classes (c, own) (no_form, no_entry) good.fits fits_c;
     numbered = each_push (λ i e. HasNumberedBinders e.0) k.classes (c, own) (no_form, no_entry) good.numbered numbered_c;
-    sound = as_lists (Sound (nodes_of l)) (new_class-sound g (nodes_of l) (entries_of k) (proofs_of k) good.sound canonical extends one_more);
-    proved = proved_more;
-    later = as_lists (λ es qs. IsLater es k.moment) (later-newer g (nodes_of l) extends one_more (entries_of k) good.sound.linked (length (proofs_of k)) k.moment good.later);
-    in_use = as_lists (λ es qs. AllInUse (nodes_of l) es) (new_class-in_use g (nodes_of l) extends one_more (entries_of k) good.sound.linked good.in_use (length (proofs_of k)));
-    untouched = λ e. as_lists (λ es qs. (i : ℕ) → i < length (nodes_of l) → IsLive es i)
-        (new_class-lives g (nodes_of l) extends one_more (entries_of k) good.sound.linked good.in_use (length (proofs_of k)) (good.untouched (sym nothing_asserted ∙ e)));
+    stored = stored_more;
+    settled = good.settled;
   }
     where
       zero_plus : (m : ℕ) → m ≡ 0 + m
@@ -308,10 +344,11 @@ module _ (t u : Table) (k : Kept) (good : Good k) (over : HasFreshSlots t k) (f 
     more_stored = own_entry ∷ [];
     stored = stands_last.1;
     asserted = nothing_asserted;
+    symmetries = refl;
     finds = λ a full.
         let h : a.0 < length k.classes = let m : length g ≡ n = length-classes k in let o : a.0 < length g = full.in_range in omega arith in
         let h' : a.0 < length l.classes = let m : length (nodes_of l) ≡ length l.classes = length-classes l in let o : length (nodes_of l) ≡ suc (length g) = one_more in let q : a.0 < length g = full.in_range in omega arith in
-        found_id-is l a h' ∙ (ap (λ es. find es a) entries_are ∙ (full-finds g (nodes_of l) extends one_more (entries_of k) good.sound.linked (length (proofs_of k)) a full ∙ sym (found_id-is k a h)));
+        found_id-is l a h' ∙ (ap (λ es. find es a) entries_are ∙ (full-finds g (nodes_of l) extends one_more (entries_of k) good.stored.sane.sound.linked (length (proofs_of k)) a full ∙ sym (found_id-is k a h)));
   }
 
   fresh_more : HasFreshSlots u l

@@ -126,7 +126,7 @@ part_full k t l f h us p n j d lt = (p.ids j d (record { op = 0; payloads = []; 
 
 pub part_layer : (k : Kept) (t : Table) (l : Kept) (f h : Form) (us : List Term) → Fits h → IsPart k t l f h us (length us) → length us ≡ length (children f.tree) → layer_of (nodes_of l) (nameless_node h) ≡ nameless (form.term_of f us)
 part_layer k t l f h us fits p n =
-    let m = match-from (nodes_of l) p.good.sound.canonical (child_ids h) us (length-ids h.tree h.names ∙ (p.count ∙ sym n)) p.ids in
+    let m = match-from (nodes_of l) p.good.stored.sane.sound.canonical (child_ids h) us (length-ids h.tree h.names ∙ (p.count ∙ sym n)) p.ids in
     let e = expand-filled (terms (nodes_of l)) (λ x. x) h.tree h.names us fits m in
     let o : filled h.tree h.names us ≡ filled f.tree f.names us = p.outline us n in
     λ i. record { op = suc (p.operator i); payloads = p.payloads i; args = (e ∙ ap (λ (a : Args). nameless_args (λ x. x) a) o) i }
@@ -145,7 +145,7 @@ part_end k can t v l m f h us a fits p n add = record {
   kept = λ s.
       let same = p.kept s in
       let here : IsSome (id_of (nodes_of l) (nameless (form.term_of f us))) = subst (λ (x : Image). IsSome (id_of x.canonical (nameless (form.term_of f us)))) (sym same) s in
-      let c = p.good.sound.canonical in
+      let c = p.good.stored.sane.sound.canonical in
       let children = full_children (nodes_of l) h fits (part_full k t l f h us p n) in
       let filed = node_has_id (nodes_of l) c (nameless_node h) children (nameless (form.term_of f us)) (part_layer k t l f h us fits p n) here in
       add.kept filed ∙ same;
@@ -156,14 +156,14 @@ part_end k can t v l m f h us a fits p n add = record {
 
     stands : term_of (nodes_of m) a ≡ nameless (form.term_of f us)
     stands =
-        answer_term (nodes_of m) h a add.found add.good.sound.canonical
+        answer_term (nodes_of m) h a add.found add.good.stored.sane.sound.canonical
         ∙ (add.extends.layers (nameless_node h) (full_children (nodes_of l) h fits (part_full k t l f h us p n)) ∙ part_layer k t l f h us fits p n)
 
     looked_up : id_of (nodes_of m) (nameless (form.term_of f us)) ≡ Some a
-    looked_up = (id_of-iff (nodes_of m) add.good.sound.canonical (nameless (form.term_of f us)) a).1 (full, stands)
+    looked_up = (id_of-iff (nodes_of m) add.good.stored.sane.sound.canonical (nameless (form.term_of f us)) a).1 (full, stands)
 
 -- the node has no more places than the term
 pub part_size : (k : Kept) (t : Table) (l : Kept) (f h : Form) (us : List Term) → Fits h → IsPart k t l f h us (length us) → length us ≡ length (children f.tree) → length h.names ≤ term_places (form.term_of f us)
 part_size k t l f h us fits p n =
-    let s = node_fits (nodes_of l) p.good.sound.canonical h us fits (n ∙ sym p.count) p.ids in
+    let s = node_fits (nodes_of l) p.good.stored.sane.sound.canonical h us fits (n ∙ sym p.count) p.ids in
     omega (arith, s, ap args_places (p.outline us n))

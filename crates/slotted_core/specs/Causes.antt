@@ -2,6 +2,7 @@
 --     HaveManyNames m n       the maps of two ids have too many names to be numbered
 --     HasManyNames e          so have the two sides of an equation
 --     IsLargeClass nodes i    so have two ids of a class
+--     HasLargeClass nodes     there is such a class
 --     IsWideClass nodes i     so may have two children of the canonical node of a class
 --     HasWideSide nodes e     the same of a side of an equation
 --     IsLargeNode nodes i     the canonical node of a class has too many places to be numbered
@@ -19,6 +20,10 @@ use Rattle.slotted_core.specs.Canonical.{node_size, place_count}
 -- the class has so many slots that two ids of it have too many names
 abbrev pub IsLargeClass : List DTerm → ℕ → Type 0
 IsLargeClass nodes i = 2 ^ 29 ≤ length (canonical_slots nodes i)
+
+-- one of the classes has
+abbrev pub HasLargeClass : List DTerm → Type 0
+HasLargeClass nodes = (i : ℕ) × (i < length nodes) × IsLargeClass nodes i
 
 -- the canonical node of the class has so many names, binders and children that two of its children may have too many names
 abbrev pub IsWideClass : List DTerm → ℕ → Type 0

@@ -79,7 +79,7 @@ entry_by e s = by_step (statement_of e) s
 
 -- the graph with one more entry
 abbrev pub with_entry : Graph → Proven → Graph
-with_entry g x = record g { image = record { canonical = g.image.canonical; found = g.image.found; entries = g.image.entries ++ entry_of x ∷ []; stored = g.image.stored ++ x ∷ [] } }
+with_entry g x = record g { image = record g.image { entries = g.image.entries ++ entry_of x ∷ []; stored = g.image.stored ++ x ∷ [] } }
 
 -- the equation of x stands at the number p: it stood there, and nothing changed, or it stood nowhere and x is entered last, and
 -- nothing else changed

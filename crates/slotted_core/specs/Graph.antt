@@ -21,7 +21,7 @@ use Rattle.slotted_model.specs.Ids.{id_of_node, id_of}
 use Rattle.slotted_core.specs.Nodes.{child_ids}
 use Rattle.slotted_proofs.specs.Equations.{to_applied}
 use Rattle.slotted_proofs.specs.Entries.{asserted_entry}
-use Rattle.slotted_core.specs.Image.{Image, NewClassesAre, IsIdOfNode, IsIdOfSubterm, Records, IsNoUnion, image_code}
+use Rattle.slotted_core.specs.Image.{Image, NewClassesAre, IsIdOfNode, IsIdOfSubterm, Records, image_code}
 use Rattle.slotted_core.specs.Places.{term_places, term_slots}
 
 pub record Graph : Type 0 where
@@ -122,7 +122,3 @@ FilesOnlySubterms g h t = NewClassesAre g.image.canonical h.image.canonical (IsI
 -- the equation of a and b stood in the proof list, or it is a new entry, asserted with the text
 abbrev pub RecordsUnion : Graph → Graph → AppliedId → AppliedId → Option (List ℕ) → Type 0
 RecordsUnion g h a b text = Records g.image h.image (asserted_entry (to_applied a) (to_applied b) text)
-
--- a union is refused for now, and has changed nothing
-abbrev pub IsRefusedForNow : Graph → Graph → AppliedId → AppliedId → Type 0
-IsRefusedForNow g h a b = IsNoUnion g.image (to_applied a) (to_applied b) × (h ≡ g)

@@ -9,15 +9,19 @@
 --     Continues g h       what was proved and found alike stays so
 --     Asserts g h e       the equation e is asserted, if it was not proved
 --     Records g h x       x is an entry now, with its step and its text, if its equation was not proved
---     CanUnite g a b      a and b find different classes with the same names
---     IsUnion g h a b y   a union answers y
---     IsNoUnion g a b     a union is refused for now
-use Rattle.std.specs.Prelude.{◌≡◌, ℕ, ◌<◌, ◌≤◌, ◌⊎◌, List, [], ◌∷◌, ◌++◌, length, map, slice_index_or, refl, ◌≢◌, ◌↔◌, Bool, true, false, Contains, IsTrue, Some}
+--     HasNoOpenSymmetry g c      the sides of each listed symmetry that finds the class c find alike
+--     CountsOpen g ys n   n of the symmetries ys are open
+--     AreClosed g         none is
+--     AreTogether g a b   a and b find one class and one set of names, and find alike if no symmetry of that class is open
+--     live_size g         how many live classes and slots of them there are
+--     IsUnion g h a b y   a union of a and b answers y
+--     AreSymmetries g     what holds of the listed symmetries
+use Rattle.std.specs.Prelude.{◌≡◌, ℕ, ◌<◌, ◌≤◌, ◌⊎◌, List, [], ◌∷◌, ◌++◌, ◌+◌, suc, length, map, slice_index_or, refl, ◌≢◌, ◌↔◌, Bool, Contains, IsTrue, Some, cond, nat_eq}
 use Rattle.std.specs.Coded.{Coded, code_by, coded×, coded_ℕ, coded_list}
 use Rattle.slotted_theory.specs.Term.{Term}
 use Rattle.slotted_theory.specs.Nameless.{DTerm, nameless}
 use Rattle.slotted_theory.specs.Derives.{Derives, Equal, nameless_pair}
-use Rattle.slotted_model.specs.Applied.{Applied, values}
+use Rattle.slotted_model.specs.Applied.{Applied, keys, values}
 use Rattle.slotted_model.specs.Classes.{term_of, IsFull}
 use Rattle.slotted_model.specs.Correspondence.{composite}
 use Rattle.slotted_model.specs.Ids.{id_of_node, id_of}
@@ -25,25 +29,30 @@ use Rattle.slotted_model.specs.ProofList.{Equation, ProofEntry, equation_of, equ
 use Rattle.slotted_core.specs.Subterms.{IsSubterm}
 use Rattle.slotted_core.specs.TermCode.{nameless_code}
 use Rattle.slotted_proofs.specs.Entries.{Proven, proven_at}
-pub use Rattle.slotted_store.specs.Kept.{text_bytes}
+pub use Rattle.slotted_store.specs.Kept.{text_bytes, SymmetryEntry, symmetry_entry}
+use Rattle.slotted_store.specs.Kept.{symmetry_code}
 use Rattle.slotted_store.specs.EntryCode.{pairs_code, proof_entry_code, proven_code}
 
 -- the canonical node of each class, in the order of the class ids; for each class the live class that it finds, with its own slot
--- for each slot of that; and the proof list, as the model has it and with the slots and the texts of its entries
+-- for each slot of that; the proof list, as the model has it and with the slots and the texts of its entries; and the listed symmetries,
+-- each by its two sides and the number of its proof
 pub record Image : Type 0 where
   pub canonical : List DTerm
   pub found : List Applied
   pub entries : List ProofEntry
   pub stored : List Proven
+  pub symmetries : List SymmetryEntry
 
 abbrev pub image_code : Coded Image
 image_code =
-    code_by (List DTerm × (List Applied × (List ProofEntry × List Proven))) (coded× (coded_list nameless_code) (coded× (coded_list (coded× coded_ℕ pairs_code)) (coded× (coded_list proof_entry_code) (coded_list proven_code))))
-    (λ g. (g.canonical, (g.found, (g.entries, g.stored)))) (λ p. record { canonical = p.0; found = p.1.0; entries = p.1.1.0; stored = p.1.1.1 }) (λ _. refl)
+    code_by (List DTerm × (List Applied × (List ProofEntry × (List Proven × List SymmetryEntry))))
+    (coded× (coded_list nameless_code) (coded× (coded_list (coded× coded_ℕ pairs_code)) (coded× (coded_list proof_entry_code) (coded× (coded_list proven_code) (coded_list symmetry_code)))))
+    (λ g. (g.canonical, (g.found, (g.entries, (g.stored, g.symmetries)))))
+    (λ p. record { canonical = p.0; found = p.1.0; entries = p.1.1.0; stored = p.1.1.1.0; symmetries = p.1.1.1.1 }) (λ _. refl)
 
 -- the image without classes
 abbrev pub no_classes : Image
-no_classes = record { canonical = []; found = []; entries = []; stored = [] }
+no_classes = record { canonical = []; found = []; entries = []; stored = []; symmetries = [] }
 
 -- what an applied id finds: the found class with the id's names at the slots that it stands for
 abbrev pub found_id : Image → Applied → Applied
@@ -77,13 +86,14 @@ abbrev pub StandsIn : Image → Equation → Type 0
 StandsIn g e = (p : ℕ) × (p < length g.entries) × (equation_at g.entries p ≡ e)
 
 -- classes are added, and nothing else: the proof list grows at its end, so that each entry stays with its slots and its text, nothing
--- is asserted, and each id finds what it found
+-- is asserted, no symmetry is listed, and each id finds what it found
 pub record AddsClasses (g h : Image) : Type 0 where
   pub more : List ProofEntry
   pub entries : h.entries ≡ g.entries ++ more
   pub more_stored : List Proven
   pub stored : h.stored ≡ g.stored ++ more_stored
   pub asserted : asserted_in h ≡ asserted_in g
+  pub symmetries : h.symmetries ≡ g.symmetries
   pub finds : (a : Applied) → IsFull g.canonical a → found_id h a ≡ found_id g a
 
 -- each class of the newer canonical nodes that the older ones do not have is that of an id of which P holds
@@ -100,10 +110,13 @@ pub record IsIdOfSubterm (nodes : List DTerm) (t : Term) (a : Applied) : Type 0 
   pub stands : IsSubterm subterm t
   pub found : id_of nodes (nameless subterm) ≡ Some a
 
--- the proof list grows at its end, and ids that find alike still do
+-- the proof list and the listed symmetries grow at their ends, finds go on from what was found, and ids that find alike still do
 pub record Continues (g h : Image) : Type 0 where
   pub more : List ProofEntry
   pub entries : h.entries ≡ g.entries ++ more
+  pub listed : List SymmetryEntry
+  pub symmetries : h.symmetries ≡ g.symmetries ++ listed
+  pub finds : (a : Applied) → IsFull g.canonical a → found_id h a ≡ found_id h (found_id g a)
   pub alike : (a b : Applied) → IsFull g.canonical a → IsFull g.canonical b → FoundAlike g a b → FoundAlike h a b
 
 -- the equation stands in the list: it stood there and nothing more is asserted, or it stood nowhere and is asserted last
@@ -126,17 +139,60 @@ pub record Records (g h : Image) (x : Proven) : Type 0 where
   pub stored : h.stored ≡ g.stored ++ more
   pub entered : StandsIn g x.statement.equation ⊎ IsNewEntry g h x
 
--- the ids find different classes with the same names
-pub record CanUnite (g : Image) (a b : Applied) : Type 0 where
-  pub differ : (found_id g a).0 ≢ (found_id g b).0
-  pub names : (z : ℕ) → Contains (values (found_id g a).1) z ↔ Contains (values (found_id g b).1) z
+-- the same names
+abbrev pub SameNames : Applied → Applied → Type 0
+SameNames a b = (z : ℕ) → Contains (values a.1) z ↔ Contains (values b.1) z
 
--- they neither find alike nor can be united
-abbrev pub IsNoUnion : Image → Applied → Applied → Type 0
-IsNoUnion g a b = (¬ FoundAlike g a b) × (¬ CanUnite g a b)
+-- the sides of each listed symmetry that finds the class find alike
+abbrev pub HasNoOpenSymmetry : Image → ℕ → Type 0
+HasNoOpenSymmetry g c = (y : SymmetryEntry) → Contains g.symmetries y → (found_id g y.0.0).0 ≡ c → FoundAlike g y.0.0 y.0.1
 
--- what a union of a and b answers, and what it leaves: true where they found different classes with the same names, and now find
--- alike; false where they found alike, and no class has changed
-abbrev pub IsUnion : Image → Image → Applied → Applied → Bool → Type 0
-IsUnion g h a b true = CanUnite g a b × FoundAlike h a b × Asserts g h (equation_of a b) × (h.canonical ≡ g.canonical) × Continues g h
-IsUnion g h a b false = FoundAlike g a b × (h.found ≡ g.found) × Asserts g h (equation_of a b) × (h.canonical ≡ g.canonical) × Continues g h
+-- how many of these symmetries are open: their sides do not find alike
+pub data CountsOpen (g : Image) : List SymmetryEntry → ℕ → Type 0 where
+  none : CountsOpen g [] 0
+  one_open : {ys : List SymmetryEntry} {n : ℕ} (y : SymmetryEntry) → CountsOpen g ys n → ¬ FoundAlike g y.0.0 y.0.1 → CountsOpen g (ys ++ y ∷ []) (suc n)
+  one_closed : {ys : List SymmetryEntry} {n : ℕ} (y : SymmetryEntry) → CountsOpen g ys n → FoundAlike g y.0.0 y.0.1 → CountsOpen g (ys ++ y ∷ []) n
+
+-- no listed symmetry is open
+abbrev pub AreClosed : Image → Type 0
+AreClosed g = (y : SymmetryEntry) → Contains g.symmetries y → FoundAlike g y.0.0 y.0.1
+
+-- two ids find one class and one set of names, and they find alike where no listed symmetry of that class is open
+pub record AreTogether (g : Image) (a b : Applied) : Type 0 where
+  pub class : (found_id g a).0 ≡ (found_id g b).0
+  pub names : SameNames (found_id g a) (found_id g b)
+  pub alike : HasNoOpenSymmetry g (found_id g a).0 → FoundAlike g a b
+
+-- one for each live class, and one for each slot that it has, where i is the number of the first class
+abbrev pub live_size_from : ℕ → List Applied → ℕ
+live_size_from i [] = 0
+live_size_from i (a ∷ found) = cond (nat_eq a.0 i) (suc (length a.1)) 0 + live_size_from (suc i) found
+
+-- the live classes and their slots
+abbrev pub live_size : Image → ℕ
+live_size g = live_size_from 0 g.found
+
+-- what a union of a and b answers, and what it leaves: true exactly where they did not find alike; they are together from now on, their
+-- equation stands in the proof list, no class is made, and there are no more live classes and slots than before
+pub record IsUnion (g h : Image) (a b : Applied) (y : Bool) : Type 0 where
+  pub answer : IsTrue y ↔ (¬ FoundAlike g a b)
+  pub together : AreTogether h a b
+  pub asserts : Asserts g h (equation_of a b)
+  pub canonical : h.canonical ≡ g.canonical
+  pub continues : Continues g h
+  pub size : live_size h ≤ live_size g
+
+-- what holds of a listed symmetry: its sides are one class with the same slots and the same names in another order, and an entry says just
+-- this of the class; and both sides find the same names
+pub record IsSymmetry (g : Image) (y : SymmetryEntry) : Type 0 where
+  pub class : y.0.1.0 ≡ y.0.0.0
+  pub slots : keys y.0.1.1 ≡ keys y.0.0.1
+  pub names : SameNames y.0.0 y.0.1
+  pub differ : y.0.0 ≢ y.0.1
+  pub in_range : y.1 < length g.entries
+  pub proof : equation_at g.entries y.1 ≡ equation_of y.0.0 y.0.1
+  pub aligned : SameNames (found_id g y.0.0) (found_id g y.0.1)
+
+-- so it is of each listed one
+abbrev pub AreSymmetries : Image → Type 0
+AreSymmetries g = (y : SymmetryEntry) → Contains g.symmetries y → IsSymmetry g y

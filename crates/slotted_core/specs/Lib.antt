@@ -9,9 +9,7 @@ pub mod Reads
 pub mod Canonical
 pub mod Causes
 pub mod Checks
-pub mod EntriesInUse
 pub mod Good
-pub mod Uniting
 pub mod SmallNodes
 pub mod Frames
 pub mod Syn

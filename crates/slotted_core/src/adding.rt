@@ -31,7 +31,7 @@ pub(crate) fn is_full<L: Language>(store: &Store<L>, a: &AppliedId) -> bool
     if a.id.0 >= store.class_count() {
         return false;
     }
-    if !values_are_keys(&store.entry(a.id.0).m, &a.m) {
+    if !values_are_keys(store.names_of(a.id.0), &a.m) {
         return false;
     }
     a.m.is_bijection()

@@ -1,6 +1,6 @@
 //! The graph that callers see: a failed one refuses every later call.
 ghost use Rattle.std.specs.Prelude.{◌≡◌, ◌<◌, ◌↔◌, ◌⊎◌, length, false, IsTrue, IsOk, IfOk, IfErr, OnOk};
-ghost use Rattle.std.specs.Prelude.{IsErr, IsErrOf, IsOkUnless, IsSome, IfSome, None, Some, option_map};
+ghost use Rattle.std.specs.Prelude.{IsErr, IsErrOf, IsOkUnless, IsSome, IfSome, None, Some, map, option_map};
 ghost use Rattle.slotted_slots.specs.Error.{IsShortage};
 ghost use Rattle.slotted_slots.specs.Table.{KnowsMore};
 ghost use Rattle.slotted_theory.specs.Nameless.{nameless};
@@ -10,12 +10,12 @@ ghost use Rattle.slotted_model.specs.ProofList.{Proved};
 ghost use Rattle.slotted_proofs.specs.Entries.{explicit_numbers};
 ghost use Rattle.slotted_terms.specs.Valid.{IsValidTerm};
 ghost use Rattle.slotted_core.specs.Image.{no_classes, FoundAlike, SaysEqual, SaysDerivable, SaysTerms};
-ghost use Rattle.slotted_core.specs.Image.{AddsClasses, IsUnion};
-ghost use Rattle.slotted_store.specs.Kept.{text_bytes};
+ghost use Rattle.slotted_core.specs.Image.{AddsClasses, IsUnion, AreSymmetries, CountsOpen};
+ghost use Rattle.slotted_store.specs.Kept.{text_bytes, symmetry_entry};
 ghost use Rattle.slotted_core.specs.Graph.{IsValidId, IsValidNode, id_of_form, id_of_term, StandsForNode, OnlyReads};
 ghost use Rattle.slotted_core.specs.Graph.{MakesClassWhereNone, FilesOnlyNode, FilesOnlySubterms};
-ghost use Rattle.slotted_core.specs.Graph.{RecordsUnion, IsRefusedForNow, MakesAtMost, RunsOutIn, RunsOutForTerm};
-ghost use Rattle.slotted_core.specs.Causes.{HaveManyNames};
+ghost use Rattle.slotted_core.specs.Graph.{RecordsUnion, MakesAtMost, RunsOutIn, RunsOutForTerm};
+ghost use Rattle.slotted_core.specs.Causes.{HasLargeClass};
 ghost use Rattle.slotted_proofs.specs.Equations.{to_applied};
 ghost use Rattle.slotted_core.specs.Places.{term_slots};
 ghost use Rattle.slotted_core.specs.Reads.{AnswersTerm, NodesAreRead};
@@ -28,7 +28,7 @@ use crate::{adding, uniting};
 use slotted_languages::Language;
 use slotted_proofs::ProvenEq;
 use slotted_slots::{AppliedId, Error, SlotTable};
-use slotted_store::Store;
+use slotted_store::{Store, Symmetry};
 use slotted_terms::expr::RecExpr;
 use std::alloc::Global;
 use std::marker::Model;
@@ -272,11 +272,10 @@ impl<L: Language, N: Drop> EGraph<L, N> {
         Ok(answer)
     }
 
-    /// Two valid ids are equal, because the caller says so.
+    /// Two valid ids are equal, because the caller says so. True if they did not find alike.
     ///
-    /// True if they found different classes with the same names, which find one class from now on; false if they found alike
-    /// already. A union of ids that find one class with other names, or other sets of names, is refused for now, and changes
-    /// nothing. Classes above them are not united: what `eq` says of two nodes over them is as before.
+    /// From now on both find one class with one set of names, and they find alike unless a symmetry of that class is open. Slots that
+    /// only one side has are dropped. Classes above them are not united: what `eq` says of two nodes over them is as before.
     pub fn union(&mut self, l: &AppliedId, r: &AppliedId) -> Result<bool, Error>
         requires left { IsTrue self.old.failed ⊎ IsValidId self.old (to_applied l.now) }
         requires right { IsTrue self.old.failed ⊎ IsValidId self.old (to_applied r.now) }
@@ -284,11 +283,11 @@ impl<L: Language, N: Drop> EGraph<L, N> {
         ensures text { OnOk result (RecordsUnion self.old self.new l.now r.now None) }
         ensures table { self.new.table ≡ self.old.table }
 
-        ensures not_yet { IsErrOf result Error.NotYet → IsRefusedForNow self.old self.new l.now r.now }
+        ensures stays { IsTrue self.old.failed → self.new ≡ self.old }
         ensures failed { IsErrOf result Error.Failed ↔ IsTrue self.old.failed }
-        ensures fails { IsTrue self.new.failed ↔ (IsErr result × ¬ IsErrOf result Error.NotYet) }
-        ensures full { IsErrOf result Error.OutOfSlots → HaveManyNames l.now.m r.now.m }
-        ensures only { IfErr result (λ e. (e ≡ Error.Failed) ⊎ (e ≡ Error.NotYet) ⊎ IsShortage e) }
+        ensures fails { IsTrue self.new.failed ↔ IsErr result }
+        ensures full { IsErrOf result Error.OutOfSlots → HasLargeClass self.old.image.canonical }
+        ensures only { IfErr result (λ e. (e ≡ Error.Failed) ⊎ IsShortage e) }
     {
         self.union_justified(l, r, None)
     }
@@ -311,11 +310,11 @@ impl<L: Language, N: Drop> EGraph<L, N> {
 
         ensures table { self.new.table ≡ self.old.table }
 
-        ensures not_yet { IsErrOf result Error.NotYet → IsRefusedForNow self.old self.new l.now r.now }
+        ensures stays { IsTrue self.old.failed → self.new ≡ self.old }
         ensures failed { IsErrOf result Error.Failed ↔ IsTrue self.old.failed }
-        ensures fails { IsTrue self.new.failed ↔ (IsErr result × ¬ IsErrOf result Error.NotYet) }
-        ensures full { IsErrOf result Error.OutOfSlots → HaveManyNames l.now.m r.now.m }
-        ensures only { IfErr result (λ e. (e ≡ Error.Failed) ⊎ (e ≡ Error.NotYet) ⊎ IsShortage e) }
+        ensures fails { IsTrue self.new.failed ↔ IsErr result }
+        ensures full { IsErrOf result Error.OutOfSlots → HasLargeClass self.old.image.canonical }
+        ensures only { IfErr result (λ e. (e ≡ Error.Failed) ⊎ IsShortage e) }
     {
         if self.failed {
             return Err(Error::Failed);
@@ -323,10 +322,28 @@ impl<L: Language, N: Drop> EGraph<L, N> {
         self.failed = true;
         let answer = uniting::union(&mut self.store, self.alloc, l, r, text)?;
         self.failed = false;
-        match answer {
-            Some(yes) => Ok(yes),
-            None => Err(Error::NotYet),
+        Ok(answer)
+    }
+
+    /// The symmetries that unions met, in the order in which they were met: each says that a class equals itself with its slots in
+    /// another order. A symmetry is open until its two sides find alike.
+    pub fn symmetries_met(&self) -> &[Symmetry]
+        ensures list { map symmetry_entry result.now ≡ self.now.image.symmetries }
+        ensures each { IsTrue self.now.failed ⊎ AreSymmetries self.now.image }
+    {
+        self.store.symmetries()
+    }
+
+    /// How many of the symmetries that unions met are open. It takes no memory.
+    pub fn open_symmetries(&self) -> Result<usize, Error>
+        ensures count { IfOk result (CountsOpen self.now.image self.now.image.symmetries) }
+        ensures failed { IsErrOf result Error.Failed ↔ IsTrue self.now.failed }
+        ensures only { IsOkUnless result Error.Failed }
+    {
+        if self.failed {
+            return Err(Error::Failed);
         }
+        Ok(uniting::open_symmetries(&self.store))
     }
 
     /// The numbers of the asserted equations, in the order in which they were entered.

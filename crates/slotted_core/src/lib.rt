@@ -1,5 +1,5 @@
-//! E-graphs of terms with binders: terms go in, alpha-equal ones get equal ids, ids over the same names are united, and each
-//! yes is proved, by entries that a union makes or by steps that a caller asks for. Nothing is rebuilt yet.
+//! E-graphs of terms with binders: terms go in, alpha-equal ones get equal ids, ids are united, and each yes is proved, by entries
+//! that a union makes or by steps that a caller asks for. Nothing is rebuilt yet.
 #![tactic(auto)]
 
 mod adding;
@@ -13,3 +13,4 @@ mod uniting;
 
 pub use egraph::EGraph;
 pub use egraph::steps::Check;
+pub use slotted_store::Symmetry;

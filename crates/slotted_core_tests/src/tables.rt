@@ -140,12 +140,13 @@ union: a == b => no
 count asserted => 1
 ids: a == b => equal";
 
-// A union that is refused leaves as many entries.
-const REFUSED: &str = "union: (f $x $y) == (g $x) => NotYet
+// A union that drops a slot is entered like any other.
+const DROPPED: &str = "union: (f $x $y) == (g $x) => yes
 graph failed => no
-count proved => 2
-count asserted => 0
-ids: (f $x $y) == (g $x) => two classes";
+count asserted => 1
+union: (f $x $y) == (g $x) => no
+count asserted => 1
+ids: (f $x $y) == (g $x) => equal";
 
 // A union may say why. It is known from then on, and has one entry.
 const JUSTIFIED: &str = "union r1: a == b => yes
@@ -156,7 +157,7 @@ ids: a == b => equal";
 
 #[test]
 fn unions_are_entered(rt: HostRuntime) -> Result<(), Error> {
-    check_tables::<Small>(&rt, rt.alloc(), &[UNITED, REFUSED, JUSTIFIED])
+    check_tables::<Small>(&rt, rt.alloc(), &[UNITED, DROPPED, JUSTIFIED])
 }
 
 // There has to be a part for each child, in their order, and a turned equation is another one.

@@ -2,18 +2,19 @@
 ghost use Rattle.std.specs.Prelude.{◌↔◌, ◌⊎◌, IsTrue, IfOk};
 ghost use Rattle.slotted_egraphs.specs.Filed.{IsFiledAs, SaysNodeEqual};
 ghost use Rattle.slotted_egraphs.specs.Graph.{IsValidId, IsValidNode};
+ghost use Rattle.slotted_egraphs.specs.Image.{AreClosed};
 ghost use Rattle.slotted_egraphs.specs.Nodes.{to_applied};
 
 use crate::{AppliedId, EGraph, Error, Language};
 
-/// Adds the terms of two texts, unites them and asks whether they are equal. Where there is an answer it is yes, and this is
-/// proved.
+/// Adds the terms of two texts, unites them and asks whether they are equal. Where there is an answer it is yes, or a symmetry that
+/// a union met is open, and this is proved.
 pub fn unite_and_ask<L: Language>(
     graph: &mut EGraph<L>,
     left: &str,
     right: &str,
 ) -> Result<bool, Error>
-    ensures { IfOk result IsTrue }
+    ensures { IfOk result (λ y. AreClosed graph.new.image → IsTrue y) }
 {
     let left = graph.parse_expr(left)?;
     let right = graph.parse_expr(right)?;

@@ -8,7 +8,7 @@ pub mod example;
 #[cfg(test)]
 mod tests;
 
-pub use slotted_core::{Check, EGraph};
+pub use slotted_core::{Check, EGraph, Symmetry};
 pub use slotted_explain::Explanation;
 pub use slotted_languages::{Bind, Language, LanguageChildren, ReadBack, Small, Symbol, pair};
 pub use slotted_patterns::Pattern;

@@ -1,6 +1,6 @@
 -- What a map finds by its keys is what is filed for their forms.
-use Rattle.std.proofs.Common.{◌≡◌, ◌↔◌, ℕ, List, [], ◌∷◌, ◌++◌, Option, Some, None, Bor, Bool, true, false, cond, map, ◌∙◌, ap, refl}
-use Rattle.std.specs.Prelude.{IsTrue, option_map}
+use Rattle.std.proofs.Common.{◌≡◌, ◌↔◌, ℕ, zero, suc, List, [], ◌∷◌, ◌++◌, Option, Some, None, Bor, Bool, true, false, cond, map, ◌∙◌, ap, refl}
+use Rattle.std.specs.Prelude.{IsTrue, option_map, slice_get, slice_index_or}
 use Rattle.std.specs.Option.{option_copied}
 use Rattle.std.specs.Map.{lookup}
 use Rattle.std.proofs.lemmas.Bool.Decides.{same_from_decides}
@@ -13,6 +13,12 @@ use Rattle.slotted_store.specs.Kept.{RowEntry, found}
 pub option_map-copied : {T U : Type 0} (f : T → U) (o : Option (Bor T)) → option_map (λ r. f r.now) o ≡ option_map f (option_copied o)
 option_map-copied f None = refl
 option_map-copied f (Some r) = refl
+
+-- what stands at a place of a list is at that place of the list of its images
+pub image-at : {A B : Type 0} (f : A → B) (xs : List A) (i : ℕ) (x : A) (d : B) → slice_get xs i ≡ Some x → slice_index_or (map f xs) i d ≡ f x
+image-at f [] i x d e = cc
+image-at f (y ∷ xs) zero x d e = cc
+image-at f (y ∷ xs) (suc i) x d e = image-at f xs i x d e
 
 module _ {L V : Type 0} (E : L → L → Bool) (F : L → Form) (G : V → ℕ × List (ℕ × ℕ)) (same : (a b : L) → IsTrue (E a b) ↔ F a ≡ F b) where
   -- the entries of a map as rows

@@ -54,10 +54,13 @@ pub record Kept : Type 0 where
 abbrev id_code : Coded Applied
 id_code = coded× coded_ℕ pairs_code
 
+abbrev pub symmetry_code : Coded SymmetryEntry
+symmetry_code = coded× (coded× id_code id_code) coded_ℕ
+
 abbrev pub kept_code : Coded Kept
 kept_code =
     code_by (List ClassEntry × (List RowEntry × (List SymmetryEntry × (Bool × (List Proven × ℕ)))))
-    (coded× (coded_list (coded× form_code entry_code)) (coded× (coded_list (coded× form_code (coded× coded_ℕ pairs_code))) (coded× (coded_list (coded× (coded× id_code id_code) coded_ℕ)) (coded× coded_bool (coded× (coded_list proven_code) coded_ℕ)))))
+    (coded× (coded_list (coded× form_code entry_code)) (coded× (coded_list (coded× form_code (coded× coded_ℕ pairs_code))) (coded× (coded_list symmetry_code) (coded× coded_bool (coded× (coded_list proven_code) coded_ℕ)))))
     (λ k. (k.classes, (k.rows, (k.symmetries, (k.dropped, (k.proofs, k.moment))))))
     (λ p. record { classes = p.0; rows = p.1.0; symmetries = p.1.1.0; dropped = p.1.1.1.0; proofs = p.1.1.1.1.0; moment = p.1.1.1.1.1 }) (λ _. refl)
 
@@ -79,6 +82,10 @@ node_at k i = (class_at k i).0
 
 abbrev pub find_at : Kept → ℕ → Entry
 find_at k i = (class_at k i).1
+
+-- the slots of the class that a row files, one for each number of the shape
+abbrev pub names_at : Kept → ℕ → List (ℕ × ℕ)
+names_at k i = (slice_index_or k.rows i (no_form, (0, []))).1.1
 
 -- the canonical nodes without bound names
 abbrev pub nodes_of : Kept → List DTerm

@@ -11,7 +11,7 @@ ghost use Rattle.slotted_proofs.specs.Entries.{statement_at, explicit_numbers, t
 ghost use Rattle.slotted_proofs.specs.Steps.{IsReflexiveStep, IsSymmetricStep, IsTransitiveStep, AreEntries};
 ghost use Rattle.slotted_proofs.specs.Steps.{HasInjectiveSides, IsLarge, IsRefusal};
 ghost use Rattle.slotted_store.specs.Kept.{MakesClass, EntersIn, EntersAsserted, EntersBy, HasManySlots, text_bytes};
-ghost use Rattle.slotted_store.specs.Kept.{nothing, node_at, find_at, proofs_of, found, symmetry_entry};
+ghost use Rattle.slotted_store.specs.Kept.{nothing, node_at, find_at, names_at, proofs_of, found, symmetry_entry};
 ghost use Rattle.slotted_store.specs.Kept.{with_class, with_linked, with_fewer, with_listed, with_settled};
 
 use crate::names::{map_between, put_at_places};
@@ -130,6 +130,17 @@ impl<L: Language> Store<L> {
         ensures { option_map (λ r. (r.now.source.0, r.now.names)) result ≡ found self.now.rows (L.form shape.now) }
     {
         self.rows.get(shape)
+    }
+
+    /// The slots of the class that a row files, one for each number of the shape. The rows of classes stand in the order of their ids.
+    pub fn names_of(&self, id: usize) -> &SlotMap
+        requires { id < length self.now.rows }
+        ensures { result.now ≡ names_at self.now id }
+    {
+        match self.rows.get_index(id) {
+            Some((_, row)) => &row.names,
+            None => unreachable!(),
+        }
     }
 
     /// The listed symmetries, in the order in which they were met.

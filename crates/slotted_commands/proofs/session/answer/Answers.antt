@@ -13,3 +13,6 @@ returns-in-Unknown g c = unknown (sym c.in-Unknown.ensures) refl
 
 pub returns-in-Union : goal.returns-in-Union
 returns-in-Union g c = rw (c.to_answer-in-Union.ensures, sym c.in-Union.ensures) c.unite.ensures
+
+pub returns-in-Symmetries : goal.returns-in-Symmetries
+returns-in-Symmetries g c = rw (c.to_answer-in-Symmetries.ensures, sym c.in-Symmetries.ensures) c.count_symmetries.ensures

@@ -45,7 +45,7 @@ loop-k-preserved g t c =
     let l : c.loop-k.k < length us = omega (arith, c.loop-k-test.true, c.deref-child-items.ensures.len) in
     record {
       part = subst (λ (h : Form). IsPart c.args.store.now c.add_expr.new.table c.add_expr.new.store f h us (c.loop-k.k + 1)) (sym c.set_applied_id.ensures)
-          (part_step c.args.store.now c.requires.good.sound.canonical c.loop-k.table c.add_expr.new.table c.loop-k.store c.add_expr.new.store f (form c.loop-k.node) us n c.loop-k.k
+          (part_step c.args.store.now c.requires.good.stored.sane.sound.canonical c.loop-k.table c.add_expr.new.table c.loop-k.store c.add_expr.new.store f (form c.loop-k.node) us n c.loop-k.k
           (to_applied c.in_ok-answer.answer) c.child-item.result (g.met.L.LanguageChildren.fits c.loop-k.node) c.loop-k.invariant.part (omega (arith, l, n))
           (λ e. any_default us c.loop-k.k e c.child-item.result l ∙ sym c.child-item.is) c.in_ok-answer.ensures.ok);
       more = λ s h. c.add_expr.ensures.more s (c.loop-k.invariant.more s h);
@@ -73,7 +73,7 @@ returns-clause-ok g t c =
     let k : c.loop-k.k ≡ length us = omega (arith, c.loop-k-test.false, c.loop-k.auto.k-end, c.deref-child-items.ensures.len) in
     let a = to_applied c.in_ok-answer-2.answer in
     subst (λ (x : Term). AddsTerm c.add.new.table c.args.store.now c.add.new.store x a) view
-    (part_end c.args.store.now c.requires.good.sound.canonical c.loop-k.table c.add.new.table c.loop-k.store c.add.new.store f (form c.loop-k.node) us a (g.met.L.LanguageChildren.fits c.loop-k.node)
+    (part_end c.args.store.now c.requires.good.stored.sane.sound.canonical c.loop-k.table c.add.new.table c.loop-k.store c.add.new.store f (form c.loop-k.node) us a (g.met.L.LanguageChildren.fits c.loop-k.node)
     (subst (λ (i : ℕ). IsPart c.args.store.now c.loop-k.table c.loop-k.store f (form c.loop-k.node) us i) k c.loop-k.invariant.part) n c.in_ok-answer-2.ensures.ok)
 
 -- the slots of the children so far, and of the next one

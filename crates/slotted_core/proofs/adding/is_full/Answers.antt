@@ -1,28 +1,30 @@
 use Rattle.std.proofs.Common.{◌≡◌, ◌<◌, ◌∙◌, ap, arith, sym, subst, length}
 use Rattle.std.proofs.lemmas.Bool.{false≢true}
 use Rattle.slotted_theory.specs.FiniteMaps.{IsInjectiveMap}
-use Rattle.slotted_model.specs.Applied.{Applied}
 use Rattle.slotted_model.specs.Ascending.{ascending}
 use Rattle.slotted_slots.specs.Maps.{values}
 use Rattle.slotted_proofs.specs.Equations.{to_applied}
-use Rattle.slotted_store.specs.Kept.{find_at}
-use Rattle.slotted_core.proofs.FullIds.{find_differ, other_keys, full_iff}
+use Rattle.slotted_store.specs.Kept.{names_at}
+use Rattle.slotted_core.proofs.FullIds.{length-rows, row-differ, other_keys, full_iff}
 use Rattle.slotted_store.proofs.NameMaps.{all_differ-iff}
 use Rattle.slotted_core.proofs.adding.is_full.Goals as goal
 
+pub names_of-requires : goal.names_of-requires
+names_of-requires g c = omega (arith, length-rows c.args.store.now c.requires)
+
 pub values_are_keys-requires : goal.values_are_keys-requires
 values_are_keys-requires g c =
-    subst (λ (a : Applied). IsInjectiveMap a.1) (sym c.entry.ensures) (find_differ c.args.store.now c.requires c.args.a.now.id.0 (omega arith))
+    subst IsInjectiveMap (sym c.names_of.ensures) (row-differ c.args.store.now c.requires c.args.a.now.id.0 (omega arith))
 
 pub returns-then-not-values_are_keys : goal.returns-then-not-values_are_keys
 returns-then-not-values_are_keys g c =
-    let found : ascending (values c.entry.result.now.m) ≡ ascending (values (find_at c.args.store.now c.args.a.now.id.0).pairs) = ap (λ (a : Applied). ascending (values a.1)) c.entry.ensures in
+    let found : ascending (values c.names_of.result.now) ≡ ascending (values (names_at c.args.store.now c.args.a.now.id.0)) = ap (λ m. ascending (values m)) c.names_of.ensures in
     let l : c.args.a.now.id.0 < length c.args.store.now.classes = omega arith in
     (λ y. absurd (false≢true y), λ full. absurd (other_keys c.args.store.now c.requires (to_applied c.args.a.now) l (λ e. false≢true (sym c.if-not-values_are_keys.true ∙ c.values_are_keys.ensures.1 (e ∙ sym found))) full))
 
 pub returns : goal.returns
 returns g c =
-    let found : ascending (values c.entry.result.now.m) ≡ ascending (values (find_at c.args.store.now c.args.a.now.id.0).pairs) = ap (λ (a : Applied). ascending (values a.1)) c.entry.ensures in
+    let found : ascending (values c.names_of.result.now) ≡ ascending (values (names_at c.args.store.now c.args.a.now.id.0)) = ap (λ m. ascending (values m)) c.names_of.ensures in
     let l : c.args.a.now.id.0 < length c.args.store.now.classes = omega arith in
     let i = full_iff c.args.store.now c.requires (to_applied c.args.a.now) l (c.values_are_keys.ensures.0 c.if-not-values_are_keys.false ∙ found) in
     let d = all_differ-iff c.args.a.now.m in

@@ -27,7 +27,7 @@ syn_expr-requires g t c =
     let lt : c.loop-k.k < length (children f.tree) = omega (arith, c.loop-k-test.true, c.applied_id_count-k-end.ensures) in
     let is = ap to_applied c.in_ok-child.ensures.ok ∙ child_is f c.loop-k.k (0, []) (to_applied c.applied_id.result.now) lt c.applied_id.ensures.id c.applied_id.ensures.keys c.applied_id.ensures.names in
     let below : IsBelow nodes a.0 (to_applied c.in_ok-child.child) = subst (IsBelow nodes a.0) (sym is)
-    (children-below nodes c.requires.good.sound.canonical a c.requires.full f (g.met.L.LanguageChildren.fits c.in_ok-node.node) c.in_ok-node.ensures.node c.loop-k.k (0, []) lt) in
+    (children-below nodes c.requires.good.stored.sane.sound.canonical a c.requires.full f (g.met.L.LanguageChildren.fits c.in_ok-node.node) c.in_ok-node.ensures.node c.loop-k.k (0, []) lt) in
     λ κs h. (omega (arith, below.0, c.decreases), (search rules, (c.requires.good, below.1)))
 
 pub loop-k-preserved : goal.loop-k-preserved
@@ -62,7 +62,7 @@ returns-clause-term g t c =
     let form = g.L.LanguageChildren.form in
     let us = c.loop-k.children.items in
     let n : length us ≡ length (children (form c.in_ok-node.node).tree) = omega (arith, c.loop-k.invariant.count, c.loop-k-test.false, c.loop-k.auto.k-end, c.applied_id_count-k-end.ensures) in
-    canonical-term nodes c.requires.good.sound.canonical (to_applied c.args.a.now) c.requires.full (form c.in_ok-node.node) (form c.forget_children.new.node) (g.met.L.LanguageChildren.fits c.in_ok-node.node) c.in_ok-node.ensures.node
+    canonical-term nodes c.requires.good.stored.sane.sound.canonical (to_applied c.args.a.now) c.requires.full (form c.in_ok-node.node) (form c.forget_children.new.node) (g.met.L.LanguageChildren.fits c.in_ok-node.node) c.in_ok-node.ensures.node
     c.forget_children.ensures us n (λ j d e lt. c.loop-k.invariant.terms j d e (omega (arith, lt, c.loop-k.invariant.count)))
 
 pub returns-in_err-node-clause-full : goal.returns-in_err-node-clause-full

@@ -50,7 +50,7 @@ returns-clause-children g c =
     let lt : a.0 < length k.classes = omega (arith, c.requires.full.in_range, length-nodes_of k) in
     let is = ap nameless_node c.node_of.ensures ∙ node_at-is k a.0 lt in
     IfOk-weaker c.apply_slotmap.result _ (λ n. All (IsFull (nodes_of k)) (child_ids (form n)))
-    (λ n e. children-full (nodes_of k) c.requires.good.sound.canonical a c.requires.full (form n) (g.met.L.LanguageChildren.fits n) (e ∙ ap (moved (filled a.1)) is)) c.apply_slotmap.ensures.renamed
+    (λ n e. children-full (nodes_of k) c.requires.good.stored.sane.sound.canonical a c.requires.full (form n) (g.met.L.LanguageChildren.fits n) (e ∙ ap (moved (filled a.1)) is)) c.apply_slotmap.ensures.renamed
 
 pub returns-clause-small : goal.returns-clause-small
 returns-clause-small g c =

@@ -1,62 +1,55 @@
-use Rattle.std.proofs.Common.{◌∙◌, refl, sym}
-use Rattle.std.proofs.lemmas.Bool.{false≢true}
-use Rattle.slotted_model.specs.Find.{find}
-use Rattle.slotted_store.specs.Kept.{entries_of}
+use Rattle.std.proofs.Common.{◌∙◌, rules}
+use Rattle.slotted_store.specs.Kept.{nodes_of, text_bytes}
+use Rattle.slotted_proofs.specs.Entries.{asserted_entry}
 use Rattle.slotted_proofs.specs.Equations.{to_applied}
-use Rattle.slotted_core.proofs.UnionSteps.{agrees, found-alike, not-alike, one-class, can-names}
-use Rattle.slotted_core.proofs.GoodFinds.{full-findable}
+use Rattle.slotted_core.proofs.Asserting.{IsAsserted, is_asserted}
+use Rattle.slotted_core.proofs.GoodFinds.{good-finds, full-findable}
+use Rattle.slotted_core.proofs.Unions.{unites-all, large-class, large-side}
 use Rattle.slotted_core.proofs.uniting.union.Goals as goal
 
-pub returns-then-eq-clause-ok : goal.returns-then-eq-clause-ok
-returns-then-eq-clause-ok g c =
-    let k = c.args.store.now in
-    let a = to_applied c.args.l.now in
-    let b = to_applied c.args.r.now in (
-      found-alike k c.requires.good a b c.requires.left c.requires.right (find (entries_of k) a) (find (entries_of k) b) refl refl (c.eq.ensures.0 c.if-eq.true),
-      agrees k c.requires.good a b c.assert_sides.new.store _ c.in_ok-assert_sides.field-0 c.in_ok-assert_sides.ensures.ok,
-    )
+pub eq-found_alike-requires-clause-good : goal.eq-found_alike-requires-clause-good
+eq-found_alike-requires-clause-good g c = good-finds c.args.store.now c.requires.good
 
-pub returns-then-not-branch-clause-ok : goal.returns-then-not-branch-clause-ok
-returns-then-not-branch-clause-ok g c =
-    let k = c.args.store.now in
-    let a = to_applied c.args.l.now in
-    let b = to_applied c.args.r.now in (
-      not-alike k c.requires.good a b c.requires.left c.requires.right (find (entries_of k) a) (find (entries_of k) b) refl refl (λ e. false≢true (sym c.if-eq.false ∙ c.eq.ensures.1 e)),
-      λ can. false≢true (sym c.if-not-branch.true ∙ c.in_ok-can_link.ensures.ok.1 can),
-      refl,
-    )
+pub eq-found_alike-requires-clause-left : goal.eq-found_alike-requires-clause-left
+eq-found_alike-requires-clause-left g c = full-findable c.args.store.now c.requires.good (to_applied c.args.l.now) c.requires.left
 
-pub link-requires-clause-different : goal.link-requires-clause-different
-link-requires-clause-different g c =
-    let k = c.args.store.now in
-    let a = to_applied c.args.l.now in
-    let b = to_applied c.args.r.now in
-    λ e. one-class k c.requires.good a b c.requires.left c.requires.right (find (entries_of k) a) (find (entries_of k) b) refl refl (sym e) (c.in_ok-can_link.ensures.ok.0 c.if-not-branch.false)
+pub eq-found_alike-requires-clause-right : goal.eq-found_alike-requires-clause-right
+eq-found_alike-requires-clause-right g c = full-findable c.args.store.now c.requires.good (to_applied c.args.r.now) c.requires.right
 
-pub link-requires-clause-names : goal.link-requires-clause-names
-link-requires-clause-names g c =
+pub unite-requires-clause-good : goal.unite-requires-clause-good
+unite-requires-clause-good g c =
+    (is_asserted c.args.store.now c.requires.good (to_applied c.args.l.now) (to_applied c.args.r.now) c.requires.left c.requires.right (text_bytes c.args.text) c.assert_equal.new.self c.in_ok-p.p c.in_ok-p.ensures.ok).stored
+
+pub unite-requires-clause-within : goal.unite-requires-clause-within
+unite-requires-clause-within g c =
+    (is_asserted c.args.store.now c.requires.good (to_applied c.args.l.now) (to_applied c.args.r.now) c.requires.left c.requires.right (text_bytes c.args.text) c.assert_equal.new.self c.in_ok-p.p c.in_ok-p.ensures.ok).in_range
+
+pub settle_all-requires : goal.settle_all-requires
+settle_all-requires g c = record { good = c.in_ok-unite.ensures.ok.stored }
+
+pub returns-clause-ok : goal.returns-clause-ok
+returns-clause-ok g c =
     let k = c.args.store.now in
     let a = to_applied c.args.l.now in
     let b = to_applied c.args.r.now in
-    let n = can-names k c.requires.good a b c.requires.left c.requires.right (find (entries_of k) a) (find (entries_of k) b) refl refl (c.in_ok-can_link.ensures.ok.0 c.if-not-branch.false) in
-    λ x. ((n x).1, (n x).0)
+    let text = text_bytes c.args.text in
+    let said : IsAsserted k c.assert_equal.new.self (asserted_entry a b text) a b c.in_ok-p.p = is_asserted k c.requires.good a b c.requires.left c.requires.right text c.assert_equal.new.self c.in_ok-p.p c.in_ok-p.ensures.ok in
+    unites-all k c.requires.good a b c.requires.left c.requires.right (asserted_entry a b text) c.assert_equal.new.self c.in_ok-p.p said c.unite.new.store c.in_ok-unite.ensures.ok c.settle_all.new.store c.in_ok-settle_all.ensures.ok c.eq-found_alike.result c.eq-found_alike.ensures
 
-pub link-requires-2-clause-different : goal.link-requires-2-clause-different
-link-requires-2-clause-different g c =
+-- a class that is too large was so
+
+pub returns-in_err-p-clause-full : goal.returns-in_err-p-clause-full
+returns-in_err-p-clause-full g c e =
+    large-side (nodes_of c.args.store.now) (to_applied c.args.l.now) (to_applied c.args.r.now) c.requires.left c.requires.right (c.in_err-p.ensures.full (search rules))
+
+pub returns-in_err-unite-clause-full : goal.returns-in_err-unite-clause-full
+returns-in_err-unite-clause-full g c e =
     let k = c.args.store.now in
-    let a = to_applied c.args.l.now in
-    let b = to_applied c.args.r.now in
-    λ e. one-class k c.requires.good a b c.requires.left c.requires.right (find (entries_of k) a) (find (entries_of k) b) refl refl e (c.in_ok-can_link.ensures.ok.0 c.if-not-branch.false)
+    let said = is_asserted k c.requires.good (to_applied c.args.l.now) (to_applied c.args.r.now) c.requires.left c.requires.right (text_bytes c.args.text) c.assert_equal.new.self c.in_ok-p.p c.in_ok-p.ensures.ok in
+    large-class k c.assert_equal.new.self said.grows.nodes (c.in_err-unite.ensures.full (search rules))
 
-pub link-requires-2-clause-names : goal.link-requires-2-clause-names
-link-requires-2-clause-names g c =
+pub returns-in_err-settle_all-clause-full : goal.returns-in_err-settle_all-clause-full
+returns-in_err-settle_all-clause-full g c e =
     let k = c.args.store.now in
-    let a = to_applied c.args.l.now in
-    let b = to_applied c.args.r.now in
-    can-names k c.requires.good a b c.requires.left c.requires.right (find (entries_of k) a) (find (entries_of k) b) refl refl (c.in_ok-can_link.ensures.ok.0 c.if-not-branch.false)
-
-pub eq-requires-clause-left : goal.eq-requires-clause-left
-eq-requires-clause-left g c = full-findable c.args.store.now c.requires.good (to_applied c.args.l.now) c.requires.left
-
-pub eq-requires-clause-right : goal.eq-requires-clause-right
-eq-requires-clause-right g c = full-findable c.args.store.now c.requires.good (to_applied c.args.r.now) c.requires.right
+    let said = is_asserted k c.requires.good (to_applied c.args.l.now) (to_applied c.args.r.now) c.requires.left c.requires.right (text_bytes c.args.text) c.assert_equal.new.self c.in_ok-p.p c.in_ok-p.ensures.ok in
+    large-class k c.unite.new.store (c.in_ok-unite.ensures.ok.grows.nodes ∙ said.grows.nodes) (c.in_err-settle_all.ensures.full (search rules))

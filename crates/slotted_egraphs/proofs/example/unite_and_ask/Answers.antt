@@ -1,18 +1,19 @@
--- Each call is handed what the calls before it answered, which the graph still takes; and after a union its sides find alike.
+-- Each call is handed what the calls before it answered, which the graph still takes; and after a union its sides find alike where no
+-- symmetry is open.
 use Rattle.std.proofs.Common.{inl, inr}
 use Rattle.std.proofs.lemmas.Bool.{false≢true}
 use Rattle.std.specs.Prelude.{Bool, Result, Ok, Err, IsTrue, IfOk, ◌↔◌}
 use Rattle.slotted_slots.specs.declared.error.Error.{Error}
 use Rattle.slotted_egraphs.specs.Applied.{Applied}
-use Rattle.slotted_egraphs.specs.Image.{Image, FoundAlike}
+use Rattle.slotted_egraphs.specs.Image.{Image, FoundAlike, IsUnion, AreClosed}
 use Rattle.slotted_egraphs.specs.Nodes.{to_applied}
-use Rattle.slotted_egraphs.proofs.CallerLemmas.{can_add, can_ask, can_ask_united, union_alike}
+use Rattle.slotted_egraphs.proofs.CallerLemmas.{can_add, can_ask, can_ask_united, yes_if_closed}
 use Rattle.slotted_egraphs.proofs.example.unite_and_ask.Goals as goal
 
--- where ids find alike, an answer that says whether they do is yes
-yes_if : (h : Image) (a b : Applied) (r : Result Bool Error) → IfOk r (λ yes. IsTrue yes ↔ FoundAlike h a b) → FoundAlike h a b → IfOk r IsTrue
-yes_if h a b (Ok answer) e f = e.1 f
-yes_if h a b (Err error) e f = tt
+-- where no symmetry is open, an answer that says whether the sides of a union find alike is yes
+yes_once_united : (g h : Image) (a b : Applied) (y : Bool) → IsUnion g h a b y → (r : Result Bool Error) → IfOk r (λ yes. IsTrue yes ↔ FoundAlike h a b) → IfOk r (λ yes. AreClosed h → IsTrue yes)
+yes_once_united g h a b y u (Ok answer) says = yes_if_closed g h a b y u answer says
+yes_once_united g h a b y u (Err error) says = tt
 
 pub add_expr-requires : goal.add_expr-requires
 add_expr-requires g c = can_add c.parse_expr.new.self c.parse_expr-2.new.self c.in_ok-left.left c.in_ok-right.ensures.reads.more c.in_ok-left.ensures.valid
@@ -48,4 +49,4 @@ pub returns : goal.returns
 returns g c =
     let a = to_applied c.in_ok-left-2.left in
     let b = to_applied c.in_ok-right-2.right in
-    yes_if c.union.new.self.image a b c.eq.result c.eq.ensures.found (union_alike c.add_expr-2.new.self.image c.union.new.self.image a b c.in_ok-union.field-0 c.in_ok-union.ensures.union)
+    yes_once_united c.add_expr-2.new.self.image c.union.new.self.image a b c.in_ok-union.field-0 c.in_ok-union.ensures.union c.eq.result c.eq.ensures.found

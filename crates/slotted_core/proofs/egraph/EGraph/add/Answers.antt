@@ -28,7 +28,7 @@ returns-clause-valid g c =
 pub returns-clause-term : goal.returns-clause-term
 returns-clause-term g c =
     let adds = c.in_ok-id.ensures.ok in
-    answer_term (nodes_of c.add.new.store) (g.L.LanguageChildren.form c.args.node) (to_applied c.in_ok-id.id) adds.found adds.good.sound.canonical
+    answer_term (nodes_of c.add.new.store) (g.L.LanguageChildren.form c.args.node) (to_applied c.in_ok-id.id) adds.found adds.good.stored.sane.sound.canonical
 
 pub add-requires-clause-fresh_slots : goal.add-requires-clause-fresh_slots
 add-requires-clause-fresh_slots g c = elim c.self.invariant [

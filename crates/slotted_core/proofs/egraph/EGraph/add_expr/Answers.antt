@@ -20,13 +20,13 @@ returns-clause-valid g c =
     ] in
     record {
       full = adds.full;
-      known = λ k d l. c.add_expr.ensures.more _ (term_known (nodes_of c.add_expr.new.store) adds.good.sound.canonical (to_applied c.in_ok-answer.answer) adds.full c.args.term.now adds.term c.self.inside.table valid.known k d l);
+      known = λ k d l. c.add_expr.ensures.more _ (term_known (nodes_of c.add_expr.new.store) adds.good.stored.sane.sound.canonical (to_applied c.in_ok-answer.answer) adds.full c.args.term.now adds.term c.self.inside.table valid.known k d l);
     }
 
 pub returns-clause-found : goal.returns-clause-found
 returns-clause-found g c =
     let adds = c.in_ok-answer.ensures.ok in
-    (id_of-iff (nodes_of c.add_expr.new.store) adds.good.sound.canonical (nameless c.args.term.now) (to_applied c.in_ok-answer.answer)).1 (adds.full, adds.term)
+    (id_of-iff (nodes_of c.add_expr.new.store) adds.good.stored.sane.sound.canonical (nameless c.args.term.now) (to_applied c.in_ok-answer.answer)).1 (adds.full, adds.term)
 
 pub add_expr-requires-clause-fresh_slots : goal.add_expr-requires-clause-fresh_slots
 add_expr-requires-clause-fresh_slots g c = elim c.self.invariant [

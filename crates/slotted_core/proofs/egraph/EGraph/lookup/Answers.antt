@@ -26,7 +26,7 @@ returns-clause-term g c =
     let h : Graph = c.args.self.now in
     let can : Canonical h.image.canonical = elim c.self.invariant [
       | inl e ↦ absurd (false≢true (sym c.if-self.false ∙ e))
-      | inr v ↦ subst (λ (x : Graph). Canonical x.image.canonical) c.self.view_is v.0.sound.canonical
+      | inr v ↦ subst (λ (x : Graph). Canonical x.image.canonical) c.self.view_is v.0.stored.sane.sound.canonical
     ] in
     IfOk-weaker c.lookup.result _ (λ (o : Option AppliedId). IfSome o (λ a. StandsForNode h (to_applied a) f))
     (λ o e. looked_up-term h f can o (e ∙ ap (λ (x : Graph). id_of_form x f) c.self.view_is)) c.lookup.ensures.ok

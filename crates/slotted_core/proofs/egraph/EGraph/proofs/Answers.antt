@@ -10,7 +10,7 @@ use Rattle.slotted_core.proofs.egraph.EGraph.proofs.Goals as goal
 pub returns-clause-earlier : goal.returns-clause-earlier
 returns-clause-earlier g c = elim c.self.invariant [
   | inl h ↦ inl (sym (ap (λ (x : Graph). x.failed) c.self.view_is) ∙ h)
-  | inr h ↦ inr (subst PartsAreEarlier (ap (λ (x : Graph). x.image.stored) c.self.view_is) (parts_earlier (nodes_of c.self.inside.store) c.self.inside.store.proofs h.0.proved))
+  | inr h ↦ inr (subst PartsAreEarlier (ap (λ (x : Graph). x.image.stored) c.self.view_is) (parts_earlier (nodes_of c.self.inside.store) c.self.inside.store.proofs h.0.stored.proved))
 ]
 
 pub returns-clause-leaves : goal.returns-clause-leaves

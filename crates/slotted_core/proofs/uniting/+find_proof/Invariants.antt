@@ -1,5 +1,0 @@
-use Rattle.slotted_store.proofs.Chasing.{moments_left}
-use Rattle.slotted_core.proofs.uniting.+find_proof.Given as goal
-
-abbrev pub decreases-find_proof : goal.decreases-find_proof
-decreases-find_proof g l = moments_left l.store.now l.id
