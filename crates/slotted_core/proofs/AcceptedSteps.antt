@@ -4,24 +4,22 @@ use Rattle.std.specs.Prelude.{slice_index_or, map, Bool, Result, Ok, Err, IfOk, 
 use Rattle.std.proofs.lemmas.List.{map-append}
 use Rattle.slotted_slots.specs.declared.error.Error.{Error}
 use Rattle.slotted_slots.specs.declared.error.Error.TheVariants.{BadStep}
-use Rattle.slotted_slots.specs.Table.{Table, numeric_slot}
+use Rattle.slotted_slots.specs.Table.{Table}
 use Rattle.slotted_theory.specs.Nameless.{DTerm}
 use Rattle.slotted_theory.specs.Derives.{Equal}
 use Rattle.slotted_theory.specs.FiniteMaps.{IsInjectiveMap, with_values}
 use Rattle.slotted_theory.proofs.Backward.{Equal-derives}
 use Rattle.slotted_model.specs.Applied.{Applied, keys}
 use Rattle.slotted_model.specs.Classes.{canonical_slots, term_of, IsFull}
-use Rattle.slotted_model.specs.Correspondence.{AllDifferent, IsFullMap, IsPartialInjection, IsNumberedForm, numbered, same_names}
+use Rattle.slotted_model.specs.Correspondence.{AllDifferent, IsFullMap}
 use Rattle.slotted_model.specs.ProofList.{Equation, Step, explicit, reflexive, symmetric, transitive, congruent, equation_of, equation_at, IsOver, HoldsFrom, asserted}
-use Rattle.slotted_model.proofs.Correspondences.FullIds.{full_map, slots-different}
-use Rattle.slotted_model.proofs.Correspondences.FullMaps.{with_values-keys, with_values-full, same_names-with_values}
-use Rattle.slotted_model.proofs.Correspondences.Numbers.{numbered-form}
+use Rattle.slotted_model.proofs.Correspondences.FullMaps.{with_values-keys}
 use Rattle.slotted_model.proofs.FindProofs.{proved-holds}
 use Rattle.slotted_model.proofs.Steps.{Equal-between}
 use Rattle.slotted_proofs.specs.declared.equation.Equation.{Equation as Sides}
-use Rattle.slotted_proofs.specs.Equations.{Statement, to_applied, statement_of, numbered_left, numbered_right, AreSides}
+use Rattle.slotted_proofs.specs.Equations.{Statement, to_applied, statement_of}
 use Rattle.slotted_proofs.specs.Entries.{Proven, entry_of, statement_at}
-use Rattle.slotted_proofs.specs.Proving.{IsCanonical, IsProvable, IsProved}
+use Rattle.slotted_proofs.specs.Proving.{IsCanonical, IsProvable}
 use Rattle.slotted_proofs.specs.StepClaims.{IsOfFull}
 use Rattle.slotted_proofs.specs.Steps.{IsEntry, IsReflexiveStep, IsSymmetricStep, IsTransitiveStep, by_step}
 use Rattle.slotted_proofs.proofs.Entering.{entry-over, others_assert_nothing}
@@ -35,38 +33,10 @@ use Rattle.slotted_core.specs.Image.{AreDerivable}
 use Rattle.slotted_core.specs.Leaves.{FollowsFromLeaves}
 use Rattle.slotted_store.specs.Kept.{Kept, nodes_of, proofs_of, with_proofs, EntersIn}
 use Rattle.slotted_core.specs.Good.{image_of, Good, HasFreshSlots}
+use Rattle.slotted_unions.proofs.JoinedIds.{own_map, written_sides}
 use Rattle.slotted_core.proofs.GoodFinds.{entering-good}
 use Rattle.slotted_core.proofs.LeavesOf.{good-entries_follow}
 use Rattle.slotted_store.proofs.KeptLists.{equation_at-of, length-proofs_of}
-
--- a full id has a full map over its own keys
-own_map : (nodes : List DTerm) (a : Applied) → IsFull nodes a → IsFullMap (keys a.1) a.1
-own_map nodes a f = subst (λ K. IsFullMap K a.1) (sym f.slots) (full_map nodes a f)
-
--- the statement of an entry has a written form
-written_sides : (nodes : List DTerm) (list : List Proven) → IsProved nodes list → (p : ℕ) → p < length list → (c : Applied) × (d : Applied) × AreSides (statement_at list p) c d
-written_sides nodes list proved p l =
-    let s : Statement = statement_at list p in
-    let o : IsOver nodes s.equation = entry-over nodes list proved p l in
-    let c : IsCanonical nodes s = proved.canonical p l in
-    let pairs : IsPartialInjection s.left_slots s.right_slots s.equation.pairs =
-    subst (λ P. IsPartialInjection P s.right_slots s.equation.pairs) (sym c.left) (subst (λ Q. IsPartialInjection (canonical_slots nodes s.equation.left) Q s.equation.pairs) (sym c.right) o.pairs) in
-    let form : IsNumberedForm s.left_slots s.right_slots s.equation.pairs (numbered s.left_slots s.right_slots s.equation.pairs).0 (numbered s.left_slots s.right_slots s.equation.pairs).1 =
-    numbered-form s.left_slots s.right_slots s.equation.pairs (subst AllDifferent (sym c.left) (slots-different nodes s.equation.left)) (subst AllDifferent (sym c.right) (slots-different nodes s.equation.right)) pairs in
-    let left : IsFullMap s.left_slots (numbered_left s.left_slots s.right_slots s.equation.pairs) = with_values-full numeric_slot s.left_slots (numbered s.left_slots s.right_slots s.equation.pairs).0 form.left (λ x y a b q. omega arith) in
-    let right : IsFullMap s.right_slots (numbered_right s.left_slots s.right_slots s.equation.pairs) = with_values-full numeric_slot s.right_slots (numbered s.left_slots s.right_slots s.equation.pairs).1 form.right (λ x y a b q. omega arith) in
-    let shared : same_names (numbered_left s.left_slots s.right_slots s.equation.pairs) (numbered_right s.left_slots s.right_slots s.equation.pairs) ≡ s.equation.pairs =
-    same_names-with_values numeric_slot s.left_slots s.right_slots (numbered s.left_slots s.right_slots s.equation.pairs).0 (numbered s.left_slots s.right_slots s.equation.pairs).1 form.left form.right (λ x y a b q. omega arith) ∙ form.correspondence in (
-      (s.equation.left, numbered_left s.left_slots s.right_slots s.equation.pairs),
-      (s.equation.right, numbered_right s.left_slots s.right_slots s.equation.pairs),
-      record {
-        left = refl;
-        right = refl;
-        left_full = left;
-        right_full = right;
-        equation = λ i. record { left = s.equation.left; right = s.equation.right; pairs = shared i };
-      },
-    )
 
 module _ (k : Kept) (good : Good k) where
   abbrev ns : List DTerm

@@ -18,6 +18,7 @@ pub mod Asserting
 pub mod Symmetries
 pub mod LiveSizes
 pub mod Unions
+pub mod ExplainedTerms
 pub mod Children
 pub mod FreshCanonicalNodes
 pub mod NodeAddition

@@ -13,3 +13,4 @@ pub mod Good
 pub mod SmallNodes
 pub mod Frames
 pub mod Syn
+pub mod Explaining

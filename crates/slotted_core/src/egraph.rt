@@ -34,6 +34,7 @@ use std::alloc::Global;
 use std::marker::Model;
 
 mod canonical;
+mod explanations;
 mod patterns;
 
 /// A graph of terms with binders, up to alpha-equality.

@@ -6,6 +6,7 @@ mod adding;
 mod checking;
 mod congruence;
 pub mod egraph;
+mod explaining;
 mod names;
 mod syn;
 mod terms;

@@ -22,5 +22,6 @@ pub use Rattle.slotted_core.specs.Image
 pub use Rattle.slotted_core.specs.Nodes
 pub use Rattle.slotted_core.specs.Checks
 pub use Rattle.slotted_core.specs.Leaves
+pub use Rattle.slotted_core.specs.Explaining
 -- what a caller of its own says
 pub mod Filed

@@ -11,3 +11,4 @@ pub mod UniteSteps
 pub mod OneClass
 pub mod NewSymmetries
 pub mod AlikeSides
+pub mod JoinedIds

@@ -5,7 +5,8 @@
 use Rattle.std.specs.Prelude.{◌≡◌, ◌^◌, ℕ, ◌<◌, ◌≤◌, List, ◌++◌, length}
 use Rattle.slotted_model.specs.Changes.{ProofsGrow, found_entry}
 use Rattle.slotted_model.specs.Classes.{canonical_slots}
-use Rattle.slotted_model.specs.ProofList.{Equation, find_equation, turned_equation}
+use Rattle.slotted_model.specs.Applied.{Applied}
+use Rattle.slotted_model.specs.ProofList.{Equation, equation_of, find_equation, turned_equation}
 use Rattle.slotted_proofs.specs.Entries.{Proven, statement_at}
 use Rattle.slotted_store.specs.Kept.{Kept, nodes_of, entries_of, proofs_of, with_proofs}
 use Rattle.slotted_unions.specs.StateOf.{state_of}
@@ -35,6 +36,10 @@ ProvesBack k l i p = Proves k l (turned_equation (nodes_of k) (find_equation (no
 -- the equation of what the entry p says of the classes that its sides find
 abbrev pub ProvesFound : Kept → Kept → ℕ → ℕ → Type 0
 ProvesFound k l p q = Proves k l (found_entry (state_of k) p) q
+
+-- the equation of two ids
+abbrev pub ProvesEqual : Kept → Kept → Applied → Applied → ℕ → Type 0
+ProvesEqual k l a b p = Proves k l (equation_of a b) p
 
 abbrev pub HasLargeClass : Kept → Type 0
 HasLargeClass k = (i : ℕ) × (i < length k.classes) × (2 ^ 29 ≤ length (canonical_slots (nodes_of k) i))

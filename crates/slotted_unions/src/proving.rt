@@ -1,12 +1,16 @@
-//! Proofs of what finds say, and of what an entry says of the classes that its sides find.
+//! Proofs of what finds say, of what an entry says of the classes that its sides find, and of two ids that find alike.
 ghost use Rattle.std.specs.Prelude.{◌<◌, length, IfOk, IfErr, IsErrOf};
 ghost use Rattle.slotted_slots.specs.Error.{IsShortage};
-ghost use Rattle.slotted_unions.specs.Proving.{ProvesFind, ProvesBack, ProvesFound, HasLargeClass};
+ghost use Rattle.slotted_model.specs.Classes.{IsFull};
+ghost use Rattle.slotted_proofs.specs.Equations.{to_applied};
+ghost use Rattle.slotted_store.specs.Finding.{FindAlike};
+ghost use Rattle.slotted_store.specs.Kept.{nodes_of, entries_of};
+ghost use Rattle.slotted_unions.specs.Proving.{ProvesFind, ProvesBack, ProvesFound, ProvesEqual, HasLargeClass};
 ghost use Rattle.slotted_unions.specs.Stored.{Stored};
 
 use slotted_languages::Language;
-use slotted_proofs::ProvenEq;
-use slotted_slots::Error;
+use slotted_proofs::{Equation, ProvenEq};
+use slotted_slots::{AppliedId, Error};
 use slotted_store::Store;
 use std::alloc::Global;
 
@@ -67,5 +71,30 @@ pub fn found_proof<L: Language>(
     let onward = find_proof(store, alloc, right)?;
     let half = store.chain(alloc, back, p)?;
     let answer = store.chain(alloc, half, onward)?;
+    Ok(answer)
+}
+
+/// The proof that two full ids which find alike are equal: along the find of the one, and back along that of the other.
+pub fn bridge<L: Language>(
+    store: &mut Store<L>,
+    alloc: Global,
+    a: &AppliedId,
+    b: &AppliedId,
+) -> Result<ProvenEq, Error>
+    requires good { Stored store.old }
+    requires left { IsFull (nodes_of store.old) (to_applied a.now) }
+    requires right { IsFull (nodes_of store.old) (to_applied b.now) }
+    requires alike { FindAlike (entries_of store.old) (to_applied a.now) (to_applied b.now) }
+    ensures ok { IfOk result (ProvesEqual store.old store.new (to_applied a.now) (to_applied b.now)) }
+    ensures full { IsErrOf result Error.OutOfSlots → HasLargeClass store.old }
+    ensures err { IfErr result IsShortage }
+{
+    let back = back_proof(store, alloc, b.id.0)?;
+    let onward = find_proof(store, alloc, a.id.0)?;
+    let equation = Equation {
+        l: a.copy(alloc)?,
+        r: b.copy(alloc)?,
+    };
+    let answer = store.prove_transitive(alloc, &equation, onward, back)?;
     Ok(answer)
 }
