@@ -65,6 +65,7 @@ fn told<L: Language>(
         ("number", ask) => steps::numbered(graph, known, ask),
         ("entry", ask) => proofs::told(alloc, graph, known, ask),
         ("node", ask) => nodes::answer(alloc, graph, other, ask, texts),
+        ("explain", _) => steps::explained(graph, known, texts),
         _ => asked_of_texts(alloc, graph, known, ask, texts),
     }
 }

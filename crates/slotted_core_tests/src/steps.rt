@@ -115,6 +115,23 @@ pub fn answer<L: Language>(
     }
 }
 
+// Explains why the two terms that `T == U` writes are equal. The number of the entry is known from now on.
+pub fn explained<L: Language>(
+    graph: &mut EGraph<L>,
+    known: &mut Vec<ProvenEq>,
+    texts: &str,
+) -> Result<&'static str, Error> {
+    let (left, right) = parted(texts, " == ");
+    let left = graph.parse_expr(left)?;
+    let right = graph.parse_expr(right)?;
+    if graph.is_valid_expr(&left) && graph.is_valid_expr(&right) {
+        let p = graph.explain_equivalence(&left, &right)?;
+        known.push(p)?;
+        return Ok("explained");
+    }
+    Err(Error::NotATerm)
+}
+
 // Whether the number that a digit names is that of the last entry, of the next one, of the third one or a later one, or valid.
 pub fn numbered<L: Language>(
     graph: &EGraph<L>,

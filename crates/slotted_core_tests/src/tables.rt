@@ -160,6 +160,34 @@ fn unions_are_entered(rt: HostRuntime) -> Result<(), Error> {
     check_tables::<Small>(&rt, rt.alloc(), &[UNITED, DROPPED, JUSTIFIED])
 }
 
+// An explanation goes through unions, in either direction. Where there is none, the graph has not failed.
+const EXPLAINED: &str = "union: x1 == x2 => yes
+union: x3 == x4 => yes
+explain: x1 == x4 => NotEqual
+union: x2 == x3 => yes
+explain: x1 == x4 => explained
+number 0 last => yes
+explain: x4 == x1 => explained
+count asserted => 3
+explain: (var $x) == (var $y) => NotEqual
+graph failed => no";
+
+// It goes through names that a class has lost.
+const LOST: &str = "union: (app (var $0) x) == y => yes
+explain: (app (var $0) x) == (app (var $1) x) => explained
+explain: (app (var $0) x) == y => explained
+explain: (app (var $0) x) == x => NotEqual
+count asserted => 1";
+
+const SWAPPED: &str = "union: (app (var $0) (var $1)) == x => yes
+explain: (app (var $0) (var $1)) == (app (var $1) (var $0)) => explained
+count asserted => 1";
+
+#[test]
+fn equal_terms_are_explained(rt: HostRuntime) -> Result<(), Error> {
+    check_tables::<Small>(&rt, rt.alloc(), &[EXPLAINED, LOST, SWAPPED])
+}
+
 // There has to be a part for each child, in their order, and a turned equation is another one.
 const IN_ORDER: &str = "reflexive: (app a c) == (app b d) => BadStep
 assert: a == b => accepted
