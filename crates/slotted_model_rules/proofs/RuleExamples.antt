@@ -38,13 +38,13 @@ use Rattle.slotted_model_rules.proofs.Calling.{calls-enter}
 use Rattle.slotted_model_rules.proofs.Applying.{applies-extend, held-applied, entries-come, saturated}
 
 -- ?x is an id with the name 8; the slot 7 is free in it, the slot 8 is not, and ?y has no value
-abbrev one_value : Values
+abbrev pub one_value : Values
 one_value = ((120 ∷ []), (0, (0, 8) ∷ [])) ∷ []
 
-abbrev free_in_x : ℕ → Condition
+abbrev pub free_in_x : ℕ → Condition
 free_in_x s = slot_free_in s (120 ∷ [])
 
-abbrev free_in_y : Condition
+abbrev pub free_in_y : Condition
 free_in_y = slot_free_in 7 (121 ∷ [])
 
 slots_free : (holds (free_in_x 7) one_value nothing ≡ Some true) × (holds (free_in_x 8) one_value nothing ≡ Some false) × (holds free_in_y one_value nothing ≡ None)
@@ -61,7 +61,7 @@ is_asked : (holds (either (free_in_x 8) free_in_y) one_value nothing ≡ None) �
 is_asked = (refl, refl, refl, refl)
 
 -- a and b are of different classes: a test of the caller's own that asks the graph
-abbrev apart : Condition
+abbrev pub apart : Condition
 apart = own (λ s g. Some (not (nat_eq (find_class g.found 0) (find_class g.found 1))))
 
 abbrev word : ℕ → Pattern
