@@ -27,6 +27,8 @@ pub mod RunnerExamples
 pub mod RuleExamples
 pub mod ConditionExamples
 pub mod LookUpExamples
+pub mod AnswerExamples
+pub mod CallExamples
 pub mod Rewriting
 pub mod Searching
 pub mod Laws

@@ -45,7 +45,7 @@ exchanged_outside =
     lam_a
 
 -- the term (lam $7 (f $8 $7)) as a pattern is looked up as the term
-abbrev lam_f : Term
+abbrev pub lam_f : Term
 lam_f = named_node 5 [] (bind 7 (named_before (named_node 3 [] (name 8 (name 7 done))) done) done)
 
 looked_up_as_term : look_up_pattern graph (λ y. y) f_8 (pattern_of lam_f) ≡ Some (2, (3, 8) ∷ [])
@@ -82,10 +82,10 @@ filled_by_12 = record {
     differ (inl e) = omega arith
     differ (inr k) = k
 
-abbrev filled_lam : DTerm
+abbrev pub filled_lam : DTerm
 filled_lam = node 5 [] (scope (child_before (node 3 [] (place 9 (place 12 stop))) stop) stop)
 
-filled_instance : IsInstance is_itself nodes [] f_8 (λ y. y) lam_a filled_lam
+pub filled_instance : IsInstance is_itself nodes [] f_8 (λ y. y) lam_a filled_lam
 filled_instance = (_, refl, (_, _, refl, (_, _, refl, ((0, (0, 9) ∷ (1, 12) ∷ []), filled_by_12, refl), refl), refl))
 
 instance_is_equal : Equal (asserted nodes graph.proofs)
