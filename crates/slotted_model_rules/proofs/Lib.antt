@@ -29,6 +29,7 @@ pub mod ConditionExamples
 pub mod LookUpExamples
 pub mod AnswerExamples
 pub mod CallExamples
+pub mod InstanceExamples
 pub mod Rewriting
 pub mod Searching
 pub mod Laws
