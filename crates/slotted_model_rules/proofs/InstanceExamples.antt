@@ -1,5 +1,5 @@
--- Laws of instances held against (lam $7 ?a) and (k ?a), where ?a is h of 8 and a name that is lacking, in the graphs of
--- (h $0 $1) and of (k (h $0 $1)); and against n over n over the word a, in which b is put for a.
+-- Laws of instances held against (lam $7 ?a) and (k ?a), where ?a is h of 8 and a name that is lacking, in the graphs
+-- of (h $0 $1) and of (k (h $0 $1)); and against n over n over the word a, in which b is put for a.
 use Rattle.std.proofs.Common.{◌≡◌, ◌≢◌, ◌⊎◌, ◌↔◌, ℕ, suc, List, [], ◌∷◌, sym, ap, refl, subst, inl, inr, arith}
 use Rattle.std.specs.Prelude.{Contains}
 use Rattle.slotted_theory.specs.Nameless.{DTerm, stop, scope, moved}
@@ -66,7 +66,8 @@ in_first = (
       (
         (0, (0, 9) ∷ (1, 12) ∷ []),
         filled_by_12 open_state.nodes (0 ∷ 9 ∷ []) 9
-            (record { in_range = omega arith; slots = refl; injective = (differ (λ e. omega arith), (λ k. k, tt)) }) other,
+            (record { in_range = omega arith; slots = refl; injective = (differ (λ e. omega arith), (λ k. k, tt)) })
+            other,
         refl,
       ),
       refl,

@@ -26,6 +26,7 @@ pub mod Turns
 pub mod RunnerExamples
 pub mod RuleExamples
 pub mod ConditionExamples
+pub mod RunExamples
 pub mod LookUpExamples
 pub mod AnswerExamples
 pub mod CallExamples
