@@ -58,6 +58,7 @@ with_b = record {
   seen = 9 ∷ 9 ∷ [];
 }
 
+-- both are kept
 kept_on : Contains with_b.pairs (9, 7) × (value_at with_b.values (97 ∷ []) ≡ Some (0, (0, 9) ∷ []))
 kept_on =
     let k = matcher-laws.answers_go_on small.graph small.graph.rows (variable (98 ∷ [])) small.out (1, [])
@@ -82,6 +83,7 @@ lam_names = a_binder 50 (an_id (1, (2, 3) ∷ []) no_more) no_more
 abbrev with_g : MatchState
 with_g = record { values = ((97 ∷ []), (1, (2, 3) ∷ [])) ∷ []; pairs = (50, 7) ∷ []; seen = 50 ∷ 3 ∷ 3 ∷ [] }
 
+-- the rows of f and g are passed over, and that of lam is the one
 g_is_found : Found dropped.graph dropped.graph.rows lam_a (start_at dropped.graph 2) (2, (3, 3) ∷ []) (with_g ∷ [])
 g_is_found = (
   [],
@@ -127,6 +129,7 @@ g_is_found = (
 abbrev named : ℕ → ℕ → ℕ
 named x z = swapped 3 x (swapped 50 7 z)
 
+-- no two names become one
 named-injective : (x : ℕ) → IsInjective (named x)
 named-injective x y z e = to-injective (swap 50 7) y z (to-injective (swap 3 x) (swapped 50 7 y) (swapped 50 7 z) e)
 
@@ -161,6 +164,7 @@ read_with_8 = read_by 8 f_8 refl (λ v. refl)
 abbrev g_9 : List ℕ → Applied
 g_9 v = (1, (2, 9) ∷ [])
 
+-- the value that is g of 9 reads it by 9
 read_with_9 : Reads dropped.graph (named 9) g_9 with_g
 read_with_9 = read_by 9 g_9 refl (λ v. refl)
 

@@ -48,6 +48,7 @@ k_over = node 4 [] (child_before (as_term left_id) stop)
 abbrev pub with_k : State
 with_k = with_filed open_state k_over
 
+-- no class has the shape of k
 k_is_new : IsNew open_state.nodes k_over
 k_is_new = record {
   operator = omega arith;
@@ -59,6 +60,7 @@ k_is_new = record {
     other zero l p = let e : ◌≡◌ {A = ℕ} 3 4 = ap (λ (t : DTerm). t.op) p in omega arith
     other (suc i) l p = omega arith
 
+-- its node is filed, since no row has its operator
 k_added : Calls asks_turned open_state with_k
 k_added =
     adds k_over k_is_new
@@ -71,9 +73,11 @@ k_added =
 h_extends : AtRest with_h × IsExtension nothing with_h
 h_extends = (rule-laws asks_turned).calls_extend nothing with_h nothing-rests h_added
 
+-- so does the assertion
 turning_extends : AtRest open_state × IsExtension with_h open_state
 turning_extends = (rule-laws asks_turned).calls_extend with_h open_state with_h_rests h_turned
 
+-- and the class of k
 pub k_extends : AtRest with_k × IsExtension open_state with_k
 k_extends = (rule-laws asks_turned).calls_extend open_state with_k turning_extends.0 k_added
 
@@ -89,6 +93,7 @@ turned_extends_nothing =
     (rule-laws asks_turned).extensions_compose.1 nothing with_h open_state nothing-rests.sane h_extends.1
     turning_extends.1
 
+-- it extends itself too
 extends_itself : IsExtension open_state open_state
 extends_itself = (rule-laws asks_turned).extensions_compose.0 open_state turning_extends.0.sane
 
@@ -114,9 +119,11 @@ words_called : Calls (λ g a b. (a ≡ id 0) × (b ≡ id 1)) twice rebuilt
 words_called =
     asserts (id 0) (id 1) (id_full 0 (omega arith)) (id_full 1 (omega arith)) (refl, refl) words_asserted no_call
 
+-- it leads to rest as well
 words_extend : AtRest rebuilt × IsExtension twice rebuilt
 words_extend = (rule-laws (λ g a b. (a ≡ id 0) × (b ≡ id 1))).calls_extend twice rebuilt twice_rests words_called
 
+-- as many classes as before, so not more of them live
 no_more_live : ((progress twice).classes ≤ (progress rebuilt).classes)
     × ((progress rebuilt).live_classes ≤ (progress twice).live_classes)
 no_more_live =

@@ -46,6 +46,7 @@ filled_by_12 nodes given x full none = record {
   ];
 }
 
+-- names that differ are not one another
 differ : {x y : ℕ} → x ≢ y → ◌≡◌ x y ⊎ ⊥ → ⊥
 differ n (inl e) = n e
 differ n (inr k) = k
@@ -108,9 +109,11 @@ there_is_one =
 abbrev h_8_9 : List ℕ → Applied
 h_8_9 v = (0, (0, 8) ∷ (1, 9) ∷ [])
 
+-- h of a name and the one after it is full
 h_8_9_full : (x : ℕ) → IsFull with_k.nodes (0, (0, x) ∷ (1, suc x) ∷ [])
 h_8_9_full x = record { in_range = omega arith; slots = refl; injective = (differ (λ e. omega arith), (λ k. k, tt)) }
 
+-- so it is this one
 just_one : (u : DTerm) → IsInstance is_itself with_k.nodes (5 ∷ []) h_8_9 (λ y. y) lam_a u → lam_h 9 10 ≡ u
 just_one u i =
     pattern-laws.full_values_have_one_instance with_k.nodes [] (5 ∷ []) h_8_9 (λ y. y) (λ x y e. e) lam_a
@@ -141,6 +144,7 @@ just_one u i =
 lam_alone : (u : DTerm) → IsInstance is_itself with_k.nodes [] f_8 (λ y. y) (pattern_of lam_f) u ↔ (u ≡ lam_h 9 0)
 lam_alone u = pattern-laws.terms_are_their_instances is_itself with_k.nodes [] f_8 (λ y. y) lam_f u
 
+-- so the term is an instance of itself
 lam_itself : IsInstance is_itself with_k.nodes [] f_8 (λ y. y) (pattern_of lam_f) (lam_h 9 0)
 lam_itself = (lam_alone (lam_h 9 0)).1 refl
 
@@ -154,15 +158,18 @@ h_8_12 = (0, (0, 8) ∷ (1, 12) ∷ [])
 abbrev k_8_12 : Applied
 k_8_12 = (1, (0, 8) ∷ (1, 12) ∷ [])
 
+-- k of 8 and 12 is full
 k_full : IsFull with_k.nodes k_8_12
 k_full = record { in_range = omega arith; slots = refl; injective = (differ (λ e. omega arith), (λ k. k, tt)) }
 
+-- 12 fills the missing name where 8 is given
 h_filled : IsFilling with_k.nodes (8 ∷ []) (0, (0, 8) ∷ []) h_8_12
 h_filled =
     filled_by_12 with_k.nodes (8 ∷ []) 8
     (record { in_range = omega arith; slots = refl; injective = (differ (λ e. omega arith), (λ k. k, tt)) })
     (λ c. let e : ◌≡◌ {A = ℕ} 12 8 = one_of c in omega arith)
 
+-- it answers for (k ?a)
 k_is_answer : IsAnswer is_itself with_k.nodes (8 ∷ []) f_8 k_a k_8_12
 k_is_answer =
     pattern-laws.built_nodes_are_instances is_itself itself-moves with_k.nodes k_extends.0.sane.sound.canonical (8 ∷ [])
@@ -176,6 +183,7 @@ k_is_instance =
     pattern-laws.answers_stand_for_instances is_itself with_k.nodes (8 ∷ []) f_8 k_a k_8_12 k_is_answer k_8_12
     (fills-itself with_k.nodes (8 ∷ []) k_8_12 k_full)
 
+-- the value of ?a, filled, is an instance of ?a
 value_is_instance : IsInstance is_itself with_k.nodes (8 ∷ []) f_8 (λ y. y) (variable (97 ∷ [])) (h_of 8 12)
 value_is_instance =
     pattern-laws.answers_stand_for_instances is_itself with_k.nodes (8 ∷ []) f_8 (variable (97 ∷ []))
@@ -185,6 +193,7 @@ value_is_instance =
 abbrev word : ℕ → Pattern
 word op = pattern_node op [] no_argument
 
+-- the id of n over n over b answers for it
 n_n_b_is_answer : IsAnswer is_itself twice.nodes [] (λ v. id 4) (replacing (variable (98 ∷ [])) (word 1) (word 2))
     (id 5)
 n_n_b_is_answer =

@@ -23,6 +23,7 @@ rules = true ∷ false ∷ []
 abbrev Rules : ℕ → ℕ → Type 0
 Rules = AppliesRules searches_for adds_found rules
 
+-- both rules lead from g to 2 g + 1
 applied : (g : ℕ) → Rules g (suc (g + g))
 applied g = record {
   searched = g;
@@ -34,6 +35,7 @@ applied g = record {
 abbrev hooks : ℕ → ℕ → ℕ → Option (List ℕ) → Type 0
 hooks g n h answer = (h ≡ g) × (answer ≡ enough n)
 
+-- the hook ends in each graph
 called : (g n : ℕ) → (h : ℕ) × (answer : Option (List ℕ)) × hooks g n h answer
 called g n = (g, enough n, (refl, refl))
 
@@ -79,6 +81,7 @@ by_no_change =
     ((laws.runners_stop_for_the_first usual_limits None 30 10000 60000000000 true).0 saturated).1
     (refl, omega arith, omega arith, omega arith, refl)
 
+-- nothing stops where something has changed
 by_nothing : runner_stop {T = List ℕ} usual_limits None 30 10000 60000000000 false ≡ None
 by_nothing =
     (laws.runners_stop_for_the_first usual_limits None 30 10000 60000000000 false).1.1
@@ -89,16 +92,19 @@ by_nothing =
 eqsat_by_no_change : eqsat_stop {T = List ℕ} 30 60 None true 30 60000000000 ≡ Some saturated
 eqsat_by_no_change = ((laws.eqsat_stops_for_the_first 30 60 None true 30 60000000000).0 saturated).1 (refl, refl)
 
+-- turns, though time is at its limit too
 eqsat_by_turns : eqsat_stop {T = List ℕ} 30 60 None false 30 60000000000 ≡ Some iteration_limit
 eqsat_by_turns =
     ((laws.eqsat_stops_for_the_first 30 60 None false 30 60000000000).0 iteration_limit).1
     (refl, refl, omega arith)
 
+-- time, at its limit
 eqsat_by_time : eqsat_stop {T = List ℕ} 30 60 None false 29 60000000000 ≡ Some time_limit
 eqsat_by_time =
     ((laws.eqsat_stops_for_the_first 30 60 None false 29 60000000000).0 time_limit).1
     (refl, refl, omega arith, omega arith)
 
+-- and nothing below both limits
 eqsat_by_nothing : eqsat_stop {T = List ℕ} 30 60 None false 29 59999999999 ≡ None
 eqsat_by_nothing =
     (laws.eqsat_stops_for_the_first 30 60 None false 29 59999999999).1.1
@@ -112,6 +118,7 @@ kept_of stored k g = record {
   finish_time = Some (goes_by_seconds (after_check (enough stored) k));
 }
 
+-- such a turn is there where the causes answer `stop`
 turn : (limits : Limits) (stored k g : ℕ) (stop : Option (Stop (List ℕ))) →
     runner_stop limits (enough stored) stored (suc (g + g)) (goes_by_seconds k - 0)
     (numbers_eq (g ∷ []) (suc (g + g) ∷ [])) ≡ stop →
@@ -131,6 +138,7 @@ turn limits stored k g stop e = record {
 abbrev three_turns : List (Iteration ℕ)
 three_turns = kept_of 0 1 3 ∷ kept_of 1 3 7 ∷ kept_of 2 5 15 ∷ []
 
+-- two turns go on, and the third stops
 stopped_by_hook : RunnerRuns Rules hooks sized usual_limits goes_by_seconds 0 [] 1 3 three_turns 6 31 (other (9 ∷ []))
 stopped_by_hook =
     goes_on (turn usual_limits 0 1 3 None refl)
@@ -143,6 +151,7 @@ no_turns = record { iterations = 0; nodes = 10000; time = 60000000000 }
 abbrev two_turns : List (Iteration ℕ)
 two_turns = kept_of 0 1 3 ∷ kept_of 1 3 7 ∷ []
 
+-- the second turn is past the limit
 stopped_by_turns : RunnerRuns Rules hooks sized no_turns goes_by_seconds 0 [] 1 3 two_turns 5 15 iteration_limit
 stopped_by_turns =
     goes_on (turn no_turns 0 1 3 None refl) (stops_now (turn no_turns 1 3 7 (Some iteration_limit) refl))
@@ -161,6 +170,7 @@ just_two =
     (laws.runners_are_bounded rules sized no_turns goes_by_seconds 0 [] two_turns 1 5 3 15 iteration_limit
     stopped_by_turns (omega arith)).1 refl
 
+-- the hook has stopped this one within the bound
 at_most_limit : length three_turns ≤ 32
 at_most_limit =
     (laws.runners_are_bounded rules sized usual_limits goes_by_seconds 0 [] three_turns 1 6 3 31 (other (9 ∷ []))
@@ -185,6 +195,7 @@ third_refused : RunnerRefuses Rules hooks refused_third sized usual_limits goes_
     two_turns 15
 third_refused = refused_later (turn usual_limits 1 3 7 None refl) (refused_now (refl, refl))
 
+-- the first is kept, and one more is stored
 one_more : (more : List (Iteration ℕ)) × (f : ℕ) × (two_turns ≡ (kept_of 0 1 3 ∷ []) ++ more) × refused_third f 2 15
 one_more =
     laws.refused_turns_are_not_stored rules sized usual_limits goes_by_seconds 0 (kept_of 0 1 3 ∷ []) two_turns 3 7 15
@@ -206,6 +217,7 @@ reported = record {
   total_time = 5000000000;
 }
 
+-- the call makes the new runner the old one
 first_call : RunnerAnswers Rules hooks sized usual_limits goes_by_seconds 0 new_runner old_runner reported
 first_call = starts refl refl stopped_by_hook
 
@@ -234,6 +246,7 @@ a_run =
 abbrev Eqsat : ℕ → ℕ → ℕ → ℕ → ℕ → ℕ → Stop (List ℕ) → Type 0
 Eqsat = EqsatRuns Rules hooks sized.progress 1 60 goes_by_seconds 0
 
+-- such a turn is there where its causes answer `stop`
 eqsat-turn : (counted k g : ℕ) (stop : Option (Stop (List ℕ))) →
     eqsat_stop 1 60 (enough counted) (numbers_eq (g ∷ []) (suc (g + g) ∷ [])) counted (goes_by_seconds k - 0) ≡ stop →
     EqsatTurn Rules hooks sized.progress 1 60 goes_by_seconds 0 counted k g (suc (g + g)) stop
@@ -283,18 +296,22 @@ each_grows = record {
   by_refusal = grows.by_refusal;
 }
 
+-- the rules once
 rules_grow : 3 ≤ 7
 rules_grow = (laws.runs_extend each_grows).0 rules 3 7 (applied 3)
 
+-- the run that the hook stops
 runs_grow : 3 ≤ 31
 runs_grow =
     (laws.runs_extend each_grows).1 rules sized usual_limits goes_by_seconds 0 [] three_turns 1 6 3 31 (other (9 ∷ []))
     stopped_by_hook
 
+-- the run of `run_eqsat`
 eqsat_grows : 3 ≤ 15
 eqsat_grows =
     (laws.runs_extend each_grows).2 rules sized.progress 1 60 goes_by_seconds 0 0 1 1 2 3 15 iteration_limit one_counted
 
+-- the turns up to the refused one
 refusals_grow : 7 ≤ 15
 refusals_grow =
     (laws.runs_extend each_grows).3 rules sized usual_limits goes_by_seconds 0 (kept_of 0 1 3 ∷ []) two_turns 3 7 15
