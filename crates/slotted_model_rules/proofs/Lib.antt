@@ -1,6 +1,7 @@
 pub mod Substituting
 pub mod Replacing
 pub mod SubstitutionExamples
+pub mod ReplacingExamples
 pub mod Renamed
 pub mod LookingUp
 pub mod Instantiating
@@ -24,5 +25,12 @@ pub mod Stopping
 pub mod Turns
 pub mod RunnerExamples
 pub mod RuleExamples
+pub mod ConditionExamples
+pub mod RunExamples
+pub mod LookUpExamples
+pub mod AnswerExamples
+pub mod CallExamples
+pub mod InstanceExamples
 pub mod Rewriting
 pub mod Searching
+pub mod Laws

@@ -38,13 +38,13 @@ use Rattle.slotted_model_rules.proofs.Calling.{calls-enter}
 use Rattle.slotted_model_rules.proofs.Applying.{applies-extend, held-applied, entries-come, saturated}
 
 -- ?x is an id with the name 8; the slot 7 is free in it, the slot 8 is not, and ?y has no value
-abbrev one_value : Values
+abbrev pub one_value : Values
 one_value = ((120 ∷ []), (0, (0, 8) ∷ [])) ∷ []
 
-abbrev free_in_x : ℕ → Condition
+abbrev pub free_in_x : ℕ → Condition
 free_in_x s = slot_free_in s (120 ∷ [])
 
-abbrev free_in_y : Condition
+abbrev pub free_in_y : Condition
 free_in_y = slot_free_in 7 (121 ∷ [])
 
 slots_free : (holds (free_in_x 7) one_value nothing ≡ Some true) × (holds (free_in_x 8) one_value nothing ≡ Some false) × (holds free_in_y one_value nothing ≡ None)
@@ -61,18 +61,18 @@ is_asked : (holds (either (free_in_x 8) free_in_y) one_value nothing ≡ None) �
 is_asked = (refl, refl, refl, refl)
 
 -- a and b are of different classes: a test of the caller's own that asks the graph
-abbrev apart : Condition
+abbrev pub apart : Condition
 apart = own (λ s g. Some (not (nat_eq (find_class g.found 0) (find_class g.found 1))))
 
 abbrev word : ℕ → Pattern
 word op = pattern_node op [] no_argument
 
 -- the word a equals the word b, under a condition
-abbrev a_is_b : Condition → Rule
+abbrev pub a_is_b : Condition → Rule
 a_is_b c = record { left = word 1; right = word 2; condition = c }
 
 -- nothing is asked for besides, and each term represents itself
-abbrev nothing_else : State → Applied → Applied → Type 0
+abbrev pub nothing_else : State → Applied → Applied → Type 0
 nothing_else g a b = ⊥
 
 filled_itself : (nodes : List DTerm) (given : List ℕ) (i : ℕ) → IsFull nodes (i, []) → IsFilling nodes given (i, []) (i, [])
@@ -97,7 +97,7 @@ words c = record {
 turns : (holds apart [] twice ≡ Some true) × (holds apart [] rebuilt ≡ Some false)
 turns = (refl, refl)
 
-applied_once : Applies nothing_else is_itself [] (a_is_b apart) ([] ∷ [] ∷ []) twice rebuilt
+pub applied_once : Applies nothing_else is_itself [] (a_is_b apart) ([] ∷ [] ∷ []) twice rebuilt
 applied_once = does_hold refl (words apart) (does_not_hold refl all_done)
 
 -- the new entry comes from it
@@ -166,16 +166,16 @@ found_alike =
     (s.0, s.1, s.3 (λ y c. absurd (Contains-nil y c)))
 
 -- (h $0 $1) equals (h $1 $0): a symmetry is listed, which is no progress, and is open: the rule is saturated, but its sides do not find alike
-abbrev left_id : Applied
+abbrev pub left_id : Applied
 left_id = (0, (0, 0) ∷ (1, 1) ∷ [])
 
-abbrev right_id : Applied
+abbrev pub right_id : Applied
 right_id = (0, (0, 1) ∷ (1, 0) ∷ [])
 
 abbrev h_is_h : Rule
 h_is_h = record { left = pattern_node 3 [] (own_name 0 (own_name 1 no_argument)); right = pattern_node 3 [] (own_name 1 (own_name 0 no_argument)); condition = always }
 
-with_h_rests : AtRest with_h
+pub with_h_rests : AtRest with_h
 with_h_rests =
     (class-added nothing nothing-rests (h_of 0 1) h_is_new with_h (files nothing (h_of 0 1) (λ s c. c) (λ r k. absurd (Contains-nil r k)) (refl, λ y k. absurd (Contains-nil y k)))).rest
 

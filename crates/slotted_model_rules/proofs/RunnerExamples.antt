@@ -90,13 +90,13 @@ module _ (next : ℕ → ℕ) (hook : ℕ → Option (List ℕ)) (m : Measures �
 abbrev no_hook : ℕ → Option (List ℕ)
 no_hook n = None
 
-abbrev enough : ℕ → Option (List ℕ)
+abbrev pub enough : ℕ → Option (List ℕ)
 enough n = cond (nat_eq n 2) (Some (9 ∷ [])) None
 
-abbrev stands_still : ℕ → ℕ
+abbrev pub stands_still : ℕ → ℕ
 stands_still n = 0
 
-abbrev goes_by_seconds : ℕ → ℕ
+abbrev pub goes_by_seconds : ℕ → ℕ
 goes_by_seconds n = n * second
 
 -- the growing graph, and the empty one without rules
@@ -193,7 +193,7 @@ eqsat_stops_saturated : EqsatReports (λ g. g) no_hook empty stands_still 5 60 0
 eqsat_stops_saturated = eqsat-reports (λ g. g) no_hook empty stands_still 5 60 0 40 (0, 1, 0, saturated) refl
 
 -- the third turn is refused: two are stored, and the graph is what the refusal left
-abbrev refused_third : ℕ → ℕ → ℕ → Type 0
+abbrev pub refused_third : ℕ → ℕ → ℕ → Type 0
 refused_third g n h = (n ≡ 2) × (h ≡ g)
 
 refused : RunnerRefuses (Step suc no_hook growing stands_still) (Hooks suc no_hook growing stands_still) refused_third growing usual_limits stands_still 0 [] 1 0
@@ -203,10 +203,10 @@ refused =
     (refused_later (turn suc no_hook growing stands_still usual_limits 0 1 3 1 None refl) (refused_now (refl, refl)))
 
 -- two rules, which are both searched on the graph 3 before the first is applied: the one finds it and adds what it found, the other adds one
-abbrev searches_for : Bool → ℕ → ℕ → ℕ → Type 0
+abbrev pub searches_for : Bool → ℕ → ℕ → ℕ → Type 0
 searches_for rule g found h = (found ≡ g) × (h ≡ g)
 
-abbrev adds_found : Bool → ℕ → ℕ → ℕ → Type 0
+abbrev pub adds_found : Bool → ℕ → ℕ → ℕ → Type 0
 adds_found rule found g h = h ≡ cond rule (g + found) (suc g)
 
 both_rules : AppliesRules searches_for adds_found (true ∷ true ∷ false ∷ []) 3 10
@@ -218,13 +218,13 @@ both_rules = record {
 }
 
 -- none of them makes the graph smaller, nor do turns and runs
-abbrev no_smaller : ℕ → ℕ → Type 0
+abbrev pub no_smaller : ℕ → ℕ → Type 0
 no_smaller g h = g ≤ h
 
 abbrev never_stops : ℕ → ℕ → ℕ → Option (List ℕ) → Type 0
 never_stops g n h answer = (h ≡ g) × (answer ≡ None)
 
-grows : EachExtends ℕ (List ℕ) ℕ ℕ Bool searches_for adds_found never_stops refused_third no_smaller
+pub grows : EachExtends ℕ (List ℕ) ℕ ℕ Bool searches_for adds_found never_stops refused_third no_smaller
 grows = record {
   same = λ g. omega arith;
   joined = λ f g h a b. omega arith;

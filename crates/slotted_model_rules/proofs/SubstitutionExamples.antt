@@ -9,17 +9,17 @@ use Rattle.slotted_model_rules.specs.Substitution.{named_node, named_before, sub
 use Rattle.slotted_model_rules.proofs.Substituting.{kept-substituted}
 use Rattle.slotted_model_rules.proofs.Replacing.{replaced-substituted}
 
-abbrev var : ℕ → Term
+abbrev pub var : ℕ → Term
 var x = named_node 1 [] (name x done)
 
-abbrev lam : ℕ → Term → Term
+abbrev pub lam : ℕ → Term → Term
 lam x b = named_node 2 [] (bind x (named_before b done) done)
 
-abbrev app : Term → Term → Term
+abbrev pub app : Term → Term → Term
 app f a = named_node 3 [] (named_before f (named_before a done))
 
 -- the word a
-abbrev word : Term
+abbrev pub word : Term
 word = named_node 4 ((97 ∷ []) ∷ []) done
 
 -- (lam $7 (app (var $7) (var $8)))[(var $8) := (var $7)] is (lam $9 (app (var $9) (var $7)))
@@ -27,7 +27,7 @@ would_capture : substituted (nameless (var 8)) (nameless (var 7)) (nameless (lam
 would_capture = refl
 
 -- so the name 7 that was put in is free in the result
-put_in_is_free : Contains (free_names (substituted (nameless (var 8)) (nameless (var 7)) (nameless (lam 7 (app (var 7) (var 8))))).args) 7
+pub put_in_is_free : Contains (free_names (substituted (nameless (var 8)) (nameless (var 7)) (nameless (lam 7 (app (var 7) (var 8))))).args) 7
 put_in_is_free =
     kept-substituted (nameless (var 8)) (nameless (var 7)) (nameless (lam 7 (app (var 7) (var 8)))) stands 7 (0, omega arith, refl)
   where
@@ -45,7 +45,7 @@ is_captured p = let e : ◌≡◌ {A = ℕ} 0 1 = ap (λ (d : DTerm). length (fr
 written : replaced (var 8) (var 7) (lam 9 (app (var 9) (var 8))) ≡ lam 9 (app (var 9) (var 7))
 written = refl
 
-others_bound : HasOthersBound (var 8) (var 7) (lam 9 (app (var 9) (var 8)))
+pub others_bound : HasOthersBound (var 8) (var 7) (lam 9 (app (var 9) (var 8)))
 others_bound = (other 8 9 (λ e. omega arith), other 7 9 (λ e. omega arith), ((tt, (tt, tt)), tt), tt)
   where
     other : (x y : ℕ) → y ≢ x → ¬ Contains (x ∷ []) y
