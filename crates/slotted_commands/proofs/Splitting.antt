@@ -1,6 +1,6 @@
 -- What the text methods of std answer, by what stands behind a word and around it.
 use Rattle.std.proofs.Common.{◌≡◌, ◌<◌, ◌≤◌, ◌+◌, ℕ, zero, suc, List, [], ◌∷◌, ◌++◌, length, take, drop, refl, ap, sym, ◌∙◌, arith}
-use Rattle.std.specs.Prelude.{◌≢◌, Option, Some, None, Bool, true, false, if◌then◌else◌, bytes_eq, codes, option_map}
+use Rattle.std.specs.Prelude.{◌≢◌, Option, Some, None, true, false, if◌then◌else◌, bytes_eq, codes, option_map}
 use Rattle.std.proofs.Common.{inl, inr}
 use Rattle.std.proofs.lemmas.Bool.{cases_eq, eq-eqb, ne_eqb}
 use Rattle.std.specs.Str.Pattern.{FindsText, FindsTextPrefix, LacksTextAt, StripsPrefix, SplitsAroundMatch}

@@ -1,6 +1,6 @@
 -- What a command answers over a graph, and what it leaves of it. A language says which node, if any, a list of elements
 -- writes. The texts of a command are read in turn from the left, before any of their terms is added.
-use Rattle.std.specs.Prelude.{◌≡◌, ◌≤◌, ◌^◌, ◌⊎◌, ℕ, List, [], ◌∷◌, length, map, Bool, true, false, Option, Some, IsTrue, Result, Ok, Err}
+use Rattle.std.specs.Prelude.{◌≡◌, ℕ, List, [], ◌∷◌, length, map, Bool, true, false, Option, Some, IsTrue, Result, Ok, Err}
 use Rattle.std.specs.Str.{chars}
 use Rattle.slotted_theory.specs.Term.{Term}
 use Rattle.slotted_theory.specs.Nameless.{Alpha, nameless}
