@@ -7,6 +7,7 @@ use slotted_proofs::{
     CongruenceProof, Equation, ProvenEq, ReflexivityProof, SymmetryProof, TransitivityProof,
 };
 use slotted_slots::{AppliedId, Error};
+use slotted_terms::expr::RecExpr;
 use std::alloc::Global;
 
 // The number of an equation that is asserted.
@@ -115,6 +116,20 @@ pub fn answer<L: Language>(
     }
 }
 
+// The proof that two terms are equal, if both are valid.
+fn explanation<L: Language>(
+    graph: &mut EGraph<L>,
+    left: &RecExpr<L>,
+    right: &RecExpr<L>,
+) -> Result<ProvenEq, Error> {
+    if graph.is_valid_expr(left) {
+        if graph.is_valid_expr(right) {
+            return graph.explain_equivalence(left, right);
+        }
+    }
+    Err(Error::NotATerm)
+}
+
 // Explains why the two terms that `T == U` writes are equal. The number of the entry is known from now on.
 pub fn explained<L: Language>(
     graph: &mut EGraph<L>,
@@ -124,12 +139,9 @@ pub fn explained<L: Language>(
     let (left, right) = parted(texts, " == ");
     let left = graph.parse_expr(left)?;
     let right = graph.parse_expr(right)?;
-    if graph.is_valid_expr(&left) && graph.is_valid_expr(&right) {
-        let p = graph.explain_equivalence(&left, &right)?;
-        known.push(p)?;
-        return Ok("explained");
-    }
-    Err(Error::NotATerm)
+    let p = explanation(graph, &left, &right)?;
+    known.push(p)?;
+    Ok("explained")
 }
 
 // Whether the number that a digit names is that of the last entry, of the next one, of the third one or a later one, or valid.
