@@ -1,7 +1,7 @@
 -- What a refusal stands for.
 use Rattle.std.specs.Prelude.{Result, Ok, Err}
 use Rattle.slotted_slots.specs.declared.error.Error.{Error}
-use Rattle.slotted_slots.specs.declared.error.Error.TheVariants.{OutOfMemory, OutOfSlots, Failed, Parse, NotATerm, SubstInSearch, MissingVariable, NotEqual, BadStep, UnknownClass, NumberTooLarge, NotYet}
+use Rattle.slotted_slots.specs.declared.error.Error.TheVariants.{OutOfMemory, OutOfSlots, Failed, Parse, NotATerm, SubstInSearch, MissingVariable, NotEqual, BadStep, UnknownClass, NumberTooLarge}
 use Rattle.slotted_patterns.specs.Outcome.{Outcome, parsed, Refuses, Answers}
 
 -- a refusal that stands for an outcome of one kind stands for one of a wider kind
@@ -17,7 +17,6 @@ Refuses-weaker P Q (MissingVariable v) h f = h
 Refuses-weaker P Q NotEqual h f = h
 Refuses-weaker P Q BadStep h f = h
 Refuses-weaker P Q UnknownClass h f = h
-Refuses-weaker P Q NotYet h f = h
 
 -- the same for an answer
 pub Answers-weaker : {A Value NoTerm : Type 0} (seen : A → Value) (P Q : Outcome Value NoTerm → Type 0) (r : Result A Error) → Answers seen P r → ((o : Outcome Value NoTerm) → P o → Q o) → Answers seen Q r

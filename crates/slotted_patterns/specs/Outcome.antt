@@ -2,7 +2,7 @@
 use Rattle.std.specs.Prelude.{◌≡◌, Result, Ok, Err}
 use Rattle.slotted_slots.specs.Syntax.{Fault, fault_of}
 use Rattle.slotted_slots.specs.declared.error.Error.{Error}
-use Rattle.slotted_slots.specs.declared.error.Error.TheVariants.{OutOfMemory, OutOfSlots, Failed, Parse, NotATerm, SubstInSearch, MissingVariable, NotEqual, BadStep, UnknownClass, NumberTooLarge, NotYet}
+use Rattle.slotted_slots.specs.declared.error.Error.TheVariants.{OutOfMemory, OutOfSlots, Failed, Parse, NotATerm, SubstInSearch, MissingVariable, NotEqual, BadStep, UnknownClass, NumberTooLarge}
 use Rattle.slotted_patterns.specs.Tree.{PatternTree}
 
 -- a value; the one fault of a text outside the grammar; a text that writes a pattern which is no term, since a variable or a
@@ -35,7 +35,6 @@ Refuses P (MissingVariable v) = ⊥
 Refuses P NotEqual = ⊥
 Refuses P BadStep = ⊥
 Refuses P UnknownClass = ⊥
-Refuses P NotYet = ⊥
 
 -- the answer of a call that reads a text stands for an outcome of which P holds, by the value that is seen in it
 abbrev pub Answers : {A Value NoTerm : Type 0} → (A → Value) → (Outcome Value NoTerm → Type 0) → Result A Error → Type 0

@@ -1,7 +1,7 @@
 -- What a refusal is: its number, its name, and the shortages.
 use Rattle.std.specs.Prelude.{◌≡◌, ◌⊎◌, ℕ, List, codes}
 use Rattle.slotted_slots.specs.declared.error.Error.{Error}
-use Rattle.slotted_slots.specs.declared.error.Error.TheVariants.{OutOfMemory, OutOfSlots, Failed, Parse, NotATerm, SubstInSearch, MissingVariable, NotEqual, BadStep, UnknownClass, NumberTooLarge, NotYet}
+use Rattle.slotted_slots.specs.declared.error.Error.TheVariants.{OutOfMemory, OutOfSlots, Failed, Parse, NotATerm, SubstInSearch, MissingVariable, NotEqual, BadStep, UnknownClass, NumberTooLarge}
 
 -- the number of a case
 abbrev pub number_of : Error → ℕ
@@ -16,7 +16,6 @@ number_of NotEqual = 8
 number_of BadStep = 9
 number_of UnknownClass = 10
 number_of NumberTooLarge = 11
-number_of NotYet = 12
 
 -- the bytes of a case's name
 abbrev pub name_of : Error → List ℕ
@@ -31,7 +30,6 @@ name_of NotEqual = codes "NotEqual"
 name_of BadStep = codes "BadStep"
 name_of UnknownClass = codes "UnknownClass"
 name_of NumberTooLarge = codes "NumberTooLarge"
-name_of NotYet = codes "NotYet"
 
 -- a growth was refused
 abbrev pub IsOutOfMemory : Error → Type 0

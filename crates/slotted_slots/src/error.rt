@@ -43,9 +43,6 @@ pub enum Error {
     /// The number of a slot is 2^30 or more.
     #[error("the number of a slot is too large")]
     NumberTooLarge,
-    /// A union of sides with different slots, or of a class with itself in another slot order: refused for now.
-    #[error("the union is not done yet")]
-    NotYet,
 }
 
 impl Error {
@@ -65,7 +62,6 @@ impl Error {
             Error::BadStep => 9,
             Error::UnknownClass => 10,
             Error::NumberTooLarge => 11,
-            Error::NotYet => 12,
         }
     }
 
@@ -85,7 +81,6 @@ impl Error {
             Error::BadStep => "BadStep",
             Error::UnknownClass => "UnknownClass",
             Error::NumberTooLarge => "NumberTooLarge",
-            Error::NotYet => "NotYet",
         }
     }
 }

@@ -22,7 +22,6 @@ fn refusals_have_numbers_and_names(rt: HostRuntime) {
     assert_case(&rt, &Error::BadStep, 9, "BadStep");
     assert_case(&rt, &Error::UnknownClass, 10, "UnknownClass");
     assert_case(&rt, &Error::NumberTooLarge, 11, "NumberTooLarge");
-    assert_case(&rt, &Error::NotYet, 12, "NotYet");
 }
 
 fn check_token(rt: &(impl Abort + AllocGlobal), token: &Token) {

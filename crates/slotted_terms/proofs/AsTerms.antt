@@ -6,7 +6,7 @@ use Rattle.std.proofs.lemmas.Bool.{eq-eqb, ne_eqb}
 use Rattle.std.proofs.lemmas.List.{drop_more, drop_all}
 use Rattle.slotted_theory.specs.Term.{Term}
 use Rattle.slotted_slots.specs.declared.error.Error.{Error}
-use Rattle.slotted_slots.specs.declared.error.Error.TheVariants.{OutOfMemory, OutOfSlots, Failed, Parse, NotATerm, SubstInSearch, MissingVariable, NotEqual, BadStep, UnknownClass, NumberTooLarge, NotYet}
+use Rattle.slotted_slots.specs.declared.error.Error.TheVariants.{OutOfMemory, OutOfSlots, Failed, Parse, NotATerm, SubstInSearch, MissingVariable, NotEqual, BadStep, UnknownClass, NumberTooLarge}
 use Rattle.slotted_nodes.specs.Form.{Form, children}
 use Rattle.slotted_languages.specs.Filled.{term_of}
 use Rattle.slotted_patterns.specs.Tree.{PatternTree, enode, row_of}
@@ -78,4 +78,3 @@ IsRefusal-whole o p (MissingVariable v) h f = h
 IsRefusal-whole o p NotEqual h f = h
 IsRefusal-whole o p BadStep h f = h
 IsRefusal-whole o p UnknownClass h f = h
-IsRefusal-whole o p NotYet h f = h

@@ -5,7 +5,7 @@ use Rattle.slotted_theory.specs.Term.{Term}
 use Rattle.slotted_slots.specs.Syntax.{Element}
 use Rattle.slotted_slots.specs.Table.{Table}
 use Rattle.slotted_slots.specs.declared.error.Error.{Error}
-use Rattle.slotted_slots.specs.declared.error.Error.TheVariants.{OutOfMemory, OutOfSlots, Failed, Parse, NotATerm, SubstInSearch, MissingVariable, NotEqual, BadStep, UnknownClass, NumberTooLarge, NotYet}
+use Rattle.slotted_slots.specs.declared.error.Error.TheVariants.{OutOfMemory, OutOfSlots, Failed, Parse, NotATerm, SubstInSearch, MissingVariable, NotEqual, BadStep, UnknownClass, NumberTooLarge}
 use Rattle.slotted_nodes.specs.Form.{Form}
 use Rattle.slotted_patterns.specs.Tree.{PatternTree}
 use Rattle.slotted_patterns.specs.Outcome.{parsed, Refuses, Answers}
@@ -46,7 +46,6 @@ module _ (read : List Element → Option Form) (t : Table) (cs : List ℕ) (u : 
   refuses_pattern NotEqual h = h
   refuses_pattern BadStep h = h
   refuses_pattern UnknownClass h = h
-  refuses_pattern NotYet h = h
 
   -- a pattern that is no term
   pub refuses_term : (p : PatternTree) (e : Error) → PatternReads read t cs (parsed p) u → IsRefusal (as_term p) e → Refuses (λ o. TextReads read t cs o u) e
@@ -61,7 +60,6 @@ module _ (read : List Element → Option Form) (t : Table) (cs : List ℕ) (u : 
   refuses_term p NotEqual h k = k
   refuses_term p BadStep h k = k
   refuses_term p UnknownClass h k = k
-  refuses_term p NotYet h k = k
 
   -- the answer for a text that is a pattern
   pub answers_term : (p : PatternTree) (r : Result Term Error) → PatternReads read t cs (parsed p) u → IfOk r (λ x. as_term p ≡ Some x) → IfErr r (IsRefusal (as_term p)) → Answers (λ t. t) (λ o. TextReads read t cs o u) r
