@@ -5,18 +5,19 @@ use Rattle.std.proofs.lemmas.List.Elements.{All-append, All-push}
 use Rattle.slotted_theory.specs.Nameless.{DArgs, DTerm, stop, place, sub, scope, lift, moved_args, moved}
 use Rattle.slotted_theory.specs.FiniteMaps.{filled}
 use Rattle.slotted_theory.specs.Term.{Term}
-use Rattle.slotted_slots.specs.Table.{Table, KnowsMore, TakesAtMost, is_known, unknown_names}
-use Rattle.slotted_slots.proofs.SlotsTaken.{at_most_known}
+use Rattle.slotted_slots.specs.Table.{Table, KnowsMore, TakesAtMost, is_known, slot_limit, unknown_names}
+use Rattle.slotted_slots.proofs.SlotsTaken.{at_most_known, fresh_goes_on, lacks_known}
 use Rattle.slotted_nodes.specs.Form.{Form, children, child_names, child_place, width}
 use Rattle.slotted_languages.specs.Children.{binders}
 use Rattle.slotted_languages.specs.Filled.{term_of}
 use Rattle.slotted_languages.specs.NodeTerm.{nameless_node}
 use Rattle.slotted_languages.specs.Shape.{Fits}
-use Rattle.slotted_languages.proofs.Counting.{binders_fit}
+use Rattle.slotted_languages.specs.Fresh.{RunsOut as RunsOutBeside}
 use Rattle.slotted_model.specs.Applied.{Applied}
 use Rattle.slotted_model.specs.Classes.{canonical_node, IsFull, Canonical}
 use Rattle.slotted_terms.specs.Valid.{AllKnown, IsValidTerm}
 use Rattle.slotted_core.specs.Canonical.{args_count, place_count, IsBeside}
+use Rattle.slotted_core.specs.Graph.{RunsOut}
 use Rattle.slotted_core.specs.Nodes.{child_ids}
 use Rattle.slotted_core.proofs.CallerLemmas.{term_later}
 use Rattle.slotted_core.proofs.CanonicalTerms.{children-below, places-counted}
@@ -47,11 +48,22 @@ none_unknown t (x ∷ xs) h =
     ap (λ b. cond (not b) (x ∷ unknown_names t xs) (unknown_names t xs)) (h 0 x (omega arith))
     ∙ none_unknown t xs (λ k d l. h (suc k) d (omega (arith, l)))
 
--- as many slots as binders at most, so no more than places
-pub made-by_places : (t u : Table) (f : Form) (vs : List ℕ) (n : ℕ) → length f.names ≡ n → AllKnown t f.names → AllKnown t vs → TakesAtMost (binders f) (vs ++ f.names) t u → u.fresh ≤ t.fresh + n
-made-by_places t u f vs n size own given taken =
-    let none = none_unknown t (vs ++ f.names) (All-append (λ s. IsTrue (is_known t s)) vs f.names given own) in
-    omega (arith, size, binders_fit f, at_most_known (binders f) (vs ++ f.names) t u none taken)
+-- where all names are known, as many slots are made as there are binders at most
+module _ (t u : Table) (f : Form) (vs : List ℕ) (n : ℕ) (count : binders f ≡ n) (own : AllKnown t f.names) (given : AllKnown t vs) where
+  known : unknown_names t (vs ++ f.names) ≡ []
+  known = none_unknown t (vs ++ f.names) (All-append (λ s. IsTrue (is_known t s)) vs f.names given own)
+
+  pub made-by_binders : TakesAtMost (binders f) (vs ++ f.names) t u → u.fresh ≤ t.fresh + n
+  made-by_binders taken = omega (arith, count, at_most_known (binders f) (vs ++ f.names) t u known taken)
+
+  -- and where they ran out, fewer were left
+  pub lacked-by_binders : KnowsMore t u → RunsOutBeside (binders f) (vs ++ f.names) t u → RunsOut n t u
+  lacked-by_binders more out =
+      let fits : t.fresh ≤ slot_limit = subst (λ k. t.fresh ≤ k) out.0 (fresh_goes_on t u more) in
+      record {
+        lacks = subst (λ k. slot_limit < t.fresh + k) count (lacks_known (binders f) (vs ++ f.names) t known fits out.1);
+        used = out.0;
+      }
 
 -- the names of a child are names of the node
 pub child_names-known : (P : ℕ → Type 0) (f : Form) (k : ℕ) → All P f.names → All P (child_names f k)

@@ -8,7 +8,7 @@
 --     IsLargeNode nodes i     the canonical node of a class has too many places to be numbered
 --     HasLargePart nodes i    so has a node of its canonical term
 use Rattle.std.specs.Prelude.{◌≡◌, ℕ, zero, suc, ◌^◌, ◌<◌, ◌≤◌, ◌⊎◌, List, [], ◌∷◌, length}
-use Rattle.slotted_slots.specs.Table.{Table, slot_limit}
+use Rattle.slotted_slots.specs.Table.{slot_limit}
 use Rattle.slotted_theory.specs.Nameless.{DArgs, DTerm, stop, place, sub, scope}
 use Rattle.slotted_nodes.specs.Form.{Form}
 use Rattle.slotted_languages.specs.NodeTerm.{nameless_node}
@@ -66,11 +66,3 @@ Reaches nodes (suc n) i j = (c : ℕ) × HasChildOf (canonical_node nodes i).arg
 -- a node of the canonical term of the class has too many places to be numbered
 abbrev pub HasLargePart : List DTerm → ℕ → Type 0
 HasLargePart nodes i = (n : ℕ) × (j : ℕ) × Reaches nodes n i j × IsLargeNode nodes j
-
--- no fresh slot is left, or the canonical node of the class is too large
-abbrev pub NodeRunsOut : List DTerm → ℕ → Table → Type 0
-NodeRunsOut nodes i t = (t.fresh ≡ slot_limit) ⊎ IsLargeNode nodes i
-
--- no fresh slot is left, or a node of the canonical term of the class is too large
-abbrev pub TermRunsOut : List DTerm → ℕ → Table → Type 0
-TermRunsOut nodes i t = (t.fresh ≡ slot_limit) ⊎ HasLargePart nodes i

@@ -7,12 +7,11 @@ ghost use Rattle.slotted_nodes.specs.Form.{IsSmall};
 ghost use Rattle.slotted_terms.specs.Valid.{AllKnown, IsValidTerm};
 ghost use Rattle.slotted_model.specs.Classes.{IsFull, term_of};
 ghost use Rattle.slotted_core.specs.Canonical.{IsNodeOf, IsBeside};
-ghost use Rattle.slotted_core.specs.Causes.{NodeRunsOut, TermRunsOut};
 ghost use Rattle.slotted_core.specs.Good.{Good};
 ghost use Rattle.slotted_store.specs.Kept.{nodes_of};
 ghost use Rattle.slotted_core.specs.Nodes.{child_ids};
 ghost use Rattle.slotted_proofs.specs.Equations.{to_applied};
-ghost use Rattle.slotted_core.specs.Syn.{KnowsSlotsAnd, MakesByPlaces};
+ghost use Rattle.slotted_core.specs.Syn.{KnowsSlotsAnd, LacksForNode, LacksForTerm, MakesForNode, MakesForTerm};
 
 use slotted_languages::Language;
 use slotted_slots::{AppliedId, Error, SlotTable};
@@ -36,10 +35,10 @@ pub(crate) fn syn_node<L: Language>(
     ensures small { IfOk result (λ n. IsSmall (L.form n)) }
     ensures known { IfOk result (λ n. KnowsSlotsAnd table.old store.now a.now.m → AllKnown table.new (L.form n).names) }
 
-    ensures takes { MakesByPlaces store.now a.now.id.0 a.now.m table.old table.new }
+    ensures takes { MakesForNode store.now a.now.id.0 a.now.m table.old table.new }
     ensures more { KnowsMore table.old table.new }
     ensures kept { table.new.names ≡ table.old.names }
-    ensures full { IsErrOf result Error.OutOfSlots → NodeRunsOut (nodes_of store.now) a.now.id.0 table.new }
+    ensures full { IsErrOf result Error.OutOfSlots → LacksForNode store.now a.now.id.0 a.now.m table.old table.new }
     ensures only { IfErr result IsShortage }
 {
     store.node_of(a.id.0).apply_slotmap(alloc, &a.m, table)
@@ -60,9 +59,10 @@ pub(crate) fn syn_expr<L: Language>(
     ensures operator { IfOk result (λ t. 0 < t.op) }
     ensures valid { IfOk result (λ t. KnowsSlotsAnd table.old store.now a.now.m → IsValidTerm table.new t) }
 
+    ensures takes { MakesForTerm store.now a.now.id.0 a.now.m table.old table.new }
     ensures more { KnowsMore table.old table.new }
     ensures kept { table.new.names ≡ table.old.names }
-    ensures full { IsErrOf result Error.OutOfSlots → TermRunsOut (nodes_of store.now) a.now.id.0 table.new }
+    ensures full { IsErrOf result Error.OutOfSlots → LacksForTerm store.now a.now.id.0 a.now.m table.old table.new }
     ensures only { IfErr result IsShortage }
 {
     let mut node = syn_node(store, alloc, table, a)?;

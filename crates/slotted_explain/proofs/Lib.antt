@@ -2,3 +2,4 @@
 pub mod LinesBelow
 pub mod PrintedLines
 pub mod Sides
+pub mod SlotsOfLines

@@ -1,5 +1,5 @@
 -- The lines of a proof, one after another.
-use Rattle.std.proofs.Common.{◌≡◌, ◌<◌, ◌+◌, ◌∙◌, ℕ, suc, List, ◌++◌, length, Some, None, slice_get, ap, sym, subst, arith}
+use Rattle.std.proofs.Common.{◌≡◌, ◌<◌, ◌+◌, ◌∙◌, ℕ, zero, suc, List, ◌++◌, length, Some, None, slice_get, ap, sym, subst, arith}
 use Rattle.std.specs.Prelude.{slice_index_or, IfSome}
 use Rattle.std.proofs.lemmas.Option.{slice_get-get_or}
 use Rattle.slotted_theory.specs.Term.{Term}
@@ -10,7 +10,9 @@ use Rattle.slotted_proofs.specs.Equations.{AreSides}
 use Rattle.slotted_proofs.specs.Reasons.{reason_text}
 use Rattle.slotted_proofs.specs.Entries.{proven_at, statement_at}
 use Rattle.slotted_core.specs.Image.{Image}
-use Rattle.slotted_core.specs.Graph.{Graph}
+use Rattle.slotted_slots.specs.Table.{KnowsMore}
+use Rattle.slotted_core.specs.Graph.{Graph, OnlyTakesSlots}
+use Rattle.slotted_core.proofs.CallerLemmas.{term_later}
 use Rattle.slotted_explain.specs.Printed.{IsSideText, IsLine, ArePrinted}
 
 -- the entry of a line
@@ -21,32 +23,56 @@ at_line lines i p lt found = let e : Some (slice_index_or lines i 0) ≡ Some p 
 pub none_there : (lines : List ℕ) (i : ℕ) → i < length lines → slice_get lines i ≡ None → ⊥
 none_there lines i lt absent = let e : Some (slice_index_or lines i 0) ≡ None = sym (slice_get-get_or lines i 0 lt) ∙ absent in cc
 
--- a line over a graph that made slots since
-side_in : (written : Term → List Element) (g h : Graph) (a : Applied) (bs : List ℕ) → h.image ≡ g.image → h.table.names ≡ g.table.names → IsSideText written h a bs → IsSideText written g a bs
-side_in written g h a bs image names s = record {
-  term = s.term;
-  table = s.table;
-  is = s.is ∙ ap (λ (x : Image). term_of x.canonical a) image;
-  names = s.names ∙ names;
-  bytes = s.bytes;
-}
+-- what is printed over a graph that made slots since, and what is left when more were made
+module _ (written : Term → List Element) (g h : Graph) (same : OnlyTakesSlots g h) (l : Graph) where
+  side_in : (a : Applied) (bs : List ℕ) → IsSideText written h l a bs → IsSideText written g l a bs
+  side_in a bs s = record {
+    term = s.term;
+    table = s.table;
+    is = s.is ∙ ap (λ (x : Image). term_of x.canonical a) same.reads.image;
+    known = s.known;
+    names = s.names ∙ same.names;
+    bytes = s.bytes;
+  }
 
-pub line_in : (written : Term → List Element) (g h : Graph) (lines : List ℕ) (i p : ℕ) (bs : List ℕ) → h.image ≡ g.image → h.table.names ≡ g.table.names → IsLine written h lines i p bs → IsLine written g lines i p bs
-line_in written g h lines i p bs image names l = record {
-  left = l.left;
-  right = l.right;
-  sides = subst (λ (x : Image). AreSides (statement_at x.stored p) l.left l.right) image l.sides;
-  left_text = l.left_text;
-  right_text = l.right_text;
-  left_is = side_in written g h l.left l.left_text image names l.left_is;
-  right_is = side_in written g h l.right l.right_text image names l.right_is;
-  reason = l.reason;
-  reason_is = subst (λ (x : Image). IfSome (reason_text lines (proven_at x.stored p).step (proven_at x.stored p).text) (λ r. l.reason ≡ r)) image l.reason_is;
-  bytes = l.bytes;
-}
+  pub line_in : (lines : List ℕ) (i p : ℕ) (bs : List ℕ) → IsLine written h l lines i p bs → IsLine written g l lines i p bs
+  line_in lines i p bs x = record {
+    left = x.left;
+    right = x.right;
+    sides = subst (λ (m : Image). AreSides (statement_at m.stored p) x.left x.right) same.reads.image x.sides;
+    left_text = x.left_text;
+    right_text = x.right_text;
+    left_is = side_in x.left x.left_text x.left_is;
+    right_is = side_in x.right x.right_text x.right_is;
+    reason = x.reason;
+    reason_is = subst (λ (m : Image). IfSome (reason_text lines (proven_at m.stored p).step (proven_at m.stored p).text) (λ r. x.reason ≡ r)) same.reads.image x.reason_is;
+    bytes = x.bytes;
+  }
+
+module _ (written : Term → List Element) (g h l : Graph) (more : KnowsMore h.table l.table) where
+  pub side_later : (a : Applied) (bs : List ℕ) → IsSideText written g h a bs → IsSideText written g l a bs
+  side_later a bs s = record { term = s.term; table = s.table; is = s.is; known = term_later h.table l.table more s.term s.known; names = s.names; bytes = s.bytes }
+
+  line_later : (lines : List ℕ) (i p : ℕ) (bs : List ℕ) → IsLine written g h lines i p bs → IsLine written g l lines i p bs
+  line_later lines i p bs x = record {
+    left = x.left;
+    right = x.right;
+    sides = x.sides;
+    left_text = x.left_text;
+    right_text = x.right_text;
+    left_is = side_later x.left x.left_text x.left_is;
+    right_is = side_later x.right x.right_text x.right_is;
+    reason = x.reason;
+    reason_is = x.reason_is;
+    bytes = x.bytes;
+  }
+
+  pub printed_later : (lines : List ℕ) (n : ℕ) (bs : List ℕ) → ArePrinted written g h lines n bs → ArePrinted written g l lines n bs
+  printed_later lines zero bs x = x
+  printed_later lines (suc n) bs x = (x.0, x.1, printed_later lines n x.0 x.2, line_later lines n (slice_index_or lines n 0) x.1 x.3, x.4)
 
 -- one line more
-pub one_more : (written : Term → List Element) (g : Graph) (lines : List ℕ) (i p : ℕ) (before line after : List ℕ) → slice_index_or lines i 0 ≡ p → ArePrinted written g lines i before → IsLine written g lines i p line → after ≡ before ++ line → ArePrinted written g lines (i + 1) after
-one_more written g lines i p before line after is so_far one all =
+pub one_more : (written : Term → List Element) (g h : Graph) (lines : List ℕ) (i p : ℕ) (before line after : List ℕ) → slice_index_or lines i 0 ≡ p → ArePrinted written g h lines i before → IsLine written g h lines i p line → after ≡ before ++ line → ArePrinted written g h lines (i + 1) after
+one_more written g h lines i p before line after is so_far one all =
     let next : suc i ≡ i + 1 = omega arith in
-    subst (λ n. ArePrinted written g lines n after) next (before, line, so_far, subst (λ q. IsLine written g lines i q line) (sym is) one, all)
+    subst (λ n. ArePrinted written g h lines n after) next (before, line, so_far, subst (λ q. IsLine written g h lines i q line) (sym is) one, all)

@@ -4,7 +4,7 @@ ghost use Rattle.slotted_slots.specs.Error.{IsShortage};
 ghost use Rattle.slotted_proofs.specs.Entries.{proven_at, statement_at, step_of, text_of};
 ghost use Rattle.slotted_proofs.specs.Equations.{IsWritten};
 ghost use Rattle.slotted_core.specs.Graph.{OnlyTakesSlots};
-ghost use Rattle.slotted_explain.specs.Printed.{GraphRunsOut, IsProofText, ProofRunsOut};
+ghost use Rattle.slotted_explain.specs.Printed.{GraphRunsOut, IsProofText, MakesForProof, ProofRunsOut};
 
 use crate::flat::{chain_text, flat_steps};
 use crate::print::lines_text;
@@ -54,10 +54,11 @@ pub trait Explanation {
         graph: &mut EGraph<L, N>,
     ) -> Result<String, Error>
         requires { IsTrue graph.old.failed ⊎ (number self < length graph.old.image.entries) }
-        ensures text { IfOk result (λ s. IsProofText L.written graph.old (number self) (string_bytes s)) }
+        ensures text { IfOk result (λ s. IsProofText L.written graph.old graph.new (number self) (string_bytes s)) }
 
-        // Only fresh slots are made, and a refusal does not fail the graph.
+        // Only fresh slots are made, no more than the sides of the lines have binders, and a refusal does not fail the graph.
         ensures takes { OnlyTakesSlots graph.old graph.new }
+        ensures count { MakesForProof graph.old graph.new (number self) }
 
         ensures failed { IsErrOf result Error.Failed ↔ IsTrue graph.old.failed }
         ensures full { IsErrOf result Error.OutOfSlots → ProofRunsOut graph.old graph.new (number self) }

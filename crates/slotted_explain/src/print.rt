@@ -3,8 +3,8 @@ ghost use Rattle.std.specs.Prelude.{All, ◌<◌, length, string_bytes, IsTrue, 
 ghost use Rattle.slotted_slots.specs.Error.{IsShortage};
 ghost use Rattle.slotted_core.specs.Graph.{IsValidId, OnlyTakesSlots};
 ghost use Rattle.slotted_proofs.specs.Equations.{to_applied};
-ghost use Rattle.slotted_core.specs.Syn.{RunsOutForTermOf};
-ghost use Rattle.slotted_explain.specs.Printed.{AppendsLine, ArePrinted, IsSideText, LineRunsOut, LinesRunOut};
+ghost use Rattle.slotted_core.specs.Syn.{MakesForTermOf, RunsOutForTermOf};
+ghost use Rattle.slotted_explain.specs.Printed.{AppendsLine, ArePrinted, IsSideText, LineRunsOut, LinesRunOut, MakesForLine, MakesForLines};
 
 use slotted_core::EGraph;
 use slotted_proofs::reasons::reason;
@@ -22,8 +22,9 @@ pub(crate) fn lines_text<L: Printable, N: Drop>(
 ) -> Result<String, Error>
     requires well { ¬ IsTrue graph.old.failed }
     requires within { All (λ q. q < length graph.old.image.stored) lines.now }
-    ensures text { IfOk result (λ s. ArePrinted L.written graph.old lines.now (length lines.now) (string_bytes s)) }
+    ensures text { IfOk result (λ s. ArePrinted L.written graph.old graph.new lines.now (length lines.now) (string_bytes s)) }
     ensures takes { OnlyTakesSlots graph.old graph.new }
+    ensures count { MakesForLines graph.old graph.new lines.now }
     ensures full { IsErrOf result Error.OutOfSlots → LinesRunOut graph.old graph.new lines.now }
     ensures only { IfErr result IsShortage }
 {
@@ -47,8 +48,9 @@ fn push_line<L: Printable, N: Drop>(
 ) -> Result<(), Error>
     requires well { ¬ IsTrue graph.old.failed }
     requires within { p < length graph.old.image.stored }
-    ensures line { OnOk result (AppendsLine L.written graph.old lines.now i p text.old text.new) }
+    ensures line { OnOk result (AppendsLine L.written graph.old graph.new lines.now i p text.old text.new) }
     ensures takes { OnlyTakesSlots graph.old graph.new }
+    ensures count { MakesForLine graph.old graph.new p }
     ensures full { IsErrOf result Error.OutOfSlots → LineRunsOut graph.old graph.new p }
     ensures only { IfErr result IsShortage }
 {
@@ -68,8 +70,9 @@ fn side_text<L: Printable, N: Drop>(
 ) -> Result<String, Error>
     requires well { ¬ IsTrue graph.old.failed }
     requires valid { IsValidId graph.old (to_applied a.now) }
-    ensures text { IfOk result (λ s. IsSideText L.written graph.old (to_applied a.now) (string_bytes s)) }
+    ensures text { IfOk result (λ s. IsSideText L.written graph.old graph.new (to_applied a.now) (string_bytes s)) }
     ensures takes { OnlyTakesSlots graph.old graph.new }
+    ensures count { MakesForTermOf graph.old graph.new a.now.id.0 }
     ensures full { IsErrOf result Error.OutOfSlots → RunsOutForTermOf graph.old graph.new a.now.id.0 }
     ensures only { IfErr result IsShortage }
 {

@@ -11,7 +11,7 @@ ghost use Rattle.slotted_core.specs.Canonical.{IsNodeOf};
 ghost use Rattle.slotted_core.specs.Graph.{IsValidId, IsValidNode, OnlyTakesSlots};
 ghost use Rattle.slotted_core.specs.Leaves.{EntriesFollow};
 ghost use Rattle.slotted_proofs.specs.Equations.{to_applied};
-ghost use Rattle.slotted_core.specs.Syn.{MakesForNodeOf, RunsOutForNodeOf, RunsOutForTermOf};
+ghost use Rattle.slotted_core.specs.Syn.{MakesForNodeOf, MakesForTermOf, RunsOutForNodeOf, RunsOutForTermOf};
 
 use super::EGraph;
 use crate::syn;
@@ -28,7 +28,7 @@ impl<L: Language, N: Drop> EGraph<L, N> {
         ensures node { IfOk result (λ n. IsNodeOf self.old.image.canonical (to_applied a.now) (L.form n)) }
         ensures valid { IfOk result (λ n. IsValidNode self.new (L.form n)) }
 
-        // Only fresh slots are made, and a refusal does not fail the graph.
+        // Only fresh slots are made, no more than the node has binders, and a refusal does not fail the graph.
         ensures takes { OnlyTakesSlots self.old self.new }
         ensures count { MakesForNodeOf self.old self.new a.now.id.0 }
         ensures stays { IsTrue self.old.failed → self.new ≡ self.old }
@@ -50,8 +50,9 @@ impl<L: Language, N: Drop> EGraph<L, N> {
         ensures term { IfOk result (λ t. nameless t ≡ term_of self.old.image.canonical (to_applied a.now)) }
         ensures valid { IfOk result (λ t. IsValidTerm self.new.table t) }
 
-        // Only fresh slots are made, and a refusal does not fail the graph.
+        // Only fresh slots are made, no more than the term has binders, and a refusal does not fail the graph.
         ensures takes { OnlyTakesSlots self.old self.new }
+        ensures count { MakesForTermOf self.old self.new a.now.id.0 }
         ensures stays { IsTrue self.old.failed → self.new ≡ self.old }
 
         ensures failed { IsErrOf result Error.Failed ↔ IsTrue self.old.failed }

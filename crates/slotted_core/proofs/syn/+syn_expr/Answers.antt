@@ -1,5 +1,5 @@
 -- A child is earlier and full, and the terms of the children make that of the id.
-use Rattle.std.proofs.Common.{◌≡◌, ◌<◌, ◌+◌, ◌∙◌, [], length, ap, refl, sym, subst, inl, inr, arith, rules}
+use Rattle.std.proofs.Common.{◌≡◌, ◌<◌, ◌+◌, ◌∙◌, [], length, take, ap, refl, sym, subst, inl, inr, arith, rules}
 use Rattle.std.specs.Prelude.{slice_index_or, All, IsTrue}
 use Rattle.std.proofs.lemmas.List.Elements.{All-push}
 use Rattle.slotted_theory.specs.Term.{Term}
@@ -9,14 +9,18 @@ use Rattle.slotted_terms.specs.Valid.{AllKnown, IsValidTerm}
 use Rattle.std.proofs.lemmas.List.{length_push}
 use Rattle.slotted_nodes.specs.Form.{Form, children}
 use Rattle.slotted_model.specs.Applied.{Applied}
-use Rattle.slotted_store.specs.Kept.{nodes_of}
+use Rattle.slotted_store.specs.Kept.{node_at, nodes_of}
+use Rattle.slotted_store.proofs.KeptLists.{length-nodes_of}
 use Rattle.slotted_proofs.specs.Equations.{to_applied}
 use Rattle.slotted_core.specs.Nodes.{child_ids}
 use Rattle.slotted_core.proofs.Children.{child_is, length-ids}
+use Rattle.slotted_core.specs.Syn.{node_binders, term_binders}
+use Rattle.slotted_core.proofs.Binders.{ids_binders, child_binders, children_within, node_within}
+use Rattle.slotted_core.proofs.Tables.{makes-more, makes-then, runs_out-more, runs_out-then}
 use Rattle.slotted_core.proofs.FreshSlots.{fresh_slots-more}
 use Rattle.slotted_core.proofs.GivenNodes.{child_names-known, valid-push, valid-beside}
 use Rattle.slotted_core.proofs.LargeParts.{large_child_part}
-use Rattle.slotted_core.proofs.CanonicalTerms.{IsBelow, AreTermsOf, children-below, canonical-term, terms-step}
+use Rattle.slotted_core.proofs.CanonicalTerms.{IsBelow, AreTermsOf, children-below, canonical-term, node_at-is, terms-step}
 use Rattle.slotted_core.proofs.syn.+syn_expr.Goals as goal
 
 pub syn_expr-requires : goal.syn_expr-requires
@@ -45,6 +49,16 @@ loop-k-preserved g t c =
           (terms-step nodes (child_ids f) us u c.loop-k.k (to_applied c.in_ok-child.child) c.loop-k.invariant.count c.loop-k.invariant.terms is c.in_ok-term.ensures.term);
       more = λ s h. c.syn_expr.ensures.more s (c.loop-k.invariant.more s h);
       kept = c.syn_expr.ensures.kept ∙ c.loop-k.invariant.kept;
+      made = λ at.
+          let names = child_names-known (λ s. IsTrue (is_known c.loop-k.table s)) f c.loop-k.k (c.loop-k.invariant.known at) in
+          let given : AllKnown c.loop-k.table (values c.in_ok-child.child.m) =
+          subst (λ (x : Applied). AllKnown c.loop-k.table (values x.1)) (sym (ap to_applied c.in_ok-child.ensures.ok)) (subst (AllKnown c.loop-k.table) (sym c.applied_id.ensures.names) names) in
+          let fresh = fresh_slots-more c.args.table.now c.loop-k.table c.args.store.now c.loop-k.invariant.more at.0 in
+          let so_far = node_binders nodes c.args.a.now.id.0 + ids_binders nodes (take c.loop-k.k (child_ids f)) in
+          let within : c.loop-k.k < length (child_ids f) = omega (arith, lt, length-ids f.tree f.names) in
+          let one_more = child_binders nodes (child_ids f) c.loop-k.k (to_applied c.in_ok-child.child) within (is (0, [])) in
+          makes-then so_far (term_binders nodes c.in_ok-child.child.id.0) (node_binders nodes c.args.a.now.id.0 + ids_binders nodes (take (c.loop-k.k + 1) (child_ids f)))
+          c.args.table.now c.loop-k.table c.syn_expr.new.table (c.loop-k.invariant.made at) (c.syn_expr.ensures.takes (fresh, given)) (omega (arith, one_more));
       operators = subst (All (λ (v : Term). 0 < v.op)) (sym c.in_ok-push.ensures.items) (All-push (λ (v : Term). 0 < v.op) us u c.loop-k.invariant.operators c.in_ok-term.ensures.operator);
       known = λ at j d l. c.syn_expr.ensures.more _ (c.loop-k.invariant.known at j d l);
       valid = λ at.
@@ -65,22 +79,91 @@ returns-clause-term g t c =
     canonical-term nodes c.requires.good.stored.sane.sound.canonical (to_applied c.args.a.now) c.requires.full (form c.in_ok-node.node) (form c.forget_children.new.node) (g.met.L.LanguageChildren.fits c.in_ok-node.node) c.in_ok-node.ensures.node
     c.forget_children.ensures us n (λ j d e lt. c.loop-k.invariant.terms j d e (omega (arith, lt, c.loop-k.invariant.count)))
 
-pub returns-in_err-node-clause-full : goal.returns-in_err-node-clause-full
-returns-in_err-node-clause-full g t c e = elim (c.in_err-node.ensures.full (search rules)) [
-  | inl none ↦ inl none
-  | inr large ↦ inr (0, c.args.a.now.id.0, refl, large)
-]
+pub returns-clause-takes : goal.returns-clause-takes
+returns-clause-takes g t c at =
+    let nodes = nodes_of c.args.store.now in
+    let a = to_applied c.args.a.now in
+    let f : Form = g.L.LanguageChildren.form c.in_ok-node.node in
+    makes-more _ (term_binders nodes a.0) c.args.table.now c.loop-k.table (c.loop-k.invariant.made at)
+    (children_within nodes c.requires.good.stored.sane.sound.canonical a c.requires.full f c.in_ok-node.ensures.node c.loop-k.k)
 
-pub returns-in_err-term-clause-full : goal.returns-in_err-term-clause-full
-returns-in_err-term-clause-full g t c e =
+pub returns-in_err-node-clause-takes : goal.returns-in_err-node-clause-takes
+returns-in_err-node-clause-takes g t c at =
+    let k = c.args.store.now in
+    let i = c.args.a.now.id.0 in
+    let lt : i < length k.classes = omega (arith, c.requires.full.in_range, length-nodes_of k) in
+    makes-more (node_binders (nodes_of k) i) (term_binders (nodes_of k) i) c.args.table.now c.syn_node.new.table (c.syn_node.ensures.takes at)
+    (node_within (nodes_of k) c.requires.good.stored.sane.sound.canonical i c.requires.full.in_range (node_at k i) (node_at-is k i lt))
+
+pub returns-in_err-child-clause-takes : goal.returns-in_err-child-clause-takes
+returns-in_err-child-clause-takes g t c at =
+    let nodes = nodes_of c.args.store.now in
+    let a = to_applied c.args.a.now in
+    let f : Form = g.L.LanguageChildren.form c.in_ok-node.node in
+    makes-more _ (term_binders nodes a.0) c.args.table.now c.loop-k.table (c.loop-k.invariant.made at)
+    (children_within nodes c.requires.good.stored.sane.sound.canonical a c.requires.full f c.in_ok-node.ensures.node c.loop-k.k)
+
+pub returns-in_err-term-clause-takes : goal.returns-in_err-term-clause-takes
+returns-in_err-term-clause-takes g t c at =
     let nodes = nodes_of c.args.store.now in
     let a = to_applied c.args.a.now in
     let f : Form = g.L.LanguageChildren.form c.in_ok-node.node in
     let lt : c.loop-k.k < length (children f.tree) = omega (arith, c.loop-k-test.true, c.applied_id_count-k-end.ensures) in
     let within : c.loop-k.k < length (child_ids f) = omega (arith, lt, length-ids f.tree f.names) in
     let is = ap to_applied c.in_ok-child.ensures.ok ∙ child_is f c.loop-k.k (0, []) (to_applied c.applied_id.result.now) lt c.applied_id.ensures.id c.applied_id.ensures.keys c.applied_id.ensures.names in
-    elim (c.in_err-term.ensures.full (search rules)) [
-      | inl none ↦ inl none
+    let names = child_names-known (λ s. IsTrue (is_known c.loop-k.table s)) f c.loop-k.k (c.loop-k.invariant.known at) in
+    let given : AllKnown c.loop-k.table (values c.in_ok-child.child.m) =
+    subst (λ (x : Applied). AllKnown c.loop-k.table (values x.1)) (sym (ap to_applied c.in_ok-child.ensures.ok)) (subst (AllKnown c.loop-k.table) (sym c.applied_id.ensures.names) names) in
+    let fresh = fresh_slots-more c.args.table.now c.loop-k.table c.args.store.now c.loop-k.invariant.more at.0 in
+    let whole = children_within nodes c.requires.good.stored.sane.sound.canonical a c.requires.full f c.in_ok-node.ensures.node (c.loop-k.k + 1) in
+    makes-then _ (term_binders nodes c.in_ok-child.child.id.0) (term_binders nodes a.0) c.args.table.now c.loop-k.table c.syn_expr.new.table (c.loop-k.invariant.made at) (c.syn_expr.ensures.takes (fresh, given))
+    (omega (arith, whole, child_binders nodes (child_ids f) c.loop-k.k (to_applied c.in_ok-child.child) within is))
+
+pub returns-in_err-push-clause-takes : goal.returns-in_err-push-clause-takes
+returns-in_err-push-clause-takes g t c at =
+    let nodes = nodes_of c.args.store.now in
+    let a = to_applied c.args.a.now in
+    let f : Form = g.L.LanguageChildren.form c.in_ok-node.node in
+    let lt : c.loop-k.k < length (children f.tree) = omega (arith, c.loop-k-test.true, c.applied_id_count-k-end.ensures) in
+    let within : c.loop-k.k < length (child_ids f) = omega (arith, lt, length-ids f.tree f.names) in
+    let is = ap to_applied c.in_ok-child.ensures.ok ∙ child_is f c.loop-k.k (0, []) (to_applied c.applied_id.result.now) lt c.applied_id.ensures.id c.applied_id.ensures.keys c.applied_id.ensures.names in
+    let names = child_names-known (λ s. IsTrue (is_known c.loop-k.table s)) f c.loop-k.k (c.loop-k.invariant.known at) in
+    let given : AllKnown c.loop-k.table (values c.in_ok-child.child.m) =
+    subst (λ (x : Applied). AllKnown c.loop-k.table (values x.1)) (sym (ap to_applied c.in_ok-child.ensures.ok)) (subst (AllKnown c.loop-k.table) (sym c.applied_id.ensures.names) names) in
+    let fresh = fresh_slots-more c.args.table.now c.loop-k.table c.args.store.now c.loop-k.invariant.more at.0 in
+    let whole = children_within nodes c.requires.good.stored.sane.sound.canonical a c.requires.full f c.in_ok-node.ensures.node (c.loop-k.k + 1) in
+    makes-then _ (term_binders nodes c.in_ok-child.child.id.0) (term_binders nodes a.0) c.args.table.now c.loop-k.table c.syn_expr.new.table (c.loop-k.invariant.made at) (c.syn_expr.ensures.takes (fresh, given))
+    (omega (arith, whole, child_binders nodes (child_ids f) c.loop-k.k (to_applied c.in_ok-child.child) within is))
+
+pub returns-in_err-node-clause-full : goal.returns-in_err-node-clause-full
+returns-in_err-node-clause-full g t c e at =
+    let k = c.args.store.now in
+    let i = c.args.a.now.id.0 in
+    let lt : i < length k.classes = omega (arith, c.requires.full.in_range, length-nodes_of k) in
+    elim (c.in_err-node.ensures.full (search rules) at) [
+      | inl out ↦
+          inl (runs_out-more (node_binders (nodes_of k) i) (term_binders (nodes_of k) i) c.args.table.now c.syn_node.new.table out
+          (node_within (nodes_of k) c.requires.good.stored.sane.sound.canonical i c.requires.full.in_range (node_at k i) (node_at-is k i lt)))
+      | inr large ↦ inr (0, i, refl, large)
+    ]
+
+pub returns-in_err-term-clause-full : goal.returns-in_err-term-clause-full
+returns-in_err-term-clause-full g t c e at =
+    let nodes = nodes_of c.args.store.now in
+    let a = to_applied c.args.a.now in
+    let f : Form = g.L.LanguageChildren.form c.in_ok-node.node in
+    let lt : c.loop-k.k < length (children f.tree) = omega (arith, c.loop-k-test.true, c.applied_id_count-k-end.ensures) in
+    let within : c.loop-k.k < length (child_ids f) = omega (arith, lt, length-ids f.tree f.names) in
+    let is = ap to_applied c.in_ok-child.ensures.ok ∙ child_is f c.loop-k.k (0, []) (to_applied c.applied_id.result.now) lt c.applied_id.ensures.id c.applied_id.ensures.keys c.applied_id.ensures.names in
+    let names = child_names-known (λ s. IsTrue (is_known c.loop-k.table s)) f c.loop-k.k (c.loop-k.invariant.known at) in
+    let given : AllKnown c.loop-k.table (values c.in_ok-child.child.m) =
+    subst (λ (x : Applied). AllKnown c.loop-k.table (values x.1)) (sym (ap to_applied c.in_ok-child.ensures.ok)) (subst (AllKnown c.loop-k.table) (sym c.applied_id.ensures.names) names) in
+    let fresh = fresh_slots-more c.args.table.now c.loop-k.table c.args.store.now c.loop-k.invariant.more at.0 in
+    let whole = children_within nodes c.requires.good.stored.sane.sound.canonical a c.requires.full f c.in_ok-node.ensures.node (c.loop-k.k + 1) in
+    elim (c.in_err-term.ensures.full (search rules) (fresh, given)) [
+      | inl out ↦
+          inl (runs_out-then _ (term_binders nodes c.in_ok-child.child.id.0) (term_binders nodes a.0) c.args.table.now c.loop-k.table c.syn_expr.new.table (c.loop-k.invariant.made at) out
+          (omega (arith, whole, child_binders nodes (child_ids f) c.loop-k.k (to_applied c.in_ok-child.child) within is)))
       | inr part ↦ inr (large_child_part nodes a f c.in_ok-node.ensures.node c.loop-k.k (0, []) within (to_applied c.in_ok-child.child) is part)
     ]
 

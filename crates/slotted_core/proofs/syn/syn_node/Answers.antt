@@ -8,17 +8,18 @@ use Rattle.slotted_nodes.specs.Form.{Form, IsSmall}
 use Rattle.slotted_languages.specs.NodeTerm.{nameless_node}
 use Rattle.slotted_languages.proofs.PutIn.{answer_is_known}
 use Rattle.slotted_slots.specs.Maps.{values}
-use Rattle.slotted_model.specs.Classes.{canonical_node, IsFull}
+use Rattle.slotted_model.specs.Classes.{IsFull}
 use Rattle.slotted_theory.specs.FiniteMaps.{filled}
 use Rattle.slotted_theory.specs.Nameless.{moved}
 use Rattle.slotted_terms.specs.Valid.{AllKnown}
-use Rattle.slotted_core.specs.Canonical.{place_count}
+use Rattle.slotted_core.specs.Canonical.{binder_count, place_count}
 use Rattle.slotted_store.specs.Kept.{nodes_of}
 use Rattle.slotted_core.specs.Nodes.{child_ids}
 use Rattle.slotted_proofs.specs.Equations.{to_applied}
-use Rattle.slotted_core.specs.Syn.{KnowsSlotsAnd}
+use Rattle.slotted_core.specs.Syn.{KnowsSlotsAnd, node_binders}
+use Rattle.slotted_core.proofs.Binders.{binders_counted}
 use Rattle.slotted_core.proofs.FreshSlots.{stored-known}
-use Rattle.slotted_core.proofs.GivenNodes.{children-full, given-size, made-by_places, err-no_ok}
+use Rattle.slotted_core.proofs.GivenNodes.{children-full, given-size, made-by_binders, lacked-by_binders, err-no_ok}
 use Rattle.slotted_store.proofs.KeptLists.{length-nodes_of}
 use Rattle.slotted_core.proofs.CanonicalTerms.{node_at-is, knows-names, places-counted}
 use Rattle.slotted_core.proofs.syn.syn_node.Goals as goal
@@ -31,15 +32,20 @@ apply_slotmap-requires g c =
     knows-names (nodes_of k) a c.requires.full (g.L.LanguageChildren.form c.node_of.result.now) (ap nameless_node c.node_of.ensures ∙ node_at-is k a.0 lt)
 
 pub returns-clause-full : goal.returns-clause-full
-returns-clause-full g c e =
+returns-clause-full g c e at =
+    let form = g.L.LanguageChildren.form in
     let k = c.args.store.now in
     let a = to_applied c.args.a.now in
-    let f = g.L.LanguageChildren.form c.node_of.result.now in
+    let t = c.args.table.now in
+    let f : Form = form c.node_of.result.now in
+    let fits = g.met.L.LanguageChildren.fits c.node_of.result.now in
     let lt : a.0 < length k.classes = omega (arith, c.requires.full.in_range, length-nodes_of k) in
     let is = ap nameless_node c.node_of.ensures ∙ node_at-is k a.0 lt in
     elim (c.apply_slotmap.ensures.full e) [
-      | inl large ↦ inr (c.requires.full.in_range, omega (arith, large, ap place_count is, places-counted f (g.met.L.LanguageChildren.fits c.node_of.result.now)))
-      | inr out ↦ inl out.0
+      | inl large ↦ inr (c.requires.full.in_range, omega (arith, large, ap place_count is, places-counted f fits))
+      | inr out ↦
+          inl (lacked-by_binders t c.apply_slotmap.new.table f (values a.1) (node_binders (nodes_of k) a.0) (binders_counted f fits ∙ ap binder_count is)
+          (subst (λ (x : Form). AllKnown t x.names) (sym c.node_of.ensures) (stored-known t k c.requires.good at.0 a.0 lt)) at.1 c.apply_slotmap.ensures.more out)
     ]
 
 pub returns-clause-children : goal.returns-clause-children
@@ -87,7 +93,7 @@ returns-clause-takes g c at =
     let is = ap nameless_node c.node_of.ensures ∙ node_at-is k a.0 lt in
     record {
       names = c.apply_slotmap.ensures.kept;
-      taken = made-by_places t c.apply_slotmap.new.table f (values a.1) (place_count (canonical_node (nodes_of k) a.0))
-          (sym (places-counted f (g.met.L.LanguageChildren.fits c.node_of.result.now)) ∙ ap place_count is)
+      taken = made-by_binders t c.apply_slotmap.new.table f (values a.1) (node_binders (nodes_of k) a.0)
+          (binders_counted f (g.met.L.LanguageChildren.fits c.node_of.result.now) ∙ ap binder_count is)
           (subst (λ (x : Form). AllKnown t x.names) (sym c.node_of.ensures) (stored-known t k c.requires.good at.0 a.0 lt)) at.1 c.apply_slotmap.ensures.count;
     }

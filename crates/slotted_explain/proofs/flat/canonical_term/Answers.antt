@@ -4,6 +4,6 @@ use Rattle.slotted_explain.proofs.flat.canonical_term.Goals as goal
 
 pub returns-in_err-term-clause-full : goal.returns-in_err-term-clause-full
 returns-in_err-term-clause-full g c e = elim (c.in_err-term.ensures.full (search rules)) [
-  | inl none ↦ inl none
+  | inl out ↦ inl out.used
   | inr part ↦ inr (part.1, part.3.0, part.3.1)
 ]

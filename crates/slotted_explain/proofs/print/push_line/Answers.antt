@@ -8,10 +8,11 @@ use Rattle.slotted_proofs.specs.Entries.{Proven, proven_at, statement_at, step_o
 use Rattle.slotted_proofs.specs.Proving.{IsProved}
 use Rattle.slotted_proofs.specs.Reasons.{reason_text}
 use Rattle.slotted_core.specs.Image.{Image}
-use Rattle.slotted_core.specs.Causes.{HasLargePart}
 use Rattle.slotted_model.specs.Applied.{Applied}
 use Rattle.slotted_explain.specs.Printed.{IsLine}
+use Rattle.slotted_explain.proofs.PrintedLines.{side_later}
 use Rattle.slotted_explain.proofs.Sides.{left_valid, right_valid}
+use Rattle.slotted_explain.proofs.SlotsOfLines.{left_makes, both_make, left_lacks, right_lacks}
 use Rattle.slotted_explain.proofs.print.push_line.Goals as goal
 
 pub side_text-requires-clause-valid : goal.side_text-requires-clause-valid
@@ -57,17 +58,18 @@ returns-clause-line g c =
     let by_step = subst (λ (s : Step). IfSome (reason_text lines s (text_of c.proof.result.now)) (λ r. bytes ≡ r)) step c.in_ok-reason.ensures.ok in
     let by_text = subst (λ (o : Option (List ℕ)). IfSome (reason_text lines (proven_at graph.image.stored p).step o) (λ r. bytes ≡ r)) text by_step in
     let bs = decimal c.args.i ++ (codes ": " ++ (string_bytes c.in_ok-left.left ++ (codes " = " ++ (string_bytes c.in_ok-right.right ++ (codes " by " ++ (bytes ++ 10 ∷ [])))))) in
-    let line : IsLine g.L.Printable.written graph lines c.args.i p bs = record {
+    let line : IsLine g.L.Printable.written graph c.side_text-2.new.graph lines c.args.i p bs = record {
       left = to_applied e.l;
       right = to_applied e.r;
       sides = sides;
       left_text = string_bytes c.in_ok-left.left;
       right_text = string_bytes c.in_ok-right.right;
-      left_is = one.text;
+      left_is = side_later g.L.Printable.written graph c.side_text.new.graph c.side_text-2.new.graph two.takes.reads.more (to_applied e.l) (string_bytes c.in_ok-left.left) one.text;
       right_is = record {
         term = two.text.term;
         table = two.text.table;
         is = two.text.is ∙ ap (λ (x : Image). term_of x.canonical (to_applied e.r)) one.takes.reads.image;
+        known = two.text.known;
         names = two.text.names ∙ one.takes.names;
         bytes = two.text.bytes;
       };
@@ -77,16 +79,53 @@ returns-clause-line g c =
     } in
     (bs, line, c.in_ok-writeln.ensures.bytes)
 
+pub returns-clause-count : goal.returns-clause-count
+returns-clause-count g c =
+    let graph = c.args.graph.now in
+    let e = c.in_ok-equation.equation in
+    let sides : IsWritten (statement_at graph.image.stored c.args.p) e =
+    subst (λ (ps : List Proven). IsWritten (statement_at ps c.args.p) e) c.proofs.ensures.list (subst (IsWritten (statement_at c.proofs.result.now c.args.p)) (sym c.in_ok-equation.ensures.ok) c.equ.ensures) in
+    both_make graph c.args.p (to_applied e.l) (to_applied e.r) sides c.side_text.new.graph c.side_text-2.new.graph c.in_ok-left.ensures.takes.reads.image c.side_text.ensures.count c.side_text-2.ensures.count
+
+pub returns-in_err-left-clause-count : goal.returns-in_err-left-clause-count
+returns-in_err-left-clause-count g c =
+    let graph = c.args.graph.now in
+    let e = c.in_ok-equation.equation in
+    let sides : IsWritten (statement_at graph.image.stored c.args.p) e =
+    subst (λ (ps : List Proven). IsWritten (statement_at ps c.args.p) e) c.proofs.ensures.list (subst (IsWritten (statement_at c.proofs.result.now c.args.p)) (sym c.in_ok-equation.ensures.ok) c.equ.ensures) in
+    left_makes graph c.args.p (to_applied e.l) (to_applied e.r) sides c.side_text.new.graph c.side_text.ensures.count
+
+pub returns-in_err-right-clause-count : goal.returns-in_err-right-clause-count
+returns-in_err-right-clause-count g c =
+    let graph = c.args.graph.now in
+    let e = c.in_ok-equation.equation in
+    let sides : IsWritten (statement_at graph.image.stored c.args.p) e =
+    subst (λ (ps : List Proven). IsWritten (statement_at ps c.args.p) e) c.proofs.ensures.list (subst (IsWritten (statement_at c.proofs.result.now c.args.p)) (sym c.in_ok-equation.ensures.ok) c.equ.ensures) in
+    both_make graph c.args.p (to_applied e.l) (to_applied e.r) sides c.side_text.new.graph c.side_text-2.new.graph c.in_ok-left.ensures.takes.reads.image c.side_text.ensures.count c.side_text-2.ensures.count
+
+pub returns-in_err-reason-clause-count : goal.returns-in_err-reason-clause-count
+returns-in_err-reason-clause-count g c =
+    let graph = c.args.graph.now in
+    let e = c.in_ok-equation.equation in
+    let sides : IsWritten (statement_at graph.image.stored c.args.p) e =
+    subst (λ (ps : List Proven). IsWritten (statement_at ps c.args.p) e) c.proofs.ensures.list (subst (IsWritten (statement_at c.proofs.result.now c.args.p)) (sym c.in_ok-equation.ensures.ok) c.equ.ensures) in
+    both_make graph c.args.p (to_applied e.l) (to_applied e.r) sides c.side_text.new.graph c.side_text-2.new.graph c.in_ok-left.ensures.takes.reads.image c.side_text.ensures.count c.side_text-2.ensures.count
+
+pub returns-in_err-writeln-clause-count : goal.returns-in_err-writeln-clause-count
+returns-in_err-writeln-clause-count g c =
+    let graph = c.args.graph.now in
+    let e = c.in_ok-equation.equation in
+    let sides : IsWritten (statement_at graph.image.stored c.args.p) e =
+    subst (λ (ps : List Proven). IsWritten (statement_at ps c.args.p) e) c.proofs.ensures.list (subst (IsWritten (statement_at c.proofs.result.now c.args.p)) (sym c.in_ok-equation.ensures.ok) c.equ.ensures) in
+    both_make graph c.args.p (to_applied e.l) (to_applied e.r) sides c.side_text.new.graph c.side_text-2.new.graph c.in_ok-left.ensures.takes.reads.image c.side_text.ensures.count c.side_text-2.ensures.count
+
 pub returns-in_err-left-clause-full : goal.returns-in_err-left-clause-full
 returns-in_err-left-clause-full g c x =
     let graph = c.args.graph.now in
     let e = c.in_ok-equation.equation in
     let sides : IsWritten (statement_at graph.image.stored c.args.p) e =
     subst (λ (ps : List Proven). IsWritten (statement_at ps c.args.p) e) c.proofs.ensures.list (subst (IsWritten (statement_at c.proofs.result.now c.args.p)) (sym c.in_ok-equation.ensures.ok) c.equ.ensures) in
-    elim (c.in_err-left.ensures.full (search rules)) [
-      | inl none ↦ inl none
-      | inr part ↦ inr (inl (subst (HasLargePart graph.image.canonical) (ap (λ (a : Applied). a.0) sides.left) part))
-    ]
+    left_lacks graph c.args.p (to_applied e.l) (to_applied e.r) sides c.side_text.new.graph (c.in_err-left.ensures.full (search rules))
 
 pub returns-in_err-right-clause-full : goal.returns-in_err-right-clause-full
 returns-in_err-right-clause-full g c x =
@@ -94,9 +133,4 @@ returns-in_err-right-clause-full g c x =
     let e = c.in_ok-equation.equation in
     let sides : IsWritten (statement_at graph.image.stored c.args.p) e =
     subst (λ (ps : List Proven). IsWritten (statement_at ps c.args.p) e) c.proofs.ensures.list (subst (IsWritten (statement_at c.proofs.result.now c.args.p)) (sym c.in_ok-equation.ensures.ok) c.equ.ensures) in
-    elim (c.in_err-right.ensures.full (search rules)) [
-      | inl none ↦ inl none
-      | inr part ↦
-          let here : HasLargePart graph.image.canonical e.r.id.0 = subst (λ (y : Image). HasLargePart y.canonical e.r.id.0) c.in_ok-left.ensures.takes.reads.image part in
-          inr (inr (subst (HasLargePart graph.image.canonical) (ap (λ (a : Applied). a.0) sides.right) here))
-    ]
+    right_lacks graph c.args.p (to_applied e.l) (to_applied e.r) sides c.side_text.new.graph c.side_text-2.new.graph c.in_ok-left.ensures.takes.reads.image c.side_text.ensures.count (c.in_err-right.ensures.full (search rules))

@@ -4,12 +4,11 @@ use Rattle.std.proofs.lemmas.Bool.{false≢true}
 use Rattle.slotted_slots.specs.Maps.{values}
 use Rattle.slotted_nodes.specs.Form.{IsSmall}
 use Rattle.slotted_terms.specs.Valid.{AllKnown}
-use Rattle.slotted_model.specs.Classes.{canonical_node, IsFull}
+use Rattle.slotted_model.specs.Classes.{IsFull}
 use Rattle.slotted_core.specs.Graph.{Graph, MakesAtMost}
-use Rattle.slotted_core.specs.Canonical.{place_count}
 use Rattle.slotted_store.specs.Kept.{nodes_of}
 use Rattle.slotted_core.specs.Nodes.{child_ids}
-use Rattle.slotted_core.specs.Syn.{KnowsSlotsAnd}
+use Rattle.slotted_core.specs.Syn.{KnowsSlotsAnd, NodeRunsOut, node_binders}
 use Rattle.slotted_core.proofs.FreshSlots.{fresh_slots-more}
 use Rattle.slotted_core.proofs.GivenNodes.{ok-three}
 use Rattle.slotted_core.proofs.egraph.EGraph.get_syn_node.Goals as goal
@@ -50,6 +49,21 @@ returns-clause-count g c =
             | inl e ↦ absurd (false≢true (sym c.if-self.false ∙ (ap (λ (x : Graph). x.failed) c.self.view_is ∙ e)))
             | inr v ↦
                 let known = subst (λ (x : Graph). AllKnown x.table (values m)) (sym c.self.view_is) v.known in
-                subst (λ (x : Graph). MakesAtMost (place_count (canonical_node x.image.canonical i)) x.table c.syn_node.new.table) c.self.view_is (c.syn_node.ensures.takes (inv.1, known))
+                subst (λ (x : Graph). MakesAtMost (node_binders x.image.canonical i) x.table c.syn_node.new.table) c.self.view_is (c.syn_node.ensures.takes (inv.1, known))
+          ]
+    ]
+
+pub returns-clause-full : goal.returns-clause-full
+returns-clause-full g c out =
+    let m = c.args.a.now.m in
+    let i = c.args.a.now.id.0 in
+    elim c.self.invariant [
+      | inl e ↦ absurd (false≢true (sym c.if-self.false ∙ e))
+      | inr inv ↦
+          elim c.requires [
+            | inl e ↦ absurd (false≢true (sym c.if-self.false ∙ (ap (λ (x : Graph). x.failed) c.self.view_is ∙ e)))
+            | inr v ↦
+                let known = subst (λ (x : Graph). AllKnown x.table (values m)) (sym c.self.view_is) v.known in
+                subst (λ (x : Graph). NodeRunsOut x.image.canonical i x.table c.syn_node.new.table) c.self.view_is (c.syn_node.ensures.full out (inv.1, known))
           ]
     ]

@@ -44,8 +44,11 @@ returns-clause-text g c = record {
   printed = c.in_ok-text.ensures.text;
 }
 
+pub returns-clause-count : goal.returns-clause-count
+returns-clause-count g c = inr (c.in_ok-lines.lines, subst (λ (ps : List Proven). Lines ps [] (c.args.self ∷ []) c.in_ok-lines.lines) c.proofs.ensures.list c.in_ok-lines.ensures.ok, c.lines_text.ensures.count)
+
+pub returns-in_err-text-clause-count : goal.returns-in_err-text-clause-count
+returns-in_err-text-clause-count g c = inr (c.in_ok-lines.lines, subst (λ (ps : List Proven). Lines ps [] (c.args.self ∷ []) c.in_ok-lines.lines) c.proofs.ensures.list c.in_ok-lines.ensures.ok, c.lines_text.ensures.count)
+
 pub returns-in_err-text-clause-full : goal.returns-in_err-text-clause-full
-returns-in_err-text-clause-full g c e = elim (c.in_err-text.ensures.full (search rules)) [
-  | inl none ↦ inl none
-  | inr large ↦ inr (c.in_ok-lines.lines, subst (λ (ps : List Proven). Lines ps [] (c.args.self ∷ []) c.in_ok-lines.lines) c.proofs.ensures.list c.in_ok-lines.ensures.ok, large)
-]
+returns-in_err-text-clause-full g c e = (c.in_ok-lines.lines, subst (λ (ps : List Proven). Lines ps [] (c.args.self ∷ []) c.in_ok-lines.lines) c.proofs.ensures.list c.in_ok-lines.ensures.ok, c.in_err-text.ensures.full (search rules))

@@ -1,0 +1,136 @@
+-- Binders are counted alike in a node, in its nameless form and in its term: a canonical term has those of its node and those of
+-- its children's terms.
+use Rattle.std.proofs.Common.{◌≡◌, ◌<◌, ◌≤◌, ℕ, zero, suc, ◌+◌, List, [], ◌∷◌, ◌++◌, length, take, drop, take_all, cond, sym, ◌∙◌, ap, refl, subst, arith, length-append}
+use Rattle.std.specs.Prelude.{slice_index, slice_index_or, map, Option, Some, None, is_some}
+use Rattle.std.specs.List.{filter}
+use Rattle.std.proofs.lemmas.List.Elements.{filter-append}
+use Rattle.slotted_theory.specs.Nameless.{DArgs, DTerm, stop, place, sub, scope, extend, lift, moved, moved_args, nameless_args}
+use Rattle.slotted_theory.specs.FiniteMaps.{filled}
+use Rattle.slotted_theory.proofs.Values.{expand_args}
+use Rattle.slotted_nodes.specs.Form.{Form, Tree, leaf, own, child, bind, scopes, scope_end_of, end_at}
+use Rattle.slotted_languages.specs.Children.{below, binders, is_binder}
+use Rattle.slotted_languages.specs.NodeTerm.{own_names, node_args, nameless_node}
+use Rattle.slotted_languages.specs.Shape.{Fits}
+use Rattle.slotted_model.specs.Applied.{Applied, applied_of}
+use Rattle.slotted_model.specs.Classes.{canonical_node, canonical_term, term_at, term_of, terms, layer, layer_of, stands, IsFull, Canonical}
+use Rattle.slotted_model.proofs.Full.{canonical_term-layer, term_of-layer}
+use Rattle.slotted_core.specs.Canonical.{args_binders, binder_count, IsNodeOf}
+use Rattle.slotted_core.specs.Nodes.{ids_in, child_ids}
+use Rattle.slotted_core.specs.Syn.{node_binders, term_binders}
+
+-- other names, as many binders
+args_binders-moved : (ρ : ℕ → ℕ) (d : DArgs) → args_binders (moved_args ρ d) ≡ args_binders d
+args_binders-moved ρ stop = refl
+args_binders-moved ρ (place x rest) = args_binders-moved ρ rest
+args_binders-moved ρ (sub op payloads args rest) = λ i. args_binders-moved ρ args i + args_binders-moved ρ rest i
+args_binders-moved ρ (scope inner rest) = λ i. 1 + args_binders-moved (lift ρ) inner i + args_binders-moved ρ rest i
+
+-- at how many of the places binders stand
+
+abbrev one_binder : Option ℕ → ℕ
+one_binder None = 0
+one_binder (Some n) = 1
+
+abbrev places_binding : List (Option ℕ) → ℕ
+places_binding [] = 0
+places_binding (o ∷ os) = one_binder o + places_binding os
+
+binding-append : (os ps : List (Option ℕ)) → places_binding (os ++ ps) ≡ places_binding os + places_binding ps
+binding-append [] ps = omega arith
+binding-append (o ∷ os) ps = omega (arith, binding-append os ps)
+
+keys_bind_nothing : (ks : List ℕ) → places_binding (map {B = Option ℕ} (λ _. None) ks) ≡ 0
+keys_bind_nothing [] = refl
+keys_bind_nothing (k ∷ ks) = omega (arith, keys_bind_nothing ks)
+
+names_bind_nothing : (ρ : ℕ → ℕ) (xs : List ℕ) → args_binders (nameless_args ρ (own_names xs)) ≡ 0
+names_bind_nothing ρ [] = refl
+names_bind_nothing ρ (x ∷ xs) = names_bind_nothing ρ xs
+
+binders_in : (ρ : ℕ → ℕ) (t : Tree) (xs : List ℕ) → args_binders (nameless_args ρ (node_args t xs)) ≡ places_binding (scopes t)
+binders_in ρ leaf xs = refl
+binders_in ρ (own r) xs = omega (arith, binders_in ρ r (drop 1 xs))
+binders_in ρ (child i ks r) xs =
+    omega (arith, names_bind_nothing ρ (take (length ks) xs), binders_in ρ r (drop (length ks) xs), binding-append (map {B = Option ℕ} (λ _. None) ks) (scopes r), keys_bind_nothing ks)
+binders_in ρ (bind u r) xs =
+    let s = length (scopes u) in
+    omega (arith, binders_in (extend (slice_index xs 0) ρ) u (take s (drop 1 xs)), binders_in ρ r (drop s (drop 1 xs)), binding-append (scopes u) (scopes r))
+
+binding-next : (os : List (Option ℕ)) (k : ℕ) → k < length os → places_binding (take (suc k) os) ≡ places_binding (take k os) + one_binder (slice_index_or os k None)
+binding-next [] k l = absurd (omega arith)
+binding-next (o ∷ os) zero l = omega arith
+binding-next (o ∷ os) (suc k) l = omega (arith, binding-next os k (omega (arith, l)))
+
+one_counted : (k : ℕ) (o : Option ℕ) → length (cond (is_some (end_at k o)) (k ∷ []) []) ≡ one_binder o
+one_counted k None = refl
+one_counted k (Some n) = refl
+
+counted_below : (f : Form) (n : ℕ) → n ≤ length (scopes f.tree) → length (filter (is_binder f) (below n)) ≡ places_binding (take n (scopes f.tree))
+counted_below f zero l = refl
+counted_below f (suc n) l =
+    let parts = ap (λ xs. length xs) (filter-append (is_binder f) (below n) (n ∷ [])) ∙ length-append (filter (is_binder f) (below n)) (filter (is_binder f) (n ∷ [])) in
+    omega (arith, parts, counted_below f n (omega (arith, l)), one_counted n (slice_index_or (scopes f.tree) n None), binding-next (scopes f.tree) n (omega (arith, l)))
+
+-- the binders of a node are those of its nameless form
+pub binders_counted : (f : Form) → Fits f → binders f ≡ binder_count (nameless_node f)
+binders_counted f fits =
+    let all : places_binding (take (length f.names) (scopes f.tree)) ≡ places_binding (scopes f.tree) = ap places_binding (take_all (length f.names) (scopes f.tree) (omega (arith, fits))) in
+    counted_below f (length f.names) (omega (arith, fits)) ∙ all ∙ sym (binders_in (λ x. x) f.tree f.names)
+
+-- how many binders the terms of some ids have
+abbrev pub ids_binders : List DTerm → List Applied → ℕ
+ids_binders nodes [] = 0
+ids_binders nodes (a ∷ ids) = term_binders nodes a.0 + ids_binders nodes ids
+
+ids_binders-append : (nodes : List DTerm) (ids more : List Applied) → ids_binders nodes (ids ++ more) ≡ ids_binders nodes ids + ids_binders nodes more
+ids_binders-append nodes [] more = omega arith
+ids_binders-append nodes (a ∷ ids) more = omega (arith, ids_binders-append nodes ids more)
+
+ids_binders-next : (nodes : List DTerm) (ids : List Applied) (k : ℕ) (d : Applied) → k < length ids → ids_binders nodes (take (suc k) ids) ≡ ids_binders nodes (take k ids) + term_binders nodes (slice_index_or ids k d).0
+ids_binders-next nodes [] k d l = absurd (omega arith)
+ids_binders-next nodes (a ∷ ids) zero d l = omega arith
+ids_binders-next nodes (a ∷ ids) (suc k) d l = omega (arith, ids_binders-next nodes ids k d (omega (arith, l)))
+
+ids_binders-first : (nodes : List DTerm) (ids : List Applied) (k : ℕ) → ids_binders nodes (take k ids) ≤ ids_binders nodes ids
+ids_binders-first nodes ids zero = omega arith
+ids_binders-first nodes [] (suc k) = omega arith
+ids_binders-first nodes (a ∷ ids) (suc k) = omega (arith, ids_binders-first nodes ids k)
+
+-- a node over the terms of its children has its own binders and theirs
+expanded_binders : (nodes : List DTerm) (ρ : ℕ → ℕ) (t : Tree) (xs : List ℕ) → args_binders (expand_args (stands (terms nodes)) (nameless_args ρ (node_args t xs))) ≡ args_binders (nameless_args ρ (node_args t xs)) + ids_binders nodes (ids_in t xs)
+expanded_binders nodes ρ leaf xs = omega arith
+expanded_binders nodes ρ (own r) xs = omega (arith, expanded_binders nodes ρ r (drop 1 xs))
+expanded_binders nodes ρ (child i ks r) xs =
+    let given = applied_of ((i ∷ ks) ∷ []) (expand_args (stands (terms nodes)) (nameless_args ρ (own_names (take (length ks) xs)))) in
+    omega (arith, args_binders-moved (filled given.1) (term_at (terms nodes) i).args, names_bind_nothing ρ (take (length ks) xs), expanded_binders nodes ρ r (drop (length ks) xs))
+expanded_binders nodes ρ (bind u r) xs =
+    let s = length (scopes u) in
+    omega (arith, expanded_binders nodes (extend (slice_index xs 0) ρ) u (take s (drop 1 xs)), expanded_binders nodes ρ r (drop s (drop 1 xs)), ids_binders-append nodes (ids_in u (take s (drop 1 xs))) (ids_in r (drop s (drop 1 xs))))
+
+layer_binders : (nodes : List DTerm) (f : Form) → binder_count (layer_of nodes (nameless_node f)) ≡ binder_count (nameless_node f) + ids_binders nodes (child_ids f)
+layer_binders nodes f = expanded_binders nodes (λ x. x) f.tree f.names
+
+-- so has the canonical term of a class
+pub node_within : (nodes : List DTerm) → Canonical nodes → (i : ℕ) → i < length nodes → (f : Form) → nameless_node f ≡ canonical_node nodes i → node_binders nodes i ≤ term_binders nodes i
+node_within nodes can i lt f is =
+    let e : term_binders nodes i ≡ binder_count (layer_of nodes (nameless_node f)) = ap binder_count (canonical_term-layer nodes can i lt) ∙ ap (λ (d : DTerm). binder_count (layer_of nodes d)) (sym is) in
+    omega (arith, e, layer_binders nodes f, ap binder_count is)
+
+-- and the canonical term of an id, whose node is f
+module _ (nodes : List DTerm) (can : Canonical nodes) (a : Applied) (full : IsFull nodes a) (f : Form) (is : IsNodeOf nodes a f) where
+  parts_counted : term_binders nodes a.0 ≡ node_binders nodes a.0 + ids_binders nodes (child_ids f)
+  parts_counted =
+      let given : binder_count (term_of nodes a) ≡ term_binders nodes a.0 = args_binders-moved (filled a.1) (canonical_term nodes a.0).args in
+      let own : binder_count (nameless_node f) ≡ node_binders nodes a.0 = ap binder_count is ∙ args_binders-moved (filled a.1) (canonical_node nodes a.0).args in
+      let layered : binder_count (term_of nodes a) ≡ binder_count (layer_of nodes (nameless_node f)) = ap binder_count (term_of-layer nodes can a full) ∙ ap (λ (d : DTerm). binder_count (layer_of nodes d)) (sym is) in
+      omega (arith, given, own, layered, layer_binders nodes f)
+
+  -- the node and its first children have no more binders than the term
+  pub children_within : (k : ℕ) → node_binders nodes a.0 + ids_binders nodes (take k (child_ids f)) ≤ term_binders nodes a.0
+  children_within k = omega (arith, parts_counted, ids_binders-first nodes (child_ids f) k)
+
+-- one child more
+pub child_binders : (nodes : List DTerm) (ids : List Applied) (k : ℕ) (b : Applied) → k < length ids → b ≡ slice_index_or ids k (0, []) → ids_binders nodes (take (k + 1) ids) ≡ ids_binders nodes (take k ids) + term_binders nodes b.0
+child_binders nodes ids k b lt is =
+    let next : k + 1 ≡ suc k = omega arith in
+    ap (λ n. ids_binders nodes (take n ids)) next ∙ (ids_binders-next nodes ids k (0, []) lt ∙ ap (λ (x : Applied). ids_binders nodes (take k ids) + term_binders nodes x.0) (sym is))
