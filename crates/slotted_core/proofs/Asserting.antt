@@ -102,6 +102,7 @@ module _ (k : Kept) (good : Good k) (a b : Applied) (fa : IsFull (nodes_of k) a)
       sides = λ y c.
           let s : IsOverOneClass k y = good.stored.sides y c in
           record { left = s.left; right = s.right; class = s.class; slots = s.slots };
+      once = good.stored.once;
       settled = good.stored.settled;
     };
     settled = good.settled;

@@ -34,3 +34,4 @@ pub mod ValidTerms
 pub mod Sizes
 pub mod TermSlots
 pub mod GivenNodes
+pub mod ListedOnce

@@ -317,6 +317,7 @@ module _ (t u : Table) (k : Kept) (good : Good k) (over : HasFreshSlots t k) (f 
     sides = λ y c.
         let s : IsOverOneClass k y = good.stored.sides y c in
         record { left = (finds_on.finds y.0.0 s.left).0; right = (finds_on.finds y.0.1 s.right).0; class = s.class; slots = s.slots };
+    once = good.stored.once;
     settled = λ dropped y c.
         let listed : IsListed state y = good.stored.sane.each_listed y c in
         ap id_names (same_finds (left_of y) (left-valid state y listed))

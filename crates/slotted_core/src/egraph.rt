@@ -10,12 +10,12 @@ ghost use Rattle.slotted_model.specs.ProofList.{Proved};
 ghost use Rattle.slotted_proofs.specs.Entries.{explicit_numbers};
 ghost use Rattle.slotted_terms.specs.Valid.{IsValidTerm};
 ghost use Rattle.slotted_core.specs.Image.{no_classes, FoundAlike, SaysEqual, SaysDerivable, SaysTerms};
-ghost use Rattle.slotted_core.specs.Image.{AddsClasses, IsUnion, AreSymmetries, CountsOpen};
+ghost use Rattle.slotted_core.specs.Image.{AddsClasses, IsUnion, AreSymmetries, AreListedOnce, CountsOpen};
 ghost use Rattle.slotted_store.specs.Kept.{text_bytes, symmetry_entry};
 ghost use Rattle.slotted_core.specs.Graph.{IsValidId, IsValidNode, id_of_form, id_of_term, StandsForNode, OnlyReads};
 ghost use Rattle.slotted_core.specs.Graph.{MakesClassWhereNone, FilesOnlyNode, FilesOnlySubterms};
 ghost use Rattle.slotted_core.specs.Graph.{RecordsUnion, MakesAtMost, RunsOutIn, RunsOutForTerm};
-ghost use Rattle.slotted_core.specs.Causes.{HasLargeClass};
+ghost use Rattle.slotted_core.specs.Causes.{HasLargeClassOf};
 ghost use Rattle.slotted_proofs.specs.Equations.{to_applied};
 ghost use Rattle.slotted_core.specs.Places.{term_slots};
 ghost use Rattle.slotted_core.specs.Reads.{AnswersTerm, NodesAreRead};
@@ -287,7 +287,7 @@ impl<L: Language, N: Drop> EGraph<L, N> {
         ensures stays { IsTrue self.old.failed → self.new ≡ self.old }
         ensures failed { IsErrOf result Error.Failed ↔ IsTrue self.old.failed }
         ensures fails { IsTrue self.new.failed ↔ IsErr result }
-        ensures full { IsErrOf result Error.OutOfSlots → HasLargeClass self.old.image.canonical }
+        ensures full { IsErrOf result Error.OutOfSlots → HasLargeClassOf self.old.image (to_applied l.now) (to_applied r.now) }
         ensures only { IfErr result (λ e. (e ≡ Error.Failed) ⊎ IsShortage e) }
     {
         self.union_justified(l, r, None)
@@ -314,7 +314,7 @@ impl<L: Language, N: Drop> EGraph<L, N> {
         ensures stays { IsTrue self.old.failed → self.new ≡ self.old }
         ensures failed { IsErrOf result Error.Failed ↔ IsTrue self.old.failed }
         ensures fails { IsTrue self.new.failed ↔ IsErr result }
-        ensures full { IsErrOf result Error.OutOfSlots → HasLargeClass self.old.image.canonical }
+        ensures full { IsErrOf result Error.OutOfSlots → HasLargeClassOf self.old.image (to_applied l.now) (to_applied r.now) }
         ensures only { IfErr result (λ e. (e ≡ Error.Failed) ⊎ IsShortage e) }
     {
         if self.failed {
@@ -331,6 +331,7 @@ impl<L: Language, N: Drop> EGraph<L, N> {
     pub fn symmetries_met(&self) -> &[Symmetry]
         ensures list { map symmetry_entry result.now ≡ self.now.image.symmetries }
         ensures each { IsTrue self.now.failed ⊎ AreSymmetries self.now.image }
+        ensures once { IsTrue self.now.failed ⊎ AreListedOnce self.now.image }
     {
         self.store.symmetries()
     }

@@ -188,6 +188,58 @@ fn equal_terms_are_explained(rt: HostRuntime) -> Result<(), Error> {
     check_tables::<Small>(&rt, rt.alloc(), &[EXPLAINED, LOST, SWAPPED])
 }
 
+// Of two classes the one with fewer canonical slots is kept, whichever side it stands on: so a union with the other one enters what it
+// says of the kept class, and an explanation of that enters nothing. The ids of `d` and `e` put entries behind it.
+const FEWER_SLOTS: &str = "union: (f $x $y) == (g $x) => yes
+union: (f $x $y) == (var $x) => yes
+ids: d == e => two classes
+explain: (g $x) == (var $x) => explained
+number 0 last => no";
+
+const FEWER_SLOTS_LEFT: &str = "union: (g $x) == (f $x $y) => yes
+union: (f $x $y) == (var $x) => yes
+ids: d == e => two classes
+explain: (g $x) == (var $x) => explained
+number 0 last => no";
+
+// Of two with as many the one with more nodes in it and over it is.
+const HEAVIER: &str = "ids: (app b b) == a => two classes
+union: a == b => yes
+union: a == c => yes
+ids: d == e => two classes
+explain: b == c => explained
+number 0 last => no";
+
+const HEAVIER_LEFT: &str = "ids: (app b b) == a => two classes
+union: b == a => yes
+union: a == c => yes
+ids: d == e => two classes
+explain: b == c => explained
+number 0 last => no";
+
+// What a union with the kept class says is new for the other one.
+const LIGHTER: &str = "ids: (app b b) == a => two classes
+union: a == b => yes
+union: b == c => yes
+ids: d == e => two classes
+explain: a == c => explained
+number 0 last => yes";
+
+#[test]
+fn the_class_with_fewer_slots_or_more_nodes_is_kept(rt: HostRuntime) -> Result<(), Error> {
+    check_tables::<Small>(
+        &rt,
+        rt.alloc(),
+        &[
+            FEWER_SLOTS,
+            FEWER_SLOTS_LEFT,
+            HEAVIER,
+            HEAVIER_LEFT,
+            LIGHTER,
+        ],
+    )
+}
+
 // There has to be a part for each child, in their order, and a turned equation is another one.
 const IN_ORDER: &str = "reflexive: (app a c) == (app b d) => BadStep
 assert: a == b => accepted

@@ -82,6 +82,7 @@ module _ (k : Kept) (good : Stored k) (i : ℕ) (x : Entry) (dropped : Bool) (mo
           class = (good.sides y c).class;
           slots = (good.sides y c).slots;
         };
+        once = good.once;
         settled = λ d y c. subst (λ (g : State). IsAligned g y) back (settled d y c);
       }
 

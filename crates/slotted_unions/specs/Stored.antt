@@ -1,8 +1,9 @@
 -- What holds of what is kept between all inner steps of a union.
---     Stored k     the state is sane, its proof list is proved, and each listed symmetry is written over ids that find
+--     Stored k     the state is sane, its proof list is proved, and each listed symmetry is written over ids that find; no proof is listed twice
 --     Grows k l    classes and rows are as they were, and the proof list and the listed symmetries grew at their ends
-use Rattle.std.specs.Prelude.{◌≡◌, ℕ, List, ◌++◌, Contains, false}
+use Rattle.std.specs.Prelude.{◌≡◌, ℕ, List, ◌++◌, Contains, false, map}
 use Rattle.slotted_model.specs.Applied.{keys}
+use Rattle.slotted_model.specs.Correspondence.{AllDifferent}
 use Rattle.slotted_model.specs.Link.{IsLater}
 use Rattle.slotted_model.specs.Rest.{Sane, IsAligned}
 use Rattle.slotted_model.specs.State.{Symmetry}
@@ -19,11 +20,16 @@ pub record IsOverOneClass (k : Kept) (y : SymmetryEntry) : Type 0 where
   pub class : y.0.1.0 ≡ y.0.0.0
   pub slots : keys y.0.1.1 ≡ keys y.0.0.1
 
+-- the numbers of the proofs of the listed symmetries
+abbrev pub proofs_listed : Kept → List ℕ
+proofs_listed k = map (λ (y : SymmetryEntry). y.1) k.symmetries
+
 pub record Stored (k : Kept) : Type 0 where
   pub sane : Sane (state_of k)
   pub proved : IsProved (nodes_of k) k.proofs
   pub later : IsLater (entries_of k) k.moment
   pub sides : (y : SymmetryEntry) → Contains k.symmetries y → IsOverOneClass k y
+  pub once : AllDifferent (proofs_listed k)
   pub settled : k.dropped ≡ false → (y : Symmetry) → Contains (state_of k).symmetries y → IsAligned (state_of k) y
 
 -- from k to l no class is made and none gets another node, and entries and symmetries stay, with their texts
