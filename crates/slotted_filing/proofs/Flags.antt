@@ -1,6 +1,6 @@
 -- The flags of what waits, as it comes and goes.
-use Rattle.std.proofs.Common.{◌≡◌, ℕ, zero, suc, ◌<◌, List, [], ◌∷◌, ◌++◌, length, Bool, true, false, sym, ◌∙◌, ap, refl, subst, inl, inr, arith}
-use Rattle.std.specs.Prelude.{Contains, IsTrue, ◌⊎◌, ◌↔◌, slice_index_or, set}
+use Rattle.std.proofs.Common.{◌≡◌, ℕ, zero, suc, ◌<◌, List, [], ◌∷◌, ◌++◌, length, Bool, true, false, sym, ◌∙◌, refl, subst, inl, inr, arith}
+use Rattle.std.specs.Prelude.{Contains, IsTrue, ◌↔◌, slice_index_or, set}
 use Rattle.std.proofs.lemmas.Bool.{cases_eq, false≢true}
 use Rattle.std.proofs.lemmas.List.{get_or-set_same, get_or-set_other}
 use Rattle.std.proofs.lemmas.List.Elements.{Contains-append_left, Contains-append_right, Contains-append_cases}
@@ -17,12 +17,6 @@ flag-within (b ∷ flags) (suc i) h = let w = flag-within flags i h in omega ari
 -- what waits is one of those that have a flag
 pub waiting-within : {flags : List Bool} {q : List ℕ} → HasFlags flags q → (i : ℕ) → Contains q i → i < length flags
 waiting-within {flags} h i c = flag-within flags i ((h.tells i).1 c)
-
--- a flag that was read
-pub flag-read : (flags : List Bool) (i : ℕ) (b : Bool) → i < length flags → b ≡ slice_index_or flags i b → slice_index_or flags i false ≡ b
-flag-read [] i b w e = absurd (omega (arith, w))
-flag-read (f ∷ flags) zero b w e = sym e
-flag-read (f ∷ flags) (suc i) b w e = flag-read flags i b (omega (arith, w)) e
 
 -- one more flag, which is down
 flag-added : (flags : List Bool) (i : ℕ) → slice_index_or (flags ++ false ∷ []) i false ≡ slice_index_or flags i false

@@ -1,4 +1,4 @@
-use Rattle.std.proofs.Common.{subst, sym, arith}
+use Rattle.std.proofs.Common.{subst, arith}
 use Rattle.slotted_theory.proofs.Lists.{contains_head}
 use Rattle.slotted_filing.specs.Waiting.{HasFlags}
 use Rattle.slotted_filing.proofs.Flags.{flags-popped, waiting-within}
