@@ -11,6 +11,5 @@ pub mod Causes
 pub mod Checks
 pub mod Good
 pub mod SmallNodes
-pub mod Frames
 pub mod Syn
 pub mod Explaining

@@ -265,6 +265,12 @@ transitive 10: a == c => BadStep
 transitive 01: c == a => BadStep
 transitive 01: a == c => accepted";
 
+// A middle whose slots are dropped: the names of the two sides are their own, and one name for both is refused, which enters nothing.
+const OTHER_NAMES: &str = "assert: (g $0) == (f $0 $1) => accepted
+assert: (f $0 $1) == (app (var $1) (var $1)) => accepted
+transitive 01: (g $2) == (app (var $2) (var $2)) => BadStep
+transitive 01: (g $2) == (app (var $3) (var $3)) => accepted";
+
 // That the class of a child equals itself says nothing of which of its slots are bound.
 const BOUND_FIRST: &str = "reflexive: (lam $x (f $x $y)) == (lam $x (f $y $x)) => BadStep
 reflexive: (f $0 $1) == (f $0 $1) => accepted
@@ -302,6 +308,7 @@ fn steps_are_checked(rt: HostRuntime) -> Result<(), Error> {
             IN_ORDER,
             PARENTS,
             THROUGH,
+            OTHER_NAMES,
             BOUND_FIRST,
             BOUND_OR_FREE,
             PAST_THE_LIST,
