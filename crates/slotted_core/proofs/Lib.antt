@@ -2,6 +2,7 @@ pub mod GoodFinds
 pub mod CanonicalTerms
 pub mod FreshSlots
 pub mod Images
+pub mod FindableIds
 pub mod RowLookUps
 pub mod NewClass
 pub mod FullIds

@@ -80,6 +80,46 @@ valid bare 2: a => no
 valid over: (g $0) == (g $1) => yes
 valid over: (g $0) == (var $0) => no";
 
+// After a union that drops all slots of `(f $0 $1)` its class alone can be asked. Other names are asked for as before.
+const FINDABLE_IDS: &str = "graph knows x => no
+findable first 0: (f $0 $1) => yes
+findable bare 0: (f $0 $1) => no
+union: (f $0 $1) == a => yes
+findable bare 0: a => yes
+valid bare 0: a => no
+changed bare 0: a == a => equal
+changed bare 0: a == (f $1 $2) => equal
+changed bare 0: a == b => two classes
+findable first 2: (f $0 $1) => yes
+findable first 1: (f $0 $1) => no
+findable second unknown: (f $0 $1) => no
+findable more 2: (f $0 $1) => no
+findable bare 7: a => no";
+
+// Symmetries that were met are open until their sides are equal, also where a slot was dropped before: the second is one of a class
+// that has no name for `$2`.
+const MET: &str = "graph sides 0 => none
+union: (f $0 $1) == (f $1 $0) => yes
+graph sides 0 => one class
+graph counted => yes
+union: (app (f $0 $1) (g $2)) == (app (f $0 $1) (g $3)) => yes
+union: (app (f $0 $1) (g $2)) == (app (f $1 $0) (g $2)) => yes
+graph sides 1 => one class
+graph counted => yes
+union: (f $0 $1) == (g $0) => yes
+graph sides 0 => equal
+graph sides 1 => one class
+graph counted => yes
+union: (app (f $0 $1) (g $2)) == a => yes
+graph sides 1 => equal
+graph sides 2 => none
+graph counted => yes";
+
+#[test]
+fn symmetries_are_asked(rt: HostRuntime) -> Result<(), Error> {
+    check_tables::<Small>(&rt, rt.alloc(), &[FINDABLE_IDS, MET])
+}
+
 // A node has known slots and valid children: the graph has the class 0 alone.
 const VALID_NODES: &str = "ids: a => equal
 node valid: (g $0) => yes

@@ -59,7 +59,7 @@ module _ (k : Kept) (stored : Stored k) (ps : List Proven) (proved : IsProved (n
     later = stored.later;
     sides = λ y c.
         let s : IsOverOneClass k y = stored.sides y c in
-        record { left = s.left; right = s.right; class = s.class; slots = s.slots };
+        record { left = s.left; right = s.right; class = s.class; slots = s.slots; left_known = s.left_known; right_known = s.right_known };
     once = stored.once;
     settled = stored.settled;
   }

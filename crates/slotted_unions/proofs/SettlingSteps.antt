@@ -57,7 +57,7 @@ settled-now k l stored aligned e = subst (SettlesAll k) (sym e) (record {
     sane = stored.sane;
     proved = stored.proved;
     later = stored.later;
-    sides = λ y c. let s = stored.sides y c in record { left = s.left; right = s.right; class = s.class; slots = s.slots };
+    sides = λ y c. let s = stored.sides y c in record { left = s.left; right = s.right; class = s.class; slots = s.slots; left_known = s.left_known; right_known = s.right_known };
     once = stored.once;
     settled = λ _. aligned;
   };
