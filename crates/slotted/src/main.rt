@@ -4,6 +4,7 @@
 ghost use Rattle.std.specs.Prelude.{◌≡◌, IfOk, IfErr, IfSome, OnSome, OnOk};
 ghost use Rattle.std.specs.Io.KnownBytes.{Appends, IsAtEnd};
 ghost use Rattle.slotted_languages.specs.Small.{small_read};
+ghost use Rattle.slotted_terms.specs.SmallWritten.{small_written};
 ghost use Rattle.slotted_commands.specs.Streams.{SessionWrites};
 
 use slotted_commands::answer_session;
@@ -21,7 +22,7 @@ pub fn answer_lines<R: BufRead, W: Write>(
     input: &mut R,
     output: &mut W,
 ) -> io::Result<()>
-    ensures answers { OnOk result (IfSome (R.remaining input.old) (λ bytes. SessionWrites small_read bytes
+    ensures answers { OnOk result (IfSome (R.remaining input.old) (λ bytes. SessionWrites small_read small_written bytes
         (Appends (W.contents output.old) (W.contents output.new)))) }
     ensures end { OnOk result (OnSome (R.remaining input.old) (IsAtEnd (R.remaining input.new))) }
 {

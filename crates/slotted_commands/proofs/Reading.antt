@@ -5,6 +5,7 @@ use Rattle.std.specs.Io.BufRead.{take_through, drop_through, strip_last, DropsTh
 use Rattle.std.specs.Io.KnownBytes.{Appends, IsAtEnd, Keeps}
 use Rattle.std.proofs.lemmas.Bool.{cases_eq, eq-eqb, ne_eqb, lt-ltb, eqb-true, false≢true}
 use Rattle.std.proofs.lemmas.List.{append-nil}
+use Rattle.slotted_theory.specs.Term.{Term}
 use Rattle.slotted_slots.specs.Syntax.{Element}
 use Rattle.slotted_nodes.specs.Form.{Form}
 use Rattle.slotted_core.specs.Graph.{Graph}
@@ -54,14 +55,14 @@ lines_of-some b (c ∷ cs) = elim (cases_eq b 10) [
 
 -- from r₀ to r these bytes were read, and from g₀ on their lines have written what c holds more than c₀: whatever the lines
 -- to come write over g is what all lines write after it
-pub record SoFar (read : List Element → Option Form) (g₀ g : Graph) (c₀ c : Option (List ℕ)) (input rest : List ℕ) : Type 0 where
+pub record SoFar (read : List Element → Option Form) (written : Term → List Element) (g₀ g : Graph) (c₀ c : Option (List ℕ)) (input rest : List ℕ) : Type 0 where
   pub bytes : List ℕ
-  pub written : Appends c₀ c bytes
-  pub goes_on : (more : List ℕ) (h : Graph) → LinesWrite read g (lines_of rest) more h → LinesWrite read g₀ (lines_of input) (bytes ++ more) h
+  pub appended : Appends c₀ c bytes
+  pub goes_on : (more : List ℕ) (h : Graph) → LinesWrite read written g (lines_of rest) more h → LinesWrite read written g₀ (lines_of input) (bytes ++ more) h
 
 -- the same of a reader, where its bytes are known
-abbrev pub ReadSoFar : (List Element → Option Form) → Graph → Graph → Option (List ℕ) → Option (List ℕ) → Option (List ℕ) → Option (List ℕ) → Type 0
-ReadSoFar read g₀ g r₀ r c₀ c = IfSome r₀ (λ input. (rest : List ℕ) × (r ≡ Some rest) × SoFar read g₀ g c₀ c input rest)
+abbrev pub ReadSoFar : (List Element → Option Form) → (Term → List Element) → Graph → Graph → Option (List ℕ) → Option (List ℕ) → Option (List ℕ) → Option (List ℕ) → Type 0
+ReadSoFar read written g₀ g r₀ r c₀ c = IfSome r₀ (λ input. (rest : List ℕ) × (r ≡ Some rest) × SoFar read written g₀ g c₀ c input rest)
 
 pub Appends-nothing : (c : Option (List ℕ)) → Appends c c []
 Appends-nothing None = tt
@@ -73,46 +74,46 @@ Appends-then (Some x) None c xs ys p q = absurd p
 Appends-then (Some x) (Some y) None xs ys p q = absurd q
 Appends-then (Some x) (Some y) (Some z) xs ys p q = q ∙ ap (λ w. w ++ ys) p ∙ append_assoc x xs ys
 
-pub so_far_starts : (read : List Element → Option Form) (g : Graph) (r c : Option (List ℕ)) → ReadSoFar read g g r r c c
-so_far_starts read g None c = tt
-so_far_starts read g (Some xs) c = (xs, refl, record { bytes = []; written = Appends-nothing c; goes_on = λ more h w. w })
+pub so_far_starts : (read : List Element → Option Form) (written : Term → List Element) (g : Graph) (r c : Option (List ℕ)) → ReadSoFar read written g g r r c c
+so_far_starts read written g None c = tt
+so_far_starts read written g (Some xs) c = (xs, refl, record { bytes = []; appended = Appends-nothing c; goes_on = λ more h w. w })
 
 -- at the end of the input all its lines are answered
-pub so_far_ends : (read : List Element → Option Form) (g₀ g : Graph) (r₀ r c₀ c : Option (List ℕ)) → ReadSoFar read g₀ g r₀ r c₀ c → IsAtEnd r → IfSome r₀ (λ input. WritesFrom read g₀ input (Appends c₀ c))
-so_far_ends read g₀ g None r c₀ c s e = tt
-so_far_ends read g₀ g (Some input) None c₀ c s e = cc (s.1)
-so_far_ends read g₀ g (Some input) (Some left) c₀ c s e =
+pub so_far_ends : (read : List Element → Option Form) (written : Term → List Element) (g₀ g : Graph) (r₀ r c₀ c : Option (List ℕ)) → ReadSoFar read written g₀ g r₀ r c₀ c → IsAtEnd r → IfSome r₀ (λ input. WritesFrom read written g₀ input (Appends c₀ c))
+so_far_ends read written g₀ g None r c₀ c s e = tt
+so_far_ends read written g₀ g (Some input) None c₀ c s e = cc (s.1)
+so_far_ends read written g₀ g (Some input) (Some left) c₀ c s e =
     let done : s.0 ≡ [] = cc (s.1, e) in
-    let all = s.2.goes_on [] g (subst (λ x. LinesWrite read g (lines_of x) [] g) (sym done) no_line) in
-    (s.2.bytes, g, subst (λ b. LinesWrite read g₀ (lines_of input) b g) (append-nil s.2.bytes) all, s.2.written)
+    let all = s.2.goes_on [] g (subst (λ x. LinesWrite read written g (lines_of x) [] g) (sym done) no_line) in
+    (s.2.bytes, g, subst (λ b. LinesWrite read written g₀ (lines_of input) b g) (append-nil s.2.bytes) all, s.2.appended)
 
 -- one more line is answered
-pub so_far_steps : (read : List Element → Option Form) (g₀ g h : Graph) (r₀ r r' c₀ c c' : Option (List ℕ)) (line bs : List ℕ)
-    → ReadSoFar read g₀ g r₀ r c₀ c → IfSome r (λ xs. line ≡ take_through 10 xs) → DropsThrough r r' 10 → 0 < length line → LineWrites read g (strip_last 10 line) bs h → Appends c c' bs
-    → ReadSoFar read g₀ h r₀ r' c₀ c'
-so_far_steps read g₀ g h None r r' c₀ c c' line bs s is_line drops some writes appends = tt
-so_far_steps read g₀ g h (Some input) None r' c₀ c c' line bs s is_line drops some writes appends = cc (s.1)
-so_far_steps read g₀ g h (Some input) (Some []) r' c₀ c c' line bs s is_line drops some writes appends = absurd (omega (arith, some, ap length is_line))
-so_far_steps read g₀ g h (Some input) (Some (b ∷ left)) r' c₀ c c' line bs s is_line drops some writes appends =
+pub so_far_steps : (read : List Element → Option Form) (written : Term → List Element) (g₀ g h : Graph) (r₀ r r' c₀ c c' : Option (List ℕ)) (line bs : List ℕ)
+    → ReadSoFar read written g₀ g r₀ r c₀ c → IfSome r (λ xs. line ≡ take_through 10 xs) → DropsThrough r r' 10 → 0 < length line → LineWrites read written g (strip_last 10 line) bs h → Appends c c' bs
+    → ReadSoFar read written g₀ h r₀ r' c₀ c'
+so_far_steps read written g₀ g h None r r' c₀ c c' line bs s is_line drops some writes appends = tt
+so_far_steps read written g₀ g h (Some input) None r' c₀ c c' line bs s is_line drops some writes appends = cc (s.1)
+so_far_steps read written g₀ g h (Some input) (Some []) r' c₀ c c' line bs s is_line drops some writes appends = absurd (omega (arith, some, ap length is_line))
+so_far_steps read written g₀ g h (Some input) (Some (b ∷ left)) r' c₀ c c' line bs s is_line drops some writes appends =
     let same : s.0 ≡ b ∷ left = cc (s.1) in
-    let first : LineWrites read g (strip_last 10 (take_through 10 (b ∷ left))) bs h = subst (λ l. LineWrites read g (strip_last 10 l) bs h) is_line writes in
+    let first : LineWrites read written g (strip_last 10 (take_through 10 (b ∷ left))) bs h = subst (λ l. LineWrites read written g (strip_last 10 l) bs h) is_line writes in
     let lines : lines_of s.0 ≡ strip_last 10 (take_through 10 (b ∷ left)) ∷ lines_of (drop_through 10 (b ∷ left)) = ap lines_of same ∙ lines_of-some b left in (
       drop_through 10 (b ∷ left),
       drops,
       record {
         bytes = s.2.bytes ++ bs;
-        written = Appends-then c₀ c c' s.2.bytes bs s.2.written appends;
-        goes_on = λ more k w. subst (λ x. LinesWrite read g₀ (lines_of input) x k) (sym (append_assoc s.2.bytes bs more))
-            (s.2.goes_on (bs ++ more) k (subst (λ ls. LinesWrite read g ls (bs ++ more) k) (sym lines) (next_line first w)));
+        appended = Appends-then c₀ c c' s.2.bytes bs s.2.appended appends;
+        goes_on = λ more k w. subst (λ x. LinesWrite read written g₀ (lines_of input) x k) (sym (append_assoc s.2.bytes bs more))
+            (s.2.goes_on (bs ++ more) k (subst (λ ls. LinesWrite read written g ls (bs ++ more) k) (sym lines) (next_line first w)));
       },
     )
 
 -- and the reader is at its end
-pub stays_at_end : (read : List Element → Option Form) (g₀ g : Graph) (r₀ r r' c₀ c : Option (List ℕ)) → ReadSoFar read g₀ g r₀ r c₀ c → IsAtEnd r → DropsThrough r r' 10 → OnSome r₀ (IsAtEnd r')
-stays_at_end read g₀ g None r r' c₀ c s e drops = tt
-stays_at_end read g₀ g (Some input) None r' c₀ c s e drops = cc (s.1)
-stays_at_end read g₀ g (Some input) (Some []) r' c₀ c s e drops = subst IsAtEnd (sym drops) refl
-stays_at_end read g₀ g (Some input) (Some (b ∷ left)) r' c₀ c s e drops = cc
+pub stays_at_end : (read : List Element → Option Form) (written : Term → List Element) (g₀ g : Graph) (r₀ r r' c₀ c : Option (List ℕ)) → ReadSoFar read written g₀ g r₀ r c₀ c → IsAtEnd r → DropsThrough r r' 10 → OnSome r₀ (IsAtEnd r')
+stays_at_end read written g₀ g None r r' c₀ c s e drops = tt
+stays_at_end read written g₀ g (Some input) None r' c₀ c s e drops = cc (s.1)
+stays_at_end read written g₀ g (Some input) (Some []) r' c₀ c s e drops = subst IsAtEnd (sym drops) refl
+stays_at_end read written g₀ g (Some input) (Some (b ∷ left)) r' c₀ c s e drops = cc
 
 -- what was read into an empty buffer
 pub only_line : (r : Option (List ℕ)) (old new line : List ℕ) → IfSome r (λ xs. new ≡ old ++ take_through 10 xs) → old ≡ [] → line ≡ new → IfSome r (λ xs. line ≡ take_through 10 xs)
@@ -134,12 +135,12 @@ Appends-kept (Some x) (Some y) None xs p k = absurd k
 Appends-kept (Some x) (Some y) (Some z) xs p k = k ∙ p
 
 -- one line that is text was answered, and the answer written out
-pub line_answered : (read : List Element → Option Form) (g h : Graph) (a : Answer) (line bytes text : List ℕ) (c₀ c₁ c₂ : Option (List ℕ))
-    → bytes ≡ line → text ≡ bytes → IsUtf8 bytes → (length text == 0) ≡ false → Answered read g h (command_of text) a → Appends c₀ c₁ (text_of a ++ 10 ∷ []) → Keeps c₁ c₂
-    → (bs : List ℕ) × LineWrites read g line bs h × Appends c₀ c₂ bs
-line_answered read g h a line bytes text c₀ c₁ c₂ same is_text utf8 some answered appends keeps = (
+pub line_answered : (read : List Element → Option Form) (written : Term → List Element) (g h : Graph) (a : Answer) (line bytes text : List ℕ) (c₀ c₁ c₂ : Option (List ℕ))
+    → bytes ≡ line → text ≡ bytes → IsUtf8 bytes → (length text == 0) ≡ false → Answered read written g h (command_of text) a → Appends c₀ c₁ (text_of a ++ 10 ∷ []) → Keeps c₁ c₂
+    → (bs : List ℕ) × LineWrites read written g line bs h × Appends c₀ c₂ bs
+line_answered read written g h a line bytes text c₀ c₁ c₂ same is_text utf8 some answered appends keeps = (
   text_of a ++ 10 ∷ [],
-  subst (λ l. LineWrites read g l (text_of a ++ 10 ∷ []) h) (is_text ∙ same) (one_line (not_empty text some) (subst IsUtf8 (sym is_text) utf8) answered),
+  subst (λ l. LineWrites read written g l (text_of a ++ 10 ∷ []) h) (is_text ∙ same) (one_line (not_empty text some) (subst IsUtf8 (sym is_text) utf8) answered),
   Appends-kept c₀ c₁ c₂ _ appends keeps,
 )
 

@@ -42,15 +42,15 @@ sound_graph true r x is was = let p : r ≡ Err Failed = was refl in cc
 sound_graph false r x is was = refl
 
 -- the first text of a command was refused
-pub first_is_refused : (read : List Element → Option Form) (g h : Graph) (c : Command) (text : List ℕ) (texts : List (List ℕ)) (e : Error) → IsCommand c → texts_of c ≡ text ∷ texts
+pub first_is_refused : (read : List Element → Option Form) (written : Term → List Element) (g h : Graph) (c : Command) (text : List ℕ) (texts : List (List ℕ)) (e : Error) → IsCommand c → texts_of c ≡ text ∷ texts
     → OnlyReads g h → (IsTrue g.failed → h ≡ g) → (IsTrue g.failed → e ≡ Failed)
-    → (g.failed ≡ false → Refuses (λ o. TextReads read g.table (chars text) o h.table) e) → Answered read g h c (Refused e)
-first_is_refused read g h c text texts e command is reads stays fails answer = elim (cases_Bool g.failed) [
-  | inl failed ↦ subst (λ x. Answered read g h c (Refused x)) (sym (fails failed)) (has_failed command failed (stays failed))
+    → (g.failed ≡ false → Refuses (λ o. TextReads read g.table (chars text) o h.table) e) → Answered read written g h c (Refused e)
+first_is_refused read written g h c text texts e command is reads stays fails answer = elim (cases_Bool g.failed) [
+  | inl failed ↦ subst (λ x. Answered read written g h c (Refused x)) (sym (fails failed)) (has_failed command failed (stays failed))
   | inr sound ↦ refused sound (subst (λ ts. FirstIsRefused read g ts e h) (sym is) (refused_here (is_refused read g h text reads e (answer sound))))
 ]
 
-not_true : (b : Bool) → ¬ (IsTrue b) → b ≡ false
+pub not_true : (b : Bool) → ¬ (IsTrue b) → b ≡ false
 not_true true n = absurd (n refl)
 not_true false n = refl
 
@@ -68,25 +68,25 @@ runs_out g h t (Err x) e is sound was fails full only more =
     subst (λ y. RunsOut g t y h) same (record { failed = fails refl; shortage = short; cause = λ q. full (ap Err q); more = more })
 
 -- a command with two texts of which the first was refused
-pub both_refused : (read : List Element → Option Form) (g h : Graph) (left right : List ℕ) (e : Error) → OnlyReads g h → (IsTrue g.failed → h ≡ g) → (IsTrue g.failed → e ≡ Failed) → (g.failed ≡ false → Refuses (λ o. TextReads read g.table (chars left) o h.table) e) → IsAnsweredWith read g h left right e
-both_refused read g h left right e reads stays fails answer c command texts = first_is_refused read g h c left (right ∷ []) e command texts reads stays fails answer
+pub both_refused : (read : List Element → Option Form) (written : Term → List Element) (g h : Graph) (left right : List ℕ) (e : Error) → OnlyReads g h → (IsTrue g.failed → h ≡ g) → (IsTrue g.failed → e ≡ Failed) → (g.failed ≡ false → Refuses (λ o. TextReads read g.table (chars left) o h.table) e) → IsAnsweredWith read written g h left right e
+both_refused read written g h left right e reads stays fails answer c command texts = first_is_refused read written g h c left (right ∷ []) e command texts reads stays fails answer
 
 -- one of which a later text was refused
-pub both_refused_later : (read : List Element → Option Form) (g h : Graph) (left right : List ℕ) (e : Error) → g.failed ≡ false → FirstIsRefused read g (left ∷ right ∷ []) e h → IsAnsweredWith read g h left right e
-both_refused_later read g h left right e sound first c command texts = refused sound (subst (λ ts. FirstIsRefused read g ts e h) (sym texts) first)
+pub both_refused_later : (read : List Element → Option Form) (written : Term → List Element) (g h : Graph) (left right : List ℕ) (e : Error) → g.failed ≡ false → FirstIsRefused read g (left ∷ right ∷ []) e h → IsAnsweredWith read written g h left right e
+both_refused_later read written g h left right e sound first c command texts = refused sound (subst (λ ts. FirstIsRefused read g ts e h) (sym texts) first)
 
 -- one whose terms could not be added
-pub both_run_out : (read : List Element → Option Form) (g r h : Graph) (left right : List ℕ) (e : Error) (t u : Term) → g.failed ≡ false → WritesTerms read g (left ∷ right ∷ []) (t ∷ u ∷ []) r → RunsOutAt r (t ∷ u ∷ []) e h → IsAnsweredWith read g h left right e
-both_run_out read g r h left right e t u sound writes short c command texts = ran_out (t ∷ u ∷ []) r sound (subst (λ ts. WritesTerms read g ts (t ∷ u ∷ []) r) (sym texts) writes) short
+pub both_run_out : (read : List Element → Option Form) (written : Term → List Element) (g r h : Graph) (left right : List ℕ) (e : Error) (t u : Term) → g.failed ≡ false → WritesTerms read g (left ∷ right ∷ []) (t ∷ u ∷ []) r → RunsOutAt r (t ∷ u ∷ []) e h → IsAnsweredWith read written g h left right e
+both_run_out read written g r h left right e t u sound writes short c command texts = ran_out (t ∷ u ∷ []) r sound (subst (λ ts. WritesTerms read g ts (t ∷ u ∷ []) r) (sym texts) writes) short
 
 -- what an answer to a command with two texts was is one to its result
-pub answered_with : {A : Type 0} (read : List Element → Option Form) (g h : Graph) (left right : List ℕ) (c : Command) (r : Result A Error) (e : Error) → r ≡ Err e → IfErr r (IsAnsweredWith read g h left right) → IsCommand c → texts_of c ≡ left ∷ right ∷ [] → Answered read g h c (Refused e)
-answered_with read g h left right c (Ok x) e is all command texts = cc
-answered_with read g h left right c (Err x) e is all command texts = let same : x ≡ e = cc in subst (λ y. Answered read g h c (Refused y)) same (all c command texts)
+pub answered_with : {A : Type 0} (read : List Element → Option Form) (written : Term → List Element) (g h : Graph) (left right : List ℕ) (c : Command) (r : Result A Error) (e : Error) → r ≡ Err e → IfErr r (IsAnsweredWith read written g h left right) → IsCommand c → texts_of c ≡ left ∷ right ∷ [] → Answered read written g h c (Refused e)
+answered_with read written g h left right c (Ok x) e is all command texts = cc
+answered_with read written g h left right c (Err x) e is all command texts = let same : x ≡ e = cc in subst (λ y. Answered read written g h c (Refused y)) same (all c command texts)
 
-module _ (read : List Element → Option Form) (g h : Graph) (left right : List ℕ) (a b : Applied) (both : AddsBoth read g h left right a b) where
+module _ (read : List Element → Option Form) (written : Term → List Element) (g h : Graph) (left right : List ℕ) (a b : Applied) (both : AddsBoth read g h left right a b) where
   -- two ids that find alike
-  pub found_equal : FoundAlike h.image a b → AreDerivable h.image a b → (asserted_in h.image ≡ [] → term_of h.image.canonical a ≡ term_of h.image.canonical b) → Answered read g h (compares left right) Yes
+  pub found_equal : FoundAlike h.image a b → AreDerivable h.image a b → (asserted_in h.image ≡ [] → term_of h.image.canonical a ≡ term_of h.image.canonical b) → Answered read written g h (compares left right) Yes
   found_equal found derivable equal =
       carried_out (both.first ∷ both.second ∷ []) (a ∷ b ∷ []) both.before h both.sound both.writes both.gains (are_equal (record {
         found = found;
@@ -95,7 +95,7 @@ module _ (read : List Element → Option Form) (g h : Graph) (left right : List 
       }))
 
   -- two that do not
-  pub found_different : ¬ FoundAlike h.image a b → (asserted_in h.image ≡ [] → term_of h.image.canonical a ≡ term_of h.image.canonical b → FoundAlike h.image a b) → Answered read g h (compares left right) No
+  pub found_different : ¬ FoundAlike h.image a b → (asserted_in h.image ≡ [] → term_of h.image.canonical a ≡ term_of h.image.canonical b → FoundAlike h.image a b) → Answered read written g h (compares left right) No
   found_different apart equal =
       carried_out (both.first ∷ both.second ∷ []) (a ∷ b ∷ []) both.before h both.sound both.writes both.gains (are_different (record {
         found = apart;
@@ -103,7 +103,7 @@ module _ (read : List Element → Option Form) (g h : Graph) (left right : List 
       }))
 
   -- what a union of the two says
-  pub unites_says : (k : Graph) (x : Answer) → Says h (unites left right) (both.first ∷ both.second ∷ []) (a ∷ b ∷ []) k x → Answered read g k (unites left right) x
+  pub unites_says : (k : Graph) (x : Answer) → Says h (unites left right) (both.first ∷ both.second ∷ []) (a ∷ b ∷ []) k x → Answered read written g k (unites left right) x
   unites_says k x says = carried_out (both.first ∷ both.second ∷ []) (a ∷ b ∷ []) both.before h both.sound both.writes both.gains says
 
 -- a union that was answered

@@ -1,11 +1,12 @@
 -- What a line asks: a command is its word, one space and the rest, or its word alone.
 use Rattle.std.specs.Prelude.{ℕ, List, [], ◌∷◌, Option, Some, None, option_map, if◌then◌else◌, ◌==◌, bytes_eq, codes}
 
--- to add a text; to compare two texts; to unite two texts; to count symmetries; or nothing that is known
+-- to add a text; to compare two texts; to unite two texts; to explain why two texts are equal; to count symmetries; or nothing that is known
 pub data Command : Type 0 where
   adds : (text : List ℕ) → Command
   compares : (left right : List ℕ) → Command
   unites : (left right : List ℕ) → Command
+  explains : (left right : List ℕ) → Command
   counts : Command
   no_command : Command
 
@@ -30,15 +31,23 @@ abbrev pub of_two : (List ℕ → List ℕ → Command) → Option (List ℕ × 
 of_two command (Some p) = command p.0 p.1
 of_two command None = no_command
 
--- what is asked by what follows the word `add`, by what follows the word `eq`, and by what follows the word `union`
-abbrev pub asked_by : Option (List ℕ) → Option (List ℕ) → Option (List ℕ) → Command
-asked_by (Some text) _ _ = adds text
-asked_by None (Some texts) _ = of_two compares (parts_around (codes " == ") texts)
-asked_by None None (Some texts) = of_two unites (parts_around (codes " == ") texts)
-asked_by None None None = no_command
+-- what is asked by what follows the word `eq`, by what follows the word `union`, and by what follows the word `explain`
+abbrev pub pair_by : Option (List ℕ) → Option (List ℕ) → Option (List ℕ) → Command
+pair_by (Some texts) _ _ = of_two compares (parts_around (codes " == ") texts)
+pair_by None (Some texts) _ = of_two unites (parts_around (codes " == ") texts)
+pair_by None None (Some texts) = of_two explains (parts_around (codes " == ") texts)
+pair_by None None None = no_command
+
+-- what a line asks of two texts
+unfoldable pub asked_of_pair : List ℕ → Command
+asked_of_pair line = pair_by (rest_behind (codes "eq ") line) (rest_behind (codes "union ") line) (rest_behind (codes "explain ") line)
+
+-- what is asked by what follows the word `add`, or else this
+abbrev pub added_or : Option (List ℕ) → Command → Command
+added_or (Some text) other = adds text
+added_or None other = other
 
 -- what a line asks: one that is the word `symmetries` asks to count them
 unfoldable pub command_of : List ℕ → Command
 command_of line =
-    if bytes_eq line (codes "symmetries") then counts
-    else asked_by (rest_behind (codes "add ") line) (rest_behind (codes "eq ") line) (rest_behind (codes "union ") line)
+    if bytes_eq line (codes "symmetries") then counts else added_or (rest_behind (codes "add ") line) (asked_of_pair line)

@@ -1,5 +1,6 @@
 -- What a command answers over a graph, and what it leaves of it. A language says which node, if any, a list of elements
--- writes. The texts of a command are read in turn from the left, before any of their terms is added.
+-- writes, and as which elements the uppermost node of a term is written. The texts of a command are read in turn from the left, before
+-- any of their terms is added.
 use Rattle.std.specs.Prelude.{◌≡◌, ℕ, List, [], ◌∷◌, length, map, Bool, true, false, Option, Some, IsTrue, Result, Ok, Err}
 use Rattle.std.specs.Str.{chars}
 use Rattle.slotted_theory.specs.Term.{Term}
@@ -13,6 +14,7 @@ use Rattle.slotted_slots.specs.Syntax.{Element}
 use Rattle.slotted_nodes.specs.Form.{Form}
 use Rattle.slotted_patterns.specs.Outcome.{parsed, Refuses}
 use Rattle.slotted_terms.specs.Parsed.{TextReads}
+use Rattle.slotted_terms.specs.Valid.{IsValidTerm}
 use Rattle.slotted_model.specs.Applied.{Applied}
 use Rattle.slotted_model.specs.Classes.{term_of}
 use Rattle.slotted_model.specs.Growth.{Extends}
@@ -22,13 +24,15 @@ use Rattle.slotted_core.specs.Causes.{HasLargeClassOf}
 use Rattle.slotted_core.specs.Graph.{Graph, IsValidId, OnlyReads, RunsOutForTerm}
 use Rattle.slotted_commands.specs.declared.answer.Answer.{Answer}
 use Rattle.slotted_commands.specs.declared.answer.Answer.TheVariants.{Done, Yes, No, United, WereEqual, Symmetries, Refused, NoCommand}
-use Rattle.slotted_commands.specs.Commands.{Command, adds, compares, unites, counts, no_command}
+use Rattle.slotted_commands.specs.Commands.{Command, adds, compares, unites, explains, counts, no_command}
+use Rattle.slotted_commands.specs.Explained.{ExplanationAnswers}
 
 -- the texts of a command, from the left
 abbrev pub texts_of : Command → List (List ℕ)
 texts_of (adds text) = text ∷ []
 texts_of (compares left right) = left ∷ right ∷ []
 texts_of (unites left right) = left ∷ right ∷ []
+texts_of (explains left right) = left ∷ right ∷ []
 texts_of counts = []
 texts_of no_command = []
 
@@ -37,6 +41,7 @@ abbrev pub IsCommand : Command → Type 0
 IsCommand (adds text) = Unit {0}
 IsCommand (compares left right) = Unit {0}
 IsCommand (unites left right) = Unit {0}
+IsCommand (explains left right) = Unit {0}
 IsCommand counts = Unit {0}
 IsCommand no_command = ⊥
 
@@ -124,17 +129,27 @@ pub data Says (g : Graph) : Command → List Term → List Applied → Graph →
   counted : {n : ℕ} → CountsOpen g.image g.image.symmetries n → Says g counts [] [] g (Symmetries (length g.image.symmetries) n)
 
 -- what a command answers over g, and the graph h that it leaves
-pub data Answered (read : List Element → Option Form) (g h : Graph) (c : Command) : Answer → Type 0 where
+pub data Answered (read : List Element → Option Form) (written : Term → List Element) (g h : Graph) (c : Command) : Answer → Type 0 where
   -- what is no command changes nothing
-  unknown : c ≡ no_command → h ≡ g → Answered read g h c NoCommand
+  unknown : c ≡ no_command → h ≡ g → Answered read written g h c NoCommand
   -- nor does any command on a graph that has failed
-  has_failed : IsCommand c → IsTrue g.failed → h ≡ g → Answered read g h c (Refused Failed)
+  has_failed : IsCommand c → IsTrue g.failed → h ≡ g → Answered read written g h c (Refused Failed)
   -- the first text that is refused gives the answer, and no term is added
-  refused : {e : Error} → g.failed ≡ false → FirstIsRefused read g (texts_of c) e h → Answered read g h c (Refused e)
+  refused : {e : Error} → g.failed ≡ false → FirstIsRefused read g (texts_of c) e h → Answered read written g h c (Refused e)
   -- a shortage while terms are added
-  ran_out : {e : Error} (ts : List Term) (r : Graph) → g.failed ≡ false → WritesTerms read g (texts_of c) ts r → RunsOutAt r ts e h → Answered read g h c (Refused e)
+  ran_out : {e : Error} (ts : List Term) (r : Graph) → g.failed ≡ false → WritesTerms read g (texts_of c) ts r → RunsOutAt r ts e h → Answered read written g h c (Refused e)
   -- all texts are read, then all terms are added, and then the command says of them what it does
-  carried_out : {a : Answer} (ts : List Term) (ids : List Applied) (r k : Graph) → g.failed ≡ false → WritesTerms read g (texts_of c) ts r → GainsTerms r ts ids k → Says k c ts ids h a → Answered read g h c a
+  carried_out : {a : Answer} (ts : List Term) (ids : List Applied) (r k : Graph) → g.failed ≡ false → WritesTerms read g (texts_of c) ts r → GainsTerms r ts ids k → Says k c ts ids h a → Answered read written g h c a
+  -- both texts are read, and then their terms are explained, which adds them
+  explanation : {a : Answer} (left right : List ℕ) (t u : Term) (r : Graph) → c ≡ explains left right → g.failed ≡ false → WritesTerms read g (left ∷ right ∷ []) (t ∷ u ∷ []) r → ExplanationAnswers written r t u h a → Answered read written g h c a
+
+-- two texts write these terms, and reading them leaves r, to which both can be added
+pub record ReadsBoth (read : List Element → Option Form) (g r : Graph) (left right : List ℕ) (t u : Term) : Type 0 where
+  pub sound : g.failed ≡ false
+  pub writes : WritesTerms read g (left ∷ right ∷ []) (t ∷ u ∷ []) r
+  pub sound_now : r.failed ≡ false
+  pub left_valid : IsValidTerm r.table t
+  pub right_valid : IsValidTerm r.table u
 
 -- two texts write terms that are added to g and have these ids in h
 pub record AddsBoth (read : List Element → Option Form) (g h : Graph) (left right : List ℕ) (a b : Applied) : Type 0 where
@@ -151,8 +166,8 @@ pub record AddsBoth (read : List Element → Option Form) (g h : Graph) (left ri
   pub right_term : term_of h.image.canonical b ≡ nameless second
 
 -- any command with these two texts is refused with e, and leaves h
-abbrev pub IsAnsweredWith : (List Element → Option Form) → Graph → Graph → List ℕ → List ℕ → Error → Type 0
-IsAnsweredWith read g h left right e = (c : Command) → IsCommand c → texts_of c ≡ left ∷ right ∷ [] → Answered read g h c (Refused e)
+abbrev pub IsAnsweredWith : (List Element → Option Form) → (Term → List Element) → Graph → Graph → List ℕ → List ℕ → Error → Type 0
+IsAnsweredWith read written g h left right e = (c : Command) → IsCommand c → texts_of c ≡ left ∷ right ∷ [] → Answered read written g h c (Refused e)
 
 -- the answer, where a refusal is an answer too
 abbrev pub answer_of : Result Answer Error → Answer

@@ -18,6 +18,8 @@ pub enum Answer {
     United,
     /// The two terms to unite were equal already.
     WereEqual,
+    /// The two terms are equal, and this is the proof by lines, whose last line feed is left out.
+    Explained(String),
     /// So many symmetries were met, and so many of them are open.
     Symmetries(usize, usize),
     /// The command was refused.
@@ -36,6 +38,7 @@ impl fmt::Display for Answer {
             Answer::No => write!(f, "no"),
             Answer::United => write!(f, "true"),
             Answer::WereEqual => write!(f, "false"),
+            Answer::Explained(proof) => write!(f, "{proof}"),
             Answer::Symmetries(met, open) => write!(f, "{met} {open}"),
             Answer::Refused(error) => {
                 let number = error.number();

@@ -1,6 +1,6 @@
 //! What a line asks.
 ghost use Rattle.std.specs.Prelude.{◌≡◌};
-ghost use Rattle.slotted_commands.specs.Commands.{command_of};
+ghost use Rattle.slotted_commands.specs.Commands.{command_of, asked_of_pair};
 ghost use Rattle.slotted_commands.specs.Asked.{asked};
 
 /// What one line asks, with the texts that it names.
@@ -12,6 +12,8 @@ pub enum Command<'a> {
     Eq(&'a str, &'a str),
     /// To unite two texts.
     Union(&'a str, &'a str),
+    /// To explain why two texts are equal.
+    Explain(&'a str, &'a str),
     /// To count the symmetries that were met, and the open ones.
     Symmetries,
     /// Nothing that is known.
@@ -26,20 +28,33 @@ impl<'a> Command<'a> {
         if line == "symmetries" {
             return Command::Symmetries;
         }
-        if let Some(text) = line.strip_prefix("add ") {
-            return Command::Add(text);
+        match line.strip_prefix("add ") {
+            Some(text) => Command::Add(text),
+            None => Command::read_pair(line),
         }
+    }
+
+    // What a line asks of two texts.
+    fn read_pair(line: &'a str) -> Command<'a>
+        ensures { asked result ≡ asked_of_pair line.now }
+    {
         if let Some(texts) = line.strip_prefix("eq ") {
             return match texts.split_once(" == ") {
                 Some((left, right)) => Command::Eq(left, right),
                 None => Command::Unknown,
             };
         }
-        let Some(texts) = line.strip_prefix("union ") else {
+        if let Some(texts) = line.strip_prefix("union ") {
+            return match texts.split_once(" == ") {
+                Some((left, right)) => Command::Union(left, right),
+                None => Command::Unknown,
+            };
+        }
+        let Some(texts) = line.strip_prefix("explain ") else {
             return Command::Unknown;
         };
         match texts.split_once(" == ") {
-            Some((left, right)) => Command::Union(left, right),
+            Some((left, right)) => Command::Explain(left, right),
             None => Command::Unknown,
         }
     }

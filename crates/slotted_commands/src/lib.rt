@@ -3,6 +3,7 @@
 
 mod answer;
 mod command;
+mod explanation;
 pub mod session;
 mod stream;
 

@@ -1,23 +1,27 @@
 //! What a line does to the graph.
 ghost use Rattle.std.specs.Prelude.{◌≡◌, IfOk, IfErr};
 ghost use Rattle.slotted_core.specs.Nodes.{to_applied};
-ghost use Rattle.slotted_commands.specs.Commands.{adds, compares, unites, counts, command_of};
-ghost use Rattle.slotted_commands.specs.Sessions.{Answered, AddsBoth, IsAnsweredWith, answer_of};
+ghost use Rattle.slotted_commands.specs.Commands.{adds, compares, unites, explains, counts, command_of};
+ghost use Rattle.slotted_commands.specs.Sessions.{Answered, ReadsBoth, AddsBoth, IsAnsweredWith, answer_of};
 
 use crate::answer::Answer;
 use crate::command::Command;
+use crate::explanation::explain_terms;
 use slotted_core::EGraph;
-use slotted_languages::Language;
 use slotted_slots::{AppliedId, Error};
+use slotted_terms::expr::RecExpr;
+use slotted_terms::expr::printing::Printable;
+use std::alloc::Global;
 
 /// The answer to one line, which holds no line feed, over a graph.
-pub fn answer<L: Language>(graph: &mut EGraph<L>, line: &str) -> Answer
-    ensures { Answered L.read graph.old graph.new (command_of line.now) result }
+pub fn answer<L: Printable>(alloc: Global, graph: &mut EGraph<L>, line: &str) -> Answer
+    ensures { Answered L.read L.written graph.old graph.new (command_of line.now) result }
 {
     match Command::read(line) {
         Command::Add(text) => to_answer(add(graph, text)),
         Command::Eq(left, right) => to_answer(compare(graph, left, right)),
         Command::Union(left, right) => to_answer(unite(graph, left, right)),
+        Command::Explain(left, right) => to_answer(explain(alloc, graph, left, right)),
         Command::Symmetries => to_answer(count_symmetries(graph)),
         Command::Unknown => Answer::NoCommand,
     }
@@ -34,33 +38,46 @@ fn to_answer(outcome: Result<Answer, Error>) -> Answer
 }
 
 // Adds the term of a text.
-fn add<L: Language>(graph: &mut EGraph<L>, text: &str) -> Result<Answer, Error>
-    ensures { Answered L.read graph.old graph.new (adds text.now) (answer_of result) }
+fn add<L: Printable>(graph: &mut EGraph<L>, text: &str) -> Result<Answer, Error>
+    ensures { Answered L.read L.written graph.old graph.new (adds text.now) (answer_of result) }
 {
     let term = graph.parse_expr(text)?;
     graph.add_expr(&term)?;
     Ok(Answer::Done)
 }
 
+// The terms of two texts.
+fn read_both<L: Printable>(
+    graph: &mut EGraph<L>,
+    left: &str,
+    right: &str,
+) -> Result<(RecExpr<L>, RecExpr<L>), Error>
+    ensures ok { IfOk result (λ p. ReadsBoth L.read graph.old graph.new left.now right.now p.0 p.1) }
+    ensures err { IfErr result (IsAnsweredWith L.read L.written graph.old graph.new left.now right.now) }
+{
+    let left = graph.parse_expr(left)?;
+    let right = graph.parse_expr(right)?;
+    Ok((left, right))
+}
+
 // Adds the terms of two texts.
-fn add_both<L: Language>(
+fn add_both<L: Printable>(
     graph: &mut EGraph<L>,
     left: &str,
     right: &str,
 ) -> Result<(AppliedId, AppliedId), Error>
     ensures ok { IfOk result (λ p. AddsBoth L.read graph.old graph.new left.now right.now (to_applied p.0) (to_applied p.1)) }
-    ensures err { IfErr result (IsAnsweredWith L.read graph.old graph.new left.now right.now) }
+    ensures err { IfErr result (IsAnsweredWith L.read L.written graph.old graph.new left.now right.now) }
 {
-    let one = graph.parse_expr(left)?;
-    let two = graph.parse_expr(right)?;
+    let (one, two) = read_both(graph, left, right)?;
     let left = graph.add_expr(&one)?;
     let right = graph.add_expr(&two)?;
     Ok((left, right))
 }
 
 // Adds the terms of two texts and compares them.
-fn compare<L: Language>(graph: &mut EGraph<L>, left: &str, right: &str) -> Result<Answer, Error>
-    ensures { Answered L.read graph.old graph.new (compares left.now right.now) (answer_of result) }
+fn compare<L: Printable>(graph: &mut EGraph<L>, left: &str, right: &str) -> Result<Answer, Error>
+    ensures { Answered L.read L.written graph.old graph.new (compares left.now right.now) (answer_of result) }
 {
     let (left, right) = add_both(graph, left, right)?;
     if graph.eq(&left, &right)? {
@@ -71,8 +88,8 @@ fn compare<L: Language>(graph: &mut EGraph<L>, left: &str, right: &str) -> Resul
 }
 
 // Adds the terms of two texts and unites them.
-fn unite<L: Language>(graph: &mut EGraph<L>, left: &str, right: &str) -> Result<Answer, Error>
-    ensures { Answered L.read graph.old graph.new (unites left.now right.now) (answer_of result) }
+fn unite<L: Printable>(graph: &mut EGraph<L>, left: &str, right: &str) -> Result<Answer, Error>
+    ensures { Answered L.read L.written graph.old graph.new (unites left.now right.now) (answer_of result) }
 {
     let (left, right) = add_both(graph, left, right)?;
     if graph.union(&left, &right)? {
@@ -82,9 +99,22 @@ fn unite<L: Language>(graph: &mut EGraph<L>, left: &str, right: &str) -> Result<
     }
 }
 
+// Explains why the terms of two texts are equal.
+fn explain<L: Printable>(
+    alloc: Global,
+    graph: &mut EGraph<L>,
+    left: &str,
+    right: &str,
+) -> Result<Answer, Error>
+    ensures { Answered L.read L.written graph.old graph.new (explains left.now right.now) (answer_of result) }
+{
+    let (one, two) = read_both(graph, left, right)?;
+    explain_terms(alloc, graph, &one, &two)
+}
+
 // How many symmetries were met, and how many of them are open.
-fn count_symmetries<L: Language>(graph: &EGraph<L>) -> Result<Answer, Error>
-    ensures { Answered L.read graph.now graph.now counts (answer_of result) }
+fn count_symmetries<L: Printable>(graph: &EGraph<L>) -> Result<Answer, Error>
+    ensures { Answered L.read L.written graph.now graph.now counts (answer_of result) }
 {
     let open = graph.open_symmetries()?;
     let met = graph.symmetries_met().len();

@@ -7,8 +7,8 @@ ghost use Rattle.slotted_commands.specs.Streams.{LineWrites, SessionWrites, Writ
 
 use crate::session::answer;
 use slotted_core::EGraph;
-use slotted_languages::Language;
 use slotted_slots::SlotTable;
+use slotted_terms::expr::printing::Printable;
 use std::alloc::Global;
 use std::io;
 use std::io::{BufRead, ErrorKind, Write};
@@ -16,12 +16,12 @@ use std::io::{BufRead, ErrorKind, Write};
 /// Answers each line of `input` on `output`, from a graph without classes on, up to the end of the input. Each answer is
 /// written out before the next line is read. The first read or write that fails ends it, and so do bytes that are not
 /// UTF-8 and want of memory for a line; what was answered before stands.
-pub fn answer_session<L: Language, R: BufRead, W: Write>(
+pub fn answer_session<L: Printable, R: BufRead, W: Write>(
     alloc: Global,
     input: &mut R,
     output: &mut W,
 ) -> io::Result<()>
-    ensures answers { OnOk result (IfSome (R.remaining input.old) (λ bytes. SessionWrites L.read bytes
+    ensures answers { OnOk result (IfSome (R.remaining input.old) (λ bytes. SessionWrites L.read L.written bytes
         (Appends (W.contents output.old) (W.contents output.new)))) }
     ensures end { OnOk result (OnSome (R.remaining input.old) (IsAtEnd (R.remaining input.new))) }
 {
@@ -32,13 +32,13 @@ pub fn answer_session<L: Language, R: BufRead, W: Write>(
 }
 
 // Answers each line over a graph.
-fn answer_each<L: Language, R: BufRead, W: Write>(
+fn answer_each<L: Printable, R: BufRead, W: Write>(
     alloc: Global,
     graph: &mut EGraph<L>,
     input: &mut R,
     output: &mut W,
 ) -> io::Result<()>
-    ensures answers { OnOk result (IfSome (R.remaining input.old) (λ bytes. WritesFrom L.read graph.old bytes
+    ensures answers { OnOk result (IfSome (R.remaining input.old) (λ bytes. WritesFrom L.read L.written graph.old bytes
         (Appends (W.contents output.old) (W.contents output.new)))) }
     ensures end { OnOk result (OnSome (R.remaining input.old) (IsAtEnd (R.remaining input.new))) }
 {
@@ -48,18 +48,19 @@ fn answer_each<L: Language, R: BufRead, W: Write>(
         if input.read_until(b'\n', &mut line)? == 0 {
             return Ok(());
         }
-        answer_line(graph, &line, output)?;
+        answer_line(alloc, graph, &line, output)?;
     }
     Err(io::Error::from(ErrorKind::FileTooLarge))
 }
 
 /// Answers one line, which may end in a line feed, on `output`, and writes it out. An empty line has no answer.
-pub fn answer_line<L: Language, W: Write>(
+pub fn answer_line<L: Printable, W: Write>(
+    alloc: Global,
     graph: &mut EGraph<L>,
     line: &[u8],
     output: &mut W,
 ) -> io::Result<()>
-    ensures answers { OnOk result ((bs : List ℕ) × LineWrites L.read graph.old (strip_last 10 line.now) bs graph.new
+    ensures answers { OnOk result ((bs : List ℕ) × LineWrites L.read L.written graph.old (strip_last 10 line.now) bs graph.new
         × Appends (W.contents output.old) (W.contents output.new) bs) }
     ensures not_text { ¬ (IsUtf8 (strip_last 10 line.now)) → IsErr result × (graph.new ≡ graph.old)
         × Keeps (W.contents output.old) (W.contents output.new) }
@@ -70,7 +71,7 @@ pub fn answer_line<L: Language, W: Write>(
     if text.is_empty() {
         return Ok(());
     }
-    let answer = answer(graph, text);
+    let answer = answer(alloc, graph, text);
     writeln!(output, "{answer}")?;
     output.flush()
 }

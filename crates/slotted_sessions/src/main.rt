@@ -11,8 +11,9 @@ ghost use Rattle.std.specs.Io.KnownBytes.{Appends};
 
 use slotted_commands::answer_line;
 use slotted_core::EGraph;
-use slotted_languages::{Language, Small};
+use slotted_languages::Small;
 use slotted_slots::SlotTable;
+use slotted_terms::expr::printing::Printable;
 use std::alloc::Global;
 use std::io;
 use std::io::{BufRead, BufReader, BufWriter, ErrorKind, Write};
@@ -32,7 +33,8 @@ fn is_title(line: &[u8]) -> bool
 }
 
 // Answers a line over a graph, or writes it as it stands.
-fn answer_or_repeat<L: Language, W: Write>(
+fn answer_or_repeat<L: Printable, W: Write>(
+    alloc: Global,
     graph: &mut EGraph<L>,
     line: &[u8],
     output: &mut W,
@@ -45,12 +47,12 @@ fn answer_or_repeat<L: Language, W: Write>(
     if is_title(line) || is_divider(line) {
         output.write_all(line)
     } else {
-        answer_line(graph, line, output)
+        answer_line(alloc, graph, line, output)
     }
 }
 
 // Answers lines over a graph up to the end of their session, and says whether a line `---` ended it.
-fn answer_lines<L: Language, R: BufRead, W: Write>(
+fn answer_lines<L: Printable, R: BufRead, W: Write>(
     alloc: Global,
     graph: &mut EGraph<L>,
     input: &mut R,
@@ -62,7 +64,7 @@ fn answer_lines<L: Language, R: BufRead, W: Write>(
         if input.read_until(b'\n', &mut line)? == 0 {
             return Ok(false);
         }
-        answer_or_repeat(graph, &line, output)?;
+        answer_or_repeat(alloc, graph, &line, output)?;
         if is_divider(&line) {
             return Ok(true);
         }
@@ -71,7 +73,7 @@ fn answer_lines<L: Language, R: BufRead, W: Write>(
 }
 
 // Answers a session over a graph of its own, and says whether a line `---` ended it.
-fn answer_next<L: Language, R: BufRead, W: Write>(
+fn answer_next<L: Printable, R: BufRead, W: Write>(
     alloc: Global,
     input: &mut R,
     output: &mut W,
@@ -83,7 +85,7 @@ fn answer_next<L: Language, R: BufRead, W: Write>(
 }
 
 // Answers one session after another up to the end of the input.
-fn answer_sessions<L: Language, R: BufRead, W: Write>(
+fn answer_sessions<L: Printable, R: BufRead, W: Write>(
     alloc: Global,
     input: &mut R,
     output: &mut W,

@@ -11,7 +11,7 @@ pub returns-in_err-term : goal.returns-in_err-term
 returns-in_err-term g c =
     let at = c.in_err-term.ensures in
     let p = err_from_is_err_and c.from_residual.result c.from_residual.ensures.1 in
-    rw (p.1, p.2) (first_is_refused g.L.LanguageChildren.read c.args.graph.now c.parse_expr.new.self (adds c.args.text.now) c.args.text.now [] c.in_err-term.field-0.0 tt refl at.reads at.stays (λ failed. cc (at.failed.1 failed)) at.answer)
+    rw (p.1, p.2) (first_is_refused g.L.LanguageChildren.read g.L.Printable.written c.args.graph.now c.parse_expr.new.self (adds c.args.text.now) c.args.text.now [] c.in_err-term.field-0.0 tt refl at.reads at.stays (λ failed. cc (at.failed.1 failed)) at.answer)
 
 pub add_expr-requires : goal.add_expr-requires
 add_expr-requires g c = inr c.in_ok-term.ensures.valid

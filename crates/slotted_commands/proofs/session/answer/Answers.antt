@@ -16,3 +16,6 @@ returns-in-Union g c = rw (c.to_answer-in-Union.ensures, sym c.in-Union.ensures)
 
 pub returns-in-Symmetries : goal.returns-in-Symmetries
 returns-in-Symmetries g c = rw (c.to_answer-in-Symmetries.ensures, sym c.in-Symmetries.ensures) c.count_symmetries.ensures
+
+pub returns-in-Explain : goal.returns-in-Explain
+returns-in-Explain g c = rw (c.to_answer-in-Explain.ensures, sym c.in-Explain.ensures) c.explain.ensures

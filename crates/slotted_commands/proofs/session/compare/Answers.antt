@@ -15,11 +15,11 @@ pub returns-then-branch : goal.returns-then-branch
 returns-then-branch g c =
     let e = c.in_ok-eq.ensures in
     let yes = c.if-branch.true in
-    found_equal g.L.LanguageChildren.read c.args.graph.now c.add_both.new.graph c.args.left.now c.args.right.now (to_applied c.in_ok-left.left) (to_applied c.in_ok-left.right) c.in_ok-left.ensures.ok
+    found_equal g.L.LanguageChildren.read g.L.Printable.written c.args.graph.now c.add_both.new.graph c.args.left.now c.args.right.now (to_applied c.in_ok-left.left) (to_applied c.in_ok-left.right) c.in_ok-left.ensures.ok
     (e.found.0 yes) (e.derivable yes) (λ n. (e.terms n).0 yes)
 
 pub returns : goal.returns
 returns g c =
     let e = c.in_ok-eq.ensures in
-    found_different g.L.LanguageChildren.read c.args.graph.now c.add_both.new.graph c.args.left.now c.args.right.now (to_applied c.in_ok-left.left) (to_applied c.in_ok-left.right) c.in_ok-left.ensures.ok
+    found_different g.L.LanguageChildren.read g.L.Printable.written c.args.graph.now c.add_both.new.graph c.args.left.now c.args.right.now (to_applied c.in_ok-left.left) (to_applied c.in_ok-left.right) c.in_ok-left.ensures.ok
     (λ h. false≢true (sym c.if-branch.false ∙ e.found.1 h)) (λ n t. e.found.0 ((e.terms n).1 t))

@@ -13,7 +13,7 @@ returns-in_err-union g c =
     let e = c.in_err-union.ensures in
     let p = err_from_is_err_and c.from_residual-in_err-union.result c.from_residual-in_err-union.ensures.1 in
     let both = c.in_ok-left.ensures.ok in
-    rw (p.1, p.2) (unites_says g.L.LanguageChildren.read c.args.graph.now c.add_both.new.graph c.args.left.now c.args.right.now (to_applied c.in_ok-left.left) (to_applied c.in_ok-left.right) both c.union.new.self _
+    rw (p.1, p.2) (unites_says g.L.LanguageChildren.read g.L.Printable.written c.args.graph.now c.add_both.new.graph c.args.left.now c.args.right.now (to_applied c.in_ok-left.left) (to_applied c.in_ok-left.right) both c.union.new.self _
     (union_refused c.add_both.new.graph c.union.new.self c.args.left.now c.args.right.now both.first both.second (to_applied c.in_ok-left.left) (to_applied c.in_ok-left.right) (Err c.in_err-union.field-0.0) c.in_err-union.field-0.0 refl both.sound_now
     e.failed.0 e.fails.1 e.full e.only e.table))
 
@@ -22,7 +22,7 @@ returns-then-branch g c =
     let e = c.in_ok-union.ensures in
     let a = to_applied c.in_ok-left.left in
     let b = to_applied c.in_ok-left.right in
-    unites_says g.L.LanguageChildren.read c.args.graph.now c.add_both.new.graph c.args.left.now c.args.right.now a b c.in_ok-left.ensures.ok c.union.new.self _
+    unites_says g.L.LanguageChildren.read g.L.Printable.written c.args.graph.now c.add_both.new.graph c.args.left.now c.args.right.now a b c.in_ok-left.ensures.ok c.union.new.self _
     (are_united (union_done c.add_both.new.graph c.union.new.self a b true (subst (IsUnion c.add_both.new.graph.image c.union.new.self.image a b) c.if-branch.true e.union) (λ f. false≢true (e.fails.0 f)) e.table))
 
 pub returns : goal.returns
@@ -30,5 +30,5 @@ returns g c =
     let e = c.in_ok-union.ensures in
     let a = to_applied c.in_ok-left.left in
     let b = to_applied c.in_ok-left.right in
-    unites_says g.L.LanguageChildren.read c.args.graph.now c.add_both.new.graph c.args.left.now c.args.right.now a b c.in_ok-left.ensures.ok c.union.new.self _
+    unites_says g.L.LanguageChildren.read g.L.Printable.written c.args.graph.now c.add_both.new.graph c.args.left.now c.args.right.now a b c.in_ok-left.ensures.ok c.union.new.self _
     (were_equal (union_done c.add_both.new.graph c.union.new.self a b false (subst (IsUnion c.add_both.new.graph.image c.union.new.self.image a b) c.if-branch.false e.union) (λ f. false≢true (e.fails.0 f)) e.table))

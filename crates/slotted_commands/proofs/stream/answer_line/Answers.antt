@@ -8,11 +8,11 @@ pub returns-then-is_empty-clause-answers : goal.returns-then-is_empty-clause-ans
 returns-then-is_empty-clause-answers g c =
     let none = is_empty c.in-Ok.text.now (sym c.is_empty.ensures ∙ c.if-is_empty.true) in
     let line = sym none ∙ (c.in-Ok.ensures.cases.0 ∙ c.without_line_feed.ensures) in
-    ([], subst (λ l. LineWrites g.L.LanguageChildren.read c.args.graph.now l [] c.args.graph.now) line empty_line, Appends-nothing (g.W.Write.contents c.args.output.now))
+    ([], subst (λ l. LineWrites g.L.LanguageChildren.read g.L.Printable.written c.args.graph.now l [] c.args.graph.now) line empty_line, Appends-nothing (g.W.Write.contents c.args.output.now))
 
 pub returns-clause-answers : goal.returns-clause-answers
 returns-clause-answers g c =
     on_ok c.flush.result
-    (line_answered g.L.LanguageChildren.read c.args.graph.now c.answer-answer.new.graph c.answer-answer.result (strip_last 10 c.args.line.now) c.without_line_feed.result.now c.in-Ok.text.now
+    (line_answered g.L.LanguageChildren.read g.L.Printable.written c.args.graph.now c.answer-answer.new.graph c.answer-answer.result (strip_last 10 c.args.line.now) c.without_line_feed.result.now c.in-Ok.text.now
     (g.W.Write.contents c.args.output.now) (g.W.Write.contents c.writeln.new.self) (g.W.Write.contents c.flush.new.self)
     c.without_line_feed.ensures c.in-Ok.ensures.cases.0 c.in-Ok.ensures.cases.1 (sym c.is_empty.ensures ∙ c.if-is_empty.false) c.answer-answer.ensures c.in_ok-writeln.ensures.bytes c.flush.ensures.bytes)
