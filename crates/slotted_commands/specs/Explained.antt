@@ -43,7 +43,7 @@ pub record ProvingRunsOut (r : Graph) (t u : Term) (e : Error) (h : Graph) : Typ
 
 -- the text, ended by a line feed, is the proof of the entry p of k, and printing it makes fresh slots alone
 pub record Prints (written : Term → List Element) (k : Graph) (p : ℕ) (text : String Global) (h : Graph) : Type 0 where
-  pub proof : IsProofText written k p (string_bytes text ++ 10 ∷ [])
+  pub proof : IsProofText written k h p (string_bytes text ++ 10 ∷ [])
   pub takes : OnlyTakesSlots k h
 
 -- printing the proof runs out of memory or slots, which does not fail the graph

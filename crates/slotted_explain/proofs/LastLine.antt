@@ -17,8 +17,8 @@ EndsInLineFeed bs = (xs : List ℕ) × (bs ≡ xs ++ 10 ∷ [])
 behind : (front bs : List ℕ) → EndsInLineFeed bs → EndsInLineFeed (front ++ bs)
 behind front bs e = (front ++ e.0, ap (λ r. front ++ r) e.1 ∙ sym (append_assoc front e.0 (10 ∷ [])))
 
-line_ends : (written : Term → List Element) (g : Graph) (lines : List ℕ) (i p : ℕ) (bs : List ℕ) → IsLine written g lines i p bs → EndsInLineFeed bs
-line_ends written g lines i p bs l =
+line_ends : (written : Term → List Element) (g h : Graph) (lines : List ℕ) (i p : ℕ) (bs : List ℕ) → IsLine written g h lines i p bs → EndsInLineFeed bs
+line_ends written g h lines i p bs l =
     subst EndsInLineFeed (sym l.bytes) (behind (decimal i) _ (behind (codes ": ") _ (behind l.left_text _ (behind (codes " = ") _ (behind l.right_text _ (behind (codes " by ") _ (l.reason, refl)))))))
 
 -- the entry has the last line
@@ -26,11 +26,11 @@ has_last_line : (list : List Proven) (p : ℕ) (lines : List ℕ) → Lines list
 has_last_line list p lines (passed was rest) = absurd (false≢true was)
 has_last_line list p lines (next {before} was parts all) = (before, refl)
 
-printed_ends : (written : Term → List Element) (g : Graph) (lines : List ℕ) (n : ℕ) (bs : List ℕ) → ArePrinted written g lines (suc n) bs → EndsInLineFeed bs
-printed_ends written g lines n bs (before, line, so_far, is_line, is) = subst EndsInLineFeed (sym is) (behind before line (line_ends written g lines n _ line is_line))
+printed_ends : (written : Term → List Element) (g h : Graph) (lines : List ℕ) (n : ℕ) (bs : List ℕ) → ArePrinted written g h lines (suc n) bs → EndsInLineFeed bs
+printed_ends written g h lines n bs (before, line, so_far, is_line, is) = subst EndsInLineFeed (sym is) (behind before line (line_ends written g h lines n _ line is_line))
 
-pub proof_ends : (written : Term → List Element) (g : Graph) (p : ℕ) (bs : List ℕ) → IsProofText written g p bs → EndsInLineFeed bs
-proof_ends written g p bs s =
+pub proof_ends : (written : Term → List Element) (g h : Graph) (p : ℕ) (bs : List ℕ) → IsProofText written g h p bs → EndsInLineFeed bs
+proof_ends written g h p bs s =
     let last = has_last_line g.image.stored p s.lines s.order in
     let count : length s.lines ≡ suc (length last.0) = omega (arith, ap length last.1, length-append last.0 (p ∷ [])) in
-    printed_ends written g s.lines (length last.0) bs (subst (λ n. ArePrinted written g s.lines n bs) count s.printed)
+    printed_ends written g h s.lines (length last.0) bs (subst (λ n. ArePrinted written g h s.lines n bs) count s.printed)

@@ -23,6 +23,6 @@ returns-clause-ok g c =
     let text = c.in_ok-text.text in
     let printed = c.in_ok-text.ensures.text in
     record {
-      proof = subst (λ (bs : List ℕ). IsProofText written graph c.args.proof bs) (popped text c.pop.new.self (proof_ends written graph c.args.proof _ printed) c.pop.ensures.ascii_bytes) printed;
+      proof = subst (λ (bs : List ℕ). IsProofText written graph c.to_string.new.graph c.args.proof bs) (popped text c.pop.new.self (proof_ends written graph c.to_string.new.graph c.args.proof _ printed) c.pop.ensures.ascii_bytes) printed;
       takes = c.to_string.ensures.takes;
     }
