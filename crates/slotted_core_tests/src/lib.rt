@@ -1,6 +1,6 @@
-//! Tests of the graph and of its printed proofs, as tables of text, and of what no line of text shows of the commands: streams that
-//! fail, bytes that are no text, answers that wait, refused memory. They stand in a crate of their own, since a crate with tests
-//! is proved twice.
+//! Tests of the graph and of its printed proofs, as tables of text, and of what no line of text shows of the
+//! commands: streams that fail, bytes that are no text, answers that wait, refused memory. They stand in a crate of
+//! their own, since a crate with tests is proved twice.
 #![tactic(auto)]
 
 #[cfg(test)]

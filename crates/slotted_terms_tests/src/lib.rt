@@ -1,6 +1,6 @@
-//! Tests of worked texts, patterns and terms, and of equations and steps, and nothing else. They stand in a crate of their own,
-//! since a crate with tests is proved twice. In those of equations a refusal ends a test at once, by `expect`: a `?` would drop
-//! all that is held, which is proved for each.
+//! Tests of worked texts, patterns and terms, and of equations and steps, and nothing else. They stand in a crate of
+//! their own, since a crate with tests is proved twice. In those of equations a refusal ends a test at once, by
+//! `expect`: a `?` would drop all that is held, which is proved for each.
 #![tactic(auto)]
 
 #[cfg(test)]
