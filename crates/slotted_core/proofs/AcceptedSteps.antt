@@ -26,8 +26,8 @@ use Rattle.slotted_proofs.proofs.Entering.{entry-over, others_assert_nothing}
 use Rattle.slotted_proofs.proofs.Fitting.{reflexive_fits, symmetric_fits, transitive_fits, congruent_fits}
 use Rattle.slotted_proofs.proofs.Stepping.{matches-state, states-entry}
 use Rattle.slotted_core.specs.Checks.{SaysIn, GoesBetween, IsCongruentStep, FitsBy, Fits, entry_by, Accepts}
-use Rattle.slotted_core.specs.Frames.{IsCongruentIn}
-use Rattle.slotted_core.proofs.Frames.{injective_before}
+use Rattle.slotted_congruence.specs.Frames.{IsCongruentIn}
+use Rattle.slotted_congruence.proofs.Frames.{injective_before}
 use Rattle.slotted_core.specs.Graph.{Graph}
 use Rattle.slotted_core.specs.Image.{AreDerivable}
 use Rattle.slotted_core.specs.Leaves.{FollowsFromLeaves}

@@ -1,18 +1,15 @@
 -- Canonical nodes as they are given out.
 --     place_count d     how many names and binders stand in a nameless term
 --     HasLargeNode g    a canonical node has 2^30 places or more
---     node_size d       how many names, binders and children stand in a node
 --     IsNodeOf g a f    f is the canonical node of an id's class, with the names of the id put in
 --     IsBeside f h      h is f but for the ids of its children
 use Rattle.std.specs.Prelude.{◌≡◌, ℕ, ◌+◌, ◌^◌, ◌<◌, ◌≤◌, List, length}
 use Rattle.slotted_theory.specs.Term.{Term}
-use Rattle.slotted_theory.specs.FiniteMaps as maps
-use Rattle.slotted_theory.specs.Nameless.{DArgs, DTerm, stop, place, sub, scope, moved}
+use Rattle.slotted_theory.specs.Nameless.{DArgs, DTerm, stop, place, sub, scope}
 use Rattle.slotted_nodes.specs.Form.{Form, children}
 use Rattle.slotted_languages.specs.Filled.{filled}
-use Rattle.slotted_languages.specs.NodeTerm.{nameless_node}
-use Rattle.slotted_model.specs.Applied.{Applied}
 use Rattle.slotted_model.specs.Classes.{canonical_node}
+pub use Rattle.slotted_congruence.specs.Named.{IsNodeOf}
 
 abbrev pub args_count : DArgs → ℕ
 args_count stop = 0
@@ -26,19 +23,6 @@ place_count d = args_count d.args
 -- the node of some class has 2^30 places or more
 abbrev pub HasLargeNode : List DTerm → Type 0
 HasLargeNode nodes = (i : ℕ) × (i < length nodes) × (2 ^ 30 ≤ place_count (canonical_node nodes i))
-
-abbrev pub args_size : DArgs → ℕ
-args_size stop = 0
-args_size (place x rest) = 1 + args_size rest
-args_size (sub op payloads args rest) = 1 + args_size args + args_size rest
-args_size (scope inner rest) = 1 + args_size inner + args_size rest
-
-abbrev pub node_size : DTerm → ℕ
-node_size d = args_size d.args
-
--- the canonical node of the id's class, with the names of the id put in
-abbrev pub IsNodeOf : List DTerm → Applied → Form → Type 0
-IsNodeOf nodes a f = nameless_node f ≡ moved (maps.filled a.1) (canonical_node nodes a.0)
 
 -- operator, payloads, and what stands beside the children are the same
 pub record IsBeside (f h : Form) : Type 0 where

@@ -2,44 +2,35 @@
 --     HaveManyNames m n       the maps of two ids have too many names to be numbered
 --     HasManyNames e          so have the two sides of an equation
 --     IsLargeClass nodes i    so have two ids of a class
---     HasLargeClass nodes     there is such a class
---     IsWideClass nodes i     so may have two children of the canonical node of a class
---     HasWideSide nodes e     the same of a side of an equation
+--     FindsEither g a b i     the class i finds what one of the ids a and b finds
+--     HasLargeClassOf g a b   such a class is large
 --     IsLargeNode nodes i     the canonical node of a class has too many places to be numbered
 --     HasLargePart nodes i    so has a node of its canonical term
-use Rattle.std.specs.Prelude.{◌≡◌, ℕ, zero, suc, ◌^◌, ◌<◌, ◌≤◌, ◌⊎◌, List, [], ◌∷◌, length}
+use Rattle.std.specs.Prelude.{◌≡◌, ℕ, zero, suc, ◌^◌, ◌<◌, ◌≤◌, ◌⊎◌, List, [], ◌∷◌, length, slice_index_or}
 use Rattle.slotted_slots.specs.Table.{Table, slot_limit}
 use Rattle.slotted_theory.specs.Nameless.{DArgs, DTerm, stop, place, sub, scope}
-use Rattle.slotted_nodes.specs.Form.{Form}
-use Rattle.slotted_languages.specs.NodeTerm.{nameless_node}
+use Rattle.slotted_model.specs.Applied.{Applied}
 use Rattle.slotted_model.specs.Classes.{canonical_node, canonical_slots}
-use Rattle.slotted_proofs.specs.declared.equation.Equation.{Equation as Sides}
 pub use Rattle.slotted_proofs.specs.Equations.{HaveManyNames, HasManyNames}
-use Rattle.slotted_core.specs.Canonical.{node_size, place_count}
+pub use Rattle.slotted_congruence.specs.Named.{SidesRunOut}
+use Rattle.slotted_core.specs.Canonical.{place_count}
+use Rattle.slotted_core.specs.Image.{Image}
 
 -- the class has so many slots that two ids of it have too many names
 abbrev pub IsLargeClass : List DTerm → ℕ → Type 0
 IsLargeClass nodes i = 2 ^ 29 ≤ length (canonical_slots nodes i)
 
--- one of the classes has
-abbrev pub HasLargeClass : List DTerm → Type 0
-HasLargeClass nodes = (i : ℕ) × (i < length nodes) × IsLargeClass nodes i
+-- the live class that a class finds
+abbrev pub class_found : Image → ℕ → ℕ
+class_found g i = (slice_index_or g.found i (0, [])).0
 
--- the canonical node of the class has so many names, binders and children that two of its children may have too many names
-abbrev pub IsWideClass : List DTerm → ℕ → Type 0
-IsWideClass nodes i = 2 ^ 29 ≤ node_size (canonical_node nodes i)
+-- the class i finds the class that one of the two ids finds
+abbrev pub FindsEither : Image → Applied → Applied → ℕ → Type 0
+FindsEither g a b i = (class_found g i ≡ class_found g a.0) ⊎ (class_found g i ≡ class_found g b.0)
 
--- the canonical node of the class of one of the two sides is wide
-abbrev pub HasWideSide : List DTerm → Sides → Type 0
-HasWideSide nodes e = IsWideClass nodes e.l.id.0 ⊎ IsWideClass nodes e.r.id.0
-
--- slots can run out at a congruent step of the equation
-abbrev pub SidesRunOut : List DTerm → Sides → Type 0
-SidesRunOut nodes e = HasManyNames e ⊎ HasWideSide nodes e
-
--- the node is wide in this sense
-abbrev pub IsWideNode : Form → Type 0
-IsWideNode f = 2 ^ 29 ≤ node_size (nameless_node f)
+-- of the classes that find what one of the two ids finds one is large
+abbrev pub HasLargeClassOf : Image → Applied → Applied → Type 0
+HasLargeClassOf g a b = (i : ℕ) × (i < length g.canonical) × FindsEither g a b i × IsLargeClass g.canonical i
 
 -- the canonical node of the class has too many places to be numbered
 abbrev pub IsLargeNode : List DTerm → ℕ → Type 0

@@ -5,12 +5,12 @@ pub mod Places
 pub mod Image
 pub mod Leaves
 pub mod Graph
+pub mod Findable
 pub mod Reads
 pub mod Canonical
 pub mod Causes
 pub mod Checks
 pub mod Good
 pub mod SmallNodes
-pub mod Frames
 pub mod Syn
 pub mod Explaining

@@ -5,17 +5,7 @@ use Rattle.slotted_slots.specs.Table.{Table, is_known}
 use Rattle.slotted_nodes.specs.Form.{Form, Tree, leaf, own, child, bind, scopes, children, child_place, width}
 use Rattle.slotted_model.specs.Applied.{Applied}
 pub use Rattle.slotted_proofs.specs.Equations.{to_applied}
-
--- the children of a tree with these names at its places, from the left
-abbrev pub ids_in : Tree → List ℕ → List Applied
-ids_in leaf xs = []
-ids_in (own r) xs = ids_in r (drop 1 xs)
-ids_in (child i ks r) xs = (i, zip ks (take (length ks) xs)) ∷ ids_in r (drop (length ks) xs)
-ids_in (bind u r) xs = ids_in u (take (length (scopes u)) (drop 1 xs)) ++ ids_in r (drop (length (scopes u)) (drop 1 xs))
-
--- the children of a node
-abbrev pub child_ids : Form → List Applied
-child_ids f = ids_in f.tree f.names
+pub use Rattle.slotted_congruence.specs.Nodes.{ids_in, child_ids}
 
 -- the place is one of a child
 abbrev pub IsChildPlace : Tree → ℕ → Type 0

@@ -1,23 +1,20 @@
 //! Steps that callers ask for, over the classes of a graph.
 ghost use Rattle.std.specs.Prelude.{◌≡◌, ◌↔◌, IsTrue, IfOk, OnErr, IfErr, IsErrOf};
 ghost use Rattle.slotted_slots.specs.Error.{IsShortage};
-ghost use Rattle.slotted_model.specs.Classes.{IsFull};
 ghost use Rattle.slotted_model.specs.ProofList.{reflexive, symmetric, transitive, congruent};
 ghost use Rattle.slotted_proofs.specs.StepClaims.{IsOfFull};
 ghost use Rattle.slotted_proofs.specs.Steps.{IsRefusal};
-ghost use Rattle.slotted_core.specs.Canonical.{IsNodeOf};
-ghost use Rattle.slotted_core.specs.Causes.{HasManyNames, IsWideClass, SidesRunOut};
+ghost use Rattle.slotted_core.specs.Causes.{HasManyNames, SidesRunOut};
 ghost use Rattle.slotted_store.specs.Kept.{EntersBy, nodes_of};
-ghost use Rattle.slotted_core.specs.Frames.{FitsCongruent, FitsReflexive, FitsSymmetric, FitsTransitive};
+ghost use Rattle.slotted_congruence.specs.Frames.{FitsCongruent, FitsReflexive, FitsSymmetric, FitsTransitive};
 ghost use Rattle.slotted_core.specs.Good.{Good};
-ghost use Rattle.slotted_proofs.specs.Equations.{to_applied};
 
 use crate::adding::is_full;
-use crate::congruence::child_equations;
-use crate::names::PLACES;
+use slotted_congruence::alike::child_equations;
+use slotted_congruence::named::named_node;
 use slotted_languages::Language;
 use slotted_proofs::{Equation, ProvenEq};
-use slotted_slots::{AppliedId, Error, SlotTable};
+use slotted_slots::Error;
 use slotted_store::Store;
 use std::alloc::Global;
 
@@ -91,26 +88,6 @@ pub(crate) fn check_transitive<L: Language>(
         return Err(Error::BadStep);
     }
     store.prove_transitive(alloc, equation, p, q)
-}
-
-// The canonical node of an id's class, with the names of the id put in.
-fn named_node<L: Language>(store: &Store<L>, alloc: Global, a: &AppliedId) -> Result<L, Error>
-    requires good { Good store.now }
-    requires full { IsFull (nodes_of store.now) (to_applied a.now) }
-    ensures ok { IfOk result (λ n. IsNodeOf (nodes_of store.now) (to_applied a.now) (L.form n)) }
-    ensures full { IsErrOf result Error.OutOfSlots → IsWideClass (nodes_of store.now) a.now.id.0 }
-    ensures err { IfErr result IsShortage }
-{
-    let node = store.node_of(a.id.0);
-    if node.slot_count() >= PLACES {
-        return Err(Error::OutOfSlots);
-    }
-    // No slot of the graph is taken: to use up a table of one's own is want of memory.
-    let mut table = SlotTable::new(alloc);
-    match node.apply_slotmap(alloc, &a.m, &mut table) {
-        Ok(named) => Ok(named),
-        Err(_) => Err(Error::OutOfMemory),
-    }
 }
 
 /// The equation, if it is one of full ids whose canonical nodes, with the names of the sides put in, agree but for their

@@ -4,7 +4,6 @@
 
 mod adding;
 mod checking;
-mod congruence;
 pub mod egraph;
 mod explaining;
 mod names;

@@ -10,8 +10,8 @@ use Rattle.slotted_nodes.specs.Form.{Form, Tree, leaf, own, child, bind, scopes,
 use Rattle.slotted_languages.specs.Filled.{filled, children_args, term_of}
 use Rattle.slotted_languages.specs.Outline.{outlined, outlined_form}
 use Rattle.slotted_languages.proofs.Outlines.{length_children-outlined, filled-outlined}
-use Rattle.slotted_terms.specs.Seen.{AreTerms, AreAlike, AreOutlines, AreMatched, owns, stacks, seen, owns_seen, children_seen}
-use Rattle.slotted_terms.proofs.Seen.{same_from_seen, seen_from_same}
+use Rattle.slotted_outlines.specs.Seen.{AreTerms, AreAlike, AreOutlines, AreMatched, owns, stacks, seen, owns_seen, children_seen}
+use Rattle.slotted_outlines.proofs.Seen.{same_from_seen, seen_from_same}
 
 module _ (ρ σ : ℕ → ℕ) where
   -- rows of children that are equal are equally long

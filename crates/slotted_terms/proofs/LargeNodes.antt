@@ -5,7 +5,7 @@ use Rattle.slotted_theory.specs.Term.{Term}
 use Rattle.slotted_nodes.specs.Form.{Form, Tree, leaf, own, child, bind, scopes, children}
 use Rattle.slotted_languages.specs.Filled.{filled, children_args, term_of}
 use Rattle.slotted_languages.specs.Outline.{outlined}
-use Rattle.slotted_terms.specs.Seen.{place_count}
+use Rattle.slotted_outlines.specs.Seen.{place_count}
 use Rattle.slotted_terms.specs.LargeNodes.{node_places, HasLargePart, HasLargeNode, HaveLargeNode}
 
 -- a node's term has a place for each place of its outline

@@ -1,10 +1,6 @@
 -- Lemmas on alpha-equality of expressions, and on reading texts.
 pub mod TermTexts
 pub mod PatternPrints
-pub mod Seen
-pub mod Opened
-pub mod Binders
-pub mod Matched
 pub mod Alike
 pub mod LargeNodes
 pub mod AsTerms

@@ -1,5 +1,4 @@
 -- What expressions are seen as, and what texts read as.
-pub mod Seen
 pub mod LargeNodes
 pub mod AsTerm
 pub mod TermPattern

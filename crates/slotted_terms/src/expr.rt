@@ -3,10 +3,10 @@ ghost use Rattle.std.specs.Prelude.{◌≡◌, ◌<◌, ◌⊎◌, ◌↔◌, le
 ghost use Rattle.slotted_slots.specs.Error.{IsOutOfMemory, IsShortage};
 ghost use Rattle.slotted_theory.specs.Nameless.{Alpha};
 ghost use Rattle.slotted_terms.specs.LargeNodes.{HasLargeNode, HaveLargeNode};
-ghost use Rattle.slotted_terms.specs.Seen.{AreMatchedBy, AreTerms, SameTerm, SameChild, SameChildren};
+ghost use Rattle.slotted_outlines.specs.Seen.{AreMatchedBy, AreTerms, SameTerm, SameChild, SameChildren};
 
-use crate::outlines::{Binders, Outlines};
 use slotted_languages::language::Language;
+use slotted_outlines::outlines::{Binders, Outlines};
 use slotted_slots::Error;
 use std::alloc::{AllocError, Global};
 use std::marker::Model;

@@ -2,7 +2,6 @@
 #![tactic(auto)]
 
 pub mod expr;
-pub mod outlines;
 pub mod parse;
 pub mod patterns;
 pub mod read_again;

@@ -12,7 +12,7 @@ use Rattle.slotted_model.specs.Applied.{Applied}
 use Rattle.slotted_store.specs.Kept.{nodes_of}
 use Rattle.slotted_proofs.specs.Equations.{to_applied}
 use Rattle.slotted_core.specs.Nodes.{child_ids}
-use Rattle.slotted_core.proofs.Children.{child_is, length-ids}
+use Rattle.slotted_congruence.proofs.Children.{child_is, length-ids}
 use Rattle.slotted_core.proofs.FreshSlots.{fresh_slots-more}
 use Rattle.slotted_core.proofs.GivenNodes.{child_names-known, valid-push, valid-beside}
 use Rattle.slotted_core.proofs.LargeParts.{large_child_part}

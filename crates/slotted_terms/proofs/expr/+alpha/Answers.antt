@@ -3,14 +3,14 @@ use Rattle.std.proofs.Common.{◌≡◌, ◌≤◌, length, ap, sym, ◌∙◌, 
 use Rattle.std.proofs.lemmas.Bool.{false≢true}
 use Rattle.slotted_theory.specs.Nameless.{nameless_by}
 use Rattle.slotted_theory.specs.Shape.{number_in}
-use Rattle.slotted_terms.specs.Seen.{AreTerms, place_count, children_seen, lefts, rights}
+use Rattle.slotted_outlines.specs.Seen.{AreTerms, place_count, children_seen, lefts, rights}
 use Rattle.slotted_theory.specs.Term.{Term}
 use Rattle.slotted_slots.specs.Table.{slot_limit}
 use Rattle.slotted_terms.specs.LargeNodes.{node_places, HasLargeNode}
 use Rattle.slotted_terms.proofs.LargeNodes.{large_at, large_below, place_count-places}
-use Rattle.slotted_terms.proofs.Seen.{child_same, row_seen_same}
+use Rattle.slotted_outlines.proofs.Seen.{child_same, row_seen_same}
 use Rattle.slotted_terms.proofs.Alike.{alike, term_same}
-use Rattle.slotted_terms.proofs.Matched.{IfOk-same}
+use Rattle.slotted_outlines.proofs.Matched.{IfOk-same}
 use Rattle.slotted_terms.proofs.expr.+alpha.Goals as goal
 
 pub RecExpr::alpha_eq_under-returns-then-term_count-clause-same :

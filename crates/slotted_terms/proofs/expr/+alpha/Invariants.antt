@@ -1,6 +1,6 @@
 use Rattle.std.proofs.Common.{◌≡◌, ◌<◌, ℕ, slice_index_or}
 use Rattle.slotted_theory.specs.Nameless.{DTerm}
-use Rattle.slotted_terms.specs.Seen.{children_seen, lefts, rights}
+use Rattle.slotted_outlines.specs.Seen.{children_seen, lefts, rights}
 use Rattle.slotted_terms.proofs.expr.+alpha.Given as goal
 
 abbrev pub invariant-alpha_eq_children-loop-k : goal.invariant-alpha_eq_children-loop-k

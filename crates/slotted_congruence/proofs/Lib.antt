@@ -1,0 +1,6 @@
+-- Lemmas on nodes side by side.
+pub mod Children
+pub mod Partners
+pub mod Frames
+pub mod WideNodes
+pub mod Naming

@@ -1,0 +1,32 @@
+//! The canonical node of a class with the names of an id put in.
+ghost use Rattle.std.specs.Prelude.{IfOk, IfErr, IsErrOf};
+ghost use Rattle.slotted_slots.specs.Error.{IsShortage};
+ghost use Rattle.slotted_model.specs.Classes.{IsFull};
+ghost use Rattle.slotted_proofs.specs.Equations.{to_applied};
+ghost use Rattle.slotted_store.specs.Kept.{nodes_of};
+ghost use Rattle.slotted_congruence.specs.Named.{IsNodeOf, IsWideClass};
+
+use slotted_languages::Language;
+use slotted_languages::shape::PLACES;
+use slotted_slots::{AppliedId, Error, SlotTable};
+use slotted_store::Store;
+use std::alloc::Global;
+
+/// The canonical node of an id's class, with the names of the id put in. The fresh names at its binders are those of a table of its own.
+pub fn named_node<L: Language>(store: &Store<L>, alloc: Global, a: &AppliedId) -> Result<L, Error>
+    requires { IsFull (nodes_of store.now) (to_applied a.now) }
+    ensures ok { IfOk result (λ n. IsNodeOf (nodes_of store.now) (to_applied a.now) (L.form n)) }
+    ensures full { IsErrOf result Error.OutOfSlots → IsWideClass (nodes_of store.now) a.now.id.0 }
+    ensures err { IfErr result IsShortage }
+{
+    let node = store.node_of(a.id.0);
+    if node.slot_count() >= PLACES {
+        return Err(Error::OutOfSlots);
+    }
+    // No slot of the graph is taken: to use up a table of one's own is want of memory.
+    let mut table = SlotTable::new(alloc);
+    match node.apply_slotmap(alloc, &a.m, &mut table) {
+        Ok(named) => Ok(named),
+        Err(_) => Err(Error::OutOfMemory),
+    }
+}

@@ -1,0 +1,2 @@
+-- What alpha-equality sees of two nodes side by side.
+pub mod Seen
