@@ -1,4 +1,6 @@
-//! Tests of the graph and of its printed proofs, as tables of text. They stand in a crate of their own, since a crate with tests is proved twice.
+//! Tests of the graph and of its printed proofs, as tables of text, and of what no line of text shows of the
+//! commands: streams that fail, bytes that are no text, answers that wait, refused memory. They stand in a crate of
+//! their own, since a crate with tests is proved twice.
 #![tactic(auto)]
 
 #[cfg(test)]
@@ -7,6 +9,8 @@ mod failing;
 mod graphs;
 #[cfg(test)]
 mod ids;
+#[cfg(test)]
+mod lines;
 #[cfg(test)]
 mod memory;
 #[cfg(test)]
@@ -17,6 +21,8 @@ mod proofs;
 mod rows;
 #[cfg(test)]
 mod steps;
+#[cfg(test)]
+mod streams;
 #[cfg(test)]
 mod tables;
 #[cfg(test)]

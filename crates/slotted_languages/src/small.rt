@@ -56,17 +56,7 @@ impl LanguageChildren for Small {
     ghost faithful = { small_faithful };
 
     fn copy(&self, alloc: Global) -> Result<Self, Error> {
-        match self {
-            Small::Lam(b) => Ok(Small::Lam(b.copy(alloc)?)),
-            Small::App(a, b) => Ok(Small::App(a.copy(alloc)?, b.copy(alloc)?)),
-            Small::Var(x) => Ok(Small::Var(*x)),
-            Small::F(x, y) => Ok(Small::F(*x, *y)),
-            Small::G(x) => Ok(Small::G(*x)),
-            Small::Add(a, b) => Ok(Small::Add(a.copy(alloc)?, b.copy(alloc)?)),
-            Small::Mul(a, b) => Ok(Small::Mul(a.copy(alloc)?, b.copy(alloc)?)),
-            Small::Number(n) => Ok(Small::Number(*n)),
-            Small::Word(w) => Ok(Small::Word(w.copy(alloc)?)),
-        }
+        Ok(self.clone()?)
     }
 
     fn slot_count(&self) -> usize {
@@ -352,6 +342,18 @@ fn read_over_binder(
     }
 }
 
+// The node that an operator makes of two children.
+fn over_two(operator: &str, a: AppliedId, b: AppliedId) -> Option<Small>
+    ensures { option_map small_form result ≡ over_children operator.now (id_form a) (id_form b) }
+{
+    match operator {
+        "app" => Some(Small::App(a, b)),
+        "add" => Some(Small::Add(a, b)),
+        "mul" => Some(Small::Mul(a, b)),
+        _ => None,
+    }
+}
+
 // The node that a text and two children write.
 fn read_over_children(
     alloc: Global,
@@ -363,12 +365,7 @@ fn read_over_children(
         option_map small_form o ≡ over_children operator.now (id_form a.now) (id_form b.now)) }
     ensures err { IfErr result IsOutOfMemory }
 {
-    match operator {
-        "app" => Ok(Some(Small::App(a.copy(alloc)?, b.copy(alloc)?))),
-        "add" => Ok(Some(Small::Add(a.copy(alloc)?, b.copy(alloc)?))),
-        "mul" => Ok(Some(Small::Mul(a.copy(alloc)?, b.copy(alloc)?))),
-        _ => Ok(None),
-    }
+    Ok(over_two(operator, a.copy(alloc)?, b.copy(alloc)?))
 }
 
 impl Language for Small {

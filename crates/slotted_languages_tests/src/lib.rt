@@ -1,7 +1,18 @@
-//! Tests of worked values of nodes and languages, and nothing else. They stand in a crate of their own, since a crate with
-//! tests is proved twice.
+//! Tests of worked values of slots, maps and sets, of nodes and of languages, and nothing else. They stand in a crate
+//! of their own, since a crate with tests is proved twice. In those of slots a refusal ends a test at once, by
+//! `expect`: a `?` would drop all that is held, which is proved for each.
 #![tactic(auto)]
 
+#[cfg(test)]
+mod applied;
+#[cfg(test)]
+mod checks;
+#[cfg(test)]
+mod elements;
+#[cfg(test)]
+mod maps;
+#[cfg(test)]
+mod names;
 #[cfg(test)]
 mod nested;
 #[cfg(test)]
@@ -12,5 +23,9 @@ mod parts;
 mod reading;
 #[cfg(test)]
 mod rows;
+#[cfg(test)]
+mod sets;
+#[cfg(test)]
+mod small_maps;
 #[cfg(test)]
 mod writing;

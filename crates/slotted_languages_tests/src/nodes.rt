@@ -136,7 +136,7 @@ fn bare<L: Language>(
     write_node(alloc, skeleton(alloc, node), table, text)
 }
 
-// What a call that takes a map answers.
+// What a call that puts other names in answers.
 fn write_changed<L: Language>(
     alloc: Global,
     call: &str,
@@ -154,13 +154,56 @@ fn write_changed<L: Language>(
                 text,
             )
         }
+        "refresh_private" => write_node(alloc, node.refresh_private(alloc, table), table, text),
         "refresh_slots" => refreshed(alloc, node, &m.values(alloc)?, table, text),
         "apply_slotmap" | "apply_slotmap_partial" => renamed(alloc, call, node, m, table, text),
         _ => Ok(text.push_str("no call")?),
     }
 }
 
-// What a call on the node answers.
+// What is answered of a node's shape.
+fn write_shaped<L: Language>(
+    alloc: Global,
+    call: &str,
+    node: &L,
+    m: &SlotMap,
+    table: &mut SlotTable,
+    text: &mut String,
+) -> Result<(), Error> {
+    match call {
+        "weak_shape" => shape(alloc, node, table, text),
+        "weak_shape_inplace" => shape_inplace(alloc, node, table, text),
+        "outline" => write_node(
+            alloc,
+            outline(alloc, node, Slot::numeric_at(5)),
+            table,
+            text,
+        ),
+        "skeleton" => bare(alloc, node, table, text),
+        _ => write_changed(alloc, call, node, m, table, text),
+    }
+}
+
+// What is answered of a node's children and its operator.
+fn write_told<L: Language>(
+    alloc: Global,
+    call: &str,
+    node: &L,
+    m: &SlotMap,
+    table: &mut SlotTable,
+    text: &mut String,
+) -> Result<(), Error> {
+    match call {
+        "ids" => ids(alloc, node, text),
+        "applied_id_occurrences" => children(alloc, node, table, text),
+        "map_applied_ids" => mapped(alloc, node, table, text),
+        "check" => write_test(Ok(is_apart(node)), text),
+        "operator" => operator(node, text),
+        _ => write_shaped(alloc, call, node, m, table, text),
+    }
+}
+
+// What a call on the node answers: here those that list its names.
 pub(crate) fn write_answer<L: Language>(
     alloc: Global,
     call: &str,
@@ -175,21 +218,6 @@ pub(crate) fn write_answer<L: Language>(
         "private_slot_occurrences" => write_list(node.private_slot_occurrences(alloc), table, text),
         "private_slots" => write_set(node.private_slots(alloc), table, text),
         "slots" => write_set(node.slots(alloc), table, text),
-        "ids" => ids(alloc, node, text),
-        "applied_id_occurrences" => children(alloc, node, table, text),
-        "map_applied_ids" => mapped(alloc, node, table, text),
-        "check" => write_test(Ok(is_apart(node)), text),
-        "operator" => operator(node, text),
-        "weak_shape" => shape(alloc, node, table, text),
-        "weak_shape_inplace" => shape_inplace(alloc, node, table, text),
-        "outline" => write_node(
-            alloc,
-            outline(alloc, node, Slot::numeric_at(5)),
-            table,
-            text,
-        ),
-        "skeleton" => bare(alloc, node, table, text),
-        "refresh_private" => write_node(alloc, node.refresh_private(alloc, table), table, text),
-        _ => write_changed(alloc, call, node, m, table, text),
+        _ => write_told(alloc, call, node, m, table, text),
     }
 }

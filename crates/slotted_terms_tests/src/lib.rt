@@ -1,11 +1,20 @@
-//! Tests of worked texts, patterns and terms, and nothing else. They stand in a crate of their own, since a crate with tests
-//! is proved twice.
+//! Tests of worked texts, patterns and terms, and of equations and steps, and nothing else. They stand in a crate of
+//! their own, since a crate with tests is proved twice. In those of equations a refusal ends a test at once, by
+//! `expect`: a `?` would drop all that is held, which is proved for each.
 #![tactic(auto)]
 
+#[cfg(test)]
+mod checks;
+#[cfg(test)]
+mod equations;
+#[cfg(test)]
+mod lists;
 #[cfg(test)]
 mod patterns;
 #[cfg(test)]
 mod rows;
+#[cfg(test)]
+mod steps;
 #[cfg(test)]
 mod tables;
 #[cfg(test)]

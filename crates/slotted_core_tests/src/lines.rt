@@ -1,4 +1,4 @@
-//! Refused memory. `rt try --test --fail-alloc N` has the Nth growth refused.
+//! Refused memory, while lines are answered. `rt try --test --fail-alloc N` has the Nth growth refused.
 use crate::streams::answer;
 use std::alloc::Global;
 use std::process::Abort;

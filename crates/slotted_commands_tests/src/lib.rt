@@ -1,8 +1,0 @@
-//! What no line of text shows of the commands: streams that fail, bytes that are no text, answers that wait, refused memory.
-//! Tests alone: they stand in a crate of their own, since a crate with tests is proved twice.
-#![tactic(auto)]
-
-#[cfg(test)]
-mod memory;
-#[cfg(test)]
-mod streams;
