@@ -1,0 +1,5 @@
+pub mod ChildIds
+pub mod ReplacedChildren
+pub mod FoundChildren
+pub mod NumbersInShapes
+pub mod CanonicalChildren

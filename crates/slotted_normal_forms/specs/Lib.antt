@@ -1,0 +1,2 @@
+pub mod ChildIds
+pub mod NormalNodes

@@ -1,0 +1,4 @@
+//! Nodes in normal form: each child of a node is what it finds, and the node is known by its shape then. Nothing here writes a graph.
+#![tactic(auto)]
+
+pub mod normal;

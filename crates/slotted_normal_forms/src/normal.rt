@@ -1,0 +1,32 @@
+//! A node with what its children find in their places.
+ghost use Rattle.std.specs.Prelude.{◌≡◌, ◌≤◌, length, IfOk, IfErr};
+ghost use Rattle.slotted_slots.specs.Error.{IsOutOfMemory};
+ghost use Rattle.slotted_languages.specs.NodeTerm.{nameless_node};
+ghost use Rattle.slotted_model.specs.Applied.{EachChild};
+ghost use Rattle.slotted_model.specs.Normal.{IsFound, normal};
+ghost use Rattle.slotted_store.specs.Finding.{HasFinds};
+ghost use Rattle.slotted_store.specs.Kept.{entries_of};
+ghost use Rattle.slotted_normal_forms.specs.NormalNodes.{HasFindableChildren, HasNoOtherNames};
+
+use slotted_languages::Language;
+use slotted_slots::Error;
+use slotted_store::Store;
+use std::alloc::Global;
+
+/// A copy of the node in normal form: each child is what it finds, so it is live, and has names for just the slots of its class.
+pub fn normal_of<L: Language>(store: &Store<L>, alloc: Global, node: &L) -> Result<L, Error>
+    requires good { HasFinds store.now }
+    requires children { HasFindableChildren store.now (L.form node.now) }
+    ensures normal { IfOk result (λ n. nameless_node (L.form n) ≡ normal (entries_of store.now) (nameless_node (L.form node.now))) }
+    ensures found { IfOk result (λ n. EachChild (IsFound (entries_of store.now)) (nameless_node (L.form n)).args) }
+    ensures places { IfOk result (λ n. length (L.form n).names ≤ length (L.form node.now).names) }
+    ensures names { IfOk result (λ n. HasNoOtherNames (L.form node.now) (L.form n)) }
+    ensures err { IfErr result IsOutOfMemory }
+{
+    let mut normal = node.copy(alloc)?;
+    for k in 0..node.applied_id_count() {
+        let found = store.found_id(alloc, node.applied_id(k))?;
+        normal.set_applied_id(k, found);
+    }
+    Ok(normal)
+}
