@@ -20,7 +20,7 @@ use Rattle.slotted_model.specs.Growth.{Extends}
 use Rattle.slotted_model.specs.Ids.{id_of}
 use Rattle.slotted_core.specs.Graph.{Graph, IsValidId, OnlyReads, RunsOutForTerm}
 use Rattle.slotted_core.specs.Image.{FoundAlike, AddsClasses, AreDerivable, IsUnion, asserted_in}
-use Rattle.slotted_core.specs.Causes.{HasLargeClass}
+use Rattle.slotted_core.specs.Causes.{HasLargeClassOf}
 use Rattle.slotted_core.specs.Nodes.{to_applied}
 use Rattle.slotted_commands.specs.declared.answer.Answer.{Answer}
 use Rattle.slotted_commands.specs.declared.answer.Answer.TheVariants.{Yes, No, Refused}
@@ -111,7 +111,7 @@ pub union_done : (g h : Graph) (a b : Applied) (y : Bool) → IsUnion g.image h.
 union_done g h a b y union sound table = record { union = union; sound = not_true h.failed sound; table = table }
 
 -- a union that was refused
-pub union_refused : (g h : Graph) (left right : List ℕ) (t u : Term) (a b : Applied) (r : Result Bool Error) (e : Error) → r ≡ Err e → g.failed ≡ false → (IsErrOf r Failed → IsTrue g.failed) → (IsErr r → IsTrue h.failed) → (IsErrOf r OutOfSlots → HasLargeClass g.image.canonical) → IfErr r (λ x. (x ≡ Failed) ⊎ IsShortage x) → h.table ≡ g.table → Says g (unites left right) (t ∷ u ∷ []) (a ∷ b ∷ []) h (Refused e)
+pub union_refused : (g h : Graph) (left right : List ℕ) (t u : Term) (a b : Applied) (r : Result Bool Error) (e : Error) → r ≡ Err e → g.failed ≡ false → (IsErrOf r Failed → IsTrue g.failed) → (IsErr r → IsTrue h.failed) → (IsErrOf r OutOfSlots → HasLargeClassOf g.image a b) → IfErr r (λ x. (x ≡ Failed) ⊎ IsShortage x) → h.table ≡ g.table → Says g (unites left right) (t ∷ u ∷ []) (a ∷ b ∷ []) h (Refused e)
 union_refused g h left right t u a b (Ok y) e is sound was fails full only table = cc
 union_refused g h left right t u a b (Err x) e is sound was fails full only table =
     let same : x ≡ e = cc in

@@ -101,7 +101,8 @@ module _ (k : Kept) (good : Good k) (a b : Applied) (fa : IsFull (nodes_of k) a)
       later = good.stored.later;
       sides = λ y c.
           let s : IsOverOneClass k y = good.stored.sides y c in
-          record { left = s.left; right = s.right; class = s.class; slots = s.slots };
+          record { left = s.left; right = s.right; class = s.class; slots = s.slots; left_known = s.left_known; right_known = s.right_known };
+      once = good.stored.once;
       settled = good.stored.settled;
     };
     settled = good.settled;

@@ -1,15 +1,19 @@
 -- What was valid stays valid: in the table as names are added to it, in the graph as it grows or ids are united.
-use Rattle.std.proofs.Common.{◌≡◌, ◌⊎◌, ◌↔◌, List, Bool, sym, ◌∙◌, subst, inr}
-use Rattle.std.specs.Prelude.{IsTrue, slice_index_or}
+use Rattle.std.proofs.Common.{◌≡◌, ◌⊎◌, ◌↔◌, List, [], Bool, refl, sym, ◌∙◌, subst, inl, inr}
+use Rattle.std.specs.Prelude.{Contains, IsTrue, slice_index_or}
 use Rattle.slotted_theory.specs.Term.{Args, Term, done, name, child, bind}
 use Rattle.slotted_theory.specs.Nameless.{DTerm}
+use Rattle.slotted_theory.proofs.Lists.{Contains-nil}
 use Rattle.slotted_slots.specs.Table.{Table, KnowsMore, is_known}
 use Rattle.slotted_terms.specs.Valid.{HasKnownNames, IsValidTerm}
 use Rattle.slotted_model.specs.Applied.{Applied, values}
 use Rattle.slotted_model.specs.Classes.{IsFull}
 use Rattle.slotted_model.specs.Growth.{Extends}
+use Rattle.slotted_model.proofs.Fillings.{a_filling, filling-iff}
+use Rattle.slotted_model.proofs.Full.{full-ascending}
 use Rattle.slotted_core.specs.Graph.{Graph, IsValidId, OnlyReads, OnlyTakesSlots}
-use Rattle.slotted_core.specs.Image.{Image, FoundAlike, IsUnion, AreClosed}
+use Rattle.slotted_core.specs.Findable.{IsFindableId, Fills, HaveFindableSides}
+use Rattle.slotted_core.specs.Image.{Image, SymmetryEntry, FoundAlike, IsUnion, AreClosed}
 
 -- what a table knows it knows later
 known_later : (t u : Table) → KnowsMore t u → (a : Args) → HasKnownNames t a → HasKnownNames u a
@@ -30,6 +34,41 @@ id_same g h a nodes table v = record {
   full = subst (λ (x : List DTerm). IsFull x a) (sym nodes) v.full;
   known = λ k d l. subst (λ (t : Table). IsTrue (is_known t (slice_index_or (values a.1) k d))) (sym table) (v.known k d l);
 }
+
+-- a valid id lacks no name, so `eq` can be asked of it
+pub valid-findable : (g : Graph) (a : Applied) → IsValidId g a → IsFindableId g a
+valid-findable g a v = record {
+  in_range = v.full.in_range;
+  ascending = full-ascending g.image.canonical a v.full;
+  injective = v.full.injective;
+  known = v.known;
+  within = λ s c. subst (λ S. Contains S s) v.full.slots c;
+  has_left = λ s c left. subst (λ S. Contains S s) (sym v.full.slots) c;
+}
+
+pub can-compare : (g : Graph) (a : Applied) → IsTrue g.failed ⊎ IsValidId g a → IsTrue g.failed ⊎ IsFindableId g a
+can-compare g a (inl failed) = inl failed
+can-compare g a (inr v) = inr (valid-findable g a v)
+
+-- it is filled by itself alone
+pub fills-itself : (g : Image) (a : Applied) → IsFull g.canonical a → Fills g a a
+fills-itself g a full = record { class = refl; full = full; keeps = λ s x c. c }
+
+pub only-itself : (g : Image) (a b : Applied) → IsFull g.canonical a → Fills g a b → b ≡ a
+only-itself g a b full f =
+    (filling-iff g.canonical [] a b full).0 (record { class = f.class; full = f.full; keeps = f.keeps; fresh = λ s x h n m. Contains-nil x m })
+
+-- an id that lacks names can be filled
+pub filled : (g : Graph) (a : Applied) → IsFindableId g a → (b : Applied) × Fills g.image a b
+filled g a v =
+    let f = a_filling g.image.canonical (λ c. []) [] a (record { in_range = v.in_range; ascending = v.ascending; injective = v.injective; has_slots = λ s c. absurd (Contains-nil s c); within = v.within }) in
+    (f.0, record { class = f.1.class; full = f.1.full; keeps = f.1.keeps })
+
+-- `eq` can be asked of both sides of a listed symmetry
+pub symmetry-sides : (g : Graph) → IsTrue g.failed ⊎ HaveFindableSides g → (y : SymmetryEntry) → Contains g.image.symmetries y →
+    (IsTrue g.failed ⊎ IsFindableId g y.0.0) × (IsTrue g.failed ⊎ IsFindableId g y.0.1)
+symmetry-sides g (inl failed) y c = (inl failed, inl failed)
+symmetry-sides g (inr sides) y c = (inr (sides y c).0, inr (sides y c).1)
 
 -- after a union an answer that says whether its sides find alike is yes, where no listed symmetry is open
 pub yes_if_closed : (g h : Image) (a b : Applied) (y : Bool) → IsUnion g h a b y → (answer : Bool) → (IsTrue answer ↔ FoundAlike h a b) → AreClosed h → IsTrue answer

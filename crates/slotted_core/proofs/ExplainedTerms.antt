@@ -27,7 +27,7 @@ use Rattle.slotted_core.specs.Image.{AddsClasses, FoundAlike}
 use Rattle.slotted_core.specs.Places.{term_slots}
 use Rattle.slotted_core.proofs.Images.{adds-then, found_id-is}
 use Rattle.slotted_core.proofs.Tables.{runs_out-more, runs_out-then}
-use Rattle.slotted_core.proofs.Unions.{unites-fresh, large-class}
+use Rattle.slotted_core.proofs.Unions.{unites-fresh, large-of}
 
 -- entries that assert nothing keep a graph good, and add no class
 module _ (k : Kept) (good : Good k) (l : Kept) (only : OnlyProves k l) where
@@ -109,8 +109,8 @@ module _ (k m n : Kept) (left right : Term) (v w : Table) (a b : Applied) (first
         };
       }
 
-  pub runs-large : (old new : Table) → unions.HasLargeClass n → RunsOutForTerms (image_of k) left right old new
-  runs-large old new h = large_class (image_of n) both-added (large-class n n refl h)
+  pub runs-large : find (entries_of n) a ≡ find (entries_of n) b → (old new : Table) → unions.HasLargeClassOf n a.0 b.0 → RunsOutForTerms (image_of k) left right old new
+  runs-large e old new h = large_class (image_of n) a b both-added both-ids (says-alike.0 e) (large-of n a b left-full second.full h)
 
 -- slots ran out for the classes of either term
 

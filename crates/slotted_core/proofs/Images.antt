@@ -45,11 +45,12 @@ finds-at found i (e ∷ es) (suc j) l =
     let z : suc i + j ≡ i + suc j = omega arith in
     finds-at found (suc i) es j (omega arith) ∙ ap (λ n. (find_class found n, find_map found n)) z
 
+pub found-at : (k : Kept) (i : ℕ) → i < length k.classes → slice_index_or (image_of k).found i (0, []) ≡ (find_class (entries_of k) i, find_map (entries_of k) i)
+found-at k i l =
+    let h : i < length (entries_of k) = let n : length (entries_of k) ≡ length k.classes = length-entries_of k in omega arith in
+    let z : 0 + i ≡ i = omega arith in
+    finds-at (entries_of k) 0 (entries_of k) i h ∙ ap (λ n. (find_class (entries_of k) n, find_map (entries_of k) n)) z
+
 -- an id finds what the entries say
 pub found_id-is : (k : Kept) (a : Applied) → a.0 < length k.classes → found_id (image_of k) a ≡ find (entries_of k) a
-found_id-is k a l =
-    let h : a.0 < length (entries_of k) = let n : length (entries_of k) ≡ length k.classes = length-entries_of k in omega arith in
-    let z : 0 + a.0 ≡ a.0 = omega arith in
-    let e : slice_index_or (finds_from (entries_of k) 0 (entries_of k)) a.0 (0, []) ≡ (find_class (entries_of k) a.0, find_map (entries_of k) a.0) =
-    finds-at (entries_of k) 0 (entries_of k) a.0 h ∙ ap (λ n. (find_class (entries_of k) n, find_map (entries_of k) n)) z in
-    λ i. ((e i).0, composite (e i).1 a.1)
+found_id-is k a l = let e = found-at k a.0 l in λ i. ((e i).0, composite (e i).1 a.1)

@@ -2,6 +2,7 @@ pub mod GoodFinds
 pub mod CanonicalTerms
 pub mod FreshSlots
 pub mod Images
+pub mod FindableIds
 pub mod RowLookUps
 pub mod NewClass
 pub mod FullIds
@@ -29,3 +30,4 @@ pub mod ValidTerms
 pub mod Sizes
 pub mod TermSlots
 pub mod GivenNodes
+pub mod ListedOnce

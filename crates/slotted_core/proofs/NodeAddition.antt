@@ -316,7 +316,8 @@ module _ (t u : Table) (k : Kept) (good : Good k) (over : HasFreshSlots t k) (f 
     later = as_lists (λ es qs. IsLater es k.moment) (later-newer g (nodes_of l) extends one_more (entries_of k) good.stored.sane.sound.linked (length (proofs_of k)) k.moment good.stored.later);
     sides = λ y c.
         let s : IsOverOneClass k y = good.stored.sides y c in
-        record { left = (finds_on.finds y.0.0 s.left).0; right = (finds_on.finds y.0.1 s.right).0; class = s.class; slots = s.slots };
+        record { left = (finds_on.finds y.0.0 s.left).0; right = (finds_on.finds y.0.1 s.right).0; class = s.class; slots = s.slots; left_known = s.left_known; right_known = s.right_known };
+    once = good.stored.once;
     settled = λ dropped y c.
         let listed : IsListed state y = good.stored.sane.each_listed y c in
         ap id_names (same_finds (left_of y) (left-valid state y listed))

@@ -25,12 +25,13 @@ use Rattle.slotted_store.specs.Names.{HasNumberedBinders}
 use Rattle.slotted_store.proofs.KeptLists.{equation_at-of, length-nodes_of, length-proofs_of}
 use Rattle.slotted_store.proofs.NameMaps.{length-keys}
 use Rattle.slotted_unions.specs.Proving as unions
-use Rattle.slotted_unions.specs.Settling.{SettlesAll}
+use Rattle.slotted_unions.specs.Settling.{SettlesAll, HasLargeUnaligned}
 use Rattle.slotted_unions.specs.StateOf.{state_of}
 use Rattle.slotted_unions.specs.Stored.{Grows}
-use Rattle.slotted_unions.specs.Uniting.{UnitesBy}
+use Rattle.slotted_unions.specs.Uniting.{UnitesBy, equation_in}
 use Rattle.slotted_unions.proofs.KeptSlots.{grows-then}
-use Rattle.slotted_core.specs.Causes.{HasLargeClass}
+use Rattle.slotted_unions.proofs.SettlingSteps.{united-large}
+use Rattle.slotted_core.specs.Causes.{HasLargeClassOf, class_found}
 use Rattle.slotted_core.specs.Good.{Good, HasFreshSlots, Unites, image_of}
 use Rattle.slotted_core.specs.Image.{Asserts, AreTogether, Continues, FoundAlike, SameNames, asserted_in, found_id, live_size}
 use Rattle.slotted_core.proofs.Asserting.{IsAsserted}
@@ -203,16 +204,52 @@ unites-fresh t k l e h i s r c =
     let n : length l.classes ≡ length k.classes = sym (length-nodes_of l) ∙ (ap length e ∙ length-nodes_of k) in
     h i s (omega arith) (subst (λ (ns : List DTerm). Contains (canonical_slots ns i) s) e c)
 
--- a class that is too large, as a union tells of it
-pub large-class : (k l : Kept) → nodes_of l ≡ nodes_of k → unions.HasLargeClass l → HasLargeClass (nodes_of k)
-large-class k l e h = subst HasLargeClass e (h.0, (let w : h.0 < length l.classes = h.1 in let n : length (nodes_of l) ≡ length l.classes = length-nodes_of l in omega arith), h.2)
+-- the class that a class finds, as contracts see it
+class-is : (k : Kept) (i : ℕ) → i < length k.classes → class_found (image_of k) i ≡ find_class (entries_of k) i
+class-is k i h = ap (λ (a : Applied). a.0) (found_id-is k (i, []) h)
+
+within-old : (k : Kept) (a : Applied) → IsFull (nodes_of k) a → a.0 < length k.classes
+within-old k a full = let h : a.0 < length (nodes_of k) = full.in_range in let n : length (nodes_of k) ≡ length k.classes = length-nodes_of k in omega arith
+
+-- a large class of one of two ids, as a union tells of it
+pub large-of : (k : Kept) (a b : Applied) → IsFull (nodes_of k) a → IsFull (nodes_of k) b → unions.HasLargeClassOf k a.0 b.0 → HasLargeClassOf (image_of k) a b
+large-of k a b fa fb h =
+    let n : length (nodes_of k) ≡ length k.classes = length-nodes_of k in
+    let here : class_found (image_of k) h.0 ≡ find_class (entries_of k) h.0 = class-is k h.0 h.1 in (
+      h.0,
+      omega (arith, h.1, n),
+      elim h.2 [
+        | inl e ↦ inl (here ∙ (e ∙ sym (class-is k a.0 (within-old k a fa))))
+        | inr e ↦ inr (here ∙ (e ∙ sym (class-is k b.0 (within-old k b fb))))
+      ],
+      h.3,
+    )
+
+-- the same once the equation of the two is asserted, in the union by its entry and in what follows
+module _ (k : Kept) (a b : Applied) (fa : IsFull (nodes_of k) a) (fb : IsFull (nodes_of k) b) (x : Proven) (m : Kept) (p : ℕ) (said : IsAsserted k m x a b p) where
+  pub large-asserted : unions.HasLargeSide m (equation_in m p) → HasLargeClassOf (image_of k) a b
+  large-asserted h =
+      let says : equation_in m p ≡ equation_of a b = sym (equation_at-of m.proofs p) ∙ said.stands.1 in
+      let at : unions.HasLargeClassOf m a.0 b.0 = subst (unions.HasLargeSide m) says h in
+      let nm : length (nodes_of m) ≡ length m.classes = length-nodes_of m in
+      let nk : length (nodes_of k) ≡ length k.classes = length-nodes_of k in
+      let same : length (nodes_of m) ≡ length (nodes_of k) = ap length said.grows.nodes in
+      large-of k a b fa fb (
+        at.0,
+        omega (arith, at.1, nm, nk, same),
+        subst (λ es. unions.FindsEither es a.0 b.0 at.0) said.found at.2,
+        subst (λ (ns : List DTerm). 2 ^ 29 ≤ length (canonical_slots ns at.0)) said.grows.nodes at.3,
+      )
+
+  pub large-settling : (n : Kept) → UnitesBy p m n → HasLargeUnaligned n → HasLargeClassOf (image_of k) a b
+  large-settling n u h = large-asserted (united-large m said.stored p said.in_range (said.stored.settled said.settled) n u h)
 
 -- of two full ids with too many names one is of such a class
-pub large-side : (nodes : List DTerm) (a b : Applied) → IsFull nodes a → IsFull nodes b → 2 ^ 30 ≤ length a.1 + length b.1 → HasLargeClass nodes
-large-side nodes a b fa fb h =
-    let la : length a.1 ≡ length (canonical_slots nodes a.0) = sym (length-keys a.1) ∙ ap length fa.slots in
-    let lb : length b.1 ≡ length (canonical_slots nodes b.0) = sym (length-keys b.1) ∙ ap length fb.slots in
+pub large-side : (k : Kept) (a b : Applied) → IsFull (nodes_of k) a → IsFull (nodes_of k) b → 2 ^ 30 ≤ length a.1 + length b.1 → HasLargeClassOf (image_of k) a b
+large-side k a b fa fb h =
+    let la : length a.1 ≡ length (canonical_slots (nodes_of k) a.0) = sym (length-keys a.1) ∙ ap length fa.slots in
+    let lb : length b.1 ≡ length (canonical_slots (nodes_of k) b.0) = sym (length-keys b.1) ∙ ap length fb.slots in
     elim (cases_lt (length a.1) (2 ^ 29)) [
-      | inl few ↦ (b.0, fb.in_range, omega (arith, h, few, lb))
-      | inr many ↦ (a.0, fa.in_range, omega (arith, many, la))
+      | inl few ↦ (b.0, fb.in_range, inr refl, omega (arith, h, few, lb))
+      | inr many ↦ (a.0, fa.in_range, inl refl, omega (arith, many, la))
     ]

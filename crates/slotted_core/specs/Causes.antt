@@ -2,24 +2,35 @@
 --     HaveManyNames m n       the maps of two ids have too many names to be numbered
 --     HasManyNames e          so have the two sides of an equation
 --     IsLargeClass nodes i    so have two ids of a class
---     HasLargeClass nodes     there is such a class
+--     FindsEither g a b i     the class i finds what one of the ids a and b finds
+--     HasLargeClassOf g a b   such a class is large
 --     IsLargeNode nodes i     the canonical node of a class has too many places to be numbered
 --     HasLargePart nodes i    so has a node of its canonical term
-use Rattle.std.specs.Prelude.{◌≡◌, ℕ, zero, suc, ◌^◌, ◌<◌, ◌≤◌, ◌⊎◌, List, [], ◌∷◌, length}
+use Rattle.std.specs.Prelude.{◌≡◌, ℕ, zero, suc, ◌^◌, ◌<◌, ◌≤◌, ◌⊎◌, List, [], ◌∷◌, length, slice_index_or}
 use Rattle.slotted_slots.specs.Table.{Table, slot_limit}
 use Rattle.slotted_theory.specs.Nameless.{DArgs, DTerm, stop, place, sub, scope}
+use Rattle.slotted_model.specs.Applied.{Applied}
 use Rattle.slotted_model.specs.Classes.{canonical_node, canonical_slots}
 pub use Rattle.slotted_proofs.specs.Equations.{HaveManyNames, HasManyNames}
 pub use Rattle.slotted_congruence.specs.Named.{SidesRunOut}
 use Rattle.slotted_core.specs.Canonical.{place_count}
+use Rattle.slotted_core.specs.Image.{Image}
 
 -- the class has so many slots that two ids of it have too many names
 abbrev pub IsLargeClass : List DTerm → ℕ → Type 0
 IsLargeClass nodes i = 2 ^ 29 ≤ length (canonical_slots nodes i)
 
--- one of the classes has
-abbrev pub HasLargeClass : List DTerm → Type 0
-HasLargeClass nodes = (i : ℕ) × (i < length nodes) × IsLargeClass nodes i
+-- the live class that a class finds
+abbrev pub class_found : Image → ℕ → ℕ
+class_found g i = (slice_index_or g.found i (0, [])).0
+
+-- the class i finds the class that one of the two ids finds
+abbrev pub FindsEither : Image → Applied → Applied → ℕ → Type 0
+FindsEither g a b i = (class_found g i ≡ class_found g a.0) ⊎ (class_found g i ≡ class_found g b.0)
+
+-- of the classes that find what one of the two ids finds one is large
+abbrev pub HasLargeClassOf : Image → Applied → Applied → Type 0
+HasLargeClassOf g a b = (i : ℕ) × (i < length g.canonical) × FindsEither g a b i × IsLargeClass g.canonical i
 
 -- the canonical node of the class has too many places to be numbered
 abbrev pub IsLargeNode : List DTerm → ℕ → Type 0

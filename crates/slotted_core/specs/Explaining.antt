@@ -13,7 +13,7 @@ use Rattle.slotted_model.specs.Growth.{Extends}
 use Rattle.slotted_model.specs.Ids.{id_of}
 use Rattle.slotted_model.specs.ProofList.{equation_of, equation_at}
 use Rattle.slotted_store.specs.Kept.{Kept}
-use Rattle.slotted_core.specs.Causes.{HasLargeClass}
+use Rattle.slotted_core.specs.Causes.{HasLargeClassOf}
 use Rattle.slotted_core.specs.Good.{Good, HasFreshSlots, image_of}
 use Rattle.slotted_core.specs.Graph.{RunsOut}
 use Rattle.slotted_core.specs.Image.{Image, AddsClasses, FoundAlike}
@@ -57,10 +57,10 @@ pub record ExplainsTerms (new : Table) (k l : Kept) (t u : Term) (answer : Optio
   pub adds : AddsTerms (image_of k) (image_of l)
   pub answers : Answers (image_of l) t u answer
 
--- slots ran out for the classes of the terms, a term has too many places to be numbered, or a class of the graph to which the terms were
--- added has so many slots that two ids of it have too many names
+-- slots ran out for the classes of the terms, a term has too many places to be numbered, or the ids of the terms find alike in the graph
+-- to which they were added, and of the classes that find the same one has so many slots that two ids of it have too many names
 pub data RunsOutForTerms (g : Image) (t u : Term) (old new : Table) : Type 0 where
   no_slots : RunsOut (term_slots t + term_slots u) old new → RunsOutForTerms g t u old new
   large_left : slot_limit ≤ term_places t → RunsOutForTerms g t u old new
   large_right : slot_limit ≤ term_places u → RunsOutForTerms g t u old new
-  large_class : (h : Image) → AddsTerms g h → HasLargeClass h.canonical → RunsOutForTerms g t u old new
+  large_class : (h : Image) (a b : Applied) → AddsTerms g h → HasIds h t u a b → FoundAlike h a b → HasLargeClassOf h a b → RunsOutForTerms g t u old new

@@ -18,6 +18,7 @@ use Rattle.slotted_model.specs.Growth.{Extends}
 use Rattle.slotted_model.specs.Ids.{id_of_node, id_of}
 use Rattle.slotted_proofs.specs.Entries.{Proven, asserted_entry}
 use Rattle.slotted_proofs.specs.Equations.{to_applied}
+use Rattle.slotted_store.specs.Finding.{IsFindable}
 use Rattle.slotted_store.specs.Kept.{Kept, node_at, nodes_of, entries_of, proofs_of, rows_from}
 use Rattle.slotted_store.specs.Names.{HasNumberedBinders}
 use Rattle.slotted_unions.specs.Stored.{Stored}
@@ -47,6 +48,10 @@ image_of k = record {
 -- the id is one of a class, with known slots for names
 abbrev pub IsIdOver : Table → Kept → AppliedId → Type 0
 IsIdOver t k a = IsFull (nodes_of k) (to_applied a) × AllKnown t (values a.m)
+
+-- the id finds, and its names are known slots
+abbrev pub IsFindableOver : Table → Kept → AppliedId → Type 0
+IsFindableOver t k a = IsFindable k (to_applied a) × AllKnown t (values a.m)
 
 -- the node has fewer than 2^30 places, known slots, and ids of classes for children
 abbrev pub IsNodeOver : Table → Kept → Form → Type 0

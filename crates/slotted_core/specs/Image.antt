@@ -16,6 +16,7 @@
 --     live_size g         how many live classes and slots of them there are
 --     IsUnion g h a b y   a union of a and b answers y
 --     AreSymmetries g     what holds of the listed symmetries
+--     AreListedOnce g     each equation is listed once
 use Rattle.std.specs.Prelude.{◌≡◌, ℕ, ◌<◌, ◌≤◌, ◌⊎◌, List, [], ◌∷◌, ◌++◌, ◌+◌, suc, length, map, slice_index_or, refl, ◌≢◌, ◌↔◌, Bool, Contains, IsTrue, Some, cond, nat_eq}
 use Rattle.std.specs.Coded.{Coded, code_by, coded×, coded_ℕ, coded_list}
 use Rattle.slotted_theory.specs.Term.{Term}
@@ -196,3 +197,16 @@ pub record IsSymmetry (g : Image) (y : SymmetryEntry) : Type 0 where
 -- so it is of each listed one
 abbrev pub AreSymmetries : Image → Type 0
 AreSymmetries g = (y : SymmetryEntry) → Contains g.symmetries y → IsSymmetry g y
+
+-- what is read past the end of a list
+abbrev pub no_symmetry : SymmetryEntry
+no_symmetry = (((0, []), (0, [])), 0)
+
+-- what the listed symmetry with this index says
+abbrev pub listed_equation : Image → ℕ → Equation
+listed_equation g i = let y = slice_index_or g.symmetries i no_symmetry in equation_of y.0.0 y.0.1
+
+-- no two of them say the same, up to names
+abbrev pub AreListedOnce : Image → Type 0
+AreListedOnce g =
+    (i j : ℕ) → i < length g.symmetries → j < length g.symmetries → listed_equation g i ≡ listed_equation g j → i ≡ j

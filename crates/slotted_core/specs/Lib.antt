@@ -5,6 +5,7 @@ pub mod Places
 pub mod Image
 pub mod Leaves
 pub mod Graph
+pub mod Findable
 pub mod Reads
 pub mod Canonical
 pub mod Causes

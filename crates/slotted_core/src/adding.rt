@@ -7,13 +7,16 @@ ghost use Rattle.slotted_model.specs.Classes.{IsFull};
 ghost use Rattle.slotted_proofs.specs.Equations.{to_applied};
 ghost use Rattle.slotted_terms.specs.Valid.{IsWhole};
 ghost use Rattle.slotted_core.specs.Graph.{MakesAtMost, RunsOutForNode, RunsOutForTerm};
-ghost use Rattle.slotted_core.specs.Good.{Good, HasFreshSlots, IsIdOver, IsNodeOver, Adds, AddsTerm, id_in};
+ghost use Rattle.slotted_core.specs.Good.{Good, HasFreshSlots, IsIdOver, IsFindableOver, IsNodeOver, Adds, AddsTerm, id_in};
+ghost use Rattle.slotted_store.specs.Finding.{IsFindable};
 ghost use Rattle.slotted_store.specs.Kept.{nodes_of};
 ghost use Rattle.slotted_store.specs.Names.{between};
 ghost use Rattle.slotted_core.specs.Nodes.{child_ids};
 ghost use Rattle.slotted_core.specs.Places.{term_slots};
 
-use crate::names::{PLACES, places_are_known, renew_values, values_are_keys, values_are_known};
+use crate::names::{
+    PLACES, keys_are_values, places_are_known, renew_values, values_are_keys, values_are_known,
+};
 use slotted_languages::Language;
 use slotted_slots::{AppliedId, Error, Id, SlotMap, SlotTable};
 use slotted_store::names::map_between;
@@ -43,6 +46,28 @@ pub(crate) fn is_valid<L: Language>(store: &Store<L>, table: &SlotTable, a: &App
     ensures { IsTrue result ↔ IsIdOver table.now store.now a.now }
 {
     is_full(store, a) && values_are_known(table, &a.m)
+}
+
+// Whether the id is one of a class, with different names for canonical slots of it, among them all that its class finds.
+fn can_be_found<L: Language>(store: &Store<L>, a: &AppliedId) -> bool
+    requires { Good store.now }
+    ensures { IsTrue result ↔ IsFindable store.now (to_applied a.now) }
+{
+    if a.id.0 >= store.class_count() {
+        return false;
+    }
+    if !keys_are_values(&a.m, store.names_of(a.id.0)) {
+        return false;
+    }
+    store.has_found_names(a) && a.m.is_bijection()
+}
+
+/// The same, with known names.
+pub(crate) fn is_findable<L: Language>(store: &Store<L>, table: &SlotTable, a: &AppliedId) -> bool
+    requires { Good store.now }
+    ensures { IsTrue result ↔ IsFindableOver table.now store.now a.now }
+{
+    can_be_found(store, a) && values_are_known(table, &a.m)
 }
 
 // Whether each child of the node is an id of a class, with different names for exactly its slots.

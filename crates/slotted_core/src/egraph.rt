@@ -10,12 +10,13 @@ ghost use Rattle.slotted_model.specs.ProofList.{Proved};
 ghost use Rattle.slotted_proofs.specs.Entries.{explicit_numbers};
 ghost use Rattle.slotted_terms.specs.Valid.{IsValidTerm};
 ghost use Rattle.slotted_core.specs.Image.{no_classes, FoundAlike, SaysEqual, SaysDerivable, SaysTerms};
-ghost use Rattle.slotted_core.specs.Image.{AddsClasses, IsUnion, AreSymmetries, CountsOpen};
+ghost use Rattle.slotted_core.specs.Image.{AddsClasses, IsUnion, AreSymmetries, AreListedOnce, CountsOpen};
 ghost use Rattle.slotted_store.specs.Kept.{text_bytes, symmetry_entry};
+ghost use Rattle.slotted_core.specs.Findable.{IsFindableId, SaysFillingsEqual, LackNothing, HaveFindableSides};
 ghost use Rattle.slotted_core.specs.Graph.{IsValidId, IsValidNode, id_of_form, id_of_term, StandsForNode, OnlyReads};
 ghost use Rattle.slotted_core.specs.Graph.{MakesClassWhereNone, FilesOnlyNode, FilesOnlySubterms};
 ghost use Rattle.slotted_core.specs.Graph.{RecordsUnion, MakesAtMost, RunsOutIn, RunsOutForTerm};
-ghost use Rattle.slotted_core.specs.Causes.{HasLargeClass};
+ghost use Rattle.slotted_core.specs.Causes.{HasLargeClassOf};
 ghost use Rattle.slotted_proofs.specs.Equations.{to_applied};
 ghost use Rattle.slotted_core.specs.Places.{term_slots};
 ghost use Rattle.slotted_core.specs.Reads.{AnswersTerm, NodesAreRead};
@@ -119,6 +120,15 @@ impl<L: Language, N: Drop> EGraph<L, N> {
         !self.failed && adding::is_valid(&self.store, &self.table, a)
     }
 
+    /// Whether `eq` can be asked of an applied id: it is a class of this graph, with different known names for slots of the class, among
+    /// them all that no union dropped. A valid id is one, also after a union. Nothing is findable in a failed graph. It takes no
+    /// memory.
+    pub fn is_findable(&self, a: &AppliedId) -> bool
+        ensures { IsTrue result ↔ ((self.now.failed ≡ false) × IsFindableId self.now (to_applied a.now)) }
+    {
+        !self.failed && adding::is_findable(&self.store, &self.table, a)
+    }
+
     /// Whether a node is one over this graph: its slots are known, its children are valid, and it has fewer than 2^30
     /// places. Nothing is valid in a failed graph. It takes no memory.
     pub fn is_valid_node(&self, node: &L) -> bool
@@ -140,13 +150,16 @@ impl<L: Language, N: Drop> EGraph<L, N> {
         !self.failed && is_valid_term(&self.table, term)
     }
 
-    /// Whether two valid ids find the same. It takes no memory.
+    /// Whether two ids find the same. They may lack names for slots that unions dropped. It takes no memory.
     pub fn eq(&self, a: &AppliedId, b: &AppliedId) -> Result<bool, Error>
-        requires left { IsTrue self.now.failed ⊎ IsValidId self.now (to_applied a.now) }
-        requires right { IsTrue self.now.failed ⊎ IsValidId self.now (to_applied b.now) }
+        requires left { IsTrue self.now.failed ⊎ IsFindableId self.now (to_applied a.now) }
+        requires right { IsTrue self.now.failed ⊎ IsFindableId self.now (to_applied b.now) }
         ensures found { IfOk result (λ y. IsTrue y ↔ FoundAlike self.now.image (to_applied a.now) (to_applied b.now)) }
 
-        // A yes is derivable from what was asserted. Where nothing was, it is a yes exactly if the canonical terms are equal.
+        // A yes is derivable from what was asserted, whatever names are filled in for those that an id lacks. Where nothing was asserted
+        // ids lack none, and it is a yes exactly if the canonical terms are equal.
+        ensures filled { IfOk result (SaysFillingsEqual self.now.image (to_applied a.now) (to_applied b.now)) }
+        ensures whole { OnOk result (LackNothing self.now.image (to_applied a.now) (to_applied b.now)) }
         ensures equal { IfOk result (SaysEqual self.now.image (to_applied a.now) (to_applied b.now)) }
         ensures derivable { IfOk result (SaysDerivable self.now.image (to_applied a.now) (to_applied b.now)) }
         ensures terms { IfOk result (SaysTerms self.now.image (to_applied a.now) (to_applied b.now)) }
@@ -287,7 +300,7 @@ impl<L: Language, N: Drop> EGraph<L, N> {
         ensures stays { IsTrue self.old.failed → self.new ≡ self.old }
         ensures failed { IsErrOf result Error.Failed ↔ IsTrue self.old.failed }
         ensures fails { IsTrue self.new.failed ↔ IsErr result }
-        ensures full { IsErrOf result Error.OutOfSlots → HasLargeClass self.old.image.canonical }
+        ensures full { IsErrOf result Error.OutOfSlots → HasLargeClassOf self.old.image (to_applied l.now) (to_applied r.now) }
         ensures only { IfErr result (λ e. (e ≡ Error.Failed) ⊎ IsShortage e) }
     {
         self.union_justified(l, r, None)
@@ -314,7 +327,7 @@ impl<L: Language, N: Drop> EGraph<L, N> {
         ensures stays { IsTrue self.old.failed → self.new ≡ self.old }
         ensures failed { IsErrOf result Error.Failed ↔ IsTrue self.old.failed }
         ensures fails { IsTrue self.new.failed ↔ IsErr result }
-        ensures full { IsErrOf result Error.OutOfSlots → HasLargeClass self.old.image.canonical }
+        ensures full { IsErrOf result Error.OutOfSlots → HasLargeClassOf self.old.image (to_applied l.now) (to_applied r.now) }
         ensures only { IfErr result (λ e. (e ≡ Error.Failed) ⊎ IsShortage e) }
     {
         if self.failed {
@@ -331,6 +344,10 @@ impl<L: Language, N: Drop> EGraph<L, N> {
     pub fn symmetries_met(&self) -> &[Symmetry]
         ensures list { map symmetry_entry result.now ≡ self.now.image.symmetries }
         ensures each { IsTrue self.now.failed ⊎ AreSymmetries self.now.image }
+        ensures once { IsTrue self.now.failed ⊎ AreListedOnce self.now.image }
+
+        // So `eq` can be asked of the two sides of each.
+        ensures sides { IsTrue self.now.failed ⊎ HaveFindableSides self.now }
     {
         self.store.symmetries()
     }

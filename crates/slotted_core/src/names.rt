@@ -1,16 +1,17 @@
 //! Maps of names that a new class takes, and what ids and nodes are tested for.
-ghost use Rattle.std.specs.Prelude.{◌≡◌, ◌↔◌, ◌+◌, ◌≤◌, ◌^◌, length, IsTrue, IfErr, OnOk};
+ghost use Rattle.std.specs.Prelude.{◌≡◌, ◌↔◌, ◌+◌, ◌≤◌, ◌^◌, ℕ, length, Contains, IsTrue, IfErr, OnOk};
 ghost use Rattle.slotted_theory.specs.FiniteMaps.{IsInjectiveMap};
 ghost use Rattle.slotted_terms.specs.Valid.{AllKnown};
 ghost use Rattle.slotted_slots.specs.Maps.{keys, values};
 ghost use Rattle.slotted_slots.specs.Table.{KnowsMore};
 ghost use Rattle.slotted_nodes.specs.Form.{IsSmall};
-ghost use Rattle.slotted_model.specs.Ascending.{ascending};
+ghost use Rattle.slotted_model.specs.Ascending.{ascending, IsAscending};
 ghost use Rattle.slotted_store.specs.Names.{fresh_slots};
 ghost use Rattle.slotted_core.specs.Graph.{MakesAtMost, RunsOut};
 
 use slotted_languages::Language;
 use slotted_slots::{Error, SlotMap, SlotTable};
+use slotted_store::names::has_value;
 
 /// Nodes with as many places or more are refused.
 pub(crate) const PLACES: usize = 1 << 30;
@@ -42,6 +43,19 @@ pub(crate) fn values_are_keys(slots: &SlotMap, map: &SlotMap) -> bool
     }
     for i in 0..slots.len() {
         if !map.contains_key(slots.value_at(i)) {
+            return false;
+        }
+    }
+    true
+}
+
+// Whether each key of one map is a value of the other. The keys ascend.
+pub(crate) fn keys_are_values(map: &SlotMap, slots: &SlotMap) -> bool
+    ensures within { IsTrue result ↔ ((s : ℕ) → Contains (keys map.now) s → Contains (values slots.now) s) }
+    ensures ascending { IsAscending (keys map.now) }
+{
+    for (slot, _) in map.iter() {
+        if !has_value(slots, slot) {
             return false;
         }
     }

@@ -4,7 +4,7 @@ ghost use Rattle.slotted_slots.specs.Error.{IsShortage};
 ghost use Rattle.slotted_model.specs.Classes.{IsFull};
 ghost use Rattle.slotted_proofs.specs.Equations.{to_applied};
 ghost use Rattle.slotted_store.specs.Kept.{nodes_of, text_bytes};
-ghost use Rattle.slotted_core.specs.Causes.{HasLargeClass};
+ghost use Rattle.slotted_core.specs.Causes.{HasLargeClassOf};
 ghost use Rattle.slotted_core.specs.Good.{Good, UnitesSides, image_of};
 ghost use Rattle.slotted_core.specs.Image.{CountsOpen};
 
@@ -27,7 +27,7 @@ pub(crate) fn union<L: Language>(
     requires left { IsFull (nodes_of store.old) (to_applied l.now) }
     requires right { IsFull (nodes_of store.old) (to_applied r.now) }
     ensures ok { IfOk result (UnitesSides store.old store.new l.now r.now (text_bytes text)) }
-    ensures full { IsErrOf result Error.OutOfSlots → HasLargeClass (nodes_of store.old) }
+    ensures full { IsErrOf result Error.OutOfSlots → HasLargeClassOf (image_of store.old) (to_applied l.now) (to_applied r.now) }
     ensures err { IfErr result IsShortage }
 {
     let found_alike = store.eq(l, r);

@@ -27,6 +27,7 @@ fn assert_finds_nothing<L: Language>(
     assert!(rt; refusal(graph.eq(id, id)) == 3);
     assert!(rt; refusal(graph.lookup(&term.node)) == 3);
     assert!(rt; !graph.is_valid(id));
+    assert!(rt; !graph.is_findable(id));
     assert!(rt; !graph.is_valid_node(&term.node));
     assert!(rt; !graph.is_valid_expr(term));
 }

@@ -7,9 +7,9 @@ use slotted_slots::{AppliedId, Error, Id, Slot, SlotMap};
 use std::alloc::Global;
 use std::mem;
 
-// Whether two ids are equal, if they are valid.
+// Whether two ids are equal, if they can be asked.
 pub fn equal<L: Language>(graph: &EGraph<L>, a: &AppliedId, b: &AppliedId) -> Result<bool, Error> {
-    if graph.is_valid(a) && graph.is_valid(b) {
+    if graph.is_findable(a) && graph.is_findable(b) {
         graph.eq(a, b)
     } else {
         Err(Error::NotATerm)
@@ -29,6 +29,28 @@ pub fn related<L: Language>(
     } else {
         Ok("two classes")
     }
+}
+
+// How the two sides of a symmetry that was met are related.
+pub fn sides_related<L: Language>(graph: &EGraph<L>, number: usize) -> Result<&'static str, Error> {
+    match graph.symmetries_met().get(number) {
+        Some(symmetry) => related(graph, &symmetry.equation.l, &symmetry.equation.r),
+        None => Ok("none"),
+    }
+}
+
+// Whether the two sides of as many symmetries as are open are not equal.
+pub fn are_counted<L: Language>(graph: &EGraph<L>) -> Result<bool, Error> {
+    let mut left = graph.open_symmetries()?;
+    for symmetry in graph.symmetries_met() {
+        if !equal(graph, &symmetry.equation.l, &symmetry.equation.r)? {
+            if left == 0 {
+                return Ok(false);
+            }
+            left -= 1;
+        }
+    }
+    Ok(left == 0)
 }
 
 // What a union answers, if the ids are valid.
@@ -90,6 +112,27 @@ pub fn is_valid_changed<L: Language>(
 ) -> Result<bool, Error> {
     change(alloc, sides, how)?;
     Ok(graph.is_valid(&sides.l))
+}
+
+pub fn is_findable_changed<L: Language>(
+    alloc: Global,
+    graph: &EGraph<L>,
+    sides: &mut Equation,
+    how: &str,
+) -> Result<bool, Error> {
+    change(alloc, sides, how)?;
+    Ok(graph.is_findable(&sides.l))
+}
+
+// How the left id, changed, and the right one are related.
+pub fn related_changed<L: Language>(
+    alloc: Global,
+    graph: &EGraph<L>,
+    sides: &mut Equation,
+    how: &str,
+) -> Result<&'static str, Error> {
+    change(alloc, sides, how)?;
+    related(graph, &sides.l, &sides.r)
 }
 
 // What a union answers, because of a text if there is one.

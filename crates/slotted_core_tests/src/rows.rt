@@ -1,6 +1,9 @@
 //! The walk over the rows of a table, each of which is `ASK: TERMS => ANSWER`.
 use crate::graphs::{empty, parted, sides, slot, yes};
-use crate::ids::{is_valid_changed, related, unite_because};
+use crate::ids::{
+    are_counted, is_findable_changed, is_valid_changed, related, related_changed, sides_related,
+    unite_because,
+};
 use crate::{nodes, proofs, steps, terms};
 use slotted_core::EGraph;
 use slotted_languages::Language;
@@ -22,6 +25,8 @@ fn asked_of_sides<L: Language>(
         ("ids", _) => related(graph, &sides.l, &sides.r),
         ("union", text) => Ok(yes(unite_because(alloc, graph, sides, text)?)),
         ("valid", how) => Ok(yes(is_valid_changed(alloc, graph, sides, how)?)),
+        ("findable", how) => Ok(yes(is_findable_changed(alloc, graph, sides, how)?)),
+        ("changed", how) => related_changed(alloc, graph, sides, how),
         _ => steps::answer(alloc, graph, known, ask, sides),
     }
 }
@@ -47,6 +52,8 @@ fn asked_of_graph<L: Language>(
     match parted(ask, " ") {
         ("knows", name) => Ok(yes(graph.table().knows(slot(alloc, name)?))),
         ("null", _) => Ok(yes(graph.is_valid(&AppliedId::null(alloc)))),
+        ("counted", _) => Ok(yes(are_counted(graph)?)),
+        ("sides", number) => sides_related(graph, number.parse::<usize>().unwrap_or(0)),
         _ => Ok(yes(graph.is_failed())),
     }
 }

@@ -80,6 +80,46 @@ valid bare 2: a => no
 valid over: (g $0) == (g $1) => yes
 valid over: (g $0) == (var $0) => no";
 
+// After a union that drops all slots of `(f $0 $1)` its class alone can be asked. Other names are asked for as before.
+const FINDABLE_IDS: &str = "graph knows x => no
+findable first 0: (f $0 $1) => yes
+findable bare 0: (f $0 $1) => no
+union: (f $0 $1) == a => yes
+findable bare 0: a => yes
+valid bare 0: a => no
+changed bare 0: a == a => equal
+changed bare 0: a == (f $1 $2) => equal
+changed bare 0: a == b => two classes
+findable first 2: (f $0 $1) => yes
+findable first 1: (f $0 $1) => no
+findable second unknown: (f $0 $1) => no
+findable more 2: (f $0 $1) => no
+findable bare 7: a => no";
+
+// Symmetries that were met are open until their sides are equal, also where a slot was dropped before: the second is one of a class
+// that has no name for `$2`.
+const MET: &str = "graph sides 0 => none
+union: (f $0 $1) == (f $1 $0) => yes
+graph sides 0 => one class
+graph counted => yes
+union: (app (f $0 $1) (g $2)) == (app (f $0 $1) (g $3)) => yes
+union: (app (f $0 $1) (g $2)) == (app (f $1 $0) (g $2)) => yes
+graph sides 1 => one class
+graph counted => yes
+union: (f $0 $1) == (g $0) => yes
+graph sides 0 => equal
+graph sides 1 => one class
+graph counted => yes
+union: (app (f $0 $1) (g $2)) == a => yes
+graph sides 1 => equal
+graph sides 2 => none
+graph counted => yes";
+
+#[test]
+fn symmetries_are_asked(rt: HostRuntime) -> Result<(), Error> {
+    check_tables::<Small>(&rt, rt.alloc(), &[FINDABLE_IDS, MET])
+}
+
 // A node has known slots and valid children: the graph has the class 0 alone.
 const VALID_NODES: &str = "ids: a => equal
 node valid: (g $0) => yes
@@ -188,6 +228,58 @@ fn equal_terms_are_explained(rt: HostRuntime) -> Result<(), Error> {
     check_tables::<Small>(&rt, rt.alloc(), &[EXPLAINED, LOST, SWAPPED])
 }
 
+// Of two classes the one with fewer canonical slots is kept, whichever side it stands on: so a union with the other one enters what it
+// says of the kept class, and an explanation of that enters nothing. The ids of `d` and `e` put entries behind it.
+const FEWER_SLOTS: &str = "union: (f $x $y) == (g $x) => yes
+union: (f $x $y) == (var $x) => yes
+ids: d == e => two classes
+explain: (g $x) == (var $x) => explained
+number 0 last => no";
+
+const FEWER_SLOTS_LEFT: &str = "union: (g $x) == (f $x $y) => yes
+union: (f $x $y) == (var $x) => yes
+ids: d == e => two classes
+explain: (g $x) == (var $x) => explained
+number 0 last => no";
+
+// Of two with as many the one with more nodes in it and over it is.
+const HEAVIER: &str = "ids: (app b b) == a => two classes
+union: a == b => yes
+union: a == c => yes
+ids: d == e => two classes
+explain: b == c => explained
+number 0 last => no";
+
+const HEAVIER_LEFT: &str = "ids: (app b b) == a => two classes
+union: b == a => yes
+union: a == c => yes
+ids: d == e => two classes
+explain: b == c => explained
+number 0 last => no";
+
+// What a union with the kept class says is new for the other one.
+const LIGHTER: &str = "ids: (app b b) == a => two classes
+union: a == b => yes
+union: b == c => yes
+ids: d == e => two classes
+explain: a == c => explained
+number 0 last => yes";
+
+#[test]
+fn the_class_with_fewer_slots_or_more_nodes_is_kept(rt: HostRuntime) -> Result<(), Error> {
+    check_tables::<Small>(
+        &rt,
+        rt.alloc(),
+        &[
+            FEWER_SLOTS,
+            FEWER_SLOTS_LEFT,
+            HEAVIER,
+            HEAVIER_LEFT,
+            LIGHTER,
+        ],
+    )
+}
+
 // There has to be a part for each child, in their order, and a turned equation is another one.
 const IN_ORDER: &str = "reflexive: (app a c) == (app b d) => BadStep
 assert: a == b => accepted
@@ -212,6 +304,12 @@ assert: b == c => accepted
 transitive 10: a == c => BadStep
 transitive 01: c == a => BadStep
 transitive 01: a == c => accepted";
+
+// A middle whose slots are dropped: the names of the two sides are their own, and one name for both is refused, which enters nothing.
+const OTHER_NAMES: &str = "assert: (g $0) == (f $0 $1) => accepted
+assert: (f $0 $1) == (app (var $1) (var $1)) => accepted
+transitive 01: (g $2) == (app (var $2) (var $2)) => BadStep
+transitive 01: (g $2) == (app (var $3) (var $3)) => accepted";
 
 // That the class of a child equals itself says nothing of which of its slots are bound.
 const BOUND_FIRST: &str = "reflexive: (lam $x (f $x $y)) == (lam $x (f $y $x)) => BadStep
@@ -250,6 +348,7 @@ fn steps_are_checked(rt: HostRuntime) -> Result<(), Error> {
             IN_ORDER,
             PARENTS,
             THROUGH,
+            OTHER_NAMES,
             BOUND_FIRST,
             BOUND_OR_FREE,
             PAST_THE_LIST,

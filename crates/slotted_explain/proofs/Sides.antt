@@ -1,8 +1,5 @@
 -- The two sides of a proved equation are valid ids.
-use Rattle.std.proofs.Common.{◌≡◌, ◌<◌, ℕ, zero, suc, List, [], ◌∷◌, length, sym, ap, subst, arith, ◌∙◌}
-use Rattle.slotted_theory.specs.FiniteMaps.{with_values}
-use Rattle.slotted_slots.specs.Table.{Table, numeric_slot}
-use Rattle.slotted_slots.proofs.TableLaws.{is_known-numeric_slot}
+use Rattle.std.proofs.Common.{◌≡◌, ◌<◌, ℕ, length, sym, ap, subst, arith, ◌∙◌}
 use Rattle.slotted_terms.specs.Valid.{AllKnown}
 use Rattle.slotted_model.specs.Applied.{Applied, values}
 use Rattle.slotted_model.specs.Classes.{canonical_slots, IsFull}
@@ -14,12 +11,7 @@ use Rattle.slotted_proofs.specs.Proving.{IsProved}
 use Rattle.slotted_core.specs.Image.{Image}
 use Rattle.slotted_core.specs.Graph.{Graph, IsValidId}
 use Rattle.slotted_store.proofs.KeptLists.{equation_at-of, length-mapped}
-
--- numeric names are known to each table
-numeric_known : (t : Table) (m : List (ℕ × ℕ)) → AllKnown t (values (with_values numeric_slot m))
-numeric_known t [] k d lt = absurd (omega (arith, lt))
-numeric_known t (p ∷ m) zero d lt = is_known-numeric_slot t p.1
-numeric_known t (p ∷ m) (suc k) d lt = numeric_known t m k d (omega (arith, lt))
+use Rattle.slotted_store.proofs.NameMaps.{numeric-known}
 
 pub left_valid : (g : Graph) (p : ℕ) (a b : Applied) → IsProved g.image.canonical g.image.stored → p < length g.image.stored → AreSides (statement_at g.image.stored p) a b → IsValidId g a
 left_valid g p a b proved lt sides =
@@ -33,7 +25,7 @@ left_valid g p a b proved lt sides =
         slots = sides.left_full.slots ∙ ((proved.canonical p lt).left ∙ ap (canonical_slots g.image.canonical) (sym class));
         injective = sides.left_full.injective;
       };
-      known = subst (λ (x : Applied). AllKnown g.table (values x.1)) (sym sides.left) (numeric_known g.table (numbered s.left_slots s.right_slots s.equation.pairs).0);
+      known = subst (λ (x : Applied). AllKnown g.table (values x.1)) (sym sides.left) (numeric-known g.table (numbered s.left_slots s.right_slots s.equation.pairs).0);
     }
 
 -- also where the graph made slots since
@@ -49,5 +41,5 @@ right_valid g h image p a b proved lt sides =
         slots = sides.right_full.slots ∙ ((proved.canonical p lt).right ∙ ap (canonical_slots g.image.canonical) (sym class));
         injective = sides.right_full.injective;
       });
-      known = subst (λ (x : Applied). AllKnown h.table (values x.1)) (sym sides.right) (numeric_known h.table (numbered s.left_slots s.right_slots s.equation.pairs).1);
+      known = subst (λ (x : Applied). AllKnown h.table (values x.1)) (sym sides.right) (numeric-known h.table (numbered s.left_slots s.right_slots s.equation.pairs).1);
     }

@@ -1,6 +1,6 @@
 -- Following the entries from a class to the one that it finds.
 use Rattle.std.proofs.Common.{◌≡◌, ◌≢◌, ◌<◌, ℕ, suc, ◌-◌, Option, Some, None, List, length, cond, sym, ◌∙◌, ap, refl, subst, inl, inr, arith}
-use Rattle.std.specs.Prelude.{Contains, nat_eq, slice_index_or, Bool, true, false, not}
+use Rattle.std.specs.Prelude.{◌↔◌, Contains, IsTrue, nat_eq, slice_index_or, is_some, Bool, true, false, not}
 use Rattle.std.specs.Option.{option_eq}
 use Rattle.std.specs.Map.{keys_of, values_of}
 use Rattle.std.proofs.lemmas.Bool.{cases_eq, eq-eqb, ne_eqb, false≢true}
@@ -11,18 +11,18 @@ use Rattle.slotted_model.specs.Applied.{Applied, keys}
 use Rattle.slotted_model.specs.Classes.{canonical_slots}
 use Rattle.slotted_model.specs.Correspondence.{IsFullMap, pairs_on, composite, identity}
 use Rattle.slotted_model.specs.Find.{Entry, entry_at, IsLive, find_class, find_map, find, Linked}
-use Rattle.slotted_model.proofs.Correspondences.Pairs.{Contains-composite, Contains-value_of, same_options}
+use Rattle.slotted_model.proofs.Correspondences.Pairs.{Contains-composite, Contains-of_value, Contains-value, Contains-value_of, same_options}
 use Rattle.slotted_model.proofs.Correspondences.PartialInjections.{value_of-in_order, composite-in_order, composite-over}
 use Rattle.slotted_model.proofs.Correspondences.FullMaps.{full-in_order, full-ext, full-slot}
 use Rattle.slotted_model.proofs.Options.{None-Some, Some-same}
-use Rattle.slotted_model.proofs.Finding.{leads, find_class-live, find_map-live, find_class-follows, find_map-follows, find_map-partial, found-live, found_keys}
-use Rattle.slotted_model.proofs.NormalIds.{values-identity, valid-map, found-full}
-use Rattle.slotted_model.proofs.Members.{In-Contains}
+use Rattle.slotted_model.proofs.Finding.{leads, find_class-live, find_map-live, find_class-follows, find_map-follows, find_map-partial, found-live, found_keys, find_map-full}
+use Rattle.slotted_model.proofs.NormalIds.{values-identity, valid-map, found-full, used-by, of_used}
+use Rattle.slotted_model.proofs.Members.{In-Contains, Contains-In}
 use Rattle.slotted_proofs.proofs.Bridges.{value_of-model}
-use Rattle.slotted_store.specs.Finding.{HasFinds, IsFindable}
+use Rattle.slotted_store.specs.Finding.{HasFinds, HasFoundName, HasFoundNames, IsFindable}
 use Rattle.slotted_store.specs.Kept.{Kept, find_at, nodes_of, entries_of}
 use Rattle.slotted_store.proofs.KeptLists.{entry_at-of, length-nodes_of}
-use Rattle.slotted_store.proofs.NameMaps.{at_In}
+use Rattle.slotted_store.proofs.NameMaps.{In-key, at_In, key-In}
 
 -- what a composite has at a key
 pub composite-some : (P Q : List ℕ) (A B : List (ℕ × ℕ)) → pairs_on P (value_of A) ≡ A → pairs_on Q (value_of B) ≡ B → (s t : ℕ) → value_of A s ≡ Some t → value_of (composite A B) s ≡ value_of B t
@@ -164,6 +164,35 @@ module _ (k : Kept) (good : HasFinds k) where
   live-values c l h =
       let e : (find_at k c).pairs ≡ identity (keys_of (find_at k c).pairs) = subst (λ (x : Entry). x.pairs ≡ identity (keys_of x.pairs)) (entry_at-of k c) (linked.live c (in_nodes c l) h) in
       ap values_of e ∙ values-identity (keys_of (find_at k c).pairs)
+
+  -- what is asked of the keys of an id, slot by slot of the class that it finds
+  module _ (a : Applied) (within : a.0 < length k.classes) where
+    abbrev map : List (ℕ × ℕ)
+    map = find_map found a.0
+
+    pub has-name : (t s : ℕ) → Some s ≡ value_of map t → (y : Bool) → y ≡ is_some (slots.value_of a.1 s) → IsTrue y ↔ HasFoundName k a t
+    has-name t s e y is = (
+      λ h u c.
+          let same : s ≡ u = Some-same s u (e ∙ value_of-in_order (canonical_slots nodes (find_class found a.0)) map (map-ordered a.0 within) t u c) in
+          subst (Contains (keys a.1)) same (Contains-In (keys a.1) s (key-In a.1 s (sym is ∙ h))),
+      λ h. is ∙ In-key a.1 s (In-Contains (keys a.1) s (h s (Contains-value_of map t s (sym e)))),
+    )
+
+    pub no-name : (t : ℕ) → None ≡ value_of map t → HasFoundName k a t
+    no-name t e u c = absurd (None-Some u (e ∙ value_of-in_order (canonical_slots nodes (find_class found a.0)) map (map-ordered a.0 within) t u c))
+
+    pub each-name : HasFoundNames k a → (t : ℕ) → HasFoundName k a t
+    each-name h t s c = h s (used-by found a.0 s (Contains-value map t s c))
+
+    pub all-names : (c : ℕ) → c ≡ find_class found a.0 → c < length k.classes → (m : List (ℕ × ℕ)) → m ≡ (find_at k c).pairs → ((j d : ℕ) → j < length (values_of m) → HasFoundName k a (slice_index_or (values_of m) j d)) → HasFoundNames k a
+    all-names c e l m em h s u =
+        let r = Contains-of_value map s (of_used found a.0 s u) in
+        let K : List ℕ = found_keys nodes found linked a.0 in
+        let d : Contains K r.0 = full-slot K map (find_map-full nodes found linked a.0 (in_nodes a.0 within)) r.0 s r.1 in
+        let d' : Contains (keys_of (find_at k (find_class found a.0)).pairs) r.0 = subst (λ (y : Entry). Contains (keys_of y.pairs) r.0) (entry_at-of k (find_class found a.0)) d in
+        let live : IsLive found c = subst (IsLive found) (sym e) (class-lives a.0 within) in
+        let same : keys_of (find_at k (find_class found a.0)).pairs ≡ values_of m = ap (λ i. keys_of (find_at k i).pairs) (sym e) ∙ (sym (live-values c l live) ∙ ap values_of (sym em)) in
+        at_In (HasFoundName k a) (values_of m) h r.0 (In-Contains (values_of m) r.0 (subst (λ S. Contains S r.0) same d')) s r.1
 
   -- ids that find one class find alike exactly if they have the same names at its slots
   pub same-names : (a b : Applied) → IsFindable k a → IsFindable k b → find_class found a.0 ≡ find_class found b.0 → ((s : ℕ) → Contains (keys_of (find_at k (find_class found a.0)).pairs) s → value_of (find found a).1 s ≡ value_of (find found b).1 s) → find found a ≡ find found b

@@ -1,13 +1,14 @@
 -- The loops over maps of names, step by step.
 use Rattle.std.proofs.Common.{◌≡◌, ◌≢◌, ◌<◌, ◌≤◌, ℕ, zero, suc, ◌+◌, List, [], ◌∷◌, ◌++◌, Some, length, take, drop, map, get_or, sym, ◌∙◌, ap, refl, subst, arith, inl, inr, drop-cons, add-one}
-use Rattle.std.specs.Prelude.{slice_get, slice_set, slice_index_or, IsSome, IsTrue, cond, Bool, ◌↔◌}
+use Rattle.std.specs.Prelude.{slice_get, slice_set, slice_index_or, All, IsSome, IsTrue, cond, Bool, ◌↔◌}
 use Rattle.std.specs.List.{zip}
 use Rattle.std.proofs.lemmas.Option.{get_or_from_slice_get}
 use Rattle.std.proofs.lemmas.Bool.{cases_eq, eq-eqb, ne_eqb, false≢true}
-use Rattle.slotted_theory.specs.FiniteMaps.{IsInjectiveMap}
+use Rattle.slotted_theory.specs.FiniteMaps.{IsInjectiveMap, with_values}
 use Rattle.slotted_slots.specs.Ascending as slots
 use Rattle.slotted_slots.specs.Maps.{value_of, with_pair, keys, values, all_differ}
-use Rattle.slotted_slots.specs.Table.{fresh_slot}
+use Rattle.slotted_slots.specs.Table.{Table, fresh_slot, is_known, numeric_slot}
+use Rattle.slotted_slots.proofs.TableLaws.{is_known-numeric_slot}
 use Rattle.slotted_nodes.specs.Form.{Form, with_name}
 use Rattle.slotted_languages.specs.Shape.{with_names}
 use Rattle.slotted_model.specs.Ascending as model
@@ -169,6 +170,12 @@ length-values (p ∷ m) = ap suc (length-values m)
 pub length-keys : (m : List (ℕ × ℕ)) → length (keys m) ≡ length m
 length-keys [] = refl
 length-keys (p ∷ m) = ap suc (length-keys m)
+
+-- each table knows numeric names
+pub numeric-known : (t : Table) (m : List (ℕ × ℕ)) → All (λ x. IsTrue (is_known t x)) (values (with_values numeric_slot m))
+numeric-known t [] k d l = absurd (omega (arith, l))
+numeric-known t (p ∷ m) zero d l = is_known-numeric_slot t p.1
+numeric-known t (p ∷ m) (suc k) d l = numeric-known t m k d (omega (arith, l))
 
 -- one more place passes
 pub below_next : (P : ℕ → Type 0) (xs : List ℕ) (i x : ℕ) → i < length xs → slice_get xs i ≡ Some x → P x → ((k d : ℕ) → k < i → P (slice_index_or xs k d)) → (k d : ℕ) → k < i + 1 → P (slice_index_or xs k d)

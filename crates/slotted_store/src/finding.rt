@@ -5,7 +5,7 @@ ghost use Rattle.slotted_theory.specs.FiniteMaps.{value_of};
 ghost use Rattle.slotted_model.specs.Find.{IsLive, find_class, find_map, find};
 ghost use Rattle.slotted_store.specs.Kept.{entries_of};
 ghost use Rattle.slotted_proofs.specs.Equations.{to_applied};
-ghost use Rattle.slotted_store.specs.Finding.{HasFinds, IsFindable, FindAlike};
+ghost use Rattle.slotted_store.specs.Finding.{HasFinds, HasFoundName, HasFoundNames, IsFindable, FindAlike};
 
 use crate::store::Store;
 use slotted_languages::Language;
@@ -90,6 +90,33 @@ impl<L: Language> Store<L> {
             return false;
         }
         self.have_same_names(class, a, b)
+    }
+
+    // Whether an id has a name for what a slot of the class that it finds stands for.
+    fn has_found_name(&self, a: &AppliedId, slot: Slot) -> bool
+        requires good { HasFinds self.now }
+        requires within { a.now.id.0 < length self.now.classes }
+        ensures { IsTrue result ↔ HasFoundName self.now (to_applied a.now) slot }
+    {
+        match self.found_slot(a.id.0, slot) {
+            Some(own) => a.m.contains_key(own),
+            None => true,
+        }
+    }
+
+    /// Whether an id has a name for each slot that its class finds. It takes no memory.
+    pub fn has_found_names(&self, a: &AppliedId) -> bool
+        requires good { HasFinds self.now }
+        requires within { a.now.id.0 < length self.now.classes }
+        ensures { IsTrue result ↔ HasFoundNames self.now (to_applied a.now) }
+    {
+        let slots = &self.entry(self.find_class(a.id.0)).m;
+        for i in 0..slots.len() {
+            if !self.has_found_name(a, slots.value_at(i)) {
+                return false;
+            }
+        }
+        true
     }
 
     // With memory.

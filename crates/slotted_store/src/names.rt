@@ -33,8 +33,8 @@ pub(crate) fn put_at_places<L: Language>(node: &mut L, map: &SlotMap)
     }
 }
 
-// Whether the slot is a value of the map.
-fn has_value(map: &SlotMap, slot: Slot) -> bool
+/// Whether the slot is a value of the map.
+pub fn has_value(map: &SlotMap, slot: Slot) -> bool
     ensures { IsTrue result ↔ Contains (values map.now) slot }
 {
     for i in 0..map.len() {

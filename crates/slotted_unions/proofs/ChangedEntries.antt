@@ -81,7 +81,10 @@ module _ (k : Kept) (good : Stored k) (i : ℕ) (x : Entry) (dropped : Bool) (mo
           right = (goes.finds y.0.1 (good.sides y c).right).0;
           class = (good.sides y c).class;
           slots = (good.sides y c).slots;
+          left_known = (good.sides y c).left_known;
+          right_known = (good.sides y c).right_known;
         };
+        once = good.once;
         settled = λ d y c. subst (λ (g : State). IsAligned g y) back (settled d y c);
       }
 

@@ -22,7 +22,7 @@ use Rattle.slotted_proofs.proofs.Entering.{entering_proved, others_assert_nothin
 use Rattle.slotted_store.specs.Finding.{HasFinds}
 use Rattle.slotted_store.specs.Kept.{Kept, nodes_of, entries_of, proofs_of, with_proofs, EntersIn, HasManySlots}
 use Rattle.slotted_store.proofs.KeptLists.{equation_at-of, length-nodes_of, length-proofs_of}
-use Rattle.slotted_unions.specs.Proving.{OnlyProves, Proves, HasLargeClass}
+use Rattle.slotted_unions.specs.Proving.{OnlyProves, Proves, HasLargeClassOf}
 use Rattle.slotted_unions.specs.StateOf.{state_of}
 use Rattle.slotted_unions.specs.Stored.{Stored, Grows, IsOverOneClass}
 
@@ -59,7 +59,8 @@ module _ (k : Kept) (stored : Stored k) (ps : List Proven) (proved : IsProved (n
     later = stored.later;
     sides = λ y c.
         let s : IsOverOneClass k y = stored.sides y c in
-        record { left = s.left; right = s.right; class = s.class; slots = s.slots };
+        record { left = s.left; right = s.right; class = s.class; slots = s.slots; left_known = s.left_known; right_known = s.right_known };
+    once = stored.once;
     settled = stored.settled;
   }
 
@@ -155,8 +156,8 @@ module _ (k l : Kept) (only : OnlyProves k l) where
   only-says p h = ap (λ (s : Statement). s.equation) (only-stands p h).1
 
   -- a class that is too large was so
-  pub only-large : HasLargeClass l → HasLargeClass k
-  only-large = subst HasLargeClass only.kept
+  pub only-large : (a b : ℕ) → HasLargeClassOf l a b → HasLargeClassOf k a b
+  only-large a b = subst (λ (m : Kept). HasLargeClassOf m a b) only.kept
 
 -- the model's list grows first, and then
 grow-then : (nodes : List DTerm) (a b c : List ProofEntry) → ProofsGrow nodes a b → ProofsGrow nodes b c →
@@ -268,9 +269,9 @@ then-chained k l m e f p q r first h second joins enters =
       equation = step.equation ∙ (λ t. chained_equation (first.equation t) (second t));
     }
 
--- of two entries with too many slots one is over a large class
+-- of the left class of an entry and the right one of another, which have too many slots, one is large
 pub many-large : (k : Kept) → Stored k → (p q : ℕ) → p < length k.proofs → q < length k.proofs → HasManySlots k p q →
-    HasLargeClass k
+    HasLargeClassOf k (statement_at k.proofs p).equation.left (statement_at k.proofs q).equation.right
 many-large k stored p q hp hq many =
     let e : Equation = (statement_at k.proofs p).equation in
     let f : Equation = (statement_at k.proofs q).equation in
@@ -282,11 +283,13 @@ many-large k stored p q hp hq many =
     let le : e.left < length (nodes_of k) = (stored-over k stored p hp).left in
     let rf : f.right < length (nodes_of k) = (stored-over k stored q hq).right in
     elim (cases_lt (length (canonical_slots (nodes_of k) e.left)) (2 ^ 29)) [
-      | inl small ↦ (f.right, omega (arith, rf, n), omega (arith, many, a, b, small))
-      | inr large ↦ (e.left, omega (arith, le, n), omega (arith, large))
+      | inl small ↦ (f.right, omega (arith, rf, n), inr refl, omega (arith, many, a, b, small))
+      | inr large ↦ (e.left, omega (arith, le, n), inl refl, omega (arith, large))
     ]
 
 -- the same where more entries were made before
 pub then-large : (k l : Kept) → OnlyProves k l → (p q : ℕ) → p < length l.proofs → q < length l.proofs →
-    HasManySlots l p q → HasLargeClass k
-then-large k l only p q hp hq many = only-large k l only (many-large l only.stored p q hp hq many)
+    HasManySlots l p q → HasLargeClassOf k (statement_at l.proofs p).equation.left (statement_at l.proofs q).equation.right
+then-large k l only p q hp hq many =
+    only-large k l only (statement_at l.proofs p).equation.left (statement_at l.proofs q).equation.right
+    (many-large l only.stored p q hp hq many)

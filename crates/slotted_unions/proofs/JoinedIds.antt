@@ -28,7 +28,7 @@ use Rattle.slotted_store.specs.Finding.{FindAlike}
 use Rattle.slotted_store.specs.Kept.{Kept, nodes_of, entries_of, EntersBy}
 use Rattle.slotted_store.proofs.KeptLists.{length-nodes_of}
 use Rattle.slotted_store.proofs.NameMaps.{length-keys}
-use Rattle.slotted_unions.specs.Proving.{Proves, ProvesEqual, HasLargeClass}
+use Rattle.slotted_unions.specs.Proving.{Proves, ProvesEqual, HasLargeClassOf}
 use Rattle.slotted_unions.specs.Stored.{Stored}
 use Rattle.slotted_unions.proofs.EnteredProofs.{entering-proves, only-nodes, then-proves}
 
@@ -156,7 +156,7 @@ module _ (k : Kept) (stored : Stored k) (a b : Applied) (fa : IsFull (nodes_of k
       then-proves k m l (equation_of a b) r first.only (subst (λ (z : Applied × Applied). Proves m l (equation_of z.0 z.1) r) (λ i. (el i, er i)) h)
 
   -- of two full ids with too many names one is of a class with too many slots
-  pub joined-large : 2 ^ 30 ≤ length e.l.m + length e.r.m → HasLargeClass k
+  pub joined-large : 2 ^ 30 ≤ length e.l.m + length e.r.m → HasLargeClassOf k a.0 b.0
   joined-large h =
       let la : length e.l.m ≡ length (canonical_slots ns a.0) = sym (length-keys e.l.m) ∙ (ap (λ (x : Applied). length (keys x.1)) el ∙ ap length fa.slots) in
       let lb : length e.r.m ≡ length (canonical_slots ns b.0) = sym (length-keys e.r.m) ∙ (ap (λ (x : Applied). length (keys x.1)) er ∙ ap length fb.slots) in
@@ -164,6 +164,6 @@ module _ (k : Kept) (stored : Stored k) (a b : Applied) (fa : IsFull (nodes_of k
       let wa : a.0 < length ns = fa.in_range in
       let wb : b.0 < length ns = fb.in_range in
       elim (cases_lt (length e.l.m) (2 ^ 29)) [
-        | inl few ↦ (b.0, omega arith, omega (arith, h, few, lb))
-        | inr many ↦ (a.0, omega arith, omega (arith, many, la))
+        | inl few ↦ (b.0, omega arith, inr refl, omega (arith, h, few, lb))
+        | inr many ↦ (a.0, omega arith, inl refl, omega (arith, many, la))
       ]

@@ -1,11 +1,11 @@
 -- A live class drops the slots that have no partner in an entry, by the entry there and back.
-use Rattle.std.proofs.Common.{◌≡◌, ℕ, ◌<◌, List, [], ◌++◌, length, sym, ◌∙◌, ap, refl, subst, append_assoc}
+use Rattle.std.proofs.Common.{◌≡◌, ℕ, ◌<◌, List, [], ◌++◌, length, sym, ◌∙◌, ap, refl, subst, inl, append_assoc}
 use Rattle.std.proofs.lemmas.Bool.{false≢true}
 use Rattle.std.specs.Map.{keys_of}
 use Rattle.std.specs.Prelude.{true}
 use Rattle.slotted_model.specs.Changes.{StandsAt}
 use Rattle.slotted_model.specs.Correspondence.{identity}
-use Rattle.slotted_model.specs.Find.{Entry}
+use Rattle.slotted_model.specs.Find.{Entry, find_class}
 use Rattle.slotted_model.specs.Link.{CanDrop, kept_equation}
 use Rattle.slotted_model.specs.ProofList.{Equation, IsOver, turned_equation}
 use Rattle.slotted_model.specs.State.{State}
@@ -13,13 +13,14 @@ use Rattle.slotted_model.proofs.Dropping.{kept-composite, kept-can_drop, drop-la
 use Rattle.slotted_model.proofs.Events.{drop-sane, drop-goes_on}
 use Rattle.slotted_proofs.specs.Entries.{statement_at, turned_entry, composite_entry}
 use Rattle.slotted_proofs.specs.Equations.{Meets}
-use Rattle.slotted_store.specs.Kept.{Kept, nodes_of, EntersIn, HasManySlots, with_fewer}
-use Rattle.slotted_unions.specs.Proving.{OnlyProves, Proves, HasLargeClass}
+use Rattle.slotted_store.specs.Kept.{Kept, nodes_of, entries_of, EntersIn, HasManySlots, with_fewer}
+use Rattle.slotted_unions.specs.Proving.{OnlyProves, Proves, HasLargeSide}
 use Rattle.slotted_unions.specs.StateOf.{state_of}
 use Rattle.slotted_unions.specs.Stored.{Stored, Grows}
 use Rattle.slotted_unions.specs.Uniting.{IsOfLive, IsLackedBy, HasDropped, equation_in}
 use Rattle.slotted_unions.proofs.EnteredProofs.{stored-over, stored-meet, only-stands, only-says, only-grows}
 use Rattle.slotted_unions.proofs.EnteredProofs.{turned-only, then-chained, then-large, proves-stands}
+use Rattle.slotted_unions.proofs.LargeClasses.{large-among}
 use Rattle.slotted_unions.proofs.TurnedEntries.{still-live}
 use Rattle.slotted_unions.proofs.ChangedEntries.{untouched, changed-state, changed-stored, changed-grows}
 
@@ -55,8 +56,11 @@ module _ (k : Kept) (good : Stored k) (q : ℕ) (within : q < length k.proofs) (
           (ap (λ (x : Equation). x.right) forth.equation ∙ sym (ap (λ (x : Equation). x.left) back.equation)),
     )
 
-    pub back-large : HasManySlots l q b → HasLargeClass k
-    back-large many = then-large k l back.only q b forth.in_range back.in_range many
+    pub back-large : HasManySlots l q b → HasLargeSide k e
+    back-large many = large-among k (statement_at l.proofs q).equation.left (statement_at l.proofs b).equation.right e.left e.right
+        (inl (ap (λ (x : Equation). find_class (entries_of k) x.left) forth.equation))
+        (inl (ap (λ (x : Equation). find_class (entries_of k) x.right) back.equation))
+        (then-large k l back.only q b forth.in_range back.in_range many)
 
     -- what it says there and back
     module _ (m : Kept) (r : ℕ) (chains : EntersIn l m (composite_entry l.proofs q b) r) where

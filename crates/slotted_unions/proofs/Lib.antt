@@ -12,3 +12,5 @@ pub mod OneClass
 pub mod NewSymmetries
 pub mod AlikeSides
 pub mod JoinedIds
+pub mod LargeClasses
+pub mod JoinedClasses

@@ -1,5 +1,5 @@
 -- The proofs of what finds say, entry by entry, and of what an entry says of the classes that its sides find.
-use Rattle.std.proofs.Common.{◌≡◌, ℕ, ◌<◌, List, length, sym, ◌∙◌, ap, arith}
+use Rattle.std.proofs.Common.{◌≡◌, ℕ, ◌<◌, List, length, sym, ◌∙◌, ap, inl, inr, arith}
 use Rattle.slotted_slots.specs.declared.types.AppliedId.{AppliedId}
 use Rattle.slotted_theory.specs.Nameless.{DTerm}
 use Rattle.slotted_model.specs.Applied.{Applied}
@@ -16,12 +16,13 @@ use Rattle.slotted_proofs.specs.Equations.{Statement, Meets, to_applied}
 use Rattle.slotted_proofs.specs.Entries.{statement_at, composite_entry}
 use Rattle.slotted_store.specs.Kept.{Kept, find_at, nodes_of, entries_of, proofs_of, EntersIn, HasManySlots}
 use Rattle.slotted_store.proofs.KeptLists.{equation_at-of, entry_at-of, length-nodes_of, length-proofs_of}
-use Rattle.slotted_unions.specs.Proving.{OnlyProves, Proves, ProvesFind, ProvesBack, ProvesFound, HasLargeClass}
+use Rattle.slotted_unions.specs.Proving.{OnlyProves, Proves, ProvesFind, ProvesBack, ProvesFound, HasLargeClassOf, HasLargeSide}
 use Rattle.slotted_unions.specs.StateOf.{state_of}
 use Rattle.slotted_unions.specs.Stored.{Stored}
 use Rattle.slotted_unions.proofs.EnteredProofs.{nothing-proved, proved-then, only-nodes, only-entries, only-stands}
 use Rattle.slotted_unions.proofs.EnteredProofs.{then-proves, proves-still, stored-over, stored-meet, chained_equation}
-use Rattle.slotted_unions.proofs.EnteredProofs.{chained-only, then-chained, then-large}
+use Rattle.slotted_unions.proofs.EnteredProofs.{chained-only, then-chained, only-large, then-large}
+use Rattle.slotted_unions.proofs.LargeClasses.{found-twice, large-among}
 
 -- the class that a find entry leads to, as the code reads it
 pub next-class_of : (k : Kept) (i : ℕ) (a : AppliedId) → to_applied a ≡ ((find_at k i).class, (find_at k i).pairs) →
@@ -62,6 +63,14 @@ module _ (k : Kept) (stored : Stored k) (i : ℕ) (h : i < length k.classes) (p 
         (ap (λ (x : Entry). x.class) (entry_at-of k i) ∙ e));
   }
 
+  -- what the next class finds this one finds
+  next-finds : (j : ℕ) → j ≡ (find_at k i).class → find_class found j ≡ find_class found i
+  next-finds j ej = ap (find_class found) (ej ∙ ap (λ (x : Entry). x.class) (sym (entry_at-of k i)))
+      ∙ sym (find_class-follows nodes found (leads nodes found stored.sane.sound.linked) i here)
+
+  pub next-among : (j : ℕ) → j ≡ (find_at k i).class → HasLargeClassOf k j j → HasLargeClassOf k i i
+  next-among j ej = large-among k j j i i (inl (next-finds j ej)) (inl (next-finds j ej))
+
   -- of another it is put before that of the next class
   module _ (l : Kept) (q j : ℕ) (ej : j ≡ (find_at k i).class) (rest : ProvesFind k l j q) where
     next-stands : (p < length l.proofs) × (statement_at l.proofs p ≡ statement_at k.proofs p)
@@ -80,8 +89,12 @@ module _ (k : Kept) (stored : Stored k) (i : ℕ) (h : i < length k.classes) (p 
     next-meets = stored-meet l rest.only.stored p q next-first rest.in_range
         (ap (λ (e : Equation). e.right) next-left ∙ (next-class ∙ sym (ap (λ (e : Equation). e.left) rest.equation)))
 
-    pub next-large : HasManySlots l p q → HasLargeClass k
-    next-large = then-large k l rest.only p q next-first rest.in_range
+    pub next-large : HasManySlots l p q → HasLargeClassOf k i i
+    next-large many = large-among k (statement_at l.proofs p).equation.left (statement_at l.proofs q).equation.right i i
+        (inl (ap (λ (e : Equation). find_class found e.left) next-left))
+        (inl (ap (λ (e : Equation). find_class found e.right) rest.equation
+        ∙ (ap (find_class found) (next-finds j ej) ∙ found-twice nodes found stored.sane.sound.linked i here)))
+        (then-large k l rest.only p q next-first rest.in_range many)
 
     pub next-proves : (m : Kept) (r : ℕ) → EntersIn l m (composite_entry l.proofs p q) r → ProvesFind k m i r
     next-proves m r e =
@@ -104,6 +117,19 @@ module _ (k : Kept) (stored : Stored k) (i : ℕ) (h : i < length k.classes) (p 
                 pairs = sym (find_equation-composite nodes found stored.sane.sound.linked i here) t;
               }));
         }
+
+-- slots run out where the proof of a find is turned round
+pub back-large : (k l : Kept) → Stored k → (i p : ℕ) → i < length k.classes → ProvesFind k l i p → HasManySlots l p p →
+    HasLargeClassOf k i i
+back-large k l stored i p h find many =
+    let es : List Entry = entries_of k in
+    let n : length (nodes_of k) ≡ length k.classes = length-nodes_of k in
+    let here : i < length (nodes_of k) = omega (arith, h, n) in
+    large-among k (statement_at l.proofs p).equation.left (statement_at l.proofs p).equation.right i i
+    (inl (ap (λ (e : Equation). find_class es e.left) find.equation))
+    (inl (ap (λ (e : Equation). find_class es e.right) find.equation
+    ∙ found-twice (nodes_of k) es stored.sane.sound.linked i here))
+    (then-large k l find.only p p find.in_range find.in_range many)
 
 -- what is proved of a find after other entries
 pub still-finds : (k l m : Kept) (i p : ℕ) → OnlyProves k l → ProvesFind l m i p → ProvesFind k m i p
@@ -139,6 +165,17 @@ module _ (k : Kept) (stored : Stored k) (p : ℕ) (h : p < length k.proofs) wher
       let l : said.right < length ns = (stored-over k stored p h).right in
       omega arith
 
+  -- a class on the way from either side
+  pub left-large : (i : ℕ) → i ≡ said.left → HasLargeClassOf k i i → HasLargeSide k said
+  left-large i ei =
+      let e : find_class es i ≡ find_class es said.left = ap (find_class es) ei in
+      large-among k i i said.left said.right (inl e) (inl e)
+
+  pub right-large : (l : Kept) → OnlyProves k l → (j : ℕ) → j ≡ said.right → HasLargeClassOf l j j → HasLargeSide k said
+  right-large l only j ej large =
+      let e : find_class es j ≡ find_class es said.right = ap (find_class es) ej in
+      large-among k j j said.left said.right (inr e) (inr e) (only-large k l only j j large)
+
   module _ (l m : Kept) (i j q r : ℕ) (ei : i ≡ said.left) (ej : j ≡ said.right) (back : ProvesBack k l i q)
       (onward : ProvesFind l m j r) where
     after : OnlyProves k m
@@ -165,8 +202,21 @@ module _ (k : Kept) (stored : Stored k) (p : ℕ) (h : p < length k.proofs) wher
     pub half-meets : Meets (statement_at m.proofs q) (statement_at m.proofs p)
     half-meets = stored-meet m after.stored q p half-first half-second half-joins
 
-    pub half-large : HasManySlots m q p → HasLargeClass k
-    half-large = then-large k m after q p half-first half-second
+    -- the classes that the finds of either side lead to
+    left-finds : find_class es (find_class es i) ≡ find_class es said.left
+    left-finds = ap (λ c. find_class es (find_class es c)) ei
+        ∙ found-twice ns es stored.sane.sound.linked said.left (stored-over k stored p h).left
+
+    right-finds : find_class es (find_class es j) ≡ find_class es said.right
+    right-finds = ap (λ c. find_class es (find_class es c)) ej
+        ∙ found-twice ns es stored.sane.sound.linked said.right (stored-over k stored p h).right
+
+    pub half-large : HasManySlots m q p → HasLargeSide k said
+    half-large many =
+        large-among k (statement_at m.proofs q).equation.left (statement_at m.proofs p).equation.right said.left said.right
+        (inl (ap (λ (e : Equation). find_class es e.left) back-still.equation ∙ left-finds))
+        (inr (ap (λ (e : Equation). find_class es e.right) says))
+        (then-large k m after q p half-first half-second many)
 
     abbrev back_equation : Equation
     back_equation = turned_equation ns (find_equation ns es i)
@@ -191,8 +241,12 @@ module _ (k : Kept) (stored : Stored k) (p : ℕ) (h : p < length k.proofs) wher
           (ap (λ (e : Equation). e.right) halved.equation
           ∙ (sym ej ∙ sym (ap (λ (e : Equation). e.left) onward-still.equation)))
 
-      pub whole-large : HasManySlots o s r → HasLargeClass k
-      whole-large = then-large k o halved.only s r whole-first whole-second
+      pub whole-large : HasManySlots o s r → HasLargeSide k said
+      whole-large many =
+          large-among k (statement_at o.proofs s).equation.left (statement_at o.proofs r).equation.right said.left said.right
+          (inl (ap (λ (e : Equation). find_class es e.left) halved.equation ∙ left-finds))
+          (inr (ap (λ (e : Equation). find_class es e.right) onward-still.equation ∙ right-finds))
+          (then-large k o halved.only s r whole-first whole-second many)
 
       is_found : chained_equation (chained_equation back_equation said) (find_equation ns es j) ≡ found_entry (state_of k) p
       is_found =

@@ -13,7 +13,7 @@ use Rattle.slotted_model.proofs.Correspondences.Pairs.{Contains-key, Contains-va
 use Rattle.slotted_model.proofs.Correspondences.PartialInjections.{turned-pair, turned-by}
 use Rattle.slotted_proofs.specs.Entries.{turned_entry}
 use Rattle.slotted_store.specs.Kept.{Kept, nodes_of, entries_of, EntersIn, HasManySlots}
-use Rattle.slotted_unions.specs.Proving.{OnlyProves, Proves, HasLargeClass}
+use Rattle.slotted_unions.specs.Proving.{OnlyProves, Proves, HasLargeSide}
 use Rattle.slotted_unions.specs.StateOf.{state_of}
 use Rattle.slotted_unions.specs.Stored.{Stored}
 use Rattle.slotted_unions.specs.Uniting.{IsOfLive, PairsLeft, HasDropped, DropsLeft, DropsSide, HasLinked, LinksEither}
@@ -131,7 +131,7 @@ module _ (k : Kept) (stored : Stored k) (q : ℕ) (h : q < length k.proofs) (liv
 
   -- where no slot was dropped on the left, nothing has changed
   module _ (l : Kept) (b : Bool) (no : b ≡ false) (drops : DropsLeft k l e b) where
-    pub still-large : HasManySlots l q q → HasLargeClass k
+    pub still-large : HasManySlots l q q → HasLargeSide k e
     still-large many = many-large k stored q q h h (subst (λ (x : Kept). HasManySlots x q q)
         (none-dropped k l e b no drops).0 many)
 

@@ -1,13 +1,14 @@
 -- The steps of a union by an entry, put together: what `Unites` says of the states from what each step leaves.
-use Rattle.std.proofs.Common.{◌≡◌, ◌≢◌, ℕ, ◌<◌, ◌+◌, ◌++◌, List, [], length, sym, ◌∙◌, ap, refl, subst, inl, inr, arith, length-append}
+use Rattle.std.proofs.Common.{◌≡◌, ◌≢◌, ℕ, ◌<◌, ◌≤◌, ◌+◌, ◌^◌, ◌++◌, List, [], length, sym, ◌∙◌, ap, refl, subst, inl, inr, arith, length-append}
 use Rattle.std.proofs.lemmas.Bool.{false≢true}
+use Rattle.std.proofs.lemmas.List.{get_or_append_left}
 use Rattle.std.specs.Prelude.{Contains, Bool, true, false}
 use Rattle.std.specs.Map.{keys_of, values_of}
 use Rattle.slotted_theory.specs.Nameless.{DTerm}
 use Rattle.slotted_model.specs.Changes.{Unites, finds_alike, proves, drops_left, drops_right, left_dies, right_dies, lists, is_listed, PairsAll, StandsAt, found_entry, IsSymmetryOf, dropped_state, linked_state, with_symmetry, symmetry_of}
 use Rattle.slotted_model.specs.Classes.{canonical_slots}
 use Rattle.slotted_model.specs.Correspondence.{identity}
-use Rattle.slotted_model.specs.Find.{used_slots}
+use Rattle.slotted_model.specs.Find.{Entry, find_class, used_slots}
 use Rattle.slotted_model.specs.Link.{found_equation, kept_equation}
 use Rattle.slotted_model.specs.ProofList.{Equation, IsOver, turned_equation}
 use Rattle.slotted_model.specs.Rest.{size}
@@ -16,15 +17,18 @@ use Rattle.slotted_model.proofs.Correspondences.PartialInjections.{turned-partia
 use Rattle.slotted_model.proofs.Dropping.{kept-can_drop}
 use Rattle.slotted_model.proofs.Events.{drop-size}
 use Rattle.slotted_model.proofs.FoundEntries.{says-over, says-left_lives, says-right_lives, says-left_used, says-right_used}
+use Rattle.slotted_proofs.specs.Entries.{Proven, nothing_proven, statement_at}
 use Rattle.slotted_store.specs.Kept.{Kept, nodes_of, entries_of, proofs_of}
-use Rattle.slotted_store.proofs.KeptLists.{equation_at-of}
-use Rattle.slotted_unions.specs.Proving.{OnlyProves, ProvesFound}
+use Rattle.slotted_store.proofs.KeptLists.{equation_at-of, length-nodes_of}
+use Rattle.slotted_unions.specs.Proving.{OnlyProves, ProvesFound, FindsEither, HasLargeSide}
 use Rattle.slotted_unions.specs.StateOf.{state_of}
 use Rattle.slotted_unions.specs.Stored.{Stored, Grows}
 use Rattle.slotted_unions.specs.Uniting.{equation_in, IsOfLive, HasDropped, DropsRight, DropsNothing, DropsSide, HasLinked, LinksTurned, ListsOnce, SaysNothing, ActsOn, UnitesBy}
-use Rattle.slotted_unions.proofs.EnteredProofs.{only-nodes, only-state, only-says, only-stands, only-grows, proved-then, nothing-proved, stands-at, stored-over}
+use Rattle.slotted_unions.proofs.EnteredProofs.{only-nodes, only-state, only-says, only-stands, only-grows, proved-then, nothing-proved, stands-at, stored-over, only-large}
 use Rattle.slotted_unions.proofs.ChangedEntries.{untouched}
+use Rattle.slotted_unions.proofs.JoinedClasses.{drop-class}
 use Rattle.slotted_unions.proofs.KeptSlots.{grows-then}
+use Rattle.slotted_unions.proofs.LargeClasses.{found-twice, large-among}
 use Rattle.slotted_unions.proofs.TurnedEntries.{still-live, still-pairs_all, turned-key, turned-value, key-turned}
 
 -- nothing grows
@@ -59,6 +63,17 @@ proved-unites k l only p h u = proves (proofs_of l) only.asserts_nothing (subst 
 
 pub proved-unites_by : (k l m : Kept) → OnlyProves k l → (p : ℕ) → UnitesBy p l m → UnitesBy p k m
 proved-unites_by k l m only p u = record { unites = proved-unites k l only p (state_of m) u.unites; stored = u.stored; grows = grows-then k l m (only-grows k l only) u.grows }
+
+-- fewer slots change no class that is found
+dropped-class : (k l : Kept) → Stored k → (e : Equation) → IsOver (nodes_of k) e → IsOfLive k e → HasDropped k l e → (i : ℕ) → i < length (nodes_of k) → find_class (entries_of l) i ≡ find_class (entries_of k) i
+dropped-class k l stored e over live d i h =
+    let m : Kept = d.middle in
+    let o : IsOver (nodes_of m) e = subst (λ (z : Kept). IsOver (nodes_of z) e) (sym d.only.kept) over in
+    let w : IsOfLive m e = still-live k m e d.only live in
+    let r : i < length (nodes_of m) = subst (λ (z : Kept). i < length (nodes_of z)) (sym d.only.kept) h in
+    ap (λ (g : State). find_class g.found i) d.state
+    ∙ (drop-class (nodes_of m) (entries_of m) d.only.stored.sane.sound.linked e.left (keys_of e.pairs) d.number (kept-can_drop (nodes_of m) (entries_of m) e o w.left_lives w.left) i r
+    ∙ ap (λ (z : Kept). find_class (entries_of z) i) d.only.kept)
 
 -- fewer slots make a state smaller
 dropped-smaller : (k l : Kept) (e : Equation) → IsOver (nodes_of k) e → IsOfLive k e → HasDropped k l e → size (state_of l) < size (state_of k)
@@ -141,10 +156,14 @@ module _ (k : Kept) (stored : Stored k) (p : ℕ) (within : p < length k.proofs)
   grown-within : (l : Kept) → Grows k l → p < length l.proofs
   grown-within l g = subst (λ ps. p < length ps) (sym g.proofs) (let n : length (k.proofs ++ g.more) ≡ length k.proofs + length g.more = length-append k.proofs g.more in omega (arith, n, within))
 
+  pub dropped-grows : (l : Kept) (b : Bool) → b ≡ true → DropsSide k l e b → Grows k l
+  dropped-grows l false f d = absurd (false≢true f)
+  dropped-grows l true f (inl d) = d.grows
+  dropped-grows l true f (inr r) = grows-then k r.middle l (only-grows k r.middle r.only) r.dropped.grows
+
   pub dropped-within : (l : Kept) (b : Bool) → b ≡ true → DropsSide k l e b → p < length l.proofs
   dropped-within l false f d = absurd (false≢true f)
-  dropped-within l true f (inl d) = grown-within l d.grows
-  dropped-within l true f (inr r) = grown-within l (grows-then k r.middle l (only-grows k r.middle r.only) r.dropped.grows)
+  dropped-within l true f d = grown-within l (dropped-grows l true f d)
 
   pub dropped-size : (l : Kept) (b : Bool) → b ≡ true → DropsSide k l e b → size (state_of l) < size (state_of k)
   dropped-size l false f d = absurd (false≢true f)
@@ -154,6 +173,16 @@ module _ (k : Kept) (stored : Stored k) (p : ℕ) (within : p < length k.proofs)
       let o : IsOver (nodes_of m) back = subst (λ (z : Kept). IsOver (nodes_of z) back) (sym r.only.kept) (turned-over k e over) in
       let s : size (state_of m) ≡ size (state_of k) = ap (λ (z : Kept). size (state_of z)) r.only.kept in
       subst (λ n. size (state_of l) < n) s (dropped-smaller m l back o (still-live k m back r.only back-live) r.dropped)
+
+  -- and each class finds what it found
+  pub dropped-finds : (l : Kept) (b : Bool) → b ≡ true → DropsSide k l e b → (i : ℕ) → i < length (nodes_of k) → find_class (entries_of l) i ≡ find_class (entries_of k) i
+  dropped-finds l false f d i h = absurd (false≢true f)
+  dropped-finds l true f (inl d) i h = dropped-class k l stored e over live d i h
+  dropped-finds l true f (inr r) i h =
+      let m : Kept = r.middle in
+      let o : IsOver (nodes_of m) back = subst (λ (z : Kept). IsOver (nodes_of z) back) (sym r.only.kept) (turned-over k e over) in
+      dropped-class m l r.only.stored back o (still-live k m back r.only back-live) r.dropped i (subst (λ (z : Kept). i < length (nodes_of z)) (sym r.only.kept) h)
+      ∙ ap (λ (z : Kept). find_class (entries_of z) i) r.only.kept
 
   -- nothing was dropped
   pub nothing-dropped : (l : Kept) (b : Bool) → b ≡ false → DropsSide k l e b → DropsNothing k l e
@@ -220,6 +249,29 @@ module _ (k m : Kept) (stored : Stored k) (p q : ℕ) (within : p < length k.pro
   same-size : size (state_of m) ≡ size (state_of k)
   same-size = ap (λ (z : Kept). size (state_of z)) f.only.kept
 
+  abbrev said : Equation
+  said = equation_in k p
+
+  said-over : IsOver (nodes_of k) said
+  said-over = stored-over k stored p within
+
+  -- the classes that it is of are those that the two sides find
+  found-sides : (es : List Entry) → es ≡ entries_of k → (FindsEither es said.left said.right (equation_in m q).left) × FindsEither es said.left said.right (equation_in m q).right
+  found-sides es same =
+      let linked = stored.sane.sound.linked in
+      let says : equation_in m q ≡ found_equation (nodes_of k) (entries_of k) said = f.equation ∙ found-in k p in
+      subst (λ es. (FindsEither es said.left said.right (equation_in m q).left) × FindsEither es said.left said.right (equation_in m q).right) (sym same) (
+        inl (ap (λ (x : Equation). find_class (entries_of k) x.left) says ∙ found-twice (nodes_of k) (entries_of k) linked said.left said-over.left),
+        inr (ap (λ (x : Equation). find_class (entries_of k) x.right) says ∙ found-twice (nodes_of k) (entries_of k) linked said.right said-over.right),
+      )
+
+  -- a class is large where the proof is acted on
+  pub proof-large : (l : Kept) → OnlyProves m l → HasLargeSide l (equation_in m q) → HasLargeSide k said
+  proof-large l only large =
+      let sides = found-sides (entries_of k) refl in
+      large-among k (equation_in m q).left (equation_in m q).right said.left said.right sides.0 sides.1
+      (only-large k l (proved-then k m l f.only only) (equation_in m q).left (equation_in m q).right large)
+
   pub proof-live : IsOfLive m (equation_in m q)
   proof-live = subst (IsOfLive m) (sym m-is) (found-live m f.only.stored p m-within)
 
@@ -233,6 +285,30 @@ module _ (k m : Kept) (stored : Stored k) (p q : ℕ) (within : p < length k.pro
 
     pub then-smaller : size (state_of l) < size (state_of k)
     then-smaller = subst (λ n. size (state_of l) < n) same-size (dropped-size m f.only.stored p m-within (equation_in m q) m-is l b yes d)
+
+    -- a class is large where the union goes on
+    pub then-large_side : HasLargeSide l (equation_in l p) → HasLargeSide k said
+    then-large_side large =
+        let g : Grows k l = grows-then k m l (only-grows k m f.only) (dropped-grows m f.only.stored p m-within (equation_in m q) m-is l b yes d) in
+        let says : equation_in l p ≡ said =
+        ap (λ ps. (statement_at ps p).equation) g.proofs ∙ ap (λ (x : Proven). x.statement.equation) (get_or_append_left k.proofs g.more nothing_proven p within) in
+        let same : (i : ℕ) → i < length (nodes_of k) → find_class (entries_of l) i ≡ find_class (entries_of k) i =
+        λ i h.
+        dropped-finds m f.only.stored p m-within (equation_in m q) m-is l b yes d i (subst (λ (z : Kept). i < length (nodes_of z)) (sym f.only.kept) h)
+        ∙ ap (λ (z : Kept). find_class (entries_of z) i) f.only.kept in
+        let at : HasLargeSide l said = subst (HasLargeSide l) says large in
+        let c : length (nodes_of l) ≡ length l.classes = length-nodes_of l in
+        let d : length (nodes_of k) ≡ length k.classes = length-nodes_of k in
+        let e : length (nodes_of l) ≡ length (nodes_of k) = ap length g.nodes in
+        let h : at.0 < length (nodes_of k) = omega (arith, at.1, c, e) in (
+          at.0,
+          omega (arith, h, d),
+          elim at.2 [
+            | inl s ↦ inl (sym (same at.0 h) ∙ (s ∙ same said.left said-over.left))
+            | inr s ↦ inr (sym (same at.0 h) ∙ (s ∙ same said.right said-over.right))
+          ],
+          subst (λ (ns : List DTerm). 2 ^ 29 ≤ length (canonical_slots ns at.0)) g.nodes at.3,
+        )
 
     pub then-unites : (n : Kept) → UnitesBy p l n → UnitesBy p k n
     then-unites n u = proved-unites_by k m n f.only p (dropped-unites m f.only.stored p m-within (equation_in m q) m-is l n b yes d u)
@@ -256,6 +332,9 @@ module _ (k m : Kept) (stored : Stored k) (p q : ℕ) (within : p < length k.pro
 
     l-is : equation_in l q ≡ found_entry (state_of l) p
     l-is = same-equation ∙ (f.equation ∙ sym (found-still k l only p within))
+
+    pub acting-large : HasLargeSide l (equation_in l q) → HasLargeSide k said
+    acting-large large = proof-large l none.only (subst (HasLargeSide l) same-equation large)
 
     pub acting-live : IsOfLive l (equation_in l q)
     acting-live = subst (IsOfLive l) (sym l-is) (found-live l still-stored p (only-stands k l only p within).0)

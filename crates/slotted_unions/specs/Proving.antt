@@ -1,11 +1,14 @@
 -- Entries that a union makes: the proofs of what finds say, and of what an entry says of the found classes.
---     OnlyProves k l      nothing but the proof list changed, it grew at its end, and nothing more is asserted
---     Proves k l e p      so it is, and the equation e stands at p
---     HasLargeClass k     a class has so many slots that two ids of it have too many names
-use Rattle.std.specs.Prelude.{◌≡◌, ◌^◌, ℕ, ◌<◌, ◌≤◌, List, ◌++◌, length}
+--     OnlyProves k l             nothing but the proof list changed, it grew at its end, and nothing more is asserted
+--     Proves k l e p             so it is, and the equation e stands at p
+--     FindsEither k a b i        the class i finds what one of the classes a and b finds
+--     HasLargeClassOf k a b      such a class has so many slots that two ids of it have too many names
+--     HasLargeSide k e           so it is of the two classes of the equation
+use Rattle.std.specs.Prelude.{◌≡◌, ◌⊎◌, ◌^◌, ℕ, ◌<◌, ◌≤◌, List, ◌++◌, length}
 use Rattle.slotted_model.specs.Changes.{ProofsGrow, found_entry}
 use Rattle.slotted_model.specs.Classes.{canonical_slots}
 use Rattle.slotted_model.specs.Applied.{Applied}
+use Rattle.slotted_model.specs.Find.{Entry, find_class}
 use Rattle.slotted_model.specs.ProofList.{Equation, equation_of, find_equation, turned_equation}
 use Rattle.slotted_proofs.specs.Entries.{Proven, statement_at}
 use Rattle.slotted_store.specs.Kept.{Kept, nodes_of, entries_of, proofs_of, with_proofs}
@@ -41,5 +44,15 @@ ProvesFound k l p q = Proves k l (found_entry (state_of k) p) q
 abbrev pub ProvesEqual : Kept → Kept → Applied → Applied → ℕ → Type 0
 ProvesEqual k l a b p = Proves k l (equation_of a b) p
 
-abbrev pub HasLargeClass : Kept → Type 0
-HasLargeClass k = (i : ℕ) × (i < length k.classes) × (2 ^ 29 ≤ length (canonical_slots (nodes_of k) i))
+-- the class i finds what one of the classes a and b finds
+abbrev pub FindsEither : List Entry → ℕ → ℕ → ℕ → Type 0
+FindsEither found a b i = (find_class found i ≡ find_class found a) ⊎ (find_class found i ≡ find_class found b)
+
+-- a class that finds what one of the two finds has so many slots that two ids of it have too many names
+abbrev pub HasLargeClassOf : Kept → ℕ → ℕ → Type 0
+HasLargeClassOf k a b =
+    (i : ℕ) × (i < length k.classes) × FindsEither (entries_of k) a b i × (2 ^ 29 ≤ length (canonical_slots (nodes_of k) i))
+
+-- the same of the two classes of an equation
+abbrev pub HasLargeSide : Kept → Equation → Type 0
+HasLargeSide k e = HasLargeClassOf k e.left e.right

@@ -2,11 +2,13 @@
 --     IsUnaligned k p    p is the proof of a listed symmetry that is not aligned
 --     AreAligned k       each listed symmetry is
 --     SettlesAll k l     acts lead from k to l, where each is
+--     HasLargeUnaligned k      a class that finds what the class of a listed symmetry that is not aligned finds has too many slots
 use Rattle.std.specs.Prelude.{◌≡◌, ℕ, Contains, false}
 use Rattle.slotted_model.specs.Rebuild.{Runs}
 use Rattle.slotted_model.specs.Rest.{IsAligned}
 use Rattle.slotted_model.specs.State.{Symmetry}
 use Rattle.slotted_store.specs.Kept.{Kept}
+use Rattle.slotted_unions.specs.Proving.{HasLargeClassOf}
 use Rattle.slotted_unions.specs.StateOf.{state_of}
 use Rattle.slotted_unions.specs.Stored.{Stored, Grows}
 
@@ -26,3 +28,10 @@ pub record SettlesAll (k l : Kept) : Type 0 where
   pub stored : Stored l
   pub settled : l.dropped ≡ false
   pub grows : Grows k l
+
+-- a class that finds what the class of a listed symmetry finds which is not aligned has so many slots that two ids of it have too many names
+pub record HasLargeUnaligned (k : Kept) : Type 0 where
+  pub symmetry : Symmetry
+  pub listed : Contains (state_of k).symmetries symmetry
+  pub unaligned : ¬ IsAligned (state_of k) symmetry
+  pub large : HasLargeClassOf k symmetry.class symmetry.class

@@ -2,7 +2,7 @@
 ghost use Rattle.std.specs.Prelude.{◌≡◌, ◌<◌, ℕ, length, Contains, IfOk, IfErr, IfSome, IfNone, IsErrOf, OnOk};
 ghost use Rattle.slotted_slots.specs.Error.{IsShortage};
 ghost use Rattle.slotted_slots.specs.Maps.{keys, values};
-ghost use Rattle.slotted_unions.specs.Proving.{HasLargeClass};
+ghost use Rattle.slotted_unions.specs.Proving.{HasLargeSide};
 ghost use Rattle.slotted_unions.specs.Stored.{Stored};
 ghost use Rattle.slotted_unions.specs.Uniting.{IsOfLive, IsLackedBy, PairsLeft, HasDropped, DropsLeft, equation_in};
 
@@ -52,7 +52,7 @@ fn drop_slots<L: Language>(
     requires pairs { pairs.now ≡ (equation_in store.old q).pairs }
     requires lacks { (s : ℕ) × IsLackedBy store.old (equation_in store.old q) s }
     ensures ok { OnOk result (HasDropped store.old store.new (equation_in store.old q)) }
-    ensures full { IsErrOf result Error.OutOfSlots → HasLargeClass store.old }
+    ensures full { IsErrOf result Error.OutOfSlots → HasLargeSide store.old (equation_in store.old q) }
     ensures err { IfErr result IsShortage }
 {
     let left = store.proofs().equ(q).l.id.0;
@@ -73,7 +73,7 @@ pub fn drop_left<L: Language>(
     requires within { q < length store.old.proofs }
     requires live { IsOfLive store.old (equation_in store.old q) }
     ensures ok { IfOk result (DropsLeft store.old store.new (equation_in store.old q)) }
-    ensures full { IsErrOf result Error.OutOfSlots → HasLargeClass store.old }
+    ensures full { IsErrOf result Error.OutOfSlots → HasLargeSide store.old (equation_in store.old q) }
     ensures err { IfErr result IsShortage }
 {
     let pairs = store.proofs().equ(q).correspondence(alloc)?;

@@ -5,8 +5,9 @@ ghost use Rattle.slotted_model.specs.Classes.{IsFull};
 ghost use Rattle.slotted_proofs.specs.Equations.{to_applied};
 ghost use Rattle.slotted_store.specs.Finding.{FindAlike};
 ghost use Rattle.slotted_store.specs.Kept.{nodes_of, entries_of};
-ghost use Rattle.slotted_unions.specs.Proving.{ProvesFind, ProvesBack, ProvesFound, ProvesEqual, HasLargeClass};
+ghost use Rattle.slotted_unions.specs.Proving.{ProvesFind, ProvesBack, ProvesFound, ProvesEqual, HasLargeClassOf, HasLargeSide};
 ghost use Rattle.slotted_unions.specs.Stored.{Stored};
+ghost use Rattle.slotted_unions.specs.Uniting.{equation_in};
 
 use slotted_languages::Language;
 use slotted_proofs::{Equation, ProvenEq};
@@ -23,7 +24,7 @@ pub fn find_proof<L: Language>(
     requires good { Stored store.old }
     requires within { id < length store.old.classes }
     ensures ok { IfOk result (ProvesFind store.old store.new id) }
-    ensures full { IsErrOf result Error.OutOfSlots → HasLargeClass store.old }
+    ensures full { IsErrOf result Error.OutOfSlots → HasLargeClassOf store.old id id }
     ensures err { IfErr result IsShortage }
 {
     let next = store.entry(id).id.0;
@@ -45,7 +46,7 @@ pub fn back_proof<L: Language>(
     requires good { Stored store.old }
     requires within { id < length store.old.classes }
     ensures ok { IfOk result (ProvesBack store.old store.new id) }
-    ensures full { IsErrOf result Error.OutOfSlots → HasLargeClass store.old }
+    ensures full { IsErrOf result Error.OutOfSlots → HasLargeClassOf store.old id id }
     ensures err { IfErr result IsShortage }
 {
     let proof = find_proof(store, alloc, id)?;
@@ -62,7 +63,7 @@ pub fn found_proof<L: Language>(
     requires good { Stored store.old }
     requires within { p < length store.old.proofs }
     ensures ok { IfOk result (ProvesFound store.old store.new p) }
-    ensures full { IsErrOf result Error.OutOfSlots → HasLargeClass store.old }
+    ensures full { IsErrOf result Error.OutOfSlots → HasLargeSide store.old (equation_in store.old p) }
     ensures err { IfErr result IsShortage }
 {
     let left = store.proofs().equ(p).l.id.0;
@@ -86,7 +87,7 @@ pub fn bridge<L: Language>(
     requires right { IsFull (nodes_of store.old) (to_applied b.now) }
     requires alike { FindAlike (entries_of store.old) (to_applied a.now) (to_applied b.now) }
     ensures ok { IfOk result (ProvesEqual store.old store.new (to_applied a.now) (to_applied b.now)) }
-    ensures full { IsErrOf result Error.OutOfSlots → HasLargeClass store.old }
+    ensures full { IsErrOf result Error.OutOfSlots → HasLargeClassOf store.old a.now.id.0 b.now.id.0 }
     ensures err { IfErr result IsShortage }
 {
     let back = back_proof(store, alloc, b.id.0)?;

@@ -3,8 +3,7 @@ ghost use Rattle.std.specs.Prelude.{◌↔◌, Contains, IsTrue, IfErr, IfOk, If
 ghost use Rattle.slotted_slots.specs.Error.{IsOutOfMemory, IsShortage};
 ghost use Rattle.slotted_model.specs.Rest.{IsAligned};
 ghost use Rattle.slotted_store.specs.Kept.{symmetry_entry};
-ghost use Rattle.slotted_unions.specs.Proving.{HasLargeClass};
-ghost use Rattle.slotted_unions.specs.Settling.{IsUnaligned, AreAligned, SettlesAll};
+ghost use Rattle.slotted_unions.specs.Settling.{IsUnaligned, AreAligned, SettlesAll, HasLargeUnaligned};
 ghost use Rattle.slotted_unions.specs.StateOf.{state_of, symmetry_of_entry};
 ghost use Rattle.slotted_unions.specs.Stored.{Stored};
 
@@ -52,7 +51,7 @@ fn next_unaligned<L: Language>(store: &Store<L>, alloc: Global) -> Result<Option
 pub fn settle_all<L: Language>(store: &mut Store<L>, alloc: Global) -> Result<(), Error>
     requires good { Stored store.old }
     ensures ok { OnOk result (SettlesAll store.old store.new) }
-    ensures full { IsErrOf result Error.OutOfSlots → HasLargeClass store.old }
+    ensures full { IsErrOf result Error.OutOfSlots → HasLargeUnaligned store.old }
     ensures err { IfErr result IsShortage }
 {
     if !store.is_dropped() {

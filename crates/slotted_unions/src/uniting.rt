@@ -2,7 +2,7 @@
 ghost use Rattle.std.specs.Prelude.{◌≡◌, ◌↔◌, ◌<◌, length, IsTrue, IfErr, IsErrOf, OnOk, IfOk, ◌≢◌};
 ghost use Rattle.slotted_slots.specs.Error.{IsShortage};
 ghost use Rattle.slotted_model.specs.Changes.{PairsAll, found_entry};
-ghost use Rattle.slotted_unions.specs.Proving.{HasLargeClass};
+ghost use Rattle.slotted_unions.specs.Proving.{HasLargeSide};
 ghost use Rattle.slotted_unions.specs.StateOf.{state_of};
 ghost use Rattle.slotted_unions.specs.Stored.{Stored};
 ghost use Rattle.slotted_unions.specs.Uniting.{ActsOn, DropsSide, LinksEither, SaysNothing, UnitesBy, IsOfLive, equation_in};
@@ -33,7 +33,7 @@ fn drop_either<L: Language>(store: &mut Store<L>, alloc: Global, q: ProvenEq) ->
     requires within { q < length store.old.proofs }
     requires live { IsOfLive store.old (equation_in store.old q) }
     ensures ok { IfOk result (DropsSide store.old store.new (equation_in store.old q)) }
-    ensures full { IsErrOf result Error.OutOfSlots → HasLargeClass store.old }
+    ensures full { IsErrOf result Error.OutOfSlots → HasLargeSide store.old (equation_in store.old q) }
     ensures err { IfErr result IsShortage }
 {
     if drop_left(store, alloc, q)? {
@@ -63,7 +63,7 @@ fn link_either<L: Language>(store: &mut Store<L>, alloc: Global, q: ProvenEq) ->
     requires different { (equation_in store.old q).left ≢ (equation_in store.old q).right }
     requires pairs_all { PairsAll (state_of store.old) (equation_in store.old q) }
     ensures ok { OnOk result (LinksEither store.old store.new (equation_in store.old q)) }
-    ensures full { IsErrOf result Error.OutOfSlots → HasLargeClass store.old }
+    ensures full { IsErrOf result Error.OutOfSlots → HasLargeSide store.old (equation_in store.old q) }
     ensures err { IfErr result IsShortage }
 {
     if left_dies(store, q) {
@@ -83,7 +83,7 @@ fn act_on<L: Language>(store: &mut Store<L>, alloc: Global, q: ProvenEq) -> Resu
     requires pairs_all { PairsAll (state_of store.old) (equation_in store.old q) }
     requires moves { ¬ SaysNothing store.old (equation_in store.old q) }
     ensures ok { OnOk result (ActsOn store.old store.new (equation_in store.old q) q) }
-    ensures full { IsErrOf result Error.OutOfSlots → HasLargeClass store.old }
+    ensures full { IsErrOf result Error.OutOfSlots → HasLargeSide store.old (equation_in store.old q) }
     ensures err { IfErr result IsShortage }
 {
     let equation = store.proofs().equ(q);
@@ -98,7 +98,7 @@ pub fn unite<L: Language>(store: &mut Store<L>, alloc: Global, p: ProvenEq) -> R
     requires good { Stored store.old }
     requires within { p < length store.old.proofs }
     ensures ok { OnOk result (UnitesBy p store.old store.new) }
-    ensures full { IsErrOf result Error.OutOfSlots → HasLargeClass store.old }
+    ensures full { IsErrOf result Error.OutOfSlots → HasLargeSide store.old (equation_in store.old p) }
     ensures err { IfErr result IsShortage }
 {
     if sides_find_alike(store, p) {

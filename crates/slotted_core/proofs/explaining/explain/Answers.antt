@@ -18,7 +18,7 @@ returns-then-not-eq-clause-ok g c =
 pub returns-in_err-answer-clause-full : goal.returns-in_err-answer-clause-full
 returns-in_err-answer-clause-full g c e =
     runs-large c.args.store.now c.add_expr.new.store c.add_expr-2.new.store c.args.left.now c.args.right.now c.add_expr.new.table c.add_expr-2.new.table (to_applied c.in_ok-a.a) (to_applied c.in_ok-b.b) c.in_ok-a.ensures.ok c.in_ok-b.ensures.ok
-    c.args.table.now c.add_expr-2.new.table (c.in_err-answer.ensures.full (search rules))
+    (c.eq.ensures.0 c.if-not-eq.false) c.args.table.now c.add_expr-2.new.table (c.in_err-answer.ensures.full (search rules))
 
 pub returns-clause-ok : goal.returns-clause-ok
 returns-clause-ok g c =

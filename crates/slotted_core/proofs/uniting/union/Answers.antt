@@ -1,10 +1,10 @@
 use Rattle.std.proofs.Common.{◌∙◌, rules}
-use Rattle.slotted_store.specs.Kept.{nodes_of, text_bytes}
+use Rattle.slotted_store.specs.Kept.{text_bytes}
 use Rattle.slotted_proofs.specs.Entries.{asserted_entry}
 use Rattle.slotted_proofs.specs.Equations.{to_applied}
 use Rattle.slotted_core.proofs.Asserting.{IsAsserted, is_asserted}
 use Rattle.slotted_core.proofs.GoodFinds.{good-finds, full-findable}
-use Rattle.slotted_core.proofs.Unions.{unites-all, large-class, large-side}
+use Rattle.slotted_core.proofs.Unions.{unites-all, large-asserted, large-settling, large-side}
 use Rattle.slotted_core.proofs.uniting.union.Goals as goal
 
 pub eq-found_alike-requires-clause-good : goal.eq-found_alike-requires-clause-good
@@ -40,16 +40,22 @@ returns-clause-ok g c =
 
 pub returns-in_err-p-clause-full : goal.returns-in_err-p-clause-full
 returns-in_err-p-clause-full g c e =
-    large-side (nodes_of c.args.store.now) (to_applied c.args.l.now) (to_applied c.args.r.now) c.requires.left c.requires.right (c.in_err-p.ensures.full (search rules))
+    large-side c.args.store.now (to_applied c.args.l.now) (to_applied c.args.r.now) c.requires.left c.requires.right (c.in_err-p.ensures.full (search rules))
 
 pub returns-in_err-unite-clause-full : goal.returns-in_err-unite-clause-full
 returns-in_err-unite-clause-full g c e =
     let k = c.args.store.now in
-    let said = is_asserted k c.requires.good (to_applied c.args.l.now) (to_applied c.args.r.now) c.requires.left c.requires.right (text_bytes c.args.text) c.assert_equal.new.self c.in_ok-p.p c.in_ok-p.ensures.ok in
-    large-class k c.assert_equal.new.self said.grows.nodes (c.in_err-unite.ensures.full (search rules))
+    let a = to_applied c.args.l.now in
+    let b = to_applied c.args.r.now in
+    let text = text_bytes c.args.text in
+    let said = is_asserted k c.requires.good a b c.requires.left c.requires.right text c.assert_equal.new.self c.in_ok-p.p c.in_ok-p.ensures.ok in
+    large-asserted k a b c.requires.left c.requires.right (asserted_entry a b text) c.assert_equal.new.self c.in_ok-p.p said (c.in_err-unite.ensures.full (search rules))
 
 pub returns-in_err-settle_all-clause-full : goal.returns-in_err-settle_all-clause-full
 returns-in_err-settle_all-clause-full g c e =
     let k = c.args.store.now in
-    let said = is_asserted k c.requires.good (to_applied c.args.l.now) (to_applied c.args.r.now) c.requires.left c.requires.right (text_bytes c.args.text) c.assert_equal.new.self c.in_ok-p.p c.in_ok-p.ensures.ok in
-    large-class k c.unite.new.store (c.in_ok-unite.ensures.ok.grows.nodes ∙ said.grows.nodes) (c.in_err-settle_all.ensures.full (search rules))
+    let a = to_applied c.args.l.now in
+    let b = to_applied c.args.r.now in
+    let text = text_bytes c.args.text in
+    let said = is_asserted k c.requires.good a b c.requires.left c.requires.right text c.assert_equal.new.self c.in_ok-p.p c.in_ok-p.ensures.ok in
+    large-settling k a b c.requires.left c.requires.right (asserted_entry a b text) c.assert_equal.new.self c.in_ok-p.p said c.unite.new.store c.in_ok-unite.ensures.ok (c.in_err-settle_all.ensures.full (search rules))

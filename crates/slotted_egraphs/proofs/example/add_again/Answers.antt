@@ -4,7 +4,7 @@ use Rattle.slotted_model.specs.Applied.{Applied}
 use Rattle.slotted_egraphs.specs.Image.{found_id}
 use Rattle.slotted_egraphs.specs.Nodes.{to_applied}
 use Rattle.slotted_egraphs.proofs.Asking.{yes_if, same_again}
-use Rattle.slotted_egraphs.proofs.CallerLemmas.{can_ask, id_read}
+use Rattle.slotted_egraphs.proofs.CallerLemmas.{can_ask, can-compare, id_read, valid-findable}
 use Rattle.slotted_egraphs.proofs.example.add_again.Goals as goal
 
 pub add_expr-requires : goal.add_expr-requires
@@ -20,11 +20,12 @@ pub eq-requires-clause-left : goal.eq-requires-clause-left
 eq-requires-clause-left g c =
     let a = to_applied c.in_ok-id.id in
     let added = c.in_ok-again.ensures in
-    can_ask c.get_syn_expr.new.self c.add_expr-2.new.self a added.extends added.more
-    (id_read c.add_expr.new.self c.get_syn_expr.new.self a c.in_ok-canonical.ensures.takes.reads c.in_ok-id.ensures.valid)
+    can-compare c.add_expr-2.new.self a
+    (can_ask c.get_syn_expr.new.self c.add_expr-2.new.self a added.extends added.more
+    (id_read c.add_expr.new.self c.get_syn_expr.new.self a c.in_ok-canonical.ensures.takes.reads c.in_ok-id.ensures.valid))
 
 pub eq-requires-clause-right : goal.eq-requires-clause-right
-eq-requires-clause-right g c = inr c.in_ok-again.ensures.valid
+eq-requires-clause-right g c = inr (valid-findable c.add_expr-2.new.self (to_applied c.in_ok-again.again) c.in_ok-again.ensures.valid)
 
 pub returns : goal.returns
 returns g c =

@@ -4,12 +4,18 @@ use Rattle.std.specs.Prelude.{IfSome}
 use Rattle.slotted_slots.specs.declared.types.AppliedId.{AppliedId}
 use Rattle.slotted_egraphs.specs.Graph.{IsValidId}
 use Rattle.slotted_egraphs.specs.Nodes.{to_applied}
+use Rattle.slotted_egraphs.proofs.CallerLemmas.{can-compare, valid-findable}
 use Rattle.slotted_egraphs.proofs.Asking.{filed_some, filed_none, filed_equal}
 use Rattle.slotted_egraphs.proofs.example.is_filed_as.Goals as goal
 
 pub eq-requires-clause-left : goal.eq-requires-clause-left
 eq-requires-clause-left g c =
-    inr (subst (λ (o : Option AppliedId). IfSome o (λ a. IsValidId c.args.graph.now (to_applied a))) c.in-Some.is c.in_ok-found.ensures.valid)
+    inr
+    (valid-findable c.args.graph.now (to_applied c.in-Some.found)
+    (subst (λ (o : Option AppliedId). IfSome o (λ a. IsValidId c.args.graph.now (to_applied a))) c.in-Some.is c.in_ok-found.ensures.valid))
+
+pub eq-requires-clause-right : goal.eq-requires-clause-right
+eq-requires-clause-right g c = can-compare c.args.graph.now (to_applied c.args.id.now) c.requires.id
 
 pub returns-in_default-clause-filed : goal.returns-in_default-clause-filed
 returns-in_default-clause-filed g c =

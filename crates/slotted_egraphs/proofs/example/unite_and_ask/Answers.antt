@@ -7,7 +7,7 @@ use Rattle.slotted_slots.specs.declared.error.Error.{Error}
 use Rattle.slotted_egraphs.specs.Applied.{Applied}
 use Rattle.slotted_egraphs.specs.Image.{Image, FoundAlike, IsUnion, AreClosed}
 use Rattle.slotted_egraphs.specs.Nodes.{to_applied}
-use Rattle.slotted_egraphs.proofs.CallerLemmas.{can_add, can_ask, can_ask_united, yes_if_closed}
+use Rattle.slotted_egraphs.proofs.CallerLemmas.{can_add, can_ask, can_ask_united, can-compare, yes_if_closed}
 use Rattle.slotted_egraphs.proofs.example.unite_and_ask.Goals as goal
 
 -- where no symmetry is open, an answer that says whether the sides of a union find alike is yes
@@ -36,14 +36,14 @@ eq-requires-clause-left g c =
     let added = c.in_ok-right-2.ensures in
     elim (can_ask c.add_expr.new.self c.add_expr-2.new.self a added.extends added.more c.in_ok-left-2.ensures.valid) [
       | inl failed ↦ absurd (false≢true (added.fails.0 failed))
-      | inr valid ↦ can_ask_united c.add_expr-2.new.self c.union.new.self a b a c.in_ok-union.field-0 c.in_ok-union.ensures.union c.union.ensures.table valid
+      | inr valid ↦ can-compare c.union.new.self a (can_ask_united c.add_expr-2.new.self c.union.new.self a b a c.in_ok-union.field-0 c.in_ok-union.ensures.union c.union.ensures.table valid)
     ]
 
 pub eq-requires-clause-right : goal.eq-requires-clause-right
 eq-requires-clause-right g c =
     let a = to_applied c.in_ok-left-2.left in
     let b = to_applied c.in_ok-right-2.right in
-    can_ask_united c.add_expr-2.new.self c.union.new.self a b b c.in_ok-union.field-0 c.in_ok-union.ensures.union c.union.ensures.table c.in_ok-right-2.ensures.valid
+    can-compare c.union.new.self b (can_ask_united c.add_expr-2.new.self c.union.new.self a b b c.in_ok-union.field-0 c.in_ok-union.ensures.union c.union.ensures.table c.in_ok-right-2.ensures.valid)
 
 pub returns : goal.returns
 returns g c =

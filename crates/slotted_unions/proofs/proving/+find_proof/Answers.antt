@@ -2,7 +2,8 @@ use Rattle.std.proofs.Common.{◌≡◌, ◌≢◌, ◌<◌, length, sym, subst,
 use Rattle.slotted_store.specs.Kept.{Kept, find_at}
 use Rattle.slotted_store.proofs.Chasing.{moments_left, next_within, nearer}
 use Rattle.slotted_unions.proofs.EnteredProofs.{stored-finds}
-use Rattle.slotted_unions.proofs.ProofsOfFinds.{next-class_of, live-proves, next-first, next-meets, next-large, next-proves}
+use Rattle.slotted_unions.proofs.ProofsOfFinds.{next-class_of, live-proves, next-first, next-meets, next-among, next-large}
+use Rattle.slotted_unions.proofs.ProofsOfFinds.{next-proves}
 use Rattle.slotted_unions.proofs.proving.+find_proof.Goals as goal
 
 pub returns-then-next-id-clause-ok : goal.returns-then-next-id-clause-ok
@@ -25,6 +26,12 @@ find_proof-requires g t c =
     let within : c.entry.result.now.id.0 < length k.classes = subst (λ j. j < length k.classes) (sym next)
     (next_within k (stored-finds k c.requires.good) c.args.id c.requires.within) in
     λ κs h. (omega (arith, small, c.decreases), (search rules, (c.requires.good, within)))
+
+pub returns-in_err-rest-clause-full : goal.returns-in_err-rest-clause-full
+returns-in_err-rest-clause-full g t c e =
+    next-among c.args.store.now c.requires.good c.args.id c.requires.within c.proof_of-proof.result
+    c.proof_of-proof.ensures c.entry.result.now.id.0
+    (next-class_of c.args.store.now c.args.id c.entry.result.now c.entry.ensures) (c.in_err-rest.ensures.full (search rules))
 
 pub chain-requires-clause-first : goal.chain-requires-clause-first
 chain-requires-clause-first g t c =

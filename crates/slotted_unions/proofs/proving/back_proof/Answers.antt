@@ -1,7 +1,8 @@
 use Rattle.std.proofs.Common.{rules}
 use Rattle.slotted_model.specs.ProofList.{find_equation}
 use Rattle.slotted_store.specs.Kept.{nodes_of, entries_of}
-use Rattle.slotted_unions.proofs.EnteredProofs.{then-turned, then-large}
+use Rattle.slotted_unions.proofs.EnteredProofs.{then-turned}
+use Rattle.slotted_unions.proofs.ProofsOfFinds.{back-large}
 use Rattle.slotted_unions.proofs.proving.back_proof.Goals as goal
 
 pub returns-clause-ok : goal.returns-clause-ok
@@ -12,6 +13,5 @@ returns-clause-ok g c =
 
 pub returns-in_err-answer-clause-full : goal.returns-in_err-answer-clause-full
 returns-in_err-answer-clause-full g c e =
-    then-large c.args.store.now c.find_proof.new.store c.in_ok-proof.ensures.ok.only c.in_ok-proof.proof
-    c.in_ok-proof.proof c.in_ok-proof.ensures.ok.in_range c.in_ok-proof.ensures.ok.in_range
-    (c.in_err-answer.ensures.full (search rules))
+    back-large c.args.store.now c.find_proof.new.store c.requires.good c.args.id c.in_ok-proof.proof c.requires.within
+    c.in_ok-proof.ensures.ok (c.in_err-answer.ensures.full (search rules))

@@ -1,7 +1,8 @@
 use Rattle.std.proofs.Common.{◌≡◌, ◌<◌, ap, length, rules, subst, sym}
 use Rattle.slotted_store.specs.Kept.{Kept}
 use Rattle.slotted_unions.proofs.EnteredProofs.{entry-left, entry-right}
-use Rattle.slotted_unions.proofs.ProofsOfFinds.{left-within, right-within, half-meets, half-large, whole-meets}
+use Rattle.slotted_unions.proofs.ProofsOfFinds.{left-within, right-within, left-large, right-large, half-meets}
+use Rattle.slotted_unions.proofs.ProofsOfFinds.{half-large, whole-meets}
 use Rattle.slotted_unions.proofs.ProofsOfFinds.{whole-large, whole-proves}
 use Rattle.slotted_unions.proofs.proving.found_proof.Goals as goal
 
@@ -64,3 +65,16 @@ returns-clause-ok g c =
     c.in_ok-back.ensures.ok c.in_ok-onward.ensures.ok
     c.chain.new.self c.in_ok-half.half c.in_ok-half.ensures.ok c.chain-2.new.self c.in_ok-answer.answer
     c.in_ok-answer.ensures.ok
+
+pub returns-in_err-back-clause-full : goal.returns-in_err-back-clause-full
+returns-in_err-back-clause-full g c h =
+    left-large c.args.store.now c.requires.good c.args.p c.requires.within c.equ.result.now.l.id.0
+    (entry-left c.args.store.now c.proofs.result.now c.args.p c.equ.result.now c.proofs.ensures c.equ.ensures)
+    (c.in_err-back.ensures.full (search rules))
+
+pub returns-in_err-onward-clause-full : goal.returns-in_err-onward-clause-full
+returns-in_err-onward-clause-full g c h =
+    right-large c.args.store.now c.requires.good c.args.p c.requires.within c.back_proof.new.store c.in_ok-back.ensures.ok.only
+    c.equ-2.result.now.r.id.0
+    (entry-right c.args.store.now c.proofs-2.result.now c.args.p c.equ-2.result.now c.proofs-2.ensures c.equ-2.ensures)
+    (c.in_err-onward.ensures.full (search rules))

@@ -2,7 +2,7 @@ use Rattle.std.proofs.Common.{◌∙◌, sym, subst, arith, rules}
 use Rattle.std.specs.Prelude.{IfSome, IfNone}
 use Rattle.indexmap.proofs.MapLemmas.{OnOk-map}
 use Rattle.slotted_unions.specs.Settling.{IsUnaligned, AreAligned, SettlesAll}
-use Rattle.slotted_unions.proofs.SettlingSteps.{settled-before, settled-now, unaligned-within, act-smaller, settled-then}
+use Rattle.slotted_unions.proofs.SettlingSteps.{settled-before, settled-now, unaligned-within, unaligned-large, act-smaller, act-large, settled-then}
 use Rattle.slotted_unions.proofs.settling.+settle_all.Goals as goal
 
 pub returns-then-not-is_dropped-clause-ok : goal.returns-then-not-is_dropped-clause-ok
@@ -33,3 +33,15 @@ returns-clause-ok g t c =
     OnOk-map c.settle_all.result (SettlesAll c.unite.new.store c.settle_all.new.store) (SettlesAll k c.settle_all.new.store)
     (settled-then k c.requires.good c.in-Some.p u c.unite.new.store c.in_ok-unite.ensures.ok c.settle_all.new.store)
     c.settle_all.ensures.ok
+
+pub returns-in_err-unite-clause-full : goal.returns-in_err-unite-clause-full
+returns-in_err-unite-clause-full g t c h =
+    let k = c.args.store.now in
+    let u = subst (λ o. IfSome o (IsUnaligned k)) c.in-Some.is c.in_ok-p.ensures.some in
+    unaligned-large k c.requires.good c.in-Some.p u (c.in_err-unite.ensures.full (search rules))
+
+pub returns-clause-full : goal.returns-clause-full
+returns-clause-full g t c h =
+    let k = c.args.store.now in
+    let u = subst (λ o. IfSome o (IsUnaligned k)) c.in-Some.is c.in_ok-p.ensures.some in
+    act-large k c.requires.good c.in-Some.p u c.unite.new.store c.in_ok-unite.ensures.ok (c.settle_all.ensures.full h)

@@ -4,7 +4,8 @@ use Rattle.indexmap.proofs.MapLemmas.{OnOk-map}
 use Rattle.slotted_model.specs.Changes.{found_entry}
 use Rattle.slotted_unions.specs.StateOf.{state_of}
 use Rattle.slotted_unions.specs.Uniting.{ActsOn, UnitesBy, equation_in}
-use Rattle.slotted_unions.proofs.UniteSteps.{alike-unites, proof-live, then-stored, then-within, then-smaller, then-unites, acting-live, acting-unites}
+use Rattle.slotted_unions.proofs.EnteredProofs.{nothing-proved}
+use Rattle.slotted_unions.proofs.UniteSteps.{alike-unites, proof-live, then-stored, then-within, then-smaller, then-unites, then-large_side, proof-large, acting-live, acting-large, acting-unites}
 use Rattle.slotted_unions.proofs.uniting.+unite.Goals as goal
 
 pub returns-then-sides_find_alike-clause-ok : goal.returns-then-sides_find_alike-clause-ok
@@ -50,3 +51,21 @@ returns-clause-ok g t c =
     (acting-unites k m c.requires.good c.args.p q c.requires.within c.in_ok-q.ensures.ok l c.in_ok-drop_either.field-0 c.if-branch.false c.in_ok-drop_either.ensures.ok c.act_on.new.store
     (λ s. false≢true (sym c.if-sides_find_alike.false ∙ c.sides_find_alike.ensures.1 s)))
     c.act_on.ensures.ok
+
+pub returns-in_err-drop_either-clause-full : goal.returns-in_err-drop_either-clause-full
+returns-in_err-drop_either-clause-full g t c h =
+    let k = c.args.store.now in
+    let m = c.found_proof.new.store in
+    proof-large k m c.requires.good c.args.p c.in_ok-q.q c.requires.within c.in_ok-q.ensures.ok m (nothing-proved m c.in_ok-q.ensures.ok.only.stored) (c.in_err-drop_either.ensures.full (search rules))
+
+pub returns-then-branch-clause-full : goal.returns-then-branch-clause-full
+returns-then-branch-clause-full g t c h =
+    let k = c.args.store.now in
+    let m = c.found_proof.new.store in
+    then-large_side k m c.requires.good c.args.p c.in_ok-q.q c.requires.within c.in_ok-q.ensures.ok c.drop_either.new.store c.in_ok-drop_either.field-0 c.if-branch.true c.in_ok-drop_either.ensures.ok (c.unite.ensures.full h)
+
+pub returns-clause-full : goal.returns-clause-full
+returns-clause-full g t c h =
+    let k = c.args.store.now in
+    let m = c.found_proof.new.store in
+    acting-large k m c.requires.good c.args.p c.in_ok-q.q c.requires.within c.in_ok-q.ensures.ok c.drop_either.new.store c.in_ok-drop_either.field-0 c.if-branch.false c.in_ok-drop_either.ensures.ok (c.act_on.ensures.full h)

@@ -1,76 +1,95 @@
-use Rattle.std.proofs.Common.{◌≡◌, ◌∙◌, ap, sym, subst, inl, inr}
+use Rattle.std.proofs.Common.{◌≡◌, ◌∙◌, ap, sym, inl, inr}
 use Rattle.std.proofs.lemmas.Bool.{false≢true}
-use Rattle.slotted_model.specs.Classes.{IsFull}
-use Rattle.slotted_core.specs.Graph.{Graph}
-use Rattle.slotted_core.specs.Image.{Image}
+use Rattle.slotted_core.specs.Findable.{IsFindableId}
 use Rattle.slotted_core.specs.Good.{Good, image_of}
+use Rattle.slotted_core.specs.Graph.{Graph}
 use Rattle.slotted_proofs.specs.Equations.{to_applied}
-use Rattle.slotted_core.proofs.Answering.{Says, says}
-use Rattle.slotted_core.proofs.GoodFinds.{full-findable}
+use Rattle.slotted_core.proofs.Answering.{says-of}
+use Rattle.slotted_core.proofs.FindableIds.{of-findable}
 use Rattle.slotted_core.proofs.egraph.EGraph.eq.Goals as goal
 
 pub returns-clause-found : goal.returns-clause-found
-returns-clause-found g c =
-    let a = to_applied c.args.a.now in
-    let b = to_applied c.args.b.now in
+returns-clause-found l c =
+    let g = c.args.self.now in
     let core = c.self.inside.store in
-    let image : image_of core ≡ c.args.self.now.image = ap (λ (x : Graph). x.image) c.self.view_is in
+    let image : image_of core ≡ g.image = ap (λ (x : Graph). x.image) c.self.view_is in
     let sound = ap (λ (x : Graph). x.failed) c.self.view_is in
     let good : Good core = elim c.self.invariant [ inl h ↦ absurd (false≢true (sym c.if-self.false ∙ h)) | inr h ↦ h.0 ] in
-    let left : IsFull (image_of core).canonical a = elim c.requires.left [ inl h ↦ absurd (false≢true (sym c.if-self.false ∙ (sound ∙ h))) | inr v ↦ subst (λ (x : Image). IsFull x.canonical a) (sym image) v.full ] in
-    let right : IsFull (image_of core).canonical b = elim c.requires.right [ inl h ↦ absurd (false≢true (sym c.if-self.false ∙ (sound ∙ h))) | inr v ↦ subst (λ (x : Image). IsFull x.canonical b) (sym image) v.full ] in
-    (subst (λ (x : Image). Says x a b c.eq.result) image (says core good a b left right c.eq.result c.eq.ensures)).found
+    let left : IsFindableId g (to_applied c.args.a.now) = elim c.requires.left [ inl h ↦ absurd (false≢true (sym c.if-self.false ∙ (sound ∙ h))) | inr v ↦ v ] in
+    let right : IsFindableId g (to_applied c.args.b.now) = elim c.requires.right [ inl h ↦ absurd (false≢true (sym c.if-self.false ∙ (sound ∙ h))) | inr v ↦ v ] in
+    (says-of core good g image (to_applied c.args.a.now) (to_applied c.args.b.now) left right c.eq.result c.eq.ensures).found
+
+pub returns-clause-filled : goal.returns-clause-filled
+returns-clause-filled l c =
+    let g = c.args.self.now in
+    let core = c.self.inside.store in
+    let image : image_of core ≡ g.image = ap (λ (x : Graph). x.image) c.self.view_is in
+    let sound = ap (λ (x : Graph). x.failed) c.self.view_is in
+    let good : Good core = elim c.self.invariant [ inl h ↦ absurd (false≢true (sym c.if-self.false ∙ h)) | inr h ↦ h.0 ] in
+    let left : IsFindableId g (to_applied c.args.a.now) = elim c.requires.left [ inl h ↦ absurd (false≢true (sym c.if-self.false ∙ (sound ∙ h))) | inr v ↦ v ] in
+    let right : IsFindableId g (to_applied c.args.b.now) = elim c.requires.right [ inl h ↦ absurd (false≢true (sym c.if-self.false ∙ (sound ∙ h))) | inr v ↦ v ] in
+    (says-of core good g image (to_applied c.args.a.now) (to_applied c.args.b.now) left right c.eq.result c.eq.ensures).filled
+
+pub returns-clause-whole : goal.returns-clause-whole
+returns-clause-whole l c =
+    let g = c.args.self.now in
+    let core = c.self.inside.store in
+    let image : image_of core ≡ g.image = ap (λ (x : Graph). x.image) c.self.view_is in
+    let sound = ap (λ (x : Graph). x.failed) c.self.view_is in
+    let good : Good core = elim c.self.invariant [ inl h ↦ absurd (false≢true (sym c.if-self.false ∙ h)) | inr h ↦ h.0 ] in
+    let left : IsFindableId g (to_applied c.args.a.now) = elim c.requires.left [ inl h ↦ absurd (false≢true (sym c.if-self.false ∙ (sound ∙ h))) | inr v ↦ v ] in
+    let right : IsFindableId g (to_applied c.args.b.now) = elim c.requires.right [ inl h ↦ absurd (false≢true (sym c.if-self.false ∙ (sound ∙ h))) | inr v ↦ v ] in
+    (says-of core good g image (to_applied c.args.a.now) (to_applied c.args.b.now) left right c.eq.result c.eq.ensures).whole
 
 pub returns-clause-equal : goal.returns-clause-equal
-returns-clause-equal g c =
-    let a = to_applied c.args.a.now in
-    let b = to_applied c.args.b.now in
+returns-clause-equal l c =
+    let g = c.args.self.now in
     let core = c.self.inside.store in
-    let image : image_of core ≡ c.args.self.now.image = ap (λ (x : Graph). x.image) c.self.view_is in
+    let image : image_of core ≡ g.image = ap (λ (x : Graph). x.image) c.self.view_is in
     let sound = ap (λ (x : Graph). x.failed) c.self.view_is in
     let good : Good core = elim c.self.invariant [ inl h ↦ absurd (false≢true (sym c.if-self.false ∙ h)) | inr h ↦ h.0 ] in
-    let left : IsFull (image_of core).canonical a = elim c.requires.left [ inl h ↦ absurd (false≢true (sym c.if-self.false ∙ (sound ∙ h))) | inr v ↦ subst (λ (x : Image). IsFull x.canonical a) (sym image) v.full ] in
-    let right : IsFull (image_of core).canonical b = elim c.requires.right [ inl h ↦ absurd (false≢true (sym c.if-self.false ∙ (sound ∙ h))) | inr v ↦ subst (λ (x : Image). IsFull x.canonical b) (sym image) v.full ] in
-    (subst (λ (x : Image). Says x a b c.eq.result) image (says core good a b left right c.eq.result c.eq.ensures)).equal
+    let left : IsFindableId g (to_applied c.args.a.now) = elim c.requires.left [ inl h ↦ absurd (false≢true (sym c.if-self.false ∙ (sound ∙ h))) | inr v ↦ v ] in
+    let right : IsFindableId g (to_applied c.args.b.now) = elim c.requires.right [ inl h ↦ absurd (false≢true (sym c.if-self.false ∙ (sound ∙ h))) | inr v ↦ v ] in
+    (says-of core good g image (to_applied c.args.a.now) (to_applied c.args.b.now) left right c.eq.result c.eq.ensures).equal
 
 pub returns-clause-derivable : goal.returns-clause-derivable
-returns-clause-derivable g c =
-    let a = to_applied c.args.a.now in
-    let b = to_applied c.args.b.now in
+returns-clause-derivable l c =
+    let g = c.args.self.now in
     let core = c.self.inside.store in
-    let image : image_of core ≡ c.args.self.now.image = ap (λ (x : Graph). x.image) c.self.view_is in
+    let image : image_of core ≡ g.image = ap (λ (x : Graph). x.image) c.self.view_is in
     let sound = ap (λ (x : Graph). x.failed) c.self.view_is in
     let good : Good core = elim c.self.invariant [ inl h ↦ absurd (false≢true (sym c.if-self.false ∙ h)) | inr h ↦ h.0 ] in
-    let left : IsFull (image_of core).canonical a = elim c.requires.left [ inl h ↦ absurd (false≢true (sym c.if-self.false ∙ (sound ∙ h))) | inr v ↦ subst (λ (x : Image). IsFull x.canonical a) (sym image) v.full ] in
-    let right : IsFull (image_of core).canonical b = elim c.requires.right [ inl h ↦ absurd (false≢true (sym c.if-self.false ∙ (sound ∙ h))) | inr v ↦ subst (λ (x : Image). IsFull x.canonical b) (sym image) v.full ] in
-    (subst (λ (x : Image). Says x a b c.eq.result) image (says core good a b left right c.eq.result c.eq.ensures)).derivable
+    let left : IsFindableId g (to_applied c.args.a.now) = elim c.requires.left [ inl h ↦ absurd (false≢true (sym c.if-self.false ∙ (sound ∙ h))) | inr v ↦ v ] in
+    let right : IsFindableId g (to_applied c.args.b.now) = elim c.requires.right [ inl h ↦ absurd (false≢true (sym c.if-self.false ∙ (sound ∙ h))) | inr v ↦ v ] in
+    (says-of core good g image (to_applied c.args.a.now) (to_applied c.args.b.now) left right c.eq.result c.eq.ensures).derivable
 
 pub returns-clause-terms : goal.returns-clause-terms
-returns-clause-terms g c =
-    let a = to_applied c.args.a.now in
-    let b = to_applied c.args.b.now in
+returns-clause-terms l c =
+    let g = c.args.self.now in
     let core = c.self.inside.store in
-    let image : image_of core ≡ c.args.self.now.image = ap (λ (x : Graph). x.image) c.self.view_is in
+    let image : image_of core ≡ g.image = ap (λ (x : Graph). x.image) c.self.view_is in
     let sound = ap (λ (x : Graph). x.failed) c.self.view_is in
     let good : Good core = elim c.self.invariant [ inl h ↦ absurd (false≢true (sym c.if-self.false ∙ h)) | inr h ↦ h.0 ] in
-    let left : IsFull (image_of core).canonical a = elim c.requires.left [ inl h ↦ absurd (false≢true (sym c.if-self.false ∙ (sound ∙ h))) | inr v ↦ subst (λ (x : Image). IsFull x.canonical a) (sym image) v.full ] in
-    let right : IsFull (image_of core).canonical b = elim c.requires.right [ inl h ↦ absurd (false≢true (sym c.if-self.false ∙ (sound ∙ h))) | inr v ↦ subst (λ (x : Image). IsFull x.canonical b) (sym image) v.full ] in
-    (subst (λ (x : Image). Says x a b c.eq.result) image (says core good a b left right c.eq.result c.eq.ensures)).terms
+    let left : IsFindableId g (to_applied c.args.a.now) = elim c.requires.left [ inl h ↦ absurd (false≢true (sym c.if-self.false ∙ (sound ∙ h))) | inr v ↦ v ] in
+    let right : IsFindableId g (to_applied c.args.b.now) = elim c.requires.right [ inl h ↦ absurd (false≢true (sym c.if-self.false ∙ (sound ∙ h))) | inr v ↦ v ] in
+    (says-of core good g image (to_applied c.args.a.now) (to_applied c.args.b.now) left right c.eq.result c.eq.ensures).terms
 
 pub eq-requires-clause-left : goal.eq-requires-clause-left
-eq-requires-clause-left g c =
-    let a = to_applied c.args.a.now in
+eq-requires-clause-left l c =
+    let g = c.args.self.now in
     let core = c.self.inside.store in
-    let image : image_of core ≡ c.args.self.now.image = ap (λ (x : Graph). x.image) c.self.view_is in
+    let image : image_of core ≡ g.image = ap (λ (x : Graph). x.image) c.self.view_is in
     let sound = ap (λ (x : Graph). x.failed) c.self.view_is in
     let good : Good core = elim c.self.invariant [ inl h ↦ absurd (false≢true (sym c.if-self.false ∙ h)) | inr h ↦ h.0 ] in
-    full-findable core good a (elim c.requires.left [ inl h ↦ absurd (false≢true (sym c.if-self.false ∙ (sound ∙ h))) | inr v ↦ subst (λ (x : Image). IsFull x.canonical a) (sym image) v.full ])
+    let left : IsFindableId g (to_applied c.args.a.now) = elim c.requires.left [ inl h ↦ absurd (false≢true (sym c.if-self.false ∙ (sound ∙ h))) | inr v ↦ v ] in
+    of-findable core good g image (to_applied c.args.a.now) left
 
 pub eq-requires-clause-right : goal.eq-requires-clause-right
-eq-requires-clause-right g c =
-    let b = to_applied c.args.b.now in
+eq-requires-clause-right l c =
+    let g = c.args.self.now in
     let core = c.self.inside.store in
-    let image : image_of core ≡ c.args.self.now.image = ap (λ (x : Graph). x.image) c.self.view_is in
+    let image : image_of core ≡ g.image = ap (λ (x : Graph). x.image) c.self.view_is in
     let sound = ap (λ (x : Graph). x.failed) c.self.view_is in
     let good : Good core = elim c.self.invariant [ inl h ↦ absurd (false≢true (sym c.if-self.false ∙ h)) | inr h ↦ h.0 ] in
-    full-findable core good b (elim c.requires.right [ inl h ↦ absurd (false≢true (sym c.if-self.false ∙ (sound ∙ h))) | inr v ↦ subst (λ (x : Image). IsFull x.canonical b) (sym image) v.full ])
+    let right : IsFindableId g (to_applied c.args.b.now) = elim c.requires.right [ inl h ↦ absurd (false≢true (sym c.if-self.false ∙ (sound ∙ h))) | inr v ↦ v ] in
+    of-findable core good g image (to_applied c.args.b.now) right

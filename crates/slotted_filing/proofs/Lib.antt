@@ -1,0 +1,4 @@
+pub mod Flags
+pub mod Places
+pub mod Indexed
+pub mod KeyedRows

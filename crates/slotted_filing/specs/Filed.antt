@@ -1,0 +1,62 @@
+-- The filed nodes by the classes that they come from.
+--     Filing             a key, and the slot of the class for each number of it
+--     filed_of v i       what is filed of the class i
+--     HasKey v i f       the node that is filed of the class i has the key f
+--     IsIndexed rs ps    rows by place and the place of each class fit together
+use Rattle.std.specs.Prelude.{◌≡◌, ℕ, List, [], Option, Some, None, option_map, slice_get, slice_index_or, map}
+use Rattle.std.specs.Coded.{Coded, coded×, coded_ℕ, coded_list, coded_option}
+use Rattle.indexmap.specs.IndexMap.{IndexMap}
+use Rattle.slotted_nodes.specs.Form.{Form, leaf}
+use Rattle.slotted_store.specs.FormCode.{form_code}
+use Rattle.slotted_filing.specs.declared.index.Filed.{Filed}
+
+abbrev pub Filing : Type 0
+Filing = Form × List (ℕ × ℕ)
+
+abbrev pub filings_code : Coded (List (Option Filing))
+filings_code = coded_list (coded_option (coded× form_code (coded_list (coded× coded_ℕ coded_ℕ))))
+
+-- what is filed of the class i, if anything is
+abbrev pub filed_of : List (Option Filing) → ℕ → Option Filing
+filed_of v i = slice_index_or v i None
+
+-- the node that is filed of the class i has the key f
+abbrev pub HasKey : List (Option Filing) → ℕ → Form → Type 0
+HasKey v i f = (m : List (ℕ × ℕ)) × (filed_of v i ≡ Some (f, m))
+
+-- no class has a node of this key
+abbrev pub IsNewKey : List (Option Filing) → Form → Type 0
+IsNewKey v f = (i : ℕ) → ¬ HasKey v i f
+
+-- no two classes have nodes of one key
+abbrev pub HasKeysOnce : List (Option Filing) → Type 0
+HasKeysOnce v = (i j : ℕ) (f : Form) → HasKey v i f → HasKey v j f → i ≡ j
+
+-- a filed node: its key, the class that it comes from, and the slot of that for each number of the key
+abbrev pub FiledRow : Type 0
+FiledRow = Form × (ℕ × List (ℕ × ℕ))
+
+abbrev pub no_row : FiledRow
+no_row = (record { operator = 0; payloads = []; tree = leaf; names = [] }, (0, []))
+
+abbrev pub filed_row : {A : Type 0} → (A → Form) → A × Filed → FiledRow
+filed_row form e = (form e.0, (e.1.source, e.1.names))
+
+-- the filed nodes by their places
+abbrev pub rows_of : {A S : Type 0} → (A → Form) → IndexMap A Filed S → List FiledRow
+rows_of form m = map (filed_row form) m.entries
+
+-- what stands at a place of the rows
+abbrev pub filed_at : List FiledRow → Option ℕ → Option Filing
+filed_at rows None = None
+filed_at rows (Some p) = option_map (λ (r : FiledRow). (r.0, r.1.1)) (slice_get rows p)
+
+-- the place of the node of the class i
+abbrev pub place_of : List (Option ℕ) → ℕ → Option ℕ
+place_of places i = slice_index_or places i None
+
+-- a class with a place has its row there, each row stands at the place of its class, and no key stands twice
+pub record IsIndexed (rows : List FiledRow) (places : List (Option ℕ)) : Type 0 where
+  pub rows_at : (i p : ℕ) → place_of places i ≡ Some p → (r : FiledRow) × (slice_get rows p ≡ Some r) × (r.1.0 ≡ i)
+  pub sources : (p : ℕ) (r : FiledRow) → slice_get rows p ≡ Some r → place_of places r.1.0 ≡ Some p
+  pub keys : (p q : ℕ) (r s : FiledRow) → slice_get rows p ≡ Some r → slice_get rows q ≡ Some s → r.0 ≡ s.0 → p ≡ q

@@ -1,0 +1,10 @@
+//! What a graph keeps of its filed nodes: which classes wait to be filed anew, and which sources stand over a class.
+#![tactic(auto)]
+
+pub mod index;
+pub mod usages;
+pub mod worklist;
+
+pub use index::NodeIndex;
+pub use usages::Usages;
+pub use worklist::Worklist;
