@@ -4,3 +4,5 @@ pub mod Partners
 pub mod Frames
 pub mod WideNodes
 pub mod Naming
+pub mod ChildrenOfTwins
+pub mod BridgedParts

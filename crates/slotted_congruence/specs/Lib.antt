@@ -2,3 +2,4 @@
 pub mod Nodes
 pub mod Named
 pub mod Frames
+pub mod Congruence

@@ -3,3 +3,4 @@
 
 pub mod alike;
 pub mod named;
+pub mod twins;
