@@ -1,2 +1,4 @@
 pub mod ChildIds
+pub mod FoundNodes
 pub mod NormalNodes
+pub mod Sides

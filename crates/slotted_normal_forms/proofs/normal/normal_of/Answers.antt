@@ -1,6 +1,5 @@
 -- Each child of the node is an id that finds, and what it finds is put in its place.
-use Rattle.std.proofs.Common.{◌≡◌, ◌<◌, ◌≤◌, [], length, ◌∙◌, ap, sym, subst, arith, rules}
-use Rattle.std.specs.Prelude.{slice_index_or, Contains}
+use Rattle.std.proofs.Common.{◌<◌, ◌≤◌, [], length, ◌∙◌, ap, sym, subst, arith}
 use Rattle.slotted_languages.specs.NodeTerm.{nameless_node}
 use Rattle.slotted_slots.specs.Maps.{keys, values}
 use Rattle.slotted_nodes.specs.Form.{Form, with_child, children}
@@ -15,7 +14,7 @@ use Rattle.slotted_normal_forms.specs.ChildIds.{child_ids}
 use Rattle.slotted_normal_forms.specs.NormalNodes.{HasNoOtherNames}
 use Rattle.slotted_normal_forms.proofs.ChildIds.{child_is, length-ids}
 use Rattle.slotted_normal_forms.proofs.FoundChildren.{Each-at, child_ids-valid, found-nameless, found-no_other, found-places}
-use Rattle.slotted_normal_forms.proofs.ReplacedChildren.{first_form, first_form-none, first_form-more, length_children-first}
+use Rattle.slotted_normal_forms.proofs.ReplacedChildren.{first_form-none, first_form-more, length_children-first}
 use Rattle.slotted_normal_forms.proofs.normal.normal_of.Goals as goal
 
 pub loop-k-init : goal.loop-k-init
