@@ -78,7 +78,7 @@ impl<L: Language> NodeIndex<L> {
         }
     }
 
-    /// Files a key of a class that has none. A refusal files nothing.
+    /// Files a key of a class that has none.
     pub fn file(&mut self, class: usize, key: L, names: SlotMap) -> Result<(), Error>
         requires within { class < length self.old }
         requires free { filed_of self.old class ≡ None }
