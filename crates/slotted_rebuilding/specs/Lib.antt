@@ -1,0 +1,2 @@
+-- What rebuilding leads to.
+pub mod Work
