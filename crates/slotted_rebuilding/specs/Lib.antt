@@ -1,2 +1,5 @@
 -- What rebuilding leads to.
 pub mod Work
+pub mod Filed
+pub mod Causes
+pub mod Turns

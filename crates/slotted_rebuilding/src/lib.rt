@@ -1,2 +1,8 @@
 //! Rebuilding: the nodes of classes that wait take their turns, until equal nodes stand for one class.
 #![tactic(auto)]
+
+pub mod narrowing;
+pub mod rebuilding;
+pub mod settling;
+pub mod turning;
+pub mod uniting;

@@ -1,0 +1,57 @@
+-- What is kept with its filed nodes.
+--     state_in k r       the state: what is kept, the rows of the filed nodes, and what waits
+--     IsFiled k r        what holds between all inner steps of a rebuild
+--     WaitsOn r q        from r to q no node is filed anew, and what waited stands first
+--     UnitesFiled        a union by an entry, and the nodes over each class that changed wait
+--     SettlesFiled       acts, and no turn, until each listed symmetry is aligned
+use Rattle.std.specs.Prelude.{◌≡◌, ℕ, List, ◌++◌, Some, false, length}
+use Rattle.slotted_model.specs.Applied.{keys}
+use Rattle.slotted_model.specs.Changes.{Unites}
+use Rattle.slotted_model.specs.Rebuild.{Runs}
+use Rattle.slotted_model.specs.Rest.{Sane}
+use Rattle.slotted_model.specs.State.{State}
+use Rattle.slotted_languages.specs.Shape.{shape}
+use Rattle.slotted_nodes.specs.Form.{Fits}
+use Rattle.slotted_store.specs.Kept.{Kept, rows_from}
+use Rattle.slotted_filing.specs.Filed.{Filing, filed_of}
+use Rattle.slotted_filing.specs.FiledRows.{Rows, rows_in}
+use Rattle.slotted_unions.specs.StateOf.{state_with}
+use Rattle.slotted_unions.specs.Stored.{Stored, Grows}
+
+abbrev pub state_in : Kept → Rows → State
+state_in k r = state_with k (rows_in r.filed) r.waiting
+
+-- the key is a shape, and the map has a slot for each of its numbers
+pub record IsKeyed (e : Filing) : Type 0 where
+  pub fits : Fits e.0
+  pub itself : (shape e.0).0 ≡ e.0
+  pub numbers : keys e.1 ≡ keys (shape e.0).1
+
+-- the state is sane, classes by their canonical shapes stand in the order of their ids, and each filed key is a shape
+pub record IsFiled (k : Kept) (r : Rows) : Type 0 where
+  pub stored : Stored k
+  pub canonical : k.rows ≡ rows_from 0 k.classes
+  pub count : length r.filed ≡ length k.classes
+  pub sane : Sane (state_in k r)
+  pub keyed : (i : ℕ) (e : Filing) → filed_of r.filed i ≡ Some e → IsKeyed e
+
+-- no node is filed anew, and what waited stands first in what waits
+pub record WaitsOn (r q : Rows) : Type 0 where
+  pub same : q.filed ≡ r.filed
+  pub more : List ℕ
+  pub waits : q.waiting ≡ r.waiting ++ more
+
+-- the union by the entry p leads from one to the other, and the nodes over each class that changed wait
+pub record UnitesFiled (p : ℕ) (k : Kept) (r : Rows) (l : Kept) (q : Rows) : Type 0 where
+  pub unites : Unites p (state_in k r) (state_in l q)
+  pub stored : Stored l
+  pub grows : Grows k l
+  pub waits : WaitsOn r q
+
+-- acts, and no turn, lead from one to the other, whose symmetries are all known to be aligned
+pub record SettlesFiled (k : Kept) (r : Rows) (l : Kept) (q : Rows) : Type 0 where
+  pub runs : Runs (state_in k r) 0 (state_in l q)
+  pub filed : IsFiled l q
+  pub settled : l.dropped ≡ false
+  pub grows : Grows k l
+  pub waits : WaitsOn r q

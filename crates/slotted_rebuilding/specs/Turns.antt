@@ -1,0 +1,68 @@
+-- The turn of a class whose node waits.
+--     NarrowsOnce        the class is united with itself, since its node lacks a slot, and the size falls
+--     NarrowsTo          so often that the node has each slot of the class
+--     IsNodeOf           the node of a class in normal form, with its shape as key
+--     TakesTurns         turns lead from one to the other
+--     Rebuilds           turns and acts, at least as many turns as are counted, until nothing is left to do
+use Rattle.std.specs.Prelude.{◌≡◌, ◌≢◌, ◌∷◌, ℕ, ◌<◌, ◌≤◌, List, Contains}
+use Rattle.slotted_model.specs.Find.{used_slots}
+use Rattle.slotted_model.specs.Ascending.{names}
+use Rattle.slotted_model.specs.Rebuild.{Runs, Turn, HasNothingLeft, IsCovered, IsCongruence}
+use Rattle.slotted_model.specs.Rest.{size}
+use Rattle.slotted_model.specs.State.{normal_node}
+use Rattle.slotted_nodes.specs.Form.{Form}
+use Rattle.slotted_normal_forms.specs.FoundNodes.{IsFoundNode, finds_of}
+use Rattle.slotted_store.specs.Kept.{Kept}
+use Rattle.slotted_filing.specs.FiledRows.{Rows}
+use Rattle.slotted_unions.specs.Proving.{OnlyProves}
+use Rattle.slotted_unions.specs.StateOf.{state_of}
+use Rattle.slotted_unions.specs.Stored.{Grows}
+use Rattle.slotted_rebuilding.specs.Filed.{state_in, IsFiled, WaitsOn}
+
+-- the class is the first one that waits
+abbrev pub IsFirst : Rows → ℕ → Type 0
+IsFirst r o = (rest : List ℕ) × (r.waiting ≡ o ∷ rest)
+
+-- the node of the class o in normal form lacks a slot that the class uses
+abbrev pub LacksSlot : Kept → ℕ → Type 0
+LacksSlot k o = (s : ℕ) × Contains (used_slots (finds_of k).found o) s × (¬ Contains (names (normal_node (finds_of k) o)) s)
+
+-- nothing but proofs was entered, of which p is a congruence of the two classes
+pub record ProvesCongruence (k l : Kept) (i j p : ℕ) : Type 0 where
+  pub only : OnlyProves k l
+  pub congruence : IsCongruence (state_of l) p i j
+
+-- one turn of the class, by which the size fell
+pub record NarrowsOnce (k : Kept) (r : Rows) (l : Kept) (q : Rows) : Type 0 where
+  pub turn : Turn (state_in k r) (state_in l q)
+  pub filed : IsFiled l q
+  pub grows : Grows k l
+  pub waits : WaitsOn r q
+  pub smaller : size (state_of l) < size (state_of k)
+
+-- turns of the class, after which its node has each slot that it uses
+pub record NarrowsTo (k : Kept) (r : Rows) (o : ℕ) (l : Kept) (q : Rows) (key : Form) (slots : List (ℕ × ℕ)) : Type 0 where
+  pub turns : ℕ
+  pub runs : Runs (state_in k r) turns (state_in l q)
+  pub filed : IsFiled l q
+  pub grows : Grows k l
+  pub waits : WaitsOn r q
+  pub node : IsFoundNode l o key slots
+  pub covered : IsCovered (finds_of l) o
+
+-- one turn or more
+pub record TakesTurns (k : Kept) (r : Rows) (l : Kept) (q : Rows) : Type 0 where
+  pub turns : ℕ
+  pub some : 0 < turns
+  pub runs : Runs (state_in k r) turns (state_in l q)
+  pub filed : IsFiled l q
+  pub grows : Grows k l
+
+-- turns, at least as many as are counted, and acts lead from one to the other, where nothing is left to do
+pub record Rebuilds (k : Kept) (r : Rows) (l : Kept) (q : Rows) (counted : ℕ) : Type 0 where
+  pub turns : ℕ
+  pub at_least : counted ≤ turns
+  pub runs : Runs (state_in k r) turns (state_in l q)
+  pub filed : IsFiled l q
+  pub grows : Grows k l
+  pub nothing_left : HasNothingLeft (state_in l q)

@@ -1,0 +1,104 @@
+//! A class whose node in normal form lacks one of its slots is united with itself, until it has each.
+ghost use Rattle.std.specs.Prelude.{◌≡◌, ◌<◌, ◌↔◌, length, IsTrue, IfOk, IfErr, IsErrOf, OnOk};
+ghost use Rattle.slotted_slots.specs.Error.{IsShortage};
+ghost use Rattle.slotted_model.specs.Rebuild.{IsCovered};
+ghost use Rattle.slotted_normal_forms.specs.FoundNodes.{IsFoundNode, finds_of};
+ghost use Rattle.slotted_normal_forms.specs.Sides.{HaveOneShape};
+ghost use Rattle.slotted_store.specs.Finding.{HasFinds};
+ghost use Rattle.slotted_rebuilding.specs.Causes.{HasLargeClass};
+ghost use Rattle.slotted_rebuilding.specs.Filed.{IsFiled};
+ghost use Rattle.slotted_rebuilding.specs.Turns.{IsFirst, LacksSlot, NarrowsOnce, NarrowsTo, ProvesCongruence};
+
+use crate::uniting::unite;
+use slotted_congruence::twins::congruence;
+use slotted_filing::Hashcons;
+use slotted_languages::Language;
+use slotted_normal_forms::FoundNode;
+use slotted_normal_forms::found::found_node;
+use slotted_normal_forms::sides::sides;
+use slotted_proofs::ProvenEq;
+use slotted_slots::{Error, SlotMap};
+use slotted_store::Store;
+use slotted_store::names::has_value;
+use std::alloc::Global;
+
+// Whether the node of a class in normal form has each slot that the class uses.
+fn is_covered<L: Language>(store: &Store<L>, class: usize, names: &SlotMap) -> bool
+    requires good { HasFinds store.now }
+    requires within { class < length store.now.classes }
+    requires node { (f : Form) × IsFoundNode store.now class f names.now }
+    ensures { IsTrue result ↔ IsCovered (finds_of store.now) class }
+{
+    let slots = &store.entry(store.find_class(class)).m;
+    for i in 0..slots.len() {
+        let Some(own) = store.found_slot(class, slots.value_at(i)) else {
+            continue;
+        };
+        if !has_value(names, own) {
+            return false;
+        }
+    }
+    true
+}
+
+/// The proof that two classes are equal, since their nodes have one shape in normal form: the names have the slots for its numbers.
+pub fn twin_proof<L: Language>(
+    store: &mut Store<L>,
+    alloc: Global,
+    left: usize,
+    names: &SlotMap,
+    right: usize,
+    others: &SlotMap,
+) -> Result<ProvenEq, Error>
+    requires good { IsWellKept store.old }
+    requires left { left < length store.old.classes }
+    requires right { right < length store.old.classes }
+    requires shape { HaveOneShape store.old left names.now right others.now }
+    ensures ok { IfOk result (ProvesCongruence store.old store.new left right) }
+    ensures full { IsErrOf result Error.OutOfSlots → HasLargeClass store.old }
+    ensures err { IfErr result IsShortage }
+{
+    let equation = sides(store, alloc, left, names, right, others)?;
+    congruence(store, alloc, &equation)
+}
+
+// The class is united with itself by its node, which lacks a slot.
+fn narrow<L: Language>(
+    store: &mut Store<L>,
+    nodes: &mut Hashcons<L>,
+    alloc: Global,
+    class: usize,
+    names: &SlotMap,
+) -> Result<(), Error>
+    requires good { IsFiled store.old nodes.old }
+    requires first { IsFirst nodes.old class }
+    requires node { (f : Form) × IsFoundNode store.old class f names.now }
+    requires lacks { LacksSlot store.old class }
+    ensures ok { OnOk result (NarrowsOnce store.old nodes.old store.new nodes.new) }
+    ensures full { IsErrOf result Error.OutOfSlots → HasLargeClass store.old }
+    ensures err { IfErr result IsShortage }
+{
+    let p = twin_proof(store, alloc, class, names, class, names)?;
+    unite(store, nodes, alloc, p)
+}
+
+/// The node of a class in normal form, once it has each slot that the class uses: as long as it lacks one, the class loses it.
+pub fn narrowed<L: Language>(
+    store: &mut Store<L>,
+    nodes: &mut Hashcons<L>,
+    alloc: Global,
+    class: usize,
+) -> Result<FoundNode<L>, Error>
+    requires good { IsFiled store.old nodes.old }
+    requires first { IsFirst nodes.old class }
+    ensures ok { IfOk result (λ n. NarrowsTo store.old nodes.old class store.new nodes.new (L.form n.key) n.names) }
+    ensures full { IsErrOf result Error.OutOfSlots → HasLargeClass store.old }
+    ensures err { IfErr result IsShortage }
+{
+    let node = found_node(store, alloc, class)?;
+    if is_covered(store, class, &node.names) {
+        return Ok(node);
+    }
+    narrow(store, nodes, alloc, class, &node.names)?;
+    narrowed(store, nodes, alloc, class)
+}

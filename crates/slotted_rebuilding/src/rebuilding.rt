@@ -1,0 +1,36 @@
+//! Rebuilding: turns and acts until nothing waits and each listed symmetry is aligned.
+ghost use Rattle.std.specs.Prelude.{IfOk, IfErr, IsErrOf};
+ghost use Rattle.slotted_slots.specs.Error.{IsShortage};
+ghost use Rattle.slotted_rebuilding.specs.Causes.{HasLargeClass};
+ghost use Rattle.slotted_rebuilding.specs.Filed.{IsFiled};
+ghost use Rattle.slotted_rebuilding.specs.Turns.{Rebuilds};
+
+use crate::settling::settle_all;
+use crate::turning::take_turn;
+use slotted_filing::Hashcons;
+use slotted_languages::Language;
+use slotted_slots::Error;
+use slotted_store::Store;
+use std::alloc::Global;
+
+/// Equal nodes stand for one class from now on, up to listed symmetries: each class that waits takes its turn, and symmetries that are not
+/// aligned are acted on. The answer counts the classes that took their turn.
+pub fn rebuild<L: Language>(
+    store: &mut Store<L>,
+    nodes: &mut Hashcons<L>,
+    alloc: Global,
+) -> Result<usize, Error>
+    requires good { IsFiled store.old nodes.old }
+    ensures ok { IfOk result (Rebuilds store.old nodes.old store.new nodes.new) }
+    ensures full { IsErrOf result Error.OutOfSlots → HasLargeClass store.old }
+    ensures err { IfErr result IsShortage }
+{
+    let mut turns: usize = 0;
+    settle_all(store, nodes, alloc)?;
+    while let Some(class) = nodes.front() {
+        take_turn(store, nodes, alloc, class)?;
+        settle_all(store, nodes, alloc)?;
+        turns = turns.saturating_add(1);
+    }
+    Ok(turns)
+}

@@ -1,0 +1,36 @@
+//! Listed symmetries that are not aligned are acted on, and the nodes over the classes that this changes wait.
+ghost use Rattle.std.specs.Prelude.{IfErr, IsErrOf, OnOk};
+ghost use Rattle.slotted_slots.specs.Error.{IsShortage};
+ghost use Rattle.slotted_unions.specs.Settling.{HasLargeUnaligned};
+ghost use Rattle.slotted_rebuilding.specs.Filed.{IsFiled, SettlesFiled};
+
+use crate::uniting::unite;
+use slotted_filing::Hashcons;
+use slotted_languages::Language;
+use slotted_slots::Error;
+use slotted_store::Store;
+use slotted_unions::settling::next_unaligned;
+use std::alloc::Global;
+
+/// Each listed symmetry is aligned from now on: those that are not are acted on, one after another. Nothing is done where no slot was
+/// dropped since this was last so.
+pub fn settle_all<L: Language>(
+    store: &mut Store<L>,
+    nodes: &mut Hashcons<L>,
+    alloc: Global,
+) -> Result<(), Error>
+    requires good { IsFiled store.old nodes.old }
+    ensures ok { OnOk result (SettlesFiled store.old nodes.old store.new nodes.new) }
+    ensures full { IsErrOf result Error.OutOfSlots → HasLargeUnaligned store.old }
+    ensures err { IfErr result IsShortage }
+{
+    if !store.is_dropped() {
+        return Ok(());
+    }
+    let Some(p) = next_unaligned(store, alloc)? else {
+        store.settle();
+        return Ok(());
+    };
+    unite(store, nodes, alloc, p)?;
+    settle_all(store, nodes, alloc)
+}

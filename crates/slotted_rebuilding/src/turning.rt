@@ -1,0 +1,83 @@
+//! The turn of a class whose node waits to be filed anew.
+ghost use Rattle.std.specs.Prelude.{◌≢◌, ◌<◌, length, IfErr, IsErrOf, OnOk};
+ghost use Rattle.slotted_slots.specs.Error.{IsShortage};
+ghost use Rattle.slotted_filing.specs.Filed.{HasKey};
+ghost use Rattle.slotted_normal_forms.specs.FoundNodes.{IsFoundNode};
+ghost use Rattle.slotted_rebuilding.specs.Causes.{HasLargeClass};
+ghost use Rattle.slotted_rebuilding.specs.Filed.{IsFiled};
+ghost use Rattle.slotted_rebuilding.specs.Turns.{IsFirst, TakesTurns};
+
+use crate::narrowing::{narrowed, twin_proof};
+use crate::uniting::unite;
+use slotted_filing::Hashcons;
+use slotted_languages::Language;
+use slotted_slots::{Error, SlotMap};
+use slotted_store::Store;
+use std::alloc::Global;
+
+// The proof that the first class that waits equals another one, of which the shape of its node is filed.
+fn collision<L: Language>(
+    store: &mut Store<L>,
+    nodes: &Hashcons<L>,
+    alloc: Global,
+    class: usize,
+    names: &SlotMap,
+    other: usize,
+) -> Result<ProvenEq, Error>
+    requires good { IsFiled store.old nodes.now }
+    requires within { class < length store.old.classes }
+    requires shape { (f : Form) × IsFoundNode store.old class f names.now × HasKey nodes.now.filed other f }
+    ensures ok { IfOk result (ProvesCongruence store.old store.new class other) }
+    ensures full { IsErrOf result Error.OutOfSlots → HasLargeClass store.old }
+    ensures err { IfErr result IsShortage }
+{
+    match nodes.node(other) {
+        Some((_, others)) => twin_proof(store, alloc, class, names, other, others),
+        None => unreachable!(),
+    }
+}
+
+// The first class that waits is united with another one, of which the shape of its node is filed, and its own node is filed no more.
+fn collide<L: Language>(
+    store: &mut Store<L>,
+    nodes: &mut Hashcons<L>,
+    alloc: Global,
+    class: usize,
+    names: &SlotMap,
+    other: usize,
+) -> Result<(), Error>
+    requires good { IsFiled store.old nodes.old }
+    requires first { IsFirst nodes.old class }
+    requires shape { (f : Form) × IsFoundNode store.old class f names.now × HasKey nodes.old.filed other f }
+    requires different { other ≢ class }
+    ensures ok { OnOk result (TakesTurns store.old nodes.old store.new nodes.new) }
+    ensures full { IsErrOf result Error.OutOfSlots → HasLargeClass store.old }
+    ensures err { IfErr result IsShortage }
+{
+    let p = collision(store, nodes, alloc, class, names, other)?;
+    unite(store, nodes, alloc, p)?;
+    nodes.remove(class);
+    Ok(())
+}
+
+/// The first class that waits takes its turn: its node is filed by what its children find now, or, where another class has that node,
+/// the two are united.
+pub fn take_turn<L: Language>(
+    store: &mut Store<L>,
+    nodes: &mut Hashcons<L>,
+    alloc: Global,
+    class: usize,
+) -> Result<(), Error>
+    requires good { IsFiled store.old nodes.old }
+    requires first { IsFirst nodes.old class }
+    ensures ok { OnOk result (TakesTurns store.old nodes.old store.new nodes.new) }
+    ensures full { IsErrOf result Error.OutOfSlots → HasLargeClass store.old }
+    ensures err { IfErr result IsShortage }
+{
+    let node = narrowed(store, nodes, alloc, class)?;
+    let other = nodes.source_of(&node.key).unwrap_or(class);
+    if other != class {
+        return collide(store, nodes, alloc, class, &node.names, other);
+    }
+    nodes.refile(class, node.key, node.names)
+}

@@ -1,0 +1,40 @@
+//! Union by an entry, after which the nodes over each class that changed wait.
+ghost use Rattle.std.specs.Prelude.{◌≡◌, ◌<◌, length, IfErr, IsErrOf, OnOk};
+ghost use Rattle.slotted_slots.specs.Error.{IsShortage};
+ghost use Rattle.slotted_unions.specs.Proving.{HasLargeSide};
+ghost use Rattle.slotted_unions.specs.Stored.{Stored};
+ghost use Rattle.slotted_unions.specs.Uniting.{equation_in};
+ghost use Rattle.slotted_rebuilding.specs.Filed.{UnitesFiled};
+
+use slotted_filing::Hashcons;
+use slotted_languages::Language;
+use slotted_proofs::ProvenEq;
+use slotted_slots::Error;
+use slotted_store::Store;
+use slotted_unions::uniting::{UnionStep, unite_once};
+use std::alloc::Global;
+
+/// What an entry says of the classes that its sides find holds from now on, up to listed symmetries. The nodes over each class that dies
+/// or loses slots wait to be filed anew.
+pub fn unite<L: Language>(
+    store: &mut Store<L>,
+    nodes: &mut Hashcons<L>,
+    alloc: Global,
+    p: ProvenEq,
+) -> Result<(), Error>
+    requires good { Stored store.old }
+    requires within { p < length store.old.proofs }
+    requires count { length nodes.old.filed ≡ length store.old.classes }
+    ensures ok { OnOk result (UnitesFiled p store.old nodes.old store.new nodes.new) }
+    ensures full { IsErrOf result Error.OutOfSlots → HasLargeSide store.old (equation_in store.old p) }
+    ensures err { IfErr result IsShortage }
+{
+    match unite_once(store, alloc, p)? {
+        UnionStep::Done => Ok(()),
+        UnionStep::Linked(class) => nodes.touch(class),
+        UnionStep::Dropped(class) => {
+            nodes.touch(class)?;
+            unite(store, nodes, alloc, p)
+        }
+    }
+}
