@@ -2,3 +2,4 @@ pub mod Flags
 pub mod Places
 pub mod Indexed
 pub mod KeyedRows
+pub mod FiledRows

@@ -1,2 +1,3 @@
 pub mod Waiting
 pub mod Filed
+pub mod FiledRows

@@ -1,1 +1,6 @@
 -- Lemmas of rebuilding.
+pub mod Runs
+pub mod FiledStates
+pub mod LargeClasses
+pub mod EnteredCongruences
+pub mod TakenTurns

@@ -1,6 +1,6 @@
 -- What is kept with its filed nodes.
 --     state_in k r       the state: what is kept, the rows of the filed nodes, and what waits
---     IsFiled k r        what holds between all inner steps of a rebuild
+--     IsWellFiled k r        what holds between all inner steps of a rebuild
 --     WaitsOn r q        from r to q no node is filed anew, and what waited stands first
 --     UnitesFiled        a union by an entry, and the nodes over each class that changed wait
 --     SettlesFiled       acts, and no turn, until each listed symmetry is aligned
@@ -28,7 +28,7 @@ pub record IsKeyed (e : Filing) : Type 0 where
   pub numbers : keys e.1 ≡ keys (shape e.0).1
 
 -- the state is sane, classes by their canonical shapes stand in the order of their ids, and each filed key is a shape
-pub record IsFiled (k : Kept) (r : Rows) : Type 0 where
+pub record IsWellFiled (k : Kept) (r : Rows) : Type 0 where
   pub stored : Stored k
   pub canonical : k.rows ≡ rows_from 0 k.classes
   pub count : length r.filed ≡ length k.classes
@@ -51,7 +51,7 @@ pub record UnitesFiled (p : ℕ) (k : Kept) (r : Rows) (l : Kept) (q : Rows) : T
 -- acts, and no turn, lead from one to the other, whose symmetries are all known to be aligned
 pub record SettlesFiled (k : Kept) (r : Rows) (l : Kept) (q : Rows) : Type 0 where
   pub runs : Runs (state_in k r) 0 (state_in l q)
-  pub filed : IsFiled l q
+  pub filed : IsWellFiled l q
   pub settled : l.dropped ≡ false
   pub grows : Grows k l
   pub waits : WaitsOn r q

@@ -4,7 +4,7 @@
 --     IsNodeOf           the node of a class in normal form, with its shape as key
 --     TakesTurns         turns lead from one to the other
 --     Rebuilds           turns and acts, at least as many turns as are counted, until nothing is left to do
-use Rattle.std.specs.Prelude.{◌≡◌, ◌≢◌, ◌∷◌, ℕ, ◌<◌, ◌≤◌, List, Contains}
+use Rattle.std.specs.Prelude.{◌≡◌, ℕ, ◌<◌, ◌≤◌, List, Contains, Some, slice_get}
 use Rattle.slotted_model.specs.Find.{used_slots}
 use Rattle.slotted_model.specs.Ascending.{names}
 use Rattle.slotted_model.specs.Rebuild.{Runs, Turn, HasNothingLeft, IsCovered, IsCongruence}
@@ -17,11 +17,11 @@ use Rattle.slotted_filing.specs.FiledRows.{Rows}
 use Rattle.slotted_unions.specs.Proving.{OnlyProves}
 use Rattle.slotted_unions.specs.StateOf.{state_of}
 use Rattle.slotted_unions.specs.Stored.{Grows}
-use Rattle.slotted_rebuilding.specs.Filed.{state_in, IsFiled, WaitsOn}
+use Rattle.slotted_rebuilding.specs.Filed.{state_in, IsWellFiled, WaitsOn}
 
 -- the class is the first one that waits
 abbrev pub IsFirst : Rows → ℕ → Type 0
-IsFirst r o = (rest : List ℕ) × (r.waiting ≡ o ∷ rest)
+IsFirst r o = slice_get r.waiting 0 ≡ Some o
 
 -- the node of the class o in normal form lacks a slot that the class uses
 abbrev pub LacksSlot : Kept → ℕ → Type 0
@@ -35,7 +35,7 @@ pub record ProvesCongruence (k l : Kept) (i j p : ℕ) : Type 0 where
 -- one turn of the class, by which the size fell
 pub record NarrowsOnce (k : Kept) (r : Rows) (l : Kept) (q : Rows) : Type 0 where
   pub turn : Turn (state_in k r) (state_in l q)
-  pub filed : IsFiled l q
+  pub filed : IsWellFiled l q
   pub grows : Grows k l
   pub waits : WaitsOn r q
   pub smaller : size (state_of l) < size (state_of k)
@@ -44,7 +44,7 @@ pub record NarrowsOnce (k : Kept) (r : Rows) (l : Kept) (q : Rows) : Type 0 wher
 pub record NarrowsTo (k : Kept) (r : Rows) (o : ℕ) (l : Kept) (q : Rows) (key : Form) (slots : List (ℕ × ℕ)) : Type 0 where
   pub turns : ℕ
   pub runs : Runs (state_in k r) turns (state_in l q)
-  pub filed : IsFiled l q
+  pub filed : IsWellFiled l q
   pub grows : Grows k l
   pub waits : WaitsOn r q
   pub node : IsFoundNode l o key slots
@@ -55,7 +55,7 @@ pub record TakesTurns (k : Kept) (r : Rows) (l : Kept) (q : Rows) : Type 0 where
   pub turns : ℕ
   pub some : 0 < turns
   pub runs : Runs (state_in k r) turns (state_in l q)
-  pub filed : IsFiled l q
+  pub filed : IsWellFiled l q
   pub grows : Grows k l
 
 -- turns, at least as many as are counted, and acts lead from one to the other, where nothing is left to do
@@ -63,6 +63,6 @@ pub record Rebuilds (k : Kept) (r : Rows) (l : Kept) (q : Rows) (counted : ℕ) 
   pub turns : ℕ
   pub at_least : counted ≤ turns
   pub runs : Runs (state_in k r) turns (state_in l q)
-  pub filed : IsFiled l q
+  pub filed : IsWellFiled l q
   pub grows : Grows k l
   pub nothing_left : HasNothingLeft (state_in l q)

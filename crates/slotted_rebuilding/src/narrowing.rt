@@ -6,7 +6,7 @@ ghost use Rattle.slotted_normal_forms.specs.FoundNodes.{IsFoundNode, finds_of};
 ghost use Rattle.slotted_normal_forms.specs.Sides.{HaveOneShape};
 ghost use Rattle.slotted_store.specs.Finding.{HasFinds};
 ghost use Rattle.slotted_rebuilding.specs.Causes.{HasLargeClass};
-ghost use Rattle.slotted_rebuilding.specs.Filed.{IsFiled};
+ghost use Rattle.slotted_rebuilding.specs.Filed.{IsWellFiled};
 ghost use Rattle.slotted_rebuilding.specs.Turns.{IsFirst, LacksSlot, NarrowsOnce, NarrowsTo, ProvesCongruence};
 
 use crate::uniting::unite;
@@ -50,7 +50,8 @@ pub fn twin_proof<L: Language>(
     right: usize,
     others: &SlotMap,
 ) -> Result<ProvenEq, Error>
-    requires good { IsWellKept store.old }
+    requires good { Stored store.old }
+    requires canonical { store.old.rows ≡ rows_from 0 store.old.classes }
     requires left { left < length store.old.classes }
     requires right { right < length store.old.classes }
     requires shape { HaveOneShape store.old left names.now right others.now }
@@ -70,7 +71,7 @@ fn narrow<L: Language>(
     class: usize,
     names: &SlotMap,
 ) -> Result<(), Error>
-    requires good { IsFiled store.old nodes.old }
+    requires good { IsWellFiled store.old nodes.old }
     requires first { IsFirst nodes.old class }
     requires node { (f : Form) × IsFoundNode store.old class f names.now }
     requires lacks { LacksSlot store.old class }
@@ -89,7 +90,7 @@ pub fn narrowed<L: Language>(
     alloc: Global,
     class: usize,
 ) -> Result<FoundNode<L>, Error>
-    requires good { IsFiled store.old nodes.old }
+    requires good { IsWellFiled store.old nodes.old }
     requires first { IsFirst nodes.old class }
     ensures ok { IfOk result (λ n. NarrowsTo store.old nodes.old class store.new nodes.new (L.form n.key) n.names) }
     ensures full { IsErrOf result Error.OutOfSlots → HasLargeClass store.old }

@@ -2,7 +2,7 @@
 ghost use Rattle.std.specs.Prelude.{IfOk, IfErr, IsErrOf};
 ghost use Rattle.slotted_slots.specs.Error.{IsShortage};
 ghost use Rattle.slotted_rebuilding.specs.Causes.{HasLargeClass};
-ghost use Rattle.slotted_rebuilding.specs.Filed.{IsFiled};
+ghost use Rattle.slotted_rebuilding.specs.Filed.{IsWellFiled};
 ghost use Rattle.slotted_rebuilding.specs.Turns.{Rebuilds};
 
 use crate::settling::settle_all;
@@ -20,7 +20,7 @@ pub fn rebuild<L: Language>(
     nodes: &mut Hashcons<L>,
     alloc: Global,
 ) -> Result<usize, Error>
-    requires good { IsFiled store.old nodes.old }
+    requires good { IsWellFiled store.old nodes.old }
     ensures ok { IfOk result (Rebuilds store.old nodes.old store.new nodes.new) }
     ensures full { IsErrOf result Error.OutOfSlots → HasLargeClass store.old }
     ensures err { IfErr result IsShortage }

@@ -2,7 +2,7 @@
 ghost use Rattle.std.specs.Prelude.{IfErr, IsErrOf, OnOk};
 ghost use Rattle.slotted_slots.specs.Error.{IsShortage};
 ghost use Rattle.slotted_unions.specs.Settling.{HasLargeUnaligned};
-ghost use Rattle.slotted_rebuilding.specs.Filed.{IsFiled, SettlesFiled};
+ghost use Rattle.slotted_rebuilding.specs.Filed.{IsWellFiled, SettlesFiled};
 
 use crate::uniting::unite;
 use slotted_filing::Hashcons;
@@ -19,7 +19,7 @@ pub fn settle_all<L: Language>(
     nodes: &mut Hashcons<L>,
     alloc: Global,
 ) -> Result<(), Error>
-    requires good { IsFiled store.old nodes.old }
+    requires good { IsWellFiled store.old nodes.old }
     ensures ok { OnOk result (SettlesFiled store.old nodes.old store.new nodes.new) }
     ensures full { IsErrOf result Error.OutOfSlots → HasLargeUnaligned store.old }
     ensures err { IfErr result IsShortage }

@@ -4,7 +4,7 @@ ghost use Rattle.slotted_slots.specs.Error.{IsShortage};
 ghost use Rattle.slotted_filing.specs.Filed.{HasKey};
 ghost use Rattle.slotted_normal_forms.specs.FoundNodes.{IsFoundNode};
 ghost use Rattle.slotted_rebuilding.specs.Causes.{HasLargeClass};
-ghost use Rattle.slotted_rebuilding.specs.Filed.{IsFiled};
+ghost use Rattle.slotted_rebuilding.specs.Filed.{IsWellFiled};
 ghost use Rattle.slotted_rebuilding.specs.Turns.{IsFirst, TakesTurns};
 
 use crate::narrowing::{narrowed, twin_proof};
@@ -24,7 +24,7 @@ fn collision<L: Language>(
     names: &SlotMap,
     other: usize,
 ) -> Result<ProvenEq, Error>
-    requires good { IsFiled store.old nodes.now }
+    requires good { IsWellFiled store.old nodes.now }
     requires within { class < length store.old.classes }
     requires shape { (f : Form) × IsFoundNode store.old class f names.now × HasKey nodes.now.filed other f }
     ensures ok { IfOk result (ProvesCongruence store.old store.new class other) }
@@ -46,7 +46,7 @@ fn collide<L: Language>(
     names: &SlotMap,
     other: usize,
 ) -> Result<(), Error>
-    requires good { IsFiled store.old nodes.old }
+    requires good { IsWellFiled store.old nodes.old }
     requires first { IsFirst nodes.old class }
     requires shape { (f : Form) × IsFoundNode store.old class f names.now × HasKey nodes.old.filed other f }
     requires different { other ≢ class }
@@ -68,7 +68,7 @@ pub fn take_turn<L: Language>(
     alloc: Global,
     class: usize,
 ) -> Result<(), Error>
-    requires good { IsFiled store.old nodes.old }
+    requires good { IsWellFiled store.old nodes.old }
     requires first { IsFirst nodes.old class }
     ensures ok { OnOk result (TakesTurns store.old nodes.old store.new nodes.new) }
     ensures full { IsErrOf result Error.OutOfSlots → HasLargeClass store.old }

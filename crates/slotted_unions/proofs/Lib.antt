@@ -14,3 +14,4 @@ pub mod AlikeSides
 pub mod JoinedIds
 pub mod LargeClasses
 pub mod JoinedClasses
+pub mod GrownRows

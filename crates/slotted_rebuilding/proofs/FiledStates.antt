@@ -1,0 +1,50 @@
+-- What is kept with its filed nodes, from step to step.
+use Rattle.std.proofs.Common.{◌≡◌, ℕ, ◌<◌, List, [], ◌++◌, Some, length, refl, ap, ◌∙◌, sym, subst, append_assoc}
+use Rattle.std.proofs.lemmas.List.{append-nil}
+use Rattle.std.specs.Prelude.{slice_get}
+use Rattle.slotted_model.specs.Changes.{HasUnited, Unites}
+use Rattle.slotted_model.specs.State.{HasTouched}
+use Rattle.slotted_model.proofs.Unions.{unites}
+use Rattle.slotted_store.specs.Kept.{Kept}
+use Rattle.slotted_store.proofs.KeptLists.{length-proofs_of}
+use Rattle.slotted_filing.specs.Filed.{filed_of}
+use Rattle.slotted_filing.proofs.Places.{at-append_left}
+use Rattle.slotted_filing.specs.FiledRows.{Rows, rows_in, rows_state}
+use Rattle.slotted_unions.specs.StateOf.{state_with}
+use Rattle.slotted_unions.proofs.GrownRows.{grown-rows, grown-count}
+use Rattle.slotted_rebuilding.specs.Filed.{state_in, IsWellFiled, WaitsOn, UnitesFiled}
+use Rattle.slotted_rebuilding.specs.Turns.{IsFirst}
+
+-- which classes wait is told by the rows alone
+pub touched-in : (k : Kept) (r : Rows) (c : ℕ) (w : List ℕ) → HasTouched (rows_state r) c w → HasTouched (state_in k r) c w
+touched-in k r c w t = record { once = t.once; kept = t.kept; over = t.over; from = t.from }
+
+-- where nothing is filed anew, the rows are the same
+pub same-rows : (k : Kept) (r q : Rows) → WaitsOn r q → state_in k q ≡ state_with k (rows_in r.filed) q.waiting
+same-rows k r q w = ap (λ v. state_with k (rows_in v) q.waiting) w.same
+
+pub waits-nothing : (r : Rows) → WaitsOn r r
+waits-nothing r = record { same = refl; more = []; waits = sym (append-nil r.waiting) }
+
+pub waits-then : (r q s : Rows) → WaitsOn r q → WaitsOn q s → WaitsOn r s
+waits-then r q s a b = record {
+  same = b.same ∙ a.same;
+  more = a.more ++ b.more;
+  waits = b.waits ∙ (ap (λ w. w ++ b.more) a.waits ∙ append_assoc r.waiting a.more b.more);
+}
+
+-- who is first stays first
+pub first-still : (r q : Rows) (o : ℕ) → WaitsOn r q → IsFirst r o → IsFirst q o
+first-still r q o w f = subst (λ x. slice_get x 0 ≡ Some o) (sym w.waits) (at-append_left r.waiting w.more 0 o f)
+
+-- what a union leaves is well filed
+pub united-well : (p : ℕ) (k : Kept) (r : Rows) (l : Kept) (q : Rows) → IsWellFiled k r → p < length k.proofs → UnitesFiled p k r l q → IsWellFiled l q
+united-well p k r l q well within u =
+    let h : HasUnited p (state_in k r) (state_in l q) = unites p u.unites well.sane (subst (λ n. p < n) (sym (length-proofs_of k)) within) in
+    record {
+      stored = u.stored;
+      canonical = grown-rows k l u.grows well.canonical;
+      count = ap length u.waits.same ∙ (well.count ∙ sym (grown-count k l u.grows));
+      sane = h.sane;
+      keyed = λ i e f. well.keyed i e (subst (λ v. filed_of v i ≡ Some e) u.waits.same f);
+    }
