@@ -4,7 +4,7 @@ ghost use Rattle.slotted_slots.specs.Error.{IsOutOfMemory};
 ghost use Rattle.slotted_model.specs.Correspondence.{AllDifferent};
 ghost use Rattle.slotted_model.specs.State.{HasTouched};
 ghost use Rattle.slotted_filing.specs.Filed.{filed_of, HasKey, IsNewKey, HasKeysOnce};
-ghost use Rattle.slotted_filing.specs.FiledRows.{rows_state, IsNewToOthers, HasChildrenBelow, TakesTurn};
+ghost use Rattle.slotted_filing.specs.FiledRows.{rows_state, IsFiled, IsNewToOthers, HasChildrenBelow, TakesTurn};
 ghost use Rattle.slotted_rebuilding.specs.Filed.{WaitsOn};
 
 use slotted_filing::{NodeIndex, Worklist};
@@ -46,6 +46,7 @@ impl<L: Language> Hashcons<L> {
     pub fn front(&self) -> Option<usize>
         ensures front { result ≡ slice_get self.now.waiting 0 }
         ensures once { AllDifferent self.now.waiting }
+        ensures filed { (i : ℕ) → Contains self.now.waiting i → IsFiled self.now.filed i }
     {
         self.waiting.front()
     }
