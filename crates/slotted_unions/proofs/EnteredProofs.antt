@@ -11,6 +11,7 @@ use Rattle.slotted_model.specs.Correspondence.{composite}
 use Rattle.slotted_model.specs.ProofList.{Equation, ProofEntry, explicit, IsOver, turned_equation}
 use Rattle.slotted_model.specs.Changes.{ProofsGrow, StandsAt}
 use Rattle.slotted_model.specs.Changes as model
+use Rattle.slotted_model.specs.State.{Row}
 use Rattle.slotted_model.proofs.GrowingLists.{proofs-sane}
 use Rattle.slotted_proofs.specs.Equations.{Statement, Meets, IsWritten}
 use Rattle.slotted_proofs.specs.declared.equation.Equation.{Equation as Sides}
@@ -23,7 +24,7 @@ use Rattle.slotted_store.specs.Finding.{HasFinds}
 use Rattle.slotted_store.specs.Kept.{Kept, nodes_of, entries_of, proofs_of, with_proofs, EntersIn, HasManySlots}
 use Rattle.slotted_store.proofs.KeptLists.{equation_at-of, length-nodes_of, length-proofs_of}
 use Rattle.slotted_unions.specs.Proving.{OnlyProves, Proves, HasLargeClassOf}
-use Rattle.slotted_unions.specs.StateOf.{state_of}
+use Rattle.slotted_unions.specs.StateOf.{state_of, state_with}
 use Rattle.slotted_unions.specs.Stored.{Stored, Grows, IsOverOneClass}
 
 -- finds can be followed
@@ -121,14 +122,14 @@ module _ (k l : Kept) (only : OnlyProves k l) where
   pub only-proofs : l.proofs ≡ k.proofs ++ only.more
   only-proofs = ap (λ (x : Kept). x.proofs) only.kept ∙ only.grows
 
-  -- the state has another proof list
-  pub only-state : state_of l ≡ model.with_proofs (state_of k) (proofs_of l)
-  only-state = λ i. record {
+  -- the state has another proof list, whatever rows there are and whatever waits
+  pub only-state : (rows : List Row) (w : List ℕ) → state_with l rows w ≡ model.with_proofs (state_with k rows w) (proofs_of l)
+  only-state rows w = λ i. record {
     nodes = nodes_of (only.kept i);
     found = entries_of (only.kept i);
     proofs = proofs_of l;
-    rows = [];
-    waiting = [];
+    rows = rows;
+    waiting = w;
     symmetries = (state_of (only.kept i)).symmetries;
   }
 

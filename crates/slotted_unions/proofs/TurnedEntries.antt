@@ -1,7 +1,7 @@
 -- An entry of two live classes turned round: it is one of live classes too, and what its left class does, the right one of
 -- the entry does.
 use Rattle.std.proofs.Common.{◌≡◌, ℕ, ◌<◌, List, length, sym, ap, refl, subst, inl, inr}
-use Rattle.std.specs.Prelude.{Contains, Bool, true, false}
+use Rattle.std.specs.Prelude.{Contains, Bool, true, false, Some, None}
 use Rattle.std.specs.Map.{keys_of, values_of}
 use Rattle.std.proofs.lemmas.Bool.{false≢true}
 use Rattle.slotted_model.specs.Classes.{canonical_slots}
@@ -96,15 +96,23 @@ module _ (k : Kept) (stored : Stored k) (q : ℕ) (h : q < length k.proofs) (liv
     turned-all all = subst (PairsAll (state_of m)) (sym proves.equation)
         (still-pairs_all k m back proves.only (back-all all))
 
-    -- the right class drops slots, or neither does
-    pub turned-drops : PairsLeft k e → (l : Kept) (b : Bool) → DropsLeft m l (equation_in m t) b → DropsSide k l e b
-    turned-drops left l true d = inr (record {
-      middle = m;
-      only = proves.only;
-      pairs_left = left;
-      dropped = subst (HasDropped m l) proves.equation d;
-    })
-    turned-drops left l false d =
+    -- the right class drops slots
+    pub turned-drops : PairsLeft k e → (l : Kept) (b : Bool) → b ≡ true → DropsLeft m l (equation_in m t) b → (c : ℕ) → c ≡ e.right → DropsSide k l e (Some c)
+    turned-drops left l false h d c same = absurd (false≢true h)
+    turned-drops left l true h d c same = inr (
+      same,
+      record {
+        middle = m;
+        only = proves.only;
+        pairs_left = left;
+        dropped = subst (HasDropped m l) proves.equation d;
+      },
+    )
+
+    -- neither does
+    pub turned-keeps : PairsLeft k e → (l : Kept) (b : Bool) → b ≡ false → DropsLeft m l (equation_in m t) b → DropsSide k l e None
+    turned-keeps left l true h d = absurd (false≢true (sym h))
+    turned-keeps left l false h d =
         let right : PairsLeft m back = subst (PairsLeft m) proves.equation d.1 in
         let before : PairsLeft k back =
         subst (λ es. (s : ℕ) → Contains (used_slots es back.left) s → Contains (keys_of back.pairs) s)
@@ -116,18 +124,26 @@ module _ (k : Kept) (stored : Stored k) (q : ℕ) (h : q < length k.proofs) (liv
         }
 
     -- the right class dies
-    pub turned-links : (l : Kept) → HasLinked m l (equation_in m t) t → LinksEither k l e
-    turned-links l linked = inr (record {
-      middle = m;
-      only = proves.only;
-      number = t;
-      stands = proves-stands k m back t proves;
-      linked = subst (λ x. HasLinked m l x t) proves.equation linked;
-    })
+    pub turned-links : (l : Kept) → HasLinked m l (equation_in m t) t → (c : ℕ) → c ≡ e.right → LinksEither k l e c
+    turned-links l linked c same = inr (
+      same,
+      record {
+        middle = m;
+        only = proves.only;
+        number = t;
+        stands = proves-stands k m back t proves;
+        linked = subst (λ x. HasLinked m l x t) proves.equation linked;
+      },
+    )
 
   -- the left class dies
-  pub left-links : (l : Kept) → HasLinked k l e q → LinksEither k l e
-  left-links l linked = inl (q, stands-at k e q h refl, linked)
+  pub left-links : (l : Kept) → HasLinked k l e q → (c : ℕ) → c ≡ e.left → LinksEither k l e c
+  left-links l linked c same = inl (same, (q, stands-at k e q h refl, linked))
+
+  -- the left class drops slots
+  pub left-drops : (l : Kept) (b : Bool) → b ≡ true → DropsLeft k l e b → (c : ℕ) → c ≡ e.left → DropsSide k l e (Some c)
+  left-drops l false f d c same = absurd (false≢true f)
+  left-drops l true f d c same = inl (same, d)
 
   -- where no slot was dropped on the left, nothing has changed
   module _ (l : Kept) (b : Bool) (no : b ≡ false) (drops : DropsLeft k l e b) where
@@ -145,5 +161,8 @@ module _ (k : Kept) (stored : Stored k) (q : ℕ) (h : q < length k.proofs) (liv
       pub after-live : IsOfLive m (equation_in m t)
       after-live = turned-live m t same
 
-      pub after-drops : (n : Kept) (c : Bool) → DropsLeft m n (equation_in m t) c → DropsSide k n e c
+      pub after-drops : (n : Kept) (d : Bool) → d ≡ true → DropsLeft m n (equation_in m t) d → (c : ℕ) → c ≡ e.right → DropsSide k n e (Some c)
       after-drops = turned-drops m t same (none-dropped k l e b no drops).1
+
+      pub after-keeps : (n : Kept) (d : Bool) → d ≡ false → DropsLeft m n (equation_in m t) d → DropsSide k n e None
+      after-keeps = turned-keeps m t same (none-dropped k l e b no drops).1

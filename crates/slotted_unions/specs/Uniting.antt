@@ -5,21 +5,25 @@
 --     HasListed k l e      the equation is listed as a symmetry
 --     DropsSide, LinksEither, ActsOn     what a step of a union does, on either side
 --     UnitesBy p k l       the union by the entry p leads from k to l
-use Rattle.std.specs.Prelude.{◌≡◌, ◌≢◌, ◌⊎◌, ℕ, [], Contains, Bool, true, false}
+--     StepsBy p k l step   so does one step of it, whatever rows there are and whatever waits
+use Rattle.std.specs.Prelude.{◌≡◌, ◌≢◌, ◌⊎◌, ◌<◌, ℕ, List, [], length, Contains, Bool, true, false, Option, Some, None}
 use Rattle.std.specs.Map.{keys_of, values_of}
 use Rattle.slotted_model.specs.Applied.{Applied}
 use Rattle.slotted_model.specs.Changes.{Unites, PairsAll, IsSymmetryOf, StandsAt, dropped_state, linked_state, with_symmetry, symmetry_of}
 use Rattle.slotted_model.specs.Classes.{canonical_slots}
 use Rattle.slotted_model.specs.Correspondence.{turned, identity}
-use Rattle.slotted_model.specs.Find.{IsLive, used_slots}
+use Rattle.slotted_model.specs.Find.{IsLive, find_class, used_slots}
 use Rattle.slotted_model.specs.Link.{kept_equation}
 use Rattle.slotted_model.specs.ProofList.{Equation, turned_equation}
-use Rattle.slotted_model.specs.State.{Symmetry}
+use Rattle.slotted_model.specs.Rest.{size}
+use Rattle.slotted_model.specs.State.{State, Symmetry, Row, HasTouched}
 use Rattle.slotted_proofs.specs.Entries.{statement_at}
 use Rattle.slotted_store.specs.declared.store.Symmetry.{Symmetry as SymmetryOfCode}
 use Rattle.slotted_store.specs.Kept.{Kept, nodes_of, entries_of, symmetry_entry}
 use Rattle.slotted_unions.specs.Proving.{OnlyProves}
-use Rattle.slotted_unions.specs.StateOf.{state_of, symmetry_of_entry}
+use Rattle.slotted_unions.specs.declared.uniting.UnionStep.{UnionStep}
+use Rattle.slotted_unions.specs.declared.uniting.UnionStep.TheVariants.{Done, Dropped, Linked}
+use Rattle.slotted_unions.specs.StateOf.{state_of, state_with, symmetry_of_entry}
 use Rattle.slotted_unions.specs.Stored.{Stored, Grows, IsOverOneClass}
 
 -- the equation of an entry
@@ -91,9 +95,10 @@ pub record DropsNothing (k l : Kept) (e : Equation) : Type 0 where
   pub only : OnlyProves k l
   pub pairs_all : PairsAll (state_of l) e
 
-abbrev pub DropsSide : Kept → Kept → Equation → Bool → Type 0
-DropsSide k l e true = HasDropped k l e ⊎ DropsRight k l e
-DropsSide k l e false = DropsNothing k l e
+-- which class did, if one did
+abbrev pub DropsSide : Kept → Kept → Equation → Option ℕ → Type 0
+DropsSide k l e (Some c) = ((c ≡ e.left) × HasDropped k l e) ⊎ ((c ≡ e.right) × DropsRight k l e)
+DropsSide k l e None = DropsNothing k l e
 
 -- what the left class of the equation leads to once it is dead
 abbrev pub heir_in : Kept → Equation → Applied
@@ -107,8 +112,12 @@ pub record LinksTurned (k l : Kept) (e : Equation) : Type 0 where
   pub stands : StandsAt (state_of middle) number (turned_equation (nodes_of k) e)
   pub linked : HasLinked middle l (turned_equation (nodes_of k) e) number
 
-abbrev pub LinksEither : Kept → Kept → Equation → Type 0
-LinksEither k l e = ((n : ℕ) × StandsAt (state_of k) n e × HasLinked k l e n) ⊎ LinksTurned k l e
+abbrev pub LinksLeft : Kept → Kept → Equation → Type 0
+LinksLeft k l e = (n : ℕ) × StandsAt (state_of k) n e × HasLinked k l e n
+
+-- the class c has died, the left or the right one
+abbrev pub LinksEither : Kept → Kept → Equation → ℕ → Type 0
+LinksEither k l e c = ((c ≡ e.left) × LinksLeft k l e) ⊎ ((c ≡ e.right) × LinksTurned k l e)
 
 -- the symmetry of the code says what the entry q says of its class
 pub record IsSymmetryBy (k : Kept) (q : ℕ) (y : SymmetryOfCode) : Type 0 where
@@ -124,5 +133,36 @@ abbrev pub SaysNothing : Kept → Equation → Type 0
 SaysNothing k e = (e.left ≡ e.right) × (e.pairs ≡ identity (used_slots (entries_of k) e.left))
 
 -- of two classes one has died; of one class a symmetry is listed
-abbrev pub ActsOn : Kept → Kept → Equation → ℕ → Type 0
-ActsOn k l e q = ((e.left ≢ e.right) × LinksEither k l e) ⊎ ((e.left ≡ e.right) × ListsOnce k l e q)
+abbrev pub ActsOn : Kept → Kept → Equation → ℕ → UnionStep → Type 0
+ActsOn k l e q Done = (e.left ≡ e.right) × ListsOnce k l e q
+ActsOn k l e q (Dropped c) = ⊥
+ActsOn k l e q (Linked c) = (e.left ≢ e.right) × LinksEither k l e c
+
+-- the union is done, and no class has changed
+abbrev pub IsDone : ℕ → Kept → Kept → Type 0
+IsDone p k l = (rows : List Row) (w : List ℕ) → Unites p (state_with k rows w) (state_with l rows w)
+
+-- the class c has died, and the union is done once the rows over the class wait
+pub record HasDied (p : ℕ) (k l : Kept) (c : ℕ) : Type 0 where
+  pub in_range : c < length k.classes
+  pub unites : (rows : List Row) (w v : List ℕ) → HasTouched (state_with k rows w) c v → Unites p (state_with k rows w) (state_with l rows v)
+
+-- the class c has lost slots, and the union goes on once the rows over the class wait; each class finds the class that it found
+pub record HasLost (p : ℕ) (k l : Kept) (c : ℕ) : Type 0 where
+  pub in_range : c < length k.classes
+  pub goes_on : (rows : List Row) (w v : List ℕ) (h : State) → HasTouched (state_with k rows w) c v → Unites p (state_with l rows v) h → Unites p (state_with k rows w) h
+  pub smaller : size (state_of l) < size (state_of k)
+  pub finds : (i : ℕ) → i < length k.classes → find_class (entries_of l) i ≡ find_class (entries_of k) i
+
+-- what a step did
+abbrev pub IsStep : ℕ → Kept → Kept → UnionStep → Type 0
+IsStep p k l Done = IsDone p k l
+IsStep p k l (Dropped c) = HasLost p k l c
+IsStep p k l (Linked c) = HasDied p k l c
+
+-- a step of the union by the entry p leads from k to l
+pub record StepsBy (p : ℕ) (k l : Kept) (step : UnionStep) : Type 0 where
+  pub did : IsStep p k l step
+  pub stored : Stored l
+  pub grows : Grows k l
+  pub within : p < length l.proofs

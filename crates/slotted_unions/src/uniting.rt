@@ -5,7 +5,7 @@ ghost use Rattle.slotted_model.specs.Changes.{PairsAll, found_entry};
 ghost use Rattle.slotted_unions.specs.Proving.{HasLargeSide};
 ghost use Rattle.slotted_unions.specs.StateOf.{state_of};
 ghost use Rattle.slotted_unions.specs.Stored.{Stored};
-ghost use Rattle.slotted_unions.specs.Uniting.{ActsOn, DropsSide, LinksEither, SaysNothing, UnitesBy, IsOfLive, equation_in};
+ghost use Rattle.slotted_unions.specs.Uniting.{ActsOn, DropsSide, LinksEither, SaysNothing, StepsBy, UnitesBy, IsOfLive, equation_in};
 
 use crate::dropping::drop_left;
 use crate::linking::link;
@@ -17,6 +17,17 @@ use slotted_slots::Error;
 use slotted_store::Store;
 use std::alloc::Global;
 
+/// What one step of a union did.
+#[derive(Clone, Copy)]
+pub enum UnionStep {
+    /// Nothing is left to do, and no class has changed.
+    Done,
+    /// This class lost slots, and the union goes on.
+    Dropped(usize),
+    /// This class died, and the union is done.
+    Linked(usize),
+}
+
 /// Whether the two sides of an entry find alike. It takes no memory.
 pub fn sides_find_alike<L: Language>(store: &Store<L>, p: ProvenEq) -> bool
     requires good { Stored store.now }
@@ -27,8 +38,12 @@ pub fn sides_find_alike<L: Language>(store: &Store<L>, p: ProvenEq) -> bool
     store.eq(&equation.l, &equation.r)
 }
 
-// Of the two classes of an entry or else of the entry turned round the left one drops the slots without a partner.
-fn drop_either<L: Language>(store: &mut Store<L>, alloc: Global, q: ProvenEq) -> Result<bool, Error>
+// Of the two classes of an entry or else of the entry turned round the left one drops the slots without a partner. Answers this class.
+fn drop_either<L: Language>(
+    store: &mut Store<L>,
+    alloc: Global,
+    q: ProvenEq,
+) -> Result<Option<usize>, Error>
     requires good { Stored store.old }
     requires within { q < length store.old.proofs }
     requires live { IsOfLive store.old (equation_in store.old q) }
@@ -36,11 +51,16 @@ fn drop_either<L: Language>(store: &mut Store<L>, alloc: Global, q: ProvenEq) ->
     ensures full { IsErrOf result Error.OutOfSlots → HasLargeSide store.old (equation_in store.old q) }
     ensures err { IfErr result IsShortage }
 {
+    let equation = store.proofs().equ(q);
+    let (left, right) = (equation.l.id.0, equation.r.id.0);
     if drop_left(store, alloc, q)? {
-        return Ok(true);
+        return Ok(Some(left));
     }
     let turned = store.turn(alloc, q)?;
-    drop_left(store, alloc, turned)
+    if drop_left(store, alloc, turned)? {
+        return Ok(Some(right));
+    }
+    Ok(None)
 }
 
 // Whether the left class of an entry is the one that dies: the one with more canonical slots, and of two with as many the lighter one.
@@ -55,42 +75,72 @@ fn left_dies<L: Language>(store: &Store<L>, q: ProvenEq) -> bool
     store.weight(equation.l.id.0) <= store.weight(equation.r.id.0)
 }
 
-// One of the two classes of an entry dies and leads to the other.
-fn link_either<L: Language>(store: &mut Store<L>, alloc: Global, q: ProvenEq) -> Result<(), Error>
+// One of the two classes of an entry dies and leads to the other. Answers the one that died.
+fn link_either<L: Language>(
+    store: &mut Store<L>,
+    alloc: Global,
+    q: ProvenEq,
+) -> Result<usize, Error>
     requires good { Stored store.old }
     requires within { q < length store.old.proofs }
     requires live { IsOfLive store.old (equation_in store.old q) }
     requires different { (equation_in store.old q).left ≢ (equation_in store.old q).right }
     requires pairs_all { PairsAll (state_of store.old) (equation_in store.old q) }
-    ensures ok { OnOk result (LinksEither store.old store.new (equation_in store.old q)) }
+    ensures ok { IfOk result (LinksEither store.old store.new (equation_in store.old q)) }
     ensures full { IsErrOf result Error.OutOfSlots → HasLargeSide store.old (equation_in store.old q) }
     ensures err { IfErr result IsShortage }
 {
+    let equation = store.proofs().equ(q);
+    let (left, right) = (equation.l.id.0, equation.r.id.0);
     if left_dies(store, q) {
         link(store, alloc, q)?;
-        return Ok(());
+        return Ok(left);
     }
     let turned = store.turn(alloc, q)?;
     link(store, alloc, turned)?;
-    Ok(())
+    Ok(right)
 }
 
 // What an entry says of two live classes, each slot of which has a partner, is acted on.
-fn act_on<L: Language>(store: &mut Store<L>, alloc: Global, q: ProvenEq) -> Result<(), Error>
+fn act_on<L: Language>(store: &mut Store<L>, alloc: Global, q: ProvenEq) -> Result<UnionStep, Error>
     requires good { Stored store.old }
     requires within { q < length store.old.proofs }
     requires live { IsOfLive store.old (equation_in store.old q) }
     requires pairs_all { PairsAll (state_of store.old) (equation_in store.old q) }
     requires moves { ¬ SaysNothing store.old (equation_in store.old q) }
-    ensures ok { OnOk result (ActsOn store.old store.new (equation_in store.old q) q) }
+    ensures ok { IfOk result (ActsOn store.old store.new (equation_in store.old q) q) }
     ensures full { IsErrOf result Error.OutOfSlots → HasLargeSide store.old (equation_in store.old q) }
     ensures err { IfErr result IsShortage }
 {
     let equation = store.proofs().equ(q);
     if equation.l.id.0 == equation.r.id.0 {
-        return list_once(store, alloc, q);
+        list_once(store, alloc, q)?;
+        return Ok(UnionStep::Done);
     }
-    link_either(store, alloc, q)
+    let dead = link_either(store, alloc, q)?;
+    Ok(UnionStep::Linked(dead))
+}
+
+/// One step of a union by an entry. Where a class changes, the caller has the rows over this class wait before the next step.
+pub fn unite_once<L: Language>(
+    store: &mut Store<L>,
+    alloc: Global,
+    p: ProvenEq,
+) -> Result<UnionStep, Error>
+    requires good { Stored store.old }
+    requires within { p < length store.old.proofs }
+    ensures ok { IfOk result (StepsBy p store.old store.new) }
+    ensures full { IsErrOf result Error.OutOfSlots → HasLargeSide store.old (equation_in store.old p) }
+    ensures err { IfErr result IsShortage }
+{
+    if sides_find_alike(store, p) {
+        return Ok(UnionStep::Done);
+    }
+    let q = found_proof(store, alloc, p)?;
+    if let Some(class) = drop_either(store, alloc, q)? {
+        return Ok(UnionStep::Dropped(class));
+    }
+    act_on(store, alloc, q)
 }
 
 /// What an entry says of the classes that its sides find holds from now on, up to listed symmetries.
@@ -101,12 +151,8 @@ pub fn unite<L: Language>(store: &mut Store<L>, alloc: Global, p: ProvenEq) -> R
     ensures full { IsErrOf result Error.OutOfSlots → HasLargeSide store.old (equation_in store.old p) }
     ensures err { IfErr result IsShortage }
 {
-    if sides_find_alike(store, p) {
-        return Ok(());
+    match unite_once(store, alloc, p)? {
+        UnionStep::Dropped(_) => unite(store, alloc, p),
+        _ => Ok(()),
     }
-    let q = found_proof(store, alloc, p)?;
-    if drop_either(store, alloc, q)? {
-        return unite(store, alloc, p);
-    }
-    act_on(store, alloc, q)
 }

@@ -1,7 +1,6 @@
 use Rattle.std.proofs.Common.{rules}
-use Rattle.std.proofs.lemmas.Result.{IfOk-weaker}
-use Rattle.slotted_unions.specs.Uniting.{DropsLeft, DropsSide, equation_in}
-use Rattle.slotted_unions.proofs.TurnedEntries.{still-large, after-stored, after-live, after-drops}
+use Rattle.slotted_unions.proofs.EnteredProofs.{entry-left, entry-right}
+use Rattle.slotted_unions.proofs.TurnedEntries.{still-large, after-stored, after-live, left-drops, after-drops, after-keeps}
 use Rattle.slotted_unions.proofs.uniting.drop_either.Goals as goal
 
 pub returns-in_err-turned-clause-full : goal.returns-in_err-turned-clause-full
@@ -22,12 +21,23 @@ drop_left-requires-2-clause-live g c =
     c.in_ok-drop_left.field-0 c.if-branch.false c.in_ok-drop_left.ensures.ok
     c.turn.new.self c.in_ok-turned.turned c.in_ok-turned.ensures.ok
 
+pub returns-then-branch-clause-ok : goal.returns-then-branch-clause-ok
+returns-then-branch-clause-ok g c =
+    left-drops c.args.store.now c.requires.good c.args.q c.requires.within c.requires.live c.drop_left.new.store
+    c.in_ok-drop_left.field-0 c.if-branch.true c.in_ok-drop_left.ensures.ok
+    c.equ-equation.result.now.l.id.0 (entry-left c.args.store.now c.proofs.result.now c.args.q c.equ-equation.result.now c.proofs.ensures c.equ-equation.ensures)
+
+pub returns-then-branch-2-clause-ok : goal.returns-then-branch-2-clause-ok
+returns-then-branch-2-clause-ok g c =
+    after-drops c.args.store.now c.requires.good c.args.q c.requires.within c.requires.live c.drop_left.new.store
+    c.in_ok-drop_left.field-0 c.if-branch.false c.in_ok-drop_left.ensures.ok
+    c.turn.new.self c.in_ok-turned.turned c.in_ok-turned.ensures.ok c.drop_left-2.new.store
+    c.in_ok-drop_left-2.field-0 c.if-branch-2.true c.in_ok-drop_left-2.ensures.ok
+    c.equ-equation.result.now.r.id.0 (entry-right c.args.store.now c.proofs.result.now c.args.q c.equ-equation.result.now c.proofs.ensures c.equ-equation.ensures)
+
 pub returns-clause-ok : goal.returns-clause-ok
 returns-clause-ok g c =
-    IfOk-weaker c.drop_left-2.result
-    (DropsLeft c.turn.new.self c.drop_left-2.new.store (equation_in c.turn.new.self c.in_ok-turned.turned))
-    (DropsSide c.args.store.now c.drop_left-2.new.store (equation_in c.args.store.now c.args.q))
-    (after-drops c.args.store.now c.requires.good c.args.q c.requires.within c.requires.live c.drop_left.new.store
+    after-keeps c.args.store.now c.requires.good c.args.q c.requires.within c.requires.live c.drop_left.new.store
     c.in_ok-drop_left.field-0 c.if-branch.false c.in_ok-drop_left.ensures.ok
-    c.turn.new.self c.in_ok-turned.turned c.in_ok-turned.ensures.ok c.drop_left-2.new.store)
-    c.drop_left-2.ensures.ok
+    c.turn.new.self c.in_ok-turned.turned c.in_ok-turned.ensures.ok c.drop_left-2.new.store
+    c.in_ok-drop_left-2.field-0 c.if-branch-2.false c.in_ok-drop_left-2.ensures.ok
