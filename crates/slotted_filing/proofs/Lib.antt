@@ -2,3 +2,5 @@ pub mod Flags
 pub mod Places
 pub mod Indexed
 pub mod KeyedRows
+pub mod FiledRows
+pub mod KeyChildren
