@@ -1,7 +1,7 @@
 -- The rows of what is filed of each class, as classes come, and as nodes are filed, filed anew and taken out.
-use Rattle.std.proofs.Common.{◌≡◌, ◌≢◌, ◌∙◌, ◌<◌, ◌≤◌, ◌+◌, ℕ, zero, suc, List, [], ◌∷◌, ◌++◌, length, Option, Some, None, false, cond, map, ap, sym, refl, subst, inl, inr, arith}
-use Rattle.std.specs.Prelude.{Contains, filter, not, nat_eq, set, ◌⊎◌, ◌↔◌}
-use Rattle.std.proofs.lemmas.Bool.{cases_eq, eq-eqb, ne_eqb}
+use Rattle.std.proofs.Common.{◌≡◌, ◌≢◌, ◌∙◌, ◌<◌, ◌≤◌, ◌+◌, ℕ, zero, suc, List, [], ◌∷◌, ◌++◌, length, Option, Some, None, cond, ap, sym, refl, subst, inl, inr, arith}
+use Rattle.std.specs.Prelude.{Contains, not, nat_eq, set, ◌↔◌}
+use Rattle.std.proofs.lemmas.Bool.{eq-eqb, ne_eqb}
 use Rattle.std.proofs.lemmas.List.{map-append, append-nil, append_assoc}
 use Rattle.std.proofs.lemmas.List.Elements.{filter-append, Contains-append_left, Contains-append_right, Contains-append_cases}
 use Rattle.std.proofs.Math.Seq.{set-append_seam}

@@ -4,3 +4,4 @@ pub mod Indexed
 pub mod KeyedRows
 pub mod FiledRows
 pub mod KeyChildren
+pub mod Together

@@ -2,10 +2,12 @@
 //! a class.
 #![tactic(auto)]
 
+pub mod hashcons;
 pub mod index;
 pub mod usages;
 pub mod worklist;
 
+pub use hashcons::Hashcons;
 pub use index::NodeIndex;
 pub use usages::Usages;
 pub use worklist::Worklist;

@@ -1,4 +1,4 @@
-use Rattle.std.proofs.Common.{◌≡◌, ◌∙◌, ap, sym, [], ◌∷◌, ◌++◌, length, map, arith}
+use Rattle.std.proofs.Common.{◌∙◌, ap, sym, [], ◌∷◌, ◌++◌, length, map, arith}
 use Rattle.std.specs.Prelude.{set, slice_index_or}
 use Rattle.std.proofs.lemmas.List.{map-set, get_or-map, length-map, set-get_or}
 use Rattle.slotted_filing.proofs.Places.{on_err}
