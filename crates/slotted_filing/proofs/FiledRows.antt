@@ -1,7 +1,7 @@
 -- The rows of what is filed of each class, as classes come, and as nodes are filed, filed anew and taken out.
-use Rattle.std.proofs.Common.{◌≡◌, ◌≢◌, ◌∙◌, ◌<◌, ◌≤◌, ◌+◌, ℕ, zero, suc, List, [], ◌∷◌, ◌++◌, length, Option, Some, None, false, cond, map, ap, sym, refl, subst, inl, inr, arith}
-use Rattle.std.specs.Prelude.{Contains, filter, not, nat_eq, set, ◌⊎◌, ◌↔◌}
-use Rattle.std.proofs.lemmas.Bool.{cases_eq, eq-eqb, ne_eqb}
+use Rattle.std.proofs.Common.{◌≡◌, ◌≢◌, ◌∙◌, ◌<◌, ◌≤◌, ◌+◌, ℕ, zero, suc, List, [], ◌∷◌, ◌++◌, length, Option, Some, None, cond, ap, sym, refl, subst, inl, inr, arith}
+use Rattle.std.specs.Prelude.{Contains, not, nat_eq, set, ◌↔◌}
+use Rattle.std.proofs.lemmas.Bool.{eq-eqb, ne_eqb}
 use Rattle.std.proofs.lemmas.List.{map-append, append-nil, append_assoc}
 use Rattle.std.proofs.lemmas.List.Elements.{filter-append, Contains-append_left, Contains-append_right, Contains-append_cases}
 use Rattle.std.proofs.Math.Seq.{set-append_seam}
@@ -105,16 +105,15 @@ source-at_least j v i c =
     let e : i ≡ j + h.class = sym r.2 ∙ ap (λ (r : Row). r.source) h.is in
     omega (arith, e)
 
+different-with : (later : List ℕ) (j : ℕ) (x : Option Filing) → AllDifferent later → ((i : ℕ) → Contains later i → suc j ≤ i) → AllDifferent (later ++ sources (row_at j x))
+different-with later j None d h = subst AllDifferent (sym (append-nil later)) d
+different-with later j (Some e) d h = different-added later j d (λ c. let w = h j c in omega (arith, w))
+
 sources-different_from : (j : ℕ) (v : List (Option Filing)) → AllDifferent (sources (rows_from j v))
 sources-different_from j [] = tt
-sources-different_from j (x ∷ v) = subst AllDifferent (sym (map-append (λ (r : Row). r.source) (rows_from (suc j) v) (row_at j x))) (more x)
-  where
-    later : List ℕ
-    later = sources (rows_from (suc j) v)
-
-    more : (y : Option Filing) → AllDifferent (later ++ sources (row_at j y))
-    more None = subst AllDifferent (sym (append-nil later)) (sources-different_from (suc j) v)
-    more (Some e) = different-added later j (sources-different_from (suc j) v) (λ c. let w = source-at_least (suc j) v j c in omega (arith, w))
+sources-different_from j (x ∷ v) =
+    subst AllDifferent (sym (map-append (λ (r : Row). r.source) (rows_from (suc j) v) (row_at j x)))
+    (different-with (sources (rows_from (suc j) v)) j x (sources-different_from (suc j) v) (source-at_least (suc j) v))
 
 pub sources-different : (v : List (Option Filing)) → AllDifferent (sources (rows_in v))
 sources-different v = sources-different_from 0 v

@@ -32,7 +32,7 @@ flags-added flags q h = record {
 }
 
 -- a number at the end of a list that has it nowhere
-different-added : (q : List ℕ) (i : ℕ) → AllDifferent q → ¬ Contains q i → AllDifferent (q ++ i ∷ [])
+pub different-added : (q : List ℕ) (i : ℕ) → AllDifferent q → ¬ Contains q i → AllDifferent (q ++ i ∷ [])
 different-added [] i d n = (Contains-nil i, tt)
 different-added (x ∷ q) i d n = (
   λ c. elim (Contains-append_cases q (i ∷ []) x c) [

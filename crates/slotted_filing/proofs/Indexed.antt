@@ -1,6 +1,6 @@
 -- Rows by place and the places of classes, as nodes are filed and taken out.
 use Rattle.std.proofs.Common.{◌≡◌, ℕ, zero, suc, ◌<◌, ◌-◌, List, [], ◌∷◌, ◌++◌, length, Option, Some, None, map, sym, ◌∙◌, ap, refl, subst, inl, inr, arith}
-use Rattle.std.specs.Prelude.{◌≢◌, option_map, slice_get, set, swap_remove}
+use Rattle.std.specs.Prelude.{◌≢◌, option_map, slice_get, slice_index_or, set, swap_remove}
 use Rattle.std.proofs.Math.ListN as seq
 use Rattle.std.proofs.lemmas.Bool.{cases_eq}
 use Rattle.std.proofs.lemmas.List.{get_or-set_same, get_or-set_other, length-map, length-set}
@@ -71,7 +71,7 @@ no-place rows places h i e = elim (place_of places i) as (λ o. place_of places 
 ] refl
 
 -- one class more
-place-added : (places : List (Option ℕ)) (i : ℕ) → place_of (places ++ None ∷ []) i ≡ place_of places i
+pub place-added : {X : Type 0} (places : List (Option X)) (i : ℕ) → slice_index_or (places ++ None ∷ []) i None ≡ slice_index_or places i None
 place-added [] zero = refl
 place-added [] (suc i) = refl
 place-added (o ∷ places) zero = refl
@@ -85,7 +85,7 @@ indexed-added rows places h = record {
 }
 
 -- a class with a place is one of those that have one
-pub place-within : (places : List (Option ℕ)) (i p : ℕ) → place_of places i ≡ Some p → i < length places
+pub place-within : {X : Type 0} (places : List (Option X)) (i : ℕ) (p : X) → slice_index_or places i None ≡ Some p → i < length places
 place-within [] i p e = absurd (none-some p e)
 place-within (o ∷ places) zero p e = omega arith
 place-within (o ∷ places) (suc i) p e = let w = place-within places i p e in omega (arith, w)

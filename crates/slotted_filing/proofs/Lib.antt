@@ -3,3 +3,5 @@ pub mod Places
 pub mod Indexed
 pub mod KeyedRows
 pub mod FiledRows
+pub mod KeyChildren
+pub mod Together

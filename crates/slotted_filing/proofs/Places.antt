@@ -1,8 +1,13 @@
 -- What stands at a place of a list, as the list grows and shrinks.
-use Rattle.std.proofs.Common.{◌≡◌, ℕ, zero, suc, ◌<◌, ◌-◌, List, [], ◌∷◌, ◌++◌, length, Some, None, sym, ◌∙◌, ap, refl, subst, inl, inr, arith}
+use Rattle.std.proofs.Common.{◌≡◌, ℕ, zero, suc, ◌<◌, ◌-◌, List, [], ◌∷◌, ◌++◌, length, Some, None, Ok, Err, Result, OnErr, sym, ◌∙◌, ap, refl, subst, inl, inr, arith}
 use Rattle.std.specs.Prelude.{◌⊎◌, ◌≢◌, slice_get, slice_index_or, set, take, swap_remove}
 use Rattle.std.proofs.lemmas.Bool.{cases_eq}
 use Rattle.std.proofs.lemmas.Option.{slice_get-get_or, get_or_from_slice_get}
+
+-- what holds does so after a refusal
+pub on_err : {T E : Type 0} (r : Result T E) {P : Type 0} → P → OnErr r P
+on_err (Ok x) p = tt
+on_err (Err e) p = p
 
 -- two lists with the same at each place
 pub same-places : {X : Type 0} (xs ys : List X) (d : X) → length xs ≡ length ys → ((k : ℕ) → slice_index_or xs k d ≡ slice_index_or ys k d) → xs ≡ ys

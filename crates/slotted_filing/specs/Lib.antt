@@ -1,3 +1,4 @@
 pub mod Waiting
 pub mod Filed
 pub mod FiledRows
+pub mod Over

@@ -1,5 +1,5 @@
 //! The filed nodes, by their keys and by the classes that they come from.
-ghost use Rattle.std.specs.Prelude.{◌≡◌, ◌<◌, ◌++◌, ◌∷◌, [], length, None, Some, set, option_map, slice_get, swap_remove, IfSome, IfNone, IfErr, OnOk};
+ghost use Rattle.std.specs.Prelude.{◌≡◌, ◌<◌, ◌++◌, ◌∷◌, [], length, None, Some, set, option_map, slice_get, swap_remove, IfSome, IfNone, IfErr, OnOk, OnErr};
 ghost use Rattle.slotted_slots.specs.Error.{IsOutOfMemory};
 ghost use Rattle.slotted_filing.specs.Filed.{FiledRow, filed_of, rows_of, HasKey, IsNewKey, HasKeysOnce};
 
@@ -48,9 +48,16 @@ impl<L: Language> NodeIndex<L> {
         }
     }
 
+    pub fn class_count(&self) -> usize
+        ensures { result ≡ length self.now }
+    {
+        self.places.len()
+    }
+
     /// One class more, of which nothing is filed.
     pub fn add_class(&mut self) -> Result<(), Error>
         ensures ok { OnOk result (self.new ≡ self.old ++ None ∷ []) }
+        ensures unchanged { OnErr result (self.new ≡ self.old) }
         ensures err { IfErr result IsOutOfMemory }
     {
         self.places.push(None)?;
@@ -84,6 +91,7 @@ impl<L: Language> NodeIndex<L> {
         requires free { filed_of self.old class ≡ None }
         requires new_key { IsNewKey self.old (L.form key) }
         ensures ok { OnOk result (self.new ≡ set self.old class (Some (L.form key, names))) }
+        ensures unchanged { OnErr result (self.new ≡ self.old) }
         ensures err { IfErr result IsOutOfMemory }
     {
         let place = self.nodes.len();

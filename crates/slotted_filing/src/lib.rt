@@ -1,10 +1,13 @@
-//! What a graph keeps of its filed nodes: which classes wait to be filed anew, and which sources stand over a class.
+//! What a graph keeps of its filed nodes: which node is filed of each class, which classes wait to be filed anew, and which sources stand over
+//! a class.
 #![tactic(auto)]
 
+pub mod hashcons;
 pub mod index;
 pub mod usages;
 pub mod worklist;
 
+pub use hashcons::Hashcons;
 pub use index::NodeIndex;
 pub use usages::Usages;
 pub use worklist::Worklist;

@@ -1,5 +1,5 @@
 //! Classes that wait, in the order in which they came, each once.
-ghost use Rattle.std.specs.Prelude.{◌≡◌, ◌<◌, ◌↔◌, [], IsTrue, IfSome, IfNone, IfErr, OnOk, Contains, slice_get};
+ghost use Rattle.std.specs.Prelude.{◌≡◌, ◌<◌, ◌↔◌, [], IsTrue, IfSome, IfNone, IfErr, OnOk, OnErr, Contains, slice_get};
 ghost use Rattle.slotted_model.specs.Correspondence.{AllDifferent};
 ghost use Rattle.slotted_slots.specs.Error.{IsOutOfMemory};
 ghost use Rattle.slotted_filing.specs.Waiting.{nobody, with_one_more, Pushes, Pops};
@@ -50,6 +50,7 @@ impl Worklist {
     /// One class more, which does not wait.
     pub fn add_class(&mut self) -> Result<(), Error>
         ensures ok { OnOk result (self.new ≡ with_one_more self.old) }
+        ensures unchanged { OnErr result (self.new ≡ self.old) }
         ensures err { IfErr result IsOutOfMemory }
     {
         self.waits.push(false)?;
@@ -78,6 +79,7 @@ impl Worklist {
     pub fn push(&mut self, class: usize) -> Result<(), Error>
         requires { class < self.old.count }
         ensures ok { OnOk result (Pushes self.old self.new class) }
+        ensures unchanged { OnErr result (self.new ≡ self.old) }
         ensures err { IfErr result IsOutOfMemory }
     {
         if self.waits[class] {
