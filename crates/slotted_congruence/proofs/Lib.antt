@@ -1,5 +1,4 @@
 -- Lemmas on nodes side by side.
-pub mod Children
 pub mod Partners
 pub mod Frames
 pub mod WideNodes

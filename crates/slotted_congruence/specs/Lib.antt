@@ -1,5 +1,4 @@
 -- What a congruence of two classes rests on.
-pub mod Nodes
 pub mod Named
 pub mod Frames
 pub mod Congruence

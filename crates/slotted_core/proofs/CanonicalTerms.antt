@@ -30,7 +30,7 @@ use Rattle.slotted_core.specs.Nodes.{ids_in, child_ids}
 use Rattle.slotted_core.specs.Canonical.{args_count, place_count, IsBeside}
 use Rattle.slotted_core.proofs.RowLookUps.{canonical_node-in}
 use Rattle.slotted_store.proofs.NameMaps.{In-at, In-key, length-keys, length-values}
-use Rattle.slotted_congruence.proofs.Children.{Each, atom-is, length-ids}
+use Rattle.slotted_store.proofs.ChildIds.{Each, atom-is, length-ids}
 use Rattle.slotted_core.proofs.ChildReplacement.{plugs}
 use Rattle.slotted_core.proofs.Layers.{expand-filled, match-from, each_at}
 

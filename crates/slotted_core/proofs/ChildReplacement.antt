@@ -9,7 +9,7 @@ use Rattle.slotted_nodes.specs.Form.{Tree, leaf, own, child, bind, scopes, child
 use Rattle.slotted_nodes.specs.Joined.{child_fits, length_children-with_child_in}
 use Rattle.slotted_languages.specs.Filled.{filled}
 use Rattle.slotted_core.specs.Nodes.{ids_in}
-use Rattle.slotted_congruence.proofs.Children.{length-ids, drop-plus, take-take}
+use Rattle.slotted_store.proofs.ChildIds.{length-ids, drop-plus, take-take}
 
 -- lists cut in two
 

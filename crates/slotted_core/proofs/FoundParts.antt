@@ -16,7 +16,7 @@ use Rattle.slotted_model.specs.Ids.{id_of_node, id_of}
 use Rattle.slotted_model.specs.LookUp.{both, look_up_args}
 use Rattle.slotted_model.proofs.LookUps.{id_of-moved}
 use Rattle.slotted_model.proofs.Ids.{id_of-iff, id_of_node-iff}
-use Rattle.slotted_congruence.proofs.Children.{Each}
+use Rattle.slotted_store.proofs.ChildIds.{Each}
 use Rattle.slotted_core.proofs.Layers.{length-parts, Each-parts}
 
 -- answers made of others

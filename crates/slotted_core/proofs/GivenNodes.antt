@@ -21,7 +21,7 @@ use Rattle.slotted_core.specs.Graph.{RunsOut}
 use Rattle.slotted_core.specs.Nodes.{child_ids}
 use Rattle.slotted_core.proofs.CallerLemmas.{term_later}
 use Rattle.slotted_core.proofs.CanonicalTerms.{children-below, places-counted}
-use Rattle.slotted_congruence.proofs.Children.{length-ids}
+use Rattle.slotted_store.proofs.ChildIds.{length-ids}
 use Rattle.slotted_core.proofs.KnownNames.{In-take, In-drop}
 use Rattle.slotted_store.proofs.NameMaps.{In-at, at_In}
 use Rattle.slotted_core.proofs.ValidTerms.{valid_term}

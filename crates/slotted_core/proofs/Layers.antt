@@ -18,7 +18,7 @@ use Rattle.slotted_model.proofs.Children.{KeysAreNames, expand-as_term, term_by-
 use Rattle.slotted_model.proofs.Full.{full-keys}
 use Rattle.slotted_terms.specs.Valid.{IsWhole}
 use Rattle.slotted_core.specs.Nodes.{ids_in}
-use Rattle.slotted_congruence.proofs.Children.{length-ids, atom-is, Each}
+use Rattle.slotted_store.proofs.ChildIds.{length-ids, atom-is, Each}
 
 module _ (ts : List DTerm) where
   -- the ids stand for the terms in turn

@@ -55,7 +55,7 @@ use Rattle.slotted_store.specs.Kept.{Kept, ClassEntry, RowEntry, no_form, no_ent
 use Rattle.slotted_core.specs.Good.{image_of, Good, HasFreshSlots, Adds}
 use Rattle.slotted_store.specs.Names.{between, fresh_slots, with_put, HasNumberedBinders}
 use Rattle.slotted_core.specs.Nodes.{child_ids}
-use Rattle.slotted_congruence.proofs.Children.{Each-from_All, EachChild-node_args}
+use Rattle.slotted_store.proofs.ChildIds.{Each-from_All, EachChild-node_args}
 use Rattle.slotted_core.proofs.RowLookUps.{canonical_node-in, answer, look_up-rows, none_has}
 use Rattle.slotted_core.proofs.FullIds.{length-classes}
 use Rattle.slotted_core.proofs.Images.{adds-nothing, found_id-is}

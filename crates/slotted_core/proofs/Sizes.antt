@@ -19,7 +19,7 @@ use Rattle.slotted_model.proofs.Full.{canonical_term-names}
 use Rattle.slotted_model.proofs.Theory.{free_names-moved}
 use Rattle.slotted_core.specs.Nodes.{ids_in, child_ids}
 use Rattle.slotted_core.specs.Places.{args_places, term_places}
-use Rattle.slotted_congruence.proofs.Children.{length-ids}
+use Rattle.slotted_store.proofs.ChildIds.{length-ids}
 use Rattle.slotted_store.proofs.NameMaps.{length-keys, length-values}
 
 length-with_name : (x : ℕ) (ys : List ℕ) → length (with_name x ys) ≤ suc (length ys)

@@ -26,7 +26,7 @@ use Rattle.slotted_core.specs.Places.{args_places, term_places}
 use Rattle.slotted_core.specs.Subterms.{IsSubterm}
 use Rattle.slotted_core.proofs.NodeAddition.{full_children}
 use Rattle.slotted_core.proofs.Images.{adds-nothing, adds-then}
-use Rattle.slotted_congruence.proofs.Children.{length-ids, zip-keys_values}
+use Rattle.slotted_store.proofs.ChildIds.{length-ids, zip-keys_values}
 use Rattle.slotted_core.proofs.KnownNames.{answer_full, answer_term}
 use Rattle.slotted_core.proofs.Filing.{Files, of_child, files-nothing, files-then, files-more, files-node}
 use Rattle.slotted_core.proofs.FoundParts.{children_found, node_has_id}

@@ -12,7 +12,7 @@ use Rattle.slotted_languages.proofs.NodeTerms.{child_rest_fits}
 use Rattle.slotted_terms.specs.Valid.{IsWhole, HasKnownNames, IsValidTerm}
 use Rattle.slotted_core.specs.Nodes.{IsChildPlace}
 use Rattle.slotted_core.specs.SmallNodes.{HasSmallNodes, HasSmallParts}
-use Rattle.slotted_congruence.proofs.Children.{Each}
+use Rattle.slotted_store.proofs.ChildIds.{Each}
 use Rattle.slotted_core.proofs.ChildReplacement.{at-left, at-right}
 use Rattle.slotted_core.proofs.Layers.{Each-parts, length-parts}
 

@@ -5,7 +5,7 @@ use Rattle.slotted_slots.specs.Table.{Table, is_known}
 use Rattle.slotted_nodes.specs.Form.{Form, Tree, leaf, own, child, bind, scopes, children, child_place, width}
 use Rattle.slotted_model.specs.Applied.{Applied}
 pub use Rattle.slotted_proofs.specs.Equations.{to_applied}
-pub use Rattle.slotted_congruence.specs.Nodes.{ids_in, child_ids}
+pub use Rattle.slotted_store.specs.ChildIds.{ids_in, child_ids}
 
 -- the place is one of a child
 abbrev pub IsChildPlace : Tree → ℕ → Type 0

@@ -24,9 +24,9 @@ use Rattle.slotted_model.proofs.Maps.{keys-with_values}
 use Rattle.slotted_model.proofs.Members.{In, In-left, In-right, In-append, In-map, In-of_map, In-Contains, Contains-In}
 use Rattle.slotted_model.proofs.NormalIds.{found-renamed, found-valid, found-name}
 use Rattle.slotted_model.proofs.Touching.{different-length}
-use Rattle.slotted_normal_forms.specs.ChildIds.{ids_in, child_ids}
+use Rattle.slotted_store.specs.ChildIds.{ids_in, child_ids}
 use Rattle.slotted_normal_forms.specs.NormalNodes.{HasNoOtherNames}
-use Rattle.slotted_normal_forms.proofs.ChildIds.{Each, Each-append, atom-is, zip-keys_values}
+use Rattle.slotted_store.proofs.ChildIds.{Each, Each-append, atom-is, zip-keys_values}
 use Rattle.slotted_normal_forms.proofs.ReplacedChildren.{first_tree, first_names, first_form, first_names-fit}
 
 -- the id that a child is under binders that ρ numbers

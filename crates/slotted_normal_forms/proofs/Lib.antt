@@ -1,4 +1,3 @@
-pub mod ChildIds
 pub mod ReplacedChildren
 pub mod FoundChildren
 pub mod NumbersInShapes

@@ -12,8 +12,8 @@ use Rattle.slotted_nodes.specs.Equal.{form_ext, bind_form_fits}
 use Rattle.slotted_nodes.specs.Joined.{at_append}
 use Rattle.slotted_nodes.proofs.Pairs.{with_child_left, with_child_right}
 use Rattle.slotted_model.specs.Applied.{Applied}
-use Rattle.slotted_normal_forms.specs.ChildIds.{ids_in, child_ids}
-use Rattle.slotted_normal_forms.proofs.ChildIds.{length-ids}
+use Rattle.slotted_store.specs.ChildIds.{ids_in, child_ids}
+use Rattle.slotted_store.proofs.ChildIds.{length-ids}
 
 -- the tree whose first k children are what f makes of them
 abbrev pub first_tree : (Applied → Applied) → Tree → ℕ → List ℕ → Tree

@@ -1,4 +1,3 @@
-pub mod ChildIds
 pub mod FoundNodes
 pub mod NormalNodes
 pub mod Sides

@@ -1,7 +1,10 @@
 pub mod KeptLists
 pub mod NameMaps
 pub mod NamePairs
+pub mod ChildIds
+pub mod NameCounts
 pub mod DistinctValues
 pub mod RowsByForm
 pub mod Writes
+mod DeadClasses
 pub mod Chasing

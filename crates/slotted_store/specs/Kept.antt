@@ -6,7 +6,7 @@
 --     proofs_of k    the proof list
 --     found rs f     what is filed for a shape
 --     with_..        what each write leaves
-use Rattle.std.specs.Prelude.{◌≡◌, ℕ, suc, ◌+◌, ◌≤◌, List, [], ◌∷◌, ◌++◌, length, map, set, Bool, true, false, Option, Some, None, String, option_map, string_bytes, cond, slice_index_or, refl}
+use Rattle.std.specs.Prelude.{◌≡◌, ℕ, suc, ◌+◌, ◌≤◌, List, [], ◌∷◌, ◌++◌, length, map, set, Bool, true, false, Option, Some, None, String, option_map, string_bytes, cond, nat_eq, slice_index_or, refl}
 use Rattle.std.specs.Coded.{Coded, code_by, coded×, coded_ℕ, coded_bool, coded_list}
 use Rattle.slotted_slots.specs.declared.types.AppliedId.{AppliedId}
 use Rattle.slotted_slots.specs.Table.{slot_limit}
@@ -82,6 +82,14 @@ node_at k i = (class_at k i).0
 
 abbrev pub find_at : Kept → ℕ → Entry
 find_at k i = (class_at k i).1
+
+-- how many of these classes, of which the first has the number n, lead to another class
+abbrev pub dead_at : ℕ → ClassEntry → ℕ
+dead_at n c = cond (nat_eq c.1.class n) 0 1
+
+abbrev pub dead_from : ℕ → List ClassEntry → ℕ
+dead_from n [] = 0
+dead_from n (c ∷ cs) = dead_at n c + dead_from (suc n) cs
 
 -- the slots of the class that a row files, one for each number of the shape
 abbrev pub names_at : Kept → ℕ → List (ℕ × ℕ)

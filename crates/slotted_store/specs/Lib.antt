@@ -1,5 +1,6 @@
 pub mod FormCode
 pub mod EntryCode
 pub mod Names
+pub mod ChildIds
 pub mod Kept
 pub mod Finding

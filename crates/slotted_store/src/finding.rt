@@ -30,8 +30,8 @@ impl<L: Language> Store<L> {
         self.find_class(next)
     }
 
-    // The slot of a class that a slot of the class that it finds stands for.
-    fn found_slot(&self, id: usize, slot: Slot) -> Option<Slot>
+    /// The slot of a class that a slot of the class that it finds stands for.
+    pub fn found_slot(&self, id: usize, slot: Slot) -> Option<Slot>
         requires good { HasFinds self.now }
         requires within { id < length self.now.classes }
         ensures { result ≡ value_of (find_map (entries_of self.now) id) slot }

@@ -1,17 +1,18 @@
 //! The lists of a graph: its classes, the filed nodes by shape, the listed symmetries and the proved equations, each write by itself.
-ghost use Rattle.std.specs.Prelude.{◌≡◌, ◌+◌, ◌≤◌, ◌<◌, length, map, IfOk, IfErr, OnOk, OnErr, IsErrOf, None, All, ◌⊎◌};
+ghost use Rattle.std.specs.Prelude.{◌≡◌, ◌≢◌, ◌+◌, ◌≤◌, ◌<◌, length, map, IfOk, IfErr, OnOk, OnErr, IsErrOf, None, All, ◌⊎◌};
 ghost use Rattle.std.specs.Prelude.{option_map, ◌↔◌};
 ghost use Rattle.slotted_theory.specs.FiniteMaps.{IsInjectiveMap};
 ghost use Rattle.slotted_slots.specs.Error.{IsOutOfMemory, IsShortage};
 ghost use Rattle.slotted_slots.specs.Table.{slot_limit};
 ghost use Rattle.slotted_nodes.specs.Form.{IsSmall};
+ghost use Rattle.slotted_model.specs.Find.{IsLive};
 ghost use Rattle.slotted_model.specs.ProofList.{reflexive, symmetric, transitive, congruent};
 ghost use Rattle.slotted_proofs.specs.Equations.{to_applied, Meets, HasManyNames};
 ghost use Rattle.slotted_proofs.specs.Entries.{statement_at, explicit_numbers, turned_entry, composite_entry};
 ghost use Rattle.slotted_proofs.specs.Steps.{IsReflexiveStep, IsSymmetricStep, IsTransitiveStep, AreEntries};
 ghost use Rattle.slotted_proofs.specs.Steps.{HasInjectiveSides, IsLarge, IsRefusal};
 ghost use Rattle.slotted_store.specs.Kept.{MakesClass, EntersIn, EntersAsserted, EntersBy, HasManySlots, text_bytes};
-ghost use Rattle.slotted_store.specs.Kept.{nothing, node_at, find_at, names_at, proofs_of, found, symmetry_entry};
+ghost use Rattle.slotted_store.specs.Kept.{nothing, node_at, find_at, names_at, entries_of, proofs_of, found, symmetry_entry};
 ghost use Rattle.slotted_store.specs.Kept.{with_class, with_linked, with_fewer, with_listed, with_settled};
 
 use crate::names::{map_between, put_at_places};
@@ -61,8 +62,8 @@ pub struct Store<L: Language> {
 }
 
 impl<L: Language> Model for Store<L> {
-    ghost use Rattle.std.specs.Prelude.{map};
-    ghost use Rattle.slotted_store.specs.Kept.{Kept, class_entry, row_entry, symmetry_entry, kept_code};
+    ghost use Rattle.std.specs.Prelude.{map, ◌≤◌};
+    ghost use Rattle.slotted_store.specs.Kept.{Kept, class_entry, dead_from, row_entry, symmetry_entry, kept_code};
 
     ghost Value = { Kept };
 
@@ -76,6 +77,9 @@ impl<L: Language> Model for Store<L> {
       proofs = c.proofs;
       moment = c.moment;
     } };
+
+    // There are no more links than classes that lead to another one.
+    ghost invariant = { λ c. c.moment ≤ dead_from 0 (map (class_entry L.form) c.classes.items) };
 }
 
 impl<L: Language> Store<L> {
@@ -208,21 +212,18 @@ impl<L: Language> Store<L> {
     }
 
     /// A class dies, and leads to another one with a slot of its own for each slot of that, by this proof.
-    pub fn set_link(&mut self, dead: usize, find: AppliedId, proof: ProvenEq) -> Result<(), Error>
-        requires { dead < length self.old.classes }
-        ensures ok { OnOk result (self.new ≡ with_linked self.old dead find.id.0 find.m proof) }
-        ensures err { IfErr result IsOutOfMemory }
+    pub fn set_link(&mut self, dead: usize, find: AppliedId, proof: ProvenEq)
+        requires within { dead < length self.old.classes }
+        requires live { IsLive (entries_of self.old) dead }
+        requires different { find.id.0 ≢ dead }
+        ensures { self.new ≡ with_linked self.old dead find.id.0 find.m proof }
     {
         let moment = self.moment;
-        if moment == usize::MAX {
-            return Err(Error::OutOfMemory);
-        }
         let class = &mut self.classes[dead];
         class.find = find;
         class.proof = proof;
         class.died = moment;
         self.moment = moment + 1;
-        Ok(())
     }
 
     /// The weight of a class. No contract speaks of weights: they decide which class is kept, and so how long finds walk.
@@ -299,7 +300,8 @@ impl<L: Language> Store<L> {
 
     /// A live class keeps fewer slots, by this proof.
     pub fn set_slots(&mut self, live: usize, slots: SlotMap, proof: ProvenEq)
-        requires { live < length self.old.classes }
+        requires within { live < length self.old.classes }
+        requires live { IsLive (entries_of self.old) live }
         ensures { self.new ≡ with_fewer self.old live slots proof }
     {
         let class = &mut self.classes[live];

@@ -5,7 +5,7 @@ use Rattle.std.specs.Map.{keys_of}
 use Rattle.std.specs.Prelude.{true}
 use Rattle.slotted_model.specs.Changes.{StandsAt}
 use Rattle.slotted_model.specs.Correspondence.{identity}
-use Rattle.slotted_model.specs.Find.{Entry, find_class}
+use Rattle.slotted_model.specs.Find.{Entry, IsLive, find_class}
 use Rattle.slotted_model.specs.Link.{CanDrop, kept_equation}
 use Rattle.slotted_model.specs.ProofList.{Equation, IsOver, turned_equation}
 use Rattle.slotted_model.specs.State.{State}
@@ -76,6 +76,9 @@ module _ (k : Kept) (good : Stored k) (q : ℕ) (within : q < length k.proofs) (
 
       pub class-stays : (i : ℕ) → i < length k.classes → i < length m.classes
       class-stays i h = subst (λ (z : Kept). i < length z.classes) (sym only.kept) h
+
+      pub class-lives : (i : ℕ) → i ≡ e.left → IsLive (entries_of m) i
+      class-lives i ei = subst (IsLive (entries_of m)) (sym ei) (still-live k m e only live).left_lives
 
       abbrev h : State
       h = state_of m

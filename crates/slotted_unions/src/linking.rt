@@ -42,7 +42,7 @@ pub fn link<L: Language>(store: &mut Store<L>, alloc: Global, q: ProvenEq) -> Re
     let dead = store.proofs().equ(q).l.id.0;
     let heir = heir(store, alloc, q)?;
     let kept = heir.id.0;
-    store.set_link(dead, heir, q)?;
+    store.set_link(dead, heir, q);
     let more = store.weight(dead);
     store.add_weight(kept, more);
     Ok(())

@@ -4,7 +4,7 @@ use Rattle.slotted_nodes.specs.Form.{children}
 use Rattle.slotted_model.specs.Classes.{IsFull}
 use Rattle.slotted_store.specs.Kept.{nodes_of}
 use Rattle.slotted_proofs.specs.Equations.{to_applied}
-use Rattle.slotted_congruence.proofs.Children.{child_is, child_next, length-ids}
+use Rattle.slotted_store.proofs.ChildIds.{child_is, child_next, length-ids}
 use Rattle.slotted_core.proofs.adding.children_are_full.Goals as goal
 
 pub returns-then-not-is_full : goal.returns-then-not-is_full

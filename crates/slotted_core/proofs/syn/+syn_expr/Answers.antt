@@ -16,7 +16,7 @@ use Rattle.slotted_core.specs.Nodes.{child_ids}
 use Rattle.slotted_core.specs.Syn.{node_binders, term_binders}
 use Rattle.slotted_core.proofs.Binders.{ids_binders, child_binders, children_within, node_within}
 use Rattle.slotted_core.proofs.Tables.{makes-more, makes-then, runs_out-more, runs_out-then}
-use Rattle.slotted_congruence.proofs.Children.{child_is, length-ids}
+use Rattle.slotted_store.proofs.ChildIds.{child_is, length-ids}
 use Rattle.slotted_core.proofs.FreshSlots.{fresh_slots-more}
 use Rattle.slotted_core.proofs.GivenNodes.{child_names-known, valid-push, valid-beside}
 use Rattle.slotted_core.proofs.LargeParts.{large_child_part}

@@ -10,9 +10,9 @@ use Rattle.slotted_model.proofs.Congruence.{normal_args-live}
 use Rattle.slotted_proofs.specs.Equations.{to_applied}
 use Rattle.slotted_store.specs.Finding.{IsFindable}
 use Rattle.slotted_store.specs.Kept.{Kept, nodes_of, entries_of}
-use Rattle.slotted_normal_forms.specs.ChildIds.{child_ids}
+use Rattle.slotted_store.specs.ChildIds.{child_ids}
 use Rattle.slotted_normal_forms.specs.NormalNodes.{HasNoOtherNames}
-use Rattle.slotted_normal_forms.proofs.ChildIds.{child_is, length-ids}
+use Rattle.slotted_store.proofs.ChildIds.{child_is, length-ids}
 use Rattle.slotted_normal_forms.proofs.FoundChildren.{Each-at, child_ids-valid, found-nameless, found-no_other, found-places}
 use Rattle.slotted_normal_forms.proofs.ReplacedChildren.{first_form-none, first_form-more, length_children-first}
 use Rattle.slotted_normal_forms.proofs.normal.normal_of.Goals as goal

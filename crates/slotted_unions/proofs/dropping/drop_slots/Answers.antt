@@ -2,7 +2,7 @@ use Rattle.std.proofs.Common.{◌∙◌, ap, rules}
 use Rattle.slotted_slots.specs.Maps.{doubled, keys}
 use Rattle.slotted_unions.proofs.EnteredProofs.{entry-left, many-large}
 use Rattle.slotted_unions.proofs.WrittenEntries.{left-in_range}
-use Rattle.slotted_unions.proofs.KeptSlots.{back-meets, back-large, class-stays, dropped-left}
+use Rattle.slotted_unions.proofs.KeptSlots.{back-meets, back-large, class-lives, class-stays, dropped-left}
 use Rattle.slotted_unions.proofs.dropping.drop_slots.Goals as goal
 
 pub chain-requires-clause-first : goal.chain-requires-clause-first
@@ -20,12 +20,19 @@ chain-requires-clause-meets g c =
     let r = c.requires in
     (back-meets c.args.store.now r.good c.args.q r.within r.live c.turn.new.self c.in_ok-back.back c.in_ok-back.ensures.ok).2
 
-pub set_slots-requires : goal.set_slots-requires
-set_slots-requires g c =
+pub set_slots-requires-clause-within : goal.set_slots-requires-clause-within
+set_slots-requires-clause-within g c =
     let r = c.requires in
     class-stays c.args.store.now r.good c.args.q r.within r.live c.turn.new.self c.in_ok-back.back c.in_ok-back.ensures.ok
     c.chain.new.self c.in_ok-proof.proof c.in_ok-proof.ensures.ok c.equ.result.now.l.id.0
     (left-in_range c.args.store.now r.good c.args.q r.within c.proofs.result.now c.proofs.ensures c.equ.result.now c.equ.ensures)
+
+pub set_slots-requires-clause-live : goal.set_slots-requires-clause-live
+set_slots-requires-clause-live g c =
+    let r = c.requires in
+    class-lives c.args.store.now r.good c.args.q r.within r.live c.turn.new.self c.in_ok-back.back c.in_ok-back.ensures.ok
+    c.chain.new.self c.in_ok-proof.proof c.in_ok-proof.ensures.ok c.equ.result.now.l.id.0
+    (entry-left c.args.store.now c.proofs.result.now c.args.q c.equ.result.now c.proofs.ensures c.equ.ensures)
 
 pub returns-in_err-back-clause-full : goal.returns-in_err-back-clause-full
 returns-in_err-back-clause-full g c h =

@@ -1,4 +1,4 @@
-use Rattle.std.proofs.Common.{◌≡◌, ◌<◌, ◌∙◌, length, ap, sym, arith, refl}
+use Rattle.std.proofs.Common.{◌<◌, ◌∙◌, length, ap, sym, arith, refl}
 use Rattle.std.proofs.lemmas.Bool.{false≢true}
 use Rattle.slotted_slots.specs.Maps.{values}
 use Rattle.slotted_model.specs.Applied.{Applied}

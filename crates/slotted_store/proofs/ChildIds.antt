@@ -1,17 +1,20 @@
 -- The children of a node: those that the code reads, and those of its nameless form.
-use Rattle.std.proofs.Common.{◌≡◌, ◌<◌, ◌≤◌, ℕ, zero, suc, ◌+◌, ◌-◌, List, [], ◌∷◌, ◌++◌, length, take, drop, cond, sym, ◌∙◌, ap, refl, arith, inl, inr, length-append}
-use Rattle.std.specs.Prelude.{slice_index_or}
+use Rattle.std.proofs.Common.{◌≡◌, ◌<◌, ◌≤◌, ℕ, zero, suc, ◌+◌, ◌-◌, List, [], ◌∷◌, ◌++◌, length, take, drop, cond, sym, ◌∙◌, ap, refl, subst, arith, inl, inr, length-append}
+use Rattle.std.specs.Prelude.{slice_index_or, slice_index, All}
 use Rattle.std.specs.List.{zip}
-use Rattle.std.proofs.lemmas.Bool.{lt-ltb, le-ltb}
-use Rattle.slotted_theory.specs.Nameless.{place, nameless_args}
+use Rattle.std.proofs.lemmas.Bool.{lt-ltb, le-ltb, cases_eq}
+use Rattle.slotted_theory.specs.Nameless.{place, extend, nameless_args}
+use Rattle.slotted_theory.specs.Renaming.{IsInjective}
+use Rattle.slotted_theory.proofs.Names.{extend-injective}
 use Rattle.slotted_theory.proofs.Values.{node}
 use Rattle.slotted_theory.specs.FiniteMaps.{with_values}
 use Rattle.slotted_slots.specs.Maps.{keys, values}
 use Rattle.slotted_nodes.specs.Form.{Form, Tree, leaf, own, child, bind, scopes, children, child_place, child_names, width}
 use Rattle.slotted_nodes.specs.Joined.{at_append, child_fits}
-use Rattle.slotted_languages.specs.NodeTerm.{own_names}
-use Rattle.slotted_model.specs.Applied.{Applied, renamed_id, in_places, as_term}
-use Rattle.slotted_normal_forms.specs.ChildIds.{ids_in, child_ids}
+use Rattle.slotted_languages.specs.NodeTerm.{own_names, node_args}
+use Rattle.slotted_languages.proofs.NodeTerms.{own_fits, child_keys_fit, child_rest_fits, bind_inner_fits, bind_rest_fits}
+use Rattle.slotted_model.specs.Applied.{Applied, renamed_id, in_places, as_term, EachChild}
+use Rattle.slotted_store.specs.ChildIds.{ids_in, child_ids}
 
 -- as many ids as children
 pub length-ids : (t : Tree) (xs : List ℕ) → length (ids_in t xs) ≡ length (children t)
@@ -96,11 +99,15 @@ pub zip-keys_values : (m : List (ℕ × ℕ)) → zip (keys m) (values m) ≡ m
 zip-keys_values [] = refl
 zip-keys_values (p ∷ m) = ap (λ l. p ∷ l) (zip-keys_values m)
 
--- each of a list, by a walk
+-- the same facts by a walk
 
 abbrev pub Each : {X : Type 0} → (X → Type 0) → List X → Type 0
 Each P [] = Unit {0}
 Each P (x ∷ xs) = P x × Each P xs
+
+pub Each-from_All : {X : Type 0} (P : X → Type 0) (xs : List X) → All P xs → Each P xs
+Each-from_All P [] h = tt
+Each-from_All P (x ∷ xs) h = (h 0 x (omega arith), Each-from_All P xs (λ k d l. h (suc k) d (omega arith)))
 
 pub Each-append : {X : Type 0} (P : X → Type 0) (xs ys : List X) → Each P (xs ++ ys) → Each P xs × Each P ys
 Each-append P [] ys h = (tt, h)
@@ -121,8 +128,31 @@ places-zip ρ (k ∷ ks) (v ∷ vs) n = ap (place (ρ v)) (places-zip ρ ks vs (
 pub atom-is : (ρ : ℕ → ℕ) (i : ℕ) (ks vs : List ℕ) → length vs ≡ length ks → node 0 ((i ∷ ks) ∷ []) (nameless_args ρ (own_names vs)) ≡ as_term (renamed_id ρ (i, zip ks vs))
 atom-is ρ i ks vs n = λ j. node 0 ((i ∷ sym (keys-zip ρ ks vs n) j) ∷ []) (sym (places-zip ρ ks vs n) j)
 
+-- what every injective renaming keeps of each child, the children of the nameless form have
+pub EachChild-node_args : (P : Applied → Type 0) → ((f : ℕ → ℕ) → IsInjective f → (a : Applied) → P a → P (renamed_id f a)) → (ρ : ℕ → ℕ) → IsInjective ρ → (t : Tree) (xs : List ℕ) → length xs ≡ length (scopes t) → Each P (ids_in t xs) → EachChild P (nameless_args ρ (node_args t xs))
+EachChild-node_args P keep ρ inj leaf xs n h = tt
+EachChild-node_args P keep ρ inj (own r) xs n h = EachChild-node_args P keep ρ inj r (drop 1 xs) (own_fits r xs n) h
+EachChild-node_args P keep ρ inj (child i ks r) xs n h =
+    let vs = take (length ks) xs in (
+      (renamed_id ρ (i, zip ks vs), atom-is ρ i ks vs (child_keys_fit i ks r xs n), keep ρ inj (i, zip ks vs) h.0),
+      EachChild-node_args P keep ρ inj r (drop (length ks) xs) (child_rest_fits i ks r xs n) h.1,
+    )
+EachChild-node_args P keep ρ inj (bind u r) xs n h =
+    let m = length (scopes u) in
+    let b = Each-append P (ids_in u (take m (drop 1 xs))) (ids_in r (drop m (drop 1 xs))) h in (
+      EachChild-node_args P keep (extend (slice_index xs 0) ρ) (extend-injective (slice_index xs 0) ρ inj) u (take m (drop 1 xs)) (bind_inner_fits u r xs n) b.0,
+      EachChild-node_args P keep ρ inj r (drop m (drop 1 xs)) (bind_rest_fits u r xs n) b.1,
+    )
+
 -- what is read of a child is the child
 pub child_is : (f : Form) (k : ℕ) (d a : Applied) → k < length (children f.tree) → a.0 ≡ (child_with_keys f.tree k).0 → keys a.1 ≡ (child_with_keys f.tree k).1 → values a.1 ≡ child_names f k → a ≡ slice_index_or (child_ids f) k d
 child_is f k d a l i ks vs =
     let m : a.1 ≡ zip (child_with_keys f.tree k).1 (child_names f k) = sym (zip-keys_values a.1) ∙ (λ j. zip (ks j) (vs j)) in
     (λ j. (i j, m j)) ∙ sym (ids-at f.tree f.names k d l)
+
+-- one more child passes
+pub child_next : (P : Applied → Type 0) (f : Form) (k : ℕ) (a : Applied) → k < length (children f.tree) → a.0 ≡ (child_with_keys f.tree k).0 → keys a.1 ≡ (child_with_keys f.tree k).1 → values a.1 ≡ child_names f k → P a → ((j : ℕ) (d : Applied) → j < k → P (slice_index_or (child_ids f) j d)) → (j : ℕ) (d : Applied) → j < k + 1 → P (slice_index_or (child_ids f) j d)
+child_next P f k a l i ks vs p h j d m = elim (cases_eq j k) [
+  | inl e ↦ subst (λ n. P (slice_index_or (child_ids f) n d)) (sym e) (subst P (child_is f k d a l i ks vs) p)
+  | inr n ↦ h j d (omega (arith, n))
+]
