@@ -1,8 +1,8 @@
 -- What is filed, who uses it and what waits fit together, as each changes.
-use Rattle.std.proofs.Common.{◌≡◌, ◌≢◌, ◌∙◌, ◌<◌, ◌≤◌, ◌+◌, ℕ, zero, suc, List, [], ◌∷◌, ◌++◌, length, Option, Some, None, ap, sym, refl, subst, inl, inr, arith}
+use Rattle.std.proofs.Common.{◌≡◌, ◌≢◌, ◌∙◌, ◌<◌, ◌≤◌, ◌+◌, ℕ, zero, suc, List, [], ◌∷◌, ◌++◌, length, Option, Some, None, ap, sym, refl, subst, inl, inr, arith, append_assoc}
 use Rattle.std.specs.Prelude.{Contains, IfNone, IfSome, set, slice_get, slice_index_or, ◌⊎◌}
 use Rattle.std.proofs.lemmas.Bool.{cases_eq}
-use Rattle.std.proofs.lemmas.List.{get_or-set_same, get_or-set_other, length-set, length-append}
+use Rattle.std.proofs.lemmas.List.{append-nil, get_or-set_same, get_or-set_other, length-set, length-append}
 use Rattle.std.proofs.lemmas.List.Elements.{Contains-append_left, Contains-append_right, Contains-append_cases}
 use borrow.Author.Count.{below_more}
 use Rattle.slotted_theory.proofs.Lists.{contains_head, contains_tail, contains_cases, Contains-nil}
@@ -76,6 +76,10 @@ pushed-count p = elim p [
   | inr h ↦ ap (λ (x : Waiting). x.count) h.1
 ]
 
+pushed-grows : {u t : Waiting} {i : ℕ} → Pushes u t i → (xs : List ℕ) × (t.queue ≡ u.queue ++ xs)
+pushed-grows {u} {t} {i} (inl p) = ([], ap (λ (z : Waiting). z.queue) p.1 ∙ sym (append-nil u.queue))
+pushed-grows {u} {t} {i} (inr p) = (i ∷ [], ap (λ (z : Waiting). z.queue) p.1)
+
 -- the first k sources, one after another: those over the class c wait
 pub record WaitsSoFar (v : List (Option Filing)) (c : ℕ) (w u : Waiting) (sources : List ℕ) (k : ℕ) : Type 0 where
   pub more : WaitsMore v c w u
@@ -84,7 +88,7 @@ pub record WaitsSoFar (v : List (Option Filing)) (c : ℕ) (w u : Waiting) (sour
 module _ (v : List (Option Filing)) (c : ℕ) (w : Waiting) (sources : List ℕ) where
   pub waits-none : AllDifferent w.queue → WaitsSoFar v c w w sources 0
   waits-none d = record {
-    more = record { same = refl; once = d; kept = λ i h. h; from = λ i h. inl h };
+    more = record { same = refl; once = d; kept = λ i h. h; from = λ i h. inl h; more = []; grows = sym (append-nil w.queue) };
     so_far = λ j l. absurd (omega (arith, l));
   }
 
@@ -98,6 +102,8 @@ module _ (v : List (Option Filing)) (c : ℕ) (w : Waiting) (sources : List ℕ)
       | inl q ↦ m.from j q
       | inr e ↦ inr (subst (λ x. HasChild v x c) (sym e) h)
     ];
+    more = m.more ++ (pushed-grows p).0;
+    grows = (pushed-grows p).1 ∙ (ap (λ q. q ++ (pushed-grows p).0) m.grows ∙ append_assoc w.queue m.more (pushed-grows p).0);
   }
 
   pub waits-next : (u t : Waiting) (k : ℕ) → WaitsSoFar v c w u sources k → HasChild v (slice_index_or sources k 0) c → Pushes u t (slice_index_or sources k 0) → WaitsSoFar v c w t sources (k + 1)

@@ -80,5 +80,11 @@ pub record TakesTurn (s t : Rows) (i : ℕ) (x : Option Filing) : Type 0 where
   pub filed : t.filed ≡ set s.filed i x
   pub waiting : s.waiting ≡ i ∷ t.waiting
 
+-- no node is filed anew, and what waited stands first in what waits
+pub record WaitsOn (s t : Rows) : Type 0 where
+  pub same : t.filed ≡ s.filed
+  pub more : List ℕ
+  pub waits : t.waiting ≡ s.waiting ++ more
+
 abbrev pub rows_state : Rows → State
 rows_state s = record { nodes = []; found = []; proofs = []; rows = rows_in s.filed; waiting = s.waiting; symmetries = [] }

@@ -3,7 +3,7 @@
 --     FitTogether v us w     each child class of a filed node has the node's source as a user, or the source waits
 --     WaitsMore v c w u      from w to u more classes wait, each with a child of the class c
 --     AreUsedMore us vs      from us to vs each class has more users
-use Rattle.std.specs.Prelude.{◌≡◌, ◌⊎◌, ◌<◌, ◌≤◌, ℕ, List, [], length, Option, Some, Contains, slice_index_or}
+use Rattle.std.specs.Prelude.{◌≡◌, ◌⊎◌, ◌<◌, ◌≤◌, ℕ, List, [], ◌++◌, length, Option, Some, Contains, slice_index_or}
 use Rattle.slotted_nodes.specs.Form.{Form}
 use Rattle.slotted_model.specs.Correspondence.{AllDifferent}
 use Rattle.slotted_filing.specs.Filed.{Filing, filed_of}
@@ -35,6 +35,8 @@ pub record WaitsMore (v : List (Option Filing)) (c : ℕ) (w u : Waiting) : Type
   pub once : AllDifferent u.queue
   pub kept : (i : ℕ) → Contains w.queue i → Contains u.queue i
   pub from : (i : ℕ) → Contains u.queue i → Contains w.queue i ⊎ HasChild v i c
+  pub more : List ℕ
+  pub grows : u.queue ≡ w.queue ++ more
 
 -- each of these sources waits that has a child of the class c
 abbrev pub WaitOver : List ℕ → List (Option Filing) → ℕ → List ℕ → Type 0

@@ -6,7 +6,7 @@ ghost use Rattle.slotted_model.specs.Correspondence.{AllDifferent};
 ghost use Rattle.slotted_model.specs.State.{HasTouched};
 ghost use Rattle.slotted_filing.specs.Filed.{filed_of, HasKey, IsNewKey, HasKeysOnce};
 ghost use Rattle.slotted_filing.specs.FiledRows.{no_rows, with_class, with_filed, rows_state, key_children};
-ghost use Rattle.slotted_filing.specs.FiledRows.{IsFiled, HasChildrenBelow, IsNewToOthers, QueuesUp, TakesTurn};
+ghost use Rattle.slotted_filing.specs.FiledRows.{IsFiled, HasChildrenBelow, IsNewToOthers, QueuesUp, TakesTurn, WaitsOn};
 ghost use Rattle.slotted_filing.specs.Over.{HasChild, WaitsMore, WaitOver, AreUsedMore, UsesEach};
 
 use crate::index::NodeIndex;
@@ -103,7 +103,7 @@ impl<L: Language> Hashcons<L> {
     /// Each class whose filed node has a child of this class waits from now on.
     pub fn touch(&mut self, class: usize) -> Result<(), Error>
         requires { class < length self.old.filed }
-        ensures filed { OnOk result (self.new.filed ≡ self.old.filed) }
+        ensures waits { OnOk result (WaitsOn self.old self.new) }
         ensures waiting { OnOk result (HasTouched (rows_state self.old) class self.new.waiting) }
         ensures err { IfErr result IsOutOfMemory }
     {

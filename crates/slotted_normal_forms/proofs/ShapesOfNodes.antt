@@ -21,7 +21,8 @@ use Rattle.slotted_model.proofs.Members.{In, In-Contains, Contains-In}
 use Rattle.slotted_model.proofs.Sets.{In-ascending, In-of_ascending}
 use Rattle.slotted_store.specs.Kept.{Kept}
 use Rattle.slotted_store.proofs.NamePairs.{In-firsts}
-use Rattle.slotted_normal_forms.specs.FoundNodes.{finds_of, row_of_entry, HasNormalNames, IsFoundNode}
+use Rattle.slotted_normal_forms.specs.FoundNodes.{finds_of, HasNormalNames, IsFoundNode}
+use Rattle.slotted_filing.specs.FiledRows.{row_of_entry}
 use Rattle.slotted_normal_forms.proofs.NumbersInShapes.{names-beside}
 
 -- the row of a shape f with the map m, where put back they give the node d

@@ -9,10 +9,10 @@ use Rattle.slotted_store.specs.Kept.{Kept}
 use Rattle.slotted_store.proofs.KeptLists.{length-proofs_of}
 use Rattle.slotted_filing.specs.Filed.{filed_of}
 use Rattle.slotted_filing.proofs.Places.{at-append_left}
-use Rattle.slotted_filing.specs.FiledRows.{Rows, rows_in, rows_state}
+use Rattle.slotted_filing.specs.FiledRows.{Rows, WaitsOn, rows_in, rows_state}
 use Rattle.slotted_unions.specs.StateOf.{state_with}
 use Rattle.slotted_unions.proofs.GrownRows.{grown-rows, grown-count}
-use Rattle.slotted_rebuilding.specs.Filed.{state_in, IsWellFiled, WaitsOn, UnitesFiled}
+use Rattle.slotted_rebuilding.specs.Filed.{state_in, IsWellFiled, UnitesFiled}
 use Rattle.slotted_rebuilding.specs.Turns.{IsFirst}
 
 -- which classes wait is told by the rows alone

@@ -28,7 +28,8 @@ use Rattle.slotted_model.proofs.Theory.{moved-agrees, moved-moved, free_names-mo
 use Rattle.slotted_proofs.proofs.Bridges.{ascends}
 use Rattle.slotted_store.specs.Kept.{Kept, nodes_of, entries_of}
 use Rattle.slotted_store.proofs.NamePairs.{In-firsts}
-use Rattle.slotted_normal_forms.specs.FoundNodes.{finds_of, row_of_entry, IsFoundNode}
+use Rattle.slotted_normal_forms.specs.FoundNodes.{finds_of, IsFoundNode}
+use Rattle.slotted_filing.specs.FiledRows.{row_of_entry}
 use Rattle.slotted_normal_forms.proofs.NumbersInShapes.{names-shape}
 use Rattle.slotted_rebuilding.proofs.CurrentRows.{row-itself}
 

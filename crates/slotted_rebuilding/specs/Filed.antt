@@ -1,10 +1,9 @@
 -- What is kept with its filed nodes.
 --     state_in k r       the state: what is kept, the rows of the filed nodes, and what waits
 --     IsWellFiled k r        what holds between all inner steps of a rebuild
---     WaitsOn r q        from r to q no node is filed anew, and what waited stands first
 --     UnitesFiled        a union by an entry, and the nodes over each class that changed wait
 --     SettlesFiled       acts, and no turn, until each listed symmetry is aligned
-use Rattle.std.specs.Prelude.{◌≡◌, ℕ, List, ◌++◌, Some, false, length}
+use Rattle.std.specs.Prelude.{◌≡◌, ℕ, Some, false, length}
 use Rattle.slotted_model.specs.Applied.{keys}
 use Rattle.slotted_model.specs.Changes.{Unites}
 use Rattle.slotted_model.specs.Rebuild.{Runs}
@@ -14,7 +13,7 @@ use Rattle.slotted_languages.specs.Shape.{shape}
 use Rattle.slotted_nodes.specs.Form.{Fits}
 use Rattle.slotted_store.specs.Kept.{Kept, rows_from}
 use Rattle.slotted_filing.specs.Filed.{Filing, filed_of}
-use Rattle.slotted_filing.specs.FiledRows.{Rows, rows_in}
+use Rattle.slotted_filing.specs.FiledRows.{Rows, WaitsOn, rows_in}
 use Rattle.slotted_unions.specs.StateOf.{state_with}
 use Rattle.slotted_unions.specs.Stored.{Stored, Grows}
 
@@ -34,12 +33,6 @@ pub record IsWellFiled (k : Kept) (r : Rows) : Type 0 where
   pub count : length r.filed ≡ length k.classes
   pub sane : Sane (state_in k r)
   pub keyed : (i : ℕ) (e : Filing) → filed_of r.filed i ≡ Some e → IsKeyed e
-
--- no node is filed anew, and what waited stands first in what waits
-pub record WaitsOn (r q : Rows) : Type 0 where
-  pub same : q.filed ≡ r.filed
-  pub more : List ℕ
-  pub waits : q.waiting ≡ r.waiting ++ more
 
 -- the union by the entry p leads from one to the other, and the nodes over each class that changed wait
 pub record UnitesFiled (p : ℕ) (k : Kept) (r : Rows) (l : Kept) (q : Rows) : Type 0 where

@@ -13,11 +13,11 @@ use Rattle.slotted_model.specs.State.{normal_node}
 use Rattle.slotted_nodes.specs.Form.{Form}
 use Rattle.slotted_normal_forms.specs.FoundNodes.{IsFoundNode, finds_of}
 use Rattle.slotted_store.specs.Kept.{Kept}
-use Rattle.slotted_filing.specs.FiledRows.{Rows}
+use Rattle.slotted_filing.specs.FiledRows.{Rows, WaitsOn}
 use Rattle.slotted_unions.specs.Proving.{OnlyProves}
 use Rattle.slotted_unions.specs.StateOf.{state_of}
 use Rattle.slotted_unions.specs.Stored.{Grows}
-use Rattle.slotted_rebuilding.specs.Filed.{state_in, IsWellFiled, WaitsOn}
+use Rattle.slotted_rebuilding.specs.Filed.{state_in, IsWellFiled}
 
 -- the class is the first one that waits
 abbrev pub IsFirst : Rows → ℕ → Type 0

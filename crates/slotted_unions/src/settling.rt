@@ -31,8 +31,8 @@ fn is_aligned<L: Language>(
     Ok(have_same_values(&left.m, &right.m))
 }
 
-// The proof of the first listed symmetry that is not aligned.
-fn next_unaligned<L: Language>(store: &Store<L>, alloc: Global) -> Result<Option<ProvenEq>, Error>
+/// The proof of the first listed symmetry that is not aligned.
+pub fn next_unaligned<L: Language>(store: &Store<L>, alloc: Global) -> Result<Option<ProvenEq>, Error>
     requires good { Stored store.now }
     ensures some { IfOk result (λ o. IfSome o (IsUnaligned store.now)) }
     ensures none { IfOk result (λ o. IfNone o (AreAligned store.now)) }

@@ -1,7 +1,7 @@
 -- Those over the class wait first, and then no source is left over it.
-use Rattle.std.proofs.Common.{[], sym, subst, slice_index_or}
+use Rattle.std.proofs.Common.{[], refl, sym, subst, slice_index_or}
 use Rattle.slotted_model.specs.State.{HasTouched}
-use Rattle.slotted_filing.specs.FiledRows.{rows_state}
+use Rattle.slotted_filing.specs.FiledRows.{rows_state, WaitsOn}
 use Rattle.slotted_filing.specs.Over.{FitTogether, WaitOver}
 use Rattle.slotted_filing.proofs.Together.{fit-waiting, fit-cleared, touched}
 use Rattle.slotted_filing.proofs.hashcons.Hashcons.touch.Goals as goal
@@ -27,3 +27,10 @@ returns-clause-waiting g c =
     let over : WaitOver (slice_index_or us c.args.class []) v c.args.class u.queue = subst (λ xs. WaitOver xs v c.args.class u.queue) c.of.ensures c.in_ok-wait_over.ensures.ok in
     subst (λ s. HasTouched (rows_state s) c.args.class u.queue) c.self.view_is
     (touched v us c.self.inside.waiting c.self.invariant c.args.class u c.wait_over.ensures.more over)
+
+pub returns-clause-waits : goal.returns-clause-waits
+returns-clause-waits g c =
+    let v = c.self.inside.nodes in
+    let u = c.wait_over.new.waiting in
+    subst (λ s. WaitsOn s (record { filed = v; waiting = u.queue })) c.self.view_is
+    (record { same = refl; more = c.wait_over.ensures.more.more; waits = c.wait_over.ensures.more.grows })
