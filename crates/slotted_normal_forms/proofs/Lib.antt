@@ -5,3 +5,4 @@ pub mod ShapesOfNodes
 pub mod CanonicalChildren
 pub mod OwnIds
 pub mod NumberPartners
+pub mod CoveredNodes

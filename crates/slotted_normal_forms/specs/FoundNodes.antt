@@ -1,5 +1,6 @@
 -- The canonical node of a class in normal form, by its shape.
 --     finds_of k                what is kept, as far as finds see it
+--     StandsIn k i m t          what the slot t of the class that i finds stands for is a value of m
 --     IsFoundNode k i f m       f is the shape of the normal form of the class i, and m has the slot of i for each number of it
 use Rattle.std.specs.Prelude.{◌≡◌, ◌↔◌, ℕ, List, [], Contains}
 use Rattle.slotted_theory.specs.Nameless.{moved}
@@ -9,6 +10,7 @@ use Rattle.slotted_languages.specs.NodeTerm.{nameless_node}
 use Rattle.slotted_languages.specs.Shape.{shape}
 use Rattle.slotted_model.specs.Applied.{keys, values}
 use Rattle.slotted_model.specs.Ascending.{names}
+use Rattle.slotted_model.specs.Find.{find_map}
 use Rattle.slotted_model.specs.Rebuild.{row_for}
 use Rattle.slotted_model.specs.State.{State, normal_node}
 use Rattle.slotted_store.specs.Kept.{Kept, nodes_of, entries_of}
@@ -22,6 +24,10 @@ finds_of k = record { nodes = nodes_of k; found = entries_of k; proofs = []; row
 abbrev pub HasNormalNames : Kept → ℕ → List (ℕ × ℕ) → Type 0
 HasNormalNames k i m = (s : ℕ) → Contains (values m) s ↔ Contains (names (normal_node (finds_of k) i)) s
 
+-- what the slot t of the class that the class i finds stands for is a value of the map
+abbrev pub StandsIn : Kept → ℕ → List (ℕ × ℕ) → ℕ → Type 0
+StandsIn k i m t = (s : ℕ) → Contains (find_map (entries_of k) i) (t, s) → Contains (values m) s
+
 pub record IsFoundNode (k : Kept) (i : ℕ) (f : Form) (m : List (ℕ × ℕ)) : Type 0 where
   -- it is the row by which the class is filed
   pub row : row_of_entry (f, (i, m)) ≡ row_for (finds_of k) i
@@ -32,3 +38,7 @@ pub record IsFoundNode (k : Kept) (i : ℕ) (f : Form) (m : List (ℕ × ℕ)) :
   pub back : moved (filled m) (nameless_node f) ≡ normal_node (finds_of k) i
   pub slots : HasNormalNames k i m
   pub different : IsInjectiveMap m
+
+-- the map has the slots of the class for the numbers of the shape of its node in normal form
+abbrev pub HasFoundNode : Kept → ℕ → List (ℕ × ℕ) → Type 0
+HasFoundNode k i m = (f : Form) × IsFoundNode k i f m

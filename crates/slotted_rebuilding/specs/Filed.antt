@@ -9,8 +9,7 @@ use Rattle.slotted_model.specs.Changes.{Unites}
 use Rattle.slotted_model.specs.Rebuild.{Runs}
 use Rattle.slotted_model.specs.Rest.{Sane}
 use Rattle.slotted_model.specs.State.{State}
-use Rattle.slotted_languages.specs.Shape.{shape}
-use Rattle.slotted_nodes.specs.Form.{Fits}
+use Rattle.slotted_languages.specs.Shape.{Fits, shape}
 use Rattle.slotted_store.specs.Kept.{Kept, rows_from}
 use Rattle.slotted_filing.specs.Filed.{Filing, filed_of}
 use Rattle.slotted_filing.specs.FiledRows.{Rows, WaitsOn, rows_in}

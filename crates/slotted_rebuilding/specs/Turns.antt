@@ -11,6 +11,8 @@ use Rattle.slotted_model.specs.Rebuild.{Runs, Turn, HasNothingLeft, IsCovered, I
 use Rattle.slotted_model.specs.Rest.{size}
 use Rattle.slotted_model.specs.State.{normal_node}
 use Rattle.slotted_nodes.specs.Form.{Form}
+use Rattle.slotted_languages.specs.Shape.{Fits}
+use Rattle.slotted_filing.specs.Filed.{HasKey}
 use Rattle.slotted_normal_forms.specs.FoundNodes.{IsFoundNode, finds_of}
 use Rattle.slotted_store.specs.Kept.{Kept}
 use Rattle.slotted_filing.specs.FiledRows.{Rows, WaitsOn}
@@ -26,6 +28,13 @@ IsFirst r o = slice_get r.waiting 0 ≡ Some o
 -- the node of the class o in normal form lacks a slot that the class uses
 abbrev pub LacksSlot : Kept → ℕ → Type 0
 LacksSlot k o = (s : ℕ) × Contains (used_slots (finds_of k).found o) s × (¬ Contains (names (normal_node (finds_of k) o)) s)
+
+-- the shape of the node of the class o in normal form is the key that is filed of another class
+pub record SharesKey (k : Kept) (r : Rows) (o : ℕ) (slots : List (ℕ × ℕ)) (other : ℕ) : Type 0 where
+  pub key : Form
+  pub fits : Fits key
+  pub node : IsFoundNode k o key slots
+  pub filed : HasKey r.filed other key
 
 -- nothing but proofs was entered, of which p is a congruence of the two classes
 pub record ProvesCongruence (k l : Kept) (i j p : ℕ) : Type 0 where

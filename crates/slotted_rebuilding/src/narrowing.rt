@@ -1,10 +1,10 @@
 //! A class whose node in normal form lacks one of its slots is united with itself, until it has each.
-ghost use Rattle.std.specs.Prelude.{◌≡◌, ◌<◌, ◌↔◌, length, IsTrue, IfOk, IfErr, IsErrOf, OnOk};
+ghost use Rattle.std.specs.Prelude.{◌≡◌, ◌<◌, length, IfOk, IfErr, IsErrOf, OnOk};
 ghost use Rattle.slotted_slots.specs.Error.{IsShortage};
-ghost use Rattle.slotted_model.specs.Rebuild.{IsCovered};
-ghost use Rattle.slotted_normal_forms.specs.FoundNodes.{IsFoundNode, finds_of};
+ghost use Rattle.slotted_normal_forms.specs.FoundNodes.{HasFoundNode};
 ghost use Rattle.slotted_normal_forms.specs.Sides.{HaveOneShape};
-ghost use Rattle.slotted_store.specs.Finding.{HasFinds};
+ghost use Rattle.slotted_store.specs.Kept.{rows_from};
+ghost use Rattle.slotted_unions.specs.Stored.{Stored};
 ghost use Rattle.slotted_rebuilding.specs.Causes.{HasLargeClass};
 ghost use Rattle.slotted_rebuilding.specs.Filed.{IsWellFiled};
 ghost use Rattle.slotted_rebuilding.specs.Turns.{IsFirst, LacksSlot, NarrowsOnce, NarrowsTo, ProvesCongruence};
@@ -14,32 +14,13 @@ use slotted_congruence::twins::congruence;
 use slotted_filing::Hashcons;
 use slotted_languages::Language;
 use slotted_normal_forms::FoundNode;
+use slotted_normal_forms::covered::is_covered;
 use slotted_normal_forms::found::found_node;
 use slotted_normal_forms::sides::sides;
 use slotted_proofs::ProvenEq;
 use slotted_slots::{Error, SlotMap};
 use slotted_store::Store;
-use slotted_store::names::has_value;
 use std::alloc::Global;
-
-// Whether the node of a class in normal form has each slot that the class uses.
-fn is_covered<L: Language>(store: &Store<L>, class: usize, names: &SlotMap) -> bool
-    requires good { HasFinds store.now }
-    requires within { class < length store.now.classes }
-    requires node { (f : Form) × IsFoundNode store.now class f names.now }
-    ensures { IsTrue result ↔ IsCovered (finds_of store.now) class }
-{
-    let slots = &store.entry(store.find_class(class)).m;
-    for i in 0..slots.len() {
-        let Some(own) = store.found_slot(class, slots.value_at(i)) else {
-            continue;
-        };
-        if !has_value(names, own) {
-            return false;
-        }
-    }
-    true
-}
 
 /// The proof that two classes are equal, since their nodes have one shape in normal form: the names have the slots for its numbers.
 pub fn twin_proof<L: Language>(
@@ -73,7 +54,7 @@ fn narrow<L: Language>(
 ) -> Result<(), Error>
     requires good { IsWellFiled store.old nodes.old }
     requires first { IsFirst nodes.old class }
-    requires node { (f : Form) × IsFoundNode store.old class f names.now }
+    requires node { HasFoundNode store.old class names.now }
     requires lacks { LacksSlot store.old class }
     ensures ok { OnOk result (NarrowsOnce store.old nodes.old store.new nodes.new) }
     ensures full { IsErrOf result Error.OutOfSlots → HasLargeClass store.old }

@@ -1,16 +1,15 @@
 //! The turn of a class whose node waits to be filed anew.
-ghost use Rattle.std.specs.Prelude.{◌≢◌, ◌<◌, length, IfErr, IsErrOf, OnOk};
+ghost use Rattle.std.specs.Prelude.{◌≢◌, ◌<◌, length, IfOk, IfErr, IsErrOf, OnOk};
 ghost use Rattle.slotted_slots.specs.Error.{IsShortage};
-ghost use Rattle.slotted_filing.specs.Filed.{HasKey};
-ghost use Rattle.slotted_normal_forms.specs.FoundNodes.{IsFoundNode};
 ghost use Rattle.slotted_rebuilding.specs.Causes.{HasLargeClass};
 ghost use Rattle.slotted_rebuilding.specs.Filed.{IsWellFiled};
-ghost use Rattle.slotted_rebuilding.specs.Turns.{IsFirst, TakesTurns};
+ghost use Rattle.slotted_rebuilding.specs.Turns.{IsFirst, ProvesCongruence, SharesKey, TakesTurns};
 
 use crate::narrowing::{narrowed, twin_proof};
 use crate::uniting::unite;
 use slotted_filing::Hashcons;
 use slotted_languages::Language;
+use slotted_proofs::ProvenEq;
 use slotted_slots::{Error, SlotMap};
 use slotted_store::Store;
 use std::alloc::Global;
@@ -26,7 +25,7 @@ fn collision<L: Language>(
 ) -> Result<ProvenEq, Error>
     requires good { IsWellFiled store.old nodes.now }
     requires within { class < length store.old.classes }
-    requires shape { (f : Form) × IsFoundNode store.old class f names.now × HasKey nodes.now.filed other f }
+    requires shape { SharesKey store.old nodes.now class names.now other }
     ensures ok { IfOk result (ProvesCongruence store.old store.new class other) }
     ensures full { IsErrOf result Error.OutOfSlots → HasLargeClass store.old }
     ensures err { IfErr result IsShortage }
@@ -48,7 +47,7 @@ fn collide<L: Language>(
 ) -> Result<(), Error>
     requires good { IsWellFiled store.old nodes.old }
     requires first { IsFirst nodes.old class }
-    requires shape { (f : Form) × IsFoundNode store.old class f names.now × HasKey nodes.old.filed other f }
+    requires shape { SharesKey store.old nodes.old class names.now other }
     requires different { other ≢ class }
     ensures ok { OnOk result (TakesTurns store.old nodes.old store.new nodes.new) }
     ensures full { IsErrOf result Error.OutOfSlots → HasLargeClass store.old }
