@@ -6,7 +6,7 @@ use Rattle.std.proofs.lemmas.Bool.{cases_eq}
 use Rattle.std.proofs.lemmas.List.{get_or-set_same, get_or-set_other, length-map, length-set}
 use Rattle.std.proofs.lemmas.Option.{slice_get_within}
 use Rattle.slotted_nodes.specs.Form.{Form}
-use Rattle.slotted_filing.specs.Filed.{Filing, FiledRow, HasKey, IsNewKey, HasKeysOnce, IsIndexed, filed_at, filed_of, place_of}
+use Rattle.slotted_filing.specs.Filed.{Filing, FiledRow, HasKey, IsNewKey, IsNewToOthers, HasKeysOnce, IsIndexed, filed_at, filed_of, place_of}
 use Rattle.slotted_filing.proofs.Places.{same-places, at-append_left, at-append_end, at-append_cases, swapped-other, swapped-cases}
 
 -- the class of a row that stands somewhere
@@ -89,6 +89,16 @@ pub place-within : {X : Type 0} (places : List (Option X)) (i : ℕ) (p : X) →
 place-within [] i p e = absurd (none-some p e)
 place-within (o ∷ places) zero p e = omega arith
 place-within (o ∷ places) (suc i) p e = let w = place-within places i p e in omega (arith, w)
+
+-- the key of a class that has nothing filed any more is new, where no other class has it
+pub new-key_taken : (v : List (Option Filing)) (i : ℕ) (f : Form) → i < length v → IsNewToOthers v i f → IsNewKey (set v i None) f
+new-key_taken v i f within n j k = elim (cases_eq j i) [
+  | inl e ↦
+      let a : filed_of (set v i None) j ≡ None = ap (filed_of (set v i None)) e ∙ get_or-set_same v i None None within in
+      let b = k.1 in
+      cc
+  | inr d ↦ n j d (k.0, sym (get_or-set_other v i j None None d) ∙ k.1)
+]
 
 -- a node is filed
 module _ (rows : List FiledRow) (places : List (Option ℕ)) (c : ℕ) (f : Form) (m : List (ℕ × ℕ)) (h : IsIndexed rows places) (within : c < length places) (free : place_of places c ≡ None) (new : IsNewKey (filed_in rows places) f) where

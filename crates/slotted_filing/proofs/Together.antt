@@ -9,8 +9,8 @@ use Rattle.slotted_theory.proofs.Lists.{contains_head, contains_tail, contains_c
 use Rattle.slotted_nodes.specs.Form.{Form, children, child_id}
 use Rattle.slotted_model.specs.Correspondence.{AllDifferent}
 use Rattle.slotted_model.specs.State.{Row, HasTouched, child_classes}
-use Rattle.slotted_filing.specs.Filed.{Filing, IsNewKey, filed_of}
-use Rattle.slotted_filing.specs.FiledRows.{HasChildrenBelow, IsFiled, IsNewToOthers, key_children, row_of_entry, rows_state}
+use Rattle.slotted_filing.specs.Filed.{Filing, filed_of}
+use Rattle.slotted_filing.specs.FiledRows.{HasChildrenBelow, IsFiled, key_children, row_of_entry, rows_state}
 use Rattle.slotted_filing.specs.Over.{AreUsedMore, FitTogether, HasChild, IsUser, UsesEach, WaitOver, WaitsMore}
 use Rattle.slotted_filing.specs.Waiting.{Waiting, Pops, Pushes, with_one_more}
 use Rattle.slotted_filing.proofs.Flags.{different-added}
@@ -348,13 +348,3 @@ front-within v us w fit i e =
 pub popped : (o : Option ℕ) (w u : Waiting) (i : ℕ) → IfSome o (Pops w u) → IfNone o ((w.queue ≡ []) × (u ≡ w)) → slice_get w.queue 0 ≡ Some i → (w.queue ≡ i ∷ u.queue) × (u.count ≡ w.count)
 popped None w u i s n e = let empty : slice_get w.queue 0 ≡ None = ap (λ l. slice_get l 0) n.0 in cc
 popped (Some j) w u i s n e = let same : j ≡ i = some-same j i (sym (ap (λ l. slice_get l 0) s.0) ∙ e) in (s.0 ∙ ap (λ x. x ∷ u.queue) same, s.1)
-
--- the key of a class that has nothing filed any more is new, where no other class has it
-pub new-key_taken : (v : List (Option Filing)) (i : ℕ) (f : Form) → i < length v → IsNewToOthers v i f → IsNewKey (set v i None) f
-new-key_taken v i f within n j k = elim (cases_eq j i) [
-  | inl e ↦
-      let a : filed_of (set v i None) j ≡ None = ap (filed_of (set v i None)) e ∙ get_or-set_same v i None None within in
-      let b = k.1 in
-      cc
-  | inr d ↦ n j d (k.0, sym (get_or-set_other v i j None None d) ∙ k.1)
-]

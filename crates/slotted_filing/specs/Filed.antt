@@ -3,7 +3,7 @@
 --     filed_of v i       what is filed of the class i
 --     HasKey v i f       the node that is filed of the class i has the key f
 --     IsIndexed rs ps    rows by place and the place of each class fit together
-use Rattle.std.specs.Prelude.{◌≡◌, ℕ, List, [], Option, Some, None, option_map, slice_get, slice_index_or, map}
+use Rattle.std.specs.Prelude.{◌≡◌, ◌≢◌, ℕ, List, [], Option, Some, None, option_map, slice_get, slice_index_or, map}
 use Rattle.std.specs.Coded.{Coded, coded×, coded_ℕ, coded_list, coded_option}
 use Rattle.indexmap.specs.IndexMap.{IndexMap}
 use Rattle.slotted_nodes.specs.Form.{Form, leaf}
@@ -27,6 +27,10 @@ HasKey v i f = (m : List (ℕ × ℕ)) × (filed_of v i ≡ Some (f, m))
 -- no class has a node of this key
 abbrev pub IsNewKey : List (Option Filing) → Form → Type 0
 IsNewKey v f = (i : ℕ) → ¬ HasKey v i f
+
+-- no class but i has a node of this key
+abbrev pub IsNewToOthers : List (Option Filing) → ℕ → Form → Type 0
+IsNewToOthers v i f = (j : ℕ) → j ≢ i → ¬ HasKey v j f
 
 -- no two classes have nodes of one key
 abbrev pub HasKeysOnce : List (Option Filing) → Type 0

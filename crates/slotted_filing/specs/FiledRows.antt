@@ -4,7 +4,7 @@
 --     key_children f     the classes of the children of a key
 --     Rows               what is filed of each class, and which classes wait, the first one first
 --     rows_state s       the model's graph with these rows, and what waits
-use Rattle.std.specs.Prelude.{◌≡◌, ◌≢◌, ◌⊎◌, ◌<◌, ℕ, suc, List, [], ◌∷◌, ◌++◌, set, Option, Some, None, Contains, refl}
+use Rattle.std.specs.Prelude.{◌≡◌, ◌⊎◌, ◌<◌, ℕ, suc, List, [], ◌∷◌, ◌++◌, set, Option, Some, None, Contains, refl}
 use Rattle.std.specs.List.{zip}
 use Rattle.std.specs.Coded.{Coded, code_by, coded×, coded_ℕ, coded_list}
 use Rattle.slotted_theory.specs.Shape as theory
@@ -14,7 +14,7 @@ use Rattle.slotted_model.specs.Applied.{values}
 use Rattle.slotted_model.specs.Ascending.{names}
 use Rattle.slotted_model.specs.State.{Row, State, child_classes}
 use Rattle.slotted_store.specs.Kept.{RowEntry}
-use Rattle.slotted_filing.specs.Filed.{Filing, HasKey, filed_of, filings_code}
+use Rattle.slotted_filing.specs.Filed.{Filing, filed_of, filings_code}
 
 -- a row in the model's words
 abbrev pub row_of_entry : RowEntry → Row
@@ -48,10 +48,6 @@ IsFiled v i = (e : Filing) × (filed_of v i ≡ Some e)
 -- the children of the key are of classes below n
 abbrev pub HasChildrenBelow : ℕ → Form → Type 0
 HasChildrenBelow n f = (c : ℕ) → Contains (key_children f) c → c < n
-
--- no class but i has a node of this key
-abbrev pub IsNewToOthers : List (Option Filing) → ℕ → Form → Type 0
-IsNewToOthers v i f = (j : ℕ) → j ≢ i → ¬ HasKey v j f
 
 pub record Rows : Type 0 where
   pub filed : List (Option Filing)

@@ -4,10 +4,11 @@ ghost use Rattle.std.specs.Prelude.{IsTrue, IfSome, IfNone, IfErr, OnOk, Contain
 ghost use Rattle.slotted_slots.specs.Error.{IsOutOfMemory};
 ghost use Rattle.slotted_model.specs.Correspondence.{AllDifferent};
 ghost use Rattle.slotted_model.specs.State.{HasTouched};
-ghost use Rattle.slotted_filing.specs.Filed.{filed_of, HasKey, IsNewKey, HasKeysOnce};
+ghost use Rattle.slotted_filing.specs.Filed.{filed_of, HasKey, IsNewKey, IsNewToOthers, HasKeysOnce};
 ghost use Rattle.slotted_filing.specs.FiledRows.{no_rows, with_class, with_filed, rows_state, key_children};
-ghost use Rattle.slotted_filing.specs.FiledRows.{IsFiled, HasChildrenBelow, IsNewToOthers, QueuesUp, TakesTurn, WaitsOn};
+ghost use Rattle.slotted_filing.specs.FiledRows.{IsFiled, HasChildrenBelow, QueuesUp, TakesTurn, WaitsOn};
 ghost use Rattle.slotted_filing.specs.Over.{HasChild, WaitsMore, WaitOver, AreUsedMore, UsesEach};
+ghost use Rattle.slotted_filing.specs.Waiting.{Pops};
 
 use crate::index::NodeIndex;
 use crate::usages::Usages;
@@ -145,9 +146,8 @@ impl<L: Language> Hashcons<L> {
         ensures err { IfErr result IsOutOfMemory }
     {
         use_children(&mut self.usages, &key, class)?;
-        self.nodes.unfile(class);
-        self.waiting.pop();
-        self.nodes.file(class, key, names)?;
+        end_turn(&mut self.waiting, class);
+        self.nodes.refile(class, key, names)?;
         Ok(())
     }
 
@@ -156,8 +156,8 @@ impl<L: Language> Hashcons<L> {
         requires { slice_get self.old.waiting 0 ≡ Some class }
         ensures { TakesTurn self.old self.new class None }
     {
+        end_turn(&mut self.waiting, class);
         self.nodes.unfile(class);
-        self.waiting.pop();
     }
 }
 
@@ -216,4 +216,12 @@ fn use_children<L: Language>(usages: &mut Usages, node: &L, source: usize) -> Re
         usages.add(node.applied_id(k).id.0, source)?;
     }
     Ok(())
+}
+
+// The class whose turn it is waits no more.
+fn end_turn(waiting: &mut Worklist, class: usize)
+    requires { slice_get waiting.old.queue 0 ≡ Some class }
+    ensures { Pops waiting.old waiting.new class }
+{
+    waiting.pop();
 }

@@ -1,7 +1,7 @@
 //! The filed nodes, by their keys and by the classes that they come from.
 ghost use Rattle.std.specs.Prelude.{◌≡◌, ◌<◌, ◌++◌, ◌∷◌, [], length, None, Some, set, option_map, slice_get, swap_remove, IfSome, IfNone, IfErr, OnOk, OnErr};
 ghost use Rattle.slotted_slots.specs.Error.{IsOutOfMemory};
-ghost use Rattle.slotted_filing.specs.Filed.{FiledRow, filed_of, rows_of, HasKey, IsNewKey, HasKeysOnce};
+ghost use Rattle.slotted_filing.specs.Filed.{FiledRow, filed_of, rows_of, HasKey, IsNewKey, IsNewToOthers, HasKeysOnce};
 
 use indexmap::IndexMap;
 use slotted_languages::Language;
@@ -117,6 +117,19 @@ impl<L: Language> NodeIndex<L> {
             }
             None => {}
         }
+    }
+
+    /// Files a key of a class in the place of the one that it had. After want of memory nothing is filed of the class.
+    pub fn refile(&mut self, class: usize, key: L, names: SlotMap) -> Result<(), Error>
+        requires within { class < length self.old }
+        requires new_key { IsNewToOthers self.old class (L.form key) }
+        ensures ok { OnOk result (self.new ≡ set self.old class (Some (L.form key, names))) }
+        ensures gone { OnErr result (self.new ≡ set self.old class None) }
+        ensures err { IfErr result IsOutOfMemory }
+    {
+        self.unfile(class);
+        self.file(class, key, names)?;
+        Ok(())
     }
 }
 

@@ -1,5 +1,5 @@
-//! What a graph keeps of its filed nodes: which node is filed of each class, which classes wait to be filed anew, and which sources stand over
-//! a class.
+//! What a graph keeps of its filed nodes: which node is filed of each class, which classes wait to be filed anew, and which
+//! sources stand over a class.
 #![tactic(auto)]
 
 pub mod hashcons;
