@@ -20,13 +20,14 @@ use Rattle.slotted_unions.proofs.GrownRows.{grown-rows, grown-count}
 use Rattle.slotted_unions.proofs.KeptSlots.{grows-then}
 use Rattle.slotted_rebuilding.specs.Filed.{state_in, IsWellFiled, UnitesFiled}
 use Rattle.slotted_rebuilding.specs.Turns.{LacksSlot, NarrowsOnce, ProvesCongruence}
-use Rattle.slotted_rebuilding.proofs.FiledStates.{united-well}
+use Rattle.slotted_rebuilding.proofs.FiledStates.{fits-grown, united-well}
 
 -- what is kept is well filed after more entries
 pub proved-well : (k m : Kept) (r : Rows) → OnlyProves k m → IsWellFiled k r → IsWellFiled m r
 proved-well k m r only well = record {
   stored = only.stored;
   canonical = grown-rows k m (only-grows k m only) well.canonical;
+  fits = fits-grown k m (only-grows k m only) well.fits;
   count = well.count ∙ sym (grown-count k m (only-grows k m only));
   sane = subst Sane (sym (only-state k m only (rows_in r.filed) r.waiting)) (proofs-sane (state_in k r) well.sane (proofs_of m) only.asserts_nothing).0;
   keyed = well.keyed;

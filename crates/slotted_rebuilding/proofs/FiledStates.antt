@@ -5,12 +5,14 @@ use Rattle.std.specs.Prelude.{slice_get}
 use Rattle.slotted_model.specs.Changes.{HasUnited, Unites}
 use Rattle.slotted_model.specs.State.{HasTouched}
 use Rattle.slotted_model.proofs.Unions.{unites}
-use Rattle.slotted_store.specs.Kept.{Kept}
+use Rattle.slotted_store.specs.Kept.{Kept, node_at}
 use Rattle.slotted_store.proofs.KeptLists.{length-proofs_of}
 use Rattle.slotted_filing.specs.Filed.{filed_of}
 use Rattle.slotted_filing.proofs.Places.{at-append_left}
 use Rattle.slotted_filing.specs.FiledRows.{Rows, WaitsOn, rows_in, rows_state}
+use Rattle.slotted_languages.specs.Shape.{Fits}
 use Rattle.slotted_unions.specs.StateOf.{state_with}
+use Rattle.slotted_unions.specs.Stored.{Grows}
 use Rattle.slotted_unions.proofs.GrownRows.{grown-rows, grown-count}
 use Rattle.slotted_rebuilding.specs.Filed.{state_in, IsWellFiled, UnitesFiled}
 use Rattle.slotted_rebuilding.specs.Turns.{IsFirst}
@@ -37,6 +39,10 @@ waits-then r q s a b = record {
 pub first-still : (r q : Rows) (o : ℕ) → WaitsOn r q → IsFirst r o → IsFirst q o
 first-still r q o w f = subst (λ x. slice_get x 0 ≡ Some o) (sym w.waits) (at-append_left r.waiting w.more 0 o f)
 
+-- canonical nodes have a name for each of their places, also in what has grown
+pub fits-grown : (k l : Kept) → Grows k l → ((i : ℕ) → i < length k.classes → Fits (node_at k i)) → (i : ℕ) → i < length l.classes → Fits (node_at l i)
+fits-grown k l grows fits i h = subst Fits (sym (grows.forms i)) (fits i (subst (λ n. i < n) (grown-count k l grows) h))
+
 -- what a union leaves is well filed
 pub united-well : (p : ℕ) (k : Kept) (r : Rows) (l : Kept) (q : Rows) → IsWellFiled k r → p < length k.proofs → UnitesFiled p k r l q → IsWellFiled l q
 united-well p k r l q well within u =
@@ -44,6 +50,7 @@ united-well p k r l q well within u =
     record {
       stored = u.stored;
       canonical = grown-rows k l u.grows well.canonical;
+      fits = fits-grown k l u.grows well.fits;
       count = ap length u.waits.same ∙ (well.count ∙ sym (grown-count k l u.grows));
       sane = h.sane;
       keyed = λ i e f. well.keyed i e (subst (λ v. filed_of v i ≡ Some e) u.waits.same f);

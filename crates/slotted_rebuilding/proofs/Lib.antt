@@ -7,3 +7,4 @@ pub mod FiledStates
 pub mod LargeClasses
 pub mod EnteredCongruences
 pub mod TakenTurns
+pub mod NarrowedNodes

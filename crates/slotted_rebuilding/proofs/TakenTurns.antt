@@ -73,6 +73,7 @@ turned-well : (g : State) (l : Kept) (q s : Rows) → Sane g → Turn g (state_i
 turned-well g l q s sane turn well count keyed = record {
   stored = well.stored;
   canonical = well.canonical;
+  fits = well.fits;
   count = count ∙ well.count;
   sane = turn-sane g (state_in l s) sane turn;
   keyed = keyed;

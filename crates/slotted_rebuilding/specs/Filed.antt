@@ -3,14 +3,14 @@
 --     IsWellFiled k r        what holds between all inner steps of a rebuild
 --     UnitesFiled        a union by an entry, and the nodes over each class that changed wait
 --     SettlesFiled       acts, and no turn, until each listed symmetry is aligned
-use Rattle.std.specs.Prelude.{◌≡◌, ℕ, Some, false, length}
+use Rattle.std.specs.Prelude.{◌≡◌, ◌<◌, ℕ, Some, false, length}
 use Rattle.slotted_model.specs.Applied.{keys}
 use Rattle.slotted_model.specs.Changes.{Unites}
 use Rattle.slotted_model.specs.Rebuild.{Runs}
 use Rattle.slotted_model.specs.Rest.{Sane}
 use Rattle.slotted_model.specs.State.{State}
 use Rattle.slotted_languages.specs.Shape.{Fits, shape}
-use Rattle.slotted_store.specs.Kept.{Kept, rows_from}
+use Rattle.slotted_store.specs.Kept.{Kept, node_at, rows_from}
 use Rattle.slotted_filing.specs.Filed.{Filing, filed_of}
 use Rattle.slotted_filing.specs.FiledRows.{Rows, WaitsOn, rows_in}
 use Rattle.slotted_unions.specs.StateOf.{state_with}
@@ -29,6 +29,7 @@ pub record IsKeyed (e : Filing) : Type 0 where
 pub record IsWellFiled (k : Kept) (r : Rows) : Type 0 where
   pub stored : Stored k
   pub canonical : k.rows ≡ rows_from 0 k.classes
+  pub fits : (i : ℕ) → i < length k.classes → Fits (node_at k i)
   pub count : length r.filed ≡ length k.classes
   pub sane : Sane (state_in k r)
   pub keyed : (i : ℕ) (e : Filing) → filed_of r.filed i ≡ Some e → IsKeyed e
