@@ -29,7 +29,7 @@ proved-well k m r only well = record {
   canonical = grown-rows k m (only-grows k m only) well.canonical;
   fits = fits-grown k m (only-grows k m only) well.fits;
   count = well.count ∙ sym (grown-count k m (only-grows k m only));
-  sane = subst Sane (sym (only-state k m only (rows_in r.filed) r.waiting)) (proofs-sane (state_in k r) well.sane (proofs_of m) only.asserts_nothing).0;
+  sane = subst Sane (sym (only-state k m only (rows_in r.filed) r.waiting)) (proofs-sane (state_in k r) well.sane (proofs_of m) only.asserts_nothing);
   keyed = well.keyed;
 }
 
@@ -64,7 +64,7 @@ narrowed-once k m r o p well waits lacks proved l q u =
     record {
       turn = proved-turn k m r only (state_in l q) (narrows o p still.0 waits still.1 still.2 c u.unites);
       filed = united-well p m r l q here (stands-within m r p o o c) u;
-      grows = grows-then k m l (only-grows k m only) u.grows;
+      grows = grows-then k m l (only-grows k m only) u.by.grows;
       waits = u.waits;
       smaller = subst (λ n. size (state_of l) < n) (ap (λ (z : Kept). size (state_of z)) only.kept)
           (lacking-falls p u.unites here.sane c.stands.0 (narrow-lacks (state_in m r) here.sane o p still.0 still.1 still.2 c));

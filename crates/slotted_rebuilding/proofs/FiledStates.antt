@@ -48,10 +48,10 @@ pub united-well : (p : ℕ) (k : Kept) (r : Rows) (l : Kept) (q : Rows) → IsWe
 united-well p k r l q well within u =
     let h : HasUnited p (state_in k r) (state_in l q) = unites p u.unites well.sane (subst (λ n. p < n) (sym (length-proofs_of k)) within) in
     record {
-      stored = u.stored;
-      canonical = grown-rows k l u.grows well.canonical;
-      fits = fits-grown k l u.grows well.fits;
-      count = ap length u.waits.same ∙ (well.count ∙ sym (grown-count k l u.grows));
+      stored = u.by.stored;
+      canonical = grown-rows k l u.by.grows well.canonical;
+      fits = fits-grown k l u.by.grows well.fits;
+      count = ap length u.waits.same ∙ (well.count ∙ sym (grown-count k l u.by.grows));
       sane = h.sane;
       keyed = λ i e f. well.keyed i e (subst (λ v. filed_of v i ≡ Some e) u.waits.same f);
     }

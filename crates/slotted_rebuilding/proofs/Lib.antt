@@ -8,3 +8,5 @@ pub mod LargeClasses
 pub mod EnteredCongruences
 pub mod TakenTurns
 pub mod NarrowedNodes
+pub mod FiledUnions
+pub mod SettledRows

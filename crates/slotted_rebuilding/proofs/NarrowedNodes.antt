@@ -1,7 +1,6 @@
 -- The node of a class that waits, in normal form, until it has each slot of the class.
 use Rattle.std.proofs.Common.{◌≡◌, ◌<◌, ◌≤◌, ◌+◌, ◌^◌, ℕ, List, [], ◌∷◌, Some, length, ap, ◌∙◌, sym, subst, refl, inl, inr, arith}
 use Rattle.std.specs.Prelude.{Contains, slice_get}
-use Rattle.std.proofs.Math.Option.{some-injective}
 use Rattle.std.proofs.lemmas.Option.{none-some}
 use Rattle.slotted_nodes.specs.Form.{Form}
 use Rattle.slotted_languages.specs.NewNames.{IsTooLarge}
@@ -30,9 +29,12 @@ use Rattle.slotted_rebuilding.specs.Turns.{IsFirst, LacksSlot, NarrowsOnce, Narr
 use Rattle.slotted_rebuilding.proofs.FiledStates.{waits-nothing, waits-then}
 use Rattle.slotted_rebuilding.proofs.Runs.{runs-join}
 
+some-same : {X : Type 0} (x y : X) → Some x ≡ Some y → x ≡ y
+some-same x y e = cc
+
 first-in : (w : List ℕ) (o : ℕ) → slice_get w 0 ≡ Some o → Contains w o
 first-in [] o e = absurd (none-some o e)
-first-in (x ∷ w) o e = subst (Contains (x ∷ w)) (some-injective x o e) (contains_head x w)
+first-in (x ∷ w) o e = subst (Contains (x ∷ w)) (some-same x o e) (contains_head x w)
 
 -- the first one waits
 pub first-waits : (r : Rows) (o : ℕ) → IsFirst r o → Contains r.waiting o

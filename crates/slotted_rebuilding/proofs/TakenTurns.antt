@@ -1,7 +1,6 @@
 -- The end of a turn: the class that waited first waits no more, and its node is filed anew or not at all.
 use Rattle.std.proofs.Common.{◌≡◌, ◌≢◌, ℕ, suc, zero, ◌<◌, List, [], ◌∷◌, Some, length, ap, ◌∙◌, sym, subst, refl, inl, inr, arith}
 use Rattle.std.specs.Prelude.{Contains, Option, None, set, slice_get, slice_index_or}
-use Rattle.std.proofs.Math.Option.{some-injective}
 use Rattle.std.proofs.lemmas.Bool.{cases_eq}
 use Rattle.std.proofs.lemmas.List.{get_or-set_same, get_or-set_other, length-set}
 use Rattle.std.proofs.lemmas.Option.{none-some}
@@ -48,6 +47,9 @@ refiled-state k r s o f m e once filed t row =
 pub filed-other : (v : List (Option Filing)) (o i : ℕ) (x : Option Filing) → i ≢ o → filed_of (set v o x) i ≡ filed_of v i
 filed-other v o i x differ = get_or-set_other v o i x None differ
 
+some-same : {X : Type 0} (x y : X) → Some x ≡ Some y → x ≡ y
+some-same x y e = cc
+
 -- nothing is filed of the class any more
 filed-none : (v : List (Option Filing)) (o : ℕ) → filed_of (set v o None) o ≡ None
 filed-none [] o = refl
@@ -63,7 +65,7 @@ keyed-removed v o keyed i e f = elim (cases_eq i o) [
 keyed-refiled : (v : List (Option Filing)) (o : ℕ) (x : Filing) → o < length v → IsKeyed x → ((i : ℕ) (e : Filing) → filed_of v i ≡ Some e → IsKeyed e) →
     (i : ℕ) (e : Filing) → filed_of (set v o (Some x)) i ≡ Some e → IsKeyed e
 keyed-refiled v o x within new keyed i e f = elim (cases_eq i o) [
-  | inl same ↦ subst IsKeyed (some-injective x e (sym (get_or-set_same v o (Some x) None within) ∙ (ap (filed_of (set v o (Some x))) (sym same) ∙ f))) new
+  | inl same ↦ subst IsKeyed (some-same x e (sym (get_or-set_same v o (Some x) None within) ∙ (ap (filed_of (set v o (Some x))) (sym same) ∙ f))) new
   | inr differ ↦ keyed i e (sym (filed-other v o i (Some x) differ) ∙ f)
 ]
 
@@ -98,7 +100,7 @@ collides k m l r q s o other p well waits differ e filed shape proved u t =
       runs = takes_turn starts (proved-turn k m r only (state_in l s) goes);
       filed = turned-well (state_in m r) l q s here.sane goes after count
           (λ i x f. keyed-removed q.filed o after.keyed i x (subst (λ v. filed_of v i ≡ Some x) t.filed f));
-      grows = grows-then k m l (only-grows k m only) u.grows;
+      grows = grows-then k m l (only-grows k m only) u.by.grows;
     }
 
 -- no other class has the key, and the node is filed by it

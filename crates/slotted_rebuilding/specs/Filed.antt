@@ -15,6 +15,7 @@ use Rattle.slotted_filing.specs.Filed.{Filing, filed_of}
 use Rattle.slotted_filing.specs.FiledRows.{Rows, WaitsOn, rows_in}
 use Rattle.slotted_unions.specs.StateOf.{state_with}
 use Rattle.slotted_unions.specs.Stored.{Stored, Grows}
+use Rattle.slotted_unions.specs.Uniting.{UnitesBy}
 
 abbrev pub state_in : Kept → Rows → State
 state_in k r = state_with k (rows_in r.filed) r.waiting
@@ -37,8 +38,8 @@ pub record IsWellFiled (k : Kept) (r : Rows) : Type 0 where
 -- the union by the entry p leads from one to the other, and the nodes over each class that changed wait
 pub record UnitesFiled (p : ℕ) (k : Kept) (r : Rows) (l : Kept) (q : Rows) : Type 0 where
   pub unites : Unites p (state_in k r) (state_in l q)
-  pub stored : Stored l
-  pub grows : Grows k l
+  -- the same where no node is filed
+  pub by : UnitesBy p k l
   pub waits : WaitsOn r q
 
 -- acts, and no turn, lead from one to the other, whose symmetries are all known to be aligned

@@ -4,7 +4,7 @@
 --     IsNodeOf           the node of a class in normal form, with its shape as key
 --     TakesTurns         turns lead from one to the other
 --     Rebuilds           turns and acts, at least as many turns as are counted, until nothing is left to do
-use Rattle.std.specs.Prelude.{◌≡◌, ℕ, ◌<◌, ◌≤◌, List, Contains, Some, slice_get}
+use Rattle.std.specs.Prelude.{◌≡◌, ℕ, ◌<◌, ◌≤◌, List, Contains, Some, false, slice_get}
 use Rattle.slotted_model.specs.Find.{used_slots}
 use Rattle.slotted_model.specs.Ascending.{names}
 use Rattle.slotted_model.specs.Rebuild.{Runs, Turn, HasNothingLeft, IsCovered, IsCongruence}
@@ -66,6 +66,15 @@ pub record TakesTurns (k : Kept) (r : Rows) (l : Kept) (q : Rows) : Type 0 where
   pub runs : Runs (state_in k r) turns (state_in l q)
   pub filed : IsWellFiled l q
   pub grows : Grows k l
+
+-- turns, at least as many as are counted, and acts lead from one to the other, whose symmetries are all known to be aligned
+pub record RebuildsSoFar (k : Kept) (r : Rows) (l : Kept) (q : Rows) (counted : ℕ) : Type 0 where
+  pub turns : ℕ
+  pub at_least : counted ≤ turns
+  pub runs : Runs (state_in k r) turns (state_in l q)
+  pub filed : IsWellFiled l q
+  pub grows : Grows k l
+  pub settled : l.dropped ≡ false
 
 -- turns, at least as many as are counted, and acts lead from one to the other, where nothing is left to do
 pub record Rebuilds (k : Kept) (r : Rows) (l : Kept) (q : Rows) (counted : ℕ) : Type 0 where

@@ -61,7 +61,8 @@ fn narrow<L: Language>(
     ensures err { IfErr result IsShortage }
 {
     let p = twin_proof(store, alloc, class, names, class, names)?;
-    unite(store, nodes, alloc, p)
+    unite(store, nodes, alloc, p)?;
+    Ok(())
 }
 
 /// The node of a class in normal form, once it has each slot that the class uses: as long as it lacks one, the class loses it.

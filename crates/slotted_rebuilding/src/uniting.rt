@@ -31,7 +31,10 @@ pub fn unite<L: Language>(
 {
     match unite_once(store, alloc, p)? {
         UnionStep::Done => Ok(()),
-        UnionStep::Linked(class) => nodes.touch(class),
+        UnionStep::Linked(class) => {
+            nodes.touch(class)?;
+            Ok(())
+        }
         UnionStep::Dropped(class) => {
             nodes.touch(class)?;
             unite(store, nodes, alloc, p)
