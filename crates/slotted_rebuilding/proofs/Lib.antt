@@ -10,3 +10,4 @@ pub mod TakenTurns
 pub mod NarrowedNodes
 pub mod FiledUnions
 pub mod SettledRows
+pub mod Collisions

@@ -10,7 +10,7 @@ use Rattle.slotted_rebuilding.proofs.uniting.+unite.Goals as goal
 pub returns-in_ok-touch-in-Linked-clause-ok : goal.returns-in_ok-touch-in-Linked-clause-ok
 returns-in_ok-touch-in-Linked-clause-ok g t c =
     let s = subst (StepsBy c.args.p c.args.store.now c.unite_once.new.store) c.in-Linked.is c.in_ok-unite_once.ensures.ok in
-    linked-filed c.args.p c.args.store.now c.unite_once.new.store c.args.nodes.now c.touch.new.self c.in-Linked.class s c.in_ok-touch.ensures.waiting c.in_ok-touch.ensures.waits
+    linked-filed c.args.p c.args.store.now c.unite_once.new.store c.args.nodes.now c.touch.new.self c.in-Linked.class s c.in_ok-touch-in-Linked.ensures.waiting c.in_ok-touch-in-Linked.ensures.waits
 
 pub unite-requires : goal.unite-requires
 unite-requires g t c =
@@ -19,7 +19,7 @@ unite-requires g t c =
     let s = subst (StepsBy c.args.p k l) c.in-Dropped.is c.in_ok-unite_once.ensures.ok in
     let small = s.did.smaller in
     let count = ap length c.in_ok-touch-in-Dropped.ensures.waits.same ∙ (c.requires.count ∙ sym (grown-count k l s.grows)) in
-    λ κs h. (omega (arith, small, c.decreases), (search rules, (s.stored, s.within, count)))
+    λ κs h. (omega (arith, small, c.decreases), (search rules, (s.stored, (s.within, count))))
 
 pub returns-in_ok-touch-in-Dropped-clause-ok : goal.returns-in_ok-touch-in-Dropped-clause-ok
 returns-in_ok-touch-in-Dropped-clause-ok g t c =

@@ -1,0 +1,51 @@
+use Rattle.std.proofs.Common.{◌∙◌, sym, subst, rules}
+use Rattle.indexmap.proofs.MapLemmas.{OnOk-map}
+use Rattle.slotted_rebuilding.specs.Turns.{TakesTurns}
+use Rattle.slotted_rebuilding.proofs.FiledStates.{first-still}
+use Rattle.slotted_rebuilding.proofs.LargeClasses.{large-grown}
+use Rattle.slotted_rebuilding.proofs.NarrowedNodes.{first-waits}
+use Rattle.slotted_rebuilding.proofs.Collisions.{children-within, files-it, new-to-others, shares-key, turns-then}
+use Rattle.slotted_rebuilding.proofs.turning.take_turn.Goals as goal
+
+pub returns-then-other-class-clause-ok : goal.returns-then-other-class-clause-ok
+returns-then-other-class-clause-ok g c =
+    let k = c.args.store.now in
+    let r = c.args.nodes.now in
+    let l = c.narrowed.new.store in
+    let q = c.narrowed.new.nodes in
+    OnOk-map c.collide.result (TakesTurns l q c.collide.new.store c.collide.new.nodes) (TakesTurns k r c.collide.new.store c.collide.new.nodes)
+    (turns-then k r c.args.class l q (g.L.LanguageChildren.form c.in_ok-node.node.key) c.in_ok-node.node.names c.collide.new.store c.collide.new.nodes c.in_ok-node.ensures.ok)
+    c.collide.ensures.ok
+
+pub refile-requires-clause-front : goal.refile-requires-clause-front
+refile-requires-clause-front g c = first-still c.args.nodes.now c.narrowed.new.nodes c.args.class c.in_ok-node.ensures.ok.waits c.requires.first
+
+pub refile-requires-clause-new_key : goal.refile-requires-clause-new_key
+refile-requires-clause-new_key g c =
+    new-to-others c.narrowed.new.nodes.filed c.args.class (g.L.LanguageChildren.form c.in_ok-node.node.key) c.source_of.result c.source_of.ensures.some c.source_of.ensures.none c.source_of.ensures.once
+    c.if-other-class.false
+
+pub refile-requires-clause-children : goal.refile-requires-clause-children
+refile-requires-clause-children g c =
+    let form = g.L.LanguageChildren.form in
+    let l = c.narrowed.new.store in
+    let q = c.narrowed.new.nodes in
+    let t = c.in_ok-node.ensures.ok in
+    let key = form c.in_ok-node.node.key in
+    let first = first-still c.args.nodes.now q c.args.class t.waits c.requires.first in
+    let new = new-to-others q.filed c.args.class key c.source_of.result c.source_of.ensures.some c.source_of.ensures.none c.source_of.ensures.once c.if-other-class.false in
+    children-within l q t.filed c.args.class (first-waits q c.args.class first) key c.in_ok-node.node.names (g.met.L.LanguageChildren.fits c.in_ok-node.node.key) t.node t.covered new
+
+pub returns-clause-ok : goal.returns-clause-ok
+returns-clause-ok g c =
+    let form = g.L.LanguageChildren.form in
+    let k = c.args.store.now in
+    let r = c.args.nodes.now in
+    let l = c.narrowed.new.store in
+    let q = c.narrowed.new.nodes in
+    let t = c.in_ok-node.ensures.ok in
+    let key = form c.in_ok-node.node.key in
+    let first = first-still r q c.args.class t.waits c.requires.first in
+    let new = new-to-others q.filed c.args.class key c.source_of.result c.source_of.ensures.some c.source_of.ensures.none c.source_of.ensures.once c.if-other-class.false in
+    turns-then k r c.args.class l q key c.in_ok-node.node.names l c.refile.new.self t
+    (files-it l q t.filed c.args.class (first-waits q c.args.class first) key c.in_ok-node.node.names (g.met.L.LanguageChildren.fits c.in_ok-node.node.key) t.node t.covered new c.refile.new.self c.in_ok-refile.ensures.ok)
