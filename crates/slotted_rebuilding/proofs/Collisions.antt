@@ -64,10 +64,10 @@ module _ (k : Kept) (r : Rows) (well : IsWellFiled k r) (o : ℕ) (waits : Conta
   alone : (x : Row) → Contains (rows_in r.filed) x → x.source ≢ o → x.shape ≢ theory.shape (normal_node (finds_of k) o)
   alone x c differ e =
       let h = filed-row r.filed x c in
-      let f : Form = h.1.0 in
-      let m : List (ℕ × ℕ) = h.1.1.0 in
-      let at : filed_of r.filed h.0 ≡ Some (f, m) = h.1.1.1.0 in
-      let is : x ≡ row_of_entry (f, (h.0, m)) = h.1.1.1.1 in
+      let f : Form = h.1 in
+      let m : List (ℕ × ℕ) = h.2 in
+      let at : filed_of r.filed h.0 ≡ Some (f, m) = h.3 in
+      let is : x ≡ row_of_entry (f, (h.0, m)) = h.4 in
       let kept : IsKeyed (f, m) = well.keyed h.0 (f, m) at in
       let shapes : theory.shape (nameless_node f) ≡ theory.shape (nameless_node key) = sym (ap (λ (y : Row). y.shape) is) ∙ (e ∙ sym (found-shape k o key slots node)) in
       let same : f ≡ key = one-key f key kept.fits fits kept.itself node.itself shapes in

@@ -11,3 +11,4 @@ pub mod NarrowedNodes
 pub mod FiledUnions
 pub mod SettledRows
 pub mod Collisions
+pub mod RebuiltGraphs

@@ -6,5 +6,5 @@ use Rattle.slotted_rebuilding.proofs.turning.collision.Goals as goal
 pub twin_proof-requires-clause-shape : goal.twin_proof-requires-clause-shape
 twin_proof-requires-clause-shape g c =
     let form = g.L.LanguageChildren.form in
-    shared-shapes c.args.store.now c.args.nodes.now c.args.class c.args.names.now c.args.other c.requires.good c.requires.within c.requires.shape (form c.in-Some.zz.now) c.in-Some.others.now
+    shared-shapes c.args.store.now c.args.nodes.now c.args.class c.args.names.now c.args.other c.requires.good c.requires.within c.requires.shape (form c.in-Some.field-0-0.now) c.in-Some.others.now
     (ap (option_map (λ p. (form p.0.now, p.1.now))) (sym c.in-Some.is) ∙ c.node.ensures)

@@ -23,7 +23,7 @@ refile-requires-clause-front g c = first-still c.args.nodes.now c.narrowed.new.n
 pub refile-requires-clause-new_key : goal.refile-requires-clause-new_key
 refile-requires-clause-new_key g c =
     new-to-others c.narrowed.new.nodes.filed c.args.class (g.L.LanguageChildren.form c.in_ok-node.node.key) c.source_of.result c.source_of.ensures.some c.source_of.ensures.none c.source_of.ensures.once
-    c.if-other-class.false
+    (sym c.unwrap_or-other.ensures ∙ c.if-other-class.false)
 
 pub refile-requires-clause-children : goal.refile-requires-clause-children
 refile-requires-clause-children g c =
@@ -33,7 +33,7 @@ refile-requires-clause-children g c =
     let t = c.in_ok-node.ensures.ok in
     let key = form c.in_ok-node.node.key in
     let first = first-still c.args.nodes.now q c.args.class t.waits c.requires.first in
-    let new = new-to-others q.filed c.args.class key c.source_of.result c.source_of.ensures.some c.source_of.ensures.none c.source_of.ensures.once c.if-other-class.false in
+    let new = new-to-others q.filed c.args.class key c.source_of.result c.source_of.ensures.some c.source_of.ensures.none c.source_of.ensures.once (sym c.unwrap_or-other.ensures ∙ c.if-other-class.false) in
     children-within l q t.filed c.args.class (first-waits q c.args.class first) key c.in_ok-node.node.names (g.met.L.LanguageChildren.fits c.in_ok-node.node.key) t.node t.covered new
 
 pub returns-clause-ok : goal.returns-clause-ok
@@ -46,6 +46,6 @@ returns-clause-ok g c =
     let t = c.in_ok-node.ensures.ok in
     let key = form c.in_ok-node.node.key in
     let first = first-still r q c.args.class t.waits c.requires.first in
-    let new = new-to-others q.filed c.args.class key c.source_of.result c.source_of.ensures.some c.source_of.ensures.none c.source_of.ensures.once c.if-other-class.false in
+    let new = new-to-others q.filed c.args.class key c.source_of.result c.source_of.ensures.some c.source_of.ensures.none c.source_of.ensures.once (sym c.unwrap_or-other.ensures ∙ c.if-other-class.false) in
     turns-then k r c.args.class l q key c.in_ok-node.node.names l c.refile.new.self t
     (files-it l q t.filed c.args.class (first-waits q c.args.class first) key c.in_ok-node.node.names (g.met.L.LanguageChildren.fits c.in_ok-node.node.key) t.node t.covered new c.refile.new.self c.in_ok-refile.ensures.ok)
