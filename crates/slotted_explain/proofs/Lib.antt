@@ -1,4 +1,5 @@
 -- Lemmas on printed proofs.
+pub mod ChainLeaves
 pub mod LastLine
 pub mod LinesBelow
 pub mod PrintedLines
@@ -6,3 +7,4 @@ pub mod Rewriting
 pub mod Sides
 pub mod SlotsOfLines
 pub mod SlotsOfSteps
+pub mod UsedNumbers

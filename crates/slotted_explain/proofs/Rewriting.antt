@@ -24,7 +24,7 @@ parts_first rest xs = reverse-append rest (reverse xs) ∙ ap (λ ys. ys ++ reve
 abbrev pub EachBelow : ℕ → List Rewrite → Type 0
 EachBelow n rs = Each (λ r. r.entry < n) rs
 
-each_both : (n : ℕ) (xs ys : List Rewrite) → EachBelow n xs → EachBelow n ys → EachBelow n (xs ++ ys)
+pub each_both : (n : ℕ) (xs ys : List Rewrite) → EachBelow n xs → EachBelow n ys → EachBelow n (xs ++ ys)
 each_both n [] ys h k = k
 each_both n (x ∷ xs) ys h k = (h.0, each_both n xs ys h.1 k)
 
@@ -48,7 +48,7 @@ each_part n (transitive p q) true path h = (h.1.0, (h.0, tt))
 each_part n (transitive p q) false path h = (h.0, (h.1.0, tt))
 each_part n (congruent ps) turned path h = each_child n turned path 0 ps h
 
-each_more : (n m : ℕ) (rs : List Rewrite) → n ≤ m → EachBelow n rs → EachBelow m rs
+pub each_more : (n m : ℕ) (rs : List Rewrite) → n ≤ m → EachBelow n rs → EachBelow m rs
 each_more n m [] l h = tt
 each_more n m (r ∷ rs) l h = (omega (arith, h.0, l), each_more n m rs l h.1)
 
@@ -57,7 +57,7 @@ each_own list r l true = (l, tt)
 each_own list r l false = tt
 
 -- the parts of an entry are below it
-parts_below : (list : List Proven) → PartsAreEarlier list → (r : Rewrite) → r.entry < length list → EachBelow r.entry (rewrites_below list r)
+pub parts_below : (list : List Proven) → PartsAreEarlier list → (r : Rewrite) → r.entry < length list → EachBelow r.entry (rewrites_below list r)
 parts_below list earlier r l =
     each_part r.entry (proven_at list r.entry).step r.turned r.path (Each-from_All (λ q. q < r.entry) (parts_at list r.entry) (earlier r.entry l))
 

@@ -118,7 +118,7 @@ fn subterm_after<L: Printable, N: Drop>(
         Some(names) => names,
         None => return Ok(None),
     };
-    name_apart(&to, &mut names, &mut slots_of(alloc, head)?)?;
+    name_apart(alloc, &to, &mut names, &mut slots_of(alloc, head)?)?;
     renamed_term(alloc, graph, &to, &names)
 }
 
@@ -158,7 +158,7 @@ fn names_at<L: Printable, N: Drop>(
     };
     let mut used = slots_of(alloc, &term)?;
     let mut numbers = SlotMap::new(alloc);
-    name_apart(a, &mut numbers, &mut used)?;
+    name_apart(alloc, a, &mut numbers, &mut used)?;
     let Some(pattern) = renamed_term(alloc, graph, a, &numbers)? else {
         return Ok(None);
     };

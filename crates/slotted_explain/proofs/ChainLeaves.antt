@@ -1,0 +1,139 @@
+-- The steps of the chain of a proof are by the explicit leaves of its tree, and each of these is used.
+use Rattle.std.proofs.Common.{◌≡◌, ℕ, zero, suc, ◌<◌, List, [], ◌∷◌, ◌++◌, length, Bool, true, false, cond, refl, sym, ap, ◌∙◌, subst, inl, inr, arith}
+use Rattle.std.specs.Prelude.{Contains, ◌↔◌, ◌⊎◌}
+use Rattle.std.proofs.lemmas.List.Elements.{Contains-append_cases, Contains-append_left, Contains-append_right}
+use Rattle.slotted_theory.proofs.Lists.{contains_cases, contains_head, contains_tail, Contains-nil}
+use Rattle.slotted_model.specs.Leaves.{IsLeaf, here, through, parts_of}
+use Rattle.slotted_model.specs.ProofList.{Step, explicit, reflexive, symmetric, transitive, congruent, step_at}
+use Rattle.slotted_proofs.specs.Entries.{Proven, entries_of, is_explicit, proven_at}
+use Rattle.slotted_proofs.specs.Lines.{PartsAreEarlier}
+use Rattle.slotted_proofs.proofs.Entering.{length-entries}
+use Rattle.slotted_proofs.proofs.Fitting.{step_at-entries}
+use Rattle.slotted_explain.specs.Chain.{IsChain, Rewrite, Rewrites, none, next, child_rewrites, own_step, part_rewrites, rewrite, rewrites_below}
+use Rattle.slotted_explain.proofs.Rewriting.{EachBelow, each_both, each_more, parts_below}
+
+-- what a step comes down to is by its parts
+child_part : (turned : Bool) (path : List ℕ) (k : ℕ) (ps : List ℕ) (x : Rewrite) → Contains (child_rewrites turned path k ps) x → Contains ps x.entry
+child_part turned path k [] x c = absurd (Contains-nil x c)
+child_part turned path k (p ∷ ps) x c = elim (contains_cases (rewrite p turned (path ++ k ∷ [])) (child_rewrites turned path (suc k) ps) x c) [
+  | inl e ↦ subst (Contains (p ∷ ps)) (sym (ap (λ (y : Rewrite). y.entry) e)) (contains_head p ps)
+  | inr d ↦ contains_tail p ps x.entry (child_part turned path (suc k) ps x d)
+]
+
+one_part : (p : ℕ) (r x : Rewrite) (ps : List ℕ) (rs : List Rewrite) → r.entry ≡ p → (Contains rs x → Contains ps x.entry) → Contains (r ∷ rs) x → Contains (p ∷ ps) x.entry
+one_part p r x ps rs e more c = elim (contains_cases r rs x c) [
+  | inl s ↦ subst (Contains (p ∷ ps)) (sym (ap (λ (y : Rewrite). y.entry) s ∙ e)) (contains_head p ps)
+  | inr d ↦ contains_tail p ps x.entry (more d)
+]
+
+either_part : (p q : ℕ) (x : Rewrite) → Contains (q ∷ p ∷ []) x.entry → Contains (p ∷ q ∷ []) x.entry
+either_part p q x c = elim (contains_cases q (p ∷ []) x.entry c) [
+  | inl e ↦ contains_tail p (q ∷ []) x.entry (subst (Contains (q ∷ [])) (sym e) (contains_head q []))
+  | inr d ↦ elim (contains_cases p [] x.entry d) [
+    | inl e ↦ subst (Contains (p ∷ q ∷ [])) (sym e) (contains_head p (q ∷ []))
+    | inr n ↦ absurd (Contains-nil x.entry n)
+  ]
+]
+
+two_parts : (p q : ℕ) (r s x : Rewrite) → r.entry ≡ p → s.entry ≡ q → Contains (r ∷ s ∷ []) x → Contains (p ∷ q ∷ []) x.entry
+two_parts p q r s x e f c = one_part p r x (q ∷ []) (s ∷ []) e (one_part q s x [] [] f (λ d. absurd (Contains-nil x d))) c
+
+part_there : (s : Step) (turned : Bool) (path : List ℕ) (x : Rewrite) → Contains (part_rewrites s turned path) x → Contains (parts_of s) x.entry
+part_there explicit turned path x c = absurd (Contains-nil x c)
+part_there reflexive turned path x c = absurd (Contains-nil x c)
+part_there (symmetric p) turned path x c = one_part p _ x [] [] refl (λ d. absurd (Contains-nil x d)) c
+part_there (transitive p q) true path x c = either_part p q x (two_parts q p (rewrite q true path) (rewrite p true path) x refl refl c)
+part_there (transitive p q) false path x c = two_parts p q (rewrite p false path) (rewrite q false path) x refl refl c
+part_there (congruent ps) turned path x c = child_part turned path 0 ps x c
+
+-- and each part is among it
+abbrev IsAmong : List Rewrite → ℕ → Type 0
+IsAmong rs q = (x : Rewrite) × Contains rs x × (x.entry ≡ q)
+
+among_more : (r : Rewrite) (rs : List Rewrite) (q : ℕ) → IsAmong rs q → IsAmong (r ∷ rs) q
+among_more r rs q a = (a.0, contains_tail r rs a.0 a.1, a.2)
+
+among_first : (r : Rewrite) (rs : List Rewrite) (p q : ℕ) (ps : List ℕ) → r.entry ≡ p → (Contains ps q → IsAmong rs q) → Contains (p ∷ ps) q → IsAmong (r ∷ rs) q
+among_first r rs p q ps e more c = elim (contains_cases p ps q c) [
+  | inl s ↦ (r, contains_head r rs, e ∙ sym s)
+  | inr d ↦ among_more r rs q (more d)
+]
+
+child_among : (turned : Bool) (path : List ℕ) (k : ℕ) (ps : List ℕ) (q : ℕ) → Contains ps q → IsAmong (child_rewrites turned path k ps) q
+child_among turned path k [] q c = absurd (Contains-nil q c)
+child_among turned path k (p ∷ ps) q c =
+    among_first (rewrite p turned (path ++ k ∷ [])) (child_rewrites turned path (suc k) ps) p q ps refl (child_among turned path (suc k) ps q) c
+
+part_among : (s : Step) (turned : Bool) (path : List ℕ) (q : ℕ) → Contains (parts_of s) q → IsAmong (part_rewrites s turned path) q
+part_among explicit turned path q c = absurd (Contains-nil q c)
+part_among reflexive turned path q c = absurd (Contains-nil q c)
+part_among (symmetric p) turned path q c = among_first _ [] p q [] refl (λ d. absurd (Contains-nil q d)) c
+part_among (transitive p r) false path q c =
+    among_first (rewrite p false path) (rewrite r false path ∷ []) p q (r ∷ []) refl (among_first (rewrite r false path) [] r q [] refl (λ d. absurd (Contains-nil q d))) c
+part_among (transitive p r) true path q c = elim (contains_cases p (r ∷ []) q c) [
+  | inl s ↦ (rewrite p true path, contains_tail (rewrite r true path) (rewrite p true path ∷ []) (rewrite p true path) (contains_head (rewrite p true path) []), sym s)
+  | inr d ↦ among_first (rewrite r true path) (rewrite p true path ∷ []) r q [] refl (λ n. absurd (Contains-nil q n)) d
+]
+part_among (congruent ps) turned path q c = child_among turned path 0 ps q c
+
+-- a step of its own is by an assertion
+own_is : (s : Step) (r x : Rewrite) → Contains (cond (is_explicit s) (r ∷ []) []) x → (s ≡ explicit) × (x ≡ r)
+own_is explicit r x c = elim (contains_cases r [] x c) [ inl e ↦ (refl, e) | inr n ↦ absurd (Contains-nil x n) ]
+own_is reflexive r x c = absurd (Contains-nil x c)
+own_is (symmetric p) r x c = absurd (Contains-nil x c)
+own_is (transitive p q) r x c = absurd (Contains-nil x c)
+own_is (congruent ps) r x c = absurd (Contains-nil x c)
+
+module _ (list : List Proven) where
+  -- each step is by a leaf of what it comes from
+  leaf_of : PartsAreEarlier list → {rs steps : List Rewrite} → Rewrites list rs steps → EachBelow (length list) rs → (x : Rewrite) → Contains steps x → (r : Rewrite) × Contains rs r × IsLeaf (entries_of list) r.entry x.entry
+  leaf_of earlier none b x c = absurd (Contains-nil x c)
+  leaf_of earlier (next {r} {rs} {steps} d) b x c =
+      let s : Step = (proven_at list r.entry).step in
+      let below = rewrites_below list r in
+      let within : EachBelow (length list) below = each_more r.entry (length list) below (omega (arith, b.0)) (parts_below list earlier r b.0) in
+      elim (Contains-append_cases (own_step list r) steps x c) [
+        | inl own ↦
+            let is : (s ≡ explicit) × (x ≡ r) = own_is s r x own in
+            let leaf : IsLeaf (entries_of list) r.entry r.entry = here (omega (arith, b.0, length-entries list)) (step_at-entries list r.entry ∙ is.0) in
+            (r, contains_head r rs, subst (λ (y : Rewrite). IsLeaf (entries_of list) r.entry y.entry) (sym is.1) leaf)
+        | inr more ↦
+            let from : (t : Rewrite) × Contains (below ++ rs) t × IsLeaf (entries_of list) t.entry x.entry = leaf_of earlier d (each_both (length list) below rs within b.1) x more in
+            elim (Contains-append_cases below rs from.0 from.1) [
+              | inl part ↦ (r, contains_head r rs, through (subst (λ z. Contains (parts_of z) from.0.entry) (sym (step_at-entries list r.entry)) (part_there s r.turned r.path from.0 part)) from.2)
+              | inr other ↦ (from.0, contains_tail r rs from.0 other, from.2)
+            ]
+      ]
+
+  -- each leaf is used
+  used : {rs steps : List Rewrite} → Rewrites list rs steps → (r : Rewrite) → Contains rs r → (p q : ℕ) → r.entry ≡ p → IsLeaf (entries_of list) p q → IsAmong steps q
+  used none r c p q e l = absurd (Contains-nil r c)
+  used (next {r} {rs} {steps} d) x c p q e l = elim (contains_cases r rs x c) [
+    | inl same ↦ by p q (ap (λ (y : Rewrite). y.entry) (sym same) ∙ e) l
+    | inr other ↦ later q (used d x (Contains-append_right (rewrites_below list r) rs x other) p q e l)
+  ]
+    where
+      later : (q : ℕ) → IsAmong steps q → IsAmong (own_step list r ++ steps) q
+      later q a = (a.0, Contains-append_right (own_step list r) steps a.0 a.1, a.2)
+
+      by : (p q : ℕ) → r.entry ≡ p → IsLeaf (entries_of list) p q → IsAmong (own_step list r ++ steps) q
+      by p p e (here l s) =
+          let step : (proven_at list r.entry).step ≡ explicit = sym (step_at-entries list r.entry) ∙ (ap (step_at (entries_of list)) e ∙ s) in
+          let own : own_step list r ≡ r ∷ [] = ap (λ (z : Step). cond (is_explicit z) (r ∷ []) []) step in
+          (r, Contains-append_left (own_step list r) steps r (subst (λ (ys : List Rewrite). Contains ys r) (sym own) (contains_head r [])), e)
+      by p q e (through {r = t} part l) =
+          let s : Step = (proven_at list r.entry).step in
+          let there : Contains (parts_of s) t = subst (λ z. Contains (parts_of z) t) (ap (step_at (entries_of list)) (sym e) ∙ step_at-entries list r.entry) part in
+          let next_one : IsAmong (rewrites_below list r) t = part_among s r.turned r.path t there in
+          later q (used d next_one.0 (Contains-append_left (rewrites_below list r) rs next_one.0 next_one.1) t q next_one.2 l)
+
+pub chain_leaves : (list : List Proven) → PartsAreEarlier list → (p : ℕ) → p < length list → (steps : List Rewrite) → IsChain list p steps → (q : ℕ) → IsLeaf (entries_of list) p q ↔ ((x : Rewrite) × Contains steps x × (x.entry ≡ q))
+chain_leaves list earlier p l steps chain q = (
+  λ leaf. used list chain (rewrite p false []) (contains_head (rewrite p false []) []) p q refl leaf,
+  λ a.
+      let from = leaf_of list earlier chain (l, tt) a.0 a.1 in
+      elim (contains_cases (rewrite p false []) [] from.0 from.1) [
+        | inl e ↦ subst (IsLeaf (entries_of list) p) a.2 (subst (λ (r : Rewrite). IsLeaf (entries_of list) r.entry a.0.entry) e from.2)
+        | inr n ↦ absurd (Contains-nil from.0 n)
+      ],
+)
