@@ -1,6 +1,6 @@
 -- The steps of the chain of a proof are by the explicit leaves of its tree, and each of these is used.
-use Rattle.std.proofs.Common.{◌≡◌, ℕ, zero, suc, ◌<◌, List, [], ◌∷◌, ◌++◌, length, Bool, true, false, cond, refl, sym, ap, ◌∙◌, subst, inl, inr, arith}
-use Rattle.std.specs.Prelude.{Contains, ◌↔◌, ◌⊎◌}
+use Rattle.std.proofs.Common.{◌≡◌, ℕ, suc, ◌<◌, List, [], ◌∷◌, ◌++◌, length, Bool, true, false, cond, refl, sym, ap, ◌∙◌, subst, inl, inr, arith}
+use Rattle.std.specs.Prelude.{Contains, ◌↔◌}
 use Rattle.std.proofs.lemmas.List.Elements.{Contains-append_cases, Contains-append_left, Contains-append_right}
 use Rattle.slotted_theory.proofs.Lists.{contains_cases, contains_head, contains_tail, Contains-nil}
 use Rattle.slotted_model.specs.Leaves.{IsLeaf, here, through, parts_of}
@@ -105,27 +105,27 @@ module _ (list : List Proven) where
             ]
       ]
 
-  -- each leaf is used
-  used : {rs steps : List Rewrite} → Rewrites list rs steps → (r : Rewrite) → Contains rs r → (p q : ℕ) → r.entry ≡ p → IsLeaf (entries_of list) p q → IsAmong steps q
-  used none r c p q e l = absurd (Contains-nil r c)
-  used (next {r} {rs} {steps} d) x c p q e l = elim (contains_cases r rs x c) [
-    | inl same ↦ by p q (ap (λ (y : Rewrite). y.entry) (sym same) ∙ e) l
-    | inr other ↦ later q (used d x (Contains-append_right (rewrites_below list r) rs x other) p q e l)
-  ]
-    where
-      later : (q : ℕ) → IsAmong steps q → IsAmong (own_step list r ++ steps) q
-      later q a = (a.0, Contains-append_right (own_step list r) steps a.0 a.1, a.2)
+  -- each leaf of a rewrite is a step of its own, or a leaf of what it comes down to
+  later : (r : Rewrite) (steps : List Rewrite) (q : ℕ) → IsAmong steps q → IsAmong (own_step list r ++ steps) q
+  later r steps q a = (a.0, Contains-append_right (own_step list r) steps a.0 a.1, a.2)
 
-      by : (p q : ℕ) → r.entry ≡ p → IsLeaf (entries_of list) p q → IsAmong (own_step list r ++ steps) q
-      by p p e (here l s) =
-          let step : (proven_at list r.entry).step ≡ explicit = sym (step_at-entries list r.entry) ∙ (ap (step_at (entries_of list)) e ∙ s) in
-          let own : own_step list r ≡ r ∷ [] = ap (λ (z : Step). cond (is_explicit z) (r ∷ []) []) step in
-          (r, Contains-append_left (own_step list r) steps r (subst (λ (ys : List Rewrite). Contains ys r) (sym own) (contains_head r [])), e)
-      by p q e (through {r = t} part l) =
-          let s : Step = (proven_at list r.entry).step in
-          let there : Contains (parts_of s) t = subst (λ z. Contains (parts_of z) t) (ap (step_at (entries_of list)) (sym e) ∙ step_at-entries list r.entry) part in
-          let next_one : IsAmong (rewrites_below list r) t = part_among s r.turned r.path t there in
-          later q (used d next_one.0 (Contains-append_left (rewrites_below list r) rs next_one.0 next_one.1) t q next_one.2 l)
+  at_once : (r : Rewrite) (rs steps : List Rewrite) → ((y : Rewrite) → Contains (rewrites_below list r ++ rs) y → (p q : ℕ) → y.entry ≡ p → IsLeaf (entries_of list) p q → IsAmong steps q) → {p q : ℕ} → r.entry ≡ p → IsLeaf (entries_of list) p q → IsAmong (own_step list r ++ steps) q
+  at_once r rs steps again e (here l s) =
+      let step : (proven_at list r.entry).step ≡ explicit = sym (step_at-entries list r.entry) ∙ (ap (step_at (entries_of list)) e ∙ s) in
+      let own : own_step list r ≡ r ∷ [] = ap (λ (z : Step). cond (is_explicit z) (r ∷ []) []) step in
+      (r, Contains-append_left (own_step list r) steps r (subst (λ (ys : List Rewrite). Contains ys r) (sym own) (contains_head r [])), e)
+  at_once r rs steps again {q = q} e (through {r = t} part l) =
+      let s : Step = (proven_at list r.entry).step in
+      let there : Contains (parts_of s) t = subst (λ z. Contains (parts_of z) t) (ap (step_at (entries_of list)) (sym e) ∙ step_at-entries list r.entry) part in
+      let one : IsAmong (rewrites_below list r) t = part_among s r.turned r.path t there in
+      later r steps q (again one.0 (Contains-append_left (rewrites_below list r) rs one.0 one.1) t q one.2 l)
+
+  used : {rs steps : List Rewrite} → Rewrites list rs steps → (x : Rewrite) → Contains rs x → (p q : ℕ) → x.entry ≡ p → IsLeaf (entries_of list) p q → IsAmong steps q
+  used none x c p q e l = absurd (Contains-nil x c)
+  used (next {r} {rs} {steps} d) x c p q e l = elim (contains_cases r rs x c) [
+    | inl same ↦ at_once r rs steps (λ y there p2 q2 e2 l2. used d y there p2 q2 e2 l2) (ap (λ (y : Rewrite). y.entry) (sym same) ∙ e) l
+    | inr other ↦ later r steps q (used d x (Contains-append_right (rewrites_below list r) rs x other) p q e l)
+  ]
 
 pub chain_leaves : (list : List Proven) → PartsAreEarlier list → (p : ℕ) → p < length list → (steps : List Rewrite) → IsChain list p steps → (q : ℕ) → IsLeaf (entries_of list) p q ↔ ((x : Rewrite) × Contains steps x × (x.entry ≡ q))
 chain_leaves list earlier p l steps chain q = (

@@ -1,5 +1,5 @@
 -- A list in which all first n numeric slots stand is at least n long.
-use Rattle.std.proofs.Common.{◌≡◌, ◌<◌, ◌≤◌, ◌*◌, ◌/◌, ℕ, List, [], ◌∷◌, length, map, Bool, true, false, refl, sym, ap, ◌∙◌, arith, inl, inr}
+use Rattle.std.proofs.Common.{◌≡◌, ◌<◌, ◌≤◌, ◌/◌, ℕ, List, [], ◌∷◌, length, map, Bool, true, false, refl, sym, ap, ◌∙◌, arith, inl, inr}
 use Rattle.std.specs.List.{list_any}
 use Rattle.std.specs.Prelude.{nat_eq, ◌||◌}
 use Rattle.std.proofs.lemmas.Bool.{cases_Bool, eq-eqb, eqb-true}

@@ -6,7 +6,7 @@
 --     chain_binders g p steps   how many binders the canonical terms have that the chain is made of
 --     MakesForChain g h p       no more fresh slots are made than that for the chain of p
 --     ChainRunsOut g h p        slots ran out in printing it
-use Rattle.std.specs.Prelude.{◌≡◌, ◌⊎◌, ◌+◌, ◌*◌, ◌<◌, ℕ, suc, Bool, true, false, cond, not, List, [], ◌∷◌, ◌++◌, length, All, Contains}
+use Rattle.std.specs.Prelude.{◌≡◌, ◌⊎◌, ◌+◌, ◌*◌, ◌<◌, ℕ, suc, Bool, false, cond, not, List, [], ◌∷◌, ◌++◌, length, All, Contains}
 use Rattle.std.specs.List.{sum_by}
 use Rattle.slotted_model.specs.ProofList.{Step, explicit, reflexive, symmetric, transitive, congruent}
 use Rattle.slotted_proofs.specs.Entries.{Proven, is_explicit, proven_at, statement_at}

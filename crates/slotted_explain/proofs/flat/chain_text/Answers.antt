@@ -1,5 +1,5 @@
 -- The first term is that of the left side.
-use Rattle.std.proofs.Common.{◌≡◌, ◌∙◌, List, ap, rules}
+use Rattle.std.proofs.Common.{◌≡◌, ◌∙◌, List, ap}
 use Rattle.slotted_slots.specs.declared.types.AppliedId.{AppliedId}
 use Rattle.slotted_model.specs.Applied.{Applied}
 use Rattle.slotted_proofs.specs.Entries.{Proven, statement_at}

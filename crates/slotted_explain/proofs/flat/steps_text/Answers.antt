@@ -1,7 +1,5 @@
 -- Each turn takes the slots of one step more.
-use Rattle.std.proofs.Common.{◌<◌, length, sym, subst, arith, rules}
-use Rattle.std.specs.Prelude.{slice_index_or}
-use Rattle.slotted_core.specs.Graph.{Graph}
+use Rattle.std.proofs.Common.{◌<◌, length, sym, arith, rules}
 use Rattle.slotted_core.proofs.CallerLemmas.{takes_twice}
 use Rattle.slotted_explain.proofs.SlotsOfSteps.{all_make, step_lacks, step_makes}
 use Rattle.slotted_explain.proofs.flat.steps_text.Goals as goal

@@ -1,7 +1,7 @@
 -- A turn takes the top of the stack apart.
 use Rattle.std.proofs.Common.{◌≡◌, ◌<◌, ◌++◌, ◌-◌, List, [], take, reverse, ap, sym, ◌∙◌, subst}
-use Rattle.slotted_explain.specs.Chain.{Rewrite, own_step, rewrites_below}
-use Rattle.slotted_explain.proofs.Rewriting.{IsUnderWay, chain_ends, chain_goes_on, chain_starts, left-falls, on_top, rewrites_left, steps_within}
+use Rattle.slotted_explain.specs.Chain.{Rewrite, rewrites_below}
+use Rattle.slotted_explain.proofs.Rewriting.{IsUnderWay, chain_ends, chain_goes_on, left-falls, on_top, rewrites_left}
 use Rattle.slotted_explain.proofs.steps.flat_steps.Goals as goal
 
 pub loop-step-smaller : goal.loop-step-smaller

@@ -1,5 +1,5 @@
 -- The entry stands in the list, whose parts are earlier ones, and its chain is that of the list.
-use Rattle.std.proofs.Common.{◌≡◌, ◌<◌, ◌∙◌, List, length, ap, sym, subst, arith, rules, inl, inr}
+use Rattle.std.proofs.Common.{◌∙◌, List, length, ap, sym, subst, arith, rules, inl, inr}
 use Rattle.std.proofs.lemmas.Bool.{false≢true}
 use Rattle.slotted_proofs.specs.Entries.{Proven, entry_of}
 use Rattle.slotted_proofs.specs.Lines.{PartsAreEarlier}
