@@ -1,6 +1,6 @@
 -- The steps of the chain of a proof are by the explicit leaves of its tree, and each of these is used.
 use Rattle.std.proofs.Common.{◌≡◌, ℕ, suc, ◌<◌, List, [], ◌∷◌, ◌++◌, length, Bool, true, false, cond, refl, sym, ap, ◌∙◌, subst, inl, inr, arith}
-use Rattle.std.specs.Prelude.{Contains, ◌↔◌}
+use Rattle.std.specs.Prelude.{not, Contains, ◌↔◌}
 use Rattle.std.proofs.lemmas.List.Elements.{Contains-append_cases, Contains-append_left, Contains-append_right}
 use Rattle.slotted_theory.proofs.Lists.{contains_cases, contains_head, contains_tail, Contains-nil}
 use Rattle.slotted_model.specs.Leaves.{IsLeaf, here, through, parts_of}
@@ -9,72 +9,72 @@ use Rattle.slotted_proofs.specs.Entries.{Proven, entries_of, is_explicit, proven
 use Rattle.slotted_proofs.specs.Lines.{PartsAreEarlier}
 use Rattle.slotted_proofs.proofs.Entering.{length-entries}
 use Rattle.slotted_proofs.proofs.Fitting.{step_at-entries}
-use Rattle.slotted_explain.specs.Chain.{IsChain, Rewrite, Rewrites, none, next, child_rewrites, own_step, part_rewrites, rewrite, rewrites_below}
+use Rattle.slotted_explain.specs.Chain.{IsChain, Rewrite, Rewrites, none, next, child_rewrite, child_rewrites, in_order, own_step, part_rewrites, rewrite, rewrites_below}
 use Rattle.slotted_explain.proofs.Rewriting.{EachBelow, each_both, each_more, parts_below}
 
--- what a step comes down to is by its parts
-child_part : (turned : Bool) (path : List ℕ) (k : ℕ) (ps : List ℕ) (x : Rewrite) → Contains (child_rewrites turned path k ps) x → Contains ps x.entry
-child_part turned path k [] x c = absurd (Contains-nil x c)
-child_part turned path k (p ∷ ps) x c = elim (contains_cases (rewrite p turned (path ++ k ∷ [])) (child_rewrites turned path (suc k) ps) x c) [
-  | inl e ↦ subst (Contains (p ∷ ps)) (sym (ap (λ (y : Rewrite). y.entry) e)) (contains_head p ps)
-  | inr d ↦ contains_tail p ps x.entry (child_part turned path (suc k) ps x d)
-]
-
-one_part : (p : ℕ) (r x : Rewrite) (ps : List ℕ) (rs : List Rewrite) → r.entry ≡ p → (Contains rs x → Contains ps x.entry) → Contains (r ∷ rs) x → Contains (p ∷ ps) x.entry
-one_part p r x ps rs e more c = elim (contains_cases r rs x c) [
+-- what a rewrite comes down to is by the parts of its step
+first_part : (p : ℕ) (r x : Rewrite) (ps : List ℕ) (rs : List Rewrite) → r.entry ≡ p → (Contains rs x → Contains ps x.entry) → Contains (r ∷ rs) x → Contains (p ∷ ps) x.entry
+first_part p r x ps rs e more c = elim (contains_cases r rs x c) [
   | inl s ↦ subst (Contains (p ∷ ps)) (sym (ap (λ (y : Rewrite). y.entry) s ∙ e)) (contains_head p ps)
   | inr d ↦ contains_tail p ps x.entry (more d)
 ]
 
-either_part : (p q : ℕ) (x : Rewrite) → Contains (q ∷ p ∷ []) x.entry → Contains (p ∷ q ∷ []) x.entry
-either_part p q x c = elim (contains_cases q (p ∷ []) x.entry c) [
-  | inl e ↦ contains_tail p (q ∷ []) x.entry (subst (Contains (q ∷ [])) (sym e) (contains_head q []))
-  | inr d ↦ elim (contains_cases p [] x.entry d) [
-    | inl e ↦ subst (Contains (p ∷ q ∷ [])) (sym e) (contains_head p (q ∷ []))
-    | inr n ↦ absurd (Contains-nil x.entry n)
+child_there : (r : Rewrite) (k : ℕ) (ps : List ℕ) (x : Rewrite) → Contains (child_rewrites r k ps) x → Contains ps x.entry
+child_there r k [] x c = absurd (Contains-nil x c)
+child_there r k (p ∷ ps) x c = first_part p (child_rewrite r k p) x ps (child_rewrites r (suc k) ps) refl (child_there r (suc k) ps x) c
+
+two_there : (a b x : Rewrite) → Contains (a ∷ b ∷ []) x → Contains (a.entry ∷ b.entry ∷ []) x.entry
+two_there a b x c = first_part a.entry a x (b.entry ∷ []) (b ∷ []) refl (first_part b.entry b x [] [] refl (λ d. absurd (Contains-nil x d))) c
+
+other_way : (X : Type 0) (a b x : X) → Contains (b ∷ a ∷ []) x → Contains (a ∷ b ∷ []) x
+other_way X a b x c = elim (contains_cases b (a ∷ []) x c) [
+  | inl e ↦ contains_tail a (b ∷ []) x (subst (Contains (b ∷ [])) (sym e) (contains_head b []))
+  | inr d ↦ elim (contains_cases a [] x d) [
+    | inl e ↦ subst (Contains (a ∷ b ∷ [])) (sym e) (contains_head a (b ∷ []))
+    | inr n ↦ absurd (Contains-nil x n)
   ]
 ]
 
-two_parts : (p q : ℕ) (r s x : Rewrite) → r.entry ≡ p → s.entry ≡ q → Contains (r ∷ s ∷ []) x → Contains (p ∷ q ∷ []) x.entry
-two_parts p q r s x e f c = one_part p r x (q ∷ []) (s ∷ []) e (one_part q s x [] [] f (λ d. absurd (Contains-nil x d))) c
+order_there : (turned : Bool) (a b x : Rewrite) → Contains (in_order turned a b) x → Contains (a.entry ∷ b.entry ∷ []) x.entry
+order_there true a b x c = two_there a b x (other_way Rewrite a b x c)
+order_there false a b x c = two_there a b x c
 
-part_there : (s : Step) (turned : Bool) (path : List ℕ) (x : Rewrite) → Contains (part_rewrites s turned path) x → Contains (parts_of s) x.entry
-part_there explicit turned path x c = absurd (Contains-nil x c)
-part_there reflexive turned path x c = absurd (Contains-nil x c)
-part_there (symmetric p) turned path x c = one_part p _ x [] [] refl (λ d. absurd (Contains-nil x d)) c
-part_there (transitive p q) true path x c = either_part p q x (two_parts q p (rewrite q true path) (rewrite p true path) x refl refl c)
-part_there (transitive p q) false path x c = two_parts p q (rewrite p false path) (rewrite q false path) x refl refl c
-part_there (congruent ps) turned path x c = child_part turned path 0 ps x c
+part_there : (r : Rewrite) (s : Step) (x : Rewrite) → Contains (part_rewrites r s) x → Contains (parts_of s) x.entry
+part_there r explicit x c = absurd (Contains-nil x c)
+part_there r reflexive x c = absurd (Contains-nil x c)
+part_there r (symmetric p) x c = first_part p (rewrite p (not r.turned) r.path) x [] [] refl (λ d. absurd (Contains-nil x d)) c
+part_there r (transitive p q) x c = order_there r.turned (rewrite p r.turned r.path) (rewrite q r.turned r.path) x c
+part_there r (congruent ps) x c = child_there r 0 ps x c
 
 -- and each part is among it
 abbrev IsAmong : List Rewrite → ℕ → Type 0
 IsAmong rs q = (x : Rewrite) × Contains rs x × (x.entry ≡ q)
 
-among_more : (r : Rewrite) (rs : List Rewrite) (q : ℕ) → IsAmong rs q → IsAmong (r ∷ rs) q
-among_more r rs q a = (a.0, contains_tail r rs a.0 a.1, a.2)
-
-among_first : (r : Rewrite) (rs : List Rewrite) (p q : ℕ) (ps : List ℕ) → r.entry ≡ p → (Contains ps q → IsAmong rs q) → Contains (p ∷ ps) q → IsAmong (r ∷ rs) q
-among_first r rs p q ps e more c = elim (contains_cases p ps q c) [
+first_among : (r : Rewrite) (rs : List Rewrite) (p q : ℕ) (ps : List ℕ) → r.entry ≡ p → (Contains ps q → IsAmong rs q) → Contains (p ∷ ps) q → IsAmong (r ∷ rs) q
+first_among r rs p q ps e more c = elim (contains_cases p ps q c) [
   | inl s ↦ (r, contains_head r rs, e ∙ sym s)
-  | inr d ↦ among_more r rs q (more d)
+  | inr d ↦
+      let a : IsAmong rs q = more d in
+      (a.0, contains_tail r rs a.0 a.1, a.2)
 ]
 
-child_among : (turned : Bool) (path : List ℕ) (k : ℕ) (ps : List ℕ) (q : ℕ) → Contains ps q → IsAmong (child_rewrites turned path k ps) q
-child_among turned path k [] q c = absurd (Contains-nil q c)
-child_among turned path k (p ∷ ps) q c =
-    among_first (rewrite p turned (path ++ k ∷ [])) (child_rewrites turned path (suc k) ps) p q ps refl (child_among turned path (suc k) ps q) c
+child_among : (r : Rewrite) (k : ℕ) (ps : List ℕ) (q : ℕ) → Contains ps q → IsAmong (child_rewrites r k ps) q
+child_among r k [] q c = absurd (Contains-nil q c)
+child_among r k (p ∷ ps) q c = first_among (child_rewrite r k p) (child_rewrites r (suc k) ps) p q ps refl (child_among r (suc k) ps q) c
 
-part_among : (s : Step) (turned : Bool) (path : List ℕ) (q : ℕ) → Contains (parts_of s) q → IsAmong (part_rewrites s turned path) q
-part_among explicit turned path q c = absurd (Contains-nil q c)
-part_among reflexive turned path q c = absurd (Contains-nil q c)
-part_among (symmetric p) turned path q c = among_first _ [] p q [] refl (λ d. absurd (Contains-nil q d)) c
-part_among (transitive p r) false path q c =
-    among_first (rewrite p false path) (rewrite r false path ∷ []) p q (r ∷ []) refl (among_first (rewrite r false path) [] r q [] refl (λ d. absurd (Contains-nil q d))) c
-part_among (transitive p r) true path q c = elim (contains_cases p (r ∷ []) q c) [
-  | inl s ↦ (rewrite p true path, contains_tail (rewrite r true path) (rewrite p true path ∷ []) (rewrite p true path) (contains_head (rewrite p true path) []), sym s)
-  | inr d ↦ among_first (rewrite r true path) (rewrite p true path ∷ []) r q [] refl (λ n. absurd (Contains-nil q n)) d
-]
-part_among (congruent ps) turned path q c = child_among turned path 0 ps q c
+two_among : (a b : Rewrite) (q : ℕ) → Contains (a.entry ∷ b.entry ∷ []) q → IsAmong (a ∷ b ∷ []) q
+two_among a b q c = first_among a (b ∷ []) a.entry q (b.entry ∷ []) refl (first_among b [] b.entry q [] refl (λ d. absurd (Contains-nil q d))) c
+
+order_among : (turned : Bool) (a b : Rewrite) (q : ℕ) → Contains (a.entry ∷ b.entry ∷ []) q → IsAmong (in_order turned a b) q
+order_among false a b q c = two_among a b q c
+order_among true a b q c = let m : IsAmong (a ∷ b ∷ []) q = two_among a b q c in (m.0, other_way Rewrite b a m.0 m.1, m.2)
+
+part_among : (r : Rewrite) (s : Step) (q : ℕ) → Contains (parts_of s) q → IsAmong (part_rewrites r s) q
+part_among r explicit q c = absurd (Contains-nil q c)
+part_among r reflexive q c = absurd (Contains-nil q c)
+part_among r (symmetric p) q c = first_among (rewrite p (not r.turned) r.path) [] p q [] refl (λ d. absurd (Contains-nil q d)) c
+part_among r (transitive p t) q c = order_among r.turned (rewrite p r.turned r.path) (rewrite t r.turned r.path) q c
+part_among r (congruent ps) q c = child_among r 0 ps q c
 
 -- a step of its own is by an assertion
 own_is : (s : Step) (r x : Rewrite) → Contains (cond (is_explicit s) (r ∷ []) []) x → (s ≡ explicit) × (x ≡ r)
@@ -100,7 +100,7 @@ module _ (list : List Proven) where
         | inr more ↦
             let from : (t : Rewrite) × Contains (below ++ rs) t × IsLeaf (entries_of list) t.entry x.entry = leaf_of earlier d (each_both (length list) below rs within b.1) x more in
             elim (Contains-append_cases below rs from.0 from.1) [
-              | inl part ↦ (r, contains_head r rs, through (subst (λ z. Contains (parts_of z) from.0.entry) (sym (step_at-entries list r.entry)) (part_there s r.turned r.path from.0 part)) from.2)
+              | inl part ↦ (r, contains_head r rs, through (subst (λ z. Contains (parts_of z) from.0.entry) (sym (step_at-entries list r.entry)) (part_there r s from.0 part)) from.2)
               | inr other ↦ (from.0, contains_tail r rs from.0 other, from.2)
             ]
       ]
@@ -117,7 +117,7 @@ module _ (list : List Proven) where
   at_once r rs steps again {q = q} e (through {r = t} part l) =
       let s : Step = (proven_at list r.entry).step in
       let there : Contains (parts_of s) t = subst (λ z. Contains (parts_of z) t) (ap (step_at (entries_of list)) (sym e) ∙ step_at-entries list r.entry) part in
-      let one : IsAmong (rewrites_below list r) t = part_among s r.turned r.path t there in
+      let one : IsAmong (rewrites_below list r) t = part_among r s t there in
       later r steps q (again one.0 (Contains-append_left (rewrites_below list r) rs one.0 one.1) t q one.2 l)
 
   used : {rs steps : List Rewrite} → Rewrites list rs steps → (x : Rewrite) → Contains rs x → (p q : ℕ) → x.entry ≡ p → IsLeaf (entries_of list) p q → IsAmong steps q

@@ -10,7 +10,7 @@ use Rattle.slotted_congruence.proofs.Children.{Each, Each-from_All}
 use Rattle.slotted_core.proofs.Layers.{each_at}
 use Rattle.slotted_proofs.specs.Entries.{Proven, proven_at}
 use Rattle.slotted_proofs.specs.Lines.{PartsAreEarlier, parts_at}
-use Rattle.slotted_explain.specs.Chain.{AreWithin, IsChain, Rewrite, Rewrites, none, next, child_rewrites, own_step, part_rewrites, rewrite, rewrites_below}
+use Rattle.slotted_explain.specs.Chain.{AreWithin, IsChain, Rewrite, Rewrites, none, next, child_rewrite, child_rewrites, in_order, own_step, part_rewrites, rewrite, rewrites_below}
 
 -- the top of a stack comes first
 top_first : (rest : List Rewrite) (r : Rewrite) → reverse (rest ++ r ∷ []) ≡ r ∷ reverse rest
@@ -35,17 +35,20 @@ each_reversed : (n : ℕ) (xs : List Rewrite) → EachBelow n xs → EachBelow n
 each_reversed n [] h = tt
 each_reversed n (x ∷ xs) h = subst (EachBelow n) (sym (reverse-append (x ∷ []) xs)) (each_both n (reverse xs) (x ∷ []) (each_reversed n xs h.1) (h.0, tt))
 
-each_child : (n : ℕ) (turned : Bool) (path : List ℕ) (k : ℕ) (ps : List ℕ) → Each (λ q. q < n) ps → EachBelow n (child_rewrites turned path k ps)
-each_child n turned path k [] h = tt
-each_child n turned path k (p ∷ ps) h = (h.0, each_child n turned path (suc k) ps h.1)
+each_child : (n : ℕ) (r : Rewrite) (k : ℕ) (ps : List ℕ) → Each (λ q. q < n) ps → EachBelow n (child_rewrites r k ps)
+each_child n r k [] h = tt
+each_child n r k (p ∷ ps) h = (h.0, each_child n r (suc k) ps h.1)
 
-each_part : (n : ℕ) (s : Step) (turned : Bool) (path : List ℕ) → Each (λ q. q < n) (parts_of s) → EachBelow n (part_rewrites s turned path)
-each_part n explicit turned path h = tt
-each_part n reflexive turned path h = tt
-each_part n (symmetric p) turned path h = (h.0, tt)
-each_part n (transitive p q) true path h = (h.1.0, (h.0, tt))
-each_part n (transitive p q) false path h = (h.0, (h.1.0, tt))
-each_part n (congruent ps) turned path h = each_child n turned path 0 ps h
+each_order : (n : ℕ) (b : Bool) (x y : Rewrite) → x.entry < n → y.entry < n → EachBelow n (in_order b x y)
+each_order n true x y l m = (m, (l, tt))
+each_order n false x y l m = (l, (m, tt))
+
+each_part : (n : ℕ) (r : Rewrite) (s : Step) → Each (λ q. q < n) (parts_of s) → EachBelow n (part_rewrites r s)
+each_part n r explicit h = tt
+each_part n r reflexive h = tt
+each_part n r (symmetric p) h = (h.0, tt)
+each_part n r (transitive p q) h = each_order n r.turned (rewrite p r.turned r.path) (rewrite q r.turned r.path) h.0 h.1.0
+each_part n r (congruent ps) h = each_child n r 0 ps h
 
 pub each_more : (n m : ℕ) (rs : List Rewrite) → n ≤ m → EachBelow n rs → EachBelow m rs
 each_more n m [] l h = tt
@@ -58,7 +61,7 @@ each_own list r l false = tt
 -- the parts of an entry are below it
 pub parts_below : (list : List Proven) → PartsAreEarlier list → (r : Rewrite) → r.entry < length list → EachBelow r.entry (rewrites_below list r)
 parts_below list earlier r l =
-    each_part r.entry (proven_at list r.entry).step r.turned r.path (Each-from_All (λ q. q < r.entry) (parts_at list r.entry) (earlier r.entry l))
+    each_part r.entry r (proven_at list r.entry).step (Each-from_All (λ q. q < r.entry) (parts_at list r.entry) (earlier r.entry l))
 
 -- what holds of a stack and of the steps so far: what is left comes down to the steps that are left of the chain of p
 pub record IsUnderWay (list : List Proven) (p : ℕ) (stack steps : List Rewrite) : Type 0 where
@@ -139,24 +142,26 @@ module _ (list : List Proven) where
   left-cons : (r : Rewrite) (rs : List Rewrite) → rewrites_left list (r ∷ rs) ≡ size_of list r.entry + rewrites_left list rs
   left-cons r rs = sum_by-cons (λ (x : Rewrite). size_of list x.entry) r rs
 
-  left-child : (turned : Bool) (path : List ℕ) (k : ℕ) (ps : List ℕ) → rewrites_left list (child_rewrites turned path k ps) ≡ sum_by (size_of list) ps
-  left-child turned path k [] = refl
-  left-child turned path k (p ∷ ps) =
-      omega (arith, left-cons (rewrite p turned (path ++ k ∷ [])) (child_rewrites turned path (suc k) ps), sum_by-cons (size_of list) p ps, left-child turned path (suc k) ps)
+  left-child : (r : Rewrite) (k : ℕ) (ps : List ℕ) → rewrites_left list (child_rewrites r k ps) ≡ sum_by (size_of list) ps
+  left-child r k [] = refl
+  left-child r k (p ∷ ps) = omega (arith, left-cons (child_rewrite r k p) (child_rewrites r (suc k) ps), sum_by-cons (size_of list) p ps, left-child r (suc k) ps)
 
-  left-part : (s : Step) (turned : Bool) (path : List ℕ) → rewrites_left list (part_rewrites s turned path) ≡ sum_by (size_of list) (parts_of s)
-  left-part explicit turned path = refl
-  left-part reflexive turned path = refl
-  left-part (symmetric p) turned path = refl
-  left-part (transitive p q) true path = omega arith
-  left-part (transitive p q) false path = refl
-  left-part (congruent ps) turned path = left-child turned path 0 ps
+  left-order : (b : Bool) (x y : Rewrite) → rewrites_left list (in_order b x y) ≡ size_of list x.entry + size_of list y.entry
+  left-order true x y = omega arith
+  left-order false x y = omega arith
+
+  left-part : (r : Rewrite) (s : Step) → rewrites_left list (part_rewrites r s) ≡ sum_by (size_of list) (parts_of s)
+  left-part r explicit = refl
+  left-part r reflexive = refl
+  left-part r (symmetric p) = refl
+  left-part r (transitive p q) = omega (arith, left-order r.turned (rewrite p r.turned r.path) (rewrite q r.turned r.path))
+  left-part r (congruent ps) = left-child r 0 ps
 
   pub left-falls : PartsAreEarlier list → (rest : List Rewrite) (r : Rewrite) → r.entry < length list → rewrites_left list (rest ++ reverse (rewrites_below list r)) < rewrites_left list (rest ++ r ∷ [])
   left-falls earlier rest r l =
       let w : Rewrite → ℕ = λ x. size_of list x.entry in
       let below = rewrites_below list r in
       let parts = parts_are_less list r.entry (parts_at list r.entry) refl (Each-from_All (λ q. q < r.entry) (parts_at list r.entry) (earlier r.entry l)) in
-      let same = left-part (proven_at list r.entry).step r.turned r.path in
+      let same = left-part r (proven_at list r.entry).step in
       let turned : sum_by w (reverse below) ≡ sum_by w below = sum_by-IsPermutation w below (reverse below) (IsPermutation-reverse below) in
       omega (arith, sum_by-append w rest (reverse below), sum_by_push w rest r, turned, same, parts)

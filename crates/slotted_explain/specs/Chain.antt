@@ -1,6 +1,6 @@
 -- A proof as a chain of whole terms: which assertions rewrite which places, in the order of use, and what printing them takes.
 --     Rewrite                   an entry that rewrites one place of a term
---     part_rewrites s b path    those of the parts of a step that is used there, in the order of use
+--     part_rewrites r s         those of the parts of its step s there, in the order of use
 --     Rewrites list rs steps    the rewrites rs, one after the other, come down to these, each by an assertion
 --     IsChain list p steps      so does the proof of p, at the top of the term
 --     chain_binders g p steps   how many binders the canonical terms have that the chain is made of
@@ -15,7 +15,8 @@ use Rattle.slotted_core.specs.Graph.{Graph, MakesAtMost, RunsOutIn}
 use Rattle.slotted_core.specs.Image.{Image}
 use Rattle.slotted_core.specs.Syn.{term_binders}
 
--- an entry that rewrites one place of a term, a turned one from right to left; the path has the child to go down to at each node from the top
+-- an entry that rewrites one place of a term, a turned one from right to left
+-- the path has the child to go down to at each node from the top
 pub record Rewrite : Type 0 where
   pub entry : ℕ
   pub turned : Bool
@@ -24,23 +25,29 @@ pub record Rewrite : Type 0 where
 abbrev pub rewrite : ℕ → Bool → List ℕ → Rewrite
 rewrite p turned path = record { entry = p; turned = turned; path = path }
 
--- the parts at the children of a place, from the child k on
-abbrev pub child_rewrites : Bool → List ℕ → ℕ → List ℕ → List Rewrite
-child_rewrites turned path k [] = []
-child_rewrites turned path k (p ∷ ps) = rewrite p turned (path ++ k ∷ []) ∷ child_rewrites turned path (suc k) ps
+-- an entry at the child k of the place that r rewrites, and some entries at the children from there on
+abbrev pub child_rewrite : Rewrite → ℕ → ℕ → Rewrite
+child_rewrite r k p = rewrite p r.turned (r.path ++ k ∷ [])
 
--- the parts of a step in the order of use: a turned chain of two begins with the second one, turned
-abbrev pub part_rewrites : Step → Bool → List ℕ → List Rewrite
-part_rewrites explicit turned path = []
-part_rewrites reflexive turned path = []
-part_rewrites (symmetric p) turned path = rewrite p (not turned) path ∷ []
-part_rewrites (transitive p q) turned path =
-    cond turned (rewrite q turned path ∷ rewrite p turned path ∷ []) (rewrite p turned path ∷ rewrite q turned path ∷ [])
-part_rewrites (congruent ps) turned path = child_rewrites turned path 0 ps
+abbrev pub child_rewrites : Rewrite → ℕ → List ℕ → List Rewrite
+child_rewrites r k [] = []
+child_rewrites r k (p ∷ ps) = child_rewrite r k p ∷ child_rewrites r (suc k) ps
+
+-- one after the other, the second one first where they are turned
+abbrev pub in_order : Bool → Rewrite → Rewrite → List Rewrite
+in_order turned x y = cond turned (y ∷ x ∷ []) (x ∷ y ∷ [])
+
+-- the parts of the step of what r rewrites by, in the order of use
+abbrev pub part_rewrites : Rewrite → Step → List Rewrite
+part_rewrites r explicit = []
+part_rewrites r reflexive = []
+part_rewrites r (symmetric p) = rewrite p (not r.turned) r.path ∷ []
+part_rewrites r (transitive p q) = in_order r.turned (rewrite p r.turned r.path) (rewrite q r.turned r.path)
+part_rewrites r (congruent ps) = child_rewrites r 0 ps
 
 -- what a rewrite comes down to next, and the step of the chain that it is itself, if it is by an assertion
 abbrev pub rewrites_below : List Proven → Rewrite → List Rewrite
-rewrites_below list r = part_rewrites (proven_at list r.entry).step r.turned r.path
+rewrites_below list r = part_rewrites r (proven_at list r.entry).step
 
 abbrev pub own_step : List Proven → Rewrite → List Rewrite
 own_step list r = cond (is_explicit (proven_at list r.entry).step) (r ∷ []) []
@@ -77,7 +84,7 @@ steps_binders g rs = sum_by (step_binders g) rs
 abbrev pub chain_binders : Image → ℕ → List Rewrite → ℕ
 chain_binders g p steps = term_binders g.canonical (statement_at g.stored p).equation.left + steps_binders g steps
 
--- the canonical term of a class is made twice: no more fresh slots are made than it has binders then, or fewer were left, or it is too large
+-- the canonical term of a class is made twice: no more fresh slots are made than its binders, or fewer were left, or it is too large
 abbrev pub MakesForTwoTermsOf : Graph → Graph → ℕ → Type 0
 MakesForTwoTermsOf g h i = MakesAtMost (2 * term_binders g.image.canonical i) g.table h.table
 
@@ -95,7 +102,8 @@ abbrev pub MakesForTerms : Graph → Graph → ℕ → List Rewrite → Type 0
 MakesForTerms g h p steps = MakesAtMost (chain_binders g.image p steps) g.table h.table
 
 abbrev pub MakesForChain : Graph → Graph → ℕ → Type 0
-MakesForChain g h p = (h.table ≡ g.table) ⊎ ((steps : List Rewrite) × IsChain g.image.stored p steps × MakesForTerms g h p steps)
+MakesForChain g h p =
+    (h.table ≡ g.table) ⊎ ((steps : List Rewrite) × IsChain g.image.stored p steps × MakesForTerms g h p steps)
 
 -- a node of the canonical term of one of the two classes has too many places to be numbered
 abbrev pub HasLargeStep : Image → Rewrite → Type 0
@@ -114,9 +122,11 @@ abbrev pub StepsRunOut : Graph → Graph → List Rewrite → Type 0
 StepsRunOut g h rs = RunsOutIn g h (steps_binders g.image rs) ⊎ HasLargeStepOf g.image rs
 
 -- the same of the left side of p, and then the steps
+abbrev pub HasLargeTerm : Image → ℕ → List Rewrite → Type 0
+HasLargeTerm g p steps = HasLargePart g.canonical (statement_at g.stored p).equation.left ⊎ HasLargeStepOf g steps
+
 abbrev pub TermsRunOut : Graph → Graph → ℕ → List Rewrite → Type 0
-TermsRunOut g h p steps =
-    RunsOutIn g h (chain_binders g.image p steps) ⊎ (HasLargePart g.image.canonical (statement_at g.image.stored p).equation.left ⊎ HasLargeStepOf g.image steps)
+TermsRunOut g h p steps = RunsOutIn g h (chain_binders g.image p steps) ⊎ HasLargeTerm g.image p steps
 
 -- the same of the chain of terms of the proof of p
 abbrev pub ChainRunsOut : Graph → Graph → ℕ → Type 0

@@ -1,9 +1,11 @@
 //! A proof printed as a chain of whole terms.
-ghost use Rattle.std.specs.Prelude.{◌≡◌, ◌<◌, ◌*◌, length, IfOk, IfErr, IsErrOf};
+ghost use Rattle.std.specs.Prelude.{◌≡◌, ◌<◌, length, IfOk, IfErr, IsErrOf};
 ghost use Rattle.slotted_slots.specs.Error.{IsOutOfMemory, IsShortage};
 ghost use Rattle.slotted_core.specs.Graph.{OnlyTakesSlots};
 ghost use Rattle.slotted_core.specs.Syn.{MakesForTermOf, RunsOutForTermOf};
-ghost use Rattle.slotted_explain.specs.Chain.{AreWithin, from_class, to_class, MakesForStep, MakesForSteps, MakesForTerms, MakesForTwoTermsOf, RunsOutForTwoTermsOf, StepRunsOut, StepsRunOut, TermsRunOut};
+ghost use Rattle.slotted_explain.specs.Chain.{AreWithin, from_class, to_class};
+ghost use Rattle.slotted_explain.specs.Chain.{MakesForStep, MakesForSteps, MakesForTerms, MakesForTwoTermsOf};
+ghost use Rattle.slotted_explain.specs.Chain.{RunsOutForTwoTermsOf, StepRunsOut, StepsRunOut, TermsRunOut};
 
 use crate::flat_terms::{marked, matched_names, name_apart, replaced, slots_of, subterm};
 use crate::steps::FlatStep;

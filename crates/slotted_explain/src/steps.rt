@@ -2,7 +2,7 @@
 ghost use Rattle.std.specs.Prelude.{◌≡◌, ◌<◌, ◌∷◌, ◌++◌, [], length, reverse, IfOk, IfErr, OnOk};
 ghost use Rattle.slotted_slots.specs.Error.{IsOutOfMemory};
 ghost use Rattle.slotted_proofs.specs.Lines.{PartsAreEarlier};
-ghost use Rattle.slotted_explain.specs.Chain.{AreWithin, IsChain, child_rewrites, own_step, rewrite, rewrites_below};
+ghost use Rattle.slotted_explain.specs.Chain.{AreWithin, IsChain, child_rewrite, child_rewrites, own_step, rewrite, rewrites_below};
 
 use slotted_proofs::{Proof, ProofList, ProvenEq};
 use slotted_slots::Error;
@@ -101,7 +101,7 @@ fn push_children(
     step: &FlatStep,
     stack: &mut Vec<FlatStep>,
 ) -> Result<(), Error>
-    ensures ok { OnOk result (stack.new.items ≡ stack.old.items ++ reverse (child_rewrites step.now.turned step.now.path 0 parts.now)) }
+    ensures ok { OnOk result (stack.new.items ≡ stack.old.items ++ reverse (child_rewrites step.now 0 parts.now)) }
     ensures err { IfErr result IsOutOfMemory }
 {
     for k in (0..parts.len()).rev() {
@@ -118,7 +118,7 @@ fn push_child(
     step: &FlatStep,
     k: usize,
 ) -> Result<(), Error>
-    ensures ok { OnOk result (stack.new.items ≡ stack.old.items ++ rewrite entry step.now.turned (step.now.path ++ k ∷ []) ∷ []) }
+    ensures ok { OnOk result (stack.new.items ≡ stack.old.items ++ child_rewrite step.now k entry ∷ []) }
     ensures err { IfErr result IsOutOfMemory }
 {
     let mut path = Vec::from_slice(alloc, &step.path)?;

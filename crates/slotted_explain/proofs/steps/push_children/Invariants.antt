@@ -4,4 +4,4 @@ use Rattle.slotted_explain.specs.Chain.{child_rewrites}
 use Rattle.slotted_explain.proofs.steps.push_children.Given as goal
 
 abbrev pub invariant-loop-k : goal.invariant-loop-k
-invariant-loop-k l = l.stack.items ≡ l.fn.stack.items ++ reverse (child_rewrites l.step.turned l.step.path l.k (drop l.k l.parts))
+invariant-loop-k l = l.stack.items ≡ l.fn.stack.items ++ reverse (child_rewrites l.step l.k (drop l.k l.parts))
