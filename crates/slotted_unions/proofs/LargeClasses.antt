@@ -1,5 +1,5 @@
 -- Large classes among those that find what one of two classes finds.
-use Rattle.std.proofs.Common.{◌≡◌, ◌⊎◌, ℕ, ◌<◌, List, length, ◌∙◌, inl, inr}
+use Rattle.std.proofs.Common.{◌≡◌, ℕ, ◌<◌, List, length, ◌∙◌, inl, inr}
 use Rattle.slotted_theory.specs.Nameless.{DTerm}
 use Rattle.slotted_model.specs.Find.{Entry, find_class, Linked}
 use Rattle.slotted_model.proofs.Finding.{leads, found-live, found-in_range, find_class-live}

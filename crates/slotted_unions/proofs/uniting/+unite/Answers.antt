@@ -1,7 +1,6 @@
 use Rattle.std.proofs.Common.{subst, arith, rules}
 use Rattle.indexmap.proofs.MapLemmas.{OnOk-map}
 use Rattle.slotted_unions.specs.Uniting.{StepsBy, UnitesBy}
-use Rattle.slotted_unions.specs.declared.uniting.UnionStep.TheVariants.{Dropped}
 use Rattle.slotted_unions.proofs.UniteSteps.{ended-unites, lost-unites, lost-large}
 use Rattle.slotted_unions.proofs.uniting.+unite.Goals as goal
 
