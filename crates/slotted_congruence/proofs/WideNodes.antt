@@ -1,8 +1,8 @@
 -- Where comparing two nodes runs out of slots, one of them is wide.
-use Rattle.std.proofs.Common.{◌≡◌, ◌≤◌, ◌+◌, ◌^◌, ℕ, suc, List, [], ◌∷◌, length, take, drop, sym, ◌∙◌, ap, refl, subst, arith, inl, inr, length-append, length-drop}
+use Rattle.std.proofs.Common.{◌≡◌, ◌≤◌, ◌+◌, ◌^◌, ℕ, suc, List, [], ◌∷◌, ◌++◌, length, take, drop, sym, ◌∙◌, ap, refl, subst, arith, inl, inr, length-append, length-drop}
 use Rattle.std.specs.Prelude.{◌⊎◌, Contains, min, slice_index}
 use Rattle.std.specs.List.{zip}
-use Rattle.std.proofs.lemmas.Bool.{cases_lt}
+use Rattle.std.proofs.lemmas.Bool.{cases_Bool, cases_lt}
 use Rattle.std.proofs.lemmas.List.{length-take}
 use Rattle.std.proofs.lemmas.List.Elements.{Contains-append_cases}
 use Rattle.std.proofs.lemmas.Slice.Zip.{length-zip}
@@ -10,14 +10,19 @@ use Rattle.slotted_theory.specs.FiniteMaps.{filled, with_values}
 use Rattle.slotted_theory.specs.Nameless.{DArgs, DTerm, stop, place, sub, scope, extend, lift, moved, moved_args, nameless_args}
 use Rattle.slotted_theory.proofs.Lists.{contains_cases, Contains-nil}
 use Rattle.slotted_slots.specs.Maps.{values}
+use Rattle.slotted_slots.specs.Table.{Table, empty_table, is_known, unknown_names}
+use Rattle.slotted_slots.proofs.SlotsTaken.{lacks_fresh}
 use Rattle.slotted_nodes.specs.Form.{Form, Tree, leaf, own, child, bind, scopes, child_names, child_place, width}
+use Rattle.slotted_languages.specs.Children.{binders}
+use Rattle.slotted_languages.specs.NewNames.{LacksPerBinder}
 use Rattle.slotted_languages.specs.NodeTerm.{node_args, nameless_node}
 use Rattle.slotted_languages.specs.NodeTerm as node
 use Rattle.slotted_languages.specs.Outline.{outlined}
 use Rattle.slotted_languages.specs.Shape.{Fits}
 use Rattle.slotted_languages.proofs.NodeTerms.{own_fits, length-child, child_keys_fit, child_rest_fits, bind_inner_fits, bind_rest_fits}
 use Rattle.slotted_model.specs.Applied.{Applied, applied_of, own_names}
-use Rattle.slotted_model.specs.Classes.{canonical_node}
+use Rattle.slotted_model.specs.Ascending.{names}
+use Rattle.slotted_model.specs.Classes.{canonical_node, IsFull}
 use Rattle.slotted_proofs.specs.declared.equation.Equation.{Equation as Sides}
 use Rattle.slotted_proofs.specs.AlikeNodes.{AreAlikeArgs}
 use Rattle.slotted_proofs.specs.Equations.{to_applied}
@@ -25,7 +30,8 @@ use Rattle.slotted_proofs.specs.Steps.{IsLarge, Matches, name_count}
 use Rattle.slotted_outlines.specs.Seen as seen
 use Rattle.slotted_congruence.specs.Frames.{AreAlikeForms}
 use Rattle.slotted_congruence.specs.Named.{args_size, node_size, IsWideClass}
-use Rattle.slotted_store.proofs.NameMaps.{length-values}
+use Rattle.slotted_store.proofs.NameCounts.{names_and_binders}
+use Rattle.slotted_store.proofs.NameMaps.{length-keys, length-values}
 
 -- names and binders are among names, binders and children
 
@@ -51,6 +57,24 @@ length-taken n p xs = omega (arith, length-take n (drop p xs), length-drop p xs)
 -- where the node of a class has too many places
 pub wide_class : (nodes : List DTerm) (i : ℕ) (f : Form) → Fits f → nameless_node f ≡ canonical_node nodes i → 2 ^ 29 ≤ length f.names → IsWideClass nodes i
 wide_class nodes i f fits is large = omega (arith, large, names_fit_size f fits, ap node_size is)
+
+-- and where it uses up a table of its own: its free names, each once, and its binders are no more than its places
+
+length-unknown : (t : Table) (xs : List ℕ) → length (unknown_names t xs) ≤ length xs
+length-unknown t [] = omega arith
+length-unknown t (x ∷ xs) = elim (cases_Bool (is_known t x)) [
+  | inl known ↦ rw known (omega (arith, length-unknown t xs))
+  | inr unknown ↦ rw unknown (omega (arith, length-unknown t xs))
+]
+
+pub own_table_wide : (nodes : List DTerm) (a : Applied) → IsFull nodes a → (f : Form) → Fits f → nameless_node f ≡ canonical_node nodes a.0 → (u : Table) → LacksPerBinder a.1 f empty_table u → IsWideClass nodes a.0
+own_table_wide nodes a full f fits is u (inl large) = wide_class nodes a.0 f fits is (omega (arith, large))
+own_table_wide nodes a full f fits is u (inr out) =
+    let xs = values a.1 ++ f.names in
+    let held : length a.1 ≡ length (names (nameless_node f)) =
+    sym (length-keys a.1) ∙ (ap length full.slots ∙ sym (ap (λ (d : DTerm). length (names d)) is)) in
+    wide_class nodes a.0 f fits is
+    (omega (arith, lacks_fresh (binders f) xs empty_table (omega arith) out.1, length-unknown empty_table xs, length-append (values a.1) f.names, length-values a.1, held, names_and_binders f fits))
 
 -- the names of a child are among those of the node
 pub child_fits_size : (f : Form) → Fits f → (k : ℕ) (m : List (ℕ × ℕ)) → values m ≡ child_names f k → length m ≤ node_size (nameless_node f)

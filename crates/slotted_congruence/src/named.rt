@@ -7,7 +7,6 @@ ghost use Rattle.slotted_store.specs.Kept.{nodes_of};
 ghost use Rattle.slotted_congruence.specs.Named.{IsNodeOf, IsWideClass};
 
 use slotted_languages::Language;
-use slotted_languages::shape::PLACES;
 use slotted_slots::{AppliedId, Error, SlotTable};
 use slotted_store::Store;
 use std::alloc::Global;
@@ -19,14 +18,6 @@ pub fn named_node<L: Language>(store: &Store<L>, alloc: Global, a: &AppliedId) -
     ensures full { IsErrOf result Error.OutOfSlots → IsWideClass (nodes_of store.now) a.now.id.0 }
     ensures err { IfErr result IsShortage }
 {
-    let node = store.node_of(a.id.0);
-    if node.slot_count() >= PLACES {
-        return Err(Error::OutOfSlots);
-    }
-    // No slot of the graph is taken: to use up a table of one's own is want of memory.
     let mut table = SlotTable::new(alloc);
-    match node.apply_slotmap(alloc, &a.m, &mut table) {
-        Ok(named) => Ok(named),
-        Err(_) => Err(Error::OutOfMemory),
-    }
+    store.node_of(a.id.0).apply_slotmap(alloc, &a.m, &mut table)
 }

@@ -1,20 +1,19 @@
 -- Binders are counted alike in a node, in its nameless form and in its term: a canonical term has those of its node and those of
 -- its children's terms.
-use Rattle.std.proofs.Common.{◌≡◌, ◌<◌, ◌≤◌, ℕ, zero, suc, ◌+◌, List, [], ◌∷◌, ◌++◌, length, take, drop, take_all, cond, sym, ◌∙◌, ap, refl, subst, arith, length-append}
-use Rattle.std.specs.Prelude.{slice_index, slice_index_or, map, Option, Some, None, is_some}
-use Rattle.std.specs.List.{filter}
-use Rattle.std.proofs.lemmas.List.Elements.{filter-append}
-use Rattle.slotted_theory.specs.Nameless.{DArgs, DTerm, stop, place, sub, scope, extend, lift, moved, moved_args, nameless_args}
+use Rattle.std.proofs.Common.{◌≡◌, ◌<◌, ◌≤◌, ℕ, zero, suc, ◌+◌, List, [], ◌∷◌, ◌++◌, length, take, drop, sym, ◌∙◌, ap, refl, arith}
+use Rattle.std.specs.Prelude.{slice_index, slice_index_or, map, Option, None}
+use Rattle.slotted_theory.specs.Nameless.{DArgs, DTerm, stop, place, sub, scope, extend, lift, moved_args, nameless_args}
 use Rattle.slotted_theory.specs.FiniteMaps.{filled}
 use Rattle.slotted_theory.proofs.Values.{expand_args}
-use Rattle.slotted_nodes.specs.Form.{Form, Tree, leaf, own, child, bind, scopes, scope_end_of, end_at}
-use Rattle.slotted_languages.specs.Children.{below, binders, is_binder}
+use Rattle.slotted_nodes.specs.Form.{Form, Tree, leaf, own, child, bind, scopes}
+use Rattle.slotted_languages.specs.Children.{binders}
 use Rattle.slotted_languages.specs.NodeTerm.{own_names, node_args, nameless_node}
 use Rattle.slotted_languages.specs.Shape.{Fits}
 use Rattle.slotted_model.specs.Applied.{Applied, applied_of}
-use Rattle.slotted_model.specs.Classes.{canonical_node, canonical_term, term_at, term_of, terms, layer, layer_of, stands, IsFull, Canonical}
+use Rattle.slotted_model.specs.Classes.{canonical_node, canonical_term, term_at, term_of, terms, layer_of, stands, IsFull, Canonical}
 use Rattle.slotted_model.proofs.Full.{canonical_term-layer, term_of-layer}
 use Rattle.slotted_core.specs.Canonical.{args_binders, binder_count, IsNodeOf}
+use Rattle.slotted_store.proofs.NameCounts.{binders_placed, binding-append, keys_bind_nothing, places_binding}
 use Rattle.slotted_core.specs.Nodes.{ids_in, child_ids}
 use Rattle.slotted_core.specs.Syn.{node_binders, term_binders}
 
@@ -25,23 +24,7 @@ args_binders-moved ρ (place x rest) = args_binders-moved ρ rest
 args_binders-moved ρ (sub op payloads args rest) = λ i. args_binders-moved ρ args i + args_binders-moved ρ rest i
 args_binders-moved ρ (scope inner rest) = λ i. 1 + args_binders-moved (lift ρ) inner i + args_binders-moved ρ rest i
 
--- at how many of the places binders stand
-
-abbrev one_binder : Option ℕ → ℕ
-one_binder None = 0
-one_binder (Some n) = 1
-
-abbrev places_binding : List (Option ℕ) → ℕ
-places_binding [] = 0
-places_binding (o ∷ os) = one_binder o + places_binding os
-
-binding-append : (os ps : List (Option ℕ)) → places_binding (os ++ ps) ≡ places_binding os + places_binding ps
-binding-append [] ps = omega arith
-binding-append (o ∷ os) ps = omega (arith, binding-append os ps)
-
-keys_bind_nothing : (ks : List ℕ) → places_binding (map {B = Option ℕ} (λ _. None) ks) ≡ 0
-keys_bind_nothing [] = refl
-keys_bind_nothing (k ∷ ks) = omega (arith, keys_bind_nothing ks)
+-- its binders are as many as stand at the places of the node
 
 names_bind_nothing : (ρ : ℕ → ℕ) (xs : List ℕ) → args_binders (nameless_args ρ (own_names xs)) ≡ 0
 names_bind_nothing ρ [] = refl
@@ -56,26 +39,9 @@ binders_in ρ (bind u r) xs =
     let s = length (scopes u) in
     omega (arith, binders_in (extend (slice_index xs 0) ρ) u (take s (drop 1 xs)), binders_in ρ r (drop s (drop 1 xs)), binding-append (scopes u) (scopes r))
 
-binding-next : (os : List (Option ℕ)) (k : ℕ) → k < length os → places_binding (take (suc k) os) ≡ places_binding (take k os) + one_binder (slice_index_or os k None)
-binding-next [] k l = absurd (omega arith)
-binding-next (o ∷ os) zero l = omega arith
-binding-next (o ∷ os) (suc k) l = omega (arith, binding-next os k (omega (arith, l)))
-
-one_counted : (k : ℕ) (o : Option ℕ) → length (cond (is_some (end_at k o)) (k ∷ []) []) ≡ one_binder o
-one_counted k None = refl
-one_counted k (Some n) = refl
-
-counted_below : (f : Form) (n : ℕ) → n ≤ length (scopes f.tree) → length (filter (is_binder f) (below n)) ≡ places_binding (take n (scopes f.tree))
-counted_below f zero l = refl
-counted_below f (suc n) l =
-    let parts = ap (λ xs. length xs) (filter-append (is_binder f) (below n) (n ∷ [])) ∙ length-append (filter (is_binder f) (below n)) (filter (is_binder f) (n ∷ [])) in
-    omega (arith, parts, counted_below f n (omega (arith, l)), one_counted n (slice_index_or (scopes f.tree) n None), binding-next (scopes f.tree) n (omega (arith, l)))
-
 -- the binders of a node are those of its nameless form
 pub binders_counted : (f : Form) → Fits f → binders f ≡ binder_count (nameless_node f)
-binders_counted f fits =
-    let all : places_binding (take (length f.names) (scopes f.tree)) ≡ places_binding (scopes f.tree) = ap places_binding (take_all (length f.names) (scopes f.tree) (omega (arith, fits))) in
-    counted_below f (length f.names) (omega (arith, fits)) ∙ all ∙ sym (binders_in (λ x. x) f.tree f.names)
+binders_counted f fits = binders_placed f fits ∙ sym (binders_in (λ x. x) f.tree f.names)
 
 -- how many binders the terms of some ids have
 abbrev pub ids_binders : List DTerm → List Applied → ℕ

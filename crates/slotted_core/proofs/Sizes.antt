@@ -1,8 +1,7 @@
 -- A node over ids of terms has no more places than the term.
-use Rattle.std.proofs.Common.{◌≡◌, ◌<◌, ◌≤◌, ℕ, zero, suc, ◌+◌, List, [], ◌∷◌, ◌++◌, length, take, drop, map, get_or, cond, sym, ◌∙◌, ap, refl, arith, inl, inr, length-append}
-use Rattle.std.specs.Prelude.{nat_eq, Option, None}
+use Rattle.std.proofs.Common.{◌≡◌, ◌<◌, ◌≤◌, ℕ, zero, suc, ◌+◌, List, [], ◌∷◌, ◌++◌, length, take, drop, map, get_or, sym, ◌∙◌, ap, refl, arith, length-append}
+use Rattle.std.specs.Prelude.{Option, None}
 use Rattle.std.specs.List.{zip}
-use Rattle.std.proofs.lemmas.Bool.{cases_lt, cases_eq, lt-ltb, le-ltb, eq-eqb, ne_eqb}
 use Rattle.slotted_theory.specs.Term.{Args, Term, done, name}
 use Rattle.slotted_theory.specs.Term as term
 use Rattle.slotted_theory.specs.Nameless.{DTerm, extend, nameless_args, nameless}
@@ -12,7 +11,7 @@ use Rattle.slotted_slots.specs.Maps.{keys, values}
 use Rattle.slotted_nodes.specs.Form.{Form, Tree, leaf, own, child, bind, scopes, children}
 use Rattle.slotted_languages.specs.Filled as form
 use Rattle.slotted_languages.proofs.NodeTerms.{own_fits, child_keys_fit, child_rest_fits, bind_inner_fits, bind_rest_fits}
-use Rattle.slotted_model.specs.Ascending.{with_name, ascending}
+use Rattle.slotted_model.specs.Ascending.{ascending}
 use Rattle.slotted_model.specs.Applied.{Applied}
 use Rattle.slotted_model.specs.Classes.{canonical_term, term_of, IsFull, Canonical}
 use Rattle.slotted_model.proofs.Full.{canonical_term-names}
@@ -20,35 +19,8 @@ use Rattle.slotted_model.proofs.Theory.{free_names-moved}
 use Rattle.slotted_core.specs.Nodes.{ids_in, child_ids}
 use Rattle.slotted_core.specs.Places.{args_places, term_places}
 use Rattle.slotted_store.proofs.ChildIds.{length-ids}
+use Rattle.slotted_store.proofs.NameCounts.{length-ascending, length-outside}
 use Rattle.slotted_store.proofs.NameMaps.{length-keys, length-values}
-
-length-with_name : (x : ℕ) (ys : List ℕ) → length (with_name x ys) ≤ suc (length ys)
-length-with_name x [] = omega arith
-length-with_name x (y ∷ ys) = elim (cases_lt x y) [
-  | inl l ↦
-      let e : length (with_name x (y ∷ ys)) ≡ suc (suc (length ys)) = ap (λ b. length (cond b (x ∷ y ∷ ys) (cond (nat_eq x y) (y ∷ ys) (y ∷ with_name x ys)))) (lt-ltb x y l) in
-      omega (arith, e)
-  | inr g ↦
-      let e : length (with_name x (y ∷ ys)) ≡ length (cond (nat_eq x y) (y ∷ ys) (y ∷ with_name x ys)) =
-      ap (λ b. length (cond b (x ∷ y ∷ ys) (cond (nat_eq x y) (y ∷ ys) (y ∷ with_name x ys)))) (le-ltb x y g) in
-      elim (cases_eq x y) [
-        | inl q ↦
-            let d : length (cond (nat_eq x y) (y ∷ ys) (y ∷ with_name x ys)) ≡ suc (length ys) = ap (λ b. length (cond b (y ∷ ys) (y ∷ with_name x ys))) (eq-eqb x y q) in
-            omega (arith, e, d)
-        | inr n ↦
-            let d : length (cond (nat_eq x y) (y ∷ ys) (y ∷ with_name x ys)) ≡ suc (length (with_name x ys)) = ap (λ b. length (cond b (y ∷ ys) (y ∷ with_name x ys))) (ne_eqb x y n) in
-            omega (arith, e, d, length-with_name x ys)
-      ]
-]
-
-length-ascending : (xs : List ℕ) → length (ascending xs) ≤ length xs
-length-ascending [] = omega arith
-length-ascending (x ∷ xs) = omega (arith, length-with_name x (ascending xs), length-ascending xs)
-
-length-outside : (xs : List ℕ) → length (outside xs) ≤ length xs
-length-outside [] = omega arith
-length-outside (zero ∷ xs) = omega (arith, length-outside xs)
-length-outside (suc x ∷ xs) = omega (arith, length-outside xs)
 
 length-mapped : (f : ℕ → ℕ) (xs : List ℕ) → length (map f xs) ≡ length xs
 length-mapped f [] = refl
