@@ -1,2 +1,3 @@
 -- What printed proofs are.
 pub mod Printed
+pub mod Chain

@@ -9,7 +9,7 @@ use Rattle.std.specs.declared.alloc.Global.{Global}
 use Rattle.slotted_theory.specs.Term.{Term}
 use Rattle.slotted_theory.specs.Nameless.{nameless}
 use Rattle.slotted_slots.specs.Syntax.{Element}
-use Rattle.slotted_slots.specs.Table.{Table, slot_limit}
+use Rattle.slotted_slots.specs.Table.{Table}
 use Rattle.slotted_model.specs.Applied.{Applied}
 use Rattle.slotted_model.specs.Classes.{term_of}
 use Rattle.slotted_terms.specs.Shown.{term_text}
@@ -18,7 +18,6 @@ use Rattle.slotted_proofs.specs.Equations.{AreSides}
 use Rattle.slotted_proofs.specs.Entries.{proven_at, statement_at}
 use Rattle.slotted_proofs.specs.Lines.{Lines}
 use Rattle.slotted_proofs.specs.Reasons.{reason_text}
-use Rattle.slotted_core.specs.Canonical.{HasLargeNode}
 use Rattle.slotted_core.specs.Causes.{HasLargePart}
 use Rattle.slotted_core.specs.Image.{Image}
 use Rattle.slotted_core.specs.Graph.{Graph, MakesAtMost, RunsOutIn}
@@ -104,7 +103,3 @@ LinesRunOut g h lines = RunsOutIn g h (lines_binders g.image lines) ⊎ HasLarge
 -- the same of the entries that have a line in the proof of p
 abbrev pub ProofRunsOut : Graph → Graph → ℕ → Type 0
 ProofRunsOut g h p = (lines : List ℕ) × Lines g.image.stored [] (p ∷ []) lines × LinesRunOut g h lines
-
--- no fresh slot is left, or the canonical node of some class is too large
-abbrev pub GraphRunsOut : Graph → Graph → Type 0
-GraphRunsOut g h = (h.table.fresh ≡ slot_limit) ⊎ HasLargeNode g.image.canonical

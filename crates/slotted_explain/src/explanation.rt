@@ -4,10 +4,12 @@ ghost use Rattle.slotted_slots.specs.Error.{IsShortage};
 ghost use Rattle.slotted_proofs.specs.Entries.{proven_at, statement_at, step_of, text_of};
 ghost use Rattle.slotted_proofs.specs.Equations.{IsWritten};
 ghost use Rattle.slotted_core.specs.Graph.{OnlyTakesSlots};
-ghost use Rattle.slotted_explain.specs.Printed.{GraphRunsOut, IsProofText, MakesForProof, ProofRunsOut};
+ghost use Rattle.slotted_explain.specs.Printed.{IsProofText, MakesForProof, ProofRunsOut};
+ghost use Rattle.slotted_explain.specs.Chain.{ChainRunsOut, MakesForChain};
 
-use crate::flat::{chain_text, flat_steps};
+use crate::flat::chain_text;
 use crate::print::lines_text;
+use crate::steps::flat_steps;
 use slotted_core::EGraph;
 use slotted_languages::Language;
 use slotted_proofs::{Equation, Proof, ProvenEq, ProvenEqRaw};
@@ -77,11 +79,13 @@ pub trait Explanation {
     ) -> Result<String, Error>
         requires { IsTrue graph.old.failed ⊎ (number self < length graph.old.image.entries) }
 
-        // Only fresh slots are made, and a refusal does not fail the graph.
+        // Only fresh slots are made, no more than the terms have binders that are made for the chain, and a refusal does not fail
+        // the graph.
         ensures takes { OnlyTakesSlots graph.old graph.new }
+        ensures count { MakesForChain graph.old graph.new (number self) }
 
         ensures failed { IsErrOf result Error.Failed ↔ IsTrue graph.old.failed }
-        ensures full { IsErrOf result Error.OutOfSlots → GraphRunsOut graph.old graph.new }
+        ensures full { IsErrOf result Error.OutOfSlots → ChainRunsOut graph.old graph.new (number self) }
         ensures only { IfErr result (λ e. (e ≡ Error.Failed) ⊎ IsShortage e) };
 }
 

@@ -1,10 +1,14 @@
 //! A proof printed as a chain of whole terms.
-ghost use Rattle.std.specs.Prelude.{◌<◌, length, IfErr, IsErrOf};
+ghost use Rattle.std.specs.Prelude.{◌≡◌, ◌<◌, length, IfOk, IfErr, IsErrOf};
 ghost use Rattle.slotted_slots.specs.Error.{IsOutOfMemory, IsShortage};
 ghost use Rattle.slotted_core.specs.Graph.{OnlyTakesSlots};
-ghost use Rattle.slotted_explain.specs.Printed.{GraphRunsOut};
+ghost use Rattle.slotted_core.specs.Syn.{MakesForTermOf, RunsOutForTermOf};
+ghost use Rattle.slotted_explain.specs.Chain.{AreWithin, from_class, to_class};
+ghost use Rattle.slotted_explain.specs.Chain.{MakesForStep, MakesForSteps, MakesForTerms, MakesForTwoTermsOf};
+ghost use Rattle.slotted_explain.specs.Chain.{RunsOutForTwoTermsOf, StepRunsOut, StepsRunOut, TermsRunOut};
 
 use crate::flat_terms::{marked, matched_names, name_apart, replaced, slots_of, subterm};
+use crate::steps::FlatStep;
 use slotted_core::EGraph;
 use slotted_proofs::{Proof, ProofList, ProvenEq};
 use slotted_slots::{AppliedId, Error, SlotMap};
@@ -13,102 +17,6 @@ use slotted_terms::expr::printing::Printable;
 use std::alloc::Global;
 use std::fmt::Write;
 
-// An asserted equation that rewrites one place of a term, or an entry that stands for several of these. A turned one rewrites
-// from right to left. The path has the child to go down to at each node from the top.
-#[derive(Drop)]
-pub(crate) struct FlatStep {
-    entry: ProvenEq,
-    turned: bool,
-    path: Vec<usize>,
-}
-
-// The assertions that a proof uses, in the order of use.
-pub(crate) fn flat_steps(
-    alloc: Global,
-    proofs: &ProofList,
-    p: ProvenEq,
-) -> Result<Vec<FlatStep>, Error>
-    ensures err { IfErr result IsOutOfMemory }
-{
-    let mut steps = Vec::new(alloc);
-    let mut stack = Vec::new(alloc);
-    stack.push(FlatStep {
-        entry: p,
-        turned: false,
-        path: Vec::new(alloc),
-    })?;
-    for _ in 0..u64::MAX {
-        let Some(step) = stack.pop() else {
-            return Ok(steps);
-        };
-        expand(alloc, proofs, step, &mut stack, &mut steps)?;
-    }
-    Err(Error::OutOfMemory)
-}
-
-// Puts the parts of an entry onto the stack, the first one on top, or an assertion to the steps.
-fn expand(
-    alloc: Global,
-    proofs: &ProofList,
-    step: FlatStep,
-    stack: &mut Vec<FlatStep>,
-    steps: &mut Vec<FlatStep>,
-) -> Result<(), Error>
-    ensures err { IfErr result IsOutOfMemory }
-{
-    if !proofs.is_valid(step.entry) {
-        return Ok(());
-    }
-    match proofs.proof(step.entry) {
-        Proof::Explicit(_) => steps.push(step)?,
-        Proof::Reflexivity(_) => {}
-        Proof::Symmetry(part) => push_part(alloc, stack, part.0, !step.turned, &step.path)?,
-        Proof::Transitivity(parts) => {
-            let last = if step.turned { parts.0 } else { parts.1 };
-            let first = if step.turned { parts.1 } else { parts.0 };
-            push_part(alloc, stack, last, step.turned, &step.path)?;
-            push_part(alloc, stack, first, step.turned, &step.path)?;
-        }
-        Proof::Congruence(parts) => push_children(alloc, &parts.0, &step, stack)?,
-    }
-    Ok(())
-}
-
-// Puts a part that rewrites at this path onto the stack.
-fn push_part(
-    alloc: Global,
-    stack: &mut Vec<FlatStep>,
-    entry: ProvenEq,
-    turned: bool,
-    path: &[usize],
-) -> Result<(), Error>
-    ensures err { IfErr result IsOutOfMemory }
-{
-    stack.push(FlatStep {
-        entry,
-        turned,
-        path: Vec::from_slice(alloc, path)?,
-    })?;
-    Ok(())
-}
-
-// Puts the parts of the children onto the stack, the leftmost one on top.
-fn push_children(
-    alloc: Global,
-    parts: &[ProvenEq],
-    step: &FlatStep,
-    stack: &mut Vec<FlatStep>,
-) -> Result<(), Error>
-    ensures err { IfErr result IsOutOfMemory }
-{
-    for (k, part) in parts.iter().enumerate().rev() {
-        let mut path = Vec::from_slice(alloc, &step.path)?;
-        path.push(k)?;
-        push_part(alloc, stack, *part, step.turned, &path)?;
-    }
-    Ok(())
-}
-
 // The left side, and a line for each step. Each entry has a canonical term.
 pub(crate) fn chain_text<L: Printable, N: Drop>(
     alloc: Global,
@@ -116,9 +24,11 @@ pub(crate) fn chain_text<L: Printable, N: Drop>(
     p: ProvenEq,
     steps: &[FlatStep],
 ) -> Result<String, Error>
-    requires { p < length graph.old.image.stored }
+    requires entry { p < length graph.old.image.stored }
+    requires within { AreWithin graph.old.image.stored steps.now }
     ensures takes { OnlyTakesSlots graph.old graph.new }
-    ensures full { IsErrOf result Error.OutOfSlots → GraphRunsOut graph.old graph.new }
+    ensures count { MakesForTerms graph.old graph.new p steps.now }
+    ensures full { IsErrOf result Error.OutOfSlots → TermsRunOut graph.old graph.new p steps.now }
     ensures only { IfErr result IsShortage }
 {
     let left = graph.proofs().equ(p).l.copy(alloc)?;
@@ -135,8 +45,10 @@ fn steps_text<L: Printable, N: Drop>(
     steps: &[FlatStep],
     mut head: RecExpr<L>,
 ) -> Result<String, Error>
+    requires { AreWithin graph.old.image.stored steps.now }
     ensures takes { OnlyTakesSlots graph.old graph.new }
-    ensures full { IsErrOf result Error.OutOfSlots → GraphRunsOut graph.old graph.new }
+    ensures count { MakesForSteps graph.old graph.new steps.now }
+    ensures full { IsErrOf result Error.OutOfSlots → StepsRunOut graph.old graph.new steps.now }
     ensures only { IfErr result IsShortage }
 {
     let mut text = head.text(alloc, graph.table())?;
@@ -157,6 +69,7 @@ fn push_line<L: Printable, N: Drop>(
     head: &RecExpr<L>,
     text: &mut String,
 ) -> Result<(), Error>
+    requires { step.now.entry < length graph.now.image.stored }
     ensures err { IfErr result IsOutOfMemory }
 {
     let mark = mark_text(alloc, graph.proofs(), step)?;
@@ -167,12 +80,10 @@ fn push_line<L: Printable, N: Drop>(
 
 // `Rewrite=>` or `Rewrite<=`, and the text of the assertion.
 fn mark_text(alloc: Global, proofs: &ProofList, step: &FlatStep) -> Result<String, Error>
+    requires { step.now.entry < length proofs.now }
     ensures err { IfErr result IsOutOfMemory }
 {
     let arrow = if step.turned { "<=" } else { "=>" };
-    if !proofs.is_valid(step.entry) {
-        return Ok(String::new(alloc));
-    }
     let reason = match proofs.proof(step.entry) {
         Proof::Explicit(explicit) => given_text(&explicit.0),
         _ => "-",
@@ -195,28 +106,41 @@ fn subterm_after<L: Printable, N: Drop>(
     step: &FlatStep,
     head: &RecExpr<L>,
 ) -> Result<Option<RecExpr<L>>, Error>
+    requires { step.now.entry < length graph.old.image.stored }
     ensures takes { OnlyTakesSlots graph.old graph.new }
-    ensures full { IsErrOf result Error.OutOfSlots → GraphRunsOut graph.old graph.new }
+    ensures count { MakesForStep graph.old graph.new step.now }
+    ensures full { IsErrOf result Error.OutOfSlots → StepRunsOut graph.old graph.new step.now }
     ensures only { IfErr result IsShortage }
 {
     let Some(at) = subterm(head, &step.path) else {
         return Ok(None);
     };
-    if !graph.proofs().is_valid(step.entry) {
-        return Ok(None);
-    }
-    let equation = graph.proofs().equ(step.entry).copy(alloc)?;
-    let (from, to) = if step.turned {
-        (equation.r, equation.l)
-    } else {
-        (equation.l, equation.r)
-    };
+    let (from, to) = sides(alloc, graph.proofs(), step)?;
     let mut names = match names_at(alloc, graph, &from, at)? {
         Some(names) => names,
         None => return Ok(None),
     };
-    name_apart(&to, &mut names, &mut slots_of(alloc, head)?)?;
+    name_apart(alloc, &to, &mut names, &mut slots_of(alloc, head)?)?;
     renamed_term(alloc, graph, &to, &names)
+}
+
+// What a step begins with, and what it puts in.
+fn sides(
+    alloc: Global,
+    proofs: &ProofList,
+    step: &FlatStep,
+) -> Result<(AppliedId, AppliedId), Error>
+    requires { step.now.entry < length proofs.now }
+    ensures from { IfOk result (λ s. s.0.id.0 ≡ from_class proofs.now step.now) }
+    ensures to { IfOk result (λ s. s.1.id.0 ≡ to_class proofs.now step.now) }
+    ensures err { IfErr result IsOutOfMemory }
+{
+    let equation = proofs.equ(step.entry).copy(alloc)?;
+    if step.turned {
+        Ok((equation.r, equation.l))
+    } else {
+        Ok((equation.l, equation.r))
+    }
 }
 
 // The names that the slots of an id have in a term that is its canonical one but for names.
@@ -227,7 +151,8 @@ fn names_at<L: Printable, N: Drop>(
     at: &RecExpr<L>,
 ) -> Result<Option<SlotMap>, Error>
     ensures takes { OnlyTakesSlots graph.old graph.new }
-    ensures full { IsErrOf result Error.OutOfSlots → GraphRunsOut graph.old graph.new }
+    ensures count { MakesForTwoTermsOf graph.old graph.new a.now.id.0 }
+    ensures full { IsErrOf result Error.OutOfSlots → RunsOutForTwoTermsOf graph.old graph.new a.now.id.0 }
     ensures only { IfErr result IsShortage }
 {
     let Some(term) = canonical_term(graph, a)? else {
@@ -235,7 +160,7 @@ fn names_at<L: Printable, N: Drop>(
     };
     let mut used = slots_of(alloc, &term)?;
     let mut numbers = SlotMap::new(alloc);
-    name_apart(a, &mut numbers, &mut used)?;
+    name_apart(alloc, a, &mut numbers, &mut used)?;
     let Some(pattern) = renamed_term(alloc, graph, a, &numbers)? else {
         return Ok(None);
     };
@@ -251,7 +176,8 @@ fn renamed_term<L: Printable, N: Drop>(
     names: &SlotMap,
 ) -> Result<Option<RecExpr<L>>, Error>
     ensures takes { OnlyTakesSlots graph.old graph.new }
-    ensures full { IsErrOf result Error.OutOfSlots → GraphRunsOut graph.old graph.new }
+    ensures count { MakesForTermOf graph.old graph.new a.now.id.0 }
+    ensures full { IsErrOf result Error.OutOfSlots → RunsOutForTermOf graph.old graph.new a.now.id.0 }
     ensures only { IfErr result IsShortage }
 {
     let m = a.m.compose_partial(alloc, names)?;
@@ -268,7 +194,8 @@ fn canonical_term<L: Printable, N: Drop>(
     a: &AppliedId,
 ) -> Result<Option<RecExpr<L>>, Error>
     ensures takes { OnlyTakesSlots graph.old graph.new }
-    ensures full { IsErrOf result Error.OutOfSlots → GraphRunsOut graph.old graph.new }
+    ensures count { MakesForTermOf graph.old graph.new a.now.id.0 }
+    ensures full { IsErrOf result Error.OutOfSlots → RunsOutForTermOf graph.old graph.new a.now.id.0 }
     ensures only { IfErr result IsShortage }
 {
     if !graph.is_valid(a) {

@@ -1,6 +1,7 @@
 //! Places of terms, and their names.
-ghost use Rattle.std.specs.Prelude.{IfErr};
+ghost use Rattle.std.specs.Prelude.{◌≤◌, ◌⊎◌, length, Contains, IfErr, IfNone, IfOk, IfSome};
 ghost use Rattle.slotted_slots.specs.Error.{IsOutOfMemory};
+ghost use Rattle.slotted_slots.specs.Table.{slot_limit};
 
 use slotted_languages::Language;
 use slotted_patterns::show::node_text;
@@ -126,8 +127,9 @@ pub(crate) fn matched_names(alloc: Global, slots: &[Slot], names: &[Slot]) -> Re
     Ok(matched)
 }
 
-// Names each slot of an id that has no name yet: by itself, or by a number, where it is used.
+// Names each slot of an id that has no name yet.
 pub(crate) fn name_apart(
+    alloc: Global,
     a: &AppliedId,
     names: &mut SlotMap,
     used: &mut Vec<Slot>,
@@ -136,7 +138,7 @@ pub(crate) fn name_apart(
 {
     for pair in a.m.iter() {
         if !names.contains_key(pair.1) {
-            let name = unused(pair.1, used)?;
+            let name = free_name(alloc, pair.1, names, used)?;
             used.push(name)?;
             names.insert(pair.1, name)?;
         }
@@ -144,18 +146,32 @@ pub(crate) fn name_apart(
     Ok(())
 }
 
-// The slot, or the first numeric one that is not used, where it is used.
-fn unused(slot: Slot, used: &[Slot]) -> Result<Slot, Error>
+// The slot itself as its name, or a number, where the term uses it. Where the term uses all numbers, one that is the name of no
+// slot of the id will do, of which there are fewer.
+fn free_name(alloc: Global, slot: Slot, names: &SlotMap, used: &[Slot]) -> Result<Slot, Error>
+    ensures free { IfOk result (λ s. ¬ Contains used.now s ⊎ (slot_limit ≤ length used.now)) }
     ensures err { IfErr result IsOutOfMemory }
 {
+    if let Some(name) = unused(slot, used) {
+        return Ok(name);
+    }
+    let given = names.values_vec(alloc)?;
+    Ok(unused(slot, &given).unwrap_or(slot))
+}
+
+// The slot, or the first number that is not used, where it is used and there is one.
+fn unused(slot: Slot, used: &[Slot]) -> Option<Slot>
+    ensures some { IfSome result (λ s. ¬ Contains used.now s) }
+    ensures none { IfNone result (slot_limit ≤ length used.now) }
+{
     if !used.contains(&slot) {
-        return Ok(slot);
+        return Some(slot);
     }
     for n in 0..1_073_741_824 {
         let number = Slot::numeric_at(n);
         if !used.contains(&number) {
-            return Ok(number);
+            return Some(number);
         }
     }
-    Err(Error::OutOfMemory)
+    None
 }

@@ -5,5 +5,6 @@ mod explanation;
 mod flat;
 mod flat_terms;
 mod print;
+mod steps;
 
 pub use explanation::Explanation;

@@ -1,11 +1,34 @@
--- What a class holds is as it was at the start.
-use Rattle.std.proofs.Common.{inl, inr, subst, rules}
-use Rattle.slotted_core.specs.Canonical.{HasLargeNode}
-use Rattle.slotted_core.specs.Image.{Image}
+-- Each turn takes the slots of one step more.
+use Rattle.std.proofs.Common.{◌<◌, length, sym, arith, rules}
+use Rattle.slotted_core.proofs.CallerLemmas.{takes_twice}
+use Rattle.slotted_explain.proofs.SlotsOfSteps.{all_make, step_lacks, step_makes}
 use Rattle.slotted_explain.proofs.flat.steps_text.Goals as goal
 
+pub returns-in_err-term-clause-count : goal.returns-in_err-term-clause-count
+returns-in_err-term-clause-count g c =
+    let lt : c.loop-step.step-index < length c.args.steps.now = omega (arith, c.loop-step-test.true) in
+    all_make c.args.graph.now c.loop-step.graph c.subterm_after.new.graph c.args.steps.now c.loop-step.step-index c.step-item.result lt (sym c.step-item.is) c.loop-step.invariant.takes.reads.image c.loop-step.invariant.made c.subterm_after.ensures.count
+
 pub returns-in_err-term-clause-full : goal.returns-in_err-term-clause-full
-returns-in_err-term-clause-full g c e = elim (c.in_err-term.ensures.full (search rules)) [
-  | inl a ↦ inl a
-  | inr b ↦ inr (subst (λ (x : Image). HasLargeNode x.canonical) c.loop-step.invariant.reads.image b)
-]
+returns-in_err-term-clause-full g c e =
+    let lt : c.loop-step.step-index < length c.args.steps.now = omega (arith, c.loop-step-test.true) in
+    step_lacks c.args.graph.now c.loop-step.graph c.subterm_after.new.graph c.args.steps.now c.loop-step.step-index c.step-item.result lt (sym c.step-item.is) c.loop-step.invariant.takes.reads.image c.loop-step.invariant.made (c.in_err-term.ensures.full (search rules))
+
+pub returns-in_err-head-clause-count : goal.returns-in_err-head-clause-count
+returns-in_err-head-clause-count g c =
+    let lt : c.loop-step.step-index < length c.args.steps.now = omega (arith, c.loop-step-test.true) in
+    all_make c.args.graph.now c.loop-step.graph c.subterm_after.new.graph c.args.steps.now c.loop-step.step-index c.step-item.result lt (sym c.step-item.is) c.loop-step.invariant.takes.reads.image c.loop-step.invariant.made c.subterm_after.ensures.count
+
+pub returns-in_err-push_line-clause-count : goal.returns-in_err-push_line-clause-count
+returns-in_err-push_line-clause-count g c =
+    let lt : c.loop-step.step-index < length c.args.steps.now = omega (arith, c.loop-step-test.true) in
+    all_make c.args.graph.now c.loop-step.graph c.subterm_after.new.graph c.args.steps.now c.loop-step.step-index c.step-item.result lt (sym c.step-item.is) c.loop-step.invariant.takes.reads.image c.loop-step.invariant.made c.subterm_after.ensures.count
+
+pub loop-step-preserved : goal.loop-step-preserved
+loop-step-preserved g c =
+    let lt : c.loop-step.step-index < length c.args.steps.now = omega (arith, c.loop-step-test.true) in
+    let inv = c.loop-step.invariant in
+    record {
+      takes = takes_twice c.args.graph.now c.loop-step.graph c.subterm_after.new.graph inv.takes c.subterm_after.ensures.takes;
+      made = step_makes c.args.graph.now c.loop-step.graph c.subterm_after.new.graph c.args.steps.now c.loop-step.step-index c.step-item.result lt (sym c.step-item.is) inv.takes.reads.image inv.made c.subterm_after.ensures.count;
+    }

@@ -1,5 +1,5 @@
 -- Each turn prints one line more.
-use Rattle.std.proofs.Common.{◌<◌, ◌+◌, ◌∙◌, length, take, ap, sym, subst, arith, rules, inl, inr, string_bytes}
+use Rattle.std.proofs.Common.{◌<◌, ◌+◌, ◌∙◌, length, take, ap, sym, subst, arith, rules, string_bytes}
 use Rattle.slotted_core.specs.Graph.{Graph, OnlyTakesSlots}
 use Rattle.slotted_core.specs.Image.{Image}
 use Rattle.slotted_core.proofs.CallerLemmas.{takes_twice}

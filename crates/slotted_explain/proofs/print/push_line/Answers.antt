@@ -8,7 +8,6 @@ use Rattle.slotted_proofs.specs.Entries.{Proven, proven_at, statement_at, step_o
 use Rattle.slotted_proofs.specs.Proving.{IsProved}
 use Rattle.slotted_proofs.specs.Reasons.{reason_text}
 use Rattle.slotted_core.specs.Image.{Image}
-use Rattle.slotted_model.specs.Applied.{Applied}
 use Rattle.slotted_explain.specs.Printed.{IsLine}
 use Rattle.slotted_explain.proofs.PrintedLines.{side_later}
 use Rattle.slotted_explain.proofs.Sides.{left_valid, right_valid}
