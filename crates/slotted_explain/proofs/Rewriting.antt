@@ -6,7 +6,7 @@ use Rattle.std.proofs.lemmas.List.Sorted.{IsPermutation-reverse, sum_by-IsPermut
 use Rattle.std.proofs.lemmas.List.Sums.{sum_by-append, sum_by-cons, sum_by_push}
 use Rattle.slotted_model.specs.Leaves.{parts_of}
 use Rattle.slotted_model.specs.ProofList.{Step, explicit, reflexive, symmetric, transitive, congruent}
-use Rattle.slotted_congruence.proofs.Children.{Each, Each-from_All}
+use Rattle.slotted_store.proofs.ChildIds.{Each, Each-from_All}
 use Rattle.slotted_core.proofs.Layers.{each_at}
 use Rattle.slotted_proofs.specs.Entries.{Proven, proven_at}
 use Rattle.slotted_proofs.specs.Lines.{PartsAreEarlier, parts_at}
