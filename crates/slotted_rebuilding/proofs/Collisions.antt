@@ -7,10 +7,10 @@ use Rattle.slotted_theory.specs.Shape as theory
 use Rattle.slotted_theory.proofs.Lists.{Contains-map, Contains-of_map}
 use Rattle.slotted_languages.specs.NodeTerm.{nameless_node}
 use Rattle.slotted_languages.specs.Shape.{Fits, shape}
-use Rattle.slotted_model.specs.Applied.{Applied, keys}
+use Rattle.slotted_model.specs.Applied.{keys}
 use Rattle.slotted_model.specs.Rebuild.{IsCovered, Turn, refiled_state, row_for, with_row, refiles}
 use Rattle.slotted_model.specs.Rest.{IsValidIn, Sane}
-use Rattle.slotted_model.specs.State.{Row, State, child_classes, normal_node, sources}
+use Rattle.slotted_model.specs.State.{Row, State, child_classes, normal_node}
 use Rattle.slotted_model.proofs.KeepingLookUps.{children-below}
 use Rattle.slotted_store.specs.Kept.{Kept, nodes_of}
 use Rattle.slotted_store.proofs.KeptLists.{length-nodes_of}

@@ -1,20 +1,17 @@
 -- Congruences that are entered before a union: what holds of what is kept then.
-use Rattle.std.proofs.Common.{◌≡◌, ℕ, ◌<◌, length, ap, ◌∙◌, sym, subst}
+use Rattle.std.proofs.Common.{ℕ, ◌<◌, length, ap, ◌∙◌, sym, subst}
 use Rattle.std.specs.Prelude.{Contains}
-use Rattle.slotted_model.specs.Changes as model
-use Rattle.slotted_model.specs.Find.{used_slots}
 use Rattle.slotted_model.specs.Rebuild.{IsCongruence, Turn, enters, narrows}
 use Rattle.slotted_model.specs.Rest.{Sane, size}
-use Rattle.slotted_model.specs.State.{State, normal_node}
+use Rattle.slotted_model.specs.State.{State}
 use Rattle.slotted_model.proofs.AfterUnions.{lacking-falls}
 use Rattle.slotted_model.proofs.GrowingLists.{proofs-sane}
 use Rattle.slotted_model.proofs.Lacking.{narrow-lacks}
-use Rattle.slotted_store.specs.Kept.{Kept, nodes_of, entries_of, proofs_of}
+use Rattle.slotted_store.specs.Kept.{Kept, proofs_of}
 use Rattle.slotted_store.proofs.KeptLists.{length-proofs_of}
 use Rattle.slotted_filing.specs.FiledRows.{Rows, rows_in}
 use Rattle.slotted_unions.specs.Proving.{OnlyProves}
 use Rattle.slotted_unions.specs.StateOf.{state_of}
-use Rattle.slotted_unions.specs.Stored.{Grows}
 use Rattle.slotted_unions.proofs.EnteredProofs.{only-state, only-grows}
 use Rattle.slotted_unions.proofs.GrownRows.{grown-rows, grown-count}
 use Rattle.slotted_unions.proofs.KeptSlots.{grows-then}

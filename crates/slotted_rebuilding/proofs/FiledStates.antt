@@ -2,7 +2,7 @@
 use Rattle.std.proofs.Common.{◌≡◌, ℕ, ◌<◌, List, [], ◌++◌, Some, length, refl, ap, ◌∙◌, sym, subst, append_assoc}
 use Rattle.std.proofs.lemmas.List.{append-nil}
 use Rattle.std.specs.Prelude.{slice_get}
-use Rattle.slotted_model.specs.Changes.{HasUnited, Unites}
+use Rattle.slotted_model.specs.Changes.{HasUnited}
 use Rattle.slotted_model.specs.State.{HasTouched}
 use Rattle.slotted_model.proofs.Unions.{unites}
 use Rattle.slotted_store.specs.Kept.{Kept, node_at}

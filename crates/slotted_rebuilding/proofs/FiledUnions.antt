@@ -1,12 +1,11 @@
 -- The steps of a union, after each of which the rows over the class that changed wait.
-use Rattle.std.proofs.Common.{◌≡◌, ◌≢◌, ◌<◌, ℕ, List, [], length, refl, ap, ◌∙◌, sym, subst}
+use Rattle.std.proofs.Common.{ℕ, [], sym, subst}
 use Rattle.slotted_model.specs.Changes.{Unites}
-use Rattle.slotted_model.specs.State.{State, HasTouched}
+use Rattle.slotted_model.specs.State.{HasTouched}
 use Rattle.slotted_store.specs.Kept.{Kept}
 use Rattle.slotted_filing.specs.FiledRows.{Rows, WaitsOn, rows_in, rows_state}
 use Rattle.slotted_unions.specs.declared.uniting.UnionStep.TheVariants.{Done, Dropped, Linked}
-use Rattle.slotted_unions.specs.Stored.{Stored}
-use Rattle.slotted_unions.specs.Uniting.{StepsBy, UnitesBy}
+use Rattle.slotted_unions.specs.Uniting.{StepsBy}
 use Rattle.slotted_unions.proofs.ChangedEntries.{untouched}
 use Rattle.slotted_unions.proofs.UniteSteps.{lost-unites}
 use Rattle.slotted_rebuilding.specs.Filed.{state_in, UnitesFiled}

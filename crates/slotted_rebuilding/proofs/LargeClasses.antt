@@ -14,7 +14,7 @@ use Rattle.slotted_unions.specs.Settling.{HasLargeUnaligned}
 use Rattle.slotted_unions.specs.Stored.{Grows}
 use Rattle.slotted_unions.proofs.GrownRows.{grown-count}
 use Rattle.slotted_congruence.specs.Congruence.{AreTwins, TwinsRunOut}
-use Rattle.slotted_congruence.specs.Named.{IsWideClass, HasWideSide}
+use Rattle.slotted_congruence.specs.Named.{IsWideClass}
 use Rattle.slotted_rebuilding.specs.Causes.{HasLargeClass}
 
 -- a large class was one before

@@ -1,14 +1,13 @@
 -- The node of a class that waits, in normal form, until it has each slot of the class.
-use Rattle.std.proofs.Common.{◌≡◌, ◌<◌, ◌≤◌, ◌+◌, ◌^◌, ℕ, List, [], ◌∷◌, Some, length, ap, ◌∙◌, sym, subst, refl, inl, inr, arith}
+use Rattle.std.proofs.Common.{◌≡◌, ◌<◌, ◌+◌, ℕ, List, [], ◌∷◌, Some, length, ◌∙◌, subst, refl, inl, inr, arith}
 use Rattle.std.specs.Prelude.{Contains, slice_get}
 use Rattle.std.proofs.lemmas.Option.{none-some}
 use Rattle.slotted_nodes.specs.Form.{Form}
 use Rattle.slotted_languages.specs.NewNames.{IsTooLarge}
-use Rattle.slotted_languages.specs.Shape.{Fits}
 use Rattle.slotted_model.specs.Ascending.{names}
 use Rattle.slotted_model.specs.Find.{used_slots}
-use Rattle.slotted_model.specs.Rebuild.{IsCovered, Runs, starts, takes_turn}
-use Rattle.slotted_model.specs.State.{Row, State, normal_node, sources}
+use Rattle.slotted_model.specs.Rebuild.{IsCovered, starts, takes_turn}
+use Rattle.slotted_model.specs.State.{Row, normal_node}
 use Rattle.slotted_model.proofs.Lacking.{missing-cases}
 use Rattle.slotted_theory.proofs.Lists.{contains_head, Contains-of_map}
 use Rattle.slotted_proofs.specs.declared.equation.Equation.{Equation as Sides}

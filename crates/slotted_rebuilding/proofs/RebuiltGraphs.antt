@@ -1,12 +1,12 @@
 -- A rebuild, turn by turn.
-use Rattle.std.proofs.Common.{◌≡◌, ◌<◌, ◌≤◌, ◌+◌, ℕ, List, [], ◌∷◌, Some, false, length, ap, ◌∙◌, sym, subst, refl, arith}
+use Rattle.std.proofs.Common.{◌≡◌, ◌<◌, ◌≤◌, ◌+◌, ℕ, List, [], ◌∷◌, subst, refl, arith}
 use Rattle.std.specs.Prelude.{None, slice_get}
 use Rattle.std.proofs.lemmas.Option.{none-some}
 use Rattle.slotted_model.specs.Rebuild.{Runs}
 use Rattle.slotted_store.specs.Kept.{Kept}
 use Rattle.slotted_filing.specs.FiledRows.{Rows}
 use Rattle.slotted_unions.proofs.KeptSlots.{grows-then}
-use Rattle.slotted_rebuilding.specs.Filed.{state_in, IsWellFiled, SettlesFiled}
+use Rattle.slotted_rebuilding.specs.Filed.{state_in, SettlesFiled}
 use Rattle.slotted_rebuilding.specs.Turns.{Rebuilds, RebuildsSoFar, TakesTurns}
 use Rattle.slotted_rebuilding.specs.Work.{work}
 use Rattle.slotted_rebuilding.proofs.Runs.{runs-join, runs-work, runs-work_less}

@@ -1,5 +1,5 @@
 -- Acts on symmetries, until each is aligned, with the rows that wait.
-use Rattle.std.proofs.Common.{◌≡◌, ◌<◌, ℕ, false, length, refl, ap, ◌∙◌, sym, subst, Some}
+use Rattle.std.proofs.Common.{◌≡◌, ◌<◌, ℕ, false, length, sym, subst}
 use Rattle.slotted_model.specs.Changes.{Unites}
 use Rattle.slotted_model.specs.Rebuild.{Acts, acts, Runs, starts, takes_act}
 use Rattle.slotted_model.specs.Rest.{Sane}

@@ -1,6 +1,6 @@
 -- The end of a turn: the class that waited first waits no more, and its node is filed anew or not at all.
 use Rattle.std.proofs.Common.{◌≡◌, ◌≢◌, ℕ, suc, zero, ◌<◌, List, [], ◌∷◌, Some, length, ap, ◌∙◌, sym, subst, refl, inl, inr, arith}
-use Rattle.std.specs.Prelude.{Contains, Option, None, set, slice_get, slice_index_or}
+use Rattle.std.specs.Prelude.{Contains, Option, None, set}
 use Rattle.std.proofs.lemmas.Bool.{cases_eq}
 use Rattle.std.proofs.lemmas.List.{get_or-set_same, get_or-set_other, length-set}
 use Rattle.std.proofs.lemmas.Option.{none-some}
@@ -15,10 +15,9 @@ use Rattle.slotted_normal_forms.specs.FoundNodes.{finds_of}
 use Rattle.slotted_store.specs.Kept.{Kept}
 use Rattle.slotted_filing.specs.Filed.{Filing, filed_of}
 use Rattle.slotted_filing.specs.FiledRows.{Rows, rows_in, row_of_entry, TakesTurn}
-use Rattle.slotted_filing.proofs.FiledRows.{row-filed, rows-removed, rows-refiled, without-front, filed-row}
+use Rattle.slotted_filing.proofs.FiledRows.{row-filed, rows-removed, rows-refiled, without-front}
 use Rattle.slotted_unions.specs.Proving.{OnlyProves}
 use Rattle.slotted_unions.specs.StateOf.{state_with}
-use Rattle.slotted_unions.specs.Stored.{Grows}
 use Rattle.slotted_unions.proofs.EnteredProofs.{only-grows, nothing-proved}
 use Rattle.slotted_unions.proofs.KeptSlots.{grows-then}
 use Rattle.slotted_rebuilding.specs.Filed.{state_in, IsWellFiled, IsKeyed, UnitesFiled}

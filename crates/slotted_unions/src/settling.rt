@@ -32,7 +32,10 @@ fn is_aligned<L: Language>(
 }
 
 /// The proof of the first listed symmetry that is not aligned.
-pub fn next_unaligned<L: Language>(store: &Store<L>, alloc: Global) -> Result<Option<ProvenEq>, Error>
+pub fn next_unaligned<L: Language>(
+    store: &Store<L>,
+    alloc: Global,
+) -> Result<Option<ProvenEq>, Error>
     requires good { Stored store.now }
     ensures some { IfOk result (λ o. IfSome o (IsUnaligned store.now)) }
     ensures none { IfOk result (λ o. IfNone o (AreAligned store.now)) }

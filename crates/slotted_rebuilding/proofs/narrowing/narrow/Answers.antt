@@ -1,6 +1,4 @@
-use Rattle.std.proofs.Common.{rules}
-use Rattle.slotted_rebuilding.proofs.EnteredCongruences.{narrowed-once, proved-well}
-use Rattle.slotted_rebuilding.proofs.LargeClasses.{large-grown, large-of}
+use Rattle.slotted_rebuilding.proofs.EnteredCongruences.{narrowed-once}
 use Rattle.slotted_rebuilding.proofs.NarrowedNodes.{first-waits}
 use Rattle.slotted_rebuilding.proofs.narrowing.narrow.Goals as goal
 

@@ -1,6 +1,6 @@
 use Rattle.std.proofs.Common.{rules}
 use Rattle.slotted_rebuilding.proofs.LargeClasses.{large-either, twins-large}
-use Rattle.slotted_rebuilding.proofs.NarrowedNodes.{are-twins, twins-proved}
+use Rattle.slotted_rebuilding.proofs.NarrowedNodes.{are-twins}
 use Rattle.slotted_rebuilding.proofs.narrowing.twin_proof.Goals as goal
 
 pub returns-in_err-equation-clause-full : goal.returns-in_err-equation-clause-full

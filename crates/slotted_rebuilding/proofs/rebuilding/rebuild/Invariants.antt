@@ -1,4 +1,3 @@
-use Rattle.std.proofs.Common.{false}
 use Rattle.slotted_rebuilding.specs.Filed.{state_in}
 use Rattle.slotted_rebuilding.specs.Turns.{RebuildsSoFar}
 use Rattle.slotted_rebuilding.specs.Work.{work}

@@ -1,4 +1,3 @@
-use Rattle.std.proofs.Common.{rules}
 use Rattle.slotted_rebuilding.proofs.Collisions.{found-shape}
 use Rattle.slotted_rebuilding.proofs.NarrowedNodes.{first-waits}
 use Rattle.slotted_rebuilding.proofs.TakenTurns.{collides}

@@ -1,10 +1,9 @@
-use Rattle.std.proofs.Common.{◌∙◌, sym, subst, rules}
+use Rattle.std.proofs.Common.{◌∙◌, sym}
 use Rattle.indexmap.proofs.MapLemmas.{OnOk-map}
 use Rattle.slotted_rebuilding.specs.Turns.{TakesTurns}
 use Rattle.slotted_rebuilding.proofs.FiledStates.{first-still}
-use Rattle.slotted_rebuilding.proofs.LargeClasses.{large-grown}
 use Rattle.slotted_rebuilding.proofs.NarrowedNodes.{first-waits}
-use Rattle.slotted_rebuilding.proofs.Collisions.{children-within, files-it, new-to-others, shares-key, turns-then}
+use Rattle.slotted_rebuilding.proofs.Collisions.{children-within, files-it, new-to-others, turns-then}
 use Rattle.slotted_rebuilding.proofs.turning.take_turn.Goals as goal
 
 pub returns-then-other-class-clause-ok : goal.returns-then-other-class-clause-ok

@@ -4,7 +4,7 @@ use Rattle.slotted_unions.specs.Uniting.{StepsBy}
 use Rattle.slotted_unions.proofs.GrownRows.{grown-count}
 use Rattle.slotted_unions.proofs.UniteSteps.{lost-large}
 use Rattle.slotted_rebuilding.specs.Filed.{UnitesFiled}
-use Rattle.slotted_rebuilding.proofs.FiledUnions.{done-filed, linked-filed, dropped-filed}
+use Rattle.slotted_rebuilding.proofs.FiledUnions.{linked-filed, dropped-filed}
 use Rattle.slotted_rebuilding.proofs.uniting.+unite.Goals as goal
 
 pub returns-in_ok-touch-in-Linked-clause-ok : goal.returns-in_ok-touch-in-Linked-clause-ok
