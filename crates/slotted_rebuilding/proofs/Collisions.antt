@@ -12,6 +12,7 @@ use Rattle.slotted_model.specs.Rebuild.{IsCovered, Turn, refiled_state, row_for,
 use Rattle.slotted_model.specs.Rest.{IsValidIn, Sane}
 use Rattle.slotted_model.specs.State.{Row, State, child_classes, normal_node}
 use Rattle.slotted_model.proofs.KeepingLookUps.{children-below}
+use Rattle.slotted_model.proofs.Options.{Some-same}
 use Rattle.slotted_store.specs.Kept.{Kept, nodes_of}
 use Rattle.slotted_store.proofs.KeptLists.{length-nodes_of}
 use Rattle.slotted_filing.specs.Filed.{Filing, HasKey, HasKeysOnce, IsNewKey, IsNewToOthers, filed_of}
@@ -28,9 +29,6 @@ use Rattle.slotted_rebuilding.proofs.Runs.{runs-join, turn-sane}
 use Rattle.slotted_rebuilding.proofs.StaleRows.{stale-found}
 use Rattle.slotted_rebuilding.proofs.TakenTurns.{refiles-node}
 
-some-same : {X : Type 0} (x y : X) → Some x ≡ Some y → x ≡ y
-some-same x y e = cc
-
 -- the shape of the node in normal form, in the words of the model
 pub found-shape : (k : Kept) (o : ℕ) (f : Form) (m : List (ℕ × ℕ)) → IsFoundNode k o f m → theory.shape (nameless_node f) ≡ theory.shape (normal_node (finds_of k) o)
 found-shape k o f m node = ap (λ (r : Row). r.shape) node.row
@@ -40,7 +38,7 @@ pub shared-shapes : (k : Kept) (r : Rows) (o : ℕ) (slots : List (ℕ × ℕ)) 
     (x : Form) (n : List (ℕ × ℕ)) → Some (x, n) ≡ filed_of r.filed other → HaveOneShape k o slots other n
 shared-shapes k r o slots other well within s x n e =
     let m : List (ℕ × ℕ) = s.filed.0 in
-    let same : ◌≡◌ {A = Filing} (x, n) (s.key, m) = some-same (x, n) (s.key, m) (e ∙ s.filed.1) in
+    let same : ◌≡◌ {A = Filing} (x, n) (s.key, m) = Some-same (x, n) (s.key, m) (e ∙ s.filed.1) in
     let numbers : keys m ≡ keys (shape s.key).1 = (well.keyed other (s.key, m) s.filed.1).numbers in
     let there : IsFoundNode k other s.key m =
     stale-found k (state_in k r) well.sane refl refl o other s.key slots m within s.fits s.node (row-filed r.filed other s.key m s.filed.1) numbers in

@@ -9,6 +9,7 @@ use Rattle.slotted_model.specs.Find.{used_slots}
 use Rattle.slotted_model.specs.Rebuild.{IsCovered, starts, takes_turn}
 use Rattle.slotted_model.specs.State.{Row, normal_node}
 use Rattle.slotted_model.proofs.Lacking.{missing-cases}
+use Rattle.slotted_model.proofs.Options.{Some-same}
 use Rattle.slotted_theory.proofs.Lists.{contains_head, Contains-of_map}
 use Rattle.slotted_proofs.specs.declared.equation.Equation.{Equation as Sides}
 use Rattle.slotted_store.specs.Kept.{Kept, node_at, nodes_of, entries_of}
@@ -28,12 +29,9 @@ use Rattle.slotted_rebuilding.specs.Turns.{IsFirst, LacksSlot, NarrowsOnce, Narr
 use Rattle.slotted_rebuilding.proofs.FiledStates.{waits-nothing, waits-then}
 use Rattle.slotted_rebuilding.proofs.Runs.{runs-join}
 
-some-same : {X : Type 0} (x y : X) → Some x ≡ Some y → x ≡ y
-some-same x y e = cc
-
 first-in : (w : List ℕ) (o : ℕ) → slice_get w 0 ≡ Some o → Contains w o
 first-in [] o e = absurd (none-some o e)
-first-in (x ∷ w) o e = subst (Contains (x ∷ w)) (some-same x o e) (contains_head x w)
+first-in (x ∷ w) o e = subst (Contains (x ∷ w)) (Some-same x o e) (contains_head x w)
 
 -- the first one waits
 pub first-waits : (r : Rows) (o : ℕ) → IsFirst r o → Contains r.waiting o

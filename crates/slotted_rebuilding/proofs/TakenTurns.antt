@@ -12,6 +12,7 @@ use Rattle.slotted_model.specs.Rebuild.{IsCongruence, IsCovered, Turn, refiled_s
 use Rattle.slotted_model.specs.Rest.{Sane}
 use Rattle.slotted_model.specs.State.{Row, State, normal_node}
 use Rattle.slotted_normal_forms.specs.FoundNodes.{finds_of}
+use Rattle.slotted_model.proofs.Options.{Some-same}
 use Rattle.slotted_store.specs.Kept.{Kept}
 use Rattle.slotted_filing.specs.Filed.{Filing, filed_of}
 use Rattle.slotted_filing.specs.FiledRows.{Rows, rows_in, row_of_entry, TakesTurn}
@@ -46,9 +47,6 @@ refiled-state k r s o f m e once filed t row =
 pub filed-other : (v : List (Option Filing)) (o i : ℕ) (x : Option Filing) → i ≢ o → filed_of (set v o x) i ≡ filed_of v i
 filed-other v o i x differ = get_or-set_other v o i x None differ
 
-some-same : {X : Type 0} (x y : X) → Some x ≡ Some y → x ≡ y
-some-same x y e = cc
-
 -- nothing is filed of the class any more
 filed-none : (v : List (Option Filing)) (o : ℕ) → filed_of (set v o None) o ≡ None
 filed-none [] o = refl
@@ -64,7 +62,7 @@ keyed-removed v o keyed i e f = elim (cases_eq i o) [
 keyed-refiled : (v : List (Option Filing)) (o : ℕ) (x : Filing) → o < length v → IsKeyed x → ((i : ℕ) (e : Filing) → filed_of v i ≡ Some e → IsKeyed e) →
     (i : ℕ) (e : Filing) → filed_of (set v o (Some x)) i ≡ Some e → IsKeyed e
 keyed-refiled v o x within new keyed i e f = elim (cases_eq i o) [
-  | inl same ↦ subst IsKeyed (some-same x e (sym (get_or-set_same v o (Some x) None within) ∙ (ap (filed_of (set v o (Some x))) (sym same) ∙ f))) new
+  | inl same ↦ subst IsKeyed (Some-same x e (sym (get_or-set_same v o (Some x) None within) ∙ (ap (filed_of (set v o (Some x))) (sym same) ∙ f))) new
   | inr differ ↦ keyed i e (sym (filed-other v o i (Some x) differ) ∙ f)
 ]
 

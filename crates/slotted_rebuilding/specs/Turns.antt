@@ -1,9 +1,13 @@
 -- The turn of a class whose node waits.
---     NarrowsOnce        the class is united with itself, since its node lacks a slot, and the size falls
---     NarrowsTo          so often that the node has each slot of the class
---     IsNodeOf           the node of a class in normal form, with its shape as key
---     TakesTurns         turns lead from one to the other
---     Rebuilds           turns and acts, at least as many turns as are counted, until nothing is left to do
+--     IsFirst r o          the class o waits first
+--     LacksSlot k o        its node in normal form lacks a slot that it uses
+--     SharesKey            the shape of its node is filed of another class
+--     ProvesCongruence     the congruence of two classes was entered, and nothing else
+--     NarrowsOnce          the class is united with itself, since its node lacks a slot, and the size falls
+--     NarrowsTo            so often that the node has each slot of the class
+--     TakesTurns           turns lead from one to the other
+--     RebuildsSoFar        turns and acts, at least as many turns as are counted
+--     Rebuilds             the same, until nothing is left to do
 use Rattle.std.specs.Prelude.{◌≡◌, ℕ, ◌<◌, ◌≤◌, List, Contains, Some, false, slice_get}
 use Rattle.slotted_model.specs.Find.{used_slots}
 use Rattle.slotted_model.specs.Ascending.{names}
