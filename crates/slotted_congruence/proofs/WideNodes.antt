@@ -35,7 +35,7 @@ use Rattle.slotted_store.proofs.NameMaps.{length-keys, length-values}
 
 -- names and binders are among names, binders and children
 
-names_in : (ρ : ℕ → ℕ) (xs : List ℕ) → args_size (nameless_args ρ (node.own_names xs)) ≡ length xs
+pub names_in : (ρ : ℕ → ℕ) (xs : List ℕ) → args_size (nameless_args ρ (node.own_names xs)) ≡ length xs
 names_in ρ [] = refl
 names_in ρ (x ∷ xs) = omega (arith, names_in ρ xs)
 
@@ -95,7 +95,7 @@ pub outline_fits_size : (f : Form) → seen.place_count f ≤ node_size (nameles
 outline_fits_size f = outline_in (λ x. x) f.tree f.names
 
 -- names that are put in change no size
-size-moved : (f : ℕ → ℕ) (d : DArgs) → args_size (moved_args f d) ≡ args_size d
+pub size-moved : (f : ℕ → ℕ) (d : DArgs) → args_size (moved_args f d) ≡ args_size d
 size-moved f stop = refl
 size-moved f (place x rest) = ap (λ n. 1 + n) (size-moved f rest)
 size-moved f (sub op payloads args rest) = λ i. 1 + size-moved f args i + size-moved f rest i

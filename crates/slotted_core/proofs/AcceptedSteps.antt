@@ -32,9 +32,11 @@ use Rattle.slotted_core.specs.Graph.{Graph}
 use Rattle.slotted_core.specs.Image.{AreDerivable}
 use Rattle.slotted_core.specs.Leaves.{FollowsFromLeaves}
 use Rattle.slotted_store.specs.Kept.{Kept, nodes_of, proofs_of, with_proofs, EntersIn}
-use Rattle.slotted_core.specs.Good.{image_of, Good, HasFreshSlots}
+use Rattle.slotted_filing.specs.FiledRows.{Rows}
+use Rattle.slotted_core.specs.Good.{image_of, Good, RestsWith, HasFreshSlots}
 use Rattle.slotted_unions.proofs.JoinedIds.{own_map, written_sides}
 use Rattle.slotted_core.proofs.GoodFinds.{entering-good}
+use Rattle.slotted_core.proofs.Resting.{entered-rests}
 use Rattle.slotted_core.proofs.LeavesOf.{good-entries_follow}
 use Rattle.slotted_store.proofs.KeptLists.{equation_at-of, length-proofs_of}
 
@@ -147,6 +149,7 @@ module _ (k : Kept) (good : Good k) where
 -- what a contract says of an accepted step
 pub record Checked (t : Table) (k l : Kept) (e : Sides) (s : Step) (p : ℕ) : Type 0 where
   pub good : Good l
+  pub rests : (r : Rows) → RestsWith k r → RestsWith l r
   pub fresh_slots : HasFreshSlots t k → HasFreshSlots t l
   pub fits : Fits (image_of k) e s
   pub accepts : (b : Bool) → Accepts (record { failed = b; table = t; image = image_of k }) (record { failed = b; table = t; image = image_of l }) (entry_by e s) p
@@ -219,6 +222,7 @@ module _ (t : Table) (k : Kept) (good : Good k) (e : Sides) (of : IsOfFull (node
   pub checked : Checked t k l e s p
   checked = subst (λ (m : Kept). Checked t k m e s p) (sym enters.kept) (record {
     good = after-good;
+    rests = λ r rests. entered-rests k r good rests x can not_explicit after p (record { proofs = enters.proofs; enters = enters.enters; kept = refl });
     fresh_slots = λ h. h;
     fits = (of, fits);
     accepts = after-accepts;
@@ -264,9 +268,10 @@ both_ok (Err e) P Q R f p q = tt
 if_ok_then : {A : Type 0} (r : Result A Error) (P Q : A → Type 0) → ((x : A) → P x → Q x) → IfOk r P → IfOk r Q
 if_ok_then r P Q f h = both_ok r P P Q (λ x p q. f x p) h h
 
-pub kept_good : (r : Result ℕ Error) (t : Table) (k l : Kept) (e : Sides) (s : Step) → Good k × HasFreshSlots t k → IfOk r (Checked t k l e s) → OnErr r (l ≡ k) → Good l × HasFreshSlots t l
-kept_good (Ok p) t k l e s h c o = (c.good, c.fresh_slots h.1)
-kept_good (Err x) t k l e s h c o = subst (λ (m : Kept). Good m × HasFreshSlots t m) (sym o) h
+pub kept_good : (r : Result ℕ Error) (t : Table) (k l : Kept) (rows : Rows) (e : Sides) (s : Step) → Good k × HasFreshSlots t k × RestsWith k rows → IfOk r (Checked t k l e s) → OnErr r (l ≡ k) →
+    Good l × HasFreshSlots t l × RestsWith l rows
+kept_good (Ok p) t k l rows e s h c o = (c.good, c.fresh_slots h.1.0, c.rests rows h.1.1)
+kept_good (Err x) t k l rows e s h c o = subst (λ (m : Kept). Good m × HasFreshSlots t m × RestsWith m rows) (sym o) h
 
 module _ (r : Result ℕ Error) (b : Bool) (t : Table) (k l : Kept) (e : Sides) (s : Step) (g : Graph) (view : record { failed = b; table = t; image = image_of k } ≡ g) where
   pub says_refused : (IsErrOf r BadStep → ¬ Fits (image_of k) e s) → IsErrOf r BadStep → ¬ Fits g.image e s

@@ -3,26 +3,32 @@ use Rattle.std.proofs.Common.{◌≡◌, ℕ, ◌<◌, List, [], ◌∷◌, ◌+
 use Rattle.std.specs.Prelude.{◌⊎◌, map, false, Option}
 use Rattle.std.proofs.lemmas.List.{append-nil, map-append}
 use Rattle.slotted_theory.specs.Nameless.{DTerm}
+use Rattle.slotted_model.specs.Adding as adding
 use Rattle.slotted_model.specs.Applied.{Applied}
 use Rattle.slotted_model.specs.Changes.{GoesOn, StandsAt}
 use Rattle.slotted_model.specs.Changes as model
 use Rattle.slotted_model.specs.Classes.{IsFull}
 use Rattle.slotted_model.specs.Link.{CanEnter}
 use Rattle.slotted_model.specs.ProofList.{ProofEntry, equation_of, asserted, term_pair}
+use Rattle.slotted_model.specs.Rebuild.{Runs, HasNothingLeft}
 use Rattle.slotted_model.specs.Rest.{Sane}
-use Rattle.slotted_model.specs.State.{State}
+use Rattle.slotted_model.specs.State.{Row, State}
 use Rattle.slotted_model.proofs.Asserting.{entry-goes_on, entry-sane}
 use Rattle.slotted_model.proofs.Entering.{entered-asserted}
 use Rattle.slotted_model.proofs.GoingOn.{goes_on-same}
 use Rattle.slotted_proofs.specs.Equations.{Statement}
-use Rattle.slotted_proofs.specs.Entries.{Proven, entry_of, Stands, Enters, asserted_entry}
+use Rattle.slotted_proofs.specs.Entries.{Proven, entry_of, Stands, IsNew, Enters, asserted_entry}
 use Rattle.slotted_proofs.specs.Proving.{IsProvable}
 use Rattle.slotted_proofs.proofs.Entering.{asserted_provable, new_can_enter, entering_proved, entered_stands}
 use Rattle.slotted_core.specs.Image.{StandsIn, Asserts, Records, asserted_in}
 use Rattle.slotted_store.specs.Kept.{Kept, nodes_of, entries_of, proofs_of, with_proofs, EntersIn}
 use Rattle.slotted_store.proofs.KeptLists.{equation_at-of, length-proofs_of}
-use Rattle.slotted_unions.specs.StateOf.{state_of}
+use Rattle.slotted_filing.specs.FiledRows.{Rows, rows_in}
+use Rattle.slotted_unions.specs.StateOf.{state_of, state_with}
 use Rattle.slotted_unions.specs.Stored.{Stored, Grows, IsOverOneClass}
+use Rattle.slotted_unions.proofs.GrownRows.{grown-count, grown-rows}
+use Rattle.slotted_rebuilding.specs.Filed.{state_in, IsWellFiled}
+use Rattle.slotted_rebuilding.proofs.FiledStates.{fits-grown}
 use Rattle.slotted_core.specs.Good.{image_of, Good}
 use Rattle.slotted_core.proofs.EntryTexts.{records-stood, records-last}
 
@@ -67,6 +73,10 @@ module _ (k : Kept) (good : Good k) (a b : Applied) (fa : IsFull (nodes_of k) a)
 
   asserted-sane : (ps : List Proven) (p : ℕ) → Enters k.proofs ps x p → Sane (model.with_proofs state (map entry_of ps))
   asserted-sane = by_list (λ es. Sane (model.with_proofs state es)) good.stored.sane (entry-sane state good.stored.sane (entry_of x))
+
+  -- also where nodes are filed
+  sane-with : (rows : List Row) (w : List ℕ) → Sane (state_with k rows w) → (ps : List Proven) (p : ℕ) → Enters k.proofs ps x p → Sane (model.with_proofs (state_with k rows w) (map entry_of ps))
+  sane-with rows w sane = by_list (λ es. Sane (model.with_proofs (state_with k rows w) es)) sane (entry-sane (state_with k rows w) sane (entry_of x))
 
   asserted-goes_on : (ps : List Proven) (p : ℕ) → Enters k.proofs ps x p → GoesOn state (model.with_proofs state (map entry_of ps))
   asserted-goes_on = by_list (λ es. GoesOn state (model.with_proofs state es)) (goes_on-same state good.stored.sane.sound.linked) (entry-goes_on state good.stored.sane (entry_of x))
@@ -127,3 +137,39 @@ module _ (k : Kept) (good : Good k) (a b : Applied) (fa : IsFull (nodes_of k) a)
     };
     records = recorded e.proofs p e.enters;
   })
+
+  -- what is filed fits
+  pub asserted-filed : (r : Rows) → IsWellFiled k r → (m : Kept) (p : ℕ) → EntersIn k m x p → IsWellFiled m r
+  asserted-filed r well m p e =
+      let said : IsAsserted k m x a b p = is_asserted m p e in
+      record {
+        stored = said.stored;
+        canonical = grown-rows k m said.grows well.canonical;
+        fits = fits-grown k m said.grows well.fits;
+        count = well.count ∙ sym (grown-count k m said.grows);
+        sane = subst (λ (z : Kept). Sane (state_in z r)) (sym e.kept) (sane-with (rows_in r.filed) r.waiting well.sane e.proofs p e.enters);
+        keyed = well.keyed;
+      }
+
+  -- a union by the entry, and a run that leaves nothing to do, assert that the two are equal
+  module _ (r : Rows) (f h : State) (n : ℕ) (runs : Runs f n h) (left : HasNothingLeft h) where
+    stood-by : (ps : List Proven) (p : ℕ) → Stands k.proofs x.statement p → ps ≡ k.proofs → model.Unites p (state_in (with_proofs k ps) r) f → adding.Asserts (state_in k r) a b h
+    stood-by ps p stood same u =
+        let at : StandsIn (image_of k) (equation_of a b) = stood-in p stood in
+        adding.stands p (at.1, at.2) (subst (λ qs. model.Unites p (state_in (with_proofs k qs) r) f) same u) runs left
+
+    new-by : (ps : List Proven) (p : ℕ) → IsNew k.proofs x.statement → p ≡ length k.proofs → ps ≡ k.proofs ++ x ∷ [] → model.Unites p (state_in (with_proofs k ps) r) f → adding.Asserts (state_in k r) a b h
+    new-by ps p new last grows u =
+        let enter : CanEnter nodes (proofs_of k) (entry_of x) = new_can_enter nodes k.proofs good.stored.proved x can new in
+        let same : state_in (with_proofs k ps) r ≡ adding.with_assertion (state_in k r) (equation_of a b) =
+        ap (λ qs. model.with_proofs (state_in k r) (map entry_of qs)) grows ∙ ap (model.with_proofs (state_in k r)) (map-append entry_of k.proofs (x ∷ [])) in
+        let number : p ≡ length (proofs_of k) = last ∙ sym (length-proofs_of k) in
+        adding.is_new (λ q w e. enter.is_new q w e) (subst (λ (y : ℕ × State). model.Unites y.0 y.1 f) (λ i. (number i, same i)) u) runs left
+
+    pub asserts-by : (m : Kept) (p : ℕ) → EntersIn k m x p → model.Unites p (state_in m r) f → adding.Asserts (state_in k r) a b h
+    asserts-by m p e u =
+        let v : model.Unites p (state_in (with_proofs k e.proofs) r) f = subst (λ (z : Kept). model.Unites p (state_in z r) f) e.kept u in
+        elim e.enters.grows [
+          | inl w ↦ stood-by e.proofs p w.0 w.1 v
+          | inr w ↦ new-by e.proofs p w.0 w.1 w.2 v
+        ]

@@ -1,40 +1,31 @@
 -- Images of graphs: what is added and what goes on, step after step.
 use Rattle.std.proofs.Common.{◌≡◌, ◌<◌, ◌+◌, ℕ, zero, suc, List, [], ◌∷◌, ◌++◌, length, sym, ◌∙◌, ap, refl, append_assoc, arith}
 use Rattle.std.specs.Prelude.{slice_index_or}
-use Rattle.std.proofs.lemmas.List.{append-nil}
 use Rattle.slotted_model.specs.Applied.{Applied}
+use Rattle.slotted_model.specs.Classes.{IsFull}
 use Rattle.slotted_model.specs.Correspondence.{composite}
 use Rattle.slotted_model.specs.Find.{Entry, find_class, find_map, find}
 use Rattle.slotted_model.specs.Growth.{Extends}
 use Rattle.slotted_model.specs.ProofList.{ProofEntry}
 use Rattle.slotted_proofs.specs.Entries.{Proven}
 use Rattle.slotted_core.specs.Image.{Image, AddsClasses, found_id}
-use Rattle.slotted_store.specs.Kept.{Kept, entries_of, proofs_of}
+use Rattle.slotted_store.specs.Kept.{Kept, SymmetryEntry, nodes_of, entries_of, proofs_of}
 use Rattle.slotted_core.specs.Good.{image_of, finds_from}
 use Rattle.slotted_store.proofs.KeptLists.{length-entries_of}
 
--- nothing is added
-pub adds-nothing : (k : Kept) → AddsClasses (image_of k) (image_of k)
-adds-nothing k = record {
-  more = [];
-  entries = sym (append-nil (proofs_of k));
-  more_stored = [];
-  stored = sym (append-nil k.proofs);
-  asserted = refl;
-  symmetries = refl;
-  finds = λ a full. refl;
-}
-
 -- more is added
-pub adds-then : (g h i : Image) → Extends g.canonical h.canonical → AddsClasses g h → AddsClasses h i → AddsClasses g i
-adds-then g h i x p q = record {
+pub adds-then : (g h i : Image) → Extends g.canonical h.canonical → AddsClasses g h → AddsClasses h i →
+    ((a : Applied) → IsFull g.canonical a → found_id i a ≡ found_id i (found_id g a)) → AddsClasses g i
+adds-then g h i x p q finds = record {
   more = p.more ++ q.more;
   entries = q.entries ∙ (ap (λ (l : List ProofEntry). l ++ q.more) p.entries ∙ append_assoc g.entries p.more q.more);
   more_stored = p.more_stored ++ q.more_stored;
   stored = q.stored ∙ (ap (λ (l : List Proven). l ++ q.more_stored) p.stored ∙ append_assoc g.stored p.more_stored q.more_stored);
   asserted = q.asserted ∙ p.asserted;
-  symmetries = q.symmetries ∙ p.symmetries;
-  finds = λ a full. q.finds a (x.full a full) ∙ p.finds a full;
+  listed = p.listed ++ q.listed;
+  symmetries = q.symmetries ∙ (ap (λ (l : List SymmetryEntry). l ++ q.listed) p.symmetries ∙ append_assoc g.symmetries p.listed q.listed);
+  finds = finds;
+  alike = λ a b fa fb e. q.alike a b (x.full a fa) (x.full b fb) (p.alike a b fa fb e);
 }
 
 -- what a class finds

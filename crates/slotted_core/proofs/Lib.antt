@@ -1,10 +1,12 @@
 pub mod GoodFinds
+pub mod Resting
 pub mod CanonicalTerms
 pub mod FreshSlots
 pub mod Images
+pub mod ContinuedFinds
+pub mod LargeNodes
 pub mod FindableIds
 pub mod RowLookUps
-pub mod NewClass
 pub mod FullIds
 pub mod Answering
 pub mod LeavesOf
@@ -18,6 +20,7 @@ pub mod Unions
 pub mod ExplainedTerms
 pub mod FreshCanonicalNodes
 pub mod NodeAddition
+pub mod FiledClasses
 pub mod KnownNames
 pub mod ChildReplacement
 pub mod CallerLemmas

@@ -1,8 +1,8 @@
--- What adding a node leaves: where its shape is filed nothing changes, and else there is one class more.
+-- What making a class for a node leaves: where its shape is filed nothing changes, and else there is one class more.
 use Rattle.std.proofs.Common.{◌≡◌, ◌<◌, ◌≤◌, ℕ, zero, suc, ◌+◌, List, [], ◌∷◌, ◌++◌, Some, None, length, map, get_or, cond, sym, ◌∙◌, ap, refl, subst, arith, inl, inr, length-append}
 use Rattle.std.specs.Prelude.{option_map, is_some, All, Contains, true, false}
 use Rattle.std.proofs.lemmas.Bool.{false≢true}
-use Rattle.std.proofs.lemmas.List.{map-append}
+use Rattle.std.proofs.lemmas.List.{append-nil, map-append}
 use Rattle.slotted_theory.specs.Nameless.{DTerm}
 use Rattle.slotted_theory.specs.Renaming.{IsInjective}
 use Rattle.slotted_theory.specs.FiniteMaps.{IsInjectiveMap}
@@ -19,7 +19,7 @@ use Rattle.slotted_languages.proofs.Renamings.{moved_same}
 use Rattle.slotted_languages.proofs.Shapes.{shapes_iff}
 use Rattle.slotted_model.specs.Ascending.{ascending, names}
 use Rattle.slotted_model.specs.Applied.{Applied, map_on, renamed_id, EachChild}
-use Rattle.slotted_model.specs.Classes.{canonical_slots, IsFull, Canonical}
+use Rattle.slotted_model.specs.Classes.{canonical_node, canonical_slots, IsFull, Canonical}
 use Rattle.slotted_model.specs.Correspondence.{identity}
 use Rattle.slotted_model.specs.Find.{Entry, find}
 use Rattle.slotted_model.specs.Link.{IsLater, with_new_entry, reflexive_equation}
@@ -27,7 +27,7 @@ use Rattle.slotted_model.specs.ProofList.{Equation, ProofEntry, reflexive, equat
 use Rattle.slotted_model.specs.Adding as model
 use Rattle.slotted_model.specs.Changes.{GoesOn}
 use Rattle.slotted_model.specs.Rest.{Sane, IsListed, IsValidIn, id_names}
-use Rattle.slotted_model.specs.State.{State, left_of, right_of}
+use Rattle.slotted_model.specs.State.{Row, State, left_of, right_of}
 use Rattle.slotted_model.specs.Growth.{Extends, Added}
 use Rattle.slotted_model.specs.Growth as growth
 use Rattle.slotted_model.specs.Ids.{id_of_node}
@@ -47,20 +47,19 @@ use Rattle.slotted_proofs.specs.Entries.{Proven, entry_of, IsNew, Enters, reflex
 use Rattle.slotted_proofs.specs.Proving.{IsProvable, IsProved}
 use Rattle.slotted_proofs.proofs.Entering.{entering_proved, proved_newer, reflexive_provable}
 use Rattle.slotted_store.specs.FormCode.{form_is, form_Decides}
-use Rattle.slotted_unions.specs.StateOf.{state_of}
+use Rattle.slotted_unions.specs.StateOf.{state_of, state_with}
 use Rattle.slotted_unions.specs.Stored.{Stored, IsOverOneClass}
+use Rattle.slotted_core.specs.Causes.{HasLargeClassIn, HasLargeClassOrNode}
 use Rattle.slotted_core.specs.Graph.{IsFreshBetween}
-use Rattle.slotted_core.specs.Image.{AddsClasses}
 use Rattle.slotted_store.specs.Kept.{Kept, ClassEntry, RowEntry, no_form, no_entry, found, rows_from, node_at, nodes_of, entries_of, proofs_of, with_proofs, with_new_class, MakesClass}
-use Rattle.slotted_core.specs.Good.{image_of, Good, HasFreshSlots, Adds}
+use Rattle.slotted_core.specs.Good.{image_of, Good, HasFreshSlots, Makes}
 use Rattle.slotted_store.specs.Names.{between, fresh_slots, with_put, HasNumberedBinders}
 use Rattle.slotted_core.specs.Nodes.{child_ids}
 use Rattle.slotted_store.proofs.ChildIds.{Each-from_All, EachChild-node_args}
 use Rattle.slotted_core.proofs.RowLookUps.{canonical_node-in, answer, look_up-rows, none_has}
 use Rattle.slotted_core.proofs.FullIds.{length-classes}
-use Rattle.slotted_core.proofs.Images.{adds-nothing, found_id-is}
+use Rattle.slotted_core.proofs.LargeNodes.{large-old_or_new}
 use Rattle.slotted_store.proofs.KeptLists.{length-entries_of, length-proofs_of, equation_at-of}
-use Rattle.slotted_core.proofs.NewClass.{full-finds}
 use Rattle.slotted_store.proofs.NamePairs.{ascending-values, between-moved}
 use Rattle.slotted_core.proofs.FreshCanonicalNodes.{fits_put, shape-put, length-free, numeric-shape, put_own}
 
@@ -116,18 +115,22 @@ pub full_children : (g : List DTerm) (f : Form) → Fits f → All (IsFull g) (c
 full_children g f hf full = EachChild-node_args (IsFull g) (keeps_full g) (λ x. x) (λ x y e. e) f.tree f.names hf (Each-from_All (IsFull g) (child_ids f) full)
 
 -- where the shape is filed
-pub adds_none : (t : Table) (k : Kept) → Good k → HasFreshSlots t k → (f : Form) → Fits f → (r : ℕ × List (ℕ × ℕ)) → found k.rows (shape f).0 ≡ Some r → Adds t t k k f (answer (shape f).1 r)
-adds_none t k good over f hf r e =
+pub makes_none : (t : Table) (k : Kept) → Good k → HasFreshSlots t k → (f : Form) → Fits f → (r : ℕ × List (ℕ × ℕ)) → found k.rows (shape f).0 ≡ Some r → Makes t t k k f (answer (shape f).1 r)
+makes_none t k good over f hf r e =
     let p : id_of_node (nodes_of k) (nameless_node f) ≡ Some (answer (shape f).1 r) = sym (look_up-rows k good f hf) ∙ ap (option_map (answer (shape f).1)) e in
     record {
       good = good;
       fresh_slots = over;
       extends = Extends-same (nodes_of k);
-      adds = adds-nothing k;
+      more = [];
+      proofs = sym (append-nil k.proofs);
+      symmetries = refl;
       found = p;
       filed = λ i past within. absurd (omega (arith, past, within));
       kept = λ s. refl;
       made = λ n. absurd (false≢true (ap is_some (sym n ∙ p)));
+      step = inl refl;
+      large = inl;
     }
 
 module _ (t u : Table) (k : Kept) (good : Good k) (over : HasFreshSlots t k) (f : Form) (hf : Fits f) (full : All (IsFull (nodes_of k)) (child_ids f)) (none : found k.rows (shape f).0 ≡ None) (slots : List (ℕ × ℕ)) (same_keys : keys slots ≡ keys (shape f).1) (new_values : values slots ≡ fresh_slots t.fresh (length (shape f).1)) (moves : u.fresh ≡ t.fresh + length (shape f).1)
@@ -292,15 +295,18 @@ module _ (t u : Table) (k : Kept) (good : Good k) (over : HasFreshSlots t k) (f 
   abbrev state : State
   state = state_of k
 
-  state_is : state_of l ≡ model.with_new_class state d
-  state_is i = record {
+  state_with_is : (rows : List Row) (waiting : List ℕ) → state_with l rows waiting ≡ model.with_new_class (state_with k rows waiting) d
+  state_with_is rows waiting i = record {
     nodes = nodes_are i;
     found = (entries_are ∙ ap (λ ns. with_new_entry ns (entries_of k) (length (proofs_of k))) nodes_are) i;
     proofs = (proofs_are ∙ ap (λ ns. proofs_of k ++ record { equation = reflexive_equation ns (length g); step = reflexive } ∷ []) nodes_are) i;
-    rows = [];
-    waiting = [];
+    rows = rows;
+    waiting = waiting;
     symmetries = state.symmetries;
   }
+
+  state_is : state_of l ≡ model.with_new_class state d
+  state_is = state_with_is [] []
 
   finds_on : GoesOn state (state_of l)
   finds_on = subst (GoesOn state) (sym state_is) (class-goes_on state good.stored.sane d is_new)
@@ -338,20 +344,6 @@ module _ (t u : Table) (k : Kept) (good : Good k) (over : HasFreshSlots t k) (f 
       zero_plus : (m : ℕ) → m ≡ 0 + m
       zero_plus m = omega arith
 
-  adds_class : AddsClasses (image_of k) (image_of l)
-  adds_class = record {
-    more = entry ∷ [];
-    entries = proofs_are;
-    more_stored = own_entry ∷ [];
-    stored = stands_last.1;
-    asserted = nothing_asserted;
-    symmetries = refl;
-    finds = λ a full.
-        let h : a.0 < length k.classes = let m : length g ≡ n = length-classes k in let o : a.0 < length g = full.in_range in omega arith in
-        let h' : a.0 < length l.classes = let m : length (nodes_of l) ≡ length l.classes = length-classes l in let o : length (nodes_of l) ≡ suc (length g) = one_more in let q : a.0 < length g = full.in_range in omega arith in
-        found_id-is l a h' ∙ (ap (λ es. find es a) entries_are ∙ (full-finds g (nodes_of l) extends one_more (entries_of k) good.stored.sane.sound.linked (length (proofs_of k)) a full ∙ sym (found_id-is k a h)));
-  }
-
   fresh_more : HasFreshSlots u l
   fresh_more i s h b =
       each_push (λ j e. Contains (names (nameless_node e.0)) s → IsFreshBetween empty_table u s) k.classes (c, own) (no_form, no_entry)
@@ -367,13 +359,21 @@ module _ (t u : Table) (k : Kept) (good : Good k) (over : HasFreshSlots t k) (f 
   none_before : id_of_node g (nameless_node f) ≡ None
   none_before = sym (look_up-rows k good f hf) ∙ ap (option_map (answer (shape f).1)) none
 
+  -- a class that is too large was so, or the node is too large
+  large_one : HasLargeClassIn (image_of l) → HasLargeClassOrNode (image_of k) f
+  large_one h =
+      large-old_or_new g (nodes_of l) extends f d same
+      (ap (λ ns. canonical_node ns (length g)) nodes_are ∙ node-new g d) one_more h.0 h.1 h.2
+
   -- where the shape is not filed
-  pub adds_one : Adds t u k l f (n, between slots (shape f).1)
-  adds_one = record {
+  pub makes_one : Makes t u k l f (n, between slots (shape f).1)
+  makes_one = record {
     good = good_more;
     fresh_slots = fresh_more;
     extends = extends;
-    adds = adds_class;
+    more = own_entry ∷ [];
+    proofs = stands_last.1;
+    symmetries = refl;
     found = found_more;
     filed = λ i past within. ((n, between slots (shape f).1), last i past within, found_more);
     kept = λ s. absurd (false≢true (sym (ap is_some none_before) ∙ s));
@@ -383,31 +383,36 @@ module _ (t u : Table) (k : Kept) (good : Good k) (over : HasFreshSlots t k) (f 
       same_shape = one_shape;
       fresh = λ s b. fresh_last s (In-Contains (names d) s (subst (λ (x : List ℕ). Contains x s) (ap (λ (i : ℕ). canonical_slots (nodes_of l) i) (length-classes k) ∙ slots_last) b));
     };
+    step = inr (record { node = d; is_new = is_new; count = classes_more; state = state_with_is });
+    large = large_one;
   }
     where
       -- one class is new
       last : (i : ℕ) → length g ≤ i → i < length (nodes_of l) → n ≡ i
       last i past within = let c : length g ≡ n = length-classes k in omega (arith, past, within, one_more, c)
 
+      classes_more : length l.classes ≡ suc (length k.classes)
+      classes_more = let m : length (nodes_of l) ≡ length l.classes = length-classes l in let c : length g ≡ n = length-classes k in omega (arith, one_more, m, c)
+
 -- what the code reads: the shape s with its names m
 
-abbrev RowAdds : Table → Kept → Form → Form × List (ℕ × ℕ) → Type 0
-RowAdds t k f x = (r : ℕ × List (ℕ × ℕ)) (a : Applied) → Some r ≡ found k.rows x.0 → a ≡ answer x.1 r → Adds t t k k f a
+abbrev RowMakes : Table → Kept → Form → Form × List (ℕ × ℕ) → Type 0
+RowMakes t k f x = (r : ℕ × List (ℕ × ℕ)) (a : Applied) → Some r ≡ found k.rows x.0 → a ≡ answer x.1 r → Makes t t k k f a
 
-pub row_adds : (t : Table) (k : Kept) → Good k → HasFreshSlots t k → (f : Form) → Fits f → (s : Form) (m : List (ℕ × ℕ)) → ◌≡◌ {A = Form × List (ℕ × ℕ)} (s, m) (shape f) → RowAdds t k f (s, m)
-row_adds t k good over f hf s m e =
-    subst (RowAdds t k f) (sym e) (λ r a p q. subst (Adds t t k k f) (sym q) (adds_none t k good over f hf r (sym p)))
+pub row_makes : (t : Table) (k : Kept) → Good k → HasFreshSlots t k → (f : Form) → Fits f → (s : Form) (m : List (ℕ × ℕ)) → ◌≡◌ {A = Form × List (ℕ × ℕ)} (s, m) (shape f) → RowMakes t k f (s, m)
+row_makes t k good over f hf s m e =
+    subst (RowMakes t k f) (sym e) (λ r a p q. subst (Makes t t k k f) (sym q) (makes_none t k good over f hf r (sym p)))
 
-abbrev ClassAdds : Table → Table → Kept → Kept → Form → Applied → List (ℕ × ℕ) → Form × List (ℕ × ℕ) → Type 0
-ClassAdds t u k l f a slots x =
+abbrev ClassMakes : Table → Table → Kept → Kept → Form → Applied → List (ℕ × ℕ) → Form × List (ℕ × ℕ) → Type 0
+ClassMakes t u k l f a slots x =
     None ≡ found k.rows x.0 → keys slots ≡ keys x.1 → values slots ≡ fresh_slots t.fresh (length x.1) → u.fresh ≡ t.fresh + length x.1 →
-    MakesClass k l x.0 slots → a ≡ (length k.classes, between slots x.1) → Adds t u k l f a
+    MakesClass k l x.0 slots → a ≡ (length k.classes, between slots x.1) → Makes t u k l f a
 
-pub class_adds : (t u : Table) (k l : Kept) → Good k → HasFreshSlots t k → (f : Form) → Fits f → All (IsFull (nodes_of k)) (child_ids f) → (a : Applied) (slots : List (ℕ × ℕ)) (s : Form) (m : List (ℕ × ℕ)) → ◌≡◌ {A = Form × List (ℕ × ℕ)} (s, m) (shape f) → ClassAdds t u k l f a slots (s, m)
-class_adds t u k l good over f hf full a slots s m e =
-    subst (ClassAdds t u k l f a slots) (sym e)
-    (λ none ks vs mv made ea. subst (λ (x : Kept × Applied). Adds t u k x.0 f x.1) (λ i. (sym made.class i, sym ea i))
-    (adds_one t u k good over f hf full (sym none) slots ks vs mv made.proofs made.proof made.enters))
+pub class_makes : (t u : Table) (k l : Kept) → Good k → HasFreshSlots t k → (f : Form) → Fits f → All (IsFull (nodes_of k)) (child_ids f) → (a : Applied) (slots : List (ℕ × ℕ)) (s : Form) (m : List (ℕ × ℕ)) → ◌≡◌ {A = Form × List (ℕ × ℕ)} (s, m) (shape f) → ClassMakes t u k l f a slots (s, m)
+class_makes t u k l good over f hf full a slots s m e =
+    subst (ClassMakes t u k l f a slots) (sym e)
+    (λ none ks vs mv made ea. subst (λ (x : Kept × Applied). Makes t u k x.0 f x.1) (λ i. (sym made.class i, sym ea i))
+    (makes_one t u k good over f hf full (sym none) slots ks vs mv made.proofs made.proof made.enters))
 
 -- the slots of a new class are no more than the places of its node
 

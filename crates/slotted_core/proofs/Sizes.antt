@@ -1,6 +1,6 @@
 -- A node over ids of terms has no more places than the term.
 use Rattle.std.proofs.Common.{◌≡◌, ◌<◌, ◌≤◌, ℕ, zero, suc, ◌+◌, List, [], ◌∷◌, ◌++◌, length, take, drop, map, get_or, sym, ◌∙◌, ap, refl, arith, length-append}
-use Rattle.std.specs.Prelude.{Option, None}
+use Rattle.std.specs.Prelude.{Option, None, slice_index}
 use Rattle.std.specs.List.{zip}
 use Rattle.slotted_theory.specs.Term.{Args, Term, done, name}
 use Rattle.slotted_theory.specs.Term as term
@@ -10,12 +10,15 @@ use Rattle.slotted_theory.specs.Shape.{outside, free_names}
 use Rattle.slotted_slots.specs.Maps.{keys, values}
 use Rattle.slotted_nodes.specs.Form.{Form, Tree, leaf, own, child, bind, scopes, children}
 use Rattle.slotted_languages.specs.Filled as form
+use Rattle.slotted_languages.specs.NodeTerm.{node_args, nameless_node}
 use Rattle.slotted_languages.proofs.NodeTerms.{own_fits, child_keys_fit, child_rest_fits, bind_inner_fits, bind_rest_fits}
 use Rattle.slotted_model.specs.Ascending.{ascending}
 use Rattle.slotted_model.specs.Applied.{Applied}
 use Rattle.slotted_model.specs.Classes.{canonical_term, term_of, IsFull, Canonical}
 use Rattle.slotted_model.proofs.Full.{canonical_term-names}
 use Rattle.slotted_model.proofs.Theory.{free_names-moved}
+use Rattle.slotted_congruence.specs.Named.{args_size, node_size}
+use Rattle.slotted_congruence.proofs.WideNodes.{names_in}
 use Rattle.slotted_core.specs.Nodes.{ids_in, child_ids}
 use Rattle.slotted_core.specs.Places.{args_places, term_places}
 use Rattle.slotted_store.proofs.ChildIds.{length-ids}
@@ -123,3 +126,28 @@ total_le-filled (bind u r) xs us =
 -- a child has no more places than the term
 pub child_places_fit : (f : Form) (us : List Term) (k : ℕ) (d : Term) → k < length us → term_places (get_or us k d) ≤ term_places (form.term_of f us)
 child_places_fit f us k d l = omega (arith, total-at us k d l, total_le-filled f.tree f.names us)
+
+-- nor more places, binders and children than the term's size
+
+places-size : (a : Args) → args_places a ≤ term.args_size a
+places-size done = omega arith
+places-size (name x rest) = omega (arith, places-size rest)
+places-size (term.child op payloads args rest) = omega (arith, places-size args, places-size rest)
+places-size (term.bind x inner rest) = omega (arith, places-size inner, places-size rest)
+
+size_fit : (ρ : ℕ → ℕ) (t : Tree) (xs : List ℕ) (us : List Term) → length xs ≡ length (scopes t) → Bounded (ids_in t xs) us → args_size (nameless_args ρ (node_args t xs)) ≤ term.args_size (form.filled t xs us)
+size_fit ρ leaf xs us n m = omega arith
+size_fit ρ (own r) xs us n m = omega (arith, size_fit ρ r (drop 1 xs) us (own_fits r xs n) m)
+size_fit ρ (child i ks r) xs [] n m = absurd m
+size_fit ρ (child i ks r) xs (u ∷ us) n m =
+    omega (arith, names_in ρ (take (length ks) xs), child_keys_fit i ks r xs n, m.0, values-zip ks (take (length ks) xs) (child_keys_fit i ks r xs n), places-size u.args, size_fit ρ r (drop (length ks) xs) us (child_rest_fits i ks r xs n) m.1)
+size_fit ρ (bind u r) xs us n m =
+    let s = length (scopes u) in
+    let c = length (children u) in
+    let q = bounded-split (ids_in u (take s (drop 1 xs))) (ids_in r (drop s (drop 1 xs))) us c (length-ids u (take s (drop 1 xs))) m in
+    omega (arith, size_fit (extend (slice_index xs 0) ρ) u (take s (drop 1 xs)) (take c us) (bind_inner_fits u r xs n) q.0, size_fit ρ r (drop s (drop 1 xs)) (drop c us) (bind_rest_fits u r xs n) q.1)
+
+-- a node over ids of these terms
+pub node_size_fits : (nodes : List DTerm) → Canonical nodes → (h : Form) (us : List Term) → length h.names ≡ length (scopes h.tree) → length us ≡ length (children h.tree) → ((j : ℕ) (d : Applied) (e : Term) → j < length us → IsFull nodes (get_or (child_ids h) j d) × (term_of nodes (get_or (child_ids h) j d) ≡ nameless (get_or us j e))) → node_size (nameless_node h) ≤ term.args_size (form.filled h.tree h.names us)
+node_size_fits nodes can h us n c ids =
+    size_fit (λ x. x) h.tree h.names us n (bounded-from nodes can (child_ids h) us (length-ids h.tree h.names ∙ sym c) ids)

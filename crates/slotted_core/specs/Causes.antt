@@ -6,14 +6,21 @@
 --     HasLargeClassOf g a b   such a class is large
 --     IsLargeNode nodes i     the canonical node of a class has too many places to be numbered
 --     HasLargePart nodes i    so has a node of its canonical term
+--     HasLargeClassIn g       a class of the graph has so many slots, or its node so many places, that two ids of it have too many names
+--     HasLargeClassOrNode g f, HasLargeClassOrTerm g t     or so would a class of the node, or of a node of the term
+--     CanRunOutForNode, CanRunOutForTerm, RunsOutForNodeIn     why slots can run out where these are added
 use Rattle.std.specs.Prelude.{◌≡◌, ℕ, zero, suc, ◌^◌, ◌<◌, ◌≤◌, ◌⊎◌, List, [], ◌∷◌, length, slice_index_or}
 use Rattle.slotted_slots.specs.Table.{slot_limit}
+use Rattle.slotted_slots.specs.Table.{Table}
 use Rattle.slotted_theory.specs.Nameless.{DArgs, DTerm, stop, place, sub, scope}
+use Rattle.slotted_theory.specs.Term.{Term, term_size}
+use Rattle.slotted_nodes.specs.Form.{Form}
 use Rattle.slotted_model.specs.Applied.{Applied}
 use Rattle.slotted_model.specs.Classes.{canonical_node, canonical_slots}
 pub use Rattle.slotted_proofs.specs.Equations.{HaveManyNames, HasManyNames}
-pub use Rattle.slotted_congruence.specs.Named.{SidesRunOut}
+pub use Rattle.slotted_congruence.specs.Named.{SidesRunOut, IsWideClass, IsWideNode}
 use Rattle.slotted_core.specs.Canonical.{place_count}
+use Rattle.slotted_core.specs.Graph.{Graph, RunsOutIn, RunsOutForNode, RunsOutForTerm}
 use Rattle.slotted_core.specs.Image.{Image}
 
 -- the class has so many slots that two ids of it have too many names
@@ -57,3 +64,27 @@ Reaches nodes (suc n) i j = (c : ℕ) × HasChildOf (canonical_node nodes i).arg
 -- a node of the canonical term of the class has too many places to be numbered
 abbrev pub HasLargePart : List DTerm → ℕ → Type 0
 HasLargePart nodes i = (n : ℕ) × (j : ℕ) × Reaches nodes n i j × IsLargeNode nodes j
+
+-- a class of the graph has so many slots, or its node so many places and children, that two ids of it may have too many names to be numbered
+abbrev pub HasLargeClassIn : Image → Type 0
+HasLargeClassIn g = (i : ℕ) × (i < length g.canonical) × (IsLargeClass g.canonical i ⊎ IsWideClass g.canonical i)
+
+-- or the node would have such a class
+abbrev pub HasLargeClassOrNode : Image → Form → Type 0
+HasLargeClassOrNode g f = HasLargeClassIn g ⊎ IsWideNode f
+
+-- or the term is so large that a node of it may have such a class
+abbrev pub HasLargeClassOrTerm : Image → Term → Type 0
+HasLargeClassOrTerm g t = HasLargeClassIn g ⊎ (2 ^ 29 ≤ term_size t)
+
+-- no slots are left for a class of the node, or a class is too large to be rebuilt
+abbrev pub CanRunOutForNode : Image → Form → Table → Table → Type 0
+CanRunOutForNode g f old new = RunsOutForNode f old new ⊎ HasLargeClassOrNode g f
+
+-- no slots are left for classes of the term, or a class is too large to be rebuilt
+abbrev pub CanRunOutForTerm : Image → Term → Table → Table → Type 0
+CanRunOutForTerm g t old new = RunsOutForTerm t old new ⊎ HasLargeClassOrTerm g t
+
+-- the same of a node with fewer than 2^30 places, in words of graphs
+abbrev pub RunsOutForNodeIn : Graph → Graph → Form → Type 0
+RunsOutForNodeIn g h f = RunsOutIn g h (length f.names) ⊎ HasLargeClassOrNode g.image f

@@ -4,7 +4,7 @@
 --     asserted_in g       the pairs of canonical terms of the explicit entries
 --     AreDerivable g a b  the terms of a and b are derivable from these
 --     SaysEqual, SaysDerivable, SaysTerms       what an answer to `eq` says of the terms
---     AddsClasses g h     nothing but new classes
+--     AddsClasses g h     new classes, and nothing is asserted
 --     NewClassesAre       each new class is that of an id of which P holds
 --     Continues g h       what was proved and found alike stays so
 --     Asserts g h e       the equation e is asserted, if it was not proved
@@ -86,16 +86,18 @@ SaysTerms g a b y = asserted_in g ≡ [] → IsTrue y ↔ (term_of g.canonical a
 abbrev pub StandsIn : Image → Equation → Type 0
 StandsIn g e = (p : ℕ) × (p < length g.entries) × (equation_at g.entries p ≡ e)
 
--- classes are added, and nothing else: the proof list grows at its end, so that each entry stays with its slots and its text, nothing
--- is asserted, no symmetry is listed, and each id finds what it found
+-- classes are added, and equal nodes stand for one class again: the proof list grows at its end, so that each entry stays with its slots and
+-- its text, nothing is asserted, listed symmetries stay, finds go on from what was found, and ids that find alike still do
 pub record AddsClasses (g h : Image) : Type 0 where
   pub more : List ProofEntry
   pub entries : h.entries ≡ g.entries ++ more
   pub more_stored : List Proven
   pub stored : h.stored ≡ g.stored ++ more_stored
   pub asserted : asserted_in h ≡ asserted_in g
-  pub symmetries : h.symmetries ≡ g.symmetries
-  pub finds : (a : Applied) → IsFull g.canonical a → found_id h a ≡ found_id g a
+  pub listed : List SymmetryEntry
+  pub symmetries : h.symmetries ≡ g.symmetries ++ listed
+  pub finds : (a : Applied) → IsFull g.canonical a → found_id h a ≡ found_id h (found_id g a)
+  pub alike : (a b : Applied) → IsFull g.canonical a → IsFull g.canonical b → FoundAlike g a b → FoundAlike h a b
 
 -- each class of the newer canonical nodes that the older ones do not have is that of an id of which P holds
 abbrev pub NewClassesAre : List DTerm → List DTerm → (Applied → Type 0) → Type 0

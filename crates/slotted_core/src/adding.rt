@@ -6,8 +6,10 @@ ghost use Rattle.slotted_slots.specs.Table.{KnowsMore, slot_limit};
 ghost use Rattle.slotted_model.specs.Classes.{IsFull};
 ghost use Rattle.slotted_proofs.specs.Equations.{to_applied};
 ghost use Rattle.slotted_terms.specs.Valid.{IsWhole};
-ghost use Rattle.slotted_core.specs.Graph.{MakesAtMost, RunsOutForNode, RunsOutForTerm};
-ghost use Rattle.slotted_core.specs.Good.{Good, HasFreshSlots, IsIdOver, IsFindableOver, IsNodeOver, Adds, AddsTerm, id_in};
+ghost use Rattle.slotted_core.specs.Causes.{CanRunOutForNode, CanRunOutForTerm};
+ghost use Rattle.slotted_core.specs.Graph.{MakesAtMost, RunsOutForNode};
+ghost use Rattle.slotted_core.specs.Good.{Good, RestsWith, HasFreshSlots, IsIdOver, IsFindableOver, IsNodeOver};
+ghost use Rattle.slotted_core.specs.Good.{Makes, Adds, AddsTerm, id_in, image_of};
 ghost use Rattle.slotted_store.specs.Finding.{IsFindable};
 ghost use Rattle.slotted_store.specs.Kept.{nodes_of};
 ghost use Rattle.slotted_store.specs.Names.{between};
@@ -17,7 +19,9 @@ ghost use Rattle.slotted_core.specs.Places.{term_slots};
 use crate::names::{
     PLACES, keys_are_values, places_are_known, renew_values, values_are_keys, values_are_known,
 };
+use slotted_filing::Hashcons;
 use slotted_languages::Language;
+use slotted_rebuilding::newest::file_newest;
 use slotted_slots::{AppliedId, Error, Id, SlotMap, SlotTable};
 use slotted_store::names::map_between;
 use slotted_store::{Row, Store};
@@ -111,8 +115,8 @@ pub(crate) fn lookup<L: Language>(
     }
 }
 
-/// The class that holds the node's shape, or a new one, with the node's names put in.
-pub(crate) fn add<L: Language>(
+// The class that holds the node's shape, or a new one, which is not filed yet, with the node's names put in.
+fn made<L: Language>(
     store: &mut Store<L>,
     alloc: Global,
     table: &mut SlotTable,
@@ -121,7 +125,7 @@ pub(crate) fn add<L: Language>(
     requires good { Good store.old }
     requires fresh_slots { HasFreshSlots table.old store.old }
     requires children { All (IsFull (nodes_of store.old)) (child_ids (L.form node.now)) }
-    ensures ok { IfOk result (λ a. Adds table.old table.new store.old store.new (L.form node.now) (to_applied a)) }
+    ensures ok { IfOk result (λ a. Makes table.old table.new store.old store.new (L.form node.now) (to_applied a)) }
     ensures more { KnowsMore table.old table.new }
     ensures takes { MakesAtMost (length (L.form node.now).names) table.old table.new }
     ensures full { IsErrOf result Error.OutOfSlots → RunsOutForNode (L.form node.now) table.old table.new }
@@ -143,6 +147,32 @@ pub(crate) fn add<L: Language>(
     Ok(answer)
 }
 
+/// The class that holds the node's shape, or a new one, with the node's names put in. A new one is filed, and all is rebuilt.
+pub(crate) fn add<L: Language>(
+    store: &mut Store<L>,
+    nodes: &mut Hashcons<L>,
+    alloc: Global,
+    table: &mut SlotTable,
+    node: &L,
+) -> Result<AppliedId, Error>
+    requires good { Good store.old }
+    requires rests { RestsWith store.old nodes.old }
+    requires fresh_slots { HasFreshSlots table.old store.old }
+    requires children { All (IsFull (nodes_of store.old)) (child_ids (L.form node.now)) }
+    ensures ok { IfOk result (λ a. Adds table.old table.new store.old nodes.old store.new nodes.new (L.form node.now) (to_applied a)) }
+    ensures more { KnowsMore table.old table.new }
+    ensures takes { MakesAtMost (length (L.form node.now).names) table.old table.new }
+    ensures full { IsErrOf result Error.OutOfSlots → CanRunOutForNode (image_of store.old) (L.form node.now) table.old table.new }
+    ensures err { IfErr result IsShortage }
+{
+    let answer = made(store, alloc, table, node)?;
+    if nodes.class_count() == store.class_count() {
+        return Ok(answer);
+    }
+    file_newest(store, nodes, alloc)?;
+    Ok(answer)
+}
+
 // The classes of a node's children become heavier by one, each once.
 fn weigh_children<L: Language>(store: &mut Store<L>, node: &L)
     ensures { store.new ≡ store.old }
@@ -157,25 +187,27 @@ fn weigh_children<L: Language>(store: &mut Store<L>, node: &L)
 /// The id of the term, whose nodes are added from below.
 pub(crate) fn add_expr<L: Language>(
     store: &mut Store<L>,
+    nodes: &mut Hashcons<L>,
     alloc: Global,
     table: &mut SlotTable,
     term: &RecExpr<L>,
 ) -> Result<AppliedId, Error>
     requires good { Good store.old }
+    requires rests { RestsWith store.old nodes.old }
     requires fresh_slots { HasFreshSlots table.old store.old }
     requires whole { IsWhole term.now.args }
-    ensures ok { IfOk result (λ a. AddsTerm table.new store.old store.new term.now (to_applied a)) }
+    ensures ok { IfOk result (λ a. AddsTerm table.new store.old nodes.old store.new nodes.new term.now (to_applied a)) }
     ensures more { KnowsMore table.old table.new }
     ensures takes { MakesAtMost (term_slots term.now) table.old table.new }
-    ensures full { IsErrOf result Error.OutOfSlots → RunsOutForTerm term.now table.old table.new }
+    ensures full { IsErrOf result Error.OutOfSlots → CanRunOutForTerm (image_of store.old) term.now table.old table.new }
     ensures err { IfErr result IsShortage }
 {
     let mut node = term.node.copy(alloc)?;
     for (k, child) in term.children.iter().enumerate() {
-        let answer = add_expr(store, alloc, table, child)?;
+        let answer = add_expr(store, nodes, alloc, table, child)?;
         node.set_applied_id(k, answer);
     }
-    let answer = add(store, alloc, table, &node)?;
+    let answer = add(store, nodes, alloc, table, &node)?;
     Ok(answer)
 }
 

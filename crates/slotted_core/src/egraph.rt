@@ -15,8 +15,8 @@ ghost use Rattle.slotted_store.specs.Kept.{text_bytes, symmetry_entry};
 ghost use Rattle.slotted_core.specs.Findable.{IsFindableId, SaysFillingsEqual, LackNothing, HaveFindableSides};
 ghost use Rattle.slotted_core.specs.Graph.{IsValidId, IsValidNode, id_of_form, id_of_term, StandsForNode, OnlyReads};
 ghost use Rattle.slotted_core.specs.Graph.{MakesClassWhereNone, FilesOnlyNode, FilesOnlySubterms};
-ghost use Rattle.slotted_core.specs.Graph.{RecordsUnion, MakesAtMost, RunsOutIn, RunsOutForTerm};
-ghost use Rattle.slotted_core.specs.Causes.{HasLargeClassOf};
+ghost use Rattle.slotted_core.specs.Graph.{RecordsUnion, MakesAtMost};
+ghost use Rattle.slotted_core.specs.Causes.{CanRunOutForTerm, HasLargeClassIn, RunsOutForNodeIn};
 ghost use Rattle.slotted_proofs.specs.Equations.{to_applied};
 ghost use Rattle.slotted_core.specs.Places.{term_slots};
 ghost use Rattle.slotted_core.specs.Reads.{AnswersTerm, NodesAreRead};
@@ -26,6 +26,7 @@ pub mod steps;
 
 use crate::terms::is_valid_term;
 use crate::{adding, uniting};
+use slotted_filing::Hashcons;
 use slotted_languages::Language;
 use slotted_proofs::ProvenEq;
 use slotted_slots::{AppliedId, Error, SlotTable};
@@ -50,6 +51,7 @@ mod patterns;
 pub struct EGraph<L: Language, N = ()> {
     failed: bool,
     store: Store<L>,
+    nodes: Hashcons<L>,
     table: SlotTable,
     analysis: N,
     alloc: Global,
@@ -58,7 +60,7 @@ pub struct EGraph<L: Language, N = ()> {
 impl<L: Language, N> Model for EGraph<L, N> {
     ghost use Rattle.std.specs.Prelude.{IsTrue, ◌⊎◌};
     ghost use Rattle.slotted_core.specs.Graph.{Graph, graph_code};
-    ghost use Rattle.slotted_core.specs.Good.{Good, HasFreshSlots, image_of};
+    ghost use Rattle.slotted_core.specs.Good.{Good, RestsWith, HasFreshSlots, image_of};
 
     ghost Value = { Graph };
 
@@ -66,7 +68,7 @@ impl<L: Language, N> Model for EGraph<L, N> {
 
     ghost view = { λ s. record { failed = s.failed; table = s.table; image = image_of s.store } };
 
-    ghost invariant = { λ s. IsTrue s.failed ⊎ (Good s.store × HasFreshSlots s.table s.store) };
+    ghost invariant = { λ s. IsTrue s.failed ⊎ (Good s.store × HasFreshSlots s.table s.store × RestsWith s.store s.nodes) };
 }
 
 impl<L: Language, N: Drop> EGraph<L, N> {
@@ -80,6 +82,7 @@ impl<L: Language, N: Drop> EGraph<L, N> {
         Ok(EGraph {
             failed: false,
             store: Store::new(alloc),
+            nodes: Hashcons::new(alloc),
             table,
             analysis,
             alloc,
@@ -211,7 +214,7 @@ impl<L: Language, N: Drop> EGraph<L, N> {
         // Where a class is made, fresh slots are made for its names.
         ensures more { KnowsMore self.old.table self.new.table }
         ensures takes { MakesAtMost (length (L.form node).names) self.old.table self.new.table }
-        ensures full { IsErrOf result Error.OutOfSlots → RunsOutIn self.old self.new (length (L.form node).names) }
+        ensures full { IsErrOf result Error.OutOfSlots → RunsOutForNodeIn self.old self.new (L.form node) }
 
         // A failed graph stays as it is.
         ensures stays { IsTrue self.old.failed → self.new ≡ self.old }
@@ -223,7 +226,7 @@ impl<L: Language, N: Drop> EGraph<L, N> {
             return Err(Error::Failed);
         }
         self.failed = true;
-        let id = adding::add(&mut self.store, self.alloc, &mut self.table, &node)?;
+        let id = adding::add(&mut self.store, &mut self.nodes, self.alloc, &mut self.table, &node)?;
         self.failed = false;
         Ok(id)
     }
@@ -269,7 +272,7 @@ impl<L: Language, N: Drop> EGraph<L, N> {
         // Where classes are made, fresh slots are made for their names.
         ensures more { KnowsMore self.old.table self.new.table }
         ensures takes { MakesAtMost (term_slots term.now) self.old.table self.new.table }
-        ensures full { IsErrOf result Error.OutOfSlots → RunsOutForTerm term.now self.old.table self.new.table }
+        ensures full { IsErrOf result Error.OutOfSlots → CanRunOutForTerm self.old.image term.now self.old.table self.new.table }
 
         // A failed graph stays as it is.
         ensures stays { IsTrue self.old.failed → self.new ≡ self.old }
@@ -281,7 +284,7 @@ impl<L: Language, N: Drop> EGraph<L, N> {
             return Err(Error::Failed);
         }
         self.failed = true;
-        let answer = adding::add_expr(&mut self.store, self.alloc, &mut self.table, term)?;
+        let answer = adding::add_expr(&mut self.store, &mut self.nodes, self.alloc, &mut self.table, term)?;
         self.failed = false;
         Ok(answer)
     }
@@ -300,7 +303,7 @@ impl<L: Language, N: Drop> EGraph<L, N> {
         ensures stays { IsTrue self.old.failed → self.new ≡ self.old }
         ensures failed { IsErrOf result Error.Failed ↔ IsTrue self.old.failed }
         ensures fails { IsTrue self.new.failed ↔ IsErr result }
-        ensures full { IsErrOf result Error.OutOfSlots → HasLargeClassOf self.old.image (to_applied l.now) (to_applied r.now) }
+        ensures full { IsErrOf result Error.OutOfSlots → HasLargeClassIn self.old.image }
         ensures only { IfErr result (λ e. (e ≡ Error.Failed) ⊎ IsShortage e) }
     {
         self.union_justified(l, r, None)
@@ -327,14 +330,14 @@ impl<L: Language, N: Drop> EGraph<L, N> {
         ensures stays { IsTrue self.old.failed → self.new ≡ self.old }
         ensures failed { IsErrOf result Error.Failed ↔ IsTrue self.old.failed }
         ensures fails { IsTrue self.new.failed ↔ IsErr result }
-        ensures full { IsErrOf result Error.OutOfSlots → HasLargeClassOf self.old.image (to_applied l.now) (to_applied r.now) }
+        ensures full { IsErrOf result Error.OutOfSlots → HasLargeClassIn self.old.image }
         ensures only { IfErr result (λ e. (e ≡ Error.Failed) ⊎ IsShortage e) }
     {
         if self.failed {
             return Err(Error::Failed);
         }
         self.failed = true;
-        let answer = uniting::union(&mut self.store, self.alloc, l, r, text)?;
+        let answer = uniting::union(&mut self.store, &mut self.nodes, self.alloc, l, r, text)?;
         self.failed = false;
         Ok(answer)
     }

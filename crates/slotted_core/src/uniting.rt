@@ -4,36 +4,39 @@ ghost use Rattle.slotted_slots.specs.Error.{IsShortage};
 ghost use Rattle.slotted_model.specs.Classes.{IsFull};
 ghost use Rattle.slotted_proofs.specs.Equations.{to_applied};
 ghost use Rattle.slotted_store.specs.Kept.{nodes_of, text_bytes};
-ghost use Rattle.slotted_core.specs.Causes.{HasLargeClassOf};
-ghost use Rattle.slotted_core.specs.Good.{Good, UnitesSides, image_of};
+ghost use Rattle.slotted_core.specs.Causes.{HasLargeClassIn};
+ghost use Rattle.slotted_core.specs.Good.{Good, RestsWith, UnitesSides, image_of};
 ghost use Rattle.slotted_core.specs.Image.{CountsOpen};
 
+use slotted_filing::Hashcons;
 use slotted_languages::Language;
+use slotted_rebuilding::rebuilding::rebuild;
+use slotted_rebuilding::uniting::unite;
 use slotted_slots::{AppliedId, Error};
 use slotted_store::Store;
-use slotted_unions::settling::settle_all;
-use slotted_unions::uniting::unite;
 use std::alloc::Global;
 
-/// Two valid ids are equal, because the caller says so, with a text or without one. True if they did not find alike.
+/// Two valid ids are equal, because the caller says so, with a text or without one, and all is rebuilt. True if they did not find alike.
 pub(crate) fn union<L: Language>(
     store: &mut Store<L>,
+    nodes: &mut Hashcons<L>,
     alloc: Global,
     l: &AppliedId,
     r: &AppliedId,
     text: Option<String>,
 ) -> Result<bool, Error>
     requires good { Good store.old }
+    requires rests { RestsWith store.old nodes.old }
     requires left { IsFull (nodes_of store.old) (to_applied l.now) }
     requires right { IsFull (nodes_of store.old) (to_applied r.now) }
-    ensures ok { IfOk result (UnitesSides store.old store.new l.now r.now (text_bytes text)) }
-    ensures full { IsErrOf result Error.OutOfSlots → HasLargeClassOf (image_of store.old) (to_applied l.now) (to_applied r.now) }
+    ensures ok { IfOk result (UnitesSides store.old nodes.old store.new nodes.new l.now r.now (text_bytes text)) }
+    ensures full { IsErrOf result Error.OutOfSlots → HasLargeClassIn (image_of store.old) }
     ensures err { IfErr result IsShortage }
 {
     let found_alike = store.eq(l, r);
     let p = store.assert_equal(alloc, l, r, text)?;
-    unite(store, alloc, p)?;
-    settle_all(store, alloc)?;
+    unite(store, nodes, alloc, p)?;
+    rebuild(store, nodes, alloc)?;
     Ok(!found_alike)
 }
 

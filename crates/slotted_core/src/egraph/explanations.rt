@@ -46,6 +46,7 @@ impl<L: Language, N: Drop> EGraph<L, N> {
         self.failed = true;
         let answer = explaining::explain(
             &mut self.store,
+            &mut self.nodes,
             self.alloc,
             &mut self.table,
             left,

@@ -13,7 +13,7 @@ abbrev pub invariant-loop-k : goal.invariant-loop-k
 invariant-loop-k g l =
     let form = g.L.LanguageChildren.form in
     record {
-      part : IsPart l.fn.store l.table l.store (form l.initial.node) (form l.node) l.child-items l.k;
+      part : IsPart l.fn.store l.fn.nodes l.table l.store l.nodes (form l.initial.node) (form l.node) l.child-items l.k;
       more : KnowsMore l.fn.table l.table;
       makes : MakesAtMost (slots_of (take l.k l.child-items)) l.fn.table l.table;
     }

@@ -1,82 +1,27 @@
-use Rattle.std.proofs.Common.{◌≡◌, ◌∙◌, ◌+◌, ap, sym, subst, length, arith, rules, inl, inr}
-use Rattle.slotted_slots.specs.Maps.{keys}
-use Rattle.slotted_slots.specs.Table.{Table}
-use Rattle.slotted_core.proofs.RowLookUps.{row-names}
-use Rattle.slotted_store.proofs.NameMaps.{length-keys}
-use Rattle.slotted_core.proofs.NodeAddition.{fresh_injective, row_adds, class_adds, shape-places}
-use Rattle.slotted_core.proofs.Tables.{makes-more, runs_out-more}
-use Rattle.slotted_store.specs.Kept.{Kept}
-use Rattle.slotted_core.specs.Good.{Adds}
-use Rattle.slotted_store.specs.Names.{fresh_slots}
+use Rattle.std.proofs.Common.{◌≡◌, ◌≢◌, ◌∙◌, length, sym, arith, rules}
+use Rattle.slotted_core.specs.Good.{MakesOne}
 use Rattle.slotted_proofs.specs.Equations.{to_applied}
+use Rattle.slotted_core.proofs.FiledClasses.{adds-made, one-made, unfiled, adds-filed, rebuild-runs_out}
 use Rattle.slotted_core.proofs.adding.add.Goals as goal
 
-pub class_of_row-requires : goal.class_of_row-requires
-class_of_row-requires g c =
-    row-names c.args.store.now c.requires.good (g.L.LanguageChildren.form c.args.node.now) (g.met.L.LanguageChildren.fits c.args.node.now)
-    (g.L.LanguageChildren.form c.in_ok-shape.shape) c.in_ok-shape.names c.in_ok-shape.ensures.shape
-    (c.in-Some.row.now.source.0, c.in-Some.row.now.names) c.in-Some.ensures
+pub returns-then-eq-clause-ok : goal.returns-then-eq-clause-ok
+returns-then-eq-clause-ok g c =
+    adds-made c.args.store.now c.args.nodes.now c.requires.good c.requires.rests c.args.table.now c.made.new.table (g.L.LanguageChildren.form c.args.node.now) (to_applied c.in_ok-answer.answer) c.made.new.store c.in_ok-answer.ensures.ok (omega (arith, c.class_count.ensures, c.class_count-2.ensures, c.if-eq.true))
 
-pub returns-in-Some-clause-ok : goal.returns-in-Some-clause-ok
-returns-in-Some-clause-ok g c =
-    row_adds c.args.table.now c.args.store.now c.requires.good c.requires.fresh_slots (g.L.LanguageChildren.form c.args.node.now) (g.met.L.LanguageChildren.fits c.args.node.now)
-    (g.L.LanguageChildren.form c.in_ok-shape.shape) c.in_ok-shape.names c.in_ok-shape.ensures.shape
-    (c.in-Some.row.now.source.0, c.in-Some.row.now.names) (to_applied c.in_ok-answer.answer) c.in-Some.ensures c.in_ok-answer.ensures.ok
+pub file_newest-requires : goal.file_newest-requires
+file_newest-requires g c =
+    let make = c.in_ok-answer.ensures.ok in
+    let one : MakesOne c.args.store.now c.made.new.store =
+    one-made c.args.store.now c.args.nodes.now c.requires.good c.requires.rests c.args.table.now c.made.new.table (g.L.LanguageChildren.form c.args.node.now) (to_applied c.in_ok-answer.answer) c.made.new.store make (λ e. c.if-eq.false e) in
+    unfiled c.args.store.now c.args.nodes.now c.requires.good c.requires.rests c.made.new.store make.good one
 
 pub returns-clause-ok : goal.returns-clause-ok
 returns-clause-ok g c =
-    let names = c.in_ok-shape.names in
-    let slots = c.renew_values.new.map in
-    let n : length c.in_ok-slots.slots ≡ length names = ap length c.in_ok-slots.ensures.ok in
-    subst (λ (l : Kept). Adds c.args.table.now c.renew_values.new.table c.args.store.now l (g.L.LanguageChildren.form c.args.node.now) (c.class_count.result, c.in_ok-map_between.field-0)) (sym c.weigh_children.ensures)
-    (class_adds c.args.table.now c.renew_values.new.table c.args.store.now c.make_class.new.self c.requires.good c.requires.fresh_slots
-    (g.L.LanguageChildren.form c.args.node.now) (g.met.L.LanguageChildren.fits c.args.node.now) c.requires.children
-    (c.class_count.result, c.in_ok-map_between.field-0) slots (g.L.LanguageChildren.form c.in_ok-shape.shape) names c.in_ok-shape.ensures.shape
-    c.in_default.ensures
-    (c.in_ok-renew_values.ensures.keys ∙ ap keys c.in_ok-slots.ensures.ok)
-    (c.in_ok-renew_values.ensures.values ∙ ap (fresh_slots c.args.table.now.fresh) n)
-    (ap (λ (t : Table). t.fresh) c.in_ok-renew_values.ensures.table ∙ ap (λ k. c.args.table.now.fresh + k) n)
-    c.in_ok-make_class.ensures.ok
-    (λ i. (c.class_count.ensures i, c.in_ok-map_between.ensures.ok i)))
+    let make = c.in_ok-answer.ensures.ok in
+    let one : MakesOne c.args.store.now c.made.new.store =
+    one-made c.args.store.now c.args.nodes.now c.requires.good c.requires.rests c.args.table.now c.made.new.table (g.L.LanguageChildren.form c.args.node.now) (to_applied c.in_ok-answer.answer) c.made.new.store make (λ e. c.if-eq.false e) in
+    adds-filed c.args.store.now c.args.nodes.now c.requires.good c.requires.rests c.made.new.store make.good one c.file_newest.new.store c.file_newest.new.nodes c.in_ok-file_newest.ensures.ok c.args.table.now c.made.new.table (g.L.LanguageChildren.form c.args.node.now) (to_applied c.in_ok-answer.answer) make
 
-pub make_class-requires-clause-different : goal.make_class-requires-clause-different
-make_class-requires-clause-different g c =
-    fresh_injective c.renew_values.new.map c.args.table.now.fresh (length c.in_ok-slots.slots) c.in_ok-renew_values.ensures.values
-
--- at most one slot for each place of the node
-
-pub returns-in_err-renew_values-clause-takes : goal.returns-in_err-renew_values-clause-takes
-returns-in_err-renew_values-clause-takes g c =
-    let f = g.L.LanguageChildren.form c.args.node.now in
-    makes-more (length c.in_ok-slots.slots) (length f.names) c.args.table.now c.renew_values.new.table c.renew_values.ensures.takes
-    (shape-places f (g.met.L.LanguageChildren.fits c.args.node.now) (g.L.LanguageChildren.form c.in_ok-shape.shape) c.in_ok-shape.names c.in_ok-slots.slots c.in_ok-shape.ensures.shape c.in_ok-slots.ensures.ok)
-
-pub returns-in_err-renew_values-clause-full : goal.returns-in_err-renew_values-clause-full
-returns-in_err-renew_values-clause-full g c e =
-    let f = g.L.LanguageChildren.form c.args.node.now in
-    inl (runs_out-more (length c.in_ok-slots.slots) (length f.names) c.args.table.now c.renew_values.new.table c.in_err-renew_values.ensures.full.1
-    (shape-places f (g.met.L.LanguageChildren.fits c.args.node.now) (g.L.LanguageChildren.form c.in_ok-shape.shape) c.in_ok-shape.names c.in_ok-slots.slots c.in_ok-shape.ensures.shape c.in_ok-slots.ensures.ok))
-
-pub returns-in_err-make_class-clause-full : goal.returns-in_err-make_class-clause-full
-returns-in_err-make_class-clause-full g c e =
-    let f = g.L.LanguageChildren.form c.args.node.now in
-    let n = shape-places f (g.met.L.LanguageChildren.fits c.args.node.now) (g.L.LanguageChildren.form c.in_ok-shape.shape) c.in_ok-shape.names c.in_ok-slots.slots c.in_ok-shape.ensures.shape c.in_ok-slots.ensures.ok in
-    inr (omega (arith, n, c.in_err-make_class.ensures.full (search rules), ap length c.in_ok-renew_values.ensures.keys, length-keys c.renew_values.new.map, length-keys c.in_ok-slots.slots))
-
-pub returns-in_err-map_between-clause-takes : goal.returns-in_err-map_between-clause-takes
-returns-in_err-map_between-clause-takes g c =
-    let f = g.L.LanguageChildren.form c.args.node.now in
-    makes-more (length c.in_ok-slots.slots) (length f.names) c.args.table.now c.renew_values.new.table c.renew_values.ensures.takes
-    (shape-places f (g.met.L.LanguageChildren.fits c.args.node.now) (g.L.LanguageChildren.form c.in_ok-shape.shape) c.in_ok-shape.names c.in_ok-slots.slots c.in_ok-shape.ensures.shape c.in_ok-slots.ensures.ok)
-
-pub returns-in_err-make_class-clause-takes : goal.returns-in_err-make_class-clause-takes
-returns-in_err-make_class-clause-takes g c =
-    let f = g.L.LanguageChildren.form c.args.node.now in
-    makes-more (length c.in_ok-slots.slots) (length f.names) c.args.table.now c.renew_values.new.table c.renew_values.ensures.takes
-    (shape-places f (g.met.L.LanguageChildren.fits c.args.node.now) (g.L.LanguageChildren.form c.in_ok-shape.shape) c.in_ok-shape.names c.in_ok-slots.slots c.in_ok-shape.ensures.shape c.in_ok-slots.ensures.ok)
-
-pub returns-clause-takes : goal.returns-clause-takes
-returns-clause-takes g c =
-    let f = g.L.LanguageChildren.form c.args.node.now in
-    makes-more (length c.in_ok-slots.slots) (length f.names) c.args.table.now c.renew_values.new.table c.renew_values.ensures.takes
-    (shape-places f (g.met.L.LanguageChildren.fits c.args.node.now) (g.L.LanguageChildren.form c.in_ok-shape.shape) c.in_ok-shape.names c.in_ok-slots.slots c.in_ok-shape.ensures.shape c.in_ok-slots.ensures.ok)
+pub returns-in_err-file_newest-clause-full : goal.returns-in_err-file_newest-clause-full
+returns-in_err-file_newest-clause-full g c e =
+    rebuild-runs_out c.args.table.now c.made.new.table c.args.table.now c.made.new.table c.args.store.now c.made.new.store (g.L.LanguageChildren.form c.args.node.now) (to_applied c.in_ok-answer.answer) c.in_ok-answer.ensures.ok (c.in_err-file_newest.ensures.full (search rules))

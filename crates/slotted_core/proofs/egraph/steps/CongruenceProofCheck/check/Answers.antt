@@ -4,7 +4,7 @@ use Rattle.slotted_slots.specs.declared.error.Error.TheVariants.{BadStep}
 use Rattle.std.proofs.lemmas.Bool.{false≢true}
 use Rattle.slotted_model.specs.ProofList.{congruent}
 use Rattle.slotted_congruence.specs.Frames.{IsCongruentIn}
-use Rattle.slotted_core.specs.Good.{Good, HasFreshSlots}
+use Rattle.slotted_core.specs.Good.{Good, RestsWith, HasFreshSlots}
 use Rattle.slotted_store.specs.Kept.{EntersIn, nodes_of}
 use Rattle.slotted_proofs.specs.Equations.{statement_of}
 use Rattle.slotted_proofs.specs.Steps.{by_step}
@@ -20,11 +20,12 @@ invariant_of-graph g c =
     let r = c.check_congruent.result in
     let l = c.check_congruent.new.store in
     let ps = c.args.self.now.0.items in
-    let h : Good k × HasFreshSlots t k = elim c.graph.invariant [ inl h ↦ absurd (false≢true (sym c.if-graph.false ∙ h)) | inr h ↦ h ] in
+    let rows = c.graph.inside.nodes in
+    let h : Good k × HasFreshSlots t k × RestsWith k rows = elim c.graph.invariant [ inl h ↦ absurd (false≢true (sym c.if-graph.false ∙ h)) | inr h ↦ h ] in
     let fits = subst (λ qs. IfOk r (λ _. IsOfFull (nodes_of k) e × IsCongruentIn k e qs)) c.in_ok-copy.ensures.ok c.check_congruent.ensures.fits in
     let ok = subst (λ qs. IfOk r (EntersIn k l (by_step (statement_of e) (congruent qs)))) c.in_ok-copy.ensures.ok c.check_congruent.ensures.ok in
     let checked = both_ok r (λ p. IsOfFull (nodes_of k) e × IsCongruentIn k e ps) (EntersIn k l (by_step (statement_of e) (congruent ps))) (Checked t k l e (congruent ps)) (λ p f x. congruent_checked t k l e ps p h.0 f x) fits ok in
-    inr (kept_good r t k l e (congruent ps) h checked c.check_congruent.ensures.err)
+    inr (kept_good r t k l rows e (congruent ps) h checked c.check_congruent.ensures.err)
 
 pub returns-clause-fits : goal.returns-clause-fits
 returns-clause-fits g c =
@@ -34,7 +35,7 @@ returns-clause-fits g c =
     let r = c.check_congruent.result in
     let l = c.check_congruent.new.store in
     let ps = c.args.self.now.0.items in
-    let h : Good k × HasFreshSlots t k = elim c.graph.invariant [ inl h ↦ absurd (false≢true (sym c.if-graph.false ∙ h)) | inr h ↦ h ] in
+    let h : Good k × HasFreshSlots t k = elim c.graph.invariant [ inl h ↦ absurd (false≢true (sym c.if-graph.false ∙ h)) | inr h ↦ (h.0, h.1.0) ] in
     let fits = subst (λ qs. IfOk r (λ _. IsOfFull (nodes_of k) e × IsCongruentIn k e qs)) c.in_ok-copy.ensures.ok c.check_congruent.ensures.fits in
     let ok = subst (λ qs. IfOk r (EntersIn k l (by_step (statement_of e) (congruent qs)))) c.in_ok-copy.ensures.ok c.check_congruent.ensures.ok in
     let checked = both_ok r (λ p. IsOfFull (nodes_of k) e × IsCongruentIn k e ps) (EntersIn k l (by_step (statement_of e) (congruent ps))) (Checked t k l e (congruent ps)) (λ p f x. congruent_checked t k l e ps p h.0 f x) fits ok in
@@ -48,7 +49,7 @@ returns-clause-refused g c =
     let r = c.check_congruent.result in
     let l = c.check_congruent.new.store in
     let ps = c.args.self.now.0.items in
-    let h : Good k × HasFreshSlots t k = elim c.graph.invariant [ inl h ↦ absurd (false≢true (sym c.if-graph.false ∙ h)) | inr h ↦ h ] in
+    let h : Good k × HasFreshSlots t k = elim c.graph.invariant [ inl h ↦ absurd (false≢true (sym c.if-graph.false ∙ h)) | inr h ↦ (h.0, h.1.0) ] in
     let refused = subst (λ qs. IsErrOf r BadStep → ¬ (IsOfFull (nodes_of k) e × IsCongruentIn k e qs)) c.in_ok-copy.ensures.ok c.check_congruent.ensures.refused in
     says_refused r c.graph.inside.failed t k l e (congruent ps) c.args.graph.now c.graph.view_is (λ b. congruent_refused k e ps h.0 (refused b))
 
@@ -60,7 +61,7 @@ returns-clause-accepted g c =
     let r = c.check_congruent.result in
     let l = c.check_congruent.new.store in
     let ps = c.args.self.now.0.items in
-    let h : Good k × HasFreshSlots t k = elim c.graph.invariant [ inl h ↦ absurd (false≢true (sym c.if-graph.false ∙ h)) | inr h ↦ h ] in
+    let h : Good k × HasFreshSlots t k = elim c.graph.invariant [ inl h ↦ absurd (false≢true (sym c.if-graph.false ∙ h)) | inr h ↦ (h.0, h.1.0) ] in
     let fits = subst (λ qs. IfOk r (λ _. IsOfFull (nodes_of k) e × IsCongruentIn k e qs)) c.in_ok-copy.ensures.ok c.check_congruent.ensures.fits in
     let ok = subst (λ qs. IfOk r (EntersIn k l (by_step (statement_of e) (congruent qs)))) c.in_ok-copy.ensures.ok c.check_congruent.ensures.ok in
     let checked = both_ok r (λ p. IsOfFull (nodes_of k) e × IsCongruentIn k e ps) (EntersIn k l (by_step (statement_of e) (congruent ps))) (Checked t k l e (congruent ps)) (λ p f x. congruent_checked t k l e ps p h.0 f x) fits ok in
@@ -74,7 +75,7 @@ returns-clause-derivable g c =
     let r = c.check_congruent.result in
     let l = c.check_congruent.new.store in
     let ps = c.args.self.now.0.items in
-    let h : Good k × HasFreshSlots t k = elim c.graph.invariant [ inl h ↦ absurd (false≢true (sym c.if-graph.false ∙ h)) | inr h ↦ h ] in
+    let h : Good k × HasFreshSlots t k = elim c.graph.invariant [ inl h ↦ absurd (false≢true (sym c.if-graph.false ∙ h)) | inr h ↦ (h.0, h.1.0) ] in
     let fits = subst (λ qs. IfOk r (λ _. IsOfFull (nodes_of k) e × IsCongruentIn k e qs)) c.in_ok-copy.ensures.ok c.check_congruent.ensures.fits in
     let ok = subst (λ qs. IfOk r (EntersIn k l (by_step (statement_of e) (congruent qs)))) c.in_ok-copy.ensures.ok c.check_congruent.ensures.ok in
     let checked = both_ok r (λ p. IsOfFull (nodes_of k) e × IsCongruentIn k e ps) (EntersIn k l (by_step (statement_of e) (congruent ps))) (Checked t k l e (congruent ps)) (λ p f x. congruent_checked t k l e ps p h.0 f x) fits ok in
@@ -88,7 +89,7 @@ returns-clause-leaves g c =
     let r = c.check_congruent.result in
     let l = c.check_congruent.new.store in
     let ps = c.args.self.now.0.items in
-    let h : Good k × HasFreshSlots t k = elim c.graph.invariant [ inl h ↦ absurd (false≢true (sym c.if-graph.false ∙ h)) | inr h ↦ h ] in
+    let h : Good k × HasFreshSlots t k = elim c.graph.invariant [ inl h ↦ absurd (false≢true (sym c.if-graph.false ∙ h)) | inr h ↦ (h.0, h.1.0) ] in
     let fits = subst (λ qs. IfOk r (λ _. IsOfFull (nodes_of k) e × IsCongruentIn k e qs)) c.in_ok-copy.ensures.ok c.check_congruent.ensures.fits in
     let ok = subst (λ qs. IfOk r (EntersIn k l (by_step (statement_of e) (congruent qs)))) c.in_ok-copy.ensures.ok c.check_congruent.ensures.ok in
     let checked = both_ok r (λ p. IsOfFull (nodes_of k) e × IsCongruentIn k e ps) (EntersIn k l (by_step (statement_of e) (congruent ps))) (Checked t k l e (congruent ps)) (λ p f x. congruent_checked t k l e ps p h.0 f x) fits ok in

@@ -1,7 +1,7 @@
 use Rattle.std.proofs.Common.{◌∙◌, sym, inl, inr}
 use Rattle.std.proofs.lemmas.Bool.{false≢true}
 use Rattle.slotted_model.specs.ProofList.{reflexive}
-use Rattle.slotted_core.specs.Good.{Good, HasFreshSlots}
+use Rattle.slotted_core.specs.Good.{Good, RestsWith, HasFreshSlots}
 use Rattle.slotted_store.specs.Kept.{EntersIn, nodes_of}
 use Rattle.slotted_proofs.specs.Equations.{statement_of}
 use Rattle.slotted_proofs.specs.Steps.{IsReflexiveStep, by_step}
@@ -16,9 +16,10 @@ invariant_of-graph g c =
     let t = c.graph.inside.table in
     let r = c.check_reflexive.result in
     let l = c.check_reflexive.new.store in
-    let h : Good k × HasFreshSlots t k = elim c.graph.invariant [ inl h ↦ absurd (false≢true (sym c.if-graph.false ∙ h)) | inr h ↦ h ] in
+    let rows = c.graph.inside.nodes in
+    let h : Good k × HasFreshSlots t k × RestsWith k rows = elim c.graph.invariant [ inl h ↦ absurd (false≢true (sym c.if-graph.false ∙ h)) | inr h ↦ h ] in
     let checked = both_ok r (λ p. IsOfFull (nodes_of k) e × IsReflexiveStep e) (EntersIn k l (by_step (statement_of e) (reflexive))) (Checked t k l e (reflexive)) (λ p f x. reflexive_checked t k l e p h.0 f x) c.check_reflexive.ensures.fits c.check_reflexive.ensures.ok in
-    inr (kept_good r t k l e (reflexive) h checked c.check_reflexive.ensures.err)
+    inr (kept_good r t k l rows e (reflexive) h checked c.check_reflexive.ensures.err)
 
 pub returns-clause-accepted : goal.returns-clause-accepted
 returns-clause-accepted g c =
@@ -27,7 +28,7 @@ returns-clause-accepted g c =
     let t = c.graph.inside.table in
     let r = c.check_reflexive.result in
     let l = c.check_reflexive.new.store in
-    let h : Good k × HasFreshSlots t k = elim c.graph.invariant [ inl h ↦ absurd (false≢true (sym c.if-graph.false ∙ h)) | inr h ↦ h ] in
+    let h : Good k × HasFreshSlots t k = elim c.graph.invariant [ inl h ↦ absurd (false≢true (sym c.if-graph.false ∙ h)) | inr h ↦ (h.0, h.1.0) ] in
     let checked = both_ok r (λ p. IsOfFull (nodes_of k) e × IsReflexiveStep e) (EntersIn k l (by_step (statement_of e) (reflexive))) (Checked t k l e (reflexive)) (λ p f x. reflexive_checked t k l e p h.0 f x) c.check_reflexive.ensures.fits c.check_reflexive.ensures.ok in
     says_accepted r c.graph.inside.failed t k l e (reflexive) c.args.graph.now c.graph.view_is checked
 
@@ -38,7 +39,7 @@ returns-clause-derivable g c =
     let t = c.graph.inside.table in
     let r = c.check_reflexive.result in
     let l = c.check_reflexive.new.store in
-    let h : Good k × HasFreshSlots t k = elim c.graph.invariant [ inl h ↦ absurd (false≢true (sym c.if-graph.false ∙ h)) | inr h ↦ h ] in
+    let h : Good k × HasFreshSlots t k = elim c.graph.invariant [ inl h ↦ absurd (false≢true (sym c.if-graph.false ∙ h)) | inr h ↦ (h.0, h.1.0) ] in
     let checked = both_ok r (λ p. IsOfFull (nodes_of k) e × IsReflexiveStep e) (EntersIn k l (by_step (statement_of e) (reflexive))) (Checked t k l e (reflexive)) (λ p f x. reflexive_checked t k l e p h.0 f x) c.check_reflexive.ensures.fits c.check_reflexive.ensures.ok in
     says_derivable r c.graph.inside.failed t k l e (reflexive) c.args.graph.now c.graph.view_is checked
 
@@ -49,6 +50,6 @@ returns-clause-leaves g c =
     let t = c.graph.inside.table in
     let r = c.check_reflexive.result in
     let l = c.check_reflexive.new.store in
-    let h : Good k × HasFreshSlots t k = elim c.graph.invariant [ inl h ↦ absurd (false≢true (sym c.if-graph.false ∙ h)) | inr h ↦ h ] in
+    let h : Good k × HasFreshSlots t k = elim c.graph.invariant [ inl h ↦ absurd (false≢true (sym c.if-graph.false ∙ h)) | inr h ↦ (h.0, h.1.0) ] in
     let checked = both_ok r (λ p. IsOfFull (nodes_of k) e × IsReflexiveStep e) (EntersIn k l (by_step (statement_of e) (reflexive))) (Checked t k l e (reflexive)) (λ p f x. reflexive_checked t k l e p h.0 f x) c.check_reflexive.ensures.fits c.check_reflexive.ensures.ok in
     says_leaves r c.graph.inside.failed t k l e (reflexive) c.args.graph.now c.graph.view_is checked

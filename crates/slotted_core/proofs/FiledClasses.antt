@@ -1,0 +1,139 @@
+-- A class that was made is filed, and all is rebuilt.
+use Rattle.std.proofs.Common.{◌≡◌, ◌≢◌, ◌<◌, ℕ, suc, List, [], ◌∷◌, ◌++◌, length, sym, ◌∙◌, ap, refl, subst, append_assoc, arith, inl, inr}
+use Rattle.std.specs.Prelude.{◌⊎◌, false, None, Some, IsSome, Contains}
+use Rattle.std.proofs.lemmas.List.{append-nil}
+use Rattle.slotted_theory.specs.Nameless.{DTerm}
+use Rattle.slotted_slots.specs.Table.{Table}
+use Rattle.slotted_nodes.specs.Form.{Form}
+use Rattle.slotted_languages.specs.NodeTerm.{nameless_node}
+use Rattle.slotted_languages.specs.Shape.{Fits}
+use Rattle.slotted_model.specs.Adding.{HasAdded}
+use Rattle.slotted_model.specs.Applied.{Applied}
+use Rattle.slotted_model.specs.Changes.{GoesOn}
+use Rattle.slotted_model.specs.Classes.{canonical_slots}
+use Rattle.slotted_model.specs.Growth.{Extends}
+use Rattle.slotted_model.specs.Ids.{id_of_node}
+use Rattle.slotted_model.specs.Rest.{Sane}
+use Rattle.slotted_model.specs.State.{State}
+use Rattle.slotted_model.proofs.Adding.{adds, class-sane}
+use Rattle.slotted_model.proofs.GoingOn.{goes_on-same}
+use Rattle.slotted_proofs.specs.Entries.{Proven}
+use Rattle.slotted_store.specs.Kept.{Kept, SymmetryEntry, nodes_of}
+use Rattle.slotted_store.specs.Names.{HasNumberedBinders}
+use Rattle.slotted_store.proofs.KeptLists.{length-nodes_of}
+use Rattle.slotted_filing.specs.FiledRows.{Rows, rows_in}
+use Rattle.slotted_unions.specs.Stored.{Stored, Grows}
+use Rattle.slotted_unions.proofs.GrownRows.{grown-count, grown-rows}
+use Rattle.slotted_rebuilding.specs.Causes.{HasLargeClass}
+use Rattle.slotted_rebuilding.specs.Filed.{state_in}
+use Rattle.slotted_rebuilding.specs.NewClasses.{IsUnfiled, FilesNewest}
+use Rattle.slotted_rebuilding.proofs.FiledStates.{fits-grown}
+use Rattle.slotted_core.specs.Causes.{HasLargeClassIn, CanRunOutForNode, IsLargeClass, IsWideClass}
+use Rattle.slotted_core.specs.Good.{Good, RestsWith, HasFreshSlots, MakesOne, Makes, Adds, image_of}
+use Rattle.slotted_core.specs.Graph.{HasNewClass}
+use Rattle.slotted_core.specs.Image.{AddsClasses, NewClassesAre, IsIdOfNode}
+use Rattle.slotted_core.proofs.ContinuedFinds.{adds-classes}
+use Rattle.slotted_core.proofs.Resting.{at-rest}
+
+-- what stands in the classes stays
+pub grown-good : (k l : Kept) → Good k → Grows k l → Stored l → l.dropped ≡ false → Good l
+grown-good k l good grows stored settled = record {
+  rows = grown-rows k l grows good.rows;
+  fits = fits-grown k l grows good.fits;
+  numbered = λ i h. subst HasNumberedBinders (sym (grows.forms i)) (good.numbered i (subst (λ n. i < n) (grown-count k l grows) h));
+  stored = stored;
+  settled = settled;
+}
+
+-- the slots of classes stay fresh ones
+pub grown-fresh : (t : Table) (k l : Kept) → nodes_of l ≡ nodes_of k → HasFreshSlots t k → HasFreshSlots t l
+grown-fresh t k l e h i s r c =
+    let n : length l.classes ≡ length k.classes = sym (length-nodes_of l) ∙ (ap length e ∙ length-nodes_of k) in
+    h i s (omega arith) (subst (λ (ns : List DTerm). Contains (canonical_slots ns i) s) e c)
+
+-- a large class as a rebuild tells of it
+pub large-seen : (k : Kept) → HasLargeClass k → HasLargeClassIn (image_of k)
+large-seen k h = (h.0, subst (λ n. h.0 < n) (sym (length-nodes_of k)) h.1, h.2)
+
+module _ (k : Kept) (r : Rows) (good : Good k) (rests : RestsWith k r) where
+  -- nothing changes but names
+  pub same-goes_on : GoesOn (state_in k r) (state_in k r)
+  same-goes_on = goes_on-same (state_in k r) good.stored.sane.sound.linked
+
+  pub adds-none : AddsClasses (image_of k) (image_of k)
+  adds-none = adds-classes k r good k r same-goes_on [] (sym (append-nil k.proofs)) [] (sym (append-nil k.symmetries)) refl
+
+  -- the node had a class
+  pub adds-known : (t u : Table) (f : Form) (a : Applied) → Makes t u k k f a → Adds t u k r k r f a
+  adds-known t u f a m = record {
+    good = good;
+    rests = rests;
+    fresh_slots = m.fresh_slots;
+    extends = m.extends;
+    goes_on = same-goes_on;
+    adds = adds-none;
+    found = m.found;
+    filed = m.filed;
+    kept = λ s. refl;
+    made = m.made;
+    large = m.large;
+  }
+
+  -- as many nodes as classes tell that none was made
+  pub adds-made : (t u : Table) (f : Form) (a : Applied) (m : Kept) → Makes t u k m f a → length r.filed ≡ length m.classes → Adds t u k r m r f a
+  adds-made t u f a m make same = elim make.step [
+    | inl e ↦ subst (λ (z : Kept). Adds t u k r z r f a) (sym e) (adds-known t u f a (subst (λ (z : Kept). Makes t u k z f a) e make))
+    | inr one ↦ absurd (omega (arith, one.count, same, rests.filed.count))
+  ]
+
+  -- and else one was
+  pub one-made : (t u : Table) (f : Form) (a : Applied) (m : Kept) → Makes t u k m f a → length r.filed ≢ length m.classes → MakesOne k m
+  one-made t u f a m make different = elim make.step [
+    | inl e ↦ absurd (different (rests.filed.count ∙ ap (λ (z : Kept). length z.classes) (sym e)))
+    | inr one ↦ one
+  ]
+
+  -- a class was made
+  module _ (m : Kept) (good-m : Good m) (one : MakesOne k m) where
+    pub unfiled : IsUnfiled m r
+    unfiled = record {
+      stored = good-m.stored;
+      canonical = good-m.rows;
+      fits = good-m.fits;
+      count = one.count ∙ ap suc (sym rests.filed.count);
+      sane = subst Sane (sym (one.state (rows_in r.filed) r.waiting)) (class-sane (state_in k r) rests.filed.sane one.node one.is_new);
+      keyed = rests.filed.keyed;
+      quiet = rests.quiet;
+    }
+
+    module _ (l : Kept) (q : Rows) (files : FilesNewest m r l q) where
+      added : HasAdded (state_in k r) one.node (state_in l q)
+      added = adds (state_in k r) (at-rest k r good rests) one.node one.is_new (state_in l q) (files.adds (state_in k r) one.node (one.state (rows_in r.filed) r.waiting))
+
+      abbrev same : nodes_of l ≡ nodes_of m
+      same = files.grows.nodes
+
+      -- and is filed
+      pub adds-filed : (t u : Table) (f : Form) (a : Applied) → Makes t u k m f a → Adds t u k r l q f a
+      adds-filed t u f a make = record {
+        good = grown-good m l good-m files.grows files.filed.stored files.settled;
+        rests = record { filed = files.filed; represents = added.rest.represents; quiet = added.rest.nothing_waits };
+        fresh_slots = grown-fresh u m l same make.fresh_slots;
+        extends = subst (Extends (nodes_of k)) (sym same) make.extends;
+        goes_on = added.goes_on;
+        adds = adds-classes k r good l q added.goes_on (make.more ++ files.grows.more)
+            (files.grows.proofs ∙ (ap (λ (x : List Proven). x ++ files.grows.more) make.proofs ∙ append_assoc k.proofs make.more files.grows.more))
+            files.grows.listed (files.grows.symmetries ∙ ap (λ (x : List SymmetryEntry). x ++ files.grows.listed) make.symmetries) added.same_asserted;
+        found = subst (λ (ns : List DTerm). id_of_node ns (nameless_node f) ≡ Some a) (sym same) make.found;
+        filed = subst (λ (ns : List DTerm). NewClassesAre (nodes_of k) ns (IsIdOfNode ns (nameless_node f))) (sym same) make.filed;
+        kept = λ s. absurd (more-than (ap (λ (x : Kept). length x.classes) (make.kept s)));
+        made = λ none. subst (λ (ns : List DTerm). HasNewClass t u (nodes_of k) ns (nameless_node f)) (sym same) (make.made none);
+        large = λ h. make.large (h.0, subst (λ (ns : List DTerm). h.0 < length ns) same h.1, subst (λ (ns : List DTerm). IsLargeClass ns h.0 ⊎ IsWideClass ns h.0) same h.2);
+      }
+        where
+          more-than : ¬ (length m.classes ≡ length k.classes)
+          more-than e = omega (arith, e, one.count)
+
+-- where slots run out in a rebuild
+pub rebuild-runs_out : (t u v w : Table) (k m : Kept) (f : Form) (a : Applied) → Makes t u k m f a → HasLargeClass m → CanRunOutForNode (image_of k) f v w
+rebuild-runs_out t u v w k m f a make h = inr (make.large (large-seen m h))
