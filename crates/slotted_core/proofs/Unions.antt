@@ -39,7 +39,7 @@ use Rattle.slotted_core.proofs.Asserting.{IsAsserted, is_asserted, asserted-file
 use Rattle.slotted_core.proofs.ContinuedFinds.{finds-old, finds-new, finds-on, alike-on}
 use Rattle.slotted_core.proofs.EntryTexts.{records-more}
 use Rattle.slotted_core.proofs.FiledClasses.{grown-good, large-seen}
-use Rattle.slotted_core.proofs.Images.{found_id-is}
+use Rattle.slotted_core.proofs.Images.{class_found-is}
 use Rattle.slotted_core.proofs.LiveSizes.{live_size-is}
 use Rattle.slotted_core.proofs.Resting.{at-rest}
 use Rattle.slotted_core.proofs.Symmetries.{none_open}
@@ -183,10 +183,6 @@ large-rebuilding k good a b fa fb text m p entered n grows h =
     let said : IsAsserted k m (asserted_entry a b text) a b p = is_asserted k good a b fa fb text m p entered in
     large-seen k (large-grown k m said.grows (large-grown m n grows h))
 
--- the class that a class finds, as contracts see it
-class-is : (k : Kept) (i : ℕ) → i < length k.classes → class_found (image_of k) i ≡ find_class (entries_of k) i
-class-is k i h = ap (λ (a : Applied). a.0) (found_id-is k (i, []) h)
-
 within-old : (k : Kept) (a : Applied) → IsFull (nodes_of k) a → a.0 < length k.classes
 within-old k a full = let h : a.0 < length (nodes_of k) = full.in_range in let n : length (nodes_of k) ≡ length k.classes = length-nodes_of k in omega arith
 
@@ -194,12 +190,12 @@ within-old k a full = let h : a.0 < length (nodes_of k) = full.in_range in let n
 pub large-class_of : (k : Kept) (a b : Applied) → IsFull (nodes_of k) a → IsFull (nodes_of k) b → unions.HasLargeClassOf k a.0 b.0 → HasLargeClassOf (image_of k) a b
 large-class_of k a b fa fb h =
     let n : length (nodes_of k) ≡ length k.classes = length-nodes_of k in
-    let here : class_found (image_of k) h.0 ≡ find_class (entries_of k) h.0 = class-is k h.0 h.1 in (
+    let here : class_found (image_of k) h.0 ≡ find_class (entries_of k) h.0 = class_found-is k h.0 h.1 in (
       h.0,
       omega (arith, h.1, n),
       elim h.2 [
-        | inl e ↦ inl (here ∙ (e ∙ sym (class-is k a.0 (within-old k a fa))))
-        | inr e ↦ inr (here ∙ (e ∙ sym (class-is k b.0 (within-old k b fb))))
+        | inl e ↦ inl (here ∙ (e ∙ sym (class_found-is k a.0 (within-old k a fa))))
+        | inr e ↦ inr (here ∙ (e ∙ sym (class_found-is k b.0 (within-old k b fb))))
       ],
       h.3,
     )
