@@ -13,10 +13,14 @@ use Rattle.slotted_filing.specs.FiledRows.{Rows}
 use Rattle.slotted_rebuilding.specs.Filed.{state_in}
 use Rattle.slotted_core.specs.Affected.{IsAffected, AreAffected, IsYesIfEqual, IsYesIfDerivable}
 use Rattle.slotted_core.specs.Causes.{class_found}
-use Rattle.slotted_core.specs.Good.{Good, image_of}
+use Rattle.slotted_core.specs.Findable.{IsFindableId}
+use Rattle.slotted_core.specs.Good.{Good, RestsWith, image_of}
+use Rattle.slotted_core.specs.Graph.{Graph}
+use Rattle.slotted_core.specs.Image.{Image}
 use Rattle.slotted_core.proofs.AffectedClasses.{affected-is}
-use Rattle.slotted_core.proofs.FindableIds.{findable-within, fills-filling}
+use Rattle.slotted_core.proofs.FindableIds.{of-findable, findable-within, fills-filling}
 use Rattle.slotted_core.proofs.Images.{class_found-is}
+use Rattle.slotted_core.proofs.Resting.{at-rest}
 
 module _ (k : Kept) (good : Good k) (r : Rows) (rest : AtRest (state_in k r)) (a b : Applied) (fa : IsFindable k a) (fb : IsFindable k b) (y : Bool) (says : IsTrue y ↔ (find (entries_of k) a ≡ find (entries_of k) b)) where
   -- a findable id of an affected class
@@ -34,3 +38,13 @@ module _ (k : Kept) (good : Good k) (r : Rows) (rest : AtRest (state_in k r)) (a
   pub yes-if_derivable : IsYesIfDerivable (image_of k) a b y
   yes-if_derivable left right fl fr E t u listed et eu d =
       yes-or_affected (rest-derivable (state_in k r) rest a b left right [] [] fa fb (fills-filling k a left fl) (fills-filling k b right fr) E t u listed et eu d)
+
+-- the same of ids of a graph
+pub complete-of : (k : Kept) (r : Rows) → Good k → RestsWith k r → (g : Graph) → image_of k ≡ g.image → (a b : Applied) → IsFindableId g a → IsFindableId g b → (y : Bool) → (IsTrue y ↔ (find (entries_of k) a ≡ find (entries_of k) b)) →
+    IsYesIfEqual g.image a b y × IsYesIfDerivable g.image a b y
+complete-of k r good rests g image a b va vb y says =
+    let rest = at-rest k r good rests in
+    let fa = of-findable k good g image a va in
+    let fb = of-findable k good g image b vb in
+    subst (λ (x : Image). IsYesIfEqual x a b y × IsYesIfDerivable x a b y) image
+    (yes-if_equal k good r rest a b fa fb y says, yes-if_derivable k good r rest a b fa fb y says)

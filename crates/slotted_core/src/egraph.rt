@@ -12,6 +12,7 @@ ghost use Rattle.slotted_terms.specs.Valid.{IsValidTerm};
 ghost use Rattle.slotted_core.specs.Image.{no_classes, FoundAlike, SaysEqual, SaysDerivable, SaysTerms};
 ghost use Rattle.slotted_core.specs.Image.{AddsClasses, IsUnion, AreSymmetries, AreListedOnce, CountsOpen};
 ghost use Rattle.slotted_store.specs.Kept.{text_bytes, symmetry_entry};
+ghost use Rattle.slotted_core.specs.Affected.{IsYesIfDerivable, IsYesIfEqual};
 ghost use Rattle.slotted_core.specs.Findable.{IsFindableId, SaysFillingsEqual, LackNothing, HaveFindableSides};
 ghost use Rattle.slotted_core.specs.Graph.{IsValidId, IsValidNode, id_of_form, id_of_term, StandsForNode, OnlyReads};
 ghost use Rattle.slotted_core.specs.Graph.{MakesClassWhereNone, FilesOnlyNode, FilesOnlySubterms};
@@ -153,7 +154,11 @@ impl<L: Language, N: Drop> EGraph<L, N> {
         !self.failed && is_valid_term(&self.table, term)
     }
 
-    /// Whether two ids find the same. They may lack names for slots that unions dropped. It takes no memory.
+    /// Whether two ids are equal by what was asserted: whether they find the same. They may lack names for slots that unions dropped. It
+    /// takes no memory.
+    ///
+    /// A yes is always right. A no is, unless both ids find classes that an open symmetry affects: one of `symmetries_met` whose two sides
+    /// `eq` tells apart, or a class with a node over such a class.
     pub fn eq(&self, a: &AppliedId, b: &AppliedId) -> Result<bool, Error>
         requires left { IsTrue self.now.failed ⊎ IsFindableId self.now (to_applied a.now) }
         requires right { IsTrue self.now.failed ⊎ IsFindableId self.now (to_applied b.now) }
@@ -166,6 +171,11 @@ impl<L: Language, N: Drop> EGraph<L, N> {
         ensures equal { IfOk result (SaysEqual self.now.image (to_applied a.now) (to_applied b.now)) }
         ensures derivable { IfOk result (SaysDerivable self.now.image (to_applied a.now) (to_applied b.now)) }
         ensures terms { IfOk result (SaysTerms self.now.image (to_applied a.now) (to_applied b.now)) }
+
+        // It is a yes where what they stand for is derivable, for some names that are filled in, unless open symmetries affect both: also
+        // through terms that were never added, and under binders.
+        ensures complete { IfOk result (IsYesIfDerivable self.now.image (to_applied a.now) (to_applied b.now)) }
+        ensures complete_equal { IfOk result (IsYesIfEqual self.now.image (to_applied a.now) (to_applied b.now)) }
 
         ensures failed { IsErrOf result Error.Failed ↔ IsTrue self.now.failed }
         ensures only { IsOkUnless result Error.Failed }
@@ -195,7 +205,7 @@ impl<L: Language, N: Drop> EGraph<L, N> {
     }
 
     /// The class that holds a node's shape, with the node's names put in. Where there is none, a class is made, whose slots
-    /// are fresh.
+    /// are fresh; it is united with the class that has an equal node, if there is one.
     pub fn add(&mut self, node: L) -> Result<AppliedId, Error>
         requires { IsTrue self.old.failed ⊎ IsValidNode self.old (L.form node) }
 
@@ -204,7 +214,8 @@ impl<L: Language, N: Drop> EGraph<L, N> {
         ensures found { IfOk result (λ a. id_of_form self.new (L.form node) ≡ Some (to_applied a)) }
         ensures term { IfOk result (λ a. StandsForNode self.new (to_applied a) (L.form node)) }
 
-        // A class is made only where there was none, no other class is made, and what was there stays.
+        // A class is made only where there was none, no other class is made, and what was there stays. If the new class is equal to an older
+        // one, the two are united.
         ensures kept { OnOk result (IsSome (id_of_form self.old (L.form node)) → self.new.image ≡ self.old.image) }
         ensures made { OnOk result (MakesClassWhereNone self.old self.new (L.form node)) }
         ensures filed { OnOk result (FilesOnlyNode self.old self.new (L.form node)) }
@@ -226,7 +237,13 @@ impl<L: Language, N: Drop> EGraph<L, N> {
             return Err(Error::Failed);
         }
         self.failed = true;
-        let id = adding::add(&mut self.store, &mut self.nodes, self.alloc, &mut self.table, &node)?;
+        let id = adding::add(
+            &mut self.store,
+            &mut self.nodes,
+            self.alloc,
+            &mut self.table,
+            &node,
+        )?;
         self.failed = false;
         Ok(id)
     }
@@ -284,7 +301,13 @@ impl<L: Language, N: Drop> EGraph<L, N> {
             return Err(Error::Failed);
         }
         self.failed = true;
-        let answer = adding::add_expr(&mut self.store, &mut self.nodes, self.alloc, &mut self.table, term)?;
+        let answer = adding::add_expr(
+            &mut self.store,
+            &mut self.nodes,
+            self.alloc,
+            &mut self.table,
+            term,
+        )?;
         self.failed = false;
         Ok(answer)
     }
@@ -292,7 +315,7 @@ impl<L: Language, N: Drop> EGraph<L, N> {
     /// Two valid ids are equal, because the caller says so. True if they did not find alike.
     ///
     /// From now on both find one class with one set of names, and they find alike unless a symmetry of that class is open. Slots that
-    /// only one side has are dropped. Classes above them are not united: what `eq` says of two nodes over them is as before.
+    /// only one side has are dropped. Equal nodes over them are united too: what was asserted is closed under congruence again.
     pub fn union(&mut self, l: &AppliedId, r: &AppliedId) -> Result<bool, Error>
         requires left { IsTrue self.old.failed ⊎ IsValidId self.old (to_applied l.now) }
         requires right { IsTrue self.old.failed ⊎ IsValidId self.old (to_applied r.now) }

@@ -1,5 +1,5 @@
-//! E-graphs of terms with binders: terms go in, alpha-equal ones get equal ids, ids are united, and each yes is proved, by entries
-//! that a union makes or by steps that a caller asks for. Nothing is rebuilt yet.
+//! E-graphs of terms with binders: terms go in, alpha-equal ones get equal ids, ids are united, and with them all nodes that are equal then.
+//! Each yes is proved, by entries that a union makes or by steps that a caller asks for.
 #![tactic(auto)]
 
 mod adding;

@@ -1,10 +1,11 @@
 use Rattle.std.proofs.Common.{◌≡◌, ◌∙◌, ap, sym, inl, inr}
 use Rattle.std.proofs.lemmas.Bool.{false≢true}
 use Rattle.slotted_core.specs.Findable.{IsFindableId}
-use Rattle.slotted_core.specs.Good.{Good, image_of}
+use Rattle.slotted_core.specs.Good.{Good, RestsWith, image_of}
 use Rattle.slotted_core.specs.Graph.{Graph}
 use Rattle.slotted_proofs.specs.Equations.{to_applied}
 use Rattle.slotted_core.proofs.Answering.{says-of}
+use Rattle.slotted_core.proofs.Completeness.{complete-of}
 use Rattle.slotted_core.proofs.FindableIds.{of-findable}
 use Rattle.slotted_core.proofs.egraph.EGraph.eq.Goals as goal
 
@@ -93,3 +94,27 @@ eq-requires-clause-right l c =
     let good : Good core = elim c.self.invariant [ inl h ↦ absurd (false≢true (sym c.if-self.false ∙ h)) | inr h ↦ h.0 ] in
     let right : IsFindableId g (to_applied c.args.b.now) = elim c.requires.right [ inl h ↦ absurd (false≢true (sym c.if-self.false ∙ (sound ∙ h))) | inr v ↦ v ] in
     of-findable core good g image (to_applied c.args.b.now) right
+
+pub returns-clause-complete_equal : goal.returns-clause-complete_equal
+returns-clause-complete_equal l c =
+    let g = c.args.self.now in
+    let core = c.self.inside.store in
+    let image : image_of core ≡ g.image = ap (λ (x : Graph). x.image) c.self.view_is in
+    let sound = ap (λ (x : Graph). x.failed) c.self.view_is in
+    let good : Good core = elim c.self.invariant [ inl h ↦ absurd (false≢true (sym c.if-self.false ∙ h)) | inr h ↦ h.0 ] in
+    let rests : RestsWith core c.self.inside.nodes = elim c.self.invariant [ inl h ↦ absurd (false≢true (sym c.if-self.false ∙ h)) | inr h ↦ h.1.1 ] in
+    let left : IsFindableId g (to_applied c.args.a.now) = elim c.requires.left [ inl h ↦ absurd (false≢true (sym c.if-self.false ∙ (sound ∙ h))) | inr v ↦ v ] in
+    let right : IsFindableId g (to_applied c.args.b.now) = elim c.requires.right [ inl h ↦ absurd (false≢true (sym c.if-self.false ∙ (sound ∙ h))) | inr v ↦ v ] in
+    (complete-of core c.self.inside.nodes good rests g image (to_applied c.args.a.now) (to_applied c.args.b.now) left right c.eq.result c.eq.ensures).0
+
+pub returns-clause-complete : goal.returns-clause-complete
+returns-clause-complete l c =
+    let g = c.args.self.now in
+    let core = c.self.inside.store in
+    let image : image_of core ≡ g.image = ap (λ (x : Graph). x.image) c.self.view_is in
+    let sound = ap (λ (x : Graph). x.failed) c.self.view_is in
+    let good : Good core = elim c.self.invariant [ inl h ↦ absurd (false≢true (sym c.if-self.false ∙ h)) | inr h ↦ h.0 ] in
+    let rests : RestsWith core c.self.inside.nodes = elim c.self.invariant [ inl h ↦ absurd (false≢true (sym c.if-self.false ∙ h)) | inr h ↦ h.1.1 ] in
+    let left : IsFindableId g (to_applied c.args.a.now) = elim c.requires.left [ inl h ↦ absurd (false≢true (sym c.if-self.false ∙ (sound ∙ h))) | inr v ↦ v ] in
+    let right : IsFindableId g (to_applied c.args.b.now) = elim c.requires.right [ inl h ↦ absurd (false≢true (sym c.if-self.false ∙ (sound ∙ h))) | inr v ↦ v ] in
+    (complete-of core c.self.inside.nodes good rests g image (to_applied c.args.a.now) (to_applied c.args.b.now) left right c.eq.result c.eq.ensures).1
