@@ -18,10 +18,12 @@ use Rattle.slotted_model.specs.Applied.{Applied}
 use Rattle.slotted_model.specs.Classes.{term_of}
 use Rattle.slotted_model.specs.Growth.{Extends}
 use Rattle.slotted_model.specs.Ids.{id_of}
-use Rattle.slotted_core.specs.Graph.{Graph, IsValidId, OnlyReads, RunsOutForTerm}
+use Rattle.slotted_core.specs.Graph.{Graph, IsValidId, OnlyReads}
+use Rattle.slotted_core.specs.Affected.{IsYesIfDerivable}
 use Rattle.slotted_core.specs.Image.{FoundAlike, AddsClasses, AreDerivable, IsUnion, asserted_in}
-use Rattle.slotted_core.specs.Causes.{HasLargeClassOf}
+use Rattle.slotted_core.specs.Causes.{CanRunOutForTerm, HasLargeClassIn}
 use Rattle.slotted_core.specs.Nodes.{to_applied}
+use Rattle.slotted_core.proofs.CallerLemmas.{fills-itself}
 use Rattle.slotted_commands.specs.declared.answer.Answer.{Answer}
 use Rattle.slotted_commands.specs.declared.answer.Answer.TheVariants.{Yes, No, Refused}
 use Rattle.slotted_commands.specs.Commands.{Command, compares, unites}
@@ -60,7 +62,7 @@ gains g h t a sound valid term found extends adds more =
     record { sound = not_true h.failed (λ f. false≢true (sound f)); valid = valid; term = term; found = found; extends = extends; adds = adds; more = more }
 
 -- a term that was not added, since memory or slots ran out
-pub runs_out : {A : Type 0} (g h : Graph) (t : Term) (r : Result A Error) (e : Error) → r ≡ Err e → g.failed ≡ false → (IsErrOf r Failed → IsTrue g.failed) → (IsErr r → IsTrue h.failed) → (IsErrOf r OutOfSlots → RunsOutForTerm t g.table h.table) → IfErr r (λ x. (x ≡ Failed) ⊎ IsShortage x) → KnowsMore g.table h.table → RunsOut g t e h
+pub runs_out : {A : Type 0} (g h : Graph) (t : Term) (r : Result A Error) (e : Error) → r ≡ Err e → g.failed ≡ false → (IsErrOf r Failed → IsTrue g.failed) → (IsErr r → IsTrue h.failed) → (IsErrOf r OutOfSlots → CanRunOutForTerm g.image t g.table h.table) → IfErr r (λ x. (x ≡ Failed) ⊎ IsShortage x) → KnowsMore g.table h.table → RunsOut g t e h
 runs_out g h t (Ok a) e is sound was fails full only more = cc
 runs_out g h t (Err x) e is sound was fails full only more =
     let same : x ≡ e = cc in
@@ -95,10 +97,16 @@ module _ (read : List Element → Option Form) (written : Term → List Element)
       }))
 
   -- two that do not
-  pub found_different : ¬ FoundAlike h.image a b → (asserted_in h.image ≡ [] → term_of h.image.canonical a ≡ term_of h.image.canonical b → FoundAlike h.image a b) → Answered read written g h (compares left right) No
-  found_different apart equal =
+  pub found_different : (y : Bool) → y ≡ false → ¬ FoundAlike h.image a b → IsYesIfDerivable h.image a b y → (asserted_in h.image ≡ [] → term_of h.image.canonical a ≡ term_of h.image.canonical b → FoundAlike h.image a b) → Answered read written g h (compares left right) No
+  found_different y no apart complete equal =
+      let fills_a = fills-itself h.image a both.left_valid.full in
+      let fills_b = fills-itself h.image b both.right_valid.full in
       carried_out (both.first ∷ both.second ∷ []) (a ∷ b ∷ []) both.before h both.sound both.writes both.gains (are_different (record {
         found = apart;
+        missed = λ E e d. elim (complete a b fills_a fills_b E both.first both.second e (sym both.left_term) (sym both.right_term) d) [
+          | inl yes ↦ absurd (false≢true (sym no ∙ yes))
+          | inr affected ↦ affected
+        ];
         different = λ n alpha. apart (equal n (both.left_term ∙ (alpha ∙ sym both.right_term)));
       }))
 
@@ -111,7 +119,7 @@ pub union_done : (g h : Graph) (a b : Applied) (y : Bool) → IsUnion g.image h.
 union_done g h a b y union sound table = record { union = union; sound = not_true h.failed sound; table = table }
 
 -- a union that was refused
-pub union_refused : (g h : Graph) (left right : List ℕ) (t u : Term) (a b : Applied) (r : Result Bool Error) (e : Error) → r ≡ Err e → g.failed ≡ false → (IsErrOf r Failed → IsTrue g.failed) → (IsErr r → IsTrue h.failed) → (IsErrOf r OutOfSlots → HasLargeClassOf g.image a b) → IfErr r (λ x. (x ≡ Failed) ⊎ IsShortage x) → h.table ≡ g.table → Says g (unites left right) (t ∷ u ∷ []) (a ∷ b ∷ []) h (Refused e)
+pub union_refused : (g h : Graph) (left right : List ℕ) (t u : Term) (a b : Applied) (r : Result Bool Error) (e : Error) → r ≡ Err e → g.failed ≡ false → (IsErrOf r Failed → IsTrue g.failed) → (IsErr r → IsTrue h.failed) → (IsErrOf r OutOfSlots → HasLargeClassIn g.image) → IfErr r (λ x. (x ≡ Failed) ⊎ IsShortage x) → h.table ≡ g.table → Says g (unites left right) (t ∷ u ∷ []) (a ∷ b ∷ []) h (Refused e)
 union_refused g h left right t u a b (Ok y) e is sound was fails full only table = cc
 union_refused g h left right t u a b (Err x) e is sound was fails full only table =
     let same : x ≡ e = cc in

@@ -20,8 +20,9 @@ use Rattle.slotted_model.specs.Classes.{term_of}
 use Rattle.slotted_model.specs.Growth.{Extends}
 use Rattle.slotted_model.specs.Ids.{id_of}
 use Rattle.slotted_core.specs.Image.{FoundAlike, AddsClasses, IsUnion, CountsOpen, asserted_in}
-use Rattle.slotted_core.specs.Causes.{HasLargeClassOf}
-use Rattle.slotted_core.specs.Graph.{Graph, IsValidId, OnlyReads, RunsOutForTerm}
+use Rattle.slotted_core.specs.Affected.{AreAffected}
+use Rattle.slotted_core.specs.Causes.{CanRunOutForTerm, HasLargeClassIn}
+use Rattle.slotted_core.specs.Graph.{Graph, IsValidId, OnlyReads}
 use Rattle.slotted_commands.specs.declared.answer.Answer.{Answer}
 use Rattle.slotted_commands.specs.declared.answer.Answer.TheVariants.{Done, Yes, No, United, WereEqual, Symmetries, Refused, NoCommand}
 use Rattle.slotted_commands.specs.Commands.{Command, adds, compares, unites, explains, counts, no_command}
@@ -79,7 +80,7 @@ pub record Gains (g : Graph) (t : Term) (id : Applied) (h : Graph) : Type 0 wher
 pub record RunsOut (g : Graph) (t : Term) (e : Error) (h : Graph) : Type 0 where
   pub failed : IsTrue h.failed
   pub shortage : IsShortage e
-  pub cause : e ≡ OutOfSlots → RunsOutForTerm t g.table h.table
+  pub cause : e ≡ OutOfSlots → CanRunOutForTerm g.image t g.table h.table
   pub more : KnowsMore g.table h.table
 
 -- the terms are added, one after another, and have these ids
@@ -99,9 +100,10 @@ pub record AreFoundEqual (g : Graph) (t u : Term) (a b : Applied) : Type 0 where
   pub derivable : (E : List (Term × Term)) → map nameless_pair E ≡ asserted_in g.image → Derives E t u
   pub equal : asserted_in g.image ≡ [] → Alpha t u
 
--- they do not, and where nothing is asserted the terms are different
+-- they do not: where the terms are derivable all the same, open symmetries affect both ids; and where nothing is asserted they are different
 pub record AreFoundDifferent (g : Graph) (t u : Term) (a b : Applied) : Type 0 where
   pub found : ¬ FoundAlike g.image a b
+  pub missed : (E : List (Term × Term)) → map nameless_pair E ≡ asserted_in g.image → Derives E t u → AreAffected g.image a b
   pub different : asserted_in g.image ≡ [] → ¬ Alpha t u
 
 -- uniting ids of g leaves h and answers true or false
@@ -110,12 +112,11 @@ pub record Unites (g : Graph) (a b : Applied) (h : Graph) (yes : Bool) : Type 0 
   pub sound : h.failed ≡ false
   pub table : h.table ≡ g.table
 
--- uniting ids of g runs out of memory, or of slots where a class that finds what one of them finds has too many, and leaves the failed
--- graph h
-pub record UnionRunsOut (g : Graph) (a b : Applied) (e : Error) (h : Graph) : Type 0 where
+-- uniting ids of g runs out of memory, or of slots where a class is too large to be rebuilt, and leaves the failed graph h
+pub record UnionRunsOut (g : Graph) (e : Error) (h : Graph) : Type 0 where
   pub failed : IsTrue h.failed
   pub shortage : IsShortage e
-  pub cause : e ≡ OutOfSlots → HasLargeClassOf g.image a b
+  pub cause : e ≡ OutOfSlots → HasLargeClassIn g.image
   pub table : h.table ≡ g.table
 
 -- what a command says of its terms and their ids once they are added to g, and the graph that it leaves
@@ -125,7 +126,7 @@ pub data Says (g : Graph) : Command → List Term → List Applied → Graph →
   are_different : {left right : List ℕ} {t u : Term} {a b : Applied} → AreFoundDifferent g t u a b → Says g (compares left right) (t ∷ u ∷ []) (a ∷ b ∷ []) g No
   are_united : {left right : List ℕ} {t u : Term} {a b : Applied} {h : Graph} → Unites g a b h true → Says g (unites left right) (t ∷ u ∷ []) (a ∷ b ∷ []) h United
   were_equal : {left right : List ℕ} {t u : Term} {a b : Applied} {h : Graph} → Unites g a b h false → Says g (unites left right) (t ∷ u ∷ []) (a ∷ b ∷ []) h WereEqual
-  union_ran_out : {left right : List ℕ} {t u : Term} {a b : Applied} {e : Error} {h : Graph} → UnionRunsOut g a b e h → Says g (unites left right) (t ∷ u ∷ []) (a ∷ b ∷ []) h (Refused e)
+  union_ran_out : {left right : List ℕ} {t u : Term} {a b : Applied} {e : Error} {h : Graph} → UnionRunsOut g e h → Says g (unites left right) (t ∷ u ∷ []) (a ∷ b ∷ []) h (Refused e)
   counted : {n : ℕ} → CountsOpen g.image g.image.symmetries n → Says g counts [] [] g (Symmetries (length g.image.symmetries) n)
 
 -- what a command answers over g, and the graph h that it leaves

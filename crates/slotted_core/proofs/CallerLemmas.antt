@@ -1,19 +1,21 @@
 -- What was valid stays valid: in the table as names are added to it, in the graph as it grows or ids are united.
-use Rattle.std.proofs.Common.{◌≡◌, ◌⊎◌, ◌↔◌, List, [], Bool, refl, sym, ◌∙◌, subst, inl, inr}
+use Rattle.std.proofs.Common.{◌≡◌, ◌⊎◌, ◌↔◌, ℕ, List, [], Bool, refl, sym, ◌∙◌, subst, inl, inr}
 use Rattle.std.specs.Prelude.{Contains, IsTrue, slice_index_or}
 use Rattle.slotted_theory.specs.Term.{Args, Term, done, name, child, bind}
 use Rattle.slotted_theory.specs.Nameless.{DTerm}
+use Rattle.slotted_theory.specs.Derives.{Equal}
 use Rattle.slotted_theory.proofs.Lists.{Contains-nil}
 use Rattle.slotted_slots.specs.Table.{Table, KnowsMore, is_known}
 use Rattle.slotted_terms.specs.Valid.{HasKnownNames, IsValidTerm}
 use Rattle.slotted_model.specs.Applied.{Applied, values}
-use Rattle.slotted_model.specs.Classes.{IsFull}
+use Rattle.slotted_model.specs.Classes.{IsFull, term_of}
 use Rattle.slotted_model.specs.Growth.{Extends}
 use Rattle.slotted_model.proofs.Fillings.{a_filling, filling-iff}
 use Rattle.slotted_model.proofs.Full.{full-ascending}
 use Rattle.slotted_core.specs.Graph.{Graph, IsValidId, OnlyReads, OnlyTakesSlots}
+use Rattle.slotted_core.specs.Affected.{IsAffected, IsYesIfEqual, by_affected_child, by_open_symmetry}
 use Rattle.slotted_core.specs.Findable.{IsFindableId, Fills, HaveFindableSides}
-use Rattle.slotted_core.specs.Image.{Image, SymmetryEntry, FoundAlike, IsUnion, AreClosed}
+use Rattle.slotted_core.specs.Image.{Image, SymmetryEntry, FoundAlike, IsUnion, AreClosed, SaysEqual, asserted_in}
 
 -- what a table knows it knows later
 known_later : (t u : Table) → KnowsMore t u → (a : Args) → HasKnownNames t a → HasKnownNames u a
@@ -73,6 +75,16 @@ symmetry-sides g (inr sides) y c = (inr (sides y c).0, inr (sides y c).1)
 -- after a union an answer that says whether its sides find alike is yes, where no listed symmetry is open
 pub yes_if_closed : (g h : Image) (a b : Applied) (y : Bool) → IsUnion g h a b y → (answer : Bool) → (IsTrue answer ↔ FoundAlike h a b) → AreClosed h → IsTrue answer
 yes_if_closed g h a b y u answer says closed = says.1 (u.together.alike (λ e c finds. closed e c))
+
+-- where no listed symmetry is open, none affects a class
+closed-unaffected : (g : Image) → AreClosed g → {c : ℕ} → ¬ IsAffected g c
+closed-unaffected g closed (by_open_symmetry y listed is_open) = is_open (closed y listed)
+closed-unaffected g closed (by_affected_child i c within child affected) = closed-unaffected g closed affected
+
+-- so there an answer of `eq` is yes exactly if the terms of its two valid ids are equal by what was asserted
+pub exact_if_closed : (g : Image) (a b : Applied) (y : Bool) → IsFull g.canonical a → IsFull g.canonical b → SaysEqual g a b y → IsYesIfEqual g a b y → AreClosed g → IsTrue y ↔ Equal (asserted_in g) (term_of g.canonical a) (term_of g.canonical b)
+exact_if_closed g a b y full_a full_b says complete closed =
+    (says, λ e. elim (complete a b (fills-itself g a full_a) (fills-itself g b full_b) e) [ | inl yes ↦ yes | inr affected ↦ absurd (closed-unaffected g closed affected.0) ])
 
 -- calls that change the table alone, one after another
 

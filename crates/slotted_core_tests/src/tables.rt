@@ -106,18 +106,29 @@ union: (app (f $0 $1) (g $2)) == (app (f $0 $1) (g $3)) => yes
 union: (app (f $0 $1) (g $2)) == (app (f $1 $0) (g $2)) => yes
 graph sides 1 => one class
 graph counted => yes
+union: (app (f $0 $1) (g $2)) == a => yes
+graph sides 0 => one class
+graph sides 1 => equal
+graph counted => yes
 union: (f $0 $1) == (g $0) => yes
 graph sides 0 => equal
-graph sides 1 => one class
-graph counted => yes
-union: (app (f $0 $1) (g $2)) == a => yes
 graph sides 1 => equal
 graph sides 2 => none
 graph counted => yes";
 
+// What closes a symmetry of a class closes one of a class over it.
+const MET_ABOVE: &str = "union: (f $0 $1) == (f $1 $0) => yes
+union: (app (f $0 $1) (g $2)) == (app (f $1 $0) (g $2)) => yes
+graph sides 0 => one class
+graph sides 1 => one class
+union: (f $0 $1) == (g $0) => yes
+graph sides 0 => equal
+graph sides 1 => equal
+graph counted => yes";
+
 #[test]
 fn symmetries_are_asked(rt: HostRuntime) -> Result<(), Error> {
-    check_tables::<Small>(&rt, rt.alloc(), &[FINDABLE_IDS, MET])
+    check_tables::<Small>(&rt, rt.alloc(), &[FINDABLE_IDS, MET, MET_ABOVE])
 }
 
 // A node has known slots and valid children: the graph has the class 0 alone.
@@ -223,9 +234,20 @@ const SWAPPED: &str = "union: (app (var $0) (var $1)) == x => yes
 explain: (app (var $0) (var $1)) == (app (var $1) (var $0)) => explained
 count asserted => 1";
 
+// It goes through nodes over equal ids. What follows from a union is not asserted.
+const ABOVE: &str = "ids: (app a a) == (app b b) => two classes
+union: a == b => yes
+ids: (app a a) == (app b b) => equal
+explain: (app a a) == (app b b) => explained
+count asserted => 1
+union: (app a a) == (app b b) => no
+count asserted => 1
+explain: (lam $x (app a (var $x))) == (lam $y (app b (var $y))) => explained
+count asserted => 1";
+
 #[test]
 fn equal_terms_are_explained(rt: HostRuntime) -> Result<(), Error> {
-    check_tables::<Small>(&rt, rt.alloc(), &[EXPLAINED, LOST, SWAPPED])
+    check_tables::<Small>(&rt, rt.alloc(), &[EXPLAINED, LOST, SWAPPED, ABOVE])
 }
 
 // Of two classes the one with fewer canonical slots is kept, whichever side it stands on: so a union with the other one enters what it
@@ -290,20 +312,21 @@ congruent 01: (app a c) == (app b d) => accepted
 symmetric 0: a == b => BadStep
 symmetric 0: b == a => accepted";
 
-// A step enters the last equation.
+// The equation of two nodes over united ids may stand before the step is asked.
 const PARENTS: &str = "reflexive: (app a a) == (app b b) => BadStep
 assert: a == b => accepted
 congruent 0: (app a a) == (app b b) => BadStep
 congruent 00: (app a a) == (app b b) => accepted
-number 1 last => yes
 number 1 valid => yes";
 
-// The parts of a transitive step meet in the middle.
+// The parts of a transitive step meet in the middle. A step enters the last equation.
 const THROUGH: &str = "assert: a == b => accepted
 assert: b == c => accepted
 transitive 10: a == c => BadStep
 transitive 01: c == a => BadStep
-transitive 01: a == c => accepted";
+transitive 01: a == c => accepted
+number 2 last => yes
+number 2 valid => yes";
 
 // A middle whose slots are dropped: the names of the two sides are their own, and one name for both is refused, which enters nothing.
 const OTHER_NAMES: &str = "assert: (g $0) == (f $0 $1) => accepted

@@ -1,6 +1,6 @@
 -- The words of the clauses that callers meet, handed on from the crates that define them.
 --     terms: Term, Nameless, Derives, Valid          slots: Table, Error, Maps
---     ids and classes: Applied, Classes, Growth, Ids     the graph: Graph, Findable, Image, Nodes, Checks, Leaves
+--     ids and classes: Applied, Classes, Growth, Ids     the graph: Graph, Findable, Affected, Image, Nodes, Checks, Leaves, Causes
 pub use Rattle.slotted_theory.specs.Term
 pub use Rattle.slotted_theory.specs.Nameless
 pub use Rattle.slotted_theory.specs.Derives
@@ -19,10 +19,12 @@ pub use Rattle.slotted_model.specs.Ids
 pub use Rattle.slotted_proofs.specs.Entries
 pub use Rattle.slotted_core.specs.Graph
 pub use Rattle.slotted_core.specs.Findable
+pub use Rattle.slotted_core.specs.Affected
 pub use Rattle.slotted_core.specs.Image
 pub use Rattle.slotted_core.specs.Nodes
 pub use Rattle.slotted_core.specs.Checks
 pub use Rattle.slotted_core.specs.Leaves
+pub use Rattle.slotted_core.specs.Causes
 pub use Rattle.slotted_core.specs.Explaining
 -- what a caller of its own says
 pub mod Filed

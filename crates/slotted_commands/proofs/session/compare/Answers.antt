@@ -22,4 +22,4 @@ pub returns : goal.returns
 returns g c =
     let e = c.in_ok-eq.ensures in
     found_different g.L.LanguageChildren.read g.L.Printable.written c.args.graph.now c.add_both.new.graph c.args.left.now c.args.right.now (to_applied c.in_ok-left.left) (to_applied c.in_ok-left.right) c.in_ok-left.ensures.ok
-    (λ h. false≢true (sym c.if-branch.false ∙ e.found.1 h)) (λ n t. e.found.0 ((e.terms n).1 t))
+    c.in_ok-eq.field-0 c.if-branch.false (λ h. false≢true (sym c.if-branch.false ∙ e.found.1 h)) e.complete (λ n t. e.found.0 ((e.terms n).1 t))
