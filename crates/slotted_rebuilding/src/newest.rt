@@ -39,7 +39,7 @@ fn join<L: Language>(
     Ok(())
 }
 
-// The node of the newest class is filed by its key, which no class has. Where it lacks a slot of the class, the class waits.
+// The node of the newest class is filed by its key, which no class has. Where the node lacks a slot of the class, this waits.
 fn file<L: Language>(
     store: &Store<L>,
     nodes: &mut Hashcons<L>,
@@ -54,9 +54,10 @@ fn file<L: Language>(
 {
     let covered = is_covered(store, class, &node.names);
     nodes.file(class, node.key, node.names)?;
-    if !covered {
-        nodes.wait(class)?;
+    if covered {
+        return Ok(());
     }
+    nodes.wait(class)?;
     Ok(())
 }
 
@@ -74,14 +75,13 @@ fn join_or_file<L: Language>(
 {
     let node = found_node(store, alloc, class)?;
     match nodes.source_of(&node.key) {
-        Some(other) => join(store, nodes, alloc, class, &node.names, other)?,
-        None => file(store, nodes, class, node)?,
+        Some(other) => join(store, nodes, alloc, class, &node.names, other),
+        None => file(store, nodes, class, node),
     }
-    Ok(())
 }
 
-/// The newest class is filed by its node in normal form, so that it is found by it; where another class has that node, the two are united.
-/// Then all is rebuilt.
+/// The newest class is filed by its node in normal form, so that it is found by it; where another class has that node, the two
+/// are united. Then all is rebuilt.
 pub fn file_newest<L: Language>(
     store: &mut Store<L>,
     nodes: &mut Hashcons<L>,
