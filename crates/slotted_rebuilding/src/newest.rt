@@ -39,7 +39,8 @@ fn join<L: Language>(
     Ok(())
 }
 
-// The node of the newest class is filed by its key, which no class has. Where the node lacks a slot of the class, this waits.
+// The node of the newest class is filed by its key, which no class has. Where it lacks a slot of the class, the class waits to
+// be narrowed.
 fn file<L: Language>(
     store: &Store<L>,
     nodes: &mut Hashcons<L>,
