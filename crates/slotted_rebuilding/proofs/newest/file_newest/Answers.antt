@@ -12,5 +12,5 @@ returns-in_err-rebuild-clause-full g c h =
 
 pub returns-clause-ok : goal.returns-clause-ok
 returns-clause-ok g c =
-    files-newest c.args.store.now c.args.nodes.now c.add_class.new.self c.join_or_file.new.store c.join_or_file.new.nodes c.rebuild.new.store c.rebuild.new.nodes c.in_ok-rebuild.rebuild c.in_ok-add_class.ensures.ok
+    files-newest c.args.store.now c.args.nodes.now c.add_class.new.self c.join_or_file.new.store c.join_or_file.new.nodes c.rebuild.new.store c.rebuild.new.nodes c.in_ok-rebuild.field c.in_ok-add_class.ensures.ok
     c.in_ok-join_or_file.ensures.ok c.in_ok-rebuild.ensures.ok
