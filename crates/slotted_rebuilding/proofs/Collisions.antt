@@ -1,18 +1,17 @@
 -- A class that takes its turn, and the other class of which the shape of its node is filed, if there is one.
 use Rattle.std.proofs.Common.{◌≡◌, ◌≢◌, ◌<◌, ◌+◌, ℕ, List, Some, length, ap, ◌∙◌, sym, subst, refl, arith}
-use Rattle.std.specs.Prelude.{Contains, IfSome, IfNone, Option, None, cond, nat_eq, unwrap_or}
-use Rattle.std.proofs.lemmas.Bool.{eq-eqb}
+use Rattle.std.specs.Prelude.{Contains, IfSome, IfNone, Option, None, unwrap_or}
 use Rattle.slotted_nodes.specs.Form.{Form}
 use Rattle.slotted_theory.specs.Shape as theory
-use Rattle.slotted_theory.proofs.Lists.{Contains-map, Contains-of_map}
 use Rattle.slotted_languages.specs.NodeTerm.{nameless_node}
 use Rattle.slotted_languages.specs.Shape.{Fits, shape}
 use Rattle.slotted_model.specs.Applied.{keys}
-use Rattle.slotted_model.specs.Rebuild.{IsCovered, Turn, refiled_state, row_for, with_row, refiles}
-use Rattle.slotted_model.specs.Rest.{IsValidIn, Sane}
+use Rattle.slotted_model.specs.Rebuild.{IsCovered, row_for}
+use Rattle.slotted_model.specs.Rest.{IsRow, IsValidIn}
 use Rattle.slotted_model.specs.State.{Row, State, child_classes, normal_node}
 use Rattle.slotted_model.proofs.KeepingLookUps.{children-below}
 use Rattle.slotted_model.proofs.Options.{Some-same}
+use Rattle.slotted_model.proofs.Refiling.{row_for-row}
 use Rattle.slotted_store.specs.Kept.{Kept, nodes_of}
 use Rattle.slotted_store.proofs.KeptLists.{length-nodes_of}
 use Rattle.slotted_filing.specs.Filed.{Filing, HasKey, HasKeysOnce, IsNewKey, IsNewToOthers, filed_of}
@@ -25,7 +24,7 @@ use Rattle.slotted_rebuilding.specs.Filed.{state_in, IsKeyed, IsWellFiled}
 use Rattle.slotted_rebuilding.specs.Turns.{NarrowsTo, SharesKey, TakesTurns}
 use Rattle.slotted_rebuilding.proofs.KeysByShapes.{one-key}
 use Rattle.slotted_rebuilding.proofs.NarrowedNodes.{waiting-within}
-use Rattle.slotted_rebuilding.proofs.Runs.{runs-join, turn-sane}
+use Rattle.slotted_rebuilding.proofs.Runs.{runs-join}
 use Rattle.slotted_rebuilding.proofs.StaleRows.{stale-found}
 use Rattle.slotted_rebuilding.proofs.TakenTurns.{refiles-node}
 
@@ -56,49 +55,42 @@ pub shares-key : (k : Kept) (r : Rows) (class : ℕ) (slots : List (ℕ × ℕ))
 shares-key k r class slots key None fits node some differ = absurd (differ refl)
 shares-key k r class slots key (Some i) fits node some differ = record { key = key; fits = fits; node = node; filed = some }
 
+-- a row of the shape of a class's node in normal form is filed by the key of that node
+pub has-key : (k : Kept) (r : Rows) (o : ℕ) (key : Form) (slots : List (ℕ × ℕ)) → IsWellFiled k r → Fits key → IsFoundNode k o key slots →
+    (x : Row) → Contains (rows_in r.filed) x → x.shape ≡ theory.shape (normal_node (finds_of k) o) → HasKey r.filed x.source key
+has-key k r o key slots well fits node x c e =
+    let h = filed-row r.filed x c in
+    let f : Form = h.1 in
+    let m : List (ℕ × ℕ) = h.2 in
+    let at : filed_of r.filed h.0 ≡ Some (f, m) = h.3 in
+    let is : x ≡ row_of_entry (f, (h.0, m)) = h.4 in
+    let kept : IsKeyed (f, m) = well.keyed h.0 (f, m) at in
+    let shapes : theory.shape (nameless_node f) ≡ theory.shape (nameless_node key) = sym (ap (λ (y : Row). y.shape) is) ∙ (e ∙ sym (found-shape k o key slots node)) in
+    let same : f ≡ key = one-key f key kept.fits fits kept.itself node.itself shapes in
+    let source : h.0 ≡ x.source = sym (ap (λ (y : Row). y.source) is) in
+    (m, subst (λ i. filed_of r.filed i ≡ Some (key, m)) source (subst (λ g. filed_of r.filed h.0 ≡ Some (g, m)) same at))
+
+-- the children of the key of a class's node are of classes
+pub children-within : (k : Kept) (r : Rows) (o : ℕ) (key : Form) (slots : List (ℕ × ℕ)) → IsWellFiled k r → o < length k.classes → IsFoundNode k o key slots → HasChildrenBelow (length r.filed) key
+children-within k r o key slots well within node c h =
+    let g : State = state_in k r in
+    let q : Row = row_for (finds_of k) o in
+    let e : length (nodes_of k) ≡ length k.classes = length-nodes_of k in
+    let d : length r.filed ≡ length k.classes = well.count in
+    let row : IsRow g q = row_for-row g well.sane o (omega (arith, within, e)) in
+    let same : key_children key ≡ child_classes q.shape.args = sym (child_classes-shape (nameless_node key)) ∙ ap (λ d. child_classes d.args) (found-shape k o key slots node) in
+    let below : c < length (nodes_of k) = children-below (IsValidIn g) (length (nodes_of k)) (λ a v. v.in_range) q.shape.args row.children c (subst (λ xs. Contains xs c) same h) in
+    omega (arith, below, e, d)
+
 module _ (k : Kept) (r : Rows) (well : IsWellFiled k r) (o : ℕ) (waits : Contains r.waiting o) (key : Form) (slots : List (ℕ × ℕ)) (fits : Fits key) (node : IsFoundNode k o key slots)
     (covered : IsCovered (finds_of k) o) (new : IsNewToOthers r.filed o key) where
   -- no other row has the shape
   alone : (x : Row) → Contains (rows_in r.filed) x → x.source ≢ o → x.shape ≢ theory.shape (normal_node (finds_of k) o)
-  alone x c differ e =
-      let h = filed-row r.filed x c in
-      let f : Form = h.1 in
-      let m : List (ℕ × ℕ) = h.2 in
-      let at : filed_of r.filed h.0 ≡ Some (f, m) = h.3 in
-      let is : x ≡ row_of_entry (f, (h.0, m)) = h.4 in
-      let kept : IsKeyed (f, m) = well.keyed h.0 (f, m) at in
-      let shapes : theory.shape (nameless_node f) ≡ theory.shape (nameless_node key) = sym (ap (λ (y : Row). y.shape) is) ∙ (e ∙ sym (found-shape k o key slots node)) in
-      let same : f ≡ key = one-key f key kept.fits fits kept.itself node.itself shapes in
-      let other : h.0 ≢ o = λ s. differ (ap (λ (y : Row). y.source) is ∙ s) in
-      new h.0 other (m, subst (λ g. filed_of r.filed h.0 ≡ Some (g, m)) same at)
+  alone x c differ e = new x.source differ (has-key k r o key slots well fits node x c e)
 
   -- something is filed of it
   filed : (e : Filing) × (filed_of r.filed o ≡ Some e)
   filed = (source-filed r.filed o).0 (well.sane.filed.waits_for_row o waits)
-
-  turn : Turn (state_in k r) (refiled_state (state_in k r) o)
-  turn = refiles o waits covered alone
-
-  stands : Contains (with_row (row_for (finds_of k) o) (rows_in r.filed)) (row_for (finds_of k) o)
-  stands =
-      let x = Contains-of_map (λ (y : Row). y.source) (rows_in r.filed) o (well.sane.filed.waits_for_row o waits) in
-      let q : Row = row_for (finds_of k) o in
-      let put : Row → Row = λ y. cond (nat_eq y.source q.source) q y in
-      let there : Contains (with_row q (rows_in r.filed)) (put x.0) = Contains-map put (rows_in r.filed) x.0 x.1 in
-      subst (Contains (with_row q (rows_in r.filed))) (ap (λ b. cond b q x.0) (eq-eqb x.0.source o x.2)) there
-
-  -- the children of the key are of classes
-  pub children-within : HasChildrenBelow (length r.filed) key
-  children-within c h =
-      let g : State = refiled_state (state_in k r) o in
-      let sane : Sane g = turn-sane (state_in k r) g well.sane turn in
-      let q : Row = row_for (finds_of k) o in
-      let same : key_children key ≡ child_classes q.shape.args = sym (child_classes-shape (nameless_node key)) ∙ ap (λ d. child_classes d.args) (found-shape k o key slots node) in
-      let below : c < length (nodes_of k) =
-      children-below (IsValidIn g) (length (nodes_of k)) (λ a v. v.in_range) q.shape.args (sane.filed.each q stands).children c (subst (λ xs. Contains xs c) same h) in
-      let e : length (nodes_of k) ≡ length k.classes = length-nodes_of k in
-      let d : length r.filed ≡ length k.classes = well.count in
-      omega (arith, below, e, d)
 
   -- and the node is filed by it
   pub files-it : (s : Rows) → TakesTurn r s o (Some (key, slots)) → TakesTurns k r k s

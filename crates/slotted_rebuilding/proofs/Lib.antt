@@ -11,4 +11,6 @@ pub mod NarrowedNodes
 pub mod FiledUnions
 pub mod SettledRows
 pub mod Collisions
+pub mod NewRows
+pub mod NewestClasses
 pub mod RebuiltGraphs

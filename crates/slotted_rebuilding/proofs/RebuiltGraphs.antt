@@ -52,4 +52,5 @@ nothing-left k r l q counted s e = record {
   filed = s.filed;
   grows = s.grows;
   nothing_left = (no-first q.waiting e, λ y c. s.filed.stored.settled s.settled y c);
+  settled = s.settled;
 }

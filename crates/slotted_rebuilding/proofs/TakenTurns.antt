@@ -59,7 +59,7 @@ keyed-removed v o keyed i e f = elim (cases_eq i o) [
   | inr differ ↦ keyed i e (sym (filed-other v o i None differ) ∙ f)
 ]
 
-keyed-refiled : (v : List (Option Filing)) (o : ℕ) (x : Filing) → o < length v → IsKeyed x → ((i : ℕ) (e : Filing) → filed_of v i ≡ Some e → IsKeyed e) →
+pub keyed-refiled : (v : List (Option Filing)) (o : ℕ) (x : Filing) → o < length v → IsKeyed x → ((i : ℕ) (e : Filing) → filed_of v i ≡ Some e → IsKeyed e) →
     (i : ℕ) (e : Filing) → filed_of (set v o (Some x)) i ≡ Some e → IsKeyed e
 keyed-refiled v o x within new keyed i e f = elim (cases_eq i o) [
   | inl same ↦ subst IsKeyed (Some-same x e (sym (get_or-set_same v o (Some x) None within) ∙ (ap (filed_of (set v o (Some x))) (sym same) ∙ f))) new

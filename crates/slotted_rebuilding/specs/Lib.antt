@@ -3,3 +3,4 @@ pub mod Work
 pub mod Filed
 pub mod Causes
 pub mod Turns
+pub mod NewClasses

@@ -80,7 +80,7 @@ pub record RebuildsSoFar (k : Kept) (r : Rows) (l : Kept) (q : Rows) (counted : 
   pub grows : Grows k l
   pub settled : l.dropped ≡ false
 
--- turns, at least as many as are counted, and acts lead from one to the other, where nothing is left to do
+-- turns, at least as many as are counted, and acts lead from one to the other, where nothing is left to do, and whose symmetries are all known to be aligned
 pub record Rebuilds (k : Kept) (r : Rows) (l : Kept) (q : Rows) (counted : ℕ) : Type 0 where
   pub turns : ℕ
   pub at_least : counted ≤ turns
@@ -88,3 +88,4 @@ pub record Rebuilds (k : Kept) (r : Rows) (l : Kept) (q : Rows) (counted : ℕ) 
   pub filed : IsWellFiled l q
   pub grows : Grows k l
   pub nothing_left : HasNothingLeft (state_in l q)
+  pub settled : l.dropped ≡ false

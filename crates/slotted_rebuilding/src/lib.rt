@@ -2,6 +2,7 @@
 #![tactic(auto)]
 
 pub mod narrowing;
+pub mod newest;
 pub mod rebuilding;
 pub mod settling;
 pub mod turning;

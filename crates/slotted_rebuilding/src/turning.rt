@@ -14,8 +14,8 @@ use slotted_slots::{Error, SlotMap};
 use slotted_store::Store;
 use std::alloc::Global;
 
-// The proof that the first class that waits equals another one, of which the shape of its node is filed.
-fn collision<L: Language>(
+/// The proof that a class equals another one, of which the shape of its node is filed.
+pub(crate) fn collision<L: Language>(
     store: &mut Store<L>,
     nodes: &Hashcons<L>,
     alloc: Global,

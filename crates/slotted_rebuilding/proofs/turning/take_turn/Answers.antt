@@ -2,7 +2,7 @@ use Rattle.std.proofs.Common.{◌∙◌, sym}
 use Rattle.indexmap.proofs.MapLemmas.{OnOk-map}
 use Rattle.slotted_rebuilding.specs.Turns.{TakesTurns}
 use Rattle.slotted_rebuilding.proofs.FiledStates.{first-still}
-use Rattle.slotted_rebuilding.proofs.NarrowedNodes.{first-waits}
+use Rattle.slotted_rebuilding.proofs.NarrowedNodes.{first-waits, waiting-within}
 use Rattle.slotted_rebuilding.proofs.Collisions.{children-within, files-it, new-to-others, turns-then}
 use Rattle.slotted_rebuilding.proofs.turning.take_turn.Goals as goal
 
@@ -26,14 +26,11 @@ refile-requires-clause-new_key g c =
 
 pub refile-requires-clause-children : goal.refile-requires-clause-children
 refile-requires-clause-children g c =
-    let form = g.L.LanguageChildren.form in
     let l = c.narrowed.new.store in
     let q = c.narrowed.new.nodes in
     let t = c.in_ok-node.ensures.ok in
-    let key = form c.in_ok-node.node.key in
     let first = first-still c.args.nodes.now q c.args.class t.waits c.requires.first in
-    let new = new-to-others q.filed c.args.class key c.source_of.result c.source_of.ensures.some c.source_of.ensures.none c.source_of.ensures.once (sym c.unwrap_or-other.ensures ∙ c.if-other-class.false) in
-    children-within l q t.filed c.args.class (first-waits q c.args.class first) key c.in_ok-node.node.names (g.met.L.LanguageChildren.fits c.in_ok-node.node.key) t.node t.covered new
+    children-within l q c.args.class (g.L.LanguageChildren.form c.in_ok-node.node.key) c.in_ok-node.node.names t.filed (waiting-within l q c.args.class t.filed (first-waits q c.args.class first)) t.node
 
 pub returns-clause-ok : goal.returns-clause-ok
 returns-clause-ok g c =

@@ -1,0 +1,35 @@
+use Rattle.std.proofs.Common.{rules, subst}
+use Rattle.std.specs.Prelude.{IfNone, IfSome}
+use Rattle.slotted_filing.specs.Filed.{HasKey, IsNewKey}
+use Rattle.slotted_rebuilding.proofs.NarrowedNodes.{findable, too-large}
+use Rattle.slotted_rebuilding.proofs.NewestClasses.{newest-within}
+use Rattle.slotted_rebuilding.proofs.newest.join_or_file.Goals as goal
+
+pub found_node-requires-clause-within : goal.found_node-requires-clause-within
+found_node-requires-clause-within g c = newest-within c.args.store.now c.args.nodes.now c.args.class c.requires.newest
+
+pub found_node-requires-clause-children : goal.found_node-requires-clause-children
+found_node-requires-clause-children g c =
+    let k = c.args.store.now in
+    let r = c.args.nodes.now in
+    findable k r c.args.class c.requires.newest.filed (newest-within k r c.args.class c.requires.newest)
+
+pub returns-in_err-node-clause-full : goal.returns-in_err-node-clause-full
+returns-in_err-node-clause-full g c h =
+    let k = c.args.store.now in
+    let r = c.args.nodes.now in
+    too-large k r c.args.class c.requires.newest.filed (newest-within k r c.args.class c.requires.newest) (c.in_err-node.ensures.full (search rules))
+
+pub join-requires-clause-shape : goal.join-requires-clause-shape
+join-requires-clause-shape g c =
+    let key = c.in_ok-node.node.key in
+    record {
+      key = g.L.LanguageChildren.form key;
+      fits = g.met.L.LanguageChildren.fits key;
+      node = c.in_ok-node.ensures.ok;
+      filed = subst (λ o. IfSome o (λ i. HasKey c.args.nodes.now.filed i (g.L.LanguageChildren.form key))) c.in-Some.is c.source_of.ensures.some;
+    }
+
+pub file-requires-clause-new_key : goal.file-requires-clause-new_key
+file-requires-clause-new_key g c =
+    subst (λ o. IfNone o (IsNewKey c.args.nodes.now.filed (g.L.LanguageChildren.form c.in_ok-node.node.key))) c.in-None.is c.source_of.ensures.none

@@ -1,0 +1,101 @@
+//! The filing of a class that was just made.
+ghost use Rattle.std.specs.Prelude.{IfErr, IsErrOf, OnOk};
+ghost use Rattle.slotted_slots.specs.Error.{IsOutOfMemory, IsShortage};
+ghost use Rattle.slotted_filing.specs.Filed.{IsNewKey};
+ghost use Rattle.slotted_normal_forms.specs.FoundNodes.{IsFoundNode};
+ghost use Rattle.slotted_rebuilding.specs.Causes.{HasLargeClass};
+ghost use Rattle.slotted_rebuilding.specs.NewClasses.{BeginsAdding, FilesNewest, HasNewest, IsUnfiled};
+ghost use Rattle.slotted_rebuilding.specs.Turns.{SharesKey};
+
+use crate::rebuilding::rebuild;
+use crate::turning::collision;
+use crate::uniting::unite;
+use slotted_filing::Hashcons;
+use slotted_languages::Language;
+use slotted_normal_forms::FoundNode;
+use slotted_normal_forms::covered::is_covered;
+use slotted_normal_forms::found::found_node;
+use slotted_slots::{Error, SlotMap};
+use slotted_store::Store;
+use std::alloc::Global;
+
+// The newest class is united with another one, of which the shape of its node is filed.
+fn join<L: Language>(
+    store: &mut Store<L>,
+    nodes: &mut Hashcons<L>,
+    alloc: Global,
+    class: usize,
+    names: &SlotMap,
+    other: usize,
+) -> Result<(), Error>
+    requires newest { HasNewest store.old nodes.old class }
+    requires shape { SharesKey store.old nodes.old class names.now other }
+    ensures ok { OnOk result (BeginsAdding store.old nodes.old store.new nodes.new) }
+    ensures full { IsErrOf result Error.OutOfSlots → HasLargeClass store.old }
+    ensures err { IfErr result IsShortage }
+{
+    let p = collision(store, nodes, alloc, class, names, other)?;
+    unite(store, nodes, alloc, p)?;
+    Ok(())
+}
+
+// The node of the newest class is filed by its key, which no class has. Where it lacks a slot of the class, the class waits to
+// be narrowed.
+fn file<L: Language>(
+    store: &Store<L>,
+    nodes: &mut Hashcons<L>,
+    class: usize,
+    node: FoundNode<L>,
+) -> Result<(), Error>
+    requires newest { HasNewest store.now nodes.old class }
+    requires node { IsFoundNode store.now class (L.form node.key) node.names }
+    requires new_key { IsNewKey nodes.old.filed (L.form node.key) }
+    ensures ok { OnOk result (BeginsAdding store.now nodes.old store.now nodes.new) }
+    ensures err { IfErr result IsOutOfMemory }
+{
+    let covered = is_covered(store, class, &node.names);
+    nodes.file(class, node.key, node.names)?;
+    if covered {
+        return Ok(());
+    }
+    nodes.wait(class)?;
+    Ok(())
+}
+
+// The newest class is united with the one that has its node, or, where none has, its node is filed.
+fn join_or_file<L: Language>(
+    store: &mut Store<L>,
+    nodes: &mut Hashcons<L>,
+    alloc: Global,
+    class: usize,
+) -> Result<(), Error>
+    requires newest { HasNewest store.old nodes.old class }
+    ensures ok { OnOk result (BeginsAdding store.old nodes.old store.new nodes.new) }
+    ensures full { IsErrOf result Error.OutOfSlots → HasLargeClass store.old }
+    ensures err { IfErr result IsShortage }
+{
+    let node = found_node(store, alloc, class)?;
+    match nodes.source_of(&node.key) {
+        Some(other) => join(store, nodes, alloc, class, &node.names, other),
+        None => file(store, nodes, class, node),
+    }
+}
+
+/// The newest class is filed by its node in normal form, so that it is found by it; where another class has that node, the two
+/// are united. Then all is rebuilt.
+pub fn file_newest<L: Language>(
+    store: &mut Store<L>,
+    nodes: &mut Hashcons<L>,
+    alloc: Global,
+) -> Result<(), Error>
+    requires unfiled { IsUnfiled store.old nodes.old }
+    ensures ok { OnOk result (FilesNewest store.old nodes.old store.new nodes.new) }
+    ensures full { IsErrOf result Error.OutOfSlots → HasLargeClass store.old }
+    ensures err { IfErr result IsShortage }
+{
+    let class = nodes.class_count();
+    nodes.add_class(alloc)?;
+    join_or_file(store, nodes, alloc, class)?;
+    rebuild(store, nodes, alloc)?;
+    Ok(())
+}
