@@ -270,7 +270,7 @@ if_ok_then r P Q f h = both_ok r P P Q (λ x p q. f x p) h h
 
 pub kept_good : (r : Result ℕ Error) (t : Table) (k l : Kept) (rows : Rows) (e : Sides) (s : Step) → Good k × HasFreshSlots t k × RestsWith k rows → IfOk r (Checked t k l e s) → OnErr r (l ≡ k) →
     Good l × HasFreshSlots t l × RestsWith l rows
-kept_good (Ok p) t k l rows e s h c o = (c.good, c.fresh_slots h.1.0, c.rests rows h.1.1)
+kept_good (Ok p) t k l rows e s h c o = (c.good, c.fresh_slots h.1, c.rests rows h.2)
 kept_good (Err x) t k l rows e s h c o = subst (λ (m : Kept). Good m × HasFreshSlots t m × RestsWith m rows) (sym o) h
 
 module _ (r : Result ℕ Error) (b : Bool) (t : Table) (k l : Kept) (e : Sides) (s : Step) (g : Graph) (view : record { failed = b; table = t; image = image_of k } ≡ g) where

@@ -155,8 +155,8 @@ module _ (k : Kept) (good : Good k) (a b : Applied) (fa : IsFull (nodes_of k) a)
   module _ (r : Rows) (f h : State) (n : ℕ) (runs : Runs f n h) (left : HasNothingLeft h) where
     stood-by : (ps : List Proven) (p : ℕ) → Stands k.proofs x.statement p → ps ≡ k.proofs → model.Unites p (state_in (with_proofs k ps) r) f → adding.Asserts (state_in k r) a b h
     stood-by ps p stood same u =
-        let at : StandsIn (image_of k) (equation_of a b) = stood-in p stood in
-        adding.stands p (at.1, at.2) (subst (λ qs. model.Unites p (state_in (with_proofs k qs) r) f) same u) runs left
+        let n : length (proofs_of k) ≡ length k.proofs = length-proofs_of k in
+        adding.stands p (omega (arith, stood.in_range, n), equation_at-of k.proofs p ∙ ap (λ (s : Statement). s.equation) stood.statement) (subst (λ qs. model.Unites p (state_in (with_proofs k qs) r) f) same u) runs left
 
     new-by : (ps : List Proven) (p : ℕ) → IsNew k.proofs x.statement → p ≡ length k.proofs → ps ≡ k.proofs ++ x ∷ [] → model.Unites p (state_in (with_proofs k ps) r) f → adding.Asserts (state_in k r) a b h
     new-by ps p new last grows u =

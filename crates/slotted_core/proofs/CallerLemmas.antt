@@ -79,12 +79,12 @@ yes_if_closed g h a b y u answer says closed = says.1 (u.together.alike (λ e c 
 -- where no listed symmetry is open, none affects a class
 closed-unaffected : (g : Image) → AreClosed g → {c : ℕ} → ¬ IsAffected g c
 closed-unaffected g closed (by_open_symmetry y listed is_open) = is_open (closed y listed)
-closed-unaffected g closed (by_affected_child i c within child affected) = closed-unaffected g closed affected
+closed-unaffected g closed (by_affected_child i c within under affected) = closed-unaffected g closed affected
 
 -- so there an answer of `eq` is yes exactly if the terms of its two valid ids are equal by what was asserted
 pub exact_if_closed : (g : Image) (a b : Applied) (y : Bool) → IsFull g.canonical a → IsFull g.canonical b → SaysEqual g a b y → IsYesIfEqual g a b y → AreClosed g → IsTrue y ↔ Equal (asserted_in g) (term_of g.canonical a) (term_of g.canonical b)
 exact_if_closed g a b y full_a full_b says complete closed =
-    (says, λ e. elim (complete a b (fills-itself g a full_a) (fills-itself g b full_b) e) [ | inl yes ↦ yes | inr affected ↦ absurd (closed-unaffected g closed affected.0) ])
+    (says, λ e. elim (complete a b (fills-itself g a full_a) (fills-itself g b full_b) e) [ | inl t ↦ t | inr affected ↦ absurd (closed-unaffected g closed affected.0) ])
 
 -- calls that change the table alone, one after another
 

@@ -29,7 +29,7 @@ pub(crate) fn union<L: Language>(
     requires rests { RestsWith store.old nodes.old }
     requires left { IsFull (nodes_of store.old) (to_applied l.now) }
     requires right { IsFull (nodes_of store.old) (to_applied r.now) }
-    ensures ok { IfOk result (UnitesSides store.old nodes.old store.new nodes.new l.now r.now (text_bytes text)) }
+    ensures ok { IfOk result (UnitesSides store.old store.new nodes.new l.now r.now (text_bytes text)) }
     ensures full { IsErrOf result Error.OutOfSlots → HasLargeClassIn (image_of store.old) }
     ensures err { IfErr result IsShortage }
 {

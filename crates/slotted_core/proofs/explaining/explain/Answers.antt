@@ -24,3 +24,12 @@ pub returns-clause-ok : goal.returns-clause-ok
 returns-clause-ok g c =
     explains-some c.args.store.now c.args.nodes.now c.requires.good c.add_expr.new.store c.add_expr.new.nodes c.add_expr-2.new.store c.add_expr-2.new.nodes c.args.left.now c.args.right.now c.add_expr.new.table c.add_expr-2.new.table (to_applied c.in_ok-a.a) (to_applied c.in_ok-b.b) c.in_ok-a.ensures.ok c.in_ok-b.ensures.ok
     (c.eq.ensures.0 c.if-not-eq.false) c.bridge.new.store c.in_ok-answer.answer c.in_ok-answer.ensures.ok
+
+pub returns-then-not-eq-clause-more : goal.returns-then-not-eq-clause-more
+returns-then-not-eq-clause-more g c s h = c.add_expr-2.ensures.more s (c.add_expr.ensures.more s h)
+
+pub returns-in_err-answer-clause-more : goal.returns-in_err-answer-clause-more
+returns-in_err-answer-clause-more g c s h = c.add_expr-2.ensures.more s (c.add_expr.ensures.more s h)
+
+pub returns-clause-more : goal.returns-clause-more
+returns-clause-more g c s h = c.add_expr-2.ensures.more s (c.add_expr.ensures.more s h)

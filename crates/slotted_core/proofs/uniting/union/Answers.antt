@@ -37,9 +37,12 @@ rebuild-requires g c =
     let b = to_applied c.args.r.now in
     let text = text_bytes c.args.text in
     let said = is_asserted k c.requires.good a b c.requires.left c.requires.right text c.assert_equal.new.self c.in_ok-p.p c.in_ok-p.ensures.ok in
-    united-well c.in_ok-p.p c.assert_equal.new.self c.args.nodes.now c.unite.new.store c.unite.new.nodes
-    (asserted-filed k c.requires.good a b c.requires.left c.requires.right text c.args.nodes.now c.requires.rests.filed c.assert_equal.new.self c.in_ok-p.p c.in_ok-p.ensures.ok)
-    said.in_range c.in_ok-unite.ensures.ok
+    record {
+      good =
+          united-well c.in_ok-p.p c.assert_equal.new.self c.args.nodes.now c.unite.new.store c.unite.new.nodes
+          (asserted-filed k c.requires.good a b c.requires.left c.requires.right text c.args.nodes.now c.requires.rests.filed c.assert_equal.new.self c.in_ok-p.p c.in_ok-p.ensures.ok)
+          said.in_range c.in_ok-unite.ensures.ok;
+    }
 
 pub returns-clause-ok : goal.returns-clause-ok
 returns-clause-ok g c =

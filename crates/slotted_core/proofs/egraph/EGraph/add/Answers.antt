@@ -33,5 +33,5 @@ returns-clause-term g c =
 pub add-requires-clause-fresh_slots : goal.add-requires-clause-fresh_slots
 add-requires-clause-fresh_slots g c = elim c.self.invariant [
   | inl h ↦ absurd (false≢true (sym c.if-self.false ∙ h))
-  | inr h ↦ h.1.0
+  | inr h ↦ h.1
 ]

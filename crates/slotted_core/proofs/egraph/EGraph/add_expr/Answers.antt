@@ -31,7 +31,7 @@ returns-clause-found g c =
 pub add_expr-requires-clause-fresh_slots : goal.add_expr-requires-clause-fresh_slots
 add_expr-requires-clause-fresh_slots g c = elim c.self.invariant [
   | inl h ↦ absurd (false≢true (sym c.if-self.false ∙ h))
-  | inr h ↦ h.1.0
+  | inr h ↦ h.1
 ]
 
 pub add_expr-requires-clause-whole : goal.add_expr-requires-clause-whole

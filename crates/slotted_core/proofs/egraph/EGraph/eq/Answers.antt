@@ -102,7 +102,7 @@ returns-clause-complete_equal l c =
     let image : image_of core ≡ g.image = ap (λ (x : Graph). x.image) c.self.view_is in
     let sound = ap (λ (x : Graph). x.failed) c.self.view_is in
     let good : Good core = elim c.self.invariant [ inl h ↦ absurd (false≢true (sym c.if-self.false ∙ h)) | inr h ↦ h.0 ] in
-    let rests : RestsWith core c.self.inside.nodes = elim c.self.invariant [ inl h ↦ absurd (false≢true (sym c.if-self.false ∙ h)) | inr h ↦ h.1.1 ] in
+    let rests : RestsWith core c.self.inside.nodes = elim c.self.invariant [ inl h ↦ absurd (false≢true (sym c.if-self.false ∙ h)) | inr h ↦ h.2 ] in
     let left : IsFindableId g (to_applied c.args.a.now) = elim c.requires.left [ inl h ↦ absurd (false≢true (sym c.if-self.false ∙ (sound ∙ h))) | inr v ↦ v ] in
     let right : IsFindableId g (to_applied c.args.b.now) = elim c.requires.right [ inl h ↦ absurd (false≢true (sym c.if-self.false ∙ (sound ∙ h))) | inr v ↦ v ] in
     (complete-of core c.self.inside.nodes good rests g image (to_applied c.args.a.now) (to_applied c.args.b.now) left right c.eq.result c.eq.ensures).0
@@ -114,7 +114,7 @@ returns-clause-complete l c =
     let image : image_of core ≡ g.image = ap (λ (x : Graph). x.image) c.self.view_is in
     let sound = ap (λ (x : Graph). x.failed) c.self.view_is in
     let good : Good core = elim c.self.invariant [ inl h ↦ absurd (false≢true (sym c.if-self.false ∙ h)) | inr h ↦ h.0 ] in
-    let rests : RestsWith core c.self.inside.nodes = elim c.self.invariant [ inl h ↦ absurd (false≢true (sym c.if-self.false ∙ h)) | inr h ↦ h.1.1 ] in
+    let rests : RestsWith core c.self.inside.nodes = elim c.self.invariant [ inl h ↦ absurd (false≢true (sym c.if-self.false ∙ h)) | inr h ↦ h.2 ] in
     let left : IsFindableId g (to_applied c.args.a.now) = elim c.requires.left [ inl h ↦ absurd (false≢true (sym c.if-self.false ∙ (sound ∙ h))) | inr v ↦ v ] in
     let right : IsFindableId g (to_applied c.args.b.now) = elim c.requires.right [ inl h ↦ absurd (false≢true (sym c.if-self.false ∙ (sound ∙ h))) | inr v ↦ v ] in
     (complete-of core c.self.inside.nodes good rests g image (to_applied c.args.a.now) (to_applied c.args.b.now) left right c.eq.result c.eq.ensures).1

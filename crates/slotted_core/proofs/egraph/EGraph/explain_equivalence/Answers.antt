@@ -7,7 +7,7 @@ use Rattle.slotted_core.proofs.egraph.EGraph.explain_equivalence.Goals as goal
 pub explain-requires-clause-fresh_slots : goal.explain-requires-clause-fresh_slots
 explain-requires-clause-fresh_slots g c = elim c.self.invariant [
   | inl h ↦ absurd (false≢true (sym c.if-self.false ∙ h))
-  | inr h ↦ h.1.0
+  | inr h ↦ h.1
 ]
 
 pub returns-in_err-answer-clause-full : goal.returns-in_err-answer-clause-full

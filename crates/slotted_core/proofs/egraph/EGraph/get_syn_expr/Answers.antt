@@ -11,7 +11,7 @@ use Rattle.slotted_core.proofs.egraph.EGraph.get_syn_expr.Goals as goal
 pub invariant_of-self : goal.invariant_of-self
 invariant_of-self g c = elim c.self.invariant [
   | inl h ↦ inl h
-  | inr h ↦ inr (h.0, fresh_slots-more c.self.inside.table c.syn_expr.new.table c.self.inside.store c.syn_expr.ensures.more h.1.0, h.1.1)
+  | inr h ↦ inr (h.0, fresh_slots-more c.self.inside.table c.syn_expr.new.table c.self.inside.store c.syn_expr.ensures.more h.1, h.2)
 ]
 
 pub returns-clause-valid : goal.returns-clause-valid

@@ -8,7 +8,7 @@ invariant_of-self-2 g c = elim c.self.invariant [
   | inl h ↦ absurd (false≢true (sym c.if-self.false ∙ h))
   | inr h ↦ inr (
     c.in_ok-answer.ensures.ok.good,
-    grown-fresh c.self.inside.table c.self.inside.store c.union.new.store c.in_ok-answer.ensures.ok.nodes h.1.0,
+    grown-fresh c.self.inside.table c.self.inside.store c.union.new.store c.in_ok-answer.ensures.ok.nodes h.1,
     c.in_ok-answer.ensures.ok.rests,
   )
 ]

@@ -28,7 +28,7 @@ returns-clause-accepted g c =
     let t = c.graph.inside.table in
     let r = c.check_reflexive.result in
     let l = c.check_reflexive.new.store in
-    let h : Good k × HasFreshSlots t k = elim c.graph.invariant [ inl h ↦ absurd (false≢true (sym c.if-graph.false ∙ h)) | inr h ↦ (h.0, h.1.0) ] in
+    let h : Good k × HasFreshSlots t k = elim c.graph.invariant [ inl h ↦ absurd (false≢true (sym c.if-graph.false ∙ h)) | inr h ↦ (h.0, h.1) ] in
     let checked = both_ok r (λ p. IsOfFull (nodes_of k) e × IsReflexiveStep e) (EntersIn k l (by_step (statement_of e) (reflexive))) (Checked t k l e (reflexive)) (λ p f x. reflexive_checked t k l e p h.0 f x) c.check_reflexive.ensures.fits c.check_reflexive.ensures.ok in
     says_accepted r c.graph.inside.failed t k l e (reflexive) c.args.graph.now c.graph.view_is checked
 
@@ -39,7 +39,7 @@ returns-clause-derivable g c =
     let t = c.graph.inside.table in
     let r = c.check_reflexive.result in
     let l = c.check_reflexive.new.store in
-    let h : Good k × HasFreshSlots t k = elim c.graph.invariant [ inl h ↦ absurd (false≢true (sym c.if-graph.false ∙ h)) | inr h ↦ (h.0, h.1.0) ] in
+    let h : Good k × HasFreshSlots t k = elim c.graph.invariant [ inl h ↦ absurd (false≢true (sym c.if-graph.false ∙ h)) | inr h ↦ (h.0, h.1) ] in
     let checked = both_ok r (λ p. IsOfFull (nodes_of k) e × IsReflexiveStep e) (EntersIn k l (by_step (statement_of e) (reflexive))) (Checked t k l e (reflexive)) (λ p f x. reflexive_checked t k l e p h.0 f x) c.check_reflexive.ensures.fits c.check_reflexive.ensures.ok in
     says_derivable r c.graph.inside.failed t k l e (reflexive) c.args.graph.now c.graph.view_is checked
 
@@ -50,6 +50,6 @@ returns-clause-leaves g c =
     let t = c.graph.inside.table in
     let r = c.check_reflexive.result in
     let l = c.check_reflexive.new.store in
-    let h : Good k × HasFreshSlots t k = elim c.graph.invariant [ inl h ↦ absurd (false≢true (sym c.if-graph.false ∙ h)) | inr h ↦ (h.0, h.1.0) ] in
+    let h : Good k × HasFreshSlots t k = elim c.graph.invariant [ inl h ↦ absurd (false≢true (sym c.if-graph.false ∙ h)) | inr h ↦ (h.0, h.1) ] in
     let checked = both_ok r (λ p. IsOfFull (nodes_of k) e × IsReflexiveStep e) (EntersIn k l (by_step (statement_of e) (reflexive))) (Checked t k l e (reflexive)) (λ p f x. reflexive_checked t k l e p h.0 f x) c.check_reflexive.ensures.fits c.check_reflexive.ensures.ok in
     says_leaves r c.graph.inside.failed t k l e (reflexive) c.args.graph.now c.graph.view_is checked

@@ -28,7 +28,7 @@ returns-clause-fits g c =
     let t = c.graph.inside.table in
     let r = c.check_symmetric.result in
     let l = c.check_symmetric.new.store in
-    let h : Good k × HasFreshSlots t k = elim c.graph.invariant [ inl h ↦ absurd (false≢true (sym c.if-graph.false ∙ h)) | inr h ↦ (h.0, h.1.0) ] in
+    let h : Good k × HasFreshSlots t k = elim c.graph.invariant [ inl h ↦ absurd (false≢true (sym c.if-graph.false ∙ h)) | inr h ↦ (h.0, h.1) ] in
     let checked = both_ok r (λ p. IsOfFull (nodes_of k) e × IsSymmetricStep k.proofs e c.args.self.now.0) (EntersIn k l (by_step (statement_of e) (symmetric c.args.self.now.0))) (Checked t k l e (symmetric c.args.self.now.0)) (λ p f x. symmetric_checked t k l e c.args.self.now.0 p h.0 f x) c.check_symmetric.ensures.fits c.check_symmetric.ensures.ok in
     says_fits r c.graph.inside.failed t k l e (symmetric c.args.self.now.0) c.args.graph.now c.graph.view_is checked
 
@@ -39,7 +39,7 @@ returns-clause-refused g c =
     let t = c.graph.inside.table in
     let r = c.check_symmetric.result in
     let l = c.check_symmetric.new.store in
-    let h : Good k × HasFreshSlots t k = elim c.graph.invariant [ inl h ↦ absurd (false≢true (sym c.if-graph.false ∙ h)) | inr h ↦ (h.0, h.1.0) ] in
+    let h : Good k × HasFreshSlots t k = elim c.graph.invariant [ inl h ↦ absurd (false≢true (sym c.if-graph.false ∙ h)) | inr h ↦ (h.0, h.1) ] in
     let checked = both_ok r (λ p. IsOfFull (nodes_of k) e × IsSymmetricStep k.proofs e c.args.self.now.0) (EntersIn k l (by_step (statement_of e) (symmetric c.args.self.now.0))) (Checked t k l e (symmetric c.args.self.now.0)) (λ p f x. symmetric_checked t k l e c.args.self.now.0 p h.0 f x) c.check_symmetric.ensures.fits c.check_symmetric.ensures.ok in
     says_refused r c.graph.inside.failed t k l e (symmetric c.args.self.now.0) c.args.graph.now c.graph.view_is (λ b. symmetric_refused k e c.args.self.now.0 h.0 (c.check_symmetric.ensures.refused b))
 
@@ -50,7 +50,7 @@ returns-clause-accepted g c =
     let t = c.graph.inside.table in
     let r = c.check_symmetric.result in
     let l = c.check_symmetric.new.store in
-    let h : Good k × HasFreshSlots t k = elim c.graph.invariant [ inl h ↦ absurd (false≢true (sym c.if-graph.false ∙ h)) | inr h ↦ (h.0, h.1.0) ] in
+    let h : Good k × HasFreshSlots t k = elim c.graph.invariant [ inl h ↦ absurd (false≢true (sym c.if-graph.false ∙ h)) | inr h ↦ (h.0, h.1) ] in
     let checked = both_ok r (λ p. IsOfFull (nodes_of k) e × IsSymmetricStep k.proofs e c.args.self.now.0) (EntersIn k l (by_step (statement_of e) (symmetric c.args.self.now.0))) (Checked t k l e (symmetric c.args.self.now.0)) (λ p f x. symmetric_checked t k l e c.args.self.now.0 p h.0 f x) c.check_symmetric.ensures.fits c.check_symmetric.ensures.ok in
     says_accepted r c.graph.inside.failed t k l e (symmetric c.args.self.now.0) c.args.graph.now c.graph.view_is checked
 
@@ -61,7 +61,7 @@ returns-clause-derivable g c =
     let t = c.graph.inside.table in
     let r = c.check_symmetric.result in
     let l = c.check_symmetric.new.store in
-    let h : Good k × HasFreshSlots t k = elim c.graph.invariant [ inl h ↦ absurd (false≢true (sym c.if-graph.false ∙ h)) | inr h ↦ (h.0, h.1.0) ] in
+    let h : Good k × HasFreshSlots t k = elim c.graph.invariant [ inl h ↦ absurd (false≢true (sym c.if-graph.false ∙ h)) | inr h ↦ (h.0, h.1) ] in
     let checked = both_ok r (λ p. IsOfFull (nodes_of k) e × IsSymmetricStep k.proofs e c.args.self.now.0) (EntersIn k l (by_step (statement_of e) (symmetric c.args.self.now.0))) (Checked t k l e (symmetric c.args.self.now.0)) (λ p f x. symmetric_checked t k l e c.args.self.now.0 p h.0 f x) c.check_symmetric.ensures.fits c.check_symmetric.ensures.ok in
     says_derivable r c.graph.inside.failed t k l e (symmetric c.args.self.now.0) c.args.graph.now c.graph.view_is checked
 
@@ -72,6 +72,6 @@ returns-clause-leaves g c =
     let t = c.graph.inside.table in
     let r = c.check_symmetric.result in
     let l = c.check_symmetric.new.store in
-    let h : Good k × HasFreshSlots t k = elim c.graph.invariant [ inl h ↦ absurd (false≢true (sym c.if-graph.false ∙ h)) | inr h ↦ (h.0, h.1.0) ] in
+    let h : Good k × HasFreshSlots t k = elim c.graph.invariant [ inl h ↦ absurd (false≢true (sym c.if-graph.false ∙ h)) | inr h ↦ (h.0, h.1) ] in
     let checked = both_ok r (λ p. IsOfFull (nodes_of k) e × IsSymmetricStep k.proofs e c.args.self.now.0) (EntersIn k l (by_step (statement_of e) (symmetric c.args.self.now.0))) (Checked t k l e (symmetric c.args.self.now.0)) (λ p f x. symmetric_checked t k l e c.args.self.now.0 p h.0 f x) c.check_symmetric.ensures.fits c.check_symmetric.ensures.ok in
     says_leaves r c.graph.inside.failed t k l e (symmetric c.args.self.now.0) c.args.graph.now c.graph.view_is checked

@@ -28,7 +28,7 @@ returns-clause-fits g c =
     let t = c.graph.inside.table in
     let r = c.check_transitive.result in
     let l = c.check_transitive.new.store in
-    let h : Good k × HasFreshSlots t k = elim c.graph.invariant [ inl h ↦ absurd (false≢true (sym c.if-graph.false ∙ h)) | inr h ↦ (h.0, h.1.0) ] in
+    let h : Good k × HasFreshSlots t k = elim c.graph.invariant [ inl h ↦ absurd (false≢true (sym c.if-graph.false ∙ h)) | inr h ↦ (h.0, h.1) ] in
     let checked = both_ok r (λ p. IsOfFull (nodes_of k) e × IsTransitiveStep k.proofs e c.args.self.now.0 c.args.self.now.1) (EntersIn k l (by_step (statement_of e) (transitive c.args.self.now.0 c.args.self.now.1))) (Checked t k l e (transitive c.args.self.now.0 c.args.self.now.1)) (λ p f x. transitive_checked t k l e c.args.self.now.0 c.args.self.now.1 p h.0 f x) c.check_transitive.ensures.fits c.check_transitive.ensures.ok in
     says_fits r c.graph.inside.failed t k l e (transitive c.args.self.now.0 c.args.self.now.1) c.args.graph.now c.graph.view_is checked
 
@@ -39,7 +39,7 @@ returns-clause-refused g c =
     let t = c.graph.inside.table in
     let r = c.check_transitive.result in
     let l = c.check_transitive.new.store in
-    let h : Good k × HasFreshSlots t k = elim c.graph.invariant [ inl h ↦ absurd (false≢true (sym c.if-graph.false ∙ h)) | inr h ↦ (h.0, h.1.0) ] in
+    let h : Good k × HasFreshSlots t k = elim c.graph.invariant [ inl h ↦ absurd (false≢true (sym c.if-graph.false ∙ h)) | inr h ↦ (h.0, h.1) ] in
     let checked = both_ok r (λ p. IsOfFull (nodes_of k) e × IsTransitiveStep k.proofs e c.args.self.now.0 c.args.self.now.1) (EntersIn k l (by_step (statement_of e) (transitive c.args.self.now.0 c.args.self.now.1))) (Checked t k l e (transitive c.args.self.now.0 c.args.self.now.1)) (λ p f x. transitive_checked t k l e c.args.self.now.0 c.args.self.now.1 p h.0 f x) c.check_transitive.ensures.fits c.check_transitive.ensures.ok in
     says_refused r c.graph.inside.failed t k l e (transitive c.args.self.now.0 c.args.self.now.1) c.args.graph.now c.graph.view_is (λ b. transitive_refused k e c.args.self.now.0 c.args.self.now.1 h.0 (c.check_transitive.ensures.refused b))
 
@@ -50,7 +50,7 @@ returns-clause-accepted g c =
     let t = c.graph.inside.table in
     let r = c.check_transitive.result in
     let l = c.check_transitive.new.store in
-    let h : Good k × HasFreshSlots t k = elim c.graph.invariant [ inl h ↦ absurd (false≢true (sym c.if-graph.false ∙ h)) | inr h ↦ (h.0, h.1.0) ] in
+    let h : Good k × HasFreshSlots t k = elim c.graph.invariant [ inl h ↦ absurd (false≢true (sym c.if-graph.false ∙ h)) | inr h ↦ (h.0, h.1) ] in
     let checked = both_ok r (λ p. IsOfFull (nodes_of k) e × IsTransitiveStep k.proofs e c.args.self.now.0 c.args.self.now.1) (EntersIn k l (by_step (statement_of e) (transitive c.args.self.now.0 c.args.self.now.1))) (Checked t k l e (transitive c.args.self.now.0 c.args.self.now.1)) (λ p f x. transitive_checked t k l e c.args.self.now.0 c.args.self.now.1 p h.0 f x) c.check_transitive.ensures.fits c.check_transitive.ensures.ok in
     says_accepted r c.graph.inside.failed t k l e (transitive c.args.self.now.0 c.args.self.now.1) c.args.graph.now c.graph.view_is checked
 
@@ -61,7 +61,7 @@ returns-clause-derivable g c =
     let t = c.graph.inside.table in
     let r = c.check_transitive.result in
     let l = c.check_transitive.new.store in
-    let h : Good k × HasFreshSlots t k = elim c.graph.invariant [ inl h ↦ absurd (false≢true (sym c.if-graph.false ∙ h)) | inr h ↦ (h.0, h.1.0) ] in
+    let h : Good k × HasFreshSlots t k = elim c.graph.invariant [ inl h ↦ absurd (false≢true (sym c.if-graph.false ∙ h)) | inr h ↦ (h.0, h.1) ] in
     let checked = both_ok r (λ p. IsOfFull (nodes_of k) e × IsTransitiveStep k.proofs e c.args.self.now.0 c.args.self.now.1) (EntersIn k l (by_step (statement_of e) (transitive c.args.self.now.0 c.args.self.now.1))) (Checked t k l e (transitive c.args.self.now.0 c.args.self.now.1)) (λ p f x. transitive_checked t k l e c.args.self.now.0 c.args.self.now.1 p h.0 f x) c.check_transitive.ensures.fits c.check_transitive.ensures.ok in
     says_derivable r c.graph.inside.failed t k l e (transitive c.args.self.now.0 c.args.self.now.1) c.args.graph.now c.graph.view_is checked
 
@@ -72,6 +72,6 @@ returns-clause-leaves g c =
     let t = c.graph.inside.table in
     let r = c.check_transitive.result in
     let l = c.check_transitive.new.store in
-    let h : Good k × HasFreshSlots t k = elim c.graph.invariant [ inl h ↦ absurd (false≢true (sym c.if-graph.false ∙ h)) | inr h ↦ (h.0, h.1.0) ] in
+    let h : Good k × HasFreshSlots t k = elim c.graph.invariant [ inl h ↦ absurd (false≢true (sym c.if-graph.false ∙ h)) | inr h ↦ (h.0, h.1) ] in
     let checked = both_ok r (λ p. IsOfFull (nodes_of k) e × IsTransitiveStep k.proofs e c.args.self.now.0 c.args.self.now.1) (EntersIn k l (by_step (statement_of e) (transitive c.args.self.now.0 c.args.self.now.1))) (Checked t k l e (transitive c.args.self.now.0 c.args.self.now.1)) (λ p f x. transitive_checked t k l e c.args.self.now.0 c.args.self.now.1 p h.0 f x) c.check_transitive.ensures.fits c.check_transitive.ensures.ok in
     says_leaves r c.graph.inside.failed t k l e (transitive c.args.self.now.0 c.args.self.now.1) c.args.graph.now c.graph.view_is checked
