@@ -2,8 +2,8 @@ use Rattle.slotted_rebuilding.proofs.Collisions.{children-within}
 use Rattle.slotted_rebuilding.proofs.NewestClasses.{filed-quietly, filed-waiting, is-filed, newest-place, newest-unfiled, newest-within}
 use Rattle.slotted_rebuilding.proofs.newest.file.Goals as goal
 
-pub is_covered-requires-clause-within : goal.is_covered-requires-clause-within
-is_covered-requires-clause-within g c = newest-within c.args.store.now c.args.nodes.now c.args.class c.requires.newest
+pub is_covered-covered-requires-clause-within : goal.is_covered-covered-requires-clause-within
+is_covered-covered-requires-clause-within g c = newest-within c.args.store.now c.args.nodes.now c.args.class c.requires.newest
 
 pub file-requires-clause-within : goal.file-requires-clause-within
 file-requires-clause-within g c = newest-place c.args.store.now c.args.nodes.now c.args.class c.requires.newest
