@@ -1,5 +1,5 @@
 -- The row of a class that has none: where no other row has its shape, a graph stays sane with it, while the class waits.
-use Rattle.std.proofs.Common.{◌≡◌, ◌≢◌, ℕ, ◌<◌, ◌∷◌, length, sym, ◌∙◌, ap, refl, subst, inl, inr}
+use Rattle.std.proofs.Common.{◌≢◌, ℕ, ◌<◌, ◌∷◌, length, sym, ◌∙◌, ap, refl, subst, inl, inr}
 use Rattle.std.specs.Prelude.{Contains}
 use Rattle.slotted_theory.specs.Shape.{shape}
 use Rattle.slotted_theory.proofs.Lists.{contains_head, contains_tail, contains_cases}

@@ -39,8 +39,8 @@ fn join<L: Language>(
     Ok(())
 }
 
-// The node of the newest class is filed by its key, which no class has. Where it lacks a slot of the class, the class waits to
-// be narrowed.
+// The node of the newest class is filed by its key, which no class has. Where it lacks a slot of the class, the class
+// waits to be narrowed.
 fn file<L: Language>(
     store: &Store<L>,
     nodes: &mut Hashcons<L>,
@@ -81,8 +81,8 @@ fn join_or_file<L: Language>(
     }
 }
 
-/// The newest class is filed by its node in normal form, so that it is found by it; where another class has that node, the two
-/// are united. Then all is rebuilt.
+/// The newest class is filed by its node in normal form, so that it is found by it; where another class has that
+/// node, the two are united. Then all is rebuilt.
 pub fn file_newest<L: Language>(
     store: &mut Store<L>,
     nodes: &mut Hashcons<L>,
