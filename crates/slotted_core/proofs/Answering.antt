@@ -1,9 +1,8 @@
 -- What a yes says: the ids find alike, the terms of all ids that fill them are derivable, and where nothing is asserted they are the same.
-use Rattle.std.proofs.Common.{◌≡◌, ◌↔◌, ◌<◌, [], length, sym, ◌∙◌, arith, subst}
+use Rattle.std.proofs.Common.{◌≡◌, ◌↔◌, [], sym, ◌∙◌, subst}
 use Rattle.std.specs.Prelude.{Bool, IsTrue}
 use Rattle.slotted_theory.specs.Nameless.{DTerm}
 use Rattle.slotted_theory.specs.Derives.{Equal}
-use Rattle.slotted_theory.proofs.Lists.{Contains-nil}
 use Rattle.slotted_model.specs.Applied.{Applied}
 use Rattle.slotted_model.specs.Classes.{term_of}
 use Rattle.slotted_model.specs.Filling.{IsFilling}
@@ -11,14 +10,13 @@ use Rattle.slotted_model.specs.Find.{find, used_slots}
 use Rattle.slotted_model.proofs.FindProofs.{found_alike-equal, found_alike-derivable}
 use Rattle.slotted_model.proofs.Fillings.{term_of-filling}
 use Rattle.slotted_model.proofs.NothingAsserted.{nothing-alpha, nothing-full}
-use Rattle.slotted_core.specs.Findable.{IsFindableId, Fills, SaysFillingsEqual, LackNothing}
+use Rattle.slotted_core.specs.Findable.{IsFindableId, SaysFillingsEqual, LackNothing}
 use Rattle.slotted_core.specs.Graph.{Graph}
 use Rattle.slotted_core.specs.Image.{Image, found_id, FoundAlike, asserted_in, AreDerivable}
 use Rattle.slotted_store.specs.Finding.{IsFindable}
 use Rattle.slotted_store.specs.Kept.{Kept, nodes_of, entries_of, proofs_of}
 use Rattle.slotted_core.specs.Good.{image_of, Good}
-use Rattle.slotted_store.proofs.KeptLists.{length-nodes_of}
-use Rattle.slotted_core.proofs.FindableIds.{of-findable}
+use Rattle.slotted_core.proofs.FindableIds.{of-findable, findable-within, fills-filling}
 use Rattle.slotted_core.proofs.Images.{found_id-is}
 
 -- what a contract says of the answer
@@ -31,13 +29,10 @@ pub record Says (g : Image) (a b : Applied) (y : Bool) : Type 0 where
   pub whole : LackNothing g a b
 
 module _ (k : Kept) (good : Good k) (a b : Applied) (fa : IsFindable k a) (fb : IsFindable k b) where
-  within : (c : Applied) → IsFindable k c → c.0 < length k.classes
-  within c v = let n : length (nodes_of k) ≡ length k.classes = length-nodes_of k in let m : c.0 < length (nodes_of k) = v.in_range in omega arith
-
   pub alike-iff : (find (entries_of k) a ≡ find (entries_of k) b) ↔ FoundAlike (image_of k) a b
   alike-iff =
-      let ea : found_id (image_of k) a ≡ find (entries_of k) a = found_id-is k a (within a fa) in
-      let eb : found_id (image_of k) b ≡ find (entries_of k) b = found_id-is k b (within b fb) in
+      let ea : found_id (image_of k) a ≡ find (entries_of k) a = found_id-is k a (findable-within k a fa) in
+      let eb : found_id (image_of k) b ≡ find (entries_of k) b = found_id-is k b (findable-within k b fb) in
       (λ e. ea ∙ (e ∙ sym eb), λ e. sym ea ∙ (e ∙ eb))
 
   -- two ids that fill them
@@ -48,9 +43,6 @@ module _ (k : Kept) (good : Good k) (a b : Applied) (fa : IsFindable k a) (fb : 
     filled-derivable : AreDerivable (image_of k) left right
     filled-derivable E t u listed et eu =
         found_alike-derivable (nodes_of k) good.stored.sane.sound.canonical (entries_of k) (proofs_of k) good.stored.sane.sound.linked good.stored.sane.sound.proved good.stored.sane.sound.exact a b left right [] [] fa fb e fl fr E t u listed et eu
-
-  filling : (c d : Applied) → Fills (image_of k) c d → IsFilling (nodes_of k) [] c d
-  filling c d f = record { class = f.class; full = f.full; keeps = f.keeps; fresh = λ s x h n m. Contains-nil x m }
 
   -- what they stand for is what some such ids stand for
   alike-equal : find (entries_of k) a ≡ find (entries_of k) b → Equal (asserted_in (image_of k)) (term_of (nodes_of k) a) (term_of (nodes_of k) b)
@@ -78,7 +70,7 @@ module _ (k : Kept) (good : Good k) (a b : Applied) (fa : IsFindable k a) (fb : 
   pub says : (y : Bool) → (IsTrue y ↔ (find (entries_of k) a ≡ find (entries_of k) b)) → Says (image_of k) a b y
   says y i = record {
     found = (λ h. alike-iff.0 (i.0 h), λ e. i.1 (alike-iff.1 e));
-    filled = λ h left right fl fr. let fl' = filling a left fl in let fr' = filling b right fr in (filled-equal (i.0 h) left right fl' fr', filled-derivable (i.0 h) left right fl' fr');
+    filled = λ h left right fl fr. let fl' = fills-filling k a left fl in let fr' = fills-filling k b right fr in (filled-equal (i.0 h) left right fl' fr', filled-derivable (i.0 h) left right fl' fr');
     equal = λ h. alike-equal (i.0 h);
     derivable = λ h. alike-derivable (i.0 h);
     terms = λ none. let t = alike-terms none in (λ h. t.0 (i.0 h), λ e. i.1 (t.1 e));

@@ -1,8 +1,10 @@
 -- Ids that may lack names, as contracts see them and as what is kept has them.
-use Rattle.std.proofs.Common.{◌≡◌, ◌<◌, List, length, sym, ap, subst, arith}
+use Rattle.std.proofs.Common.{◌≡◌, ◌<◌, List, [], length, sym, ap, subst, arith}
 use Rattle.std.specs.Prelude.{Contains}
 use Rattle.std.specs.Map.{values_of}
+use Rattle.slotted_theory.proofs.Lists.{Contains-nil}
 use Rattle.slotted_model.specs.Applied.{Applied, values}
+use Rattle.slotted_model.specs.Filling.{IsFilling}
 use Rattle.slotted_model.specs.Find.{Entry, find_map}
 use Rattle.slotted_model.proofs.Correspondences.Pairs.{Contains-of_value}
 use Rattle.slotted_model.proofs.Finding.{leads, find_map-partial}
@@ -11,11 +13,19 @@ use Rattle.slotted_terms.specs.Valid.{AllKnown}
 use Rattle.slotted_store.specs.Finding.{IsFindable}
 use Rattle.slotted_store.specs.Kept.{Kept, nodes_of, entries_of}
 use Rattle.slotted_store.proofs.KeptLists.{length-nodes_of}
-use Rattle.slotted_core.specs.Findable.{IsFindableId, slots_left}
+use Rattle.slotted_core.specs.Findable.{IsFindableId, slots_left, Fills}
 use Rattle.slotted_core.specs.Good.{Good, image_of}
 use Rattle.slotted_core.specs.Graph.{Graph}
 use Rattle.slotted_core.specs.Image.{Image}
 use Rattle.slotted_core.proofs.Images.{found-at}
+
+-- an id that finds is of a class
+pub findable-within : (k : Kept) (a : Applied) → IsFindable k a → a.0 < length k.classes
+findable-within k a v = let n : length (nodes_of k) ≡ length k.classes = length-nodes_of k in let m : a.0 < length (nodes_of k) = v.in_range in omega arith
+
+-- an id that fills another one does so in the mathematics
+pub fills-filling : (k : Kept) (a b : Applied) → Fills (image_of k) a b → IsFilling (nodes_of k) [] a b
+fills-filling k a b f = record { class = f.class; full = f.full; keeps = f.keeps; fresh = λ s x h n m. Contains-nil x m }
 
 module _ (k : Kept) (good : Good k) (g : Graph) (image : image_of k ≡ g.image) (a : Applied) where
   abbrev found : List Entry

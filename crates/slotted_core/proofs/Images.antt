@@ -8,6 +8,7 @@ use Rattle.slotted_model.specs.Find.{Entry, find_class, find_map, find}
 use Rattle.slotted_model.specs.Growth.{Extends}
 use Rattle.slotted_model.specs.ProofList.{ProofEntry}
 use Rattle.slotted_proofs.specs.Entries.{Proven}
+use Rattle.slotted_core.specs.Causes.{class_found}
 use Rattle.slotted_core.specs.Image.{Image, AddsClasses, found_id}
 use Rattle.slotted_store.specs.Kept.{Kept, entries_of, proofs_of}
 use Rattle.slotted_core.specs.Good.{image_of, finds_from}
@@ -54,3 +55,7 @@ found-at k i l =
 -- an id finds what the entries say
 pub found_id-is : (k : Kept) (a : Applied) → a.0 < length k.classes → found_id (image_of k) a ≡ find (entries_of k) a
 found_id-is k a l = let e = found-at k a.0 l in λ i. ((e i).0, composite (e i).1 a.1)
+
+-- and so does a class
+pub class_found-is : (k : Kept) (i : ℕ) → i < length k.classes → class_found (image_of k) i ≡ find_class (entries_of k) i
+class_found-is k i l = ap (λ (a : Applied). a.0) (found-at k i l)

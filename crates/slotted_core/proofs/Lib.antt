@@ -32,3 +32,5 @@ pub mod TermSlots
 pub mod GivenNodes
 pub mod Binders
 pub mod ListedOnce
+pub mod AffectedClasses
+pub mod Completeness

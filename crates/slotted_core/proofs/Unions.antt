@@ -36,7 +36,7 @@ use Rattle.slotted_core.specs.Good.{Good, HasFreshSlots, Unites, image_of}
 use Rattle.slotted_core.specs.Image.{Asserts, AreTogether, Continues, FoundAlike, SameNames, asserted_in, found_id, live_size}
 use Rattle.slotted_core.proofs.Asserting.{IsAsserted}
 use Rattle.slotted_core.proofs.EntryTexts.{records-more}
-use Rattle.slotted_core.proofs.Images.{found_id-is}
+use Rattle.slotted_core.proofs.Images.{found_id-is, class_found-is}
 use Rattle.slotted_core.proofs.LiveSizes.{live_size-is}
 use Rattle.slotted_core.proofs.RowLookUps.{node_in}
 use Rattle.slotted_core.proofs.Symmetries.{none_open}
@@ -204,10 +204,6 @@ unites-fresh t k l e h i s r c =
     let n : length l.classes ≡ length k.classes = sym (length-nodes_of l) ∙ (ap length e ∙ length-nodes_of k) in
     h i s (omega arith) (subst (λ (ns : List DTerm). Contains (canonical_slots ns i) s) e c)
 
--- the class that a class finds, as contracts see it
-class-is : (k : Kept) (i : ℕ) → i < length k.classes → class_found (image_of k) i ≡ find_class (entries_of k) i
-class-is k i h = ap (λ (a : Applied). a.0) (found_id-is k (i, []) h)
-
 within-old : (k : Kept) (a : Applied) → IsFull (nodes_of k) a → a.0 < length k.classes
 within-old k a full = let h : a.0 < length (nodes_of k) = full.in_range in let n : length (nodes_of k) ≡ length k.classes = length-nodes_of k in omega arith
 
@@ -215,12 +211,12 @@ within-old k a full = let h : a.0 < length (nodes_of k) = full.in_range in let n
 pub large-of : (k : Kept) (a b : Applied) → IsFull (nodes_of k) a → IsFull (nodes_of k) b → unions.HasLargeClassOf k a.0 b.0 → HasLargeClassOf (image_of k) a b
 large-of k a b fa fb h =
     let n : length (nodes_of k) ≡ length k.classes = length-nodes_of k in
-    let here : class_found (image_of k) h.0 ≡ find_class (entries_of k) h.0 = class-is k h.0 h.1 in (
+    let here : class_found (image_of k) h.0 ≡ find_class (entries_of k) h.0 = class_found-is k h.0 h.1 in (
       h.0,
       omega (arith, h.1, n),
       elim h.2 [
-        | inl e ↦ inl (here ∙ (e ∙ sym (class-is k a.0 (within-old k a fa))))
-        | inr e ↦ inr (here ∙ (e ∙ sym (class-is k b.0 (within-old k b fb))))
+        | inl e ↦ inl (here ∙ (e ∙ sym (class_found-is k a.0 (within-old k a fa))))
+        | inr e ↦ inr (here ∙ (e ∙ sym (class_found-is k b.0 (within-old k b fb))))
       ],
       h.3,
     )

@@ -9,6 +9,7 @@ pub mod Findable
 pub mod Reads
 pub mod Canonical
 pub mod Causes
+pub mod Affected
 pub mod Checks
 pub mod Good
 pub mod SmallNodes
