@@ -1,25 +1,23 @@
 -- What an id finds.
-use Rattle.std.proofs.Common.{◌≡◌, ◌<◌, ℕ, List, length, sym, subst, arith}
+use Rattle.std.proofs.Common.{◌≡◌, ◌<◌, ◌∙◌, ℕ, List, length, ap, sym, subst, arith}
 use Rattle.std.specs.Map.{values_of}
 use Rattle.std.specs.Prelude.{Contains}
 use Rattle.slotted_theory.specs.Nameless.{DTerm}
-use Rattle.slotted_model.specs.Applied.{Applied}
+use Rattle.slotted_model.specs.Applied.{Applied, keys, values}
 use Rattle.slotted_model.specs.Ascending.{IsAscending}
 use Rattle.slotted_model.specs.Classes.{canonical_slots}
 use Rattle.slotted_model.specs.Correspondence.{identity}
-use Rattle.slotted_model.specs.Find.{Entry, find, find_class, find_map, used_slots}
-use Rattle.slotted_model.specs.Growth.{identity_id}
+use Rattle.slotted_model.specs.Find.{Entry, IsLive, entry_at, find, find_class, find_map, used_slots}
 use Rattle.slotted_model.proofs.Correspondences.Pairs.{Contains-of_value}
-use Rattle.slotted_model.proofs.Correspondences.PartialInjections.{composite-identity}
-use Rattle.slotted_model.proofs.Finding.{find_map-partial, leads}
+use Rattle.slotted_model.proofs.Finding.{Leads, find_map-full, find_map-partial, found-in_range, found-live, leads, slots-ascending}
 use Rattle.slotted_model.proofs.Maps.{IsInjectiveMap-map_on}
-use Rattle.slotted_model.proofs.NormalIds.{found-again, found-class_live, found-renamed, found-slots, found-valid, full-is_valid, keys-identity, of_used}
+use Rattle.slotted_model.proofs.NormalIds.{found-again, found-class_live, found-renamed, found-slots, found-valid, keys-identity, of_used, values-identity}
+use Rattle.slotted_model.proofs.Ordered.{in_order-ascending}
 use Rattle.slotted_model.proofs.RenamedIds.{valid-renamed}
 use Rattle.slotted_model.proofs.Sets.{IsAscending-ascending}
-use Rattle.slotted_model.proofs.UpTo.{identity-full}
 use Rattle.slotted_store.specs.Finding.{HasFinds, IsFindable}
-use Rattle.slotted_store.specs.Kept.{Kept, nodes_of, entries_of}
-use Rattle.slotted_store.proofs.KeptLists.{length-nodes_of}
+use Rattle.slotted_store.specs.Kept.{Kept, find_at, nodes_of, entries_of}
+use Rattle.slotted_store.proofs.KeptLists.{entry_at-of, length-nodes_of}
 use Rattle.slotted_adding.specs.LookUp.{IsFoundFor}
 
 pub found-for : (k : Kept) → HasFinds k → (a : Applied) → IsFindable k a → IsFoundFor k a (find (entries_of k) a)
@@ -35,22 +33,30 @@ found-for k good a valid =
       renamed = λ f inj. (valid-renamed (used_slots found) nodes f inj a valid, found-renamed found f a);
     }
 
--- a class with its canonical slots as names
 module _ (k : Kept) (good : HasFinds k) (i : ℕ) (within : i < length k.classes) where
   in_nodes : i < length (nodes_of k)
   in_nodes = omega (arith, within, length-nodes_of k)
 
-  pub own-findable : IsFindable k (identity_id (nodes_of k) i)
-  own-findable = full-is_valid (nodes_of k) (entries_of k) good.linked (identity_id (nodes_of k) i) (identity-full (nodes_of k) i in_nodes)
+  abbrev L : Leads (nodes_of k) (entries_of k)
+  L = leads (nodes_of k) (entries_of k) good.linked
 
-  pub own-found : find (entries_of k) (identity_id (nodes_of k) i) ≡ (find_class (entries_of k) i, find_map (entries_of k) i)
-  own-found =
+  pub map-rises : IsAscending (keys (find_map (entries_of k) i))
+  map-rises =
+      let P : List ℕ = canonical_slots (nodes_of k) (find_class (entries_of k) i) in
+      in_order-ascending P (find_map (entries_of k) i) (slots-ascending (nodes_of k) (find_class (entries_of k) i)) (find_map-partial (nodes_of k) (entries_of k) L i in_nodes).in_order
+
+  -- a find has a pair for each slot of the class that is found, whose entry pairs it with itself
+  pub found-keys : (c : ℕ) → c ≡ find_class (entries_of k) i → (m : List (ℕ × ℕ)) → m ≡ (find_at k c).pairs → values m ≡ keys (find_map (entries_of k) i)
+  found-keys c e m is =
       let nodes : List DTerm = nodes_of k in
       let found : List Entry = entries_of k in
-      let whole = composite-identity (canonical_slots nodes (find_class found i)) (canonical_slots nodes i) (find_map found i) (find_map-partial nodes found (leads nodes found good.linked) i in_nodes) in
-      λ j. (find_class found i, whole j)
+      let d : ℕ = find_class found i in
+      let lives : IsLive found d = found-live nodes found L i in_nodes in
+      let K : List ℕ = keys (entry_at found d).pairs in
+      ap values (is ∙ (ap (λ n. (find_at k n).pairs) e ∙ ap (λ (x : Entry). x.pairs) (sym (entry_at-of k d))))
+      ∙ (ap values (good.linked.live d (found-in_range nodes found L i in_nodes) lives) ∙ (values-identity K ∙ sym (find_map-full nodes found good.linked i in_nodes).slots))
 
-  -- and with those that finds still use
+  -- a class with the slots that finds still use as names
   pub used-findable : IsFindable k (i, identity (used_slots (entries_of k) i))
   used-findable =
       let nodes : List DTerm = nodes_of k in
@@ -64,5 +70,5 @@ module _ (k : Kept) (good : HasFinds k) (i : ℕ) (within : i < length k.classes
         has_slots = λ s c. subst (λ xs. Contains xs s) (sym (keys-identity S)) c;
         within = λ s c.
             let p = Contains-of_value (find_map found i) s (of_used found i s (subst (λ xs. Contains xs s) (keys-identity S) c)) in
-            (find_map-partial nodes found (leads nodes found good.linked) i in_nodes).within p.0 s p.1;
+            (find_map-partial nodes found L i in_nodes).within p.0 s p.1;
       }

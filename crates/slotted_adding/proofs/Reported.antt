@@ -52,12 +52,12 @@ next-number test n =
     ∙ ap (λ xs. filter test xs ++ cond (test n) (n ∷ []) []) (map-same (range_with_len 0 n)))
 
 pub next-passes : (test : ℕ → Bool) (n : ℕ) → test n ≡ true → filter test (range_with_len 0 n) ++ n ∷ [] ≡ filter test (range_with_len 0 (n + 1))
-next-passes test n yes = ap (λ b. filter test (range_with_len 0 n) ++ cond b (n ∷ []) []) (sym yes) ∙ sym (next-number test n)
+next-passes test n e = ap (λ b. filter test (range_with_len 0 n) ++ cond b (n ∷ []) []) (sym e) ∙ sym (next-number test n)
 
 pub next-fails : (test : ℕ → Bool) (n : ℕ) → test n ≡ false → filter test (range_with_len 0 n) ≡ filter test (range_with_len 0 (n + 1))
-next-fails test n no =
+next-fails test n e =
     sym (append-nil (filter test (range_with_len 0 n)))
-    ∙ (ap (λ b. filter test (range_with_len 0 n) ++ cond b (n ∷ []) []) (sym no) ∙ sym (next-number test n))
+    ∙ (ap (λ b. filter test (range_with_len 0 n) ++ cond b (n ∷ []) []) (sym e) ∙ sym (next-number test n))
 
 -- there is a row for each class of which something is filed
 
@@ -71,8 +71,8 @@ length-rows i (x ∷ v) =
     length-append (rows_from (suc i) v) (row_at i x) ∙ ((λ j. length-rows (suc i) v j + length-row i x j) ∙ one_more x)
   where
     one_more : (y : Option Filing) → count_by is_some v + cond (is_some y) 1 0 ≡ count_by is_some (y ∷ v)
-    one_more None = omega arith
-    one_more (Some e) = omega arith
+    one_more None = let h : count_by is_some v + 0 ≡ count_by is_some v = omega arith in h
+    one_more (Some e) = let h : count_by is_some v + 1 ≡ 1 + count_by is_some v = omega arith in h
 
 pub rows-counted : (v : List (Option Filing)) → count_by is_some v ≡ length (rows_in v)
 rows-counted v = sym (length-rows 0 v)

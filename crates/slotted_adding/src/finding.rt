@@ -2,16 +2,14 @@
 ghost use Rattle.std.specs.Prelude.{◌≡◌, ◌<◌, length, IfOk, IfErr};
 ghost use Rattle.slotted_slots.specs.Error.{IsOutOfMemory};
 ghost use Rattle.slotted_model.specs.Find.{find, find_class, find_map};
-ghost use Rattle.slotted_model.specs.Growth.{identity_id};
 ghost use Rattle.slotted_proofs.specs.Equations.{to_applied};
 ghost use Rattle.slotted_store.specs.Finding.{HasFinds, IsFindable};
-ghost use Rattle.slotted_store.specs.Kept.{entries_of, nodes_of, rows_from};
+ghost use Rattle.slotted_store.specs.Kept.{entries_of};
 ghost use Rattle.slotted_adding.specs.LookUp.{IsFoundFor};
 
 use slotted_languages::Language;
 use slotted_slots::{AppliedId, Error, Id, SlotMap};
 use slotted_store::Store;
-use slotted_store::names::map_between;
 use std::alloc::Global;
 
 /// What a valid id finds.
@@ -30,20 +28,6 @@ pub fn find_applied_id<L: Language>(
     Ok(found)
 }
 
-// A class with each of its canonical slots as its name.
-fn own_id<L: Language>(store: &Store<L>, alloc: Global, class: usize) -> Result<AppliedId, Error>
-    requires rows { store.now.rows ≡ rows_from 0 store.now.classes }
-    requires within { class < length store.now.classes }
-    ensures ok { IfOk result (λ a. to_applied a ≡ identity_id (nodes_of store.now) class) }
-    ensures err { IfErr result IsOutOfMemory }
-{
-    let slots = store.names_of(class);
-    Ok(AppliedId {
-        id: Id(class),
-        m: map_between(alloc, slots, slots)?,
-    })
-}
-
 /// The class that a class finds, and the slot of the class that each slot of it stands for.
 pub fn found_class<L: Language>(
     store: &Store<L>,
@@ -51,14 +35,20 @@ pub fn found_class<L: Language>(
     class: usize,
 ) -> Result<AppliedId, Error>
     requires good { HasFinds store.now }
-    requires rows { store.now.rows ≡ rows_from 0 store.now.classes }
     requires within { class < length store.now.classes }
     ensures ok { IfOk result (λ a. to_applied a ≡ (find_class (entries_of store.now) class, find_map (entries_of store.now) class)) }
     ensures err { IfErr result IsOutOfMemory }
 {
-    let own = own_id(store, alloc, class)?;
-    let found = store.found_id(alloc, &own)?;
-    Ok(found)
+    let found = store.find_class(class);
+    let slots = &store.entry(found).m;
+    let mut m = SlotMap::new(alloc);
+    for i in 0..slots.len() {
+        let slot = slots.value_at(i);
+        if let Some(own) = store.found_slot(class, slot) {
+            m.insert(slot, own)?;
+        }
+    }
+    Ok(AppliedId { id: Id(found), m })
 }
 
 /// What a class finds with these names for its slots. It may lack some that the class uses: then so does what is found.
@@ -69,7 +59,6 @@ pub fn found_with<L: Language>(
     names: &SlotMap,
 ) -> Result<AppliedId, Error>
     requires good { HasFinds store.now }
-    requires rows { store.now.rows ≡ rows_from 0 store.now.classes }
     requires within { class < length store.now.classes }
     ensures ok { IfOk result (λ a. to_applied a ≡ find (entries_of store.now) (class, names.now)) }
     ensures err { IfErr result IsOutOfMemory }

@@ -6,7 +6,7 @@ ghost use Rattle.slotted_model.specs.Find.{IsLive, used_slots};
 ghost use Rattle.slotted_proofs.specs.Equations.{to_applied};
 ghost use Rattle.slotted_filing.specs.FiledRows.{rows_in};
 ghost use Rattle.slotted_store.specs.Finding.{HasFinds, IsFindable};
-ghost use Rattle.slotted_store.specs.Kept.{entries_of, rows_from};
+ghost use Rattle.slotted_store.specs.Kept.{entries_of};
 ghost use Rattle.slotted_adding.specs.Reports.{class_sources, live_ids};
 
 use crate::finding::found_class;
@@ -47,7 +47,6 @@ pub fn slots_of<L: Language>(
     class: usize,
 ) -> Result<SmallHashSet<Slot>, Error>
     requires good { HasFinds store.now }
-    requires rows { store.now.rows ≡ rows_from 0 store.now.classes }
     requires within { class < length store.now.classes }
     ensures ok { IfOk result (λ s. s ≡ used_slots (entries_of store.now) class) }
     ensures err { IfErr result IsOutOfMemory }
@@ -64,7 +63,6 @@ pub fn mk_identity_applied_id<L: Language>(
     class: usize,
 ) -> Result<AppliedId, Error>
     requires good { HasFinds store.now }
-    requires rows { store.now.rows ≡ rows_from 0 store.now.classes }
     requires within { class < length store.now.classes }
     ensures ok { IfOk result (λ a. to_applied a ≡ (class, identity (used_slots (entries_of store.now) class))) }
     ensures findable { IfOk result (λ a. IsFindable store.now (to_applied a)) }

@@ -36,8 +36,8 @@ found_with-requires-clause-within g c =
     let h = c.requires.names in
     omega (arith, place-within c.args.nodes.now.filed c.args.class (h.key, h.slots) h.filed, c.requires.good.count)
 
-pub returns-in-Some-clause-ok : goal.returns-in-Some-clause-ok
-returns-in-Some-clause-ok g c =
+pub returns-clause-ok : goal.returns-clause-ok
+returns-clause-ok g c =
     let form = g.L.LanguageChildren.form in
     let k = c.args.store.now in
     let r = c.args.nodes.now in
