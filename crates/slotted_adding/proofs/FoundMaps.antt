@@ -1,6 +1,6 @@
 -- A map that is built again from what it has at its keys, one after another.
-use Rattle.std.proofs.Common.{◌≡◌, ◌≢◌, ◌<◌, ◌≤◌, ℕ, zero, suc, ◌+◌, List, [], ◌∷◌, Option, Some, None, length, take, sym, ◌∙◌, ap, refl, arith}
-use Rattle.std.specs.Prelude.{slice_get, cond}
+use Rattle.std.proofs.Common.{◌≡◌, ◌≢◌, ◌<◌, ◌≤◌, ℕ, zero, suc, ◌+◌, List, [], ◌∷◌, Some, None, length, take, sym, ◌∙◌, ap, refl, arith}
+use Rattle.std.specs.Prelude.{slice_get}
 use Rattle.std.proofs.lemmas.Bool.{eq-eqb, ne_eqb}
 use Rattle.slotted_slots.specs.Maps.{value_of, with_pair}
 use Rattle.slotted_slots.proofs.MapLemmas.{with_pair-after}

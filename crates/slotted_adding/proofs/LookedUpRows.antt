@@ -1,8 +1,8 @@
 -- The row that a node in normal form is looked up by is that of the class of which its shape is filed, if there is one.
-use Rattle.std.proofs.Common.{◌≡◌, ◌<◌, ℕ, List, [], ◌∷◌, Option, Some, None, true, length, map, refl, ap, ◌∙◌, sym, subst, arith}
-use Rattle.std.specs.Prelude.{Contains, IfNone, option_map}
+use Rattle.std.proofs.Common.{◌≡◌, ℕ, List, Option, Some, None, true, length, map, refl, ap, ◌∙◌, sym, subst}
+use Rattle.std.specs.Prelude.{Contains, option_map}
 use Rattle.std.specs.List.{zip}
-use Rattle.slotted_theory.specs.Nameless.{DTerm, moved}
+use Rattle.slotted_theory.specs.Nameless.{DTerm}
 use Rattle.slotted_theory.specs.FiniteMaps.{filled, IsInjectiveMap}
 use Rattle.slotted_theory.specs.Shape.{free_names}
 use Rattle.slotted_theory.specs.Shape as theory
@@ -11,13 +11,13 @@ use Rattle.slotted_theory.proofs.Shapes.{shape-moved}
 use Rattle.slotted_nodes.specs.Form.{Form}
 use Rattle.slotted_slots.specs.Maps.{all_differ}
 use Rattle.slotted_languages.specs.NodeTerm.{nameless_node}
-use Rattle.slotted_languages.specs.Shape.{Fits, firsts, shape}
-use Rattle.slotted_languages.proofs.Shapes.{injective-shape, shape-same, shape_back, values-shape, values_of_shape}
-use Rattle.slotted_model.specs.Applied.{Applied, keys, values}
+use Rattle.slotted_languages.specs.Shape.{Fits, shape}
+use Rattle.slotted_languages.proofs.Shapes.{injective-shape, shape-same, shape_back, values_of_shape}
+use Rattle.slotted_model.specs.Applied.{keys, values}
 use Rattle.slotted_model.specs.Ascending.{names}
 use Rattle.slotted_model.specs.Find.{find}
 use Rattle.slotted_model.specs.Rest.{IsRow}
-use Rattle.slotted_model.specs.State.{Row, State, look_up_normal, name_numbered, row_of, source_with_names}
+use Rattle.slotted_model.specs.State.{Row, look_up_normal, name_numbered, row_of, source_with_names}
 use Rattle.slotted_model.proofs.Maps.{keys-with_values}
 use Rattle.slotted_model.proofs.Rows.{one_row, row_of-some, row_of-there}
 use Rattle.slotted_proofs.proofs.Bridges.{injective_differ}
@@ -29,7 +29,7 @@ use Rattle.slotted_filing.specs.FiledRows.{Rows, rows_in, row_of_entry}
 use Rattle.slotted_filing.proofs.FiledRows.{filed-row, row-filed}
 use Rattle.slotted_rebuilding.specs.Filed.{IsKeyed, IsWellFiled, state_in}
 use Rattle.slotted_rebuilding.proofs.KeysByShapes.{one-key}
-use Rattle.slotted_adding.proofs.RowNames.{find-beside, keys-beside, numbered-names, slots-named, values-beside}
+use Rattle.slotted_adding.proofs.RowNames.{find-beside, numbered-names, slots-named, values-beside}
 
 -- the shape of a node is the shape of itself, with the same numbers
 pub shape-again : (c f : Form) (m : List (ℕ × ℕ)) → Fits c → ◌≡◌ {A = Form × List (ℕ × ℕ)} (f, m) (shape c) → ((shape f).0 ≡ f) × (keys m ≡ keys (shape f).1)

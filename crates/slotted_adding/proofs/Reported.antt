@@ -1,17 +1,17 @@
 -- What reports list.
-use Rattle.std.proofs.Common.{◌≡◌, ◌↔◌, ◌<◌, ◌≤◌, ◌+◌, ◌∙◌, ℕ, zero, suc, List, [], ◌∷◌, ◌++◌, true, false, length, map, cond, refl, ap, sym, subst, inl, inr, arith}
-use Rattle.std.specs.Prelude.{Bool, Contains, IsTrue, Option, Some, None, is_some, nat_eq, ◌&&◌}
+use Rattle.std.proofs.Common.{◌≡◌, ◌+◌, ◌∙◌, ℕ, suc, List, [], ◌∷◌, ◌++◌, true, false, length, map, cond, refl, ap, sym, inl, inr, arith}
+use Rattle.std.specs.Prelude.{Bool, Option, Some, None, is_some}
 use Rattle.std.specs.List.{count_by, filter, range_with_len}
 use Rattle.std.specs.Ordering.{nat_cmp}
-use Rattle.std.proofs.lemmas.Bool.{cases_Bool, false≢true, eq-eqb, ne_eqb, cases_eq}
+use Rattle.std.proofs.lemmas.Bool.{false≢true}
 use Rattle.std.proofs.lemmas.List.{append-nil, length-append}
+use Rattle.std.proofs.lemmas.List.Sums.{sum_by-cons}
 use Rattle.std.proofs.lemmas.List.FromFn.{filter_of_map_range_with_len_more}
 use Rattle.slotted_slots.specs.Maps.{is_among}
 use Rattle.slotted_slots.specs.Sets.{set_of}
 use Rattle.slotted_slots.proofs.Ascending.{is_among-set_of, IsAscending-set_of}
 use Rattle.slotted_slots.proofs.MapLaws.{is_among-cons, is_among-first, is_among-more}
-use Rattle.slotted_model.specs.Ascending.{IsAscending, ascending}
-use Rattle.slotted_model.specs.State.{Row}
+use Rattle.slotted_model.specs.Ascending.{ascending}
 use Rattle.slotted_model.proofs.Members.{In}
 use Rattle.slotted_model.proofs.Sets.{IsAscending-ascending, In-ascending, In-of_ascending, same_members}
 use Rattle.slotted_proofs.proofs.Bridges.{ascends}
@@ -68,11 +68,7 @@ length-row i (Some e) = refl
 length-rows : (i : ℕ) (v : List (Option Filing)) → length (rows_from i v) ≡ count_by is_some v
 length-rows i [] = refl
 length-rows i (x ∷ v) =
-    length-append (rows_from (suc i) v) (row_at i x) ∙ ((λ j. length-rows (suc i) v j + length-row i x j) ∙ one_more x)
-  where
-    one_more : (y : Option Filing) → count_by is_some v + cond (is_some y) 1 0 ≡ count_by is_some (y ∷ v)
-    one_more None = let h : count_by is_some v + 0 ≡ count_by is_some v = omega arith in h
-    one_more (Some e) = let h : count_by is_some v + 1 ≡ 1 + count_by is_some v = omega arith in h
+    omega (arith, length-append (rows_from (suc i) v) (row_at i x), length-rows (suc i) v, length-row i x, sum_by-cons (λ (y : Option Filing). cond (is_some y) 1 0) x v)
 
 pub rows-counted : (v : List (Option Filing)) → count_by is_some v ≡ length (rows_in v)
 rows-counted v = sym (length-rows 0 v)

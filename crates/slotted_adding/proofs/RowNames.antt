@@ -4,7 +4,7 @@ use Rattle.std.specs.List.{zip}
 use Rattle.slotted_theory.specs.FiniteMaps as model
 use Rattle.slotted_theory.specs.Nameless.{DTerm}
 use Rattle.slotted_theory.specs.Shape.{free_names, number_in, shape}
-use Rattle.slotted_slots.specs.Maps.{all_differ, map_of, value_of, with_pair}
+use Rattle.slotted_slots.specs.Maps.{all_differ, value_of, with_pair}
 use Rattle.slotted_slots.proofs.MapLaws.{value_of-map_of}
 use Rattle.slotted_languages.specs.Shape.{firsts}
 use Rattle.slotted_model.specs.Applied.{keys, values}
@@ -13,7 +13,7 @@ use Rattle.slotted_model.specs.Find.{Entry, find, find_class, find_map}
 use Rattle.slotted_model.specs.State.{name_numbered}
 use Rattle.slotted_model.proofs.Members.{In}
 use Rattle.slotted_model.proofs.Rows.{name_numbered-at}
-use Rattle.slotted_proofs.proofs.Bridges.{composite-agrees, injective_differ, value_of-model}
+use Rattle.slotted_proofs.proofs.Bridges.{composite-agrees, value_of-model}
 use Rattle.slotted_store.specs.Names.{between, with_pairs}
 use Rattle.slotted_store.proofs.NamePairs.{In-firsts}
 use Rattle.slotted_normal_forms.proofs.NumbersInShapes.{names-shape}

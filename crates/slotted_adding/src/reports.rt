@@ -1,9 +1,10 @@
 //! What a graph tells of its classes and of its filed nodes. Nothing here writes.
-ghost use Rattle.std.specs.Prelude.{◌≡◌, ◌<◌, ◌↔◌, length, IsTrue, IfOk, IfErr};
+ghost use Rattle.std.specs.Prelude.{◌≡◌, ◌<◌, ◌↔◌, length, is_some, IsTrue, IfOk, IfErr};
 ghost use Rattle.slotted_slots.specs.Error.{IsOutOfMemory};
 ghost use Rattle.slotted_model.specs.Correspondence.{identity};
 ghost use Rattle.slotted_model.specs.Find.{IsLive, used_slots};
 ghost use Rattle.slotted_proofs.specs.Equations.{to_applied};
+ghost use Rattle.slotted_filing.specs.Filed.{filed_of};
 ghost use Rattle.slotted_filing.specs.FiledRows.{rows_in};
 ghost use Rattle.slotted_store.specs.Finding.{HasFinds, IsFindable};
 ghost use Rattle.slotted_store.specs.Kept.{entries_of};
@@ -77,13 +78,20 @@ pub fn mk_identity_applied_id<L: Language>(
 
 // Filed nodes.
 
+// Whether a node is filed of a class.
+fn is_filed<L: Language>(nodes: &Hashcons<L>, class: usize) -> bool
+    ensures { result ≡ is_some (filed_of nodes.now.filed class) }
+{
+    nodes.node(class).is_some()
+}
+
 /// The number of filed nodes. It takes no memory.
 pub fn filed_count<L: Language>(nodes: &Hashcons<L>) -> usize
     ensures { result ≡ length (rows_in nodes.now.filed) }
 {
     let mut count = 0;
     for class in 0..nodes.class_count() {
-        if nodes.node(class).is_some() {
+        if is_filed(nodes, class) {
             count += 1;
         }
     }
@@ -104,7 +112,7 @@ pub fn class_nodes<L: Language>(
 {
     let mut sources = Vec::new(alloc);
     for source in 0..nodes.class_count() {
-        if nodes.node(source).is_some() && store.find_class(source) == class {
+        if is_filed(nodes, source) && store.find_class(source) == class {
             sources.push(source)?;
         }
     }

@@ -1,8 +1,7 @@
 -- One slot of the class that is found after another.
-use Rattle.std.proofs.Common.{◌≡◌, ◌∙◌, ℕ, List, Some, None, ap, sym, length, arith}
+use Rattle.std.proofs.Common.{◌∙◌, ℕ, ap, sym, length, arith}
 use Rattle.std.specs.Prelude.{slice_get}
-use Rattle.slotted_slots.specs.Maps.{value_of}
-use Rattle.slotted_model.specs.Applied.{Applied, keys, values}
+use Rattle.slotted_model.specs.Applied.{Applied}
 use Rattle.slotted_model.specs.Find.{find_map}
 use Rattle.slotted_proofs.proofs.Bridges.{value_of-model}
 use Rattle.slotted_store.specs.Kept.{entries_of}

@@ -9,7 +9,7 @@ use Rattle.slotted_store.specs.Kept.{entries_of}
 use Rattle.slotted_store.specs.Names.{between}
 use Rattle.slotted_store.proofs.KeptLists.{length-mapped}
 use Rattle.slotted_unions.proofs.EnteredProofs.{stored-finds}
-use Rattle.slotted_adding.specs.LookUp.{HasNamesFor, filed_slots, slots_beside}
+use Rattle.slotted_adding.specs.LookUp.{slots_beside}
 use Rattle.slotted_adding.proofs.lookup.found_source.Goals as goal
 
 -- what is filed of a class, as it was read
@@ -43,4 +43,4 @@ returns-clause-ok g c =
     let r = c.args.nodes.now in
     let read = ap (option_map (λ p. (form p.0.now, p.1.now))) (sym c.in-Some.is) ∙ c.node.ensures in
     let same = slots-are r.filed c.args.class (form c.in-Some.field-0-0.now, c.in-Some.slots.now) read in
-    c.in_ok-found.ensures.ok ∙ ap (λ m. find (entries_of k) (c.args.class, m)) (c.in_ok-named.ensures.ok ∙ ap (λ m. between m c.args.names.now) same)
+    c.in_ok-found-in-Some.ensures.ok ∙ ap (λ m. find (entries_of k) (c.args.class, m)) (c.in_ok-named-in-Some.ensures.ok ∙ ap (λ m. between m c.args.names.now) same)

@@ -1,13 +1,12 @@
 -- The row of the node's shape, as the filed nodes have it.
-use Rattle.std.proofs.Common.{rules, ◌∙◌, Some, ap, sym, arith}
-use Rattle.slotted_languages.specs.NodeTerm.{nameless_node}
+use Rattle.std.proofs.Common.{rules, ◌∙◌, Some, ap, arith}
 use Rattle.slotted_model.specs.Find.{find}
 use Rattle.slotted_model.specs.State.{look_up_normal}
 use Rattle.slotted_store.specs.Kept.{entries_of}
 use Rattle.slotted_store.specs.Names.{between}
 use Rattle.slotted_unions.proofs.EnteredProofs.{stored-finds}
 use Rattle.slotted_rebuilding.specs.Filed.{state_in}
-use Rattle.slotted_adding.specs.LookUp.{HasNamesFor, slots_beside}
+use Rattle.slotted_adding.specs.LookUp.{slots_beside}
 use Rattle.slotted_adding.proofs.LookedUpRows.{none-looked_up, numbers-are, some-looked_up}
 use Rattle.slotted_adding.proofs.lookup.look_up.Goals as goal
 

@@ -1,5 +1,4 @@
-use Rattle.std.proofs.Common.{◌≡◌, ◌∙◌, ℕ, ap, sym, subst}
-use Rattle.slotted_model.specs.Applied.{Applied}
+use Rattle.std.proofs.Common.{◌∙◌, ap, sym, subst}
 use Rattle.slotted_model.specs.Correspondence.{identity}
 use Rattle.slotted_store.specs.Finding.{IsFindable}
 use Rattle.slotted_adding.proofs.FoundIds.{used-findable}
