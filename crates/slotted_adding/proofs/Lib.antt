@@ -1,0 +1,6 @@
+-- Lemmas of looking up and filling.
+pub mod FoundIds
+pub mod FoundMaps
+pub mod RowNames
+pub mod LookedUpRows
+pub mod Reported

@@ -1,0 +1,74 @@
+-- What reports list.
+use Rattle.std.proofs.Common.{◌≡◌, ◌+◌, ◌∙◌, ℕ, suc, List, [], ◌∷◌, ◌++◌, true, false, length, map, cond, refl, ap, sym, inl, inr, arith}
+use Rattle.std.specs.Prelude.{Bool, Option, Some, None, is_some}
+use Rattle.std.specs.List.{count_by, filter, range_with_len}
+use Rattle.std.specs.Ordering.{nat_cmp}
+use Rattle.std.proofs.lemmas.Bool.{false≢true}
+use Rattle.std.proofs.lemmas.List.{append-nil, length-append}
+use Rattle.std.proofs.lemmas.List.Sums.{sum_by-cons}
+use Rattle.std.proofs.lemmas.List.FromFn.{filter_of_map_range_with_len_more}
+use Rattle.slotted_slots.specs.Maps.{is_among}
+use Rattle.slotted_slots.specs.Sets.{set_of}
+use Rattle.slotted_slots.proofs.Ascending.{is_among-set_of, IsAscending-set_of}
+use Rattle.slotted_slots.proofs.MapLaws.{is_among-cons, is_among-first, is_among-more}
+use Rattle.slotted_model.specs.Ascending.{ascending}
+use Rattle.slotted_model.proofs.Members.{In}
+use Rattle.slotted_model.proofs.Sets.{IsAscending-ascending, In-ascending, In-of_ascending, same_members}
+use Rattle.slotted_proofs.proofs.Bridges.{ascends}
+use Rattle.slotted_filing.specs.Filed.{Filing}
+use Rattle.slotted_filing.specs.FiledRows.{row_at, rows_from, rows_in}
+
+-- the set of some numbers is the numbers, ascending
+
+among-In : (xs : List ℕ) (x : ℕ) → is_among x xs ≡ true → In x xs
+among-In [] x h = absurd (false≢true h)
+among-In (y ∷ ys) x h = elim (is_among-cons x y ys h) [
+  | inl e ↦ inl (sym e)
+  | inr k ↦ inr (among-In ys x k)
+]
+
+In-among : (xs : List ℕ) (x : ℕ) → In x xs → is_among x xs ≡ true
+In-among [] x h = absurd h
+In-among (y ∷ ys) x (inl e) = is_among-first x y ys (sym e)
+In-among (y ∷ ys) x (inr h) = is_among-more x y ys (In-among ys x h)
+
+pub set_of-is : (xs : List ℕ) → set_of nat_cmp xs ≡ ascending xs
+set_of-is xs = same_members (set_of nat_cmp xs) (ascending xs) (ascends (set_of nat_cmp xs) (IsAscending-set_of xs)) (IsAscending-ascending xs)
+    (λ z. (
+      λ h. In-ascending z xs (among-In xs z (sym (is_among-set_of z xs) ∙ In-among (set_of nat_cmp xs) z h)),
+      λ h. among-In (set_of nat_cmp xs) z (is_among-set_of z xs ∙ In-among xs z (In-of_ascending z xs h)),
+    ))
+
+-- one number more that is tried
+
+map-same : (xs : List ℕ) → map (λ x. x) xs ≡ xs
+map-same [] = refl
+map-same (x ∷ xs) = ap (λ ys. x ∷ ys) (map-same xs)
+
+next-number : (test : ℕ → Bool) (n : ℕ) → filter test (range_with_len 0 (n + 1)) ≡ filter test (range_with_len 0 n) ++ cond (test n) (n ∷ []) []
+next-number test n =
+    ap (filter test) (sym (map-same (range_with_len 0 (n + 1))))
+    ∙ (filter_of_map_range_with_len_more test (λ x. x) 0 n n (omega arith)
+    ∙ ap (λ xs. filter test xs ++ cond (test n) (n ∷ []) []) (map-same (range_with_len 0 n)))
+
+pub next-passes : (test : ℕ → Bool) (n : ℕ) → test n ≡ true → filter test (range_with_len 0 n) ++ n ∷ [] ≡ filter test (range_with_len 0 (n + 1))
+next-passes test n e = ap (λ b. filter test (range_with_len 0 n) ++ cond b (n ∷ []) []) (sym e) ∙ sym (next-number test n)
+
+pub next-fails : (test : ℕ → Bool) (n : ℕ) → test n ≡ false → filter test (range_with_len 0 n) ≡ filter test (range_with_len 0 (n + 1))
+next-fails test n e =
+    sym (append-nil (filter test (range_with_len 0 n)))
+    ∙ (ap (λ b. filter test (range_with_len 0 n) ++ cond b (n ∷ []) []) (sym e) ∙ sym (next-number test n))
+
+-- there is a row for each class of which something is filed
+
+length-row : (i : ℕ) (x : Option Filing) → length (row_at i x) ≡ cond (is_some x) 1 0
+length-row i None = refl
+length-row i (Some e) = refl
+
+length-rows : (i : ℕ) (v : List (Option Filing)) → length (rows_from i v) ≡ count_by is_some v
+length-rows i [] = refl
+length-rows i (x ∷ v) =
+    omega (arith, length-append (rows_from (suc i) v) (row_at i x), length-rows (suc i) v, length-row i x, sum_by-cons (λ (y : Option Filing). cond (is_some y) 1 0) x v)
+
+pub rows-counted : (v : List (Option Filing)) → count_by is_some v ≡ length (rows_in v)
+rows-counted v = sym (length-rows 0 v)

@@ -1,0 +1,3 @@
+-- What looking up and filling answer.
+pub mod LookUp
+pub mod Reports
