@@ -3,12 +3,12 @@
 
 ghost use Rattle.std.specs.Prelude.{◌≡◌, IfOk, IfErr, IfSome, OnSome, OnOk};
 ghost use Rattle.std.specs.Io.KnownBytes.{Appends, IsAtEnd};
-ghost use Rattle.slotted_languages.specs.Small.{small_read};
-ghost use Rattle.slotted_terms.specs.SmallWritten.{small_written};
+ghost use Rattle.slotted_small.specs.Small.{small_read};
+ghost use Rattle.slotted_small.specs.SmallWritten.{small_written};
 ghost use Rattle.slotted_commands.specs.Streams.{SessionWrites};
 
 use slotted_commands::answer_session;
-use slotted_languages::Small;
+use slotted_small::Small;
 use std::alloc::Global;
 use std::io;
 use std::io::{BufRead, BufReader, BufWriter, Write};

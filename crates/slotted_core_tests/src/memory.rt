@@ -4,9 +4,10 @@ use crate::graphs::{empty, node_of};
 use crate::ids::equal;
 use crate::nodes::look_up;
 use slotted_core::EGraph;
-use slotted_languages::{Language, Small};
+use slotted_languages::Language;
 use slotted_proofs::Equation;
 use slotted_slots::{AppliedId, Error};
+use slotted_small::Small;
 use std::alloc::Global;
 use std::process::Abort;
 

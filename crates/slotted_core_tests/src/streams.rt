@@ -1,6 +1,6 @@
 //! Readers and writers that fail, and writers that wait.
 use slotted_commands::answer_session;
-use slotted_languages::Small;
+use slotted_small::Small;
 use std::alloc::Global;
 use std::io;
 use std::io::{BufReader, ErrorKind, Read, Write};

@@ -2,8 +2,8 @@
 use crate::graphs::empty;
 use crate::rows::{check, check_each, check_in, check_tables};
 use slotted_core::EGraph;
-use slotted_languages::Small;
 use slotted_slots::{Error, SlotTable};
+use slotted_small::Small;
 use slotted_terms::expr::printing::Printable;
 use std::alloc::Global;
 use std::process::Abort;

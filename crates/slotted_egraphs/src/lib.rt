@@ -10,7 +10,7 @@ mod tests;
 
 pub use slotted_core::{Check, EGraph, Symmetry};
 pub use slotted_explain::Explanation;
-pub use slotted_languages::{Bind, Language, LanguageChildren, ReadBack, Small, Symbol, pair};
+pub use slotted_languages::{Bind, Language, LanguageChildren, ReadBack, Symbol, pair};
 pub use slotted_patterns::Pattern;
 pub use slotted_proofs::{
     CongruenceProof, Equation, ExplicitProof, Proof, ProofLines, ProofList, ProvenEq, ProvenEqRaw,
@@ -20,6 +20,7 @@ pub use slotted_slots::{
     AppliedId, Error, Id, ParseError, Show, Shown, Slot, SlotMap, SlotTable, SmallHashSet,
     SyntaxElem, Token,
 };
+pub use slotted_small::Small;
 pub use slotted_small_maps::SmallHashMap;
 pub use slotted_terms::expr::printing::Printable;
 pub use slotted_terms::{RecExpr, pattern_to_re, re_to_pattern};

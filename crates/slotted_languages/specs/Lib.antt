@@ -1,8 +1,4 @@
--- The language Small with its laws; shapes, outlines, renaming and refreshing of nodes.
-pub mod Small
-pub mod SmallSame
-pub mod SmallRead
-pub mod SmallBack
+-- Shapes, outlines, renaming and refreshing of nodes.
 pub mod Filled
 pub mod Outline
 pub mod NodeTerm

@@ -1,8 +1,8 @@
-//! Languages: shapes, renaming and refreshing of nodes, and the language [`Small`].
+//! Languages: shapes, renaming and refreshing of nodes.
 //!
 //! A language is a type of nodes, mostly an enum with one variant for each operator. What a node is, by its places and
 //! its children, and how a language is written by hand against [`LanguageChildren`], is told by `slotted_nodes`;
-//! [`Language`] adds the number of the operator and gives all calls on whole nodes. [`Small`] in `src/small.rt` is one.
+//! [`Language`] adds the number of the operator and gives all calls on whole nodes. `Small` in `slotted_small` is one.
 //!
 //! A crate that uses languages imports from here; what `slotted_nodes` has for that is exported again.
 #![tactic(auto)]
@@ -13,9 +13,7 @@ pub mod outline;
 pub(crate) mod places;
 pub mod renaming;
 pub mod shape;
-pub mod small;
 
 pub use language::Language;
 pub use shape::shapes_decide;
 pub use slotted_nodes::{Bind, LanguageChildren, ReadBack, Symbol, pair};
-pub use small::Small;

@@ -4,8 +4,9 @@ ghost use Rattle.slotted_nodes.specs.Form.{IsSmall};
 
 use crate::reading::{child, read};
 use crate::writing::write_elements;
-use slotted_languages::{Bind, LanguageChildren, ReadBack, Small, Symbol};
+use slotted_languages::{Bind, LanguageChildren, ReadBack, Symbol};
 use slotted_slots::{AppliedId, Error, Slot, SlotTable, SyntaxElem};
+use slotted_small::Small;
 use std::alloc::Global;
 
 // Whether the elements write this part.

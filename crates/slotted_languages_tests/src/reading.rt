@@ -1,6 +1,7 @@
 //! What the rows are written in: slots as `$8`, children as `#7:8,9`, maps as `$8->$5,$9->$6`, nodes as their elements.
-use slotted_languages::{Language, LanguageChildren, Small};
+use slotted_languages::{Language, LanguageChildren};
 use slotted_slots::{AppliedId, Error, Id, Slot, SlotMap, SlotTable, SyntaxElem};
+use slotted_small::Small;
 use std::alloc::Global;
 
 // The slot of a name, which may stand after a `$`.

@@ -4,8 +4,8 @@ use crate::nodes::write_answer;
 use crate::parts::{are_equal, are_ordered, write_kind};
 use crate::reading::{Made, map_of, node};
 use crate::writing::write_test;
-use slotted_languages::Small;
 use slotted_slots::{Error, SlotTable};
+use slotted_small::Small;
 use std::alloc::Global;
 use std::process::Abort;
 

@@ -15,6 +15,5 @@ pub mod PrintableTokens
 pub mod PrintablePatterns
 pub mod PrintedPatterns
 pub mod PatternsReadAgain
-pub mod SmallReadsAgain
 pub mod PatternTexts
 pub mod PatternTrees

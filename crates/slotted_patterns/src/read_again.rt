@@ -1,8 +1,7 @@
 //! What a pattern prints reads as that pattern.
-ghost use Rattle.slotted_languages.specs.Small.{small_form, small_shown, small_read};
 ghost use Rattle.slotted_patterns.specs.ReadAgain.{IsWordAndPlaces, ReadsAsItself};
 
-use slotted_languages::{Language, ReadBack, Small};
+use slotted_languages::{Language, ReadBack};
 
 /// A pattern that was read from a text prints, with the table that this left, as a text that reads as the same pattern and
 /// leaves the table as it is: in each language that reads back, and writes a node as one word with the node's slots and
@@ -11,10 +10,3 @@ pub fn each_print_reads_as_itself<L: Language + ReadBack>()
     requires plain { (a : L) → IsWordAndPlaces (L.form a) (L.shown a) }
     ensures { ReadsAsItself L.form L.shown L.read }
 {}
-
-/// `Small` is such a language. A number that was read from `+5` prints `5`, which reads as the same number.
-pub fn each_print_of_small_reads_as_itself()
-    ensures { ReadsAsItself small_form small_shown small_read }
-{
-    each_print_reads_as_itself::<Small>();
-}

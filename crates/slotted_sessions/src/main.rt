@@ -11,8 +11,8 @@ ghost use Rattle.std.specs.Io.KnownBytes.{Appends};
 
 use slotted_commands::answer_line;
 use slotted_core::EGraph;
-use slotted_languages::Small;
 use slotted_slots::SlotTable;
+use slotted_small::Small;
 use slotted_terms::expr::printing::Printable;
 use std::alloc::Global;
 use std::io;

@@ -5,5 +5,4 @@ pub mod TermPattern
 pub mod Parsed
 pub mod Valid
 pub mod Shown
-pub mod SmallWritten
 pub mod ReadAgain

@@ -1,14 +1,10 @@
 //! What a term prints reads as that term.
-ghost use Rattle.slotted_languages.specs.Small.{small_form, small_read};
 ghost use Rattle.slotted_patterns.specs.ReadAgain.{IsWordAndPlaces};
 ghost use Rattle.slotted_terms.specs.ReadAgain.{TermReadsAsItself};
-ghost use Rattle.slotted_terms.specs.SmallWritten.{small_written};
 
 use crate::expr::printing::Printable;
-use slotted_languages::{ReadBack, Small};
-use slotted_patterns::read_again::{
-    each_print_of_small_reads_as_itself, each_print_reads_as_itself,
-};
+use slotted_languages::ReadBack;
+use slotted_patterns::read_again::each_print_reads_as_itself;
 
 /// A term that was read from a text, as a pattern and then as the term that this is, prints with the table that was left as a
 /// text that reads as the same term and leaves the table as it is: in each language that reads back, and writes a node as one
@@ -18,11 +14,4 @@ pub fn each_term_reads_as_itself<L: Printable + ReadBack>()
     ensures { TermReadsAsItself L.form L.written L.read }
 {
     each_print_reads_as_itself::<L>();
-}
-
-/// `Small` is such a language.
-pub fn each_term_of_small_reads_as_itself()
-    ensures { TermReadsAsItself small_form small_written small_read }
-{
-    each_print_of_small_reads_as_itself();
 }

@@ -1,7 +1,7 @@
 //! The walk over the rows of a table, each of which is `TEXT => ANSWER`.
 use crate::{patterns, terms};
-use slotted_languages::Small;
 use slotted_slots::{Error, SlotTable};
+use slotted_small::Small;
 use slotted_terms::expr::printing::Printable;
 use std::alloc::Global;
 use std::process::Abort;

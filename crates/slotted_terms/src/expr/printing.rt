@@ -5,11 +5,9 @@ ghost use Rattle.slotted_slots.specs.Error.{IsOutOfMemory};
 ghost use Rattle.slotted_slots.specs.Syntax.{Element};
 ghost use Rattle.slotted_languages.specs.Filled.{term_of};
 ghost use Rattle.slotted_terms.specs.Shown.{term_text, IsWrittenAs, PrintAs};
-ghost use Rattle.slotted_terms.specs.SmallWritten.{small_written, small_written_as};
 
 use super::RecExpr;
 use slotted_languages::language::Language;
-use slotted_languages::small::Small;
 use slotted_patterns::show::node_text;
 use slotted_slots::{Error, Show, SlotTable};
 use std::alloc::Global;
@@ -23,12 +21,6 @@ pub trait Printable: Language {
 
     // It is what the node is written as, over whatever children, and writes each child once.
     ghost written_as: { (a : Self) (us : List Term) → IsWrittenAs (Self.form a) (Self.shown a) (written (term_of (Self.form a) us)) };
-}
-
-impl Printable for Small {
-    ghost written = { small_written };
-
-    ghost written_as = { small_written_as };
 }
 
 impl<L: Printable> RecExpr<L> {

@@ -4,9 +4,9 @@ use Rattle.slotted_theory.specs.Term.{Args, Term, done, name, child, bind}
 use Rattle.slotted_slots.specs.Syntax.{Element, text, applied}
 use Rattle.slotted_slots.specs.Syntax.{name as slot}
 use Rattle.slotted_languages.specs.Filled.{term_of}
-use Rattle.slotted_languages.specs.Small.{small_form, small_shown}
-use Rattle.slotted_languages.specs.declared.small.Small.{Small}
-use Rattle.slotted_languages.specs.declared.small.Small.TheVariants.{Lam, App, Var, F, G, Add, Mul, Number, Word}
+use Rattle.slotted_small.specs.Small.{small_form, small_shown}
+use Rattle.slotted_small.specs.declared.small.Small.{Small}
+use Rattle.slotted_small.specs.declared.small.Small.TheVariants.{Lam, App, Var, F, G, Add, Mul, Number, Word}
 use Rattle.slotted_terms.specs.Shown.{IsWrittenAs}
 
 -- the names and binders among arguments, from the left

@@ -8,9 +8,9 @@ use Rattle.slotted_nodes.specs.Equal.{cons_parts}
 use Rattle.slotted_nodes.specs.Form.{Form, variant, plain, slot_form, child_form, bind_form, join_form}
 use Rattle.slotted_nodes.specs.Identifier.{IsIdentifier, HasIdentifiers, HasNullIds, HasNullChildren}
 use Rattle.slotted_nodes.specs.ReadsBack.{ascii_text, u32_back, number_parts}
-use Rattle.slotted_languages.specs.declared.small.Small.{Small}
-use Rattle.slotted_languages.specs.declared.small.Small.TheVariants.{Lam, App, Var, F, G, Add, Mul, Number, Word}
-use Rattle.slotted_languages.specs.Small.{small_form, small_shown, small_read, alone}
+use Rattle.slotted_small.specs.declared.small.Small.{Small}
+use Rattle.slotted_small.specs.declared.small.Small.TheVariants.{Lam, App, Var, F, G, Add, Mul, Number, Word}
+use Rattle.slotted_small.specs.Small.{small_form, small_shown, small_read, alone}
 
 -- one of two answers
 either : (P : Form → Type 0) (b : Bool) (o p : Option Form) → IfSome o P → IfSome p P → IfSome (cond b o p) P

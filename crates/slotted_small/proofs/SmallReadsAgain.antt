@@ -1,9 +1,9 @@
 -- Each node of Small is written as one word, and after it its slots and children in the order of its places.
 use Rattle.std.proofs.Common.{◌∷◌, ◌++◌, refl, ap, append-nil}
 use Rattle.slotted_slots.specs.Maps.{values}
-use Rattle.slotted_languages.specs.Small.{small_form, small_shown}
-use Rattle.slotted_languages.specs.declared.small.Small.{Small}
-use Rattle.slotted_languages.specs.declared.small.Small.TheVariants.{Lam, App, Var, F, G, Add, Mul, Number, Word}
+use Rattle.slotted_small.specs.Small.{small_form, small_shown}
+use Rattle.slotted_small.specs.declared.small.Small.{Small}
+use Rattle.slotted_small.specs.declared.small.Small.TheVariants.{Lam, App, Var, F, G, Add, Mul, Number, Word}
 use Rattle.slotted_patterns.specs.ReadAgain.{IsWordAndPlaces}
 
 pub small_plain : (a : Small) → IsWordAndPlaces (small_form a) (small_shown a)

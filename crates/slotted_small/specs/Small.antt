@@ -4,8 +4,8 @@ use Rattle.slotted_slots.specs.Syntax.{Element, text, applied, name}
 use Rattle.slotted_nodes.specs.Form.{Form, variant, plain, slot_form, child_form, bind_form, join_form}
 use Rattle.slotted_slots.specs.Table.{reads_u32}
 use Rattle.slotted_slots.specs.declared.types.AppliedId.{AppliedId}
-use Rattle.slotted_languages.specs.declared.small.Small.{Small}
-use Rattle.slotted_languages.specs.declared.small.Small.TheVariants.{Lam, App, Var, F, G, Add, Mul, Number, Word}
+use Rattle.slotted_small.specs.declared.small.Small.{Small}
+use Rattle.slotted_small.specs.declared.small.Small.TheVariants.{Lam, App, Var, F, G, Add, Mul, Number, Word}
 
 -- the variants in the order of their operators
 abbrev pub small_form : Small → Form

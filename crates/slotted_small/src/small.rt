@@ -2,16 +2,17 @@
 ghost use Rattle.std.specs.Prelude.{◌≡◌, Some, [], ◌∷◌, map, option_map, IfOk, IfErr};
 ghost use Rattle.slotted_slots.specs.Error.{IsOutOfMemory};
 ghost use Rattle.slotted_slots.specs.Syntax.{element_of, name, text};
-ghost use Rattle.slotted_languages.specs.Small.{small_form, small_shown, small_read, alone, id_element, id_form};
-ghost use Rattle.slotted_languages.specs.Small.{over_slot, over_slots, over_binder, over_children};
-ghost use Rattle.slotted_languages.specs.SmallBack.{small_words, small_back, small_null};
-ghost use Rattle.slotted_languages.specs.SmallRead.{small_faithful};
-ghost use Rattle.slotted_languages.specs.SmallSame.{small_fits, small_few, small_same};
+ghost use Rattle.slotted_small.specs.Small.{small_form, small_shown, small_read, alone, id_element, id_form};
+ghost use Rattle.slotted_small.specs.Small.{over_slot, over_slots, over_binder, over_children};
+ghost use Rattle.slotted_small.specs.SmallBack.{small_words, small_back, small_null};
+ghost use Rattle.slotted_small.specs.SmallRead.{small_faithful};
+ghost use Rattle.slotted_small.specs.SmallSame.{small_fits, small_few, small_same};
+ghost use Rattle.slotted_small.specs.SmallWritten.{small_written, small_written_as};
 ghost use Rattle.slotted_slots.specs.Table.{reads_u32};
 
-use crate::language::Language;
-use slotted_nodes::{Bind, LanguageChildren, ReadBack, Symbol, pair};
+use slotted_languages::{Bind, Language, LanguageChildren, ReadBack, Symbol, pair};
 use slotted_slots::{AppliedId, Error, Slot, SyntaxElem};
+use slotted_terms::expr::printing::Printable;
 use std::alloc::Global;
 
 /// A node of the written language. The comment at each variant says how it is written.
@@ -390,4 +391,10 @@ impl ReadBack for Small {
     ghost back = { small_back };
 
     ghost null = { small_null };
+}
+
+impl Printable for Small {
+    ghost written = { small_written };
+
+    ghost written_as = { small_written_as };
 }

@@ -4,7 +4,7 @@ use Rattle.slotted_slots.specs.Syntax.{Element, text, applied, name}
 use Rattle.slotted_slots.specs.Table.{reads_u32}
 use Rattle.slotted_nodes.specs.Form.{Form, variant, plain, slot_form, child_form, bind_form, join_form}
 use Rattle.slotted_nodes.specs.ReadFrom.{IsReadFrom, slot_read, child_read, bind_read, plain_read, join_read, variant_read, operator_read}
-use Rattle.slotted_languages.specs.Small.{small_read, alone}
+use Rattle.slotted_small.specs.Small.{small_read, alone}
 
 -- one of two answers
 either : (b : Bool) (o p : Option Form) (es : List Element) → IfSome o (IsReadFrom es) → IfSome p (IsReadFrom es) → IfSome (cond b o p) (IsReadFrom es)

@@ -7,10 +7,10 @@ use Rattle.slotted_slots.specs.Table.{slot_limit}
 use Rattle.slotted_slots.specs.declared.types.AppliedId.{AppliedId}
 use Rattle.slotted_nodes.specs.Equal.{applied_id_same, bind_same, bind_form_fits, child_form_fits, slot_same, number_told, bytes_told, plain_same}
 use Rattle.slotted_nodes.specs.PairEqual.{AreAlike, join_form_fits, join_form_same, variant_same}
-use Rattle.slotted_languages.specs.declared.small.Small.{Small}
-use Rattle.slotted_languages.specs.declared.small.Small.TheVariants.{Lam, App, Var, F, G, Add, Mul, Number, Word}
-use Rattle.slotted_languages.specs.Small.{small_form}
-use Rattle.slotted_languages.specs.contracts.small.SmallPartialEq.TheImpl.{ghosts}
+use Rattle.slotted_small.specs.declared.small.Small.{Small}
+use Rattle.slotted_small.specs.declared.small.Small.TheVariants.{Lam, App, Var, F, G, Add, Mul, Number, Word}
+use Rattle.slotted_small.specs.Small.{small_form}
+use Rattle.slotted_small.specs.contracts.small.SmallPartialEq.TheImpl.{ghosts}
 
 -- whether two children are equal, and the form of a child
 abbrev id_eq : AppliedId → AppliedId → Bool

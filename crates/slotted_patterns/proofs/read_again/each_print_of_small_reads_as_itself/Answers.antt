@@ -1,5 +1,0 @@
-use Rattle.slotted_patterns.proofs.SmallReadsAgain.{small_plain}
-use Rattle.slotted_patterns.proofs.read_again.each_print_of_small_reads_as_itself.Goals as goal
-
-pub each_print_reads_as_itself-requires : goal.each_print_reads_as_itself-requires
-each_print_reads_as_itself-requires c = record { plain = small_plain }

@@ -1,0 +1,2 @@
+-- How the nodes of Small are written.
+pub mod SmallReadsAgain
