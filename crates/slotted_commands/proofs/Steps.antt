@@ -98,13 +98,13 @@ module _ (read : List Element → Option Form) (written : Term → List Element)
 
   -- two that do not
   pub found_different : (y : Bool) → y ≡ false → ¬ FoundAlike h.image a b → IsYesIfDerivable h.image a b y → (asserted_in h.image ≡ [] → term_of h.image.canonical a ≡ term_of h.image.canonical b → FoundAlike h.image a b) → Answered read written g h (compares left right) No
-  found_different y no apart complete equal =
+  found_different y is_no apart complete equal =
       let fills_a = fills-itself h.image a both.left_valid.full in
       let fills_b = fills-itself h.image b both.right_valid.full in
       carried_out (both.first ∷ both.second ∷ []) (a ∷ b ∷ []) both.before h both.sound both.writes both.gains (are_different (record {
         found = apart;
         missed = λ E e d. elim (complete a b fills_a fills_b E both.first both.second e (sym both.left_term) (sym both.right_term) d) [
-          | inl yes ↦ absurd (false≢true (sym no ∙ yes))
+          | inl is_yes ↦ absurd (false≢true (sym is_no ∙ is_yes))
           | inr affected ↦ affected
         ];
         different = λ n alpha. apart (equal n (both.left_term ∙ (alpha ∙ sym both.right_term)));
