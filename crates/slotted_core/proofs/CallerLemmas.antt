@@ -84,7 +84,7 @@ closed-unaffected g closed (by_affected_child i c within under affected) = close
 -- so there an answer of `eq` is yes exactly if the terms of its two valid ids are equal by what was asserted
 pub exact_if_closed : (g : Image) (a b : Applied) (y : Bool) → IsFull g.canonical a → IsFull g.canonical b → SaysEqual g a b y → IsYesIfEqual g a b y → AreClosed g → IsTrue y ↔ Equal (asserted_in g) (term_of g.canonical a) (term_of g.canonical b)
 exact_if_closed g a b y full_a full_b says complete closed =
-    (says, λ e. elim (complete a b (fills-itself g a full_a) (fills-itself g b full_b) e) [ | inl t ↦ t | inr affected ↦ absurd (closed-unaffected g closed affected.0) ])
+    (says, λ e. elim (complete a b (fills-itself g a full_a) (fills-itself g b full_b) e) [ inl t ↦ t | inr affected ↦ absurd (closed-unaffected g closed affected.0) ])
 
 -- calls that change the table alone, one after another
 
