@@ -4,7 +4,7 @@ use Rattle.std.specs.Prelude.{Contains, IsTrue}
 use Rattle.std.specs.Map.{keys_of}
 use Rattle.std.proofs.lemmas.Bool.{false≢true}
 use Rattle.std.proofs.lemmas.List.Elements.{All-contains}
-use Rattle.slotted_theory.specs.FiniteMaps.{filled, value_of}
+use Rattle.slotted_theory.specs.FiniteMaps.{filled, value_of, IsInjectiveMap}
 use Rattle.slotted_theory.specs.Nameless.{moved}
 use Rattle.slotted_theory.proofs.Lists.{Contains-map}
 use Rattle.slotted_slots.specs.Ascending as rising
@@ -31,14 +31,13 @@ use Rattle.slotted_proofs.proofs.Bridges.{ascends, own_full, value_of-model}
 use Rattle.slotted_store.specs.Finding.{IsFindable}
 use Rattle.slotted_store.specs.Kept.{Kept, nodes_of, entries_of}
 use Rattle.slotted_store.proofs.NamePairs.{In-firsts}
-use Rattle.slotted_filing.specs.Filed.{filed_of}
+use Rattle.slotted_filing.specs.Filed.{HasKey, filed_of}
 use Rattle.slotted_filing.specs.FiledRows.{Rows}
 use Rattle.slotted_normal_forms.specs.FoundNodes.{IsFoundNode}
 use Rattle.slotted_rebuilding.specs.Filed.{IsKeyed, IsWellFiled}
 use Rattle.slotted_rebuilding.proofs.StaleRows.{own-numbers}
-use Rattle.slotted_adding.specs.Enodes.{AllKnownTo, IsMet, names_beside_of}
-use Rattle.slotted_adding.specs.LookUp.{looked_up}
-use Rattle.slotted_adding.proofs.AppliedNodes.{filed-in_nodes, filed-key, filed-node, named-looked_up, same-keys}
+use Rattle.slotted_adding.specs.Enodes.{AllKnownTo, IsLookedUpAs, IsMet, names_beside_of}
+use Rattle.slotted_adding.proofs.AppliedNodes.{filed-in_nodes, filed-key, filed-node, named-looked_up, same-keys, shape-named}
 use Rattle.slotted_adding.proofs.Reported.{In-among}
 
 module _ (k : Kept) (r : Rows) (well : IsWellFiled k r) (o : ℕ) (f : Form) (m : List (ℕ × ℕ)) (at : filed_of r.filed o ≡ Some (f, m)) (quiet : ¬ Contains r.waiting o)
@@ -127,8 +126,22 @@ module _ (k : Kept) (r : Rows) (well : IsWellFiled k r) (o : ℕ) (f : Form) (m 
         let e : value_of w x ≡ Some u = value_of-in_order (keys m) w partial.in_order x u (beside t s u x p q d) in
         subst (λ y. Contains n (x, y)) (is.known x u (value_of-model w x ∙ e)) (Contains-map {Y = ℕ × ℕ} (λ y. (y, is.by y)) (keys m) x (Contains-key m x s d))
 
+    numbers : keys n ≡ keys m
+    numbers = keys-map_on is.by (keys m)
+
+    once : IsInjectiveMap n
+    once = IsInjectiveMap-map_on is.by (keys m) (λ x z i j e. apart x z (free x i) (free z j) e) rises
+
+    back : moved (filled n) (nameless_node f) ≡ nameless_node c
+    back = moved-agrees (filled n) is.by (nameless_node f) (λ x h. filled-map_on is.by (keys m) x (a-number x h)) ∙ sym is.renamed
+
     -- so the node is looked up as what the id finds
-    pub beside-looked_up : looked_up k r c ≡ Some (find found a)
-    beside-looked_up =
-        named-looked_up k r well o f m at quiet a valid meets n (keys-map_on is.by (keys m)) (IsInjectiveMap-map_on is.by (keys m) (λ x z i j e. apart x z (free x i) (free z j) e) rises) named
-        c fits (moved-agrees (filled n) is.by (nameless_node f) (λ x h. filled-map_on is.by (keys m) x (a-number x h)) ∙ sym is.renamed)
+    pub beside-looked_up : IsLookedUpAs k r a c
+    beside-looked_up = named-looked_up k r well o f m at quiet a valid meets n numbers once named c fits back
+
+    -- and is filed by the key
+    pub beside-key : HasKey r.filed o (shape c).0
+    beside-key =
+        let shapes : ◌≡◌ {A = Form × List (ℕ × ℕ)} (f, n) (shape c) = shape-named f kept.fits kept.itself n (numbers ∙ kept.numbers) once c back in
+        let same : f ≡ (shape c).0 = ap (λ (p : Form × List (ℕ × ℕ)). p.0) shapes in
+        (m, subst (λ h. filed_of r.filed o ≡ Some (h, m)) same at)

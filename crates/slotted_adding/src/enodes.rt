@@ -1,16 +1,15 @@
 //! The filed nodes of a class, with the names of an id.
-ghost use Rattle.std.specs.Prelude.{◌≡◌, ◌<◌, length, Some, Contains, IfOk, IfErr, IsErrOf};
+ghost use Rattle.std.specs.Prelude.{◌≡◌, ◌<◌, length, Contains, IfOk, IfErr, IsErrOf};
 ghost use Rattle.slotted_slots.specs.Error.{IsOutOfMemory, IsShortage};
 ghost use Rattle.slotted_slots.specs.Maps.{values};
 ghost use Rattle.slotted_slots.specs.Table.{KnowsMore};
-ghost use Rattle.slotted_model.specs.Find.{find};
+ghost use Rattle.slotted_languages.specs.Shape.{shape};
 ghost use Rattle.slotted_proofs.specs.Equations.{to_applied};
+ghost use Rattle.slotted_filing.specs.Filed.{HasKey};
 ghost use Rattle.slotted_filing.specs.FiledRows.{IsFiled};
 ghost use Rattle.slotted_rebuilding.specs.Filed.{IsWellFiled};
 ghost use Rattle.slotted_store.specs.Finding.{HasFinds, IsFindable};
-ghost use Rattle.slotted_store.specs.Kept.{entries_of};
-ghost use Rattle.slotted_adding.specs.Enodes.{AllKnownTo, IsMet, RunsOutForKey, names_beside_of};
-ghost use Rattle.slotted_adding.specs.LookUp.{looked_up};
+ghost use Rattle.slotted_adding.specs.Enodes.{AllKnownTo, IsLookedUpAs, IsMet, RunsOutForKey, names_beside_of};
 
 use crate::finding::found_class;
 use slotted_filing::Hashcons;
@@ -41,8 +40,8 @@ fn names_beside<L: Language>(
     Ok(names)
 }
 
-/// The node that is filed of a class, with the names of an id that finds the same class. A slot that finds do not use has
-/// a fresh name. The class doesn't wait.
+/// The node that is filed of a class, with the names of an id that finds the same class. A slot that finds do not use
+/// has a fresh name. The class does not wait.
 pub fn applied_node<L: Language>(
     store: &Store<L>,
     nodes: &Hashcons<L>,
@@ -58,8 +57,9 @@ pub fn applied_node<L: Language>(
     requires met { IsMet store.now source (to_applied a.now) }
     requires known { AllKnownTo table.old (values a.now.m) }
 
-    // It is looked up as what the id finds.
-    ensures ok { IfOk result (λ n. looked_up store.now nodes.now (L.form n) ≡ Some (find (entries_of store.now) (to_applied a.now))) }
+    // It has the filed key as its shape, and is looked up as what the id finds.
+    ensures key { IfOk result (λ n. HasKey nodes.now.filed source (shape (L.form n)).0) }
+    ensures ok { IfOk result (λ n. IsLookedUpAs store.now nodes.now (to_applied a.now) (L.form n)) }
     ensures more { KnowsMore table.old table.new }
     ensures kept { table.new.names ≡ table.old.names }
     ensures full { IsErrOf result Error.OutOfSlots → RunsOutForKey nodes.now source table.new }

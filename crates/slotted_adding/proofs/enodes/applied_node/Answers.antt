@@ -5,7 +5,7 @@ use Rattle.slotted_languages.specs.Fresh.{IsRenamedFresh}
 use Rattle.slotted_proofs.specs.Equations.{to_applied}
 use Rattle.slotted_filing.proofs.Indexed.{place-within}
 use Rattle.slotted_unions.proofs.EnteredProofs.{stored-finds}
-use Rattle.slotted_adding.proofs.EnodeNames.{beside-looked_up}
+use Rattle.slotted_adding.proofs.EnodeNames.{beside-key, beside-looked_up}
 use Rattle.slotted_adding.proofs.enodes.applied_node.Goals as goal
 
 pub names_beside-requires-clause-good : goal.names_beside-requires-clause-good
@@ -25,6 +25,17 @@ returns-clause-ok g c =
     let node = form c.in_ok-node-in-Some.node in
     let is = subst (λ w. IsRenamedFresh c.args.table.now w key node) c.in_ok-names-in-Some.ensures.ok c.in_ok-node-in-Some.ensures.renamed in
     beside-looked_up c.args.store.now c.args.nodes.now c.requires.good c.args.source key slots at c.requires.quiet (to_applied c.args.a.now) c.requires.findable c.requires.met
+    c.args.table.now c.requires.known node (g.met.L.LanguageChildren.fits c.in_ok-node-in-Some.node) is
+
+pub returns-clause-key : goal.returns-clause-key
+returns-clause-key g c =
+    let form = g.L.LanguageChildren.form in
+    let key = form c.in-Some.key.now in
+    let slots = c.in-Some.slots.now in
+    let at = sym (ap (option_map (λ p. (form p.0.now, p.1.now))) (sym c.in-Some.is) ∙ c.node.ensures) in
+    let node = form c.in_ok-node-in-Some.node in
+    let is = subst (λ w. IsRenamedFresh c.args.table.now w key node) c.in_ok-names-in-Some.ensures.ok c.in_ok-node-in-Some.ensures.renamed in
+    beside-key c.args.store.now c.args.nodes.now c.requires.good c.args.source key slots at c.requires.quiet (to_applied c.args.a.now) c.requires.findable c.requires.met
     c.args.table.now c.requires.known node (g.met.L.LanguageChildren.fits c.in_ok-node-in-Some.node) is
 
 pub returns-in_err-node-in-Some-clause-full : goal.returns-in_err-node-in-Some-clause-full
