@@ -2,26 +2,24 @@
 use Rattle.std.proofs.Common.{◌≡◌, ◌≢◌, ◌<◌, ℕ, List, [], ◌∷◌, Some, length, map, refl, ap, ◌∙◌, sym, subst, inl, inr, arith}
 use Rattle.std.specs.Prelude.{Contains, option_map}
 use Rattle.std.specs.List.{cons_option, zip}
-use Rattle.std.proofs.lemmas.Bool.{cases_eq}
 use Rattle.slotted_theory.specs.FiniteMaps.{filled, value_of, with_values, HasValue, IsInjectiveMap}
-use Rattle.slotted_theory.specs.Nameless.{DTerm, moved}
-use Rattle.slotted_theory.specs.Renaming.{IsInjective}
+use Rattle.slotted_theory.specs.Nameless.{moved}
 use Rattle.slotted_theory.proofs.ByBijection.{moved-injective}
 use Rattle.slotted_theory.proofs.Filled.{filled-injective}
 use Rattle.slotted_theory.proofs.Lists.{contains_head, contains_tail}
 use Rattle.slotted_nodes.specs.Form.{Form}
-use Rattle.slotted_languages.specs.NodeTerm.{nameless_node, free_names_of}
-use Rattle.slotted_languages.specs.Shape.{Fits, firsts, shape}
+use Rattle.slotted_languages.specs.NodeTerm.{nameless_node}
+use Rattle.slotted_languages.specs.Shape.{Fits, shape}
 use Rattle.slotted_languages.proofs.Shapes.{keys-shape, shape-same, values-shape}
 use Rattle.slotted_model.specs.Applied.{Applied, keys, values, map_on}
-use Rattle.slotted_model.specs.Ascending.{IsAscending, names}
+use Rattle.slotted_model.specs.Ascending.{IsAscending}
 use Rattle.slotted_model.specs.Classes.{canonical_node}
 use Rattle.slotted_model.specs.Correspondence.{composite}
-use Rattle.slotted_model.specs.Find.{Entry, find, find_class, find_map, entry_at}
+use Rattle.slotted_model.specs.Find.{Entry, find, find_map, entry_at}
 use Rattle.slotted_model.specs.Normal.{normal}
 use Rattle.slotted_model.specs.Rest.{IsCurrent}
 use Rattle.slotted_model.specs.State.{State, look_up_normal, normal_node}
-use Rattle.slotted_model.proofs.Correspondences.Pairs.{Contains-of_key, Contains-of_value, Contains-value, value_of-other, value_of-same}
+use Rattle.slotted_model.proofs.Correspondences.Pairs.{Contains-of_value, Contains-value, value_of-other, value_of-same}
 use Rattle.slotted_model.proofs.Finding.{find_map-full}
 use Rattle.slotted_model.proofs.Maps.{keys-map_on, keys-with_values, map_on-filled, values-map_on, values-with_values}
 use Rattle.slotted_model.proofs.Members.{In, In-Contains, In-map}
@@ -34,7 +32,7 @@ use Rattle.slotted_store.specs.Finding.{IsFindable}
 use Rattle.slotted_store.specs.Kept.{Kept, nodes_of, entries_of}
 use Rattle.slotted_store.specs.Names.{between}
 use Rattle.slotted_store.proofs.ChildIds.{zip-keys_values}
-use Rattle.slotted_store.proofs.KeptLists.{length-mapped, length-nodes_of}
+use Rattle.slotted_store.proofs.KeptLists.{length-mapped}
 use Rattle.slotted_filing.specs.Filed.{filed_of}
 use Rattle.slotted_filing.specs.FiledRows.{Rows, row_of_entry}
 use Rattle.slotted_filing.proofs.FiledRows.{row-filed}

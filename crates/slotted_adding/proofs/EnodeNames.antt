@@ -1,7 +1,6 @@
 -- The names that an id has for the numbers of a filed node, with fresh slots beside them.
-use Rattle.std.proofs.Common.{◌≡◌, ℕ, List, Option, Some, None, true, length, refl, ap, ◌∙◌, sym, subst}
+use Rattle.std.proofs.Common.{◌≡◌, ℕ, List, Option, Some, None, true, refl, ap, ◌∙◌, sym, subst}
 use Rattle.std.specs.Prelude.{Contains, IsTrue}
-use Rattle.std.specs.Map.{keys_of}
 use Rattle.std.proofs.lemmas.Bool.{false≢true}
 use Rattle.std.proofs.lemmas.List.Elements.{All-contains}
 use Rattle.slotted_theory.specs.FiniteMaps.{filled, value_of, IsInjectiveMap}

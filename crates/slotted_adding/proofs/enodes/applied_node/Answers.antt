@@ -1,5 +1,5 @@
 -- The node with the names of the id.
-use Rattle.std.proofs.Common.{rules, ◌≡◌, ◌∙◌, Some, ap, sym, subst, inl, inr, arith}
+use Rattle.std.proofs.Common.{rules, ◌∙◌, ap, sym, subst, inl, inr, arith}
 use Rattle.std.specs.Prelude.{option_map}
 use Rattle.slotted_languages.specs.Fresh.{IsRenamedFresh}
 use Rattle.slotted_proofs.specs.Equations.{to_applied}

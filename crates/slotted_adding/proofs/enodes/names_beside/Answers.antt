@@ -1,5 +1,5 @@
 -- From numbers to slots of the class, to slots of the class that is found, to names.
-use Rattle.std.proofs.Common.{◌≡◌, ◌∙◌, ap, sym, subst}
+use Rattle.std.proofs.Common.{◌∙◌, ap, sym, subst}
 use Rattle.slotted_theory.specs.FiniteMaps.{IsInjectiveMap}
 use Rattle.slotted_slots.specs.Maps.{composed}
 use Rattle.slotted_model.specs.Applied.{Applied}
