@@ -2,6 +2,7 @@
 use Rattle.std.proofs.Common.{◌≡◌, ◌<◌, ◌∙◌, ℕ, List, length, ap, sym, subst, arith}
 use Rattle.std.specs.Map.{values_of}
 use Rattle.std.specs.Prelude.{Contains}
+use Rattle.slotted_theory.specs.FiniteMaps.{IsInjectiveMap}
 use Rattle.slotted_theory.specs.Nameless.{DTerm}
 use Rattle.slotted_model.specs.Applied.{Applied, keys, values}
 use Rattle.slotted_model.specs.Ascending.{IsAscending}
@@ -44,6 +45,9 @@ module _ (k : Kept) (good : HasFinds k) (i : ℕ) (within : i < length k.classes
   map-rises =
       let P : List ℕ = canonical_slots (nodes_of k) (find_class (entries_of k) i) in
       in_order-ascending P (find_map (entries_of k) i) (slots-ascending (nodes_of k) (find_class (entries_of k) i)) (find_map-partial (nodes_of k) (entries_of k) L i in_nodes).in_order
+
+  pub map-injective : IsInjectiveMap (find_map (entries_of k) i)
+  map-injective = (find_map-full (nodes_of k) (entries_of k) good.linked i in_nodes).injective
 
   -- a find has a pair for each slot of the class that is found, whose entry pairs it with itself
   pub found-keys : (c : ℕ) → c ≡ find_class (entries_of k) i → (m : List (ℕ × ℕ)) → m ≡ (find_at k c).pairs → values m ≡ keys (find_map (entries_of k) i)

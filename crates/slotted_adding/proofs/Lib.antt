@@ -4,3 +4,5 @@ pub mod FoundMaps
 pub mod RowNames
 pub mod LookedUpRows
 pub mod Reported
+pub mod AppliedNodes
+pub mod EnodeNames

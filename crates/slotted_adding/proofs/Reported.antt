@@ -27,7 +27,7 @@ among-In (y ∷ ys) x h = elim (is_among-cons x y ys h) [
   | inr k ↦ inr (among-In ys x k)
 ]
 
-In-among : (xs : List ℕ) (x : ℕ) → In x xs → is_among x xs ≡ true
+pub In-among : (xs : List ℕ) (x : ℕ) → In x xs → is_among x xs ≡ true
 In-among [] x h = absurd h
 In-among (y ∷ ys) x (inl e) = is_among-first x y ys (sym e)
 In-among (y ∷ ys) x (inr h) = is_among-more x y ys (In-among ys x h)

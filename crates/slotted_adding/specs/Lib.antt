@@ -1,3 +1,4 @@
 -- What looking up and filling answer.
+pub mod Enodes
 pub mod LookUp
 pub mod Reports

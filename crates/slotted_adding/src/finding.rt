@@ -1,11 +1,11 @@
 //! What ids find, also those that lack names of slots that their classes use.
 ghost use Rattle.std.specs.Prelude.{◌≡◌, ◌<◌, length, IfOk, IfErr};
 ghost use Rattle.slotted_slots.specs.Error.{IsOutOfMemory};
-ghost use Rattle.slotted_model.specs.Find.{find, find_class, find_map};
+ghost use Rattle.slotted_model.specs.Find.{find};
 ghost use Rattle.slotted_proofs.specs.Equations.{to_applied};
 ghost use Rattle.slotted_store.specs.Finding.{HasFinds, IsFindable};
 ghost use Rattle.slotted_store.specs.Kept.{entries_of};
-ghost use Rattle.slotted_adding.specs.LookUp.{IsFoundFor};
+ghost use Rattle.slotted_adding.specs.LookUp.{IsFoundFor, found_slots};
 
 use slotted_languages::Language;
 use slotted_slots::{AppliedId, Error, Id, SlotMap};
@@ -36,7 +36,7 @@ pub fn found_class<L: Language>(
 ) -> Result<AppliedId, Error>
     requires good { HasFinds store.now }
     requires within { class < length store.now.classes }
-    ensures ok { IfOk result (λ a. to_applied a ≡ (find_class (entries_of store.now) class, find_map (entries_of store.now) class)) }
+    ensures ok { IfOk result (λ a. to_applied a ≡ found_slots (entries_of store.now) class) }
     ensures err { IfErr result IsOutOfMemory }
 {
     let found = store.find_class(class);
@@ -51,7 +51,8 @@ pub fn found_class<L: Language>(
     Ok(AppliedId { id: Id(found), m })
 }
 
-/// What a class finds with these names for its slots. It may lack some that the class uses: then so does what is found.
+/// What a class finds with these names for its slots. They may lack slots that the class uses: then what is found
+/// lacks them too.
 pub fn found_with<L: Language>(
     store: &Store<L>,
     alloc: Global,

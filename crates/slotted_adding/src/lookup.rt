@@ -2,15 +2,10 @@
 ghost use Rattle.std.specs.Prelude.{◌≡◌, option_map, IfOk, IfErr, IsErrOf};
 ghost use Rattle.slotted_slots.specs.Error.{IsOutOfMemory, IsShortage};
 ghost use Rattle.slotted_languages.specs.NewNames.{IsTooLarge};
-ghost use Rattle.slotted_languages.specs.NodeTerm.{nameless_node};
-ghost use Rattle.slotted_model.specs.Find.{find};
-ghost use Rattle.slotted_model.specs.State.{look_up_node};
 ghost use Rattle.slotted_normal_forms.specs.NormalNodes.{HasFindableChildren};
 ghost use Rattle.slotted_proofs.specs.Equations.{to_applied};
-ghost use Rattle.slotted_rebuilding.specs.Filed.{IsWellFiled, state_in};
-ghost use Rattle.slotted_store.specs.Kept.{entries_of};
-ghost use Rattle.slotted_store.specs.Names.{between};
-ghost use Rattle.slotted_adding.specs.LookUp.{HasNamesFor, filed_slots};
+ghost use Rattle.slotted_rebuilding.specs.Filed.{IsWellFiled};
+ghost use Rattle.slotted_adding.specs.LookUp.{HasNamesFor, found_named, looked_up};
 
 use crate::finding::found_with;
 use slotted_filing::Hashcons;
@@ -21,8 +16,8 @@ use slotted_store::Store;
 use slotted_store::names::map_between;
 use std::alloc::Global;
 
-// What the class of a filed node finds, with these names for the numbers of the node's key. A class whose node waits may use slots that
-// the node lacks.
+// What the class of a filed node finds, with these names for the numbers of the node's key. A class whose node waits
+// may use slots that the node lacks.
 fn found_source<L: Language>(
     store: &Store<L>,
     nodes: &Hashcons<L>,
@@ -32,7 +27,7 @@ fn found_source<L: Language>(
 ) -> Result<AppliedId, Error>
     requires good { IsWellFiled store.now nodes.now }
     requires names { HasNamesFor nodes.now class names.now }
-    ensures ok { IfOk result (λ a. to_applied a ≡ find (entries_of store.now) (class, between (filed_slots nodes.now class) names.now)) }
+    ensures ok { IfOk result (λ a. to_applied a ≡ found_named store.now nodes.now class names.now) }
     ensures err { IfErr result IsOutOfMemory }
 {
     match nodes.node(class) {
@@ -45,7 +40,8 @@ fn found_source<L: Language>(
     }
 }
 
-/// The id of a node: what the class of the filed node finds that has the shape of its normal form, with the node's names put in.
+/// The id of a node: what the class of the filed node with the shape of its normal form finds, with the node's names
+/// put in.
 pub fn look_up<L: Language>(
     store: &Store<L>,
     nodes: &Hashcons<L>,
@@ -54,7 +50,7 @@ pub fn look_up<L: Language>(
 ) -> Result<Option<AppliedId>, Error>
     requires good { IsWellFiled store.now nodes.now }
     requires children { HasFindableChildren store.now (L.form node.now) }
-    ensures ok { IfOk result (λ o. option_map to_applied o ≡ look_up_node (state_in store.now nodes.now) (nameless_node (L.form node.now))) }
+    ensures ok { IfOk result (λ o. option_map to_applied o ≡ looked_up store.now nodes.now (L.form node.now)) }
     ensures full { IsErrOf result Error.OutOfSlots → IsTooLarge (L.form node.now) }
     ensures err { IfErr result IsShortage }
 {

@@ -1,0 +1,146 @@
+-- The names that an id has for the numbers of a filed node, with fresh slots beside them.
+use Rattle.std.proofs.Common.{◌≡◌, ℕ, List, Option, Some, None, true, refl, ap, ◌∙◌, sym, subst}
+use Rattle.std.specs.Prelude.{Contains, IsTrue}
+use Rattle.std.proofs.lemmas.Bool.{false≢true}
+use Rattle.std.proofs.lemmas.List.Elements.{All-contains}
+use Rattle.slotted_theory.specs.FiniteMaps.{filled, value_of, IsInjectiveMap}
+use Rattle.slotted_theory.specs.Nameless.{moved}
+use Rattle.slotted_theory.proofs.Lists.{Contains-map}
+use Rattle.slotted_slots.specs.Ascending as rising
+use Rattle.slotted_slots.specs.Maps as slots
+use Rattle.slotted_slots.specs.Table.{Table, is_known}
+use Rattle.slotted_nodes.specs.Form.{Form}
+use Rattle.slotted_languages.specs.Fresh.{IsRenamedFresh}
+use Rattle.slotted_languages.specs.NodeTerm.{nameless_node, free_names_of}
+use Rattle.slotted_languages.specs.Shape.{Fits, firsts, shape}
+use Rattle.slotted_languages.proofs.Shapes.{keys-shape}
+use Rattle.slotted_model.specs.Applied.{Applied, keys, values, map_on}
+use Rattle.slotted_model.specs.Ascending.{IsAscending}
+use Rattle.slotted_model.specs.Correspondence.{IsFullMap, IsPartialInjection, same_names}
+use Rattle.slotted_model.specs.Find.{Entry, find, find_map}
+use Rattle.slotted_model.proofs.Correspondences.FullMaps.{full-in_order, full-partial, same_names-by, same_names-partial}
+use Rattle.slotted_model.proofs.Correspondences.Pairs.{Contains-key, Contains-value, Contains-value_of}
+use Rattle.slotted_model.proofs.Correspondences.PartialInjections.{composite-by, composite-over, composite-partial, value_of-in_order}
+use Rattle.slotted_model.proofs.Finding.{find_map-full, found_keys}
+use Rattle.slotted_model.proofs.Maps.{IsInjectiveMap-map_on, filled-map_on, keys-map_on}
+use Rattle.slotted_model.proofs.Members.{In}
+use Rattle.slotted_model.proofs.NormalIds.{found-full, found-name}
+use Rattle.slotted_model.proofs.Theory.{moved-agrees}
+use Rattle.slotted_proofs.proofs.Bridges.{ascends, own_full, value_of-model}
+use Rattle.slotted_store.specs.Finding.{IsFindable}
+use Rattle.slotted_store.specs.Kept.{Kept, nodes_of, entries_of}
+use Rattle.slotted_store.proofs.NamePairs.{In-firsts}
+use Rattle.slotted_filing.specs.Filed.{HasKey, filed_of}
+use Rattle.slotted_filing.specs.FiledRows.{Rows}
+use Rattle.slotted_normal_forms.specs.FoundNodes.{IsFoundNode}
+use Rattle.slotted_rebuilding.specs.Filed.{IsKeyed, IsWellFiled}
+use Rattle.slotted_rebuilding.proofs.StaleRows.{own-numbers}
+use Rattle.slotted_adding.specs.Enodes.{AllKnownTo, IsLookedUpAs, IsMet, names_beside_of}
+use Rattle.slotted_adding.proofs.AppliedNodes.{filed-in_nodes, filed-key, filed-node, named-looked_up, same-keys, shape-named}
+use Rattle.slotted_adding.proofs.Reported.{In-among}
+
+module _ (k : Kept) (r : Rows) (well : IsWellFiled k r) (o : ℕ) (f : Form) (m : List (ℕ × ℕ)) (at : filed_of r.filed o ≡ Some (f, m)) (quiet : ¬ Contains r.waiting o)
+    (a : Applied) (valid : IsFindable k a) (meets : IsMet k o a) where
+  abbrev found : List Entry
+  found = entries_of k
+
+  abbrev F : List (ℕ × ℕ)
+  F = find_map found o
+
+  abbrev A : List (ℕ × ℕ)
+  A = (find found a).1
+
+  abbrev w : List (ℕ × ℕ)
+  w = names_beside_of k o m a
+
+  kept : IsKeyed (f, m)
+  kept = filed-key k r well o f m at
+
+  node : IsFoundNode k o f m
+  node = filed-node k r well o f m at quiet
+
+  full-m : IsFullMap (keys m) m
+  full-m = own_full m (subst rising.IsAscending (sym kept.numbers) (keys-shape f)) node.different
+
+  full-F : IsFullMap (keys F) F
+  full-F = subst (λ K. IsFullMap K F) (sym whole.slots) whole
+    where
+      whole : IsFullMap (found_keys (nodes_of k) found well.sane.sound.linked o) F
+      whole = find_map-full (nodes_of k) found well.sane.sound.linked o (filed-in_nodes k r well o f m at)
+
+  full-A : IsFullMap (keys F) A
+  full-A = subst (λ K. IsFullMap K A) (sym whole.slots ∙ sym (same-keys k r well o f m at a valid meets)) whole
+    where
+      whole : IsFullMap (found_keys (nodes_of k) found well.sane.sound.linked a.0) A
+      whole = found-full (nodes_of k) found well.sane.sound.linked a valid
+
+  partial : IsPartialInjection (keys m) (values A) w
+  partial = composite-partial (keys m) (keys F) (values A) (same_names m F) A (same_names-partial (keys m) (keys F) m F full-m full-F) (full-partial (keys F) (values A) A full-A (λ t u c. Contains-value A t u c))
+
+  beside : (t s u x : ℕ) → Contains F (t, s) → Contains A (t, u) → Contains m (x, s) → Contains w (x, u)
+  beside t s u x p q c = composite-by (keys F) (same_names m F) A (full-in_order (keys F) A full-A) x t u (same_names-by (keys F) m F full-F x t s c p) q
+
+  -- each of these names is one of the id
+  of-id : (x u : ℕ) → Contains w (x, u) → Contains (values a.1) u
+  of-id x u c =
+      let p = composite-over (same_names m F) A x u c in
+      let q = found-name found a p.0 u p.2 in
+      Contains-value a.1 q.0 u q.2
+
+  module _ (t : Table) (known : AllKnownTo t (values a.1)) (c : Form) (fits : Fits c) (is : IsRenamedFresh t w f c) where
+    is-known : (x u : ℕ) → slots.value_of w x ≡ Some u → is_known t u ≡ true
+    is-known x u e = All-contains (λ z. IsTrue (is_known t z)) (values a.1) u known (of-id x u (Contains-value_of w x u (sym (value_of-model w x) ∙ e)))
+
+    -- different numbers have different names
+    apart : (x z : ℕ) → In x (free_names_of f) → In z (free_names_of f) → is.by x ≡ is.by z → x ≡ z
+    apart x z hx hz e = go (slots.value_of w x) (slots.value_of w z) refl refl
+      where
+        go : (p q : Option ℕ) → slots.value_of w x ≡ p → slots.value_of w z ≡ q → x ≡ z
+        go (Some u) (Some v) i j =
+            let same : u ≡ v = sym (is.known x u i) ∙ (e ∙ is.known z v j) in
+            partial.injective x z v (Contains-value_of w x v (sym (value_of-model w x) ∙ (i ∙ ap Some same))) (Contains-value_of w z v (sym (value_of-model w z) ∙ j))
+        go (Some u) None i j =
+            absurd (false≢true (sym (is.unused z (In-among (free_names_of f) z hz) j) ∙ (ap (is_known t) (sym e ∙ is.known x u i) ∙ is-known x u i)))
+        go None (Some v) i j =
+            absurd (false≢true (sym (is.unused x (In-among (free_names_of f) x hx) i) ∙ (ap (is_known t) (e ∙ is.known z v j) ∙ is-known z v j)))
+        go None None i j = is.differ x z (In-among (free_names_of f) x hx) i (In-among (free_names_of f) z hz) e
+
+    numbers-are : keys m ≡ firsts (free_names_of f)
+    numbers-are = kept.numbers ∙ own-numbers f kept.fits kept.itself
+
+    free : (x : ℕ) → In x (keys m) → In x (free_names_of f)
+    free x h = (In-firsts x (free_names_of f)).0 (subst (In x) numbers-are h)
+
+    a-number : (x : ℕ) → In x (free_names_of f) → In x (keys m)
+    a-number x h = subst (In x) (sym numbers-are) ((In-firsts x (free_names_of f)).1 h)
+
+    rises : IsAscending (keys m)
+    rises = subst IsAscending (sym kept.numbers) (ascends (keys (shape f).1) (keys-shape f))
+
+    abbrev n : List (ℕ × ℕ)
+    n = map_on is.by (keys m)
+
+    named : (t s u x : ℕ) → Contains F (t, s) → Contains A (t, u) → Contains m (x, s) → Contains n (x, u)
+    named t s u x p q d =
+        let e : value_of w x ≡ Some u = value_of-in_order (keys m) w partial.in_order x u (beside t s u x p q d) in
+        subst (λ y. Contains n (x, y)) (is.known x u (value_of-model w x ∙ e)) (Contains-map {Y = ℕ × ℕ} (λ y. (y, is.by y)) (keys m) x (Contains-key m x s d))
+
+    numbers : keys n ≡ keys m
+    numbers = keys-map_on is.by (keys m)
+
+    once : IsInjectiveMap n
+    once = IsInjectiveMap-map_on is.by (keys m) (λ x z i j e. apart x z (free x i) (free z j) e) rises
+
+    back : moved (filled n) (nameless_node f) ≡ nameless_node c
+    back = moved-agrees (filled n) is.by (nameless_node f) (λ x h. filled-map_on is.by (keys m) x (a-number x h)) ∙ sym is.renamed
+
+    -- so the node is looked up as what the id finds
+    pub beside-looked_up : IsLookedUpAs k r a c
+    beside-looked_up = named-looked_up k r well o f m at quiet a valid meets n numbers once named c fits back
+
+    -- and is filed by the key
+    pub beside-key : HasKey r.filed o (shape c).0
+    beside-key =
+        let shapes : ◌≡◌ {A = Form × List (ℕ × ℕ)} (f, n) (shape c) = shape-named f kept.fits kept.itself n (numbers ∙ kept.numbers) once c back in
+        let same : f ≡ (shape c).0 = ap (λ (p : Form × List (ℕ × ℕ)). p.0) shapes in
+        (m, subst (λ h. filed_of r.filed o ≡ Some (h, m)) same at)

@@ -1,0 +1,76 @@
+//! The filed nodes of a class, with the names of an id.
+ghost use Rattle.std.specs.Prelude.{◌≡◌, ◌<◌, length, Contains, IfOk, IfErr, IsErrOf};
+ghost use Rattle.slotted_slots.specs.Error.{IsOutOfMemory, IsShortage};
+ghost use Rattle.slotted_slots.specs.Maps.{values};
+ghost use Rattle.slotted_slots.specs.Table.{KnowsMore};
+ghost use Rattle.slotted_languages.specs.Shape.{shape};
+ghost use Rattle.slotted_proofs.specs.Equations.{to_applied};
+ghost use Rattle.slotted_filing.specs.Filed.{HasKey};
+ghost use Rattle.slotted_filing.specs.FiledRows.{IsFiled};
+ghost use Rattle.slotted_rebuilding.specs.Filed.{IsWellFiled};
+ghost use Rattle.slotted_store.specs.Finding.{HasFinds, IsFindable};
+ghost use Rattle.slotted_adding.specs.Enodes.{AllKnownTo, IsLookedUpAs, IsMet, RunsOutForKey, names_beside_of};
+
+use crate::finding::found_class;
+use slotted_filing::Hashcons;
+use slotted_languages::Language;
+use slotted_slots::{AppliedId, Error, SlotMap, SlotTable};
+use slotted_store::Store;
+use std::alloc::Global;
+
+// For each number whose slot stands for one of what an id finds the name that it has.
+fn names_beside<L: Language>(
+    store: &Store<L>,
+    alloc: Global,
+    source: usize,
+    slots: &SlotMap,
+    a: &AppliedId,
+) -> Result<SlotMap, Error>
+    requires good { HasFinds store.now }
+    requires within { source < length store.now.classes }
+    requires findable { IsFindable store.now (to_applied a.now) }
+    ensures ok { IfOk result (λ m. m ≡ names_beside_of store.now source slots.now (to_applied a.now)) }
+    ensures err { IfErr result IsOutOfMemory }
+{
+    let found = found_class(store, alloc, source)?;
+    let back = found.m.inverse(alloc)?;
+    let numbered = slots.compose_partial(alloc, &back)?;
+    let named = store.found_id(alloc, a)?;
+    let names = numbered.compose_partial(alloc, &named.m)?;
+    Ok(names)
+}
+
+/// The node that is filed of a class, with the names of an id that finds the same class. A slot that finds do not use
+/// has a fresh name. The class does not wait.
+pub fn applied_node<L: Language>(
+    store: &Store<L>,
+    nodes: &Hashcons<L>,
+    alloc: Global,
+    table: &mut SlotTable,
+    source: usize,
+    a: &AppliedId,
+) -> Result<L, Error>
+    requires good { IsWellFiled store.now nodes.now }
+    requires filed { IsFiled nodes.now.filed source }
+    requires quiet { ¬ Contains nodes.now.waiting source }
+    requires findable { IsFindable store.now (to_applied a.now) }
+    requires met { IsMet store.now source (to_applied a.now) }
+    requires known { AllKnownTo table.old (values a.now.m) }
+
+    // It has the filed key as its shape, and is looked up as what the id finds.
+    ensures key { IfOk result (λ n. HasKey nodes.now.filed source (shape (L.form n)).0) }
+    ensures ok { IfOk result (λ n. IsLookedUpAs store.now nodes.now (to_applied a.now) (L.form n)) }
+    ensures more { KnowsMore table.old table.new }
+    ensures kept { table.new.names ≡ table.old.names }
+    ensures full { IsErrOf result Error.OutOfSlots → RunsOutForKey nodes.now source table.new }
+    ensures err { IfErr result IsShortage }
+{
+    match nodes.node(source) {
+        Some((key, slots)) => {
+            let names = names_beside(store, alloc, source, slots, a)?;
+            let node = key.apply_slotmap_fresh(alloc, &names, table)?;
+            Ok(node)
+        }
+        None => unreachable!(),
+    }
+}
