@@ -1,0 +1,1 @@
+-- Lemmas of looking up and filling.

@@ -1,0 +1,2 @@
+-- What looking up and filling answer.
+pub mod Filling

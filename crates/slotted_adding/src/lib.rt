@@ -1,0 +1,4 @@
+//! Adding by look-up: a node is looked up by its normal form, over ids that may lack names for slots that unions dropped.
+#![tactic(auto)]
+
+pub mod filling;
