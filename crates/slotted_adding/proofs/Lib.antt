@@ -1,1 +1,4 @@
 -- Lemmas of looking up and filling.
+pub mod NodesOver
+pub mod FilledIds
+pub mod FilledChildren
