@@ -30,7 +30,7 @@ use Rattle.slotted_store.specs.Finding.{IsFindable}
 use Rattle.slotted_store.specs.Kept.{Kept, nodes_of, entries_of}
 use Rattle.slotted_store.proofs.ChildIds.{zip-keys_values}
 use Rattle.slotted_store.proofs.NameMaps.{In-key, key-In, In-at, at_In}
-use Rattle.slotted_adding.specs.Filling.{AllKnown, FillsId, lack, lacking, named, filled_id, missing, with_fresh}
+use Rattle.slotted_adding.specs.Filling.{AllKnown, FillsId, lack, lacked, named, filled_id, missing, with_fresh}
 
 -- known slots
 
@@ -109,12 +109,12 @@ first-named c None x e = inr (refl, e)
 first-named c (Some y) x e = inl (ap Some (sym e))
 
 -- what stands in the map
-of_filled_map : (c : ℕ) (m : List (ℕ × ℕ)) (ss : List ℕ) (s x : ℕ) → In (s, x) (filled_map c m ss) → In s ss × IsNamed c (c + lacking m ss) m s x
+of_filled_map : (c : ℕ) (m : List (ℕ × ℕ)) (ss : List ℕ) (s x : ℕ) → In (s, x) (filled_map c m ss) → In s ss × IsNamed c (c + lacked m ss) m s x
 of_filled_map c m [] s x h = absurd h
 of_filled_map c m (t ∷ ss) s x (inl e) =
     let es : s ≡ t = ap (λ (p : ℕ × ℕ). p.0) e in
     let ex : x ≡ unwrap_or (value_of m t) (fresh_slot c) = ap (λ (p : ℕ × ℕ). p.1) e in
-    (inl es, subst (λ z. IsNamed c (c + lacking m (t ∷ ss)) m z x) (sym es) (elim (first-named c (value_of m t) x ex) [
+    (inl es, subst (λ z. IsNamed c (c + lacked m (t ∷ ss)) m z x) (sym es) (elim (first-named c (value_of m t) x ex) [
       | inl h ↦ inl h
       | inr h ↦
           let one : lack (value_of m t) ≡ 1 = ap lack h.0 in
@@ -123,8 +123,8 @@ of_filled_map c m (t ∷ ss) s x (inl e) =
 of_filled_map c m (t ∷ ss) s x (inr h) =
     let d = c + lack (value_of m t) in
     let r = of_filled_map d m ss s x h in
-    let e : d + lacking m ss ≡ c + lacking m (t ∷ ss) = omega arith in
-    (inr r.0, subst (λ n. IsNamed c n m s x) e (named-wider c d (d + lacking m ss) m s x (omega arith) r.1))
+    let e : d + lacked m ss ≡ c + lacked m (t ∷ ss) = omega arith in
+    (inr r.0, subst (λ n. IsNamed c n m s x) e (named-wider c d (d + lacked m ss) m s x (omega arith) r.1))
 
 -- a name stays
 kept-pair : (c : ℕ) (m : List (ℕ × ℕ)) (ss : List ℕ) (s x : ℕ) → value_of m s ≡ Some x → In s ss → In (s, x) (filled_map c m ss)

@@ -9,8 +9,11 @@
 --     node_over f bs             the node with these ids for its first children
 --     filled_node k c f          the node with each child filled
 --     missing_of k f             how many names its children lack
+--     RunsOutForId, RunsOutForNode   so many fresh slots were not to be had
 --     FillsId, FillsChildren     with known names, what was filled is a filling whatever known names are given
 --     HasFullChildren k f        the children have names for just the canonical slots of their classes
+--     MakesFull k t f g          with known names in f, g has full children
+--     KeepsKnown t u xs ys       where t knows xs, u knows ys
 --     HasOneNormalForm k f g     g has the normal form of f
 --     IsBeside f g               g is f but for the ids of its children
 use Rattle.std.specs.Prelude.{◌≡◌, ℕ, ◌+◌, ◌<◌, ◌≤◌, List, [], ◌∷◌, ◌++◌, length, take, drop, slice_index, Option, Some, None, unwrap_or, All, IsTrue}
@@ -52,9 +55,9 @@ lack None = 1
 lack (Some x) = 0
 
 -- how many of the slots have no name
-abbrev pub lacking : List (ℕ × ℕ) → List ℕ → ℕ
-lacking m [] = 0
-lacking m (s ∷ ss) = lack (value_of m s) + lacking m ss
+abbrev pub lacked : List (ℕ × ℕ) → List ℕ → ℕ
+lacked m [] = 0
+lacked m (s ∷ ss) = lack (value_of m s) + lacked m ss
 
 -- the name of each slot, or where it has none the next fresh slot from the index c on
 abbrev pub named : ℕ → List (ℕ × ℕ) → List ℕ → List ℕ
@@ -67,7 +70,7 @@ filled_id k c a = (a.0, zip (canonical_slots (nodes_of k) a.0) (named c a.1 (can
 
 -- how many names it lacks
 abbrev pub missing : Kept → Applied → ℕ
-missing k a = lacking a.1 (canonical_slots (nodes_of k) a.0)
+missing k a = lacked a.1 (canonical_slots (nodes_of k) a.0)
 
 -- some ids filled, one after another, and how many names they lack
 abbrev pub filled_ids : Kept → ℕ → List Applied → List Applied
@@ -107,6 +110,17 @@ filled_node k c f = node_over f (filled_ids k c (child_ids f))
 abbrev pub missing_of : Kept → Form → ℕ
 missing_of k f = missing_in k (child_ids f)
 
+-- so many fresh slots were not to be had
+abbrev pub RunsOutForId : Kept → Applied → Table → Table → Type 0
+RunsOutForId k a t u = RunsOut (missing k a) t u
+
+abbrev pub RunsOutForNode : Kept → Form → Table → Table → Type 0
+RunsOutForNode k f t u = RunsOut (missing_of k f) t u
+
+-- where the one table knows these names, the other knows those
+abbrev pub KeepsKnown : Table → Table → List ℕ → List ℕ → Type 0
+KeepsKnown t u xs ys = AllKnown t xs → AllKnown u ys
+
 -- where the table knows the names of a, b is a with its missing names, and none of these is a name that the table knows
 abbrev pub FillsId : Kept → Table → Applied → Applied → Type 0
 FillsId k t a b = AllKnown t (values a.1) → (given : List ℕ) → AllKnown t given → IsFilling (nodes_of k) given a b
@@ -119,6 +133,10 @@ FillsChildren k t f g =
 -- the children have names for just the canonical slots of their classes
 abbrev pub HasFullChildren : Kept → Form → Type 0
 HasFullChildren k f = All (IsFull (nodes_of k)) (child_ids f)
+
+-- where the table knows the names of f, g has full children
+abbrev pub MakesFull : Kept → Table → Form → Form → Type 0
+MakesFull k t f g = AllKnown t f.names → HasFullChildren k g
 
 -- g has the normal form of f
 abbrev pub HasOneNormalForm : Kept → Form → Form → Type 0

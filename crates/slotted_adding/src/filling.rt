@@ -8,9 +8,9 @@ ghost use Rattle.slotted_proofs.specs.Equations.{to_applied};
 ghost use Rattle.slotted_store.specs.Finding.{IsFindable};
 ghost use Rattle.slotted_store.specs.Kept.{nodes_of, rows_from};
 ghost use Rattle.slotted_normal_forms.specs.NormalNodes.{HasFindableChildren};
-ghost use Rattle.slotted_adding.specs.Filling.{AllKnown, FillsChildren, FillsId, HasFullChildren, HasOneNormalForm, IsBeside};
-ghost use Rattle.slotted_adding.specs.Filling.{MakesAtMost, RunsOut, with_fresh};
-ghost use Rattle.slotted_adding.specs.Filling.{filled_id, filled_node, lack, lacking, missing, missing_of, named};
+ghost use Rattle.slotted_adding.specs.Filling.{FillsChildren, FillsId, HasFullChildren, HasOneNormalForm, IsBeside};
+ghost use Rattle.slotted_adding.specs.Filling.{KeepsKnown, MakesAtMost, MakesFull, RunsOut, RunsOutForId, RunsOutForNode};
+ghost use Rattle.slotted_adding.specs.Filling.{filled_id, filled_node, lack, lacked, missing, missing_of, named, with_fresh};
 
 use slotted_languages::Language;
 use slotted_slots::{AppliedId, Error, Slot, SlotMap, SlotTable};
@@ -36,9 +36,9 @@ fn name_or_fresh(names: &SlotMap, slot: Slot, table: &mut SlotTable) -> Result<S
 fn name_values(slots: &mut SlotMap, names: &SlotMap, table: &mut SlotTable) -> Result<(), Error>
     ensures keys { OnOk result (keys slots.new ≡ keys slots.old) }
     ensures values { OnOk result (values slots.new ≡ named table.old.fresh names.now (values slots.old)) }
-    ensures made { OnOk result (table.new ≡ with_fresh (lacking names.now (values slots.old)) table.old) }
-    ensures takes { MakesAtMost (lacking names.now (values slots.old)) table.old table.new }
-    ensures full { OnErr result (RunsOut (lacking names.now (values slots.old)) table.old table.new) }
+    ensures made { OnOk result (table.new ≡ with_fresh (lacked names.now (values slots.old)) table.old) }
+    ensures takes { MakesAtMost (lacked names.now (values slots.old)) table.old table.new }
+    ensures full { IsErrOf result Error.OutOfSlots → RunsOut (lacked names.now (values slots.old)) table.old table.new }
     ensures only { IsOkUnless result Error.OutOfSlots }
 {
     for i in 0..slots.len() {
@@ -48,8 +48,8 @@ fn name_values(slots: &mut SlotMap, names: &SlotMap, table: &mut SlotTable) -> R
     Ok(())
 }
 
-/// The id with a fresh slot for each canonical slot of its class that it has no name for, in the order of these slots. An id
-/// that lacks no name is answered as it is.
+/// The id with a fresh slot for each canonical slot of its class that it has no name for, in the order of these slots.
+/// An id that lacks no name is answered as it is.
 pub fn fill_id<L: Language>(
     store: &Store<L>,
     alloc: Global,
@@ -61,13 +61,13 @@ pub fn fill_id<L: Language>(
     ensures id { IfOk result (λ b. to_applied b ≡ filled_id store.now table.old.fresh (to_applied a.now)) }
     ensures fills { IfOk result (λ b. FillsId store.now table.old (to_applied a.now) (to_applied b)) }
     ensures same { IfOk result (λ b. IsFull (nodes_of store.now) (to_applied a.now) → to_applied b ≡ to_applied a.now) }
-    ensures known { IfOk result (λ b. AllKnown table.old (values a.now.m) → AllKnown table.new (values b.m)) }
+    ensures known { IfOk result (λ b. KeepsKnown table.old table.new (values a.now.m) (values b.m)) }
 
     // A fresh slot is made for each name that is missing, and the table keeps its names.
     ensures made { OnOk result (table.new ≡ with_fresh (missing store.now (to_applied a.now)) table.old) }
     ensures takes { MakesAtMost (missing store.now (to_applied a.now)) table.old table.new }
     ensures more { KnowsMore table.old table.new }
-    ensures full { IsErrOf result Error.OutOfSlots → RunsOut (missing store.now (to_applied a.now)) table.old table.new }
+    ensures full { IsErrOf result Error.OutOfSlots → RunsOutForId store.now (to_applied a.now) table.old table.new }
     ensures err { IfErr result IsShortage }
 {
     let slots = store.names_of(a.id.0);
@@ -86,18 +86,18 @@ pub fn fill_node<L: Language>(
     requires rows { store.now.rows ≡ rows_from 0 store.now.classes }
     requires children { HasFindableChildren store.now (L.form node.now) }
     ensures node { IfOk result (λ n. L.form n ≡ filled_node store.now table.old.fresh (L.form node.now)) }
-    ensures children { IfOk result (λ n. AllKnown table.old (L.form node.now).names → HasFullChildren store.now (L.form n)) }
+    ensures children { IfOk result (λ n. MakesFull store.now table.old (L.form node.now) (L.form n)) }
     ensures fills { IfOk result (λ n. FillsChildren store.now table.old (L.form node.now) (L.form n)) }
     ensures beside { IfOk result (λ n. IsBeside (L.form node.now) (L.form n)) }
     ensures normal { IfOk result (λ n. HasOneNormalForm store.now (L.form node.now) (L.form n)) }
     ensures same { IfOk result (λ n. HasFullChildren store.now (L.form node.now) → L.form n ≡ L.form node.now) }
-    ensures known { IfOk result (λ n. AllKnown table.old (L.form node.now).names → AllKnown table.new (L.form n).names) }
+    ensures known { IfOk result (λ n. KeepsKnown table.old table.new (L.form node.now).names (L.form n).names) }
 
     // A fresh slot is made for each name that a child lacks, and the table keeps its names.
     ensures made { OnOk result (table.new ≡ with_fresh (missing_of store.now (L.form node.now)) table.old) }
     ensures takes { MakesAtMost (missing_of store.now (L.form node.now)) table.old table.new }
     ensures more { KnowsMore table.old table.new }
-    ensures full { IsErrOf result Error.OutOfSlots → RunsOut (missing_of store.now (L.form node.now)) table.old table.new }
+    ensures full { IsErrOf result Error.OutOfSlots → RunsOutForNode store.now (L.form node.now) table.old table.new }
     ensures err { IfErr result IsShortage }
 {
     let mut filled = node.copy(alloc)?;
