@@ -9,8 +9,9 @@ ghost use Rattle.slotted_store.specs.Finding.{IsFindable};
 ghost use Rattle.slotted_store.specs.Kept.{nodes_of, rows_from};
 ghost use Rattle.slotted_normal_forms.specs.NormalNodes.{HasFindableChildren};
 ghost use Rattle.slotted_adding.specs.Filling.{FillsChildren, FillsId, HasFullChildren, HasOneNormalForm, IsBeside};
-ghost use Rattle.slotted_adding.specs.Filling.{KeepsKnown, MakesAtMost, MakesFull, RunsOut, RunsOutForId, RunsOutForNode};
-ghost use Rattle.slotted_adding.specs.Filling.{filled_id, filled_node, lack, lacked, missing, missing_of, named, with_fresh};
+ghost use Rattle.slotted_adding.specs.Filling.{KeepsKnown, MakesAtMost, MakesFull, RunsOut, RunsOutForId};
+ghost use Rattle.slotted_adding.specs.Filling.{RunsOutForNode, filled_id, filled_node, lack, lacked, missing};
+ghost use Rattle.slotted_adding.specs.Filling.{missing_of, named, with_fresh};
 
 use slotted_languages::Language;
 use slotted_slots::{AppliedId, Error, Slot, SlotMap, SlotTable};
@@ -22,6 +23,7 @@ use std::alloc::Global;
 fn name_or_fresh(names: &SlotMap, slot: Slot, table: &mut SlotTable) -> Result<Slot, Error>
     ensures name { IfOk result (λ x. x ≡ unwrap_or (value_of names.now slot) (fresh_slot table.old.fresh)) }
     ensures made { OnOk result (table.new ≡ with_fresh (lack (value_of names.now slot)) table.old) }
+    ensures more { KnowsMore table.old table.new }
     ensures full { OnErr result (RunsOut (lack (value_of names.now slot)) table.old table.new) }
     ensures only { IsOkUnless result Error.OutOfSlots }
     ensures err { OnErr result (table.new ≡ table.old) }
@@ -38,6 +40,7 @@ fn name_values(slots: &mut SlotMap, names: &SlotMap, table: &mut SlotTable) -> R
     ensures values { OnOk result (values slots.new ≡ named table.old.fresh names.now (values slots.old)) }
     ensures made { OnOk result (table.new ≡ with_fresh (lacked names.now (values slots.old)) table.old) }
     ensures takes { MakesAtMost (lacked names.now (values slots.old)) table.old table.new }
+    ensures more { KnowsMore table.old table.new }
     ensures full { IsErrOf result Error.OutOfSlots → RunsOut (lacked names.now (values slots.old)) table.old table.new }
     ensures only { IsOkUnless result Error.OutOfSlots }
 {

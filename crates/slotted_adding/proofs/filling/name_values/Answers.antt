@@ -47,6 +47,7 @@ loop-i-preserved c =
       names = names-step c.args.names.now c.loop-i.table.fresh c.name_or_fresh.new.table.fresh xs (values c.set_value_at.new.self) c.loop-i.i x c.in_ok-name.name l at set c.in_ok-name.ensures.name next ∙ c.loop-i.invariant.names;
       left = left-step c.args.names.now c.loop-i.table.fresh c.name_or_fresh.new.table.fresh xs (values c.set_value_at.new.self) c.loop-i.i x c.in_ok-name.name l at set next ∙ c.loop-i.invariant.left;
       kept = ap (λ (t : Table). t.names) c.in_ok-name.ensures.made ∙ c.loop-i.invariant.kept;
+      more = λ x h. c.name_or_fresh.ensures.more x (c.loop-i.invariant.more x h);
     }
 
 -- the slot that was not to be had is one of those that are left
