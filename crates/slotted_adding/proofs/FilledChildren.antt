@@ -156,10 +156,10 @@ knows-ids t (bind u r) xs h =
 
 -- and one that knows those of the other children too knows those of the node over them
 knows-over : (t : Table) (u : Tree) (xs : List ℕ) (bs : List Applied) → length xs ≡ length (scopes u) → Knows t xs → Each (λ (b : Applied). Knows t (values b.1)) bs → Knows t (names_over u xs bs)
-knows-over t leaf xs bs n h g = h
+knows-over t leaf xs bs n h g x i = h x i
 knows-over t (own r) xs bs n h g x (inl e) = subst (λ y. is_known t y ≡ true) (sym e) (h (slice_index xs 0) (In-first xs (length (scopes r)) n))
 knows-over t (own r) xs bs n h g x (inr i) = knows-over t r (drop 1 xs) bs (own_fits r xs n) (knows-dropped t 1 xs h) g x i
-knows-over t (child j ks r) xs [] n h g = h
+knows-over t (child j ks r) xs [] n h g x i = h x i
 knows-over t (child j ks r) xs (b ∷ bs) n h g x i = elim (In-append x (values b.1) (names_over r (drop (length ks) xs) bs) i) [
   | inl e ↦ g.0 x e
   | inr e ↦ knows-over t r (drop (length ks) xs) bs (child_rest_fits j ks r xs n) (knows-dropped t (length ks) xs h) g.1 x e

@@ -27,7 +27,7 @@ length-map_keys : (m : List (ℕ × ℕ)) → length (keys m) ≡ length m
 length-map_keys m = length-map {B = ℕ} m (λ p. p.0)
 
 -- as many names as keys
-names_fit : (m : List (ℕ × ℕ)) → length (values m) ≡ length (keys m)
+pub names_fit : (m : List (ℕ × ℕ)) → length (values m) ≡ length (keys m)
 names_fit m = length-map_values m ∙ sym (length-map_keys m)
 
 length_none : (bs : List Applied) (n : ℕ) → length bs ≡ 0 → (length (take n bs) ≡ 0) × (length (drop n bs) ≡ 0)
@@ -73,7 +73,7 @@ length-over (bind u r) bs =
     omega (arith, length-append (children (tree_over u us)) (children (tree_over r rs)), length-append (children u) (children r), length-over u us, length-over r rs)
 
 -- and as many names as places
-over_fits : (t : Tree) (xs : List ℕ) (bs : List Applied) → length xs ≡ length (scopes t) → length (names_over t xs bs) ≡ length (scopes (tree_over t bs))
+pub over_fits : (t : Tree) (xs : List ℕ) (bs : List Applied) → length xs ≡ length (scopes t) → length (names_over t xs bs) ≡ length (scopes (tree_over t bs))
 over_fits leaf xs bs h = h
 over_fits (own r) xs bs h = ap suc (over_fits r (drop 1 xs) bs (own_fits r xs h))
 over_fits (child i ks r) xs [] h = h
