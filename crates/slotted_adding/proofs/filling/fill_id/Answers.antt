@@ -18,21 +18,21 @@ use Rattle.slotted_adding.proofs.FilledIds.{Knows, all_known, filled-fills, fill
 use Rattle.slotted_adding.proofs.filling.fill_id.Goals as goal
 
 -- the map of a class's slots to themselves, with the names in their places
-answer : (k : Kept) (c : ℕ) (a : Applied) (own m : List (ℕ × ℕ)) → own ≡ identity (canonical_slots (nodes_of k) a.0) → keys m ≡ keys own → values m ≡ named c a.1 (values own) → (a.0, m) ≡ filled_id k c a
-answer k c a own m e ks vs =
+answer : (k : Kept) (c : ℕ) (a : Applied) (n m : List (ℕ × ℕ)) → n ≡ identity (canonical_slots (nodes_of k) a.0) → keys m ≡ keys n → values m ≡ named c a.1 (values n) → (a.0, m) ≡ filled_id k c a
+answer k c a n m e ks vs =
     let ss = canonical_slots (nodes_of k) a.0 in
-    let n : m ≡ zip ss (named c a.1 ss) =
+    let is : m ≡ zip ss (named c a.1 ss) =
     sym (zip-keys_values m)
     ∙ (λ i. zip ((ks ∙ (ap keys e ∙ keys-identity ss)) i) ((vs ∙ ap (named c a.1) (ap values e ∙ values-identity ss)) i)) in
-    λ i. (a.0, n i)
+    λ i. (a.0, is i)
 
 -- as many names are missing
-lacks : (k : Kept) (a : Applied) (own : List (ℕ × ℕ)) → own ≡ identity (canonical_slots (nodes_of k) a.0) → lacked a.1 (values own) ≡ missing k a
-lacks k a own e = ap (lacked a.1) (ap values e ∙ values-identity (canonical_slots (nodes_of k) a.0))
+lacks : (k : Kept) (a : Applied) (n : List (ℕ × ℕ)) → n ≡ identity (canonical_slots (nodes_of k) a.0) → lacked a.1 (values n) ≡ missing k a
+lacks k a n e = ap (lacked a.1) (ap values e ∙ values-identity (canonical_slots (nodes_of k) a.0))
 
 -- the class of an id that finds has a row, which files its canonical slots
-own : (k : Kept) → k.rows ≡ rows_from 0 k.classes → (a : Applied) → IsFindable k a → (m own : List (ℕ × ℕ)) → m ≡ names_at k a.0 → own ≡ between m m → own ≡ identity (canonical_slots (nodes_of k) a.0)
-own k rows a v m own at e = e ∙ own-map k rows a.0 (omega (arith, v.in_range, length-nodes_of k)) m at
+own : (k : Kept) → k.rows ≡ rows_from 0 k.classes → (a : Applied) → IsFindable k a → (m n : List (ℕ × ℕ)) → m ≡ names_at k a.0 → n ≡ between m m → n ≡ identity (canonical_slots (nodes_of k) a.0)
+own k rows a v m n at e = e ∙ own-map k rows a.0 (omega (arith, v.in_range, length-nodes_of k)) m at
 
 pub names_of-slots-requires : goal.names_of-slots-requires
 names_of-slots-requires g c =

@@ -11,7 +11,7 @@ use Rattle.slotted_store.specs.Finding.{IsFindable}
 use Rattle.slotted_store.specs.Kept.{Kept, nodes_of, entries_of}
 use Rattle.slotted_store.proofs.ChildIds.{child_is, length-ids}
 use Rattle.slotted_normal_forms.proofs.FoundChildren.{Each-at, child_ids-valid}
-use Rattle.slotted_adding.specs.Filling.{FillsChildren, HasOneNormalForm, IsBeside, KeepsKnown, MakesFull, filled_id, filled_ids, filled_node, missing, missing_in, missing_of, node_over, with_fresh}
+use Rattle.slotted_adding.specs.Filling.{FillsChildren, HasOneNormalForm, IsBeside, KeepsKnown, MakesFull, filled_id, filled_ids, filled_node, missing, missing_in, missing_of, node_over, tree_over, with_fresh}
 use Rattle.slotted_adding.proofs.FilledIds.{with_fresh-more}
 use Rattle.slotted_adding.proofs.FilledChildren.{filled-more, length-filled, makes-after, missing-more, missing-within, node-fills, node-full, node-known, node-normal, node-whole, runs_out-after}
 use Rattle.slotted_adding.proofs.NodesOver.{beside-over, length-over, node_over-more, node_over-none}
@@ -42,7 +42,7 @@ pub set_applied_id-requires : goal.set_applied_id-requires
 set_applied_id-requires g c =
     let f = g.L.LanguageChildren.form c.args.node.now in
     let bs = filled_ids c.args.store.now c.args.table.now.fresh (take c.loop-k.k (child_ids f)) in
-    let e = ap (λ (h : Form). length (children h.tree)) c.loop-k.invariant.node in
+    let e : length (children (g.L.LanguageChildren.form c.loop-k.filled).tree) ≡ length (children (tree_over f.tree bs)) = ap (λ (h : Form). length (children h.tree)) c.loop-k.invariant.node in
     omega (arith, e, length-over f.tree bs, c.loop-k-test.true, c.applied_id_count-k-end.ensures)
 
 pub loop-k-preserved : goal.loop-k-preserved
