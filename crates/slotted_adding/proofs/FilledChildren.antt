@@ -1,9 +1,8 @@
 -- A node with each child filled: it has the normal form of the node, and where the table knows the names its children are full.
 use Rattle.std.proofs.Common.{◌≡◌, ℕ, suc, zero, ◌+◌, ◌<◌, ◌≤◌, List, [], ◌∷◌, ◌++◌, length, take, drop, map, get_or, refl, slice_index, ap, ◌∙◌, sym, subst, arith, inl, inr, true, false, true≢false}
-use Rattle.std.specs.Prelude.{slice_index_or, All}
 use Rattle.std.specs.List.{zip}
 use Rattle.std.proofs.lemmas.List.{take_at, drop_at, take_more, drop_more, take-append-drop}
-use Rattle.slotted_theory.specs.Nameless.{DArgs, stop, place, scope, sub, extend, nameless_args}
+use Rattle.slotted_theory.specs.Nameless.{scope, sub, extend, nameless_args}
 use Rattle.slotted_theory.specs.Renaming.{IsInjective}
 use Rattle.slotted_theory.proofs.Names.{extend-other, extend-injective}
 use Rattle.slotted_theory.proofs.Values.{child_before}
@@ -28,7 +27,7 @@ use Rattle.slotted_store.specs.Kept.{Kept, nodes_of, entries_of}
 use Rattle.slotted_store.proofs.ChildIds.{Each, Each-append, Each-from_All, atom-is, zip-keys_values, length-ids}
 use Rattle.slotted_normal_forms.specs.NormalNodes.{HasFindableChildren}
 use Rattle.slotted_normal_forms.proofs.FoundChildren.{Each-at, child_ids-valid}
-use Rattle.slotted_adding.specs.Filling.{AllKnown, FillsChildren, HasFullChildren, HasOneNormalForm, MakesAtMost, RunsOut, with_fresh, filled_id, filled_ids, filled_node, missing, missing_in, missing_of, tree_over, names_over, node_over}
+use Rattle.slotted_adding.specs.Filling.{AllKnown, HasFullChildren, HasOneNormalForm, MakesAtMost, RunsOut, with_fresh, filled_id, filled_ids, filled_node, missing, missing_in, missing_of, tree_over, names_over, node_over}
 use Rattle.slotted_adding.proofs.FilledIds.{FillsNew, Knows, knows, all_known, known-apart, filled-new, new-renamed, filled-found, filled-known, filled-whole, with_fresh-more}
 use Rattle.slotted_adding.proofs.NodesOver.{over_fits, names_fit, child_ids-over, node_over-own}
 

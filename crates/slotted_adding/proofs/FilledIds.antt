@@ -1,9 +1,9 @@
 -- An id with fresh slots for the names that it lacks: it is a filling, it finds as the id does, and a full id stays.
-use Rattle.std.proofs.Common.{◌≡◌, ℕ, suc, zero, ◌+◌, ◌<◌, ◌≤◌, List, [], ◌∷◌, ◌⊎◌, Option, Some, None, true, false, true≢false, length, map, refl, ap, ◌∙◌, sym, subst, subst₂, arith, inl, inr, unwrap_or}
+use Rattle.std.proofs.Common.{◌≡◌, ℕ, ◌+◌, ◌<◌, ◌≤◌, List, [], ◌∷◌, ◌⊎◌, Option, Some, None, true, false, true≢false, refl, ap, ◌∙◌, sym, subst, subst₂, arith, inl, inr, unwrap_or}
 use Rattle.std.specs.Prelude.{Contains, IsSome, option_map, slice_index_or}
 use Rattle.std.specs.List.{zip, cons_option}
 use Rattle.std.specs.Map.{values_of}
-use Rattle.std.proofs.lemmas.Bool.{cases_eq, eq-eqb, ne_eqb, le-ltb, lt-ltb}
+use Rattle.std.proofs.lemmas.Bool.{eq-eqb, ne_eqb, le-ltb, lt-ltb}
 use Rattle.slotted_theory.specs.Renaming.{IsInjective}
 use Rattle.slotted_theory.specs.FiniteMaps.{IsInjectiveMap, HasValue, with_values}
 use Rattle.slotted_theory.specs.FiniteMaps as model
@@ -29,7 +29,7 @@ use Rattle.slotted_proofs.proofs.Bridges.{value_of-model}
 use Rattle.slotted_store.specs.Finding.{IsFindable}
 use Rattle.slotted_store.specs.Kept.{Kept, nodes_of, entries_of}
 use Rattle.slotted_store.proofs.ChildIds.{zip-keys_values}
-use Rattle.slotted_store.proofs.NameMaps.{In-key, key-In, In-at, at_In}
+use Rattle.slotted_store.proofs.NameMaps.{In-key, In-at, at_In}
 use Rattle.slotted_adding.specs.Filling.{AllKnown, FillsId, lack, lacked, named, filled_id, missing, with_fresh}
 
 -- known slots
@@ -113,13 +113,15 @@ of_filled_map : (c : ℕ) (m : List (ℕ × ℕ)) (ss : List ℕ) (s x : ℕ) �
 of_filled_map c m [] s x h = absurd h
 of_filled_map c m (t ∷ ss) s x (inl e) =
     let es : s ≡ t = ap (λ (p : ℕ × ℕ). p.0) e in
-    let ex : x ≡ unwrap_or (value_of m t) (fresh_slot c) = ap (λ (p : ℕ × ℕ). p.1) e in
-    (inl es, subst (λ z. IsNamed c (c + lacked m (t ∷ ss)) m z x) (sym es) (elim (first-named c (value_of m t) x ex) [
-      | inl h ↦ inl h
-      | inr h ↦
-          let one : lack (value_of m t) ≡ 1 = ap lack h.0 in
-          inr (h.0, record { index = c; is_slot = h.1; from = omega arith; below = omega (arith, one) })
-    ]))
+    let ex : x ≡ unwrap_or (value_of m t) (fresh_slot c) = ap (λ (p : ℕ × ℕ). p.1) e in (
+      inl es,
+      subst (λ z. IsNamed c (c + lacked m (t ∷ ss)) m z x) (sym es) (elim (first-named c (value_of m t) x ex) [
+        | inl h ↦ inl h
+        | inr h ↦
+            let one : lack (value_of m t) ≡ 1 = ap lack h.0 in
+            inr (h.0, record { index = c; is_slot = h.1; from = omega arith; below = omega (arith, one) })
+      ]),
+    )
 of_filled_map c m (t ∷ ss) s x (inr h) =
     let d = c + lack (value_of m t) in
     let r = of_filled_map d m ss s x h in
@@ -145,8 +147,7 @@ differ-filled_map : (t : Table) (c : ℕ) (m : List (ℕ × ℕ)) (ss : List ℕ
 differ-filled_map t c m [] known l inj a = tt
 differ-filled_map t c m (s ∷ ss) known l inj a =
     let d = c + lack (value_of m s) in
-    let y = unwrap_or (value_of m s) (fresh_slot c) in
-    (
+    let y = unwrap_or (value_of m s) (fresh_slot c) in (
       λ v.
           let w = pair-value (filled_map d m ss) y v in
           let r = of_filled_map d m ss w.0 y w.1 in

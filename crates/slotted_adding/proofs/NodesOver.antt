@@ -1,12 +1,12 @@
 -- A node with other ids for its first children: what the loop over its children leaves, and what it is at the end.
-use Rattle.std.proofs.Common.{◌≡◌, ℕ, suc, zero, ◌+◌, ◌-◌, ◌<◌, ◌≤◌, List, [], ◌∷◌, ◌++◌, length, take, drop, refl, slice_index, ap, ◌∙◌, sym, arith, length-append, length-drop, length-take, zero-add, inl, inr}
-use Rattle.std.specs.Prelude.{Option, None, map, min, slice_index_or}
+use Rattle.std.proofs.Common.{◌≡◌, ℕ, suc, ◌+◌, ◌-◌, ◌<◌, List, [], ◌∷◌, ◌++◌, length, take, drop, refl, slice_index, ap, ◌∙◌, sym, arith, length-append, length-drop, length-take, zero-add, inl, inr}
+use Rattle.std.specs.Prelude.{Option, None, map}
 use Rattle.std.specs.List.{zip}
 use Rattle.std.proofs.lemmas.Grind.{common_steps}
 use Rattle.std.proofs.lemmas.List.{length-map, take-append-drop, take_at, drop_at, take_all, drop_all, take-append-le, drop-append-le}
 use Rattle.std.proofs.lemmas.Bool.{cases_lt}
 use Rattle.std.proofs.Math.Nat.{sub-zero}
-use Rattle.slotted_theory.specs.Term.{Args, Term, name}
+use Rattle.slotted_theory.specs.Term.{Term, name}
 use Rattle.slotted_theory.specs.Term as term
 use Rattle.slotted_slots.specs.Maps.{keys, values}
 use Rattle.slotted_nodes.specs.Form.{Form, Tree, leaf, own, child, bind, scopes, children, with_child, bind_form, join_form}

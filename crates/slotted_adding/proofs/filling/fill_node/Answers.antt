@@ -1,9 +1,8 @@
-use Rattle.std.proofs.Common.{◌≡◌, ◌<◌, ◌≤◌, ◌+◌, ◌∙◌, ℕ, List, [], ◌∷◌, ◌++◌, length, take, get_or, ap, sym, subst, arith, refl, rules}
+use Rattle.std.proofs.Common.{◌≡◌, ◌<◌, ◌≤◌, ◌+◌, ◌∙◌, ℕ, [], ◌∷◌, ◌++◌, length, take, get_or, ap, sym, subst, arith, rules}
 use Rattle.std.proofs.lemmas.List.{take_all, length-take-le}
 use Rattle.slotted_slots.specs.Maps.{keys, values}
 use Rattle.slotted_slots.specs.Table.{Table}
 use Rattle.slotted_nodes.specs.Form.{Form, with_child, children}
-use Rattle.slotted_model.specs.Applied.{Applied}
 use Rattle.slotted_model.specs.Find.{used_slots}
 use Rattle.slotted_proofs.specs.Equations.{to_applied}
 use Rattle.slotted_store.specs.ChildIds.{child_ids}
@@ -11,7 +10,7 @@ use Rattle.slotted_store.specs.Finding.{IsFindable}
 use Rattle.slotted_store.specs.Kept.{Kept, nodes_of, entries_of}
 use Rattle.slotted_store.proofs.ChildIds.{child_is, length-ids}
 use Rattle.slotted_normal_forms.proofs.FoundChildren.{Each-at, child_ids-valid}
-use Rattle.slotted_adding.specs.Filling.{FillsChildren, HasOneNormalForm, IsBeside, KeepsKnown, MakesFull, filled_id, filled_ids, filled_node, missing, missing_in, missing_of, node_over, tree_over, with_fresh}
+use Rattle.slotted_adding.specs.Filling.{FillsChildren, HasOneNormalForm, IsBeside, KeepsKnown, MakesFull, filled_id, filled_ids, missing, missing_in, missing_of, node_over, tree_over, with_fresh}
 use Rattle.slotted_adding.proofs.FilledIds.{with_fresh-more}
 use Rattle.slotted_adding.proofs.FilledChildren.{filled-more, length-filled, makes-after, missing-more, missing-within, node-fills, node-full, node-known, node-normal, node-whole, runs_out-after}
 use Rattle.slotted_adding.proofs.NodesOver.{beside-over, length-over, node_over-more, node_over-none}

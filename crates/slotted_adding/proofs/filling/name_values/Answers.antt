@@ -5,7 +5,7 @@ use Rattle.std.proofs.lemmas.Option.{get_or_from_slice_get}
 use Rattle.slotted_slots.specs.Maps.{keys, values, value_of, keys-with_value_at, values-with_value_at}
 use Rattle.slotted_slots.specs.Table.{Table, fresh_slot}
 use Rattle.slotted_store.proofs.NameMaps.{length-values, length-keys}
-use Rattle.slotted_adding.specs.Filling.{lack, lacked, named, with_fresh}
+use Rattle.slotted_adding.specs.Filling.{lack, lacked, named}
 use Rattle.slotted_adding.proofs.filling.name_values.Goals as goal
 
 -- one more value gets its name
