@@ -6,3 +6,6 @@ pub mod LookedUpRows
 pub mod Reported
 pub mod AppliedNodes
 pub mod EnodeNames
+pub mod NodesOver
+pub mod FilledIds
+pub mod FilledChildren

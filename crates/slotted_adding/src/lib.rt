@@ -3,6 +3,7 @@
 #![tactic(auto)]
 
 pub mod enodes;
+pub mod filling;
 pub mod finding;
 pub mod lookup;
 pub mod reports;
