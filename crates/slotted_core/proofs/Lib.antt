@@ -37,3 +37,4 @@ pub mod Binders
 pub mod ListedOnce
 pub mod AffectedClasses
 pub mod Completeness
+pub mod Reports

@@ -10,6 +10,7 @@ pub mod Reads
 pub mod Canonical
 pub mod Causes
 pub mod Affected
+pub mod Reports
 pub mod Checks
 pub mod Good
 pub mod SmallNodes

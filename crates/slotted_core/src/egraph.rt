@@ -39,6 +39,7 @@ use std::marker::Model;
 mod canonical;
 mod explanations;
 mod patterns;
+mod reports;
 
 /// A graph of terms with binders, up to alpha-equality.
 ///
