@@ -1,8 +1,7 @@
 -- What a graph reports of its classes, as contracts see it and as what is kept has it.
-use Rattle.std.proofs.Common.{◌≡◌, ◌<◌, ◌≤◌, ◌+◌, ◌∙◌, ℕ, zero, suc, List, [], ◌∷◌, ◌++◌, true, false, cond, length, ap, refl, sym, subst, inl, inr, arith}
-use Rattle.std.specs.Prelude.{◌↔◌, Bool, Contains, IsTrue, nat_eq}
+use Rattle.std.proofs.Common.{◌≡◌, ◌<◌, ◌≤◌, ◌+◌, ◌∙◌, ℕ, zero, suc, List, [], ◌∷◌, ◌++◌, cond, length, ap, refl, sym, subst, inl, inr, arith}
+use Rattle.std.specs.Prelude.{◌↔◌, Bool, IsTrue, nat_eq}
 use Rattle.std.specs.List.{filter, range_with_len}
-use Rattle.std.specs.Map.{values_of}
 use Rattle.std.proofs.lemmas.Bool.{cases_Bool, eq-eqb, eqb-true, false≢true, lt-ltb, ne_eqb}
 use Rattle.slotted_slots.specs.Table.{Table, is_known}
 use Rattle.slotted_slots.proofs.TableLaws.{is_known-fresh_slot}
@@ -18,7 +17,6 @@ use Rattle.slotted_model.proofs.Correspondences.PartialInjections.{composite-ove
 use Rattle.slotted_model.proofs.Finding.{Leads, find_class-live, find_map-partial, found-live, leads}
 use Rattle.slotted_model.proofs.Members.{Contains-In, In, In-Contains}
 use Rattle.slotted_model.proofs.NormalIds.{of_used, values-identity}
-use Rattle.slotted_store.specs.Finding.{IsFindable}
 use Rattle.slotted_store.specs.Kept.{Kept, entries_of, nodes_of}
 use Rattle.slotted_store.proofs.KeptLists.{length-nodes_of}
 use Rattle.slotted_store.proofs.NameMaps.{In-at, at_In}

@@ -1,7 +1,6 @@
 use Rattle.std.proofs.Common.{◌≡◌, ◌<◌, ◌∙◌, List, ℕ, length, ap, sym, subst, inl, inr}
 use Rattle.std.proofs.lemmas.Bool.{false≢true}
 use Rattle.std.proofs.lemmas.Result.{IfOk-weaker}
-use Rattle.slotted_slots.specs.Table.{Table}
 use Rattle.slotted_terms.specs.Valid.{AllKnown}
 use Rattle.slotted_core.specs.Good.{Good, HasFreshSlots, image_of}
 use Rattle.slotted_core.specs.Graph.{Graph}
