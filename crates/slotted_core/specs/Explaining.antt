@@ -1,5 +1,5 @@
 -- What an explanation of two terms leaves.
---     AddsTerms g h       terms were added, and perhaps entries that assert nothing; all else is as it was
+--     AddsTerms g h       terms were added, and perhaps entries that assert nothing
 --     HasIds g t u a b    the two terms are looked up as these ids
 --     Explains g t u p    the entry p says that the two terms are equal
 --     FindsApart g t u    their ids do not find alike
@@ -20,7 +20,7 @@ use Rattle.slotted_core.specs.Graph.{RunsOut}
 use Rattle.slotted_core.specs.Image.{Image, AddsClasses, FoundAlike}
 use Rattle.slotted_core.specs.Places.{term_places, term_slots}
 
--- classes are added, and nothing else is
+-- classes are added, and nothing is asserted
 pub record AddsTerms (g h : Image) : Type 0 where
   pub extends : Extends g.canonical h.canonical
   pub adds : AddsClasses g h

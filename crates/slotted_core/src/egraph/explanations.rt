@@ -29,7 +29,7 @@ impl<L: Language, N: Drop> EGraph<L, N> {
         ensures explains { IfOk result (Explains self.new.image left.now right.now) }
         ensures not_equal { IsErrOf result Error.NotEqual → FindsApart self.new.image left.now right.now }
 
-        // Nothing is asserted, each id finds what it found, and what was there stays. `NotEqual` does not fail the graph.
+        // Nothing is asserted, what found alike still does, and what was there stays. `NotEqual` does not fail the graph.
         ensures adds { IsTrue self.new.failed ⊎ AddsTerms self.old.image self.new.image }
         ensures more { KnowsMore self.old.table self.new.table }
         ensures takes { MakesAtMost (term_slots left.now + term_slots right.now) self.old.table self.new.table }
