@@ -4,6 +4,7 @@ use Rattle.std.specs.Prelude.{Contains, IsSome, option_map, slice_index_or}
 use Rattle.std.specs.List.{zip, cons_option}
 use Rattle.std.specs.Map.{values_of}
 use Rattle.std.proofs.lemmas.Bool.{eq-eqb, ne_eqb, le-ltb, lt-ltb}
+use Rattle.slotted_theory.specs.Nameless.{DTerm}
 use Rattle.slotted_theory.specs.Renaming.{IsInjective}
 use Rattle.slotted_theory.specs.FiniteMaps.{IsInjectiveMap, HasValue, with_values}
 use Rattle.slotted_theory.specs.FiniteMaps as model
@@ -88,7 +89,7 @@ keys-filled_map c m [] = refl
 keys-filled_map c m (s ∷ ss) = ap (λ l. s ∷ l) (keys-filled_map (c + lack (value_of m s)) m ss)
 
 -- the fresh slot of an index from c on and below d
-record IsFreshFrom (c d x : ℕ) : Type 0 where
+pub record IsFreshFrom (c d x : ℕ) : Type 0 where
   pub index : ℕ
   pub is_slot : x ≡ fresh_slot index
   pub from : c ≤ index
@@ -169,13 +170,33 @@ differ-filled_map t c m (s ∷ ss) known l inj a =
       differ-filled_map t d m ss known (omega (arith, l)) inj a.1,
     )
 
--- where all slots have names these are the names
+-- where all slots have names none lacks one
+lacked-own : (m n : List (ℕ × ℕ)) → ((p : ℕ × ℕ) → In p n → value_of m p.0 ≡ Some p.1) → lacked m (keys n) ≡ 0
+lacked-own m [] h = refl
+lacked-own m (p ∷ n) h =
+    let one : lack (value_of m p.0) ≡ 0 = ap lack (h p (inl refl)) in
+    omega (arith, one, lacked-own m n (λ q k. h q (inr k)))
+
+-- and these are the names
 named-own : (c : ℕ) (m n : List (ℕ × ℕ)) → ((p : ℕ × ℕ) → In p n → value_of m p.0 ≡ Some p.1) → named c m (keys n) ≡ values n
 named-own c m [] h = refl
 named-own c m (p ∷ n) h =
     λ i. ap (λ o. unwrap_or o (fresh_slot c)) (h p (inl refl)) i ∷ named-own (c + lack (value_of m p.0)) m n (λ q k. h q (inr k)) i
 
 -- the id
+
+-- a full id lacks no name
+pub full-lacks_none : (nodes : List DTerm) (a : Applied) → IsFull nodes a → lacked a.1 (canonical_slots nodes a.0) ≡ 0
+full-lacks_none nodes a full =
+    ap (lacked a.1) (sym full.slots) ∙ lacked-own a.1 a.1 (λ p h. found-pair a.1 p.0 p.1 (full-ascending nodes a full) h)
+
+-- a name that the id lacked is one of the next fresh slots
+pub filled-fresh : (k : Kept) (c : ℕ) (a : Applied) (s x : ℕ) → In (s, x) (filled_id k c a).1 → ¬ In s (keys a.1) → IsFreshFrom c (c + missing k a) x
+filled-fresh k c a s x h lacks =
+    elim (of_filled_map c a.1 (canonical_slots (nodes_of k) a.0) s x h).1 [
+      | inl e ↦ absurd (lacks (In-map (λ (p : ℕ × ℕ). p.0) a.1 (s, x) (pair-found a.1 s x e)))
+      | inr f ↦ f.1
+    ]
 
 -- b is a with its missing names: different ones that the table does not know
 pub record FillsNew (k : Kept) (t : Table) (a b : Applied) : Type 0 where
@@ -198,10 +219,8 @@ filled-new k t c a v known l =
           let own : In s (keys a.1) = In-map (λ (p : ℕ × ℕ). p.0) a.1 (s, x) h in
           kept-pair c a.1 ss s x (found-pair a.1 s x v.ascending h) (In-Contains ss s (v.within s (Contains-In (keys a.1) s own)));
       unknown = λ s x h n.
-          elim (of_filled_map c a.1 ss s x h).1 [
-            | inl e ↦ absurd (n (In-map (λ (p : ℕ × ℕ). p.0) a.1 (s, x) (pair-found a.1 s x e)))
-            | inr f ↦ ap (is_known t) f.1.is_slot ∙ fresh-unknown t f.1.index (omega (arith, l, f.1.from))
-          ];
+          let f = filled-fresh k c a s x h n in
+          ap (is_known t) f.is_slot ∙ fresh-unknown t f.index (omega (arith, l, f.from));
     }
 
 -- renamed by what tells names apart, it is a filling by none of the names that no unknown slot is renamed to

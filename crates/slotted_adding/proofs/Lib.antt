@@ -9,3 +9,4 @@ pub mod EnodeNames
 pub mod NodesOver
 pub mod FilledIds
 pub mod FilledChildren
+pub mod FilledSizes

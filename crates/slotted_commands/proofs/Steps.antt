@@ -18,7 +18,7 @@ use Rattle.slotted_model.specs.Applied.{Applied}
 use Rattle.slotted_model.specs.Classes.{term_of}
 use Rattle.slotted_model.specs.Growth.{Extends}
 use Rattle.slotted_model.specs.Ids.{id_of}
-use Rattle.slotted_core.specs.Graph.{Graph, IsValidId, OnlyReads}
+use Rattle.slotted_core.specs.Graph.{Graph, IsFullId, OnlyReads}
 use Rattle.slotted_core.specs.Affected.{IsYesIfDerivable}
 use Rattle.slotted_core.specs.Image.{FoundAlike, AddsClasses, AreDerivable, IsUnion, asserted_in}
 use Rattle.slotted_core.specs.Causes.{CanRunOutForTerm, HasLargeClassIn}
@@ -57,7 +57,7 @@ not_true true n = absurd (n refl)
 not_true false n = refl
 
 -- a term that was added
-pub gains : (g h : Graph) (t : Term) (a : AppliedId) → (IsTrue h.failed → false ≡ true) → IsValidId h (to_applied a) → term_of h.image.canonical (to_applied a) ≡ nameless t → id_of h.image.canonical (nameless t) ≡ Some (to_applied a) → Extends g.image.canonical h.image.canonical → AddsClasses g.image h.image → KnowsMore g.table h.table → Gains g t (to_applied a) h
+pub gains : (g h : Graph) (t : Term) (a : AppliedId) → (IsTrue h.failed → false ≡ true) → IsFullId h (to_applied a) → term_of h.image.canonical (to_applied a) ≡ nameless t → id_of h.image.canonical (nameless t) ≡ Some (to_applied a) → Extends g.image.canonical h.image.canonical → AddsClasses g.image h.image → KnowsMore g.table h.table → Gains g t (to_applied a) h
 gains g h t a sound valid term found extends adds more =
     record { sound = not_true h.failed (λ f. false≢true (sound f)); valid = valid; term = term; found = found; extends = extends; adds = adds; more = more }
 

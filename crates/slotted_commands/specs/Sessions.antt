@@ -22,7 +22,7 @@ use Rattle.slotted_model.specs.Ids.{id_of}
 use Rattle.slotted_core.specs.Image.{FoundAlike, AddsClasses, IsUnion, CountsOpen, asserted_in}
 use Rattle.slotted_core.specs.Affected.{AreAffected}
 use Rattle.slotted_core.specs.Causes.{CanRunOutForTerm, HasLargeClassIn}
-use Rattle.slotted_core.specs.Graph.{Graph, IsValidId, OnlyReads}
+use Rattle.slotted_core.specs.Graph.{Graph, IsFullId, OnlyReads}
 use Rattle.slotted_commands.specs.declared.answer.Answer.{Answer}
 use Rattle.slotted_commands.specs.declared.answer.Answer.TheVariants.{Done, Yes, No, United, WereEqual, Symmetries, Refused, NoCommand}
 use Rattle.slotted_commands.specs.Commands.{Command, adds, compares, unites, explains, counts, no_command}
@@ -69,7 +69,7 @@ pub data FirstIsRefused (read : List Element → Option Form) : Graph → List (
 -- h has all that g has, with nothing more asserted, and a valid id that stands for the term t and is what a look-up of it answers
 pub record Gains (g : Graph) (t : Term) (id : Applied) (h : Graph) : Type 0 where
   pub sound : h.failed ≡ false
-  pub valid : IsValidId h id
+  pub valid : IsFullId h id
   pub term : term_of h.image.canonical id ≡ nameless t
   pub found : id_of h.image.canonical (nameless t) ≡ Some id
   pub extends : Extends g.image.canonical h.image.canonical
@@ -161,8 +161,8 @@ pub record AddsBoth (read : List Element → Option Form) (g h : Graph) (left ri
   pub writes : WritesTerms read g (left ∷ right ∷ []) (first ∷ second ∷ []) before
   pub gains : GainsTerms before (first ∷ second ∷ []) (a ∷ b ∷ []) h
   pub sound_now : h.failed ≡ false
-  pub left_valid : IsValidId h a
-  pub right_valid : IsValidId h b
+  pub left_valid : IsFullId h a
+  pub right_valid : IsFullId h b
   pub left_term : term_of h.image.canonical a ≡ nameless first
   pub right_term : term_of h.image.canonical b ≡ nameless second
 

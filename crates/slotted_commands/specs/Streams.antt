@@ -35,7 +35,7 @@ pub data LinesWrite (read : List Element → Option Form) (written : Term → Li
 
 -- the graph without classes, over an empty table
 abbrev pub empty_graph : Graph
-empty_graph = record { failed = false; table = empty_table; image = no_classes }
+empty_graph = record { failed = false; table = empty_table; image = no_classes; filed = [] }
 
 -- the lines of the input, answered from g on, write bytes of which P holds
 abbrev pub WritesFrom : (List Element → Option Form) → (Term → List Element) → Graph → List ℕ → (List ℕ → Type 0) → Type 0

@@ -7,7 +7,7 @@ ghost use Rattle.slotted_commands.specs.Sessions.{Answered, ReadsBoth, AddsBoth,
 use crate::answer::Answer;
 use crate::command::Command;
 use crate::explanation::explain_terms;
-use slotted_core::EGraph;
+use slotted_graph::EGraph;
 use slotted_slots::{AppliedId, Error};
 use slotted_terms::expr::RecExpr;
 use slotted_terms::expr::printing::Printable;
@@ -42,7 +42,7 @@ fn add<L: Printable>(graph: &mut EGraph<L>, text: &str) -> Result<Answer, Error>
     ensures { Answered L.read L.written graph.old graph.new (adds text.now) (answer_of result) }
 {
     let term = graph.parse_expr(text)?;
-    graph.add_expr(&term)?;
+    graph.add_syn_expr(&term)?;
     Ok(Answer::Done)
 }
 
@@ -70,8 +70,8 @@ fn add_both<L: Printable>(
     ensures err { IfErr result (IsAnsweredWith L.read L.written graph.old graph.new left.now right.now) }
 {
     let (one, two) = read_both(graph, left, right)?;
-    let left = graph.add_expr(&one)?;
-    let right = graph.add_expr(&two)?;
+    let left = graph.add_syn_expr(&one)?;
+    let right = graph.add_syn_expr(&two)?;
     Ok((left, right))
 }
 

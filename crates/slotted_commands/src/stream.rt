@@ -6,7 +6,7 @@ ghost use Rattle.std.specs.Io.KnownBytes.{Appends, IsAtEnd, Keeps};
 ghost use Rattle.slotted_commands.specs.Streams.{LineWrites, SessionWrites, WritesFrom};
 
 use crate::session::answer;
-use slotted_core::EGraph;
+use slotted_graph::EGraph;
 use slotted_slots::SlotTable;
 use slotted_terms::expr::printing::Printable;
 use std::alloc::Global;

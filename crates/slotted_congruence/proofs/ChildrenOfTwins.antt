@@ -25,9 +25,10 @@ use Rattle.slotted_proofs.specs.Steps.{HasInjectiveSides, Matches}
 use Rattle.slotted_store.specs.Kept.{Kept, nodes_of, entries_of}
 use Rattle.slotted_unions.specs.Stored.{Stored}
 use Rattle.slotted_congruence.specs.Congruence.{IsOfAlike, AreTwins, AreChildrenOf}
-use Rattle.slotted_congruence.specs.Frames.{AreAlikeForms, AreNeverAlike}
+use Rattle.slotted_alike.specs.Frames.{AreAlikeForms, AreNeverAlike}
 use Rattle.slotted_congruence.proofs.Naming.{alike_nodes}
-use Rattle.slotted_congruence.proofs.WideNodes.{large_child, wide_at}
+use Rattle.slotted_alike.proofs.WideNodes.{large_child}
+use Rattle.slotted_congruence.proofs.WideNodes.{wide_at}
 
 -- two ids match themselves
 

@@ -1,6 +1,4 @@
--- Lemmas on nodes side by side.
-pub mod Partners
-pub mod Frames
+-- Lemmas on canonical nodes and their congruence.
 pub mod WideNodes
 pub mod Naming
 pub mod ChildrenOfTwins

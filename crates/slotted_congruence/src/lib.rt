@@ -1,6 +1,5 @@
-//! Congruence of classes: their canonical nodes side by side, and the equations of the children.
+//! Congruence of classes: their canonical nodes with the names of two ids put in, and the proofs of the equations of their children.
 #![tactic(auto)]
 
-pub mod alike;
 pub mod named;
 pub mod twins;

@@ -6,8 +6,8 @@ ghost use Rattle.slotted_unions.specs.Stored.{Stored};
 ghost use Rattle.slotted_congruence.specs.Congruence.{IsOfAlike, AreTwins, AreChildrenOf, HasLargeBridge, ProvesEach, ProvesTwins, TwinsRunOut};
 ghost use Rattle.slotted_congruence.specs.Named.{HasWideSide};
 
-use crate::alike::child_equations;
 use crate::named::named_node;
+use slotted_alike::alike::child_equations;
 use slotted_languages::Language;
 use slotted_proofs::{Equation, ProvenEq};
 use slotted_slots::Error;

@@ -13,6 +13,7 @@ use Rattle.slotted_model.specs.Applied.{Applied, keys}
 use Rattle.slotted_model.specs.Classes.{canonical_slots, term_of, IsFull}
 use Rattle.slotted_model.specs.Correspondence.{AllDifferent, IsFullMap}
 use Rattle.slotted_model.specs.ProofList.{Equation, Step, explicit, reflexive, symmetric, transitive, congruent, equation_of, equation_at, IsOver, HoldsFrom, asserted}
+use Rattle.slotted_model.specs.State.{Row}
 use Rattle.slotted_model.proofs.Correspondences.FullMaps.{with_values-keys}
 use Rattle.slotted_model.proofs.FindProofs.{proved-holds}
 use Rattle.slotted_model.proofs.Steps.{Equal-between}
@@ -27,12 +28,12 @@ use Rattle.slotted_proofs.proofs.Fitting.{reflexive_fits, symmetric_fits, transi
 use Rattle.slotted_proofs.proofs.Stepping.{matches-state, states-entry}
 use Rattle.slotted_core.specs.Checks.{SaysIn, GoesBetween, IsCongruentStep, FitsBy, Fits, entry_by, Accepts}
 use Rattle.slotted_congruence.specs.Frames.{IsCongruentIn}
-use Rattle.slotted_congruence.proofs.Frames.{injective_before}
+use Rattle.slotted_alike.proofs.Frames.{injective_before}
 use Rattle.slotted_core.specs.Graph.{Graph}
 use Rattle.slotted_core.specs.Image.{AreDerivable}
 use Rattle.slotted_core.specs.Leaves.{FollowsFromLeaves}
 use Rattle.slotted_store.specs.Kept.{Kept, nodes_of, proofs_of, with_proofs, EntersIn}
-use Rattle.slotted_filing.specs.FiledRows.{Rows}
+use Rattle.slotted_filing.specs.FiledRows.{Rows, rows_in}
 use Rattle.slotted_core.specs.Good.{image_of, Good, RestsWith, HasFreshSlots}
 use Rattle.slotted_unions.proofs.JoinedIds.{own_map, written_sides}
 use Rattle.slotted_core.proofs.GoodFinds.{entering-good}
@@ -152,7 +153,7 @@ pub record Checked (t : Table) (k l : Kept) (e : Sides) (s : Step) (p : ℕ) : T
   pub rests : (r : Rows) → RestsWith k r → RestsWith l r
   pub fresh_slots : HasFreshSlots t k → HasFreshSlots t l
   pub fits : Fits (image_of k) e s
-  pub accepts : (b : Bool) → Accepts (record { failed = b; table = t; image = image_of k }) (record { failed = b; table = t; image = image_of l }) (entry_by e s) p
+  pub accepts : (b : Bool) (f : List Row) → Accepts (record { failed = b; table = t; image = image_of k; filed = f }) (record { failed = b; table = t; image = image_of l; filed = f }) (entry_by e s) p
   pub derivable : AreDerivable (image_of k) (to_applied e.l) (to_applied e.r)
   pub leaves : FollowsFromLeaves (image_of l) p (to_applied e.l) (to_applied e.r)
 
@@ -185,21 +186,21 @@ module _ (t : Table) (k : Kept) (good : Good k) (e : Sides) (of : IsOfFull (node
       let rs : (statement_at k.proofs q).right_slots ≡ keys e.r.m = c.right ∙ (ap (λ (y : Equation). canonical_slots nodes y.right) d ∙ sym of.right.slots) in
       λ i. record { left_slots = ls i; right_slots = rs i; equation = d i }
 
-  after-accepts : (b : Bool) → Accepts (record { failed = b; table = t; image = image_of k }) (record { failed = b; table = t; image = image_of after }) (entry_by e s) p
-  after-accepts b = record {
+  after-accepts : (b : Bool) (f : List Row) → Accepts (record { failed = b; table = t; image = image_of k; filed = f }) (record { failed = b; table = t; image = image_of after; filed = f }) (entry_by e s) p
+  after-accepts b f = record {
     in_range = after-in_range;
     stands = after-stands;
     grows = let n : length (proofs_of k) ≡ length k.proofs = length-proofs_of k in elim enters.enters.grows [
       | inl h ↦ inl (
         (let d : p < length k.proofs = h.0.in_range in omega arith),
-        λ i. record { failed = b; table = t; image = image_of (with_proofs k (h.1 i)) },
+        λ i. record { failed = b; table = t; image = image_of (with_proofs k (h.1 i)); filed = f },
       )
       | inr h ↦ inr (
         (λ z.
             let d : z.0 < length k.proofs = let y : z.0 < length (proofs_of k) = z.1 in omega arith in
             h.0 z.0 (record { in_range = d; statement = one_statement z.0 d (sym (equation_at-of k.proofs z.0) ∙ z.2) })),
         (let d : p ≡ length k.proofs = h.1 in omega arith),
-        λ i. record { failed = b; table = t; image = record { canonical = nodes; found = (image_of k).found; entries = (ap (map entry_of) h.2 ∙ map-append entry_of k.proofs (x ∷ [])) i; stored = h.2 i; symmetries = k.symmetries } },
+        λ i. record { failed = b; table = t; image = record { canonical = nodes; found = (image_of k).found; entries = (ap (map entry_of) h.2 ∙ map-append entry_of k.proofs (x ∷ [])) i; stored = h.2 i; symmetries = k.symmetries }; filed = f },
       )
     ];
   }
@@ -273,7 +274,11 @@ pub kept_good : (r : Result ℕ Error) (t : Table) (k l : Kept) (rows : Rows) (e
 kept_good (Ok p) t k l rows e s h c o = (c.good, c.fresh_slots h.1, c.rests rows h.2)
 kept_good (Err x) t k l rows e s h c o = subst (λ (m : Kept). Good m × HasFreshSlots t m × RestsWith m rows) (sym o) h
 
-module _ (r : Result ℕ Error) (b : Bool) (t : Table) (k l : Kept) (e : Sides) (s : Step) (g : Graph) (view : record { failed = b; table = t; image = image_of k } ≡ g) where
+module _ (r : Result ℕ Error) (b : Bool) (t : Table) (rows : Rows) (k l : Kept) (e : Sides) (s : Step) (g : Graph) (view : record { failed = b; table = t; image = image_of k; filed = rows_in rows.filed } ≡ g) where
+  -- the graph that is left
+  abbrev left : Graph
+  left = record { failed = b; table = t; image = image_of l; filed = rows_in rows.filed }
+
   pub says_refused : (IsErrOf r BadStep → ¬ Fits (image_of k) e s) → IsErrOf r BadStep → ¬ Fits g.image e s
   says_refused n h = subst (λ (x : Graph). ¬ Fits x.image e s) view (n h)
 
@@ -281,8 +286,8 @@ module _ (r : Result ℕ Error) (b : Bool) (t : Table) (k l : Kept) (e : Sides) 
     pub says_fits : IfOk r (λ _. Fits g.image e s)
     says_fits = if_ok_then r (Checked t k l e s) (λ _. Fits g.image e s) (λ p h. subst (λ (x : Graph). Fits x.image e s) view h.fits) c
 
-    pub says_accepted : IfOk r (Accepts g (record { failed = b; table = t; image = image_of l }) (entry_by e s))
-    says_accepted = if_ok_then r (Checked t k l e s) (Accepts g (record { failed = b; table = t; image = image_of l }) (entry_by e s)) (λ p h. subst (λ (x : Graph). Accepts x (record { failed = b; table = t; image = image_of l }) (entry_by e s) p) view (h.accepts b)) c
+    pub says_accepted : IfOk r (Accepts g left (entry_by e s))
+    says_accepted = if_ok_then r (Checked t k l e s) (Accepts g left (entry_by e s)) (λ p h. subst (λ (x : Graph). Accepts x left (entry_by e s) p) view (h.accepts b (rows_in rows.filed))) c
 
     pub says_derivable : IfOk r (λ _. AreDerivable g.image (to_applied e.l) (to_applied e.r))
     says_derivable = if_ok_then r (Checked t k l e s) (λ _. AreDerivable g.image (to_applied e.l) (to_applied e.r)) (λ p h. subst (λ (x : Graph). AreDerivable x.image (to_applied e.l) (to_applied e.r)) view h.derivable) c

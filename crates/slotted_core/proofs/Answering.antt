@@ -10,13 +10,13 @@ use Rattle.slotted_model.specs.Find.{find, used_slots}
 use Rattle.slotted_model.proofs.FindProofs.{found_alike-equal, found_alike-derivable}
 use Rattle.slotted_model.proofs.Fillings.{term_of-filling}
 use Rattle.slotted_model.proofs.NothingAsserted.{nothing-alpha, nothing-full}
-use Rattle.slotted_core.specs.Findable.{IsFindableId, SaysFillingsEqual, LackNothing}
+use Rattle.slotted_core.specs.ValidIds.{IsValidId, SaysFillingsEqual, LackNothing}
 use Rattle.slotted_core.specs.Graph.{Graph}
 use Rattle.slotted_core.specs.Image.{Image, found_id, FoundAlike, asserted_in, AreDerivable}
 use Rattle.slotted_store.specs.Finding.{IsFindable}
 use Rattle.slotted_store.specs.Kept.{Kept, nodes_of, entries_of, proofs_of}
 use Rattle.slotted_core.specs.Good.{image_of, Good}
-use Rattle.slotted_core.proofs.FindableIds.{of-findable, findable-within, fills-filling}
+use Rattle.slotted_core.proofs.ValidIds.{of-valid, findable-within, fills-filling}
 use Rattle.slotted_core.proofs.Images.{found_id-is}
 
 -- what a contract says of the answer
@@ -78,6 +78,6 @@ module _ (k : Kept) (good : Good k) (a b : Applied) (fa : IsFindable k a) (fb : 
   }
 
 -- the same of ids of a graph
-pub says-of : (k : Kept) → Good k → (g : Graph) → image_of k ≡ g.image → (a b : Applied) → IsFindableId g a → IsFindableId g b → (y : Bool) → (IsTrue y ↔ (find (entries_of k) a ≡ find (entries_of k) b)) → Says g.image a b y
+pub says-of : (k : Kept) → Good k → (g : Graph) → image_of k ≡ g.image → (a b : Applied) → IsValidId g a → IsValidId g b → (y : Bool) → (IsTrue y ↔ (find (entries_of k) a ≡ find (entries_of k) b)) → Says g.image a b y
 says-of k good g image a b va vb y i =
-    subst (λ (x : Image). Says x a b y) image (says k good a b (of-findable k good g image a va) (of-findable k good g image b vb) y i)
+    subst (λ (x : Image). Says x a b y) image (says k good a b (of-valid k good g image a va) (of-valid k good g image b vb) y i)

@@ -13,12 +13,12 @@ use Rattle.slotted_filing.specs.FiledRows.{Rows}
 use Rattle.slotted_rebuilding.specs.Filed.{state_in}
 use Rattle.slotted_core.specs.Affected.{IsAffected, AreAffected, IsYesIfEqual, IsYesIfDerivable}
 use Rattle.slotted_core.specs.Causes.{class_found}
-use Rattle.slotted_core.specs.Findable.{IsFindableId}
+use Rattle.slotted_core.specs.ValidIds.{IsValidId}
 use Rattle.slotted_core.specs.Good.{Good, RestsWith, image_of}
 use Rattle.slotted_core.specs.Graph.{Graph}
 use Rattle.slotted_core.specs.Image.{Image}
 use Rattle.slotted_core.proofs.AffectedClasses.{affected-is}
-use Rattle.slotted_core.proofs.FindableIds.{of-findable, findable-within, fills-filling}
+use Rattle.slotted_core.proofs.ValidIds.{of-valid, findable-within, fills-filling}
 use Rattle.slotted_core.proofs.Images.{class_found-is}
 use Rattle.slotted_core.proofs.Resting.{at-rest}
 
@@ -40,11 +40,11 @@ module _ (k : Kept) (good : Good k) (r : Rows) (rest : AtRest (state_in k r)) (a
       yes-or_affected (rest-derivable (state_in k r) rest a b left right [] [] fa fb (fills-filling k a left fl) (fills-filling k b right fr) E t u listed et eu d)
 
 -- the same of ids of a graph
-pub complete-of : (k : Kept) (r : Rows) → Good k → RestsWith k r → (g : Graph) → image_of k ≡ g.image → (a b : Applied) → IsFindableId g a → IsFindableId g b → (y : Bool) → (IsTrue y ↔ (find (entries_of k) a ≡ find (entries_of k) b)) →
+pub complete-of : (k : Kept) (r : Rows) → Good k → RestsWith k r → (g : Graph) → image_of k ≡ g.image → (a b : Applied) → IsValidId g a → IsValidId g b → (y : Bool) → (IsTrue y ↔ (find (entries_of k) a ≡ find (entries_of k) b)) →
     IsYesIfEqual g.image a b y × IsYesIfDerivable g.image a b y
 complete-of k r good rests g image a b va vb y says =
     let rest = at-rest k r good rests in
-    let fa = of-findable k good g image a va in
-    let fb = of-findable k good g image b vb in
+    let fa = of-valid k good g image a va in
+    let fb = of-valid k good g image b vb in
     subst (λ (x : Image). IsYesIfEqual x a b y × IsYesIfDerivable x a b y) image
     (yes-if_equal k good r rest a b fa fb y says, yes-if_derivable k good r rest a b fa fb y says)

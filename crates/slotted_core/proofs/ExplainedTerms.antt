@@ -55,7 +55,7 @@ module _ (k : Kept) (r : Rows) (good : Good k) (rests : RestsWith k r) (l : Kept
   proving-alike = alike-on k r good l r proving-on
 
 -- both terms were added
-module _ (k : Kept) (r : Rows) (good : Good k) (m : Kept) (s : Rows) (n : Kept) (q : Rows) (left right : Term) (v w : Table) (a b : Applied) (first : AddsTerm v k r m s left a) (second : AddsTerm w m s n q right b) where
+module _ (k : Kept) (r : Rows) (good : Good k) (m : Kept) (s : Rows) (n : Kept) (q : Rows) (left right : Term) (t v w : Table) (a b : Applied) (first : AddsTerm t v k r m s left a) (second : AddsTerm v w m s n q right b) where
   pub left-full : IsFull (nodes_of n) a
   left-full = second.extends.full a first.full
 
@@ -129,7 +129,7 @@ runs-left k t u old new (inl (inr large)) = large_left large
 runs-left k t u old new (inr (inl large)) = large_graph large
 runs-left k t u old new (inr (inr wide)) = wide_left wide
 
-pub runs-right : (k : Kept) (r : Rows) (m : Kept) (s : Rows) (t u : Term) (old mid new : Table) (a : Applied) → AddsTerm mid k r m s t a → MakesAtMost (term_slots t) old mid → CanRunOutForTerm (image_of m) u mid new → RunsOutForTerms (image_of k) t u old new
+pub runs-right : (k : Kept) (r : Rows) (m : Kept) (s : Rows) (t u : Term) (old mid new : Table) (a : Applied) → AddsTerm old mid k r m s t a → MakesAtMost (term_slots t) old mid → CanRunOutForTerm (image_of m) u mid new → RunsOutForTerms (image_of k) t u old new
 runs-right k r m s t u old mid new a first makes (inl (inl short)) = no_slots (runs_out-then (term_slots t) (term_slots u) (term_slots t + term_slots u) old mid new makes short (omega arith))
 runs-right k r m s t u old mid new a first makes (inl (inr large)) = large_right large
 runs-right k r m s t u old mid new a first makes (inr (inl large)) = elim (first.large large) [

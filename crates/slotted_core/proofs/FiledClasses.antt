@@ -8,6 +8,7 @@ use Rattle.slotted_nodes.specs.Form.{Form}
 use Rattle.slotted_languages.specs.NodeTerm.{nameless_node}
 use Rattle.slotted_languages.specs.Shape.{Fits}
 use Rattle.slotted_model.specs.Adding.{HasAdded}
+use Rattle.slotted_model.specs.Adding as model
 use Rattle.slotted_model.specs.Applied.{Applied}
 use Rattle.slotted_model.specs.Changes.{GoesOn}
 use Rattle.slotted_model.specs.Classes.{canonical_slots}
@@ -74,8 +75,9 @@ module _ (k : Kept) (r : Rows) (good : Good k) (rests : RestsWith k r) where
     adds = adds-none;
     found = m.found;
     filed = m.filed;
-    kept = λ s. refl;
+    kept = λ s. (refl, refl, (m.kept s).1);
     made = m.made;
+    step = inl (refl, refl);
     large = m.large;
   }
 
@@ -87,14 +89,14 @@ module _ (k : Kept) (r : Rows) (good : Good k) (rests : RestsWith k r) where
   ]
 
   -- and else one was
-  pub one-made : (t u : Table) (f : Form) (a : Applied) (m : Kept) → Makes t u k m f a → length r.filed ≢ length m.classes → MakesOne k m
+  pub one-made : (t u : Table) (f : Form) (a : Applied) (m : Kept) → Makes t u k m f a → length r.filed ≢ length m.classes → MakesOne k m f
   one-made t u f a m make different = elim make.step [
     | inl e ↦ absurd (different (rests.filed.count ∙ ap (λ (z : Kept). length z.classes) (sym e)))
     | inr one ↦ one
   ]
 
   -- a class was made
-  module _ (m : Kept) (good-m : Good m) (one : MakesOne k m) where
+  module _ (m : Kept) (good-m : Good m) (f : Form) (one : MakesOne k m f) where
     pub unfiled : IsUnfiled m r
     unfiled = record {
       stored = good-m.stored;
@@ -107,15 +109,18 @@ module _ (k : Kept) (r : Rows) (good : Good k) (rests : RestsWith k r) where
     }
 
     module _ (l : Kept) (q : Rows) (files : FilesNewest m r l q) where
+      made-of : model.Adds (state_in k r) one.node (state_in l q)
+      made-of = files.adds (state_in k r) one.node (one.state (rows_in r.filed) r.waiting)
+
       added : HasAdded (state_in k r) one.node (state_in l q)
-      added = adds (state_in k r) (at-rest k r good rests) one.node one.is_new (state_in l q) (files.adds (state_in k r) one.node (one.state (rows_in r.filed) r.waiting))
+      added = adds (state_in k r) (at-rest k r good rests) one.node one.is_new (state_in l q) made-of
 
       abbrev same : nodes_of l ≡ nodes_of m
       same = files.grows.nodes
 
       -- and is filed
-      pub adds-filed : (t u : Table) (f : Form) (a : Applied) → Makes t u k m f a → Adds t u k r l q f a
-      adds-filed t u f a make = record {
+      pub adds-filed : (t u : Table) (a : Applied) → Makes t u k m f a → Adds t u k r l q f a
+      adds-filed t u a make = record {
         good = grown-good m l good-m files.grows files.filed.stored files.settled;
         rests = record { filed = files.filed; represents = added.rest.represents; quiet = added.rest.nothing_waits };
         fresh_slots = grown-fresh u m l same make.fresh_slots;
@@ -126,8 +131,9 @@ module _ (k : Kept) (r : Rows) (good : Good k) (rests : RestsWith k r) where
             files.grows.listed (files.grows.symmetries ∙ ap (λ (x : List SymmetryEntry). x ++ files.grows.listed) make.symmetries) added.same_asserted;
         found = subst (λ (ns : List DTerm). id_of_node ns (nameless_node f) ≡ Some a) (sym same) make.found;
         filed = subst (λ (ns : List DTerm). NewClassesAre (nodes_of k) ns (IsIdOfNode ns (nameless_node f))) (sym same) make.filed;
-        kept = λ s. absurd (more-than (ap (λ (x : Kept). length x.classes) (make.kept s)));
+        kept = λ s. absurd (more-than (ap (λ (x : Kept). length x.classes) (make.kept s).0));
         made = λ none. subst (λ (ns : List DTerm). HasNewClass t u (nodes_of k) ns (nameless_node f)) (sym same) (make.made none);
+        step = inr (record { node = one.node; is_new = one.is_new; same_shape = one.same_shape; adds = made-of });
         large = λ h. make.large (h.0, subst (λ (ns : List DTerm). h.0 < length ns) same h.1, subst (λ (ns : List DTerm). IsLargeClass ns h.0 ⊎ IsWideClass ns h.0) same h.2);
       }
         where

@@ -2,13 +2,21 @@
 use Rattle.std.proofs.Common.{◌≡◌, ◌↔◌, ◌<◌, ℕ, zero, suc, List, [], ◌∷◌, length, sym, ◌∙◌, ap, refl, subst, arith}
 use Rattle.std.specs.Prelude.{slice_index_or}
 use Rattle.slotted_theory.specs.FiniteMaps.{IsInjectiveMap}
+use Rattle.slotted_slots.specs.Ascending as slots
 use Rattle.slotted_slots.specs.Maps.{keys, values}
 use Rattle.slotted_languages.specs.Shape.{shape}
 use Rattle.slotted_languages.proofs.Shapes.{injective-shape}
 use Rattle.slotted_model.specs.Ascending.{ascending, names}
 use Rattle.slotted_model.specs.Applied.{Applied}
 use Rattle.slotted_model.specs.Classes.{canonical_slots, IsFull}
+use Rattle.slotted_model.specs.Correspondence.{identity}
+use Rattle.slotted_model.proofs.FillingEquations.{keys-identity}
+use Rattle.slotted_model.proofs.Fillings.{slots-ascending}
+use Rattle.slotted_model.proofs.Members.{In, In-Contains, Contains-In}
+use Rattle.slotted_store.specs.Finding.{IsFindable}
 use Rattle.slotted_store.specs.Kept.{Kept, ClassEntry, RowEntry, no_form, names_at, nodes_of, rows_from}
+use Rattle.slotted_store.proofs.DistinctValues.{length-ascending_values}
+use Rattle.slotted_store.proofs.NameMaps.{In-at, In-key, keys_are, length-keys, length-values, rising}
 use Rattle.slotted_store.proofs.NamePairs.{ascending-values}
 use Rattle.slotted_core.specs.Good.{Good}
 use Rattle.slotted_core.proofs.RowLookUps.{node_in, nameless_nodes, canonical_node-in}
@@ -57,3 +65,28 @@ module _ (k : Kept) (good : Good k) (a : Applied) where
     λ i. record { in_range = omega (arith, l, length-classes k); slots = e ∙ row-values k good a.0 l; injective = i },
     λ full. full.injective,
   )
+
+-- an id that finds is full exactly if it has as many names as the row of its class
+pub full-by_count : (k : Kept) → Good k → (a : Applied) → IsFindable k a → (m : List (ℕ × ℕ)) → m ≡ names_at k a.0 → (length a.1 ≡ length m) ↔ IsFull (nodes_of k) a
+full-by_count k good a v m e =
+    let S : List ℕ = canonical_slots (nodes_of k) a.0 in
+    let l : a.0 < length k.classes = let h : a.0 < length (nodes_of k) = v.in_range in omega (arith, h, length-classes k) in
+    let n : length S ≡ length m =
+    ap length (sym (row-values k good a.0 l))
+    ∙ (length-ascending_values (names_at k a.0) (row-differ k good a.0 l)
+    ∙ (length-values (names_at k a.0) ∙ ap length (sym e))) in
+    let own : keys (identity S) ≡ S = keys-identity S in (
+      λ h. record {
+        in_range = v.in_range;
+        slots =
+            sym (keys_are (keys a.1) (identity S) (rising (keys a.1) v.ascending)
+            (subst slots.IsAscending (sym own) (rising S (slots-ascending (nodes_of k) a.0)))
+            (length-keys a.1 ∙ (h ∙ (sym n ∙ ap length (sym own))))
+            (λ i d j.
+            let s : ℕ = slice_index_or (keys a.1) i d in
+            In-key (identity S) s (subst (In s) (sym own) (In-Contains S s (v.within s (Contains-In (keys a.1) s (In-at (keys a.1) i d j)))))))
+            ∙ own;
+        injective = v.injective;
+      },
+      λ full. sym (length-keys a.1) ∙ (ap length full.slots ∙ n),
+    )

@@ -25,7 +25,6 @@ use Rattle.slotted_slots.specs.Table.{Table, is_known}
 use Rattle.slotted_model.specs.Ascending.{names}
 use Rattle.slotted_terms.specs.Valid.{AllKnown, HasKnownNames}
 use Rattle.slotted_slots.specs.declared.types.AppliedId.{AppliedId}
-use Rattle.slotted_core.specs.Graph.{Graph, IsValidId, id_of_form, StandsForNode}
 use Rattle.slotted_proofs.specs.Equations.{to_applied}
 use Rattle.slotted_store.proofs.NameMaps.{In-at, at_In}
 
@@ -64,7 +63,7 @@ outer_number ρ b x y e = elim (cases_eq x b) [
 ]
 
 -- the free names of a node are names at its places
-free_from : (ρ : ℕ → ℕ) (t : Tree) (xs : List ℕ) → length xs ≡ length (scopes t) → (y : ℕ) → In y (free_names (nameless_args ρ (node_args t xs))) → IsNumberOf ρ xs y
+pub free_from : (ρ : ℕ → ℕ) (t : Tree) (xs : List ℕ) → length xs ≡ length (scopes t) → (y : ℕ) → In y (free_names (nameless_args ρ (node_args t xs))) → IsNumberOf ρ xs y
 free_from ρ leaf xs n y h = absurd h
 free_from ρ (own r) xs n y (inl e) = (slice_index xs 0, In-head xs (length (scopes r)) n, e)
 free_from ρ (own r) xs n y (inr h) = wider ρ (drop 1 xs) xs y (In-drop 1 xs) (free_from ρ r (drop 1 xs) (own_fits r xs n) y h)
@@ -110,19 +109,6 @@ module _ (g : List DTerm) (f : Form) (a : Applied) (found : id_of_node g (namele
       let v = slice_index_or (values a.1) k d in
       let r = free_from (λ x. x) f.tree f.names hf v (value_free v (In-at (values a.1) k d l)) in
       subst P (sym r.2) (at_In P f.names all r.0 r.1)
-
--- what a look-up in a graph answers can be handed on, and stands for the node
-module _ (g : Graph) (f : Form) where
-  pub looked_up-valid : Fits f → AllKnown g.table f.names → (o : Option AppliedId) → option_map to_applied o ≡ id_of_form g f → IfSome o (λ a. IsValidId g (to_applied a))
-  looked_up-valid hf known None e = tt
-  looked_up-valid hf known (Some a) e = record {
-    full = answer_full g.image.canonical f (to_applied a) (sym e);
-    known = answer_names g.image.canonical f (to_applied a) (sym e) hf (λ s. IsTrue (is_known g.table s)) known;
-  }
-
-  pub looked_up-term : Canonical g.image.canonical → (o : Option AppliedId) → option_map to_applied o ≡ id_of_form g f → IfSome o (λ a. StandsForNode g (to_applied a) f)
-  looked_up-term can None e = tt
-  looked_up-term can (Some a) e = answer_term g.image.canonical f (to_applied a) (sym e) can
 
 -- the free names of a term are names in it
 term_free : (t : Table) (ρ : ℕ → ℕ) (a : Args) → HasKnownNames t a → (y : ℕ) → In y (free_names (nameless_args ρ a)) → (x : ℕ) × IsTrue (is_known t x) × (y ≡ ρ x)

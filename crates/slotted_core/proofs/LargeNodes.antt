@@ -10,7 +10,7 @@ use Rattle.slotted_model.specs.Classes.{canonical_node, canonical_slots}
 use Rattle.slotted_model.specs.Growth.{Extends}
 use Rattle.slotted_store.proofs.NameCounts.{length-ascending, length-outside}
 use Rattle.slotted_congruence.specs.Named.{args_size, node_size}
-use Rattle.slotted_congruence.proofs.WideNodes.{size-moved}
+use Rattle.slotted_alike.proofs.WideNodes.{size-moved}
 use Rattle.slotted_core.specs.Causes.{IsLargeClass, IsWideClass, IsWideNode}
 
 free-fit : (d : DArgs) → length (free_names d) ≤ args_size d

@@ -5,7 +5,8 @@ pub mod FreshSlots
 pub mod Images
 pub mod ContinuedFinds
 pub mod LargeNodes
-pub mod FindableIds
+pub mod ValidIds
+pub mod FilledNames
 pub mod RowLookUps
 pub mod FullIds
 pub mod Answering
@@ -16,7 +17,9 @@ pub mod EntryTexts
 pub mod Asserting
 pub mod Symmetries
 pub mod LiveSizes
+pub mod LackingNames
 pub mod Unions
+pub mod FilledUnions
 pub mod ExplainedTerms
 pub mod FreshCanonicalNodes
 pub mod NodeAddition
@@ -26,6 +29,7 @@ pub mod ChildReplacement
 pub mod CallerLemmas
 pub mod Layers
 pub mod FoundParts
+pub mod LookedUpParts
 pub mod Filing
 pub mod Tables
 pub mod TermAddition
@@ -38,3 +42,13 @@ pub mod ListedOnce
 pub mod AffectedClasses
 pub mod Completeness
 pub mod Reports
+pub mod LookUps
+pub mod FilledNodes
+pub mod AddedByLookUp
+pub mod LookedUp
+pub mod AddedNodes
+pub mod AddedTerms
+pub mod LookedUpTerms
+pub mod GraphTerms
+pub mod YesesStay
+pub mod LookedUpClasses

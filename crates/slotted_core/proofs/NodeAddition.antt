@@ -127,7 +127,7 @@ makes_none t k good over f hf r e =
       symmetries = refl;
       found = p;
       filed = λ i past within. absurd (omega (arith, past, within));
-      kept = λ s. refl;
+      kept = λ s. (refl, refl);
       made = λ n. absurd (false≢true (ap is_some (sym n ∙ p)));
       step = inl refl;
       large = inl;
@@ -383,7 +383,7 @@ module _ (t u : Table) (k : Kept) (good : Good k) (over : HasFreshSlots t k) (f 
       same_shape = one_shape;
       fresh = λ s b. fresh_last s (In-Contains (names d) s (subst (λ (x : List ℕ). Contains x s) (ap (λ (i : ℕ). canonical_slots (nodes_of l) i) (length-classes k) ∙ slots_last) b));
     };
-    step = inr (record { node = d; is_new = is_new; count = classes_more; state = state_with_is });
+    step = inr (record { node = d; is_new = is_new; same_shape = one_shape; count = classes_more; state = state_with_is });
     large = large_one;
   }
     where

@@ -23,12 +23,12 @@ use Rattle.slotted_store.proofs.NameMaps.{In-at, at_In}
 use Rattle.slotted_adding.specs.LookUp as adding
 use Rattle.slotted_adding.specs.Reports.{live_ids, lives}
 use Rattle.slotted_core.specs.Causes.{class_found}
-use Rattle.slotted_core.specs.Findable.{IsFindableId}
+use Rattle.slotted_core.specs.ValidIds.{IsValidId}
 use Rattle.slotted_core.specs.Good.{Good, HasFreshSlots, image_of}
 use Rattle.slotted_core.specs.Graph.{Graph}
 use Rattle.slotted_core.specs.Image.{Image, found_id}
 use Rattle.slotted_core.specs.Reports.{IsFoundFor, class_numbers, finds_itself, live_classes, names_slots, slots_used}
-use Rattle.slotted_core.proofs.FindableIds.{findable-within, of-findable, to-findable}
+use Rattle.slotted_core.proofs.ValidIds.{findable-within, of-valid, to-valid}
 use Rattle.slotted_core.proofs.GoodFinds.{good-finds}
 use Rattle.slotted_core.proofs.Images.{class_found-is, found-at, found_id-is}
 
@@ -111,7 +111,7 @@ module _ (k : Kept) (good : Good k) where
   module _ (g : Graph) (image : image_of k ≡ g.image) where
     -- in a graph with this image
     abbrev over : Image → Graph
-    over i = record { failed = g.failed; table = g.table; image = i }
+    over i = record { failed = g.failed; table = g.table; image = i; filed = g.filed }
 
     pub slots-are : (i : ℕ) → i < length g.image.canonical → used_slots found i ≡ slots_used g.image i
     slots-are i l = used-are i (within k g.image image i l) ∙ ap (λ (x : Image). slots_used x i) image
@@ -122,14 +122,14 @@ module _ (k : Kept) (good : Good k) where
     pub names-known : HasFreshSlots g.table k → (i : ℕ) → i < length g.image.canonical → AllKnown g.table (values (identity (used_slots found i)))
     names-known fresh i l = subst (AllKnown g.table) (sym (values-identity (used_slots found i))) (used-known g.table fresh i (within k g.image image i l))
 
-    pub found_id-finds : (a : Applied) → IsFindableId g a → find found a ≡ found_id g.image a
+    pub found_id-finds : (a : Applied) → IsValidId g a → find found a ≡ found_id g.image a
     found_id-finds a v =
-        let l : a.0 < length k.classes = findable-within k a (of-findable k good g image a v) in
+        let l : a.0 < length k.classes = findable-within k a (of-valid k good g image a v) in
         sym (found_id-is k a l) ∙ ap (λ (x : Image). found_id x a) image
 
-    pub found-for : (a b : Applied) → IsFindableId g a → adding.IsFoundFor k a b → IsFoundFor g a b
+    pub found-for : (a b : Applied) → IsValidId g a → adding.IsFoundFor k a b → IsFoundFor g a b
     found-for a b v w =
-        let l : a.0 < length k.classes = findable-within k a (of-findable k good g image a v) in
+        let l : a.0 < length k.classes = findable-within k a (of-valid k good g image a v) in
         let h : b.0 < length k.classes = findable-within k b w.findable in
         let known : AllKnown g.table (values b.1) = subst (λ (x : Applied). AllKnown g.table (values x.1)) (w.alike ∙ w.again) (found-known g.table found a v.known) in
         subst (λ i. IsFoundFor (over i) a b) image (record {
@@ -137,6 +137,6 @@ module _ (k : Kept) (good : Good k) where
           slots = w.found.1 ∙ used-are b.0 h;
           alike = found_id-is k a l ∙ (w.alike ∙ sym (found_id-is k b h));
           again = found_id-is k b h ∙ w.again;
-          findable = to-findable k good (over (image_of k)) refl b w.findable known;
+          valid = to-valid k good (over (image_of k)) refl b w.findable known;
           renamed = λ f inj. found_id-is k (renamed_id f a) l ∙ (w.renamed f inj).1;
         })

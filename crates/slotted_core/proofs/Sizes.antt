@@ -18,7 +18,7 @@ use Rattle.slotted_model.specs.Classes.{canonical_term, term_of, IsFull, Canonic
 use Rattle.slotted_model.proofs.Full.{canonical_term-names}
 use Rattle.slotted_model.proofs.Theory.{free_names-moved}
 use Rattle.slotted_congruence.specs.Named.{args_size, node_size}
-use Rattle.slotted_congruence.proofs.WideNodes.{names_in}
+use Rattle.slotted_alike.proofs.WideNodes.{names_in}
 use Rattle.slotted_core.specs.Nodes.{ids_in, child_ids}
 use Rattle.slotted_core.specs.Places.{args_places, term_places}
 use Rattle.slotted_store.proofs.ChildIds.{length-ids}
@@ -29,7 +29,7 @@ length-mapped : (f : ℕ → ℕ) (xs : List ℕ) → length (map f xs) ≡ leng
 length-mapped f [] = refl
 length-mapped f (x ∷ xs) = ap suc (length-mapped f xs)
 
-free_fit : (ρ : ℕ → ℕ) (a : Args) → length (free_names (nameless_args ρ a)) ≤ args_places a
+pub free_fit : (ρ : ℕ → ℕ) (a : Args) → length (free_names (nameless_args ρ a)) ≤ args_places a
 free_fit ρ done = omega arith
 free_fit ρ (name x rest) = omega (arith, free_fit ρ rest)
 free_fit ρ (term.child op payloads args rest) =
@@ -65,7 +65,7 @@ values-zip [] vs e = refl
 values-zip (k ∷ ks) [] e = absurd (omega (arith, e))
 values-zip (k ∷ ks) (v ∷ vs) e = ap suc (values-zip ks vs (omega (arith, e)))
 
-places_fit : (t : Tree) (xs : List ℕ) (us : List Term) → length xs ≡ length (scopes t) → Bounded (ids_in t xs) us → length (scopes t) ≤ args_places (form.filled t xs us)
+pub places_fit : (t : Tree) (xs : List ℕ) (us : List Term) → length xs ≡ length (scopes t) → Bounded (ids_in t xs) us → length (scopes t) ≤ args_places (form.filled t xs us)
 places_fit leaf xs us n m = omega arith
 places_fit (own r) xs us n m = omega (arith, places_fit r (drop 1 xs) us (own_fits r xs n) m)
 places_fit (child i ks r) xs [] n m = absurd m
@@ -135,7 +135,7 @@ places-size (name x rest) = omega (arith, places-size rest)
 places-size (term.child op payloads args rest) = omega (arith, places-size args, places-size rest)
 places-size (term.bind x inner rest) = omega (arith, places-size inner, places-size rest)
 
-size_fit : (ρ : ℕ → ℕ) (t : Tree) (xs : List ℕ) (us : List Term) → length xs ≡ length (scopes t) → Bounded (ids_in t xs) us → args_size (nameless_args ρ (node_args t xs)) ≤ term.args_size (form.filled t xs us)
+pub size_fit : (ρ : ℕ → ℕ) (t : Tree) (xs : List ℕ) (us : List Term) → length xs ≡ length (scopes t) → Bounded (ids_in t xs) us → args_size (nameless_args ρ (node_args t xs)) ≤ term.args_size (form.filled t xs us)
 size_fit ρ leaf xs us n m = omega arith
 size_fit ρ (own r) xs us n m = omega (arith, size_fit ρ r (drop 1 xs) us (own_fits r xs n) m)
 size_fit ρ (child i ks r) xs [] n m = absurd m

@@ -18,7 +18,8 @@ use Rattle.slotted_model.specs.Classes.{terms, term_of, layer_of, IsFull, Canoni
 use Rattle.slotted_model.specs.Growth.{Extends}
 use Rattle.slotted_model.proofs.GoingOn.{goes_on-then}
 use Rattle.slotted_model.proofs.Growing.{Extends-same, Extends-then}
-use Rattle.slotted_model.specs.Ids.{id_of}
+use Rattle.slotted_model.specs.Ids.{id_of, id_of_node}
+use Rattle.slotted_model.proofs.LookUps.{id_of_node-moved}
 use Rattle.slotted_model.proofs.Ids.{id_of-iff}
 use Rattle.slotted_core.specs.Image.{Image, AddsClasses}
 use Rattle.slotted_store.specs.Kept.{Kept, nodes_of}
@@ -37,14 +38,15 @@ use Rattle.slotted_core.proofs.Images.{adds-then}
 use Rattle.slotted_store.proofs.ChildIds.{length-ids, zip-keys_values}
 use Rattle.slotted_core.proofs.KnownNames.{answer_full, answer_term}
 use Rattle.slotted_core.proofs.Filing.{Files, of_child, files-nothing, files-then, files-more, files-node}
-use Rattle.slotted_core.proofs.FoundParts.{children_found, node_has_id}
+use Rattle.slotted_core.proofs.FoundParts.{node_has_id}
+use Rattle.slotted_core.proofs.LookedUpParts.{children_found}
 use Rattle.slotted_core.proofs.Layers.{match-from, expand-filled, each_at, child_smaller}
 use Rattle.slotted_store.proofs.NameMaps.{length-keys, length-values}
 use Rattle.slotted_core.proofs.ChildReplacement.{plugs}
 use Rattle.slotted_core.proofs.Sizes.{node_fits, node_size_fits}
 
 -- the first i children of h are ids of the terms us, and beside its children h is f
-pub record IsPart (k : Kept) (r : Rows) (t : Table) (l : Kept) (q : Rows) (f h : Form) (us : List Term) (i : ℕ) : Type 0 where
+pub record IsPart (o : Table) (k : Kept) (r : Rows) (t : Table) (l : Kept) (q : Rows) (f h : Form) (us : List Term) (i : ℕ) : Type 0 where
   pub good : Good l
   pub rests : RestsWith l q
   pub fresh_slots : HasFreshSlots t l
@@ -56,11 +58,11 @@ pub record IsPart (k : Kept) (r : Rows) (t : Table) (l : Kept) (q : Rows) (f h :
   pub count : length (children h.tree) ≡ length (children f.tree)
   pub outline : (vs : List Term) → length vs ≡ length (children f.tree) → filled h.tree h.names vs ≡ filled f.tree f.names vs
   pub filed : Files (nodes_of k) (nodes_of l) (form.term_of f us)
-  pub kept : IsSome (id_of (nodes_of k) (nameless (form.term_of f us))) → image_of l ≡ image_of k
+  pub kept : IsSome (id_of (nodes_of k) (nameless (form.term_of f us))) → (l ≡ k) × (q ≡ r) × (t ≡ o)
   pub large : HasLargeClassIn (image_of l) → HasLargeClassOrTerm (image_of k) (form.term_of f us)
   pub ids : (j : ℕ) (d : Applied) (e : Term) → j < i → IsFull (nodes_of l) (slice_index_or (child_ids h) j d) × (term_of (nodes_of l) (slice_index_or (child_ids h) j d) ≡ nameless (slice_index_or us j e))
 
-pub part_start : (k : Kept) (r : Rows) (t : Table) → Good k → RestsWith k r → HasFreshSlots t k → (f : Form) (us : List Term) → IsPart k r t k r f f us 0
+pub part_start : (k : Kept) (r : Rows) (t : Table) → Good k → RestsWith k r → HasFreshSlots t k → (f : Form) (us : List Term) → IsPart t k r t k r f f us 0
 part_start k r t good rests fresh f us = record {
   good = good;
   rests = rests;
@@ -73,24 +75,24 @@ part_start k r t good rests fresh f us = record {
   count = refl;
   outline = λ vs n. refl;
   filed = files-nothing (nodes_of k) (form.term_of f us);
-  kept = λ s. refl;
+  kept = λ s. (refl, refl, refl);
   large = inl;
   ids = λ j d e l. absurd (omega arith);
 }
 
-set_same : {X : Type 0} (xs : List X) (k : ℕ) (a d : X) → k < length xs → get_or (slice_set xs k a) k d ≡ a
+pub set_same : {X : Type 0} (xs : List X) (k : ℕ) (a d : X) → k < length xs → get_or (slice_set xs k a) k d ≡ a
 set_same [] k a d l = absurd (omega arith)
 set_same (x ∷ xs) zero a d l = refl
 set_same (x ∷ xs) (suc k) a d l = set_same xs k a d (omega arith)
 
-set_other : {X : Type 0} (xs : List X) (k j : ℕ) (a d : X) → j < k → get_or (slice_set xs k a) j d ≡ get_or xs j d
+pub set_other : {X : Type 0} (xs : List X) (k j : ℕ) (a d : X) → j < k → get_or (slice_set xs k a) j d ≡ get_or xs j d
 set_other [] k j a d l = refl
 set_other (x ∷ xs) zero j a d l = absurd (omega arith)
 set_other (x ∷ xs) (suc k) zero a d l = refl
 set_other (x ∷ xs) (suc k) (suc j) a d l = set_other xs k j a d (omega arith)
 
-pub part_step : (k : Kept) (r : Rows) → Good k → (t v : Table) (l : Kept) (q : Rows) (m : Kept) (s : Rows) (f h : Form) (us : List Term) → length us ≡ length (children f.tree) → (i : ℕ) (a : Applied) (u : Term) → Fits h → IsPart k r t l q f h us i → i < length (children f.tree) → ((e : Term) → slice_index_or us i e ≡ u) → AddsTerm v l q m s u a → IsPart k r v m s f (with_child h i a.0 (keys a.1) (values a.1)) us (i + 1)
-part_step k r start t v l before m after f h us nu i a u fits p lt at add =
+pub part_step : (k : Kept) (r : Rows) → Good k → (o t v : Table) (l : Kept) (q : Rows) (m : Kept) (s : Rows) (f h : Form) (us : List Term) → length us ≡ length (children f.tree) → (i : ℕ) (a : Applied) (u : Term) → Fits h → IsPart o k r t l q f h us i → i < length (children f.tree) → ((e : Term) → slice_index_or us i e ≡ u) → AddsTerm t v l q m s u a → IsPart o k r v m s f (with_child h i a.0 (keys a.1) (values a.1)) us (i + 1)
+part_step k r start o t v l before m after f h us nu i a u fits p lt at add =
     let can : Canonical (nodes_of k) = start.stored.sane.sound.canonical in
     let on : GoesOn (state_in k r) (state_in m after) = goes_on-then (state_in k r) (state_in l before) (state_in m after) start.stored.sane.sound.linked p.goes_on add.goes_on in
     let n : length (values a.1) ≡ length (keys a.1) = length-values a.1 ∙ sym (length-keys a.1) in
@@ -117,8 +119,9 @@ part_step k r start t v l before m after f h us nu i a u fits p lt at add =
           let same = p.kept s in
           let of_part : IsSome (id_of (nodes_of k) (nameless u)) =
           subst (λ (x : Term). IsSome (id_of (nodes_of k) (nameless x))) (at u)
-          (each_at (λ (x : Term). IsSome (id_of (nodes_of k) (nameless x))) us i u (omega (arith, lt, nu)) (children_found (nodes_of k) can f us nu s)) in
-          add.kept (subst (λ (x : Image). IsSome (id_of x.canonical (nameless u))) (sym same) of_part) ∙ same;
+          (each_at (λ (x : Term). IsSome (id_of (nodes_of k) (nameless x))) us i u (omega (arith, lt, nu)) (children_found (id_of_node (nodes_of k)) (id_of_node-moved (nodes_of k) can) f us nu s)) in
+          let stays = add.kept (subst (λ (x : Kept). IsSome (id_of (nodes_of x) (nameless u))) (sym same.0) of_part) in
+          (stays.0 ∙ same.0, stays.1 ∙ same.1, stays.2 ∙ same.2);
       large = λ c. elim (add.large c) [
         | inl o ↦ p.large o
         | inr o ↦ let e : slice_index_or us i u ≡ u = at u in inr (omega (arith, o, child_smaller f us i u (omega (arith, lt, nu)), ap term_size e))
@@ -143,30 +146,30 @@ part_step k r start t v l before m after f h us nu i a u fits p lt at add =
 
 -- where all children are ids the node is one over full ids
 
-pub part_full : (k : Kept) (r : Rows) (t : Table) (l : Kept) (q : Rows) (f h : Form) (us : List Term) → IsPart k r t l q f h us (length us) → length us ≡ length (children f.tree) → All (IsFull (nodes_of l)) (child_ids h)
-part_full k r t l q f h us p n j d lt = (p.ids j d (record { op = 0; payloads = []; args = done }) (omega (arith, lt, n, p.count, length-ids h.tree h.names))).0
+pub part_full : (o : Table) (k : Kept) (r : Rows) (t : Table) (l : Kept) (q : Rows) (f h : Form) (us : List Term) → IsPart o k r t l q f h us (length us) → length us ≡ length (children f.tree) → All (IsFull (nodes_of l)) (child_ids h)
+part_full o k r t l q f h us p n j d lt = (p.ids j d (record { op = 0; payloads = []; args = done }) (omega (arith, lt, n, p.count, length-ids h.tree h.names))).0
 
-pub part_layer : (k : Kept) (r : Rows) (t : Table) (l : Kept) (q : Rows) (f h : Form) (us : List Term) → Fits h → IsPart k r t l q f h us (length us) → length us ≡ length (children f.tree) → layer_of (nodes_of l) (nameless_node h) ≡ nameless (form.term_of f us)
-part_layer k r t l q f h us fits p n =
+pub part_layer : (o : Table) (k : Kept) (r : Rows) (t : Table) (l : Kept) (q : Rows) (f h : Form) (us : List Term) → Fits h → IsPart o k r t l q f h us (length us) → length us ≡ length (children f.tree) → layer_of (nodes_of l) (nameless_node h) ≡ nameless (form.term_of f us)
+part_layer o k r t l q f h us fits p n =
     let m = match-from (nodes_of l) p.good.stored.sane.sound.canonical (child_ids h) us (length-ids h.tree h.names ∙ (p.count ∙ sym n)) p.ids in
     let e = expand-filled (terms (nodes_of l)) (λ x. x) h.tree h.names us fits m in
     let o : filled h.tree h.names us ≡ filled f.tree f.names us = p.outline us n in
     λ i. record { op = suc (p.operator i); payloads = p.payloads i; args = (e ∙ ap (λ (a : Args). nameless_args (λ x. x) a) o) i }
 
 -- the node has no more places than the term
-pub part_size : (k : Kept) (r : Rows) (t : Table) (l : Kept) (q : Rows) (f h : Form) (us : List Term) → Fits h → IsPart k r t l q f h us (length us) → length us ≡ length (children f.tree) → length h.names ≤ term_places (form.term_of f us)
-part_size k r t l q f h us fits p n =
+pub part_size : (o : Table) (k : Kept) (r : Rows) (t : Table) (l : Kept) (q : Rows) (f h : Form) (us : List Term) → Fits h → IsPart o k r t l q f h us (length us) → length us ≡ length (children f.tree) → length h.names ≤ term_places (form.term_of f us)
+part_size o k r t l q f h us fits p n =
     let s = node_fits (nodes_of l) p.good.stored.sane.sound.canonical h us fits (n ∙ sym p.count) p.ids in
     omega (arith, s, ap args_places (p.outline us n))
 
 -- nor more places, binders and children than the term's size
-pub part_width : (k : Kept) (r : Rows) (t : Table) (l : Kept) (q : Rows) (f h : Form) (us : List Term) → Fits h → IsPart k r t l q f h us (length us) → length us ≡ length (children f.tree) → node_size (nameless_node h) ≤ term_size (form.term_of f us)
-part_width k r t l q f h us fits p n =
+pub part_width : (o : Table) (k : Kept) (r : Rows) (t : Table) (l : Kept) (q : Rows) (f h : Form) (us : List Term) → Fits h → IsPart o k r t l q f h us (length us) → length us ≡ length (children f.tree) → node_size (nameless_node h) ≤ term_size (form.term_of f us)
+part_width o k r t l q f h us fits p n =
     let s = node_size_fits (nodes_of l) p.good.stored.sane.sound.canonical h us fits (n ∙ sym p.count) p.ids in
     omega (arith, s, ap args_size (p.outline us n))
 
 -- where slots run out for the node, or for a child that is added after others
-module _ (k : Kept) (r : Rows) (l : Kept) (q : Rows) (f h : Form) (us : List Term) (i : ℕ) (w : Term) (view : form.term_of f us ≡ w) (t : Table) (p : IsPart k r t l q f h us i) where
+module _ (k : Kept) (r : Rows) (l : Kept) (q : Rows) (f h : Form) (us : List Term) (i : ℕ) (w : Term) (view : form.term_of f us ≡ w) (o t : Table) (p : IsPart o k r t l q f h us i) where
   grown-large : HasLargeClassIn (image_of l) → HasLargeClassOrTerm (image_of k) w
   grown-large c = subst (HasLargeClassOrTerm (image_of k)) view (p.large c)
 
@@ -179,8 +182,8 @@ module _ (k : Kept) (r : Rows) (l : Kept) (q : Rows) (f h : Form) (us : List Ter
   child-large c smaller (inr wide) = inr (omega (arith, wide, smaller))
 
 -- and then the node's id is that of the term
-pub part_end : (k : Kept) (r : Rows) → Good k → (t v : Table) (l : Kept) (q : Rows) (m : Kept) (s : Rows) (f h : Form) (us : List Term) (a : Applied) → Fits h → IsPart k r t l q f h us (length us) → length us ≡ length (children f.tree) → Adds t v l q m s h a → AddsTerm v k r m s (form.term_of f us) a
-part_end k r start t v l before m after f h us a fits p n add = record {
+pub part_end : (k : Kept) (r : Rows) → Good k → (o t v : Table) (l : Kept) (q : Rows) (m : Kept) (s : Rows) (f h : Form) (us : List Term) (a : Applied) → Fits h → IsPart o k r t l q f h us (length us) → length us ≡ length (children f.tree) → Adds t v l q m s h a → AddsTerm o v k r m s (form.term_of f us) a
+part_end k r start o t v l before m after f h us a fits p n add = record {
   good = add.good;
   rests = add.rests;
   fresh_slots = add.fresh_slots;
@@ -193,14 +196,15 @@ part_end k r start t v l before m after f h us a fits p n add = record {
       (files-node (nodes_of l) (nodes_of m) (nameless_node h) (form.term_of f us) a add.found looked_up add.filed);
   kept = λ s.
       let same = p.kept s in
-      let here : IsSome (id_of (nodes_of l) (nameless (form.term_of f us))) = subst (λ (x : Image). IsSome (id_of x.canonical (nameless (form.term_of f us)))) (sym same) s in
+      let here : IsSome (id_of (nodes_of l) (nameless (form.term_of f us))) = subst (λ (x : Kept). IsSome (id_of (nodes_of x) (nameless (form.term_of f us)))) (sym same.0) s in
       let c = p.good.stored.sane.sound.canonical in
-      let children = full_children (nodes_of l) h fits (part_full k r t l before f h us p n) in
-      let filed = node_has_id (nodes_of l) c (nameless_node h) children (nameless (form.term_of f us)) (part_layer k r t l before f h us fits p n) here in
-      add.kept filed ∙ same;
+      let children = full_children (nodes_of l) h fits (part_full o k r t l before f h us p n) in
+      let filed = node_has_id (nodes_of l) c (nameless_node h) children (nameless (form.term_of f us)) (part_layer o k r t l before f h us fits p n) here in
+      let stays = add.kept filed in
+      (stays.0 ∙ same.0, stays.1 ∙ same.1, stays.2 ∙ same.2);
   large = λ c. elim (add.large c) [
     | inl o ↦ p.large o
-    | inr wide ↦ inr (omega (arith, wide, part_width k r t l before f h us fits p n))
+    | inr wide ↦ inr (omega (arith, wide, part_width o k r t l before f h us fits p n))
   ];
 }
   where
@@ -213,7 +217,7 @@ part_end k r start t v l before m after f h us a fits p n add = record {
     stands : term_of (nodes_of m) a ≡ nameless (form.term_of f us)
     stands =
         answer_term (nodes_of m) h a add.found add.good.stored.sane.sound.canonical
-        ∙ (add.extends.layers (nameless_node h) (full_children (nodes_of l) h fits (part_full k r t l before f h us p n)) ∙ part_layer k r t l before f h us fits p n)
+        ∙ (add.extends.layers (nameless_node h) (full_children (nodes_of l) h fits (part_full o k r t l before f h us p n)) ∙ part_layer o k r t l before f h us fits p n)
 
     looked_up : id_of (nodes_of m) (nameless (form.term_of f us)) ≡ Some a
     looked_up = (id_of-iff (nodes_of m) add.good.stored.sane.sound.canonical (nameless (form.term_of f us)) a).1 (full, stands)

@@ -1,12 +1,12 @@
--- A whole union: what was asserted, the union by its entry, and the rebuild that follows.
-use Rattle.std.proofs.Common.{◌≡◌, ◌↔◌, ◌<◌, ◌≤◌, ◌+◌, ◌^◌, ℕ, List, length, sym, ◌∙◌, ap, refl, subst, inl, inr, arith, length-append}
-use Rattle.std.specs.Prelude.{Bool, true, false, not, IsTrue, Contains, Option, map}
-use Rattle.std.proofs.lemmas.Bool.{cases_lt, false≢true}
+-- A whole union of full ids: what was asserted, the union by its entry, and the rebuild that follows.
+use Rattle.std.proofs.Common.{◌≡◌, ◌<◌, ◌≤◌, ◌+◌, ◌^◌, ℕ, List, length, sym, ◌∙◌, ap, subst, inl, inr, arith, length-append}
+use Rattle.std.specs.Prelude.{Contains, Option, map}
+use Rattle.std.proofs.lemmas.Bool.{cases_lt}
 use Rattle.std.proofs.lemmas.List.{map-append, get_or_append_left}
 use Rattle.slotted_model.specs.Adding as adding
 use Rattle.slotted_model.specs.Adding.{HasAsserted, IsExactAssertion}
 use Rattle.slotted_model.specs.Applied.{Applied, values}
-use Rattle.slotted_model.specs.Changes.{HasUnited}
+use Rattle.slotted_model.specs.Changes.{GoesOn, HasUnited}
 use Rattle.slotted_model.specs.Classes.{canonical_slots, IsFull}
 use Rattle.slotted_model.specs.Find.{find_class, find}
 use Rattle.slotted_model.specs.ProofList.{equation_of}
@@ -26,19 +26,16 @@ use Rattle.slotted_filing.specs.FiledRows.{Rows}
 use Rattle.slotted_unions.specs.Proving as unions
 use Rattle.slotted_unions.specs.StateOf.{state_of}
 use Rattle.slotted_unions.specs.Stored.{Grows}
-use Rattle.slotted_unions.specs.Uniting.{equation_in}
 use Rattle.slotted_unions.proofs.KeptSlots.{grows-then}
-use Rattle.slotted_rebuilding.specs.Causes.{HasLargeClass}
 use Rattle.slotted_rebuilding.specs.Filed.{state_in, IsWellFiled, UnitesFiled}
 use Rattle.slotted_rebuilding.specs.Turns.{Rebuilds}
-use Rattle.slotted_rebuilding.proofs.LargeClasses.{large-grown, large-of}
 use Rattle.slotted_core.specs.Causes.{HasLargeClassIn, HasLargeClassOf, class_found}
-use Rattle.slotted_core.specs.Good.{Good, RestsWith, Unites, image_of}
-use Rattle.slotted_core.specs.Image.{Asserts, AreTogether, Continues, FoundAlike, SameNames, asserted_in, found_id, live_size}
+use Rattle.slotted_core.specs.Good.{Good, RestsWith, image_of}
+use Rattle.slotted_core.specs.Image.{Asserts, AreTogether, Continues, Records, SameNames, asserted_in, found_id, live_size}
 use Rattle.slotted_core.proofs.Asserting.{IsAsserted, is_asserted, asserted-filed, asserts-by}
-use Rattle.slotted_core.proofs.ContinuedFinds.{finds-old, finds-new, finds-on, alike-on}
+use Rattle.slotted_core.proofs.ContinuedFinds.{finds-new, finds-on, alike-on}
 use Rattle.slotted_core.proofs.EntryTexts.{records-more}
-use Rattle.slotted_core.proofs.FiledClasses.{grown-good, large-seen}
+use Rattle.slotted_core.proofs.FiledClasses.{grown-good}
 use Rattle.slotted_core.proofs.Images.{class_found-is}
 use Rattle.slotted_core.proofs.LiveSizes.{live_size-is}
 use Rattle.slotted_core.proofs.Resting.{at-rest}
@@ -51,9 +48,25 @@ same_set a b e z = (
   λ c. Contains-of_ascending (values a.1) z (subst (λ xs. Contains xs z) (sym e) (Contains-ascending (values b.1) z c)),
 )
 
-not-iff : (b : Bool) (P : Type 0) → (IsTrue b ↔ P) → IsTrue (not b) ↔ (¬ P)
-not-iff true P h = ((λ t. absurd (false≢true t)), λ n. absurd (n (h.0 refl)))
-not-iff false P h = ((λ t p. false≢true (h.1 p)), λ n. refl)
+-- ids that the model finds together are together
+pub together-in : (l : Kept) (q : Rows) → Good l → (a b : Applied) → found_id (image_of l) a ≡ find (entries_of l) a → found_id (image_of l) b ≡ find (entries_of l) b → FoundTogether (state_in l q) a b → AreTogether (image_of l) a b
+together-in l q good a b ea eb t = record {
+  class = ap (λ (y : Applied). y.0) ea ∙ (t.class ∙ sym (ap (λ (y : Applied). y.0) eb));
+  names = same_set (found_id (image_of l) a) (found_id (image_of l) b) (ap id_names ea ∙ (t.names ∙ sym (ap id_names eb)));
+  alike = λ closed. ea ∙ (t.alike (subst (model.HasNoOpenSymmetry (state_of l)) (ap (λ (y : Applied). y.0) ea) (none_open l good (found_id (image_of l) a).0 closed)) ∙ sym eb);
+}
+
+-- what a union of two full ids leaves, whose equation is entered as x
+pub record UnitesFull (k : Kept) (r : Rows) (l : Kept) (q : Rows) (x : Proven) (a b : Applied) : Type 0 where
+  pub good : Good l
+  pub rests : RestsWith l q
+  pub nodes : nodes_of l ≡ nodes_of k
+  pub goes_on : GoesOn (state_in k r) (state_in l q)
+  pub together : AreTogether (image_of l) a b
+  pub asserts : Asserts (image_of k) (image_of l) (equation_of a b)
+  pub continues : Continues (image_of k) (image_of l)
+  pub size : live_size (image_of l) ≤ live_size (image_of k)
+  pub records : Records (image_of k) (image_of l) x
 
 module _ (k : Kept) (r : Rows) (good : Good k) (rests : RestsWith k r) (a b : Applied) (fa : IsFull (nodes_of k) a) (fb : IsFull (nodes_of k) b) (text : Option (List ℕ))
     (m : Kept) (p : ℕ) (entered : EntersIn k m (asserted_entry a b text) p) (n : Kept) (s : Rows) (u : UnitesFiled p m r n s) (l : Kept) (q : Rows) (counted : ℕ) (rebuilds : Rebuilds n s l q counted) where
@@ -94,22 +107,11 @@ module _ (k : Kept) (r : Rows) (good : Good k) (rests : RestsWith k r) (a b : Ap
   united-rests : RestsWith l q
   united-rests = record { filed = rebuilds.filed; represents = asserted.rest.represents; quiet = asserted.rest.nothing_waits }
 
-  abbrev old : (c : Applied) → IsFull (nodes_of k) c → found_id (image_of k) c ≡ find (entries_of k) c
-  old = finds-old k r good l q asserted.goes_on
-
   abbrev new : (c : Applied) → IsFull (nodes_of k) c → found_id (image_of l) c ≡ find (entries_of l) c
   new = finds-new k r good l q asserted.goes_on
 
   united-together : AreTogether (image_of l) a b
-  united-together =
-      let t : FoundTogether (state_in l q) a b = asserted.together in
-      let ea : found_id (image_of l) a ≡ find (entries_of l) a = new a fa in
-      let eb : found_id (image_of l) b ≡ find (entries_of l) b = new b fb in
-      record {
-        class = ap (λ (y : Applied). y.0) ea ∙ (t.class ∙ sym (ap (λ (y : Applied). y.0) eb));
-        names = same_set (found_id (image_of l) a) (found_id (image_of l) b) (ap id_names ea ∙ (t.names ∙ sym (ap id_names eb)));
-        alike = λ closed. ea ∙ (t.alike (subst (model.HasNoOpenSymmetry (state_of l)) (ap (λ (y : Applied). y.0) ea) (none_open l united-good (found_id (image_of l) a).0 closed)) ∙ sym eb);
-      }
+  united-together = together-in l q united-good a b (new a fa) (new b fb) asserted.together
 
   united-continues : Continues (image_of k) (image_of l)
   united-continues = record {
@@ -150,38 +152,18 @@ module _ (k : Kept) (r : Rows) (good : Good k) (rests : RestsWith k r) (a b : Ap
   united-size : live_size (image_of l) ≤ live_size (image_of k)
   united-size = let smaller : size (state_in l q) ≤ size (state_in k r) = exact.smaller in omega (arith, smaller, live_size-is l rebuilds.filed.stored, live_size-is k good.stored)
 
-  pub unites-all : (alike : Bool) → (IsTrue alike ↔ (find (entries_of k) a ≡ find (entries_of k) b)) → Unites k l q x a b (not alike)
-  unites-all alike h = record {
+  pub unites-full : UnitesFull k r l q x a b
+  unites-full = record {
     good = united-good;
     rests = united-rests;
     nodes = grows.nodes;
-    union = record {
-      answer = not-iff alike (FoundAlike (image_of k) a b) (
-        λ t. old a fa ∙ (h.0 t ∙ sym (old b fb)),
-        λ e. h.1 (sym (old a fa) ∙ (e ∙ old b fb)),
-      );
-      together = united-together;
-      asserts = united-asserts;
-      canonical = grows.nodes;
-      continues = united-continues;
-      size = united-size;
-    };
+    goes_on = asserted.goes_on;
+    together = united-together;
+    asserts = united-asserts;
+    continues = united-continues;
+    size = united-size;
     records = records-more (image_of k) (image_of m) (image_of l) x said.records grows-after.more grows-after.proofs;
   }
-
--- slots run out in the union for a large class
-pub large-uniting : (k : Kept) → Good k → (a b : Applied) → IsFull (nodes_of k) a → IsFull (nodes_of k) b → (text : Option (List ℕ)) (m : Kept) (p : ℕ) → EntersIn k m (asserted_entry a b text) p →
-    unions.HasLargeSide m (equation_in m p) → HasLargeClassIn (image_of k)
-large-uniting k good a b fa fb text m p entered h =
-    let said : IsAsserted k m (asserted_entry a b text) a b p = is_asserted k good a b fa fb text m p entered in
-    large-seen k (large-grown k m said.grows (large-of m (equation_in m p).left (equation_in m p).right h))
-
--- and in the rebuild
-pub large-rebuilding : (k : Kept) → Good k → (a b : Applied) → IsFull (nodes_of k) a → IsFull (nodes_of k) b → (text : Option (List ℕ)) (m : Kept) (p : ℕ) → EntersIn k m (asserted_entry a b text) p →
-    (n : Kept) → Grows m n → HasLargeClass n → HasLargeClassIn (image_of k)
-large-rebuilding k good a b fa fb text m p entered n grows h =
-    let said : IsAsserted k m (asserted_entry a b text) a b p = is_asserted k good a b fa fb text m p entered in
-    large-seen k (large-grown k m said.grows (large-grown m n grows h))
 
 within-old : (k : Kept) (a : Applied) → IsFull (nodes_of k) a → a.0 < length k.classes
 within-old k a full = let h : a.0 < length (nodes_of k) = full.in_range in let n : length (nodes_of k) ≡ length k.classes = length-nodes_of k in omega arith
@@ -200,12 +182,16 @@ large-class_of k a b fa fb h =
       h.3,
     )
 
+-- of two classes with too many slots one is large
+pub large-slots : (k : Kept) (i j : ℕ) → i < length (nodes_of k) → j < length (nodes_of k) → 2 ^ 30 ≤ length (canonical_slots (nodes_of k) i) + length (canonical_slots (nodes_of k) j) → HasLargeClassIn (image_of k)
+large-slots k i j li lj h = elim (cases_lt (length (canonical_slots (nodes_of k) i)) (2 ^ 29)) [
+  | inl few ↦ (j, lj, inl (omega (arith, h, few)))
+  | inr many ↦ (i, li, inl many)
+]
+
 -- of two full ids with too many names one is of a large class
 pub large-side : (k : Kept) (a b : Applied) → IsFull (nodes_of k) a → IsFull (nodes_of k) b → 2 ^ 30 ≤ length a.1 + length b.1 → HasLargeClassIn (image_of k)
 large-side k a b fa fb h =
     let la : length a.1 ≡ length (canonical_slots (nodes_of k) a.0) = sym (length-keys a.1) ∙ ap length fa.slots in
     let lb : length b.1 ≡ length (canonical_slots (nodes_of k) b.0) = sym (length-keys b.1) ∙ ap length fb.slots in
-    elim (cases_lt (length a.1) (2 ^ 29)) [
-      | inl few ↦ (b.0, fb.in_range, inl (omega (arith, h, few, lb)))
-      | inr many ↦ (a.0, fa.in_range, inl (omega (arith, many, la)))
-    ]
+    large-slots k a.0 b.0 fa.in_range fb.in_range (omega (arith, h, la, lb))

@@ -11,7 +11,7 @@ use Rattle.slotted_theory.specs.Derives.{Derives, Equal, nameless_pair}
 use Rattle.slotted_model.specs.Applied.{Applied}
 use Rattle.slotted_model.specs.Classes.{canonical_node, term_of}
 use Rattle.slotted_core.specs.Causes.{HasChildOf, class_found}
-use Rattle.slotted_core.specs.Findable.{Fills}
+use Rattle.slotted_core.specs.ValidIds.{Fills}
 use Rattle.slotted_core.specs.Image.{Image, SymmetryEntry, asserted_in, FoundAlike}
 
 -- the least set of live classes that has the class of each open symmetry, and that of each canonical node with a child of a class of the set

@@ -8,7 +8,7 @@
 --     HasLargePart nodes i    so has a node of its canonical term
 --     HasLargeClassIn g       a class of the graph has so many slots, or its node so many places, that two ids of it have too many names
 --     HasLargeClassOrNode g f, HasLargeClassOrTerm g t     or so would a class of the node, or of a node of the term
---     CanRunOutForNode, CanRunOutForTerm, RunsOutForNodeIn     why slots can run out where these are added
+--     CanRunOutForNode, CanRunOutForTerm     why slots can run out where these are added
 use Rattle.std.specs.Prelude.{◌≡◌, ℕ, zero, suc, ◌^◌, ◌<◌, ◌≤◌, ◌⊎◌, List, [], ◌∷◌, length, slice_index_or}
 use Rattle.slotted_slots.specs.Table.{slot_limit}
 use Rattle.slotted_slots.specs.Table.{Table}
@@ -84,7 +84,3 @@ CanRunOutForNode g f old new = RunsOutForNode f old new ⊎ HasLargeClassOrNode 
 -- no slots are left for classes of the term, or a class is too large to be rebuilt
 abbrev pub CanRunOutForTerm : Image → Term → Table → Table → Type 0
 CanRunOutForTerm g t old new = RunsOutForTerm t old new ⊎ HasLargeClassOrTerm g t
-
--- the same of a node with fewer than 2^30 places, in words of graphs
-abbrev pub RunsOutForNodeIn : Graph → Graph → Form → Type 0
-RunsOutForNodeIn g h f = RunsOutIn g h (length f.names) ⊎ HasLargeClassOrNode g.image f

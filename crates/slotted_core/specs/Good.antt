@@ -3,26 +3,30 @@
 --     Good k         what holds of what is kept of each graph that has not failed
 --     RestsWith k r  all is at rest, with what is filed
 --     Makes          what holds once a node has a class, before this is filed
---     Adds, AddsTerm, Unites     what a call leaves
-use Rattle.std.specs.Prelude.{◌≡◌, ◌⊎◌, ℕ, suc, ◌<◌, All, List, [], ◌∷◌, ◌++◌, length, Bool, false, Option, Some, None, Contains, IsSome}
+--     Adds, AddsTerm, AddsFilled, AddsFound, Unites     what a call leaves
+use Rattle.std.specs.Prelude.{◌≡◌, ◌⊎◌, ℕ, suc, ◌<◌, ◌≤◌, All, List, [], ◌∷◌, ◌++◌, length, Bool, false, Option, Some, None, Contains, IsSome}
 use Rattle.slotted_slots.specs.declared.types.AppliedId.{AppliedId}
-use Rattle.slotted_slots.specs.Table.{Table, empty_table}
+use Rattle.slotted_slots.specs.Table.{KnowsMore, Table, empty_table}
 use Rattle.slotted_theory.specs.Term.{Term}
 use Rattle.slotted_theory.specs.Nameless.{DTerm, nameless}
+use Rattle.slotted_theory.specs.Shape.{shape}
 use Rattle.slotted_nodes.specs.Form.{Form, IsSmall}
+use Rattle.slotted_languages.specs.NewNames.{IsTooLarge}
 use Rattle.slotted_languages.specs.NodeTerm.{nameless_node}
 use Rattle.slotted_languages.specs.Shape.{Fits}
 use Rattle.slotted_terms.specs.Valid.{AllKnown}
 use Rattle.slotted_model.specs.Adding.{with_new_class}
-use Rattle.slotted_model.specs.Applied.{Applied, values}
+use Rattle.slotted_model.specs.Adding as model
+use Rattle.slotted_model.specs.Applied.{Applied, EachChild, values}
 use Rattle.slotted_model.specs.Changes.{GoesOn}
 use Rattle.slotted_model.specs.Classes.{canonical_slots, term_of, IsFull}
-use Rattle.slotted_model.specs.Find.{Entry, find_class, find_map}
+use Rattle.slotted_model.specs.Find.{Entry, find, find_class, find_map}
 use Rattle.slotted_model.specs.Growth.{Extends, IsNew}
 use Rattle.slotted_model.specs.Ids.{id_of_node, id_of}
 use Rattle.slotted_model.specs.Rest.{Represents}
-use Rattle.slotted_model.specs.State.{Row}
-use Rattle.slotted_proofs.specs.Entries.{Proven, asserted_entry}
+use Rattle.slotted_model.specs.Normal.{normal}
+use Rattle.slotted_model.specs.State.{Row, State, look_up_node, look_up_tree}
+use Rattle.slotted_proofs.specs.Entries.{Proven}
 use Rattle.slotted_proofs.specs.Equations.{to_applied}
 use Rattle.slotted_store.specs.Finding.{IsFindable}
 use Rattle.slotted_store.specs.Kept.{Kept, node_at, nodes_of, entries_of, proofs_of, rows_from}
@@ -31,14 +35,12 @@ use Rattle.slotted_filing.specs.FiledRows.{Rows}
 use Rattle.slotted_unions.specs.StateOf.{state_with}
 use Rattle.slotted_unions.specs.Stored.{Stored}
 use Rattle.slotted_rebuilding.specs.Filed.{state_in, IsWellFiled}
+use Rattle.slotted_core.specs.Adding.{HasChildrenFilled, HasLargeClassOrFilled, children_lack, IsOfTerm, MakesFilledClass, RunsOutForFilled, slots_needed, term_nodes}
 use Rattle.slotted_core.specs.Causes.{HasLargeClassIn, HasLargeClassOrNode, HasLargeClassOrTerm}
-use Rattle.slotted_core.specs.Graph.{IsFreshBetween, HasNewClass}
-use Rattle.slotted_core.specs.Image.{Image, AddsClasses, NewClassesAre, IsIdOfNode, IsIdOfSubterm, IsUnion, Records}
+use Rattle.slotted_core.specs.Graph.{IsFreshBetween, HasNewClass, MakesAtMost}
+use Rattle.slotted_core.specs.Image.{Image, AddsClasses, NewClassesAre, IsIdOfNode, IsIdOfSubterm, IsUnion, RecordsFilled}
 use Rattle.slotted_core.specs.Nodes.{child_ids}
-
--- what a node is looked up as
-abbrev pub id_in : Kept → Form → Option Applied
-id_in k f = id_of_node (nodes_of k) (nameless_node f)
+use Rattle.slotted_core.specs.Subterms.{IsSubterm}
 
 -- what the classes from the number i on find: a live class, and their own slot for each slot of that
 abbrev pub finds_from : List Entry → ℕ → List Entry → List Applied
@@ -55,17 +57,17 @@ image_of k = record {
   symmetries = k.symmetries;
 }
 
--- the id is one of a class, with known slots for names
-abbrev pub IsIdOver : Table → Kept → AppliedId → Type 0
-IsIdOver t k a = IsFull (nodes_of k) (to_applied a) × AllKnown t (values a.m)
+-- the id has a known slot for each slot of its class
+abbrev pub IsFullOver : Table → Kept → AppliedId → Type 0
+IsFullOver t k a = IsFull (nodes_of k) (to_applied a) × AllKnown t (values a.m)
 
 -- the id finds, and its names are known slots
-abbrev pub IsFindableOver : Table → Kept → AppliedId → Type 0
-IsFindableOver t k a = IsFindable k (to_applied a) × AllKnown t (values a.m)
+abbrev pub IsIdOver : Table → Kept → AppliedId → Type 0
+IsIdOver t k a = IsFindable k (to_applied a) × AllKnown t (values a.m)
 
--- the node has fewer than 2^30 places, known slots, and ids of classes for children
+-- the node has fewer than 2^30 places, known slots, and children that find
 abbrev pub IsNodeOver : Table → Kept → Form → Type 0
-IsNodeOver t k f = IsSmall f × AllKnown t f.names × All (IsFull (nodes_of k)) (child_ids f)
+IsNodeOver t k f = IsSmall f × AllKnown t f.names × All (IsFindable k) (child_ids f)
 
 -- rows file the canonical nodes, whose binders are numbered, all is stored as a union needs it, and each listed symmetry is aligned
 pub record Good (k : Kept) : Type 0 where
@@ -86,10 +88,11 @@ pub record RestsWith (k : Kept) (r : Rows) : Type 0 where
   pub represents : Represents (state_in k r)
   pub quiet : r.waiting ≡ []
 
--- there is one class more, for the new node d, whichever nodes are filed and whatever waits
-pub record MakesOne (k l : Kept) : Type 0 where
+-- there is one class more, for a new node with the shape of f, whichever nodes are filed and whatever waits
+pub record MakesOne (k l : Kept) (f : Form) : Type 0 where
   pub node : DTerm
   pub is_new : IsNew (nodes_of k) node
+  pub same_shape : shape node ≡ shape (nameless_node f)
   pub count : length l.classes ≡ suc (length k.classes)
   pub state : (rows : List Row) (waiting : List ℕ) → state_with l rows waiting ≡ with_new_class (state_with k rows waiting) node
 
@@ -103,12 +106,19 @@ pub record Makes (old new : Table) (k l : Kept) (f : Form) (a : Applied) : Type 
   pub symmetries : l.symmetries ≡ k.symmetries
   pub found : id_of_node (nodes_of l) (nameless_node f) ≡ Some a
   pub filed : NewClassesAre (nodes_of k) (nodes_of l) (IsIdOfNode (nodes_of l) (nameless_node f))
-  pub kept : IsSome (id_of_node (nodes_of k) (nameless_node f)) → l ≡ k
+  pub kept : IsSome (id_of_node (nodes_of k) (nameless_node f)) → (l ≡ k) × (new ≡ old)
   pub made : id_of_node (nodes_of k) (nameless_node f) ≡ None → HasNewClass old new (nodes_of k) (nodes_of l) (nameless_node f)
-  pub step : (l ≡ k) ⊎ MakesOne k l
+  pub step : (l ≡ k) ⊎ MakesOne k l f
   pub large : HasLargeClassIn (image_of l) → HasLargeClassOrNode (image_of k) f
 
--- the same, and all is rebuilt
+-- in the model's words a class was made of a new node with the shape of f
+pub record MakesClassOf (g : State) (f : Form) (h : State) : Type 0 where
+  pub node : DTerm
+  pub is_new : IsNew g.nodes node
+  pub same_shape : shape node ≡ shape (nameless_node f)
+  pub adds : model.Adds g node h
+
+-- what `Makes` says, and all is rebuilt
 pub record Adds (old new : Table) (k : Kept) (r : Rows) (l : Kept) (q : Rows) (f : Form) (a : Applied) : Type 0 where
   pub good : Good l
   pub rests : RestsWith l q
@@ -118,12 +128,53 @@ pub record Adds (old new : Table) (k : Kept) (r : Rows) (l : Kept) (q : Rows) (f
   pub adds : AddsClasses (image_of k) (image_of l)
   pub found : id_of_node (nodes_of l) (nameless_node f) ≡ Some a
   pub filed : NewClassesAre (nodes_of k) (nodes_of l) (IsIdOfNode (nodes_of l) (nameless_node f))
-  pub kept : IsSome (id_of_node (nodes_of k) (nameless_node f)) → image_of l ≡ image_of k
+  pub kept : IsSome (id_of_node (nodes_of k) (nameless_node f)) → (l ≡ k) × (q ≡ r) × (new ≡ old)
   pub made : id_of_node (nodes_of k) (nameless_node f) ≡ None → HasNewClass old new (nodes_of k) (nodes_of l) (nameless_node f)
+  pub step : ((l ≡ k) × (q ≡ r)) ⊎ MakesClassOf (state_in k r) f (state_in l q)
   pub large : HasLargeClassIn (image_of l) → HasLargeClassOrNode (image_of k) f
 
+-- valid ids find what they found, and what was looked up is looked up as before
+pub record KeepsAnswers (k : Kept) (r : Rows) (l : Kept) (q : Rows) : Type 0 where
+  pub finds : (a : Applied) → IsFindable k a → find (entries_of l) a ≡ find (entries_of k) a
+  pub nodes : (d : DTerm) → EachChild (IsFindable k) d.args → (a : Applied) → look_up_node (state_in k r) d ≡ Some a → look_up_node (state_in l q) d ≡ Some a
+  pub trees : (t : DTerm) (a : Applied) → look_up_tree (state_in k r) t ≡ Some a → look_up_tree (state_in l q) t ≡ Some a
+
+-- the class of the node with its children filled was there by canonical nodes, or is made
+pub record AddsFilled (old new : Table) (k : Kept) (r : Rows) (l : Kept) (q : Rows) (f : Form) (a : Applied) : Type 0 where
+  pub filled : Form
+  pub fits : Fits filled
+  pub between : Table
+  pub no_more : old.fresh ≤ between.fresh
+  pub filling : MakesAtMost (children_lack (image_of k) f) old between
+  pub fills : HasChildrenFilled (nodes_of k) old f (nameless_node filled)
+  pub full : All (IsFull (nodes_of k)) (child_ids filled)
+  pub known : AllKnown new filled.names
+  pub one_form : normal (entries_of k) (nameless_node filled) ≡ normal (entries_of k) (nameless_node f)
+  pub same : All (IsFull (nodes_of k)) (child_ids f) → filled ≡ f
+  pub adds : Adds between new k r l q filled a
+  pub large : HasLargeClassIn (image_of l) → HasLargeClassOrFilled (image_of k) f
+
+-- the node is looked up, or, where it was not, a class was made of it with its children filled, and it is looked up now
+pub record AddsFound (old new : Table) (k : Kept) (r : Rows) (l : Kept) (q : Rows) (f : Form) (a : Applied) : Type 0 where
+  pub good : Good l
+  pub rests : RestsWith l q
+  pub fresh_slots : HasFreshSlots new l
+  pub extends : Extends (nodes_of k) (nodes_of l)
+  pub goes_on : GoesOn (state_in k r) (state_in l q)
+  pub adds : AddsClasses (image_of k) (image_of l)
+  pub keeps : KeepsAnswers k r l q
+  pub found : look_up_node (state_in l q) (nameless_node f) ≡ Some a
+  pub kept : IsSome (look_up_node (state_in k r) (nameless_node f)) → (l ≡ k) × (q ≡ r) × (new ≡ old)
+  pub made : look_up_node (state_in k r) (nameless_node f) ≡ None → MakesFilledClass old new (nodes_of k) (nodes_of l) f a
+  pub large : HasLargeClassIn (image_of l) → HasLargeClassOrFilled (image_of k) f
+
+-- slots ran out for a node that is not looked up, or that has too many places to be numbered
+abbrev pub RunsOutForUnknownIn : Table → Table → Kept → Rows → Form → Type 0
+RunsOutForUnknownIn old new k r f =
+    RunsOutForFilled (image_of k) f old new × ((look_up_node (state_in k r) (nameless_node f) ≡ None) ⊎ IsTooLarge f)
+
 -- what is kept has an id for the term t, the slots of classes are fresh ones, and all is rebuilt
-pub record AddsTerm (new : Table) (k : Kept) (r : Rows) (l : Kept) (q : Rows) (t : Term) (a : Applied) : Type 0 where
+pub record AddsTerm (old new : Table) (k : Kept) (r : Rows) (l : Kept) (q : Rows) (t : Term) (a : Applied) : Type 0 where
   pub good : Good l
   pub rests : RestsWith l q
   pub fresh_slots : HasFreshSlots new l
@@ -133,17 +184,80 @@ pub record AddsTerm (new : Table) (k : Kept) (r : Rows) (l : Kept) (q : Rows) (t
   pub full : IsFull (nodes_of l) a
   pub term : term_of (nodes_of l) a ≡ nameless t
   pub filed : NewClassesAre (nodes_of k) (nodes_of l) (IsIdOfSubterm (nodes_of l) t)
-  pub kept : IsSome (id_of (nodes_of k) (nameless t)) → image_of l ≡ image_of k
+  pub kept : IsSome (id_of (nodes_of k) (nameless t)) → (l ≡ k) × (q ≡ r) × (new ≡ old)
   pub large : HasLargeClassIn (image_of l) → HasLargeClassOrTerm (image_of k) t
 
--- what a union of a and b by the entry x answers, and what it leaves
-pub record Unites (k l : Kept) (q : Rows) (x : Proven) (a b : Applied) (y : Bool) : Type 0 where
+-- the id finds, and the table knows its names
+abbrev pub IsFoundIn : Table → Kept → Applied → Type 0
+IsFoundIn t k a = IsFindable k a × AllKnown t (values a.1)
+
+-- a node whose children find is added to what is kept: by look-up, with known names, and of no more places and no larger than the term w
+pub record AddsNodeIn (w : Term) (t : Table) (k : Kept) (r : Rows) (u : Table) (l : Kept) (q : Rows) : Type 0 where
+  pub node : Form
+  pub fits : Fits node
+  pub children : All (IsFoundIn t k) (child_ids node)
+  pub known : AllKnown t node.names
+  pub small : IsOfTerm w node
+  pub answer : Applied
+  pub added : AddsFound t u k r l q node answer
+  pub more : KnowsMore t u
+  pub makes : MakesAtMost (slots_needed (image_of k) node) t u
+
+-- so many nodes of the term w are added, one after another
+pub data AddsNodesIn (w : Term) (t : Table) (k : Kept) (r : Rows) : ℕ → Table → Kept → Rows → Type 0 where
+  none_added : AddsNodesIn w t k r 0 t k r
+  one_added : {n : ℕ} {u v : Table} {l m : Kept} {q s : Rows} → AddsNodesIn w t k r n u l q → AddsNodeIn w u l q v m s → AddsNodesIn w t k r (suc n) v m s
+
+-- each class that l has more than k is what a subterm of w is looked up as
+abbrev pub FilesSubterms : Kept → Kept → Rows → Term → Type 0
+FilesSubterms k l q w =
+    (i : ℕ) → length (nodes_of k) ≤ i → i < length (nodes_of l) →
+    (a : Applied) × (a.0 ≡ i) × (s : Term) × IsSubterm s w × (look_up_tree (state_in l q) (nameless s) ≡ Some a)
+
+-- the nodes of the term w are added, and it is looked up
+pub record AddsFoundTerm (t : Table) (k : Kept) (r : Rows) (u : Table) (l : Kept) (q : Rows) (w : Term) (a : Applied) : Type 0 where
+  pub nodes : AddsNodesIn w t k r (term_nodes w) u l q
+  pub found : look_up_tree (state_in l q) (nameless w) ≡ Some a
+  pub known : AllKnown u (values a.1)
+  pub kept : IsSome (look_up_tree (state_in k r) (nameless w)) → (l ≡ k) × (q ≡ r) × (u ≡ t)
+  pub filed : FilesSubterms k l q w
+
+-- some of its nodes are added, and perhaps slots are made for one more
+pub record TakesForTermIn (w : Term) (t : Table) (k : Kept) (r : Rows) (v : Table) : Type 0 where
+  pub count : ℕ
+  pub few : count ≤ term_nodes w
+  pub between : Table
+  pub kept : Kept
+  pub rows : Rows
+  pub nodes : AddsNodesIn w t k r count between kept rows
+  pub last : (v ≡ between) ⊎ ((f : Form) × All (IsFoundIn between kept) (child_ids f) × AllKnown between f.names × Fits f × IsOfTerm w f × MakesAtMost (slots_needed (image_of kept) f) between v)
+
+-- slots ran out for a node that is looked up as a subterm is, after others were added
+pub record LacksForTermIn (w : Term) (t : Table) (k : Kept) (r : Rows) (v : Table) : Type 0 where
+  pub count : ℕ
+  pub few : count < term_nodes w
+  pub between : Table
+  pub kept : Kept
+  pub rows : Rows
+  pub nodes : AddsNodesIn w t k r count between kept rows
+  pub node : Form
+  pub fits : Fits node
+  pub children : All (IsFoundIn between kept) (child_ids node)
+  pub known : AllKnown between node.names
+  pub small : IsOfTerm w node
+  pub cause : RunsOutForUnknownIn between v kept rows node
+  pub subterm : Term
+  pub stands : IsSubterm subterm w
+  pub same : look_up_tree (state_in kept rows) (nameless subterm) ≡ look_up_node (state_in kept rows) (nameless_node node)
+
+-- what a union of a and b answers, and what it leaves, where the text says why
+pub record Unites (k l : Kept) (q : Rows) (a b : Applied) (text : Option (List ℕ)) (y : Bool) : Type 0 where
   pub good : Good l
   pub rests : RestsWith l q
   pub nodes : nodes_of l ≡ nodes_of k
   pub union : IsUnion (image_of k) (image_of l) a b y
-  pub records : Records (image_of k) (image_of l) x
+  pub records : RecordsFilled (image_of k) (image_of l) a b text
 
--- the same of two ids of the code, with the text of the assertion
+-- the same of two ids of the code
 abbrev pub UnitesSides : Kept → Kept → Rows → AppliedId → AppliedId → Option (List ℕ) → Bool → Type 0
-UnitesSides k l q a b text y = Unites k l q (asserted_entry (to_applied a) (to_applied b) text) (to_applied a) (to_applied b) y
+UnitesSides k l q a b text y = Unites k l q (to_applied a) (to_applied b) text y

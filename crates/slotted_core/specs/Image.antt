@@ -9,6 +9,9 @@
 --     Continues g h       what was proved and found alike stays so
 --     Asserts g h e       the equation e is asserted, if it was not proved
 --     Records g h x       x is an entry now, with its step and its text, if its equation was not proved
+--     FillApart g a b left right    left and right are a and b with names for all slots; those that are filled in are apart
+--     RecordsFilled g h a b text    whichever two fill a and b apart, that they are equal is an entry now, asserted with the text, if
+--                                   it was not proved
 --     HasNoOpenSymmetry g c      the sides of each listed symmetry that finds the class c find alike
 --     CountsOpen g ys n   n of the symmetries ys are open
 --     AreClosed g         none is
@@ -17,7 +20,7 @@
 --     IsUnion g h a b y   a union of a and b answers y
 --     AreSymmetries g     what holds of the listed symmetries
 --     AreListedOnce g     each equation is listed once
-use Rattle.std.specs.Prelude.{◌≡◌, ℕ, ◌<◌, ◌≤◌, ◌⊎◌, List, [], ◌∷◌, ◌++◌, ◌+◌, suc, length, map, slice_index_or, refl, ◌≢◌, ◌↔◌, Bool, Contains, IsTrue, Some, cond, nat_eq}
+use Rattle.std.specs.Prelude.{◌≡◌, ℕ, ◌<◌, ◌≤◌, ◌⊎◌, List, [], ◌∷◌, ◌++◌, ◌+◌, suc, length, map, slice_index_or, refl, ◌≢◌, ◌↔◌, Bool, Contains, IsTrue, Some, cond, nat_eq, Option}
 use Rattle.std.specs.Coded.{Coded, code_by, coded×, coded_ℕ, coded_list}
 use Rattle.slotted_theory.specs.Term.{Term}
 use Rattle.slotted_theory.specs.Nameless.{DTerm, nameless}
@@ -25,11 +28,12 @@ use Rattle.slotted_theory.specs.Derives.{Derives, Equal, nameless_pair}
 use Rattle.slotted_model.specs.Applied.{Applied, keys, values}
 use Rattle.slotted_model.specs.Classes.{term_of, IsFull}
 use Rattle.slotted_model.specs.Correspondence.{composite}
+use Rattle.slotted_model.specs.Filling.{IsFilling}
 use Rattle.slotted_model.specs.Ids.{id_of_node, id_of}
 use Rattle.slotted_model.specs.ProofList.{Equation, ProofEntry, equation_of, equation_at, term_pair, asserted}
 use Rattle.slotted_core.specs.Subterms.{IsSubterm}
 use Rattle.slotted_core.specs.TermCode.{nameless_code}
-use Rattle.slotted_proofs.specs.Entries.{Proven, proven_at}
+use Rattle.slotted_proofs.specs.Entries.{Proven, proven_at, asserted_entry}
 pub use Rattle.slotted_store.specs.Kept.{text_bytes, SymmetryEntry, symmetry_entry}
 use Rattle.slotted_store.specs.Kept.{symmetry_code}
 use Rattle.slotted_store.specs.EntryCode.{pairs_code, proof_entry_code, proven_code}
@@ -142,6 +146,16 @@ pub record Records (g h : Image) (x : Proven) : Type 0 where
   pub stored : h.stored ≡ g.stored ++ more
   pub entered : StandsIn g x.statement.equation ⊎ IsNewEntry g h x
 
+-- left and right are a and b with names for the canonical slots that these have none for: all different, none of those that are filled in on
+-- the left is a name of b, and none of those that are filled in on the right is one of left. Ids that lack no name are filled by themselves
+pub record FillApart (g : Image) (a b left right : Applied) : Type 0 where
+  pub left_fills : IsFilling g.canonical (values b.1) a left
+  pub right_fills : IsFilling g.canonical (values left.1) b right
+
+-- the equation of any two ids that fill a and b apart stood in the list, or that they are equal is a new entry, asserted with the text
+pub record RecordsFilled (g h : Image) (a b : Applied) (text : Option (List ℕ)) : Type 0 where
+  pub each : (left right : Applied) → FillApart g a b left right → Records g h (asserted_entry left right text)
+
 -- the same names
 abbrev pub SameNames : Applied → Applied → Type 0
 SameNames a b = (z : ℕ) → Contains (values a.1) z ↔ Contains (values b.1) z
@@ -175,12 +189,14 @@ live_size_from i (a ∷ found) = cond (nat_eq a.0 i) (suc (length a.1)) 0 + live
 abbrev pub live_size : Image → ℕ
 live_size g = live_size_from 0 g.found
 
--- what a union of a and b answers, and what it leaves: true exactly where they did not find alike; they are together from now on, their
--- equation stands in the proof list, no class is made, and there are no more live classes and slots than before
+-- what a union of a and b answers, and what it leaves: true exactly where they did not find alike; they are together from now on, the
+-- equation of any two ids that fill them apart stands in the proof list (there are some), no class is made, and there are no more live
+-- classes and slots than before
 pub record IsUnion (g h : Image) (a b : Applied) (y : Bool) : Type 0 where
   pub answer : IsTrue y ↔ (¬ FoundAlike g a b)
   pub together : AreTogether h a b
-  pub asserts : Asserts g h (equation_of a b)
+  pub asserts : (left right : Applied) → FillApart g a b left right → Asserts g h (equation_of left right)
+  pub filled : (left : Applied) × (right : Applied) × FillApart g a b left right
   pub canonical : h.canonical ≡ g.canonical
   pub continues : Continues g h
   pub size : live_size h ≤ live_size g

@@ -4,6 +4,7 @@
 --     class_numbers ids   their numbers
 --     slots_used g i      the canonical slots that the class i has left, ascending
 --     IsFoundFor g a b    b is what the id a finds: live, with a name for just each slot that its class has left, and found as it is
+--     IsFound g a         a is what it finds itself
 --     names_slots g i     the class i with each slot that it has left as its own name
 use Rattle.std.specs.Prelude.{◌≡◌, ℕ, ◌<◌, List, Bool, false, length, map, nat_eq}
 use Rattle.std.specs.List.{filter, range_with_len}
@@ -13,7 +14,7 @@ use Rattle.slotted_model.specs.Applied.{Applied, keys, renamed_id}
 use Rattle.slotted_model.specs.Ascending.{ascending}
 use Rattle.slotted_model.specs.Correspondence.{identity}
 use Rattle.slotted_core.specs.Causes.{class_found}
-use Rattle.slotted_core.specs.Findable.{IsFindableId, slots_left}
+use Rattle.slotted_core.specs.ValidIds.{IsValidId, slots_left}
 use Rattle.slotted_core.specs.Graph.{Graph}
 use Rattle.slotted_core.specs.Image.{Image, FoundAlike, found_id}
 
@@ -40,9 +41,13 @@ pub record IsFoundFor (g : Graph) (a b : Applied) : Type 0 where
   -- it finds what a finds, which is itself, and `eq` can be asked of it
   pub alike : FoundAlike g.image a b
   pub again : found_id g.image b ≡ b
-  pub findable : IsFindableId g b
+  pub valid : IsValidId g b
   -- under other names a finds b under these
   pub renamed : (f : ℕ → ℕ) → IsInjective f → found_id g.image (renamed_id f a) ≡ renamed_id f b
+
+-- the id is what it finds itself
+abbrev pub IsFound : Graph → Applied → Type 0
+IsFound g a = IsFoundFor g a a
 
 abbrev pub names_slots : Image → ℕ → Applied
 names_slots g i = (i, identity (slots_used g i))

@@ -1,15 +1,14 @@
-//! Which ids and nodes are of the graph, looking up, and adding.
-ghost use Rattle.std.specs.Prelude.{◌≡◌, ◌+◌, ◌≤◌, ◌<◌, ◌↔◌, length, IsTrue, IfOk, IfErr, OnOk, IsErrOf, None};
-ghost use Rattle.std.specs.Prelude.{option_map, All};
+//! Which ids and nodes are of the graph, and adding by canonical nodes.
+ghost use Rattle.std.specs.Prelude.{◌≡◌, ◌↔◌, length, IsTrue, IfOk, IfErr, IsErrOf, All};
 ghost use Rattle.slotted_slots.specs.Error.{IsOutOfMemory, IsShortage};
-ghost use Rattle.slotted_slots.specs.Table.{KnowsMore, slot_limit};
+ghost use Rattle.slotted_slots.specs.Table.{KnowsMore};
 ghost use Rattle.slotted_model.specs.Classes.{IsFull};
 ghost use Rattle.slotted_proofs.specs.Equations.{to_applied};
 ghost use Rattle.slotted_terms.specs.Valid.{IsWhole};
 ghost use Rattle.slotted_core.specs.Causes.{CanRunOutForNode, CanRunOutForTerm};
 ghost use Rattle.slotted_core.specs.Graph.{MakesAtMost, RunsOutForNode};
-ghost use Rattle.slotted_core.specs.Good.{Good, RestsWith, HasFreshSlots, IsIdOver, IsFindableOver, IsNodeOver};
-ghost use Rattle.slotted_core.specs.Good.{Makes, Adds, AddsTerm, id_in, image_of};
+ghost use Rattle.slotted_core.specs.Good.{Good, RestsWith, HasFreshSlots, IsFullOver, IsIdOver, IsNodeOver};
+ghost use Rattle.slotted_core.specs.Good.{Makes, Adds, AddsTerm, image_of};
 ghost use Rattle.slotted_store.specs.Finding.{IsFindable};
 ghost use Rattle.slotted_store.specs.Kept.{nodes_of};
 ghost use Rattle.slotted_store.specs.Names.{between};
@@ -30,8 +29,8 @@ use std::alloc::Global;
 
 // Testing.
 
-// Whether the id is one of a class, with different names for exactly its slots.
-pub(crate) fn is_full<L: Language>(store: &Store<L>, a: &AppliedId) -> bool
+/// Whether the id is one of a class, with different names for exactly its slots.
+pub fn is_full<L: Language>(store: &Store<L>, a: &AppliedId) -> bool
     requires { Good store.now }
     ensures { IsTrue result ↔ IsFull (nodes_of store.now) (to_applied a.now) }
 {
@@ -45,9 +44,9 @@ pub(crate) fn is_full<L: Language>(store: &Store<L>, a: &AppliedId) -> bool
 }
 
 /// Whether the id is one of a class, with different known names for exactly its slots.
-pub(crate) fn is_valid<L: Language>(store: &Store<L>, table: &SlotTable, a: &AppliedId) -> bool
+pub fn is_full_id<L: Language>(store: &Store<L>, table: &SlotTable, a: &AppliedId) -> bool
     requires { Good store.now }
-    ensures { IsTrue result ↔ IsIdOver table.now store.now a.now }
+    ensures { IsTrue result ↔ IsFullOver table.now store.now a.now }
 {
     is_full(store, a) && values_are_known(table, &a.m)
 }
@@ -67,53 +66,37 @@ fn can_be_found<L: Language>(store: &Store<L>, a: &AppliedId) -> bool
 }
 
 /// The same, with known names.
-pub(crate) fn is_findable<L: Language>(store: &Store<L>, table: &SlotTable, a: &AppliedId) -> bool
+pub fn is_valid<L: Language>(store: &Store<L>, table: &SlotTable, a: &AppliedId) -> bool
     requires { Good store.now }
-    ensures { IsTrue result ↔ IsFindableOver table.now store.now a.now }
+    ensures { IsTrue result ↔ IsIdOver table.now store.now a.now }
 {
     can_be_found(store, a) && values_are_known(table, &a.m)
 }
 
-// Whether each child of the node is an id of a class, with different names for exactly its slots.
-fn children_are_full<L: Language>(store: &Store<L>, node: &L) -> bool
+// Whether each child of the node is an id that finds.
+fn children_can_be_found<L: Language>(store: &Store<L>, node: &L) -> bool
     requires { Good store.now }
-    ensures { IsTrue result ↔ All (IsFull (nodes_of store.now)) (child_ids (L.form node.now)) }
+    ensures { IsTrue result ↔ All (IsFindable store.now) (child_ids (L.form node.now)) }
 {
     for k in 0..node.applied_id_count() {
-        if !is_full(store, node.applied_id(k)) {
+        if !can_be_found(store, node.applied_id(k)) {
             return false;
         }
     }
     true
 }
 
-/// Whether the node has fewer than 2^30 places, known slots, and valid children.
-pub(crate) fn is_valid_node<L: Language>(store: &Store<L>, table: &SlotTable, node: &L) -> bool
+/// Whether the node has fewer than 2^30 places, known slots, and children that find.
+pub fn is_valid_node<L: Language>(store: &Store<L>, table: &SlotTable, node: &L) -> bool
     requires { Good store.now }
     ensures { IsTrue result ↔ IsNodeOver table.now store.now (L.form node.now) }
 {
-    node.slot_count() < PLACES && places_are_known(table, node) && children_are_full(store, node)
+    node.slot_count() < PLACES
+        && places_are_known(table, node)
+        && children_can_be_found(store, node)
 }
 
-// Looking up and adding.
-
-/// The class that holds the node's shape, with the node's names put in.
-pub(crate) fn lookup<L: Language>(
-    store: &Store<L>,
-    alloc: Global,
-    node: &L,
-) -> Result<Option<AppliedId>, Error>
-    requires { Good store.now }
-    ensures ok { IfOk result (λ o. option_map to_applied o ≡ id_in store.now (L.form node.now)) }
-    ensures full { IsErrOf result Error.OutOfSlots ↔ (slot_limit ≤ length (L.form node.now).names) }
-    ensures err { IfErr result IsShortage }
-{
-    let (shape, names) = node.weak_shape(alloc)?;
-    match store.row(&shape) {
-        Some(row) => Ok(Some(class_of_row(alloc, row, &names)?)),
-        None => Ok(None),
-    }
-}
+// Adding.
 
 // The class that holds the node's shape, or a new one, which is not filed yet, with the node's names put in.
 fn made<L: Language>(
@@ -143,12 +126,11 @@ fn made<L: Language>(
         m: map_between(alloc, &slots, &names)?,
     };
     store.make_class(alloc, shape, slots)?;
-    weigh_children(store, node);
     Ok(answer)
 }
 
 /// The class that holds the node's shape, or a new one, with the node's names put in. A new one is filed, and all is rebuilt.
-pub(crate) fn add<L: Language>(
+pub fn add_syn<L: Language>(
     store: &mut Store<L>,
     nodes: &mut Hashcons<L>,
     alloc: Global,
@@ -173,19 +155,8 @@ pub(crate) fn add<L: Language>(
     Ok(answer)
 }
 
-// The classes of a node's children become heavier by one, each once.
-fn weigh_children<L: Language>(store: &mut Store<L>, node: &L)
-    ensures { store.new ≡ store.old }
-{
-    for k in 0..node.applied_id_count() {
-        if is_first_child(node, k) {
-            store.add_weight(child_class(node, k), 1);
-        }
-    }
-}
-
 /// The id of the term, whose nodes are added from below.
-pub(crate) fn add_expr<L: Language>(
+pub fn add_syn_expr<L: Language>(
     store: &mut Store<L>,
     nodes: &mut Hashcons<L>,
     alloc: Global,
@@ -196,7 +167,7 @@ pub(crate) fn add_expr<L: Language>(
     requires rests { RestsWith store.old nodes.old }
     requires fresh_slots { HasFreshSlots table.old store.old }
     requires whole { IsWhole term.now.args }
-    ensures ok { IfOk result (λ a. AddsTerm table.new store.old nodes.old store.new nodes.new term.now (to_applied a)) }
+    ensures ok { IfOk result (λ a. AddsTerm table.old table.new store.old nodes.old store.new nodes.new term.now (to_applied a)) }
     ensures more { KnowsMore table.old table.new }
     ensures takes { MakesAtMost (term_slots term.now) table.old table.new }
     ensures full { IsErrOf result Error.OutOfSlots → CanRunOutForTerm (image_of store.old) term.now table.old table.new }
@@ -204,29 +175,11 @@ pub(crate) fn add_expr<L: Language>(
 {
     let mut node = term.node.copy(alloc)?;
     for (k, child) in term.children.iter().enumerate() {
-        let answer = add_expr(store, nodes, alloc, table, child)?;
+        let answer = add_syn_expr(store, nodes, alloc, table, child)?;
         node.set_applied_id(k, answer);
     }
-    let answer = add(store, nodes, alloc, table, &node)?;
+    let answer = add_syn(store, nodes, alloc, table, &node)?;
     Ok(answer)
-}
-
-// The class of a child, or a number that no class has past the last one.
-fn child_class<L: Language>(node: &L, k: usize) -> usize {
-    match node.get_applied_id(k) {
-        Some(a) => a.id.0,
-        None => usize::MAX,
-    }
-}
-
-// Whether no earlier child has the class of this one.
-fn is_first_child<L: Language>(node: &L, k: usize) -> bool {
-    for i in 0..k {
-        if child_class(node, i) == child_class(node, k) {
-            return false;
-        }
-    }
-    true
 }
 
 // The class of a row, with these names for the numbers of the row's shape.

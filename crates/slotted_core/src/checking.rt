@@ -10,7 +10,7 @@ ghost use Rattle.slotted_congruence.specs.Frames.{FitsCongruent, FitsReflexive, 
 ghost use Rattle.slotted_core.specs.Good.{Good};
 
 use crate::adding::is_full;
-use slotted_congruence::alike::child_equations;
+use slotted_alike::alike::child_equations;
 use slotted_congruence::named::named_node;
 use slotted_languages::Language;
 use slotted_proofs::{Equation, ProvenEq};
@@ -27,7 +27,7 @@ fn is_of_full<L: Language>(store: &Store<L>, equation: &Equation) -> bool
 }
 
 /// The equation, if it is one of full ids, and both sides are equal.
-pub(crate) fn check_reflexive<L: Language>(
+pub fn check_reflexive<L: Language>(
     store: &mut Store<L>,
     alloc: Global,
     equation: &Equation,
@@ -47,7 +47,7 @@ pub(crate) fn check_reflexive<L: Language>(
 }
 
 /// The equation, if it is one of full ids, and that of the part, turned round, matches it.
-pub(crate) fn check_symmetric<L: Language>(
+pub fn check_symmetric<L: Language>(
     store: &mut Store<L>,
     alloc: Global,
     equation: &Equation,
@@ -69,7 +69,7 @@ pub(crate) fn check_symmetric<L: Language>(
 
 /// The equation, if it is one of full ids, and those of the two parts, one after the other, give it by some names for the
 /// middle.
-pub(crate) fn check_transitive<L: Language>(
+pub fn check_transitive<L: Language>(
     store: &mut Store<L>,
     alloc: Global,
     equation: &Equation,
@@ -92,7 +92,7 @@ pub(crate) fn check_transitive<L: Language>(
 
 /// The equation, if it is one of full ids whose canonical nodes, with the names of the sides put in, agree but for their
 /// children, and that of each part matches the equation of the children there.
-pub(crate) fn check_congruent<L: Language>(
+pub fn check_congruent<L: Language>(
     store: &mut Store<L>,
     alloc: Global,
     equation: &Equation,

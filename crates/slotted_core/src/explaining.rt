@@ -8,7 +8,7 @@ ghost use Rattle.slotted_core.specs.Good.{Good, RestsWith, HasFreshSlots, image_
 ghost use Rattle.slotted_core.specs.Graph.{MakesAtMost};
 ghost use Rattle.slotted_core.specs.Places.{term_slots};
 
-use crate::adding::add_expr;
+use crate::adding::add_syn_expr;
 use slotted_filing::Hashcons;
 use slotted_languages::Language;
 use slotted_proofs::ProvenEq;
@@ -19,7 +19,7 @@ use slotted_unions::proving::bridge;
 use std::alloc::Global;
 
 /// The proof that two terms, which are added first, are equal. There is none where their ids do not find alike.
-pub(crate) fn explain<L: Language>(
+pub fn explain<L: Language>(
     store: &mut Store<L>,
     nodes: &mut Hashcons<L>,
     alloc: Global,
@@ -38,8 +38,8 @@ pub(crate) fn explain<L: Language>(
     ensures full { IsErrOf result Error.OutOfSlots → RunsOutForTerms (image_of store.old) left.now right.now table.old table.new }
     ensures err { IfErr result IsShortage }
 {
-    let a = add_expr(store, nodes, alloc, table, left)?;
-    let b = add_expr(store, nodes, alloc, table, right)?;
+    let a = add_syn_expr(store, nodes, alloc, table, left)?;
+    let b = add_syn_expr(store, nodes, alloc, table, right)?;
     if !store.eq(&a, &b) {
         return Ok(None);
     }

@@ -1,16 +1,13 @@
-//! E-graphs of terms with binders: terms go in, alpha-equal ones get equal ids, ids are united, and with them all nodes that are equal then.
-//! Each yes is proved, by entries that a union makes or by steps that a caller asks for.
+//! What a graph is made of: which ids, nodes and terms are its own, adding, uniting, explaining, canonical nodes and terms, and checked steps,
+//! as functions over what is kept. `EGraph` of `slotted_graph` calls them.
 #![tactic(auto)]
 
-mod adding;
-mod checking;
-pub mod egraph;
-mod explaining;
-mod names;
-mod syn;
-mod terms;
-mod uniting;
-
-pub use egraph::EGraph;
-pub use egraph::steps::Check;
-pub use slotted_store::Symmetry;
+pub mod adding;
+pub mod checking;
+pub mod explaining;
+pub mod looking_up;
+pub mod names;
+mod sides;
+pub mod syn;
+pub mod terms;
+pub mod uniting;

@@ -14,10 +14,10 @@ use slotted_slots::{Error, SlotMap, SlotTable};
 use slotted_store::names::has_value;
 
 /// Nodes with as many places or more are refused.
-pub(crate) const PLACES: usize = 1 << 30;
+pub const PLACES: usize = 1 << 30;
 
-// Puts a fresh slot in the place of each value.
-pub(crate) fn renew_values(map: &mut SlotMap, table: &mut SlotTable) -> Result<(), Error>
+/// Puts a fresh slot in the place of each value.
+pub fn renew_values(map: &mut SlotMap, table: &mut SlotTable) -> Result<(), Error>
     ensures keys { OnOk result (keys map.new ≡ keys map.old) }
     ensures values { OnOk result (values map.new ≡ fresh_slots table.old.fresh (length map.old)) }
     ensures table { OnOk result (table.new ≡ record table.old { fresh = table.old.fresh + length map.old }) }
@@ -33,8 +33,8 @@ pub(crate) fn renew_values(map: &mut SlotMap, table: &mut SlotTable) -> Result<(
     Ok(())
 }
 
-// Whether the values of one map, which are all different, are the keys of the other.
-pub(crate) fn values_are_keys(slots: &SlotMap, map: &SlotMap) -> bool
+/// Whether the values of one map, which are all different, are the keys of the other.
+pub fn values_are_keys(slots: &SlotMap, map: &SlotMap) -> bool
     requires { IsInjectiveMap slots.now }
     ensures { IsTrue result ↔ (keys map.now ≡ ascending (values slots.now)) }
 {
@@ -49,8 +49,8 @@ pub(crate) fn values_are_keys(slots: &SlotMap, map: &SlotMap) -> bool
     true
 }
 
-// Whether each key of one map is a value of the other. The keys ascend.
-pub(crate) fn keys_are_values(map: &SlotMap, slots: &SlotMap) -> bool
+/// Whether each key of one map is a value of the other. The keys ascend.
+pub fn keys_are_values(map: &SlotMap, slots: &SlotMap) -> bool
     ensures within { IsTrue result ↔ ((s : ℕ) → Contains (keys map.now) s → Contains (values slots.now) s) }
     ensures ascending { IsAscending (keys map.now) }
 {
@@ -62,8 +62,8 @@ pub(crate) fn keys_are_values(map: &SlotMap, slots: &SlotMap) -> bool
     true
 }
 
-// Whether the table knows each value of the map.
-pub(crate) fn values_are_known(table: &SlotTable, map: &SlotMap) -> bool
+/// Whether the table knows each value of the map.
+pub fn values_are_known(table: &SlotTable, map: &SlotMap) -> bool
     ensures { IsTrue result ↔ AllKnown table.now (values map.now) }
 {
     for i in 0..map.len() {
@@ -74,8 +74,8 @@ pub(crate) fn values_are_known(table: &SlotTable, map: &SlotMap) -> bool
     true
 }
 
-// Whether the table knows the slot at each place of the node.
-pub(crate) fn places_are_known<L: Language>(table: &SlotTable, node: &L) -> bool
+/// Whether the table knows the slot at each place of the node.
+pub fn places_are_known<L: Language>(table: &SlotTable, node: &L) -> bool
     requires { IsSmall (L.form node.now) }
     ensures { IsTrue result ↔ AllKnown table.now (L.form node.now).names }
 {

@@ -1,26 +1,70 @@
-//! Canonical nodes and terms, with the names of an id put in.
+//! Canonical nodes and terms, with the names of an id put in. Names that the id lacks are filled in first, by fresh slots.
 ghost use Rattle.std.specs.Prelude.{◌≡◌, ◌<◌, IfOk, IfErr, IsErrOf, All};
 ghost use Rattle.slotted_theory.specs.Nameless.{nameless};
-ghost use Rattle.slotted_slots.specs.Error.{IsOutOfMemory, IsShortage};
+ghost use Rattle.slotted_slots.specs.Error.{IsShortage};
 ghost use Rattle.slotted_slots.specs.Table.{KnowsMore};
 ghost use Rattle.slotted_nodes.specs.Form.{IsSmall};
 ghost use Rattle.slotted_terms.specs.Valid.{AllKnown, IsValidTerm};
 ghost use Rattle.slotted_model.specs.Classes.{IsFull, term_of};
 ghost use Rattle.slotted_core.specs.Canonical.{IsNodeOf, IsBeside};
-ghost use Rattle.slotted_core.specs.Good.{Good};
+ghost use Rattle.slotted_core.specs.Good.{Good, HasFreshSlots, IsIdOver};
+ghost use Rattle.slotted_core.specs.Graph.{MakesAtMost};
 ghost use Rattle.slotted_store.specs.Kept.{nodes_of};
 ghost use Rattle.slotted_core.specs.Nodes.{child_ids};
 ghost use Rattle.slotted_proofs.specs.Equations.{to_applied};
-ghost use Rattle.slotted_core.specs.Syn.{KnowsSlotsAnd, LacksForNode, LacksForTerm, MakesForNode, MakesForTerm};
+ghost use Rattle.slotted_core.specs.Syn.{GivesNode, GivesTerm, KnowsSlotsAnd, LacksForFilledNode, LacksForFilledTerm};
+ghost use Rattle.slotted_core.specs.Syn.{LacksForFullNode, LacksForFullTerm, MakesForNode, MakesForTerm};
+ghost use Rattle.slotted_core.specs.Syn.{slots_for_node, slots_for_term};
 
+use slotted_adding::filling::fill_id;
 use slotted_languages::Language;
 use slotted_slots::{AppliedId, Error, SlotTable};
 use slotted_store::Store;
 use slotted_terms::expr::RecExpr;
 use std::alloc::Global;
 
-/// The node that a class was made with, with the id's names put in.
-pub(crate) fn syn_node<L: Language>(
+/// The canonical node of an id, which may lack names.
+pub fn syn_node_of<L: Language>(
+    store: &Store<L>,
+    alloc: Global,
+    table: &mut SlotTable,
+    a: &AppliedId,
+) -> Result<L, Error>
+    requires good { Good store.now }
+    requires fresh_slots { HasFreshSlots table.old store.now }
+    requires findable { IsIdOver table.old store.now a.now }
+    ensures ok { IfOk result (λ n. GivesNode table.old table.new store.now a.now (L.form n)) }
+    ensures takes { MakesAtMost (slots_for_node (nodes_of store.now) (to_applied a.now)) table.old table.new }
+    ensures more { KnowsMore table.old table.new }
+    ensures full { IsErrOf result Error.OutOfSlots → LacksForFilledNode store.now a.now table.old table.new }
+    ensures only { IfErr result IsShortage }
+{
+    let filled = fill_id(store, alloc, table, a)?;
+    syn_node(store, alloc, table, &filled)
+}
+
+/// The canonical term of an id, which may lack names.
+pub fn syn_expr_of<L: Language>(
+    store: &Store<L>,
+    alloc: Global,
+    table: &mut SlotTable,
+    a: &AppliedId,
+) -> Result<RecExpr<L>, Error>
+    requires good { Good store.now }
+    requires fresh_slots { HasFreshSlots table.old store.now }
+    requires findable { IsIdOver table.old store.now a.now }
+    ensures ok { IfOk result (λ t. GivesTerm table.old table.new store.now a.now t) }
+    ensures takes { MakesAtMost (slots_for_term (nodes_of store.now) (to_applied a.now)) table.old table.new }
+    ensures more { KnowsMore table.old table.new }
+    ensures full { IsErrOf result Error.OutOfSlots → LacksForFilledTerm store.now a.now table.old table.new }
+    ensures only { IfErr result IsShortage }
+{
+    let filled = fill_id(store, alloc, table, a)?;
+    syn_expr(store, alloc, table, &filled)
+}
+
+// The node that a class was made with, with the id's names put in.
+fn syn_node<L: Language>(
     store: &Store<L>,
     alloc: Global,
     table: &mut SlotTable,
@@ -38,14 +82,14 @@ pub(crate) fn syn_node<L: Language>(
     ensures takes { MakesForNode store.now a.now.id.0 a.now.m table.old table.new }
     ensures more { KnowsMore table.old table.new }
     ensures kept { table.new.names ≡ table.old.names }
-    ensures full { IsErrOf result Error.OutOfSlots → LacksForNode store.now a.now.id.0 a.now.m table.old table.new }
+    ensures full { IsErrOf result Error.OutOfSlots → LacksForFullNode store.now a.now.id.0 a.now.m table.old table.new }
     ensures only { IfErr result IsShortage }
 {
     store.node_of(a.id.0).apply_slotmap(alloc, &a.m, table)
 }
 
-/// The term that an id stands for: the node that its class was made with, over the terms of its children.
-pub(crate) fn syn_expr<L: Language>(
+// The term that an id stands for: the node that its class was made with, over the terms of its children.
+fn syn_expr<L: Language>(
     store: &Store<L>,
     alloc: Global,
     table: &mut SlotTable,
@@ -62,7 +106,7 @@ pub(crate) fn syn_expr<L: Language>(
     ensures takes { MakesForTerm store.now a.now.id.0 a.now.m table.old table.new }
     ensures more { KnowsMore table.old table.new }
     ensures kept { table.new.names ≡ table.old.names }
-    ensures full { IsErrOf result Error.OutOfSlots → LacksForTerm store.now a.now.id.0 a.now.m table.old table.new }
+    ensures full { IsErrOf result Error.OutOfSlots → LacksForFullTerm store.now a.now.id.0 a.now.m table.old table.new }
     ensures only { IfErr result IsShortage }
 {
     let mut node = syn_node(store, alloc, table, a)?;

@@ -51,7 +51,7 @@ fn own_places_are_known<L: Language>(table: &SlotTable, node: &L) -> bool
 
 /// Whether at each node of the term the number of children is right and the own slots are known. The child ids inside the
 /// nodes are not looked at. A node with 2^30 places or more cannot be read, and is not valid.
-pub(crate) fn is_valid_term<L: Language>(table: &SlotTable, term: &RecExpr<L>) -> bool
+pub fn is_valid_term<L: Language>(table: &SlotTable, term: &RecExpr<L>) -> bool
     ensures operator { 0 < term.now.op }
     ensures valid { IsTrue result → IsValidTerm table.now term.now }
     ensures exact { IsValidTerm table.now term.now → HasSmallNodes L.form term.now → IsTrue result }

@@ -1,13 +1,14 @@
 //! Two ids are equal because the caller says so.
 ghost use Rattle.std.specs.Prelude.{IfErr, IfOk, IsErrOf};
 ghost use Rattle.slotted_slots.specs.Error.{IsShortage};
-ghost use Rattle.slotted_model.specs.Classes.{IsFull};
 ghost use Rattle.slotted_proofs.specs.Equations.{to_applied};
-ghost use Rattle.slotted_store.specs.Kept.{nodes_of, text_bytes};
+ghost use Rattle.slotted_store.specs.Finding.{IsFindable};
+ghost use Rattle.slotted_store.specs.Kept.{text_bytes};
 ghost use Rattle.slotted_core.specs.Causes.{HasLargeClassIn};
 ghost use Rattle.slotted_core.specs.Good.{Good, RestsWith, UnitesSides, image_of};
 ghost use Rattle.slotted_core.specs.Image.{CountsOpen};
 
+use crate::sides::assert_sides;
 use slotted_filing::Hashcons;
 use slotted_languages::Language;
 use slotted_rebuilding::rebuilding::rebuild;
@@ -16,8 +17,9 @@ use slotted_slots::{AppliedId, Error};
 use slotted_store::Store;
 use std::alloc::Global;
 
-/// Two valid ids are equal, because the caller says so, with a text or without one, and all is rebuilt. True if they did not find alike.
-pub(crate) fn union<L: Language>(
+/// Two ids are equal, because the caller says so, with a text or without one, and all is rebuilt. True if they did not find alike. They may
+/// lack names for slots that unions dropped.
+pub fn union<L: Language>(
     store: &mut Store<L>,
     nodes: &mut Hashcons<L>,
     alloc: Global,
@@ -27,21 +29,21 @@ pub(crate) fn union<L: Language>(
 ) -> Result<bool, Error>
     requires good { Good store.old }
     requires rests { RestsWith store.old nodes.old }
-    requires left { IsFull (nodes_of store.old) (to_applied l.now) }
-    requires right { IsFull (nodes_of store.old) (to_applied r.now) }
+    requires left { IsFindable store.old (to_applied l.now) }
+    requires right { IsFindable store.old (to_applied r.now) }
     ensures ok { IfOk result (UnitesSides store.old store.new nodes.new l.now r.now (text_bytes text)) }
     ensures full { IsErrOf result Error.OutOfSlots → HasLargeClassIn (image_of store.old) }
     ensures err { IfErr result IsShortage }
 {
     let found_alike = store.eq(l, r);
-    let p = store.assert_equal(alloc, l, r, text)?;
+    let p = assert_sides(store, alloc, l, r, text)?;
     unite(store, nodes, alloc, p)?;
     rebuild(store, nodes, alloc)?;
     Ok(!found_alike)
 }
 
 /// How many of the listed symmetries are open. It takes no memory.
-pub(crate) fn open_symmetries<L: Language>(store: &Store<L>) -> usize
+pub fn open_symmetries<L: Language>(store: &Store<L>) -> usize
     requires { Good store.now }
     ensures { CountsOpen (image_of store.now) store.now.symmetries result }
 {

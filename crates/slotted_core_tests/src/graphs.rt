@@ -1,5 +1,5 @@
 //! What is made in a graph by texts.
-use slotted_core::EGraph;
+use slotted_graph::EGraph;
 use slotted_languages::Language;
 use slotted_proofs::Equation;
 use slotted_slots::{AppliedId, Error, Slot, SlotTable};
@@ -31,7 +31,7 @@ pub fn empty<L: Language>(alloc: Global, name: &str) -> Result<EGraph<L>, Error>
 // The id of a term, if it is valid.
 pub fn put_term<L: Language>(graph: &mut EGraph<L>, term: &RecExpr<L>) -> Result<AppliedId, Error> {
     if graph.is_valid_expr(term) {
-        graph.add_expr(term)
+        graph.add_syn_expr(term)
     } else {
         Err(Error::NotATerm)
     }

@@ -1,6 +1,6 @@
 //! What is asked of the ids of two terms, or of one term twice.
 use crate::graphs::{parted, slot};
-use slotted_core::EGraph;
+use slotted_graph::EGraph;
 use slotted_languages::Language;
 use slotted_proofs::Equation;
 use slotted_slots::{AppliedId, Error, Id, Slot, SlotMap};
@@ -9,7 +9,7 @@ use std::mem;
 
 // Whether two ids are equal, if they can be asked.
 pub fn equal<L: Language>(graph: &EGraph<L>, a: &AppliedId, b: &AppliedId) -> Result<bool, Error> {
-    if graph.is_findable(a) && graph.is_findable(b) {
+    if graph.is_valid(a) && graph.is_valid(b) {
         graph.eq(a, b)
     } else {
         Err(Error::NotATerm)
@@ -29,6 +29,39 @@ pub fn related<L: Language>(
     } else {
         Ok("two classes")
     }
+}
+
+// What an id finds, if it can be asked.
+pub fn found<L: Language>(graph: &EGraph<L>, a: &AppliedId) -> Result<AppliedId, Error> {
+    if graph.is_valid(a) {
+        graph.find_applied_id(a)
+    } else {
+        Err(Error::NotATerm)
+    }
+}
+
+// Whether two ids find one id.
+pub fn find_one<L: Language>(graph: &EGraph<L>, sides: &Equation) -> Result<bool, Error> {
+    let left = found(graph, &sides.l)?;
+    let right = found(graph, &sides.r)?;
+    Ok(left == right)
+}
+
+// Whether the class of an id can be asked with its own slots as its names.
+pub fn names_itself<L: Language>(graph: &EGraph<L>, a: &AppliedId) -> Result<bool, Error> {
+    if !graph.is_valid_id(a.id) {
+        return Err(Error::NotATerm);
+    }
+    let own = graph.mk_identity_applied_id(a.id)?;
+    Ok(graph.is_valid(&own))
+}
+
+// The number of slots that the class of an id has left.
+pub fn slots_left<L: Language>(graph: &EGraph<L>, a: &AppliedId) -> Result<usize, Error> {
+    if !graph.is_valid_id(a.id) {
+        return Err(Error::NotATerm);
+    }
+    Ok(graph.slots(a.id)?.len())
 }
 
 // How the two sides of a symmetry that was met are related.
@@ -53,7 +86,7 @@ pub fn are_counted<L: Language>(graph: &EGraph<L>) -> Result<bool, Error> {
     Ok(left == 0)
 }
 
-// What a union answers, if the ids are valid.
+// What a union answers, if the ids can be asked.
 fn unite<L: Language>(graph: &mut EGraph<L>, sides: &Equation) -> Result<bool, Error> {
     if graph.is_valid(&sides.l) && graph.is_valid(&sides.r) {
         graph.union(&sides.l, &sides.r)
@@ -104,6 +137,16 @@ fn change(alloc: Global, sides: &mut Equation, how: &str) -> Result<(), Error> {
     Ok(())
 }
 
+pub fn is_full_changed<L: Language>(
+    alloc: Global,
+    graph: &EGraph<L>,
+    sides: &mut Equation,
+    how: &str,
+) -> Result<bool, Error> {
+    change(alloc, sides, how)?;
+    Ok(graph.is_full(&sides.l))
+}
+
 pub fn is_valid_changed<L: Language>(
     alloc: Global,
     graph: &EGraph<L>,
@@ -112,16 +155,6 @@ pub fn is_valid_changed<L: Language>(
 ) -> Result<bool, Error> {
     change(alloc, sides, how)?;
     Ok(graph.is_valid(&sides.l))
-}
-
-pub fn is_findable_changed<L: Language>(
-    alloc: Global,
-    graph: &EGraph<L>,
-    sides: &mut Equation,
-    how: &str,
-) -> Result<bool, Error> {
-    change(alloc, sides, how)?;
-    Ok(graph.is_findable(&sides.l))
 }
 
 // How the left id, changed, and the right one are related.
@@ -147,4 +180,18 @@ pub fn unite_because<L: Language>(
     } else {
         unite_since(graph, sides, text.replace(alloc, "¶", "\n")?)
     }
+}
+
+// What a union answers of the left id, changed, or of what it finds.
+pub fn unite_changed<L: Language>(
+    alloc: Global,
+    graph: &mut EGraph<L>,
+    sides: &mut Equation,
+    how: &str,
+) -> Result<bool, Error> {
+    match how {
+        "found" => sides.l = found(graph, &sides.l)?,
+        _ => change(alloc, sides, how)?,
+    }
+    unite(graph, sides)
 }

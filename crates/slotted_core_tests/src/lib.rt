@@ -6,6 +6,8 @@
 #[cfg(test)]
 mod failing;
 #[cfg(test)]
+mod found;
+#[cfg(test)]
 mod graphs;
 #[cfg(test)]
 mod ids;
@@ -17,6 +19,10 @@ mod memory;
 mod nodes;
 #[cfg(test)]
 mod proofs;
+#[cfg(test)]
+mod rebuilt;
+#[cfg(test)]
+mod refused;
 #[cfg(test)]
 mod rows;
 #[cfg(test)]

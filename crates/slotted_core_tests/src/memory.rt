@@ -3,7 +3,7 @@ use crate::failing::add_text;
 use crate::graphs::{empty, node_of};
 use crate::ids::equal;
 use crate::nodes::look_up;
-use slotted_core::EGraph;
+use slotted_graph::EGraph;
 use slotted_languages::Language;
 use slotted_proofs::Equation;
 use slotted_slots::{AppliedId, Error};

@@ -1,7 +1,7 @@
 //! What is asked of nodes and terms.
 use crate::graphs::{node_of, parted, put, slot, yes};
 use crate::ids::related;
-use slotted_core::EGraph;
+use slotted_graph::EGraph;
 use slotted_languages::Language;
 use slotted_slots::{AppliedId, Error, Id, Slot};
 use slotted_terms::expr::RecExpr;
@@ -83,6 +83,22 @@ fn is_id_of<L: Language>(graph: &mut EGraph<L>, text: &str, id: &AppliedId) -> R
 fn has_one_id<L: Language>(graph: &mut EGraph<L>, text: &str) -> Result<bool, Error> {
     let added = put_node(graph, text)?;
     is_id_of(graph, text, &added)
+}
+
+// The class that was made with a node, if that is valid.
+fn put_syn<L: Language>(graph: &mut EGraph<L>, node: L) -> Result<AppliedId, Error> {
+    if graph.is_valid_node(&node) {
+        graph.add_syn(node)
+    } else {
+        Err(Error::NotATerm)
+    }
+}
+
+// Whether the class that is made with a node is that of its term.
+fn has_syn_id<L: Language>(graph: &mut EGraph<L>, text: &str) -> Result<bool, Error> {
+    let node = node_of(graph, text)?;
+    let added = put_syn(graph, node)?;
+    has_id(graph, text, &added)
 }
 
 // Whether this is the class 0 with this slot alone put in, for its one slot.
@@ -195,6 +211,7 @@ pub fn answer<L: Language>(
     match parted(ask, " ") {
         ("found", _) => found(graph, text),
         ("added", _) => Ok(yes(has_one_id(graph, text)?)),
+        ("syn", _) => Ok(yes(has_syn_id(graph, text)?)),
         ("first", name) => Ok(yes(gets_first(alloc, graph, text, name)?)),
         ("valid", _) => Ok(yes(is_node(graph, other, text)?)),
         (_, word) => Ok(yes(is_term(alloc, graph, other, word, text)?)),

@@ -1,8 +1,8 @@
 //! What is printed of the proofs of a graph.
 use crate::graphs::{parted, yes};
 use crate::steps::part;
-use slotted_core::EGraph;
 use slotted_explain::Explanation;
+use slotted_graph::EGraph;
 use slotted_languages::Language;
 use slotted_proofs::{Proof, ProvenEq};
 use slotted_slots::Error;
@@ -27,6 +27,20 @@ fn chain<L: Printable>(alloc: Global, graph: &mut EGraph<L>, p: ProvenEq) -> Res
     }
 }
 
+// The equation of the last line.
+fn last_equation(alloc: Global, lines: &str) -> Result<String, Error> {
+    let (_, line) = lines.trim_end().rsplit_once("\n").unwrap_or(("", lines));
+    let (_, line) = parted(line, ": ");
+    let (equation, _) = parted(line, " by ");
+    Ok(String::from_str(alloc, equation)?)
+}
+
+// What the last line of a proof says.
+fn said<L: Printable>(alloc: Global, graph: &mut EGraph<L>, p: ProvenEq) -> Result<String, Error> {
+    let text = lines(alloc, graph, p)?;
+    last_equation(alloc, text.as_str())
+}
+
 // What is printed by a word.
 fn printed<L: Printable>(
     alloc: Global,
@@ -36,6 +50,7 @@ fn printed<L: Printable>(
 ) -> Result<String, Error> {
     match word {
         "lines" => lines(alloc, graph, p),
+        "says" => said(alloc, graph, p),
         _ => chain(alloc, graph, p),
     }
 }

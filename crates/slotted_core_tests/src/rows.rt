@@ -1,11 +1,11 @@
 //! The walk over the rows of a table, each of which is `ASK: TERMS => ANSWER`.
 use crate::graphs::{empty, parted, sides, slot, yes};
 use crate::ids::{
-    are_counted, is_findable_changed, is_valid_changed, related, related_changed, sides_related,
-    unite_because,
+    are_counted, find_one, is_full_changed, is_valid_changed, names_itself, related,
+    related_changed, sides_related, unite_because, unite_changed,
 };
-use crate::{nodes, proofs, steps, terms};
-use slotted_core::EGraph;
+use crate::{found, nodes, proofs, steps, terms};
+use slotted_graph::EGraph;
 use slotted_languages::Language;
 use slotted_proofs::{Equation, ProvenEq};
 use slotted_slots::{AppliedId, Error};
@@ -23,9 +23,13 @@ fn asked_of_sides<L: Language>(
 ) -> Result<&'static str, Error> {
     match parted(ask, " ") {
         ("ids", _) => related(graph, &sides.l, &sides.r),
+        ("found", _) => Ok(yes(find_one(graph, sides)?)),
+        ("own", _) => Ok(yes(names_itself(graph, &sides.l)?)),
+        ("kept", _) => Ok(yes(graph.is_alive(sides.l.id))),
         ("union", text) => Ok(yes(unite_because(alloc, graph, sides, text)?)),
+        ("unite", how) => Ok(yes(unite_changed(alloc, graph, sides, how)?)),
+        ("full", how) => Ok(yes(is_full_changed(alloc, graph, sides, how)?)),
         ("valid", how) => Ok(yes(is_valid_changed(alloc, graph, sides, how)?)),
-        ("findable", how) => Ok(yes(is_findable_changed(alloc, graph, sides, how)?)),
         ("changed", how) => related_changed(alloc, graph, sides, how),
         _ => steps::answer(alloc, graph, known, ask, sides),
     }
@@ -72,12 +76,13 @@ fn told<L: Language>(
         ("number", ask) => steps::numbered(graph, known, ask),
         ("entry", ask) => proofs::told(alloc, graph, known, ask),
         ("node", ask) => nodes::answer(alloc, graph, other, ask, texts),
+        ("class", ask) => found::answer(graph, ask, texts),
         ("explain", _) => steps::explained(graph, known, texts),
         _ => asked_of_texts(alloc, graph, known, ask, texts),
     }
 }
 
-// What is told, as a text.
+// What is told, as a text. Its memory is taken first: so nothing is refused once the graph was asked.
 fn told_text<L: Language>(
     alloc: Global,
     graph: &mut EGraph<L>,
@@ -86,12 +91,13 @@ fn told_text<L: Language>(
     ask: &str,
     texts: &str,
 ) -> Result<String, Error> {
-    let told = told(alloc, graph, other, known, ask, texts)?;
-    Ok(String::from_str(alloc, told)?)
+    let mut text = String::with_capacity(alloc, 16)?;
+    text.push_str(told(alloc, graph, other, known, ask, texts)?)?;
+    Ok(text)
 }
 
 // What is answered.
-fn answer<L: Printable>(
+pub fn answer<L: Printable>(
     alloc: Global,
     graph: &mut EGraph<L>,
     other: &mut EGraph<L>,

@@ -1,7 +1,7 @@
 //! Steps that callers ask for, by the names of the steps.
 use crate::graphs::{parted, yes};
 use crate::ids::unite_because;
-use slotted_core::{Check, EGraph};
+use slotted_graph::{Check, EGraph};
 use slotted_languages::Language;
 use slotted_proofs::{
     CongruenceProof, Equation, ProvenEq, ReflexivityProof, SymmetryProof, TransitivityProof,

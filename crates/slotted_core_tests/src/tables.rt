@@ -1,7 +1,7 @@
 //! Tables of questions and answers.
 use crate::graphs::empty;
 use crate::rows::{check, check_each, check_in, check_tables};
-use slotted_core::EGraph;
+use slotted_graph::EGraph;
 use slotted_slots::{Error, SlotTable};
 use slotted_small::Small;
 use slotted_terms::expr::printing::Printable;
@@ -64,37 +64,40 @@ node added: (g $y) => yes
 node added: 7 => yes
 node added: (lam $x (var $x)) => yes
 node added: (app (f $x $y) (f $y $x)) => yes
-node added: (app (f $p $q) (f $q $p)) => yes";
+node added: (app (f $p $q) (f $q $p)) => yes
+node syn: (g $z) => yes
+node syn: (lam $z (app (f $z $y) (f $y $z))) => yes
+node syn: 8 => yes";
 
 // An id has different known slots for those of its class, and there is such a class: here `(f $0 $1)` and `a` are the first two.
 // The slots of another class are no slots of its own.
 const VALID_IDS: &str = "graph knows x => no
+full first 0: (f $0 $1) => yes
+full first 2: (f $0 $1) => yes
+full first 1: (f $0 $1) => no
+full second unknown: (f $0 $1) => no
+full more 2: (f $0 $1) => no
+full bare 0: a => no
+full bare 1: a => yes
+full bare 2: a => no
+full over: (g $0) == (g $1) => yes
+full over: (g $0) == (var $0) => no";
+
+// After a union that drops all slots of `(f $0 $1)` its class alone can be asked. Other names are asked for as before.
+const ASKED_IDS: &str = "graph knows x => no
 valid first 0: (f $0 $1) => yes
+valid bare 0: (f $0 $1) => no
+union: (f $0 $1) == a => yes
+valid bare 0: a => yes
+full bare 0: a => no
+changed bare 0: a == a => equal
+changed bare 0: a == (f $1 $2) => equal
+changed bare 0: a == b => two classes
 valid first 2: (f $0 $1) => yes
 valid first 1: (f $0 $1) => no
 valid second unknown: (f $0 $1) => no
 valid more 2: (f $0 $1) => no
-valid bare 0: a => no
-valid bare 1: a => yes
-valid bare 2: a => no
-valid over: (g $0) == (g $1) => yes
-valid over: (g $0) == (var $0) => no";
-
-// After a union that drops all slots of `(f $0 $1)` its class alone can be asked. Other names are asked for as before.
-const FINDABLE_IDS: &str = "graph knows x => no
-findable first 0: (f $0 $1) => yes
-findable bare 0: (f $0 $1) => no
-union: (f $0 $1) == a => yes
-findable bare 0: a => yes
-valid bare 0: a => no
-changed bare 0: a == a => equal
-changed bare 0: a == (f $1 $2) => equal
-changed bare 0: a == b => two classes
-findable first 2: (f $0 $1) => yes
-findable first 1: (f $0 $1) => no
-findable second unknown: (f $0 $1) => no
-findable more 2: (f $0 $1) => no
-findable bare 7: a => no";
+valid bare 7: a => no";
 
 // Symmetries that were met are open until their sides are equal, also where a slot was dropped before: the second is one of a class
 // that has no name for `$2`.
@@ -128,7 +131,7 @@ graph counted => yes";
 
 #[test]
 fn symmetries_are_asked(rt: HostRuntime) -> Result<(), Error> {
-    check_tables::<Small>(&rt, rt.alloc(), &[FINDABLE_IDS, MET, MET_ABOVE])
+    check_tables::<Small>(&rt, rt.alloc(), &[ASKED_IDS, MET, MET_ABOVE])
 }
 
 // A node has known slots and valid children: the graph has the class 0 alone.
@@ -167,6 +170,15 @@ print canonical: (add (var $p) (g $q)) => (add (var $p) (g $q))
 count children: (lam $x (var $x)) => 1
 count children: 7 => 0";
 
+// What an id finds lacks names for slots that unions dropped: in its term fresh slots stand for them, other ones each time.
+const FILLED: &str = "union: (f $0 $1) == (f $0 $2) => yes
+print found: (f $1 $2) => (f $1 $f2)
+print found: (f $1 $2) => (f $1 $f3)
+print canonical: (f $1 $2) => (f $1 $2)
+union: (f $0 $1) == (f $2 $1) => yes
+print found: (f $1 $2) => (f $f4 $f5)
+graph failed => no";
+
 // A pattern prints with the names of the graph. One that is refused does not fail it.
 const PATTERNS: &str = "print pattern: ?x => ?x
 print pattern: (g $y) => (g $y)
@@ -178,7 +190,7 @@ graph failed => no";
 
 #[test]
 fn terms_and_patterns_print(rt: HostRuntime) -> Result<(), Error> {
-    check_tables::<Small>(&rt, rt.alloc(), &[CANONICAL, PATTERNS])
+    check_tables::<Small>(&rt, rt.alloc(), &[CANONICAL, FILLED, PATTERNS])
 }
 
 // The equation of a union stands once among the asserted ones, behind the entries that each of the two classes equals itself.
@@ -206,9 +218,28 @@ union r2: a == b => no
 count asserted => 1
 ids: a == b => equal";
 
+// An id may lack names for slots that were dropped. What is asserted is the equation of any full ids with its names: that stands then.
+const LACKING: &str = "union: (f $0 $1) == a => yes
+unite bare 0: a == b => yes
+count asserted => 2
+ids: (f $2 $3) == b => equal
+union: (f $4 $5) == b => no
+count asserted => 2";
+
+const LACKING_SOME: &str = "union: (f $0 $1) == (f $0 $2) => yes
+unite found: (f $0 $1) == (g $0) => yes
+count asserted => 2
+ids: (f $3 $4) == (g $3) => equal
+union: (f $5 $6) == (g $5) => no
+count asserted => 2";
+
 #[test]
 fn unions_are_entered(rt: HostRuntime) -> Result<(), Error> {
-    check_tables::<Small>(&rt, rt.alloc(), &[UNITED, DROPPED, JUSTIFIED])
+    check_tables::<Small>(
+        &rt,
+        rt.alloc(),
+        &[UNITED, DROPPED, JUSTIFIED, LACKING, LACKING_SOME],
+    )
 }
 
 // An explanation goes through unions, in either direction. Where there is none, the graph has not failed.
@@ -286,6 +317,85 @@ union: b == c => yes
 ids: d == e => two classes
 explain: a == c => explained
 number 0 last => yes";
+
+// Each is 2, so the right one is kept: a node that has a class twice as a child counts once.
+const COUNTED_ONCE: &str = "ids: (app a a) == (app b c) => two classes
+union: a == b => yes
+kept: a => no
+kept: b => yes";
+
+// `(app a c)` becomes `(app b c)`, which is filed once: `b` is 3 with its two nodes, and `x` is 3.
+const TURNED: &str = "ids: (app a c) == (app b c) => two classes
+union: a == b => yes
+ids: (lam $y x) == (app x x) => two classes
+union: b == x => yes
+kept: b => no
+kept: x => yes";
+
+// Of the two nodes over `c` one is left after that, and `c` is 2 as `z` is.
+const ONE_LEFT: &str = "ids: (app a c) == (app b c) => two classes
+union: a == b => yes
+ids: (lam $y z) == z => two classes
+union: c == z => yes
+kept: c => no
+kept: z => yes";
+
+// What is filed over the id of a dead class stands over the kept one: `b` is 4 with its two nodes, and `x` is 3.
+const OVER_A_DEAD_CLASS: &str = "union: a == b => yes
+ids: (app a a) == (lam $y a) => two classes
+ids: (app x x) == (lam $y x) => two classes
+union: b == x => yes
+kept: b => yes
+kept: x => no";
+
+// What was filed over the class that died stands over the kept one after its turn: `b` is 6, and `x` is 5.
+const MOVED_OVER: &str = "ids: (app a c) == (lam $y a) => two classes
+ids: (app b b) == (app b d) => two classes
+union: a == b => yes
+ids: (app x x) == (lam $z (lam $y x)) => two classes
+ids: (app x c) == (mul x x) => two classes
+union: b == x => yes
+kept: b => yes
+kept: x => no";
+
+// A class whose node is that of another one has none: `(app b c)` stays 1, and `y` is 1.
+const JOINED: &str = "union: a == b => yes
+ids: (app b c) == (app a c) => equal
+kept: (app a c) => no
+union: (app b c) == y => yes
+kept: (app b c) => no
+kept: y => yes";
+
+// In its turn `(app a a)` has the node of `(app b b)`, and its own counts no more: 1 for each, and the right one is kept.
+const MET_IN_A_TURN: &str = "ids: (lam $y (app a a)) == (app b b) => two classes
+union: a == b => yes
+kept: (app a a) => no
+kept: (app b b) => yes";
+
+// With two nodes over it the class of the first one is kept.
+const KEPT_IN_A_TURN: &str = "ids: (lam $y (app a a)) == (app b b) => two classes
+ids: (app (app a a) c) == c => two classes
+union: a == b => yes
+kept: (app a a) => yes
+kept: (app b b) => no";
+
+#[test]
+fn nodes_and_parents_are_counted_as_they_are_filed(rt: HostRuntime) -> Result<(), Error> {
+    check_tables::<Small>(
+        &rt,
+        rt.alloc(),
+        &[
+            COUNTED_ONCE,
+            TURNED,
+            ONE_LEFT,
+            OVER_A_DEAD_CLASS,
+            MOVED_OVER,
+            JOINED,
+            MET_IN_A_TURN,
+            KEPT_IN_A_TURN,
+        ],
+    )
+}
 
 #[test]
 fn the_class_with_fewer_slots_or_more_nodes_is_kept(rt: HostRuntime) -> Result<(), Error> {

@@ -1,6 +1,7 @@
 //! What is printed of terms and patterns, and what is counted.
 use crate::graphs::put;
-use slotted_core::EGraph;
+use crate::ids::slots_left;
+use slotted_graph::EGraph;
 use slotted_languages::Language;
 use slotted_patterns::Pattern;
 use slotted_slots::{AppliedId, Error, Show, SlotTable};
@@ -23,13 +24,20 @@ fn pattern<L: Language>(alloc: Global, graph: &mut EGraph<L>, text: &str) -> Res
     shown(alloc, &pattern, graph.table())
 }
 
+// What is printed of the slot of a name.
+fn slot<L: Language>(alloc: Global, graph: &mut EGraph<L>, name: &str) -> Result<String, Error> {
+    let slot = graph.named_slot(name)?;
+    let shown = slot.show(graph.table());
+    Ok(format!(in alloc; "{shown}")?)
+}
+
 // The same of the term that a text writes.
 fn term<L: Printable>(alloc: Global, graph: &mut EGraph<L>, text: &str) -> Result<String, Error> {
     let term = graph.parse_expr(text)?;
     term.text(alloc, graph.table())
 }
 
-// The canonical term of an id, if it is valid.
+// The canonical term of an id, if it can be found.
 fn canonical_term<L: Printable>(
     alloc: Global,
     graph: &mut EGraph<L>,
@@ -61,16 +69,39 @@ fn canonical<L: Printable>(
     canonical_term(alloc, graph, &id)
 }
 
+// What an id finds, if it can be found.
+fn found_id<L: Language>(graph: &EGraph<L>, a: &AppliedId) -> Result<AppliedId, Error> {
+    if !graph.is_valid(a) {
+        return Err(Error::NotATerm);
+    }
+    graph.find_applied_id(a)
+}
+
+// The canonical term of what the id of a text's term finds.
+fn found<L: Printable>(alloc: Global, graph: &mut EGraph<L>, text: &str) -> Result<String, Error> {
+    let id = put(graph, text)?;
+    let found = found_id(graph, &id)?;
+    canonical_term(alloc, graph, &found)
+}
+
 // The number of children of its canonical node.
 fn canonical_children<L: Language>(graph: &mut EGraph<L>, text: &str) -> Result<usize, Error> {
     let id = put(graph, text)?;
     child_count(graph, &id)
 }
 
+// The number of slots that the class of a text's term has left.
+fn class_slots<L: Language>(graph: &mut EGraph<L>, text: &str) -> Result<usize, Error> {
+    let id = put(graph, text)?;
+    slots_left(graph, &id)
+}
+
 // A number that is asked by a word.
 fn number<L: Language>(graph: &mut EGraph<L>, word: &str, text: &str) -> Result<usize, Error> {
     match word {
         "children" => canonical_children(graph, text),
+        "slots" => class_slots(graph, text),
+        "live" => Ok(graph.ids()?.len()),
         "proved" => Ok(graph.proof_count()),
         _ => Ok(graph.asserted().len()),
     }
@@ -95,7 +126,9 @@ pub fn answer<L: Printable>(
 ) -> Result<String, Error> {
     match word {
         "pattern" => pattern(alloc, graph, text),
+        "slot" => slot(alloc, graph, text),
         "term" => term(alloc, graph, text),
+        "found" => found(alloc, graph, text),
         _ => canonical(alloc, graph, text),
     }
 }

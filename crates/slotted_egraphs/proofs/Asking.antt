@@ -1,20 +1,25 @@
 -- What an answer to `eq` says: of a term that is added again, and of what a node is looked up as.
 use Rattle.std.proofs.Common.{◌≡◌, ◌∙◌, sym, ap, subst, refl}
 use Rattle.std.proofs.lemmas.Bool.{false≢true}
+use Rattle.std.proofs.lemmas.Result.{IfOk-weaker}
 use Rattle.std.specs.Prelude.{Bool, false, Result, Ok, Err, Option, Some, None, IsTrue, IfOk, IfSome, IsSome, IsSomeAnd, ◌↔◌, option_map}
 use Rattle.slotted_theory.specs.Term.{Term}
 use Rattle.slotted_theory.specs.Nameless.{DTerm, nameless}
-use Rattle.slotted_theory.specs.Derives.{Equal}
+use Rattle.slotted_theory.specs.Derives.{joined, turned}
 use Rattle.slotted_slots.specs.declared.error.Error.{Error}
 use Rattle.slotted_slots.specs.declared.types.AppliedId.{AppliedId}
 use Rattle.slotted_nodes.specs.Form.{Form}
 use Rattle.slotted_model.specs.Applied.{Applied}
-use Rattle.slotted_model.specs.Classes.{term_of}
 use Rattle.slotted_model.specs.Ids.{id_of}
 use Rattle.slotted_model.proofs.Options.{Some-same}
-use Rattle.slotted_core.specs.Graph.{Graph, id_of_form, id_of_term, StandsForNode}
-use Rattle.slotted_core.specs.Image.{Image, FoundAlike, SaysEqual, asserted_in}
+use Rattle.slotted_core.specs.Adding.{IsEqualToNode}
+use Rattle.slotted_core.specs.ValidIds.{SaysFillingsEqual}
+use Rattle.slotted_core.specs.Graph.{Graph, id_of_term}
+use Rattle.slotted_core.specs.Image.{Image, FoundAlike}
+use Rattle.slotted_core.specs.LookUp.{look_up}
 use Rattle.slotted_core.specs.Nodes.{to_applied}
+use Rattle.slotted_core.specs.Reports.{IsFound}
+use Rattle.slotted_core.proofs.CallerLemmas.{filled}
 use Rattle.slotted_egraphs.specs.Filed.{IsFiledAs, SaysNodeEqual}
 
 -- where ids find alike, an answer that says whether they do is yes
@@ -33,17 +38,25 @@ same_again g h k t u a b found same reads kept again =
 
 -- an answer about what a look-up answered is one about the node
 
-pub filed_some : (g : Graph) (f : Form) (x : AppliedId) (o : Option AppliedId) (b : Applied) (r : Result Bool Error) → o ≡ Some x → option_map to_applied o ≡ id_of_form g f → IfOk r (λ y. IsTrue y ↔ FoundAlike g.image (to_applied x) b) → IfOk r (λ y. IsTrue y ↔ IsFiledAs g f b)
+pub filed_some : (g : Graph) (f : Form) (x : AppliedId) (o : Option AppliedId) (b : Applied) (r : Result Bool Error) → o ≡ Some x → option_map to_applied o ≡ look_up g f → IfOk r (λ y. IsTrue y ↔ FoundAlike g.image (to_applied x) b) → IfOk r (λ y. IsTrue y ↔ IsFiledAs g f b)
 filed_some g f x o b r is class e =
-    let at : Some (to_applied x) ≡ id_of_form g f = ap (λ (v : Option AppliedId). option_map to_applied v) (sym is) ∙ class in
+    let at : Some (to_applied x) ≡ look_up g f = ap (λ (v : Option AppliedId). option_map to_applied v) (sym is) ∙ class in
     subst (λ (v : Option Applied). IfOk r (λ y. IsTrue y ↔ IsSomeAnd v (λ a. FoundAlike g.image a b))) at e
 
-pub filed_none : (g : Graph) (f : Form) (o : Option AppliedId) (b : Applied) → o ≡ None → option_map to_applied o ≡ id_of_form g f → IsTrue false ↔ IsFiledAs g f b
+pub filed_none : (g : Graph) (f : Form) (o : Option AppliedId) (b : Applied) → o ≡ None → option_map to_applied o ≡ look_up g f → IsTrue false ↔ IsFiledAs g f b
 filed_none g f o b is class =
-    let at : option_map to_applied None ≡ id_of_form g f = ap (λ (v : Option AppliedId). option_map to_applied v) (sym is) ∙ class in
+    let at : option_map to_applied None ≡ look_up g f = ap (λ (v : Option AppliedId). option_map to_applied v) (sym is) ∙ class in
     subst (λ (v : Option Applied). IsTrue false ↔ IsSomeAnd v (λ a. FoundAlike g.image a b)) at ((λ e. absurd (false≢true e)), (λ e. absurd e))
 
-pub filed_equal : (g : Graph) (f : Form) (x : AppliedId) (o : Option AppliedId) (b : Applied) (r : Result Bool Error) → o ≡ Some x → IfSome o (λ a. StandsForNode g (to_applied a) f) → IfOk r (SaysEqual g.image (to_applied x) b) → IfOk r (SaysNodeEqual g f b)
-filed_equal g f x o b r is stands e =
-    let here : StandsForNode g (to_applied x) f = subst (λ (v : Option AppliedId). IfSome v (λ a. StandsForNode g (to_applied a) f)) is stands in
-    subst (λ (t : DTerm). IfOk r (λ y. IsTrue y → Equal (asserted_in g.image) t (term_of g.image.canonical b))) here e
+-- what is equal to the id that a node has is equal to the node
+equal_through : (g : Graph) (f : Form) (a b : Applied) (y : Bool) → IsFound g a → IsEqualToNode g.image a f → SaysFillingsEqual g.image a b y → SaysNodeEqual g f b y
+equal_through g f a b y found equal says yes right e fills node =
+    let left = filled g a found.valid in
+    joined (turned (says yes left.0 right left.1 fills).0) (equal left.0 e left.1 node)
+
+pub filed_equal : (g : Graph) (f : Form) (x : AppliedId) (o : Option AppliedId) (b : Applied) (r : Result Bool Error) → o ≡ Some x → IfSome o (λ a. IsFound g (to_applied a)) → IfSome o (λ a. IsEqualToNode g.image (to_applied a) f) →
+    IfOk r (SaysFillingsEqual g.image (to_applied x) b) → IfOk r (SaysNodeEqual g f b)
+filed_equal g f x o b r is finds stands e =
+    let found : IsFound g (to_applied x) = subst (λ (v : Option AppliedId). IfSome v (λ a. IsFound g (to_applied a))) is finds in
+    let equal : IsEqualToNode g.image (to_applied x) f = subst (λ (v : Option AppliedId). IfSome v (λ a. IsEqualToNode g.image (to_applied a) f)) is stands in
+    IfOk-weaker r (SaysFillingsEqual g.image (to_applied x) b) (SaysNodeEqual g f b) (λ y says. equal_through g f (to_applied x) b y found equal says) e

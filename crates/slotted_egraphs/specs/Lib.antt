@@ -1,6 +1,7 @@
 -- The words of the clauses that callers meet, handed on from the crates that define them.
 --     terms: Term, Nameless, Derives, Valid          slots: Table, Error, Maps
---     ids and classes: Applied, Classes, Growth, Ids     the graph: Graph, Findable, Affected, Image, Nodes, Checks, Leaves, Causes
+--     ids and classes: Applied, Classes, Growth, Ids     the graph: Graph, ValidIds, LookUp, Adding, AddingTerms, Reports, Affected, Image, Nodes, Checks,
+--     Leaves, Causes, Syn
 pub use Rattle.slotted_theory.specs.Term
 pub use Rattle.slotted_theory.specs.Nameless
 pub use Rattle.slotted_theory.specs.Derives
@@ -18,7 +19,11 @@ pub use Rattle.slotted_model.specs.Growth
 pub use Rattle.slotted_model.specs.Ids
 pub use Rattle.slotted_proofs.specs.Entries
 pub use Rattle.slotted_core.specs.Graph
-pub use Rattle.slotted_core.specs.Findable
+pub use Rattle.slotted_core.specs.ValidIds
+pub use Rattle.slotted_core.specs.LookUp
+pub use Rattle.slotted_core.specs.Adding
+pub use Rattle.slotted_core.specs.AddingTerms
+pub use Rattle.slotted_core.specs.Reports
 pub use Rattle.slotted_core.specs.Affected
 pub use Rattle.slotted_core.specs.Image
 pub use Rattle.slotted_core.specs.Nodes
@@ -26,5 +31,6 @@ pub use Rattle.slotted_core.specs.Checks
 pub use Rattle.slotted_core.specs.Leaves
 pub use Rattle.slotted_core.specs.Causes
 pub use Rattle.slotted_core.specs.Explaining
+pub use Rattle.slotted_core.specs.Syn
 -- what a caller of its own says
 pub mod Filed

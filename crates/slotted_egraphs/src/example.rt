@@ -1,7 +1,7 @@
 //! First callers: texts are added, united and asked, a canonical term is added again, and a node is looked up and asked.
 ghost use Rattle.std.specs.Prelude.{◌↔◌, ◌⊎◌, IsTrue, IfOk};
 ghost use Rattle.slotted_egraphs.specs.Filed.{IsFiledAs, SaysNodeEqual};
-ghost use Rattle.slotted_egraphs.specs.Graph.{IsValidId, IsValidNode};
+ghost use Rattle.slotted_egraphs.specs.ValidIds.{IsValidId, IsValidNode};
 ghost use Rattle.slotted_egraphs.specs.Image.{AreClosed};
 ghost use Rattle.slotted_egraphs.specs.Nodes.{to_applied};
 
@@ -29,9 +29,9 @@ pub fn add_again<L: Language>(graph: &mut EGraph<L>, text: &str) -> Result<bool,
     ensures { IfOk result IsTrue }
 {
     let term = graph.parse_expr(text)?;
-    let id = graph.add_expr(&term)?;
+    let id = graph.add_syn_expr(&term)?;
     let canonical = graph.get_syn_expr(&id)?;
-    let again = graph.add_expr(&canonical)?;
+    let again = graph.add_syn_expr(&canonical)?;
     graph.eq(&id, &again)
 }
 

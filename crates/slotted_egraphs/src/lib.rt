@@ -8,8 +8,8 @@ pub mod example;
 #[cfg(test)]
 mod tests;
 
-pub use slotted_core::{Check, EGraph, Symmetry};
 pub use slotted_explain::Explanation;
+pub use slotted_graph::{Check, EGraph, Symmetry};
 pub use slotted_languages::{Bind, Language, LanguageChildren, ReadBack, Symbol, pair};
 pub use slotted_patterns::Pattern;
 pub use slotted_proofs::{

@@ -9,11 +9,11 @@ use Rattle.slotted_proofs.specs.Entries.{entry_of, entries_of, statement_at}
 use Rattle.slotted_model.specs.ProofList.{Equation}
 use Rattle.slotted_proofs.specs.Proving.{IsProved}
 use Rattle.slotted_core.specs.Image.{Image}
-use Rattle.slotted_core.specs.Graph.{Graph, IsValidId}
+use Rattle.slotted_core.specs.Graph.{Graph, IsFullId}
 use Rattle.slotted_store.proofs.KeptLists.{equation_at-of, length-mapped}
 use Rattle.slotted_store.proofs.NameMaps.{numeric-known}
 
-pub left_valid : (g : Graph) (p : ℕ) (a b : Applied) → IsProved g.image.canonical g.image.stored → p < length g.image.stored → AreSides (statement_at g.image.stored p) a b → IsValidId g a
+pub left_valid : (g : Graph) (p : ℕ) (a b : Applied) → IsProved g.image.canonical g.image.stored → p < length g.image.stored → AreSides (statement_at g.image.stored p) a b → IsFullId g a
 left_valid g p a b proved lt sides =
     let s : Statement = statement_at g.image.stored p in
     let n : p < length (entries_of g.image.stored) = omega (arith, lt, length-mapped entry_of g.image.stored) in
@@ -29,7 +29,7 @@ left_valid g p a b proved lt sides =
     }
 
 -- also where the graph made slots since
-pub right_valid : (g h : Graph) → h.image ≡ g.image → (p : ℕ) (a b : Applied) → IsProved g.image.canonical g.image.stored → p < length g.image.stored → AreSides (statement_at g.image.stored p) a b → IsValidId h b
+pub right_valid : (g h : Graph) → h.image ≡ g.image → (p : ℕ) (a b : Applied) → IsProved g.image.canonical g.image.stored → p < length g.image.stored → AreSides (statement_at g.image.stored p) a b → IsFullId h b
 right_valid g h image p a b proved lt sides =
     let s : Statement = statement_at g.image.stored p in
     let n : p < length (entries_of g.image.stored) = omega (arith, lt, length-mapped entry_of g.image.stored) in

@@ -7,7 +7,7 @@ use Rattle.slotted_proofs.specs.Equations.{AreSides}
 use Rattle.slotted_core.specs.Causes.{HasLargePart}
 use Rattle.slotted_core.specs.Graph.{Graph, MakesAtMost, RunsOut}
 use Rattle.slotted_core.specs.Image.{Image}
-use Rattle.slotted_core.specs.Syn.{term_binders, MakesForTermOf, RunsOutForTermOf}
+use Rattle.slotted_core.specs.Syn.{term_binders, MakesForTermAt, RunsOutForTermAt}
 use Rattle.slotted_core.proofs.Tables.{makes-more, makes-then, runs_out-more, runs_out-then}
 use Rattle.slotted_explain.specs.Printed.{line_binders, lines_binders, HasLargeSide, LineRunsOut, LinesRunOut, MakesForLine, MakesForLines}
 
@@ -22,19 +22,19 @@ module _ (g : Graph) (p : ℕ) (a b : Applied) (sides : AreSides (statement_at g
   both : term_binders g.image.canonical a.0 + term_binders g.image.canonical b.0 ≡ line_binders g.image p
   both = λ i. term_binders g.image.canonical (left_class i) + term_binders g.image.canonical (right_class i)
 
-  pub left_makes : (h : Graph) → MakesForTermOf g h a.0 → MakesForLine g h p
+  pub left_makes : (h : Graph) → MakesForTermAt g h a.0 → MakesForLine g h p
   left_makes h m = makes-more (term_binders g.image.canonical a.0) (line_binders g.image p) g.table h.table m (omega (arith, both))
 
-  pub both_make : (h k : Graph) → h.image ≡ g.image → MakesForTermOf g h a.0 → MakesForTermOf h k b.0 → MakesForLine g k p
+  pub both_make : (h k : Graph) → h.image ≡ g.image → MakesForTermAt g h a.0 → MakesForTermAt h k b.0 → MakesForLine g k p
   both_make h k image m n =
       makes-then (term_binders g.image.canonical a.0) (term_binders g.image.canonical b.0) (line_binders g.image p) g.table h.table k.table m
       (subst (λ (x : Image). MakesAtMost (term_binders x.canonical b.0) h.table k.table) image n) (omega (arith, both))
 
-  pub left_lacks : (h : Graph) → RunsOutForTermOf g h a.0 → LineRunsOut g h p
+  pub left_lacks : (h : Graph) → RunsOutForTermAt g h a.0 → LineRunsOut g h p
   left_lacks h (inl out) = inl (runs_out-more (term_binders g.image.canonical a.0) (line_binders g.image p) g.table h.table out (omega (arith, both)))
   left_lacks h (inr large) = inr (inl (subst (HasLargePart g.image.canonical) left_class large))
 
-  pub right_lacks : (h k : Graph) → h.image ≡ g.image → MakesForTermOf g h a.0 → RunsOutForTermOf h k b.0 → LineRunsOut g k p
+  pub right_lacks : (h k : Graph) → h.image ≡ g.image → MakesForTermAt g h a.0 → RunsOutForTermAt h k b.0 → LineRunsOut g k p
   right_lacks h k image m (inl out) =
       inl (runs_out-then (term_binders g.image.canonical a.0) (term_binders g.image.canonical b.0) (line_binders g.image p) g.table h.table k.table m
       (subst (λ (x : Image). RunsOut (term_binders x.canonical b.0) h.table k.table) image out) (omega (arith, both)))

@@ -6,7 +6,7 @@ use Rattle.std.proofs.lemmas.List.Sums.{sum_by-take-le, sum_by_push}
 use Rattle.slotted_proofs.specs.Entries.{statement_at}
 use Rattle.slotted_core.specs.Graph.{Graph, MakesAtMost, RunsOut}
 use Rattle.slotted_core.specs.Image.{Image}
-use Rattle.slotted_core.specs.Syn.{term_binders, MakesForTermOf}
+use Rattle.slotted_core.specs.Syn.{term_binders, MakesForTermAt}
 use Rattle.slotted_core.proofs.Tables.{makes-more, makes-then, runs_out-then}
 use Rattle.slotted_explain.specs.Chain.{Rewrite, chain_binders, step_binders, steps_binders, HasLargeStep, HasLargeStepOf, MakesForStep, MakesForSteps, StepRunsOut, StepsRunOut, TermsRunOut}
 
@@ -35,7 +35,7 @@ module _ (g h k : Graph) (rs : List Rewrite) (i : ℕ) (r : Rewrite) (lt : i < l
   step_lacks (inr large) = inr (r, (i, lt, is), subst (λ (x : Image). HasLargeStep x r) image large)
 
 -- the left side, and then the steps
-pub chain_lacks : (g h k : Graph) (p i : ℕ) (rs : List Rewrite) → i ≡ (statement_at g.image.stored p).equation.left → h.image ≡ g.image → MakesForTermOf g h i → StepsRunOut h k rs → TermsRunOut g k p rs
+pub chain_lacks : (g h k : Graph) (p i : ℕ) (rs : List Rewrite) → i ≡ (statement_at g.image.stored p).equation.left → h.image ≡ g.image → MakesForTermAt g h i → StepsRunOut h k rs → TermsRunOut g k p rs
 chain_lacks g h k p i rs class image made (inl out) =
     inl (runs_out-then (term_binders g.image.canonical i) (steps_binders g.image rs) (chain_binders g.image p rs) g.table h.table k.table made
     (subst (λ (x : Image). RunsOut (steps_binders x rs) h.table k.table) image out) (omega (arith, ap (term_binders g.image.canonical) class)))

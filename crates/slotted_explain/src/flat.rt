@@ -2,14 +2,14 @@
 ghost use Rattle.std.specs.Prelude.{◌≡◌, ◌<◌, length, IfOk, IfErr, IsErrOf};
 ghost use Rattle.slotted_slots.specs.Error.{IsOutOfMemory, IsShortage};
 ghost use Rattle.slotted_core.specs.Graph.{OnlyTakesSlots};
-ghost use Rattle.slotted_core.specs.Syn.{MakesForTermOf, RunsOutForTermOf};
+ghost use Rattle.slotted_core.specs.Syn.{MakesForTermAt, RunsOutForTermAt};
 ghost use Rattle.slotted_explain.specs.Chain.{AreWithin, from_class, to_class};
 ghost use Rattle.slotted_explain.specs.Chain.{MakesForStep, MakesForSteps, MakesForTerms, MakesForTwoTermsOf};
 ghost use Rattle.slotted_explain.specs.Chain.{RunsOutForTwoTermsOf, StepRunsOut, StepsRunOut, TermsRunOut};
 
 use crate::flat_terms::{marked, matched_names, name_apart, replaced, slots_of, subterm};
 use crate::steps::FlatStep;
-use slotted_core::EGraph;
+use slotted_graph::EGraph;
 use slotted_proofs::{Proof, ProofList, ProvenEq};
 use slotted_slots::{AppliedId, Error, SlotMap};
 use slotted_terms::expr::RecExpr;
@@ -176,8 +176,8 @@ fn renamed_term<L: Printable, N: Drop>(
     names: &SlotMap,
 ) -> Result<Option<RecExpr<L>>, Error>
     ensures takes { OnlyTakesSlots graph.old graph.new }
-    ensures count { MakesForTermOf graph.old graph.new a.now.id.0 }
-    ensures full { IsErrOf result Error.OutOfSlots → RunsOutForTermOf graph.old graph.new a.now.id.0 }
+    ensures count { MakesForTermAt graph.old graph.new a.now.id.0 }
+    ensures full { IsErrOf result Error.OutOfSlots → RunsOutForTermAt graph.old graph.new a.now.id.0 }
     ensures only { IfErr result IsShortage }
 {
     let m = a.m.compose_partial(alloc, names)?;
@@ -194,11 +194,11 @@ fn canonical_term<L: Printable, N: Drop>(
     a: &AppliedId,
 ) -> Result<Option<RecExpr<L>>, Error>
     ensures takes { OnlyTakesSlots graph.old graph.new }
-    ensures count { MakesForTermOf graph.old graph.new a.now.id.0 }
-    ensures full { IsErrOf result Error.OutOfSlots → RunsOutForTermOf graph.old graph.new a.now.id.0 }
+    ensures count { MakesForTermAt graph.old graph.new a.now.id.0 }
+    ensures full { IsErrOf result Error.OutOfSlots → RunsOutForTermAt graph.old graph.new a.now.id.0 }
     ensures only { IfErr result IsShortage }
 {
-    if !graph.is_valid(a) {
+    if !graph.is_full(a) {
         return Ok(None);
     }
     let term = graph.get_syn_expr(a)?;

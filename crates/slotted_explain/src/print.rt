@@ -1,12 +1,12 @@
 //! A proof printed line by line.
 ghost use Rattle.std.specs.Prelude.{All, ◌<◌, length, string_bytes, IsTrue, IfOk, OnOk, IfErr, IsErrOf};
 ghost use Rattle.slotted_slots.specs.Error.{IsShortage};
-ghost use Rattle.slotted_core.specs.Graph.{IsValidId, OnlyTakesSlots};
+ghost use Rattle.slotted_core.specs.Graph.{IsFullId, OnlyTakesSlots};
 ghost use Rattle.slotted_proofs.specs.Equations.{to_applied};
-ghost use Rattle.slotted_core.specs.Syn.{MakesForTermOf, RunsOutForTermOf};
+ghost use Rattle.slotted_core.specs.Syn.{MakesForTermAt, RunsOutForTermAt};
 ghost use Rattle.slotted_explain.specs.Printed.{AppendsLine, ArePrinted, IsSideText, LineRunsOut, LinesRunOut, MakesForLine, MakesForLines};
 
-use slotted_core::EGraph;
+use slotted_graph::EGraph;
 use slotted_proofs::reasons::reason;
 use slotted_proofs::{ProofLines, ProvenEq};
 use slotted_slots::{AppliedId, Error};
@@ -69,11 +69,11 @@ fn side_text<L: Printable, N: Drop>(
     a: &AppliedId,
 ) -> Result<String, Error>
     requires well { ¬ IsTrue graph.old.failed }
-    requires valid { IsValidId graph.old (to_applied a.now) }
+    requires valid { IsFullId graph.old (to_applied a.now) }
     ensures text { IfOk result (λ s. IsSideText L.written graph.old graph.new (to_applied a.now) (string_bytes s)) }
     ensures takes { OnlyTakesSlots graph.old graph.new }
-    ensures count { MakesForTermOf graph.old graph.new a.now.id.0 }
-    ensures full { IsErrOf result Error.OutOfSlots → RunsOutForTermOf graph.old graph.new a.now.id.0 }
+    ensures count { MakesForTermAt graph.old graph.new a.now.id.0 }
+    ensures full { IsErrOf result Error.OutOfSlots → RunsOutForTermAt graph.old graph.new a.now.id.0 }
     ensures only { IfErr result IsShortage }
 {
     let term = graph.get_syn_expr(a)?;

@@ -1,4 +1,4 @@
-//! The filed nodes, who stands over a class, and which classes wait to be filed anew.
+//! The filed nodes, who stands over a class, which classes wait to be filed anew, and how large each class is.
 ghost use Rattle.std.specs.Prelude.{◌≡◌, ◌≤◌, ◌<◌, ◌↔◌, ℕ, length, None, Some, option_map, slice_get};
 ghost use Rattle.std.specs.Prelude.{IsTrue, IfSome, IfNone, IfErr, OnOk, Contains};
 ghost use Rattle.slotted_slots.specs.Error.{IsOutOfMemory};
@@ -11,6 +11,7 @@ ghost use Rattle.slotted_filing.specs.Over.{HasChild, WaitsMore, WaitOver, AreUs
 ghost use Rattle.slotted_filing.specs.Waiting.{Pops};
 
 use crate::index::NodeIndex;
+use crate::sizes::Sizes;
 use crate::usages::Usages;
 use crate::worklist::Worklist;
 use slotted_languages::Language;
@@ -18,13 +19,14 @@ use slotted_slots::{Error, SlotMap};
 use std::alloc::Global;
 use std::marker::Model;
 
-/// The filed nodes, who stands over a class, and which classes wait to be filed anew, in turn. After want of memory nothing is known
-/// of what is filed and of what waits.
+/// The filed nodes, who stands over a class, which classes wait to be filed anew, in turn, and how large each class is. After want of
+/// memory nothing is known of what is filed and of what waits.
 #[derive(Drop)]
 pub struct Hashcons<L: Language> {
     nodes: NodeIndex<L>,
     usages: Usages,
     waiting: Worklist,
+    sizes: Sizes,
 }
 
 impl<L: Language> Model for Hashcons<L> {
@@ -49,6 +51,7 @@ impl<L: Language> Hashcons<L> {
             nodes: NodeIndex::new(alloc),
             usages: Usages::new(alloc),
             waiting: Worklist::new(alloc),
+            sizes: Sizes::new(alloc),
         }
     }
 
@@ -63,10 +66,32 @@ impl<L: Language> Hashcons<L> {
         ensures ok { OnOk result (self.new ≡ with_class self.old) }
         ensures err { IfErr result IsOutOfMemory }
     {
+        self.sizes.grow()?;
         self.usages.add_class(alloc)?;
         self.waiting.add_class()?;
         self.nodes.add_class()?;
         Ok(())
+    }
+
+    /// For each class how many filed nodes it has and how many have it as a child. No contract speaks of these sizes: they decide which
+    /// class a union keeps.
+    pub fn sizes(&self) -> &[usize] {
+        self.sizes.all()
+    }
+
+    /// The filed nodes that one class has another one has from now on.
+    pub fn move_nodes(&mut self, from: usize, to: usize)
+        ensures { self.new ≡ self.old }
+    {
+        self.sizes.move_nodes(from, to);
+    }
+
+    /// The node that is filed of a class is counted no more, neither as one that `owner` has nor over the classes of its children.
+    pub fn uncount(&mut self, class: usize, owner: usize)
+        ensures { self.new ≡ self.old }
+    {
+        uncount_parent(&mut self.sizes, &self.nodes, class);
+        self.sizes.take_node(owner);
     }
 
     /// What is filed of a class: a key, and the slot of the class for each number of it.
@@ -113,7 +138,7 @@ impl<L: Language> Hashcons<L> {
         Ok(())
     }
 
-    /// Files a key of a class that has none.
+    /// Files a key of a live class that has none, and counts it.
     pub fn file(&mut self, class: usize, key: L, names: SlotMap) -> Result<(), Error>
         requires within { class < length self.old.filed }
         requires free { filed_of self.old.filed class ≡ None }
@@ -123,6 +148,8 @@ impl<L: Language> Hashcons<L> {
         ensures err { IfErr result IsOutOfMemory }
     {
         use_children(&mut self.usages, &key, class)?;
+        count_parent(&mut self.sizes, &key);
+        self.sizes.add_node(class);
         self.nodes.file(class, key, names)?;
         Ok(())
     }
@@ -146,12 +173,14 @@ impl<L: Language> Hashcons<L> {
         ensures err { IfErr result IsOutOfMemory }
     {
         use_children(&mut self.usages, &key, class)?;
+        uncount_parent(&mut self.sizes, &self.nodes, class);
+        count_parent(&mut self.sizes, &key);
         end_turn(&mut self.waiting, class);
         self.nodes.refile(class, key, names)?;
         Ok(())
     }
 
-    /// The class whose turn it is has nothing filed from now on, and waits no more.
+    /// The class whose turn it is has nothing filed from now on, and waits no more. Its node has to be uncounted before.
     pub fn remove(&mut self, class: usize)
         requires { slice_get self.old.waiting 0 ≡ Some class }
         ensures { TakesTurn self.old self.new class None }
@@ -224,4 +253,40 @@ fn end_turn(waiting: &mut Worklist, class: usize)
     ensures { Pops waiting.old waiting.new class }
 {
     waiting.pop();
+}
+
+// The class of a child, if there is one.
+fn child_class<L: Language>(node: &L, k: usize) -> Option<usize> {
+    Some(node.get_applied_id(k)?.id.0)
+}
+
+// Whether no earlier child has the class of this one.
+fn is_first_child<L: Language>(node: &L, k: usize) -> bool {
+    for i in 0..k {
+        if child_class(node, i) == child_class(node, k) {
+            return false;
+        }
+    }
+    true
+}
+
+// One node more stands over the class of each child of a node, once where two have it.
+fn count_parent<L: Language>(sizes: &mut Sizes, node: &L) {
+    for k in 0..node.applied_id_count() {
+        if is_first_child(node, k) {
+            sizes.add_parent(node.applied_id(k).id.0);
+        }
+    }
+}
+
+// The node that is filed of a class stands no more over the class of each child.
+fn uncount_parent<L: Language>(sizes: &mut Sizes, nodes: &NodeIndex<L>, class: usize) {
+    let Some((key, _)) = nodes.node(class) else {
+        return;
+    };
+    for k in 0..key.applied_id_count() {
+        if is_first_child(key, k) {
+            sizes.take_parent(key.applied_id(k).id.0);
+        }
+    }
 }

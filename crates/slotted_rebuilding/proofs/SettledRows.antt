@@ -1,15 +1,15 @@
 -- Acts on symmetries, until each is aligned, with the rows that wait.
-use Rattle.std.proofs.Common.{◌≡◌, ◌<◌, ℕ, false, length, sym, subst}
+use Rattle.std.proofs.Common.{◌≡◌, ◌<◌, ℕ, false, length, ap, sym, subst}
 use Rattle.slotted_model.specs.Changes.{Unites}
 use Rattle.slotted_model.specs.Rebuild.{Acts, acts, Runs, starts, takes_act}
 use Rattle.slotted_model.specs.Rest.{Sane}
 use Rattle.slotted_languages.specs.Shape.{Fits}
 use Rattle.slotted_store.specs.Kept.{Kept, node_at, rows_from, with_settled}
 use Rattle.slotted_filing.specs.FiledRows.{Rows}
-use Rattle.slotted_unions.specs.Settling.{AreAligned, IsUnaligned, SettlesAll}
+use Rattle.slotted_unions.specs.Settling.{AreAligned, IsUnaligned}
 use Rattle.slotted_unions.proofs.EnteredProofs.{only-grows, nothing-proved}
 use Rattle.slotted_unions.proofs.KeptSlots.{grows-then}
-use Rattle.slotted_unions.proofs.SettlingSteps.{settled-now, unaligned-within}
+use Rattle.slotted_unions.proofs.SettlingSteps.{settled-grows, settled-stored, unaligned-within}
 use Rattle.slotted_rebuilding.specs.Filed.{state_in, IsWellFiled, UnitesFiled, SettlesFiled}
 use Rattle.slotted_rebuilding.proofs.FiledStates.{united-well, waits-nothing, waits-then}
 use Rattle.slotted_rebuilding.proofs.Runs.{runs-join}
@@ -26,22 +26,20 @@ settled-filed k r well settled = record {
 
 -- all were found to be aligned
 pub found-aligned : (k l : Kept) (r : Rows) → IsWellFiled k r → AreAligned k → l ≡ with_settled k → SettlesFiled k r l r
-found-aligned k l r well aligned e =
-    let s : SettlesAll k l = settled-now k l well.stored aligned e in
-    record {
-      runs = subst (λ (z : Kept). Runs (state_in k r) 0 (state_in z r)) (sym e) starts;
-      filed = record {
-        stored = s.stored;
-        canonical = subst (λ (z : Kept). z.rows ≡ rows_from 0 z.classes) (sym e) well.canonical;
-        fits = subst (λ (z : Kept). (i : ℕ) → i < length z.classes → Fits (node_at z i)) (sym e) well.fits;
-        count = subst (λ (z : Kept). length r.filed ≡ length z.classes) (sym e) well.count;
-        sane = subst (λ (z : Kept). Sane (state_in z r)) (sym e) well.sane;
-        keyed = well.keyed;
-      };
-      settled = s.settled;
-      grows = s.grows;
-      waits = waits-nothing r;
-    }
+found-aligned k l r well aligned e = record {
+  runs = subst (λ (z : Kept). Runs (state_in k r) 0 (state_in z r)) (sym e) starts;
+  filed = record {
+    stored = settled-stored k l well.stored aligned e;
+    canonical = subst (λ (z : Kept). z.rows ≡ rows_from 0 z.classes) (sym e) well.canonical;
+    fits = subst (λ (z : Kept). (i : ℕ) → i < length z.classes → Fits (node_at z i)) (sym e) well.fits;
+    count = subst (λ (z : Kept). length r.filed ≡ length z.classes) (sym e) well.count;
+    sane = subst (λ (z : Kept). Sane (state_in z r)) (sym e) well.sane;
+    keyed = well.keyed;
+  };
+  settled = ap (λ (z : Kept). z.dropped) e;
+  grows = settled-grows k l e;
+  waits = waits-nothing r;
+}
 
 -- one was acted on, and then the others
 module _ (k : Kept) (r : Rows) (well : IsWellFiled k r) (p : ℕ) (u : IsUnaligned k p) (l : Kept) (q : Rows) (by : UnitesFiled p k r l q) where

@@ -36,7 +36,8 @@ pub(crate) fn collision<L: Language>(
     }
 }
 
-// The first class that waits is united with another one, of which the shape of its node is filed, and its own node is filed no more.
+// The first class that waits is united with another one, of which the shape of its node is filed, and its own node is filed no more,
+// nor counted for the union.
 fn collide<L: Language>(
     store: &mut Store<L>,
     nodes: &mut Hashcons<L>,
@@ -53,7 +54,9 @@ fn collide<L: Language>(
     ensures full { IsErrOf result Error.OutOfSlots → HasLargeClass store.old }
     ensures err { IfErr result IsShortage }
 {
+    let owner = store.find_class(class);
     let p = collision(store, nodes, alloc, class, names, other)?;
+    nodes.uncount(class, owner);
     unite(store, nodes, alloc, p)?;
     nodes.remove(class);
     Ok(())

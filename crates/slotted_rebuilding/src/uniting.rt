@@ -15,7 +15,7 @@ use slotted_unions::uniting::{UnionStep, unite_once};
 use std::alloc::Global;
 
 /// What an entry says of the classes that its sides find holds from now on, up to listed symmetries. The nodes over each class that dies
-/// or loses slots wait to be filed anew.
+/// or loses slots wait to be filed anew. Of two classes with as many canonical slots the larger one is kept.
 pub fn unite<L: Language>(
     store: &mut Store<L>,
     nodes: &mut Hashcons<L>,
@@ -29,9 +29,10 @@ pub fn unite<L: Language>(
     ensures full { IsErrOf result Error.OutOfSlots → HasLargeSide store.old (equation_in store.old p) }
     ensures err { IfErr result IsShortage }
 {
-    match unite_once(store, alloc, p)? {
+    match unite_once(store, alloc, p, nodes.sizes())? {
         UnionStep::Done => Ok(()),
         UnionStep::Linked(class) => {
+            nodes.move_nodes(class, store.entry(class).id.0);
             nodes.touch(class)?;
             Ok(())
         }

@@ -10,7 +10,7 @@ ghost use Rattle.std.specs.Io.BufRead.{strip_last};
 ghost use Rattle.std.specs.Io.KnownBytes.{Appends};
 
 use slotted_commands::answer_line;
-use slotted_core::EGraph;
+use slotted_graph::EGraph;
 use slotted_slots::SlotTable;
 use slotted_small::Small;
 use slotted_terms::expr::printing::Printable;

@@ -68,9 +68,3 @@ set_entry f cs i old new d x h e n =
     let at : slice_index_or (map f cs) i (no_form, no_entry) ≡ f old =
     any_default (map f cs) i (no_form, no_entry) (f d) l ∙ (at-mapped f cs i d ∙ ap f (sym e)) in
     map-set f cs i new ∙ ap (set (map f cs) i) (n ∙ ap (λ (y : ClassEntry). (y.0, x)) (sym at))
-
--- another element that is seen as the old one changes nothing that is seen
-pub set-unseen : {C D : Type 0} (f : C → D) (cs : List C) (i : ℕ) (old new d : C) → i < length cs → old ≡ get_or cs i d → f new ≡ f old → map f (set cs i new) ≡ map f cs
-set-unseen f [] i old new d l e n = absurd (omega arith)
-set-unseen f (c ∷ cs) zero old new d l e n = ap (λ y. y ∷ map f cs) (n ∙ ap f e)
-set-unseen f (c ∷ cs) (suc i) old new d l e n = ap (λ r. f c ∷ r) (set-unseen f cs i old new d (omega arith) e n)

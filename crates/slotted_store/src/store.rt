@@ -24,15 +24,13 @@ use std::alloc::Global;
 use std::marker::Model;
 
 /// A class: the node that it was made with, over its own slots, the class that it leads to, with a slot of its own for each
-/// slot of that, the proof of this, and the moment of its link. A live class leads to itself, and its weight is the number of
-/// filed nodes that are in it or have it as a child.
+/// slot of that, the proof of this, and the moment of its link. A live class leads to itself.
 #[derive(Drop)]
 pub struct Class<L> {
     node: L,
     find: AppliedId,
     proof: ProvenEq,
     died: usize,
-    weight: usize,
 }
 
 /// A filed node's source class, and the slot of that class for each number of the shape.
@@ -226,25 +224,6 @@ impl<L: Language> Store<L> {
         self.moment = moment + 1;
     }
 
-    /// The weight of a class. No contract speaks of weights: they decide which class is kept, and so how long finds walk.
-    pub fn weight(&self, id: usize) -> usize {
-        match self.classes.get(id) {
-            Some(class) => class.weight,
-            None => 0,
-        }
-    }
-
-    /// A class becomes heavier.
-    pub fn add_weight(&mut self, id: usize, more: usize)
-        ensures { self.new ≡ self.old }
-    {
-        if id >= self.classes.len() {
-            return;
-        }
-        let class = &mut self.classes[id];
-        class.weight = class.weight.saturating_add(more);
-    }
-
     /// The proved equations.
     pub fn proofs(&self) -> &ProofList
         ensures { result.now ≡ self.now.proofs }
@@ -292,7 +271,6 @@ impl<L: Language> Store<L> {
             find,
             proof,
             died: 0,
-            weight: 1,
         };
         self.file(shape, row, class)?;
         Ok(())

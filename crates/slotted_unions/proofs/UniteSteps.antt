@@ -411,9 +411,3 @@ module _ (k l : Kept) (p c : ℕ) (s : StepsBy p k l (Dropped c)) where
         ],
         subst (λ (ns : List DTerm). 2 ^ 29 ≤ length (canonical_slots ns at.0)) s.grows.nodes at.3,
       )
-
--- and is done where no class did
-pub ended-unites : (k l : Kept) (p : ℕ) (step : UnionStep) → ((c : ℕ) → step ≢ Dropped c) → StepsBy p k l step → UnitesBy p k l
-ended-unites k l p Done n s = record { unites = s.did [] []; stored = s.stored; grows = s.grows }
-ended-unites k l p (Dropped c) n s = absurd (n c (λ i. Dropped c))
-ended-unites k l p (Linked c) n s = record { unites = s.did.unites [] [] [] (untouched k c); stored = s.stored; grows = s.grows }

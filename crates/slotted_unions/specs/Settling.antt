@@ -1,16 +1,13 @@
--- Acting on listed symmetries until each of them is aligned.
+-- Listed symmetries of which not each is aligned.
 --     IsUnaligned k p    p is the proof of a listed symmetry that is not aligned
 --     AreAligned k       each listed symmetry is
---     SettlesAll k l     acts lead from k to l, where each is
 --     HasLargeUnaligned k      a class that finds what the class of a listed symmetry that is not aligned finds has too many slots
-use Rattle.std.specs.Prelude.{◌≡◌, ℕ, Contains, false}
-use Rattle.slotted_model.specs.Rebuild.{Runs}
+use Rattle.std.specs.Prelude.{◌≡◌, ℕ, Contains}
 use Rattle.slotted_model.specs.Rest.{IsAligned}
 use Rattle.slotted_model.specs.State.{Symmetry}
 use Rattle.slotted_store.specs.Kept.{Kept}
 use Rattle.slotted_unions.specs.Proving.{HasLargeClassOf}
 use Rattle.slotted_unions.specs.StateOf.{state_of}
-use Rattle.slotted_unions.specs.Stored.{Stored, Grows}
 
 -- p is the proof of a listed symmetry whose sides find different sets of names
 pub record IsUnaligned (k : Kept) (p : ℕ) : Type 0 where
@@ -21,13 +18,6 @@ pub record IsUnaligned (k : Kept) (p : ℕ) : Type 0 where
 
 abbrev pub AreAligned : Kept → Type 0
 AreAligned k = (y : Symmetry) → Contains (state_of k).symmetries y → IsAligned (state_of k) y
-
--- acts, and no turn, lead from k to l, whose symmetries are all known to be aligned
-pub record SettlesAll (k l : Kept) : Type 0 where
-  pub runs : Runs (state_of k) 0 (state_of l)
-  pub stored : Stored l
-  pub settled : l.dropped ≡ false
-  pub grows : Grows k l
 
 -- a class that finds what the class of a listed symmetry finds which is not aligned has so many slots that two ids of it have too many names
 pub record HasLargeUnaligned (k : Kept) : Type 0 where

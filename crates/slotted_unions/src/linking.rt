@@ -29,7 +29,7 @@ fn heir<L: Language>(store: &Store<L>, alloc: Global, q: ProvenEq) -> Result<App
     })
 }
 
-/// The left class of an entry dies and leads to the right one, which takes over its weight.
+/// The left class of an entry dies and leads to the right one.
 pub fn link<L: Language>(store: &mut Store<L>, alloc: Global, q: ProvenEq) -> Result<(), Error>
     requires good { Stored store.old }
     requires within { q < length store.old.proofs }
@@ -41,9 +41,6 @@ pub fn link<L: Language>(store: &mut Store<L>, alloc: Global, q: ProvenEq) -> Re
 {
     let dead = store.proofs().equ(q).l.id.0;
     let heir = heir(store, alloc, q)?;
-    let kept = heir.id.0;
     store.set_link(dead, heir, q);
-    let more = store.weight(dead);
-    store.add_weight(kept, more);
     Ok(())
 }

@@ -1,13 +1,12 @@
-//! Listed symmetries whose sides no longer find one set of names are acted on, each by its own proof.
-ghost use Rattle.std.specs.Prelude.{◌↔◌, Contains, IsTrue, IfErr, IfOk, IfSome, IfNone, IsErrOf, OnOk};
-ghost use Rattle.slotted_slots.specs.Error.{IsOutOfMemory, IsShortage};
+//! Listed symmetries whose sides no longer find one set of names.
+ghost use Rattle.std.specs.Prelude.{◌↔◌, Contains, IsTrue, IfErr, IfOk, IfSome, IfNone};
+ghost use Rattle.slotted_slots.specs.Error.{IsOutOfMemory};
 ghost use Rattle.slotted_model.specs.Rest.{IsAligned};
 ghost use Rattle.slotted_store.specs.Kept.{symmetry_entry};
-ghost use Rattle.slotted_unions.specs.Settling.{IsUnaligned, AreAligned, SettlesAll, HasLargeUnaligned};
+ghost use Rattle.slotted_unions.specs.Settling.{IsUnaligned, AreAligned};
 ghost use Rattle.slotted_unions.specs.StateOf.{state_of, symmetry_of_entry};
 ghost use Rattle.slotted_unions.specs.Stored.{Stored};
 
-use crate::uniting::unite;
 use slotted_languages::Language;
 use slotted_proofs::ProvenEq;
 use slotted_slots::Error;
@@ -47,23 +46,4 @@ pub fn next_unaligned<L: Language>(
         }
     }
     Ok(None)
-}
-
-/// Each listed symmetry is aligned from now on: those that are not are acted on, one after another. Nothing is done where no slot was
-/// dropped since this was last so.
-pub fn settle_all<L: Language>(store: &mut Store<L>, alloc: Global) -> Result<(), Error>
-    requires good { Stored store.old }
-    ensures ok { OnOk result (SettlesAll store.old store.new) }
-    ensures full { IsErrOf result Error.OutOfSlots → HasLargeUnaligned store.old }
-    ensures err { IfErr result IsShortage }
-{
-    if !store.is_dropped() {
-        return Ok(());
-    }
-    let Some(p) = next_unaligned(store, alloc)? else {
-        store.settle();
-        return Ok(());
-    };
-    unite(store, alloc, p)?;
-    settle_all(store, alloc)
 }

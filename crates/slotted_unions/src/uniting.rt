@@ -1,11 +1,11 @@
-//! The union of two classes by an entry of the proof list.
-ghost use Rattle.std.specs.Prelude.{◌≡◌, ◌↔◌, ◌<◌, length, IsTrue, IfErr, IsErrOf, OnOk, IfOk, ◌≢◌};
+//! The union of two classes by an entry of the proof list, one step at a time.
+ghost use Rattle.std.specs.Prelude.{◌≡◌, ◌↔◌, ◌<◌, length, IsTrue, IfErr, IsErrOf, IfOk, ◌≢◌};
 ghost use Rattle.slotted_slots.specs.Error.{IsShortage};
 ghost use Rattle.slotted_model.specs.Changes.{PairsAll, found_entry};
 ghost use Rattle.slotted_unions.specs.Proving.{HasLargeSide};
 ghost use Rattle.slotted_unions.specs.StateOf.{state_of};
 ghost use Rattle.slotted_unions.specs.Stored.{Stored};
-ghost use Rattle.slotted_unions.specs.Uniting.{ActsOn, DropsSide, LinksEither, SaysNothing, StepsBy, UnitesBy, IsOfLive, equation_in};
+ghost use Rattle.slotted_unions.specs.Uniting.{ActsOn, DropsSide, LinksEither, SaysNothing, StepsBy, IsOfLive, equation_in};
 
 use crate::dropping::drop_left;
 use crate::linking::link;
@@ -63,8 +63,14 @@ fn drop_either<L: Language>(
     Ok(None)
 }
 
-// Whether the left class of an entry is the one that dies: the one with more canonical slots, and of two with as many the lighter one.
-fn left_dies<L: Language>(store: &Store<L>, q: ProvenEq) -> bool
+// The size of a class.
+fn size_of(sizes: &[usize], class: usize) -> usize {
+    sizes.get(class).copied().unwrap_or(0)
+}
+
+// Whether the left class of an entry is the one that dies: the one with more canonical slots, and of two with as many the smaller one, or
+// the left one where they are of one size.
+fn left_dies<L: Language>(store: &Store<L>, q: ProvenEq, sizes: &[usize]) -> bool
     requires { q < length store.now.proofs }
 {
     let equation = store.proofs().equ(q);
@@ -72,7 +78,7 @@ fn left_dies<L: Language>(store: &Store<L>, q: ProvenEq) -> bool
     if left != right {
         return left > right;
     }
-    store.weight(equation.l.id.0) <= store.weight(equation.r.id.0)
+    size_of(sizes, equation.l.id.0) <= size_of(sizes, equation.r.id.0)
 }
 
 // One of the two classes of an entry dies and leads to the other. Answers the one that died.
@@ -80,6 +86,7 @@ fn link_either<L: Language>(
     store: &mut Store<L>,
     alloc: Global,
     q: ProvenEq,
+    sizes: &[usize],
 ) -> Result<usize, Error>
     requires good { Stored store.old }
     requires within { q < length store.old.proofs }
@@ -92,7 +99,7 @@ fn link_either<L: Language>(
 {
     let equation = store.proofs().equ(q);
     let (left, right) = (equation.l.id.0, equation.r.id.0);
-    if left_dies(store, q) {
+    if left_dies(store, q, sizes) {
         link(store, alloc, q)?;
         return Ok(left);
     }
@@ -102,7 +109,12 @@ fn link_either<L: Language>(
 }
 
 // What an entry says of two live classes, each slot of which has a partner, is acted on.
-fn act_on<L: Language>(store: &mut Store<L>, alloc: Global, q: ProvenEq) -> Result<UnionStep, Error>
+fn act_on<L: Language>(
+    store: &mut Store<L>,
+    alloc: Global,
+    q: ProvenEq,
+    sizes: &[usize],
+) -> Result<UnionStep, Error>
     requires good { Stored store.old }
     requires within { q < length store.old.proofs }
     requires live { IsOfLive store.old (equation_in store.old q) }
@@ -117,15 +129,17 @@ fn act_on<L: Language>(store: &mut Store<L>, alloc: Global, q: ProvenEq) -> Resu
         list_once(store, alloc, q)?;
         return Ok(UnionStep::Done);
     }
-    let dead = link_either(store, alloc, q)?;
+    let dead = link_either(store, alloc, q, sizes)?;
     Ok(UnionStep::Linked(dead))
 }
 
-/// One step of a union by an entry. Where a class changes, the caller has the rows over this class wait before the next step.
+/// One step of a union by an entry. Where a class changes, the caller has the rows over this class wait before the next step. The sizes of
+/// classes decide which of two with as many canonical slots is kept: no clause speaks of that.
 pub fn unite_once<L: Language>(
     store: &mut Store<L>,
     alloc: Global,
     p: ProvenEq,
+    sizes: &[usize],
 ) -> Result<UnionStep, Error>
     requires good { Stored store.old }
     requires within { p < length store.old.proofs }
@@ -140,19 +154,5 @@ pub fn unite_once<L: Language>(
     if let Some(class) = drop_either(store, alloc, q)? {
         return Ok(UnionStep::Dropped(class));
     }
-    act_on(store, alloc, q)
-}
-
-/// What an entry says of the classes that its sides find holds from now on, up to listed symmetries.
-pub fn unite<L: Language>(store: &mut Store<L>, alloc: Global, p: ProvenEq) -> Result<(), Error>
-    requires good { Stored store.old }
-    requires within { p < length store.old.proofs }
-    ensures ok { OnOk result (UnitesBy p store.old store.new) }
-    ensures full { IsErrOf result Error.OutOfSlots → HasLargeSide store.old (equation_in store.old p) }
-    ensures err { IfErr result IsShortage }
-{
-    match unite_once(store, alloc, p)? {
-        UnionStep::Dropped(_) => unite(store, alloc, p),
-        _ => Ok(()),
-    }
+    act_on(store, alloc, q, sizes)
 }

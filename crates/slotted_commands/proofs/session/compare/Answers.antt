@@ -1,15 +1,15 @@
 use Rattle.std.proofs.Common.{sym, ◌∙◌, inr}
 use Rattle.std.proofs.lemmas.Bool.{false≢true}
 use Rattle.slotted_core.specs.Nodes.{to_applied}
-use Rattle.slotted_core.proofs.CallerLemmas.{valid-findable}
+use Rattle.slotted_core.proofs.CallerLemmas.{full-valid}
 use Rattle.slotted_commands.proofs.Steps.{found_equal, found_different}
 use Rattle.slotted_commands.proofs.session.compare.Goals as goal
 
 pub eq-requires-clause-left : goal.eq-requires-clause-left
-eq-requires-clause-left g c = inr (valid-findable c.add_both.new.graph (to_applied c.in_ok-left.left) c.in_ok-left.ensures.ok.left_valid)
+eq-requires-clause-left g c = inr (full-valid c.add_both.new.graph (to_applied c.in_ok-left.left) c.in_ok-left.ensures.ok.left_valid)
 
 pub eq-requires-clause-right : goal.eq-requires-clause-right
-eq-requires-clause-right g c = inr (valid-findable c.add_both.new.graph (to_applied c.in_ok-left.right) c.in_ok-left.ensures.ok.right_valid)
+eq-requires-clause-right g c = inr (full-valid c.add_both.new.graph (to_applied c.in_ok-left.right) c.in_ok-left.ensures.ok.right_valid)
 
 pub returns-then-branch : goal.returns-then-branch
 returns-then-branch g c =

@@ -1,12 +1,19 @@
-use Rattle.std.proofs.Common.{subst, refl}
+use Rattle.std.proofs.Common.{subst, refl, inr}
 use Rattle.std.specs.Prelude.{true, false, Err}
 use Rattle.std.proofs.lemmas.Bool.{false≢true}
 use Rattle.std.proofs.lemmas.Result.{err_from_is_err_and}
 use Rattle.slotted_core.specs.Image.{IsUnion}
 use Rattle.slotted_core.specs.Nodes.{to_applied}
+use Rattle.slotted_core.proofs.CallerLemmas.{full-valid}
 use Rattle.slotted_commands.specs.Sessions.{are_united, were_equal}
 use Rattle.slotted_commands.proofs.Steps.{unites_says, union_refused, union_done}
 use Rattle.slotted_commands.proofs.session.unite.Goals as goal
+
+pub union-requires-clause-left : goal.union-requires-clause-left
+union-requires-clause-left g c = inr (full-valid c.add_both.new.graph (to_applied c.in_ok-left.left) c.in_ok-left.ensures.ok.left_valid)
+
+pub union-requires-clause-right : goal.union-requires-clause-right
+union-requires-clause-right g c = inr (full-valid c.add_both.new.graph (to_applied c.in_ok-left.right) c.in_ok-left.ensures.ok.right_valid)
 
 pub returns-in_err-union : goal.returns-in_err-union
 returns-in_err-union g c =

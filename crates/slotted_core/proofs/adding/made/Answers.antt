@@ -1,12 +1,10 @@
-use Rattle.std.proofs.Common.{◌≡◌, ◌∙◌, ◌+◌, ap, sym, subst, length, arith, rules, inl, inr}
+use Rattle.std.proofs.Common.{◌≡◌, ◌∙◌, ◌+◌, ap, length, arith, rules, inl, inr}
 use Rattle.slotted_slots.specs.Maps.{keys}
 use Rattle.slotted_slots.specs.Table.{Table}
 use Rattle.slotted_core.proofs.RowLookUps.{row-names}
 use Rattle.slotted_store.proofs.NameMaps.{length-keys}
 use Rattle.slotted_core.proofs.NodeAddition.{fresh_injective, row_makes, class_makes, shape-places}
 use Rattle.slotted_core.proofs.Tables.{makes-more, runs_out-more}
-use Rattle.slotted_store.specs.Kept.{Kept}
-use Rattle.slotted_core.specs.Good.{Makes}
 use Rattle.slotted_store.specs.Names.{fresh_slots}
 use Rattle.slotted_proofs.specs.Equations.{to_applied}
 use Rattle.slotted_core.proofs.adding.made.Goals as goal
@@ -28,8 +26,7 @@ returns-clause-ok g c =
     let names = c.in_ok-shape.names in
     let slots = c.renew_values.new.map in
     let n : length c.in_ok-slots.slots ≡ length names = ap length c.in_ok-slots.ensures.ok in
-    subst (λ (l : Kept). Makes c.args.table.now c.renew_values.new.table c.args.store.now l (g.L.LanguageChildren.form c.args.node.now) (c.class_count.result, c.in_ok-map_between.field-0)) (sym c.weigh_children.ensures)
-    (class_makes c.args.table.now c.renew_values.new.table c.args.store.now c.make_class.new.self c.requires.good c.requires.fresh_slots
+    class_makes c.args.table.now c.renew_values.new.table c.args.store.now c.make_class.new.self c.requires.good c.requires.fresh_slots
     (g.L.LanguageChildren.form c.args.node.now) (g.met.L.LanguageChildren.fits c.args.node.now) c.requires.children
     (c.class_count.result, c.in_ok-map_between.field-0) slots (g.L.LanguageChildren.form c.in_ok-shape.shape) names c.in_ok-shape.ensures.shape
     c.in_default.ensures
@@ -37,7 +34,7 @@ returns-clause-ok g c =
     (c.in_ok-renew_values.ensures.values ∙ ap (fresh_slots c.args.table.now.fresh) n)
     (ap (λ (t : Table). t.fresh) c.in_ok-renew_values.ensures.table ∙ ap (λ k. c.args.table.now.fresh + k) n)
     c.in_ok-make_class.ensures.ok
-    (λ i. (c.class_count.ensures i, c.in_ok-map_between.ensures.ok i)))
+    (λ i. (c.class_count.ensures i, c.in_ok-map_between.ensures.ok i))
 
 pub make_class-requires-clause-different : goal.make_class-requires-clause-different
 make_class-requires-clause-different g c =

@@ -1,11 +1,12 @@
 use Rattle.std.proofs.Common.{subst, sym, inl, inr, rules}
 use Rattle.std.specs.Prelude.{IfSome, All}
 use Rattle.slotted_proofs.specs.Steps.{HasInjectiveSides}
-use Rattle.slotted_congruence.specs.Frames.{AreAlikeForms}
+use Rattle.slotted_alike.specs.Frames.{AreAlikeForms}
 use Rattle.slotted_store.specs.Kept.{nodes_of}
 use Rattle.slotted_proofs.specs.Equations.{to_applied}
 use Rattle.slotted_congruence.proofs.Naming.{congruent_again}
-use Rattle.slotted_congruence.proofs.WideNodes.{large_child, wide_at}
+use Rattle.slotted_alike.proofs.WideNodes.{large_child}
+use Rattle.slotted_congruence.proofs.WideNodes.{wide_at}
 use Rattle.slotted_core.proofs.checking.check_congruent.Goals as goal
 
 pub returns-in-Some-clause-refused : goal.returns-in-Some-clause-refused

@@ -5,31 +5,31 @@ use Rattle.slotted_core.proofs.GoodFinds.{full-findable}
 use Rattle.slotted_core.proofs.explaining.explain.Goals as goal
 
 pub eq-requires-clause-left : goal.eq-requires-clause-left
-eq-requires-clause-left g c = full-findable c.add_expr-2.new.store c.in_ok-b.ensures.ok.good (to_applied c.in_ok-a.a) (left-full c.args.store.now c.args.nodes.now c.requires.good c.add_expr.new.store c.add_expr.new.nodes c.add_expr-2.new.store c.add_expr-2.new.nodes c.args.left.now c.args.right.now c.add_expr.new.table c.add_expr-2.new.table (to_applied c.in_ok-a.a) (to_applied c.in_ok-b.b) c.in_ok-a.ensures.ok c.in_ok-b.ensures.ok)
+eq-requires-clause-left g c = full-findable c.add_syn_expr-2.new.store c.in_ok-b.ensures.ok.good (to_applied c.in_ok-a.a) (left-full c.args.store.now c.args.nodes.now c.requires.good c.add_syn_expr.new.store c.add_syn_expr.new.nodes c.add_syn_expr-2.new.store c.add_syn_expr-2.new.nodes c.args.left.now c.args.right.now c.args.table.now c.add_syn_expr.new.table c.add_syn_expr-2.new.table (to_applied c.in_ok-a.a) (to_applied c.in_ok-b.b) c.in_ok-a.ensures.ok c.in_ok-b.ensures.ok)
 
 pub eq-requires-clause-right : goal.eq-requires-clause-right
-eq-requires-clause-right g c = full-findable c.add_expr-2.new.store c.in_ok-b.ensures.ok.good (to_applied c.in_ok-b.b) c.in_ok-b.ensures.ok.full
+eq-requires-clause-right g c = full-findable c.add_syn_expr-2.new.store c.in_ok-b.ensures.ok.good (to_applied c.in_ok-b.b) c.in_ok-b.ensures.ok.full
 
 pub returns-then-not-eq-clause-ok : goal.returns-then-not-eq-clause-ok
 returns-then-not-eq-clause-ok g c =
-    explains-none c.args.store.now c.args.nodes.now c.requires.good c.add_expr.new.store c.add_expr.new.nodes c.add_expr-2.new.store c.add_expr-2.new.nodes c.args.left.now c.args.right.now c.add_expr.new.table c.add_expr-2.new.table (to_applied c.in_ok-a.a) (to_applied c.in_ok-b.b) c.in_ok-a.ensures.ok c.in_ok-b.ensures.ok
+    explains-none c.args.store.now c.args.nodes.now c.requires.good c.add_syn_expr.new.store c.add_syn_expr.new.nodes c.add_syn_expr-2.new.store c.add_syn_expr-2.new.nodes c.args.left.now c.args.right.now c.args.table.now c.add_syn_expr.new.table c.add_syn_expr-2.new.table (to_applied c.in_ok-a.a) (to_applied c.in_ok-b.b) c.in_ok-a.ensures.ok c.in_ok-b.ensures.ok
     c.eq.result c.if-not-eq.true c.eq.ensures
 
 pub returns-in_err-answer-clause-full : goal.returns-in_err-answer-clause-full
 returns-in_err-answer-clause-full g c e =
-    runs-large c.args.store.now c.args.nodes.now c.requires.good c.add_expr.new.store c.add_expr.new.nodes c.add_expr-2.new.store c.add_expr-2.new.nodes c.args.left.now c.args.right.now c.add_expr.new.table c.add_expr-2.new.table (to_applied c.in_ok-a.a) (to_applied c.in_ok-b.b) c.in_ok-a.ensures.ok c.in_ok-b.ensures.ok
-    (c.eq.ensures.0 c.if-not-eq.false) c.args.table.now c.add_expr-2.new.table (c.in_err-answer.ensures.full (search rules))
+    runs-large c.args.store.now c.args.nodes.now c.requires.good c.add_syn_expr.new.store c.add_syn_expr.new.nodes c.add_syn_expr-2.new.store c.add_syn_expr-2.new.nodes c.args.left.now c.args.right.now c.args.table.now c.add_syn_expr.new.table c.add_syn_expr-2.new.table (to_applied c.in_ok-a.a) (to_applied c.in_ok-b.b) c.in_ok-a.ensures.ok c.in_ok-b.ensures.ok
+    (c.eq.ensures.0 c.if-not-eq.false) c.args.table.now c.add_syn_expr-2.new.table (c.in_err-answer.ensures.full (search rules))
 
 pub returns-clause-ok : goal.returns-clause-ok
 returns-clause-ok g c =
-    explains-some c.args.store.now c.args.nodes.now c.requires.good c.add_expr.new.store c.add_expr.new.nodes c.add_expr-2.new.store c.add_expr-2.new.nodes c.args.left.now c.args.right.now c.add_expr.new.table c.add_expr-2.new.table (to_applied c.in_ok-a.a) (to_applied c.in_ok-b.b) c.in_ok-a.ensures.ok c.in_ok-b.ensures.ok
+    explains-some c.args.store.now c.args.nodes.now c.requires.good c.add_syn_expr.new.store c.add_syn_expr.new.nodes c.add_syn_expr-2.new.store c.add_syn_expr-2.new.nodes c.args.left.now c.args.right.now c.args.table.now c.add_syn_expr.new.table c.add_syn_expr-2.new.table (to_applied c.in_ok-a.a) (to_applied c.in_ok-b.b) c.in_ok-a.ensures.ok c.in_ok-b.ensures.ok
     (c.eq.ensures.0 c.if-not-eq.false) c.bridge.new.store c.in_ok-answer.answer c.in_ok-answer.ensures.ok
 
 pub returns-then-not-eq-clause-more : goal.returns-then-not-eq-clause-more
-returns-then-not-eq-clause-more g c s h = c.add_expr-2.ensures.more s (c.add_expr.ensures.more s h)
+returns-then-not-eq-clause-more g c s h = c.add_syn_expr-2.ensures.more s (c.add_syn_expr.ensures.more s h)
 
 pub returns-in_err-answer-clause-more : goal.returns-in_err-answer-clause-more
-returns-in_err-answer-clause-more g c s h = c.add_expr-2.ensures.more s (c.add_expr.ensures.more s h)
+returns-in_err-answer-clause-more g c s h = c.add_syn_expr-2.ensures.more s (c.add_syn_expr.ensures.more s h)
 
 pub returns-clause-more : goal.returns-clause-more
-returns-clause-more g c s h = c.add_expr-2.ensures.more s (c.add_expr.ensures.more s h)
+returns-clause-more g c s h = c.add_syn_expr-2.ensures.more s (c.add_syn_expr.ensures.more s h)

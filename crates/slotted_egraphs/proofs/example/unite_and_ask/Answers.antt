@@ -1,13 +1,13 @@
 -- Each call is handed what the calls before it answered, which the graph still takes; and after a union its sides find alike where no
 -- symmetry is open.
-use Rattle.std.proofs.Common.{inl, inr}
-use Rattle.std.proofs.lemmas.Bool.{false≢true}
+use Rattle.std.proofs.Common.{inr}
 use Rattle.std.specs.Prelude.{Bool, Result, Ok, Err, IsTrue, IfOk, ◌↔◌}
 use Rattle.slotted_slots.specs.declared.error.Error.{Error}
 use Rattle.slotted_egraphs.specs.Applied.{Applied}
 use Rattle.slotted_egraphs.specs.Image.{Image, FoundAlike, IsUnion, AreClosed}
 use Rattle.slotted_egraphs.specs.Nodes.{to_applied}
-use Rattle.slotted_egraphs.proofs.CallerLemmas.{can_add, can_ask, can_ask_united, can-compare, yes_if_closed}
+use Rattle.slotted_egraphs.specs.ValidIds.{IsValidId}
+use Rattle.slotted_egraphs.proofs.CallerLemmas.{can_add, valid_later, valid_united, yes_if_closed}
 use Rattle.slotted_egraphs.proofs.example.unite_and_ask.Goals as goal
 
 -- where no symmetry is open, an answer that says whether the sides of a union find alike is yes
@@ -24,26 +24,24 @@ add_expr-requires-2 g c = can_add c.parse_expr-2.new.self c.add_expr.new.self c.
 pub union-requires-clause-left : goal.union-requires-clause-left
 union-requires-clause-left g c =
     let added = c.in_ok-right-2.ensures in
-    can_ask c.add_expr.new.self c.add_expr-2.new.self (to_applied c.in_ok-left-2.left) added.extends added.more c.in_ok-left-2.ensures.valid
+    inr (valid_later c.add_expr.new.self c.add_expr-2.new.self (to_applied c.in_ok-left-2.left) added.extends added.adds added.more c.in_ok-left-2.ensures.found.valid)
 
 pub union-requires-clause-right : goal.union-requires-clause-right
-union-requires-clause-right g c = inr c.in_ok-right-2.ensures.valid
+union-requires-clause-right g c = inr c.in_ok-right-2.ensures.found.valid
 
 pub eq-requires-clause-left : goal.eq-requires-clause-left
 eq-requires-clause-left g c =
     let a = to_applied c.in_ok-left-2.left in
     let b = to_applied c.in_ok-right-2.right in
     let added = c.in_ok-right-2.ensures in
-    elim (can_ask c.add_expr.new.self c.add_expr-2.new.self a added.extends added.more c.in_ok-left-2.ensures.valid) [
-      | inl failed ↦ absurd (false≢true (added.fails.0 failed))
-      | inr valid ↦ can-compare c.union.new.self a (can_ask_united c.add_expr-2.new.self c.union.new.self a b a c.in_ok-union.field-0 c.in_ok-union.ensures.union c.union.ensures.table valid)
-    ]
+    let valid : IsValidId c.add_expr-2.new.self a = valid_later c.add_expr.new.self c.add_expr-2.new.self a added.extends added.adds added.more c.in_ok-left-2.ensures.found.valid in
+    inr (valid_united c.add_expr-2.new.self c.union.new.self a b a c.in_ok-union.field-0 c.in_ok-union.ensures.union c.union.ensures.table valid)
 
 pub eq-requires-clause-right : goal.eq-requires-clause-right
 eq-requires-clause-right g c =
     let a = to_applied c.in_ok-left-2.left in
     let b = to_applied c.in_ok-right-2.right in
-    can-compare c.union.new.self b (can_ask_united c.add_expr-2.new.self c.union.new.self a b b c.in_ok-union.field-0 c.in_ok-union.ensures.union c.union.ensures.table c.in_ok-right-2.ensures.valid)
+    inr (valid_united c.add_expr-2.new.self c.union.new.self a b b c.in_ok-union.field-0 c.in_ok-union.ensures.union c.union.ensures.table c.in_ok-right-2.ensures.found.valid)
 
 pub returns : goal.returns
 returns g c =

@@ -7,10 +7,18 @@ use Rattle.slotted_rebuilding.specs.Filed.{UnitesFiled}
 use Rattle.slotted_rebuilding.proofs.FiledUnions.{linked-filed, dropped-filed}
 use Rattle.slotted_rebuilding.proofs.uniting.+unite.Goals as goal
 
+pub entry-requires : goal.entry-requires
+entry-requires g t c =
+    let k = c.args.store.now in
+    let l = c.unite_once.new.store in
+    let s = subst (StepsBy c.args.p k l) c.in-Linked.is c.in_ok-unite_once.ensures.ok in
+    omega (arith, s.did.in_range, grown-count k l s.grows)
+
 pub returns-in_ok-touch-in-Linked-clause-ok : goal.returns-in_ok-touch-in-Linked-clause-ok
 returns-in_ok-touch-in-Linked-clause-ok g t c =
     let s = subst (StepsBy c.args.p c.args.store.now c.unite_once.new.store) c.in-Linked.is c.in_ok-unite_once.ensures.ok in
-    linked-filed c.args.p c.args.store.now c.unite_once.new.store c.args.nodes.now c.touch.new.self c.in-Linked.class s c.in_ok-touch-in-Linked.ensures.waiting c.in_ok-touch-in-Linked.ensures.waits
+    subst (λ r. UnitesFiled c.args.p c.args.store.now r c.unite_once.new.store c.touch.new.self) c.move_nodes.ensures
+    (linked-filed c.args.p c.args.store.now c.unite_once.new.store c.move_nodes.new.self c.touch.new.self c.in-Linked.class s c.in_ok-touch-in-Linked.ensures.waiting c.in_ok-touch-in-Linked.ensures.waits)
 
 pub unite-requires : goal.unite-requires
 unite-requires g t c =

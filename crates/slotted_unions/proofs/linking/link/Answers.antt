@@ -28,4 +28,4 @@ returns-clause-ok g c =
     let r = c.requires in
     linked-left c.args.store.now r.good c.args.q r.within r.live r.different r.pairs_all
     c.equ.result.now.l.id.0 (entry-left c.args.store.now c.proofs.result.now c.args.q c.equ.result.now c.proofs.ensures c.equ.ensures)
-    (to_applied c.in_ok-heir.heir) c.in_ok-heir.ensures.ok c.add_weight.new.self (c.add_weight.ensures ∙ c.set_link.ensures)
+    (to_applied c.in_ok-heir.heir) c.in_ok-heir.ensures.ok c.set_link.new.self c.set_link.ensures

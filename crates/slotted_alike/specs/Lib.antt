@@ -1,0 +1,3 @@
+-- Nodes side by side, and how large they are.
+pub mod Frames
+pub mod Sizes

@@ -1,8 +1,0 @@
-use Rattle.slotted_outlines.specs.Seen.{lefts, rights}
-use Rattle.slotted_congruence.specs.Frames.{numbers_under}
-use Rattle.slotted_congruence.proofs.Partners.{Pairing}
-use Rattle.slotted_congruence.proofs.alike.partners.Given as goal
-
--- the slots that are left complete the pairs
-abbrev pub invariant-loop-slot : goal.invariant-loop-slot
-invariant-loop-slot l = Pairing l.right l.map l.slot-iterator (rights l.binders) (numbers_under (lefts l.binders) l.left)

@@ -1,0 +1,96 @@
+use Rattle.std.proofs.Common.{◌∙◌, sym, subst, inl, inr}
+use Rattle.std.specs.Prelude.{IfOk, IsErrOf}
+use Rattle.slotted_slots.specs.declared.error.Error.TheVariants.{BadStep}
+use Rattle.std.proofs.lemmas.Bool.{false≢true}
+use Rattle.slotted_model.specs.ProofList.{congruent}
+use Rattle.slotted_congruence.specs.Frames.{IsCongruentIn}
+use Rattle.slotted_core.specs.Good.{Good, RestsWith, HasFreshSlots}
+use Rattle.slotted_store.specs.Kept.{EntersIn, nodes_of}
+use Rattle.slotted_proofs.specs.Equations.{statement_of}
+use Rattle.slotted_proofs.specs.Steps.{by_step}
+use Rattle.slotted_proofs.specs.StepClaims.{IsOfFull}
+use Rattle.slotted_core.proofs.AcceptedSteps.{both_ok, Checked, congruent_checked, congruent_refused, kept_good, says_refused, says_fits, says_accepted, says_derivable, says_leaves}
+use Rattle.slotted_graph.proofs.egraph.steps.CongruenceProofCheck.check.Goals as goal
+
+pub invariant_of-graph : goal.invariant_of-graph
+invariant_of-graph g c =
+    let k = c.graph.inside.store in
+    let e = c.args.equation.now in
+    let t = c.graph.inside.table in
+    let r = c.check_congruent.result in
+    let l = c.check_congruent.new.store in
+    let ps = c.args.self.now.0.items in
+    let rows = c.graph.inside.nodes in
+    let h : Good k × HasFreshSlots t k × RestsWith k rows = elim c.graph.invariant [ inl h ↦ absurd (false≢true (sym c.if-graph.false ∙ h)) | inr h ↦ h ] in
+    let fits = subst (λ qs. IfOk r (λ _. IsOfFull (nodes_of k) e × IsCongruentIn k e qs)) c.in_ok-copy.ensures.ok c.check_congruent.ensures.fits in
+    let ok = subst (λ qs. IfOk r (EntersIn k l (by_step (statement_of e) (congruent qs)))) c.in_ok-copy.ensures.ok c.check_congruent.ensures.ok in
+    let checked = both_ok r (λ p. IsOfFull (nodes_of k) e × IsCongruentIn k e ps) (EntersIn k l (by_step (statement_of e) (congruent ps))) (Checked t k l e (congruent ps)) (λ p f x. congruent_checked t k l e ps p h.0 f x) fits ok in
+    inr (kept_good r t k l rows e (congruent ps) h checked c.check_congruent.ensures.err)
+
+pub returns-clause-fits : goal.returns-clause-fits
+returns-clause-fits g c =
+    let k = c.graph.inside.store in
+    let e = c.args.equation.now in
+    let t = c.graph.inside.table in
+    let r = c.check_congruent.result in
+    let l = c.check_congruent.new.store in
+    let ps = c.args.self.now.0.items in
+    let h : Good k × HasFreshSlots t k = elim c.graph.invariant [ inl h ↦ absurd (false≢true (sym c.if-graph.false ∙ h)) | inr h ↦ (h.0, h.1) ] in
+    let fits = subst (λ qs. IfOk r (λ _. IsOfFull (nodes_of k) e × IsCongruentIn k e qs)) c.in_ok-copy.ensures.ok c.check_congruent.ensures.fits in
+    let ok = subst (λ qs. IfOk r (EntersIn k l (by_step (statement_of e) (congruent qs)))) c.in_ok-copy.ensures.ok c.check_congruent.ensures.ok in
+    let checked = both_ok r (λ p. IsOfFull (nodes_of k) e × IsCongruentIn k e ps) (EntersIn k l (by_step (statement_of e) (congruent ps))) (Checked t k l e (congruent ps)) (λ p f x. congruent_checked t k l e ps p h.0 f x) fits ok in
+    says_fits r c.graph.inside.failed t c.graph.inside.nodes k l e (congruent ps) c.args.graph.now c.graph.view_is checked
+
+pub returns-clause-refused : goal.returns-clause-refused
+returns-clause-refused g c =
+    let k = c.graph.inside.store in
+    let e = c.args.equation.now in
+    let t = c.graph.inside.table in
+    let r = c.check_congruent.result in
+    let l = c.check_congruent.new.store in
+    let ps = c.args.self.now.0.items in
+    let h : Good k × HasFreshSlots t k = elim c.graph.invariant [ inl h ↦ absurd (false≢true (sym c.if-graph.false ∙ h)) | inr h ↦ (h.0, h.1) ] in
+    let refused = subst (λ qs. IsErrOf r BadStep → ¬ (IsOfFull (nodes_of k) e × IsCongruentIn k e qs)) c.in_ok-copy.ensures.ok c.check_congruent.ensures.refused in
+    says_refused r c.graph.inside.failed t c.graph.inside.nodes k l e (congruent ps) c.args.graph.now c.graph.view_is (λ b. congruent_refused k e ps h.0 (refused b))
+
+pub returns-clause-accepted : goal.returns-clause-accepted
+returns-clause-accepted g c =
+    let k = c.graph.inside.store in
+    let e = c.args.equation.now in
+    let t = c.graph.inside.table in
+    let r = c.check_congruent.result in
+    let l = c.check_congruent.new.store in
+    let ps = c.args.self.now.0.items in
+    let h : Good k × HasFreshSlots t k = elim c.graph.invariant [ inl h ↦ absurd (false≢true (sym c.if-graph.false ∙ h)) | inr h ↦ (h.0, h.1) ] in
+    let fits = subst (λ qs. IfOk r (λ _. IsOfFull (nodes_of k) e × IsCongruentIn k e qs)) c.in_ok-copy.ensures.ok c.check_congruent.ensures.fits in
+    let ok = subst (λ qs. IfOk r (EntersIn k l (by_step (statement_of e) (congruent qs)))) c.in_ok-copy.ensures.ok c.check_congruent.ensures.ok in
+    let checked = both_ok r (λ p. IsOfFull (nodes_of k) e × IsCongruentIn k e ps) (EntersIn k l (by_step (statement_of e) (congruent ps))) (Checked t k l e (congruent ps)) (λ p f x. congruent_checked t k l e ps p h.0 f x) fits ok in
+    says_accepted r c.graph.inside.failed t c.graph.inside.nodes k l e (congruent ps) c.args.graph.now c.graph.view_is checked
+
+pub returns-clause-derivable : goal.returns-clause-derivable
+returns-clause-derivable g c =
+    let k = c.graph.inside.store in
+    let e = c.args.equation.now in
+    let t = c.graph.inside.table in
+    let r = c.check_congruent.result in
+    let l = c.check_congruent.new.store in
+    let ps = c.args.self.now.0.items in
+    let h : Good k × HasFreshSlots t k = elim c.graph.invariant [ inl h ↦ absurd (false≢true (sym c.if-graph.false ∙ h)) | inr h ↦ (h.0, h.1) ] in
+    let fits = subst (λ qs. IfOk r (λ _. IsOfFull (nodes_of k) e × IsCongruentIn k e qs)) c.in_ok-copy.ensures.ok c.check_congruent.ensures.fits in
+    let ok = subst (λ qs. IfOk r (EntersIn k l (by_step (statement_of e) (congruent qs)))) c.in_ok-copy.ensures.ok c.check_congruent.ensures.ok in
+    let checked = both_ok r (λ p. IsOfFull (nodes_of k) e × IsCongruentIn k e ps) (EntersIn k l (by_step (statement_of e) (congruent ps))) (Checked t k l e (congruent ps)) (λ p f x. congruent_checked t k l e ps p h.0 f x) fits ok in
+    says_derivable r c.graph.inside.failed t c.graph.inside.nodes k l e (congruent ps) c.args.graph.now c.graph.view_is checked
+
+pub returns-clause-leaves : goal.returns-clause-leaves
+returns-clause-leaves g c =
+    let k = c.graph.inside.store in
+    let e = c.args.equation.now in
+    let t = c.graph.inside.table in
+    let r = c.check_congruent.result in
+    let l = c.check_congruent.new.store in
+    let ps = c.args.self.now.0.items in
+    let h : Good k × HasFreshSlots t k = elim c.graph.invariant [ inl h ↦ absurd (false≢true (sym c.if-graph.false ∙ h)) | inr h ↦ (h.0, h.1) ] in
+    let fits = subst (λ qs. IfOk r (λ _. IsOfFull (nodes_of k) e × IsCongruentIn k e qs)) c.in_ok-copy.ensures.ok c.check_congruent.ensures.fits in
+    let ok = subst (λ qs. IfOk r (EntersIn k l (by_step (statement_of e) (congruent qs)))) c.in_ok-copy.ensures.ok c.check_congruent.ensures.ok in
+    let checked = both_ok r (λ p. IsOfFull (nodes_of k) e × IsCongruentIn k e ps) (EntersIn k l (by_step (statement_of e) (congruent ps))) (Checked t k l e (congruent ps)) (λ p f x. congruent_checked t k l e ps p h.0 f x) fits ok in
+    says_leaves r c.graph.inside.failed t c.graph.inside.nodes k l e (congruent ps) c.args.graph.now c.graph.view_is checked

@@ -1,0 +1,77 @@
+use Rattle.std.proofs.Common.{◌∙◌, sym, inl, inr}
+use Rattle.std.proofs.lemmas.Bool.{false≢true}
+use Rattle.slotted_model.specs.ProofList.{transitive}
+use Rattle.slotted_core.specs.Good.{Good, RestsWith, HasFreshSlots}
+use Rattle.slotted_store.specs.Kept.{EntersIn, nodes_of}
+use Rattle.slotted_proofs.specs.Equations.{statement_of}
+use Rattle.slotted_proofs.specs.Steps.{IsTransitiveStep, by_step}
+use Rattle.slotted_proofs.specs.StepClaims.{IsOfFull}
+use Rattle.slotted_core.proofs.AcceptedSteps.{both_ok, Checked, transitive_checked, transitive_refused, kept_good, says_refused, says_fits, says_accepted, says_derivable, says_leaves}
+use Rattle.slotted_graph.proofs.egraph.steps.TransitivityProofCheck.check.Goals as goal
+
+pub invariant_of-graph : goal.invariant_of-graph
+invariant_of-graph g c =
+    let k = c.graph.inside.store in
+    let e = c.args.equation.now in
+    let t = c.graph.inside.table in
+    let r = c.check_transitive.result in
+    let l = c.check_transitive.new.store in
+    let rows = c.graph.inside.nodes in
+    let h : Good k × HasFreshSlots t k × RestsWith k rows = elim c.graph.invariant [ inl h ↦ absurd (false≢true (sym c.if-graph.false ∙ h)) | inr h ↦ h ] in
+    let checked = both_ok r (λ p. IsOfFull (nodes_of k) e × IsTransitiveStep k.proofs e c.args.self.now.0 c.args.self.now.1) (EntersIn k l (by_step (statement_of e) (transitive c.args.self.now.0 c.args.self.now.1))) (Checked t k l e (transitive c.args.self.now.0 c.args.self.now.1)) (λ p f x. transitive_checked t k l e c.args.self.now.0 c.args.self.now.1 p h.0 f x) c.check_transitive.ensures.fits c.check_transitive.ensures.ok in
+    inr (kept_good r t k l rows e (transitive c.args.self.now.0 c.args.self.now.1) h checked c.check_transitive.ensures.err)
+
+pub returns-clause-fits : goal.returns-clause-fits
+returns-clause-fits g c =
+    let k = c.graph.inside.store in
+    let e = c.args.equation.now in
+    let t = c.graph.inside.table in
+    let r = c.check_transitive.result in
+    let l = c.check_transitive.new.store in
+    let h : Good k × HasFreshSlots t k = elim c.graph.invariant [ inl h ↦ absurd (false≢true (sym c.if-graph.false ∙ h)) | inr h ↦ (h.0, h.1) ] in
+    let checked = both_ok r (λ p. IsOfFull (nodes_of k) e × IsTransitiveStep k.proofs e c.args.self.now.0 c.args.self.now.1) (EntersIn k l (by_step (statement_of e) (transitive c.args.self.now.0 c.args.self.now.1))) (Checked t k l e (transitive c.args.self.now.0 c.args.self.now.1)) (λ p f x. transitive_checked t k l e c.args.self.now.0 c.args.self.now.1 p h.0 f x) c.check_transitive.ensures.fits c.check_transitive.ensures.ok in
+    says_fits r c.graph.inside.failed t c.graph.inside.nodes k l e (transitive c.args.self.now.0 c.args.self.now.1) c.args.graph.now c.graph.view_is checked
+
+pub returns-clause-refused : goal.returns-clause-refused
+returns-clause-refused g c =
+    let k = c.graph.inside.store in
+    let e = c.args.equation.now in
+    let t = c.graph.inside.table in
+    let r = c.check_transitive.result in
+    let l = c.check_transitive.new.store in
+    let h : Good k × HasFreshSlots t k = elim c.graph.invariant [ inl h ↦ absurd (false≢true (sym c.if-graph.false ∙ h)) | inr h ↦ (h.0, h.1) ] in
+    let checked = both_ok r (λ p. IsOfFull (nodes_of k) e × IsTransitiveStep k.proofs e c.args.self.now.0 c.args.self.now.1) (EntersIn k l (by_step (statement_of e) (transitive c.args.self.now.0 c.args.self.now.1))) (Checked t k l e (transitive c.args.self.now.0 c.args.self.now.1)) (λ p f x. transitive_checked t k l e c.args.self.now.0 c.args.self.now.1 p h.0 f x) c.check_transitive.ensures.fits c.check_transitive.ensures.ok in
+    says_refused r c.graph.inside.failed t c.graph.inside.nodes k l e (transitive c.args.self.now.0 c.args.self.now.1) c.args.graph.now c.graph.view_is (λ b. transitive_refused k e c.args.self.now.0 c.args.self.now.1 h.0 (c.check_transitive.ensures.refused b))
+
+pub returns-clause-accepted : goal.returns-clause-accepted
+returns-clause-accepted g c =
+    let k = c.graph.inside.store in
+    let e = c.args.equation.now in
+    let t = c.graph.inside.table in
+    let r = c.check_transitive.result in
+    let l = c.check_transitive.new.store in
+    let h : Good k × HasFreshSlots t k = elim c.graph.invariant [ inl h ↦ absurd (false≢true (sym c.if-graph.false ∙ h)) | inr h ↦ (h.0, h.1) ] in
+    let checked = both_ok r (λ p. IsOfFull (nodes_of k) e × IsTransitiveStep k.proofs e c.args.self.now.0 c.args.self.now.1) (EntersIn k l (by_step (statement_of e) (transitive c.args.self.now.0 c.args.self.now.1))) (Checked t k l e (transitive c.args.self.now.0 c.args.self.now.1)) (λ p f x. transitive_checked t k l e c.args.self.now.0 c.args.self.now.1 p h.0 f x) c.check_transitive.ensures.fits c.check_transitive.ensures.ok in
+    says_accepted r c.graph.inside.failed t c.graph.inside.nodes k l e (transitive c.args.self.now.0 c.args.self.now.1) c.args.graph.now c.graph.view_is checked
+
+pub returns-clause-derivable : goal.returns-clause-derivable
+returns-clause-derivable g c =
+    let k = c.graph.inside.store in
+    let e = c.args.equation.now in
+    let t = c.graph.inside.table in
+    let r = c.check_transitive.result in
+    let l = c.check_transitive.new.store in
+    let h : Good k × HasFreshSlots t k = elim c.graph.invariant [ inl h ↦ absurd (false≢true (sym c.if-graph.false ∙ h)) | inr h ↦ (h.0, h.1) ] in
+    let checked = both_ok r (λ p. IsOfFull (nodes_of k) e × IsTransitiveStep k.proofs e c.args.self.now.0 c.args.self.now.1) (EntersIn k l (by_step (statement_of e) (transitive c.args.self.now.0 c.args.self.now.1))) (Checked t k l e (transitive c.args.self.now.0 c.args.self.now.1)) (λ p f x. transitive_checked t k l e c.args.self.now.0 c.args.self.now.1 p h.0 f x) c.check_transitive.ensures.fits c.check_transitive.ensures.ok in
+    says_derivable r c.graph.inside.failed t c.graph.inside.nodes k l e (transitive c.args.self.now.0 c.args.self.now.1) c.args.graph.now c.graph.view_is checked
+
+pub returns-clause-leaves : goal.returns-clause-leaves
+returns-clause-leaves g c =
+    let k = c.graph.inside.store in
+    let e = c.args.equation.now in
+    let t = c.graph.inside.table in
+    let r = c.check_transitive.result in
+    let l = c.check_transitive.new.store in
+    let h : Good k × HasFreshSlots t k = elim c.graph.invariant [ inl h ↦ absurd (false≢true (sym c.if-graph.false ∙ h)) | inr h ↦ (h.0, h.1) ] in
+    let checked = both_ok r (λ p. IsOfFull (nodes_of k) e × IsTransitiveStep k.proofs e c.args.self.now.0 c.args.self.now.1) (EntersIn k l (by_step (statement_of e) (transitive c.args.self.now.0 c.args.self.now.1))) (Checked t k l e (transitive c.args.self.now.0 c.args.self.now.1)) (λ p f x. transitive_checked t k l e c.args.self.now.0 c.args.self.now.1 p h.0 f x) c.check_transitive.ensures.fits c.check_transitive.ensures.ok in
+    says_leaves r c.graph.inside.failed t c.graph.inside.nodes k l e (transitive c.args.self.now.0 c.args.self.now.1) c.args.graph.now c.graph.view_is checked

@@ -1,0 +1,308 @@
+//! The graph that callers see: a failed one refuses every later call.
+ghost use Rattle.std.specs.Prelude.{◌≡◌, ◌<◌, ◌↔◌, ◌⊎◌, length, false, IsTrue, IsOk, IfOk, IfErr, OnOk};
+ghost use Rattle.std.specs.Prelude.{IsErr, IsErrOf, IsOkUnless, IsSome, IfSome, None, Some, [], map, option_map};
+ghost use Rattle.slotted_slots.specs.Error.{IsShortage};
+ghost use Rattle.slotted_slots.specs.Table.{KnowsMore};
+ghost use Rattle.slotted_theory.specs.Nameless.{nameless};
+ghost use Rattle.slotted_model.specs.Growth.{Extends};
+ghost use Rattle.slotted_model.specs.Classes.{Canonical, term_of};
+ghost use Rattle.slotted_model.specs.ProofList.{Proved};
+ghost use Rattle.slotted_proofs.specs.Entries.{explicit_numbers};
+ghost use Rattle.slotted_terms.specs.Valid.{IsValidTerm};
+ghost use Rattle.slotted_core.specs.Image.{no_classes, FoundAlike, SaysEqual, SaysDerivable, SaysTerms};
+ghost use Rattle.slotted_core.specs.Image.{AddsClasses, IsUnion, AreSymmetries, AreListedOnce, CountsOpen};
+ghost use Rattle.slotted_store.specs.Kept.{text_bytes, symmetry_entry};
+ghost use Rattle.slotted_core.specs.Affected.{IsYesIfDerivable, IsYesIfEqual};
+ghost use Rattle.slotted_core.specs.ValidIds.{IsValidId, IsValidNode, SaysFillingsEqual, LackNothing, HaveValidSides};
+ghost use Rattle.slotted_core.specs.Causes.{HasLargeClassIn};
+ghost use Rattle.slotted_core.specs.Graph.{IsFullId, OnlyReads, RecordsUnion};
+ghost use Rattle.slotted_core.specs.LookUp.{AreLookedUp};
+ghost use Rattle.slotted_proofs.specs.Equations.{to_applied};
+ghost use Rattle.slotted_core.specs.Reads.{AnswersTerm, NodesAreRead};
+ghost use Rattle.slotted_core.specs.SmallNodes.{IsSmallValidTerm};
+
+pub mod steps;
+
+use slotted_core::adding::{is_full_id, is_valid, is_valid_node};
+use slotted_core::terms::is_valid_term;
+use slotted_core::uniting;
+use slotted_filing::Hashcons;
+use slotted_languages::Language;
+use slotted_proofs::ProvenEq;
+use slotted_slots::{AppliedId, Error, SlotTable};
+use slotted_store::{Store, Symmetry};
+use slotted_terms::expr::RecExpr;
+use std::alloc::Global;
+use std::marker::Model;
+
+mod adding;
+mod canonical;
+mod explanations;
+mod patterns;
+mod reports;
+
+/// A graph of terms with binders, up to alpha-equality.
+///
+/// Each class has the node that it was made with, its canonical node, over slots of its own and over earlier classes. An
+/// applied id is a class with names for its slots, at least for all that no union dropped. One with all names stands for its
+/// canonical term: the canonical node with the names put in, over the canonical terms of its children.
+///
+/// A graph that runs out of memory or slots in a call that changes it has failed: from then on each call that answers a
+/// `Result` answers `Failed`, and the table can still be taken out.
+#[derive(Drop)]
+pub struct EGraph<L: Language, N = ()> {
+    failed: bool,
+    store: Store<L>,
+    nodes: Hashcons<L>,
+    table: SlotTable,
+    analysis: N,
+    alloc: Global,
+}
+
+impl<L: Language, N> Model for EGraph<L, N> {
+    ghost use Rattle.std.specs.Prelude.{IsTrue, ◌⊎◌};
+    ghost use Rattle.slotted_core.specs.Graph.{Graph, graph_code};
+    ghost use Rattle.slotted_core.specs.Good.{Good, RestsWith, HasFreshSlots, image_of};
+    ghost use Rattle.slotted_filing.specs.FiledRows.{rows_in};
+
+    ghost Value = { Graph };
+
+    ghost coded = { graph_code };
+
+    ghost view = { λ s. record { failed = s.failed; table = s.table; image = image_of s.store; filed = rows_in s.nodes.filed } };
+
+    ghost invariant = { λ s. IsTrue s.failed ⊎ (Good s.store × HasFreshSlots s.table s.store × RestsWith s.store s.nodes) };
+}
+
+impl<L: Language, N: Drop> EGraph<L, N> {
+    /// The graph without classes, over a table of slots. It takes no memory.
+    pub fn new(alloc: Global, table: SlotTable, analysis: N) -> Result<Self, Error>
+        ensures answers { IsOk result }
+        ensures failed { IfOk result (λ g. g.failed ≡ false) }
+        ensures table { IfOk result (λ g. g.table ≡ table) }
+        ensures image { IfOk result (λ g. g.image ≡ no_classes) }
+        ensures filed { IfOk result (λ g. g.filed ≡ []) }
+    {
+        Ok(EGraph {
+            failed: false,
+            store: Store::new(alloc),
+            nodes: Hashcons::new(alloc),
+            table,
+            analysis,
+            alloc,
+        })
+    }
+
+    /// The graph's table of slots.
+    pub fn table(&self) -> &SlotTable
+        ensures { result.now ≡ self.now.table }
+    {
+        &self.table
+    }
+
+    /// The graph's table of slots, taken out. This works on a failed graph too.
+    pub fn into_table(self) -> SlotTable
+        ensures { result ≡ self.table }
+    {
+        self.table
+    }
+
+    /// Whether a call that changes the graph ran out of memory or slots.
+    pub fn is_failed(&self) -> bool
+        ensures failed { result ≡ self.now.failed }
+        ensures canonical { IsTrue self.now.failed ⊎ Canonical self.now.image.canonical }
+
+        // What each graph that has not failed keeps: each entry of the proof list is proved by its step over earlier entries, or
+        // asserted, and no equation stands twice.
+        ensures proved { IsTrue self.now.failed ⊎ Proved self.now.image.canonical self.now.image.entries }
+
+        // And the node of each class is looked up, as an id that is found together with the class.
+        ensures nodes { IsTrue self.now.failed ⊎ AreLookedUp self.now }
+    {
+        self.failed
+    }
+
+    /// Whether an applied id is one of this graph: a class of it, with different known names for slots of the class, among them all that no
+    /// union dropped. A valid id stays valid. Nothing is valid in a failed graph. It takes no memory.
+    pub fn is_valid(&self, a: &AppliedId) -> bool
+        ensures { IsTrue result ↔ ((self.now.failed ≡ false) × IsValidId self.now (to_applied a.now)) }
+    {
+        !self.failed && is_valid(&self.store, &self.table, a)
+    }
+
+    /// Whether an applied id has a name for each slot of its class, also for those that unions dropped: it is valid then, and lacks no
+    /// name. Nothing is full in a failed graph. It takes no memory.
+    pub fn is_full(&self, a: &AppliedId) -> bool
+        ensures { IsTrue result ↔ ((self.now.failed ≡ false) × IsFullId self.now (to_applied a.now)) }
+    {
+        !self.failed && is_full_id(&self.store, &self.table, a)
+    }
+
+    /// Whether a node is one over this graph: its slots are known, its children are valid, and it has fewer than 2^30
+    /// places. Nothing is valid in a failed graph. It takes no memory.
+    pub fn is_valid_node(&self, node: &L) -> bool
+        ensures { IsTrue result ↔ ((self.now.failed ≡ false) × IsValidNode self.now (L.form node.now)) }
+    {
+        !self.failed && is_valid_node(&self.store, &self.table, node)
+    }
+
+    /// Whether a term can be added: at each node the number of children is right and the own slots are known. The child ids
+    /// inside the nodes are not looked at. A node with 2^30 places or more cannot be read: a term with one is not valid.
+    /// Nothing is valid in a failed graph. It takes no memory.
+    pub fn is_valid_expr(&self, term: &RecExpr<L>) -> bool
+        ensures failed { IsTrue result → self.now.failed ≡ false }
+        ensures valid { IsTrue result → IsValidTerm self.now.table term.now }
+
+        // No term shows the ids inside its nodes: so a yes is promised where no node that could stand in the term is too large.
+        ensures exact { self.now.failed ≡ false → IsSmallValidTerm L.form self.now.table term.now → IsTrue result }
+    {
+        !self.failed && is_valid_term(&self.table, term)
+    }
+
+    /// Whether two ids are equal by what was asserted: whether they find the same. They may lack names for slots that unions dropped. It
+    /// takes no memory.
+    ///
+    /// A yes is always right. A no is, unless both ids find classes that an open symmetry affects: one of `symmetries_met` whose two sides
+    /// `eq` tells apart, or a class with a node over such a class.
+    pub fn eq(&self, a: &AppliedId, b: &AppliedId) -> Result<bool, Error>
+        requires left { IsTrue self.now.failed ⊎ IsValidId self.now (to_applied a.now) }
+        requires right { IsTrue self.now.failed ⊎ IsValidId self.now (to_applied b.now) }
+        ensures found { IfOk result (λ y. IsTrue y ↔ FoundAlike self.now.image (to_applied a.now) (to_applied b.now)) }
+
+        // A yes is derivable from what was asserted, whatever names are filled in for those that an id lacks. Where nothing was asserted
+        // ids lack none, and it is a yes exactly if the canonical terms are equal.
+        ensures filled { IfOk result (SaysFillingsEqual self.now.image (to_applied a.now) (to_applied b.now)) }
+        ensures whole { OnOk result (LackNothing self.now.image (to_applied a.now) (to_applied b.now)) }
+        ensures equal { IfOk result (SaysEqual self.now.image (to_applied a.now) (to_applied b.now)) }
+        ensures derivable { IfOk result (SaysDerivable self.now.image (to_applied a.now) (to_applied b.now)) }
+        ensures terms { IfOk result (SaysTerms self.now.image (to_applied a.now) (to_applied b.now)) }
+
+        // It is a yes where what they stand for is derivable, for some names that are filled in, unless open symmetries affect both: also
+        // through terms that were never added, and under binders.
+        ensures complete { IfOk result (IsYesIfDerivable self.now.image (to_applied a.now) (to_applied b.now)) }
+        ensures complete_equal { IfOk result (IsYesIfEqual self.now.image (to_applied a.now) (to_applied b.now)) }
+
+        ensures failed { IsErrOf result Error.Failed ↔ IsTrue self.now.failed }
+        ensures only { IsOkUnless result Error.Failed }
+    {
+        if self.failed {
+            return Err(Error::Failed);
+        }
+        Ok(self.store.eq(a, b))
+    }
+
+    /// The term that a text writes, as `RecExpr::parse` reads it: each slot's name is looked up or kept in the graph's table.
+    /// A text that is refused does not fail the graph, and the names that were read before it stay in the table.
+    pub fn parse_expr(&mut self, text: &str) -> Result<RecExpr<L>, Error>
+        // The answer is that of the text over the graph's table, and it can be added.
+        ensures answer { AnswersTerm L.read self.old self.new text.now result }
+        ensures valid { IfOk result (λ t. IsValidTerm self.new.table t) }
+
+        // It was read as a pattern of nodes of the language: so what it prints reads as it (`each_term_reads_as_itself`).
+        ensures nodes { IfOk result (NodesAreRead L.form L.read self.old self.new text.now) }
+
+        // Only the table changes, and on a failed graph nothing does.
+        ensures reads { OnlyReads self.old self.new }
+        ensures stays { IsTrue self.old.failed → self.new ≡ self.old }
+
+        ensures failed { IsErrOf result Error.Failed ↔ IsTrue self.old.failed }
+    {
+        if self.failed {
+            return Err(Error::Failed);
+        }
+        RecExpr::parse(self.alloc, text, &mut self.table)
+    }
+
+    /// Two ids are equal, because the caller says so. True if they did not find alike. They may lack names for slots that unions dropped:
+    /// what is asserted is the equation of any two ids that fill them by names apart.
+    ///
+    /// From now on both find one class with one set of names, and they find alike unless a symmetry of that class is open. Slots that
+    /// only one side has are dropped. Equal nodes over them are united too: what was asserted is closed under congruence again.
+    pub fn union(&mut self, l: &AppliedId, r: &AppliedId) -> Result<bool, Error>
+        requires left { IsTrue self.old.failed ⊎ IsValidId self.old (to_applied l.now) }
+        requires right { IsTrue self.old.failed ⊎ IsValidId self.old (to_applied r.now) }
+        ensures union { IfOk result (IsUnion self.old.image self.new.image (to_applied l.now) (to_applied r.now)) }
+        ensures text { OnOk result (RecordsUnion self.old self.new l.now r.now None) }
+        ensures table { self.new.table ≡ self.old.table }
+
+        ensures stays { IsTrue self.old.failed → self.new ≡ self.old }
+        ensures failed { IsErrOf result Error.Failed ↔ IsTrue self.old.failed }
+        ensures fails { IsTrue self.new.failed ↔ IsErr result }
+        ensures full { IsErrOf result Error.OutOfSlots → HasLargeClassIn self.old.image }
+        ensures only { IfErr result (λ e. (e ≡ Error.Failed) ⊎ IsShortage e) }
+    {
+        self.union_justified(l, r, None)
+    }
+
+    /// The same, with a text that says why.
+    pub fn union_justified(
+        &mut self,
+        l: &AppliedId,
+        r: &AppliedId,
+        text: Option<String>,
+    ) -> Result<bool, Error>
+        requires left { IsTrue self.old.failed ⊎ IsValidId self.old (to_applied l.now) }
+        requires right { IsTrue self.old.failed ⊎ IsValidId self.old (to_applied r.now) }
+
+        // True or false as `eq` said no or yes before. The equation then stands in the proof list, and what was there stays.
+        ensures union { IfOk result (IsUnion self.old.image self.new.image (to_applied l.now) (to_applied r.now)) }
+
+        // Where it was not proved before, it is a new entry, asserted with the text.
+        ensures text { OnOk result (RecordsUnion self.old self.new l.now r.now (text_bytes text)) }
+
+        ensures table { self.new.table ≡ self.old.table }
+
+        ensures stays { IsTrue self.old.failed → self.new ≡ self.old }
+        ensures failed { IsErrOf result Error.Failed ↔ IsTrue self.old.failed }
+        ensures fails { IsTrue self.new.failed ↔ IsErr result }
+        ensures full { IsErrOf result Error.OutOfSlots → HasLargeClassIn self.old.image }
+        ensures only { IfErr result (λ e. (e ≡ Error.Failed) ⊎ IsShortage e) }
+    {
+        if self.failed {
+            return Err(Error::Failed);
+        }
+        self.failed = true;
+        let answer = uniting::union(&mut self.store, &mut self.nodes, self.alloc, l, r, text)?;
+        self.failed = false;
+        Ok(answer)
+    }
+
+    /// The symmetries that unions met, in the order in which they were met: each says that a class equals itself with its slots in
+    /// another order. A symmetry is open until its two sides find alike.
+    pub fn symmetries_met(&self) -> &[Symmetry]
+        ensures list { map symmetry_entry result.now ≡ self.now.image.symmetries }
+        ensures each { IsTrue self.now.failed ⊎ AreSymmetries self.now.image }
+        ensures once { IsTrue self.now.failed ⊎ AreListedOnce self.now.image }
+
+        // So `eq` can be asked of the two sides of each.
+        ensures sides { IsTrue self.now.failed ⊎ HaveValidSides self.now }
+    {
+        self.store.symmetries()
+    }
+
+    /// How many of the symmetries that unions met are open. It takes no memory.
+    pub fn open_symmetries(&self) -> Result<usize, Error>
+        ensures count { IfOk result (CountsOpen self.now.image self.now.image.symmetries) }
+        ensures failed { IsErrOf result Error.Failed ↔ IsTrue self.now.failed }
+        ensures only { IsOkUnless result Error.Failed }
+    {
+        if self.failed {
+            return Err(Error::Failed);
+        }
+        Ok(uniting::open_symmetries(&self.store))
+    }
+
+    /// The numbers of the asserted equations, in the order in which they were entered.
+    pub fn asserted(&self) -> &[ProvenEq]
+        ensures { result.now ≡ explicit_numbers self.now.image.entries }
+    {
+        self.store.asserted()
+    }
+
+    /// The number of proved equations.
+    pub fn proof_count(&self) -> usize
+        ensures { result ≡ length self.now.image.entries }
+    {
+        self.store.proof_count()
+    }
+}

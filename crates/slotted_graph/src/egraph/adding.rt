@@ -1,0 +1,216 @@
+//! Adding nodes and terms, and looking up nodes: by canonical nodes, which keeps each term as it was given, or by what children find, which
+//! gives equal nodes one id.
+ghost use Rattle.std.specs.Prelude.{◌≡◌, ◌⊎◌, ◌↔◌, Some, option_map, IsErr, IsErrOf, IsSome, IsTrue, IfErr, IfOk, IfSome, OnOk};
+ghost use Rattle.slotted_slots.specs.Error.{IsShortage};
+ghost use Rattle.slotted_slots.specs.Table.{KnowsMore};
+ghost use Rattle.slotted_theory.specs.Nameless.{nameless};
+ghost use Rattle.slotted_model.specs.Classes.{term_of};
+ghost use Rattle.slotted_model.specs.Growth.{Extends};
+ghost use Rattle.slotted_proofs.specs.Equations.{to_applied};
+ghost use Rattle.slotted_terms.specs.Valid.{IsValidTerm};
+ghost use Rattle.slotted_core.specs.Adding.{AddsSyn, IsEqualToNode, RunsOutForFilled, slots_needed, term_nodes};
+ghost use Rattle.slotted_core.specs.AddingTerms.{AddsNodes, FilesOnlyLookedUp, IsEqualToTerm, LacksForTerm, TakesForTerm};
+ghost use Rattle.slotted_core.specs.Causes.{CanRunOutForTerm};
+ghost use Rattle.slotted_core.specs.ValidIds.{IsValidNode};
+ghost use Rattle.slotted_core.specs.Graph.{FilesOnlySubterms, IsFullId, MakesAtMost, id_of_term};
+ghost use Rattle.slotted_core.specs.Image.{AddsClasses};
+ghost use Rattle.slotted_core.specs.LookUp.{IsOneGraph, KeepsLookUps, MakesClassFor, RunsOutForUnknown, look_up, look_up_term};
+ghost use Rattle.slotted_core.specs.Places.{term_slots};
+ghost use Rattle.slotted_core.specs.Reports.{IsFound};
+
+use super::EGraph;
+use slotted_adding::lookup::look_up;
+use slotted_core::{adding, looking_up};
+use slotted_languages::Language;
+use slotted_slots::{AppliedId, Error};
+use slotted_terms::expr::RecExpr;
+
+impl<L: Language, N: Drop> EGraph<L, N> {
+    /// The id of a node: what the class of its filed node finds, with the node's names put in. Children may lack names for slots that unions
+    /// dropped. Nodes whose children find alike in turn have one id.
+    pub fn lookup(&self, node: &L) -> Result<Option<AppliedId>, Error>
+        requires { IsTrue self.now.failed ⊎ IsValidNode self.now (L.form node.now) }
+        ensures id { IfOk result (λ o. option_map to_applied o ≡ look_up self.now (L.form node.now)) }
+
+        // The answer is what it finds itself, and equal to the node by what was asserted.
+        ensures found { IfOk result (λ o. IfSome o (λ a. IsFound self.now (to_applied a))) }
+        ensures equal { IfOk result (λ o. IfSome o (λ a. IsEqualToNode self.now.image (to_applied a) (L.form node.now))) }
+
+        ensures failed { IsErrOf result Error.Failed ↔ IsTrue self.now.failed }
+        ensures only { IfErr result (λ e. (e ≡ Error.Failed) ⊎ (e ≡ Error.OutOfMemory)) }
+    {
+        if self.failed {
+            return Err(Error::Failed);
+        }
+        look_up(&self.store, &self.nodes, self.alloc, node)
+    }
+
+    /// What a node is looked up as. Where it is not, a class is made of it, whose slots are fresh; names that its children lack are filled by
+    /// fresh ones first.
+    pub fn add(&mut self, node: L) -> Result<AppliedId, Error>
+        requires { IsTrue self.old.failed ⊎ IsValidNode self.old (L.form node) }
+
+        // The answer is what a look-up answers from now on, what it finds itself, and equal to the node by what was asserted.
+        ensures id { IfOk result (λ a. look_up self.new (L.form node) ≡ Some (to_applied a)) }
+        ensures found { IfOk result (λ a. IsFound self.new (to_applied a)) }
+        ensures equal { IfOk result (λ a. IsEqualToNode self.new.image (to_applied a) (L.form node)) }
+
+        // A class is made only where there was no answer, and no other class is made. What was there stays: ids find what they found, and what
+        // was looked up is looked up as before.
+        ensures kept { OnOk result (IsSome (look_up self.old (L.form node)) → IsOneGraph self.old self.new) }
+        ensures made { IfOk result (λ a. MakesClassFor self.old self.new (L.form node) (to_applied a)) }
+        ensures answers { OnOk result (KeepsLookUps self.old self.new) }
+        ensures extends { OnOk result (Extends self.old.image.canonical self.new.image.canonical) }
+        ensures adds { OnOk result (AddsClasses self.old.image self.new.image) }
+
+        // Where a class is made, fresh slots are made for its names, and for those that children lack.
+        ensures more { KnowsMore self.old.table self.new.table }
+        ensures takes { MakesAtMost (slots_needed self.old.image (L.form node)) self.old.table self.new.table }
+        ensures full { IsErrOf result Error.OutOfSlots → RunsOutForUnknown self.old self.new (L.form node) }
+
+        // A failed graph stays as it is.
+        ensures stays { IsTrue self.old.failed → self.new ≡ self.old }
+        ensures failed { IsErrOf result Error.Failed ↔ IsTrue self.old.failed }
+        ensures fails { IsTrue self.new.failed ↔ IsErr result }
+        ensures only { IfErr result (λ e. (e ≡ Error.Failed) ⊎ IsShortage e) }
+    {
+        if self.failed {
+            return Err(Error::Failed);
+        }
+        self.failed = true;
+        let id = looking_up::add(
+            &mut self.store,
+            &mut self.nodes,
+            self.alloc,
+            &mut self.table,
+            &node,
+        )?;
+        self.failed = false;
+        Ok(id)
+    }
+
+    /// The class that was made with a node, with the node's names put in. Where there is none, a class is made, whose slots are fresh; it is
+    /// united with the class that has an equal node, if there is one. Names that children lack are filled by fresh ones first.
+    pub fn add_syn(&mut self, node: L) -> Result<AppliedId, Error>
+        requires { IsTrue self.old.failed ⊎ IsValidNode self.old (L.form node) }
+
+        // The answer is valid, has all names, and stands for the node over what its children stand for.
+        ensures valid { IfOk result (λ a. IsFullId self.new (to_applied a)) }
+        ensures syn { IfOk result (λ a. AddsSyn self.old self.new (L.form node) (to_applied a)) }
+
+        // What was there stays.
+        ensures extends { OnOk result (Extends self.old.image.canonical self.new.image.canonical) }
+        ensures adds { OnOk result (AddsClasses self.old.image self.new.image) }
+
+        // Where a class is made, fresh slots are made for its names, and for those that children lack.
+        ensures more { KnowsMore self.old.table self.new.table }
+        ensures takes { MakesAtMost (slots_needed self.old.image (L.form node)) self.old.table self.new.table }
+        ensures full { IsErrOf result Error.OutOfSlots → RunsOutForFilled self.old.image (L.form node) self.old.table self.new.table }
+
+        // A failed graph stays as it is.
+        ensures stays { IsTrue self.old.failed → self.new ≡ self.old }
+        ensures failed { IsErrOf result Error.Failed ↔ IsTrue self.old.failed }
+        ensures fails { IsTrue self.new.failed ↔ IsErr result }
+        ensures only { IfErr result (λ e. (e ≡ Error.Failed) ⊎ IsShortage e) }
+    {
+        if self.failed {
+            return Err(Error::Failed);
+        }
+        self.failed = true;
+        let made = looking_up::add_filled(
+            &mut self.store,
+            &mut self.nodes,
+            self.alloc,
+            &mut self.table,
+            &node,
+        )?;
+        self.failed = false;
+        Ok(made)
+    }
+
+    /// What a term is looked up as, child by child. Where a node is not, a class is made of it, as `add` does.
+    pub fn add_expr(&mut self, term: &RecExpr<L>) -> Result<AppliedId, Error>
+        requires { IsTrue self.old.failed ⊎ IsValidTerm self.old.table term.now }
+
+        // The answer is what a look-up of the term answers from now on, what it finds itself, and equal to the term by what was asserted.
+        ensures id { IfOk result (λ a. look_up_term self.new term.now ≡ Some (to_applied a)) }
+        ensures found { IfOk result (λ a. IsFound self.new (to_applied a)) }
+        ensures equal { IfOk result (λ a. IsEqualToTerm self.new.image (to_applied a) term.now) }
+
+        // Where the term was looked up, nothing changes. Else its nodes are added from below, and each class that is made is
+        // what a subterm is looked up as from now on. Ids find what they found, and what was looked up is looked up as before.
+        ensures kept { OnOk result (IsSome (look_up_term self.old term.now) → IsOneGraph self.old self.new) }
+        ensures nodes { OnOk result (AddsNodes term.now self.old (term_nodes term.now) self.new) }
+        ensures filed { OnOk result (FilesOnlyLookedUp self.old self.new term.now) }
+        ensures answers { OnOk result (KeepsLookUps self.old self.new) }
+        ensures extends { OnOk result (Extends self.old.image.canonical self.new.image.canonical) }
+        ensures adds { OnOk result (AddsClasses self.old.image self.new.image) }
+
+        // Where classes are made, fresh slots are made for their names, and for those that children lack.
+        ensures more { KnowsMore self.old.table self.new.table }
+        ensures takes { IsTrue self.old.failed ⊎ TakesForTerm term.now self.old self.new.table }
+        ensures full { IsErrOf result Error.OutOfSlots → LacksForTerm term.now self.old self.new.table }
+
+        // A failed graph stays as it is.
+        ensures stays { IsTrue self.old.failed → self.new ≡ self.old }
+        ensures failed { IsErrOf result Error.Failed ↔ IsTrue self.old.failed }
+        ensures fails { IsTrue self.new.failed ↔ IsErr result }
+        ensures only { IfErr result (λ e. (e ≡ Error.Failed) ⊎ IsShortage e) }
+    {
+        if self.failed {
+            return Err(Error::Failed);
+        }
+        self.failed = true;
+        let answer = looking_up::add_expr(
+            &mut self.store,
+            &mut self.nodes,
+            self.alloc,
+            &mut self.table,
+            term,
+        )?;
+        self.failed = false;
+        Ok(answer)
+    }
+
+    /// The id of a term, whose canonical term it is: from below, the class that was made with each node, or a new one where there is none.
+    pub fn add_syn_expr(&mut self, term: &RecExpr<L>) -> Result<AppliedId, Error>
+        requires { IsTrue self.old.failed ⊎ IsValidTerm self.old.table term.now }
+
+        // The answer is valid, stands for the term, and is what a look-up of the term answers from now on.
+        ensures valid { IfOk result (λ a. IsFullId self.new (to_applied a)) }
+        ensures term { IfOk result (λ a. term_of self.new.image.canonical (to_applied a) ≡ nameless term.now) }
+        ensures found { IfOk result (λ a. id_of_term self.new term.now ≡ Some (to_applied a)) }
+
+        // Where the term has an id, nothing changes. Each class that is made is what a subterm is looked up as from now
+        // on, and what was there stays.
+        ensures kept { OnOk result (IsSome (id_of_term self.old term.now) → IsOneGraph self.old self.new) }
+        ensures filed { OnOk result (FilesOnlySubterms self.old self.new term.now) }
+        ensures extends { OnOk result (Extends self.old.image.canonical self.new.image.canonical) }
+        ensures adds { OnOk result (AddsClasses self.old.image self.new.image) }
+
+        // Where classes are made, fresh slots are made for their names.
+        ensures more { KnowsMore self.old.table self.new.table }
+        ensures takes { MakesAtMost (term_slots term.now) self.old.table self.new.table }
+        ensures full { IsErrOf result Error.OutOfSlots → CanRunOutForTerm self.old.image term.now self.old.table self.new.table }
+
+        // A failed graph stays as it is.
+        ensures stays { IsTrue self.old.failed → self.new ≡ self.old }
+        ensures failed { IsErrOf result Error.Failed ↔ IsTrue self.old.failed }
+        ensures fails { IsTrue self.new.failed ↔ IsErr result }
+        ensures only { IfErr result (λ e. (e ≡ Error.Failed) ⊎ IsShortage e) }
+    {
+        if self.failed {
+            return Err(Error::Failed);
+        }
+        self.failed = true;
+        let answer = adding::add_syn_expr(
+            &mut self.store,
+            &mut self.nodes,
+            self.alloc,
+            &mut self.table,
+            term,
+        )?;
+        self.failed = false;
+        Ok(answer)
+    }
+}

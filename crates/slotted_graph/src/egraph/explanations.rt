@@ -1,0 +1,61 @@
+//! Explanations of two terms.
+ghost use Rattle.std.specs.Prelude.{◌≡◌, ◌⊎◌, ◌↔◌, ◌+◌, IsTrue, IfOk, IfErr, IsErr, IsErrOf};
+ghost use Rattle.slotted_slots.specs.Error.{IsShortage};
+ghost use Rattle.slotted_slots.specs.Table.{KnowsMore};
+ghost use Rattle.slotted_terms.specs.Valid.{IsValidTerm};
+ghost use Rattle.slotted_core.specs.Explaining.{AddsTerms, Explains, FindsApart, RunsOutForTerms};
+ghost use Rattle.slotted_core.specs.Graph.{MakesAtMost};
+ghost use Rattle.slotted_core.specs.Places.{term_slots};
+
+use super::EGraph;
+use slotted_core::explaining;
+use slotted_languages::Language;
+use slotted_proofs::ProvenEq;
+use slotted_slots::Error;
+use slotted_terms::expr::RecExpr;
+
+impl<L: Language, N: Drop> EGraph<L, N> {
+    /// The proof that two terms are equal: the number of an entry of the proof list that says so of their ids. The terms are added
+    /// first, and they stay where the graph does not find them equal.
+    pub fn explain_equivalence(
+        &mut self,
+        left: &RecExpr<L>,
+        right: &RecExpr<L>,
+    ) -> Result<ProvenEq, Error>
+        requires left { IsTrue self.old.failed ⊎ IsValidTerm self.old.table left.now }
+        requires right { IsTrue self.old.failed ⊎ IsValidTerm self.old.table right.now }
+
+        // Each yes is explained, and `NotEqual` is answered exactly where the ids of the terms do not find alike.
+        ensures explains { IfOk result (Explains self.new.image left.now right.now) }
+        ensures not_equal { IsErrOf result Error.NotEqual → FindsApart self.new.image left.now right.now }
+
+        // Nothing is asserted, what found alike still does, and what was there stays. `NotEqual` does not fail the graph.
+        ensures adds { IsTrue self.new.failed ⊎ AddsTerms self.old.image self.new.image }
+        ensures more { KnowsMore self.old.table self.new.table }
+        ensures takes { MakesAtMost (term_slots left.now + term_slots right.now) self.old.table self.new.table }
+        ensures full { IsErrOf result Error.OutOfSlots → RunsOutForTerms self.old.image left.now right.now self.old.table self.new.table }
+
+        ensures stays { IsTrue self.old.failed → self.new ≡ self.old }
+        ensures failed { IsErrOf result Error.Failed ↔ IsTrue self.old.failed }
+        ensures fails { IsTrue self.new.failed ↔ (IsErr result × ¬ IsErrOf result Error.NotEqual) }
+        ensures only { IfErr result (λ e. (e ≡ Error.Failed) ⊎ (e ≡ Error.NotEqual) ⊎ IsShortage e) }
+    {
+        if self.failed {
+            return Err(Error::Failed);
+        }
+        self.failed = true;
+        let answer = explaining::explain(
+            &mut self.store,
+            &mut self.nodes,
+            self.alloc,
+            &mut self.table,
+            left,
+            right,
+        )?;
+        self.failed = false;
+        match answer {
+            Some(p) => Ok(p),
+            None => Err(Error::NotEqual),
+        }
+    }
+}

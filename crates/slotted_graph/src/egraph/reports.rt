@@ -1,0 +1,157 @@
+//! What the graph tells of its classes, and slots of its table.
+ghost use Rattle.std.specs.Prelude.{◌≡◌, ◌⊎◌, ◌↔◌, ◌+◌, ◌<◌, length, false, IsTrue, IfOk, IfErr, IsErrOf, OnErr, OnOk};
+ghost use Rattle.slotted_adding.specs.Reports.{live_ids};
+ghost use Rattle.slotted_slots.specs.Error.{IsOutOfMemory};
+ghost use Rattle.slotted_slots.specs.Naming.{IsNamingRefusal};
+ghost use Rattle.slotted_slots.specs.Table.{IsNewName, PrintsWord, fresh_slot, gives, is_known, named_of, no_place};
+ghost use Rattle.slotted_slots.specs.Table.{slot_limit, too_large};
+ghost use Rattle.slotted_terms.specs.Valid.{AllKnown};
+ghost use Rattle.slotted_proofs.specs.Equations.{to_applied};
+ghost use Rattle.slotted_core.specs.Causes.{class_found};
+ghost use Rattle.slotted_core.specs.ValidIds.{IsValidId};
+ghost use Rattle.slotted_core.specs.Graph.{OnlyReads, OnlyTakesSlots};
+ghost use Rattle.slotted_core.specs.Image.{found_id};
+ghost use Rattle.slotted_core.specs.Reports.{HasClass, IsFoundFor, class_numbers, live_classes, names_slots, slots_used};
+
+use super::EGraph;
+use slotted_adding::{finding, reports};
+use slotted_languages::Language;
+use slotted_slots::{AppliedId, Error, Id, Slot, SmallHashSet};
+use slotted_store::Store;
+use std::alloc::Global;
+
+// The classes that find themselves, ascending.
+fn live_ids<L: Language>(store: &Store<L>, alloc: Global) -> Result<Vec<Id>, Error>
+    ensures ok { IfOk result (λ v. class_numbers v.items ≡ live_ids store.now) }
+    ensures err { IfErr result IsOutOfMemory }
+{
+    let mut ids = Vec::new(alloc);
+    for class in 0..store.class_count() {
+        if reports::is_alive(store, class) {
+            ids.push(Id(class))?;
+        }
+    }
+    Ok(ids)
+}
+
+impl<L: Language, N: Drop> EGraph<L, N> {
+    /// Whether a number is that of a class. None is in a failed graph. It takes no memory.
+    pub fn is_valid_id(&self, id: Id) -> bool
+        ensures { IsTrue result ↔ HasClass self.now id.0 }
+    {
+        !self.failed && id.0 < self.store.class_count()
+    }
+
+    /// Whether a number is that of a class that finds itself. None is in a failed graph. It takes no memory.
+    pub fn is_alive(&self, id: Id) -> bool
+        ensures { IsTrue result ↔ (HasClass self.now id.0 × (class_found self.now.image id.0 ≡ id.0)) }
+    {
+        self.is_valid_id(id) && reports::is_alive(&self.store, id.0)
+    }
+
+    /// What an applied id finds: a live class, with a name for just each slot that it has left. The id may lack names for slots that
+    /// unions dropped.
+    pub fn find_applied_id(&self, a: &AppliedId) -> Result<AppliedId, Error>
+        requires { IsTrue self.now.failed ⊎ IsValidId self.now (to_applied a.now) }
+        ensures ok { IfOk result (λ b. to_applied b ≡ found_id self.now.image (to_applied a.now)) }
+
+        // It finds what the id finds, so itself: asked again, the answer stays. `eq` of the two is yes.
+        ensures found { IfOk result (λ b. IsFoundFor self.now (to_applied a.now) (to_applied b)) }
+
+        ensures failed { IsErrOf result Error.Failed ↔ IsTrue self.now.failed }
+        ensures only { IfErr result (λ e. (e ≡ Error.Failed) ⊎ (e ≡ Error.OutOfMemory)) }
+    {
+        if self.failed {
+            return Err(Error::Failed);
+        }
+        finding::find_applied_id(&self.store, self.alloc, a)
+    }
+
+    /// The classes that find themselves, ascending.
+    pub fn ids(&self) -> Result<Vec<Id>, Error>
+        ensures ok { IfOk result (λ v. class_numbers v.items ≡ live_classes self.now.image) }
+
+        ensures failed { IsErrOf result Error.Failed ↔ IsTrue self.now.failed }
+        ensures only { IfErr result (λ e. (e ≡ Error.Failed) ⊎ (e ≡ Error.OutOfMemory)) }
+    {
+        if self.failed {
+            return Err(Error::Failed);
+        }
+        let ids = live_ids(&self.store, self.alloc)?;
+        Ok(ids)
+    }
+
+    /// The slots of a class that no union dropped, ascending. The table knows them.
+    pub fn slots(&self, id: Id) -> Result<SmallHashSet<Slot>, Error>
+        requires { IsTrue self.now.failed ⊎ (id.0 < length self.now.image.canonical) }
+        ensures ok { IfOk result (λ s. s ≡ slots_used self.now.image id.0) }
+        ensures known { IfOk result (λ s. AllKnown self.now.table s) }
+
+        ensures failed { IsErrOf result Error.Failed ↔ IsTrue self.now.failed }
+        ensures only { IfErr result (λ e. (e ≡ Error.Failed) ⊎ (e ≡ Error.OutOfMemory)) }
+    {
+        if self.failed {
+            return Err(Error::Failed);
+        }
+        reports::slots_of(&self.store, self.alloc, id.0)
+    }
+
+    /// A class with each of these slots as its own name.
+    pub fn mk_identity_applied_id(&self, id: Id) -> Result<AppliedId, Error>
+        requires { IsTrue self.now.failed ⊎ (id.0 < length self.now.image.canonical) }
+        ensures ok { IfOk result (λ a. to_applied a ≡ names_slots self.now.image id.0) }
+        ensures valid { IfOk result (λ a. IsValidId self.now (to_applied a)) }
+
+        ensures failed { IsErrOf result Error.Failed ↔ IsTrue self.now.failed }
+        ensures only { IfErr result (λ e. (e ≡ Error.Failed) ⊎ (e ≡ Error.OutOfMemory)) }
+    {
+        if self.failed {
+            return Err(Error::Failed);
+        }
+        let made = reports::mk_identity_applied_id(&self.store, self.alloc, id.0)?;
+        Ok(made)
+    }
+
+    /// A slot that the graph's table never made before. It takes no memory.
+    pub fn fresh_slot(&mut self) -> Result<Slot, Error>
+        ensures slot { IfOk result (λ s. s ≡ fresh_slot self.old.table.fresh) }
+        ensures moved { OnOk result (self.new.table ≡ record self.old.table { fresh = self.old.table.fresh + 1 }) }
+
+        // It was not known, and is known from now on. Only the table changes, and a refusal does not fail the graph.
+        ensures unused { IfOk result (λ s. is_known self.old.table s ≡ false) }
+        ensures known { IfOk result (λ s. IsTrue (is_known self.new.table s)) }
+        ensures takes { OnlyTakesSlots self.old self.new }
+        ensures err { OnErr result (self.new ≡ self.old) }
+
+        ensures failed { IsErrOf result Error.Failed ↔ IsTrue self.old.failed }
+        ensures full { IsErrOf result Error.OutOfSlots ↔ ((self.old.failed ≡ false) × (self.old.table.fresh ≡ slot_limit)) }
+        ensures only { IfErr result (λ e. (e ≡ Error.Failed) ⊎ (e ≡ Error.OutOfSlots)) }
+    {
+        if self.failed {
+            return Err(Error::Failed);
+        }
+        self.table.fresh()
+    }
+
+    /// The slot of the text after a `$` in the graph's table, as `SlotTable::named` reads it. Only a new name takes memory.
+    pub fn named_slot(&mut self, s: &str) -> Result<Slot, Error>
+        ensures slot { IfOk result (λ slot. named_of self.old.table s.now ≡ gives slot self.new.table) }
+
+        // The slot is known from now on, and a name prints as it was given. Only the table changes, and a refusal does not fail the graph.
+        ensures known { IfOk result (λ slot. IsTrue (is_known self.new.table slot)) }
+        ensures shown { IfOk result (PrintsWord self.new.table s.now) }
+        ensures reads { OnlyReads self.old self.new }
+        ensures err { OnErr result (self.new ≡ self.old) }
+
+        ensures failed { IsErrOf result Error.Failed ↔ IsTrue self.old.failed }
+        ensures large { IsErrOf result Error.NumberTooLarge ↔ ((self.old.failed ≡ false) × (named_of self.old.table s.now ≡ too_large)) }
+        ensures full { IsErrOf result Error.OutOfSlots ↔ ((self.old.failed ≡ false) × (named_of self.old.table s.now ≡ no_place)) }
+        ensures memory { IsErrOf result Error.OutOfMemory → IsNewName self.old.table s.now }
+        ensures only { IfErr result (λ e. (e ≡ Error.Failed) ⊎ IsNamingRefusal e) }
+    {
+        if self.failed {
+            return Err(Error::Failed);
+        }
+        self.table.named(s)
+    }
+}

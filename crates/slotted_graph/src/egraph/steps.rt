@@ -1,0 +1,105 @@
+//! Proof steps, each accepted exactly where it is right.
+ghost use Rattle.std.specs.Prelude.{◌≡◌, ◌⊎◌, ◌↔◌, IsTrue, IfOk, OnErr, IfErr, IsErrOf};
+ghost use Rattle.slotted_model.specs.ProofList.{Step, reflexive, symmetric, transitive, congruent};
+ghost use Rattle.slotted_proofs.specs.Steps.{IsRefusal};
+ghost use Rattle.slotted_core.specs.Checks.{Fits, CanRunOut, Accepts, IsDerivable, FollowsFromEntry, entry_by};
+
+use crate::egraph::EGraph;
+use slotted_core::checking;
+use slotted_languages::Language;
+use slotted_proofs::{
+    CongruenceProof, Equation, ProvenEq, ReflexivityProof, SymmetryProof, TransitivityProof,
+};
+use slotted_slots::Error;
+
+/// A step by which an equation is proved.
+pub trait Check {
+    // Which step it is.
+    ghost step: { Self → Step };
+
+    /// The number of the equation, which is entered by this step if it is not there yet.
+    ///
+    /// Any equation may be handed in, and any numbers in the step. `BadStep` if the step does not prove the equation over the
+    /// entries of this graph, or a side is not an id of this graph with different names for exactly the canonical slots of its
+    /// class. A refusal changes nothing.
+    fn check<L: Language, N: Drop>(
+        &self,
+        equation: &Equation,
+        graph: &mut EGraph<L, N>,
+    ) -> Result<ProvenEq, Error>
+        ensures fits { IfOk result (λ _. Fits graph.old.image equation.now (step self.now)) }
+        ensures refused { IsErrOf result Error.BadStep → ¬ Fits graph.old.image equation.now (step self.now) }
+
+        // What stands at the answered number follows from what was asserted.
+        ensures accepted { IfOk result (Accepts graph.old graph.new (entry_by equation.now (step self.now))) }
+        ensures derivable { IfOk result (λ _. IsDerivable graph.old.image equation.now) }
+
+        // And from the explicit leaves of its own tree alone.
+        ensures leaves { IfOk result (FollowsFromEntry graph.new.image equation.now) }
+
+        ensures err { OnErr result (graph.new ≡ graph.old) }
+        ensures failed { IsErrOf result Error.Failed ↔ IsTrue graph.old.failed }
+        ensures full { IsErrOf result Error.OutOfSlots → CanRunOut graph.old.image equation.now (step self.now) }
+        ensures only { IfErr result (λ e. (e ≡ Error.Failed) ⊎ IsRefusal e) };
+}
+
+impl Check for ReflexivityProof {
+    ghost step = { λ _. reflexive };
+
+    fn check<L: Language, N: Drop>(
+        &self,
+        equation: &Equation,
+        graph: &mut EGraph<L, N>,
+    ) -> Result<ProvenEq, Error> {
+        if graph.failed {
+            return Err(Error::Failed);
+        }
+        checking::check_reflexive(&mut graph.store, graph.alloc, equation)
+    }
+}
+
+impl Check for SymmetryProof {
+    ghost step = { λ s. symmetric s.0 };
+
+    fn check<L: Language, N: Drop>(
+        &self,
+        equation: &Equation,
+        graph: &mut EGraph<L, N>,
+    ) -> Result<ProvenEq, Error> {
+        if graph.failed {
+            return Err(Error::Failed);
+        }
+        checking::check_symmetric(&mut graph.store, graph.alloc, equation, self.0)
+    }
+}
+
+impl Check for TransitivityProof {
+    ghost step = { λ s. transitive s.0 s.1 };
+
+    fn check<L: Language, N: Drop>(
+        &self,
+        equation: &Equation,
+        graph: &mut EGraph<L, N>,
+    ) -> Result<ProvenEq, Error> {
+        if graph.failed {
+            return Err(Error::Failed);
+        }
+        checking::check_transitive(&mut graph.store, graph.alloc, equation, self.0, self.1)
+    }
+}
+
+impl Check for CongruenceProof {
+    ghost step = { λ s. congruent s.0.items };
+
+    fn check<L: Language, N: Drop>(
+        &self,
+        equation: &Equation,
+        graph: &mut EGraph<L, N>,
+    ) -> Result<ProvenEq, Error> {
+        if graph.failed {
+            return Err(Error::Failed);
+        }
+        let copy = self.copy(graph.alloc)?;
+        checking::check_congruent(&mut graph.store, graph.alloc, equation, copy.0)
+    }
+}

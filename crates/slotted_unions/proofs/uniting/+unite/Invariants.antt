@@ -1,6 +1,0 @@
-use Rattle.slotted_model.specs.Rest.{size}
-use Rattle.slotted_unions.specs.StateOf.{state_of}
-use Rattle.slotted_unions.proofs.uniting.+unite.Given as goal
-
-abbrev pub decreases-unite : goal.decreases-unite
-decreases-unite g l = size (state_of l.store.now)
