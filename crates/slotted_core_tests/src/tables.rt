@@ -165,6 +165,8 @@ fn what_is_valid_is_told(rt: HostRuntime) -> Result<(), Error> {
 // A canonical term is read off the class, with the names of the id.
 const CANONICAL: &str = "print canonical: (add (var $p) (g $q)) => (add (var $p) (g $q))
 print canonical: (add (var $x) (g $y)) => (add (var $x) (g $y))
+print nulls: (add (var $x) (g $y)) => yes
+print nulls: (lam $x (app (var $x) (f $y $z))) => yes
 count children: (add (var $x) (g $y)) => 2
 print canonical: (add (var $p) (g $q)) => (add (var $p) (g $q))
 count children: (lam $x (var $x)) => 1

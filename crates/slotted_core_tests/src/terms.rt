@@ -1,10 +1,11 @@
 //! What is printed of terms and patterns, and what is counted.
-use crate::graphs::put;
+use crate::graphs::{put, yes};
 use crate::ids::slots_left;
 use slotted_graph::EGraph;
 use slotted_languages::Language;
 use slotted_patterns::Pattern;
 use slotted_slots::{AppliedId, Error, Show, SlotTable};
+use slotted_terms::expr::RecExpr;
 use slotted_terms::expr::printing::Printable;
 use std::alloc::Global;
 
@@ -48,6 +49,50 @@ fn canonical_term<L: Printable>(
     }
     let term = graph.get_syn_expr(a)?;
     term.text(alloc, graph.table())
+}
+
+// Whether each child id inside a node is null.
+fn has_null_ids<L: Language>(alloc: Global, node: &L) -> bool {
+    let null = AppliedId::null(alloc);
+    for k in 0..node.applied_id_count() {
+        if *node.applied_id(k) != null {
+            return false;
+        }
+    }
+    true
+}
+
+// The same of all nodes of a term.
+fn has_only_nulls<L: Language>(alloc: Global, term: &RecExpr<L>) -> bool {
+    for child in term.children.iter() {
+        if !has_only_nulls(alloc, child) {
+            return false;
+        }
+    }
+    has_null_ids(alloc, &term.node)
+}
+
+// The same of the canonical term of an id, if it can be found.
+fn is_null_inside<L: Language>(
+    alloc: Global,
+    graph: &mut EGraph<L>,
+    a: &AppliedId,
+) -> Result<bool, Error> {
+    if !graph.is_valid(a) {
+        return Err(Error::NotATerm);
+    }
+    let term = graph.get_syn_expr(a)?;
+    Ok(has_only_nulls(alloc, &term))
+}
+
+// The same of the canonical term of a text's term.
+fn nulls<L: Language>(
+    alloc: Global,
+    graph: &mut EGraph<L>,
+    text: &str,
+) -> Result<&'static str, Error> {
+    let id = put(graph, text)?;
+    Ok(yes(is_null_inside(alloc, graph, &id)?))
 }
 
 // The number of children of its canonical node.
@@ -129,6 +174,7 @@ pub fn answer<L: Printable>(
         "slot" => slot(alloc, graph, text),
         "term" => term(alloc, graph, text),
         "found" => found(alloc, graph, text),
+        "nulls" => Ok(String::from_str(alloc, nulls(alloc, graph, text)?)?),
         _ => canonical(alloc, graph, text),
     }
 }
