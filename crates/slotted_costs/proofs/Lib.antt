@@ -1,0 +1,4 @@
+pub mod Alike
+pub mod TermCosts
+pub mod Lawful
+pub mod Within

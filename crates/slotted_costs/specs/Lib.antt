@@ -1,0 +1,5 @@
+-- What nodes and terms cost.
+pub mod Costs
+pub mod Laws
+pub mod Size
+pub mod SizeLaws

@@ -1,0 +1,11 @@
+//! Costs of nodes and of terms.
+//!
+//! A cost function says what a node costs over the costs of its children; what it has to keep is told by [`CostFunction`]. [`AstSize`] is
+//! one: it counts nodes.
+#![tactic(auto)]
+
+pub mod ast_size;
+pub mod cost;
+
+pub use ast_size::AstSize;
+pub use cost::{CostFunction, costs_are_lawful};
