@@ -1,6 +1,7 @@
 -- Lemmas of looking up and filling.
 pub mod FoundIds
 pub mod FoundMaps
+pub mod FoundAsTheyAre
 pub mod RowNames
 pub mod LookedUpRows
 pub mod Reported

@@ -5,14 +5,16 @@
 --     filed_slots r i      the slot of the class i for each number of the key that is filed of it
 --     HasNamesFor r i n    a key is filed of the class i, and n has a name for each number of it
 --     found_named k r i n  what the class i finds, where the slots that are filed have these names
+--     IsNormalShape k f g n  g is the shape of the node f in normal form, and n has its name for each number
 --     looked_up k r f      the id of a node, by the shape of its normal form
 use Rattle.std.specs.Prelude.{◌≡◌, ℕ, List, [], Option, Some, None}
 use Rattle.slotted_theory.specs.Renaming.{IsInjective}
 use Rattle.slotted_nodes.specs.Form.{Form}
 use Rattle.slotted_languages.specs.NodeTerm.{nameless_node}
+use Rattle.slotted_languages.specs.Shape.{Fits, shape}
 use Rattle.slotted_model.specs.Applied.{Applied, keys, renamed_id}
 use Rattle.slotted_model.specs.Find.{Entry, find, find_class, find_map}
-use Rattle.slotted_model.specs.Normal.{IsFound}
+use Rattle.slotted_model.specs.Normal.{IsFound, normal}
 use Rattle.slotted_model.specs.State.{look_up_node}
 use Rattle.slotted_store.specs.Finding.{FindAlike, IsFindable}
 use Rattle.slotted_store.specs.Kept.{Kept, entries_of}
@@ -51,6 +53,12 @@ pub record HasNamesFor (r : Rows) (i : ℕ) (n : List (ℕ × ℕ)) : Type 0 whe
 
 abbrev pub found_named : Kept → Rows → ℕ → List (ℕ × ℕ) → Applied
 found_named k r i n = find (entries_of k) (i, between (filed_slots r i) n)
+
+pub record IsNormalShape (k : Kept) (f g : Form) (n : List (ℕ × ℕ)) : Type 0 where
+  pub node : Form
+  pub fits : Fits node
+  pub normal : nameless_node node ≡ normal (entries_of k) (nameless_node f)
+  pub shape : ◌≡◌ {A = Form × List (ℕ × ℕ)} (g, n) (shape node)
 
 abbrev pub looked_up : Kept → Rows → Form → Option Applied
 looked_up k r f = look_up_node (state_in k r) (nameless_node f)

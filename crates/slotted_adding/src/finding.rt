@@ -64,6 +64,13 @@ pub fn found_with<L: Language>(
     ensures ok { IfOk result (λ a. to_applied a ≡ find (entries_of store.now) (class, names.now)) }
     ensures err { IfErr result IsOutOfMemory }
 {
+    let entry = store.entry(class);
+    if entry.id.0 == class {
+        return Ok(AppliedId {
+            id: Id(class),
+            m: entry.m.compose_partial(alloc, names)?,
+        });
+    }
     let found = found_class(store, alloc, class)?;
     Ok(AppliedId {
         id: found.id,

@@ -1,11 +1,16 @@
 //! The id of a node, by the shape of its normal form.
-ghost use Rattle.std.specs.Prelude.{◌≡◌, option_map, IfOk, IfErr, IsErrOf};
+ghost use Rattle.std.specs.Prelude.{◌≡◌, option_map, IfOk, IfErr, IsErrOf, IsTrue};
 ghost use Rattle.slotted_slots.specs.Error.{IsOutOfMemory, IsShortage};
 ghost use Rattle.slotted_languages.specs.NewNames.{IsTooLarge};
+ghost use Rattle.slotted_languages.specs.NodeTerm.{nameless_node};
+ghost use Rattle.slotted_model.specs.Find.{find};
+ghost use Rattle.slotted_model.specs.Normal.{normal};
+ghost use Rattle.slotted_store.specs.Finding.{HasFinds, IsFindable};
+ghost use Rattle.slotted_store.specs.Kept.{entries_of};
 ghost use Rattle.slotted_normal_forms.specs.NormalNodes.{HasFindableChildren};
 ghost use Rattle.slotted_proofs.specs.Equations.{to_applied};
 ghost use Rattle.slotted_rebuilding.specs.Filed.{IsWellFiled};
-ghost use Rattle.slotted_adding.specs.LookUp.{HasNamesFor, found_named, looked_up};
+ghost use Rattle.slotted_adding.specs.LookUp.{HasNamesFor, IsNormalShape, found_named, looked_up};
 
 use crate::finding::found_with;
 use slotted_filing::Hashcons;
@@ -40,6 +45,51 @@ fn found_source<L: Language>(
     }
 }
 
+// Whether an id is what it finds. So it is if its class lives and uses as many slots as it has names.
+fn is_found<L: Language>(store: &Store<L>, a: &AppliedId) -> bool
+    requires good { HasFinds store.now }
+    requires findable { IsFindable store.now (to_applied a.now) }
+    ensures { IsTrue result → find (entries_of store.now) (to_applied a.now) ≡ to_applied a.now }
+{
+    let entry = store.entry(a.id.0);
+    entry.id.0 == a.id.0 && entry.m.len() == a.m.len()
+}
+
+// Whether each child of a node is what it finds. It takes no memory.
+fn is_normal<L: Language>(store: &Store<L>, node: &L) -> bool
+    requires good { HasFinds store.now }
+    requires children { HasFindableChildren store.now (L.form node.now) }
+    ensures { IsTrue result → normal (entries_of store.now) (nameless_node (L.form node.now)) ≡ nameless_node (L.form node.now) }
+{
+    for k in 0..node.applied_id_count() {
+        if !is_found(store, node.applied_id(k)) {
+            return false;
+        }
+    }
+    true
+}
+
+// The shape of a node in normal form, and the node's name for each number. A node that is in normal form is not copied first.
+fn normal_shape<L: Language>(
+    store: &Store<L>,
+    alloc: Global,
+    node: &L,
+) -> Result<(L, SlotMap), Error>
+    requires good { HasFinds store.now }
+    requires children { HasFindableChildren store.now (L.form node.now) }
+    ensures ok { IfOk result (λ r. IsNormalShape store.now (L.form node.now) (L.form r.0) r.1) }
+    ensures full { IsErrOf result Error.OutOfSlots → IsTooLarge (L.form node.now) }
+    ensures err { IfErr result IsShortage }
+{
+    if is_normal(store, node) {
+        let own = node.weak_shape(alloc)?;
+        return Ok(own);
+    }
+    let normal = normal_of(store, alloc, node)?;
+    let shape = normal.weak_shape(alloc)?;
+    Ok(shape)
+}
+
 /// The id of a node: what the class of the filed node with the shape of its normal form finds, with the node's names
 /// put in.
 pub fn look_up<L: Language>(
@@ -54,8 +104,7 @@ pub fn look_up<L: Language>(
     ensures full { IsErrOf result Error.OutOfSlots → IsTooLarge (L.form node.now) }
     ensures err { IfErr result IsShortage }
 {
-    let normal = normal_of(store, alloc, node)?;
-    let (key, names) = normal.weak_shape(alloc)?;
+    let (key, names) = normal_shape(store, alloc, node)?;
     match nodes.source_of(&key) {
         Some(class) => Ok(Some(found_source(store, nodes, alloc, class, &names)?)),
         None => Ok(None),
