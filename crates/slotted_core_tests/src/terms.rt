@@ -4,7 +4,7 @@ use crate::ids::slots_left;
 use slotted_graph::EGraph;
 use slotted_languages::Language;
 use slotted_patterns::Pattern;
-use slotted_slots::{AppliedId, Error, Show, SlotTable};
+use slotted_slots::{AppliedId, Error, Show, Slot, SlotTable};
 use slotted_terms::expr::RecExpr;
 use slotted_terms::expr::printing::Printable;
 use std::alloc::Global;
@@ -25,14 +25,19 @@ fn pattern<L: Language>(alloc: Global, graph: &mut EGraph<L>, text: &str) -> Res
     shown(alloc, &pattern, graph.table())
 }
 
-// What is printed of the slot of a name.
-fn slot<L: Language>(alloc: Global, graph: &mut EGraph<L>, name: &str) -> Result<String, Error> {
-    let slot = graph.named_slot(name)?;
-    let shown = slot.show(graph.table());
+// What is printed of a slot.
+fn slot_text(alloc: Global, slot: Slot, table: &SlotTable) -> Result<String, Error> {
+    let shown = slot.show(table);
     Ok(format!(in alloc; "{shown}")?)
 }
 
-// The same of the term that a text writes.
+// The same of the slot of a name.
+fn slot<L: Language>(alloc: Global, graph: &mut EGraph<L>, name: &str) -> Result<String, Error> {
+    let slot = graph.named_slot(name)?;
+    slot_text(alloc, slot, graph.table())
+}
+
+// What is printed of the term that a text writes.
 fn term<L: Printable>(alloc: Global, graph: &mut EGraph<L>, text: &str) -> Result<String, Error> {
     let term = graph.parse_expr(text)?;
     term.text(alloc, graph.table())
