@@ -50,9 +50,9 @@ filed_none g f o b is class =
 
 -- what is equal to the id that a node has is equal to the node
 equal_through : (g : Graph) (f : Form) (a b : Applied) (y : Bool) → IsFound g a → IsEqualToNode g.image a f → SaysFillingsEqual g.image a b y → SaysNodeEqual g f b y
-equal_through g f a b y found equal says yes right e fills node =
+equal_through g f a b y found equal says told right e fills node =
     let left = filled g a found.valid in
-    joined (turned (says yes left.0 right left.1 fills).0) (equal left.0 e left.1 node)
+    joined (turned (says told left.0 right left.1 fills).0) (equal left.0 e left.1 node)
 
 pub filed_equal : (g : Graph) (f : Form) (x : AppliedId) (o : Option AppliedId) (b : Applied) (r : Result Bool Error) → o ≡ Some x → IfSome o (λ a. IsFound g (to_applied a)) → IfSome o (λ a. IsEqualToNode g.image (to_applied a) f) →
     IfOk r (SaysFillingsEqual g.image (to_applied x) b) → IfOk r (SaysNodeEqual g f b)
