@@ -1,6 +1,6 @@
 -- What an answer to `eq` says of two terms that were looked up. The ids may lack names for slots that unions dropped: whatever names are
 -- filled in, each is equal to its term by what was asserted, so what is said of the one pair is said of the other.
-use Rattle.std.proofs.Common.{◌≡◌, ◌<◌, ◌∙◌, Bool, List, [], length, ap, sym, subst, inl, inr}
+use Rattle.std.proofs.Common.{◌≡◌, ◌<◌, ◌∙◌, Bool, List, length, ap, sym, subst, inl, inr}
 use Rattle.std.specs.Prelude.{IsTrue, false}
 use Rattle.std.proofs.lemmas.Bool.{false≢true}
 use Rattle.slotted_theory.specs.Term.{Term}
