@@ -1,6 +1,6 @@
 -- What each step of a command leaves the next one.
 use Rattle.std.proofs.Common.{◌≡◌, ◌⊎◌, ℕ, List, [], ◌∷◌, Bool, true, false, inl, inr, refl, sym, ap, ◌∙◌, subst}
-use Rattle.std.specs.Prelude.{Option, Some, IsTrue, Result, Ok, Err, IfErr, IsErr, IsErrOf}
+use Rattle.std.specs.Prelude.{Option, Some, IsSome, IsTrue, Result, Ok, Err, IfErr, IsErr, IsErrOf}
 use Rattle.std.specs.Str.{chars}
 use Rattle.std.proofs.lemmas.Bool.{cases_Bool, false≢true}
 use Rattle.slotted_theory.specs.Term.{Term}
@@ -18,16 +18,17 @@ use Rattle.slotted_model.specs.Applied.{Applied}
 use Rattle.slotted_model.specs.Classes.{term_of}
 use Rattle.slotted_model.specs.Growth.{Extends}
 use Rattle.slotted_model.specs.Ids.{id_of}
+use Rattle.slotted_core.specs.AddingTerms.{IsEqualToTerm}
 use Rattle.slotted_core.specs.Graph.{Graph, IsFullId, OnlyReads}
-use Rattle.slotted_core.specs.Affected.{IsYesIfDerivable}
-use Rattle.slotted_core.specs.Image.{FoundAlike, AddsClasses, AreDerivable, IsUnion, asserted_in}
-use Rattle.slotted_core.specs.Causes.{CanRunOutForTerm, HasLargeClassIn}
+use Rattle.slotted_core.specs.Image.{AddsClasses, IsUnion}
+use Rattle.slotted_core.specs.Causes.{HasLargeClassIn}
+use Rattle.slotted_core.specs.LookUp.{IsOneGraph, KeepsLookUps, look_up_term}
 use Rattle.slotted_core.specs.Nodes.{to_applied}
-use Rattle.slotted_core.proofs.CallerLemmas.{fills-itself}
+use Rattle.slotted_core.specs.Reports.{IsFound}
 use Rattle.slotted_commands.specs.declared.answer.Answer.{Answer}
-use Rattle.slotted_commands.specs.declared.answer.Answer.TheVariants.{Yes, No, Refused}
+use Rattle.slotted_commands.specs.declared.answer.Answer.TheVariants.{Refused}
 use Rattle.slotted_commands.specs.Commands.{Command, compares, unites}
-use Rattle.slotted_commands.specs.Sessions.{AddsBoth, Answered, FirstIsRefused, Gains, IsAnsweredWith, IsCommand, IsRefused, RunsOut, RunsOutAt, Says, Unites, WritesTerm, WritesTerms, are_different, are_equal, carried_out, has_failed, ran_out, refused, refused_here, texts_of, union_ran_out}
+use Rattle.slotted_commands.specs.Sessions.{AddsBoth, Answered, FirstIsRefused, GainsFound, GainsSyn, IsAnsweredIn, IsAnsweredWith, IsCommand, IsRefused, LacksSlots, LooksUpBoth, Manner, RunsOut, RunsOutAt, Says, Unites, WritesTerm, WritesTerms, carried_out, has_failed, ran_out, refused, refused_here, texts_of, union_ran_out}
 
 module _ (read : List Element → Option Form) (g h : Graph) (text : List ℕ) (only : OnlyReads g h) where
   -- a text that was read
@@ -56,18 +57,34 @@ pub not_true : (b : Bool) → ¬ (IsTrue b) → b ≡ false
 not_true true n = absurd (n refl)
 not_true false n = refl
 
--- a term that was added
-pub gains : (g h : Graph) (t : Term) (a : AppliedId) → (IsTrue h.failed → false ≡ true) → IsFullId h (to_applied a) → term_of h.image.canonical (to_applied a) ≡ nameless t → id_of h.image.canonical (nameless t) ≡ Some (to_applied a) → Extends g.image.canonical h.image.canonical → AddsClasses g.image h.image → KnowsMore g.table h.table → Gains g t (to_applied a) h
-gains g h t a sound valid term found extends adds more =
+-- a term that was added by look-up
+pub gains_found : (g h : Graph) (t : Term) (a : AppliedId) → (IsTrue h.failed → false ≡ true) → look_up_term h t ≡ Some (to_applied a) → IsFound h (to_applied a) → IsEqualToTerm h.image (to_applied a) t → (IsSome (look_up_term g t) → IsOneGraph g h) → KeepsLookUps g h
+    → Extends g.image.canonical h.image.canonical → AddsClasses g.image h.image → KnowsMore g.table h.table → GainsFound g t (to_applied a) h
+gains_found g h t a sound looked_up found equal kept answers extends adds more = record {
+  sound = not_true h.failed (λ f. false≢true (sound f));
+  valid = found.valid;
+  found = found;
+  looked_up = looked_up;
+  equal = equal;
+  kept = kept;
+  answers = answers;
+  extends = extends;
+  adds = adds;
+  more = more;
+}
+
+-- a term that was added by canonical nodes
+pub gains_syn : (g h : Graph) (t : Term) (a : AppliedId) → (IsTrue h.failed → false ≡ true) → IsFullId h (to_applied a) → term_of h.image.canonical (to_applied a) ≡ nameless t → id_of h.image.canonical (nameless t) ≡ Some (to_applied a) → Extends g.image.canonical h.image.canonical → AddsClasses g.image h.image → KnowsMore g.table h.table → GainsSyn g t (to_applied a) h
+gains_syn g h t a sound valid term found extends adds more =
     record { sound = not_true h.failed (λ f. false≢true (sound f)); valid = valid; term = term; found = found; extends = extends; adds = adds; more = more }
 
 -- a term that was not added, since memory or slots ran out
-pub runs_out : {A : Type 0} (g h : Graph) (t : Term) (r : Result A Error) (e : Error) → r ≡ Err e → g.failed ≡ false → (IsErrOf r Failed → IsTrue g.failed) → (IsErr r → IsTrue h.failed) → (IsErrOf r OutOfSlots → CanRunOutForTerm g.image t g.table h.table) → IfErr r (λ x. (x ≡ Failed) ⊎ IsShortage x) → KnowsMore g.table h.table → RunsOut g t e h
-runs_out g h t (Ok a) e is sound was fails full only more = cc
-runs_out g h t (Err x) e is sound was fails full only more =
+pub runs_out : {A : Type 0} (m : Manner) (g h : Graph) (t : Term) (r : Result A Error) (e : Error) → r ≡ Err e → g.failed ≡ false → (IsErrOf r Failed → IsTrue g.failed) → (IsErr r → IsTrue h.failed) → (IsErrOf r OutOfSlots → LacksSlots m g t h.table) → IfErr r (λ x. (x ≡ Failed) ⊎ IsShortage x) → KnowsMore g.table h.table → RunsOut m g t e h
+runs_out m g h t (Ok a) e is sound was fails full only more = cc
+runs_out m g h t (Err x) e is sound was fails full only more =
     let same : x ≡ e = cc in
     let short : IsShortage x = elim only [ inl f ↦ absurd (false≢true (sym sound ∙ was (ap Err f))) | inr s ↦ s ] in
-    subst (λ y. RunsOut g t y h) same (record { failed = fails refl; shortage = short; cause = λ q. full (ap Err q); more = more })
+    subst (λ y. RunsOut m g t y h) same (record { failed = fails refl; shortage = short; cause = λ q. full (ap Err q); more = more })
 
 -- a command with two texts of which the first was refused
 pub both_refused : (read : List Element → Option Form) (written : Term → List Element) (g h : Graph) (left right : List ℕ) (e : Error) → OnlyReads g h → (IsTrue g.failed → h ≡ g) → (IsTrue g.failed → e ≡ Failed) → (g.failed ≡ false → Refuses (λ o. TextReads read g.table (chars left) o h.table) e) → IsAnsweredWith read written g h left right e
@@ -77,42 +94,24 @@ both_refused read written g h left right e reads stays fails answer c command te
 pub both_refused_later : (read : List Element → Option Form) (written : Term → List Element) (g h : Graph) (left right : List ℕ) (e : Error) → g.failed ≡ false → FirstIsRefused read g (left ∷ right ∷ []) e h → IsAnsweredWith read written g h left right e
 both_refused_later read written g h left right e sound first c command texts = refused sound (subst (λ ts. FirstIsRefused read g ts e h) (sym texts) first)
 
--- one whose terms could not be added
-pub both_run_out : (read : List Element → Option Form) (written : Term → List Element) (g r h : Graph) (left right : List ℕ) (e : Error) (t u : Term) → g.failed ≡ false → WritesTerms read g (left ∷ right ∷ []) (t ∷ u ∷ []) r → RunsOutAt r (t ∷ u ∷ []) e h → IsAnsweredWith read written g h left right e
-both_run_out read written g r h left right e t u sound writes short c command texts = ran_out (t ∷ u ∷ []) r sound (subst (λ ts. WritesTerms read g ts (t ∷ u ∷ []) r) (sym texts) writes) short
+-- one whose terms could not be added in its manner
+pub both_run_out : (m : Manner) (read : List Element → Option Form) (written : Term → List Element) (g r h : Graph) (left right : List ℕ) (e : Error) (t u : Term) → g.failed ≡ false → WritesTerms read g (left ∷ right ∷ []) (t ∷ u ∷ []) r → RunsOutAt m r (t ∷ u ∷ []) e h → IsAnsweredIn m read written g h left right e
+both_run_out m read written g r h left right e t u sound writes short c command manner texts =
+    ran_out (t ∷ u ∷ []) r sound (subst (λ ts. WritesTerms read g ts (t ∷ u ∷ []) r) (sym texts) writes) (subst (λ n. RunsOutAt n r (t ∷ u ∷ []) e h) (sym manner) short)
 
--- what an answer to a command with two texts was is one to its result
-pub answered_with : {A : Type 0} (read : List Element → Option Form) (written : Term → List Element) (g h : Graph) (left right : List ℕ) (c : Command) (r : Result A Error) (e : Error) → r ≡ Err e → IfErr r (IsAnsweredWith read written g h left right) → IsCommand c → texts_of c ≡ left ∷ right ∷ [] → Answered read written g h c (Refused e)
-answered_with read written g h left right c (Ok x) e is all command texts = cc
-answered_with read written g h left right c (Err x) e is all command texts = let same : x ≡ e = cc in subst (λ y. Answered read written g h c (Refused y)) same (all c command texts)
+-- what is so of any command is so of those that add their terms in a manner
+pub in_manner : (m : Manner) (read : List Element → Option Form) (written : Term → List Element) (g h : Graph) (left right : List ℕ) (e : Error) → IsAnsweredWith read written g h left right e → IsAnsweredIn m read written g h left right e
+in_manner m read written g h left right e all c command manner texts = all c command texts
 
-module _ (read : List Element → Option Form) (written : Term → List Element) (g h : Graph) (left right : List ℕ) (a b : Applied) (both : AddsBoth read g h left right a b) where
-  -- two ids that find alike
-  pub found_equal : FoundAlike h.image a b → AreDerivable h.image a b → (asserted_in h.image ≡ [] → term_of h.image.canonical a ≡ term_of h.image.canonical b) → Answered read written g h (compares left right) Yes
-  found_equal found derivable equal =
-      carried_out (both.first ∷ both.second ∷ []) (a ∷ b ∷ []) both.before h both.sound both.writes both.gains (are_equal (record {
-        found = found;
-        derivable = λ E e. derivable E both.first both.second e (sym both.left_term) (sym both.right_term);
-        equal = λ n. sym both.left_term ∙ (equal n ∙ both.right_term);
-      }))
+-- what a comparison of two terms that were looked up says
+pub compares_says : (read : List Element → Option Form) (written : Term → List Element) (g h : Graph) (left right : List ℕ) (a b : AppliedId) (both : LooksUpBoth read g h left right a b) (x : Answer)
+    → Says h (compares left right) (both.first ∷ both.second ∷ []) (to_applied a ∷ to_applied b ∷ []) h x → Answered read written g h (compares left right) x
+compares_says read written g h left right a b both x says = carried_out (both.first ∷ both.second ∷ []) (to_applied a ∷ to_applied b ∷ []) both.before h both.sound both.writes both.gains says
 
-  -- two that do not
-  pub found_different : (y : Bool) → y ≡ false → ¬ FoundAlike h.image a b → IsYesIfDerivable h.image a b y → (asserted_in h.image ≡ [] → term_of h.image.canonical a ≡ term_of h.image.canonical b → FoundAlike h.image a b) → Answered read written g h (compares left right) No
-  found_different y is_no apart complete equal =
-      let fills_a = fills-itself h.image a both.left_valid.full in
-      let fills_b = fills-itself h.image b both.right_valid.full in
-      carried_out (both.first ∷ both.second ∷ []) (a ∷ b ∷ []) both.before h both.sound both.writes both.gains (are_different (record {
-        found = apart;
-        missed = λ E e d. elim (complete a b fills_a fills_b E both.first both.second e (sym both.left_term) (sym both.right_term) d) [
-          | inl is_yes ↦ absurd (false≢true (sym is_no ∙ is_yes))
-          | inr affected ↦ affected
-        ];
-        different = λ n alpha. apart (equal n (both.left_term ∙ (alpha ∙ sym both.right_term)));
-      }))
-
-  -- what a union of the two says
-  pub unites_says : (k : Graph) (x : Answer) → Says h (unites left right) (both.first ∷ both.second ∷ []) (a ∷ b ∷ []) k x → Answered read written g k (unites left right) x
-  unites_says k x says = carried_out (both.first ∷ both.second ∷ []) (a ∷ b ∷ []) both.before h both.sound both.writes both.gains says
+-- what a union of two terms that were added by canonical nodes says
+pub unites_says : (read : List Element → Option Form) (written : Term → List Element) (g h : Graph) (left right : List ℕ) (a b : AppliedId) (both : AddsBoth read g h left right a b) (k : Graph) (x : Answer)
+    → Says h (unites left right) (both.first ∷ both.second ∷ []) (to_applied a ∷ to_applied b ∷ []) k x → Answered read written g k (unites left right) x
+unites_says read written g h left right a b both k x says = carried_out (both.first ∷ both.second ∷ []) (to_applied a ∷ to_applied b ∷ []) both.before h both.sound both.writes both.gains says
 
 -- a union that was answered
 pub union_done : (g h : Graph) (a b : Applied) (y : Bool) → IsUnion g.image h.image a b y → ¬ (IsTrue h.failed) → h.table ≡ g.table → Unites g a b h y

@@ -1,15 +1,17 @@
 -- What a command answers over a graph, and what it leaves of it. A language says which node, if any, a list of elements
 -- writes, and as which elements the uppermost node of a term is written. The texts of a command are read in turn from the left, before
--- any of their terms is added.
-use Rattle.std.specs.Prelude.{◌≡◌, ℕ, List, [], ◌∷◌, length, map, Bool, true, false, Option, Some, IsTrue, Result, Ok, Err}
+-- any of their terms is added. A term is added by look-up, where it is added or compared, and by canonical nodes, where it is united: so
+-- a union asserts the equation of the terms that were given.
+use Rattle.std.specs.Prelude.{◌≡◌, ℕ, List, [], ◌∷◌, length, map, Bool, true, false, Option, Some, IsSome, IsTrue, Result, Ok, Err}
 use Rattle.std.specs.Str.{chars}
 use Rattle.slotted_theory.specs.Term.{Term}
 use Rattle.slotted_theory.specs.Nameless.{Alpha, nameless}
 use Rattle.slotted_theory.specs.Derives.{Derives, nameless_pair}
+use Rattle.slotted_slots.specs.declared.types.AppliedId.{AppliedId}
 use Rattle.slotted_slots.specs.declared.error.Error.{Error}
 use Rattle.slotted_slots.specs.declared.error.Error.TheVariants.{OutOfSlots, Failed}
 use Rattle.slotted_slots.specs.Error.{IsShortage}
-use Rattle.slotted_slots.specs.Table.{KnowsMore}
+use Rattle.slotted_slots.specs.Table.{KnowsMore, Table}
 use Rattle.slotted_slots.specs.Syntax.{Element}
 use Rattle.slotted_nodes.specs.Form.{Form}
 use Rattle.slotted_patterns.specs.Outcome.{parsed, Refuses}
@@ -19,10 +21,15 @@ use Rattle.slotted_model.specs.Applied.{Applied}
 use Rattle.slotted_model.specs.Classes.{term_of}
 use Rattle.slotted_model.specs.Growth.{Extends}
 use Rattle.slotted_model.specs.Ids.{id_of}
+use Rattle.slotted_core.specs.AddingTerms.{IsEqualToTerm, LacksForTerm}
 use Rattle.slotted_core.specs.Image.{FoundAlike, AddsClasses, IsUnion, CountsOpen, asserted_in}
 use Rattle.slotted_core.specs.Affected.{AreAffected}
 use Rattle.slotted_core.specs.Causes.{CanRunOutForTerm, HasLargeClassIn}
 use Rattle.slotted_core.specs.Graph.{Graph, IsFullId, OnlyReads}
+use Rattle.slotted_core.specs.LookUp.{IsOneGraph, KeepsLookUps, look_up_term}
+use Rattle.slotted_core.specs.Nodes.{to_applied}
+use Rattle.slotted_core.specs.Reports.{IsFound}
+use Rattle.slotted_core.specs.ValidIds.{IsValidId}
 use Rattle.slotted_commands.specs.declared.answer.Answer.{Answer}
 use Rattle.slotted_commands.specs.declared.answer.Answer.TheVariants.{Done, Yes, No, United, WereEqual, Symmetries, Refused, NoCommand}
 use Rattle.slotted_commands.specs.Commands.{Command, adds, compares, unites, explains, counts, no_command}
@@ -46,6 +53,19 @@ IsCommand (explains left right) = Unit {0}
 IsCommand counts = Unit {0}
 IsCommand no_command = ⊥
 
+-- how the terms of a command are added: each node by look-up, or each by canonical nodes
+pub data Manner : Type 0 where
+  by_look_up : Manner
+  canonically : Manner
+
+abbrev pub manner_of : Command → Manner
+manner_of (adds text) = by_look_up
+manner_of (compares left right) = by_look_up
+manner_of (unites left right) = canonically
+manner_of (explains left right) = canonically
+manner_of counts = canonically
+manner_of no_command = canonically
+
 -- over g the text writes the term t, and reading it leaves h
 pub record WritesTerm (read : List Element → Option Form) (g : Graph) (text : List ℕ) (t : Term) (h : Graph) : Type 0 where
   pub reads : TextReads read g.table (chars text) (parsed t) h.table
@@ -66,8 +86,22 @@ pub data FirstIsRefused (read : List Element → Option Form) : Graph → List (
   refused_here : {g h : Graph} {text : List ℕ} {texts : List (List ℕ)} {e : Error} → IsRefused read g text e h → FirstIsRefused read g (text ∷ texts) e h
   refused_later : {g h k : Graph} {text : List ℕ} {texts : List (List ℕ)} {t : Term} {e : Error} → WritesTerm read g text t h → FirstIsRefused read h texts e k → FirstIsRefused read g (text ∷ texts) e k
 
--- h has all that g has, with nothing more asserted, and a valid id that stands for the term t and is what a look-up of it answers
-pub record Gains (g : Graph) (t : Term) (id : Applied) (h : Graph) : Type 0 where
+-- h has all that g has, with nothing more asserted, and an id that a look-up of the term t answers, which `eq` can be asked of: it is what
+-- it finds itself, and equal to t by what is asserted. What was looked up is looked up as before, and where t was, nothing changes
+pub record GainsFound (g : Graph) (t : Term) (id : Applied) (h : Graph) : Type 0 where
+  pub sound : h.failed ≡ false
+  pub valid : IsValidId h id
+  pub found : IsFound h id
+  pub looked_up : look_up_term h t ≡ Some id
+  pub equal : IsEqualToTerm h.image id t
+  pub kept : IsSome (look_up_term g t) → IsOneGraph g h
+  pub answers : KeepsLookUps g h
+  pub extends : Extends g.image.canonical h.image.canonical
+  pub adds : AddsClasses g.image h.image
+  pub more : KnowsMore g.table h.table
+
+-- h has all that g has, with nothing more asserted, and a full id that stands for the term t and is its id by canonical nodes
+pub record GainsSyn (g : Graph) (t : Term) (id : Applied) (h : Graph) : Type 0 where
   pub sound : h.failed ≡ false
   pub valid : IsFullId h id
   pub term : term_of h.image.canonical id ≡ nameless t
@@ -76,22 +110,32 @@ pub record Gains (g : Graph) (t : Term) (id : Applied) (h : Graph) : Type 0 wher
   pub adds : AddsClasses g.image h.image
   pub more : KnowsMore g.table h.table
 
+-- the term t is added to g in this manner, with this id in h
+abbrev pub Gains : Manner → Graph → Term → Applied → Graph → Type 0
+Gains by_look_up g t id h = GainsFound g t id h
+Gains canonically g t id h = GainsSyn g t id h
+
+-- why slots can run out where the term t is added to g in this manner
+abbrev pub LacksSlots : Manner → Graph → Term → Table → Type 0
+LacksSlots by_look_up g t new = LacksForTerm t g new
+LacksSlots canonically g t new = CanRunOutForTerm g.image t g.table new
+
 -- adding the term t to g runs out of memory or slots, and leaves the failed graph h
-pub record RunsOut (g : Graph) (t : Term) (e : Error) (h : Graph) : Type 0 where
+pub record RunsOut (m : Manner) (g : Graph) (t : Term) (e : Error) (h : Graph) : Type 0 where
   pub failed : IsTrue h.failed
   pub shortage : IsShortage e
-  pub cause : e ≡ OutOfSlots → CanRunOutForTerm g.image t g.table h.table
+  pub cause : e ≡ OutOfSlots → LacksSlots m g t h.table
   pub more : KnowsMore g.table h.table
 
 -- the terms are added, one after another, and have these ids
-pub data GainsTerms : Graph → List Term → List Applied → Graph → Type 0 where
-  no_term : {g : Graph} → GainsTerms g [] [] g
-  next_term : {g h k : Graph} {t : Term} {a : Applied} {ts : List Term} {ids : List Applied} → Gains g t a h → GainsTerms h ts ids k → GainsTerms g (t ∷ ts) (a ∷ ids) k
+pub data GainsTerms (m : Manner) : Graph → List Term → List Applied → Graph → Type 0 where
+  no_term : {g : Graph} → GainsTerms m g [] [] g
+  next_term : {g h k : Graph} {t : Term} {a : Applied} {ts : List Term} {ids : List Applied} → Gains m g t a h → GainsTerms m h ts ids k → GainsTerms m g (t ∷ ts) (a ∷ ids) k
 
 -- adding the terms runs out at one of them
-pub data RunsOutAt : Graph → List Term → Error → Graph → Type 0 where
-  runs_out_here : {g h : Graph} {t : Term} {ts : List Term} {e : Error} → RunsOut g t e h → RunsOutAt g (t ∷ ts) e h
-  runs_out_later : {g h k : Graph} {t : Term} {a : Applied} {ts : List Term} {e : Error} → Gains g t a h → RunsOutAt h ts e k → RunsOutAt g (t ∷ ts) e k
+pub data RunsOutAt (m : Manner) : Graph → List Term → Error → Graph → Type 0 where
+  runs_out_here : {g h : Graph} {t : Term} {ts : List Term} {e : Error} → RunsOut m g t e h → RunsOutAt m g (t ∷ ts) e h
+  runs_out_later : {g h k : Graph} {t : Term} {ts : List Term} {e : Error} (a : Applied) → Gains m g t a h → RunsOutAt m h ts e k → RunsOutAt m g (t ∷ ts) e k
 
 -- the ids of two terms find the same: so the terms are derivable from any named equations that are the asserted list, and where
 -- nothing is asserted they differ in bound names alone
@@ -138,9 +182,9 @@ pub data Answered (read : List Element → Option Form) (written : Term → List
   -- the first text that is refused gives the answer, and no term is added
   refused : {e : Error} → g.failed ≡ false → FirstIsRefused read g (texts_of c) e h → Answered read written g h c (Refused e)
   -- a shortage while terms are added
-  ran_out : {e : Error} (ts : List Term) (r : Graph) → g.failed ≡ false → WritesTerms read g (texts_of c) ts r → RunsOutAt r ts e h → Answered read written g h c (Refused e)
-  -- all texts are read, then all terms are added, and then the command says of them what it does
-  carried_out : {a : Answer} (ts : List Term) (ids : List Applied) (r k : Graph) → g.failed ≡ false → WritesTerms read g (texts_of c) ts r → GainsTerms r ts ids k → Says k c ts ids h a → Answered read written g h c a
+  ran_out : {e : Error} (ts : List Term) (r : Graph) → g.failed ≡ false → WritesTerms read g (texts_of c) ts r → RunsOutAt (manner_of c) r ts e h → Answered read written g h c (Refused e)
+  -- all texts are read, then all terms are added in the manner of the command, and then it says of them what it does
+  carried_out : {a : Answer} (ts : List Term) (ids : List Applied) (r k : Graph) → g.failed ≡ false → WritesTerms read g (texts_of c) ts r → GainsTerms (manner_of c) r ts ids k → Says k c ts ids h a → Answered read written g h c a
   -- both texts are read, and then their terms are explained, which adds them
   explanation : {a : Answer} (left right : List ℕ) (t u : Term) (r : Graph) → c ≡ explains left right → g.failed ≡ false → WritesTerms read g (left ∷ right ∷ []) (t ∷ u ∷ []) r → ExplanationAnswers written r t u h a → Answered read written g h c a
 
@@ -152,23 +196,41 @@ pub record ReadsBoth (read : List Element → Option Form) (g r : Graph) (left r
   pub left_valid : IsValidTerm r.table t
   pub right_valid : IsValidTerm r.table u
 
--- two texts write terms that are added to g and have these ids in h
-pub record AddsBoth (read : List Element → Option Form) (g h : Graph) (left right : List ℕ) (a b : Applied) : Type 0 where
+-- two texts write terms that are looked up as these ids in h, once they are added to g; and the ids are equal to the terms
+pub record LooksUpBoth (read : List Element → Option Form) (g h : Graph) (left right : List ℕ) (a b : AppliedId) : Type 0 where
   pub first : Term
   pub second : Term
   pub before : Graph
   pub sound : g.failed ≡ false
   pub writes : WritesTerms read g (left ∷ right ∷ []) (first ∷ second ∷ []) before
-  pub gains : GainsTerms before (first ∷ second ∷ []) (a ∷ b ∷ []) h
+  pub gains : GainsTerms by_look_up before (first ∷ second ∷ []) (to_applied a ∷ to_applied b ∷ []) h
   pub sound_now : h.failed ≡ false
-  pub left_valid : IsFullId h a
-  pub right_valid : IsFullId h b
-  pub left_term : term_of h.image.canonical a ≡ nameless first
-  pub right_term : term_of h.image.canonical b ≡ nameless second
+  pub left_valid : IsValidId h (to_applied a)
+  pub right_valid : IsValidId h (to_applied b)
+  pub left_equal : IsEqualToTerm h.image (to_applied a) first
+  pub right_equal : IsEqualToTerm h.image (to_applied b) second
+
+-- two texts write terms that are added to g by canonical nodes, and have these ids in h
+pub record AddsBoth (read : List Element → Option Form) (g h : Graph) (left right : List ℕ) (a b : AppliedId) : Type 0 where
+  pub first : Term
+  pub second : Term
+  pub before : Graph
+  pub sound : g.failed ≡ false
+  pub writes : WritesTerms read g (left ∷ right ∷ []) (first ∷ second ∷ []) before
+  pub gains : GainsTerms canonically before (first ∷ second ∷ []) (to_applied a ∷ to_applied b ∷ []) h
+  pub sound_now : h.failed ≡ false
+  pub left_valid : IsFullId h (to_applied a)
+  pub right_valid : IsFullId h (to_applied b)
+  pub left_term : term_of h.image.canonical (to_applied a) ≡ nameless first
+  pub right_term : term_of h.image.canonical (to_applied b) ≡ nameless second
 
 -- any command with these two texts is refused with e, and leaves h
 abbrev pub IsAnsweredWith : (List Element → Option Form) → (Term → List Element) → Graph → Graph → List ℕ → List ℕ → Error → Type 0
 IsAnsweredWith read written g h left right e = (c : Command) → IsCommand c → texts_of c ≡ left ∷ right ∷ [] → Answered read written g h c (Refused e)
+
+-- any such command that adds its terms in this manner
+abbrev pub IsAnsweredIn : Manner → (List Element → Option Form) → (Term → List Element) → Graph → Graph → List ℕ → List ℕ → Error → Type 0
+IsAnsweredIn m read written g h left right e = (c : Command) → IsCommand c → manner_of c ≡ m → texts_of c ≡ left ∷ right ∷ [] → Answered read written g h c (Refused e)
 
 -- the answer, where a refusal is an answer too
 abbrev pub answer_of : Result Answer Error → Answer

@@ -1,8 +1,8 @@
 //! What a line does to the graph.
 ghost use Rattle.std.specs.Prelude.{◌≡◌, IfOk, IfErr};
-ghost use Rattle.slotted_core.specs.Nodes.{to_applied};
 ghost use Rattle.slotted_commands.specs.Commands.{adds, compares, unites, explains, counts, command_of};
-ghost use Rattle.slotted_commands.specs.Sessions.{Answered, ReadsBoth, AddsBoth, IsAnsweredWith, answer_of};
+ghost use Rattle.slotted_commands.specs.Sessions.{Answered, ReadsBoth, LooksUpBoth, AddsBoth, answer_of};
+ghost use Rattle.slotted_commands.specs.Sessions.{IsAnsweredWith, IsAnsweredIn, by_look_up, canonically};
 
 use crate::answer::Answer;
 use crate::command::Command;
@@ -37,12 +37,12 @@ fn to_answer(outcome: Result<Answer, Error>) -> Answer
     }
 }
 
-// Adds the term of a text.
+// Adds the term of a text, by look-up.
 fn add<L: Printable>(graph: &mut EGraph<L>, text: &str) -> Result<Answer, Error>
     ensures { Answered L.read L.written graph.old graph.new (adds text.now) (answer_of result) }
 {
     let term = graph.parse_expr(text)?;
-    graph.add_syn_expr(&term)?;
+    graph.add_expr(&term)?;
     Ok(Answer::Done)
 }
 
@@ -60,14 +60,29 @@ fn read_both<L: Printable>(
     Ok((left, right))
 }
 
-// Adds the terms of two texts.
+// Adds the terms of two texts, by look-up.
+fn look_up_both<L: Printable>(
+    graph: &mut EGraph<L>,
+    left: &str,
+    right: &str,
+) -> Result<(AppliedId, AppliedId), Error>
+    ensures ok { IfOk result (λ p. LooksUpBoth L.read graph.old graph.new left.now right.now p.0 p.1) }
+    ensures err { IfErr result (IsAnsweredIn by_look_up L.read L.written graph.old graph.new left.now right.now) }
+{
+    let (one, two) = read_both(graph, left, right)?;
+    let left = graph.add_expr(&one)?;
+    let right = graph.add_expr(&two)?;
+    Ok((left, right))
+}
+
+// Adds the terms of two texts, by canonical nodes.
 fn add_both<L: Printable>(
     graph: &mut EGraph<L>,
     left: &str,
     right: &str,
 ) -> Result<(AppliedId, AppliedId), Error>
-    ensures ok { IfOk result (λ p. AddsBoth L.read graph.old graph.new left.now right.now (to_applied p.0) (to_applied p.1)) }
-    ensures err { IfErr result (IsAnsweredWith L.read L.written graph.old graph.new left.now right.now) }
+    ensures ok { IfOk result (λ p. AddsBoth L.read graph.old graph.new left.now right.now p.0 p.1) }
+    ensures err { IfErr result (IsAnsweredIn canonically L.read L.written graph.old graph.new left.now right.now) }
 {
     let (one, two) = read_both(graph, left, right)?;
     let left = graph.add_syn_expr(&one)?;
@@ -75,11 +90,11 @@ fn add_both<L: Printable>(
     Ok((left, right))
 }
 
-// Adds the terms of two texts and compares them.
+// Looks up the terms of two texts, adding what is not there, and compares them.
 fn compare<L: Printable>(graph: &mut EGraph<L>, left: &str, right: &str) -> Result<Answer, Error>
     ensures { Answered L.read L.written graph.old graph.new (compares left.now right.now) (answer_of result) }
 {
-    let (left, right) = add_both(graph, left, right)?;
+    let (left, right) = look_up_both(graph, left, right)?;
     if graph.eq(&left, &right)? {
         Ok(Answer::Yes)
     } else {
