@@ -1,6 +1,6 @@
 -- What each step of a command leaves the next one.
 use Rattle.std.proofs.Common.{◌≡◌, ◌⊎◌, ℕ, List, [], ◌∷◌, Bool, true, false, inl, inr, refl, sym, ap, ◌∙◌, subst}
-use Rattle.std.specs.Prelude.{Option, Some, IsSome, IsTrue, Result, Ok, Err, IfErr, IsErr, IsErrOf}
+use Rattle.std.specs.Prelude.{Option, None, Some, IsSome, IsTrue, Result, Ok, Err, IfErr, IsErr, IsErrOf}
 use Rattle.std.specs.Str.{chars}
 use Rattle.std.proofs.lemmas.Bool.{cases_Bool, false≢true}
 use Rattle.slotted_theory.specs.Term.{Term}
@@ -18,9 +18,10 @@ use Rattle.slotted_model.specs.Applied.{Applied}
 use Rattle.slotted_model.specs.Classes.{term_of}
 use Rattle.slotted_model.specs.Growth.{Extends}
 use Rattle.slotted_model.specs.Ids.{id_of}
-use Rattle.slotted_core.specs.AddingTerms.{IsEqualToTerm}
-use Rattle.slotted_core.specs.Graph.{Graph, IsFullId, OnlyReads}
-use Rattle.slotted_core.specs.Image.{AddsClasses, IsUnion}
+use Rattle.slotted_core.specs.AddingTerms.{FilesOnlyLookedUp, IsEqualToTerm, TakesForTerm}
+use Rattle.slotted_core.specs.Graph.{FilesOnlySubterms, Graph, IsFullId, MakesAtMost, OnlyReads, id_of_term}
+use Rattle.slotted_core.specs.Image.{AddsClasses, IsUnion, RecordsFilled}
+use Rattle.slotted_core.specs.Places.{term_slots}
 use Rattle.slotted_core.specs.Causes.{HasLargeClassIn}
 use Rattle.slotted_core.specs.LookUp.{IsOneGraph, KeepsLookUps, look_up_term}
 use Rattle.slotted_core.specs.Nodes.{to_applied}
@@ -59,14 +60,17 @@ not_true false n = refl
 
 -- a term that was added by look-up
 pub gains_found : (g h : Graph) (t : Term) (a : AppliedId) → (IsTrue h.failed → false ≡ true) → look_up_term h t ≡ Some (to_applied a) → IsFound h (to_applied a) → IsEqualToTerm h.image (to_applied a) t → (IsSome (look_up_term g t) → IsOneGraph g h) → KeepsLookUps g h
-    → Extends g.image.canonical h.image.canonical → AddsClasses g.image h.image → KnowsMore g.table h.table → GainsFound g t (to_applied a) h
-gains_found g h t a sound looked_up found equal kept answers extends adds more = record {
+    → Extends g.image.canonical h.image.canonical → AddsClasses g.image h.image → KnowsMore g.table h.table
+    → FilesOnlyLookedUp g h t → g.failed ≡ false → (IsTrue g.failed ⊎ TakesForTerm t g h.table) → GainsFound g t (to_applied a) h
+gains_found g h t a sound looked_up found equal kept answers extends adds more filed before takes = record {
   sound = not_true h.failed (λ f. false≢true (sound f));
   valid = found.valid;
   found = found;
   looked_up = looked_up;
   equal = equal;
   kept = kept;
+  filed = filed;
+  takes = elim takes [ inl f ↦ absurd (false≢true (sym before ∙ f)) | inr made ↦ made ];
   answers = answers;
   extends = extends;
   adds = adds;
@@ -74,9 +78,20 @@ gains_found g h t a sound looked_up found equal kept answers extends adds more =
 }
 
 -- a term that was added by canonical nodes
-pub gains_syn : (g h : Graph) (t : Term) (a : AppliedId) → (IsTrue h.failed → false ≡ true) → IsFullId h (to_applied a) → term_of h.image.canonical (to_applied a) ≡ nameless t → id_of h.image.canonical (nameless t) ≡ Some (to_applied a) → Extends g.image.canonical h.image.canonical → AddsClasses g.image h.image → KnowsMore g.table h.table → GainsSyn g t (to_applied a) h
-gains_syn g h t a sound valid term found extends adds more =
-    record { sound = not_true h.failed (λ f. false≢true (sound f)); valid = valid; term = term; found = found; extends = extends; adds = adds; more = more }
+pub gains_syn : (g h : Graph) (t : Term) (a : AppliedId) → (IsTrue h.failed → false ≡ true) → IsFullId h (to_applied a) → term_of h.image.canonical (to_applied a) ≡ nameless t → id_of h.image.canonical (nameless t) ≡ Some (to_applied a) → Extends g.image.canonical h.image.canonical → AddsClasses g.image h.image → KnowsMore g.table h.table
+    → (IsSome (id_of_term g t) → IsOneGraph g h) → FilesOnlySubterms g h t → MakesAtMost (term_slots t) g.table h.table → GainsSyn g t (to_applied a) h
+gains_syn g h t a sound valid term found extends adds more kept filed takes = record {
+  sound = not_true h.failed (λ f. false≢true (sound f));
+  valid = valid;
+  term = term;
+  found = found;
+  kept = kept;
+  filed = filed;
+  takes = takes;
+  extends = extends;
+  adds = adds;
+  more = more;
+}
 
 -- a term that was not added, since memory or slots ran out
 pub runs_out : {A : Type 0} (m : Manner) (g h : Graph) (t : Term) (r : Result A Error) (e : Error) → r ≡ Err e → g.failed ≡ false → (IsErrOf r Failed → IsTrue g.failed) → (IsErr r → IsTrue h.failed) → (IsErrOf r OutOfSlots → LacksSlots m g t h.table) → IfErr r (λ x. (x ≡ Failed) ⊎ IsShortage x) → KnowsMore g.table h.table → RunsOut m g t e h
@@ -114,8 +129,8 @@ pub unites_says : (read : List Element → Option Form) (written : Term → List
 unites_says read written g h left right a b both k x says = carried_out (both.first ∷ both.second ∷ []) (to_applied a ∷ to_applied b ∷ []) both.before h both.sound both.writes both.gains says
 
 -- a union that was answered
-pub union_done : (g h : Graph) (a b : Applied) (y : Bool) → IsUnion g.image h.image a b y → ¬ (IsTrue h.failed) → h.table ≡ g.table → Unites g a b h y
-union_done g h a b y union sound table = record { union = union; sound = not_true h.failed sound; table = table }
+pub union_done : (g h : Graph) (a b : Applied) (y : Bool) → IsUnion g.image h.image a b y → RecordsFilled g.image h.image a b None → ¬ (IsTrue h.failed) → h.table ≡ g.table → Unites g a b h y
+union_done g h a b y union records sound table = record { union = union; records = records; sound = not_true h.failed sound; table = table }
 
 -- a union that was refused
 pub union_refused : (g h : Graph) (left right : List ℕ) (t u : Term) (a b : Applied) (r : Result Bool Error) (e : Error) → r ≡ Err e → g.failed ≡ false → (IsErrOf r Failed → IsTrue g.failed) → (IsErr r → IsTrue h.failed) → (IsErrOf r OutOfSlots → HasLargeClassIn g.image) → IfErr r (λ x. (x ≡ Failed) ⊎ IsShortage x) → h.table ≡ g.table → Says g (unites left right) (t ∷ u ∷ []) (a ∷ b ∷ []) h (Refused e)

@@ -2,7 +2,7 @@
 -- writes, and as which elements the uppermost node of a term is written. The texts of a command are read in turn from the left, before
 -- any of their terms is added. A term is added by look-up, where it is added or compared, and by canonical nodes, where it is united: so
 -- a union asserts the equation of the terms that were given.
-use Rattle.std.specs.Prelude.{◌≡◌, ℕ, List, [], ◌∷◌, length, map, Bool, true, false, Option, Some, IsSome, IsTrue, Result, Ok, Err}
+use Rattle.std.specs.Prelude.{◌≡◌, ℕ, List, [], ◌∷◌, length, map, Bool, true, false, Option, None, Some, IsSome, IsTrue, Result, Ok, Err}
 use Rattle.std.specs.Str.{chars}
 use Rattle.slotted_theory.specs.Term.{Term}
 use Rattle.slotted_theory.specs.Nameless.{Alpha, nameless}
@@ -21,13 +21,14 @@ use Rattle.slotted_model.specs.Applied.{Applied}
 use Rattle.slotted_model.specs.Classes.{term_of}
 use Rattle.slotted_model.specs.Growth.{Extends}
 use Rattle.slotted_model.specs.Ids.{id_of}
-use Rattle.slotted_core.specs.AddingTerms.{IsEqualToTerm, LacksForTerm}
-use Rattle.slotted_core.specs.Image.{FoundAlike, AddsClasses, IsUnion, CountsOpen, asserted_in}
+use Rattle.slotted_core.specs.AddingTerms.{FilesOnlyLookedUp, IsEqualToTerm, LacksForTerm, TakesForTerm}
+use Rattle.slotted_core.specs.Image.{FoundAlike, AddsClasses, IsUnion, CountsOpen, asserted_in, RecordsFilled}
 use Rattle.slotted_core.specs.Affected.{AreAffected}
 use Rattle.slotted_core.specs.Causes.{CanRunOutForTerm, HasLargeClassIn}
-use Rattle.slotted_core.specs.Graph.{Graph, IsFullId, OnlyReads}
+use Rattle.slotted_core.specs.Graph.{FilesOnlySubterms, Graph, IsFullId, MakesAtMost, OnlyReads, id_of_term}
 use Rattle.slotted_core.specs.LookUp.{IsOneGraph, KeepsLookUps, look_up_term}
 use Rattle.slotted_core.specs.Nodes.{to_applied}
+use Rattle.slotted_core.specs.Places.{term_slots}
 use Rattle.slotted_core.specs.Reports.{IsFound}
 use Rattle.slotted_core.specs.ValidIds.{IsValidId}
 use Rattle.slotted_commands.specs.declared.answer.Answer.{Answer}
@@ -87,7 +88,8 @@ pub data FirstIsRefused (read : List Element → Option Form) : Graph → List (
   refused_later : {g h k : Graph} {text : List ℕ} {texts : List (List ℕ)} {t : Term} {e : Error} → WritesTerm read g text t h → FirstIsRefused read h texts e k → FirstIsRefused read g (text ∷ texts) e k
 
 -- h has all that g has, with nothing more asserted, and an id that a look-up of the term t answers, which `eq` can be asked of: it is what
--- it finds itself, and equal to t by what is asserted. What was looked up is looked up as before, and where t was, nothing changes
+-- it finds itself, and equal to t by what is asserted. What was looked up is looked up as before, and where t was, nothing changes; else
+-- classes are made of subterms alone, with no more slots than these need
 pub record GainsFound (g : Graph) (t : Term) (id : Applied) (h : Graph) : Type 0 where
   pub sound : h.failed ≡ false
   pub valid : IsValidId h id
@@ -95,17 +97,23 @@ pub record GainsFound (g : Graph) (t : Term) (id : Applied) (h : Graph) : Type 0
   pub looked_up : look_up_term h t ≡ Some id
   pub equal : IsEqualToTerm h.image id t
   pub kept : IsSome (look_up_term g t) → IsOneGraph g h
+  pub filed : FilesOnlyLookedUp g h t
+  pub takes : TakesForTerm t g h.table
   pub answers : KeepsLookUps g h
   pub extends : Extends g.image.canonical h.image.canonical
   pub adds : AddsClasses g.image h.image
   pub more : KnowsMore g.table h.table
 
--- h has all that g has, with nothing more asserted, and a full id that stands for the term t and is its id by canonical nodes
+-- h has all that g has, with nothing more asserted, and a full id that stands for the term t and is its id by canonical nodes. Where there
+-- was one nothing changes; else classes are made of subterms alone, with no more slots than t and its subterms have places
 pub record GainsSyn (g : Graph) (t : Term) (id : Applied) (h : Graph) : Type 0 where
   pub sound : h.failed ≡ false
   pub valid : IsFullId h id
   pub term : term_of h.image.canonical id ≡ nameless t
   pub found : id_of h.image.canonical (nameless t) ≡ Some id
+  pub kept : IsSome (id_of_term g t) → IsOneGraph g h
+  pub filed : FilesOnlySubterms g h t
+  pub takes : MakesAtMost (term_slots t) g.table h.table
   pub extends : Extends g.image.canonical h.image.canonical
   pub adds : AddsClasses g.image h.image
   pub more : KnowsMore g.table h.table
@@ -153,6 +161,8 @@ pub record AreFoundDifferent (g : Graph) (t u : Term) (a b : Applied) : Type 0 w
 -- uniting ids of g leaves h and answers true or false
 pub record Unites (g : Graph) (a b : Applied) (h : Graph) (yes : Bool) : Type 0 where
   pub union : IsUnion g.image h.image a b yes
+  -- where the equation was not proved it is a new entry, asserted without a text, and stored entries stay
+  pub records : RecordsFilled g.image h.image a b None
   pub sound : h.failed ≡ false
   pub table : h.table ≡ g.table
 

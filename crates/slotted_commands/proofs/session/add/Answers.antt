@@ -32,5 +32,5 @@ returns g c =
     let at = c.in_ok-term.ensures in
     let e = c.in_ok-add_expr.ensures in
     let writes = writes_term g.L.LanguageChildren.read c.args.graph.now c.parse_expr.new.self c.args.text.now at.reads c.in_ok-term.term (at.answer sound) in
-    let gained = gains_found c.parse_expr.new.self c.add_expr.new.self c.in_ok-term.term c.in_ok-add_expr.field-0 e.fails.0 e.id e.found e.equal e.kept e.answers e.extends e.adds e.more in
+    let gained = gains_found c.parse_expr.new.self c.add_expr.new.self c.in_ok-term.term c.in_ok-add_expr.field-0 e.fails.0 e.id e.found e.equal e.kept e.answers e.extends e.adds e.more e.filed (at.reads.failed ∙ sound) e.takes in
     carried_out (c.in_ok-term.term ∷ []) (to_applied c.in_ok-add_expr.field-0 ∷ []) c.parse_expr.new.self c.add_expr.new.self sound (next_text writes no_text) (next_term gained no_term) done

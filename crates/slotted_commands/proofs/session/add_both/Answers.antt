@@ -30,7 +30,7 @@ pub returns-in_err-right-clause-err : goal.returns-in_err-right-clause-err
 returns-in_err-right-clause-err g c =
     let read = c.in_ok-one.ensures.ok in
     let left = c.in_ok-left.ensures in
-    let gains_one = gains_syn c.read_both.new.graph c.add_syn_expr.new.self c.in_ok-one.one c.in_ok-left.left left.fails.0 left.valid left.term left.found left.extends left.adds left.more in
+    let gains_one = gains_syn c.read_both.new.graph c.add_syn_expr.new.self c.in_ok-one.one c.in_ok-left.left left.fails.0 left.valid left.term left.found left.extends left.adds left.more left.kept left.filed left.takes in
     let e = c.in_err-right.ensures in
     let p = err_from_is_err_and c.from_residual-in_err-right.result c.from_residual-in_err-right.ensures.1 in
     let short = runs_out canonically c.add_syn_expr.new.self c.add_syn_expr-2.new.self c.in_ok-one.two (Err c.in_err-right.field-0.0) c.in_err-right.field-0.0 refl gains_one.sound e.failed.0 e.fails.1 e.full e.only e.more in
@@ -40,9 +40,9 @@ pub returns-clause-ok : goal.returns-clause-ok
 returns-clause-ok g c =
     let read = c.in_ok-one.ensures.ok in
     let left = c.in_ok-left.ensures in
-    let gains_one = gains_syn c.read_both.new.graph c.add_syn_expr.new.self c.in_ok-one.one c.in_ok-left.left left.fails.0 left.valid left.term left.found left.extends left.adds left.more in
+    let gains_one = gains_syn c.read_both.new.graph c.add_syn_expr.new.self c.in_ok-one.one c.in_ok-left.left left.fails.0 left.valid left.term left.found left.extends left.adds left.more left.kept left.filed left.takes in
     let right = c.in_ok-right.ensures in
-    let gains_two = gains_syn c.add_syn_expr.new.self c.add_syn_expr-2.new.self c.in_ok-one.two c.in_ok-right.right right.fails.0 right.valid right.term right.found right.extends right.adds right.more in
+    let gains_two = gains_syn c.add_syn_expr.new.self c.add_syn_expr-2.new.self c.in_ok-one.two c.in_ok-right.right right.fails.0 right.valid right.term right.found right.extends right.adds right.more right.kept right.filed right.takes in
     record {
       first = c.in_ok-one.one;
       second = c.in_ok-one.two;

@@ -31,7 +31,7 @@ pub returns-in_err-right-clause-err : goal.returns-in_err-right-clause-err
 returns-in_err-right-clause-err g c =
     let read = c.in_ok-one.ensures.ok in
     let left = c.in_ok-left.ensures in
-    let gains_one = gains_found c.read_both.new.graph c.add_expr.new.self c.in_ok-one.one c.in_ok-left.left left.fails.0 left.id left.found left.equal left.kept left.answers left.extends left.adds left.more in
+    let gains_one = gains_found c.read_both.new.graph c.add_expr.new.self c.in_ok-one.one c.in_ok-left.left left.fails.0 left.id left.found left.equal left.kept left.answers left.extends left.adds left.more left.filed read.sound_now left.takes in
     let e = c.in_err-right.ensures in
     let p = err_from_is_err_and c.from_residual-in_err-right.result c.from_residual-in_err-right.ensures.1 in
     let short = runs_out by_look_up c.add_expr.new.self c.add_expr-2.new.self c.in_ok-one.two (Err c.in_err-right.field-0.0) c.in_err-right.field-0.0 refl gains_one.sound e.failed.0 e.fails.1 e.full e.only e.more in
@@ -41,9 +41,9 @@ pub returns-clause-ok : goal.returns-clause-ok
 returns-clause-ok g c =
     let read = c.in_ok-one.ensures.ok in
     let left = c.in_ok-left.ensures in
-    let gains_one = gains_found c.read_both.new.graph c.add_expr.new.self c.in_ok-one.one c.in_ok-left.left left.fails.0 left.id left.found left.equal left.kept left.answers left.extends left.adds left.more in
+    let gains_one = gains_found c.read_both.new.graph c.add_expr.new.self c.in_ok-one.one c.in_ok-left.left left.fails.0 left.id left.found left.equal left.kept left.answers left.extends left.adds left.more left.filed read.sound_now left.takes in
     let right = c.in_ok-right.ensures in
-    let gains_two = gains_found c.add_expr.new.self c.add_expr-2.new.self c.in_ok-one.two c.in_ok-right.right right.fails.0 right.id right.found right.equal right.kept right.answers right.extends right.adds right.more in
+    let gains_two = gains_found c.add_expr.new.self c.add_expr-2.new.self c.in_ok-one.two c.in_ok-right.right right.fails.0 right.id right.found right.equal right.kept right.answers right.extends right.adds right.more right.filed gains_one.sound right.takes in
     record {
       first = c.in_ok-one.one;
       second = c.in_ok-one.two;

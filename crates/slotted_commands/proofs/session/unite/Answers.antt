@@ -36,7 +36,7 @@ returns-then-branch g c =
     let a = to_applied c.in_ok-left.left in
     let b = to_applied c.in_ok-left.right in
     unites_says g.L.LanguageChildren.read g.L.Printable.written c.args.graph.now c.add_both.new.graph c.args.left.now c.args.right.now c.in_ok-left.left c.in_ok-left.right c.in_ok-left.ensures.ok c.union.new.self _
-    (are_united (union_done c.add_both.new.graph c.union.new.self a b true (subst (IsUnion c.add_both.new.graph.image c.union.new.self.image a b) c.if-branch.true e.union) (λ f. false≢true (e.fails.0 f)) e.table))
+    (are_united (union_done c.add_both.new.graph c.union.new.self a b true (subst (IsUnion c.add_both.new.graph.image c.union.new.self.image a b) c.if-branch.true e.union) e.text (λ f. false≢true (e.fails.0 f)) e.table))
 
 pub returns : goal.returns
 returns g c =
@@ -44,4 +44,4 @@ returns g c =
     let a = to_applied c.in_ok-left.left in
     let b = to_applied c.in_ok-left.right in
     unites_says g.L.LanguageChildren.read g.L.Printable.written c.args.graph.now c.add_both.new.graph c.args.left.now c.args.right.now c.in_ok-left.left c.in_ok-left.right c.in_ok-left.ensures.ok c.union.new.self _
-    (were_equal (union_done c.add_both.new.graph c.union.new.self a b false (subst (IsUnion c.add_both.new.graph.image c.union.new.self.image a b) c.if-branch.false e.union) (λ f. false≢true (e.fails.0 f)) e.table))
+    (were_equal (union_done c.add_both.new.graph c.union.new.self a b false (subst (IsUnion c.add_both.new.graph.image c.union.new.self.image a b) c.if-branch.false e.union) e.text (λ f. false≢true (e.fails.0 f)) e.table))
