@@ -1,0 +1,2 @@
+-- What is reported of a graph.
+pub mod Measure
