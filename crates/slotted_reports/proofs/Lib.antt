@@ -1,2 +1,6 @@
 -- Lemmas of reports.
 pub mod Measured
+pub mod Sorted
+pub mod FiledNodes
+pub mod FiledShapes
+pub mod Sources

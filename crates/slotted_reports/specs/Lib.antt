@@ -1,2 +1,3 @@
 -- What is reported of a graph.
 pub mod Measure
+pub mod Nodes

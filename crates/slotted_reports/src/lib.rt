@@ -2,5 +2,6 @@
 #![tactic(auto)]
 
 pub mod measure;
+pub mod nodes;
 
 pub use measure::ProgressMeasure;
