@@ -38,6 +38,7 @@ use std::marker::Model;
 mod adding;
 mod canonical;
 mod explanations;
+mod nodes;
 mod patterns;
 mod reports;
 

@@ -1,0 +1,2 @@
+-- Lemmas of the graph that callers see.
+pub mod Measured

@@ -1,0 +1,2 @@
+-- What calls of the graph report of it as a whole.
+pub mod Measure
