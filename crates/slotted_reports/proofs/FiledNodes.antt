@@ -1,16 +1,17 @@
 -- A filed node with other names put in: its names are known, and its children find.
-use Rattle.std.proofs.Common.{◌≡◌, ◌<◌, ◌+◌, ◌∙◌, get_or, take, ℕ, true, false, zero, suc, List, [], ◌∷◌, ◌++◌, None, Some, length, refl, ap, sym, subst, inl, inr, arith}
+use Rattle.std.proofs.Common.{◌≡◌, ◌∙◌, ℕ, true, false, zero, suc, List, [], ◌∷◌, ◌++◌, None, Some, length, refl, ap, sym, subst, inl, inr, arith}
 use Rattle.std.specs.Prelude.{All, Contains, IsTrue, Option, cond, nat_eq, unwrap_or}
-use Rattle.std.proofs.lemmas.Bool.{cases_Bool}
-use Rattle.std.proofs.lemmas.List.Elements.{All-cons, All-nil, All-push}
+use Rattle.std.proofs.lemmas.Bool.{cases_Bool, false≢true}
+use Rattle.std.proofs.lemmas.List.Elements.{All-cons, All-nil}
 use Rattle.slotted_theory.specs.FiniteMaps.{filled}
 use Rattle.slotted_theory.specs.Nameless.{DArgs, DTerm, stop, place, sub, scope, moved, nameless_args}
 use Rattle.slotted_theory.proofs.Filled.{filled-injective}
 use Rattle.slotted_theory.proofs.Laws.{moved-nameless_args}
-use Rattle.slotted_slots.specs.Table.{KnowsMore, Table, is_known, numeric_slot}
+use Rattle.slotted_slots.specs.Maps.{is_among}
+use Rattle.slotted_slots.specs.Table.{Table, is_known, numeric_slot}
+use Rattle.slotted_slots.proofs.MapLaws.{is_among-cons}
 use Rattle.slotted_slots.proofs.TableLaws.{is_known-numeric_slot}
 use Rattle.slotted_nodes.specs.Form.{Form, scopes}
-use Rattle.slotted_languages.specs.NewNames.{IsTooLarge}
 use Rattle.slotted_languages.specs.NodeTerm.{nameless_node, node_args}
 use Rattle.slotted_languages.specs.Shape.{Fits, Numbers, free_number, names_in, no_numbers, number_at, number_of, numbered, past_binder, shape}
 use Rattle.slotted_languages.proofs.Shapes.{injective-shape, shape-renamed}
@@ -38,9 +39,15 @@ use Rattle.slotted_normal_forms.specs.FoundNodes.{IsFoundNode}
 use Rattle.slotted_normal_forms.proofs.FoundChildren.{child_ids-valid, each-child, valid-back}
 use Rattle.slotted_rebuilding.specs.Filed.{IsKeyed, IsWellFiled, state_in}
 use Rattle.slotted_adding.specs.Enodes.{AllKnownTo}
-use Rattle.slotted_reports.specs.Nodes.{AreAppliedNodes, IsAppliedNode, key_at, key_in, key_of}
-use Rattle.slotted_reports.proofs.Sorted.{mapped-more}
+use Rattle.slotted_reports.specs.Nodes.{key_of}
 use Rattle.slotted_adding.proofs.AppliedNodes.{filed-in_nodes, filed-key, filed-node}
+
+pub among-in : (xs : List ℕ) (x : ℕ) → is_among x xs ≡ true → In x xs
+among-in [] x h = absurd (false≢true h)
+among-in (y ∷ ys) x h = elim (is_among-cons x y ys h) [
+  | inl e ↦ inl (sym e)
+  | inr k ↦ inr (among-in ys x k)
+]
 
 pub All-from_Each : {X : Type 0} (P : X → Type 0) (xs : List X) → Each P xs → All P xs
 All-from_Each P [] h = All-nil P
@@ -105,7 +112,7 @@ module _ (t : Table) where
 
 -- the names that are put in are names of the id
 
-name-of : (A m : List (ℕ × ℕ)) (x : ℕ) → In x (values (composite A m)) → In x (values m)
+pub name-of : (A m : List (ℕ × ℕ)) (x : ℕ) → In x (values (composite A m)) → In x (values m)
 name-of A m x h =
     let p = Contains-of_value (composite A m) x (Contains-In (values (composite A m)) x h) in
     let q = composite-over A m p.0 x p.1 in
@@ -149,12 +156,12 @@ module _ (k : Kept) (r : Rows) (well : IsWellFiled k r) (o : ℕ) (f : Form) (m 
       EachChild-node_args Valid (λ h inj a. valid-renamed (used_slots (entries_of k)) (nodes_of k) h inj a) (λ x. x) (λ x y e. e) f.tree f.names kept.fits each
 
   module _ (c : Form) (fits : Fits c) (key : HasKey r.filed o (shape c).0) where
-    is : f ≡ (shape c).0
-    is = ap key_of (sym at ∙ key.1)
+    pub same-key : f ≡ (shape c).0
+    same-key = ap key_of (sym at ∙ key.1)
 
     pub filed-children : All Valid (child_ids c)
     filed-children =
-        let mine : EachChild Valid (nameless_node (shape c).0).args = subst (λ (h : Form). EachChild Valid (nameless_node h).args) is key-valid in
+        let mine : EachChild Valid (nameless_node (shape c).0).args = subst (λ (h : Form). EachChild Valid (nameless_node h).args) same-key key-valid in
         let there = EachChild-moved Valid (λ h inj a. valid-renamed (used_slots (entries_of k)) (nodes_of k) h inj a) (filled (shape c).1) (filled-injective (shape c).1 (injective-shape c)) (nameless_node (shape c).0).args mine in
         let whole : EachChild Valid (nameless_node c).args = subst (λ (d : DTerm). EachChild Valid d.args) (shape-renamed c fits) there in
         All-from_Each Valid (child_ids c) (child_ids-valid (used_slots (entries_of k)) (nodes_of k) c fits whole)
@@ -162,18 +169,6 @@ module _ (k : Kept) (r : Rows) (well : IsWellFiled k r) (o : ℕ) (f : Form) (m 
     -- as many places
     pub filed-places : length c.names ≡ length f.names
     filed-places =
-        let tree = ap (λ (h : Form). length (scopes h.tree)) is in
+        let tree = ap (λ (h : Form). length (scopes h.tree)) same-key in
         let same : length (scopes f.tree) ≡ length (scopes c.tree) = tree in
         fits ∙ (sym same ∙ sym kept.fits)
-
--- one node after another
-
-applied-more : (t u : Table) (k : Kept) (r : Rows) (a : Applied) (f : Form) → KnowsMore t u → IsAppliedNode t k r a f → IsAppliedNode u k r a f
-applied-more t u k r a f more is = record { found = is.found; small = is.small; known = λ j d h. more _ (is.known j d h); children = is.children }
-
-pub nodes-then : {L : Type 0} (form : L → Form) (t u : Table) (k : Kept) (r : Rows) (a : Applied) (xs : List ℕ) (ns : List L) (i : ℕ) (n : L) → i < length xs → KnowsMore t u →
-    AreAppliedNodes form t k r a (take i xs) ns → HasKey r.filed (get_or xs i 0) (shape (form n)).0 → IsAppliedNode u k r a (form n) → AreAppliedNodes form u k r a (take (i + 1) xs) (ns ++ n ∷ [])
-nodes-then form t u k r a xs ns i n lt more so_far key is = record {
-  keys = mapped-more (key_in form) (key_at r.filed) ns xs i n 0 lt so_far.keys (sym (ap key_of key.1));
-  each = All-push (λ n. IsAppliedNode u k r a (form n)) ns n (λ j d h. applied-more t u k r a (form (get_or ns j d)) more (so_far.each j d h)) is;
-}

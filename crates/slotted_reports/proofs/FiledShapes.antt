@@ -41,7 +41,7 @@ map-twice : {A B C : Type 0} (f : B → C) (g : A → B) (xs : List A) → map f
 map-twice f g [] = refl
 map-twice f g (x ∷ xs) = λ j. f (g x) ∷ map-twice f g xs j
 
-abbrev shape_at : List (Option Filing) → ℕ → DTerm
+abbrev pub shape_at : List (Option Filing) → ℕ → DTerm
 shape_at v i = theory.shape (nameless_node (key_at v i))
 
 module _ (P : ℕ → Bool) where
@@ -92,6 +92,9 @@ module _ (P : ℕ → Bool) where
     rows-permuted : IsPermutation (shapes_in (rows_in v)) (so_far (length v))
     rows-permuted = subst (λ u. IsPermutation (shapes_in (rows_in u)) (so_far (length v))) (take_all (length v) v (omega arith)) (by-count (length v) (omega arith))
 
+    pub sources-permuted : (os : List ℕ) → IsPermutation (filter (passes v) (range_with_len 0 (length v))) os → IsPermutation (shapes_in (rows_in v)) (map (shape_at v) os)
+    sources-permuted os same = IsPermutation-trans _ _ _ rows-permuted (IsPermutation-map (shape_at v) _ _ same)
+
     -- so nodes with the keys of these classes have the shapes of these rows
     pub shapes-permuted : {L : Type 0} (form : L → Form) → ((n : L) → Fits (form n)) → (os : List ℕ) (ns : List L) → IsPermutation (filter (passes v) (range_with_len 0 (length v))) os →
         map (key_in form) ns ≡ map (key_at v) os → IsPermutation (shapes_in (rows_in v)) (map (λ n. theory.shape (nameless_node (form n))) ns)
@@ -99,5 +102,4 @@ module _ (P : ℕ → Bool) where
         let T : Form → DTerm = λ f. theory.shape (nameless_node f) in
         let each : map (shape_at v) os ≡ map (λ n. T (form n)) ns =
         sym (map-twice T (key_at v) os) ∙ (ap (map T) (sym keys) ∙ (map-twice T (key_in form) ns ∙ (λ j. map (λ n. shape-of_key (form n) (fits n) j) ns))) in
-        subst (IsPermutation (shapes_in (rows_in v))) each
-        (IsPermutation-trans _ _ _ rows-permuted (IsPermutation-map (shape_at v) _ _ same))
+        subst (IsPermutation (shapes_in (rows_in v))) each (sources-permuted os same)

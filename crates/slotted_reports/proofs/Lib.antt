@@ -2,5 +2,6 @@
 pub mod Measured
 pub mod Sorted
 pub mod FiledNodes
+pub mod FreshNodes
 pub mod FiledShapes
 pub mod Sources

@@ -26,6 +26,13 @@ each-passes P test (x ∷ xs) h = elim (cases_Bool (test x)) [
   | inr n ↦ subst (λ b. Each P (cond b (x ∷ filter test xs) (filter test xs))) (sym n) (each-passes P test xs h)
 ]
 
+none-pass : (test : ℕ → Bool) (xs : List ℕ) → ((x : ℕ) → ¬ (test x ≡ true)) → filter test xs ≡ []
+none-pass test [] h = refl
+none-pass test (x ∷ xs) h = elim (cases_Bool (test x)) [
+  | inl y ↦ absurd (h x y)
+  | inr n ↦ ap (λ b. cond b (x ∷ filter test xs) (filter test xs)) n ∙ none-pass test xs h
+]
+
 first-of : (a b : Bool) → (a && b) ≡ true → a ≡ true
 first-of true b e = refl
 first-of false b e = absurd (false≢true e)
@@ -50,6 +57,13 @@ module _ (k : Kept) (r : Rows) (well : IsWellFiled k r) (a : Applied) where
       let again : find_class found (find_class found o) ≡ find_class found o =
       find_class-live nodes found L (find_class found o) (found-in_range nodes found L o within) (found-live nodes found L o within) in
       (filed, ap (find_class found) (sym finds) ∙ again)
+
+  -- a class that does not find itself has none
+  finds-itself : (o : ℕ) → is_source k r a.0 o ≡ true → find_class (entries_of k) a.0 ≡ a.0
+  finds-itself o h = (one-source o h).1 ∙ eqb-true (find_class (entries_of k) o) a.0 (second-of (is_some (filed_of r.filed o)) (nat_eq (find_class (entries_of k) o) a.0) h)
+
+  pub dead-none : ¬ (find_class (entries_of k) a.0 ≡ a.0) → class_sources k r a.0 ≡ []
+  dead-none dead = none-pass (is_source k r a.0) (range_with_len 0 (length r.filed)) (λ o h. dead (finds-itself o h))
 
   pub each-source : All (IsSourceOf k r a) (class_sources k r a.0)
   each-source = All-from_Each (IsSourceOf k r a) (class_sources k r a.0) (each-passes (IsSourceOf k r a) (is_source k r a.0) (range_with_len 0 (length r.filed)) one-source)

@@ -1,5 +1,5 @@
 //! The filed nodes of a class, ascending by their keys, with the names of an id.
-ghost use Rattle.std.specs.Prelude.{◌≡◌, ◌<◌, [], length, map, All, Contains, IfOk, IfErr, IsErrOf, OnOk};
+ghost use Rattle.std.specs.Prelude.{◌≡◌, ◌<◌, [], ◌∷◌, length, map, All, Contains, IfOk, IfErr, IsErrOf, OnOk};
 ghost use Rattle.std.specs.List.Sorted.{IsPermutation};
 ghost use Rattle.slotted_slots.specs.Error.{IsOutOfMemory, IsShortage};
 ghost use Rattle.slotted_slots.specs.Maps.{values};
@@ -11,7 +11,9 @@ ghost use Rattle.slotted_filing.specs.FiledRows.{IsFiled};
 ghost use Rattle.slotted_rebuilding.specs.Filed.{IsWellFiled};
 ghost use Rattle.slotted_store.specs.Finding.{HasFinds, IsFindable};
 ghost use Rattle.slotted_adding.specs.Enodes.{AllKnownTo, names_beside_of};
-ghost use Rattle.slotted_reports.specs.Nodes.{AreAppliedNodes, AreEnodes, Ascend, HasKeyOf, IsAppliedNode, IsSourceOf, RunsOutForKeys, key_at};
+ghost use Rattle.slotted_adding.specs.Reports.{class_sources};
+ghost use Rattle.slotted_reports.specs.Nodes.{AreAppliedNodes, AreEnodes, Ascend, HasKeyOf, IsAppliedNode, IsSourceOf, key_at};
+ghost use Rattle.slotted_reports.specs.Nodes.{RunsOutForKeys, TakesForKeys};
 
 use slotted_adding::finding::found_class;
 use slotted_adding::reports::class_nodes;
@@ -96,7 +98,7 @@ fn names_beside<L: Language>(
     Ok(names)
 }
 
-// The node that is filed of a class, with the names of an id that finds the same class. A slot that finds do not use has a fresh name.
+// The node that is filed of a class, with the names of an id that finds the same class. Each other name is fresh.
 fn filed_node<L: Language>(
     store: &Store<L>,
     nodes: &Hashcons<L>,
@@ -111,9 +113,10 @@ fn filed_node<L: Language>(
     requires findable { IsFindable store.now (to_applied a.now) }
     requires known { AllKnownTo table.old (values a.now.m) }
     ensures key { IfOk result (λ n. HasKey nodes.now.filed source (shape (L.form n)).0) }
-    ensures ok { IfOk result (λ n. IsAppliedNode table.new store.now nodes.now (to_applied a.now) (L.form n)) }
+    ensures ok { IfOk result (λ n. IsAppliedNode table.old table.new store.now nodes.now (to_applied a.now) (L.form n)) }
     ensures more { KnowsMore table.old table.new }
     ensures kept { table.new.names ≡ table.old.names }
+    ensures takes { TakesForKeys nodes.now (source ∷ []) table.old table.new }
     ensures full { IsErrOf result Error.OutOfSlots → RunsOutForKeys nodes.now table.new }
     ensures err { IfErr result IsShortage }
 {
@@ -121,7 +124,8 @@ fn filed_node<L: Language>(
         Some((key, slots)) => {
             let names = names_beside(store, alloc, source, slots, a)?;
             let node = key.apply_slotmap_fresh(alloc, &names, table)?;
-            Ok(node)
+            let answer = node.refresh_private(alloc, table)?;
+            Ok(answer)
         }
         None => unreachable!(),
     }
@@ -141,9 +145,10 @@ fn filed_nodes<L: Language>(
     requires sources { All (IsSourceOf store.now nodes.now (to_applied a.now)) sources.now }
     requires findable { IsFindable store.now (to_applied a.now) }
     requires known { AllKnownTo table.old (values a.now.m) }
-    ensures ok { IfOk result (λ v. AreAppliedNodes L.form table.new store.now nodes.now (to_applied a.now) sources.now v.items) }
+    ensures ok { IfOk result (λ v. AreAppliedNodes L.form table.old table.new store.now nodes.now (to_applied a.now) sources.now v.items) }
     ensures more { KnowsMore table.old table.new }
     ensures kept { table.new.names ≡ table.old.names }
+    ensures takes { TakesForKeys nodes.now sources.now table.old table.new }
     ensures full { IsErrOf result Error.OutOfSlots → RunsOutForKeys nodes.now table.new }
     ensures err { IfErr result IsShortage }
 {
@@ -156,7 +161,7 @@ fn filed_nodes<L: Language>(
 }
 
 /// For each filed node of an id's class a node with the id's names, ascending by their shapes. No node waits. A slot that finds do not use has
-/// a fresh name, and so has a binder that would meet another name. A dead class has no filed nodes.
+/// a fresh name, and so has each binder. A dead class has no filed nodes.
 pub fn enodes_applied<L: Language>(
     store: &Store<L>,
     nodes: &Hashcons<L>,
@@ -168,9 +173,10 @@ pub fn enodes_applied<L: Language>(
     requires quiet { nodes.now.waiting ≡ [] }
     requires findable { IsFindable store.now (to_applied a.now) }
     requires known { AllKnownTo table.old (values a.now.m) }
-    ensures ok { IfOk result (λ v. AreEnodes L.form L.cmp table.new store.now nodes.now (to_applied a.now) v.items) }
+    ensures ok { IfOk result (λ v. AreEnodes L.form L.cmp table.old table.new store.now nodes.now (to_applied a.now) v.items) }
     ensures more { KnowsMore table.old table.new }
     ensures kept { table.new.names ≡ table.old.names }
+    ensures takes { TakesForKeys nodes.now (class_sources store.now nodes.now a.now.id.0) table.old table.new }
     ensures full { IsErrOf result Error.OutOfSlots → RunsOutForKeys nodes.now table.new }
     ensures err { IfErr result IsShortage }
 {

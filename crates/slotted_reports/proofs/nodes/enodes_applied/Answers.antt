@@ -27,7 +27,7 @@ pub returns-clause-ok : goal.returns-clause-ok
 returns-clause-ok g c =
     let form = g.L.LanguageChildren.form in
     let sources = c.deref.ensures.value ∙ c.in_ok-sources.ensures.ok in
-    let nodes = subst (λ os. AreAppliedNodes form c.filed_nodes.new.table c.args.store.now c.args.nodes.now (to_applied c.args.a.now) os c.in_ok-answer.answer.items) c.deref-2.ensures.value c.in_ok-answer.ensures.ok in
+    let nodes = subst (λ os. AreAppliedNodes form c.args.table.now c.filed_nodes.new.table c.args.store.now c.args.nodes.now (to_applied c.args.a.now) os c.in_ok-answer.answer.items) c.deref-2.ensures.value c.in_ok-answer.ensures.ok in
     record {
       sources = c.in_ok-ordered.ordered.items;
       same = subst (λ xs. IsPermutation xs c.in_ok-ordered.ordered.items) sources c.in_ok-ordered.ensures.same;
