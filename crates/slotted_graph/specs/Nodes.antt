@@ -1,12 +1,14 @@
 -- The filed nodes of a class, as the graph gives them out.
 --     shapes_found g c                 the shapes of the filed nodes whose class finds c
 --     HasEachNode form g c ns          ns has one node for each of these
+--     IsNoneIfDead g c ns              ns is empty if the class c does not find itself
 --     AscendByShape form cmp ns        the shapes of ns ascend by the order of the language
 --     IsEnode g a f                    f is a valid node that is looked up as what the id a finds
+--     slots_for_enodes g c             two for each place of these nodes
 --     HasLargeRow g                    a filed node has too many places to be numbered
 --     CanRunOutForEnodes g u           why slots can run out where they are given out, which leaves the table u
-use Rattle.std.specs.Prelude.{◌≡◌, ◌≤◌, ◌⊎◌, ℕ, List, Bool, Contains, Some, map, nat_eq}
-use Rattle.std.specs.List.{filter}
+use Rattle.std.specs.Prelude.{◌≡◌, ◌≤◌, ◌*◌, ◌⊎◌, ℕ, List, [], Bool, Contains, Some, map, nat_eq}
+use Rattle.std.specs.List.{filter, sum_by}
 use Rattle.std.specs.List.Sorted.{IsPermutation}
 use Rattle.std.specs.declared.cmp.Ordering.{Ordering}
 use Rattle.slotted_theory.specs.Nameless.{DTerm}
@@ -31,12 +33,19 @@ finds_class g c r = nat_eq (class_found g r.source) c
 abbrev pub shapes_found : Graph → ℕ → List DTerm
 shapes_found g c = map (λ (r : Row). r.shape) (filter (finds_class g.image c) g.filed)
 
--- the shapes of the nodes are those, each as often. A dead class is found by none
+-- the shapes of the nodes are those, each as often
 abbrev pub HasEachNode : {L : Type 0} → (L → Form) → Graph → ℕ → List L → Type 0
 HasEachNode form g c ns = IsPermutation (shapes_found g c) (map (λ n. shape (nameless_node (form n))) ns)
 
+-- where the class does not find itself, there is none
+abbrev pub IsNoneIfDead : {L : Type 0} → Graph → ℕ → List L → Type 0
+IsNoneIfDead g c ns = ¬ (class_found g.image c ≡ c) → ns ≡ []
+
 abbrev pub AscendByShape : {L : Type 0} → (L → Form) → (L → L → Ordering) → List L → Type 0
 AscendByShape form cmp ns = Ascend form cmp (map (key_in form) ns)
+
+abbrev pub slots_for_enodes : Graph → ℕ → ℕ
+slots_for_enodes g c = 2 * sum_by place_count (shapes_found g c)
 
 pub record IsEnode (g : Graph) (a : Applied) (f : Form) : Type 0 where
   pub valid : IsValidNode g f

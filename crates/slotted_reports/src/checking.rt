@@ -1,6 +1,7 @@
 //! Whether what a graph keeps fits together.
-ghost use Rattle.std.specs.Prelude.{IsTrue, IfOk, IfErr, IsErrOf};
+ghost use Rattle.std.specs.Prelude.{◌≡◌, IsTrue, IfOk, IfErr, IsErrOf};
 ghost use Rattle.slotted_slots.specs.Error.{IsShortage};
+ghost use Rattle.slotted_filing.specs.Filed.{HasKey};
 ghost use Rattle.slotted_rebuilding.specs.Filed.{IsWellFiled};
 ghost use Rattle.slotted_store.specs.Finding.{HasFinds};
 ghost use Rattle.slotted_reports.specs.Checking.{HasKeyed, HasKeyedEach};
@@ -26,6 +27,31 @@ fn classes_fit<L: Language>(store: &Store<L>) -> bool
     true
 }
 
+// Whether a key that is filed of a class is found as that of this class.
+fn is_found<L: Language>(nodes: &Hashcons<L>, key: &L, source: usize) -> bool
+    requires { HasKey nodes.now.filed source (L.form key.now) }
+    ensures { IsTrue result }
+{
+    match nodes.source_of(key) {
+        Some(found) => found == source,
+        None => false,
+    }
+}
+
+// Whether a node has the form of another one.
+fn is_same<L: Language>(left: &L, right: &L) -> bool
+    ensures { L.form left.now ≡ L.form right.now → IsTrue result }
+{
+    left == right
+}
+
+// Whether all three hold.
+fn all(first: bool, second: bool, third: bool) -> bool
+    ensures { IsTrue first → IsTrue second → IsTrue third → IsTrue result }
+{
+    first && second && third
+}
+
 // Whether the node that is filed of a class stands under its own shape, once, with a slot of the class for each number.
 fn node_fits<L: Language>(
     nodes: &Hashcons<L>,
@@ -41,7 +67,7 @@ fn node_fits<L: Language>(
         Some((key, slots)) => {
             let (shape, numbers) = key.weak_shape(alloc)?;
             let counted = numbers.len() == slots.len();
-            Ok(shape == *key && counted && nodes.source_of(key) == Some(source))
+            Ok(all(is_same(&shape, key), counted, is_found(nodes, key, source)))
         }
         None => Ok(true),
     }
