@@ -33,11 +33,7 @@ fn is_found<L: Language>(graph: &EGraph<L>, node: &L, id: &AppliedId) -> Result<
 }
 
 // Whether each node is.
-fn are_found<L: Language>(
-    graph: &EGraph<L>,
-    nodes: &[L],
-    id: &AppliedId,
-) -> Result<bool, Error> {
+fn are_found<L: Language>(graph: &EGraph<L>, nodes: &[L], id: &AppliedId) -> Result<bool, Error> {
     for node in nodes {
         if !is_found(graph, node, id)? {
             return Ok(false);

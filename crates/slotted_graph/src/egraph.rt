@@ -37,6 +37,7 @@ use std::marker::Model;
 
 mod adding;
 mod canonical;
+mod dump;
 mod explanations;
 mod nodes;
 mod patterns;

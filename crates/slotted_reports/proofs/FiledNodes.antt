@@ -1,5 +1,5 @@
 -- A filed node with other names put in: its names are known, and its children find.
-use Rattle.std.proofs.Common.{◌≡◌, ◌∙◌, ℕ, true, false, zero, suc, List, [], ◌∷◌, ◌++◌, None, Some, length, refl, ap, sym, subst, inl, inr, arith}
+use Rattle.std.proofs.Common.{◌≡◌, ◌∙◌, ℕ, true, zero, suc, List, [], ◌∷◌, ◌++◌, None, Some, length, refl, ap, sym, subst, inl, inr}
 use Rattle.std.specs.Prelude.{All, Contains, IsTrue, Option, cond, nat_eq, unwrap_or}
 use Rattle.std.proofs.lemmas.Bool.{cases_Bool, false≢true}
 use Rattle.std.proofs.lemmas.List.Elements.{All-cons, All-nil}

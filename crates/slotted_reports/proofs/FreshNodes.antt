@@ -1,6 +1,6 @@
 -- A filed node with the names of an id and fresh ones beside them: it is looked up as what the id finds.
 use Rattle.std.proofs.Common.{◌≡◌, ◌≤◌, ◌<◌, ◌+◌, ◌*◌, ◌∙◌, ℕ, zero, suc, List, [], ◌∷◌, ◌++◌, None, Some, true, false, get_or, take, length, map, refl, ap, sym, subst, inl, inr, arith}
-use Rattle.std.specs.Prelude.{◌⊎◌, All, Contains, IsSome, IsTrue, Option, cond, not, slice_index}
+use Rattle.std.specs.Prelude.{◌⊎◌, Contains, IsSome, IsTrue, Option, cond, not, slice_index}
 use Rattle.std.specs.List.{sum_by}
 use Rattle.std.specs.List.Sorted.{IsPermutation}
 use Rattle.std.proofs.lemmas.List.{take_more}

@@ -53,11 +53,7 @@ fn all(first: bool, second: bool, third: bool) -> bool
 }
 
 // Whether the node that is filed of a class stands under its own shape, once, with a slot of the class for each number.
-fn node_fits<L: Language>(
-    nodes: &Hashcons<L>,
-    alloc: Global,
-    source: usize,
-) -> Result<bool, Error>
+fn node_fits<L: Language>(nodes: &Hashcons<L>, alloc: Global, source: usize) -> Result<bool, Error>
     requires { HasKeyed nodes.now source }
     ensures ok { IfOk result (λ y. IsTrue y) }
     ensures full { IsErrOf result Error.OutOfSlots → HasLargeKey nodes.now }

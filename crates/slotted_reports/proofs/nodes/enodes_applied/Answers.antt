@@ -1,11 +1,10 @@
 -- The sources, in order, and the node of each.
-use Rattle.std.proofs.Common.{◌∙◌, ap, sym, subst}
+use Rattle.std.proofs.Common.{◌∙◌, sym, subst}
 use Rattle.std.specs.Prelude.{All}
 use Rattle.std.specs.List.Sorted.{IsPermutation}
 use Rattle.slotted_filing.specs.FiledRows.{IsFiled}
 use Rattle.slotted_proofs.specs.Equations.{to_applied}
-use Rattle.slotted_adding.specs.Reports.{class_sources}
-use Rattle.slotted_reports.specs.Nodes.{AreAppliedNodes, AreEnodes, Ascend, IsSourceOf}
+use Rattle.slotted_reports.specs.Nodes.{AreAppliedNodes, Ascend, IsSourceOf}
 use Rattle.slotted_reports.proofs.Sources.{each-filed, each-ordered}
 use Rattle.slotted_reports.proofs.nodes.enodes_applied.Goals as goal
 

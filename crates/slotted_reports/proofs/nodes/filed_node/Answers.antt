@@ -1,5 +1,5 @@
 -- The node with the names of the id, and with fresh binders.
-use Rattle.std.proofs.Common.{rules, ◌≡◌, ◌≤◌, ◌<◌, ◌+◌, ◌*◌, ◌∙◌, [], ◌∷◌, ℕ, List, Some, length, ap, sym, subst, inl, inr, arith}
+use Rattle.std.proofs.Common.{rules, ◌≤◌, ◌<◌, ◌+◌, ◌∙◌, ℕ, List, length, ap, sym, subst, inl, inr, arith}
 use Rattle.std.specs.Prelude.{Contains, option_map}
 use Rattle.std.proofs.lemmas.Bool.{cases_lt}
 use Rattle.slotted_theory.proofs.Lists.{Contains-nil}

@@ -1,6 +1,5 @@
 -- One node after another.
-use Rattle.std.proofs.Common.{◌<◌, ◌+◌, ◌∙◌, take, ap, sym, subst, length, arith}
-use Rattle.std.proofs.lemmas.List.{take_all}
+use Rattle.std.proofs.Common.{◌<◌, ◌+◌, ◌∙◌, take, sym, subst, length, arith}
 use Rattle.slotted_proofs.specs.Equations.{to_applied}
 use Rattle.slotted_reports.specs.Nodes.{AreAppliedNodes}
 use Rattle.slotted_reports.proofs.FreshNodes.{nodes-then, takes-then, takes-within}
