@@ -1,5 +1,5 @@
 //! What is asked of filed nodes, and of how far a graph is.
-use crate::graphs::{put, yes};
+use crate::graphs::{empty, put, yes};
 use crate::ids::found;
 use crate::nodes::look_up;
 use crate::rows::{check, check_tables};
@@ -161,4 +161,69 @@ ids: (lam $x (var $x)) => equal";
 #[test]
 fn binders_of_filed_nodes_are_fresh(rt: HostRuntime) -> Result<(), Error> {
     check::<Small>(&rt, rt.alloc(), "f1073741822", NO_SLOT_LEFT)
+}
+
+// The text of a graph that holds a term, if there is one.
+fn dumped<L: Language>(alloc: Global, text: &str) -> Result<String, Error> {
+    let mut graph = empty::<L>(alloc, "x")?;
+    if text != "" {
+        put(&mut graph, text)?;
+    }
+    let mut out = String::new(alloc);
+    graph.dump(&mut out)?;
+    Ok(out)
+}
+
+const DUMPED_WORD: &str = "
+
+id0():
+>> a
+ - a    [originally id0]
+
+";
+
+const DUMPED_SLOTS: &str = "
+
+id0($f0, $f1):
+>> (f $f0 $f1)
+ - (f $f0 $f1)    [originally id0]
+
+";
+
+const DUMPED_CHILDREN: &str = "
+
+id0():
+>> a
+ - a    [originally id0]
+
+id1($f0):
+>> (g $f0)
+ - (g $f0)    [originally id1]
+
+id2($f1):
+>> (app id0[] id1[$f0 -> $f1])
+ - (app id0[] id1[$f0 -> $f1])    [originally id2]
+
+";
+
+#[test]
+fn graphs_are_dumped(rt: HostRuntime) -> Result<(), Error> {
+    let alloc = rt.alloc();
+    assert_eq!(&rt; dumped::<Small>(alloc, "")?.as_str(), "\n\n", "no class");
+    assert_eq!(&rt;
+        dumped::<Small>(alloc, "a")?.as_str(),
+        DUMPED_WORD,
+        "a word"
+    );
+    assert_eq!(&rt;
+        dumped::<Small>(alloc, "(f $x $y)")?.as_str(),
+        DUMPED_SLOTS,
+        "slots"
+    );
+    assert_eq!(&rt;
+        dumped::<Small>(alloc, "(app a (g $x))")?.as_str(),
+        DUMPED_CHILDREN,
+        "children"
+    );
+    Ok(())
 }

@@ -1,5 +1,5 @@
 -- The filed nodes of a class, as contracts see them and as they are filed.
-use Rattle.std.proofs.Common.{◌≡◌, ◌≤◌, ◌<◌, ◌+◌, ◌∙◌, ◌*◌, ℕ, zero, suc, List, [], ◌∷◌, Some, cond, length, map, ap, refl, sym, subst, inl, inr, arith}
+use Rattle.std.proofs.Common.{◌≡◌, ◌≤◌, ◌<◌, ◌+◌, ◌∙◌, ℕ, zero, suc, List, [], ◌∷◌, Some, cond, length, map, ap, refl, sym, subst, inl, inr, arith}
 use Rattle.std.specs.Prelude.{All, Bool, Contains, is_some, nat_eq, ◌&&◌}
 use Rattle.std.specs.List.{filter, range_with_len, sum_by}
 use Rattle.std.specs.List.Sorted.{IsPermutation}

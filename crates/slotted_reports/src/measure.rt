@@ -10,7 +10,7 @@ use slotted_store::Store;
 
 /// How far a graph is. Calls never lower the number of classes. While that stands still, the number of live ones never rises, and while both
 /// stand still, the sum of slots never does.
-#[derive(PartialEq, Eq)]
+#[derive(Drop, PartialEq, Eq)]
 pub struct ProgressMeasure {
     /// The number of classes, dead ones too.
     pub number_of_classes: usize,

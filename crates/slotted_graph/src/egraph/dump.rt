@@ -1,9 +1,12 @@
 //! What a graph holds, as a text: for each live class its slots, the node that it was made with, and its filed nodes.
-ghost use Rattle.std.specs.Prelude.{◌≡◌, ◌⊎◌, ◌↔◌, ◌<◌, length, IsTrue, IfErr, IsErrOf};
+ghost use Rattle.std.specs.Prelude.{◌≡◌, ◌⊎◌, ◌↔◌, ◌<◌, length, All, IsTrue, IfOk, IfErr, IsErrOf};
 ghost use Rattle.slotted_slots.specs.Error.{IsOutOfMemory, IsShortage};
 ghost use Rattle.slotted_slots.specs.Table.{KnowsMore};
 ghost use Rattle.slotted_core.specs.Good.{Good, HasFreshSlots, RestsWith};
 ghost use Rattle.slotted_core.specs.Graph.{OnlyTakesSlots};
+ghost use Rattle.slotted_nodes.specs.Form.{IsSmall};
+ghost use Rattle.slotted_reports.specs.Nodes.{RunsOutForKeys};
+ghost use Rattle.slotted_graph.specs.Nodes.{CanRunOutForEnodes};
 
 use super::EGraph;
 use slotted_adding::reports;
@@ -78,7 +81,8 @@ fn push_canonical<L: Language>(
 
 // The class that a filed node was made with, by its shape.
 fn source_of<L: Language>(alloc: Global, nodes: &Hashcons<L>, node: &L) -> Result<usize, Error>
-    ensures { IfErr result IsShortage }
+    requires { IsSmall (L.form node.now) }
+    ensures { IfErr result IsOutOfMemory }
 {
     let (key, _) = node.weak_shape(alloc)?;
     Ok(nodes.source_of(&key).unwrap_or(0))
@@ -92,7 +96,8 @@ fn push_node<L: Language>(
     nodes: &Hashcons<L>,
     node: &L,
 ) -> Result<(), Error>
-    ensures { IfErr result IsShortage }
+    requires { IsSmall (L.form node.now) }
+    ensures { IfErr result IsOutOfMemory }
 {
     let source = source_of(alloc, nodes, node)?;
     let text = text_of(alloc, table, node)?;
@@ -108,10 +113,11 @@ fn push_nodes<L: Language>(
     nodes: &Hashcons<L>,
     of_class: &[L],
 ) -> Result<(), Error>
-    ensures { IfErr result IsShortage }
+    requires { All (λ n. IsSmall (L.form n)) of_class.now }
+    ensures { IfErr result IsOutOfMemory }
 {
-    for node in of_class {
-        push_node(alloc, out, table, nodes, node)?;
+    for i in 0..of_class.len() {
+        push_node(alloc, out, table, nodes, &of_class[i])?;
     }
     Ok(())
 }
@@ -128,8 +134,10 @@ fn own_nodes<L: Language>(
     requires rests { RestsWith store.now nodes.now }
     requires fresh_slots { HasFreshSlots table.old store.now }
     requires within { class < length store.now.classes }
+    ensures small { IfOk result (λ v. All (λ n. IsSmall (L.form n)) v.items) }
     ensures more { KnowsMore table.old table.new }
     ensures kept { table.new.names ≡ table.old.names }
+    ensures full { IsErrOf result Error.OutOfSlots → RunsOutForKeys nodes.now table.new }
     ensures err { IfErr result IsShortage }
 {
     let a = reports::mk_identity_applied_id(store, alloc, class)?;
@@ -152,6 +160,7 @@ fn push_whole<L: Language>(
     requires within { class < length store.now.classes }
     ensures more { KnowsMore table.old table.new }
     ensures kept { table.new.names ≡ table.old.names }
+    ensures full { IsErrOf result Error.OutOfSlots → RunsOutForKeys nodes.now table.new }
     ensures err { IfErr result IsShortage }
 {
     let slots = reports::slots_of(store, alloc, class)?;
@@ -175,6 +184,7 @@ fn push_live<L: Language>(
     requires fresh_slots { HasFreshSlots table.old store.now }
     ensures more { KnowsMore table.old table.new }
     ensures kept { table.new.names ≡ table.old.names }
+    ensures full { IsErrOf result Error.OutOfSlots → RunsOutForKeys nodes.now table.new }
     ensures err { IfErr result IsShortage }
 {
     out.push('\n')?;
@@ -196,6 +206,7 @@ impl<L: Language, N: Drop> EGraph<L, N> {
         ensures stays { IsTrue self.old.failed → self.new ≡ self.old }
 
         ensures failed { IsErrOf result Error.Failed ↔ IsTrue self.old.failed }
+        ensures full { IsErrOf result Error.OutOfSlots → CanRunOutForEnodes self.old self.new.table }
         ensures only { IfErr result (λ e. (e ≡ Error.Failed) ⊎ IsShortage e) }
     {
         if self.failed {

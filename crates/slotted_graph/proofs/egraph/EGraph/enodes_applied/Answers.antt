@@ -6,7 +6,6 @@ use Rattle.slotted_slots.specs.Table.{Table}
 use Rattle.slotted_terms.specs.Valid.{AllKnown}
 use Rattle.slotted_model.specs.Applied.{values}
 use Rattle.slotted_proofs.specs.Equations.{to_applied}
-use Rattle.slotted_filing.specs.FiledRows.{rows_in}
 use Rattle.slotted_store.specs.Finding.{IsFindable}
 use Rattle.slotted_reports.specs.Nodes.{AreEnodes, HasFreshNames}
 use Rattle.slotted_core.specs.Good.{Good, HasFreshSlots, RestsWith, image_of}

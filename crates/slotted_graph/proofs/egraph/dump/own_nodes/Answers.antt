@@ -1,4 +1,4 @@
-use Rattle.std.proofs.Common.{◌∙◌, ap, sym, subst}
+use Rattle.std.proofs.Common.{sym, subst}
 use Rattle.slotted_terms.specs.Valid.{AllKnown}
 use Rattle.slotted_model.specs.Applied.{Applied, values}
 use Rattle.slotted_model.specs.Find.{used_slots}
@@ -24,3 +24,6 @@ enodes_applied-requires-clause-known g c =
     let i = c.args.class in
     subst (λ (x : Applied). AllKnown t (values x.1)) (sym c.in_ok-a.ensures.ok)
     (subst (AllKnown t) (sym (values-identity (used_slots (entries_of k) i))) (used-known k c.requires.good t c.requires.fresh_slots i c.requires.within))
+
+pub returns-clause-small : goal.returns-clause-small
+returns-clause-small g c j d h = (c.in_ok-answer.ensures.ok.nodes.each j d h).small
