@@ -24,6 +24,8 @@ mod rebuilt;
 #[cfg(test)]
 mod refused;
 #[cfg(test)]
+mod reported;
+#[cfg(test)]
 mod rows;
 #[cfg(test)]
 mod steps;

@@ -4,7 +4,7 @@ use crate::ids::{
     are_counted, find_one, is_full_changed, is_valid_changed, names_itself, related,
     related_changed, sides_related, unite_because, unite_changed,
 };
-use crate::{found, nodes, proofs, steps, terms};
+use crate::{found, nodes, proofs, reported, steps, terms};
 use slotted_graph::EGraph;
 use slotted_languages::Language;
 use slotted_proofs::{Equation, ProvenEq};
@@ -108,6 +108,7 @@ pub fn answer<L: Printable>(
     match parted(ask, " ") {
         ("print", word) => terms::answer(alloc, graph, word, texts),
         ("count", word) => terms::count(alloc, graph, word, texts),
+        ("report", word) => reported::answer(alloc, graph, word, texts),
         ("proof", rest) => proofs::answer(alloc, graph, known, rest),
         _ => told_text(alloc, graph, other, known, ask, texts),
     }

@@ -37,7 +37,9 @@ use std::marker::Model;
 
 mod adding;
 mod canonical;
+mod dump;
 mod explanations;
+mod nodes;
 mod patterns;
 mod reports;
 

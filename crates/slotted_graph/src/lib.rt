@@ -6,4 +6,5 @@ pub mod egraph;
 
 pub use egraph::EGraph;
 pub use egraph::steps::Check;
+pub use slotted_reports::ProgressMeasure;
 pub use slotted_store::Symmetry;

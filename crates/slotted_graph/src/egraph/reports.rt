@@ -12,10 +12,12 @@ ghost use Rattle.slotted_core.specs.ValidIds.{IsValidId};
 ghost use Rattle.slotted_core.specs.Graph.{OnlyReads, OnlyTakesSlots};
 ghost use Rattle.slotted_core.specs.Image.{found_id};
 ghost use Rattle.slotted_core.specs.Reports.{HasClass, IsFoundFor, class_numbers, live_classes, names_slots, slots_used};
+ghost use Rattle.slotted_graph.specs.Measure.{IsProgress, no_progress};
 
 use super::EGraph;
 use slotted_adding::{finding, reports};
 use slotted_languages::Language;
+use slotted_reports::{ProgressMeasure, measure};
 use slotted_slots::{AppliedId, Error, Id, Slot, SmallHashSet};
 use slotted_store::Store;
 use std::alloc::Global;
@@ -79,6 +81,22 @@ impl<L: Language, N: Drop> EGraph<L, N> {
         }
         let ids = live_ids(&self.store, self.alloc)?;
         Ok(ids)
+    }
+
+    /// How far the graph is. Of a failed one nothing is counted. It takes no memory.
+    pub fn progress(&self) -> ProgressMeasure
+        ensures measure { IsTrue self.now.failed ⊎ IsProgress self.now.image result }
+        ensures failed { IsTrue self.now.failed → result ≡ no_progress }
+    {
+        if self.failed {
+            return ProgressMeasure {
+                number_of_classes: 0,
+                number_of_live_classes: 0,
+                sum_of_slots: 0,
+                sum_of_symmetries: 0,
+            };
+        }
+        measure::progress(&self.store)
     }
 
     /// The slots of a class that no union dropped, ascending. The table knows them.

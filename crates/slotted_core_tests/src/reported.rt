@@ -1,0 +1,229 @@
+//! What is asked of filed nodes, and of how far a graph is.
+use crate::graphs::{empty, put, yes};
+use crate::ids::found;
+use crate::nodes::look_up;
+use crate::rows::{check, check_tables};
+use slotted_graph::{EGraph, ProgressMeasure};
+use slotted_languages::Language;
+use slotted_slots::{AppliedId, Error};
+use slotted_small::Small;
+use std::alloc::Global;
+
+// The filed nodes of an id's class, if it can be asked.
+fn nodes_of<L: Language>(graph: &mut EGraph<L>, a: &AppliedId) -> Result<Vec<L>, Error> {
+    if graph.is_valid(a) {
+        graph.enodes_applied(a)
+    } else {
+        Err(Error::NotATerm)
+    }
+}
+
+// The same of the id of a term.
+fn nodes_of_term<L: Language>(graph: &mut EGraph<L>, text: &str) -> Result<Vec<L>, Error> {
+    let id = put(graph, text)?;
+    nodes_of(graph, &id)
+}
+
+// Whether a node is looked up as this id.
+fn is_found<L: Language>(graph: &EGraph<L>, node: &L, id: &AppliedId) -> Result<bool, Error> {
+    match look_up(graph, node)? {
+        Some(found) => Ok(found == *id),
+        None => Ok(false),
+    }
+}
+
+// Whether each node is.
+fn are_found<L: Language>(graph: &EGraph<L>, nodes: &[L], id: &AppliedId) -> Result<bool, Error> {
+    for node in nodes {
+        if !is_found(graph, node, id)? {
+            return Ok(false);
+        }
+    }
+    Ok(true)
+}
+
+// Whether the shape of one node is less than that of another.
+fn is_before<L: Language>(alloc: Global, left: &L, right: &L) -> Result<bool, Error> {
+    let (left, _) = left.weak_shape(alloc)?;
+    let (right, _) = right.weak_shape(alloc)?;
+    Ok(left < right)
+}
+
+// Whether the shapes ascend.
+fn ascend<L: Language>(alloc: Global, nodes: &[L]) -> Result<bool, Error> {
+    for i in 1..nodes.len() {
+        if !is_before(alloc, &nodes[i - 1], &nodes[i])? {
+            return Ok(false);
+        }
+    }
+    Ok(true)
+}
+
+// Whether the filed nodes of an id's class ascend, and are looked up as what the id finds.
+fn are_its<L: Language>(
+    alloc: Global,
+    graph: &mut EGraph<L>,
+    a: &AppliedId,
+) -> Result<bool, Error> {
+    let id = found(graph, a)?;
+    let nodes = nodes_of(graph, &id)?;
+    Ok(ascend(alloc, &nodes)? && are_found(graph, &nodes, &id)?)
+}
+
+// The same of the id of a term.
+fn are_of_term<L: Language>(
+    alloc: Global,
+    graph: &mut EGraph<L>,
+    text: &str,
+) -> Result<bool, Error> {
+    let id = put(graph, text)?;
+    are_its(alloc, graph, &id)
+}
+
+// The numbers of classes, of live ones and of slots.
+fn told(alloc: Global, measure: &ProgressMeasure) -> Result<String, Error> {
+    let classes = measure.number_of_classes;
+    let live = measure.number_of_live_classes;
+    let slots = measure.sum_of_slots;
+    Ok(format!(in alloc; "{classes} {live} {slots}")?)
+}
+
+// A number, as a text.
+fn number(alloc: Global, number: usize) -> Result<String, Error> {
+    Ok(format!(in alloc; "{number}")?)
+}
+
+// What is asked of filed nodes.
+pub fn answer<L: Language>(
+    alloc: Global,
+    graph: &mut EGraph<L>,
+    ask: &str,
+    text: &str,
+) -> Result<String, Error> {
+    match ask {
+        "total" => number(alloc, graph.total_number_of_nodes()),
+        "progress" => told(alloc, &graph.progress()),
+        "nodes" => number(alloc, nodes_of_term(graph, text)?.len()),
+        "check" => Ok(String::from_str(alloc, yes(graph.check()?))?),
+        _ => Ok(String::from_str(alloc, yes(are_of_term(alloc, graph, text)?))?),
+    }
+}
+
+// A union makes one class of two, which keeps both nodes. All variables have one class.
+const TWO_NODES: &str = "report total => 0
+report progress => 0 0 0
+report check => yes
+ids: (f $0 $1) == (app (var $0) (var $1)) => two classes
+report total => 3
+report progress => 3 3 5
+report nodes: (f $0 $1) => 1
+union: (f $0 $1) == (app (var $0) (var $1)) => yes
+report total => 3
+report progress => 3 2 3
+report applied: (f $5 $6) => yes
+report applied: (app (var $1) (var $0)) => yes
+report applied: (var $3) => yes
+report check => yes";
+
+// A dropped slot of a node stands for any name. The id of the class that died has no nodes.
+const DROPPED: &str = "union: (f $0 $1) == (g $0) => yes
+report progress => 2 1 1
+report total => 2
+report nodes: (g $0) => 2
+report nodes: (f $2 $3) => 0
+report applied: (f $2 $3) => yes
+report applied: (g $7) => yes
+report check => yes";
+
+// Nodes that become equal are one, also below binders.
+const ONE_NODE: &str = "ids: (lam $x (app a (var $x))) == (lam $y (app b (var $y))) => two classes
+report total => 7
+report progress => 7 7 3
+union: a == b => yes
+report total => 5
+report progress => 7 4 2
+report applied: (lam $z (app b (var $z))) => yes
+report nodes: b => 2
+report check => yes";
+
+#[test]
+fn filed_nodes_are_reported(rt: HostRuntime) -> Result<(), Error> {
+    check_tables::<Small>(&rt, rt.alloc(), &[TWO_NODES, DROPPED, ONE_NODE])
+}
+
+// A binder of a node that is given out is fresh: no slot is left for it, which fails nothing.
+const NO_SLOT_LEFT: &str = "ids: (lam $x (var $x)) => equal
+report nodes: (lam $x (var $x)) => OutOfSlots
+report nodes: (var $0) => 1
+graph failed => no
+ids: (lam $x (var $x)) => equal";
+
+#[test]
+fn binders_of_filed_nodes_are_fresh(rt: HostRuntime) -> Result<(), Error> {
+    check::<Small>(&rt, rt.alloc(), "f1073741822", NO_SLOT_LEFT)
+}
+
+// The text of a graph that holds a term, if there is one.
+fn dumped<L: Language>(alloc: Global, text: &str) -> Result<String, Error> {
+    let mut graph = empty::<L>(alloc, "x")?;
+    if text != "" {
+        put(&mut graph, text)?;
+    }
+    let mut out = String::new(alloc);
+    graph.dump(&mut out)?;
+    Ok(out)
+}
+
+const DUMPED_WORD: &str = "
+
+id0():
+>> a
+ - a    [originally id0]
+
+";
+
+const DUMPED_SLOTS: &str = "
+
+id0($f0, $f1):
+>> (f $f0 $f1)
+ - (f $f0 $f1)    [originally id0]
+
+";
+
+const DUMPED_CHILDREN: &str = "
+
+id0():
+>> a
+ - a    [originally id0]
+
+id1($f0):
+>> (g $f0)
+ - (g $f0)    [originally id1]
+
+id2($f1):
+>> (app id0[] id1[$f0 -> $f1])
+ - (app id0[] id1[$f0 -> $f1])    [originally id2]
+
+";
+
+#[test]
+fn graphs_are_dumped(rt: HostRuntime) -> Result<(), Error> {
+    let alloc = rt.alloc();
+    assert_eq!(&rt; dumped::<Small>(alloc, "")?.as_str(), "\n\n", "no class");
+    assert_eq!(&rt;
+        dumped::<Small>(alloc, "a")?.as_str(),
+        DUMPED_WORD,
+        "a word"
+    );
+    assert_eq!(&rt;
+        dumped::<Small>(alloc, "(f $x $y)")?.as_str(),
+        DUMPED_SLOTS,
+        "slots"
+    );
+    assert_eq!(&rt;
+        dumped::<Small>(alloc, "(app a (g $x))")?.as_str(),
+        DUMPED_CHILDREN,
+        "children"
+    );
+    Ok(())
+}

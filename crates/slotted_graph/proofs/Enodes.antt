@@ -1,0 +1,137 @@
+-- The filed nodes of a class, as contracts see them and as they are filed.
+use Rattle.std.proofs.Common.{◌≡◌, ◌≤◌, ◌<◌, ◌+◌, ◌∙◌, ℕ, zero, suc, List, [], ◌∷◌, Some, cond, length, map, ap, refl, sym, subst, inl, inr, arith}
+use Rattle.std.specs.Prelude.{All, Bool, Contains, is_some, nat_eq, ◌&&◌}
+use Rattle.std.specs.List.{filter, range_with_len, sum_by}
+use Rattle.std.specs.List.Sorted.{IsPermutation}
+use Rattle.std.proofs.lemmas.List.{length-map}
+use Rattle.std.proofs.lemmas.List.Sorted.{IsPermutation-refl, length_permutation, sum_by-IsPermutation}
+use Rattle.std.proofs.lemmas.List.Sums.{sum_by-cons}
+use Rattle.slotted_theory.specs.Nameless.{DArgs, DTerm, lift, moved_args, stop, place, sub, scope}
+use Rattle.slotted_theory.specs.Shape as theory
+use Rattle.slotted_slots.specs.Table.{Table}
+use Rattle.slotted_nodes.specs.Form.{Form}
+use Rattle.slotted_languages.specs.NodeTerm.{nameless_node}
+use Rattle.slotted_languages.specs.Shape.{Fits}
+use Rattle.slotted_model.specs.Applied.{Applied}
+use Rattle.slotted_model.specs.Find.{find_class}
+use Rattle.slotted_model.specs.State.{Row}
+use Rattle.slotted_store.specs.Finding.{IsFindable}
+use Rattle.slotted_store.specs.Kept.{Kept, entries_of}
+use Rattle.slotted_store.proofs.ChildIds.{Each, Each-from_All}
+use Rattle.slotted_filing.specs.Filed.{filed_of}
+use Rattle.slotted_filing.specs.FiledRows.{IsFiled, Rows, row_of_entry, rows_in}
+use Rattle.slotted_filing.proofs.FiledRows.{row-filed}
+use Rattle.slotted_adding.specs.Reports.{class_sources, is_source}
+use Rattle.slotted_adding.proofs.AppliedNodes.{filed-key}
+use Rattle.slotted_reports.specs.Nodes.{HasLargeKey, IsAppliedNode, RunsOutForKeys, TakesForKeys, key_at, key_in, key_of, places_at}
+use Rattle.slotted_reports.proofs.FiledShapes.{passes, shape_at, shapes_in, shapes-permuted, sources-permuted}
+use Rattle.slotted_reports.proofs.Sources.{dead-none, each-filed}
+use Rattle.slotted_core.specs.Canonical.{args_count, place_count}
+use Rattle.slotted_core.specs.Causes.{class_found}
+use Rattle.slotted_core.specs.Good.{Good, RestsWith, image_of}
+use Rattle.slotted_core.specs.Graph.{Graph}
+use Rattle.slotted_core.specs.Image.{Image, found_id}
+use Rattle.slotted_core.specs.ValidIds.{IsValidNode}
+use Rattle.slotted_core.proofs.CanonicalTerms.{places-counted}
+use Rattle.slotted_core.proofs.Images.{class_found-is, found_id-is}
+use Rattle.slotted_core.proofs.LookUps.{looked_up-is}
+use Rattle.slotted_core.proofs.ValidIds.{findable-children, findable-within, node-children_valid}
+use Rattle.slotted_graph.specs.Nodes.{CanRunOutForEnodes, HasEachNode, HasLargeRow, IsEnode, shapes_found, slots_for_enodes}
+
+-- tests that agree on a range let the same numbers through
+filter-agrees : (f g : ℕ → Bool) (s n : ℕ) → ((i : ℕ) → s ≤ i → i < s + n → f i ≡ g i) → filter f (range_with_len s n) ≡ filter g (range_with_len s n)
+filter-agrees f g s zero same = refl
+filter-agrees f g s (suc n) same =
+    let e : f s ≡ g s = same s (omega arith) (omega arith) in
+    let r : filter f (range_with_len (s + 1) n) ≡ filter g (range_with_len (s + 1) n) = filter-agrees f g (s + 1) n (λ i l h. same i (omega arith) (omega arith)) in
+    λ j. cond (e j) (s ∷ r j) (r j)
+
+-- other names, as many places
+count-moved : (ρ : ℕ → ℕ) (d : DArgs) → args_count (moved_args ρ d) ≡ args_count d
+count-moved ρ stop = refl
+count-moved ρ (place x rest) = λ i. 1 + count-moved ρ rest i
+count-moved ρ (sub op payloads args rest) = λ i. count-moved ρ args i + count-moved ρ rest i
+count-moved ρ (scope inner rest) = λ i. 1 + count-moved (lift ρ) inner i + count-moved ρ rest i
+
+sum-mapped : (f : DTerm → ℕ) (g : ℕ → DTerm) (h : ℕ → ℕ) (os : List ℕ) → Each (λ o. f (g o) ≡ h o) os → sum_by f (map g os) ≡ sum_by h os
+sum-mapped f g h [] e = refl
+sum-mapped f g h (o ∷ os) e = omega (arith, e.0, sum-mapped f g h os e.1, sum_by-cons f (g o) (map g os), sum_by-cons h o os)
+
+empty : {X : Type 0} (xs : List X) → length xs ≡ 0 → xs ≡ []
+empty [] e = refl
+empty (x ∷ xs) e = absurd (omega (arith, e))
+
+places-of_shape : (f : Form) → Fits f → place_count (theory.shape (nameless_node f)) ≡ length f.names
+places-of_shape f fits = count-moved (theory.number_in (theory.free_names (nameless_node f).args)) (nameless_node f).args ∙ places-counted f fits
+
+module _ (k : Kept) (r : Rows) (good : Good k) (rests : RestsWith k r) where
+  -- one node
+  pub enode : (h : Graph) → image_of k ≡ h.image → rows_in r.filed ≡ h.filed → (a : Applied) → IsFindable k a → (f : Form) → Fits f → (t : Table) → IsAppliedNode t h.table k r a f → IsEnode h a f
+  enode h image filed a v f fits t is =
+      let valid : IsValidNode h f = record { few = is.small; known = is.known; children = node-children_valid k good h image f is.known is.children } in
+      let finds = sym (found_id-is k a (findable-within k a v)) ∙ ap (λ (i : Image). found_id i a) image in
+      record {
+        valid = valid;
+        found = looked_up-is k r good rests h image filed (nameless_node f) (findable-children k good h image f fits valid.children) ∙ (is.found ∙ ap Some finds);
+      }
+
+  pub enodes : {L : Type 0} (form : L → Form) (h : Graph) → image_of k ≡ h.image → rows_in r.filed ≡ h.filed → (a : Applied) → IsFindable k a → ((n : L) → Fits (form n)) →
+      (ns : List L) (t : Table) → All (λ n. IsAppliedNode t h.table k r a (form n)) ns → All (λ n. IsEnode h a (form n)) ns
+  enodes form h image filed a v fits ns t each j d l = enode h image filed a v (form _) (fits _) t (each j d l)
+
+  abbrev P : ℕ → ℕ → Bool
+  P c i = nat_eq (class_found (image_of k) i) c
+
+  tests : (c : ℕ) → class_sources k r c ≡ filter (passes (P c) r.filed) (range_with_len 0 (length r.filed))
+  tests c = filter-agrees (is_source k r c) (passes (P c) r.filed) 0 (length r.filed)
+      (λ i s l. ap (λ x. is_some (filed_of r.filed i) && nat_eq x c) (sym (class_found-is k i (omega (arith, l, rests.filed.count)))))
+
+  module _ (g : Graph) (image : image_of k ≡ g.image) (filed : rows_in r.filed ≡ g.filed) (c : ℕ) where
+    found-are : shapes_in (P c) (rows_in r.filed) ≡ shapes_found g c
+    found-are = λ j. map (λ (x : Row). x.shape) (filter (λ (x : Row). nat_eq (class_found (image j) x.source) c) (filed j))
+
+    -- one for each filed node of the class
+    pub each-node : {L : Type 0} (form : L → Form) → ((n : L) → Fits (form n)) → (os : List ℕ) (ns : List L) →
+        IsPermutation (class_sources k r c) os → map (key_in form) ns ≡ map (key_at r.filed) os → HasEachNode form g c ns
+    each-node form fits os ns same keys =
+        subst (λ xs. IsPermutation xs (map (λ n. theory.shape (nameless_node (form n))) ns)) found-are
+        (shapes-permuted (P c) r.filed form fits os ns (subst (λ xs. IsPermutation xs os) (tests c) same) keys)
+
+    -- and none for a class that does not find itself
+    pub none-dead : {L : Type 0} (form : L → Form) → c < length k.classes → ¬ (class_found g.image c ≡ c) → (os : List ℕ) (ns : List L) →
+        IsPermutation (class_sources k r c) os → map (key_in form) ns ≡ map (key_at r.filed) os → ns ≡ []
+    none-dead form within dead os ns same keys =
+        let is : class_found g.image c ≡ find_class (entries_of k) c = ap (λ (x : Image). class_found x c) (sym image) ∙ class_found-is k c within in
+        let none : length (class_sources k r c) ≡ 0 = ap length (dead-none k r rests.filed (c, []) (λ e. dead (is ∙ e))) in
+        let many : length ns ≡ length os = sym (length-map ns (key_in form)) ∙ (ap length keys ∙ length-map os (key_at r.filed)) in
+        empty ns (omega (arith, none, many, length_permutation _ _ same))
+
+    -- two slots for each of their places
+    place-count : (o : ℕ) → IsFiled r.filed o → place_count (shape_at r.filed o) ≡ places_at r.filed o
+    place-count o h =
+        ap (λ x. place_count (theory.shape (nameless_node (key_of x)))) h.1
+        ∙ (places-of_shape h.0.0 (filed-key k r rests.filed o h.0.0 h.0.1 h.1).fits ∙ sym (ap (λ x. length (key_of x).names) h.1))
+
+    pub takes-found : (t u : Table) → TakesForKeys r (class_sources k r c) t u → u.fresh ≤ t.fresh + slots_for_enodes g c
+    takes-found t u takes =
+        let os = class_sources k r c in
+        let all : All (λ o. place_count (shape_at r.filed o) ≡ places_at r.filed o) os = λ j d l. place-count _ (each-filed k r rests.filed (c, []) j d l) in
+        let one : sum_by place_count (map (shape_at r.filed) os) ≡ sum_by (places_at r.filed) os =
+        sum-mapped place_count (shape_at r.filed) (places_at r.filed) os (Each-from_All (λ o. place_count (shape_at r.filed o) ≡ places_at r.filed o) os all) in
+        let same = sources-permuted (P c) r.filed os (subst (λ xs. IsPermutation xs os) (tests c) (IsPermutation-refl os)) in
+        let two : sum_by place_count (map (shape_at r.filed) os) ≡ sum_by place_count (shapes_in (P c) (rows_in r.filed)) = sum_by-IsPermutation place_count _ _ same in
+        omega (arith, takes, one, two, ap (sum_by place_count) found-are)
+
+  -- why slots run out
+  pub large-row : (g : Graph) → rows_in r.filed ≡ g.filed → HasLargeKey r → HasLargeRow g
+  large-row g filed x =
+      let o = x.0 in
+      let f = x.1 in
+      let m = x.2.0 in
+      let row : Row = row_of_entry (f, (o, m)) in
+      let fits : Fits f = (filed-key k r rests.filed o f m x.2.1).fits in
+      (row, subst (λ rs. Contains rs row) filed (row-filed r.filed o f m x.2.1), omega (arith, x.3, places-of_shape f fits))
+
+  pub runs-out : (g : Graph) (u : Table) → rows_in r.filed ≡ g.filed → RunsOutForKeys r u → CanRunOutForEnodes g u
+  runs-out g u filed (inl e) = inl e
+  runs-out g u filed (inr x) = inr (large-row g filed x)

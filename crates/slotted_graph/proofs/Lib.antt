@@ -1,0 +1,3 @@
+-- Lemmas of the graph that callers see.
+pub mod Measured
+pub mod Enodes

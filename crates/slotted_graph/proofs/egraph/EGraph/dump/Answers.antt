@@ -1,0 +1,29 @@
+use Rattle.std.proofs.Common.{◌∙◌, ap, sym, inl, inr}
+use Rattle.std.proofs.lemmas.Bool.{false≢true}
+use Rattle.slotted_core.specs.Good.{Good, HasFreshSlots, RestsWith}
+use Rattle.slotted_core.specs.Graph.{Graph}
+use Rattle.slotted_core.proofs.FreshSlots.{fresh_slots-more}
+use Rattle.slotted_graph.proofs.Enodes.{runs-out}
+use Rattle.slotted_graph.proofs.egraph.EGraph.dump.Goals as goal
+
+pub push_live-requires-clause-good : goal.push_live-requires-clause-good
+push_live-requires-clause-good l c = elim c.self.invariant [ inl h ↦ absurd (false≢true (sym c.if-self.false ∙ h)) | inr h ↦ h.0 ]
+
+pub push_live-requires-clause-rests : goal.push_live-requires-clause-rests
+push_live-requires-clause-rests l c = elim c.self.invariant [ inl h ↦ absurd (false≢true (sym c.if-self.false ∙ h)) | inr h ↦ h.2 ]
+
+pub push_live-requires-clause-fresh_slots : goal.push_live-requires-clause-fresh_slots
+push_live-requires-clause-fresh_slots l c = elim c.self.invariant [ inl h ↦ absurd (false≢true (sym c.if-self.false ∙ h)) | inr h ↦ h.1 ]
+
+pub invariant_of-self : goal.invariant_of-self
+invariant_of-self g c = elim c.self.invariant [
+  | inl h ↦ inl h
+  | inr h ↦ inr (h.0, fresh_slots-more c.self.inside.table c.push_live.new.table c.self.inside.store c.push_live.ensures.more h.1, h.2)
+]
+
+pub returns-clause-full : goal.returns-clause-full
+returns-clause-full l c out =
+    let k = c.self.inside.store in
+    let r = c.self.inside.nodes in
+    let inv : Good k × HasFreshSlots c.self.inside.table k × RestsWith k r = elim c.self.invariant [ inl h ↦ absurd (false≢true (sym c.if-self.false ∙ h)) | inr h ↦ h ] in
+    runs-out k r inv.0 inv.2 c.args.self.now c.push_live.new.table (ap (λ (x : Graph). x.filed) c.self.view_is) (c.push_live.ensures.full out)

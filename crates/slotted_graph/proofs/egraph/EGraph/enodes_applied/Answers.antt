@@ -1,0 +1,120 @@
+use Rattle.std.proofs.Common.{◌≡◌, ◌∙◌, ap, refl, sym, subst, inl, inr}
+use Rattle.std.specs.Prelude.{All}
+use Rattle.std.proofs.lemmas.Bool.{false≢true}
+use Rattle.std.proofs.lemmas.Result.{IfOk-weaker}
+use Rattle.slotted_slots.specs.Table.{Table}
+use Rattle.slotted_terms.specs.Valid.{AllKnown}
+use Rattle.slotted_model.specs.Applied.{values}
+use Rattle.slotted_proofs.specs.Equations.{to_applied}
+use Rattle.slotted_store.specs.Finding.{IsFindable}
+use Rattle.slotted_reports.specs.Nodes.{AreEnodes, HasFreshNames}
+use Rattle.slotted_core.specs.Good.{Good, HasFreshSlots, RestsWith, image_of}
+use Rattle.slotted_core.specs.Graph.{Graph, MakesAtMost}
+use Rattle.slotted_core.specs.ValidIds.{IsValidId}
+use Rattle.slotted_core.proofs.FreshSlots.{fresh_slots-more}
+use Rattle.slotted_core.proofs.Reports.{within}
+use Rattle.slotted_core.proofs.ValidIds.{of-valid}
+use Rattle.slotted_graph.specs.Nodes.{AscendByShape, HasEachNode, IsNoneIfDead, slots_for_enodes}
+use Rattle.slotted_graph.proofs.Enodes.{each-node, enodes, none-dead, runs-out, takes-found}
+use Rattle.slotted_graph.proofs.egraph.EGraph.enodes_applied.Goals as goal
+
+pub enodes_applied-requires-clause-good : goal.enodes_applied-requires-clause-good
+enodes_applied-requires-clause-good l c = elim c.self.invariant [ inl h ↦ absurd (false≢true (sym c.if-self.false ∙ h)) | inr h ↦ h.2.filed ]
+
+pub enodes_applied-requires-clause-quiet : goal.enodes_applied-requires-clause-quiet
+enodes_applied-requires-clause-quiet l c = elim c.self.invariant [ inl h ↦ absurd (false≢true (sym c.if-self.false ∙ h)) | inr h ↦ h.2.quiet ]
+
+pub enodes_applied-requires-clause-findable : goal.enodes_applied-requires-clause-findable
+enodes_applied-requires-clause-findable l c =
+    let g = c.args.self.now in
+    let k = c.self.inside.store in
+    let image : image_of k ≡ g.image = ap (λ (x : Graph). x.image) c.self.view_is in
+    let good : Good k = elim c.self.invariant [ inl h ↦ absurd (false≢true (sym c.if-self.false ∙ h)) | inr h ↦ h.0 ] in
+    let valid : IsValidId g (to_applied c.args.a.now) = elim c.requires [ inl h ↦ absurd (false≢true (sym c.if-self.false ∙ (ap (λ (x : Graph). x.failed) c.self.view_is ∙ h))) | inr v ↦ v ] in
+    of-valid k good g image (to_applied c.args.a.now) valid
+
+pub enodes_applied-requires-clause-known : goal.enodes_applied-requires-clause-known
+enodes_applied-requires-clause-known l c =
+    let g = c.args.self.now in
+    let a = to_applied c.args.a.now in
+    let valid : IsValidId g a = elim c.requires [ inl h ↦ absurd (false≢true (sym c.if-self.false ∙ (ap (λ (x : Graph). x.failed) c.self.view_is ∙ h))) | inr v ↦ v ] in
+    subst (λ (t : Table). AllKnown t (values a.1)) (sym (ap (λ (x : Graph). x.table) c.self.view_is)) valid.known
+
+pub invariant_of-self : goal.invariant_of-self
+invariant_of-self g c = elim c.self.invariant [
+  | inl h ↦ inl h
+  | inr h ↦ inr (h.0, fresh_slots-more c.self.inside.table c.enodes_applied.new.table c.self.inside.store c.enodes_applied.ensures.more h.1, h.2)
+]
+
+pub returns-clause-each : goal.returns-clause-each
+returns-clause-each l c =
+    let form = l.L.LanguageChildren.form in
+    let g = c.args.self.now in
+    let k = c.self.inside.store in
+    let r = c.self.inside.nodes in
+    let a = to_applied c.args.a.now in
+    let inv : Good k × HasFreshSlots c.self.inside.table k × RestsWith k r = elim c.self.invariant [ inl h ↦ absurd (false≢true (sym c.if-self.false ∙ h)) | inr h ↦ h ] in
+    IfOk-weaker c.enodes_applied.result (λ v. AreEnodes form l.L.Ord.cmp c.self.inside.table c.enodes_applied.new.table k r a v.items) (λ v. HasEachNode form g a.0 v.items)
+    (λ v is. each-node k r inv.0 inv.2 g (ap (λ (x : Graph). x.image) c.self.view_is) (ap (λ (x : Graph). x.filed) c.self.view_is) a.0 form l.met.L.LanguageChildren.fits is.sources v.items is.same is.nodes.keys)
+    c.enodes_applied.ensures.ok
+
+pub returns-clause-ascend : goal.returns-clause-ascend
+returns-clause-ascend l c =
+    let form = l.L.LanguageChildren.form in
+    IfOk-weaker c.enodes_applied.result (λ v. AreEnodes form l.L.Ord.cmp c.self.inside.table c.enodes_applied.new.table c.self.inside.store c.self.inside.nodes (to_applied c.args.a.now) v.items)
+    (λ v. AscendByShape form l.L.Ord.cmp v.items) (λ v is. is.ascend) c.enodes_applied.ensures.ok
+
+pub returns-clause-nodes : goal.returns-clause-nodes
+returns-clause-nodes l c =
+    let form = l.L.LanguageChildren.form in
+    let g = c.args.self.now in
+    let k = c.self.inside.store in
+    let r = c.self.inside.nodes in
+    let a = to_applied c.args.a.now in
+    let inv : Good k × HasFreshSlots c.self.inside.table k × RestsWith k r = elim c.self.invariant [ inl h ↦ absurd (false≢true (sym c.if-self.false ∙ h)) | inr h ↦ h ] in
+    let valid : IsValidId g a = elim c.requires [ inl h ↦ absurd (false≢true (sym c.if-self.false ∙ (ap (λ (x : Graph). x.failed) c.self.view_is ∙ h))) | inr v ↦ v ] in
+    let findable : IsFindable k a = of-valid k inv.0 g (ap (λ (x : Graph). x.image) c.self.view_is) a valid in
+    IfOk-weaker c.enodes_applied.result (λ v. AreEnodes form l.L.Ord.cmp c.self.inside.table c.enodes_applied.new.table k r a v.items) _
+    (λ v is. enodes k r inv.0 inv.2 form _ refl refl a findable l.met.L.LanguageChildren.fits v.items c.self.inside.table is.nodes.each) c.enodes_applied.ensures.ok
+
+pub returns-clause-full : goal.returns-clause-full
+returns-clause-full l c out =
+    let k = c.self.inside.store in
+    let r = c.self.inside.nodes in
+    let inv : Good k × HasFreshSlots c.self.inside.table k × RestsWith k r = elim c.self.invariant [ inl h ↦ absurd (false≢true (sym c.if-self.false ∙ h)) | inr h ↦ h ] in
+    runs-out k r inv.0 inv.2 c.args.self.now c.enodes_applied.new.table (ap (λ (x : Graph). x.filed) c.self.view_is) (c.enodes_applied.ensures.full out)
+
+pub returns-clause-dead : goal.returns-clause-dead
+returns-clause-dead l c =
+    let form = l.L.LanguageChildren.form in
+    let g = c.args.self.now in
+    let k = c.self.inside.store in
+    let r = c.self.inside.nodes in
+    let a = to_applied c.args.a.now in
+    let image : image_of k ≡ g.image = ap (λ (x : Graph). x.image) c.self.view_is in
+    let inv : Good k × HasFreshSlots c.self.inside.table k × RestsWith k r = elim c.self.invariant [ inl h ↦ absurd (false≢true (sym c.if-self.false ∙ h)) | inr h ↦ h ] in
+    let valid : IsValidId g a = elim c.requires [ inl h ↦ absurd (false≢true (sym c.if-self.false ∙ (ap (λ (x : Graph). x.failed) c.self.view_is ∙ h))) | inr v ↦ v ] in
+    IfOk-weaker c.enodes_applied.result (λ v. AreEnodes form l.L.Ord.cmp c.self.inside.table c.enodes_applied.new.table k r a v.items) (λ v. IsNoneIfDead g a.0 v.items)
+    (λ v is dead. none-dead k r inv.0 inv.2 g image (ap (λ (x : Graph). x.filed) c.self.view_is) a.0 form (within k g.image image a.0 valid.in_range) dead is.sources v.items is.same is.nodes.keys)
+    c.enodes_applied.ensures.ok
+
+pub returns-clause-fresh : goal.returns-clause-fresh
+returns-clause-fresh l c =
+    let form = l.L.LanguageChildren.form in
+    let a = to_applied c.args.a.now in
+    IfOk-weaker c.enodes_applied.result (λ v. AreEnodes form l.L.Ord.cmp c.self.inside.table c.enodes_applied.new.table c.self.inside.store c.self.inside.nodes a v.items)
+    (λ v. All (λ n. HasFreshNames c.args.self.now.table (values a.1) (form n)) v.items)
+    (λ v is. subst (λ (x : Graph). All (λ n. HasFreshNames x.table (values a.1) (form n)) v.items) c.self.view_is (λ j d h. (is.nodes.each j d h).fresh)) c.enodes_applied.ensures.ok
+
+pub returns-clause-count : goal.returns-clause-count
+returns-clause-count l c =
+    let g = c.args.self.now in
+    let k = c.self.inside.store in
+    let r = c.self.inside.nodes in
+    let a = to_applied c.args.a.now in
+    let u = c.enodes_applied.new.table in
+    let inv : Good k × HasFreshSlots c.self.inside.table k × RestsWith k r = elim c.self.invariant [ inl h ↦ absurd (false≢true (sym c.if-self.false ∙ h)) | inr h ↦ h ] in
+    subst (λ (x : Graph). MakesAtMost (slots_for_enodes g a.0) x.table u) c.self.view_is (record {
+      names = c.enodes_applied.ensures.kept;
+      taken = takes-found k r inv.0 inv.2 g (ap (λ (x : Graph). x.image) c.self.view_is) (ap (λ (x : Graph). x.filed) c.self.view_is) a.0 c.self.inside.table u c.enodes_applied.ensures.takes;
+    })

@@ -1,0 +1,3 @@
+-- What calls of the graph report of it as a whole.
+pub mod Measure
+pub mod Nodes

@@ -1,0 +1,217 @@
+//! What a graph holds, as a text: for each live class its slots, the node that it was made with, and its filed nodes.
+ghost use Rattle.std.specs.Prelude.{◌≡◌, ◌⊎◌, ◌↔◌, ◌<◌, length, All, IsTrue, IfOk, IfErr, IsErrOf};
+ghost use Rattle.slotted_slots.specs.Error.{IsOutOfMemory, IsShortage};
+ghost use Rattle.slotted_slots.specs.Table.{KnowsMore};
+ghost use Rattle.slotted_core.specs.Good.{Good, HasFreshSlots, RestsWith};
+ghost use Rattle.slotted_core.specs.Graph.{OnlyTakesSlots};
+ghost use Rattle.slotted_nodes.specs.Form.{IsSmall};
+ghost use Rattle.slotted_reports.specs.Nodes.{RunsOutForKeys};
+ghost use Rattle.slotted_graph.specs.Nodes.{CanRunOutForEnodes};
+
+use super::EGraph;
+use slotted_adding::reports;
+use slotted_filing::Hashcons;
+use slotted_languages::Language;
+use slotted_patterns::show::node_text;
+use slotted_reports::nodes;
+use slotted_slots::{Error, Show, Slot, SlotTable, SmallHashSet};
+use slotted_store::Store;
+use std::alloc::Global;
+use std::fmt::Write;
+
+// The text of each child of a node.
+fn child_texts<L: Language>(
+    alloc: Global,
+    table: &SlotTable,
+    node: &L,
+) -> Result<Vec<String>, Error>
+    ensures { IfErr result IsOutOfMemory }
+{
+    let mut texts = Vec::new(alloc);
+    for k in 0..node.applied_id_count() {
+        let shown = node.applied_id(k).show(table);
+        texts.push(format!(in alloc; "{shown}")?)?;
+    }
+    Ok(texts)
+}
+
+// The text of a node, over its applied ids.
+fn text_of<L: Language>(alloc: Global, table: &SlotTable, node: &L) -> Result<String, Error>
+    ensures { IfErr result IsOutOfMemory }
+{
+    let children = child_texts(alloc, table, node)?;
+    let elements = node.to_syntax(alloc)?;
+    let text = node_text(alloc, &elements, &children, table)?;
+    Ok(text)
+}
+
+// Appends the line of a class and its slots.
+fn push_class(
+    out: &mut String,
+    table: &SlotTable,
+    class: usize,
+    slots: &SmallHashSet<Slot>,
+) -> Result<(), Error>
+    ensures { IfErr result IsOutOfMemory }
+{
+    write!(out, "\nid{class}(")?;
+    let mut separator = "";
+    for slot in slots.as_slice() {
+        let shown = slot.show(table);
+        write!(out, "{separator}{shown}")?;
+        separator = ", ";
+    }
+    out.push_str("):\n")?;
+    Ok(())
+}
+
+// Appends the line of the node that a class was made with.
+fn push_canonical<L: Language>(
+    alloc: Global,
+    out: &mut String,
+    table: &SlotTable,
+    node: &L,
+) -> Result<(), Error>
+    ensures { IfErr result IsOutOfMemory }
+{
+    let text = text_of(alloc, table, node)?;
+    write!(out, ">> {text}\n")?;
+    Ok(())
+}
+
+// The class that a filed node was made with, by its shape.
+fn source_of<L: Language>(alloc: Global, nodes: &Hashcons<L>, node: &L) -> Result<usize, Error>
+    requires { IsSmall (L.form node.now) }
+    ensures { IfErr result IsOutOfMemory }
+{
+    let (key, _) = node.weak_shape(alloc)?;
+    Ok(nodes.source_of(&key).unwrap_or(0))
+}
+
+// Appends the line of a filed node.
+fn push_node<L: Language>(
+    alloc: Global,
+    out: &mut String,
+    table: &SlotTable,
+    nodes: &Hashcons<L>,
+    node: &L,
+) -> Result<(), Error>
+    requires { IsSmall (L.form node.now) }
+    ensures { IfErr result IsOutOfMemory }
+{
+    let source = source_of(alloc, nodes, node)?;
+    let text = text_of(alloc, table, node)?;
+    write!(out, " - {text}    [originally id{source}]\n")?;
+    Ok(())
+}
+
+// Appends the lines of filed nodes.
+fn push_nodes<L: Language>(
+    alloc: Global,
+    out: &mut String,
+    table: &SlotTable,
+    nodes: &Hashcons<L>,
+    of_class: &[L],
+) -> Result<(), Error>
+    requires { All (λ n. IsSmall (L.form n)) of_class.now }
+    ensures { IfErr result IsOutOfMemory }
+{
+    for i in 0..of_class.len() {
+        push_node(alloc, out, table, nodes, &of_class[i])?;
+    }
+    Ok(())
+}
+
+// The filed nodes of a class, over its own slots.
+fn own_nodes<L: Language>(
+    alloc: Global,
+    store: &Store<L>,
+    nodes: &Hashcons<L>,
+    table: &mut SlotTable,
+    class: usize,
+) -> Result<Vec<L>, Error>
+    requires good { Good store.now }
+    requires rests { RestsWith store.now nodes.now }
+    requires fresh_slots { HasFreshSlots table.old store.now }
+    requires within { class < length store.now.classes }
+    ensures small { IfOk result (λ v. All (λ n. IsSmall (L.form n)) v.items) }
+    ensures more { KnowsMore table.old table.new }
+    ensures kept { table.new.names ≡ table.old.names }
+    ensures full { IsErrOf result Error.OutOfSlots → RunsOutForKeys nodes.now table.new }
+    ensures err { IfErr result IsShortage }
+{
+    let a = reports::mk_identity_applied_id(store, alloc, class)?;
+    let answer = nodes::enodes_applied(store, nodes, alloc, table, &a)?;
+    Ok(answer)
+}
+
+// Appends what is told of a class.
+fn push_whole<L: Language>(
+    alloc: Global,
+    out: &mut String,
+    store: &Store<L>,
+    nodes: &Hashcons<L>,
+    table: &mut SlotTable,
+    class: usize,
+) -> Result<(), Error>
+    requires good { Good store.now }
+    requires rests { RestsWith store.now nodes.now }
+    requires fresh_slots { HasFreshSlots table.old store.now }
+    requires within { class < length store.now.classes }
+    ensures more { KnowsMore table.old table.new }
+    ensures kept { table.new.names ≡ table.old.names }
+    ensures full { IsErrOf result Error.OutOfSlots → RunsOutForKeys nodes.now table.new }
+    ensures err { IfErr result IsShortage }
+{
+    let slots = reports::slots_of(store, alloc, class)?;
+    push_class(out, table, class, &slots)?;
+    push_canonical(alloc, out, table, store.node_of(class))?;
+    let of_class = own_nodes(alloc, store, nodes, table, class)?;
+    push_nodes(alloc, out, table, nodes, &of_class)?;
+    Ok(())
+}
+
+// Appends what is told of each live class.
+fn push_live<L: Language>(
+    alloc: Global,
+    out: &mut String,
+    store: &Store<L>,
+    nodes: &Hashcons<L>,
+    table: &mut SlotTable,
+) -> Result<(), Error>
+    requires good { Good store.now }
+    requires rests { RestsWith store.now nodes.now }
+    requires fresh_slots { HasFreshSlots table.old store.now }
+    ensures more { KnowsMore table.old table.new }
+    ensures kept { table.new.names ≡ table.old.names }
+    ensures full { IsErrOf result Error.OutOfSlots → RunsOutForKeys nodes.now table.new }
+    ensures err { IfErr result IsShortage }
+{
+    out.push('\n')?;
+    for class in 0..store.class_count() {
+        if reports::is_alive(store, class) {
+            push_whole(alloc, out, store, nodes, table, class)?;
+        }
+    }
+    out.push('\n')?;
+    Ok(())
+}
+
+impl<L: Language, N: Drop> EGraph<L, N> {
+    /// Appends a line feed, then for each live class by its number a line feed, its line with its slots, `>> ` and the node that it was made
+    /// with, and for each filed node by shape ` - ` and the node with the class that it was made with; and a line feed.
+    pub fn dump(&mut self, out: &mut String) -> Result<(), Error>
+        // Only fresh slots are made, and a refusal does not fail the graph. The text may have a part of it then.
+        ensures takes { OnlyTakesSlots self.old self.new }
+        ensures stays { IsTrue self.old.failed → self.new ≡ self.old }
+
+        ensures failed { IsErrOf result Error.Failed ↔ IsTrue self.old.failed }
+        ensures full { IsErrOf result Error.OutOfSlots → CanRunOutForEnodes self.old self.new.table }
+        ensures only { IfErr result (λ e. (e ≡ Error.Failed) ⊎ IsShortage e) }
+    {
+        if self.failed {
+            return Err(Error::Failed);
+        }
+        push_live(self.alloc, out, &self.store, &self.nodes, &mut self.table)
+    }
+}

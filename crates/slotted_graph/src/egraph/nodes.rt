@@ -1,0 +1,66 @@
+//! What the graph tells of its filed nodes.
+ghost use Rattle.std.specs.Prelude.{◌≡◌, ◌⊎◌, ◌↔◌, length, All, IsTrue, IfOk, IfErr, IsErrOf};
+ghost use Rattle.slotted_slots.specs.Error.{IsShortage};
+ghost use Rattle.slotted_slots.specs.Maps.{values};
+ghost use Rattle.slotted_proofs.specs.Equations.{to_applied};
+ghost use Rattle.slotted_core.specs.ValidIds.{IsValidId};
+ghost use Rattle.slotted_core.specs.Graph.{MakesAtMost, OnlyTakesSlots};
+ghost use Rattle.slotted_reports.specs.Nodes.{HasFreshNames};
+ghost use Rattle.slotted_graph.specs.Nodes.{AscendByShape, CanRunOutForEnodes, HasEachNode, HasLargeRow, IsEnode};
+ghost use Rattle.slotted_graph.specs.Nodes.{IsNoneIfDead, slots_for_enodes};
+
+use super::EGraph;
+use slotted_adding::reports;
+use slotted_languages::Language;
+use slotted_reports::{checking, nodes};
+use slotted_slots::{AppliedId, Error};
+
+impl<L: Language, N: Drop> EGraph<L, N> {
+    /// The number of filed nodes, also of a failed graph. It takes no memory.
+    pub fn total_number_of_nodes(&self) -> usize
+        ensures { result ≡ length self.now.filed }
+    {
+        reports::filed_count(&self.nodes)
+    }
+
+    /// The filed nodes of the class of an id, with the id's names, ascending by their shapes. For a slot that the id has no name for, or that
+    /// unions dropped, stands a fresh one, and binders are fresh. A class that does not find itself has none.
+    pub fn enodes_applied(&mut self, a: &AppliedId) -> Result<Vec<L>, Error>
+        requires { IsTrue self.old.failed ⊎ IsValidId self.old (to_applied a.now) }
+        ensures each { IfOk result (λ v. HasEachNode L.form self.old a.now.id.0 v.items) }
+        ensures dead { IfOk result (λ v. IsNoneIfDead self.old a.now.id.0 v.items) }
+        ensures ascend { IfOk result (λ v. AscendByShape L.form L.cmp v.items) }
+
+        // Each is valid, and is looked up as what the id finds. The table knew no binder's name, and no free one but the names of the id.
+        ensures nodes { IfOk result (λ v. All (λ n. IsEnode self.new (to_applied a.now) (L.form n)) v.items) }
+        ensures fresh { IfOk result (λ v. All (λ n. HasFreshNames self.old.table (values a.now.m) (L.form n)) v.items) }
+
+        // Only fresh slots are made, two at most for each place of these nodes, and a refusal does not fail the graph.
+        ensures takes { OnlyTakesSlots self.old self.new }
+        ensures count { MakesAtMost (slots_for_enodes self.old a.now.id.0) self.old.table self.new.table }
+        ensures stays { IsTrue self.old.failed → self.new ≡ self.old }
+
+        ensures failed { IsErrOf result Error.Failed ↔ IsTrue self.old.failed }
+        ensures full { IsErrOf result Error.OutOfSlots → CanRunOutForEnodes self.old self.new.table }
+        ensures only { IfErr result (λ e. (e ≡ Error.Failed) ⊎ IsShortage e) }
+    {
+        if self.failed {
+            return Err(Error::Failed);
+        }
+        nodes::enodes_applied(&self.store, &self.nodes, self.alloc, &mut self.table, a)
+    }
+
+    /// Whether what is kept of filed nodes fits together: each class finds one that finds itself, and each filed node stands under its own
+    /// shape, once. It is so in every graph that has not failed.
+    pub fn check(&self) -> Result<bool, Error>
+        ensures yes { IfOk result (λ y. IsTrue y) }
+        ensures failed { IsErrOf result Error.Failed ↔ IsTrue self.now.failed }
+        ensures full { IsErrOf result Error.OutOfSlots → HasLargeRow self.now }
+        ensures only { IfErr result (λ e. (e ≡ Error.Failed) ⊎ IsShortage e) }
+    {
+        if self.failed {
+            return Err(Error::Failed);
+        }
+        checking::check(&self.store, &self.nodes, self.alloc)
+    }
+}

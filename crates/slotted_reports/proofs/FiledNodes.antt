@@ -1,0 +1,174 @@
+-- A filed node with other names put in: its names are known, and its children find.
+use Rattle.std.proofs.Common.{◌≡◌, ◌∙◌, ℕ, true, zero, suc, List, [], ◌∷◌, ◌++◌, None, Some, length, refl, ap, sym, subst, inl, inr}
+use Rattle.std.specs.Prelude.{All, Contains, IsTrue, Option, cond, nat_eq, unwrap_or}
+use Rattle.std.proofs.lemmas.Bool.{cases_Bool, false≢true}
+use Rattle.std.proofs.lemmas.List.Elements.{All-cons, All-nil}
+use Rattle.slotted_theory.specs.FiniteMaps.{filled}
+use Rattle.slotted_theory.specs.Nameless.{DArgs, DTerm, stop, place, sub, scope, moved, nameless_args}
+use Rattle.slotted_theory.proofs.Filled.{filled-injective}
+use Rattle.slotted_theory.proofs.Laws.{moved-nameless_args}
+use Rattle.slotted_slots.specs.Maps.{is_among}
+use Rattle.slotted_slots.specs.Table.{Table, is_known, numeric_slot}
+use Rattle.slotted_slots.proofs.MapLaws.{is_among-cons}
+use Rattle.slotted_slots.proofs.TableLaws.{is_known-numeric_slot}
+use Rattle.slotted_nodes.specs.Form.{Form, scopes}
+use Rattle.slotted_languages.specs.NodeTerm.{nameless_node, node_args}
+use Rattle.slotted_languages.specs.Shape.{Fits, Numbers, free_number, names_in, no_numbers, number_at, number_of, numbered, past_binder, shape}
+use Rattle.slotted_languages.proofs.Shapes.{injective-shape, shape-renamed}
+use Rattle.slotted_model.specs.Applied.{Applied, EachChild, values}
+use Rattle.slotted_model.specs.Classes.{canonical_node}
+use Rattle.slotted_model.specs.Correspondence.{composite}
+use Rattle.slotted_model.specs.Find.{Entry, find, find_map, used_slots}
+use Rattle.slotted_model.specs.Rest.{IsValidIn}
+use Rattle.slotted_model.specs.State.{State, normal_node}
+use Rattle.slotted_model.proofs.Children.{EachChild-map, EachChild-moved}
+use Rattle.slotted_model.proofs.Correspondences.Pairs.{Contains-of_value, Contains-value}
+use Rattle.slotted_model.proofs.Correspondences.PartialInjections.{composite-over}
+use Rattle.slotted_model.proofs.Events.{normal-found}
+use Rattle.slotted_model.proofs.Members.{Contains-In, In, In-Contains}
+use Rattle.slotted_model.proofs.Refiling.{canonical-valid}
+use Rattle.slotted_model.proofs.RenamedIds.{valid-renamed}
+use Rattle.slotted_store.specs.ChildIds.{child_ids}
+use Rattle.slotted_store.specs.Finding.{IsFindable}
+use Rattle.slotted_store.specs.Kept.{Kept, nodes_of, entries_of}
+use Rattle.slotted_store.proofs.ChildIds.{Each, EachChild-node_args}
+use Rattle.slotted_store.proofs.NameMaps.{In-at, at_In}
+use Rattle.slotted_filing.specs.Filed.{HasKey, filed_of}
+use Rattle.slotted_filing.specs.FiledRows.{Rows}
+use Rattle.slotted_normal_forms.specs.FoundNodes.{IsFoundNode}
+use Rattle.slotted_normal_forms.proofs.FoundChildren.{child_ids-valid, each-child, valid-back}
+use Rattle.slotted_rebuilding.specs.Filed.{IsKeyed, IsWellFiled, state_in}
+use Rattle.slotted_adding.specs.Enodes.{AllKnownTo}
+use Rattle.slotted_reports.specs.Nodes.{key_of}
+use Rattle.slotted_adding.proofs.AppliedNodes.{filed-in_nodes, filed-key, filed-node}
+
+pub among-in : (xs : List ℕ) (x : ℕ) → is_among x xs ≡ true → In x xs
+among-in [] x h = absurd (false≢true h)
+among-in (y ∷ ys) x h = elim (is_among-cons x y ys h) [
+  | inl e ↦ inl (sym e)
+  | inr k ↦ inr (among-in ys x k)
+]
+
+pub All-from_Each : {X : Type 0} (P : X → Type 0) (xs : List X) → Each P xs → All P xs
+All-from_Each P [] h = All-nil P
+All-from_Each P (x ∷ xs) h = All-cons P x xs h.0 (All-from_Each P xs h.1)
+
+-- the names of a shape are numbers, which each table knows
+
+module _ (t : Table) where
+  abbrev K : ℕ → Type 0
+  K x = IsTrue (is_known t x)
+
+  abbrev KnownKeys : List (ℕ × ℕ) → Type 0
+  KnownKeys m = Each (λ (p : ℕ × ℕ). K p.0) m
+
+  more : {X : Type 0} (P : X → Type 0) (xs ys : List X) → Each P xs → Each P ys → Each P (xs ++ ys)
+  more P [] ys h g = g
+  more P (x ∷ xs) ys h g = (h.0, more P xs ys h.1 g)
+
+  met : (m : List (ℕ × ℕ)) (x n : ℕ) → KnownKeys m → number_of m x ≡ Some n → K n
+  met [] x n h e = cc
+  met (p ∷ m) x n h e = elim (cases_Bool (nat_eq p.1 x)) [
+    | inl y ↦
+        let same : Some p.0 ≡ Some n = sym (ap (λ b. cond b (Some p.0) (number_of m x)) y) ∙ e in
+        subst K (ap (λ o. unwrap_or o 0) same) h.0
+    | inr y ↦ met m x n h.1 (sym (ap (λ b. cond b (Some p.0) (number_of m x)) y) ∙ e)
+  ]
+
+  free : (o : Option ℕ) (k : Numbers) (x : ℕ) → KnownKeys k.free → number_of k.free x ≡ o → K (free_number o k x).0 × KnownKeys (free_number o k x).1.free
+  free (Some n) k x h e = (met k.free x n h e, h)
+  free None k x h e = (is_known-numeric_slot t k.next, more (λ (p : ℕ × ℕ). K p.0) k.free ((numeric_slot k.next, x) ∷ []) h (is_known-numeric_slot t k.next, tt))
+
+  occurs : (ns : List ℕ) (k : Numbers) (x : ℕ) → Each K ns → KnownKeys k.free → K (number_at ns k x).0 × KnownKeys (number_at ns k x).1.free
+  occurs [] k x g h = free (number_of k.free x) k x h refl
+  occurs (n ∷ ns) k zero g h = (g.0, h)
+  occurs (n ∷ ns) k (suc x) g h = occurs ns k x g.1 h
+
+  in-numbered : (ns : List ℕ) (k : Numbers) (d : DArgs) → Each K ns → KnownKeys k.free → Each K (names_in (numbered ns k d).0) × KnownKeys (numbered ns k d).1.free
+  in-numbered ns k stop g h = (tt, h)
+  in-numbered ns k (place x rest) g h =
+      let p = number_at ns k x in
+      let here = occurs ns k x g h in
+      let later = in-numbered ns p.1 rest g here.1 in
+      ((here.0, later.0), later.1)
+  in-numbered ns k (sub op payloads args rest) g h =
+      let a = numbered ns k args in
+      let r = numbered ns a.1 rest in
+      let here = in-numbered ns k args g h in
+      let later = in-numbered ns a.1 rest g here.1 in
+      (more K (names_in a.0) (names_in r.0) here.0 later.0, later.1)
+  in-numbered ns k (scope inner rest) g h =
+      let n : K (numeric_slot k.next) = is_known-numeric_slot t k.next in
+      let i = numbered (numeric_slot k.next ∷ ns) (past_binder k) inner in
+      let r = numbered ns i.1 rest in
+      let here = in-numbered (numeric_slot k.next ∷ ns) (past_binder k) inner (n, g) h in
+      let later = in-numbered ns i.1 rest g here.1 in
+      ((n, more K (names_in i.0) (names_in r.0) here.0 later.0), later.1)
+
+  pub key-known : (f : Form) → (shape f).0 ≡ f → AllKnownTo t f.names
+  key-known f itself =
+      let named : All K (shape f).0.names = All-from_Each K (shape f).0.names (in-numbered [] no_numbers (nameless_node f).args tt tt).0 in
+      subst (λ (g : Form). All K g.names) itself named
+
+-- the names that are put in are names of the id
+
+pub name-of : (A m : List (ℕ × ℕ)) (x : ℕ) → In x (values (composite A m)) → In x (values m)
+name-of A m x h =
+    let p = Contains-of_value (composite A m) x (Contains-In (values (composite A m)) x h) in
+    let q = composite-over A m p.0 x p.1 in
+    In-Contains (values m) x (Contains-value m q.0 x q.2)
+
+pub names-known : (t : Table) (found : List Entry) (B : List (ℕ × ℕ)) (a : Applied) → AllKnownTo t (values a.1) → AllKnownTo t (values (composite B (find found a).1))
+names-known t found B a known j d h =
+    let names : List ℕ = values (composite B (find found a).1) in
+    at_In (λ s. IsTrue (is_known t s)) (values a.1) known _
+    (name-of (find_map found a.0) a.1 _ (name-of B (find found a).1 _ (In-at names j d h)))
+
+-- a node with this shape
+module _ (k : Kept) (r : Rows) (well : IsWellFiled k r) (o : ℕ) (f : Form) (m : List (ℕ × ℕ)) (at : filed_of r.filed o ≡ Some (f, m)) (quiet : ¬ Contains r.waiting o) where
+  abbrev g : State
+  g = state_in k r
+
+  abbrev Valid : Applied → Type 0
+  Valid = IsFindable k
+
+  kept : IsKeyed (f, m)
+  kept = filed-key k r well o f m at
+
+  node : IsFoundNode k o f m
+  node = filed-node k r well o f m at quiet
+
+  pub filed-names_known : (t : Table) → AllKnownTo t f.names
+  filed-names_known t = key-known t f kept.itself
+
+  -- its children find, since those of the canonical node do
+  normal-valid : EachChild Valid (normal_node g o).args
+  normal-valid =
+      let canonical = canonical-valid g well.sane o (filed-in_nodes k r well o f m at) in
+      EachChild-map (λ a. IsValidIn g a × (find g.found a ≡ a)) (IsValidIn g) (λ a v. v.0) (normal_node g o).args (normal-found g well.sane.sound.linked (canonical_node g.nodes o).args canonical)
+
+  key-valid : EachChild Valid (nameless_node f).args
+  key-valid =
+      let named : EachChild Valid (moved (filled m) (nameless_node f)).args = subst (λ (d : DTerm). EachChild Valid d.args) (sym node.back) normal-valid in
+      let under : EachChild Valid (nameless_args (filled m) (node_args f.tree f.names)) =
+      subst (EachChild Valid) (moved-nameless_args (filled m) (λ x. x) (node_args f.tree f.names)) named in
+      let each = each-child Valid (valid-back (used_slots (entries_of k)) (nodes_of k)) (filled m) f.tree f.names kept.fits under in
+      EachChild-node_args Valid (λ h inj a. valid-renamed (used_slots (entries_of k)) (nodes_of k) h inj a) (λ x. x) (λ x y e. e) f.tree f.names kept.fits each
+
+  module _ (c : Form) (fits : Fits c) (key : HasKey r.filed o (shape c).0) where
+    pub same-key : f ≡ (shape c).0
+    same-key = ap key_of (sym at ∙ key.1)
+
+    pub filed-children : All Valid (child_ids c)
+    filed-children =
+        let mine : EachChild Valid (nameless_node (shape c).0).args = subst (λ (h : Form). EachChild Valid (nameless_node h).args) same-key key-valid in
+        let there = EachChild-moved Valid (λ h inj a. valid-renamed (used_slots (entries_of k)) (nodes_of k) h inj a) (filled (shape c).1) (filled-injective (shape c).1 (injective-shape c)) (nameless_node (shape c).0).args mine in
+        let whole : EachChild Valid (nameless_node c).args = subst (λ (d : DTerm). EachChild Valid d.args) (shape-renamed c fits) there in
+        All-from_Each Valid (child_ids c) (child_ids-valid (used_slots (entries_of k)) (nodes_of k) c fits whole)
+
+    -- as many places
+    pub filed-places : length c.names ≡ length f.names
+    filed-places =
+        let tree = ap (λ (h : Form). length (scopes h.tree)) same-key in
+        let same : length (scopes f.tree) ≡ length (scopes c.tree) = tree in
+        fits ∙ (sym same ∙ sym kept.fits)

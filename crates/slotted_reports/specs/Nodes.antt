@@ -1,0 +1,91 @@
+-- The filed nodes of a class, ascending by their keys, with the names of an id.
+--     key_at v i                the key that is filed of the class i
+--     key_in form n             the key of the node n: its shape
+--     Ascend form cmp fs        nodes of these forms ascend by the order of the language
+--     HasKeyOf form v p         the key p.0 is filed of the class p.1
+--     IsSourceOf k r a o        a node is filed of the class o, which finds what the id a finds
+--     HasFreshNames t vs f      the table t knew no binder's name of f, and no free name but those of vs
+--     IsAppliedNode t u k r a f a node that is looked up as what a finds, over ids that find, with names of a and others that the table t
+--                               did not know and u knows
+--     AreAppliedNodes           one such node for each of some sources, with its key
+--     AreEnodes                 one for each source of the id's class, ascending by key
+--     places_at v o             how many places the key has that is filed of the class o
+--     TakesForKeys r os t u     from t to u two fresh slots are made at most for each place of the keys of the classes os
+--     RunsOutForKeys r u        no fresh slot is left, or some filed key has too many places
+use Rattle.std.specs.Prelude.{◌≡◌, ◌⊎◌, ◌≤◌, ◌+◌, ◌*◌, ℕ, List, All, Option, None, Some, length, map, true, false}
+use Rattle.std.specs.List.{sum_by}
+use Rattle.std.specs.List.Sorted.{IsPermutation, IsSorted}
+use Rattle.std.specs.declared.cmp.Ordering.{Ordering}
+use Rattle.std.specs.Borrow.{Bor}
+use Rattle.slotted_slots.specs.Maps.{is_among}
+use Rattle.slotted_slots.specs.Table.{Table, is_known, slot_limit}
+use Rattle.slotted_nodes.specs.Form.{Form, IsSmall}
+use Rattle.slotted_languages.specs.NewNames.{BindersAreUnknown, IsTooLarge}
+use Rattle.slotted_languages.specs.NodeTerm.{free_names_of}
+use Rattle.slotted_languages.specs.Shape.{shape}
+use Rattle.slotted_model.specs.Applied.{Applied, values}
+use Rattle.slotted_store.specs.ChildIds.{child_ids}
+use Rattle.slotted_store.specs.Finding.{IsFindable}
+use Rattle.slotted_store.specs.Kept.{Kept}
+use Rattle.slotted_filing.specs.Filed.{Filing, HasKey, filed_of, no_row}
+use Rattle.slotted_filing.specs.FiledRows.{IsFiled, Rows}
+use Rattle.slotted_adding.specs.Enodes.{AllKnownTo, IsLookedUpAs, IsMet}
+use Rattle.slotted_adding.specs.Reports.{class_sources}
+
+-- the key, if something is filed
+abbrev pub key_of : Option Filing → Form
+key_of None = no_row.0
+key_of (Some e) = e.0
+
+abbrev pub key_at : List (Option Filing) → ℕ → Form
+key_at v i = key_of (filed_of v i)
+
+abbrev pub key_in : {L : Type 0} → (L → Form) → L → Form
+key_in form n = (shape (form n)).0
+
+-- there are values of the language with these forms, in order
+pub record Ascend {L : Type 0} (form : L → Form) (cmp : L → L → Ordering) (fs : List Form) : Type 0 where
+  pub nodes : List L
+  pub forms : map form nodes ≡ fs
+  pub sorted : IsSorted cmp nodes
+
+abbrev pub HasKeyOf : {L : Type 0} → (L → Form) → List (Option Filing) → Bor L × ℕ → Type 0
+HasKeyOf form v p = HasKey v p.1 (form p.0.now)
+
+abbrev pub IsSourceOf : Kept → Rows → Applied → ℕ → Type 0
+IsSourceOf k r a o = IsFiled r.filed o × IsMet k o a
+
+pub record HasFreshNames (t : Table) (vs : List ℕ) (f : Form) : Type 0 where
+  pub binders : BindersAreUnknown t f f
+  pub free : (x : ℕ) → is_among x (free_names_of f) ≡ true → (is_among x vs ≡ true) ⊎ (is_known t x ≡ false)
+
+pub record IsAppliedNode (t u : Table) (k : Kept) (r : Rows) (a : Applied) (f : Form) : Type 0 where
+  pub found : IsLookedUpAs k r a f
+  pub small : IsSmall f
+  pub known : AllKnownTo u f.names
+  pub fresh : HasFreshNames t (values a.1) f
+  pub children : All (IsFindable k) (child_ids f)
+
+-- one for each of the sources os, with its key
+pub record AreAppliedNodes {L : Type 0} (form : L → Form) (t u : Table) (k : Kept) (r : Rows) (a : Applied) (os : List ℕ) (ns : List L) : Type 0 where
+  pub keys : map (key_in form) ns ≡ map (key_at r.filed) os
+  pub each : All (λ n. IsAppliedNode t u k r a (form n)) ns
+
+-- one for each source of the id's class, ascending by key
+pub record AreEnodes {L : Type 0} (form : L → Form) (cmp : L → L → Ordering) (t u : Table) (k : Kept) (r : Rows) (a : Applied) (ns : List L) : Type 0 where
+  pub sources : List ℕ
+  pub same : IsPermutation (class_sources k r a.0) sources
+  pub nodes : AreAppliedNodes form t u k r a sources ns
+  pub ascend : Ascend form cmp (map (key_in form) ns)
+
+abbrev pub places_at : List (Option Filing) → ℕ → ℕ
+places_at v o = length (key_at v o).names
+
+abbrev pub TakesForKeys : Rows → List ℕ → Table → Table → Type 0
+TakesForKeys r os t u = u.fresh ≤ t.fresh + 2 * sum_by (places_at r.filed) os
+
+abbrev pub HasLargeKey : Rows → Type 0
+HasLargeKey r = (o : ℕ) × (f : Form) × HasKey r.filed o f × IsTooLarge f
+
+abbrev pub RunsOutForKeys : Rows → Table → Type 0
+RunsOutForKeys r u = (u.fresh ≡ slot_limit) ⊎ HasLargeKey r

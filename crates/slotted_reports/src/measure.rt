@@ -1,0 +1,68 @@
+//! How far a graph is. Nothing here takes memory.
+ghost use Rattle.std.specs.Prelude.{◌≡◌, length};
+ghost use Rattle.slotted_nodes.specs.Form.{counted};
+ghost use Rattle.slotted_adding.specs.Reports.{live_ids};
+ghost use Rattle.slotted_reports.specs.Measure.{live_slots};
+
+use slotted_adding::reports::is_alive;
+use slotted_languages::Language;
+use slotted_store::Store;
+
+/// How far a graph is. Calls never lower the number of classes. While that stands still, the number of live ones never rises, and while both
+/// stand still, the sum of slots never does.
+#[derive(Drop, PartialEq, Eq)]
+pub struct ProgressMeasure {
+    /// The number of classes, dead ones too.
+    pub number_of_classes: usize,
+
+    /// The number of classes that find themselves.
+    pub number_of_live_classes: usize,
+
+    /// How many slots these have left, together. It ends at `usize::MAX`.
+    pub sum_of_slots: usize,
+
+    /// The number of live classes again: each has the identity, and listed symmetries are not counted.
+    pub sum_of_symmetries: usize,
+}
+
+// The number of classes that lead to themselves.
+fn live_count<L: Language>(store: &Store<L>) -> usize
+    ensures { result ≡ length (live_ids store.now) }
+{
+    let mut count = 0;
+    for class in 0..store.class_count() {
+        if is_alive(store, class) {
+            count += 1;
+        }
+    }
+    count
+}
+
+// The number of their slots.
+fn slot_count<L: Language>(store: &Store<L>) -> usize
+    ensures { result ≡ counted (live_slots store.now) }
+{
+    let mut count = 0usize;
+    for class in 0..store.class_count() {
+        if is_alive(store, class) {
+            count = count.saturating_add(store.entry(class).m.len());
+        }
+    }
+    count
+}
+
+/// How far a graph is.
+pub fn progress<L: Language>(store: &Store<L>) -> ProgressMeasure
+    ensures classes { result.number_of_classes ≡ length store.now.classes }
+    ensures live { result.number_of_live_classes ≡ length (live_ids store.now) }
+    ensures slots { result.sum_of_slots ≡ counted (live_slots store.now) }
+    ensures symmetries { result.sum_of_symmetries ≡ length (live_ids store.now) }
+{
+    let live = live_count(store);
+    ProgressMeasure {
+        number_of_classes: store.class_count(),
+        number_of_live_classes: live,
+        sum_of_slots: slot_count(store),
+        sum_of_symmetries: live,
+    }
+}
