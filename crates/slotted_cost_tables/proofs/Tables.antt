@@ -22,6 +22,9 @@ cost-of_entry (e ∷ table) c = elim (cases_eq e.class c) [
   | inr n ↦ ap (λ b. cond b (Some e.cost) (cost_in table c)) (ne_eqb e.class c n) ∙ (cost-of_entry table c ∙ ap (λ b. option_map (λ e. e.cost) (cond b (Some e) (entry_in table c))) (sym (ne_eqb e.class c n)))
 ]
 
+pub cost-of : {C : Type 0} (table : List (TableEntry C)) (c : ℕ) (o : Option (TableEntry C)) → o ≡ entry_in table c → option_map (λ (e : TableEntry C). e.cost) o ≡ cost_in table c
+cost-of table c o h = ap (option_map (λ e. e.cost)) h ∙ sym (cost-of_entry table c)
+
 module _ {L C : Type 0} (form : L → Form) where
   after-append : (es : List (CostEntry L C)) (e : CostEntry L C) (table : List (TableEntry C)) → table_after form (es ++ e ∷ []) table ≡ entry_of form e ∷ table_after form es table
   after-append [] e table = refl

@@ -1,5 +1,5 @@
 -- A turn of the making as the code takes it.
-use Rattle.std.proofs.Common.{◌≡◌, ◌<◌, ◌≤◌, ℕ, zero, suc, List, [], ◌∷◌, ◌++◌, length, Option, Some, None, Ok, Err, Result, OnOk, sym, ◌∙◌, ap, refl, subst, arith}
+use Rattle.std.proofs.Common.{◌≡◌, ◌<◌, ◌≤◌, ℕ, zero, suc, List, [], ◌∷◌, ◌++◌, length, Option, Some, None, sym, ◌∙◌, ap, refl, subst, arith}
 use Rattle.std.specs.Prelude.{◌≢◌, Bool, false, not, is_some, option_map, slice_index_or}
 use Rattle.std.proofs.lemmas.Bool.{false≢true}
 use Rattle.std.specs.Cmp.{IsTotalOrder}
@@ -141,10 +141,6 @@ module _ {L C : Type 0} (form : L → Form) (cmp : C → C → Ordering) (weight
   turn-none m made none =
       making-finished g nodes.filed refl cmp weight (table_of form m.table.entries.items) m.lacking.items
       (subst (λ q. IsMaking g nodes.filed (costs_by cmp weight) (table_of form m.table.entries.items) (pairs_of q) m.lacking.items) (empty-list (heap_items m.queue) none) made.making)
-
-pub both-ok : {T E P Q R : Type 0} (r : Result T E) → OnOk r P → OnOk r Q → (P → Q → R) → OnOk r R
-both-ok (Ok x) p q f = f p q
-both-ok (Err e) p q f = tt
 
 -- what is there is not none
 pub some-there : {A B : Type 0} (f : A → B) (o : Option A) (b : Bool) (e : Option B) → is_some o ≡ not b → b ≡ false → option_map f o ≡ e → e ≢ None

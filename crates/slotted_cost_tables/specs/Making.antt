@@ -4,15 +4,16 @@
 --     IsTurn ..           the same where a candidate was taken out of the queue, which costs least
 --     Tells n i o q r     from q to r the row i waits too, if n of its children lack a cost, and n is 0
 --     Told o us l m q r   the same of all these rows, each count lowered
-use Rattle.std.specs.Prelude.{◌≡◌, ◌⊎◌, ℕ, zero, suc, ◌+◌, ◌≤◌, List, ◌∷◌, length, Option, Some, None, Contains, slice_index_or}
-use Rattle.std.specs.BinaryHeap.{heap_items, IsHeap}
+--     TellsRow, TellsRows  the same of what the code has
+use Rattle.std.specs.Prelude.{◌≡◌, ◌⊎◌, ℕ, zero, suc, ◌+◌, ◌-◌, ◌≤◌, List, ◌∷◌, length, Option, Some, None, Contains, set, slice_index_or}
+use Rattle.std.specs.BinaryHeap.{heap_items, IsHeap, KeepsHeap}
 use Rattle.std.specs.declared.cmp.Ordering.{Ordering}
 use Rattle.slotted_theory.specs.Nameless.{DTerm}
 use Rattle.slotted_nodes.specs.Form.{Form}
 use Rattle.slotted_model.specs.Cost.{CostFunction, AtMost}
 use Rattle.slotted_model.specs.Find.{find_class}
 use Rattle.slotted_model.specs.State.{State}
-use Rattle.slotted_model.specs.Extraction.{TableEntry, cost_in, IsLeastFirst}
+use Rattle.slotted_model.specs.Extraction.{TableEntry, cost_in, IsFinished, IsLeastFirst}
 use Rattle.slotted_store.specs.Kept.{Kept}
 use Rattle.slotted_filing.specs.Filed.{Filing, filed_of}
 use Rattle.slotted_filing.specs.FiledRows.{Rows, rows_in}
@@ -66,6 +67,23 @@ pub record Told {C : Type 0} (costs : ℕ → Option C) (us : List ℕ) (l m : L
   pub kept : (s : ℕ) (x : C) → Contains (pairs_of q) (s, x) → Contains (pairs_of r) (s, x)
   pub pushed : (s : ℕ) (x : C) → Contains us s → slice_index_or m s 0 ≡ 0 → costs s ≡ Some x → Contains (pairs_of r) (s, x)
   pub work : length r + unpriced m ≤ length q + unpriced l
+
+-- from m to n a row lacks one cost less, and waits if it lacks none
+pub record TellsRow {L C : Type 0} (form : L → Form) (cmp : C → C → Ordering) (weight : DTerm → List C → C) (v : List (Option Filing)) (source : ℕ) (m n : Making L C) : Type 0 where
+  pub table : n.table ≡ m.table
+  pub lacking : n.lacking.items ≡ set m.lacking.items source (slice_index_or m.lacking.items source 0 - 1)
+  pub queue : Tells (slice_index_or m.lacking.items source 0 - 1) source (filed_cost (costs_by cmp weight) (table_of form m.table.entries.items) v source) (heap_items m.queue) (heap_items n.queue)
+  pub heap : KeepsHeap (candidate_cmp cmp) (heap_items m.queue) (heap_items n.queue)
+
+-- the same of each of these rows
+pub record TellsRows {L C : Type 0} (form : L → Form) (cmp : C → C → Ordering) (weight : DTerm → List C → C) (v : List (Option Filing)) (sources : List ℕ) (m n : Making L C) : Type 0 where
+  pub table : n.table ≡ m.table
+  pub told : Told (filed_cost (costs_by cmp weight) (table_of form m.table.entries.items) v) sources m.lacking.items n.lacking.items (heap_items m.queue) (heap_items n.queue)
+  pub heap : KeepsHeap (candidate_cmp cmp) (heap_items m.queue) (heap_items n.queue)
+
+-- no row can enter
+abbrev pub IsDone : {L C : Type 0} → (L → Form) → (C → C → Ordering) → (DTerm → List C → C) → Kept → Rows → Making L C → Type 0
+IsDone form cmp weight store nodes m = IsFinished (table_state store nodes) (costs_by cmp weight) (table_of form m.table.entries.items)
 
 -- the entry is what is filed of the candidate's source, for this class at the candidate's cost
 pub record IsEntryFor {L C : Type 0} (form : L → Form) (v : List (Option Filing)) (class : ℕ) (next : Candidate C) (e : CostEntry L C) : Type 0 where

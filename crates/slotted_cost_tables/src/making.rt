@@ -1,8 +1,7 @@
 //! The making of a table: the cheapest row that can enter does, until none can.
-ghost use Rattle.std.specs.Prelude.{◌≡◌, ◌<◌, ◌≤◌, ◌-◌, ℕ, length, true, false, set, slice_index_or, None, IfOk, IfErr, OnOk};
-ghost use Rattle.std.specs.BinaryHeap.{heap_items, KeepsHeap};
+ghost use Rattle.std.specs.Prelude.{◌≡◌, ◌<◌, ◌≤◌, ℕ, length, true, false, slice_index_or, None, IfOk, IfErr, OnOk};
 ghost use Rattle.slotted_slots.specs.Error.{IsOutOfMemory};
-ghost use Rattle.slotted_model.specs.Extraction.{Fits, IsFinished};
+ghost use Rattle.slotted_model.specs.Extraction.{Fits};
 ghost use Rattle.slotted_model.specs.Find.{find_class};
 ghost use Rattle.slotted_model.specs.Rest.{AtRest};
 ghost use Rattle.slotted_store.specs.Finding.{HasFinds};
@@ -10,9 +9,9 @@ ghost use Rattle.slotted_store.specs.Kept.{entries_of};
 ghost use Rattle.slotted_filing.specs.FiledRows.{IsFiled};
 ghost use Rattle.slotted_costs.specs.Costs.{costs_by, MayRefuse};
 ghost use Rattle.slotted_cost_tables.specs.Entries.{entry_in, table_of};
-ghost use Rattle.slotted_cost_tables.specs.Prices.{candidate_cmp, filed_cost};
 ghost use Rattle.slotted_cost_tables.specs.Counts.{times, AreKeysOf, AreUsers};
-ghost use Rattle.slotted_cost_tables.specs.Making.{table_state, work_left, IsEntryFor, IsMadeSoFar, IsTurnOf, Tells, Told};
+ghost use Rattle.slotted_cost_tables.specs.Making.{table_state, work_left, IsDone, IsEntryFor};
+ghost use Rattle.slotted_cost_tables.specs.Making.{IsMadeSoFar, IsTurnOf, TellsRow, TellsRows};
 ghost use Rattle.slotted_cost_tables.specs.Least.{IsLeastTable};
 
 use crate::candidate::Candidate;
@@ -70,12 +69,7 @@ fn tell<L: Language, F: CostFunction<L>>(
     source: usize,
 ) -> Result<(), Error>
     requires { 0 < slice_index_or making.old.lacking.items source 0 }
-    ensures table { making.new.table ≡ making.old.table }
-    ensures lacking { making.new.lacking.items ≡ set making.old.lacking.items source (slice_index_or making.old.lacking.items source 0 - 1) }
-    ensures queue { OnOk result (Tells (slice_index_or making.old.lacking.items source 0 - 1) source
-        (filed_cost (costs_by F.Cost.cmp (F.node_cost costs.now)) (table_of L.form making.old.table.entries.items) nodes.now.filed source)
-        (heap_items making.old.queue) (heap_items making.new.queue)) }
-    ensures heap { OnOk result (KeepsHeap (candidate_cmp F.Cost.cmp) (heap_items making.old.queue) (heap_items making.new.queue)) }
+    ensures ok { OnOk result (TellsRow L.form F.Cost.cmp (F.node_cost costs.now) nodes.now.filed source making.old making.new) }
     ensures err { IfErr result (MayRefuse F.refuses) }
 {
     let left = making.lacking[source] - 1;
@@ -102,11 +96,7 @@ fn tell_all<L: Language, F: CostFunction<L>>(
     sources: &[usize],
 ) -> Result<(), Error>
     requires { (s : ℕ) → times s sources.now ≤ slice_index_or making.old.lacking.items s 0 }
-    ensures table { making.new.table ≡ making.old.table }
-    ensures told { OnOk result (Told
-        (filed_cost (costs_by F.Cost.cmp (F.node_cost costs.now)) (table_of L.form making.old.table.entries.items) nodes.now.filed)
-        sources.now making.old.lacking.items making.new.lacking.items (heap_items making.old.queue) (heap_items making.new.queue)) }
-    ensures heap { OnOk result (KeepsHeap (candidate_cmp F.Cost.cmp) (heap_items making.old.queue) (heap_items making.new.queue)) }
+    ensures ok { OnOk result (TellsRows L.form F.Cost.cmp (F.node_cost costs.now) nodes.now.filed sources.now making.old making.new) }
     ensures err { IfErr result (MayRefuse F.refuses) }
 {
     for source in sources {
@@ -182,8 +172,7 @@ fn step<L: Language, F: CostFunction<L>>(
     requires made { IsMadeSoFar L.form F.Cost.cmp (F.node_cost costs.now) store.now nodes.now making.old }
     ensures ok { OnOk result (IsMadeSoFar L.form F.Cost.cmp (F.node_cost costs.now) store.now nodes.now making.new) }
     ensures more { IfOk result (λ more. more ≡ true → work_left making.new < work_left making.old) }
-    ensures end { IfOk result (λ more. more ≡ false →
-        IsFinished (table_state store.now nodes.now) (costs_by F.Cost.cmp (F.node_cost costs.now)) (table_of L.form making.new.table.entries.items)) }
+    ensures end { IfOk result (λ more. more ≡ false → IsDone L.form F.Cost.cmp (F.node_cost costs.now) store.now nodes.now making.new) }
     ensures err { IfErr result (MayRefuse F.refuses) }
 {
     let Some(next) = making.queue.pop() else {
@@ -196,10 +185,10 @@ fn step<L: Language, F: CostFunction<L>>(
     Ok(true)
 }
 
-/// The table of least costs of a graph: an entry for each class that has a term, which is each live one of a graph at rest.
+/// The table of least costs of a graph: an entry for each class that has a term. At rest that is each live one.
 ///
-/// Each row waits once, from when the last of its children got its cost on. So with n rows it takes the time of n turns of a heap, beside
-/// that of the finds and of the calls of the cost function.
+/// Each row waits once, from when the last of its children got its cost on. So with n rows it takes the time of n turns of
+/// a heap, beside that of the finds and of the calls of the cost function.
 pub fn make_table<L: Language, F: CostFunction<L>>(
     store: &Store<L>,
     nodes: &Hashcons<L>,
@@ -208,10 +197,10 @@ pub fn make_table<L: Language, F: CostFunction<L>>(
 ) -> Result<CostTable<L, F::Cost>, Error>
     requires good { HasFinds store.now }
     requires count { length nodes.now.filed ≡ length store.now.classes }
-    ensures ok { IfOk result (λ t.
-        IsLeastTable (table_state store.now nodes.now) (costs_by F.Cost.cmp (F.node_cost costs.now)) (table_of L.form t.entries.items)) }
-    ensures fits { IfOk result (λ t. AtRest (table_state store.now nodes.now) →
-        Fits F.Cost (table_state store.now nodes.now) (costs_by F.Cost.cmp (F.node_cost costs.now)) (table_of L.form t.entries.items)) }
+    ensures ok { IfOk result (λ t. IsLeastTable (table_state store.now nodes.now)
+        (costs_by F.Cost.cmp (F.node_cost costs.now)) (table_of L.form t.entries.items)) }
+    ensures fits { AtRest (table_state store.now nodes.now) → IfOk result (λ t. Fits F.Cost (table_state store.now nodes.now)
+        (costs_by F.Cost.cmp (F.node_cost costs.now)) (table_of L.form t.entries.items)) }
     ensures err { IfErr result (MayRefuse F.refuses) }
 {
     let users = users_of(nodes, alloc)?;

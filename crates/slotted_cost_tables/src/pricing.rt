@@ -6,7 +6,7 @@ ghost use Rattle.slotted_model.specs.Extraction.{costs_in};
 ghost use Rattle.slotted_filing.specs.FiledRows.{key_children};
 ghost use Rattle.slotted_costs.specs.Costs.{costs_by, MayRefuse};
 ghost use Rattle.slotted_cost_tables.specs.Entries.{table_of};
-ghost use Rattle.slotted_cost_tables.specs.Prices.{candidate_cmp, filed_cost, pairs_of, Pushes};
+ghost use Rattle.slotted_cost_tables.specs.Prices.{candidate_cmp, filed_cost, Pushes};
 
 use crate::candidate::Candidate;
 use crate::table::CostTable;
@@ -85,7 +85,8 @@ pub fn push_row<L: Language, F: CostFunction<L>>(
     queue: &mut BinaryHeap<Candidate<F::Cost>>,
 ) -> Result<(), Error>
     ensures ok { OnOk result (Pushes source
-        (filed_cost (costs_by F.Cost.cmp (F.node_cost costs.now)) (table_of L.form table.now.entries.items) nodes.now.filed source)
+        (filed_cost (costs_by F.Cost.cmp (F.node_cost costs.now)) (table_of L.form table.now.entries.items)
+        nodes.now.filed source)
         (heap_items queue.old) (heap_items queue.new)) }
     ensures heap { OnOk result (KeepsHeap (candidate_cmp F.Cost.cmp) (heap_items queue.old) (heap_items queue.new)) }
     ensures err { IfErr result (MayRefuse F.refuses) }

@@ -1,6 +1,7 @@
 // Tables of costs.
 ghost use Rattle.std.specs.Prelude.{◌≡◌, ◌<◌, ◌++◌, ◌∷◌, [], length, None, option_map, IfOk, IfErr, OnOk};
 ghost use Rattle.slotted_slots.specs.Error.{IsOutOfMemory};
+ghost use Rattle.slotted_model.specs.Extraction.{cost_in};
 ghost use Rattle.slotted_cost_tables.specs.Entries.{ArePlaced, classes_in, entry_of, entry_in, table_of};
 
 use crate::entry::CostEntry;
@@ -8,11 +9,11 @@ use slotted_languages::Language;
 use slotted_slots::Error;
 use std::alloc::Global;
 
-/// The entries in the order in which they entered, each over earlier ones, at most one for a class.
+/// The entries in the order in which they entered, at most one for a class: each row is over classes of earlier ones.
 #[derive(Drop)]
 pub struct CostTable<L, C> {
     pub entries: Vec<CostEntry<L, C>>,
-    pub places: Vec<usize>,
+    places: Vec<usize>,
     ghost placed: { ArePlaced (classes_in entries.items) places.items },
 }
 
@@ -30,7 +31,9 @@ impl<L: Language, C: Drop> CostTable<L, C> {
 
     /// The entry of a class, if there is one. It takes no memory.
     pub fn get(&self, class: usize) -> Option<&CostEntry<L, C>>
-        ensures { option_map (λ e. entry_of L.form e.now) result ≡ entry_in (table_of L.form self.now.entries.items) class }
+        ensures entry { option_map (λ e. entry_of L.form e.now) result
+            ≡ entry_in (table_of L.form self.now.entries.items) class }
+        ensures cost { option_map (λ e. e.now.cost) result ≡ cost_in (table_of L.form self.now.entries.items) class }
     {
         if class >= self.places.len() {
             return None;

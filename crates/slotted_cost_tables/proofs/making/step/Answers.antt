@@ -40,5 +40,5 @@ returns-clause-ok g c =
           let turn = turn-popped form cmp weight c.args.store.now c.args.nodes.now g.met.F.Cost.Ord.total m n c.in-Some.next c.requires.made refl refl c.in-Some.ensures.permutation c.in-Some.ensures.heap_order in
           subst (λ t. IsMadeSoFar form cmp weight c.args.store.now c.args.nodes.now t) (sym w.making-is)
           (turn-passed form cmp weight c.args.store.now c.args.nodes.now n c.in-Some.next turn c.find_class-class.result c.find_class-class.ensures.class
-          (some-there (λ e. entry_of form e.now) c.get.result c.is_none.result _ c.is_none.ensures w.if-is_none.false c.get.ensures))
+          (some-there (λ e. entry_of form e.now) c.get.result c.is_none.result _ c.is_none.ensures w.if-is_none.false c.get.ensures.entry))
     ]

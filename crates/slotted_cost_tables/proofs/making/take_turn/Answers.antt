@@ -1,12 +1,13 @@
 use Rattle.std.proofs.Common.{◌≤◌, sym, subst}
 use Rattle.std.specs.BinaryHeap.{heap_items}
 use Rattle.std.specs.Prelude.{slice_index_or}
+use Rattle.std.proofs.lemmas.Result.{on_ok_weaker}
 use Rattle.slotted_costs.specs.Costs.{costs_by}
 use Rattle.slotted_cost_tables.specs.Entries.{table_of}
 use Rattle.slotted_cost_tables.specs.Prices.{filed_cost}
 use Rattle.slotted_cost_tables.specs.Making.{Told}
 use Rattle.slotted_cost_tables.specs.Counts.{times}
-use Rattle.slotted_cost_tables.proofs.Turns.{turn-filed, turn-few, turn-ends, both-ok}
+use Rattle.slotted_cost_tables.proofs.Turns.{turn-filed, turn-few, turn-ends}
 use Rattle.slotted_cost_tables.proofs.making.take_turn.Goals as goal
 
 pub entry_for-requires : goal.entry_for-requires
@@ -24,8 +25,8 @@ returns-clause-ok g c =
     let k = costs_by g.F.Cost.Ord.cmp (g.F.CostFunction.node_cost c.args.costs.now) in
     let m = c.args.making.now in
     let n = c.tell_all.new.making in
-    both-ok c.tell_all.result c.tell_all.ensures.told c.tell_all.ensures.heap (λ told keeps.
+    on_ok_weaker c.tell_all.result (λ t.
     turn-ends form g.F.Cost.Ord.cmp (g.F.CostFunction.node_cost c.args.costs.now) c.args.store.now c.args.nodes.now m c.args.next c.requires.turn
     c.args.users.now c.requires.users c.args.class c.requires.class c.requires.within c.requires.new_class c.in_ok-entry.entry c.in_ok-entry.ensures.ok
-    n c.enter.new.self c.tell_all.ensures.table c.in_ok-enter.ensures.ok c.enter.ensures.room
-    (subst (λ us. Told (filed_cost k (table_of form c.enter.new.self.entries.items) c.args.nodes.now.filed) us m.lacking.items n.lacking.items (heap_items m.queue) (heap_items n.queue)) c.of.ensures told) keeps)
+    n c.enter.new.self t.table c.in_ok-enter.ensures.ok c.enter.ensures.room
+    (subst (λ us. Told (filed_cost k (table_of form c.enter.new.self.entries.items) c.args.nodes.now.filed) us m.lacking.items n.lacking.items (heap_items m.queue) (heap_items n.queue)) c.of.ensures t.told) t.heap) c.tell_all.ensures.ok

@@ -23,11 +23,11 @@ loop-source-preserved g c =
     let n = c.tell.new.making in
     let d = get_or c.args.sources.now c.loop-source.source-index 0 in
     record {
-      table = c.tell.ensures.table ∙ c.loop-source.invariant.table;
-      heap = λ h. c.in_ok-tell.ensures.heap (c.loop-source.invariant.heap h);
+      table = c.in_ok-tell.ensures.ok.table ∙ c.loop-source.invariant.table;
+      heap = λ h. c.in_ok-tell.ensures.ok.heap (c.loop-source.invariant.heap h);
       told = told-step costs c.args.sources.now c.args.making.now.lacking.items m.lacking.items n.lacking.items (heap_items c.args.making.now.queue) (heap_items m.queue) (heap_items n.queue) c.loop-source.source-index c.loop-source-test.true
           c.loop-source.invariant.told
           (told-some costs c.args.sources.now c.args.making.now.lacking.items m.lacking.items (heap_items c.args.making.now.queue) (heap_items m.queue) c.loop-source.source-index 0 c.loop-source.invariant.told c.requires c.loop-source-test.true)
-          c.tell.ensures.lacking
-          (subst (λ t. Tells (get_or m.lacking.items d 0 - 1) d (filed_cost k (table_of form t.entries.items) v d) (heap_items m.queue) (heap_items n.queue)) c.loop-source.invariant.table c.in_ok-tell.ensures.queue);
+          c.in_ok-tell.ensures.ok.lacking
+          (subst (λ t. Tells (get_or m.lacking.items d 0 - 1) d (filed_cost k (table_of form t.entries.items) v d) (heap_items m.queue) (heap_items n.queue)) c.loop-source.invariant.table c.in_ok-tell.ensures.ok.queue);
     }
