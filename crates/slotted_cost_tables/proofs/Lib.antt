@@ -1,0 +1,9 @@
+pub mod Tables
+pub mod Counting
+pub mod UserLists
+pub mod Rows
+pub mod Telling
+pub mod Entering
+pub mod Starting
+pub mod Turns
+pub mod Finished
