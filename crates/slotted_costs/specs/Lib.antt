@@ -3,3 +3,4 @@ pub mod Costs
 pub mod Laws
 pub mod Size
 pub mod SizeLaws
+pub mod Weights

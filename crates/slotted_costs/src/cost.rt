@@ -15,13 +15,14 @@ use std::alloc::Global;
 
 /// What a node costs, over the costs of its children, in any type with an order.
 ///
-/// Of the node itself a cost may read the operator, the payloads, and which of its places have one name: it is a function of what is
-/// left of the node without its names and its children. So two nodes that differ in these alone cost the same over children that do.
-/// Besides, a dearer child never makes a node cheaper, and a node costs no less than any child.
+/// Of the node itself a cost may read the operator, the payloads, and which of its places have one name: it is a function of
+/// what is left of the node without its names and its children. So two nodes that differ in these alone cost the same over
+/// children that do. Besides, a dearer child never makes a node cheaper, and a node costs no less than any child.
 pub trait CostFunction<L: Language>: Drop {
     type Cost: Ord + Clone + Drop;
 
-    // What a node costs: of what is left of it without its names and its children, and of the costs of these from the left.
+    // What a node costs: of what is left of it without its names and its children, where the operator is one more than the
+    // node's, and of the costs of its children from the left.
     ghost node_cost: { Self → DTerm → List Self.Cost → Self.Cost };
 
     // What `cost` may refuse with.

@@ -1,11 +1,14 @@
 //! Costs of nodes and of terms.
 //!
-//! A cost function says what a node costs over the costs of its children; what it has to keep is told by [`CostFunction`]. [`AstSize`] is
-//! one: it counts nodes.
+//! A cost function says what a node costs over the costs of its children; what it has to keep is told by [`CostFunction`].
+//! [`AstSize`] is one: it counts nodes. Others that add a weight of the node to the costs of its children are made with
+//! [`weighed_sum`].
 #![tactic(auto)]
 
 pub mod ast_size;
 pub mod cost;
+pub mod weights;
 
 pub use ast_size::AstSize;
 pub use cost::{CostFunction, costs_are_lawful};
+pub use weights::weighed_sum;
