@@ -3,7 +3,7 @@ use crate::graphs::{empty, put, yes};
 use crate::ids::found;
 use crate::nodes::look_up;
 use crate::rows::{check, check_tables};
-use slotted_graph::{EGraph, ProgressMeasure};
+use slotted_graph::EGraph;
 use slotted_languages::Language;
 use slotted_slots::{AppliedId, Error};
 use slotted_small::Small;
@@ -80,14 +80,6 @@ fn are_of_term<L: Language>(
     are_its(alloc, graph, &id)
 }
 
-// The numbers of classes, of live ones and of slots.
-fn told(alloc: Global, measure: &ProgressMeasure) -> Result<String, Error> {
-    let classes = measure.number_of_classes;
-    let live = measure.number_of_live_classes;
-    let slots = measure.sum_of_slots;
-    Ok(format!(in alloc; "{classes} {live} {slots}")?)
-}
-
 // A number, as a text.
 fn number(alloc: Global, number: usize) -> Result<String, Error> {
     Ok(format!(in alloc; "{number}")?)
@@ -102,7 +94,9 @@ pub fn answer<L: Language>(
 ) -> Result<String, Error> {
     match ask {
         "total" => number(alloc, graph.total_number_of_nodes()),
-        "progress" => told(alloc, &graph.progress()),
+        "classes" => number(alloc, graph.progress().number_of_classes),
+        "live" => number(alloc, graph.progress().number_of_live_classes),
+        "slots" => number(alloc, graph.progress().sum_of_slots),
         "nodes" => number(alloc, nodes_of_term(graph, text)?.len()),
         "check" => Ok(String::from_str(alloc, yes(graph.check()?))?),
         _ => Ok(String::from_str(alloc, yes(are_of_term(alloc, graph, text)?))?),
@@ -111,15 +105,21 @@ pub fn answer<L: Language>(
 
 // A union makes one class of two, which keeps both nodes. All variables have one class.
 const TWO_NODES: &str = "report total => 0
-report progress => 0 0 0
+report classes => 0
+report live => 0
+report slots => 0
 report check => yes
 ids: (f $0 $1) == (app (var $0) (var $1)) => two classes
 report total => 3
-report progress => 3 3 5
+report classes => 3
+report live => 3
+report slots => 5
 report nodes: (f $0 $1) => 1
 union: (f $0 $1) == (app (var $0) (var $1)) => yes
 report total => 3
-report progress => 3 2 3
+report classes => 3
+report live => 2
+report slots => 3
 report applied: (f $5 $6) => yes
 report applied: (app (var $1) (var $0)) => yes
 report applied: (var $3) => yes
@@ -127,7 +127,9 @@ report check => yes";
 
 // A dropped slot of a node stands for any name. The id of the class that died has no nodes.
 const DROPPED: &str = "union: (f $0 $1) == (g $0) => yes
-report progress => 2 1 1
+report classes => 2
+report live => 1
+report slots => 1
 report total => 2
 report nodes: (g $0) => 2
 report nodes: (f $2 $3) => 0
@@ -138,10 +140,14 @@ report check => yes";
 // Nodes that become equal are one, also below binders.
 const ONE_NODE: &str = "ids: (lam $x (app a (var $x))) == (lam $y (app b (var $y))) => two classes
 report total => 7
-report progress => 7 7 3
+report classes => 7
+report live => 7
+report slots => 3
 union: a == b => yes
 report total => 5
-report progress => 7 4 2
+report classes => 7
+report live => 4
+report slots => 2
 report applied: (lam $z (app b (var $z))) => yes
 report nodes: b => 2
 report check => yes";
