@@ -1,11 +1,11 @@
 //! What a failed graph refuses: each call that answers a `Result`.
-use crate::graphs::put_term;
 use slotted_explain::Explanation;
 use slotted_graph::{Check, EGraph};
 use slotted_languages::Language;
 use slotted_proofs::{
     CongruenceProof, Equation, ProvenEq, ReflexivityProof, SymmetryProof, TransitivityProof,
 };
+use slotted_rows::graphs::put_term;
 use slotted_slots::{AppliedId, Error};
 use slotted_terms::expr::RecExpr;
 use slotted_terms::expr::printing::Printable;

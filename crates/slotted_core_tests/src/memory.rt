@@ -1,11 +1,11 @@
 //! Scripts in which memory or slots end. `rt try --test --fail-alloc N` has the Nth growth refused.
 use crate::failing::add_text;
-use crate::graphs::{empty, node_of};
-use crate::ids::equal;
-use crate::nodes::look_up;
 use slotted_graph::EGraph;
 use slotted_languages::Language;
 use slotted_proofs::Equation;
+use slotted_rows::graphs::{empty, node_of};
+use slotted_rows::ids::equal;
+use slotted_rows::nodes::look_up;
 use slotted_slots::{AppliedId, Error};
 use slotted_small::Small;
 use std::alloc::Global;

@@ -1,10 +1,10 @@
 //! What is printed of the proofs of a graph.
-use crate::graphs::{parted, yes};
 use crate::steps::part;
 use slotted_explain::Explanation;
 use slotted_graph::EGraph;
 use slotted_languages::Language;
 use slotted_proofs::{Proof, ProvenEq};
+use slotted_rows::graphs::{parted, yes};
 use slotted_slots::Error;
 use slotted_terms::expr::printing::Printable;
 use std::alloc::Global;

@@ -1,9 +1,9 @@
 //! A script over most calls of a graph, in which memory or slots end. `rt try --test --fail-alloc N` has the Nth growth refused.
 use crate::failing::{assert_entries_refused, assert_failed};
-use crate::graphs::{empty, parted};
 use crate::rows::answer;
 use slotted_graph::EGraph;
 use slotted_proofs::ProvenEq;
+use slotted_rows::graphs::{empty, parted};
 use slotted_slots::{Error, SlotTable};
 use slotted_small::Small;
 use slotted_terms::expr::printing::Printable;

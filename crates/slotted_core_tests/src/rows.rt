@@ -1,13 +1,14 @@
 //! The walk over the rows of a table, each of which is `ASK: TERMS => ANSWER`.
-use crate::graphs::{empty, parted, sides, slot, yes};
-use crate::ids::{
-    are_counted, find_one, is_full_changed, is_valid_changed, names_itself, related,
-    related_changed, sides_related, unite_because, unite_changed,
-};
-use crate::{found, nodes, proofs, reported, steps, terms};
+use crate::{proofs, steps};
 use slotted_graph::EGraph;
 use slotted_languages::Language;
 use slotted_proofs::{Equation, ProvenEq};
+use slotted_rows::graphs::{empty, parted, sides, slot, yes};
+use slotted_rows::ids::{
+    are_counted, find_one, is_full_changed, is_valid_changed, names_itself, related,
+    related_changed, sides_related, unite_because, unite_changed,
+};
+use slotted_rows::{found, nodes, reported, terms};
 use slotted_slots::{AppliedId, Error};
 use slotted_terms::expr::printing::Printable;
 use std::alloc::Global;

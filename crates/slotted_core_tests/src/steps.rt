@@ -1,11 +1,11 @@
 //! Steps that callers ask for, by the names of the steps.
-use crate::graphs::{parted, yes};
-use crate::ids::unite_because;
 use slotted_graph::{Check, EGraph};
 use slotted_languages::Language;
 use slotted_proofs::{
     CongruenceProof, Equation, ProvenEq, ReflexivityProof, SymmetryProof, TransitivityProof,
 };
+use slotted_rows::graphs::{parted, yes};
+use slotted_rows::ids::unite_because;
 use slotted_slots::{AppliedId, Error};
 use slotted_terms::expr::RecExpr;
 use std::alloc::Global;

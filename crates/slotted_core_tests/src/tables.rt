@@ -1,7 +1,7 @@
 //! Tables of questions and answers.
-use crate::graphs::empty;
 use crate::rows::{check, check_each, check_in, check_tables};
 use slotted_graph::EGraph;
+use slotted_rows::graphs::empty;
 use slotted_slots::{Error, SlotTable};
 use slotted_small::Small;
 use slotted_terms::expr::printing::Printable;

@@ -7,7 +7,7 @@ use slotted_slots::{AppliedId, Error, Id, Slot};
 use slotted_terms::expr::RecExpr;
 use std::alloc::Global;
 
-// What a node is looked up as, if it is valid.
+/// What a node is looked up as, if it is valid.
 pub fn look_up<L: Language>(graph: &EGraph<L>, node: &L) -> Result<Option<AppliedId>, Error> {
     if graph.is_valid_node(node) {
         graph.lookup(node)
@@ -48,7 +48,7 @@ fn put_valid<L: Language>(graph: &mut EGraph<L>, node: L) -> Result<AppliedId, E
     }
 }
 
-// The id of that node, added by itself.
+/// The id of that node, added by itself.
 pub fn put_node<L: Language>(graph: &mut EGraph<L>, text: &str) -> Result<AppliedId, Error> {
     let node = node_of(graph, text)?;
     put_valid(graph, node)
@@ -200,7 +200,7 @@ fn found<L: Language>(graph: &mut EGraph<L>, texts: &str) -> Result<&'static str
     looked_up(graph, term, node)
 }
 
-// What is asked of nodes and terms.
+/// What is asked of nodes and terms.
 pub fn answer<L: Language>(
     alloc: Global,
     graph: &mut EGraph<L>,

@@ -86,7 +86,7 @@ fn is_kept<L: Language>(graph: &mut EGraph<L>, text: &str) -> Result<bool, Error
     Ok(gets(graph, text, before)? && graph.proof_count() == count)
 }
 
-// What is asked of classes.
+/// What is asked of classes.
 pub fn answer<L: Language>(
     graph: &mut EGraph<L>,
     ask: &str,

@@ -157,6 +157,7 @@ fn number<L: Language>(graph: &mut EGraph<L>, word: &str, text: &str) -> Result<
     }
 }
 
+/// What is counted by a word.
 pub fn count<L: Language>(
     alloc: Global,
     graph: &mut EGraph<L>,
@@ -167,7 +168,7 @@ pub fn count<L: Language>(
     Ok(format!(in alloc; "{number}")?)
 }
 
-// What is printed by a word.
+/// What is printed by a word.
 pub fn answer<L: Printable>(
     alloc: Global,
     graph: &mut EGraph<L>,

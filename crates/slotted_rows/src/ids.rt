@@ -7,7 +7,7 @@ use slotted_slots::{AppliedId, Error, Id, Slot, SlotMap};
 use std::alloc::Global;
 use std::mem;
 
-// Whether two ids are equal, if they can be asked.
+/// Whether two ids are equal, if they can be asked.
 pub fn equal<L: Language>(graph: &EGraph<L>, a: &AppliedId, b: &AppliedId) -> Result<bool, Error> {
     if graph.is_valid(a) && graph.is_valid(b) {
         graph.eq(a, b)
@@ -16,7 +16,7 @@ pub fn equal<L: Language>(graph: &EGraph<L>, a: &AppliedId, b: &AppliedId) -> Re
     }
 }
 
-// How two ids are related.
+/// How two ids are related.
 pub fn related<L: Language>(
     graph: &EGraph<L>,
     a: &AppliedId,
@@ -31,7 +31,7 @@ pub fn related<L: Language>(
     }
 }
 
-// What an id finds, if it can be asked.
+/// What an id finds, if it can be asked.
 pub fn found<L: Language>(graph: &EGraph<L>, a: &AppliedId) -> Result<AppliedId, Error> {
     if graph.is_valid(a) {
         graph.find_applied_id(a)
@@ -40,14 +40,14 @@ pub fn found<L: Language>(graph: &EGraph<L>, a: &AppliedId) -> Result<AppliedId,
     }
 }
 
-// Whether two ids find one id.
+/// Whether two ids find one id.
 pub fn find_one<L: Language>(graph: &EGraph<L>, sides: &Equation) -> Result<bool, Error> {
     let left = found(graph, &sides.l)?;
     let right = found(graph, &sides.r)?;
     Ok(left == right)
 }
 
-// Whether the class of an id can be asked with its own slots as its names.
+/// Whether the class of an id can be asked with its own slots as its names.
 pub fn names_itself<L: Language>(graph: &EGraph<L>, a: &AppliedId) -> Result<bool, Error> {
     if !graph.is_valid_id(a.id) {
         return Err(Error::NotATerm);
@@ -56,7 +56,7 @@ pub fn names_itself<L: Language>(graph: &EGraph<L>, a: &AppliedId) -> Result<boo
     Ok(graph.is_valid(&own))
 }
 
-// The number of slots that the class of an id has left.
+/// The number of slots that the class of an id has left.
 pub fn slots_left<L: Language>(graph: &EGraph<L>, a: &AppliedId) -> Result<usize, Error> {
     if !graph.is_valid_id(a.id) {
         return Err(Error::NotATerm);
@@ -64,7 +64,7 @@ pub fn slots_left<L: Language>(graph: &EGraph<L>, a: &AppliedId) -> Result<usize
     Ok(graph.slots(a.id)?.len())
 }
 
-// How the two sides of a symmetry that was met are related.
+/// How the two sides of a symmetry that was met are related.
 pub fn sides_related<L: Language>(graph: &EGraph<L>, number: usize) -> Result<&'static str, Error> {
     match graph.symmetries_met().get(number) {
         Some(symmetry) => related(graph, &symmetry.equation.l, &symmetry.equation.r),
@@ -72,7 +72,7 @@ pub fn sides_related<L: Language>(graph: &EGraph<L>, number: usize) -> Result<&'
     }
 }
 
-// Whether the two sides of as many symmetries as are open are not equal.
+/// Whether the two sides of as many symmetries as are open are not equal.
 pub fn are_counted<L: Language>(graph: &EGraph<L>) -> Result<bool, Error> {
     let mut left = graph.open_symmetries()?;
     for symmetry in graph.symmetries_met() {
@@ -137,6 +137,7 @@ fn change(alloc: Global, sides: &mut Equation, how: &str) -> Result<(), Error> {
     Ok(())
 }
 
+/// Whether an id is full after such a change.
 pub fn is_full_changed<L: Language>(
     alloc: Global,
     graph: &EGraph<L>,
@@ -147,6 +148,7 @@ pub fn is_full_changed<L: Language>(
     Ok(graph.is_full(&sides.l))
 }
 
+/// Whether it is valid after such a change.
 pub fn is_valid_changed<L: Language>(
     alloc: Global,
     graph: &EGraph<L>,
@@ -157,7 +159,7 @@ pub fn is_valid_changed<L: Language>(
     Ok(graph.is_valid(&sides.l))
 }
 
-// How the left id, changed, and the right one are related.
+/// How the left id, changed, and the right one are related.
 pub fn related_changed<L: Language>(
     alloc: Global,
     graph: &EGraph<L>,
@@ -168,7 +170,7 @@ pub fn related_changed<L: Language>(
     related(graph, &sides.l, &sides.r)
 }
 
-// What a union answers, because of a text if there is one.
+/// What a union answers, because of a text if there is one.
 pub fn unite_because<L: Language>(
     alloc: Global,
     graph: &mut EGraph<L>,
@@ -182,7 +184,7 @@ pub fn unite_because<L: Language>(
     }
 }
 
-// What a union answers of the left id, changed, or of what it finds.
+/// What a union answers of the left id, changed, or of what it finds.
 pub fn unite_changed<L: Language>(
     alloc: Global,
     graph: &mut EGraph<L>,

@@ -6,29 +6,29 @@ use slotted_slots::{AppliedId, Error, Slot, SlotTable};
 use slotted_terms::expr::RecExpr;
 use std::alloc::Global;
 
-// What stands before a sign, and behind it.
+/// What stands before a sign, and behind it.
 pub fn parted<'a>(text: &'a str, sign: &str) -> (&'a str, &'a str) {
     text.split_once(sign).unwrap_or((text, ""))
 }
 
-// How a test is answered.
+/// How a test is answered.
 pub fn yes(holds: bool) -> &'static str {
     if holds { "yes" } else { "no" }
 }
 
-// The slot of a name in a table of its own: where it is no number, no graph without names knows it.
+/// The slot of a name in a table of its own: where it is no number, no graph without names knows it.
 pub fn slot(alloc: Global, name: &str) -> Result<Slot, Error> {
     SlotTable::new(alloc).named(name)
 }
 
-// A graph without classes, over a table that has read a name.
+/// A graph without classes, over a table that has read a name.
 pub fn empty<L: Language>(alloc: Global, name: &str) -> Result<EGraph<L>, Error> {
     let mut table = SlotTable::new(alloc);
     table.named(name)?;
     EGraph::new(alloc, table, ())
 }
 
-// The id of a term, if it is valid.
+/// The id of a term, if it is valid.
 pub fn put_term<L: Language>(graph: &mut EGraph<L>, term: &RecExpr<L>) -> Result<AppliedId, Error> {
     if graph.is_valid_expr(term) {
         graph.add_syn_expr(term)
@@ -37,13 +37,13 @@ pub fn put_term<L: Language>(graph: &mut EGraph<L>, term: &RecExpr<L>) -> Result
     }
 }
 
-// The id of the term that a text writes.
+/// The id of the term that a text writes.
 pub fn put<L: Language>(graph: &mut EGraph<L>, text: &str) -> Result<AppliedId, Error> {
     let term = graph.parse_expr(text)?;
     put_term(graph, &term)
 }
 
-// The ids of the terms that `T == U` writes, or that of `T` twice.
+/// The ids of the terms that `T == U` writes, or that of `T` twice.
 pub fn sides<L: Language>(graph: &mut EGraph<L>, texts: &str) -> Result<Equation, Error> {
     let (left, right) = texts.split_once(" == ").unwrap_or((texts, texts));
     let l = put(graph, left)?;
@@ -66,7 +66,7 @@ fn put_children<L: Language>(
     Ok(())
 }
 
-// The node at the top of the term that a text writes, over the ids of its children.
+/// The node at the top of the term that a text writes, over the ids of its children.
 pub fn node_of<L: Language>(graph: &mut EGraph<L>, text: &str) -> Result<L, Error> {
     let RecExpr { mut node, children } = graph.parse_expr(text)?;
     put_children(graph, &mut node, &children)?;
