@@ -45,7 +45,7 @@ module _ {L C : Type 0} (form : L → Form) where
   entry-none es c h = none-after es [] c h
 
   -- one entry alone has it
-  entry-after : (es : List (CostEntry L C)) (table : List (TableEntry C)) (p : ℕ) (e : CostEntry L C) → slice_get es p ≡ Some e → ((q : ℕ) → slice_get (classes_in es) q ≡ Some e.class → q ≡ p) → entry_in (table_after form es table) e.class ≡ Some (entry_of form e)
+  pub entry-after : (es : List (CostEntry L C)) (table : List (TableEntry C)) (p : ℕ) (e : CostEntry L C) → slice_get es p ≡ Some e → ((q : ℕ) → slice_get (classes_in es) q ≡ Some e.class → q ≡ p) → entry_in (table_after form es table) e.class ≡ Some (entry_of form e)
   entry-after [] table p e at once = cc
   entry-after (d ∷ es) table zero e at once =
       let same : d ≡ e = Some-same d e at in

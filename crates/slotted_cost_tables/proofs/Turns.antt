@@ -1,7 +1,8 @@
 -- A turn of the making as the code takes it.
 use Rattle.std.proofs.Common.{◌≡◌, ◌<◌, ◌≤◌, ℕ, zero, suc, List, [], ◌∷◌, ◌++◌, length, Option, Some, None, sym, ◌∙◌, ap, refl, subst, arith}
-use Rattle.std.specs.Prelude.{◌≢◌, Bool, false, not, is_some, option_map, slice_index_or}
+use Rattle.std.specs.Prelude.{◌≢◌, All, Bool, false, not, is_some, option_map, slice_index_or}
 use Rattle.std.proofs.lemmas.Bool.{false≢true}
+use Rattle.std.proofs.lemmas.List.Elements.{All-push}
 use Rattle.std.specs.Cmp.{IsTotalOrder}
 use Rattle.std.specs.declared.cmp.Ordering.{Ordering}
 use Rattle.std.specs.BinaryHeap.{heap_items, KeepsHeap, PopsGreatest}
@@ -21,7 +22,7 @@ use Rattle.slotted_cost_tables.specs.declared.candidate.Candidate.{Candidate}
 use Rattle.slotted_cost_tables.specs.declared.entry.CostEntry.{CostEntry}
 use Rattle.slotted_cost_tables.specs.declared.making.Making.{Making}
 use Rattle.slotted_cost_tables.specs.declared.table.CostTable.{CostTable}
-use Rattle.slotted_cost_tables.specs.Entries.{entry_of, entry_in, table_of}
+use Rattle.slotted_cost_tables.specs.Entries.{IsFiledAs, entry_of, entry_in, table_of}
 use Rattle.slotted_cost_tables.specs.Prices.{candidate_cmp, filed_cost, pair_of, pairs_of}
 use Rattle.slotted_cost_tables.specs.Counts.{times, AreUsers}
 use Rattle.slotted_cost_tables.specs.Making.{table_state, IsMaking, IsMadeSoFar, IsTurnOf, IsEntryFor, Told}
@@ -69,6 +70,7 @@ module _ {L C : Type 0} (form : L → Form) (cmp : C → C → Ordering) (weight
         };
         heap = (pops made.heap).0;
         room = ap (λ t. length t.places.items) table ∙ made.room;
+        filed = subst (λ t. All (IsFiledAs form nodes.filed) t.entries.items) (sym table) made.filed;
       }
 
   module _ (m : Making L C) (next : Candidate C) (turn : IsTurnOf form cmp weight store nodes m next) where
@@ -88,6 +90,7 @@ module _ {L C : Type 0} (form : L → Form) (cmp : C → C → Ordering) (weight
           (some-entry (table_of form m.table.entries.items) (find_class (entries_of store) next.source.0) (subst (λ c. entry_in (table_of form m.table.entries.items) c ≢ None) is there));
       heap = turn.heap;
       room = turn.room;
+      filed = turn.filed;
     }
 
     -- or it enters
@@ -113,6 +116,9 @@ module _ {L C : Type 0} (form : L → Form) (cmp : C → C → Ordering) (weight
       entry-is : entry_of form e ≡ entry
       entry-is = λ j. record { class = (fits.class_is ∙ is) j; cost = fits.cost j; row = row_of_entry (form e.node, (fits.source j, e.names)) }
 
+      filed_as : IsFiledAs form nodes.filed e
+      filed_as = ap (filed_of nodes.filed) fits.source ∙ fits.filed
+
       pub turn-made : (n : Making L C) → n.table.entries.items ≡ m.table.entries.items ++ e ∷ [] → length n.table.places.items ≡ length m.table.places.items →
           Told (filed_cost (costs_by cmp weight) (table_of form n.table.entries.items) nodes.filed) (slice_index_or users class []) m.lacking.items n.lacking.items (heap_items m.queue) (heap_items n.queue) →
           KeepsHeap (candidate_cmp cmp) (heap_items m.queue) (heap_items n.queue) → IsMadeSoFar form cmp weight store nodes n
@@ -126,6 +132,7 @@ module _ {L C : Type 0} (form : L → Form) (cmp : C → C → Ordering) (weight
                 (subst (λ t. Told (filed_cost (costs_by cmp weight) t nodes.filed) (slice_index_or users class []) m.lacking.items n.lacking.items (heap_items m.queue) (heap_items n.queue)) grown told)));
             heap = keeps turn.heap;
             room = room ∙ turn.room;
+            filed = subst (λ es. All (IsFiledAs form nodes.filed) es) (sym entered) (All-push (IsFiledAs form nodes.filed) m.table.entries.items e turn.filed filed_as);
           }
 
       -- the same by what the calls say

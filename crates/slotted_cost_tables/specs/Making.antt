@@ -5,7 +5,7 @@
 --     Tells n i o q r     from q to r the row i waits too, if n of its children lack a cost, and n is 0
 --     Told o us l m q r   the same of all these rows, each count lowered
 --     TellsRow, TellsRows  the same of what the code has
-use Rattle.std.specs.Prelude.{◌≡◌, ◌⊎◌, ℕ, zero, suc, ◌+◌, ◌-◌, ◌≤◌, List, ◌∷◌, length, Option, Some, None, Contains, set, slice_index_or}
+use Rattle.std.specs.Prelude.{◌≡◌, ◌⊎◌, ℕ, zero, suc, ◌+◌, ◌-◌, ◌≤◌, List, ◌∷◌, All, length, Option, Some, None, Contains, set, slice_index_or}
 use Rattle.std.specs.BinaryHeap.{heap_items, IsHeap, KeepsHeap}
 use Rattle.std.specs.declared.cmp.Ordering.{Ordering}
 use Rattle.slotted_theory.specs.Nameless.{DTerm}
@@ -19,7 +19,7 @@ use Rattle.slotted_filing.specs.Filed.{Filing, filed_of}
 use Rattle.slotted_filing.specs.FiledRows.{Rows, rows_in}
 use Rattle.slotted_unions.specs.StateOf.{state_with}
 use Rattle.slotted_costs.specs.Costs.{costs_by}
-use Rattle.slotted_cost_tables.specs.Entries.{table_of}
+use Rattle.slotted_cost_tables.specs.Entries.{IsFiledAs, table_of}
 use Rattle.slotted_cost_tables.specs.Prices.{Pushes, candidate_cmp, children_of, filed_cost, pair_of, pairs_of}
 use Rattle.slotted_cost_tables.specs.Counts.{times, missing, unpriced}
 use Rattle.slotted_cost_tables.specs.declared.candidate.Candidate.{Candidate}
@@ -46,11 +46,13 @@ pub record IsMadeSoFar {L C : Type 0} (form : L → Form) (cmp : C → C → Ord
   pub making : IsMaking (table_state store nodes) nodes.filed (costs_by cmp weight) (table_of form m.table.entries.items) (pairs_of (heap_items m.queue)) m.lacking.items
   pub heap : IsHeap (candidate_cmp cmp) (heap_items m.queue)
   pub room : length m.table.places.items ≡ length nodes.filed
+  pub filed : All (IsFiledAs form nodes.filed) m.table.entries.items
 
 pub record IsTurnOf {L C : Type 0} (form : L → Form) (cmp : C → C → Ordering) (weight : DTerm → List C → C) (store : Kept) (nodes : Rows) (m : Making L C) (next : Candidate C) : Type 0 where
   pub turn : IsTurn (table_state store nodes) nodes.filed (costs_by cmp weight) (table_of form m.table.entries.items) (pair_of next) (pairs_of (heap_items m.queue)) m.lacking.items
   pub heap : IsHeap (candidate_cmp cmp) (heap_items m.queue)
   pub room : length m.table.places.items ≡ length nodes.filed
+  pub filed : All (IsFiledAs form nodes.filed) m.table.entries.items
 
 -- how much is left: the rows that wait, and those that may come
 abbrev pub work_left : {L C : Type 0} → Making L C → ℕ

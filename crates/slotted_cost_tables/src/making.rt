@@ -1,5 +1,5 @@
 //! The making of a table: the cheapest row that can enter does, until none can.
-ghost use Rattle.std.specs.Prelude.{◌≡◌, ◌<◌, ◌≤◌, ℕ, length, true, false, slice_index_or, None, IfOk, IfErr, OnOk};
+ghost use Rattle.std.specs.Prelude.{◌≡◌, ◌<◌, ◌≤◌, ℕ, All, length, true, false, slice_index_or, None, IfOk, IfErr, OnOk};
 ghost use Rattle.slotted_slots.specs.Error.{IsOutOfMemory};
 ghost use Rattle.slotted_model.specs.Extraction.{Fits};
 ghost use Rattle.slotted_model.specs.Find.{find_class};
@@ -8,7 +8,7 @@ ghost use Rattle.slotted_store.specs.Finding.{HasFinds};
 ghost use Rattle.slotted_store.specs.Kept.{entries_of};
 ghost use Rattle.slotted_filing.specs.FiledRows.{IsFiled};
 ghost use Rattle.slotted_costs.specs.Costs.{costs_by, MayRefuse};
-ghost use Rattle.slotted_cost_tables.specs.Entries.{entry_in, table_of};
+ghost use Rattle.slotted_cost_tables.specs.Entries.{IsFiledAs, entry_in, table_of};
 ghost use Rattle.slotted_cost_tables.specs.Counts.{times, AreKeysOf, AreUsers};
 ghost use Rattle.slotted_cost_tables.specs.Making.{table_state, work_left, IsDone, IsEntryFor};
 ghost use Rattle.slotted_cost_tables.specs.Making.{IsMadeSoFar, IsTurnOf, TellsRow, TellsRows};
@@ -201,6 +201,7 @@ pub fn make_table<L: Language, F: CostFunction<L>>(
         (costs_by F.Cost.cmp (F.node_cost costs.now)) (table_of L.form t.entries.items)) }
     ensures fits { AtRest (table_state store.now nodes.now) → IfOk result (λ t. Fits F.Cost (table_state store.now nodes.now)
         (costs_by F.Cost.cmp (F.node_cost costs.now)) (table_of L.form t.entries.items)) }
+    ensures filed { IfOk result (λ t. All (IsFiledAs L.form nodes.now.filed) t.entries.items) }
     ensures err { IfErr result (MayRefuse F.refuses) }
 {
     let users = users_of(nodes, alloc)?;

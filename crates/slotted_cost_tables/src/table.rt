@@ -62,4 +62,11 @@ impl<L: Language, C: Drop> CostTable<L, C> {
         self.entries.push(entry)?;
         Ok(())
     }
+
+    /// The entries, taken out.
+    pub fn into_entries(self) -> Vec<CostEntry<L, C>>
+        ensures { result.items ≡ self.entries.items }
+    {
+        self.entries
+    }
 }

@@ -1,7 +1,9 @@
 use Rattle.std.proofs.Common.{sym, subst, ◌∙◌, arith}
 use Rattle.std.specs.BinaryHeap.{heap_items}
+use Rattle.std.specs.Prelude.{All}
+use Rattle.std.proofs.lemmas.List.Elements.{All-nil}
 use Rattle.slotted_costs.specs.Costs.{costs_by}
-use Rattle.slotted_cost_tables.specs.Entries.{table_of}
+use Rattle.slotted_cost_tables.specs.Entries.{IsFiledAs, table_of}
 use Rattle.slotted_cost_tables.specs.Making.{table_state, IsMaking}
 use Rattle.slotted_cost_tables.specs.Prices.{filed_cost, pairs_of}
 use Rattle.slotted_cost_tables.proofs.Starting.{StartsWith, starts-next, making-starts}
@@ -27,4 +29,5 @@ returns-clause-ok g c =
           (subst (λ es. StartsWith (filed_cost k (table_of form es) v) c.loop-source.source queue) empty c.loop-source.invariant.starts) c.in_ok-lacking.ensures.ok);
       heap = c.loop-source.invariant.heap;
       room = c.in_ok-table.ensures.room ∙ c.class_count.ensures;
+      filed = subst (λ es. All (IsFiledAs form v) es) (sym empty) (All-nil (IsFiledAs form v));
     }
