@@ -120,8 +120,8 @@ fn syn_expr<L: Language>(
     Ok(RecExpr { node, children })
 }
 
-// Puts the null id in the place of each child.
-fn forget_children<L: Language>(alloc: Global, node: &mut L)
+/// Puts the null id in the place of each child.
+pub fn forget_children<L: Language>(alloc: Global, node: &mut L)
     ensures { IsBeside (L.form node.old) (L.form node.new) }
 {
     for k in 0..node.applied_id_count() {

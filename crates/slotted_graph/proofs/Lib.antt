@@ -1,3 +1,4 @@
 -- Lemmas of the graph that callers see.
 pub mod Measured
 pub mod Enodes
+pub mod LeastTerms

@@ -39,6 +39,7 @@ mod adding;
 mod canonical;
 mod dump;
 mod explanations;
+mod extraction;
 mod nodes;
 mod patterns;
 mod reports;

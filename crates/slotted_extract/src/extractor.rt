@@ -1,0 +1,118 @@
+//! Extractors: the least costs of a graph's classes, and the terms that have them.
+ghost use Rattle.std.specs.Prelude.{◌≡◌, ◌⊎◌, ◌↔◌, false, None, Some, option_map, IsTrue, IfOk, IfErr, IsErrOf};
+ghost use Rattle.slotted_slots.specs.Error.{IsOutOfMemory, IsShortage};
+ghost use Rattle.slotted_terms.specs.Valid.{IsValidTerm};
+ghost use Rattle.std.specs.Ordering.{nat_cmp};
+ghost use Rattle.slotted_costs.specs.Costs.{costs_by, MayRefuse};
+ghost use Rattle.slotted_costs.specs.Size.{size_cost};
+ghost use Rattle.slotted_proofs.specs.Equations.{to_applied};
+ghost use Rattle.slotted_core.specs.Graph.{OnlyTakesSlots};
+ghost use Rattle.slotted_core.specs.ValidIds.{IsValidId};
+ghost use Rattle.slotted_extraction.specs.Terms.{entry_at};
+ghost use Rattle.slotted_graph.specs.LeastTerms.{AreLeastOf, HasEachLiveClass, IsExtracted, IsLeastTerm, LacksEntry};
+
+use slotted_costs::{AstSize, CostFunction};
+use slotted_extraction::LeastTerms;
+use slotted_graph::EGraph;
+use slotted_languages::Language;
+use slotted_slots::{AppliedId, Error};
+use slotted_terms::expr::RecExpr;
+use std::alloc::Global;
+
+/// For each class of a graph its least cost, and a node that has it. It speaks of the graph as it was when it was made.
+#[derive(Drop)]
+pub struct Extractor<L: Language, CF: CostFunction<L>> {
+    pub costs: CF,
+    pub terms: LeastTerms<L, CF::Cost>,
+    alloc: Global,
+}
+
+impl<L: Language, CF: CostFunction<L>> Extractor<L, CF> {
+    /// The extractor of a graph by a cost function.
+    pub fn new<N: Drop>(alloc: Global, eg: &mut EGraph<L, N>, costs: CF) -> Result<Self, Error>
+        ensures costs { IfOk result (λ x. x.costs ≡ costs) }
+        ensures least { IfOk result (λ x. AreLeastOf L.form eg.old
+            (costs_by CF.Cost.cmp (CF.node_cost costs)) x.terms.entries.items) }
+        ensures each { IfOk result (λ x. HasEachLiveClass eg.old x.terms.entries.items) }
+        ensures same { eg.new ≡ eg.old }
+        ensures failed { IsErrOf result Error.Failed ↔ IsTrue eg.old.failed }
+        ensures only { IfErr result (λ e. (e ≡ Error.Failed) ⊎ MayRefuse CF.refuses e) }
+    {
+        let terms = eg.least_terms(&costs)?;
+        Ok(Extractor {
+            costs,
+            terms,
+            alloc,
+        })
+    }
+
+    /// A term of least cost among those that the id represents. For a name that the id lacks, or that unions dropped, stands a fresh slot,
+    /// and binders are fresh. It is refused with `UnknownClass` where the class that the id finds has come since. On a graph that changed
+    /// since it may answer any term.
+    pub fn extract<N: Drop>(&self, i: &AppliedId, eg: &mut EGraph<L, N>) -> Result<RecExpr<L>, Error>
+        requires { IsTrue eg.old.failed ⊎ IsValidId eg.old (to_applied i.now) }
+        ensures least { IfOk result (IsExtracted L.form eg.old self.now.terms.entries.items (to_applied i.now)) }
+        ensures valid { IfOk result (λ t. IsValidTerm eg.new.table t) }
+
+        // Only fresh slots are made, and a refusal does not fail the graph.
+        ensures takes { OnlyTakesSlots eg.old eg.new }
+        ensures stays { IsTrue eg.old.failed → eg.new ≡ eg.old }
+
+        ensures failed { IsErrOf result Error.Failed ↔ IsTrue eg.old.failed }
+        ensures unknown { IsErrOf result Error.UnknownClass
+            ↔ ((eg.old.failed ≡ false) × LacksEntry eg.old self.now.terms.entries.items (to_applied i.now)) }
+        ensures only { IfErr result (λ e. (e ≡ Error.Failed) ⊎ ((e ≡ Error.UnknownClass) ⊎ IsShortage e)) }
+    {
+        eg.least_term(&self.terms, i)
+    }
+
+    /// The least cost of an id's own class: it is not looked at what the id finds. It is refused with `UnknownClass` where the class had no
+    /// cost when the extractor was made.
+    pub fn get_best_cost(&self, i: &AppliedId) -> Result<CF::Cost, Error>
+        ensures cost { IfOk result (λ c. option_map (λ e. e.cost) (entry_at self.now.terms.entries.items i.now.id.0) ≡ Some c) }
+        ensures unknown { IsErrOf result Error.UnknownClass ↔ (entry_at self.now.terms.entries.items i.now.id.0 ≡ None) }
+        ensures only { IfErr result (λ e. (e ≡ Error.UnknownClass) ⊎ IsOutOfMemory e) }
+    {
+        match self.terms.get(i.id.0) {
+            Some(entry) => self.costs.copy(self.alloc, &entry.cost),
+            None => Err(Error::UnknownClass),
+        }
+    }
+}
+
+/// A term of least cost that an id represents, by the default of a cost function.
+pub fn extract<L: Language, N: Drop, CF: CostFunction<L> + Default>(
+    alloc: Global,
+    i: &AppliedId,
+    eg: &mut EGraph<L, N>,
+) -> Result<RecExpr<L>, Error>
+    requires { IsTrue eg.old.failed ⊎ IsValidId eg.old (to_applied i.now) }
+    ensures least { IfOk result (λ t. (k : CF) × CF.is_default k
+        × IsLeastTerm eg.old (costs_by CF.Cost.cmp (CF.node_cost k)) (to_applied i.now) t) }
+    ensures valid { IfOk result (λ t. IsValidTerm eg.new.table t) }
+    ensures takes { OnlyTakesSlots eg.old eg.new }
+    ensures stays { IsTrue eg.old.failed → eg.new ≡ eg.old }
+    ensures failed { IsErrOf result Error.Failed ↔ IsTrue eg.old.failed }
+    ensures only { IfErr result (λ e. (e ≡ Error.Failed) ⊎ (IsShortage e ⊎ MayRefuse CF.refuses e)) }
+{
+    let extractor: Extractor<L, CF> = Extractor::new(alloc, eg, CF::default())?;
+    extractor.extract(i, eg)
+}
+
+/// A term of the fewest nodes that an id represents.
+pub fn ast_size_extract<L: Language, N: Drop>(
+    alloc: Global,
+    i: &AppliedId,
+    eg: &mut EGraph<L, N>,
+) -> Result<RecExpr<L>, Error>
+    requires { IsTrue eg.old.failed ⊎ IsValidId eg.old (to_applied i.now) }
+    ensures least { IfOk result (IsLeastTerm eg.old (costs_by nat_cmp size_cost) (to_applied i.now)) }
+    ensures valid { IfOk result (λ t. IsValidTerm eg.new.table t) }
+    ensures takes { OnlyTakesSlots eg.old eg.new }
+    ensures stays { IsTrue eg.old.failed → eg.new ≡ eg.old }
+    ensures failed { IsErrOf result Error.Failed ↔ IsTrue eg.old.failed }
+    ensures only { IfErr result (λ e. (e ≡ Error.Failed) ⊎ IsShortage e) }
+{
+    let extractor: Extractor<L, AstSize> = Extractor::new(alloc, eg, AstSize)?;
+    extractor.extract(i, eg)
+}

@@ -1,0 +1,49 @@
+-- What a table knows of frames.
+use Rattle.std.proofs.Common.{◌≡◌, ◌<◌, ℕ, zero, suc, List, [], ◌∷◌, ◌++◌, length, refl, sym, subst, arith}
+use Rattle.std.specs.Prelude.{All, slice_index_or}
+use Rattle.std.proofs.lemmas.List.{length_push}
+use Rattle.std.proofs.lemmas.List.Elements.{All-push}
+use Rattle.slotted_theory.specs.Term.{Term}
+use Rattle.slotted_slots.specs.Table.{KnowsMore, Table}
+use Rattle.slotted_nodes.specs.Form.{Form}
+use Rattle.slotted_terms.specs.Valid.{IsValidTerm}
+use Rattle.slotted_adding.specs.Enodes.{AllKnownTo}
+use Rattle.slotted_core.proofs.CallerLemmas.{term_later}
+use Rattle.slotted_extraction.specs.declared.extracting.Frame.{Frame}
+use Rattle.slotted_extraction.specs.Frames.{IsKnownFrame}
+
+module _ {L : Type 0} (form : L → Form) where
+  -- a table that knows more knows them too
+  pub frame-later : (t u : Table) → KnowsMore t u → (f : Frame L) → IsKnownFrame form t f → IsKnownFrame form u f
+  frame-later t u more f is = record {
+    names = λ j d l. more _ (is.names j d l);
+    operators = is.operators;
+    children = λ j d l. term_later t u more _ (is.children j d l);
+  }
+
+  pub frames-later : (t u : Table) → KnowsMore t u → (fs : List (Frame L)) → All (IsKnownFrame form t) fs → All (IsKnownFrame form u) fs
+  frames-later t u more fs all j d l = frame-later t u more _ (all j d l)
+
+  -- a frame with one child more
+  pub known-more : (t : Table) (f g : Frame L) (x : Term) → IsKnownFrame form t f → 0 < x.op → IsValidTerm t x → g.node ≡ f.node → g.children.items ≡ f.children.items ++ x ∷ [] → IsKnownFrame form t g
+  known-more t f g x is op valid node items = record {
+    names = subst (λ n. AllKnownTo t (form n).names) (sym node) is.names;
+    operators = subst (All (λ (u : Term). 0 < u.op)) (sym items) (All-push (λ (u : Term). 0 < u.op) f.children.items x is.operators op);
+    children = subst (All (IsValidTerm t)) (sym items) (All-push (IsValidTerm t) f.children.items x is.children valid);
+  }
+
+  -- of frames and one more
+  pub known-first : (t : Table) (fs : List (Frame L)) (f : Frame L) → All (IsKnownFrame form t) (fs ++ f ∷ []) → All (IsKnownFrame form t) fs
+  known-first t fs f all j d l = subst (IsKnownFrame form t) (at-left fs f j d l) (all j d (omega (arith, l, length_push fs f)))
+    where
+      at-left : (xs : List (Frame L)) (x : Frame L) (i : ℕ) (e : Frame L) → i < length xs → slice_index_or (xs ++ x ∷ []) i e ≡ slice_index_or xs i e
+      at-left [] x i e m = absurd (omega (arith, m))
+      at-left (y ∷ xs) x zero e m = refl
+      at-left (y ∷ xs) x (suc i) e m = at-left xs x i e (omega (arith, m))
+
+  pub known-last : (t : Table) (fs : List (Frame L)) (f : Frame L) → All (IsKnownFrame form t) (fs ++ f ∷ []) → IsKnownFrame form t f
+  known-last t fs f all = subst (IsKnownFrame form t) (at-end fs f) (all (length fs) f (omega (arith, length_push fs f)))
+    where
+      at-end : (xs : List (Frame L)) (x : Frame L) → slice_index_or (xs ++ x ∷ []) (length xs) x ≡ x
+      at-end [] x = refl
+      at-end (y ∷ xs) x = at-end xs x

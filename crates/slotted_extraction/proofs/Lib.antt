@@ -1,0 +1,11 @@
+pub mod ChildClasses
+pub mod Work
+pub mod Stacks
+pub mod Known
+pub mod Names
+pub mod Entered
+pub mod Placed
+pub mod RowsOfNodes
+pub mod MadeTerms
+pub mod ExtractedTerms
+pub mod LeastTables

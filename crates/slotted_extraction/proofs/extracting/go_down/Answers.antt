@@ -1,0 +1,92 @@
+-- The child has an entry of a lower rank; its frame is made, and the one over it waits.
+use Rattle.std.proofs.Common.{◌≡◌, ◌<◌, ◌+◌, ◌∙◌, [], ◌∷◌, ◌++◌, length, ap, sym, subst, arith}
+use Rattle.std.specs.Prelude.{All, is_some, slice_index_or}
+use Rattle.std.specs.List.{sum_by}
+use Rattle.std.proofs.lemmas.Bool.{leb-false}
+use Rattle.std.proofs.lemmas.List.Elements.{All-push}
+use Rattle.std.proofs.lemmas.List.Sums.{sum_by_push}
+use Rattle.slotted_nodes.specs.Form.{Form, children}
+use Rattle.slotted_model.specs.Applied.{Applied}
+use Rattle.slotted_proofs.specs.Equations.{to_applied}
+use Rattle.slotted_store.specs.ChildIds.{child_ids}
+use Rattle.slotted_store.proofs.ChildIds.{child_is, length-ids}
+use Rattle.slotted_extraction.specs.Terms.{entry_at}
+use Rattle.slotted_extraction.specs.Frames.{IsFrameFor, IsKnownFrame, IsOpen, Waits, made_count, next_child, waiting_work, work_for, work_from}
+use Rattle.slotted_extraction.proofs.Known.{frames-later, frame-later}
+use Rattle.slotted_extraction.proofs.Stacks.{waits-more}
+use Rattle.slotted_extraction.proofs.Work.{bare-work, next-there, next-work}
+use Rattle.slotted_extraction.proofs.extracting.go_down.Goals as goal
+
+pub frame_for-requires-clause-there : goal.frame_for-requires-clause-there
+frame_for-requires-clause-there g c =
+    let form = g.L.LanguageChildren.form in
+    let es = c.args.terms.now.entries.items in
+    let frame = c.args.stack.now.current in
+    let f : Form = form frame.node in
+    let s = c.requires.stack.1 in
+    let lt : made_count frame < length (children f.tree) = leb-false (length (children f.tree)) (made_count frame) c.requires.left in
+    let k : c.len-next.result ≡ made_count frame = omega (arith, c.len-next.ensures, frame.children.ok) in
+    let within : c.len-next.result < length (children f.tree) = omega (arith, lt, k) in
+    let is : to_applied c.in_ok-child.child ≡ next_child form frame =
+    ap to_applied c.in_ok-child.ensures.ok ∙ (child_is f c.len-next.result (0, []) (to_applied c.applied_id.result.now) within c.applied_id.ensures.id c.applied_id.ensures.keys c.applied_id.ensures.names
+    ∙ ap (λ j. slice_index_or (child_ids f) j (0, [])) k) in
+    let e = next-there form es c.args.terms.now.ordered s.last frame s.current lt in
+    ap is_some (ap (λ (a : Applied). entry_at es a.0) is ∙ e.1)
+
+pub returns-clause-stack : goal.returns-clause-stack
+returns-clause-stack g c a h =
+    let form = g.L.LanguageChildren.form in
+    let es = c.args.terms.now.entries.items in
+    let frame = c.args.stack.now.current in
+    let f : Form = form frame.node in
+    let lt : made_count frame < length (children f.tree) = leb-false (length (children f.tree)) (made_count frame) c.requires.left in
+    let k : c.len-next.result ≡ made_count frame = omega (arith, c.len-next.ensures, frame.children.ok) in
+    let within : c.len-next.result < length (children f.tree) = omega (arith, lt, k) in
+    let is : to_applied c.in_ok-child.child ≡ next_child form frame =
+    ap to_applied c.in_ok-child.ensures.ok ∙ (child_is f c.len-next.result (0, []) (to_applied c.applied_id.result.now) within c.applied_id.ensures.id c.applied_id.ensures.keys c.applied_id.ensures.names
+    ∙ ap (λ j. slice_index_or (child_ids f) j (0, [])) k) in
+    let lacks : IsOpen form frame = omega (arith, lt, length-ids f.tree f.names) in
+    let items = c.in_ok-push.ensures.items ∙ ap (λ x. c.args.stack.now.waiting.items ++ x ∷ []) c.replace-waiting.ensures.value in
+    record {
+      last = next_child form frame;
+      waits = subst (λ fs. Waits form es a fs (next_child form frame)) (sym items) (waits-more form es a c.args.stack.now.waiting.items h.last frame h.waits h.current lacks);
+      current = subst (λ x. IsFrameFor form es (next_child form frame) x) (sym c.replace-waiting.ensures.after)
+          (subst (λ b. IsFrameFor form es b c.in_ok-frame.frame) is c.in_ok-frame.ensures.frame);
+    }
+
+pub returns-clause-known : goal.returns-clause-known
+returns-clause-known g c =
+    let form = g.L.LanguageChildren.form in
+    let t = c.args.table.now in
+    let u = c.frame_for.new.table in
+    let waiting = c.args.stack.now.waiting.items in
+    let items = c.in_ok-push.ensures.items ∙ ap (λ x. waiting ++ x ∷ []) c.replace-waiting.ensures.value in
+    record {
+      waiting = subst (All (IsKnownFrame form u)) (sym items)
+          (All-push (IsKnownFrame form u) waiting c.args.stack.now.current (frames-later form t u c.in_ok-frame.ensures.more waiting c.requires.known.waiting) (frame-later form t u c.in_ok-frame.ensures.more c.args.stack.now.current c.requires.known.current));
+      current = subst (IsKnownFrame form u) (sym c.replace-waiting.ensures.after) c.in_ok-frame.ensures.known;
+    }
+
+pub returns-clause-work : goal.returns-clause-work
+returns-clause-work g c =
+    let form = g.L.LanguageChildren.form in
+    let es = c.args.terms.now.entries.items in
+    let ordered = c.args.terms.now.ordered in
+    let frame = c.args.stack.now.current in
+    let waiting = c.args.stack.now.waiting.items in
+    let next = c.in_ok-frame.frame in
+    let f : Form = form frame.node in
+    let lt : made_count frame < length (children f.tree) = leb-false (length (children f.tree)) (made_count frame) c.requires.left in
+    let k : c.len-next.result ≡ made_count frame = omega (arith, c.len-next.ensures, frame.children.ok) in
+    let within : c.len-next.result < length (children f.tree) = omega (arith, lt, k) in
+    let is : to_applied c.in_ok-child.child ≡ next_child form frame =
+    ap to_applied c.in_ok-child.ensures.ok ∙ (child_is f c.len-next.result (0, []) (to_applied c.applied_id.result.now) within c.applied_id.ensures.id c.applied_id.ensures.keys c.applied_id.ensures.names
+    ∙ ap (λ j. slice_index_or (child_ids f) j (0, [])) k) in
+    let made : work_from form es (made_count next) next < work_for form es (next_child form frame).0 =
+    bare-work form es ordered (next_child form frame) next (subst (λ b. IsFrameFor form es b next) is c.in_ok-frame.ensures.frame) c.in_ok-frame.ensures.bare in
+    let items = c.in_ok-push.ensures.items ∙ ap (λ x. waiting ++ x ∷ []) c.replace-waiting.ensures.value in
+    let below : sum_by (waiting_work form es) c.push.new.self.items ≡ sum_by (waiting_work form es) waiting + waiting_work form es frame =
+    ap (sum_by (waiting_work form es)) items ∙ sum_by_push (waiting_work form es) waiting frame in
+    let current : work_from form es (made_count c.replace-waiting.new.dest) c.replace-waiting.new.dest ≡ work_from form es (made_count next) next =
+    ap (λ x. work_from form es (made_count x) x) c.replace-waiting.ensures.after in
+    omega (arith, made, below, current, next-work form es ordered frame lt)

@@ -1,0 +1,5 @@
+-- Terms of least cost.
+pub mod Terms
+pub mod Placing
+pub mod Least
+pub mod Frames

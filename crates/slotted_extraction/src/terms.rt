@@ -1,0 +1,118 @@
+//! The entries of a graph, each of least cost.
+ghost use Rattle.std.specs.Prelude.{◌≡◌, ◌<◌, ℕ, All, length, option_map, IfOk, IfErr};
+ghost use Rattle.slotted_slots.specs.Error.{IsOutOfMemory};
+ghost use Rattle.slotted_costs.specs.Costs.{costs_by, MayRefuse};
+ghost use Rattle.slotted_core.specs.Good.{Good, RestsWith};
+ghost use Rattle.slotted_store.specs.Finding.{HasFinds};
+ghost use Rattle.slotted_extraction.specs.Terms.{IsOrdered, entry_at};
+ghost use Rattle.slotted_extraction.specs.Least.{AreLeast};
+ghost use Rattle.slotted_extraction.specs.Placing.{ArePlaced, ClassesDiffer, IsTermFor, IsWithin};
+
+use crate::entry::TermEntry;
+use slotted_adding::finding::found_class;
+use slotted_cost_tables::{CostEntry, make_table};
+use slotted_costs::CostFunction;
+use slotted_filing::Hashcons;
+use slotted_languages::Language;
+use slotted_slots::Error;
+use slotted_store::Store;
+use std::alloc::Global;
+
+/// For each class that has a cost its entry, which is over entries that were there before it.
+#[derive(Drop)]
+pub struct LeastTerms<L: Language, C> {
+    pub entries: Vec<Option<TermEntry<L, C>>>,
+    ghost ordered: { IsOrdered L.form entries.items },
+}
+
+impl<L: Language, C: Drop> LeastTerms<L, C> {
+    /// The entry of a class, if there is one. It takes no memory.
+    pub fn get(&self, class: usize) -> Option<&TermEntry<L, C>>
+        ensures { option_map (λ e. e.now) result ≡ entry_at self.now.entries.items class }
+    {
+        if class < self.entries.len() {
+            self.entries[class].as_ref()
+        } else {
+            None
+        }
+    }
+}
+
+// The entry with the slots of the class in the place of those of its source.
+fn term_entry<L: Language, C: Drop>(
+    store: &Store<L>,
+    alloc: Global,
+    entry: CostEntry<L, C>,
+    rank: usize,
+) -> Result<TermEntry<L, C>, Error>
+    requires good { HasFinds store.now }
+    requires within { entry.source < length store.now.classes }
+    ensures ok { IfOk result (IsTermFor store.now entry rank) }
+    ensures err { IfErr result IsOutOfMemory }
+{
+    let found = found_class(store, alloc, entry.source)?;
+    let back = found.m.inverse(alloc)?;
+    let names = entry.names.compose_partial(alloc, &back)?;
+    Ok(TermEntry {
+        cost: entry.cost,
+        rank,
+        node: entry.node,
+        names,
+    })
+}
+
+// No class has an entry.
+fn no_entries<L: Language, C: Drop>(
+    alloc: Global,
+    classes: usize,
+) -> Result<Vec<Option<TermEntry<L, C>>>, Error>
+    ensures count { IfOk result (λ v. length v.items ≡ classes) }
+    ensures none { IfOk result (λ v. (c : ℕ) → entry_at v.items c ≡ None) }
+    ensures err { IfErr result IsOutOfMemory }
+{
+    let mut entries = Vec::new(alloc);
+    for k in 0..classes {
+        entries.push(None)?;
+    }
+    Ok(entries)
+}
+
+// Each entry at the place of its class.
+fn place<L: Language, C: Drop>(
+    store: &Store<L>,
+    alloc: Global,
+    classes: usize,
+    entries: Vec<CostEntry<L, C>>,
+) -> Result<Vec<Option<TermEntry<L, C>>>, Error>
+    requires good { HasFinds store.now }
+    requires within { All (IsWithin store.now classes) entries.items }
+    requires differ { ClassesDiffer entries.items }
+    ensures ok { IfOk result (λ v. ArePlaced store.now entries.items 0 v.items) }
+    ensures err { IfErr result IsOutOfMemory }
+{
+    let mut left = entries;
+    let mut placed = no_entries(alloc, classes)?;
+    while let Some(entry) = left.pop() {
+        let class = entry.class;
+        placed[class] = Some(term_entry(store, alloc, entry, left.len())?);
+    }
+    Ok(placed)
+}
+
+/// The entries of a graph at rest: each live class has one.
+pub fn least_terms<L: Language, F: CostFunction<L>>(
+    store: &Store<L>,
+    nodes: &Hashcons<L>,
+    alloc: Global,
+    costs: &F,
+) -> Result<LeastTerms<L, F::Cost>, Error>
+    requires good { Good store.now }
+    requires rests { RestsWith store.now nodes.now }
+    ensures ok { IfOk result (λ t. AreLeast L.form store.now nodes.now
+        (costs_by F.Cost.cmp (F.node_cost costs.now)) t.entries.items) }
+    ensures err { IfErr result (MayRefuse F.refuses) }
+{
+    let table = make_table(store, nodes, alloc, costs)?;
+    let entries = place(store, alloc, nodes.class_count(), table.into_entries())?;
+    Ok(LeastTerms { entries })
+}

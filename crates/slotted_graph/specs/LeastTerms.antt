@@ -1,0 +1,74 @@
+-- Terms of least cost, for callers of a graph.
+--     AreLeastOf form g costs es      the entries are of least cost in the graph: what is extracted by them costs least
+--     HasEachLiveClass g es           each live class has an entry
+--     IsEqualTo g a t                 the term is equal to what the id stands for, whatever names are filled in for those that it lacks
+--     IsLeastTerm g costs a t         the term is looked up as what the id finds, is equal to it, and no other that is costs less
+--     CostsAsEntered costs es c t     the term costs what the entry of the class says
+use Rattle.std.specs.Prelude.{◌≡◌, ◌<◌, ℕ, List, Option, None, Some, length}
+use Rattle.slotted_theory.specs.Derives.{Equal}
+use Rattle.slotted_theory.specs.Nameless.{DTerm, nameless}
+use Rattle.slotted_theory.specs.Term.{Term}
+use Rattle.slotted_nodes.specs.Form.{Form}
+use Rattle.slotted_model.specs.Applied.{Applied}
+use Rattle.slotted_model.specs.Classes.{IsFull, term_of}
+use Rattle.slotted_model.specs.Cost.{AtMost, CostFunction, tree_cost}
+use Rattle.slotted_model.specs.Trees.{IsTree}
+use Rattle.slotted_store.specs.Kept.{Kept}
+use Rattle.slotted_filing.specs.FiledRows.{Rows, rows_in}
+use Rattle.slotted_costs.specs.Costs.{cost_of_term}
+use Rattle.slotted_core.specs.Affected.{IsAffected}
+use Rattle.slotted_core.specs.Causes.{class_found}
+use Rattle.slotted_core.specs.Good.{Good, RestsWith, image_of}
+use Rattle.slotted_core.specs.Graph.{Graph}
+use Rattle.slotted_core.specs.Image.{asserted_in, found_id}
+use Rattle.slotted_core.specs.LookUp.{look_up_term}
+use Rattle.slotted_core.specs.ValidIds.{Fills}
+use Rattle.slotted_extraction.specs.Least.{AreLeast}
+use Rattle.slotted_extraction.specs.Terms.{entry_at}
+use Rattle.slotted_extraction.specs.declared.entry.TermEntry.{TermEntry}
+
+pub record AreLeastOf {L C : Type 0} (form : L → Form) (g : Graph) (costs : CostFunction C) (es : List (Option (TermEntry L C))) : Type 0 where
+  pub kept : Kept
+  pub rows : Rows
+  pub good : Good kept
+  pub rests : RestsWith kept rows
+  pub image : image_of kept ≡ g.image
+  pub filed : rows_in rows.filed ≡ g.filed
+  pub least : AreLeast form kept rows costs es
+
+-- a class that finds itself
+abbrev pub IsLiveIn : Graph → ℕ → Type 0
+IsLiveIn g c = (c < length g.image.canonical) × (class_found g.image c ≡ c)
+
+abbrev pub HasEachLiveClass : {L C : Type 0} → Graph → List (Option (TermEntry L C)) → Type 0
+HasEachLiveClass {L} {C} g es = (c : ℕ) → IsLiveIn g c → (e : TermEntry L C) × (entry_at es c ≡ Some e)
+
+abbrev pub IsEqualTo : Graph → Applied → DTerm → Type 0
+IsEqualTo g a t = (b : Applied) → Fills g.image a b → Equal (asserted_in g.image) (term_of g.image.canonical b) t
+
+-- a full id that finds the class that the id a finds
+abbrev pub IsFullBeside : Graph → Applied → Applied → Type 0
+IsFullBeside g a b = IsFull g.image.canonical b × (class_found g.image b.0 ≡ class_found g.image a.0)
+
+pub record IsLeastTerm {C : Type 0} (g : Graph) (costs : CostFunction C) (a : Applied) (t : Term) : Type 0 where
+  pub represented : look_up_term g t ≡ Some (found_id g.image a)
+  pub equal : IsEqualTo g a (nameless t)
+  -- no term that is looked up as an id of the found class costs less
+  pub least : (u : Term) (b : Applied) → look_up_term g u ≡ Some b → b.0 ≡ class_found g.image a.0 → AtMost costs (cost_of_term costs t) (cost_of_term costs u)
+  -- nor does the canonical term of an id that finds this class, also while symmetries are open
+  pub canonical : (b : Applied) → IsFullBeside g a b → AtMost costs (cost_of_term costs t) (tree_cost costs (term_of g.image.canonical b))
+  -- nor does any term that is equal to one of these, if no open symmetry affects the class
+  pub of_equal : ¬ IsAffected g.image (class_found g.image a.0) → (b : Applied) → IsFullBeside g a b → (u : DTerm) → IsTree u →
+      Equal (asserted_in g.image) (term_of g.image.canonical b) u → AtMost costs (cost_of_term costs t) (tree_cost costs u)
+
+abbrev pub CostsAsEntered : {L C : Type 0} → CostFunction C → List (Option (TermEntry L C)) → ℕ → Term → Type 0
+CostsAsEntered {L} {C} costs es c t = (e : TermEntry L C) → entry_at es c ≡ Some e → e.cost ≡ cost_of_term costs t
+
+-- where the entries are of least cost in the graph, the term is of least cost, and costs what the found class's entry says
+abbrev pub IsExtracted : {L C : Type 0} → (L → Form) → Graph → List (Option (TermEntry L C)) → Applied → Term → Type 0
+IsExtracted {L} {C} form g es a t =
+    (costs : CostFunction C) → AreLeastOf form g costs es → IsLeastTerm g costs a t × CostsAsEntered costs es (class_found g.image a.0) t
+
+-- the class that the id finds has no entry
+abbrev pub LacksEntry : {L C : Type 0} → Graph → List (Option (TermEntry L C)) → Applied → Type 0
+LacksEntry g es a = entry_at es (class_found g.image a.0) ≡ None

@@ -1,0 +1,61 @@
+//! Terms of least cost.
+ghost use Rattle.std.specs.Prelude.{◌≡◌, ◌⊎◌, ◌↔◌, false, IsTrue, IfOk, IfErr, IsErrOf};
+ghost use Rattle.slotted_slots.specs.Error.{IsShortage};
+ghost use Rattle.slotted_terms.specs.Valid.{IsValidTerm};
+ghost use Rattle.slotted_costs.specs.Costs.{costs_by, MayRefuse};
+ghost use Rattle.slotted_proofs.specs.Equations.{to_applied};
+ghost use Rattle.slotted_core.specs.Graph.{OnlyTakesSlots};
+ghost use Rattle.slotted_core.specs.ValidIds.{IsValidId};
+ghost use Rattle.slotted_graph.specs.LeastTerms.{AreLeastOf, HasEachLiveClass, IsExtracted, LacksEntry};
+
+use super::EGraph;
+use slotted_costs::CostFunction;
+use slotted_extraction::{LeastTerms, extracting, terms};
+use slotted_languages::Language;
+use slotted_slots::{AppliedId, Error};
+use slotted_terms::expr::RecExpr;
+
+impl<L: Language, N: Drop> EGraph<L, N> {
+    /// For each class that finds itself a filed node of least cost. It takes time for each filed node once, and for a turn of a heap.
+    pub fn least_terms<F: CostFunction<L>>(
+        &self,
+        costs: &F,
+    ) -> Result<LeastTerms<L, F::Cost>, Error>
+        ensures least { IfOk result (λ t. AreLeastOf L.form self.now
+            (costs_by F.Cost.cmp (F.node_cost costs.now)) t.entries.items) }
+        ensures each { IfOk result (λ t. HasEachLiveClass self.now t.entries.items) }
+        ensures failed { IsErrOf result Error.Failed ↔ IsTrue self.now.failed }
+        ensures only { IfErr result (λ e. (e ≡ Error.Failed) ⊎ MayRefuse F.refuses e) }
+    {
+        if self.failed {
+            return Err(Error::Failed);
+        }
+        terms::least_terms(&self.store, &self.nodes, self.alloc, costs)
+    }
+
+    /// The term that such nodes make of what an id finds. For a slot that the id has no name for, or that unions dropped, stands a fresh
+    /// name, and binders are fresh. Where the nodes are those of an older graph it answers too, whatever that is.
+    pub fn least_term<C: Drop>(
+        &mut self,
+        terms: &LeastTerms<L, C>,
+        a: &AppliedId,
+    ) -> Result<RecExpr<L>, Error>
+        requires { IsTrue self.old.failed ⊎ IsValidId self.old (to_applied a.now) }
+        ensures least { IfOk result (IsExtracted L.form self.old terms.now.entries.items (to_applied a.now)) }
+        ensures valid { IfOk result (λ t. IsValidTerm self.new.table t) }
+
+        // Only fresh slots are made, and a refusal does not fail the graph.
+        ensures takes { OnlyTakesSlots self.old self.new }
+        ensures stays { IsTrue self.old.failed → self.new ≡ self.old }
+
+        ensures failed { IsErrOf result Error.Failed ↔ IsTrue self.old.failed }
+        ensures unknown { IsErrOf result Error.UnknownClass
+            ↔ ((self.old.failed ≡ false) × LacksEntry self.old terms.now.entries.items (to_applied a.now)) }
+        ensures only { IfErr result (λ e. (e ≡ Error.Failed) ⊎ ((e ≡ Error.UnknownClass) ⊎ IsShortage e)) }
+    {
+        if self.failed {
+            return Err(Error::Failed);
+        }
+        extracting::extract(&self.store, self.alloc, &mut self.table, terms, a)
+    }
+}
