@@ -8,6 +8,7 @@ ghost use Rattle.slotted_costs.specs.Size.{size_cost};
 ghost use Rattle.slotted_proofs.specs.Equations.{to_applied};
 ghost use Rattle.slotted_core.specs.Graph.{OnlyTakesSlots};
 ghost use Rattle.slotted_core.specs.ValidIds.{IsValidId};
+ghost use Rattle.slotted_extraction.specs.Frames.{RunsOutForTerms};
 ghost use Rattle.slotted_extraction.specs.Terms.{entry_at};
 ghost use Rattle.slotted_graph.specs.LeastTerms.{AreLeastOf, HasEachLiveClass, IsExtracted, IsLeastTerm, LacksEntry};
 
@@ -61,6 +62,7 @@ impl<L: Language, CF: CostFunction<L>> Extractor<L, CF> {
         ensures failed { IsErrOf result Error.Failed ↔ IsTrue eg.old.failed }
         ensures unknown { IsErrOf result Error.UnknownClass
             ↔ ((eg.old.failed ≡ false) × LacksEntry eg.old self.now.terms.entries.items (to_applied i.now)) }
+        ensures full { IsErrOf result Error.OutOfSlots → RunsOutForTerms L.form self.now.terms.entries.items eg.new.table }
         ensures only { IfErr result (λ e. (e ≡ Error.Failed) ⊎ ((e ≡ Error.UnknownClass) ⊎ IsShortage e)) }
     {
         eg.least_term(&self.terms, i)

@@ -6,11 +6,13 @@
 --     IsKnownFrame form t f      the table knows the node's names, and the terms are valid over it
 --     class_work n es c          a number of steps that is enough for a term of the class c, if its rank is below n
 --     work_left form es s        such a number for the stack
-use Rattle.std.specs.Prelude.{◌≡◌, ◌<◌, ◌+◌, ℕ, zero, suc, List, [], ◌∷◌, All, Bool, Option, None, Some, drop, length, leb, slice_index_or, take}
+--     RunsOutForTerms form es u  no fresh slot is left, or the key of an entry has too many places to be numbered
+use Rattle.std.specs.Prelude.{◌≡◌, ◌⊎◌, ◌<◌, ◌+◌, ℕ, zero, suc, List, [], ◌∷◌, All, Bool, Option, None, Some, drop, length, leb, slice_index_or, take}
 use Rattle.std.specs.List.{sum_by}
 use Rattle.slotted_theory.specs.Term.{Term}
-use Rattle.slotted_slots.specs.Table.{Table}
+use Rattle.slotted_slots.specs.Table.{Table, slot_limit}
 use Rattle.slotted_nodes.specs.Form.{Form, children}
+use Rattle.slotted_languages.specs.NewNames.{IsTooLarge}
 use Rattle.slotted_terms.specs.Valid.{IsValidTerm}
 use Rattle.slotted_model.specs.Applied.{Applied}
 use Rattle.slotted_store.specs.ChildIds.{child_ids}
@@ -102,3 +104,14 @@ work_left form es s = sum_by (waiting_work form es) s.waiting.items + work_from 
 
 abbrev pub IsLessWork : {L C : Type 0} → (L → Form) → List (Option (TermEntry L C)) → Stack L → Stack L → Type 0
 IsLessWork form es s t = work_left form es t < work_left form es s
+
+-- some entry's key has too many places to be numbered
+abbrev pub HasLargeEntry : {L C : Type 0} → (L → Form) → List (Option (TermEntry L C)) → Type 0
+HasLargeEntry {L} {C} form es = (c : ℕ) × (e : TermEntry L C) × (entry_at es c ≡ Some e) × IsTooLarge (form e.node)
+
+abbrev pub RunsOutForKey : Form → Table → Type 0
+RunsOutForKey f u = (u.fresh ≡ slot_limit) ⊎ IsTooLarge f
+
+-- no fresh slot is left, or there is such an entry
+abbrev pub RunsOutForTerms : {L C : Type 0} → (L → Form) → List (Option (TermEntry L C)) → Table → Type 0
+RunsOutForTerms form es u = (u.fresh ≡ slot_limit) ⊎ HasLargeEntry form es

@@ -12,7 +12,7 @@ ghost use Rattle.slotted_store.specs.Finding.{HasFinds, IsFindable};
 ghost use Rattle.slotted_store.specs.Kept.{entries_of};
 ghost use Rattle.slotted_adding.specs.Enodes.{AllKnownTo};
 ghost use Rattle.slotted_extraction.specs.Terms.{IsMade, IsNamedBy, entry_at};
-ghost use Rattle.slotted_extraction.specs.Frames.{IsClosing, IsFrameFor, IsKnownFrame, IsKnownStack, IsLessWork, IsStack, KeepsGoal, has_all};
+ghost use Rattle.slotted_extraction.specs.Frames.{IsClosing, IsFrameFor, IsKnownFrame, IsKnownStack, IsLessWork, IsStack, KeepsGoal, RunsOutForKey, RunsOutForTerms, has_all};
 
 use crate::entry::TermEntry;
 use crate::terms::LeastTerms;
@@ -51,6 +51,7 @@ fn named_node<L: Language, C: Drop>(
     ensures known { IfOk result (λ n. AllKnownTo table.new (L.form n).names) }
     ensures more { KnowsMore table.old table.new }
     ensures kept { table.new.names ≡ table.old.names }
+    ensures full { IsErrOf result Error.OutOfSlots → RunsOutForKey (L.form entry.now.node) table.new }
     ensures err { IfErr result IsShortage }
 {
     let names = entry.names.compose_partial(alloc, &a.m)?;
@@ -73,6 +74,7 @@ fn frame_for<L: Language, C: Drop>(
     ensures known { IfOk result (IsKnownFrame L.form table.new) }
     ensures more { KnowsMore table.old table.new }
     ensures kept { table.new.names ≡ table.old.names }
+    ensures full { IsErrOf result Error.OutOfSlots → RunsOutForTerms L.form terms.now.entries.items table.new }
     ensures err { IfErr result IsShortage }
 {
     let Some(entry) = terms.get(a.id.0) else {
@@ -115,6 +117,7 @@ fn go_down<L: Language, C: Drop>(
     ensures work { OnOk result (IsLessWork L.form terms.now.entries.items stack.old stack.new) }
     ensures more { KnowsMore table.old table.new }
     ensures kept { table.new.names ≡ table.old.names }
+    ensures full { IsErrOf result Error.OutOfSlots → RunsOutForTerms L.form terms.now.entries.items table.new }
     ensures err { IfErr result IsShortage }
 {
     let next = stack.current.children.len();
@@ -140,6 +143,7 @@ fn step<L: Language, C: Drop>(
     ensures end { IfOk result (λ more. more ≡ false → IsClosing L.form stack.new) }
     ensures more { KnowsMore table.old table.new }
     ensures kept { table.new.names ≡ table.old.names }
+    ensures full { IsErrOf result Error.OutOfSlots → RunsOutForTerms L.form terms.now.entries.items table.new }
     ensures err { IfErr result IsShortage }
 {
     if !has_all_children(&stack.current) {
@@ -169,6 +173,7 @@ pub fn term_for<L: Language, C: Drop>(
     ensures valid { IfOk result (IsValidTerm table.new) }
     ensures more { KnowsMore table.old table.new }
     ensures kept { table.new.names ≡ table.old.names }
+    ensures full { IsErrOf result Error.OutOfSlots → RunsOutForTerms L.form terms.now.entries.items table.new }
     ensures err { IfErr result IsShortage }
 {
     let current = frame_for(terms, alloc, table, a)?;
@@ -195,6 +200,7 @@ pub fn extract<L: Language, C: Drop>(
     ensures kept { table.new.names ≡ table.old.names }
     ensures unknown { IsErrOf result Error.UnknownClass
         ↔ (entry_at terms.now.entries.items (find_class (entries_of store.now) a.now.id.0) ≡ None) }
+    ensures full { IsErrOf result Error.OutOfSlots → RunsOutForTerms L.form terms.now.entries.items table.new }
     ensures only { IfErr result (λ e. (e ≡ Error.UnknownClass) ⊎ IsShortage e) }
 {
     if terms.get(store.find_class(a.id.0)).is_none() {

@@ -36,6 +36,7 @@ use Rattle.slotted_core.proofs.CanonicalTerms.{places-counted}
 use Rattle.slotted_core.proofs.Images.{class_found-is, found_id-is}
 use Rattle.slotted_core.proofs.LookUps.{looked_up-is}
 use Rattle.slotted_core.proofs.ValidIds.{findable-children, findable-within, node-children_valid}
+use Rattle.slotted_extraction.proofs.Names.{count-moved}
 use Rattle.slotted_graph.specs.Nodes.{CanRunOutForEnodes, HasEachNode, HasLargeRow, IsEnode, shapes_found, slots_for_enodes}
 
 -- tests that agree on a range let the same numbers through
@@ -45,13 +46,6 @@ filter-agrees f g s (suc n) same =
     let e : f s ≡ g s = same s (omega arith) (omega arith) in
     let r : filter f (range_with_len (s + 1) n) ≡ filter g (range_with_len (s + 1) n) = filter-agrees f g (s + 1) n (λ i l h. same i (omega arith) (omega arith)) in
     λ j. cond (e j) (s ∷ r j) (r j)
-
--- other names, as many places
-count-moved : (ρ : ℕ → ℕ) (d : DArgs) → args_count (moved_args ρ d) ≡ args_count d
-count-moved ρ stop = refl
-count-moved ρ (place x rest) = λ i. 1 + count-moved ρ rest i
-count-moved ρ (sub op payloads args rest) = λ i. count-moved ρ args i + count-moved ρ rest i
-count-moved ρ (scope inner rest) = λ i. 1 + count-moved (lift ρ) inner i + count-moved ρ rest i
 
 sum-mapped : (f : DTerm → ℕ) (g : ℕ → DTerm) (h : ℕ → ℕ) (os : List ℕ) → Each (λ o. f (g o) ≡ h o) os → sum_by f (map g os) ≡ sum_by h os
 sum-mapped f g h [] e = refl

@@ -111,6 +111,7 @@ made-extracted form l g same es a valid_in valid t made costs of =
     let found : find (entries_of l) a ≡ find (entries_of k) a =
     sym (found_id-is l a (findable-within l a valid_in)) ∙ (ap (λ (i : Image). found_id i a) (same ∙ sym of.image) ∙ found_id-is k a (findable-within k a fa)) in
     let here : IsMade form es (find (entries_of k) a) t = subst (λ b. IsMade form es b t) found made in
-    let to : seen form k r of.good of.rests costs es of.least g.failed g.table ≡ g = λ i. record { failed = g.failed; table = g.table; image = of.image i; filed = of.filed i } in
-    (subst (λ h. IsLeastTerm h costs a t) to (seen-least form k r of.good of.rests costs es of.least g.failed g.table a fa t here),
-    subst (λ (h : Graph). CostsAsEntered costs es (class_found h.image a.0) t) to (seen-cost form k r of.good of.rests costs es of.least g.failed g.table a fa t here))
+    let to : seen form k r of.good of.rests costs es of.least g.failed g.table ≡ g = λ i. record { failed = g.failed; table = g.table; image = of.image i; filed = of.filed i } in (
+      subst (λ h. IsLeastTerm h costs a t) to (seen-least form k r of.good of.rests costs es of.least g.failed g.table a fa t here),
+      subst (λ (h : Graph). CostsAsEntered costs es (class_found h.image a.0) t) to (seen-cost form k r of.good of.rests costs es of.least g.failed g.table a fa t here),
+    )

@@ -6,6 +6,7 @@ ghost use Rattle.slotted_costs.specs.Costs.{costs_by, MayRefuse};
 ghost use Rattle.slotted_proofs.specs.Equations.{to_applied};
 ghost use Rattle.slotted_core.specs.Graph.{OnlyTakesSlots};
 ghost use Rattle.slotted_core.specs.ValidIds.{IsValidId};
+ghost use Rattle.slotted_extraction.specs.Frames.{RunsOutForTerms};
 ghost use Rattle.slotted_graph.specs.LeastTerms.{AreLeastOf, HasEachLiveClass, IsExtracted, LacksEntry};
 
 use super::EGraph;
@@ -51,6 +52,7 @@ impl<L: Language, N: Drop> EGraph<L, N> {
         ensures failed { IsErrOf result Error.Failed ↔ IsTrue self.old.failed }
         ensures unknown { IsErrOf result Error.UnknownClass
             ↔ ((self.old.failed ≡ false) × LacksEntry self.old terms.now.entries.items (to_applied a.now)) }
+        ensures full { IsErrOf result Error.OutOfSlots → RunsOutForTerms L.form terms.now.entries.items self.new.table }
         ensures only { IfErr result (λ e. (e ≡ Error.Failed) ⊎ ((e ≡ Error.UnknownClass) ⊎ IsShortage e)) }
     {
         if self.failed {

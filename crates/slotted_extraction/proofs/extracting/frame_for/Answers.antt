@@ -1,5 +1,5 @@
 -- The node is that of the class's entry, and no child is made.
-use Rattle.std.proofs.Common.{◌∙◌, ap, length, sym, subst, take}
+use Rattle.std.proofs.Common.{rules, inl, inr, ◌∙◌, ap, length, sym, subst, take}
 use Rattle.std.specs.Prelude.{option_map}
 use Rattle.slotted_store.specs.ChildIds.{child_ids}
 use Rattle.slotted_extraction.specs.Terms.{AreMade, no_more}
@@ -16,3 +16,10 @@ returns-clause-frame g c =
       named = c.in_ok-node.ensures.named;
       made = subst (λ xs. AreMade form es (take (length xs) ids) xs) (sym c.new-children.ensures.items) no_more;
     }
+
+pub returns-in_err-node-clause-full : goal.returns-in_err-node-clause-full
+returns-in_err-node-clause-full g c e =
+    elim (c.in_err-node.ensures.full (search rules)) [
+      | inl h ↦ inl h
+      | inr h ↦ inr (c.args.a.now.id.0, c.in-Some.entry.now, sym (ap (option_map (λ e. e.now)) (sym c.in-Some.is) ∙ c.get.ensures), h)
+    ]
