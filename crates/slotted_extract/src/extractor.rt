@@ -50,7 +50,11 @@ impl<L: Language, CF: CostFunction<L>> Extractor<L, CF> {
     /// A term of least cost among those that the id represents. For a name that the id lacks, or that unions dropped, stands a fresh slot,
     /// and binders are fresh. It is refused with `UnknownClass` where the class that the id finds has come since. On a graph that changed
     /// since it may answer any term.
-    pub fn extract<N: Drop>(&self, i: &AppliedId, eg: &mut EGraph<L, N>) -> Result<RecExpr<L>, Error>
+    pub fn extract<N: Drop>(
+        &self,
+        i: &AppliedId,
+        eg: &mut EGraph<L, N>,
+    ) -> Result<RecExpr<L>, Error>
         requires { IsTrue eg.old.failed ⊎ IsValidId eg.old (to_applied i.now) }
         ensures least { IfOk result (IsExtracted L.form eg.old self.now.terms.entries.items (to_applied i.now)) }
         ensures valid { IfOk result (λ t. IsValidTerm eg.new.table t) }

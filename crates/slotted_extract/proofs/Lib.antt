@@ -1,0 +1,2 @@
+-- Lemmas of extraction.
+pub mod FoundEntries

@@ -1,0 +1,22 @@
+-- Each class that is found has an entry.
+use Rattle.std.proofs.Common.{◌≡◌, ◌∙◌, ap, sym, subst, false, inl}
+use Rattle.std.specs.Prelude.{◌⊎◌}
+use Rattle.slotted_slots.specs.Error.{IsShortage}
+use Rattle.slotted_costs.specs.Costs.{costs_by, MayRefuse}
+use Rattle.slotted_proofs.specs.Equations.{to_applied}
+use Rattle.slotted_core.specs.Graph.{Graph}
+use Rattle.slotted_graph.specs.LeastTerms.{LacksEntry}
+use Rattle.slotted_extract.proofs.FoundEntries.{lacks-none, valid-unless, without-unknown}
+use Rattle.slotted_extract.proofs.extractor.extract.Goals as goal
+
+pub returns-clause-only : goal.returns-clause-only
+returns-clause-only g c =
+    let form = g.L.LanguageChildren.form in
+    let eg = c.args.eg.now in
+    let a = to_applied c.args.i.now in
+    let es = c.in_ok-extractor.extractor.terms.entries.items in
+    let same = c.in_ok-extractor.ensures.same in
+    without-unknown (λ e. IsShortage e ⊎ MayRefuse g.CF.CostFunction.refuses e) c.extract.result (λ e s. inl s) c.extract.ensures.only (λ e.
+    let h = c.extract.ensures.unknown.0 e in
+    let sound : eg.failed ≡ false = sym (ap (λ (x : Graph). x.failed) same) ∙ h.0 in
+    lacks-none form eg (costs_by g.CF.Cost.Ord.cmp (g.CF.CostFunction.node_cost c.default.result)) es c.in_ok-extractor.ensures.least a (valid-unless eg a c.requires sound) (subst (λ (x : Graph). LacksEntry x es a) same h.1))
