@@ -9,6 +9,7 @@ pub mod example;
 mod tests;
 
 pub use slotted_explain::Explanation;
+pub use slotted_extract::{AstSize, CostFunction, Extractor, ast_size_extract, extract};
 pub use slotted_graph::{Check, EGraph, ProgressMeasure, Symmetry};
 pub use slotted_languages::{Bind, Language, LanguageChildren, ReadBack, Symbol, pair};
 pub use slotted_patterns::Pattern;
