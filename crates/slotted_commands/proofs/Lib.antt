@@ -3,4 +3,5 @@ pub mod Splitting
 pub mod Steps
 pub mod Comparing
 pub mod Explaining
+pub mod Extracting
 pub mod Reading

@@ -4,7 +4,7 @@ use Rattle.std.specs.Prelude.{◌≢◌, Option, Some, None, true, false, if◌t
 use Rattle.std.proofs.Common.{inl, inr}
 use Rattle.std.proofs.lemmas.Bool.{cases_eq, eq-eqb, ne_eqb}
 use Rattle.std.specs.Str.Pattern.{FindsText, FindsTextPrefix, LacksTextAt, StripsPrefix, SplitsAroundMatch}
-use Rattle.slotted_commands.specs.Commands.{rest_behind, in_front_or, parts_around, pair_by, asked_of_pair, added_or, command_of, counts}
+use Rattle.slotted_commands.specs.Commands.{rest_behind, in_front_or, parts_around, pair_by, asked_of_pair, one_or, asked_of_text, command_of, counts}
 
 rest_behind-append : (w rest : List ℕ) → rest_behind w (w ++ rest) ≡ Some rest
 rest_behind-append [] rest = refl
@@ -66,11 +66,16 @@ split w s front back h =
 
 pub word_line : (line : List ℕ) → bytes_eq line (codes "symmetries") ≡ true → counts ≡ command_of line
 unfolding command_of
-word_line line e = sym (ap (λ b. if b then counts else added_or (rest_behind (codes "add ") line) (asked_of_pair line)) e)
+word_line line e = sym (ap (λ b. if b then counts else asked_of_text line) e)
 
-pub other_line : (line : List ℕ) → bytes_eq line (codes "symmetries") ≡ false → added_or (rest_behind (codes "add ") line) (asked_of_pair line) ≡ command_of line
+pub other_line : (line : List ℕ) → bytes_eq line (codes "symmetries") ≡ false → asked_of_text line ≡ command_of line
 unfolding command_of
-other_line line e = sym (ap (λ b. if b then counts else added_or (rest_behind (codes "add ") line) (asked_of_pair line)) e)
+other_line line e = sym (ap (λ b. if b then counts else asked_of_text line) e)
+
+-- what it asks of one text, or else of two
+pub text_line : (line : List ℕ) → one_or (rest_behind (codes "add ") line) (rest_behind (codes "extract ") line) (asked_of_pair line) ≡ asked_of_text line
+unfolding asked_of_text
+text_line line = refl
 
 -- what it asks of two texts
 pub pair_line : (line : List ℕ) → pair_by (rest_behind (codes "eq ") line) (rest_behind (codes "union ") line) (rest_behind (codes "explain ") line) ≡ asked_of_pair line

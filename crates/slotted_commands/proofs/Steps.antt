@@ -101,31 +101,31 @@ runs_out m g h t (Err x) e is sound was fails full only more =
     let short : IsShortage x = elim only [ inl f ↦ absurd (false≢true (sym sound ∙ was (ap Err f))) | inr s ↦ s ] in
     subst (λ y. RunsOut m g t y h) same (record { failed = fails refl; shortage = short; cause = λ q. full (ap Err q); more = more })
 
--- a command with two texts of which the first was refused
-pub both_refused : (read : List Element → Option Form) (written : Term → List Element) (g h : Graph) (left right : List ℕ) (e : Error) → OnlyReads g h → (IsTrue g.failed → h ≡ g) → (IsTrue g.failed → e ≡ Failed) → (g.failed ≡ false → Refuses (λ o. TextReads read g.table (chars left) o h.table) e) → IsAnsweredWith read written g h left right e
-both_refused read written g h left right e reads stays fails answer c command texts = first_is_refused read written g h c left (right ∷ []) e command texts reads stays fails answer
+-- a command of whose texts the first was refused
+pub text_refused : (read : List Element → Option Form) (written : Term → List Element) (g h : Graph) (text : List ℕ) (texts : List (List ℕ)) (e : Error) → OnlyReads g h → (IsTrue g.failed → h ≡ g) → (IsTrue g.failed → e ≡ Failed) → (g.failed ≡ false → Refuses (λ o. TextReads read g.table (chars text) o h.table) e) → IsAnsweredWith read written g h (text ∷ texts) e
+text_refused read written g h text texts e reads stays fails answer c command are = first_is_refused read written g h c text texts e command are reads stays fails answer
 
 -- one of which a later text was refused
-pub both_refused_later : (read : List Element → Option Form) (written : Term → List Element) (g h : Graph) (left right : List ℕ) (e : Error) → g.failed ≡ false → FirstIsRefused read g (left ∷ right ∷ []) e h → IsAnsweredWith read written g h left right e
-both_refused_later read written g h left right e sound first c command texts = refused sound (subst (λ ts. FirstIsRefused read g ts e h) (sym texts) first)
+pub later_text_refused : (read : List Element → Option Form) (written : Term → List Element) (g h : Graph) (texts : List (List ℕ)) (e : Error) → g.failed ≡ false → FirstIsRefused read g texts e h → IsAnsweredWith read written g h texts e
+later_text_refused read written g h texts e sound first c command are = refused sound (subst (λ ts. FirstIsRefused read g ts e h) (sym are) first)
 
 -- one whose terms could not be added in its manner
-pub both_run_out : (m : Manner) (read : List Element → Option Form) (written : Term → List Element) (g r h : Graph) (left right : List ℕ) (e : Error) (t u : Term) → g.failed ≡ false → WritesTerms read g (left ∷ right ∷ []) (t ∷ u ∷ []) r → RunsOutAt m r (t ∷ u ∷ []) e h → IsAnsweredIn m read written g h left right e
-both_run_out m read written g r h left right e t u sound writes short c command manner texts =
-    ran_out (t ∷ u ∷ []) r sound (subst (λ ts. WritesTerms read g ts (t ∷ u ∷ []) r) (sym texts) writes) (subst (λ n. RunsOutAt n r (t ∷ u ∷ []) e h) (sym manner) short)
+pub terms_run_out : (m : Manner) (read : List Element → Option Form) (written : Term → List Element) (g r h : Graph) (texts : List (List ℕ)) (ts : List Term) (e : Error) → g.failed ≡ false → WritesTerms read g texts ts r → RunsOutAt m r ts e h → IsAnsweredIn m read written g h texts e
+terms_run_out m read written g r h texts ts e sound writes short c command manner are =
+    ran_out ts r sound (subst (λ xs. WritesTerms read g xs ts r) (sym are) writes) (subst (λ n. RunsOutAt n r ts e h) (sym manner) short)
 
 -- what is so of any command is so of those that add their terms in a manner
-pub in_manner : (m : Manner) (read : List Element → Option Form) (written : Term → List Element) (g h : Graph) (left right : List ℕ) (e : Error) → IsAnsweredWith read written g h left right e → IsAnsweredIn m read written g h left right e
-in_manner m read written g h left right e all c command manner texts = all c command texts
+pub in_manner : (m : Manner) (read : List Element → Option Form) (written : Term → List Element) (g h : Graph) (texts : List (List ℕ)) (e : Error) → IsAnsweredWith read written g h texts e → IsAnsweredIn m read written g h texts e
+in_manner m read written g h texts e all c command manner are = all c command are
 
 -- what a comparison of two terms that were looked up says
 pub compares_says : (read : List Element → Option Form) (written : Term → List Element) (g h : Graph) (left right : List ℕ) (a b : AppliedId) (both : LooksUpBoth read g h left right a b) (x : Answer)
-    → Says h (compares left right) (both.first ∷ both.second ∷ []) (to_applied a ∷ to_applied b ∷ []) h x → Answered read written g h (compares left right) x
+    → Says written h (compares left right) (both.first ∷ both.second ∷ []) (to_applied a ∷ to_applied b ∷ []) h x → Answered read written g h (compares left right) x
 compares_says read written g h left right a b both x says = carried_out (both.first ∷ both.second ∷ []) (to_applied a ∷ to_applied b ∷ []) both.before h both.sound both.writes both.gains says
 
 -- what a union of two terms that were added by canonical nodes says
 pub unites_says : (read : List Element → Option Form) (written : Term → List Element) (g h : Graph) (left right : List ℕ) (a b : AppliedId) (both : AddsBoth read g h left right a b) (k : Graph) (x : Answer)
-    → Says h (unites left right) (both.first ∷ both.second ∷ []) (to_applied a ∷ to_applied b ∷ []) k x → Answered read written g k (unites left right) x
+    → Says written h (unites left right) (both.first ∷ both.second ∷ []) (to_applied a ∷ to_applied b ∷ []) k x → Answered read written g k (unites left right) x
 unites_says read written g h left right a b both k x says = carried_out (both.first ∷ both.second ∷ []) (to_applied a ∷ to_applied b ∷ []) both.before h both.sound both.writes both.gains says
 
 -- a union that was answered
@@ -133,11 +133,11 @@ pub union_done : (g h : Graph) (a b : Applied) (y : Bool) → IsUnion g.image h.
 union_done g h a b y union records sound table = record { union = union; records = records; sound = not_true h.failed sound; table = table }
 
 -- a union that was refused
-pub union_refused : (g h : Graph) (left right : List ℕ) (t u : Term) (a b : Applied) (r : Result Bool Error) (e : Error) → r ≡ Err e → g.failed ≡ false → (IsErrOf r Failed → IsTrue g.failed) → (IsErr r → IsTrue h.failed) → (IsErrOf r OutOfSlots → HasLargeClassIn g.image) → IfErr r (λ x. (x ≡ Failed) ⊎ IsShortage x) → h.table ≡ g.table → Says g (unites left right) (t ∷ u ∷ []) (a ∷ b ∷ []) h (Refused e)
-union_refused g h left right t u a b (Ok y) e is sound was fails full only table = cc
-union_refused g h left right t u a b (Err x) e is sound was fails full only table =
+pub union_refused : (written : Term → List Element) (g h : Graph) (left right : List ℕ) (t u : Term) (a b : Applied) (r : Result Bool Error) (e : Error) → r ≡ Err e → g.failed ≡ false → (IsErrOf r Failed → IsTrue g.failed) → (IsErr r → IsTrue h.failed) → (IsErrOf r OutOfSlots → HasLargeClassIn g.image) → IfErr r (λ x. (x ≡ Failed) ⊎ IsShortage x) → h.table ≡ g.table → Says written g (unites left right) (t ∷ u ∷ []) (a ∷ b ∷ []) h (Refused e)
+union_refused written g h left right t u a b (Ok y) e is sound was fails full only table = cc
+union_refused written g h left right t u a b (Err x) e is sound was fails full only table =
     let same : x ≡ e = cc in
-    subst (λ y. Says g (unites left right) (t ∷ u ∷ []) (a ∷ b ∷ []) h (Refused y)) same (elim only [
+    subst (λ y. Says written g (unites left right) (t ∷ u ∷ []) (a ∷ b ∷ []) h (Refused y)) same (elim only [
       | inl f ↦ absurd (false≢true (sym sound ∙ was (ap Err f)))
       | inr s ↦ union_ran_out (record { failed = fails refl; shortage = s; cause = λ q. full (ap Err q); table = table })
     ])

@@ -1,12 +1,14 @@
 -- What a line asks: a command is its word, one space and the rest, or its word alone.
 use Rattle.std.specs.Prelude.{ℕ, List, [], ◌∷◌, Option, Some, None, option_map, if◌then◌else◌, ◌==◌, bytes_eq, codes}
 
--- to add a text; to compare two texts; to unite two texts; to explain why two texts are equal; to count symmetries; or nothing that is known
+-- to add a text; to compare two texts; to unite two texts; to explain why two texts are equal; to extract from a text; to count symmetries;
+-- or nothing that is known
 pub data Command : Type 0 where
   adds : (text : List ℕ) → Command
   compares : (left right : List ℕ) → Command
   unites : (left right : List ℕ) → Command
   explains : (left right : List ℕ) → Command
+  extracts : (text : List ℕ) → Command
   counts : Command
   no_command : Command
 
@@ -42,12 +44,16 @@ pair_by None None None = no_command
 unfoldable pub asked_of_pair : List ℕ → Command
 asked_of_pair line = pair_by (rest_behind (codes "eq ") line) (rest_behind (codes "union ") line) (rest_behind (codes "explain ") line)
 
--- what is asked by what follows the word `add`, or else this
-abbrev pub added_or : Option (List ℕ) → Command → Command
-added_or (Some text) other = adds text
-added_or None other = other
+-- what is asked by what follows the word `add`, by what follows the word `extract`, or else this
+abbrev pub one_or : Option (List ℕ) → Option (List ℕ) → Command → Command
+one_or (Some text) _ other = adds text
+one_or None (Some text) other = extracts text
+one_or None None other = other
+
+-- what a line asks of one text, or else of two
+unfoldable pub asked_of_text : List ℕ → Command
+asked_of_text line = one_or (rest_behind (codes "add ") line) (rest_behind (codes "extract ") line) (asked_of_pair line)
 
 -- what a line asks: one that is the word `symmetries` asks to count them
 unfoldable pub command_of : List ℕ → Command
-command_of line =
-    if bytes_eq line (codes "symmetries") then counts else added_or (rest_behind (codes "add ") line) (asked_of_pair line)
+command_of line = if bytes_eq line (codes "symmetries") then counts else asked_of_text line

@@ -2,5 +2,6 @@ pub mod Answers
 pub mod Commands
 pub mod Asked
 pub mod Explained
+pub mod Extracted
 pub mod Sessions
 pub mod Streams

@@ -1,7 +1,7 @@
 -- What a command answers over a graph, and what it leaves of it. A language says which node, if any, a list of elements
 -- writes, and as which elements the uppermost node of a term is written. The texts of a command are read in turn from the left, before
--- any of their terms is added. A term is added by look-up, where it is added or compared, and by canonical nodes, where it is united: so
--- a union asserts the equation of the terms that were given.
+-- any of their terms is added. A term is added by look-up, where it is added or compared or another one is extracted for it, and by
+-- canonical nodes, where it is united: so a union asserts the equation of the terms that were given.
 use Rattle.std.specs.Prelude.{◌≡◌, ℕ, List, [], ◌∷◌, length, map, Bool, true, false, Option, None, Some, IsSome, IsTrue, Result, Ok, Err}
 use Rattle.std.specs.Str.{chars}
 use Rattle.slotted_theory.specs.Term.{Term}
@@ -33,8 +33,9 @@ use Rattle.slotted_core.specs.Reports.{IsFound}
 use Rattle.slotted_core.specs.ValidIds.{IsValidId}
 use Rattle.slotted_commands.specs.declared.answer.Answer.{Answer}
 use Rattle.slotted_commands.specs.declared.answer.Answer.TheVariants.{Done, Yes, No, United, WereEqual, Symmetries, Refused, NoCommand}
-use Rattle.slotted_commands.specs.Commands.{Command, adds, compares, unites, explains, counts, no_command}
+use Rattle.slotted_commands.specs.Commands.{Command, adds, compares, unites, explains, extracts, counts, no_command}
 use Rattle.slotted_commands.specs.Explained.{ExplanationAnswers}
+use Rattle.slotted_commands.specs.Extracted.{ExtractionAnswers}
 
 -- the texts of a command, from the left
 abbrev pub texts_of : Command → List (List ℕ)
@@ -42,6 +43,7 @@ texts_of (adds text) = text ∷ []
 texts_of (compares left right) = left ∷ right ∷ []
 texts_of (unites left right) = left ∷ right ∷ []
 texts_of (explains left right) = left ∷ right ∷ []
+texts_of (extracts text) = text ∷ []
 texts_of counts = []
 texts_of no_command = []
 
@@ -51,6 +53,7 @@ IsCommand (adds text) = Unit {0}
 IsCommand (compares left right) = Unit {0}
 IsCommand (unites left right) = Unit {0}
 IsCommand (explains left right) = Unit {0}
+IsCommand (extracts text) = Unit {0}
 IsCommand counts = Unit {0}
 IsCommand no_command = ⊥
 
@@ -64,6 +67,7 @@ manner_of (adds text) = by_look_up
 manner_of (compares left right) = by_look_up
 manner_of (unites left right) = canonically
 manner_of (explains left right) = canonically
+manner_of (extracts text) = by_look_up
 manner_of counts = canonically
 manner_of no_command = canonically
 
@@ -174,14 +178,16 @@ pub record UnionRunsOut (g : Graph) (e : Error) (h : Graph) : Type 0 where
   pub table : h.table ≡ g.table
 
 -- what a command says of its terms and their ids once they are added to g, and the graph that it leaves
-pub data Says (g : Graph) : Command → List Term → List Applied → Graph → Answer → Type 0 where
-  done : {text : List ℕ} {t : Term} {a : Applied} → Says g (adds text) (t ∷ []) (a ∷ []) g Done
-  are_equal : {left right : List ℕ} {t u : Term} {a b : Applied} → AreFoundEqual g t u a b → Says g (compares left right) (t ∷ u ∷ []) (a ∷ b ∷ []) g Yes
-  are_different : {left right : List ℕ} {t u : Term} {a b : Applied} → AreFoundDifferent g t u a b → Says g (compares left right) (t ∷ u ∷ []) (a ∷ b ∷ []) g No
-  are_united : {left right : List ℕ} {t u : Term} {a b : Applied} {h : Graph} → Unites g a b h true → Says g (unites left right) (t ∷ u ∷ []) (a ∷ b ∷ []) h United
-  were_equal : {left right : List ℕ} {t u : Term} {a b : Applied} {h : Graph} → Unites g a b h false → Says g (unites left right) (t ∷ u ∷ []) (a ∷ b ∷ []) h WereEqual
-  union_ran_out : {left right : List ℕ} {t u : Term} {a b : Applied} {e : Error} {h : Graph} → UnionRunsOut g e h → Says g (unites left right) (t ∷ u ∷ []) (a ∷ b ∷ []) h (Refused e)
-  counted : {n : ℕ} → CountsOpen g.image g.image.symmetries n → Says g counts [] [] g (Symmetries (length g.image.symmetries) n)
+pub data Says (written : Term → List Element) (g : Graph) : Command → List Term → List Applied → Graph → Answer → Type 0 where
+  done : {text : List ℕ} {t : Term} {a : Applied} → Says written g (adds text) (t ∷ []) (a ∷ []) g Done
+  are_equal : {left right : List ℕ} {t u : Term} {a b : Applied} → AreFoundEqual g t u a b → Says written g (compares left right) (t ∷ u ∷ []) (a ∷ b ∷ []) g Yes
+  are_different : {left right : List ℕ} {t u : Term} {a b : Applied} → AreFoundDifferent g t u a b → Says written g (compares left right) (t ∷ u ∷ []) (a ∷ b ∷ []) g No
+  are_united : {left right : List ℕ} {t u : Term} {a b : Applied} {h : Graph} → Unites g a b h true → Says written g (unites left right) (t ∷ u ∷ []) (a ∷ b ∷ []) h United
+  were_equal : {left right : List ℕ} {t u : Term} {a b : Applied} {h : Graph} → Unites g a b h false → Says written g (unites left right) (t ∷ u ∷ []) (a ∷ b ∷ []) h WereEqual
+  union_ran_out : {left right : List ℕ} {t u : Term} {a b : Applied} {e : Error} {h : Graph} → UnionRunsOut g e h → Says written g (unites left right) (t ∷ u ∷ []) (a ∷ b ∷ []) h (Refused e)
+  -- what is extracted is the id that the term has
+  extraction : {text : List ℕ} {t : Term} {a : Applied} {h : Graph} {x : Answer} → ExtractionAnswers written g a h x → Says written g (extracts text) (t ∷ []) (a ∷ []) h x
+  counted : {n : ℕ} → CountsOpen g.image g.image.symmetries n → Says written g counts [] [] g (Symmetries (length g.image.symmetries) n)
 
 -- what a command answers over g, and the graph h that it leaves
 pub data Answered (read : List Element → Option Form) (written : Term → List Element) (g h : Graph) (c : Command) : Answer → Type 0 where
@@ -194,7 +200,7 @@ pub data Answered (read : List Element → Option Form) (written : Term → List
   -- a shortage while terms are added
   ran_out : {e : Error} (ts : List Term) (r : Graph) → g.failed ≡ false → WritesTerms read g (texts_of c) ts r → RunsOutAt (manner_of c) r ts e h → Answered read written g h c (Refused e)
   -- all texts are read, then all terms are added in the manner of the command, and then it says of them what it does
-  carried_out : {a : Answer} (ts : List Term) (ids : List Applied) (r k : Graph) → g.failed ≡ false → WritesTerms read g (texts_of c) ts r → GainsTerms (manner_of c) r ts ids k → Says k c ts ids h a → Answered read written g h c a
+  carried_out : {a : Answer} (ts : List Term) (ids : List Applied) (r k : Graph) → g.failed ≡ false → WritesTerms read g (texts_of c) ts r → GainsTerms (manner_of c) r ts ids k → Says written k c ts ids h a → Answered read written g h c a
   -- both texts are read, and then their terms are explained, which adds them
   explanation : {a : Answer} (left right : List ℕ) (t u : Term) (r : Graph) → c ≡ explains left right → g.failed ≡ false → WritesTerms read g (left ∷ right ∷ []) (t ∷ u ∷ []) r → ExplanationAnswers written r t u h a → Answered read written g h c a
 
@@ -205,6 +211,14 @@ pub record ReadsBoth (read : List Element → Option Form) (g r : Graph) (left r
   pub sound_now : r.failed ≡ false
   pub left_valid : IsValidTerm r.table t
   pub right_valid : IsValidTerm r.table u
+
+-- a text writes a term that is looked up as this id in h, once it is added to g
+pub record LooksUp (read : List Element → Option Form) (g h : Graph) (text : List ℕ) (a : AppliedId) : Type 0 where
+  pub term : Term
+  pub before : Graph
+  pub sound : g.failed ≡ false
+  pub writes : WritesTerms read g (text ∷ []) (term ∷ []) before
+  pub gains : GainsFound before term (to_applied a) h
 
 -- two texts write terms that are looked up as these ids in h, once they are added to g; and the ids are equal to the terms
 pub record LooksUpBoth (read : List Element → Option Form) (g h : Graph) (left right : List ℕ) (a b : AppliedId) : Type 0 where
@@ -234,13 +248,13 @@ pub record AddsBoth (read : List Element → Option Form) (g h : Graph) (left ri
   pub left_term : term_of h.image.canonical (to_applied a) ≡ nameless first
   pub right_term : term_of h.image.canonical (to_applied b) ≡ nameless second
 
--- any command with these two texts is refused with e, and leaves h
-abbrev pub IsAnsweredWith : (List Element → Option Form) → (Term → List Element) → Graph → Graph → List ℕ → List ℕ → Error → Type 0
-IsAnsweredWith read written g h left right e = (c : Command) → IsCommand c → texts_of c ≡ left ∷ right ∷ [] → Answered read written g h c (Refused e)
+-- any command with these texts is refused with e, and leaves h
+abbrev pub IsAnsweredWith : (List Element → Option Form) → (Term → List Element) → Graph → Graph → List (List ℕ) → Error → Type 0
+IsAnsweredWith read written g h texts e = (c : Command) → IsCommand c → texts_of c ≡ texts → Answered read written g h c (Refused e)
 
 -- any such command that adds its terms in this manner
-abbrev pub IsAnsweredIn : Manner → (List Element → Option Form) → (Term → List Element) → Graph → Graph → List ℕ → List ℕ → Error → Type 0
-IsAnsweredIn m read written g h left right e = (c : Command) → IsCommand c → manner_of c ≡ m → texts_of c ≡ left ∷ right ∷ [] → Answered read written g h c (Refused e)
+abbrev pub IsAnsweredIn : Manner → (List Element → Option Form) → (Term → List Element) → Graph → Graph → List (List ℕ) → Error → Type 0
+IsAnsweredIn m read written g h texts e = (c : Command) → IsCommand c → manner_of c ≡ m → texts_of c ≡ texts → Answered read written g h c (Refused e)
 
 -- the answer, where a refusal is an answer too
 abbrev pub answer_of : Result Answer Error → Answer

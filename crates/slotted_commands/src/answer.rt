@@ -20,6 +20,8 @@ pub enum Answer {
     WereEqual,
     /// The two terms are equal, and this is the proof by lines, whose last line feed is left out.
     Explained(String),
+    /// A term of least cost, by its cost and its text.
+    Extracted(u64, String),
     /// So many symmetries were met, and so many of them are open.
     Symmetries(usize, usize),
     /// The command was refused.
@@ -39,6 +41,7 @@ impl fmt::Display for Answer {
             Answer::United => write!(f, "true"),
             Answer::WereEqual => write!(f, "false"),
             Answer::Explained(proof) => write!(f, "{proof}"),
+            Answer::Extracted(cost, term) => write!(f, "{cost} {term}"),
             Answer::Symmetries(met, open) => write!(f, "{met} {open}"),
             Answer::Refused(error) => {
                 let number = error.number();

@@ -1,6 +1,6 @@
 //! What a line asks.
 ghost use Rattle.std.specs.Prelude.{◌≡◌};
-ghost use Rattle.slotted_commands.specs.Commands.{command_of, asked_of_pair};
+ghost use Rattle.slotted_commands.specs.Commands.{command_of, asked_of_text, asked_of_pair};
 ghost use Rattle.slotted_commands.specs.Asked.{asked};
 
 /// What one line asks, with the texts that it names.
@@ -14,6 +14,8 @@ pub enum Command<'a> {
     Union(&'a str, &'a str),
     /// To explain why two texts are equal.
     Explain(&'a str, &'a str),
+    /// To extract a term of least cost that is equal to a text.
+    Extract(&'a str),
     /// To count the symmetries that were met, and the open ones.
     Symmetries,
     /// Nothing that is known.
@@ -28,8 +30,18 @@ impl<'a> Command<'a> {
         if line == "symmetries" {
             return Command::Symmetries;
         }
-        match line.strip_prefix("add ") {
-            Some(text) => Command::Add(text),
+        Command::read_text(line)
+    }
+
+    // What a line asks of one text, or else of two.
+    fn read_text(line: &'a str) -> Command<'a>
+        ensures { asked result ≡ asked_of_text line.now }
+    {
+        if let Some(text) = line.strip_prefix("add ") {
+            return Command::Add(text);
+        }
+        match line.strip_prefix("extract ") {
+            Some(text) => Command::Extract(text),
             None => Command::read_pair(line),
         }
     }

@@ -4,6 +4,7 @@
 mod answer;
 mod command;
 mod explanation;
+mod extraction;
 pub mod session;
 mod stream;
 

@@ -1,12 +1,13 @@
 //! What a line does to the graph.
-ghost use Rattle.std.specs.Prelude.{◌≡◌, IfOk, IfErr};
-ghost use Rattle.slotted_commands.specs.Commands.{adds, compares, unites, explains, counts, command_of};
-ghost use Rattle.slotted_commands.specs.Sessions.{Answered, ReadsBoth, LooksUpBoth, AddsBoth, answer_of};
+ghost use Rattle.std.specs.Prelude.{◌≡◌, [], ◌∷◌, IfOk, IfErr};
+ghost use Rattle.slotted_commands.specs.Commands.{adds, compares, unites, explains, extracts, counts, command_of};
+ghost use Rattle.slotted_commands.specs.Sessions.{Answered, ReadsBoth, LooksUp, LooksUpBoth, AddsBoth, answer_of};
 ghost use Rattle.slotted_commands.specs.Sessions.{IsAnsweredWith, IsAnsweredIn, by_look_up, canonically};
 
 use crate::answer::Answer;
 use crate::command::Command;
 use crate::explanation::explain_terms;
+use crate::extraction::extract_term;
 use slotted_graph::EGraph;
 use slotted_slots::{AppliedId, Error};
 use slotted_terms::expr::RecExpr;
@@ -22,6 +23,7 @@ pub fn answer<L: Printable>(alloc: Global, graph: &mut EGraph<L>, line: &str) ->
         Command::Eq(left, right) => to_answer(compare(graph, left, right)),
         Command::Union(left, right) => to_answer(unite(graph, left, right)),
         Command::Explain(left, right) => to_answer(explain(alloc, graph, left, right)),
+        Command::Extract(text) => to_answer(extract(alloc, graph, text)),
         Command::Symmetries => to_answer(count_symmetries(graph)),
         Command::Unknown => Answer::NoCommand,
     }
@@ -37,13 +39,22 @@ fn to_answer(outcome: Result<Answer, Error>) -> Answer
     }
 }
 
-// Adds the term of a text, by look-up.
+// Adds the term of a text.
 fn add<L: Printable>(graph: &mut EGraph<L>, text: &str) -> Result<Answer, Error>
     ensures { Answered L.read L.written graph.old graph.new (adds text.now) (answer_of result) }
 {
-    let term = graph.parse_expr(text)?;
-    graph.add_expr(&term)?;
+    look_up(graph, text)?;
     Ok(Answer::Done)
+}
+
+// Adds the term of a text, by look-up.
+fn look_up<L: Printable>(graph: &mut EGraph<L>, text: &str) -> Result<AppliedId, Error>
+    ensures ok { IfOk result (LooksUp L.read graph.old graph.new text.now) }
+    ensures err { IfErr result (IsAnsweredIn by_look_up L.read L.written graph.old graph.new (text.now ∷ [])) }
+{
+    let term = graph.parse_expr(text)?;
+    let id = graph.add_expr(&term)?;
+    Ok(id)
 }
 
 // The terms of two texts.
@@ -53,7 +64,7 @@ fn read_both<L: Printable>(
     right: &str,
 ) -> Result<(RecExpr<L>, RecExpr<L>), Error>
     ensures ok { IfOk result (λ p. ReadsBoth L.read graph.old graph.new left.now right.now p.0 p.1) }
-    ensures err { IfErr result (IsAnsweredWith L.read L.written graph.old graph.new left.now right.now) }
+    ensures err { IfErr result (IsAnsweredWith L.read L.written graph.old graph.new (left.now ∷ right.now ∷ [])) }
 {
     let left = graph.parse_expr(left)?;
     let right = graph.parse_expr(right)?;
@@ -67,7 +78,7 @@ fn look_up_both<L: Printable>(
     right: &str,
 ) -> Result<(AppliedId, AppliedId), Error>
     ensures ok { IfOk result (λ p. LooksUpBoth L.read graph.old graph.new left.now right.now p.0 p.1) }
-    ensures err { IfErr result (IsAnsweredIn by_look_up L.read L.written graph.old graph.new left.now right.now) }
+    ensures err { IfErr result (IsAnsweredIn by_look_up L.read L.written graph.old graph.new (left.now ∷ right.now ∷ [])) }
 {
     let (one, two) = read_both(graph, left, right)?;
     let left = graph.add_expr(&one)?;
@@ -82,7 +93,7 @@ fn add_both<L: Printable>(
     right: &str,
 ) -> Result<(AppliedId, AppliedId), Error>
     ensures ok { IfOk result (λ p. AddsBoth L.read graph.old graph.new left.now right.now p.0 p.1) }
-    ensures err { IfErr result (IsAnsweredIn canonically L.read L.written graph.old graph.new left.now right.now) }
+    ensures err { IfErr result (IsAnsweredIn canonically L.read L.written graph.old graph.new (left.now ∷ right.now ∷ [])) }
 {
     let (one, two) = read_both(graph, left, right)?;
     let left = graph.add_syn_expr(&one)?;
@@ -125,6 +136,14 @@ fn explain<L: Printable>(
 {
     let (one, two) = read_both(graph, left, right)?;
     explain_terms(alloc, graph, &one, &two)
+}
+
+// Extracts a term of least cost that is equal to that of a text.
+fn extract<L: Printable>(alloc: Global, graph: &mut EGraph<L>, text: &str) -> Result<Answer, Error>
+    ensures { Answered L.read L.written graph.old graph.new (extracts text.now) (answer_of result) }
+{
+    let id = look_up(graph, text)?;
+    extract_term(alloc, graph, &id)
 }
 
 // How many symmetries were met, and how many of them are open.

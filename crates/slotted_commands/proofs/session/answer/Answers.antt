@@ -19,3 +19,6 @@ returns-in-Symmetries g c = rw (c.to_answer-in-Symmetries.ensures, sym c.in-Symm
 
 pub returns-in-Explain : goal.returns-in-Explain
 returns-in-Explain g c = rw (c.to_answer-in-Explain.ensures, sym c.in-Explain.ensures) c.explain.ensures
+
+pub returns-in-Extract : goal.returns-in-Extract
+returns-in-Extract g c = rw (c.to_answer-in-Extract.ensures, sym c.in-Extract.ensures) c.extract.ensures

@@ -27,7 +27,7 @@ returns-in_err-union g c =
     let p = err_from_is_err_and c.from_residual-in_err-union.result c.from_residual-in_err-union.ensures.1 in
     let both = c.in_ok-left.ensures.ok in
     rw (p.1, p.2) (unites_says g.L.LanguageChildren.read g.L.Printable.written c.args.graph.now c.add_both.new.graph c.args.left.now c.args.right.now c.in_ok-left.left c.in_ok-left.right both c.union.new.self _
-    (union_refused c.add_both.new.graph c.union.new.self c.args.left.now c.args.right.now both.first both.second (to_applied c.in_ok-left.left) (to_applied c.in_ok-left.right) (Err c.in_err-union.field-0.0) c.in_err-union.field-0.0 refl both.sound_now
+    (union_refused g.L.Printable.written c.add_both.new.graph c.union.new.self c.args.left.now c.args.right.now both.first both.second (to_applied c.in_ok-left.left) (to_applied c.in_ok-left.right) (Err c.in_err-union.field-0.0) c.in_err-union.field-0.0 refl both.sound_now
     e.failed.0 e.fails.1 e.full e.only e.table))
 
 pub returns-then-branch : goal.returns-then-branch
