@@ -1,0 +1,2 @@
+-- A cost function that is not the size.
+pub mod DearProducts
