@@ -1,6 +1,7 @@
 //! Extractors: the least costs of a graph's classes, and the terms that have them.
 ghost use Rattle.std.specs.Prelude.{◌≡◌, ◌⊎◌, ◌↔◌, false, None, Some, option_map, IsTrue, IfOk, IfErr, IsErrOf};
 ghost use Rattle.slotted_slots.specs.Error.{IsOutOfMemory, IsShortage};
+ghost use Rattle.slotted_slots.specs.Maps.{values};
 ghost use Rattle.slotted_terms.specs.Valid.{IsValidTerm};
 ghost use Rattle.std.specs.Ordering.{nat_cmp};
 ghost use Rattle.slotted_costs.specs.Costs.{costs_by, MayRefuse};
@@ -8,9 +9,8 @@ ghost use Rattle.slotted_costs.specs.Size.{size_cost};
 ghost use Rattle.slotted_proofs.specs.Equations.{to_applied};
 ghost use Rattle.slotted_core.specs.Graph.{OnlyTakesSlots};
 ghost use Rattle.slotted_core.specs.ValidIds.{IsValidId};
-ghost use Rattle.slotted_extraction.specs.Frames.{RunsOutForTerms};
-ghost use Rattle.slotted_extraction.specs.Terms.{entry_at};
-ghost use Rattle.slotted_graph.specs.LeastTerms.{AreLeastOf, HasEachLiveClass, IsExtracted, IsLeastTerm, LacksEntry};
+ghost use Rattle.slotted_extraction.specs.Terms.{IsFreshTerm, entry_at};
+ghost use Rattle.slotted_graph.specs.LeastTerms.{AreLeastOf, HasEachLiveClass, IsExtracted, IsLeastTerm, LacksEntry, MakesForExtracted, MakesForLeast, RunsOutForExtracted, RunsOutForLeast};
 
 use slotted_costs::{AstSize, CostFunction};
 use slotted_extraction::LeastTerms;
@@ -59,14 +59,19 @@ impl<L: Language, CF: CostFunction<L>> Extractor<L, CF> {
         ensures least { IfOk result (IsExtracted L.form eg.old self.now.terms.entries.items (to_applied i.now)) }
         ensures valid { IfOk result (λ t. IsValidTerm eg.new.table t) }
 
-        // Only fresh slots are made, and a refusal does not fail the graph.
+        // Each name that stands in the term is one of the id's, or was unknown, and so was each binder.
+        ensures fresh { IfOk result (IsFreshTerm eg.old.table (values i.now.m)) }
+
+        // Only fresh slots are made, two at most for each place of the term's nodes, and a refusal does not fail the graph.
         ensures takes { OnlyTakesSlots eg.old eg.new }
+        ensures count { MakesForExtracted L.form self.now.terms.entries.items (to_applied i.now) eg.old eg.new }
         ensures stays { IsTrue eg.old.failed → eg.new ≡ eg.old }
 
         ensures failed { IsErrOf result Error.Failed ↔ IsTrue eg.old.failed }
         ensures unknown { IsErrOf result Error.UnknownClass
             ↔ ((eg.old.failed ≡ false) × LacksEntry eg.old self.now.terms.entries.items (to_applied i.now)) }
-        ensures full { IsErrOf result Error.OutOfSlots → RunsOutForTerms L.form self.now.terms.entries.items eg.new.table }
+        ensures full { IsErrOf result Error.OutOfSlots
+            → RunsOutForExtracted L.form self.now.terms.entries.items (to_applied i.now) eg.old eg.new }
         ensures only { IfErr result (λ e. (e ≡ Error.Failed) ⊎ ((e ≡ Error.UnknownClass) ⊎ IsShortage e)) }
     {
         eg.least_term(&self.terms, i)
@@ -96,9 +101,14 @@ pub fn extract<L: Language, N: Drop, CF: CostFunction<L> + Default>(
     ensures least { IfOk result (λ t. (k : CF) × CF.is_default k
         × IsLeastTerm eg.old (costs_by CF.Cost.cmp (CF.node_cost k)) (to_applied i.now) t) }
     ensures valid { IfOk result (λ t. IsValidTerm eg.new.table t) }
+    ensures fresh { IfOk result (IsFreshTerm eg.old.table (values i.now.m)) }
     ensures takes { OnlyTakesSlots eg.old eg.new }
+    ensures count { (eg.new ≡ eg.old) ⊎ ((k : CF) × CF.is_default k
+        × MakesForLeast L.form (costs_by CF.Cost.cmp (CF.node_cost k)) (to_applied i.now) eg.old eg.new) }
     ensures stays { IsTrue eg.old.failed → eg.new ≡ eg.old }
     ensures failed { IsErrOf result Error.Failed ↔ IsTrue eg.old.failed }
+    ensures full { IsErrOf result Error.OutOfSlots → MayRefuse CF.refuses Error.OutOfSlots ⊎ ((k : CF) × CF.is_default k
+        × RunsOutForLeast L.form (costs_by CF.Cost.cmp (CF.node_cost k)) (to_applied i.now) eg.old eg.new) }
     ensures only { IfErr result (λ e. (e ≡ Error.Failed) ⊎ (IsShortage e ⊎ MayRefuse CF.refuses e)) }
 {
     let extractor: Extractor<L, CF> = Extractor::new(alloc, eg, CF::default())?;
@@ -114,9 +124,14 @@ pub fn ast_size_extract<L: Language, N: Drop>(
     requires { IsTrue eg.old.failed ⊎ IsValidId eg.old (to_applied i.now) }
     ensures least { IfOk result (IsLeastTerm eg.old (costs_by nat_cmp size_cost) (to_applied i.now)) }
     ensures valid { IfOk result (λ t. IsValidTerm eg.new.table t) }
+    ensures fresh { IfOk result (IsFreshTerm eg.old.table (values i.now.m)) }
     ensures takes { OnlyTakesSlots eg.old eg.new }
+    ensures count { (eg.new ≡ eg.old)
+        ⊎ MakesForLeast L.form (costs_by nat_cmp size_cost) (to_applied i.now) eg.old eg.new }
     ensures stays { IsTrue eg.old.failed → eg.new ≡ eg.old }
     ensures failed { IsErrOf result Error.Failed ↔ IsTrue eg.old.failed }
+    ensures full { IsErrOf result Error.OutOfSlots
+        → RunsOutForLeast L.form (costs_by nat_cmp size_cost) (to_applied i.now) eg.old eg.new }
     ensures only { IfErr result (λ e. (e ≡ Error.Failed) ⊎ IsShortage e) }
 {
     let extractor: Extractor<L, AstSize> = Extractor::new(alloc, eg, AstSize)?;

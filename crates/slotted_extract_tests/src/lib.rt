@@ -6,6 +6,8 @@
 mod asked;
 pub mod dear_products;
 #[cfg(test)]
+mod deep;
+#[cfg(test)]
 mod extracts;
 
 pub use dear_products::DearProducts;

@@ -1,7 +1,8 @@
 -- What a table knows of frames.
-use Rattle.std.proofs.Common.{◌≡◌, ◌<◌, ℕ, zero, suc, List, [], ◌∷◌, ◌++◌, length, refl, sym, subst, arith}
-use Rattle.std.specs.Prelude.{All, slice_index_or}
-use Rattle.std.proofs.lemmas.List.{length_push}
+use Rattle.std.proofs.Common.{◌≡◌, ◌<◌, List, [], ◌∷◌, ◌++◌, length, sym, subst, arith}
+use Rattle.std.specs.Prelude.{All}
+use Rattle.std.proofs.Math.Seq.{get_or-append_seam}
+use Rattle.std.proofs.lemmas.List.{get_or_append_left, length_push}
 use Rattle.std.proofs.lemmas.List.Elements.{All-push}
 use Rattle.slotted_theory.specs.Term.{Term}
 use Rattle.slotted_slots.specs.Table.{KnowsMore, Table}
@@ -32,18 +33,9 @@ module _ {L : Type 0} (form : L → Form) where
     children = subst (All (IsValidTerm t)) (sym items) (All-push (IsValidTerm t) f.children.items x is.children valid);
   }
 
-  -- of frames and one more
-  pub known-first : (t : Table) (fs : List (Frame L)) (f : Frame L) → All (IsKnownFrame form t) (fs ++ f ∷ []) → All (IsKnownFrame form t) fs
-  known-first t fs f all j d l = subst (IsKnownFrame form t) (at-left fs f j d l) (all j d (omega (arith, l, length_push fs f)))
-    where
-      at-left : (xs : List (Frame L)) (x : Frame L) (i : ℕ) (e : Frame L) → i < length xs → slice_index_or (xs ++ x ∷ []) i e ≡ slice_index_or xs i e
-      at-left [] x i e m = absurd (omega (arith, m))
-      at-left (y ∷ xs) x zero e m = refl
-      at-left (y ∷ xs) x (suc i) e m = at-left xs x i e (omega (arith, m))
+-- what holds of all and one more
+pub all-first : {X : Type 0} (P : X → Type 0) (xs : List X) (x : X) → All P (xs ++ x ∷ []) → All P xs
+all-first P xs x all j d l = subst P (get_or_append_left xs (x ∷ []) d j l) (all j d (omega (arith, l, length_push xs x)))
 
-  pub known-last : (t : Table) (fs : List (Frame L)) (f : Frame L) → All (IsKnownFrame form t) (fs ++ f ∷ []) → IsKnownFrame form t f
-  known-last t fs f all = subst (IsKnownFrame form t) (at-end fs f) (all (length fs) f (omega (arith, length_push fs f)))
-    where
-      at-end : (xs : List (Frame L)) (x : Frame L) → slice_index_or (xs ++ x ∷ []) (length xs) x ≡ x
-      at-end [] x = refl
-      at-end (y ∷ xs) x = at-end xs x
+pub all-last : {X : Type 0} (P : X → Type 0) (xs : List X) (x : X) → All P (xs ++ x ∷ []) → P x
+all-last P xs x all = subst P (get_or-append_seam xs x [] x) (all (length xs) x (omega (arith, length_push xs x)))

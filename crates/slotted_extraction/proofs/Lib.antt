@@ -2,6 +2,8 @@ pub mod ChildClasses
 pub mod Work
 pub mod Stacks
 pub mod Known
+pub mod FreshTerms
+pub mod Slots
 pub mod Names
 pub mod Entered
 pub mod Placed

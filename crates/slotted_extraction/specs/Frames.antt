@@ -4,13 +4,13 @@
 --     Waits form es a fs b       what is made for a comes from these frames once the term for b is made
 --     IsStackFor form es a s     what is made for a comes from the stack
 --     IsKnownFrame form t f      the table knows the node's names, and the terms are valid over it
---     class_work n es c          a number of steps that is enough for a term of the class c, if its rank is below n
---     work_left form es s        such a number for the stack
---     RunsOutForTerms form es u  no fresh slot is left, or the key of an entry has too many places to be numbered
-use Rattle.std.specs.Prelude.{◌≡◌, ◌⊎◌, ◌<◌, ◌+◌, ℕ, zero, suc, List, [], ◌∷◌, All, Bool, Option, None, Some, drop, length, leb, slice_index_or, take}
+--     IsFreshFrame form t vs f   the table t knew no name of the node and of the terms, but those of vs
+--     work_left form es s        a number of steps that is enough for what the stack makes
+--     slots_left form es s       such a number of fresh slots
+use Rattle.std.specs.Prelude.{◌≡◌, ◌⊎◌, ◌<◌, ◌≤◌, ◌+◌, ◌*◌, ℕ, suc, List, [], ◌∷◌, All, Bool, Option, Some, drop, length, leb, slice_index_or, take}
 use Rattle.std.specs.List.{sum_by}
 use Rattle.slotted_theory.specs.Term.{Term}
-use Rattle.slotted_slots.specs.Table.{Table, slot_limit}
+use Rattle.slotted_slots.specs.Table.{KnowsMore, Table}
 use Rattle.slotted_nodes.specs.Form.{Form, children}
 use Rattle.slotted_languages.specs.NewNames.{IsTooLarge}
 use Rattle.slotted_terms.specs.Valid.{IsValidTerm}
@@ -18,10 +18,12 @@ use Rattle.slotted_model.specs.Applied.{Applied}
 use Rattle.slotted_store.specs.ChildIds.{child_ids}
 use Rattle.slotted_filing.specs.FiledRows.{key_children}
 use Rattle.slotted_adding.specs.Enodes.{AllKnownTo}
+use Rattle.slotted_adding.specs.Filling.{MakesAtMost, RunsOut}
+use Rattle.slotted_reports.specs.Nodes.{HasFreshNames}
 use Rattle.slotted_extraction.specs.declared.entry.TermEntry.{TermEntry}
 use Rattle.slotted_extraction.specs.declared.extracting.Frame.{Frame}
 use Rattle.slotted_extraction.specs.declared.extracting.Stack.{Stack}
-use Rattle.slotted_extraction.specs.Terms.{AreMade, IsNamedBy, entry_at}
+use Rattle.slotted_extraction.specs.Terms.{AreMade, IsFreshTerm, IsNamedBy, RunsOutWith, entry_at, slots_of, sum_for}
 
 abbrev pub ids_of : {L : Type 0} → (L → Form) → Frame L → List Applied
 ids_of form f = child_ids (form f.node)
@@ -77,24 +79,22 @@ pub record IsClosing {L : Type 0} (form : L → Form) (s : Stack L) : Type 0 whe
   pub alone : s.waiting.items ≡ []
   pub whole : length s.current.children.items ≡ length (children (form s.current.node).tree)
 
-abbrev pub entry_work : {L C : Type 0} → (L → Form) → (ℕ → ℕ) → Option (TermEntry L C) → ℕ
-entry_work form work None = 0
-entry_work form work (Some e) = 2 + sum_by work (key_children (form e.node))
-
-abbrev pub class_work : {L C : Type 0} → (L → Form) → ℕ → List (Option (TermEntry L C)) → ℕ → ℕ
-class_work form zero es c = 0
-class_work form (suc n) es c = entry_work form (class_work form n es) (entry_at es c)
-
-abbrev pub rank_in : {L C : Type 0} → Option (TermEntry L C) → ℕ
-rank_in None = 0
-rank_in (Some e) = e.rank
+-- two steps for each node
+abbrev pub steps_of : {L C : Type 0} → TermEntry L C → ℕ
+steps_of e = 2
 
 abbrev pub work_for : {L C : Type 0} → (L → Form) → List (Option (TermEntry L C)) → ℕ → ℕ
-work_for form es c = class_work form (suc (rank_in (entry_at es c))) es c
+work_for form es c = sum_for form steps_of es c
 
--- the work for the children from the one of this number on
+-- the sums for the children from the one of this number on
+abbrev pub rest_from : {L C : Type 0} → (L → Form) → (TermEntry L C → ℕ) → List (Option (TermEntry L C)) → ℕ → Frame L → ℕ
+rest_from form weight es n f = sum_by (sum_for form weight es) (drop n (key_children (form f.node)))
+
+abbrev pub waiting_rest : {L C : Type 0} → (L → Form) → (TermEntry L C → ℕ) → List (Option (TermEntry L C)) → Frame L → ℕ
+waiting_rest form weight es f = rest_from form weight es (suc (made_count f)) f
+
 abbrev pub work_from : {L C : Type 0} → (L → Form) → List (Option (TermEntry L C)) → ℕ → Frame L → ℕ
-work_from form es n f = suc (sum_by (work_for form es) (drop n (key_children (form f.node))))
+work_from form es n f = suc (rest_from form steps_of es n f)
 
 abbrev pub waiting_work : {L C : Type 0} → (L → Form) → List (Option (TermEntry L C)) → Frame L → ℕ
 waiting_work form es f = work_from form es (suc (made_count f)) f
@@ -105,13 +105,33 @@ work_left form es s = sum_by (waiting_work form es) s.waiting.items + work_from 
 abbrev pub IsLessWork : {L C : Type 0} → (L → Form) → List (Option (TermEntry L C)) → Stack L → Stack L → Type 0
 IsLessWork form es s t = work_left form es t < work_left form es s
 
--- some entry's key has too many places to be numbered
-abbrev pub HasLargeEntry : {L C : Type 0} → (L → Form) → List (Option (TermEntry L C)) → Type 0
-HasLargeEntry {L} {C} form es = (c : ℕ) × (e : TermEntry L C) × (entry_at es c ≡ Some e) × IsTooLarge (form e.node)
+-- the slots that are enough for the nodes to come
+abbrev pub slots_left : {L C : Type 0} → (L → Form) → List (Option (TermEntry L C)) → Stack L → ℕ
+slots_left form es s =
+    sum_by (waiting_rest form (slots_of form) es) s.waiting.items + rest_from form (slots_of form) es (made_count s.current) s.current
 
-abbrev pub RunsOutForKey : Form → Table → Type 0
-RunsOutForKey f u = (u.fresh ≡ slot_limit) ⊎ IsTooLarge f
+-- what slots are made from t to u are those that the new stack lacks no more
+abbrev pub MakesSlots : {L C : Type 0} → (L → Form) → List (Option (TermEntry L C)) → Table → Table → Stack L → Stack L → Type 0
+MakesSlots form es t u r s = u.fresh + slots_left form es s ≤ t.fresh + slots_left form es r
 
--- no fresh slot is left, or there is such an entry
-abbrev pub RunsOutForTerms : {L C : Type 0} → (L → Form) → List (Option (TermEntry L C)) → Table → Type 0
-RunsOutForTerms form es u = (u.fresh ≡ slot_limit) ⊎ HasLargeEntry form es
+abbrev pub MakesLeft : {L C : Type 0} → (L → Form) → List (Option (TermEntry L C)) → Table → Table → Stack L → Type 0
+MakesLeft form es t u s = MakesAtMost (slots_left form es s) t u
+
+-- each name of the node and of the terms is one of vs or new, and binders are new
+pub record IsFreshFrame {L : Type 0} (form : L → Form) (t : Table) (vs : List ℕ) (f : Frame L) : Type 0 where
+  pub node : HasFreshNames t vs (form f.node)
+  pub children : All (IsFreshTerm t vs) f.children.items
+
+pub record IsFreshStack {L : Type 0} (form : L → Form) (t : Table) (vs : List ℕ) (s : Stack L) : Type 0 where
+  pub waiting : All (IsFreshFrame form t vs) s.waiting.items
+  pub current : IsFreshFrame form t vs s.current
+
+-- what was new to an older table than u is new in the new stack too
+abbrev pub KeepsFresh : {L : Type 0} → (L → Form) → Table → Stack L → Stack L → Type 0
+KeepsFresh form u r s = (t : Table) (vs : List ℕ) → KnowsMore t u → IsFreshStack form t vs r → IsFreshStack form t vs s
+
+abbrev pub RunsOutForKey : Form → Table → Table → Type 0
+RunsOutForKey f t u = RunsOut (2 * length f.names) t u ⊎ IsTooLarge f
+
+abbrev pub RunsOutLeft : {L C : Type 0} → (L → Form) → List (Option (TermEntry L C)) → Table → Table → Stack L → Type 0
+RunsOutLeft form es t u s = RunsOutWith form es (slots_left form es s) t u

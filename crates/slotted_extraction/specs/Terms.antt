@@ -4,18 +4,26 @@
 --     IsNamedBy m key a f    f is the key with the names of the id a for the numbers that m has, and with others for the rest
 --     IsMade form es a t     t is made for the id a: the node of the entry of a's class, over what is made for its children
 --     AreMade form es as ts  the same of ids and terms in turn
-use Rattle.std.specs.Prelude.{◌≡◌, ℕ, List, [], ◌∷◌, Bool, IsTrue, Option, None, Some, Contains, false, ltb, slice_index_or}
-use Rattle.slotted_theory.specs.Term.{Term}
-use Rattle.slotted_slots.specs.Table.{Table}
+--     sum_for form w es c    the weights of the entries that a term of the class c is made of
+--     slots_for form es c    fresh slots that are enough for it: two for each place of its nodes, those of its ids among them
+--     RunsOutWith form es n t u   fewer than n fresh slots were left, or the key of an entry has too many places to be numbered
+--     IsFreshTerm t vs u     each name of the term is one of vs or was unknown to the table t, and so was each binder
+use Rattle.std.specs.Prelude.{◌≡◌, ◌⊎◌, ◌+◌, ◌*◌, ℕ, zero, suc, List, [], ◌∷◌, Bool, IsTrue, Option, None, Some, Contains, false, length, ltb, slice_index_or, true}
+use Rattle.std.specs.List.{sum_by}
+use Rattle.slotted_theory.specs.Term.{Args, Term, bind, child, done, name}
+use Rattle.slotted_slots.specs.Maps.{is_among}
+use Rattle.slotted_slots.specs.Table.{Table, is_known}
 use Rattle.slotted_nodes.specs.Form.{Form}
 use Rattle.slotted_languages.specs.Filled.{term_of}
 use Rattle.slotted_languages.specs.Fresh.{IsRenamedFresh}
+use Rattle.slotted_languages.specs.NewNames.{IsTooLarge}
 use Rattle.slotted_languages.specs.Shape.{Fits}
 use Rattle.slotted_model.specs.Applied.{Applied, values}
 use Rattle.slotted_model.specs.Correspondence.{composite}
 use Rattle.slotted_store.specs.ChildIds.{child_ids}
 use Rattle.slotted_filing.specs.FiledRows.{key_children}
 use Rattle.slotted_adding.specs.Enodes.{AllKnownTo}
+use Rattle.slotted_adding.specs.Filling.{RunsOut}
 use Rattle.slotted_extraction.specs.declared.entry.TermEntry.{TermEntry}
 
 abbrev pub entry_at : {L C : Type 0} → List (Option (TermEntry L C)) → ℕ → Option (TermEntry L C)
@@ -48,3 +56,51 @@ mutual
   pub data AreMade {L C : Type 0} (form : L → Form) (es : List (Option (TermEntry L C))) : List Applied → List Term → Type 0 where
     no_more : AreMade form es [] []
     one_more : {a : Applied} {t : Term} {ids : List Applied} {ts : List Term} → IsMade form es a t → AreMade form es ids ts → AreMade form es (a ∷ ids) (t ∷ ts)
+
+-- a weight of the entry, and what its children have
+abbrev pub entry_sum : {L C : Type 0} → (L → Form) → (TermEntry L C → ℕ) → (ℕ → ℕ) → Option (TermEntry L C) → ℕ
+entry_sum form weight below None = 0
+entry_sum form weight below (Some e) = weight e + sum_by below (key_children (form e.node))
+
+-- the same of a class, if its rank is below n
+abbrev pub class_sum : {L C : Type 0} → (L → Form) → (TermEntry L C → ℕ) → ℕ → List (Option (TermEntry L C)) → ℕ → ℕ
+class_sum form weight zero es c = 0
+class_sum form weight (suc n) es c = entry_sum form weight (class_sum form weight n es) (entry_at es c)
+
+abbrev pub rank_in : {L C : Type 0} → Option (TermEntry L C) → ℕ
+rank_in None = 0
+rank_in (Some e) = e.rank
+
+abbrev pub sum_for : {L C : Type 0} → (L → Form) → (TermEntry L C → ℕ) → List (Option (TermEntry L C)) → ℕ → ℕ
+sum_for form weight es c = class_sum form weight (suc (rank_in (entry_at es c))) es c
+
+abbrev pub slots_of : {L C : Type 0} → (L → Form) → TermEntry L C → ℕ
+slots_of form e = 2 * length (form e.node).names
+
+abbrev pub slots_at : {L C : Type 0} → (L → Form) → Option (TermEntry L C) → ℕ
+slots_at form None = 0
+slots_at form (Some e) = slots_of form e
+
+abbrev pub slots_for : {L C : Type 0} → (L → Form) → List (Option (TermEntry L C)) → ℕ → ℕ
+slots_for form es c = sum_for form (slots_of form) es c
+
+-- some entry's key has too many places to be numbered
+abbrev pub HasLargeEntry : {L C : Type 0} → (L → Form) → List (Option (TermEntry L C)) → Type 0
+HasLargeEntry {L} {C} form es = (c : ℕ) × (e : TermEntry L C) × (entry_at es c ≡ Some e) × IsTooLarge (form e.node)
+
+-- fewer fresh slots were left than these, or there is such an entry
+abbrev pub RunsOutWith : {L C : Type 0} → (L → Form) → List (Option (TermEntry L C)) → ℕ → Table → Table → Type 0
+RunsOutWith form es n t u = RunsOut n t u ⊎ HasLargeEntry form es
+
+abbrev pub IsGivenOrNew : Table → List ℕ → ℕ → Type 0
+IsGivenOrNew t vs x = (is_among x vs ≡ true) ⊎ (is_known t x ≡ false)
+
+-- names at own places, and names of binders
+abbrev pub HasNewNames : Table → List ℕ → Args → Type 0
+HasNewNames t vs done = Unit {0}
+HasNewNames t vs (name x rest) = IsGivenOrNew t vs x × HasNewNames t vs rest
+HasNewNames t vs (child op payloads args rest) = HasNewNames t vs args × HasNewNames t vs rest
+HasNewNames t vs (bind x inner rest) = (is_known t x ≡ false) × HasNewNames t vs inner × HasNewNames t vs rest
+
+abbrev pub IsFreshTerm : Table → List ℕ → Term → Type 0
+IsFreshTerm t vs u = HasNewNames t vs u.args

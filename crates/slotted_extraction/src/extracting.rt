@@ -11,8 +11,10 @@ ghost use Rattle.slotted_model.specs.Find.{find, find_class};
 ghost use Rattle.slotted_store.specs.Finding.{HasFinds, IsFindable};
 ghost use Rattle.slotted_store.specs.Kept.{entries_of};
 ghost use Rattle.slotted_adding.specs.Enodes.{AllKnownTo};
-ghost use Rattle.slotted_extraction.specs.Terms.{IsMade, IsNamedBy, entry_at};
-ghost use Rattle.slotted_extraction.specs.Frames.{IsClosing, IsFrameFor, IsKnownFrame, IsKnownStack, IsLessWork, IsStack, KeepsGoal, RunsOutForKey, RunsOutForTerms, has_all};
+ghost use Rattle.slotted_adding.specs.Filling.{MakesAtMost};
+ghost use Rattle.slotted_reports.specs.Nodes.{HasFreshNames};
+ghost use Rattle.slotted_extraction.specs.Terms.{IsFreshTerm, IsMade, IsNamedBy, RunsOutWith, entry_at, slots_at, slots_for, slots_of};
+ghost use Rattle.slotted_extraction.specs.Frames.{IsClosing, IsFrameFor, IsFreshFrame, IsKnownFrame, IsKnownStack, IsLessWork, IsStack, KeepsFresh, KeepsGoal, MakesLeft, MakesSlots, RunsOutForKey, RunsOutLeft, has_all};
 
 use crate::entry::TermEntry;
 use crate::terms::LeastTerms;
@@ -49,9 +51,10 @@ fn named_node<L: Language, C: Drop>(
     requires known { AllKnownTo table.old (values a.now.m) }
     ensures named { IfOk result (λ n. IsNamedBy entry.now.names (L.form entry.now.node) (to_applied a.now) (L.form n)) }
     ensures known { IfOk result (λ n. AllKnownTo table.new (L.form n).names) }
+    ensures fresh { IfOk result (λ n. HasFreshNames table.old (values a.now.m) (L.form n)) }
+    ensures count { MakesAtMost (slots_of L.form entry.now) table.old table.new }
     ensures more { KnowsMore table.old table.new }
-    ensures kept { table.new.names ≡ table.old.names }
-    ensures full { IsErrOf result Error.OutOfSlots → RunsOutForKey (L.form entry.now.node) table.new }
+    ensures full { IsErrOf result Error.OutOfSlots → RunsOutForKey (L.form entry.now.node) table.old table.new }
     ensures err { IfErr result IsShortage }
 {
     let names = entry.names.compose_partial(alloc, &a.m)?;
@@ -72,9 +75,11 @@ fn frame_for<L: Language, C: Drop>(
     ensures frame { IfOk result (IsFrameFor L.form terms.now.entries.items (to_applied a.now)) }
     ensures bare { IfOk result (λ f. f.children.items ≡ []) }
     ensures known { IfOk result (IsKnownFrame L.form table.new) }
+    ensures fresh { IfOk result (IsFreshFrame L.form table.old (values a.now.m)) }
+    ensures count { MakesAtMost (slots_at L.form (entry_at terms.now.entries.items a.now.id.0)) table.old table.new }
     ensures more { KnowsMore table.old table.new }
-    ensures kept { table.new.names ≡ table.old.names }
-    ensures full { IsErrOf result Error.OutOfSlots → RunsOutForTerms L.form terms.now.entries.items table.new }
+    ensures full { IsErrOf result Error.OutOfSlots → RunsOutWith L.form terms.now.entries.items
+        (slots_at L.form (entry_at terms.now.entries.items a.now.id.0)) table.old table.new }
     ensures err { IfErr result IsShortage }
 {
     let Some(entry) = terms.get(a.id.0) else {
@@ -115,9 +120,11 @@ fn go_down<L: Language, C: Drop>(
     ensures stack { OnOk result (KeepsGoal L.form terms.now.entries.items stack.old stack.new) }
     ensures known { OnOk result (IsKnownStack L.form table.new stack.new) }
     ensures work { OnOk result (IsLessWork L.form terms.now.entries.items stack.old stack.new) }
+    ensures fresh { OnOk result (KeepsFresh L.form table.old stack.old stack.new) }
+    ensures made { OnOk result (MakesSlots L.form terms.now.entries.items table.old table.new stack.old stack.new) }
+    ensures count { MakesLeft L.form terms.now.entries.items table.old table.new stack.old }
     ensures more { KnowsMore table.old table.new }
-    ensures kept { table.new.names ≡ table.old.names }
-    ensures full { IsErrOf result Error.OutOfSlots → RunsOutForTerms L.form terms.now.entries.items table.new }
+    ensures full { IsErrOf result Error.OutOfSlots → RunsOutLeft L.form terms.now.entries.items table.old table.new stack.old }
     ensures err { IfErr result IsShortage }
 {
     let next = stack.current.children.len();
@@ -141,9 +148,11 @@ fn step<L: Language, C: Drop>(
     ensures known { OnOk result (IsKnownStack L.form table.new stack.new) }
     ensures work { IfOk result (λ more. more ≡ true → IsLessWork L.form terms.now.entries.items stack.old stack.new) }
     ensures end { IfOk result (λ more. more ≡ false → IsClosing L.form stack.new) }
+    ensures fresh { OnOk result (KeepsFresh L.form table.old stack.old stack.new) }
+    ensures made { OnOk result (MakesSlots L.form terms.now.entries.items table.old table.new stack.old stack.new) }
+    ensures count { MakesLeft L.form terms.now.entries.items table.old table.new stack.old }
     ensures more { KnowsMore table.old table.new }
-    ensures kept { table.new.names ≡ table.old.names }
-    ensures full { IsErrOf result Error.OutOfSlots → RunsOutForTerms L.form terms.now.entries.items table.new }
+    ensures full { IsErrOf result Error.OutOfSlots → RunsOutLeft L.form terms.now.entries.items table.old table.new stack.old }
     ensures err { IfErr result IsShortage }
 {
     if !has_all_children(&stack.current) {
@@ -171,9 +180,13 @@ pub fn term_for<L: Language, C: Drop>(
     requires known { AllKnownTo table.old (values a.now.m) }
     ensures made { IfOk result (IsMade L.form terms.now.entries.items (to_applied a.now)) }
     ensures valid { IfOk result (IsValidTerm table.new) }
+
+    // Each name is one of the id's or new, and binders are new.
+    ensures fresh { IfOk result (IsFreshTerm table.old (values a.now.m)) }
+    ensures count { MakesAtMost (slots_for L.form terms.now.entries.items a.now.id.0) table.old table.new }
     ensures more { KnowsMore table.old table.new }
-    ensures kept { table.new.names ≡ table.old.names }
-    ensures full { IsErrOf result Error.OutOfSlots → RunsOutForTerms L.form terms.now.entries.items table.new }
+    ensures full { IsErrOf result Error.OutOfSlots → RunsOutWith L.form terms.now.entries.items
+        (slots_for L.form terms.now.entries.items a.now.id.0) table.old table.new }
     ensures err { IfErr result IsShortage }
 {
     let current = frame_for(terms, alloc, table, a)?;
@@ -196,11 +209,13 @@ pub fn extract<L: Language, C: Drop>(
     requires known { AllKnownTo table.old (values a.now.m) }
     ensures made { IfOk result (IsMade L.form terms.now.entries.items (find (entries_of store.now) (to_applied a.now))) }
     ensures valid { IfOk result (IsValidTerm table.new) }
+    ensures fresh { IfOk result (IsFreshTerm table.old (values a.now.m)) }
+    ensures count { MakesAtMost (slots_for L.form terms.now.entries.items (find_class (entries_of store.now) a.now.id.0)) table.old table.new }
     ensures more { KnowsMore table.old table.new }
-    ensures kept { table.new.names ≡ table.old.names }
     ensures unknown { IsErrOf result Error.UnknownClass
         ↔ (entry_at terms.now.entries.items (find_class (entries_of store.now) a.now.id.0) ≡ None) }
-    ensures full { IsErrOf result Error.OutOfSlots → RunsOutForTerms L.form terms.now.entries.items table.new }
+    ensures full { IsErrOf result Error.OutOfSlots → RunsOutWith L.form terms.now.entries.items
+        (slots_for L.form terms.now.entries.items (find_class (entries_of store.now) a.now.id.0)) table.old table.new }
     ensures only { IfErr result (λ e. (e ≡ Error.UnknownClass) ⊎ IsShortage e) }
 {
     if terms.get(store.find_class(a.id.0)).is_none() {

@@ -2,3 +2,4 @@
 pub mod Measured
 pub mod Enodes
 pub mod LeastTerms
+pub mod LeastLater

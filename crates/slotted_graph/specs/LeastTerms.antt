@@ -4,6 +4,9 @@
 --     IsEqualTo g a t                 the term is equal to what the id stands for, whatever names are filled in for those that it lacks
 --     IsLeastTerm g costs a t         the term is looked up as what the id finds, is equal to it, and no other that is costs less
 --     CostsAsEntered costs es c t     the term costs what the entry of the class says
+--     MakesForExtracted form es a g h     from g to h no more fresh slots are made than two for each place of the nodes of the term
+--     RunsOutForExtracted form es a g h   fewer were left, or the key of an entry has too many places to be numbered
+--     MakesForLeast, RunsOutForLeast      the same for some entries of least cost
 use Rattle.std.specs.Prelude.{◌≡◌, ◌<◌, ℕ, List, Option, None, Some, length}
 use Rattle.slotted_theory.specs.Derives.{Equal}
 use Rattle.slotted_theory.specs.Nameless.{DTerm, nameless}
@@ -19,12 +22,12 @@ use Rattle.slotted_costs.specs.Costs.{cost_of_term}
 use Rattle.slotted_core.specs.Affected.{IsAffected}
 use Rattle.slotted_core.specs.Causes.{class_found}
 use Rattle.slotted_core.specs.Good.{Good, RestsWith, image_of}
-use Rattle.slotted_core.specs.Graph.{Graph}
+use Rattle.slotted_core.specs.Graph.{Graph, MakesAtMost}
 use Rattle.slotted_core.specs.Image.{asserted_in, found_id}
 use Rattle.slotted_core.specs.LookUp.{look_up_term}
 use Rattle.slotted_core.specs.ValidIds.{Fills}
 use Rattle.slotted_extraction.specs.Least.{AreLeast}
-use Rattle.slotted_extraction.specs.Terms.{entry_at}
+use Rattle.slotted_extraction.specs.Terms.{RunsOutWith, entry_at, slots_for}
 use Rattle.slotted_extraction.specs.declared.entry.TermEntry.{TermEntry}
 
 pub record AreLeastOf {L C : Type 0} (form : L → Form) (g : Graph) (costs : CostFunction C) (es : List (Option (TermEntry L C))) : Type 0 where
@@ -72,3 +75,19 @@ IsExtracted {L} {C} form g es a t =
 -- the class that the id finds has no entry
 abbrev pub LacksEntry : {L C : Type 0} → Graph → List (Option (TermEntry L C)) → Applied → Type 0
 LacksEntry g es a = entry_at es (class_found g.image a.0) ≡ None
+
+abbrev pub MakesForExtracted : {L C : Type 0} → (L → Form) → List (Option (TermEntry L C)) → Applied → Graph → Graph → Type 0
+MakesForExtracted form es a g h = MakesAtMost (slots_for form es (class_found g.image a.0)) g.table h.table
+
+abbrev pub RunsOutForExtracted : {L C : Type 0} → (L → Form) → List (Option (TermEntry L C)) → Applied → Graph → Graph → Type 0
+RunsOutForExtracted form es a g h = RunsOutWith form es (slots_for form es (class_found g.image a.0)) g.table h.table
+
+pub record MakesForLeast {L C : Type 0} (form : L → Form) (costs : CostFunction C) (a : Applied) (g h : Graph) : Type 0 where
+  pub entries : List (Option (TermEntry L C))
+  pub least : AreLeastOf form g costs entries
+  pub makes : MakesForExtracted form entries a g h
+
+pub record RunsOutForLeast {L C : Type 0} (form : L → Form) (costs : CostFunction C) (a : Applied) (g h : Graph) : Type 0 where
+  pub entries : List (Option (TermEntry L C))
+  pub least : AreLeastOf form g costs entries
+  pub runs_out : RunsOutForExtracted form entries a g h

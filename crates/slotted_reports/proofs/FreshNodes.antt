@@ -52,7 +52,7 @@ key-takes r o f m at t u takes =
 
 -- free names of a renamed node
 
-free-renamed : (t : Table) (w : List (ℕ × ℕ)) (f c : Form) (vs : List ℕ) → IsRenamedFresh t w f c → ((x : ℕ) → In x (values w) → In x vs) → (z : ℕ) →
+pub free-renamed : (t : Table) (w : List (ℕ × ℕ)) (f c : Form) (vs : List ℕ) → IsRenamedFresh t w f c → ((x : ℕ) → In x (values w) → In x vs) → (z : ℕ) →
     is_among z (free_names_of c) ≡ true → (is_among z vs ≡ true) ⊎ (is_known t z ≡ false)
 free-renamed t w f c vs is own z h =
     let names : free_names_of c ≡ map is.by (free_names_of f) = ap (λ (d : DTerm). free_names d.args) is.renamed ∙ free_names-moved is.by (nameless_node f).args in
@@ -65,20 +65,20 @@ free-renamed t w f c vs is own z h =
     go x m e None v = inr (subst (λ u. is_known t u ≡ false) (sym e) (is.unused x m v))
 
 -- what a table that knows more does not know
-unknown-before : (t u : Table) → KnowsMore t u → (x : ℕ) → is_known u x ≡ false → is_known t x ≡ false
+pub unknown-before : (t u : Table) → KnowsMore t u → (x : ℕ) → is_known u x ≡ false → is_known t x ≡ false
 unknown-before t u more x n = elim (cases_Bool (is_known t x)) [
   | inl y ↦ absurd (false≢true (sym n ∙ more x y))
   | inr e ↦ e
 ]
 
 -- where all names are known, as many slots are made as are counted
-none-unknown : (t : Table) (xs : List ℕ) → AllKnownTo t xs → unknown_names t xs ≡ []
+pub none-unknown : (t : Table) (xs : List ℕ) → AllKnownTo t xs → unknown_names t xs ≡ []
 none-unknown t [] h = refl
 none-unknown t (x ∷ xs) h =
     ap (λ b. cond (not b) (x ∷ unknown_names t xs) (unknown_names t xs)) (h 0 x (omega arith))
     ∙ none-unknown t xs (λ j d l. h (suc j) d (omega (arith, l)))
 
-made-beside : (t u : Table) (n : ℕ) (vs : List ℕ) (f : Form) → AllKnownTo t vs → AllKnownTo t f.names → TakesAtMost n (vs ++ f.names) t u → u.fresh ≤ t.fresh + n
+pub made-beside : (t u : Table) (n : ℕ) (vs : List ℕ) (f : Form) → AllKnownTo t vs → AllKnownTo t f.names → TakesAtMost n (vs ++ f.names) t u → u.fresh ≤ t.fresh + n
 made-beside t u n vs f given own takes = at_most_known n (vs ++ f.names) t u (none-unknown t (vs ++ f.names) (All-append (λ s. IsTrue (is_known t s)) vs f.names given own)) takes
 
 -- a filed node with the names of an id, and with fresh binders then

@@ -1,13 +1,14 @@
 //! Terms of least cost.
 ghost use Rattle.std.specs.Prelude.{◌≡◌, ◌⊎◌, ◌↔◌, false, IsTrue, IfOk, IfErr, IsErrOf};
 ghost use Rattle.slotted_slots.specs.Error.{IsShortage};
+ghost use Rattle.slotted_slots.specs.Maps.{values};
 ghost use Rattle.slotted_terms.specs.Valid.{IsValidTerm};
 ghost use Rattle.slotted_costs.specs.Costs.{costs_by, MayRefuse};
 ghost use Rattle.slotted_proofs.specs.Equations.{to_applied};
 ghost use Rattle.slotted_core.specs.Graph.{OnlyTakesSlots};
 ghost use Rattle.slotted_core.specs.ValidIds.{IsValidId};
-ghost use Rattle.slotted_extraction.specs.Frames.{RunsOutForTerms};
-ghost use Rattle.slotted_graph.specs.LeastTerms.{AreLeastOf, HasEachLiveClass, IsExtracted, LacksEntry};
+ghost use Rattle.slotted_extraction.specs.Terms.{IsFreshTerm};
+ghost use Rattle.slotted_graph.specs.LeastTerms.{AreLeastOf, HasEachLiveClass, IsExtracted, LacksEntry, MakesForExtracted, RunsOutForExtracted};
 
 use super::EGraph;
 use slotted_costs::CostFunction;
@@ -45,14 +46,19 @@ impl<L: Language, N: Drop> EGraph<L, N> {
         ensures least { IfOk result (IsExtracted L.form self.old terms.now.entries.items (to_applied a.now)) }
         ensures valid { IfOk result (λ t. IsValidTerm self.new.table t) }
 
-        // Only fresh slots are made, and a refusal does not fail the graph.
+        // Each name that stands in the term is one of the id's, or was unknown, and so was each binder.
+        ensures fresh { IfOk result (IsFreshTerm self.old.table (values a.now.m)) }
+
+        // Only fresh slots are made, two at most for each place of the term's nodes, and a refusal does not fail the graph.
         ensures takes { OnlyTakesSlots self.old self.new }
+        ensures count { MakesForExtracted L.form terms.now.entries.items (to_applied a.now) self.old self.new }
         ensures stays { IsTrue self.old.failed → self.new ≡ self.old }
 
         ensures failed { IsErrOf result Error.Failed ↔ IsTrue self.old.failed }
         ensures unknown { IsErrOf result Error.UnknownClass
             ↔ ((self.old.failed ≡ false) × LacksEntry self.old terms.now.entries.items (to_applied a.now)) }
-        ensures full { IsErrOf result Error.OutOfSlots → RunsOutForTerms L.form terms.now.entries.items self.new.table }
+        ensures full { IsErrOf result Error.OutOfSlots
+            → RunsOutForExtracted L.form terms.now.entries.items (to_applied a.now) self.old self.new }
         ensures only { IfErr result (λ e. (e ≡ Error.Failed) ⊎ ((e ≡ Error.UnknownClass) ⊎ IsShortage e)) }
     {
         if self.failed {

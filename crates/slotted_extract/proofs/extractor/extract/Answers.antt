@@ -1,11 +1,11 @@
 -- Each class that is found has an entry.
-use Rattle.std.proofs.Common.{◌≡◌, ◌∙◌, ap, sym, subst, false, inl}
+use Rattle.std.proofs.Common.{◌≡◌, ◌∙◌, ap, sym, subst, false, inl, inr}
 use Rattle.std.specs.Prelude.{◌⊎◌}
 use Rattle.slotted_slots.specs.Error.{IsShortage}
 use Rattle.slotted_costs.specs.Costs.{costs_by, MayRefuse}
 use Rattle.slotted_proofs.specs.Equations.{to_applied}
 use Rattle.slotted_core.specs.Graph.{Graph}
-use Rattle.slotted_graph.specs.LeastTerms.{LacksEntry}
+use Rattle.slotted_graph.specs.LeastTerms.{LacksEntry, MakesForExtracted, RunsOutForExtracted}
 use Rattle.slotted_extract.proofs.FoundEntries.{lacks-none, valid-unless, without-unknown}
 use Rattle.slotted_extract.proofs.extractor.extract.Goals as goal
 
@@ -20,3 +20,33 @@ returns-clause-only g c =
     let h = c.extract.ensures.unknown.0 e in
     let sound : eg.failed ≡ false = sym (ap (λ (x : Graph). x.failed) same) ∙ h.0 in
     lacks-none form eg (costs_by g.CF.Cost.Ord.cmp (g.CF.CostFunction.node_cost c.default.result)) es c.in_ok-extractor.ensures.least a (valid-unless eg a c.requires sound) (subst (λ (x : Graph). LacksEntry x es a) same h.1))
+
+pub returns-clause-count : goal.returns-clause-count
+returns-clause-count g c =
+    let form = g.L.LanguageChildren.form in
+    let a = to_applied c.args.i.now in
+    let es = c.in_ok-extractor.extractor.terms.entries.items in
+    inr (
+      c.default.result,
+      c.default.ensures,
+      record {
+        entries = es;
+        least = c.in_ok-extractor.ensures.least;
+        makes = subst (λ (x : Graph). MakesForExtracted form es a x c.extract.new.eg) c.in_ok-extractor.ensures.same c.extract.ensures.count;
+      },
+    )
+
+pub returns-clause-full : goal.returns-clause-full
+returns-clause-full g c e =
+    let form = g.L.LanguageChildren.form in
+    let a = to_applied c.args.i.now in
+    let es = c.in_ok-extractor.extractor.terms.entries.items in
+    inr (
+      c.default.result,
+      c.default.ensures,
+      record {
+        entries = es;
+        least = c.in_ok-extractor.ensures.least;
+        runs_out = subst (λ (x : Graph). RunsOutForExtracted form es a x c.extract.new.eg) c.in_ok-extractor.ensures.same (c.extract.ensures.full e);
+      },
+    )

@@ -1,15 +1,22 @@
 -- Where the current frame has all its children, its term is the next child of the frame that waits.
-use Rattle.std.proofs.Common.{◌≡◌, ◌<◌, ◌-◌, ◌∙◌, [], ◌∷◌, ◌++◌, length, take, ap, sym, subst, arith}
+use Rattle.std.proofs.Common.{◌≡◌, ◌<◌, ◌+◌, ◌-◌, ◌∙◌, suc, [], ◌∷◌, ◌++◌, drop, length, take, ap, sym, subst, arith}
 use Rattle.std.specs.Prelude.{All}
+use Rattle.std.specs.List.{sum_by}
+use Rattle.std.proofs.lemmas.List.{length_push}
+use Rattle.std.proofs.lemmas.List.Elements.{All-push}
+use Rattle.std.proofs.lemmas.List.Sums.{sum_by_push}
 use Rattle.slotted_theory.specs.Term.{Term}
 use Rattle.slotted_nodes.specs.Form.{Form, children}
 use Rattle.slotted_languages.specs.Filled.{term_of}
 use Rattle.slotted_terms.specs.Valid.{IsValidTerm}
 use Rattle.slotted_core.proofs.CanonicalTerms.{beside-itself}
 use Rattle.slotted_core.proofs.GivenNodes.{valid-beside}
-use Rattle.slotted_extraction.specs.Terms.{IsMade}
-use Rattle.slotted_extraction.specs.Frames.{IsKnownFrame, Waits, next_child}
-use Rattle.slotted_extraction.proofs.Known.{known-first, known-last, known-more}
+use Rattle.slotted_filing.specs.FiledRows.{key_children}
+use Rattle.slotted_reports.specs.Nodes.{HasFreshNames}
+use Rattle.slotted_extraction.specs.Terms.{IsFreshTerm, IsMade, slots_of, sum_for}
+use Rattle.slotted_extraction.specs.Frames.{IsFreshFrame, IsKnownFrame, Waits, made_count, next_child, rest_from, waiting_rest}
+use Rattle.slotted_extraction.proofs.FreshTerms.{fresh-term}
+use Rattle.slotted_extraction.proofs.Known.{all-first, all-last, known-more}
 use Rattle.slotted_extraction.proofs.Stacks.{all-made, frame-closes, frame-more, waits-last}
 use Rattle.slotted_extraction.proofs.extracting.step.Goals as goal
 
@@ -69,6 +76,46 @@ returns-clause-known g c =
     let node = ap (λ x. x.node) c.replace-done.ensures.after in
     let items = c.in_ok-push.ensures.items ∙ ap (λ x. x.children.items ++ c.close-term.result ∷ []) c.replace-done.ensures.after in
     record {
-      waiting = known-first form t c.pop.new.self.items above all;
-      current = known-more form t above (record { node = c.replace-done.new.dest.node; children = c.push.new.self }) c.close-term.result (known-last form t c.pop.new.self.items above all) op valid node items;
+      waiting = all-first (IsKnownFrame form t) c.pop.new.self.items above all;
+      current = known-more form t above (record { node = c.replace-done.new.dest.node; children = c.push.new.self }) c.close-term.result (all-last (IsKnownFrame form t) c.pop.new.self.items above all) op valid node items;
     }
+
+pub returns-clause-fresh : goal.returns-clause-fresh
+returns-clause-fresh g c t vs more is =
+    let form = g.L.LanguageChildren.form in
+    let es = c.args.terms.now.entries.items in
+    let frame = c.args.stack.now.current in
+    let above = c.in-Some.frame in
+    let f : Form = form frame.node in
+    let s = c.requires.stack.1 in
+    let whole = all-made form es s.last frame s.current (sym c.has_all_children.ensures ∙ c.if-not-has_all_children.false) in
+    let term : c.close-term.result ≡ term_of f frame.children.items = c.close-term.ensures ∙ ap (λ x. term_of (form x.node) x.children.items) c.replace-done.ensures.value in
+    let all = subst (All (IsFreshFrame form t vs)) c.in-Some.ensures.items is.waiting in
+    let made : IsFreshTerm t vs c.close-term.result =
+    subst (IsFreshTerm t vs) (sym term) (fresh-term t vs f (g.met.L.LanguageChildren.fits frame.node) is.current.node frame.children.items is.current.children whole) in
+    let last = all-last (IsFreshFrame form t vs) c.pop.new.self.items above all in
+    let node = ap (λ x. x.node) c.replace-done.ensures.after in
+    let items = c.in_ok-push.ensures.items ∙ ap (λ x. x.children.items ++ c.close-term.result ∷ []) c.replace-done.ensures.after in
+    record {
+      waiting = all-first (IsFreshFrame form t vs) c.pop.new.self.items above all;
+      current = record {
+        node = subst (λ n. HasFreshNames t vs (form n)) (sym node) last.node;
+        children = subst (All (IsFreshTerm t vs)) (sym items) (All-push (IsFreshTerm t vs) above.children.items c.close-term.result last.children made);
+      };
+    }
+
+pub returns-clause-made : goal.returns-clause-made
+returns-clause-made g c =
+    let form = g.L.LanguageChildren.form in
+    let es = c.args.terms.now.entries.items in
+    let above = c.in-Some.frame in
+    let weight = slots_of form in
+    let rest = c.pop.new.self.items in
+    let node = ap (λ x. x.node) c.replace-done.ensures.after in
+    let items = c.in_ok-push.ensures.items ∙ ap (λ x. x.children.items ++ c.close-term.result ∷ []) c.replace-done.ensures.after in
+    let below : sum_by (waiting_rest form weight es) c.args.stack.now.waiting.items ≡ sum_by (waiting_rest form weight es) rest + waiting_rest form weight es above =
+    ap (sum_by (waiting_rest form weight es)) c.in-Some.ensures.items ∙ sum_by_push (waiting_rest form weight es) rest above in
+    let count : length c.push.new.self.items ≡ suc (made_count above) = omega (arith, ap length items, length_push above.children.items c.close-term.result) in
+    let current : rest_from form weight es (length c.push.new.self.items) (record { node = c.replace-done.new.dest.node; children = c.push.new.self }) ≡ waiting_rest form weight es above =
+    (λ i. sum_by (sum_for form weight es) (drop (count i) (key_children (form (node i))))) in
+    omega (arith, below, current)

@@ -1,8 +1,10 @@
 -- What is made of the stack is what was asked for.
-use Rattle.std.proofs.Common.{◌≡◌}
+use Rattle.std.proofs.Common.{◌≡◌, ◌≤◌, ◌+◌}
+use Rattle.slotted_slots.specs.Maps.{values}
 use Rattle.slotted_slots.specs.Table.{KnowsMore}
 use Rattle.slotted_proofs.specs.Equations.{to_applied}
-use Rattle.slotted_extraction.specs.Frames.{IsKnownStack, IsStackFor, work_left}
+use Rattle.slotted_extraction.specs.Frames.{IsFreshStack, IsKnownStack, IsStackFor, slots_left, work_left}
+use Rattle.slotted_extraction.specs.Terms.{slots_for}
 use Rattle.slotted_extraction.proofs.extracting.term_for.Given as goal
 
 abbrev pub decreases-loop-stack : goal.decreases-loop-stack
@@ -14,4 +16,6 @@ invariant-loop-stack g l = record {
   known : IsKnownStack g.L.LanguageChildren.form l.table l.stack;
   more : KnowsMore l.fn.table l.table;
   kept : l.table.names ≡ l.fn.table.names;
+  fresh : IsFreshStack g.L.LanguageChildren.form l.fn.table (values l.a.m) l.stack;
+  made : l.table.fresh + slots_left g.L.LanguageChildren.form l.terms.entries.items l.stack ≤ l.fn.table.fresh + slots_for g.L.LanguageChildren.form l.terms.entries.items l.a.id.0;
 }

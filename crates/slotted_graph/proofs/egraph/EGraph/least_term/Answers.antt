@@ -1,19 +1,21 @@
-use Rattle.std.proofs.Common.{◌≡◌, ◌∙◌, ap, sym, inl, inr}
+use Rattle.std.proofs.Common.{◌≡◌, ◌∙◌, ap, subst, sym, inl, inr}
+use Rattle.std.specs.Prelude.{IfOk}
 use Rattle.std.proofs.lemmas.Bool.{false≢true}
 use Rattle.std.proofs.lemmas.Result.{IfOk-weaker}
+use Rattle.slotted_slots.specs.Maps.{values}
 use Rattle.slotted_model.specs.Find.{find, find_class}
 use Rattle.slotted_proofs.specs.Equations.{to_applied}
 use Rattle.slotted_store.specs.Finding.{IsFindable}
 use Rattle.slotted_store.specs.Kept.{entries_of}
 use Rattle.slotted_core.specs.Causes.{class_found}
 use Rattle.slotted_core.specs.Good.{Good, image_of}
-use Rattle.slotted_core.specs.Graph.{Graph}
+use Rattle.slotted_core.specs.Graph.{Graph, MakesAtMost}
 use Rattle.slotted_core.specs.Image.{Image}
 use Rattle.slotted_core.specs.ValidIds.{IsValidId}
 use Rattle.slotted_core.proofs.FreshSlots.{fresh_slots-more}
 use Rattle.slotted_core.proofs.Images.{class_found-is}
 use Rattle.slotted_core.proofs.ValidIds.{findable-within, of-valid}
-use Rattle.slotted_extraction.specs.Terms.{IsMade, entry_at}
+use Rattle.slotted_extraction.specs.Terms.{IsFreshTerm, IsMade, RunsOutWith, entry_at, slots_for}
 use Rattle.slotted_graph.specs.LeastTerms.{IsExtracted}
 use Rattle.slotted_graph.proofs.LeastTerms.{made-extracted}
 use Rattle.slotted_graph.proofs.egraph.EGraph.least_term.Goals as goal
@@ -59,3 +61,40 @@ returns-clause-unknown l c =
     let class : class_found g.image a.0 ≡ find_class (entries_of k) a.0 = ap (λ (i : Image). class_found i a.0) (sym image) ∙ class_found-is k a.0 (findable-within k a findable) in
     let sound = sym (ap (λ (x : Graph). x.failed) c.self.view_is) ∙ c.if-self.false in
     (λ e. (sound, ap (entry_at es) class ∙ c.extract.ensures.unknown.0 e), λ h. c.extract.ensures.unknown.1 (ap (entry_at es) (sym class) ∙ h.1))
+
+pub returns-clause-fresh : goal.returns-clause-fresh
+returns-clause-fresh l c =
+    let vs = values c.args.a.now.m in
+    subst (λ (x : Graph). IfOk c.extract.result (IsFreshTerm x.table vs)) c.self.view_is c.extract.ensures.fresh
+
+pub returns-clause-count : goal.returns-clause-count
+returns-clause-count l c =
+    let form = l.L.LanguageChildren.form in
+    let g = c.args.self.now in
+    let k = c.self.inside.store in
+    let a = to_applied c.args.a.now in
+    let es = c.args.terms.now.entries.items in
+    let image : image_of k ≡ g.image = ap (λ (x : Graph). x.image) c.self.view_is in
+    let good : Good k = elim c.self.invariant [ inl h ↦ absurd (false≢true (sym c.if-self.false ∙ h)) | inr h ↦ h.0 ] in
+    let valid : IsValidId g a = elim c.requires [ inl h ↦ absurd (false≢true (sym c.if-self.false ∙ (ap (λ (x : Graph). x.failed) c.self.view_is ∙ h))) | inr v ↦ v ] in
+    let findable : IsFindable k a = of-valid k good g image a valid in
+    let class : class_found g.image a.0 ≡ find_class (entries_of k) a.0 = ap (λ (i : Image). class_found i a.0) (sym image) ∙ class_found-is k a.0 (findable-within k a findable) in
+    let u = c.extract.new.table in
+    subst (λ i. MakesAtMost (slots_for form es i) g.table u) (sym class)
+    (subst (λ (x : Graph). MakesAtMost (slots_for form es (find_class (entries_of k) a.0)) x.table u) c.self.view_is c.extract.ensures.count)
+
+pub returns-clause-full : goal.returns-clause-full
+returns-clause-full l c e =
+    let form = l.L.LanguageChildren.form in
+    let g = c.args.self.now in
+    let k = c.self.inside.store in
+    let a = to_applied c.args.a.now in
+    let es = c.args.terms.now.entries.items in
+    let image : image_of k ≡ g.image = ap (λ (x : Graph). x.image) c.self.view_is in
+    let good : Good k = elim c.self.invariant [ inl h ↦ absurd (false≢true (sym c.if-self.false ∙ h)) | inr h ↦ h.0 ] in
+    let valid : IsValidId g a = elim c.requires [ inl h ↦ absurd (false≢true (sym c.if-self.false ∙ (ap (λ (x : Graph). x.failed) c.self.view_is ∙ h))) | inr v ↦ v ] in
+    let findable : IsFindable k a = of-valid k good g image a valid in
+    let class : class_found g.image a.0 ≡ find_class (entries_of k) a.0 = ap (λ (i : Image). class_found i a.0) (sym image) ∙ class_found-is k a.0 (findable-within k a findable) in
+    let u = c.extract.new.table in
+    subst (λ i. RunsOutWith form es (slots_for form es i) g.table u) (sym class)
+    (subst (λ (x : Graph). RunsOutWith form es (slots_for form es (find_class (entries_of k) a.0)) x.table u) c.self.view_is (c.extract.ensures.full e))
