@@ -1,6 +1,6 @@
 //! Refusals, tokens and elements of syntax.
-use crate::checks::assert_copied;
 use slotted_slots::{AppliedId, Error, ParseError, SyntaxElem, Token};
+use std::fmt::Debug;
 use std::process::Abort;
 
 fn assert_case(rt: &impl Abort, error: &Error, number: u8, name: &str) {
@@ -24,12 +24,18 @@ fn refusals_have_numbers_and_names(rt: HostRuntime) {
     assert_case(&rt, &Error::NumberTooLarge, 11, "NumberTooLarge");
 }
 
-fn check_token(rt: &(impl Abort + AllocGlobal), token: &Token) {
-    assert_copied(rt, token, token.copy(rt.alloc()));
-    assert_copied(rt, token, token.clone());
+// The copy or clone equals its source.
+fn assert_copied<T: PartialEq + Drop, E: Debug + Drop>(
+    rt: &impl Abort,
+    value: &T,
+    copy: Result<T, E>,
+) {
+    assert!(rt; copy.expect(rt, "copy") == *value);
 }
 
-fn check_element(rt: &(impl Abort + AllocGlobal), element: &SyntaxElem) {
+fn check_copies(rt: &(impl Abort + AllocGlobal), token: &Token, element: &SyntaxElem) {
+    assert_copied(rt, token, token.copy(rt.alloc()));
+    assert_copied(rt, token, token.clone());
     assert_copied(rt, element, element.copy(rt.alloc()));
     assert_copied(rt, element, element.clone());
 }
@@ -37,6 +43,6 @@ fn check_element(rt: &(impl Abort + AllocGlobal), element: &SyntaxElem) {
 #[test]
 fn tokens_and_elements_are_copied(rt: HostRuntime) {
     let text = String::from_str(rt.alloc(), "app").expect(&rt, "text");
-    check_token(&rt, &Token::Ident(text));
-    check_element(&rt, &SyntaxElem::AppliedId(AppliedId::null(rt.alloc())));
+    let element = SyntaxElem::AppliedId(AppliedId::null(rt.alloc()));
+    check_copies(&rt, &Token::Ident(text), &element);
 }

@@ -1,12 +1,10 @@
 //! Tests of worked values of slots, maps and sets, of nodes and of languages, and nothing else. They stand in a crate
-//! of their own, since a crate with tests is proved twice. In those of slots a refusal ends a test at once, by
-//! `expect`: a `?` would drop all that is held, which is proved for each.
+//! of their own, since a crate with tests is proved twice, and mostly as rows of text, since each call is proved once then
+//! for all of its rows.
 #![tactic(auto)]
 
 #[cfg(test)]
 mod applied;
-#[cfg(test)]
-mod checks;
 #[cfg(test)]
 mod elements;
 #[cfg(test)]

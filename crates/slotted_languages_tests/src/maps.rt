@@ -1,173 +1,129 @@
-//! Slot maps: each call once, over numeric slots and fresh ones.
-use crate::checks::{assert_answers, assert_copied, assert_shows, assert_slots, map_of, named_map};
-use slotted_slots::{Error, Slot, SlotMap, SlotTable, SmallHashSet};
-use std::process::Abort;
+//! The calls on slot maps, and what they answer.
+use crate::writing::{write_list, write_set, write_shown, write_test};
+use slotted_slots::{Error, Slot, SlotMap, SlotTable};
+use std::alloc::Global;
 
-// Pairs that are put in, and what the map prints.
-const MAPS: &str = "\
-1:2 0:3 => [$0 -> $3, $1 -> $2]
-3:7 2:7 3:8 4:7 => [$2 -> $7, $3 -> $8, $4 -> $7]
-1:2 a:2 f0:2 0:2 => [$0 -> $2, $f0 -> $2, $a -> $2, $1 -> $2]
-x:0 x:1 => [$x -> $1]";
-
-// A row of them.
-fn check_printed(rt: &(impl Abort + AllocGlobal), table: &mut SlotTable, row: &str) {
-    let (pairs, shown) = row.split_once(" => ").expect(rt, "row");
-    let map = named_map(rt, table, pairs);
-    assert_shows(rt, table, &map, shown);
-}
-
-#[test]
-fn maps_print_by_their_keys(rt: HostRuntime) {
-    for row in MAPS.lines() {
-        check_printed(&rt, &mut SlotTable::new(rt.alloc()), row);
-    }
-}
-
-#[test]
-fn maps_change_in_place(rt: HostRuntime) {
-    let mut map = map_of(&rt, "3:7 2:7 3:8 4:7");
-    assert!(rt; !map.is_bijection());
-    let three = Slot::numeric_at(3);
-    let eight = Slot::numeric_at(8);
-    assert!(rt; map.len() == 3);
-    assert!(rt; !map.is_empty());
-    assert!(rt; map.get(three) == Some(eight));
-    assert!(rt; map.value_at(1) == eight);
-    map.set_value_at(1, three);
-    assert!(rt; map.get(three) == Some(three));
-    map.remove(three);
-    assert!(rt; !map.contains_key(three));
-}
-
-// Over `[$1 -> $3, $2 -> $7, $5 -> $7]`, as are the next ones.
-fn check_sets(rt: &(impl Abort + AllocGlobal), map: &SlotMap) {
-    let keys = map.keys(rt.alloc()).expect(rt, "keys");
-    assert_slots(rt, keys.as_slice(), "$1 $2 $5");
-    let values = map.values(rt.alloc()).expect(rt, "values");
-    assert_answers(
-        rt,
-        SlotMap::identity(rt.alloc(), &values),
-        "[$3 -> $3, $7 -> $7]",
-    );
-}
-
-fn check_lists(rt: &(impl Abort + AllocGlobal), map: &SlotMap) {
-    let keys = map.keys_vec(rt.alloc()).expect(rt, "keys");
-    assert_slots(rt, &keys, "$1 $2 $5");
-    let values = map.values_vec(rt.alloc()).expect(rt, "values");
-    assert_slots(rt, &values, "$3 $7 $7");
-}
-
-fn check_copies(rt: &(impl Abort + AllocGlobal), map: &SlotMap) {
-    assert_copied(rt, map, map.copy(rt.alloc()));
-    assert_copied(rt, map, map.clone());
-    let pairs = map.copy(rt.alloc()).expect(rt, "copy").into_iter();
-    assert_copied(rt, map, SlotMap::from_iterator(rt.alloc(), pairs));
-    assert_copied(rt, map, map.union(rt.alloc(), &SlotMap::new(rt.alloc())));
-}
-
-#[test]
-fn maps_are_listed_and_copied(rt: HostRuntime) {
-    let map = map_of(&rt, "2:7 1:3 5:7");
-    check_sets(&rt, &map);
-    check_lists(&rt, &map);
-    check_copies(&rt, &map);
-    assert!(rt; map.values_immut().next() == Some(Slot::numeric_at(3)));
-    assert!(rt; map.values_immut().count() == 3);
-}
-
+// Two pairs of one key, and one of another.
 fn pairs() -> [(Slot, Slot); 3] {
     let zero = Slot::numeric_at(0);
     let three = Slot::numeric_at(3);
     [(three, zero), (zero, three), (three, three)]
 }
 
-// The first pair of a map is that of `$0` and `$3`.
-fn check_first(rt: &impl Abort, map: &SlotMap) {
-    let first = (Slot::numeric_at(0), Slot::numeric_at(3));
-    assert!(rt; map.iter().next() == Some(first));
+// The inverse of a map that has one, or else a permutation after itself.
+fn turned(alloc: Global, call: &str, map: &SlotMap) -> Result<SlotMap, Error> {
+    if call == "inverse" && map.is_bijection() {
+        map.inverse(alloc)
+    } else if map.is_perm() {
+        map.compose(alloc, map)
+    } else {
+        Err(Error::NotEqual)
+    }
 }
 
-#[test]
-fn pairs_make_maps(rt: HostRuntime) {
-    let shown = "[$0 -> $3, $3 -> $3]";
-    assert_answers(&rt, SlotMap::from_pairs(rt.alloc(), &pairs()), shown);
-    let made = SlotMap::from_array(rt.alloc(), pairs()).expect(&rt, "map");
-    check_first(&rt, &made);
-    assert_answers(&rt, Ok(made), shown);
+// The map that is listed from this one, or from pairs.
+fn listed(alloc: Global, call: &str, map: &SlotMap) -> Result<SlotMap, Error> {
+    match call {
+        "copy" => map.copy(alloc),
+        "clone" => Ok(map.clone()?),
+        "union" => map.union(alloc, &SlotMap::new(alloc)),
+        "from_iterator" => SlotMap::from_iterator(alloc, map.copy(alloc)?.into_iter()),
+        "from_pairs" => SlotMap::from_pairs(alloc, &pairs()),
+        "from_array" => SlotMap::from_array(alloc, pairs()),
+        _ => turned(alloc, call, map),
+    }
 }
 
 // The map that a call makes of two.
 fn made(
-    rt: &(impl Abort + AllocGlobal),
+    alloc: Global,
     call: &str,
     first: &SlotMap,
     second: &SlotMap,
+    table: &mut SlotTable,
 ) -> Result<SlotMap, Error> {
     match call {
-        "compose_partial" => first.compose_partial(rt.alloc(), second),
-        "compose_fresh" => first.compose_fresh(rt.alloc(), second, &mut SlotTable::new(rt.alloc())),
-        _ => first.try_union(rt.alloc(), second)?.ok_or(Error::NotEqual),
+        "compose_partial" => first.compose_partial(alloc, second),
+        "compose_fresh" => first.compose_fresh(alloc, second, table),
+        "try_union" => first.try_union(alloc, second)?.ok_or(Error::NotEqual),
+        "identity" => SlotMap::identity(alloc, &first.values(alloc)?),
+        "bijection_from_fresh_to" => {
+            SlotMap::bijection_from_fresh_to(alloc, &first.keys(alloc)?, table)
+        }
+        _ => listed(alloc, call, first),
     }
 }
 
-// A call, two maps, and what the map prints that it makes of them.
-const TWO: &str = "\
-compose_partial | 0:1 1:2 | 1:5 | [$0 -> $5]
-compose_fresh | 0:1 1:2 2:3 | 2:9 | [$0 -> $f0, $1 -> $9, $2 -> $f1]
-try_union | 0:1 3:4 | 0:1 2:5 | [$0 -> $1, $2 -> $5, $3 -> $4]";
-
-// A row of them.
-fn check_made(rt: &(impl Abort + AllocGlobal), row: &str) {
-    let mut parts = row.split(" | ");
-    let call = parts.next().expect(rt, "call");
-    let first = map_of(rt, parts.next().expect(rt, "first"));
-    let second = map_of(rt, parts.next().expect(rt, "second"));
-    let both = made(rt, call, &first, &second);
-    assert_answers(rt, both, parts.next().expect(rt, "shown"));
+// Writes the second, and a `=` where it equals the first.
+fn write_beside(
+    first: &SlotMap,
+    second: &SlotMap,
+    table: &SlotTable,
+    text: &mut String,
+) -> Result<(), Error> {
+    write_shown(second, table, text)?;
+    Ok(text.push_str(if second == first { "=" } else { "" })?)
 }
 
-#[test]
-fn two_maps_make_one(rt: HostRuntime) {
-    for row in TWO.lines() {
-        check_made(&rt, row);
+// The pairs of a map, one after the other.
+fn write_pairs(map: &SlotMap, table: &SlotTable, text: &mut String) -> Result<(), Error> {
+    for (key, value) in map.iter() {
+        write_shown(&key, table, text)?;
+        write_shown(&value, table, text)?;
+    }
+    Ok(())
+}
+
+fn write_values(map: &SlotMap, table: &SlotTable, text: &mut String) -> Result<(), Error> {
+    for value in map.values_immut() {
+        write_shown(&value, table, text)?;
+    }
+    Ok(())
+}
+
+// Over a map of three keys: two of its values, then one of them when `$3` has come in its place, and whether it is there when
+// its key is taken out.
+fn write_changes(map: &mut SlotMap, table: &SlotTable, text: &mut String) -> Result<(), Error> {
+    let three = Slot::numeric_at(3);
+    if map.len() != 3 {
+        return Err(Error::NotEqual);
+    }
+    write_shown(&map.get(three).unwrap_or(three), table, text)?;
+    write_shown(&map.value_at(1), table, text)?;
+    map.set_value_at(1, three);
+    write_shown(&map.get(three).unwrap_or_default(), table, text)?;
+    map.remove(three);
+    write_test(Ok(map.contains_key(three)), text)
+}
+
+fn holds(call: &str, map: &SlotMap) -> bool {
+    match call {
+        "is_bijection" => map.is_bijection(),
+        "is_perm" => map.is_perm(),
+        _ => map.is_empty(),
     }
 }
 
-#[test]
-fn two_values_of_a_key_disagree(rt: HostRuntime) {
-    let first = map_of(&rt, "0:1 3:4");
-    let second = map_of(&rt, "0:2");
-    let both = first.try_union(rt.alloc(), &second).expect(&rt, "answer");
-    assert!(rt; both.is_none());
-}
-
-#[test]
-fn permutations_turn_their_keys_round(rt: HostRuntime) {
-    let turn = map_of(&rt, "0:1 1:2 2:0");
-    assert!(rt; turn.is_perm());
-    let twice = turn.compose(rt.alloc(), &turn);
-    assert_answers(&rt, twice, "[$0 -> $2, $1 -> $0, $2 -> $1]");
-}
-
-#[test]
-fn the_inverse_goes_back(rt: HostRuntime) {
-    let map = map_of(&rt, "0:4 1:2");
-    assert!(rt; map.is_bijection());
-    assert!(rt; !map.is_perm());
-    assert_answers(&rt, map.inverse(rt.alloc()), "[$2 -> $1, $4 -> $0]");
-}
-
-// The slots `$4` and `$6`.
-fn check_fresh(rt: &(impl Abort + AllocGlobal), set: &SmallHashSet<Slot>) {
-    let mut table = SlotTable::new(rt.alloc());
-    let fresh = SlotMap::bijection_from_fresh_to(rt.alloc(), set, &mut table);
-    assert_answers(rt, fresh, "[$f0 -> $4, $f1 -> $6]");
-}
-
-#[test]
-fn fresh_slots_go_to_a_set(rt: HostRuntime) {
-    let keys = map_of(&rt, "4:0 6:0").keys(rt.alloc()).expect(&rt, "keys");
-    check_fresh(&rt, &keys);
+// What a call on two maps answers. The first may be changed.
+pub(crate) fn write_maps(
+    alloc: Global,
+    call: &str,
+    first: &mut SlotMap,
+    second: &SlotMap,
+    table: &mut SlotTable,
+    text: &mut String,
+) -> Result<(), Error> {
+    match call {
+        "keys" => write_set(first.keys(alloc), table, text),
+        "keys_vec" => write_list(first.keys_vec(alloc), table, text),
+        "values_vec" => write_list(first.values_vec(alloc), table, text),
+        "values_immut" => write_values(first, table, text),
+        "iter" => write_pairs(first, table, text),
+        "changes" => write_changes(first, table, text),
+        _ if call.starts_with("is_") => write_test(Ok(holds(call, first)), text),
+        _ => {
+            let made = made(alloc, call, first, second, table)?;
+            write_beside(first, &made, table, text)
+        }
+    }
 }

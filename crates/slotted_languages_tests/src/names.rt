@@ -1,79 +1,47 @@
 //! What texts name, and how slots stand and print.
-use crate::checks::{assert_answers, assert_shows};
+use crate::writing::{write_shown, write_test};
 use slotted_slots::{Error, Id, Slot, SlotTable};
 use std::alloc::Global;
-use std::process::Abort;
 
-// Texts, each with what the slot prints that it names.
-const NAMES: &str = "\
-42 $42
-+5 $5
-007 $7
-f7 $f7
-f+7 $f7
-f $f
-4294967296 $4294967296
-x $x";
-
-// A row of them.
-fn check_named(rt: &(impl Abort + AllocGlobal), table: &mut SlotTable, row: &str) {
-    let (text, shown) = row.split_once(' ').expect(rt, "row");
-    let slot = table.named(text).expect(rt, "slot");
-    assert_shows(rt, table, &slot, shown);
-}
-
-fn check_names(rt: &(impl Abort + AllocGlobal), table: &mut SlotTable) {
-    for row in NAMES.lines() {
-        check_named(rt, table, row);
+// A slot and whether the table knows it, or the number of a refusal.
+fn write_slot(
+    slot: Result<Slot, Error>,
+    table: &SlotTable,
+    text: &mut String,
+) -> Result<(), Error> {
+    match slot {
+        Ok(slot) => {
+            write_shown(&slot, table, text)?;
+            write_test(Ok(table.knows(slot)), text)?;
+        }
+        Err(error) => {
+            let number = error.number();
+            write!(text, "{number}")?;
+        }
     }
+    Ok(text.push_str(", ")?)
 }
 
-#[test]
-fn texts_name_slots(rt: HostRuntime) {
-    let mut table = SlotTable::new(rt.alloc());
-    check_names(&rt, &mut table);
-    assert_answers(&rt, table.fresh(), "$f8");
-    assert_answers(&rt, table.numeric(9), "$9");
-}
-
-// The number of the refusal, or 0.
-fn refusal<T: Drop>(outcome: Result<T, Error>) -> u8 {
-    match outcome {
-        Ok(_) => 0,
-        Err(e) => e.number(),
+// The slots of these names, a fresh one, and `$9`.
+pub(crate) fn write_names(
+    names: &str,
+    table: &mut SlotTable,
+    text: &mut String,
+) -> Result<(), Error> {
+    for name in names.split_whitespace() {
+        write_slot(table.named(name), table, text)?;
     }
+    write_slot(table.fresh(), table, text)?;
+    write_slot(table.numeric(9), table, text)
 }
 
-#[test]
-fn numbers_have_a_limit(rt: HostRuntime) {
-    let mut table = SlotTable::new(rt.alloc());
-    assert!(rt; refusal(table.named("1073741824")) == 11);
-    assert!(rt; refusal(table.named("f1073741824")) == 11);
-    let last = table.named("f1073741823").expect(&rt, "last");
-    assert!(rt; table.knows(last));
-    assert!(rt; refusal(table.fresh()) == 2);
-}
-
-// A name of a table of its own.
-fn first_name(rt: &impl Abort, alloc: Global) -> Slot {
-    SlotTable::new(alloc).named("a").expect(rt, "name")
-}
-
-#[test]
-fn an_unknown_name_is_a_mark(rt: HostRuntime) {
-    let name = first_name(&rt, rt.alloc());
-    let table = SlotTable::new(rt.alloc());
-    assert!(rt; !table.knows(name));
-    assert_shows(&rt, &table, &name, "$?");
-}
-
-#[test]
-fn numeric_slots_are_multiples_of_four(rt: HostRuntime) {
-    assert!(rt; Slot::numeric_at(3).raw() == 12);
-}
-
-#[test]
-fn ids_print_their_numbers(rt: HostRuntime) {
-    let text = format!(in rt.alloc(); "{:?}", Id(5)).expect(&rt, "text");
-    assert!(rt; text.as_str() == "id5");
+// A name of another table, how `$3` is stored, and an id.
+pub(crate) fn write_unknown(
+    alloc: Global,
+    table: &SlotTable,
+    text: &mut String,
+) -> Result<(), Error> {
+    write_slot(SlotTable::new(alloc).named("a"), table, text)?;
+    let (raw, id) = (Slot::numeric_at(3).raw(), Id(5));
+    Ok(write!(text, "{raw} {id:?}")?)
 }

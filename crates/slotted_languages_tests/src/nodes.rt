@@ -4,70 +4,17 @@ use crate::writing::{
 };
 use slotted_languages::Language;
 use slotted_languages::outline::{outline, skeleton};
-use slotted_slots::{AppliedId, Error, Id, Slot, SlotMap, SlotTable, SmallHashSet};
+use slotted_slots::{AppliedId, Error, Id, Slot, SlotMap, SlotTable};
 use std::alloc::Global;
 
-fn shape<L: Language>(
-    alloc: Global,
-    node: &L,
-    table: &SlotTable,
-    text: &mut String,
-) -> Result<(), Error> {
-    let (numbered, free) = node.weak_shape(alloc)?;
-    write_shape(alloc, &numbered, &free, table, text)
-}
-
-// The same of a copy that becomes its shape.
-fn shape_inplace<L: Language>(
-    alloc: Global,
-    node: &L,
-    table: &SlotTable,
-    text: &mut String,
-) -> Result<(), Error> {
+// The shape of the node, or of a copy that becomes its shape.
+fn shape<L: Language>(alloc: Global, call: &str, node: &L) -> Result<(L, SlotMap), Error> {
+    if call == "weak_shape" {
+        return node.weak_shape(alloc);
+    }
     let mut own = node.clone()?;
     let free = own.weak_shape_inplace(alloc)?;
-    write_shape(alloc, &own, &free, table, text)
-}
-
-// The node renamed, in whole or in part; `unknown` where the map lacks a free slot.
-fn renamed<L: Language>(
-    alloc: Global,
-    call: &str,
-    node: &L,
-    m: &SlotMap,
-    table: &mut SlotTable,
-    text: &mut String,
-) -> Result<(), Error> {
-    if !node.is_known_by(alloc, m)? {
-        Ok(text.push_str("unknown")?)
-    } else if call == "apply_slotmap" {
-        write_node(alloc, node.apply_slotmap(alloc, m, table), table, text)
-    } else {
-        write_node(
-            alloc,
-            node.apply_slotmap_partial(alloc, m, table),
-            table,
-            text,
-        )
-    }
-}
-
-// The node where the slots of a set are fresh, a bar, and that where all others are.
-fn refreshed<L: Language>(
-    alloc: Global,
-    node: &L,
-    set: &SmallHashSet<Slot>,
-    table: &mut SlotTable,
-    text: &mut String,
-) -> Result<(), Error> {
-    write_node(alloc, node.refresh_slots(alloc, set, table), table, text)?;
-    text.push_str("| ")?;
-    write_node(
-        alloc,
-        node.refresh_internals(alloc, set, table),
-        table,
-        text,
-    )
+    Ok((own, free))
 }
 
 // The child under the next number, from 0 on. The child 0 is refused.
@@ -86,21 +33,53 @@ fn numbered<L: Language>(alloc: Global, node: &L) -> Result<L, Error> {
     node.map_applied_ids(alloc, |child| next_child(&mut next, child))
 }
 
-// The children of the numbered node, or the refusal of one.
-fn mapped<L: Language>(
+// Whether no slot of a node is free and bound.
+fn is_apart<L: Language>(node: &L) -> bool {
+    node.slot_count() < 1 << 30 && node.check()
+}
+
+fn bare<L: Language>(alloc: Global, node: &L) -> Result<L, Error> {
+    let count = outline(alloc, node, Slot::numeric_at(0))?.slot_count();
+    if count >= 1 << 30 {
+        return Err(Error::OutOfSlots);
+    }
+    skeleton(alloc, node)
+}
+
+// The node renamed, in whole or in part, by a map that has to know each free slot.
+fn renamed<L: Language>(
     alloc: Global,
+    call: &str,
     node: &L,
-    table: &SlotTable,
-    text: &mut String,
-) -> Result<(), Error> {
-    match numbered(alloc, node) {
-        Ok(numbered) => children(alloc, &numbered, table, text),
-        Err(error) => Ok(text.push_str(error.name())?),
+    m: &SlotMap,
+    table: &mut SlotTable,
+) -> Result<L, Error> {
+    if !node.is_known_by(alloc, m)? {
+        Err(Error::NotEqual)
+    } else if call == "apply_slotmap" {
+        node.apply_slotmap(alloc, m, table)
+    } else {
+        node.apply_slotmap_partial(alloc, m, table)
     }
 }
 
-fn ids<L: Language>(alloc: Global, node: &L, text: &mut String) -> Result<(), Error> {
-    write_ids(node.ids(alloc)?.as_slice(), text)
+// The node that a call makes.
+fn made<L: Language>(
+    alloc: Global,
+    call: &str,
+    node: &L,
+    m: &SlotMap,
+    table: &mut SlotTable,
+) -> Result<L, Error> {
+    match call {
+        "apply_slotmap_fresh" => node.apply_slotmap_fresh(alloc, m, table),
+        "refresh_private" => node.refresh_private(alloc, table),
+        "refresh_slots" => node.refresh_slots(alloc, &m.values(alloc)?, table),
+        "refresh_internals" => node.refresh_internals(alloc, &m.values(alloc)?, table),
+        "outline" => outline(alloc, node, Slot::numeric_at(5)),
+        "skeleton" => bare(alloc, node),
+        _ => renamed(alloc, call, node, m, table),
+    }
 }
 
 fn children<L: Language>(
@@ -112,31 +91,17 @@ fn children<L: Language>(
     write_children(node.applied_id_occurrences(alloc)?.as_slice(), table, text)
 }
 
-// Whether no slot of a node is free and bound.
-fn is_apart<L: Language>(node: &L) -> bool {
-    node.slot_count() < 1 << 30 && node.check()
-}
-
-// The number of the variant.
-fn operator<L: Language>(node: &L, text: &mut String) -> Result<(), Error> {
-    let number = node.operator();
-    Ok(write!(text, "{number}")?)
-}
-
-fn bare<L: Language>(
-    alloc: Global,
-    node: &L,
-    table: &SlotTable,
-    text: &mut String,
-) -> Result<(), Error> {
-    let count = outline(alloc, node, Slot::numeric_at(0))?.slot_count();
-    if count >= 1 << 30 {
-        return Err(Error::OutOfSlots);
+// The slots that a call lists.
+fn listed<L: Language>(alloc: Global, call: &str, node: &L) -> Result<Vec<Slot>, Error> {
+    match call {
+        "all_slot_occurrences" => node.all_slot_occurrences(alloc),
+        "public_slot_occurrences" => node.public_slot_occurrences(alloc),
+        _ => node.private_slot_occurrences(alloc),
     }
-    write_node(alloc, skeleton(alloc, node), table, text)
 }
 
-// What a call that puts other names in answers.
+// What is answered of a node that a call makes. After that with fresh slots in place of those of a set comes a bar, and that
+// with fresh slots in place of all others.
 fn write_changed<L: Language>(
     alloc: Global,
     call: &str,
@@ -145,65 +110,20 @@ fn write_changed<L: Language>(
     table: &mut SlotTable,
     text: &mut String,
 ) -> Result<(), Error> {
-    match call {
-        "apply_slotmap_fresh" => {
-            write_node(
-                alloc,
-                node.apply_slotmap_fresh(alloc, m, table),
-                table,
-                text,
-            )
-        }
-        "refresh_private" => write_node(alloc, node.refresh_private(alloc, table), table, text),
-        "refresh_slots" => refreshed(alloc, node, &m.values(alloc)?, table, text),
-        "apply_slotmap" | "apply_slotmap_partial" => renamed(alloc, call, node, m, table, text),
-        _ => Ok(text.push_str("no call")?),
+    if call.starts_with("weak_shape") {
+        let (numbered, free) = shape(alloc, call, node)?;
+        return write_shape(alloc, &numbered, &free, table, text);
     }
+    write_node(alloc, made(alloc, call, node, m, table), table, text)?;
+    if call == "refresh_slots" {
+        text.push_str("| ")?;
+        let rest = made(alloc, "refresh_internals", node, m, table);
+        return write_node(alloc, rest, table, text);
+    }
+    Ok(())
 }
 
-// What is answered of a node's shape.
-fn write_shaped<L: Language>(
-    alloc: Global,
-    call: &str,
-    node: &L,
-    m: &SlotMap,
-    table: &mut SlotTable,
-    text: &mut String,
-) -> Result<(), Error> {
-    match call {
-        "weak_shape" => shape(alloc, node, table, text),
-        "weak_shape_inplace" => shape_inplace(alloc, node, table, text),
-        "outline" => write_node(
-            alloc,
-            outline(alloc, node, Slot::numeric_at(5)),
-            table,
-            text,
-        ),
-        "skeleton" => bare(alloc, node, table, text),
-        _ => write_changed(alloc, call, node, m, table, text),
-    }
-}
-
-// What is answered of a node's children and its operator.
-fn write_told<L: Language>(
-    alloc: Global,
-    call: &str,
-    node: &L,
-    m: &SlotMap,
-    table: &mut SlotTable,
-    text: &mut String,
-) -> Result<(), Error> {
-    match call {
-        "ids" => ids(alloc, node, text),
-        "applied_id_occurrences" => children(alloc, node, table, text),
-        "map_applied_ids" => mapped(alloc, node, table, text),
-        "check" => write_test(Ok(is_apart(node)), text),
-        "operator" => operator(node, text),
-        _ => write_shaped(alloc, call, node, m, table, text),
-    }
-}
-
-// What a call on the node answers: here those that list its names.
+// What a call on the node answers.
 pub(crate) fn write_answer<L: Language>(
     alloc: Global,
     call: &str,
@@ -213,11 +133,14 @@ pub(crate) fn write_answer<L: Language>(
     text: &mut String,
 ) -> Result<(), Error> {
     match call {
-        "all_slot_occurrences" => write_list(node.all_slot_occurrences(alloc), table, text),
-        "public_slot_occurrences" => write_list(node.public_slot_occurrences(alloc), table, text),
-        "private_slot_occurrences" => write_list(node.private_slot_occurrences(alloc), table, text),
         "private_slots" => write_set(node.private_slots(alloc), table, text),
         "slots" => write_set(node.slots(alloc), table, text),
-        _ => write_told(alloc, call, node, m, table, text),
+        "ids" => write_ids(node.ids(alloc)?.as_slice(), text),
+        "applied_id_occurrences" => children(alloc, node, table, text),
+        "map_applied_ids" => children(alloc, &numbered(alloc, node)?, table, text),
+        "check" => write_test(Ok(is_apart(node)), text),
+        "operator" => write_ids(&[Id(node.operator() as usize)], text),
+        _ if call.ends_with("_occurrences") => write_list(listed(alloc, call, node), table, text),
+        _ => write_changed(alloc, call, node, m, table, text),
     }
 }

@@ -1,10 +1,14 @@
-//! The rows: a call, a type, what is worked on, an arrow, and the answer.
+//! The rows: a call, a type, what is worked on, an arrow, and the answer, which is the name of a refusal where there is one.
+use crate::applied::write_applied;
+use crate::maps::write_maps;
+use crate::names::{write_names, write_unknown};
 use crate::nested::{Outer, Tri};
 use crate::nodes::write_answer;
 use crate::parts::{are_equal, are_ordered, write_kind};
-use crate::reading::{Made, map_of, node};
+use crate::reading::{Made, child, map_of, node};
+use crate::sets::{write_sets, write_steps};
 use crate::writing::write_test;
-use slotted_slots::{Error, SlotTable};
+use slotted_slots::{Error, SlotTable, SmallHashSet};
 use slotted_small::Small;
 use std::alloc::Global;
 use std::process::Abort;
@@ -23,6 +27,42 @@ fn write_on<L: Made>(
     write_answer(alloc, call, &node, &m, table, text)
 }
 
+// The answer of a call on an applied id, its map or the values of that, which may be followed by a map.
+fn write_over_maps(
+    alloc: Global,
+    call: &str,
+    kind: &str,
+    words: &str,
+    table: &mut SlotTable,
+    text: &mut String,
+) -> Result<(), Error> {
+    let (words, map) = words.split_once(" by ").unwrap_or((words, ""));
+    let m = map_of(alloc, table, map)?;
+    let mut applied = child(alloc, table, words)?;
+    match kind {
+        "Map" => write_maps(alloc, call, &mut applied.m, &m, table, text),
+        "Set" => write_sets(alloc, call, &applied.m, &m, table, text),
+        _ => write_applied(alloc, call, &applied, &m, table, text),
+    }
+}
+
+// The answer of a row about slots.
+fn write_slots(
+    alloc: Global,
+    call: &str,
+    kind: &str,
+    words: &str,
+    table: &mut SlotTable,
+    text: &mut String,
+) -> Result<(), Error> {
+    match call {
+        "named" => write_names(words, table, text),
+        "unknown" => write_unknown(alloc, table, text),
+        "steps" => write_steps(&mut SmallHashSet::new(alloc), words, table, text),
+        _ => write_over_maps(alloc, call, kind, words, table, text),
+    }
+}
+
 // The answer of a row.
 fn write_row(
     alloc: Global,
@@ -39,30 +79,24 @@ fn write_row(
         (_, "Small") => write_on::<Small>(alloc, call, words, table, text),
         (_, "Tri") => write_on::<Tri>(alloc, call, words, table, text),
         (_, "Outer") => write_on::<Outer>(alloc, call, words, table, text),
-        _ => Ok(text.push_str("no language")?),
+        _ => write_slots(alloc, call, kind, words, table, text),
     }
 }
 
-// The answer of a row, over a table of its own.
-fn answer(alloc: Global, row: &str) -> Result<String, Error> {
-    let mut table = SlotTable::new(alloc);
-    let mut text = String::new(alloc);
-    write_row(alloc, row, &mut table, &mut text)?;
-    Ok(text)
-}
-
-fn check_row(rt: &impl Abort, alloc: Global, line: &str) -> Result<(), Error> {
+// Answers a row over a table of its own.
+fn check_row(rt: &impl Abort, alloc: Global, line: &str) {
     let (row, want) = line.split_once(" =>").unwrap_or((line, ""));
-    let answer = answer(alloc, row)?;
-    assert_eq!(rt; answer.as_str().trim(), want.trim(), "{line}");
-    Ok(())
+    let mut text = String::new(alloc);
+    if let Err(error) = write_row(alloc, row, &mut SlotTable::new(alloc), &mut text) {
+        text.push_str(error.name()).expect(rt, "name");
+    }
+    assert_eq!(rt; text.as_str().trim(), want.trim(), "{line}");
 }
 
-fn check_rows(rt: &impl Abort, alloc: Global, rows: &str) -> Result<(), Error> {
+fn check_rows(rt: &impl Abort, alloc: Global, rows: &str) {
     for line in rows.lines() {
-        check_row(rt, alloc, line)?;
+        check_row(rt, alloc, line);
     }
-    Ok(())
 }
 
 // What is read from words is written as words that read as the same. Then come its places, and its children.
@@ -180,13 +214,6 @@ operator Small +5 => 7
 operator Small x => 8
 operator Small 4294967296 => 8";
 
-#[test]
-fn texts_are_read(rt: HostRuntime) -> Result<(), Error> {
-    check_rows(&rt, rt.alloc(), PAYLOADS)?;
-    check_rows(&rt, rt.alloc(), PARTS)?;
-    check_rows(&rt, rt.alloc(), NODES)
-}
-
 // In the second language a name is free beside the scope in which it is bound.
 const NAMES: &str = "all_slot_occurrences Small lam $8 #7:8,9 => $8 $8 $9
 public_slot_occurrences Small lam $8 #7:8,9 => $9
@@ -220,12 +247,6 @@ check Outer $8 $8 #7:8 $8 => yes
 map_applied_ids Small app #7:8,9 #5:9 => id0[$0 -> $8, $1 -> $9] id1[$0 -> $9]
 map_applied_ids Small app #7:8,9 #0 => NotATerm";
 
-#[test]
-fn nodes_are_told(rt: HostRuntime) -> Result<(), Error> {
-    check_rows(&rt, rt.alloc(), NAMES)?;
-    check_rows(&rt, rt.alloc(), TOLD)
-}
-
 // Names are numbered where they first stand, and a number holds in its scope alone: the binder's name may be free after it.
 // Under the outer of two binders the inner one's scope ends first, and the outer one comes back.
 const SHAPES: &str = "weak_shape Small app #7:8,9 #7:9,8 => $0 $1 $1 $0 [$0 -> $8, $1 -> $9]
@@ -250,17 +271,13 @@ skeleton Small lam $8 #7:8,9 => $0 $1
 outline Tri $9 $8 #7:8 $6 => $9 $8 $5 $6
 skeleton Tri $9 $8 #7:8 $6 => $0 $0 $1 $0";
 
-#[test]
-fn shapes_are_numbered(rt: HostRuntime) -> Result<(), Error> {
-    check_rows(&rt, rt.alloc(), SHAPES)
-}
-
 // The binder's name is free before and after its scope, and there alone it is renamed.
+// A map that lacks a free slot is refused.
 const RENAMED: &str = "apply_slotmap Small lam $8 #7:8,9 by $9->$5 => $8 $8 $5
 apply_slotmap Small lam $8 #7:8,9 by $9->$8 => $f0 $f0 $8
-apply_slotmap Small lam $8 #7:8,9 by $8->$5 => unknown
+apply_slotmap Small lam $8 #7:8,9 by $8->$5 => NotEqual
 apply_slotmap Small app #7:8,9 #7:9,8 by $8->$9,$9->$8 => $9 $8 $8 $9
-apply_slotmap Small app #7:8,9 #7:9,8 by $8->$9 => unknown
+apply_slotmap Small app #7:8,9 #7:9,8 by $8->$9 => NotEqual
 apply_slotmap Tri $8 $8 #7:8 $8 by $8->$9 => $9 $8 $8 $9
 apply_slotmap Tri $9 $8 #7:8,9 $8 by $8->$6,$9->$8 => $8 $f0 $f0 $8 $6
 apply_slotmap Outer $8 $8 #7:8,9 $8 by $9->$5 => $8 $8 $8 $5 $8
@@ -279,8 +296,77 @@ refresh_private Tri $8 $8 #7:8 $8 => $8 $f0 $f0 $8
 refresh_private Outer $8 $8 #7:8 $8 => $f0 $f1 $f1 $f0
 refresh_private Outer $8 $9 #7:8,9,6 $8 => $f0 $f1 $f0 $f1 $6 $f0";
 
+// A map stands after a colon, as in a child. What equals the map that it was made of has a `=`.
+const MAPS: &str = "copy Map :1->2,0->3 => [$0 -> $3, $1 -> $2] =
+copy Map :3->7,2->7,3->8,4->7 => [$2 -> $7, $3 -> $8, $4 -> $7] =
+copy Map :1->2,a->2,f0->2,0->2 => [$0 -> $2, $f0 -> $2, $a -> $2, $1 -> $2] =
+copy Map :x->0,x->1 => [$x -> $1] =
+is_bijection Map :3->7,2->7,3->8,4->7 => no
+is_empty Map :3->7,2->7,3->8,4->7 => no
+is_empty Map : => yes
+changes Map :3->7,2->7,3->8,4->7 => $8 $8 $3 no
+keys Map :2->7,1->3,5->7 => $1 $2 $5
+identity Map :2->7,1->3,5->7 => [$3 -> $3, $7 -> $7]
+keys_vec Map :2->7,1->3,5->7 => $1 $2 $5
+values_vec Map :2->7,1->3,5->7 => $3 $7 $7
+values_immut Map :2->7,1->3,5->7 => $3 $7 $7
+copy Map :2->7,1->3,5->7 => [$1 -> $3, $2 -> $7, $5 -> $7] =
+clone Map :2->7,1->3,5->7 => [$1 -> $3, $2 -> $7, $5 -> $7] =
+from_iterator Map :2->7,1->3,5->7 => [$1 -> $3, $2 -> $7, $5 -> $7] =
+union Map :2->7,1->3,5->7 => [$1 -> $3, $2 -> $7, $5 -> $7] =
+from_pairs Map : => [$0 -> $3, $3 -> $3]
+from_array Map : => [$0 -> $3, $3 -> $3]
+iter Map :3->0,0->3,3->3 => $0 $3 $3 $3
+compose_partial Map :0->1,1->2 by 1->5 => [$0 -> $5]
+compose_fresh Map :0->1,1->2,2->3 by 2->9 => [$0 -> $f0, $1 -> $9, $2 -> $f1]
+try_union Map :0->1,3->4 by 0->1,2->5 => [$0 -> $1, $2 -> $5, $3 -> $4]
+try_union Map :0->1,3->4 by 0->2 => NotEqual
+is_perm Map :0->1,1->2,2->0 => yes
+compose Map :0->1,1->2,2->0 => [$0 -> $2, $1 -> $0, $2 -> $1]
+is_bijection Map :0->4,1->2 => yes
+is_perm Map :0->4,1->2 => no
+inverse Map :0->4,1->2 => [$2 -> $1, $4 -> $0]
+bijection_from_fresh_to Map :4->0,6->0 => [$f0 -> $4, $f1 -> $6]";
+
+// Steps tell what they answer, how many slots there are then, and which.
+const SETS: &str =
+    "steps Set is_empty:0 insert:3 insert:1 insert:3 => yes 0 yes 1 $3 yes 2 $1 $3 no 2 $1 $3
+steps Set insert:3 insert:1 insert:2 => yes 1 $3 yes 2 $1 $3 yes 3 $1 $2 $3
+steps Set insert:2 contains:2 remove:2 remove:2 => yes 1 $2 yes 1 $2 yes 0 no 0
+steps Set insert:1 insert:2 insert:3 remove:2 => yes 1 $1 yes 2 $1 $2 yes 3 $1 $2 $3 yes 2 $1 $3
+union Set :3,1,2 by 2,5,3 => $1 $2 $3 $5
+intersection Set :3,1,2 by 2,5,3 => $2 $3
+difference Set :3,1,2 by 2,5,3 => $1
+is_subset Set :2,3 by 3,1,2 => yes
+is_subset Set :3,1,2 by 2,3 => no
+is_superset Set :3,1,2 by 2,3 => yes
+is_superset Set :2,3 by 3,1,2 => no
+is_disjoint Set :2,3 by 3,1,2 => no
+is_disjoint Set :2,3 by 1 => yes";
+
+// A slot that the map lacks is left out, or becomes a fresh one.
+const APPLIED: &str = "slots AppliedId 2:4 => $4
+new AppliedId 2:4 => id2[$0 -> $4] =
+copy AppliedId 2:4 => id2[$0 -> $4] =
+clone AppliedId 2:4 => id2[$0 -> $4] =
+null AppliedId 0 => id0[] =
+set_slot_at AppliedId 5:3 => id5[$0 -> $4]
+apply_slotmap AppliedId 5:3 by 3->7,4->7 => id5[$0 -> $7]
+apply_slotmap_partial AppliedId 5:1,2,3 by 1->7,3->8 => id5[$0 -> $7, $2 -> $8]
+apply_slotmap_fresh AppliedId 5:1,2,3 by 1->7,3->8 => id5[$0 -> $7, $1 -> $f0, $2 -> $8]";
+
+// Each name with what its slot prints, and whether that is known, or with the number of a refusal; then a fresh slot and `$9`.
+const SLOTS: &str = "named Slot 42 +5 => $42 yes, $5 yes, $f0 yes, $9 yes,
+named Slot 007 f7 f+7 => $7 yes, $f7 yes, $f7 yes, $f8 yes, $9 yes,
+named Slot f 4294967296 x => $f yes, $4294967296 yes, $x yes, $f0 yes, $9 yes,
+named Slot 1073741824 f1073741824 f1073741823 => 11, 11, $f1073741823 yes, 2, $9 yes,
+unknown Slot => $? no, 12 id5";
+
 #[test]
-fn nothing_is_captured(rt: HostRuntime) -> Result<(), Error> {
-    check_rows(&rt, rt.alloc(), RENAMED)?;
-    check_rows(&rt, rt.alloc(), REFRESHED)
+fn rows_are_answered(rt: HostRuntime) {
+    for rows in [
+        PAYLOADS, PARTS, NODES, NAMES, TOLD, SHAPES, RENAMED, REFRESHED, MAPS, SETS, APPLIED, SLOTS,
+    ] {
+        check_rows(&rt, rt.alloc(), rows);
+    }
 }

@@ -1,79 +1,84 @@
-//! Small sets: each call once.
-use crate::checks::{assert_slots, map_of};
-use slotted_slots::{Slot, SmallHashSet};
-use std::process::Abort;
+//! The calls on small sets, and what they answer.
+use crate::writing::{write_set, write_shown, write_test};
+use slotted_slots::{Error, Slot, SlotMap, SlotTable, SmallHashSet};
+use std::alloc::Global;
 
-// Puts a slot in, and answers whether it is new.
-fn put(rt: &impl Abort, set: &mut SmallHashSet<Slot>, slot: Slot) -> bool {
-    set.insert(slot).expect(rt, "insert")
-}
-
-// Puts the slots `$3`, `$1` and `$2` in, one of them twice.
-fn check_kept(rt: &impl Abort, set: &mut SmallHashSet<Slot>) {
-    assert!(rt; set.is_empty());
-    assert!(rt; put(rt, set, Slot::numeric_at(3)));
-    assert!(rt; put(rt, set, Slot::numeric_at(1)));
-    assert!(rt; !put(rt, set, Slot::numeric_at(3)));
-    assert!(rt; set.len() == 2);
-    assert!(rt; set.iter().next() == Some(&Slot::numeric_at(1)));
-    assert!(rt; put(rt, set, Slot::numeric_at(2)));
-}
-
-// Takes `$2` out of `$1`, `$2`, `$3`.
-fn check_taken_out(rt: &impl Abort, set: &mut SmallHashSet<Slot>) {
-    let two = Slot::numeric_at(2);
-    assert!(rt; set.contains(&two));
-    assert!(rt; set.remove(&two));
-    assert!(rt; !set.remove(&two));
-}
-
-#[test]
-fn sets_keep_each_element_once(rt: HostRuntime) {
-    let mut set = SmallHashSet::new(rt.alloc());
-    check_kept(&rt, &mut set);
-    assert_slots(&rt, set.as_slice(), "$1 $2 $3");
-    check_taken_out(&rt, &mut set);
-    assert_slots(&rt, set.as_slice(), "$1 $3");
-}
-
-// The small set lies within the large one, and has nothing of the other.
-fn check_within(
-    rt: &impl Abort,
-    small: &SmallHashSet<Slot>,
-    large: &SmallHashSet<Slot>,
-    other: &SmallHashSet<Slot>,
-) {
-    assert!(rt; small.is_subset(large));
-    assert!(rt; !large.is_subset(small));
-    assert!(rt; large.is_superset(small));
-    assert!(rt; !small.is_superset(large));
-    assert!(rt; !small.is_disjoint(large));
-    assert!(rt; small.is_disjoint(other));
-}
-
-// What the slots `$1`, `$2`, `$3` and the slots `$2`, `$3`, `$5` make.
-fn check_made(
-    rt: &(impl Abort + AllocGlobal),
+// The set that a call makes of two.
+fn made(
+    alloc: Global,
+    call: &str,
     first: &SmallHashSet<Slot>,
     second: &SmallHashSet<Slot>,
-) {
-    let both = first.union(rt.alloc(), second).expect(rt, "union");
-    assert_slots(rt, both.as_slice(), "$1 $2 $3 $5");
-    let shared = first.intersection(rt.alloc(), second).expect(rt, "shared");
-    assert_slots(rt, shared.as_slice(), "$2 $3");
-    let alone = first.difference(rt.alloc(), second).expect(rt, "alone");
-    assert_slots(rt, alone.as_slice(), "$1");
-    check_within(rt, &shared, first, &alone);
+) -> Result<SmallHashSet<Slot>, Error> {
+    match call {
+        "union" => first.union(alloc, second),
+        "intersection" => first.intersection(alloc, second),
+        _ => first.difference(alloc, second),
+    }
 }
 
-// The slots that are the keys of a map.
-fn set_of(rt: &(impl Abort + AllocGlobal), pairs: &str) -> SmallHashSet<Slot> {
-    map_of(rt, pairs).keys(rt.alloc()).expect(rt, "keys")
+fn holds(call: &str, first: &SmallHashSet<Slot>, second: &SmallHashSet<Slot>) -> bool {
+    match call {
+        "is_subset" => first.is_subset(second),
+        "is_superset" => first.is_superset(second),
+        _ => first.is_disjoint(second),
+    }
 }
 
-#[test]
-fn sets_are_made_of_two(rt: HostRuntime) {
-    let first = set_of(&rt, "3:0 1:0 2:0");
-    let second = set_of(&rt, "2:0 5:0 3:0");
-    check_made(&rt, &first, &second);
+// What a call on the values of two maps answers.
+pub(crate) fn write_sets(
+    alloc: Global,
+    call: &str,
+    first: &SlotMap,
+    second: &SlotMap,
+    table: &SlotTable,
+    text: &mut String,
+) -> Result<(), Error> {
+    let first = first.values(alloc)?;
+    let second = second.values(alloc)?;
+    if call.starts_with("is_") {
+        write_test(Ok(holds(call, &first, &second)), text)
+    } else {
+        write_set(made(alloc, call, &first, &second), table, text)
+    }
+}
+
+// Puts a slot in, takes it out or looks for it, and answers whether it is new or there; any other step is whether there is none.
+fn step(set: &mut SmallHashSet<Slot>, call: &str, slot: Slot) -> Result<bool, Error> {
+    match call {
+        "insert" => set.insert(slot),
+        "remove" => Ok(set.remove(&slot)),
+        "contains" => Ok(set.contains(&slot)),
+        _ => Ok(set.is_empty()),
+    }
+}
+
+// What a step answers, how many slots there are then, and which.
+fn write_step(
+    set: &mut SmallHashSet<Slot>,
+    words: &str,
+    table: &mut SlotTable,
+    text: &mut String,
+) -> Result<(), Error> {
+    let (call, name) = words.split_once(':').unwrap_or((words, ""));
+    write_test(step(set, call, table.named(name)?), text)?;
+    let count = set.len();
+    write!(text, " {count} ")?;
+    for slot in set.iter() {
+        write_shown(slot, table, text)?;
+    }
+    Ok(())
+}
+
+// The steps of a set that has no slots at first.
+pub(crate) fn write_steps(
+    set: &mut SmallHashSet<Slot>,
+    words: &str,
+    table: &mut SlotTable,
+    text: &mut String,
+) -> Result<(), Error> {
+    for step in words.split_whitespace() {
+        write_step(set, step, table, text)?;
+    }
+    Ok(())
 }

@@ -9,11 +9,19 @@ pub(crate) fn write_test(holds: Result<bool, Error>, text: &mut String) -> Resul
     Ok(text.push_str(if holds? { "yes" } else { "no" })?)
 }
 
-// Slots, with a space after each.
+// A value as it prints, and a space.
+pub(crate) fn write_shown<T: Show>(
+    value: &T,
+    table: &SlotTable,
+    text: &mut String,
+) -> Result<(), Error> {
+    let shown = value.show(table);
+    Ok(write!(text, "{shown} ")?)
+}
+
 fn write_slots(slots: &[Slot], table: &SlotTable, text: &mut String) -> Result<(), Error> {
     for slot in slots {
-        let shown = slot.show(table);
-        write!(text, "{shown} ")?;
+        write_shown(slot, table, text)?;
     }
     Ok(())
 }
@@ -53,9 +61,7 @@ pub(crate) fn write_shape<L: Language>(
     text: &mut String,
 ) -> Result<(), Error> {
     write_list(numbered.all_slot_occurrences(alloc), table, text)?;
-    let free = free.show(table);
-    write!(text, "{free}")?;
-    Ok(())
+    write_shown(free, table, text)
 }
 
 pub(crate) fn write_ids(ids: &[Id], text: &mut String) -> Result<(), Error> {
@@ -73,8 +79,7 @@ pub(crate) fn write_children(
     text: &mut String,
 ) -> Result<(), Error> {
     for child in children {
-        let shown = child.show(table);
-        write!(text, "{shown} ")?;
+        write_shown(*child, table, text)?;
     }
     Ok(())
 }
@@ -82,17 +87,13 @@ pub(crate) fn write_children(
 // An element: of a child its id alone.
 fn write_element(element: &SyntaxElem, table: &SlotTable, text: &mut String) -> Result<(), Error> {
     match element {
-        SyntaxElem::String(word) => write!(text, "{word} ")?,
-        SyntaxElem::Slot(slot) => {
-            let shown = slot.show(table);
-            write!(text, "{shown} ")?;
-        }
+        SyntaxElem::String(word) => Ok(write!(text, "{word} ")?),
+        SyntaxElem::Slot(slot) => write_shown(slot, table, text),
         SyntaxElem::AppliedId(child) => {
             let number = child.id.0;
-            write!(text, "#{number} ")?;
+            Ok(write!(text, "#{number} ")?)
         }
     }
-    Ok(())
 }
 
 pub(crate) fn write_elements(
