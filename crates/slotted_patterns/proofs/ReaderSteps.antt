@@ -1,6 +1,6 @@
 -- The steps of the reader over its stack.
 use Rattle.std.proofs.Common.{◌≡◌, ℕ, false, List, [], ◌∷◌, ◌++◌, length, refl, subst, sym, ap, ◌∙◌, arith}
-use Rattle.std.specs.Prelude.{Option, Some, map, String, Result, Ok, Err, IfOk, IfErr}
+use Rattle.std.specs.Prelude.{Option, Some, Box, map, String, Result, Ok, Err, IfOk, IfErr}
 use Rattle.std.specs.Option.{option_to_list}
 use Rattle.std.proofs.lemmas.List.{reverse-append}
 use Rattle.slotted_slots.specs.Syntax.{Lexeme, word, variable, slot, colon_equals, left_paren, right_paren, left_bracket, right_bracket, no_pattern, no_colon_equals, no_right_bracket, Element, Fault, lexeme_of}
@@ -151,10 +151,10 @@ module _ {L : Type 0} (form : L → Form) where
         (reads_variable read (parts_of form st) v ls r (subst (λ t. Continues read (parts_of form st) (found t ls) r) k h))
 
     -- a base before a `[`, and one that is a whole pattern
-    pub stepped_left_bracket : (st st' : List (Part L)) (b : Pattern L) (all ls : List Lexeme) → all ≡ left_bracket ∷ ls → st' ≡ st ++ Place b ∷ [] → ReadsAs form read st (Base b) all st' Due ls
-    stepped_left_bracket st st' b all ls p k r h =
+    pub stepped_left_bracket : (st st' : List (Part L)) (b : Pattern L) (box : Box (Pattern L) Global) (all ls : List Lexeme) → all ≡ left_bracket ∷ ls → box.value ≡ b → st' ≡ st ++ Place box ∷ [] → ReadsAs form read st (Base b) all st' Due ls
+    stepped_left_bracket st st' b box all ls p e k r h =
         subst (λ x. Continues read (parts_of form st) (found (tree_of form b) x) r) (sym p)
-        (reads_left_bracket read (parts_of form st) (tree_of form b) ls r (subst (λ x. ReadsOpen read x ls r) (parts_of-pushed st st' (Place b) k) h))
+        (reads_left_bracket read (parts_of form st) (tree_of form b) ls r (subst (λ x. ReadsOpen read x ls r) (parts_of-pushed st st' (Place box) k ∙ ap (λ x. before_place (tree_of form x) ∷ parts_of form st) e) h))
 
     pub stepped_whole : (st mid : List (Part L)) (b : Pattern L) (all ls : List Lexeme) → ls ≡ all → begins_with_left_bracket all ≡ false → length st ≡ 0 → ReadsAs form read st (Base b) all mid (Whole b) ls
     stepped_whole st mid b all ls p e n r h =
@@ -191,26 +191,26 @@ module _ {L : Type 0} (form : L → Form) where
         reads_child read (bracket_of form b) (parts_of form mid) (tree_of form p) ls r (subst (λ x. ReadsOpen read x ls r) (parts_of-pushed mid st' (Node b') k ∙ ap (λ x. in_bracket x ∷ parts_of form mid) e) h)
 
     -- `:=` and what else may stand there
-    pub resumed_colon_equals : (st st' : List (Part L)) (body place : Pattern L) (all ls : List Lexeme) → all ≡ colon_equals ∷ ls → st' ≡ st ++ Value body place ∷ [] → ResumesAs form read st (Place body) place all st' Due ls
-    resumed_colon_equals st st' body place all ls p k r h =
-        subst (λ x. Resumes read (before_place (tree_of form body) ∷ parts_of form st) (found (tree_of form place) x) r) (sym p)
-        (reads_colon_equals read (tree_of form body) (parts_of form st) (tree_of form place) ls r (subst (λ x. ReadsOpen read x ls r) (parts_of-pushed st st' (Value body place) k) h))
+    pub resumed_colon_equals : (st st' : List (Part L)) (body : Box (Pattern L) Global) (place : Pattern L) (box : Box (Pattern L) Global) (all ls : List Lexeme) → all ≡ colon_equals ∷ ls → box.value ≡ place → st' ≡ st ++ Value body box ∷ [] → ResumesAs form read st (Place body) place all st' Due ls
+    resumed_colon_equals st st' body place box all ls p e k r h =
+        subst (λ x. Resumes read (before_place (tree_of form body.value) ∷ parts_of form st) (found (tree_of form place) x) r) (sym p)
+        (reads_colon_equals read (tree_of form body.value) (parts_of form st) (tree_of form place) ls r (subst (λ x. ReadsOpen read x ls r) (parts_of-pushed st st' (Value body box) k ∙ ap (λ x. before_value (tree_of form body.value) (tree_of form x) ∷ parts_of form st) e) h))
 
-    pub refuses_no_colon_equals : (st : List (Part L)) (body place : Pattern L) (all ls : List Lexeme) (e : Error) → ls ≡ all → begins_with_colon_equals all ≡ false → Refuses (λ (o : PatternOutcome). o ≡ outside (no_colon_equals ls)) e → Refuses (IsFaultAfter form read st (Place body) place all) e
+    pub refuses_no_colon_equals : (st : List (Part L)) (body : Box (Pattern L) Global) (place : Pattern L) (all ls : List Lexeme) (e : Error) → ls ≡ all → begins_with_colon_equals all ≡ false → Refuses (λ (o : PatternOutcome). o ≡ outside (no_colon_equals ls)) e → Refuses (IsFaultAfter form read st (Place body) place all) e
     refuses_no_colon_equals st body place all ls e p n h =
         Refuses-weaker (λ (o : PatternOutcome). o ≡ outside (no_colon_equals ls)) (IsFaultAfter form read st (Place body) place all) e h (λ o q.
-        (no_colon_equals all, q ∙ ap (λ x. outside (no_colon_equals x)) p, reads_no_colon_equals read (tree_of form body) (parts_of form st) (tree_of form place) all n))
+        (no_colon_equals all, q ∙ ap (λ x. outside (no_colon_equals x)) p, reads_no_colon_equals read (tree_of form body.value) (parts_of form st) (tree_of form place) all n))
 
     -- `]` and what else may stand there
-    pub resumed_right_bracket : (st : List (Part L)) (body place value p : Pattern L) (all ls : List Lexeme) → all ≡ right_bracket ∷ ls → tree_of form p ≡ substitution (tree_of form body) (tree_of form place) (tree_of form value) → ResumesAs form read st (Value body place) value all st (Base p) ls
+    pub resumed_right_bracket : (st : List (Part L)) (body place : Box (Pattern L) Global) (value p : Pattern L) (all ls : List Lexeme) → all ≡ right_bracket ∷ ls → tree_of form p ≡ substitution (tree_of form body.value) (tree_of form place.value) (tree_of form value) → ResumesAs form read st (Value body place) value all st (Base p) ls
     resumed_right_bracket st body place value p all ls e k r h =
-        subst (λ x. Resumes read (before_value (tree_of form body) (tree_of form place) ∷ parts_of form st) (found (tree_of form value) x) r) (sym e)
-        (reads_right_bracket read (tree_of form body) (tree_of form place) (parts_of form st) (tree_of form value) ls r (subst (λ t. Continues read (parts_of form st) (found t ls) r) k h))
+        subst (λ x. Resumes read (before_value (tree_of form body.value) (tree_of form place.value) ∷ parts_of form st) (found (tree_of form value) x) r) (sym e)
+        (reads_right_bracket read (tree_of form body.value) (tree_of form place.value) (parts_of form st) (tree_of form value) ls r (subst (λ t. Continues read (parts_of form st) (found t ls) r) k h))
 
-    pub refuses_no_right_bracket : (st : List (Part L)) (body place value : Pattern L) (all ls : List Lexeme) (e : Error) → ls ≡ all → begins_with_right_bracket all ≡ false → Refuses (λ (o : PatternOutcome). o ≡ outside (no_right_bracket ls)) e → Refuses (IsFaultAfter form read st (Value body place) value all) e
+    pub refuses_no_right_bracket : (st : List (Part L)) (body place : Box (Pattern L) Global) (value : Pattern L) (all ls : List Lexeme) (e : Error) → ls ≡ all → begins_with_right_bracket all ≡ false → Refuses (λ (o : PatternOutcome). o ≡ outside (no_right_bracket ls)) e → Refuses (IsFaultAfter form read st (Value body place) value all) e
     refuses_no_right_bracket st body place value all ls e p n h =
         Refuses-weaker (λ (o : PatternOutcome). o ≡ outside (no_right_bracket ls)) (IsFaultAfter form read st (Value body place) value all) e h (λ o q.
-        (no_right_bracket all, q ∙ ap (λ x. outside (no_right_bracket x)) p, reads_no_right_bracket read (tree_of form body) (tree_of form place) (parts_of form st) (tree_of form value) all n))
+        (no_right_bracket all, q ∙ ap (λ x. outside (no_right_bracket x)) p, reads_no_right_bracket read (tree_of form body.value) (tree_of form place.value) (parts_of form st) (tree_of form value) all n))
 
     -- ---- the whole reading
 

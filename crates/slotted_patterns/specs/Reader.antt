@@ -23,8 +23,8 @@ module _ {L : Type 0} (form : L → Form) where
   -- a part that is open
   abbrev pub part_of : Part L → stack.Part
   part_of (Node b) = stack.in_bracket (bracket_of b)
-  part_of (Place body) = stack.before_place (tree_of form body)
-  part_of (Value body place) = stack.before_value (tree_of form body) (tree_of form place)
+  part_of (Place body) = stack.before_place (tree_of form body.value)
+  part_of (Value body place) = stack.before_value (tree_of form body.value) (tree_of form place.value)
 
   -- the parts of a stack, innermost first
   abbrev pub parts_of : List (Part L) → List stack.Part

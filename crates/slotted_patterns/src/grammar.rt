@@ -16,6 +16,9 @@ use slotted_slots::{AppliedId, Error, ParseError, Slot, SyntaxElem, Token};
 use std::alloc::Global;
 use std::collections::VecDeque;
 
+// Room for as many elements as most nodes have.
+const USUAL_COUNT: usize = 3;
+
 /// A bracket whose end was not read yet.
 #[derive(Drop)]
 pub(crate) struct Open<L: Language> {
@@ -24,14 +27,14 @@ pub(crate) struct Open<L: Language> {
     children: Vec<Pattern<L>>,
 }
 
-/// A part of a pattern whose end was not read yet.
+/// A part of a pattern whose end was not read yet. What was read of it lies apart, so that little is moved with a part.
 #[derive(Drop)]
 pub(crate) enum Part<L: Language> {
     Node(Open<L>),
     /// What stands before a `[`.
-    Place(Pattern<L>),
+    Place(Box<Pattern<L>>),
     /// What stands before a `[`, and before the `:=` after it.
-    Value(Pattern<L>, Pattern<L>),
+    Value(Box<Pattern<L>>, Box<Pattern<L>>),
 }
 
 /// How far a pattern is read.
@@ -49,7 +52,8 @@ impl<L: Language> Open<L> {
         ensures ok { IfOk result (λ b. bracket_of L.form b ≡ one_text (string_bytes operator)) }
         ensures memory { IfErr result IsOutOfMemory }
     {
-        let elements = vec![in alloc; SyntaxElem::String(operator)]?;
+        let mut elements = Vec::with_capacity(alloc, USUAL_COUNT)?;
+        elements.push(SyntaxElem::String(operator))?;
         Ok(Open {
             elements,
             children: Vec::new(alloc),
@@ -285,7 +289,7 @@ fn read_value<L: Language>(
     alloc: Global,
     tokens: &mut VecDeque<Token>,
     stack: &mut Vec<Part<L>>,
-    body: Pattern<L>,
+    body: Box<Pattern<L>>,
     place: Pattern<L>,
 ) -> Result<Point<L>, Error>
     ensures ok { IfOk result (λ at. ResumesAs L.form L.read
@@ -298,6 +302,7 @@ fn read_value<L: Language>(
     if !skip_colon_equals(tokens) {
         return Err(no_colon_equals(alloc, tokens));
     }
+    let place = Box::new(alloc, place)?;
     stack.push(Part::Value(body, place))?;
     Ok(Point::Due)
 }
@@ -307,8 +312,8 @@ fn read_close<L: Language>(
     alloc: Global,
     tokens: &mut VecDeque<Token>,
     stack: &mut Vec<Part<L>>,
-    body: Pattern<L>,
-    place: Pattern<L>,
+    body: Box<Pattern<L>>,
+    place: Box<Pattern<L>>,
     value: Pattern<L>,
 ) -> Result<Point<L>, Error>
     ensures ok { IfOk result (λ at. ResumesAs L.form L.read
@@ -321,8 +326,6 @@ fn read_close<L: Language>(
     if !skip_right_bracket(tokens) {
         return Err(no_right_bracket(alloc, tokens));
     }
-    let body = Box::new(alloc, body)?;
-    let place = Box::new(alloc, place)?;
     let value = Box::new(alloc, value)?;
     Ok(Point::Base(Pattern::Subst(body, place, value)))
 }
@@ -342,6 +345,7 @@ fn read_on<L: Language>(
         (IsFaultFrom L.form L.read stack.old.items (Point.Base base) (map lexeme_of tokens.old.items))) }
 {
     if skip_left_bracket(tokens) {
+        let base = Box::new(alloc, base)?;
         stack.push(Part::Place(base))?;
         return Ok(Point::Due);
     }

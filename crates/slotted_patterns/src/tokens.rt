@@ -163,7 +163,7 @@ pub(crate) fn tokenize(
     ensures more { KnowsMore table.old table.new }
 {
     let chars = chars_of(alloc, text)?;
-    let mut tokens = Vec::new(alloc);
+    let mut tokens = Vec::with_capacity(alloc, chars.len() / 2)?;
     let mut rest = chars.as_slice();
     while let Some((token, after)) = next_token(alloc, rest, table)? {
         tokens.push(token)?;

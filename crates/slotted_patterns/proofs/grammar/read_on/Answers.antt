@@ -7,7 +7,7 @@ use Rattle.slotted_patterns.proofs.grammar.read_on.Goals as goal
 
 pub returns-then-skip_left_bracket-clause-ok : goal.returns-then-skip_left_bracket-clause-ok
 returns-then-skip_left_bracket-clause-ok g c =
-    stepped_left_bracket g.L.LanguageChildren.form g.L.LanguageChildren.read c.args.stack.now.items c.push.new.self.items c.args.base (map lexeme_of c.args.tokens.now.items) (map lexeme_of c.skip_left_bracket.new.tokens.items) (c.skip_left_bracket.ensures.found c.if-skip_left_bracket.true) c.in_ok-push.ensures.items
+    stepped_left_bracket g.L.LanguageChildren.form g.L.LanguageChildren.read c.args.stack.now.items c.push.new.self.items c.args.base _ (map lexeme_of c.args.tokens.now.items) (map lexeme_of c.skip_left_bracket.new.tokens.items) (c.skip_left_bracket.ensures.found c.if-skip_left_bracket.true) (search (rules)) c.in_ok-push.ensures.items
 
 pub returns-in-None-clause-ok : goal.returns-in-None-clause-ok
 returns-in-None-clause-ok g c =
