@@ -1,6 +1,7 @@
 //! Tests of worked texts, patterns and terms, and of equations and steps, and nothing else. They stand in a crate of
-//! their own, since a crate with tests is proved twice. In those of equations a refusal ends a test at once, by
-//! `expect`: a `?` would drop all that is held, which is proved for each.
+//! their own, since a crate with tests is proved twice. What is asked stands in rows of text beside its answer, and the
+//! functions that read the rows are lent what they ask about. Memory that is refused ends a test at once, by `expect`:
+//! a `?` would drop all that is held, which is proved for each.
 #![tactic(auto)]
 
 #[cfg(test)]

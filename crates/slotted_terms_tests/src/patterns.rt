@@ -1,124 +1,95 @@
 //! What rows ask of patterns.
+use crate::checks::{check_derived, check_shown, check_text, parted};
 use slotted_languages::Language;
 use slotted_patterns::Pattern;
-use slotted_slots::{Error, Show, SlotTable};
+use slotted_slots::{Error, SlotTable};
 use slotted_terms::{RecExpr, pattern_to_re, re_to_pattern};
 use std::alloc::Global;
 use std::mem;
-
-/// What a row asks of a pattern.
-#[derive(Debug, Drop)]
-pub enum Call {
-    Shown,
-    Text,
-    Derived,
-    Copied,
-    Cloned,
-    AsTerm,
-}
+use std::process::Abort;
 
 // Gives a pattern the child patterns of the pattern of a text.
 fn put_children<L: Language>(
+    rt: &impl Abort,
     alloc: Global,
     pattern: &mut Pattern<L>,
     text: &str,
     table: &mut SlotTable,
-) -> Result<(), Error> {
-    let mut other = Pattern::<L>::parse(alloc, text, table)?;
+) {
+    let mut other = Pattern::<L>::parse(alloc, text, table).expect(rt, "children");
     if let Pattern::ENode(_, children) = pattern
         && let Pattern::ENode(_, others) = &mut other
     {
         mem::swap(children, others);
     }
-    Ok(())
 }
 
-// The pattern of a text, or of `P / Q` the node of P over the child patterns of Q.
-fn read<L: Language>(
+/// The pattern of a text, or of `P / Q` the node of P over the child patterns of Q.
+pub fn read<L: Language>(
+    rt: &impl Abort,
     alloc: Global,
     text: &str,
     table: &mut SlotTable,
 ) -> Result<Pattern<L>, Error> {
-    let (top, below) = text.split_once(" / ").unwrap_or((text, ""));
+    let (top, below) = parted(text, " / ");
     let mut pattern = Pattern::<L>::parse(alloc, top, table)?;
     if !below.is_empty() {
-        put_children(alloc, &mut pattern, below, table)?;
+        put_children(rt, alloc, &mut pattern, below, table);
     }
     Ok(pattern)
 }
 
-// What is printed of a value.
-pub fn shown<T: Show>(alloc: Global, value: &T, table: &SlotTable) -> Result<String, Error> {
-    let shown = value.show(table);
-    Ok(format!(in alloc; "{shown}")?)
+/// The pattern is printed so, and so is its text.
+pub fn check_printed<L: Language>(
+    rt: &impl Abort,
+    alloc: Global,
+    pattern: &Pattern<L>,
+    table: &SlotTable,
+    wanted: &str,
+) {
+    check_shown(rt, alloc, pattern, table, wanted);
+    let text = pattern.text(alloc, table).expect(rt, "text");
+    check_text(rt, &text, wanted);
 }
 
-// The derived form of a pattern.
-pub fn tree<L: Language>(alloc: Global, pattern: &Pattern<L>) -> Result<String, Error> {
-    Ok(format!(in alloc; "{pattern:?}")?)
-}
-
-// The derived form of a copy, or nothing where it does not equal its source.
-fn same_tree<L: Language>(
+// The copy equals its source, and has this derived form.
+fn check_copy<L: Language>(
+    rt: &impl Abort,
     alloc: Global,
     copy: &Pattern<L>,
     source: &Pattern<L>,
-) -> Result<String, Error> {
-    if copy == source {
-        tree(alloc, copy)
-    } else {
-        Ok(String::new(alloc))
-    }
+    wanted: &str,
+) {
+    assert!(rt; copy == source);
+    check_derived(rt, alloc, copy, wanted);
 }
 
-fn copied<L: Language>(alloc: Global, pattern: &Pattern<L>) -> Result<String, Error> {
-    let copy = pattern.copy(alloc)?;
-    same_tree(alloc, &copy, pattern)
+/// The pattern, its copy and its clone have this derived form.
+pub fn check_tree<L: Language>(rt: &impl Abort, alloc: Global, pattern: &Pattern<L>, wanted: &str) {
+    check_derived(rt, alloc, pattern, wanted);
+    let copy = pattern.copy(alloc).expect(rt, "copy");
+    check_copy(rt, alloc, &copy, pattern, wanted);
+    let clone = pattern.clone().expect(rt, "clone");
+    check_copy(rt, alloc, &clone, pattern, wanted);
 }
 
-fn cloned<L: Language>(alloc: Global, pattern: &Pattern<L>) -> Result<String, Error> {
-    let clone = pattern.clone()?;
-    same_tree(alloc, &clone, pattern)
+/// The pattern of the term has this derived form.
+pub fn check_term<L: Language>(rt: &impl Abort, alloc: Global, term: &RecExpr<L>, wanted: &str) {
+    let pattern = re_to_pattern(alloc, term).expect(rt, "pattern");
+    check_derived(rt, alloc, &pattern, wanted);
 }
 
-// The derived form of the pattern of a term.
-pub fn term_tree<L: Language>(alloc: Global, term: &RecExpr<L>) -> Result<String, Error> {
-    let pattern = re_to_pattern(alloc, term)?;
-    tree(alloc, &pattern)
-}
-
-// That of the term that a pattern is.
-pub fn as_term<L: Language>(alloc: Global, pattern: &Pattern<L>) -> Result<String, Error> {
-    let term = pattern_to_re(alloc, pattern)?;
-    term_tree(alloc, &term)
-}
-
-// What a call answers of a pattern.
-fn called<L: Language>(
+/// The pattern is no term, or that of the term that it is has this derived form.
+pub fn check_as_term<L: Language>(
+    rt: &impl Abort,
     alloc: Global,
-    call: &Call,
     pattern: &Pattern<L>,
-    table: &SlotTable,
-) -> Result<String, Error> {
-    match call {
-        Call::Shown => shown(alloc, pattern, table),
-        Call::Text => pattern.text(alloc, table),
-        Call::Derived => tree(alloc, pattern),
-        Call::Copied => copied(alloc, pattern),
-        Call::Cloned => cloned(alloc, pattern),
-        Call::AsTerm => as_term(alloc, pattern),
+    wanted: &str,
+) {
+    match pattern_to_re(alloc, pattern) {
+        Ok(term) => check_term(rt, alloc, &term, wanted),
+        Err(refusal) => check_derived(rt, alloc, &refusal, wanted),
     }
-}
-
-// What a call answers of the pattern of a text.
-pub fn answer<L: Language>(
-    alloc: Global,
-    call: &Call,
-    text: &str,
-    table: &mut SlotTable,
-) -> Result<String, Error> {
-    let pattern = read::<L>(alloc, text, table)?;
-    called(alloc, call, &pattern, table)
 }
 
 // Whether a text is refused as one outside the grammar.
@@ -129,18 +100,20 @@ fn is_outside<L: Language>(alloc: Global, text: &str, table: &mut SlotTable) -> 
     }
 }
 
-// Those proper beginnings of a text that are not outside the grammar, one after another.
-pub fn beginnings<L: Language>(
+/// Those proper beginnings of a text that are not outside the grammar, one after another, are this text.
+pub fn check_beginnings<L: Language>(
+    rt: &impl Abort,
     alloc: Global,
     text: &str,
     table: &mut SlotTable,
-) -> Result<String, Error> {
+    wanted: &str,
+) {
     let mut inside = String::new(alloc);
     for (end, _) in text.char_indices() {
         let beginning = text.get(..end).unwrap_or("");
         if !is_outside::<L>(alloc, beginning, table) {
-            inside.push_str(beginning)?;
+            inside.push_str(beginning).expect(rt, "beginning");
         }
     }
-    Ok(inside)
+    check_text(rt, &inside, wanted);
 }

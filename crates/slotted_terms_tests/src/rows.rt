@@ -1,110 +1,149 @@
 //! The walk over the rows of a table, each of which is `TEXT => ANSWER`.
+use crate::checks::{check_derived, parted};
 use crate::{patterns, terms};
-use slotted_slots::{Error, SlotTable};
+use slotted_languages::Language;
+use slotted_patterns::Pattern;
+use slotted_slots::SlotTable;
 use slotted_small::Small;
+use slotted_terms::RecExpr;
 use slotted_terms::expr::printing::Printable;
 use std::alloc::Global;
 use std::process::Abort;
 
-/// What the rows of a table ask.
-#[derive(Debug, Drop)]
+/// What the rows of a table ask. Where a text is refused, they ask for the refusal.
+#[derive(Clone, Copy)]
 pub enum Question {
-    /// A call on the pattern of a text.
-    Pattern(patterns::Call),
-    /// A call on the term of a text.
-    Term(terms::Call),
+    /// What the pattern of a text prints.
+    PatternPrinted,
+    /// What stands in the pattern of a text, in its copy and in its clone.
+    PatternTree,
+    /// What stands in the pattern of the term that the pattern of a text is.
+    PatternAsTerm,
+    /// What the term of a text prints.
+    TermPrinted,
+    /// What stands in the term of a text, and in its copy.
+    TermTree,
+    /// What stands in the term that the pattern of the term of a text is.
+    TermReturned,
     /// Whether the terms of `WHY: T == U` are alpha-equal.
     Alike,
     /// Which proper beginnings of a text are not outside the grammar of patterns.
     Beginnings,
 }
 
-// The derived form of `AppliedId::null`.
-const NULL: &str = "AppliedId { id: id0, m: SlotMap { pairs: [] } }";
-
-fn parted<'a>(text: &'a str, sign: &str) -> (&'a str, &'a str) {
-    text.split_once(sign).unwrap_or((text, ""))
-}
-
-fn answer<L: Printable>(
-    alloc: Global,
-    question: &Question,
-    text: &str,
-    table: &mut SlotTable,
-) -> Result<String, Error> {
-    match question {
-        Question::Pattern(call) => patterns::answer::<L>(alloc, call, text, table),
-        Question::Term(call) => terms::answer::<L>(alloc, call, text, table),
-        Question::Alike => {
-            let (_, pair) = parted(text, ": ");
-            let (left, right) = parted(pair, " == ");
-            terms::alike::<L>(alloc, left, right, table)
-        }
-        Question::Beginnings => patterns::beginnings::<L>(alloc, text, table),
-    }
-}
-
-// A text that is written over and over.
-fn repeated(alloc: Global, part: &str, count: usize) -> Result<String, Error> {
-    let mut text = String::new(alloc);
-    for _ in 0..count {
-        text.push_str(part)?;
-    }
-    Ok(text)
-}
-
-// The answer for a text, or for `PART * N` for N times that part.
-fn asked<L: Printable>(
-    alloc: Global,
-    question: &Question,
-    text: &str,
-    table: &mut SlotTable,
-) -> Result<String, Error> {
-    let Some((part, count)) = text.split_once(" * ") else {
-        return answer::<L>(alloc, question, text, table);
-    };
-    let text = repeated(alloc, part, count.parse().unwrap_or(0))?;
-    answer::<L>(alloc, question, &text, table)
-}
-
-// What was answered, or the refusal.
-fn told(alloc: Global, answer: Result<String, Error>) -> Result<String, Error> {
-    match answer {
-        Ok(text) => Ok(text),
-        Err(error) => Ok(format!(in alloc; "{error:?}")?),
-    }
-}
-
-// What is told of a text in a new table of slots, with `_` for each null id.
-fn shortened<L: Printable>(
-    alloc: Global,
-    question: &Question,
-    text: &str,
-) -> Result<String, Error> {
-    let answer = asked::<L>(alloc, question, text, &mut SlotTable::new(alloc));
-    let told = told(alloc, answer)?;
-    Ok(told.replace(alloc, NULL, "_")?)
-}
-
-// Each text of a table has the answer that stands beside it.
-fn check_one(rt: &impl Abort, alloc: Global, question: &Question, rows: &str) -> Result<(), Error> {
-    for row in rows.lines() {
-        let (text, wanted) = parted(row, " => ");
-        let answer = shortened::<Small>(alloc, question, text)?;
-        assert_eq!(rt; answer.as_str(), wanted, "{question:?} {text}");
-    }
-    Ok(())
-}
-
-// The same for each question.
-pub fn check(
+fn ask_pattern<L: Language>(
     rt: &impl Abort,
     alloc: Global,
-    questions: &[Question],
-    rows: &str,
-) -> Result<(), Error> {
-    for question in questions {
-        check_one(rt, alloc, question, rows)?;
+    question: Question,
+    pattern: &Pattern<L>,
+    table: &SlotTable,
+    wanted: &str,
+) {
+    match question {
+        Question::PatternPrinted => patterns::check_printed(rt, alloc, pattern, table, wanted),
+        Question::PatternTree => patterns::check_tree(rt, alloc, pattern, wanted),
+        _ => patterns::check_as_term(rt, alloc, pattern, wanted),
     }
-    Ok(())
+}
+
+fn ask_pattern_of<L: Language>(
+    rt: &impl Abort,
+    alloc: Global,
+    question: Question,
+    text: &str,
+    table: &mut SlotTable,
+    wanted: &str,
+) {
+    match patterns::read::<L>(rt, alloc, text, table) {
+        Ok(pattern) => ask_pattern(rt, alloc, question, &pattern, table, wanted),
+        Err(refusal) => check_derived(rt, alloc, &refusal, wanted),
+    }
+}
+
+fn ask_term<L: Printable>(
+    rt: &impl Abort,
+    alloc: Global,
+    question: Question,
+    term: &RecExpr<L>,
+    table: &SlotTable,
+    wanted: &str,
+) {
+    match question {
+        Question::TermPrinted => terms::check_printed(rt, alloc, term, table, wanted),
+        Question::TermTree => terms::check_tree(rt, alloc, term, wanted),
+        _ => terms::check_returned(rt, alloc, term, wanted),
+    }
+}
+
+fn ask_term_of<L: Printable>(
+    rt: &impl Abort,
+    alloc: Global,
+    question: Question,
+    text: &str,
+    table: &mut SlotTable,
+    wanted: &str,
+) {
+    match terms::read::<L>(rt, alloc, text, table) {
+        Ok(term) => ask_term(rt, alloc, question, &term, table, wanted),
+        Err(refusal) => check_derived(rt, alloc, &refusal, wanted),
+    }
+}
+
+fn ask_alike<L: Language>(
+    rt: &impl Abort,
+    alloc: Global,
+    text: &str,
+    table: &mut SlotTable,
+    wanted: &str,
+) {
+    let (_, pair) = parted(text, ": ");
+    let (left, right) = parted(pair, " == ");
+    terms::check_alike::<L>(rt, alloc, left, right, table, wanted);
+}
+
+fn ask<L: Printable>(
+    rt: &impl Abort,
+    alloc: Global,
+    question: Question,
+    text: &str,
+    table: &mut SlotTable,
+    wanted: &str,
+) {
+    match question {
+        Question::PatternPrinted | Question::PatternTree | Question::PatternAsTerm => {
+            ask_pattern_of::<L>(rt, alloc, question, text, table, wanted)
+        }
+        Question::TermPrinted | Question::TermTree | Question::TermReturned => {
+            ask_term_of::<L>(rt, alloc, question, text, table, wanted)
+        }
+        Question::Alike => ask_alike::<L>(rt, alloc, text, table, wanted),
+        Question::Beginnings => patterns::check_beginnings::<L>(rt, alloc, text, table, wanted),
+    }
+}
+
+// Appends a text, or of `PART * N` N times that part.
+fn write_text(rt: &impl Abort, text: &mut String, written: &str) {
+    let (part, count) = written.split_once(" * ").unwrap_or((written, "1"));
+    let count: usize = count.parse().expect(rt, "count");
+    for _ in 0..count {
+        text.push_str(part).expect(rt, "text");
+    }
+}
+
+// Asks the text of a row in a new table of slots.
+fn check_row<L: Printable>(rt: &impl Abort, alloc: Global, question: Question, row: &str) {
+    let (written, wanted) = parted(row, " => ");
+    let mut text = String::new(alloc);
+    write_text(rt, &mut text, written);
+    let mut table = SlotTable::new(alloc);
+    ask::<L>(rt, alloc, question, &text, &mut table, wanted);
+}
+
+/// Each text of a table has the answer that stands beside it, to each question.
+pub fn check(rt: &impl Abort, alloc: Global, questions: &[Question], rows: &str) {
+    for question in questions {
+        for row in rows.lines() {
+            check_row::<Small>(rt, alloc, *question, row);
+        }
+    }
 }

@@ -1,8 +1,96 @@
-//! The steps that are checked over the slots of two classes, and the lines of a proof.
-use crate::checks::{assert_entry, asserted, equation, is_bad, map_of};
+//! The steps that the rows of a text ask a proof list, one after another.
+ghost use Rattle.slotted_theory.specs.FiniteMaps.{IsInjectiveMap};
+
+use crate::checks::{applied, equation, parted};
 use slotted_proofs::{Equation, ProofList, ProvenEq};
-use slotted_slots::{Error, Slot, SmallHashSet};
+use slotted_slots::{AppliedId, Error};
+use std::alloc::Global;
 use std::process::Abort;
+
+/// The number that a text writes, which some list answered before.
+pub fn number(rt: &impl Abort, numbers: &[ProvenEq], text: &str) -> ProvenEq {
+    let number: usize = text.parse().expect(rt, "number");
+    *numbers.get(number).expect(rt, "entry")
+}
+
+// `SIDES by TEXT`
+fn explicit(
+    rt: &impl Abort,
+    alloc: Global,
+    list: &mut ProofList,
+    texts: &str,
+) -> Result<ProvenEq, Error> {
+    let (sides, text) = parted(texts, " by ");
+    let e = equation(rt, alloc, sides);
+    let text = String::from_str(alloc, text).expect(rt, "text");
+    list.enter_explicit(alloc, &e.l, &e.r, Some(text))
+}
+
+// The class of a text equals itself.
+fn reflexive(
+    rt: &impl Abort,
+    alloc: Global,
+    list: &mut ProofList,
+    text: &str,
+) -> Result<ProvenEq, Error> {
+    let a = applied(rt, alloc, text);
+    list.enter_reflexive(alloc, &a)
+}
+
+// The entry of a number, turned round.
+fn symmetric(
+    rt: &impl Abort,
+    alloc: Global,
+    list: &mut ProofList,
+    p: ProvenEq,
+) -> Result<ProvenEq, Error> {
+    assert!(rt; list.is_valid(p));
+    list.enter_symmetric(alloc, p)
+}
+
+// The two ends of a chain of two equations.
+fn joined(
+    rt: &impl Abort,
+    alloc: Global,
+    list: &mut ProofList,
+    l: &AppliedId,
+    middle: &AppliedId,
+    r: &AppliedId,
+) -> Result<ProvenEq, Error>
+    requires left { IsInjectiveMap l.now.m }
+    requires middle { IsInjectiveMap middle.now.m }
+    requires right { IsInjectiveMap r.now.m }
+{
+    let p = list.enter_explicit(alloc, l, middle, None).expect(rt, "p");
+    let q = list.enter_explicit(alloc, middle, r, None).expect(rt, "q");
+    list.enter_transitive(alloc, p, q)
+}
+
+// The same of the chain `A = B = C`.
+fn transitive(
+    rt: &impl Abort,
+    alloc: Global,
+    list: &mut ProofList,
+    chain: &str,
+) -> Result<ProvenEq, Error> {
+    let (l, rest) = parted(chain, " = ");
+    let (middle, r) = parted(rest, " = ");
+    let l = applied(rt, alloc, l);
+    let middle = applied(rt, alloc, middle);
+    let r = applied(rt, alloc, r);
+    joined(rt, alloc, list, &l, &middle, &r)
+}
+
+// Two leaves are congruent without parts.
+fn leaves(
+    rt: &impl Abort,
+    alloc: Global,
+    list: &mut ProofList,
+    sides: &str,
+) -> Result<ProvenEq, Error> {
+    let e = equation(rt, alloc, sides);
+    list.prove_congruent(alloc, &e, &[], Vec::new(alloc))
+}
 
 // A step by its parts.
 #[derive(Clone, Copy)]
@@ -12,121 +100,67 @@ enum Step {
     Transitive(ProvenEq, ProvenEq),
 }
 
-// Checks the step over just the slots that the equation has.
-fn check(
-    rt: &(impl Abort + AllocGlobal),
-    list: &mut ProofList,
-    e: &Equation,
-    step: Step,
-) -> Result<ProvenEq, Error> {
-    let left = e.l.m.keys(rt.alloc()).expect(rt, "keys");
-    let right = e.r.m.keys(rt.alloc()).expect(rt, "keys");
-    match step {
-        Step::Reflexive => list.check_reflexive(rt.alloc(), e, &left, &right),
-        Step::Symmetric(p) => list.check_symmetric(rt.alloc(), e, &left, &right, p),
-        Step::Transitive(p, q) => list.check_transitive(rt.alloc(), e, &left, &right, p, q),
+// The step over no number, over one, or over two.
+fn step_over(rt: &impl Abort, numbers: &[ProvenEq], parts: &str) -> Step {
+    let (first, second) = parted(parts, " ");
+    if first.is_empty() {
+        Step::Reflexive
+    } else if second.is_empty() {
+        Step::Symmetric(number(rt, numbers, first))
+    } else {
+        Step::Transitive(number(rt, numbers, first), number(rt, numbers, second))
     }
 }
 
-// The same of an equation as text.
-fn checked(
-    rt: &(impl Abort + AllocGlobal),
-    list: &mut ProofList,
-    sides: &str,
-    step: Step,
-) -> Result<ProvenEq, Error> {
-    let e = equation(rt, sides);
-    check(rt, list, &e, step)
-}
-
-// A reflexive step has equal sides.
-fn check_reflexive(rt: &(impl Abort + AllocGlobal), list: &mut ProofList) {
-    let p = checked(rt, list, "7 1:5 = 7 1:5", Step::Reflexive);
-    let shown = "id7[$1 -> $0] = id7[$1 -> $0]";
-    assert_entry(rt, list, p, 0, shown, "refl");
-}
-
-// Over a slot more than the left side has.
-fn check_lacking(
-    rt: &(impl Abort + AllocGlobal),
+// Checks the step over just the slots that stand in `over`.
+fn check(
+    rt: &impl Abort,
+    alloc: Global,
     list: &mut ProofList,
     e: &Equation,
-    left: &SmallHashSet<Slot>,
-) {
-    let right = e.r.m.keys(rt.alloc()).expect(rt, "keys");
-    let answer = list.check_reflexive(rt.alloc(), e, left, &right);
-    assert!(rt; is_bad(&answer) && list.is_empty());
+    over: &Equation,
+    step: Step,
+) -> Result<ProvenEq, Error> {
+    let left = over.l.m.keys(alloc).expect(rt, "keys");
+    let right = over.r.m.keys(alloc).expect(rt, "keys");
+    match step {
+        Step::Reflexive => list.check_reflexive(alloc, e, &left, &right),
+        Step::Symmetric(p) => list.check_symmetric(alloc, e, &left, &right, p),
+        Step::Transitive(p, q) => list.check_transitive(alloc, e, &left, &right, p, q),
+    }
 }
 
-#[test]
-fn a_symmetric_step_turns_its_part(rt: HostRuntime) {
-    let mut list = ProofList::new(rt.alloc());
-    let p = asserted(&rt, &mut list, "7 1:3 2:4 = 8 3:4", "p");
-    let kept = checked(&rt, &mut list, "7 1:6 2:5 = 8 3:5", Step::Symmetric(p));
-    assert!(rt; is_bad(&kept) && list.len() == 1);
-    let turned = checked(&rt, &mut list, "8 3:5 = 7 1:6 2:5", Step::Symmetric(p));
-    let shown = "id8[$3 -> $0] = id7[$1 -> $1, $2 -> $0]";
-    assert_entry(&rt, &list, turned, 1, shown, "symmetry(0)");
+// `SIDES by PARTS`, or `SIDES over SIDES by PARTS` where the classes have other slots than the equation.
+fn checked(
+    rt: &impl Abort,
+    alloc: Global,
+    list: &mut ProofList,
+    numbers: &[ProvenEq],
+    texts: &str,
+) -> Result<ProvenEq, Error> {
+    let (sides, parts) = parted(texts, " by ");
+    let step = step_over(rt, numbers, parts);
+    let (sides, over) = sides.split_once(" over ").unwrap_or((sides, sides));
+    let e = equation(rt, alloc, sides);
+    let over = equation(rt, alloc, over);
+    check(rt, alloc, list, &e, &over, step)
 }
 
-#[test]
-fn a_transitive_step_shares_nothing_else(rt: HostRuntime) {
-    let mut list = ProofList::new(rt.alloc());
-    let p = asserted(&rt, &mut list, "8 3:0 = 7 1:0 2:1", "p");
-    let q = asserted(&rt, &mut list, "7 1:0 2:1 = 9 4:1", "q");
-    let shared = checked(&rt, &mut list, "8 3:2 = 9 4:2", Step::Transitive(p, q));
-    assert!(rt; is_bad(&shared) && list.len() == 2);
-    let apart = checked(&rt, &mut list, "8 3:2 = 9 4:3", Step::Transitive(p, q));
-    let shown = "id8[$3 -> $0] = id9[$4 -> $1]";
-    assert_entry(&rt, &list, apart, 2, shown, "transitivity(0, 1)");
-}
-
-#[test]
-fn a_reflexive_step_has_equal_sides(rt: HostRuntime) {
-    let mut list = ProofList::new(rt.alloc());
-    let e = equation(&rt, "7 1:5 = 7 1:5");
-    let left = map_of(&rt, "1:0 2:1").keys(rt.alloc()).expect(&rt, "keys");
-    check_lacking(&rt, &mut list, &e, &left);
-    check_reflexive(&rt, &mut list);
-}
-
-// The first number of a list.
-fn first_number(rt: &(impl Abort + AllocGlobal)) -> ProvenEq {
-    asserted(rt, &mut ProofList::new(rt.alloc()), "7 1:0 2:1 = 8 3:2", "")
-}
-
-#[test]
-fn a_step_over_the_next_number_is_refused(rt: HostRuntime) {
-    let next = first_number(&rt);
-    let mut list = ProofList::new(rt.alloc());
-    let answer = checked(&rt, &mut list, "7 1:0 = 8 3:0", Step::Symmetric(next));
-    assert!(rt; next.number() == 0 && is_bad(&answer) && list.is_empty());
-}
-
-// The lines of the last of four entries, which stands on the first and the third.
-fn check_lines(
-    rt: &(impl Abort + AllocGlobal),
-    list: &ProofList,
-    second: ProvenEq,
-    last: ProvenEq,
-) {
-    assert!(rt; list.is_valid(last) && list.has_earlier_parts());
-    let lines = list.lines(rt.alloc(), last).expect(rt, "lines");
-    assert!(rt; lines.len() == 3 && !lines.is_empty() && !lines.has(second));
-    assert!(rt; lines.line_of(last) == Some(2) && lines.get(2) == Some(last));
-}
-
-#[test]
-fn parts_have_their_lines_first(rt: HostRuntime) {
-    let mut list = ProofList::new(rt.alloc());
-    let first = asserted(&rt, &mut list, "8 3:0 = 7 1:0 2:1", "p");
-    let second = asserted(&rt, &mut list, "7 1:0 2:1 = 9 4:1", "q");
-    assert!(rt; list.is_valid(first));
-    let third = list.enter_symmetric(rt.alloc(), first).expect(&rt, "third");
-    let step = Step::Transitive(first, third);
-    let last = checked(&rt, &mut list, "8 3:2 = 8 3:2", step).expect(&rt, "last");
-    assert!(rt; second.number() == 1 && third.number() == 2);
-    let shown = "id8[$3 -> $0] = id8[$3 -> $0]";
-    assert_entry(&rt, &list, Ok(last), 3, shown, "transitivity(0, 1)");
-    check_lines(&rt, &list, second, last);
+/// What the list answers to a step.
+pub fn answer(
+    rt: &impl Abort,
+    alloc: Global,
+    list: &mut ProofList,
+    numbers: &[ProvenEq],
+    step: &str,
+) -> Result<ProvenEq, Error> {
+    let (word, texts) = parted(step, ": ");
+    match word {
+        "explicit" => explicit(rt, alloc, list, texts),
+        "reflexive" => reflexive(rt, alloc, list, texts),
+        "symmetric" => symmetric(rt, alloc, list, number(rt, numbers, texts)),
+        "transitive" => transitive(rt, alloc, list, texts),
+        "leaves" => leaves(rt, alloc, list, texts),
+        _ => checked(rt, alloc, list, numbers, texts),
+    }
 }

@@ -1,9 +1,9 @@
 //! The tables of worked texts, and what each of them is asked.
-use crate::patterns::Call::{AsTerm, Cloned, Copied, Derived, Shown, Text};
-use crate::rows::Question::{Alike, Beginnings, Pattern, Term};
+use crate::rows::Question::{
+    Alike, Beginnings, PatternAsTerm, PatternPrinted, PatternTree, TermPrinted, TermReturned,
+    TermTree,
+};
 use crate::rows::{Question, check};
-use crate::terms::Call as Of;
-use slotted_slots::Error;
 
 // What is printed of texts of terms, and of nodes over too few or too many children.
 const TERMS: &str = " ( app  a( g $1 ) )  => (app a (g $1))
@@ -161,61 +161,24 @@ a child that is missing: (app a b) / (lam $2 (var $1)) == (app (var $1) (var $1)
 a child that is too many: 0 / (app (var $1) (var $2)) == 0 / (lam $2 (var $1)) => no";
 
 // What the texts of each table are asked.
-const TABLES: [(&[Question], &str); 11] = [
-    (
-        &[
-            Pattern(Shown),
-            Pattern(Text),
-            Term(Of::Shown),
-            Term(Of::Text),
-        ],
-        TERMS,
-    ),
-    (&[Pattern(Shown), Pattern(Text)], PATTERNS),
-    (
-        &[
-            Pattern(Derived),
-            Pattern(Copied),
-            Pattern(Cloned),
-            Pattern(AsTerm),
-        ],
-        TREES,
-    ),
-    (
-        &[
-            Term(Of::AsPattern),
-            Term(Of::Copied),
-            Term(Of::ThereAndBack),
-        ],
-        TREES,
-    ),
-    (
-        &[Pattern(Derived), Pattern(Copied), Pattern(Cloned)],
-        PATTERN_TREES,
-    ),
-    (
-        &[
-            Pattern(Derived),
-            Pattern(Copied),
-            Pattern(Cloned),
-            Term(Of::AsPattern),
-            Term(Of::Copied),
-        ],
-        WRONG_COUNTS,
-    ),
-    (&[Pattern(AsTerm), Term(Of::ThereAndBack)], WRONG_FOR_TERMS),
-    (&[Pattern(AsTerm), Term(Of::Shown)], NO_TERMS),
-    (&[Pattern(Shown), Term(Of::Shown)], FAULTS),
+const TABLES: [(&[Question], &str); 10] = [
+    (&[PatternPrinted, TermPrinted], TERMS),
+    (&[PatternPrinted], PATTERNS),
+    (&[PatternTree, PatternAsTerm, TermTree, TermReturned], TREES),
+    (&[PatternTree], PATTERN_TREES),
+    (&[PatternTree, TermTree], WRONG_COUNTS),
+    (&[PatternAsTerm, TermReturned], WRONG_FOR_TERMS),
+    (&[PatternAsTerm, TermPrinted], NO_TERMS),
+    (&[PatternPrinted, TermPrinted], FAULTS),
     (&[Beginnings], LONG),
     (&[Alike], ALIKE),
 ];
 
 #[test]
-fn each_text_has_its_answer(rt: HostRuntime) -> Result<(), Error> {
+fn each_text_has_its_answer(rt: HostRuntime) {
     for (questions, rows) in TABLES {
-        check(&rt, rt.alloc(), questions, rows)?;
+        check(&rt, rt.alloc(), questions, rows);
     }
-    Ok(())
 }
 
 // Texts that open without end, by their part and how often it stands there.
@@ -224,13 +187,13 @@ a[ * 100000 => Parse(ParseState([]))
 a[b :=  * 100000 => Parse(ParseState([]))";
 
 #[test]
-fn hostile_nesting_of_patterns_does_not_fill_the_stack(rt: HostRuntime) -> Result<(), Error> {
-    check(&rt, rt.alloc(), &[Pattern(Shown)], HOSTILE)
+fn hostile_nesting_of_patterns_does_not_fill_the_stack(rt: HostRuntime) {
+    check(&rt, rt.alloc(), &[PatternPrinted], HOSTILE);
 }
 
 const HOSTILE_TERM: &str = "(a  * 200000 => Parse(ParseState([]))";
 
 #[test]
-fn hostile_nesting_of_terms_does_not_fill_the_stack(rt: HostRuntime) -> Result<(), Error> {
-    check(&rt, rt.alloc(), &[Term(Of::Shown)], HOSTILE_TERM)
+fn hostile_nesting_of_terms_does_not_fill_the_stack(rt: HostRuntime) {
+    check(&rt, rt.alloc(), &[TermPrinted], HOSTILE_TERM);
 }

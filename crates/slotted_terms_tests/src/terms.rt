@@ -1,84 +1,70 @@
 //! What rows ask of terms.
-use crate::patterns::{as_term, shown, term_tree};
+use crate::checks::{check_shown, check_text, parted};
+use crate::patterns::{check_as_term, check_term};
 use slotted_languages::Language;
 use slotted_slots::{AppliedId, Error, Id, SlotMap, SlotTable};
 use slotted_terms::expr::printing::Printable;
 use slotted_terms::{RecExpr, re_to_pattern};
 use std::alloc::Global;
 use std::mem;
-
-/// What a row asks of a term.
-#[derive(Debug, Drop)]
-pub enum Call {
-    Shown,
-    Text,
-    Copied,
-    AsPattern,
-    ThereAndBack,
-}
+use std::process::Abort;
 
 // Gives a term the children of the term of a text.
 fn put_children<L: Language>(
+    rt: &impl Abort,
     alloc: Global,
     term: &mut RecExpr<L>,
     text: &str,
     table: &mut SlotTable,
-) -> Result<(), Error> {
-    let mut other = RecExpr::<L>::parse(alloc, text, table)?;
+) {
+    let mut other = RecExpr::<L>::parse(alloc, text, table).expect(rt, "children");
     mem::swap(&mut term.children, &mut other.children);
-    Ok(())
 }
 
-// The term of a text, or of `T / U` the node of T over the children of U.
-fn read<L: Language>(
+/// The term of a text, or of `T / U` the node of T over the children of U.
+pub fn read<L: Language>(
+    rt: &impl Abort,
     alloc: Global,
     text: &str,
     table: &mut SlotTable,
 ) -> Result<RecExpr<L>, Error> {
-    let (top, below) = text.split_once(" / ").unwrap_or((text, ""));
+    let (top, below) = parted(text, " / ");
     let mut term = RecExpr::<L>::parse(alloc, top, table)?;
     if !below.is_empty() {
-        put_children(alloc, &mut term, below, table)?;
+        put_children(rt, alloc, &mut term, below, table);
     }
     Ok(term)
 }
 
-fn copied<L: Language>(alloc: Global, term: &RecExpr<L>) -> Result<String, Error> {
-    let copy = term.copy(alloc)?;
-    term_tree(alloc, &copy)
-}
-
-// The derived form of the term that a term's pattern is.
-fn returned<L: Language>(alloc: Global, term: &RecExpr<L>) -> Result<String, Error> {
-    let pattern = re_to_pattern(alloc, term)?;
-    as_term(alloc, &pattern)
-}
-
-// What a call answers of a term.
-fn called<L: Printable>(
+/// The term is printed so, and so is its text.
+pub fn check_printed<L: Printable>(
+    rt: &impl Abort,
     alloc: Global,
-    call: &Call,
     term: &RecExpr<L>,
     table: &SlotTable,
-) -> Result<String, Error> {
-    match call {
-        Call::Shown => shown(alloc, term, table),
-        Call::Text => term.text(alloc, table),
-        Call::Copied => copied(alloc, term),
-        Call::AsPattern => term_tree(alloc, term),
-        Call::ThereAndBack => returned(alloc, term),
-    }
+    wanted: &str,
+) {
+    check_shown(rt, alloc, term, table, wanted);
+    let text = term.text(alloc, table).expect(rt, "text");
+    check_text(rt, &text, wanted);
 }
 
-// What a call answers of the term of a text.
-pub fn answer<L: Printable>(
+/// The patterns of the term and of its copy have this derived form.
+pub fn check_tree<L: Language>(rt: &impl Abort, alloc: Global, term: &RecExpr<L>, wanted: &str) {
+    check_term(rt, alloc, term, wanted);
+    let copy = term.copy(alloc).expect(rt, "copy");
+    check_term(rt, alloc, &copy, wanted);
+}
+
+/// The term that the term's pattern is has this derived form, or the pattern is no term.
+pub fn check_returned<L: Language>(
+    rt: &impl Abort,
     alloc: Global,
-    call: &Call,
-    text: &str,
-    table: &mut SlotTable,
-) -> Result<String, Error> {
-    let term = read::<L>(alloc, text, table)?;
-    called(alloc, call, &term, table)
+    term: &RecExpr<L>,
+    wanted: &str,
+) {
+    let pattern = re_to_pattern(alloc, term).expect(rt, "pattern");
+    check_as_term(rt, alloc, &pattern, wanted);
 }
 
 // Puts another id in the place of a node's first child.
@@ -92,38 +78,30 @@ fn put_other_id<L: Language>(alloc: Global, node: &mut L) {
     }
 }
 
-fn are_alike<L: Language>(
-    alloc: Global,
-    one: &RecExpr<L>,
-    two: &RecExpr<L>,
-) -> Result<String, Error> {
-    let answer = if one.alpha_eq(alloc, two)? {
-        "yes"
-    } else {
-        "no"
-    };
-    Ok(String::from_str(alloc, answer)?)
-}
-
 // Whether a term is alpha-equal to the term of a text, whose first child gets another id: terms ignore it.
-fn is_like<L: Language>(
+fn check_like<L: Language>(
+    rt: &impl Abort,
     alloc: Global,
     one: &RecExpr<L>,
     text: &str,
     table: &mut SlotTable,
-) -> Result<String, Error> {
-    let mut two = read::<L>(alloc, text, table)?;
+    wanted: &str,
+) {
+    let mut two = read::<L>(rt, alloc, text, table).expect(rt, "term");
     put_other_id(alloc, &mut two.node);
-    are_alike(alloc, one, &two)
+    let alike = one.alpha_eq(alloc, &two).expect(rt, "answer");
+    check_text(rt, if alike { "yes" } else { "no" }, wanted);
 }
 
-// Whether the terms of two texts are alpha-equal.
-pub fn alike<L: Language>(
+/// Whether the terms of two texts are alpha-equal.
+pub fn check_alike<L: Language>(
+    rt: &impl Abort,
     alloc: Global,
     left: &str,
     right: &str,
     table: &mut SlotTable,
-) -> Result<String, Error> {
-    let one = read::<L>(alloc, left, table)?;
-    is_like(alloc, &one, right, table)
+    wanted: &str,
+) {
+    let one = read::<L>(rt, alloc, left, table).expect(rt, "term");
+    check_like(rt, alloc, &one, right, table, wanted);
 }
