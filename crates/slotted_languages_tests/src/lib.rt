@@ -1,6 +1,6 @@
 //! Tests of worked values of slots, maps and sets, of nodes and of languages, and nothing else. They stand in a crate
-//! of their own, since a crate with tests is proved twice, and mostly as rows of text, since each call is proved once then
-//! for all of its rows.
+//! of their own, since a crate with tests is proved twice. Most are rows of text: what answers a call is proved once for
+//! all of its rows.
 #![tactic(auto)]
 
 #[cfg(test)]

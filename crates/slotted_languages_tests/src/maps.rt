@@ -81,8 +81,8 @@ fn write_values(map: &SlotMap, table: &SlotTable, text: &mut String) -> Result<(
     Ok(())
 }
 
-// Over a map of three keys: two of its values, then one of them when `$3` has come in its place, and whether it is there when
-// its key is taken out.
+// Over a map of three keys: two of its values, then one of them when `$3` has come in its place, and whether it is there
+// when its key is taken out.
 fn write_changes(map: &mut SlotMap, table: &SlotTable, text: &mut String) -> Result<(), Error> {
     let three = Slot::numeric_at(3);
     if map.len() != 3 {

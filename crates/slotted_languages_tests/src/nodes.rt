@@ -100,8 +100,8 @@ fn listed<L: Language>(alloc: Global, call: &str, node: &L) -> Result<Vec<Slot>,
     }
 }
 
-// What is answered of a node that a call makes. After that with fresh slots in place of those of a set comes a bar, and that
-// with fresh slots in place of all others.
+// What is answered of a node that a call makes. After that with fresh slots in place of those of a set comes a bar, and
+// that with fresh slots in place of all others.
 fn write_changed<L: Language>(
     alloc: Global,
     call: &str,

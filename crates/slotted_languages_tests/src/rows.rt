@@ -1,4 +1,4 @@
-//! The rows: a call, a type, what is worked on, an arrow, and the answer, which is the name of a refusal where there is one.
+//! The rows: a call, a type, what is worked on, an arrow, and the answer, or the name of a refusal.
 use crate::applied::write_applied;
 use crate::maps::write_maps;
 use crate::names::{write_names, write_unknown};
@@ -247,7 +247,8 @@ check Outer $8 $8 #7:8 $8 => yes
 map_applied_ids Small app #7:8,9 #5:9 => id0[$0 -> $8, $1 -> $9] id1[$0 -> $9]
 map_applied_ids Small app #7:8,9 #0 => NotATerm";
 
-// Names are numbered where they first stand, and a number holds in its scope alone: the binder's name may be free after it.
+// Names are numbered where they first stand, and a number holds in its scope alone: the binder's name may be free after
+// it.
 // Under the outer of two binders the inner one's scope ends first, and the outer one comes back.
 const SHAPES: &str = "weak_shape Small app #7:8,9 #7:9,8 => $0 $1 $1 $0 [$0 -> $8, $1 -> $9]
 weak_shape_inplace Small app #7:8,9 #7:9,8 => $0 $1 $1 $0 [$0 -> $8, $1 -> $9]
@@ -329,11 +330,9 @@ inverse Map :0->4,1->2 => [$2 -> $1, $4 -> $0]
 bijection_from_fresh_to Map :4->0,6->0 => [$f0 -> $4, $f1 -> $6]";
 
 // Steps tell what they answer, how many slots there are then, and which.
-const SETS: &str =
-    "steps Set is_empty:0 insert:3 insert:1 insert:3 => yes 0 yes 1 $3 yes 2 $1 $3 no 2 $1 $3
-steps Set insert:3 insert:1 insert:2 => yes 1 $3 yes 2 $1 $3 yes 3 $1 $2 $3
-steps Set insert:2 contains:2 remove:2 remove:2 => yes 1 $2 yes 1 $2 yes 0 no 0
-steps Set insert:1 insert:2 insert:3 remove:2 => yes 1 $1 yes 2 $1 $2 yes 3 $1 $2 $3 yes 2 $1 $3
+const SETS: &str = "\
+steps Set is_empty:0 insert:3 insert:1 insert:3 insert:2 contains:2 remove:2 remove:2 => \
+    yes 0 yes 1 $3 yes 2 $1 $3 no 2 $1 $3 yes 3 $1 $2 $3 yes 3 $1 $2 $3 yes 2 $1 $3 no 2 $1 $3
 union Set :3,1,2 by 2,5,3 => $1 $2 $3 $5
 intersection Set :3,1,2 by 2,5,3 => $2 $3
 difference Set :3,1,2 by 2,5,3 => $1
@@ -355,10 +354,10 @@ apply_slotmap AppliedId 5:3 by 3->7,4->7 => id5[$0 -> $7]
 apply_slotmap_partial AppliedId 5:1,2,3 by 1->7,3->8 => id5[$0 -> $7, $2 -> $8]
 apply_slotmap_fresh AppliedId 5:1,2,3 by 1->7,3->8 => id5[$0 -> $7, $1 -> $f0, $2 -> $8]";
 
-// Each name with what its slot prints, and whether that is known, or with the number of a refusal; then a fresh slot and `$9`.
-const SLOTS: &str = "named Slot 42 +5 => $42 yes, $5 yes, $f0 yes, $9 yes,
-named Slot 007 f7 f+7 => $7 yes, $f7 yes, $f7 yes, $f8 yes, $9 yes,
-named Slot f 4294967296 x => $f yes, $4294967296 yes, $x yes, $f0 yes, $9 yes,
+// What the slot of each name prints and whether it is known, or the number of a refusal; then a fresh slot and `$9`.
+const SLOTS: &str = "\
+named Slot 42 +5 007 f7 f+7 f 4294967296 x => \
+    $42 yes, $5 yes, $7 yes, $f7 yes, $f7 yes, $f yes, $4294967296 yes, $x yes, $f8 yes, $9 yes,
 named Slot 1073741824 f1073741824 f1073741823 => 11, 11, $f1073741823 yes, 2, $9 yes,
 unknown Slot => $? no, 12 id5";
 

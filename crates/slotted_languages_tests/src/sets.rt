@@ -43,7 +43,8 @@ pub(crate) fn write_sets(
     }
 }
 
-// Puts a slot in, takes it out or looks for it, and answers whether it is new or there; any other step is whether there is none.
+// Puts a slot in, takes it out or looks for it, and answers whether it is new or there; any other step is whether there is
+// none.
 fn step(set: &mut SmallHashSet<Slot>, call: &str, slot: Slot) -> Result<bool, Error> {
     match call {
         "insert" => set.insert(slot),

@@ -18,7 +18,6 @@ fn check_values(rt: &impl Abort, map: &mut SmallHashMap<u32, u32>) {
     assert!(rt; !map.contains_key(&2));
 }
 
-// The entries, each as its key and a hundredth of its value.
 fn check_entries(rt: &impl Abort, map: &SmallHashMap<u32, u32>) {
     let mut entries = map.iter();
     let (key, value) = entries.next().expect(rt, "entry");

@@ -1,4 +1,5 @@
-//! What answers are written as. An answer is handed over as the call gave it, so that its refusal is asked for here alone.
+//! What answers are written as. An answer is handed over as the call gave it, so that its refusal is asked for here
+//! alone.
 use slotted_languages::Language;
 use slotted_slots::{
     AppliedId, Error, Id, Show, Slot, SlotMap, SlotTable, SmallHashSet, SyntaxElem,
