@@ -1,22 +1,11 @@
-//! Tests of the graph and of its printed proofs, as tables of text, and of what no line of text shows: refused memory, ended
-//! slots, failed graphs. They stand in a crate of their own, since a crate with tests is proved twice.
+//! Tests of the graph, as tables of text. They stand in a crate of their own, since a crate with tests is proved twice.
 #![tactic(auto)]
 
 #[cfg(test)]
-mod failing;
-#[cfg(test)]
-mod memory;
-#[cfg(test)]
-mod proofs;
+mod check;
 #[cfg(test)]
 mod rebuilt;
 #[cfg(test)]
-mod refused;
-#[cfg(test)]
 mod reports;
-#[cfg(test)]
-mod rows;
-#[cfg(test)]
-mod steps;
 #[cfg(test)]
 mod tables;

@@ -1,14 +1,15 @@
-//! What is asked of classes: which one lives, what ids find, and what nodes and terms are looked up as.
-use crate::graphs::{node_of, parted, put, yes};
-use crate::ids::{equal, found, slots_left};
-use crate::nodes::{look_up, put_node};
+//! Ids that texts write: of terms and nodes that are added, and of nodes that are looked up.
+use crate::graphs::{node_of, put};
+use crate::words::Question;
 use slotted_graph::EGraph;
 use slotted_languages::Language;
+use slotted_proofs::Equation;
 use slotted_slots::{AppliedId, Error};
 use slotted_terms::expr::RecExpr;
+use std::alloc::Global;
 
 // What a term is looked up as, if it is valid. Where there is no answer, it is added.
-fn put_valid<L: Language>(graph: &mut EGraph<L>, term: &RecExpr<L>) -> Result<AppliedId, Error> {
+fn add_term<L: Language>(graph: &mut EGraph<L>, term: &RecExpr<L>) -> Result<AppliedId, Error> {
     if graph.is_valid_expr(term) {
         graph.add_expr(term)
     } else {
@@ -17,85 +18,119 @@ fn put_valid<L: Language>(graph: &mut EGraph<L>, term: &RecExpr<L>) -> Result<Ap
 }
 
 // The same of the term that a text writes.
-fn put_looked_up<L: Language>(graph: &mut EGraph<L>, text: &str) -> Result<AppliedId, Error> {
+fn add<L: Language>(graph: &mut EGraph<L>, text: &str) -> Result<AppliedId, Error> {
     let term = graph.parse_expr(text)?;
-    put_valid(graph, &term)
+    add_term(graph, &term)
 }
 
-// Whether an id finds this one.
-fn finds<L: Language>(graph: &EGraph<L>, a: &AppliedId, b: &AppliedId) -> Result<bool, Error> {
-    let found = found(graph, a)?;
-    Ok(found == *b)
+// The id of a node, added by itself, if it is valid.
+fn put_node<L: Language>(graph: &mut EGraph<L>, node: L) -> Result<AppliedId, Error> {
+    if graph.is_valid_node(&node) {
+        graph.add(node)
+    } else {
+        Err(Error::NotATerm)
+    }
 }
 
-// Whether the id of the first term finds what the second one is looked up as.
-fn meet<L: Language>(graph: &mut EGraph<L>, texts: &str) -> Result<bool, Error> {
-    let (left, right) = parted(texts, " == ");
-    let a = put(graph, left)?;
-    let b = put_looked_up(graph, right)?;
-    finds(graph, &a, &b)
+// The class that was made with a node, if that is valid.
+fn put_syn<L: Language>(graph: &mut EGraph<L>, node: L) -> Result<AppliedId, Error> {
+    if graph.is_valid_node(&node) {
+        graph.add_syn(node)
+    } else {
+        Err(Error::NotATerm)
+    }
 }
 
-// Whether the class of a term is one that lives.
-fn lives<L: Language>(graph: &mut EGraph<L>, text: &str) -> Result<bool, Error> {
-    let id = put(graph, text)?;
-    Ok(graph.is_alive(id.id))
+/// What a node is looked up as, if it is valid.
+pub fn look_up<L: Language>(graph: &EGraph<L>, node: &L) -> Result<Option<AppliedId>, Error> {
+    if graph.is_valid_node(node) {
+        graph.lookup(node)
+    } else {
+        Err(Error::NotATerm)
+    }
 }
 
-// Whether an id is that of a class that lives, over just its slots, and finds itself.
-fn is_own<L: Language>(graph: &EGraph<L>, a: &AppliedId) -> Result<bool, Error> {
-    let count = slots_left(graph, a)?;
-    Ok(graph.is_alive(a.id) && count == a.m.len() && finds(graph, a, a)?)
+// The same, or the null id.
+fn sought<L: Language>(alloc: Global, graph: &EGraph<L>, node: &L) -> Result<AppliedId, Error> {
+    match look_up(graph, node)? {
+        Some(id) => Ok(id),
+        None => Ok(AppliedId::null(alloc)),
+    }
 }
 
-// Whether what an id finds is such an id, and equal to it.
-fn finds_own<L: Language>(graph: &EGraph<L>, a: &AppliedId) -> Result<bool, Error> {
-    let found = found(graph, a)?;
-    Ok(is_own(graph, &found)? && equal(graph, a, &found)?)
-}
-
-// The same of the id of a term.
-fn settles<L: Language>(graph: &mut EGraph<L>, text: &str) -> Result<bool, Error> {
-    let id = put(graph, text)?;
-    finds_own(graph, &id)
-}
-
-// What the node of a text is looked up as.
-fn node_found<L: Language>(graph: &mut EGraph<L>, text: &str) -> Result<Option<AppliedId>, Error> {
-    let node = node_of(graph, text)?;
-    look_up(graph, &node)
-}
-
-// Whether a node that is added gets what it was looked up as before.
-fn gets<L: Language>(
+// The id of a node, by the word for how it is made.
+fn made_of_node<L: Language>(
+    alloc: Global,
     graph: &mut EGraph<L>,
+    word: &str,
+    node: L,
+) -> Result<AppliedId, Error> {
+    match word {
+        "node" => put_node(graph, node),
+        "syn" => put_syn(graph, node),
+        _ => sought(alloc, graph, &node),
+    }
+}
+
+// The same of the node of a text.
+fn made_of_text<L: Language>(
+    alloc: Global,
+    graph: &mut EGraph<L>,
+    word: &str,
     text: &str,
-    before: Option<AppliedId>,
-) -> Result<bool, Error> {
-    let added = put_node(graph, text)?;
-    match before {
-        Some(id) => Ok(id == added),
-        None => Ok(false),
-    }
+) -> Result<AppliedId, Error> {
+    let node = node_of(graph, text)?;
+    made_of_node(alloc, graph, word, node)
 }
 
-// The same, and no class is made, nor anything proved.
-fn is_kept<L: Language>(graph: &mut EGraph<L>, text: &str) -> Result<bool, Error> {
-    let before = node_found(graph, text)?;
-    let count = graph.proof_count();
-    Ok(gets(graph, text, before)? && graph.proof_count() == count)
-}
-
-/// What is asked of classes.
-pub fn answer<L: Language>(
+// The id that a text writes.
+fn made<L: Language>(
+    alloc: Global,
     graph: &mut EGraph<L>,
-    ask: &str,
-    texts: &str,
-) -> Result<&'static str, Error> {
-    match ask {
-        "met" => Ok(yes(meet(graph, texts)?)),
-        "alive" => Ok(yes(lives(graph, texts)?)),
-        "settled" => Ok(yes(settles(graph, texts)?)),
-        _ => Ok(yes(is_kept(graph, texts)?)),
+    word: &str,
+    text: &str,
+) -> Result<AppliedId, Error> {
+    match word {
+        "put" => put(graph, text),
+        "add" => add(graph, text),
+        _ => made_of_text(alloc, graph, word, text),
     }
+}
+
+// Puts the id that a text writes in the place of this one.
+fn make<L: Language>(
+    alloc: Global,
+    graph: &mut EGraph<L>,
+    id: &mut AppliedId,
+    word: &str,
+    text: &str,
+) -> Result<(), Error> {
+    *id = made(alloc, graph, word, text)?;
+    Ok(())
+}
+
+/// Makes the id of one of the sides of its text.
+pub fn make_side<L: Language>(
+    alloc: Global,
+    graph: &mut EGraph<L>,
+    sides: &mut Equation,
+    word: &str,
+    question: &Question,
+) -> Result<(), Error> {
+    match word.strip_suffix(" right") {
+        Some(word) => make(alloc, graph, &mut sides.r, word, question.right),
+        None => make(alloc, graph, &mut sides.l, word, question.left),
+    }
+}
+
+/// The same, and whether nothing was proved for it.
+pub fn stays<L: Language>(
+    alloc: Global,
+    graph: &mut EGraph<L>,
+    id: &mut AppliedId,
+    text: &str,
+) -> Result<bool, Error> {
+    let count = graph.proof_count();
+    make(alloc, graph, id, "node", text)?;
+    Ok(graph.proof_count() == count)
 }

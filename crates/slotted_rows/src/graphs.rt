@@ -1,7 +1,6 @@
 //! What is made in a graph by texts.
 use slotted_graph::EGraph;
 use slotted_languages::Language;
-use slotted_proofs::Equation;
 use slotted_slots::{AppliedId, Error, Slot, SlotTable};
 use slotted_terms::expr::RecExpr;
 use std::alloc::Global;
@@ -41,14 +40,6 @@ pub fn put_term<L: Language>(graph: &mut EGraph<L>, term: &RecExpr<L>) -> Result
 pub fn put<L: Language>(graph: &mut EGraph<L>, text: &str) -> Result<AppliedId, Error> {
     let term = graph.parse_expr(text)?;
     put_term(graph, &term)
-}
-
-/// The ids of the terms that `T == U` writes, or that of `T` twice.
-pub fn sides<L: Language>(graph: &mut EGraph<L>, texts: &str) -> Result<Equation, Error> {
-    let (left, right) = texts.split_once(" == ").unwrap_or((texts, texts));
-    let l = put(graph, left)?;
-    let r = put(graph, right)?;
-    Ok(Equation { l, r })
 }
 
 // Puts the ids of the terms in the places of the node's children, in their order.

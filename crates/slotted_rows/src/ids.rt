@@ -1,5 +1,5 @@
-//! What is asked of the ids of two terms, or of one term twice.
-use crate::graphs::{parted, slot};
+//! What is asked of two ids.
+use crate::graphs::{parted, slot, yes};
 use slotted_graph::EGraph;
 use slotted_languages::Language;
 use slotted_proofs::Equation;
@@ -7,8 +7,8 @@ use slotted_slots::{AppliedId, Error, Id, Slot, SlotMap};
 use std::alloc::Global;
 use std::mem;
 
-/// Whether two ids are equal, if they can be asked.
-pub fn equal<L: Language>(graph: &EGraph<L>, a: &AppliedId, b: &AppliedId) -> Result<bool, Error> {
+// Whether two ids are equal, if they can be asked.
+fn equal<L: Language>(graph: &EGraph<L>, a: &AppliedId, b: &AppliedId) -> Result<bool, Error> {
     if graph.is_valid(a) && graph.is_valid(b) {
         graph.eq(a, b)
     } else {
@@ -40,20 +40,13 @@ pub fn found<L: Language>(graph: &EGraph<L>, a: &AppliedId) -> Result<AppliedId,
     }
 }
 
-/// Whether two ids find one id.
-pub fn find_one<L: Language>(graph: &EGraph<L>, sides: &Equation) -> Result<bool, Error> {
-    let left = found(graph, &sides.l)?;
-    let right = found(graph, &sides.r)?;
-    Ok(left == right)
-}
-
-/// Whether the class of an id can be asked with its own slots as its names.
-pub fn names_itself<L: Language>(graph: &EGraph<L>, a: &AppliedId) -> Result<bool, Error> {
-    if !graph.is_valid_id(a.id) {
-        return Err(Error::NotATerm);
+// The class of an id with its own slots as its names, if it can be asked.
+fn own<L: Language>(graph: &EGraph<L>, a: &AppliedId) -> Result<AppliedId, Error> {
+    if graph.is_valid_id(a.id) {
+        graph.mk_identity_applied_id(a.id)
+    } else {
+        Err(Error::NotATerm)
     }
-    let own = graph.mk_identity_applied_id(a.id)?;
-    Ok(graph.is_valid(&own))
 }
 
 /// The number of slots that the class of an id has left.
@@ -108,68 +101,6 @@ fn unite_since<L: Language>(
     }
 }
 
-// Puts another slot in at a place of the id, if it has the place.
-fn put_slot(id: &mut AppliedId, i: usize, slot: Slot) {
-    if i < id.m.len() {
-        id.m.set_value_at(i, slot);
-    }
-}
-
-// The left id with another slot at a place, with one pair more, as a class of this number without slots, or over the slots of
-// the right one.
-fn change(alloc: Global, sides: &mut Equation, how: &str) -> Result<(), Error> {
-    let (word, name) = parted(how, " ");
-    let slot = slot(alloc, name)?;
-    match word {
-        "first" => put_slot(&mut sides.l, 0, slot),
-        "second" => put_slot(&mut sides.l, 1, slot),
-        "more" => {
-            sides.l.m.insert(slot, slot)?;
-        }
-        "bare" => {
-            sides.l = AppliedId {
-                id: Id(name.parse::<usize>().unwrap_or(0)),
-                m: SlotMap::new(alloc),
-            };
-        }
-        _ => mem::swap(&mut sides.l.m, &mut sides.r.m),
-    }
-    Ok(())
-}
-
-/// Whether an id is full after such a change.
-pub fn is_full_changed<L: Language>(
-    alloc: Global,
-    graph: &EGraph<L>,
-    sides: &mut Equation,
-    how: &str,
-) -> Result<bool, Error> {
-    change(alloc, sides, how)?;
-    Ok(graph.is_full(&sides.l))
-}
-
-/// Whether it is valid after such a change.
-pub fn is_valid_changed<L: Language>(
-    alloc: Global,
-    graph: &EGraph<L>,
-    sides: &mut Equation,
-    how: &str,
-) -> Result<bool, Error> {
-    change(alloc, sides, how)?;
-    Ok(graph.is_valid(&sides.l))
-}
-
-/// How the left id, changed, and the right one are related.
-pub fn related_changed<L: Language>(
-    alloc: Global,
-    graph: &EGraph<L>,
-    sides: &mut Equation,
-    how: &str,
-) -> Result<&'static str, Error> {
-    change(alloc, sides, how)?;
-    related(graph, &sides.l, &sides.r)
-}
-
 /// What a union answers, because of a text if there is one.
 pub fn unite_because<L: Language>(
     alloc: Global,
@@ -184,16 +115,112 @@ pub fn unite_because<L: Language>(
     }
 }
 
-/// What a union answers of the left id, changed, or of what it finds.
-pub fn unite_changed<L: Language>(
-    alloc: Global,
-    graph: &mut EGraph<L>,
-    sides: &mut Equation,
-    how: &str,
-) -> Result<bool, Error> {
-    match how {
-        "found" => sides.l = found(graph, &sides.l)?,
-        _ => change(alloc, sides, how)?,
+// Puts another slot in at a place of the id, if it has the place.
+fn put_slot(id: &mut AppliedId, i: usize, slot: Slot) {
+    if i < id.m.len() {
+        id.m.set_value_at(i, slot);
     }
-    unite(graph, sides)
+}
+
+// Takes the first slot of the id away.
+fn shorten(a: &mut AppliedId) {
+    let first = a.m.iter().next();
+    if let Some((key, _)) = first {
+        a.m.remove(key);
+    }
+}
+
+// The class of this number without slots.
+fn bare(alloc: Global, number: &str) -> AppliedId {
+    AppliedId {
+        id: Id(number.parse::<usize>().unwrap_or(0)),
+        m: SlotMap::new(alloc),
+    }
+}
+
+// Puts one pair more in.
+fn put_more(id: &mut AppliedId, slot: Slot) -> Result<(), Error> {
+    id.m.insert(slot, slot)?;
+    Ok(())
+}
+
+// The left id with another slot at a place, with one pair more, as a class of this number without slots, or over the slots of
+// the right one.
+fn change(alloc: Global, sides: &mut Equation, how: &str) -> Result<(), Error> {
+    let (word, name) = parted(how, " ");
+    let slot = slot(alloc, name)?;
+    match word {
+        "first" => put_slot(&mut sides.l, 0, slot),
+        "second" => put_slot(&mut sides.l, 1, slot),
+        "more" => return put_more(&mut sides.l, slot),
+        "bare" => sides.l = bare(alloc, name),
+        _ => mem::swap(&mut sides.l.m, &mut sides.r.m),
+    }
+    Ok(())
+}
+
+// Puts what an id finds in its place.
+fn find<L: Language>(graph: &EGraph<L>, id: &mut AppliedId) -> Result<(), Error> {
+    *id = found(graph, id)?;
+    Ok(())
+}
+
+// Puts the id of its class over its own slots in its place.
+fn make_own<L: Language>(graph: &EGraph<L>, id: &mut AppliedId) -> Result<(), Error> {
+    *id = own(graph, id)?;
+    Ok(())
+}
+
+/// Changes one of the ids.
+pub fn turn<L: Language>(
+    alloc: Global,
+    graph: &EGraph<L>,
+    sides: &mut Equation,
+    word: &str,
+    how: &str,
+) -> Result<(), Error> {
+    match word {
+        "find" => find(graph, &mut sides.l),
+        "find right" => find(graph, &mut sides.r),
+        "own" => make_own(graph, &mut sides.l),
+        "change" => change(alloc, sides, how),
+        _ => {
+            shorten(&mut sides.r);
+            Ok(())
+        }
+    }
+}
+
+// Whether this is the class 0 with the slot of this name alone put in, for its one slot.
+fn is_first_over(alloc: Global, id: &AppliedId, name: &str) -> Result<bool, Error> {
+    let slot = slot(alloc, name)?;
+    match id.m.iter().next() {
+        Some((_, value)) => Ok(id.id == Id(0) && id.m.len() == 1 && value == slot),
+        None => Ok(false),
+    }
+}
+
+// Whether the id is over as many slots as its class has left.
+fn is_narrow<L: Language>(graph: &EGraph<L>, id: &AppliedId) -> Result<bool, Error> {
+    Ok(slots_left(graph, id)? == id.m.len())
+}
+
+/// Whether it holds of the ids, or of the graph.
+pub fn holds<L: Language>(
+    alloc: Global,
+    graph: &EGraph<L>,
+    sides: &Equation,
+    word: &str,
+    name: &str,
+) -> Result<bool, Error> {
+    match word {
+        "same" => Ok(sides.l == sides.r),
+        "alive" => Ok(graph.is_alive(sides.l.id)),
+        "valid" => Ok(graph.is_valid(&sides.l)),
+        "full" => Ok(graph.is_full(&sides.l)),
+        "narrow" => is_narrow(graph, &sides.l),
+        "equal" => equal(graph, &sides.l, &sides.r),
+        "checked" => graph.check(),
+        _ => is_first_over(alloc, &sides.l, name),
+    }
 }

@@ -1,7 +1,6 @@
-//! What is asked of filed nodes, and of how far a graph is.
-use crate::graphs::{put, yes};
-use crate::ids::found;
-use crate::nodes::look_up;
+//! What is counted in a graph, and what is asked of its filed nodes.
+use crate::found::look_up;
+use crate::ids::slots_left;
 use slotted_graph::EGraph;
 use slotted_languages::Language;
 use slotted_slots::{AppliedId, Error};
@@ -14,12 +13,6 @@ fn nodes_of<L: Language>(graph: &mut EGraph<L>, a: &AppliedId) -> Result<Vec<L>,
     } else {
         Err(Error::NotATerm)
     }
-}
-
-// The same of the id of a term.
-fn nodes_of_term<L: Language>(graph: &mut EGraph<L>, text: &str) -> Result<Vec<L>, Error> {
-    let id = put(graph, text)?;
-    nodes_of(graph, &id)
 }
 
 // Whether a node is looked up as this id.
@@ -57,46 +50,61 @@ fn ascend<L: Language>(alloc: Global, nodes: &[L]) -> Result<bool, Error> {
     Ok(true)
 }
 
-// Whether the filed nodes of an id's class ascend, and are looked up as what the id finds.
-fn are_its<L: Language>(
+/// Whether the filed nodes of an id's class ascend, and are looked up as the id.
+pub fn are_its<L: Language>(
     alloc: Global,
     graph: &mut EGraph<L>,
-    a: &AppliedId,
+    id: &AppliedId,
 ) -> Result<bool, Error> {
-    let id = found(graph, a)?;
-    let nodes = nodes_of(graph, &id)?;
-    Ok(ascend(alloc, &nodes)? && are_found(graph, &nodes, &id)?)
+    let nodes = nodes_of(graph, id)?;
+    Ok(ascend(alloc, &nodes)? && are_found(graph, &nodes, id)?)
 }
 
-// The same of the id of a term.
-fn are_of_term<L: Language>(
-    alloc: Global,
+// How many there are.
+fn node_count<L: Language>(graph: &mut EGraph<L>, a: &AppliedId) -> Result<usize, Error> {
+    Ok(nodes_of(graph, a)?.len())
+}
+
+// The number of children of the canonical node of an id, if it can be found.
+fn child_count<L: Language>(graph: &mut EGraph<L>, a: &AppliedId) -> Result<usize, Error> {
+    if !graph.is_valid(a) {
+        return Err(Error::NotATerm);
+    }
+    let node = graph.get_syn_node(a)?;
+    Ok(node.applied_id_count())
+}
+
+// The length of the list of live classes, of proofs or of what was asserted.
+fn number_of_list<L: Language>(graph: &EGraph<L>, word: &str) -> Result<usize, Error> {
+    match word {
+        "live" => Ok(graph.ids()?.len()),
+        "proved" => Ok(graph.proof_count()),
+        _ => Ok(graph.asserted().len()),
+    }
+}
+
+// A number of how far the graph is.
+fn number_of_report<L: Language>(graph: &EGraph<L>, word: &str) -> usize {
+    match word {
+        "total" => graph.total_number_of_nodes(),
+        "classes" => graph.progress().number_of_classes,
+        "live" => graph.progress().number_of_live_classes,
+        _ => graph.progress().sum_of_slots,
+    }
+}
+
+/// A number that is asked of an id, of the graph's reports or of its lists.
+pub fn number_of<L: Language>(
     graph: &mut EGraph<L>,
-    text: &str,
-) -> Result<bool, Error> {
-    let id = put(graph, text)?;
-    are_its(alloc, graph, &id)
-}
-
-// A number, as a text.
-fn number(alloc: Global, number: usize) -> Result<String, Error> {
-    Ok(format!(in alloc; "{number}")?)
-}
-
-/// What is asked of filed nodes.
-pub fn answer<L: Language>(
-    alloc: Global,
-    graph: &mut EGraph<L>,
-    ask: &str,
-    text: &str,
-) -> Result<String, Error> {
-    match ask {
-        "total" => number(alloc, graph.total_number_of_nodes()),
-        "classes" => number(alloc, graph.progress().number_of_classes),
-        "live" => number(alloc, graph.progress().number_of_live_classes),
-        "slots" => number(alloc, graph.progress().sum_of_slots),
-        "nodes" => number(alloc, nodes_of_term(graph, text)?.len()),
-        "check" => Ok(String::from_str(alloc, yes(graph.check()?))?),
-        _ => Ok(String::from_str(alloc, yes(are_of_term(alloc, graph, text)?))?),
+    id: &AppliedId,
+    what: &str,
+    word: &str,
+) -> Result<usize, Error> {
+    match what {
+        "children" => child_count(graph, id),
+        "slots" => slots_left(graph, id),
+        "nodes" => node_count(graph, id),
+        "filed" => Ok(number_of_report(graph, word)),
+        _ => number_of_list(graph, word),
     }
 }

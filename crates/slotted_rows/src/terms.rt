@@ -1,6 +1,4 @@
-//! What is printed of terms and patterns, and what is counted.
-use crate::graphs::{put, yes};
-use crate::ids::slots_left;
+//! What is printed of terms and patterns.
 use slotted_graph::EGraph;
 use slotted_languages::Language;
 use slotted_patterns::Pattern;
@@ -43,8 +41,8 @@ fn term<L: Printable>(alloc: Global, graph: &mut EGraph<L>, text: &str) -> Resul
     term.text(alloc, graph.table())
 }
 
-// The canonical term of an id, if it can be found.
-fn canonical_term<L: Printable>(
+/// The canonical term of an id, if it can be found.
+pub fn canonical<L: Printable>(
     alloc: Global,
     graph: &mut EGraph<L>,
     a: &AppliedId,
@@ -77,8 +75,8 @@ fn has_only_nulls<L: Language>(alloc: Global, term: &RecExpr<L>) -> bool {
     has_null_ids(alloc, &term.node)
 }
 
-// The same of the canonical term of an id, if it can be found.
-fn is_null_inside<L: Language>(
+/// The same of the canonical term of an id, if it can be found.
+pub fn is_null_inside<L: Language>(
     alloc: Global,
     graph: &mut EGraph<L>,
     a: &AppliedId,
@@ -90,86 +88,15 @@ fn is_null_inside<L: Language>(
     Ok(has_only_nulls(alloc, &term))
 }
 
-// The same of the canonical term of a text's term.
-fn nulls<L: Language>(
-    alloc: Global,
-    graph: &mut EGraph<L>,
-    text: &str,
-) -> Result<&'static str, Error> {
-    let id = put(graph, text)?;
-    Ok(yes(is_null_inside(alloc, graph, &id)?))
+/// The text of the whole graph, with a sign for each line feed.
+pub fn dumped<L: Language>(alloc: Global, graph: &mut EGraph<L>) -> Result<String, Error> {
+    let mut out = String::new(alloc);
+    graph.dump(&mut out)?;
+    Ok(out.replace(alloc, "\n", "¶")?)
 }
 
-// The number of children of its canonical node.
-fn child_count<L: Language>(graph: &mut EGraph<L>, a: &AppliedId) -> Result<usize, Error> {
-    if !graph.is_valid(a) {
-        return Err(Error::NotATerm);
-    }
-    let node = graph.get_syn_node(a)?;
-    Ok(node.applied_id_count())
-}
-
-// The canonical term of a text's term.
-fn canonical<L: Printable>(
-    alloc: Global,
-    graph: &mut EGraph<L>,
-    text: &str,
-) -> Result<String, Error> {
-    let id = put(graph, text)?;
-    canonical_term(alloc, graph, &id)
-}
-
-// What an id finds, if it can be found.
-fn found_id<L: Language>(graph: &EGraph<L>, a: &AppliedId) -> Result<AppliedId, Error> {
-    if !graph.is_valid(a) {
-        return Err(Error::NotATerm);
-    }
-    graph.find_applied_id(a)
-}
-
-// The canonical term of what the id of a text's term finds.
-fn found<L: Printable>(alloc: Global, graph: &mut EGraph<L>, text: &str) -> Result<String, Error> {
-    let id = put(graph, text)?;
-    let found = found_id(graph, &id)?;
-    canonical_term(alloc, graph, &found)
-}
-
-// The number of children of its canonical node.
-fn canonical_children<L: Language>(graph: &mut EGraph<L>, text: &str) -> Result<usize, Error> {
-    let id = put(graph, text)?;
-    child_count(graph, &id)
-}
-
-// The number of slots that the class of a text's term has left.
-fn class_slots<L: Language>(graph: &mut EGraph<L>, text: &str) -> Result<usize, Error> {
-    let id = put(graph, text)?;
-    slots_left(graph, &id)
-}
-
-// A number that is asked by a word.
-fn number<L: Language>(graph: &mut EGraph<L>, word: &str, text: &str) -> Result<usize, Error> {
-    match word {
-        "children" => canonical_children(graph, text),
-        "slots" => class_slots(graph, text),
-        "live" => Ok(graph.ids()?.len()),
-        "proved" => Ok(graph.proof_count()),
-        _ => Ok(graph.asserted().len()),
-    }
-}
-
-/// What is counted by a word.
-pub fn count<L: Language>(
-    alloc: Global,
-    graph: &mut EGraph<L>,
-    word: &str,
-    text: &str,
-) -> Result<String, Error> {
-    let number = number(graph, word, text)?;
-    Ok(format!(in alloc; "{number}")?)
-}
-
-/// What is printed by a word.
-pub fn answer<L: Printable>(
+/// What is printed of a text by a word.
+pub fn printed<L: Printable>(
     alloc: Global,
     graph: &mut EGraph<L>,
     word: &str,
@@ -178,9 +105,6 @@ pub fn answer<L: Printable>(
     match word {
         "pattern" => pattern(alloc, graph, text),
         "slot" => slot(alloc, graph, text),
-        "term" => term(alloc, graph, text),
-        "found" => found(alloc, graph, text),
-        "nulls" => Ok(String::from_str(alloc, nulls(alloc, graph, text)?)?),
-        _ => canonical(alloc, graph, text),
+        _ => term(alloc, graph, text),
     }
 }

@@ -5,7 +5,6 @@ use slotted_languages::Language;
 use slotted_proofs::{
     CongruenceProof, Equation, ProvenEq, ReflexivityProof, SymmetryProof, TransitivityProof,
 };
-use slotted_rows::graphs::put_term;
 use slotted_slots::{AppliedId, Error};
 use slotted_terms::expr::RecExpr;
 use slotted_terms::expr::printing::Printable;
@@ -13,7 +12,7 @@ use std::alloc::Global;
 use std::process::Abort;
 
 // The number of the refusal, or 0.
-pub fn refusal<T: Drop>(outcome: Result<T, Error>) -> u8 {
+fn refusal<T: Drop>(outcome: Result<T, Error>) -> u8 {
     match outcome {
         Ok(_) => 0,
         Err(e) => e.number(),
@@ -186,29 +185,4 @@ pub fn assert_entries_refused<L: Printable>(rt: &impl Abort, alloc: Global, grap
         assert_takes_no_step(rt, alloc, graph, p, &null_sides(alloc));
         assert_prints_nothing(rt, alloc, graph, p);
     }
-}
-
-// Adds a term. A refusal fails the graph for good.
-fn add_term<L: Language>(
-    rt: &impl Abort,
-    alloc: Global,
-    graph: &mut EGraph<L>,
-    term: &RecExpr<L>,
-) -> Result<AppliedId, Error> {
-    let added = put_term(graph, term);
-    if added.is_err() {
-        assert_failed(rt, alloc, graph, term);
-    }
-    added
-}
-
-// Adds the term of a text.
-pub fn add_text<L: Language>(
-    rt: &impl Abort,
-    alloc: Global,
-    graph: &mut EGraph<L>,
-    text: &str,
-) -> Result<AppliedId, Error> {
-    let term = graph.parse_expr(text)?;
-    add_term(rt, alloc, graph, &term)
 }

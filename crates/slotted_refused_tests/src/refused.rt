@@ -1,9 +1,9 @@
 //! A script over most calls of a graph, in which memory or slots end. `rt try --test --fail-alloc N` has the Nth growth refused.
+use crate::asked::is_answered;
 use crate::failing::{assert_entries_refused, assert_failed};
-use crate::rows::answer;
 use slotted_graph::EGraph;
 use slotted_proofs::ProvenEq;
-use slotted_rows::graphs::{empty, parted};
+use slotted_rows::graphs::empty;
 use slotted_slots::{Error, SlotTable};
 use slotted_small::Small;
 use slotted_terms::expr::printing::Printable;
@@ -18,7 +18,7 @@ count slots: (f $x $y) => 1
 own: (f $x $y) => yes
 found: (f $x $y) == (g $x) => yes
 ids: (f $x $y) == (f $x $z) => equal
-node found: (f $x $z) ? (g $x) => equal
+node found: (f $x $z) == (g $x) => equal
 union: (add (var $x) (var $y)) == (add (var $y) (var $x)) => yes
 graph counted => yes
 graph sides 0 => one class
@@ -54,28 +54,6 @@ print pattern: (lam $x (app ?f (var $y)))[(var $x) := ?t] => (lam $x (app ?f (va
 print slot: w => $w
 count asserted => 4"#;
 
-// Whether a question has the wanted answer. None where it is refused by the number of what ended.
-fn is_answered<L: Printable>(
-    alloc: Global,
-    graph: &mut EGraph<L>,
-    other: &mut EGraph<L>,
-    known: &mut Vec<ProvenEq>,
-    question: &str,
-    wanted: &str,
-    ended: u8,
-) -> Option<bool> {
-    match answer(alloc, graph, other, known, question) {
-        Ok(text) => Some(text.as_str() == wanted),
-        Err(e) => {
-            if e.number() == ended {
-                None
-            } else {
-                Some(e.name() == wanted)
-            }
-        }
-    }
-}
-
 // What is answered to a question that was refused, and is asked again: one growth at most is refused, but no slot comes back.
 fn again(ended: u8) -> Option<bool> {
     if ended == 1 { Some(true) } else { None }
@@ -92,19 +70,18 @@ fn goes_on<L: Printable>(
     row: &str,
     ended: u8,
 ) -> bool {
-    let (question, wanted) = parted(row, " => ");
     let asserted = graph.asserted().len();
-    let first = is_answered(alloc, graph, other, known, question, wanted, ended);
+    let first = is_answered(alloc, graph, other, known, row, ended);
     if graph.is_failed() {
-        assert!(rt; first.is_none(), "{question}");
+        assert!(rt; first.is_none(), "{row}");
         return false;
     }
     if first.is_none() {
-        assert!(rt; graph.asserted().len() == asserted, "{question}");
-        let second = is_answered(alloc, graph, other, known, question, wanted, ended);
-        assert!(rt; second == again(ended), "{question}");
+        assert!(rt; graph.asserted().len() == asserted, "{row}");
+        let second = is_answered(alloc, graph, other, known, row, ended);
+        assert!(rt; second == again(ended), "{row}");
     } else {
-        assert!(rt; first == Some(true), "{question}");
+        assert!(rt; first == Some(true), "{row}");
     }
     true
 }
@@ -116,9 +93,10 @@ fn walk<L: Printable>(
     graph: &mut EGraph<L>,
     other: &mut EGraph<L>,
     known: &mut Vec<ProvenEq>,
+    rows: &str,
     ended: u8,
 ) -> bool {
-    for row in SCRIPT.lines() {
+    for row in rows.lines() {
         if !goes_on(rt, alloc, graph, other, known, row, ended) {
             return false;
         }
@@ -138,42 +116,61 @@ fn assert_all_refused<L: Printable>(
     assert_entries_refused(rt, alloc, graph);
 }
 
-// Walks through the rows beside a new graph, and over the graph that has failed.
-fn check_walk<L: Printable>(rt: &impl Abort, alloc: Global, graph: &mut EGraph<L>, ended: u8) {
-    let mut other: EGraph<L> = empty(alloc, "0").expect(rt, "no memory is taken");
+// Walks through the rows beside another graph, and over the graph that has failed. Says whether it came to the end.
+fn walk_beside<L: Printable>(
+    rt: &impl Abort,
+    alloc: Global,
+    graph: &mut EGraph<L>,
+    other: &mut EGraph<L>,
+    rows: &str,
+    ended: u8,
+) -> bool {
     let mut known = Vec::new(alloc);
-    if !walk(rt, alloc, graph, &mut other, &mut known, ended) {
-        assert_all_refused(rt, alloc, graph, &mut other);
+    let ends = walk(rt, alloc, graph, other, &mut known, rows, ended);
+    if !ends {
+        assert_all_refused(rt, alloc, graph, other);
     }
+    ends
 }
 
-// The table of a new graph over a table that has read a name, after that.
-fn table_after<L: Printable>(
+// The same beside a new graph.
+fn walk_beside_new<L: Printable>(
+    rt: &impl Abort,
+    alloc: Global,
+    graph: &mut EGraph<L>,
+    rows: &str,
+    ended: u8,
+) -> bool {
+    let mut other: EGraph<L> = empty(alloc, "0").expect(rt, "no memory is taken");
+    walk_beside(rt, alloc, graph, &mut other, rows, ended)
+}
+
+// The table comes out in the end, also that of a failed graph: its first name is the one that was read first.
+fn assert_first(rt: &impl Abort, table: &mut SlotTable, first: &str) {
+    let slot = table.named(first).expect(rt, "the name was read");
+    assert!(rt; slot.raw() == 2);
+}
+
+// Walks through the rows, which name this slot first, in a new graph over a table that has read a name. Says whether it came to the end.
+pub fn check_rows<L: Printable>(
     rt: &impl Abort,
     alloc: Global,
     name: &str,
+    first: &str,
+    rows: &str,
     ended: u8,
-) -> Result<SlotTable, Error> {
-    let mut graph: EGraph<L> = empty(alloc, name)?;
-    check_walk(rt, alloc, &mut graph, ended);
-    Ok(graph.into_table())
+) -> bool {
+    let mut graph: EGraph<L> = empty(alloc, name).expect(rt, "no memory is taken");
+    let ends = walk_beside_new(rt, alloc, &mut graph, rows, ended);
+    let mut table = graph.into_table();
+    assert_first(rt, &mut table, first);
+    ends
 }
 
-// The table comes out in the end, also that of a failed graph: it has the names that were read.
-fn check_script<L: Printable>(
-    rt: &impl Abort,
-    alloc: Global,
-    name: &str,
-    ended: u8,
-) -> Result<(), Error> {
-    let mut table = table_after::<L>(rt, alloc, name, ended)?;
-    assert!(rt; table.named("x")?.raw() == 2);
-    Ok(())
-}
-
+// One growth at most is refused.
 #[test]
-fn one_refused_growth_is_answered(rt: HostRuntime) -> Result<(), Error> {
-    check_script::<Small>(&rt, rt.alloc(), "0", 1)
+fn one_refused_growth_is_answered(rt: HostRuntime) {
+    check_rows::<Small>(&rt, rt.alloc(), "0", "x", SCRIPT, 1);
 }
 
 // With so many fresh slots left.
@@ -182,7 +179,7 @@ fn slots_that_ended_are_answered(rt: HostRuntime) -> Result<(), Error> {
     let alloc = rt.alloc();
     for left in 0..64u32 {
         let last = 1073741823 - left;
-        check_script::<Small>(&rt, alloc, &format!(in alloc; "f{last}")?, 2)?;
+        check_rows::<Small>(&rt, alloc, &format!(in alloc; "f{last}")?, "x", SCRIPT, 2);
     }
     Ok(())
 }

@@ -1,12 +1,12 @@
 //! Steps that callers ask for, by the names of the steps.
+use crate::graphs::{parted, yes};
+use crate::ids::unite_because;
 use slotted_graph::{Check, EGraph};
 use slotted_languages::Language;
 use slotted_proofs::{
     CongruenceProof, Equation, ProvenEq, ReflexivityProof, SymmetryProof, TransitivityProof,
 };
-use slotted_rows::graphs::{parted, yes};
-use slotted_rows::ids::unite_because;
-use slotted_slots::{AppliedId, Error};
+use slotted_slots::Error;
 use slotted_terms::expr::RecExpr;
 use std::alloc::Global;
 
@@ -46,7 +46,7 @@ fn congruent<L: Language>(
     CongruenceProof(parts).check(equation, graph)
 }
 
-// The part that a digit names.
+/// The part that a digit names.
 pub fn part(known: &[ProvenEq], digit: Option<&u8>) -> Result<ProvenEq, Error> {
     match digit {
         Some(digit) => match known.get(usize::from(digit.wrapping_sub(b'0'))) {
@@ -81,30 +81,15 @@ fn step_over<L: Language>(
     }
 }
 
-// Takes the first slot of the id away.
-fn shorten(a: &mut AppliedId) {
-    let first = a.m.iter().next();
-    if let Some((key, _)) = first {
-        a.m.remove(key);
-    }
-}
-
-// What a step answers: `accepted`, and its number is known from now on, or a refusal, and the graph has as many entries as
-// before. Before a `short` step the right side loses a slot.
+/// What a step answers: `accepted`, and its number is known from now on, or a refusal, and the graph has as many entries as
+/// before.
 pub fn answer<L: Language>(
     alloc: Global,
     graph: &mut EGraph<L>,
     known: &mut Vec<ProvenEq>,
-    ask: &str,
-    equation: &mut Equation,
+    step: &str,
+    equation: &Equation,
 ) -> Result<&'static str, Error> {
-    let step = match ask.strip_prefix("short ") {
-        Some(step) => {
-            shorten(&mut equation.r);
-            step
-        }
-        None => ask,
-    };
     let before = graph.proof_count();
     match step_over(alloc, graph, known, step, equation) {
         Ok(p) => {
@@ -130,13 +115,13 @@ fn explanation<L: Language>(
     Err(Error::NotATerm)
 }
 
-// Explains why the two terms that `T == U` writes are equal. The number of the entry is known from now on.
+/// Explains why the terms of two texts are equal. The number of the entry is known from now on.
 pub fn explained<L: Language>(
     graph: &mut EGraph<L>,
     known: &mut Vec<ProvenEq>,
-    texts: &str,
+    left: &str,
+    right: &str,
 ) -> Result<&'static str, Error> {
-    let (left, right) = parted(texts, " == ");
     let left = graph.parse_expr(left)?;
     let right = graph.parse_expr(right)?;
     let p = explanation(graph, &left, &right)?;
@@ -144,7 +129,7 @@ pub fn explained<L: Language>(
     Ok("explained")
 }
 
-// Whether the number that a digit names is that of the last entry, of the next one, of the third one or a later one, or valid.
+/// Whether the number that a digit names is that of the last entry, of the next one, of the third one or a later one, or valid.
 pub fn numbered<L: Language>(
     graph: &EGraph<L>,
     known: &[ProvenEq],

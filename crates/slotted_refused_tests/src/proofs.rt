@@ -1,10 +1,10 @@
 //! What is printed of the proofs of a graph.
-use crate::steps::part;
 use slotted_explain::Explanation;
 use slotted_graph::EGraph;
 use slotted_languages::Language;
 use slotted_proofs::{Proof, ProvenEq};
 use slotted_rows::graphs::{parted, yes};
+use slotted_rows::steps::part;
 use slotted_slots::Error;
 use slotted_terms::expr::printing::Printable;
 use std::alloc::Global;
@@ -42,7 +42,7 @@ fn said<L: Printable>(alloc: Global, graph: &mut EGraph<L>, p: ProvenEq) -> Resu
 }
 
 // What is printed by a word.
-fn printed<L: Printable>(
+fn text<L: Printable>(
     alloc: Global,
     graph: &mut EGraph<L>,
     p: ProvenEq,
@@ -66,12 +66,12 @@ fn printed_in_one_line<L: Printable>(
     p: ProvenEq,
     word: &str,
 ) -> Result<String, Error> {
-    let text = printed(alloc, graph, p, word)?;
+    let text = text(alloc, graph, p, word)?;
     in_one_line(alloc, text.as_str())
 }
 
 // What is printed of the proof that a digit names.
-pub fn answer<L: Printable>(
+pub fn printed<L: Printable>(
     alloc: Global,
     graph: &mut EGraph<L>,
     known: &[ProvenEq],
@@ -102,14 +102,25 @@ fn is_copied<L: Language>(alloc: Global, graph: &EGraph<L>, p: ProvenEq) -> Resu
     Ok(entry.equ == *p.equ(graph))
 }
 
-// Whether the entry that a digit names is asserted for the reason behind it, and its copy has the same equation.
+// Whether an entry is asserted for this reason, and its copy has the same equation.
+fn is_told<L: Language>(
+    alloc: Global,
+    graph: &EGraph<L>,
+    p: ProvenEq,
+    text: &str,
+) -> Result<bool, Error> {
+    Ok(is_copied(alloc, graph, p)? && has_text(graph, p, text))
+}
+
+// The same of the entry that a digit names.
 pub fn told<L: Language>(
     alloc: Global,
     graph: &EGraph<L>,
     known: &[ProvenEq],
     ask: &str,
-) -> Result<&'static str, Error> {
+) -> Result<String, Error> {
     let (digit, text) = parted(ask, " ");
     let p = part(known, digit.as_bytes().first())?;
-    Ok(yes(is_copied(alloc, graph, p)? && has_text(graph, p, text)))
+    let holds = is_told(alloc, graph, p, text)?;
+    Ok(String::from_str(alloc, yes(holds))?)
 }
