@@ -19,7 +19,7 @@ behind front bs e = (front ++ e.0, ap (λ r. front ++ r) e.1 ∙ sym (append_ass
 
 line_ends : (written : Term → List Element) (g h : Graph) (lines : List ℕ) (i p : ℕ) (bs : List ℕ) → IsLine written g h lines i p bs → EndsInLineFeed bs
 line_ends written g h lines i p bs l =
-    subst EndsInLineFeed (sym l.bytes) (behind (decimal i) _ (behind (codes ": ") _ (behind l.left_text _ (behind (codes " = ") _ (behind l.right_text _ (behind (codes " by ") _ (l.reason, refl)))))))
+    subst EndsInLineFeed (sym l.bytes) (behind (decimal i) _ (behind (codes ": ") _ (behind l.sides _ (behind (codes " by ") _ (l.reason, refl)))))
 
 -- the entry has the last line
 has_last_line : (list : List Proven) (p : ℕ) (lines : List ℕ) → Lines list [] (p ∷ []) lines → (before : List ℕ) × (lines ≡ before ++ p ∷ [])

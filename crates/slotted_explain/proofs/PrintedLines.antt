@@ -13,7 +13,7 @@ use Rattle.slotted_core.specs.Image.{Image}
 use Rattle.slotted_slots.specs.Table.{KnowsMore}
 use Rattle.slotted_core.specs.Graph.{Graph, OnlyTakesSlots}
 use Rattle.slotted_core.proofs.CallerLemmas.{term_later}
-use Rattle.slotted_explain.specs.Printed.{IsSideText, IsLine, ArePrinted}
+use Rattle.slotted_explain.specs.Printed.{IsSideText, IsSidesText, IsLine, ArePrinted}
 
 -- the entry of a line
 pub at_line : (lines : List ℕ) (i p : ℕ) → i < length lines → slice_get lines i ≡ Some p → slice_index_or lines i 0 ≡ p
@@ -35,8 +35,8 @@ module _ (written : Term → List Element) (g h : Graph) (same : OnlyTakesSlots 
     bytes = s.bytes;
   }
 
-  pub line_in : (lines : List ℕ) (i p : ℕ) (bs : List ℕ) → IsLine written h l lines i p bs → IsLine written g l lines i p bs
-  line_in lines i p bs x = record {
+  sides_in : (p : ℕ) (bs : List ℕ) → IsSidesText written h l p bs → IsSidesText written g l p bs
+  sides_in p bs x = record {
     left = x.left;
     right = x.right;
     sides = subst (λ (m : Image). AreSides (statement_at m.stored p) x.left x.right) same.reads.image x.sides;
@@ -44,6 +44,13 @@ module _ (written : Term → List Element) (g h : Graph) (same : OnlyTakesSlots 
     right_text = x.right_text;
     left_is = side_in x.left x.left_text x.left_is;
     right_is = side_in x.right x.right_text x.right_is;
+    bytes = x.bytes;
+  }
+
+  pub line_in : (lines : List ℕ) (i p : ℕ) (bs : List ℕ) → IsLine written h l lines i p bs → IsLine written g l lines i p bs
+  line_in lines i p bs x = record {
+    sides = x.sides;
+    sides_are = sides_in p x.sides x.sides_are;
     reason = x.reason;
     reason_is = subst (λ (m : Image). IfSome (reason_text lines (proven_at m.stored p).step (proven_at m.stored p).text) (λ r. x.reason ≡ r)) same.reads.image x.reason_is;
     bytes = x.bytes;
@@ -53,8 +60,8 @@ module _ (written : Term → List Element) (g h l : Graph) (more : KnowsMore h.t
   pub side_later : (a : Applied) (bs : List ℕ) → IsSideText written g h a bs → IsSideText written g l a bs
   side_later a bs s = record { term = s.term; table = s.table; is = s.is; known = term_later h.table l.table more s.term s.known; names = s.names; bytes = s.bytes }
 
-  line_later : (lines : List ℕ) (i p : ℕ) (bs : List ℕ) → IsLine written g h lines i p bs → IsLine written g l lines i p bs
-  line_later lines i p bs x = record {
+  sides_later : (p : ℕ) (bs : List ℕ) → IsSidesText written g h p bs → IsSidesText written g l p bs
+  sides_later p bs x = record {
     left = x.left;
     right = x.right;
     sides = x.sides;
@@ -62,6 +69,13 @@ module _ (written : Term → List Element) (g h l : Graph) (more : KnowsMore h.t
     right_text = x.right_text;
     left_is = side_later x.left x.left_text x.left_is;
     right_is = side_later x.right x.right_text x.right_is;
+    bytes = x.bytes;
+  }
+
+  line_later : (lines : List ℕ) (i p : ℕ) (bs : List ℕ) → IsLine written g h lines i p bs → IsLine written g l lines i p bs
+  line_later lines i p bs x = record {
+    sides = x.sides;
+    sides_are = sides_later p x.sides x.sides_are;
     reason = x.reason;
     reason_is = x.reason_is;
     bytes = x.bytes;

@@ -1,13 +1,12 @@
 -- Rewrites on a stack: what they come down to, that they are by entries of the list, and how many are left.
 use Rattle.std.proofs.Common.{◌≡◌, ℕ, zero, suc, ◌+◌, ◌<◌, ◌≤◌, List, [], ◌∷◌, ◌++◌, length, reverse, Bool, true, false, cond, refl, sym, ap, ◌∙◌, subst, arith, append_assoc}
-use Rattle.std.specs.List.{sum_by}
+use Rattle.std.specs.List.{AllByRecursion, sum_by}
 use Rattle.std.proofs.lemmas.List.{append-nil, reverse-append, reverse-reverse}
+use Rattle.std.proofs.lemmas.List.Elements.{All-from_recursion, recursion_from_All}
 use Rattle.std.proofs.lemmas.List.Sorted.{IsPermutation-reverse, sum_by-IsPermutation}
 use Rattle.std.proofs.lemmas.List.Sums.{sum_by-append, sum_by-cons, sum_by_push}
 use Rattle.slotted_model.specs.Leaves.{parts_of}
 use Rattle.slotted_model.specs.ProofList.{Step, explicit, reflexive, symmetric, transitive, congruent}
-use Rattle.slotted_store.proofs.ChildIds.{Each, Each-from_All}
-use Rattle.slotted_core.proofs.Layers.{each_at}
 use Rattle.slotted_proofs.specs.Entries.{Proven, proven_at}
 use Rattle.slotted_proofs.specs.Lines.{PartsAreEarlier, parts_at}
 use Rattle.slotted_explain.specs.Chain.{AreWithin, IsChain, Rewrite, Rewrites, none, next, child_rewrite, child_rewrites, in_order, own_step, part_rewrites, rewrite, rewrites_below}
@@ -21,7 +20,7 @@ parts_first rest xs = reverse-append rest (reverse xs) ∙ ap (λ ys. ys ++ reve
 
 -- rewrites by entries below a number
 abbrev pub EachBelow : ℕ → List Rewrite → Type 0
-EachBelow n rs = Each (λ r. r.entry < n) rs
+EachBelow n rs = AllByRecursion (λ r. r.entry < n) rs
 
 pub each_both : (n : ℕ) (xs ys : List Rewrite) → EachBelow n xs → EachBelow n ys → EachBelow n (xs ++ ys)
 each_both n [] ys h k = k
@@ -35,7 +34,7 @@ each_reversed : (n : ℕ) (xs : List Rewrite) → EachBelow n xs → EachBelow n
 each_reversed n [] h = tt
 each_reversed n (x ∷ xs) h = subst (EachBelow n) (sym (reverse-append (x ∷ []) xs)) (each_both n (reverse xs) (x ∷ []) (each_reversed n xs h.1) (h.0, tt))
 
-each_child : (n : ℕ) (r : Rewrite) (k : ℕ) (ps : List ℕ) → Each (λ q. q < n) ps → EachBelow n (child_rewrites r k ps)
+each_child : (n : ℕ) (r : Rewrite) (k : ℕ) (ps : List ℕ) → AllByRecursion (λ q. q < n) ps → EachBelow n (child_rewrites r k ps)
 each_child n r k [] h = tt
 each_child n r k (p ∷ ps) h = (h.0, each_child n r (suc k) ps h.1)
 
@@ -43,7 +42,7 @@ each_order : (n : ℕ) (b : Bool) (x y : Rewrite) → x.entry < n → y.entry < 
 each_order n true x y l m = (m, (l, tt))
 each_order n false x y l m = (l, (m, tt))
 
-each_part : (n : ℕ) (r : Rewrite) (s : Step) → Each (λ q. q < n) (parts_of s) → EachBelow n (part_rewrites r s)
+each_part : (n : ℕ) (r : Rewrite) (s : Step) → AllByRecursion (λ q. q < n) (parts_of s) → EachBelow n (part_rewrites r s)
 each_part n r explicit h = tt
 each_part n r reflexive h = tt
 each_part n r (symmetric p) h = (h.0, tt)
@@ -61,7 +60,7 @@ each_own list r l false = tt
 -- the parts of an entry are below it
 pub parts_below : (list : List Proven) → PartsAreEarlier list → (r : Rewrite) → r.entry < length list → EachBelow r.entry (rewrites_below list r)
 parts_below list earlier r l =
-    each_part r.entry r (proven_at list r.entry).step (Each-from_All (λ q. q < r.entry) (parts_at list r.entry) (earlier r.entry l))
+    each_part r.entry r (proven_at list r.entry).step (recursion_from_All (λ q. q < r.entry) (parts_at list r.entry) (earlier r.entry l))
 
 -- what holds of a stack and of the steps so far: what is left comes down to the steps that are left of the chain of p
 pub record IsUnderWay (list : List Proven) (p : ℕ) (stack steps : List Rewrite) : Type 0 where
@@ -92,7 +91,7 @@ pub chain_ends : (list : List Proven) (p : ℕ) (steps : List Rewrite) → IsUnd
 chain_ends list p steps i = subst (Rewrites list (rewrite p false [] ∷ [])) (append-nil steps) (i.goes_on [] none)
 
 pub steps_within : (list : List Proven) (p : ℕ) (stack steps : List Rewrite) → IsUnderWay list p stack steps → AreWithin list steps
-steps_within list p stack steps i k d l = each_at (λ (r : Rewrite). r.entry < length list) steps k d l i.done
+steps_within list p stack steps i = All-from_recursion (λ (r : Rewrite). r.entry < length list) steps i.done
 
 -- how many rewrites the tree of an entry makes, where it is looked at no deeper than n parts below it
 pub weight : List Proven → ℕ → ℕ → ℕ
@@ -107,11 +106,11 @@ size_of list p = weight list p p
 abbrev pub rewrites_left : List Proven → List Rewrite → ℕ
 rewrites_left list rs = sum_by (λ r. size_of list r.entry) rs
 
-sum_by-grows : (f g : ℕ → ℕ) (xs : List ℕ) → Each (λ x. f x ≤ g x) xs → sum_by f xs ≤ sum_by g xs
+sum_by-grows : (f g : ℕ → ℕ) (xs : List ℕ) → AllByRecursion (λ x. f x ≤ g x) xs → sum_by f xs ≤ sum_by g xs
 sum_by-grows f g [] h = omega arith
 sum_by-grows f g (x ∷ xs) h = omega (arith, sum_by-cons f x xs, sum_by-cons g x xs, h.0, sum_by-grows f g xs h.1)
 
-each_of : {X : Type 0} (P : X → Type 0) (xs : List X) → ((x : X) → P x) → Each P xs
+each_of : {X : Type 0} (P : X → Type 0) (xs : List X) → ((x : X) → P x) → AllByRecursion P xs
 each_of P [] h = tt
 each_of P (x ∷ xs) h = (h x, each_of P xs h)
 
@@ -124,12 +123,12 @@ weight-grows list (suc n) (suc m) p l =
     let deeper = sum_by-grows (weight list n) (weight list m) (parts_at list p) (each_of (λ q. weight list n q ≤ weight list m q) (parts_at list p) (λ q. weight-grows list n m q (omega arith))) in
     omega (arith, deeper)
 
-deeper : (list : List Proven) (n : ℕ) (ps : List ℕ) → Each (λ q. q < suc n) ps → Each (λ q. size_of list q ≤ weight list n q) ps
+deeper : (list : List Proven) (n : ℕ) (ps : List ℕ) → AllByRecursion (λ q. q < suc n) ps → AllByRecursion (λ q. size_of list q ≤ weight list n q) ps
 deeper list n [] h = tt
 deeper list n (q ∷ qs) h = (weight-grows list q n q (omega (arith, h.0)), deeper list n qs h.1)
 
 -- the parts are less than the whole
-parts_are_less : (list : List Proven) (p : ℕ) (ps : List ℕ) → ps ≡ parts_at list p → Each (λ q. q < p) ps → sum_by (size_of list) ps < size_of list p
+parts_are_less : (list : List Proven) (p : ℕ) (ps : List ℕ) → ps ≡ parts_at list p → AllByRecursion (λ q. q < p) ps → sum_by (size_of list) ps < size_of list p
 unfolding weight
 parts_are_less list zero [] e h = omega arith
 parts_are_less list zero (q ∷ qs) e h = absurd (omega (arith, h.0))
@@ -161,7 +160,7 @@ module _ (list : List Proven) where
   left-falls earlier rest r l =
       let w : Rewrite → ℕ = λ x. size_of list x.entry in
       let below = rewrites_below list r in
-      let parts = parts_are_less list r.entry (parts_at list r.entry) refl (Each-from_All (λ q. q < r.entry) (parts_at list r.entry) (earlier r.entry l)) in
+      let parts = parts_are_less list r.entry (parts_at list r.entry) refl (recursion_from_All (λ q. q < r.entry) (parts_at list r.entry) (earlier r.entry l)) in
       let same = left-part r (proven_at list r.entry).step in
       let turned : sum_by w (reverse below) ≡ sum_by w below = sum_by-IsPermutation w below (reverse below) (IsPermutation-reverse below) in
       omega (arith, sum_by-append w rest (reverse below), sum_by_push w rest r, turned, same, parts)

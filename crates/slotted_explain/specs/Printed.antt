@@ -1,5 +1,6 @@
 -- A proof as a text, printed over the graph g, which leaves h.
 --     IsSideText written g h a bs      bs is the print of a term that is the canonical term of a, up to bound names
+--     IsSidesText written g h p bs     bs is the print of the two sides of the entry p, which are canonical terms
 --     IsLine written g h lines i p bs  bs is the line number i of a proof with these lines, that of the entry p
 --     IsProofText written g h p bs     bs is the proof of the entry p: its lines, parts first
 --     line_binders g p                 how many binders the canonical terms of the two sides of the entry p have
@@ -33,9 +34,8 @@ pub record IsSideText (written : Term → List Element) (g h : Graph) (a : Appli
   pub names : table.names ≡ g.table.names
   pub bytes : bs ≡ term_text written table term
 
--- a line: its number, the two sides of the entry's equation, whose names are numbered, and the reason, which is open where a text is
--- outside ASCII
-pub record IsLine (written : Term → List Element) (g h : Graph) (lines : List ℕ) (i p : ℕ) (bs : List ℕ) : Type 0 where
+-- the two sides of the entry's equation, whose names are numbered
+pub record IsSidesText (written : Term → List Element) (g h : Graph) (p : ℕ) (bs : List ℕ) : Type 0 where
   pub left : Applied
   pub right : Applied
   pub sides : AreSides (statement_at g.image.stored p) left right
@@ -43,9 +43,15 @@ pub record IsLine (written : Term → List Element) (g h : Graph) (lines : List 
   pub right_text : List ℕ
   pub left_is : IsSideText written g h left left_text
   pub right_is : IsSideText written g h right right_text
+  pub bytes : bs ≡ left_text ++ (codes " = " ++ right_text)
+
+-- a line: its number, the two sides, and the reason, which is open where a text is outside ASCII
+pub record IsLine (written : Term → List Element) (g h : Graph) (lines : List ℕ) (i p : ℕ) (bs : List ℕ) : Type 0 where
+  pub sides : List ℕ
+  pub sides_are : IsSidesText written g h p sides
   pub reason : List ℕ
   pub reason_is : IfSome (reason_text lines (proven_at g.image.stored p).step (proven_at g.image.stored p).text) (λ r. reason ≡ r)
-  pub bytes : bs ≡ decimal i ++ (codes ": " ++ (left_text ++ (codes " = " ++ (right_text ++ (codes " by " ++ (reason ++ 10 ∷ []))))))
+  pub bytes : bs ≡ decimal i ++ (codes ": " ++ (sides ++ (codes " by " ++ (reason ++ 10 ∷ []))))
 
 -- the first n lines
 abbrev pub ArePrinted : (Term → List Element) → Graph → Graph → List ℕ → ℕ → List ℕ → Type 0

@@ -1,16 +1,16 @@
 //! A proof printed as a chain of whole terms.
-ghost use Rattle.std.specs.Prelude.{◌≡◌, ◌<◌, length, IfOk, IfErr, IsErrOf};
+ghost use Rattle.std.specs.Prelude.{◌<◌, length, IfErr, IsErrOf};
 ghost use Rattle.slotted_slots.specs.Error.{IsOutOfMemory, IsShortage};
 ghost use Rattle.slotted_core.specs.Graph.{OnlyTakesSlots};
 ghost use Rattle.slotted_core.specs.Syn.{MakesForTermAt, RunsOutForTermAt};
-ghost use Rattle.slotted_explain.specs.Chain.{AreWithin, from_class, to_class};
+ghost use Rattle.slotted_explain.specs.Chain.{AreWithin, from_class};
 ghost use Rattle.slotted_explain.specs.Chain.{MakesForStep, MakesForSteps, MakesForTerms, MakesForTwoTermsOf};
 ghost use Rattle.slotted_explain.specs.Chain.{RunsOutForTwoTermsOf, StepRunsOut, StepsRunOut, TermsRunOut};
 
-use crate::flat_terms::{marked, matched_names, name_apart, replaced, slots_of, subterm};
-use crate::steps::FlatStep;
+use crate::flat_terms::{marked, name_others, names_in, replaced, subterm};
+use crate::steps::{FlatStep, from_side, mark_text, to_side};
 use slotted_graph::EGraph;
-use slotted_proofs::{Proof, ProofList, ProvenEq};
+use slotted_proofs::ProvenEq;
 use slotted_slots::{AppliedId, Error, SlotMap};
 use slotted_terms::expr::RecExpr;
 use slotted_terms::expr::printing::Printable;
@@ -53,12 +53,30 @@ fn steps_text<L: Printable, N: Drop>(
 {
     let mut text = head.text(alloc, graph.table())?;
     for step in steps {
-        if let Some(term) = subterm_after(alloc, graph, step, &head)? {
-            head = replaced(alloc, &head, &step.path, &term)?;
-            push_line(alloc, graph, step, &head, &mut text)?;
-        }
+        take_step(alloc, graph, step, &mut head, &mut text)?;
     }
     Ok(text)
+}
+
+// Takes a step where the term has its place, and appends its line.
+fn take_step<L: Printable, N: Drop>(
+    alloc: Global,
+    graph: &mut EGraph<L, N>,
+    step: &FlatStep,
+    head: &mut RecExpr<L>,
+    text: &mut String,
+) -> Result<(), Error>
+    requires { step.now.entry < length graph.old.image.stored }
+    ensures takes { OnlyTakesSlots graph.old graph.new }
+    ensures count { MakesForStep graph.old graph.new step.now }
+    ensures full { IsErrOf result Error.OutOfSlots → StepRunsOut graph.old graph.new step.now }
+    ensures only { IfErr result IsShortage }
+{
+    let Some(term) = subterm_after(alloc, graph, step, head)? else {
+        return Ok(());
+    };
+    *head = replaced(alloc, head, &step.path, &term)?;
+    push_line(alloc, graph, step, head, text)
 }
 
 // Appends the line of a step, after which the whole term is this one.
@@ -78,27 +96,6 @@ fn push_line<L: Printable, N: Drop>(
     Ok(())
 }
 
-// `Rewrite=>` or `Rewrite<=`, and the text of the assertion.
-fn mark_text(alloc: Global, proofs: &ProofList, step: &FlatStep) -> Result<String, Error>
-    requires { step.now.entry < length proofs.now }
-    ensures err { IfErr result IsOutOfMemory }
-{
-    let arrow = if step.turned { "<=" } else { "=>" };
-    let reason = match proofs.proof(step.entry) {
-        Proof::Explicit(explicit) => given_text(&explicit.0),
-        _ => "-",
-    };
-    Ok(format!(in alloc; "Rewrite{arrow} {reason}")?)
-}
-
-// The text, or `-` where there is none.
-fn given_text(text: &Option<String>) -> &str {
-    match text {
-        Some(text) => text.as_str(),
-        None => "-",
-    }
-}
-
 // What a step puts in, with the names of the term in which it stands.
 fn subterm_after<L: Printable, N: Drop>(
     alloc: Global,
@@ -115,57 +112,56 @@ fn subterm_after<L: Printable, N: Drop>(
     let Some(at) = subterm(head, &step.path) else {
         return Ok(None);
     };
-    let (from, to) = sides(alloc, graph.proofs(), step)?;
-    let mut names = match names_at(alloc, graph, &from, at)? {
-        Some(names) => names,
-        None => return Ok(None),
+    let Some(mut names) = names_at(alloc, graph, step, at)? else {
+        return Ok(None);
     };
-    name_apart(alloc, &to, &mut names, &mut slots_of(alloc, head)?)?;
+    let to = to_side(alloc, graph.proofs(), step)?;
+    name_others(alloc, &to, head, &mut names)?;
     renamed_term(alloc, graph, &to, &names)
 }
 
-// What a step begins with, and what it puts in.
-fn sides(
-    alloc: Global,
-    proofs: &ProofList,
-    step: &FlatStep,
-) -> Result<(AppliedId, AppliedId), Error>
-    requires { step.now.entry < length proofs.now }
-    ensures from { IfOk result (λ s. s.0.id.0 ≡ from_class proofs.now step.now) }
-    ensures to { IfOk result (λ s. s.1.id.0 ≡ to_class proofs.now step.now) }
-    ensures err { IfErr result IsOutOfMemory }
-{
-    let equation = proofs.equ(step.entry).copy(alloc)?;
-    if step.turned {
-        Ok((equation.r, equation.l))
-    } else {
-        Ok((equation.l, equation.r))
-    }
-}
-
-// The names that the slots of an id have in a term that is its canonical one but for names.
+// The names that the slots of what a step begins with have in a term that is its canonical one but for names.
 fn names_at<L: Printable, N: Drop>(
     alloc: Global,
     graph: &mut EGraph<L, N>,
-    a: &AppliedId,
+    step: &FlatStep,
     at: &RecExpr<L>,
 ) -> Result<Option<SlotMap>, Error>
+    requires { step.now.entry < length graph.old.image.stored }
     ensures takes { OnlyTakesSlots graph.old graph.new }
-    ensures count { MakesForTwoTermsOf graph.old graph.new a.now.id.0 }
-    ensures full { IsErrOf result Error.OutOfSlots → RunsOutForTwoTermsOf graph.old graph.new a.now.id.0 }
+    ensures count { MakesForTwoTermsOf graph.old graph.new (from_class graph.old.image.stored step.now) }
+    ensures full { IsErrOf result Error.OutOfSlots
+        → RunsOutForTwoTermsOf graph.old graph.new (from_class graph.old.image.stored step.now) }
+    ensures only { IfErr result IsShortage }
+{
+    let from = from_side(alloc, graph.proofs(), step)?;
+    let Some(apart) = names_apart(alloc, graph, &from)? else {
+        return Ok(None);
+    };
+    let Some(pattern) = renamed_term(alloc, graph, &from, &apart)? else {
+        return Ok(None);
+    };
+    let names = names_in(alloc, &apart, &pattern, at)?;
+    Ok(Some(names))
+}
+
+// Names for the slots of an id that do not stand in its canonical term, if it is valid.
+fn names_apart<L: Printable, N: Drop>(
+    alloc: Global,
+    graph: &mut EGraph<L, N>,
+    a: &AppliedId,
+) -> Result<Option<SlotMap>, Error>
+    ensures takes { OnlyTakesSlots graph.old graph.new }
+    ensures count { MakesForTermAt graph.old graph.new a.now.id.0 }
+    ensures full { IsErrOf result Error.OutOfSlots → RunsOutForTermAt graph.old graph.new a.now.id.0 }
     ensures only { IfErr result IsShortage }
 {
     let Some(term) = canonical_term(graph, a)? else {
         return Ok(None);
     };
-    let mut used = slots_of(alloc, &term)?;
-    let mut numbers = SlotMap::new(alloc);
-    name_apart(alloc, a, &mut numbers, &mut used)?;
-    let Some(pattern) = renamed_term(alloc, graph, a, &numbers)? else {
-        return Ok(None);
-    };
-    let matched = matched_names(alloc, &slots_of(alloc, &pattern)?, &slots_of(alloc, at)?)?;
-    Ok(Some(numbers.compose_partial(alloc, &matched)?))
+    let mut names = SlotMap::new(alloc);
+    name_others(alloc, a, &term, &mut names)?;
+    Ok(Some(names))
 }
 
 // The canonical term of an id whose slots are renamed, if that is valid.

@@ -65,10 +65,27 @@ pub(crate) fn marked<L: Printable>(
         let text = term.text(alloc, table)?;
         return Ok(format!(in alloc; "({mark} {text})")?);
     };
+    let Some(child) = term.children.get(*next) else {
+        return term.text(alloc, table);
+    };
+    let inner = marked(alloc, child, rest, mark, table)?;
+    text_around(alloc, term, *next, &inner, table)
+}
+
+// The text of a term with another text in place of that of one child.
+fn text_around<L: Printable>(
+    alloc: Global,
+    term: &RecExpr<L>,
+    place: usize,
+    inner: &str,
+    table: &SlotTable,
+) -> Result<String, Error>
+    ensures err { IfErr result IsOutOfMemory }
+{
     let mut children = Vec::new(alloc);
     for (k, child) in term.children.iter().enumerate() {
-        if k == *next {
-            children.push(marked(alloc, child, rest, mark, table)?)?;
+        if k == place {
+            children.push(String::from_str(alloc, inner)?)?;
         } else {
             children.push(child.text(alloc, table)?)?;
         }
@@ -78,7 +95,7 @@ pub(crate) fn marked<L: Printable>(
 }
 
 // The slots that stand in a term, from the left.
-pub(crate) fn slots_of<L: Language>(alloc: Global, term: &RecExpr<L>) -> Result<Vec<Slot>, Error>
+fn slots_of<L: Language>(alloc: Global, term: &RecExpr<L>) -> Result<Vec<Slot>, Error>
     ensures err { IfErr result IsOutOfMemory }
 {
     let mut slots = Vec::new(alloc);
@@ -114,8 +131,24 @@ fn push_own<L: Language>(alloc: Global, node: &L, slots: &mut Vec<Slot>) -> Resu
     Ok(())
 }
 
+// The names that take some slots to where those of a pattern stand in a term: each name that stands in the pattern becomes the slot
+// at the same place of the term.
+pub(crate) fn names_in<L: Language>(
+    alloc: Global,
+    names: &SlotMap,
+    pattern: &RecExpr<L>,
+    term: &RecExpr<L>,
+) -> Result<SlotMap, Error>
+    ensures err { IfErr result IsOutOfMemory }
+{
+    let slots = slots_of(alloc, pattern)?;
+    let found = slots_of(alloc, term)?;
+    let matched = matched_names(alloc, &slots, &found)?;
+    names.compose_partial(alloc, &matched)
+}
+
 // Which slots of the one list stand where in the other.
-pub(crate) fn matched_names(alloc: Global, slots: &[Slot], names: &[Slot]) -> Result<SlotMap, Error>
+fn matched_names(alloc: Global, slots: &[Slot], names: &[Slot]) -> Result<SlotMap, Error>
     ensures err { IfErr result IsOutOfMemory }
 {
     let mut matched = SlotMap::new(alloc);
@@ -127,8 +160,21 @@ pub(crate) fn matched_names(alloc: Global, slots: &[Slot], names: &[Slot]) -> Re
     Ok(matched)
 }
 
-// Names each slot of an id that has no name yet.
-pub(crate) fn name_apart(
+// Names each slot of an id that has no name yet, apart from the slots of a term.
+pub(crate) fn name_others<L: Language>(
+    alloc: Global,
+    a: &AppliedId,
+    term: &RecExpr<L>,
+    names: &mut SlotMap,
+) -> Result<(), Error>
+    ensures err { IfErr result IsOutOfMemory }
+{
+    let mut used = slots_of(alloc, term)?;
+    name_apart(alloc, a, names, &mut used)
+}
+
+// Names each slot of an id that has no name yet, by one that is not used.
+fn name_apart(
     alloc: Global,
     a: &AppliedId,
     names: &mut SlotMap,

@@ -4,7 +4,7 @@ ghost use Rattle.slotted_slots.specs.Error.{IsShortage};
 ghost use Rattle.slotted_core.specs.Graph.{IsFullId, OnlyTakesSlots};
 ghost use Rattle.slotted_proofs.specs.Equations.{to_applied};
 ghost use Rattle.slotted_core.specs.Syn.{MakesForTermAt, RunsOutForTermAt};
-ghost use Rattle.slotted_explain.specs.Printed.{AppendsLine, ArePrinted, IsSideText, LineRunsOut, LinesRunOut, MakesForLine, MakesForLines};
+ghost use Rattle.slotted_explain.specs.Printed.{AppendsLine, ArePrinted, IsSideText, IsSidesText, LineRunsOut, LinesRunOut, MakesForLine, MakesForLines};
 
 use slotted_graph::EGraph;
 use slotted_proofs::reasons::reason;
@@ -54,12 +54,31 @@ fn push_line<L: Printable, N: Drop>(
     ensures full { IsErrOf result Error.OutOfSlots → LineRunsOut graph.old graph.new p }
     ensures only { IfErr result IsShortage }
 {
+    let sides = sides_text(alloc, graph, p)?;
+    let reason = reason(alloc, graph.proofs().proof(p), lines)?;
+    writeln!(text, "{i}: {sides} by {reason}")?;
+    Ok(())
+}
+
+// The two sides of an entry, printed.
+fn sides_text<L: Printable, N: Drop>(
+    alloc: Global,
+    graph: &mut EGraph<L, N>,
+    p: ProvenEq,
+) -> Result<String, Error>
+    requires well { ¬ IsTrue graph.old.failed }
+    requires within { p < length graph.old.image.stored }
+    ensures text { IfOk result (λ s. IsSidesText L.written graph.old graph.new p (string_bytes s)) }
+    ensures takes { OnlyTakesSlots graph.old graph.new }
+    ensures count { MakesForLine graph.old graph.new p }
+    ensures full { IsErrOf result Error.OutOfSlots → LineRunsOut graph.old graph.new p }
+    ensures only { IfErr result IsShortage }
+{
     let equation = graph.proofs().equ(p).copy(alloc)?;
     let left = side_text(alloc, graph, &equation.l)?;
     let right = side_text(alloc, graph, &equation.r)?;
-    let reason = reason(alloc, graph.proofs().proof(p), lines)?;
-    writeln!(text, "{i}: {left} = {right} by {reason}")?;
-    Ok(())
+    let text = format!(in alloc; "{left} = {right}")?;
+    Ok(text)
 }
 
 // The canonical term of an id, printed.

@@ -2,10 +2,10 @@
 ghost use Rattle.std.specs.Prelude.{◌≡◌, ◌<◌, ◌∷◌, ◌++◌, [], length, reverse, IfOk, IfErr, OnOk};
 ghost use Rattle.slotted_slots.specs.Error.{IsOutOfMemory};
 ghost use Rattle.slotted_proofs.specs.Lines.{PartsAreEarlier};
-ghost use Rattle.slotted_explain.specs.Chain.{AreWithin, IsChain, child_rewrite, child_rewrites, own_step, rewrite, rewrites_below};
+ghost use Rattle.slotted_explain.specs.Chain.{AreWithin, IsChain, child_rewrite, child_rewrites, from_class, own_step, rewrite, rewrites_below, to_class};
 
 use slotted_proofs::{Proof, ProofList, ProvenEq};
-use slotted_slots::Error;
+use slotted_slots::{AppliedId, Error};
 use std::alloc::Global;
 use std::marker::Model;
 
@@ -124,4 +124,63 @@ fn push_child(
     let mut path = Vec::from_slice(alloc, &step.path)?;
     path.push(k)?;
     push_part(alloc, stack, entry, step.turned, &path)
+}
+
+// What a step begins with.
+pub(crate) fn from_side(
+    alloc: Global,
+    proofs: &ProofList,
+    step: &FlatStep,
+) -> Result<AppliedId, Error>
+    requires { step.now.entry < length proofs.now }
+    ensures class { IfOk result (λ a. a.id.0 ≡ from_class proofs.now step.now) }
+    ensures err { IfErr result IsOutOfMemory }
+{
+    let equation = proofs.equ(step.entry);
+    let side = if step.turned {
+        &equation.r
+    } else {
+        &equation.l
+    };
+    side.copy(alloc)
+}
+
+// What a step puts in.
+pub(crate) fn to_side(
+    alloc: Global,
+    proofs: &ProofList,
+    step: &FlatStep,
+) -> Result<AppliedId, Error>
+    requires { step.now.entry < length proofs.now }
+    ensures class { IfOk result (λ a. a.id.0 ≡ to_class proofs.now step.now) }
+    ensures err { IfErr result IsOutOfMemory }
+{
+    let equation = proofs.equ(step.entry);
+    let side = if step.turned {
+        &equation.l
+    } else {
+        &equation.r
+    };
+    side.copy(alloc)
+}
+
+// `Rewrite=>` or `Rewrite<=`, and the text of the assertion.
+pub(crate) fn mark_text(alloc: Global, proofs: &ProofList, step: &FlatStep) -> Result<String, Error>
+    requires { step.now.entry < length proofs.now }
+    ensures err { IfErr result IsOutOfMemory }
+{
+    let arrow = if step.turned { "<=" } else { "=>" };
+    let reason = match proofs.proof(step.entry) {
+        Proof::Explicit(explicit) => given_text(&explicit.0),
+        _ => "-",
+    };
+    Ok(format!(in alloc; "Rewrite{arrow} {reason}")?)
+}
+
+// The text, or `-` where there is none.
+fn given_text(text: &Option<String>) -> &str {
+    match text {
+        Some(text) => text.as_str(),
+        None => "-",
+    }
 }

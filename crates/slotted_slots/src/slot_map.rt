@@ -27,7 +27,7 @@ use std::marker::Model;
 /// A finite map from slots to slots, seen as the list of its pairs in key order. It is ordered, compared and hashed as that list.
 #[derive(Drop, Debug)]
 pub struct SlotMap {
-    pairs: SmallVec<(Slot, Slot), 8>,
+    pairs: SmallVec<(Slot, Slot), 4>,
 }
 
 impl Model for SlotMap {
@@ -42,7 +42,7 @@ impl Model for SlotMap {
     ghost invariant = { λ a. IsAscending (keys a.pairs.items) };
 }
 
-type Pairs = SmallVec<(Slot, Slot), 8>;
+type Pairs = SmallVec<(Slot, Slot), 4>;
 
 // Puts another value beside a key.
 fn write_value(pairs: &mut Pairs, i: usize, r: Slot)

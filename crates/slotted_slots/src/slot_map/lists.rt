@@ -102,7 +102,7 @@ impl<'a> Iterator for ValuesImmut<'a> {
 }
 
 /// The pairs of a map that was given up, in key order, seen as the list of those that are left.
-pub type IntoIter = smallvec::IntoIter<(Slot, Slot), 8>;
+pub type IntoIter = smallvec::IntoIter<(Slot, Slot), 4>;
 
 impl IntoIterator for SlotMap {
     type Item = (Slot, Slot);

@@ -4,31 +4,21 @@ use Rattle.slotted_core.proofs.CallerLemmas.{takes_twice}
 use Rattle.slotted_explain.proofs.SlotsOfSteps.{all_make, step_lacks, step_makes}
 use Rattle.slotted_explain.proofs.flat.steps_text.Goals as goal
 
-pub returns-in_err-term-clause-count : goal.returns-in_err-term-clause-count
-returns-in_err-term-clause-count g c =
+pub returns-in_err-take_step-clause-count : goal.returns-in_err-take_step-clause-count
+returns-in_err-take_step-clause-count g c =
     let lt : c.loop-step.step-index < length c.args.steps.now = omega (arith, c.loop-step-test.true) in
-    all_make c.args.graph.now c.loop-step.graph c.subterm_after.new.graph c.args.steps.now c.loop-step.step-index c.step-item.result lt (sym c.step-item.is) c.loop-step.invariant.takes.reads.image c.loop-step.invariant.made c.subterm_after.ensures.count
+    all_make c.args.graph.now c.loop-step.graph c.take_step.new.graph c.args.steps.now c.loop-step.step-index c.step-item.result lt (sym c.step-item.is) c.loop-step.invariant.takes.reads.image c.loop-step.invariant.made c.take_step.ensures.count
 
-pub returns-in_err-term-clause-full : goal.returns-in_err-term-clause-full
-returns-in_err-term-clause-full g c e =
+pub returns-in_err-take_step-clause-full : goal.returns-in_err-take_step-clause-full
+returns-in_err-take_step-clause-full g c e =
     let lt : c.loop-step.step-index < length c.args.steps.now = omega (arith, c.loop-step-test.true) in
-    step_lacks c.args.graph.now c.loop-step.graph c.subterm_after.new.graph c.args.steps.now c.loop-step.step-index c.step-item.result lt (sym c.step-item.is) c.loop-step.invariant.takes.reads.image c.loop-step.invariant.made (c.in_err-term.ensures.full (search rules))
-
-pub returns-in_err-head-clause-count : goal.returns-in_err-head-clause-count
-returns-in_err-head-clause-count g c =
-    let lt : c.loop-step.step-index < length c.args.steps.now = omega (arith, c.loop-step-test.true) in
-    all_make c.args.graph.now c.loop-step.graph c.subterm_after.new.graph c.args.steps.now c.loop-step.step-index c.step-item.result lt (sym c.step-item.is) c.loop-step.invariant.takes.reads.image c.loop-step.invariant.made c.subterm_after.ensures.count
-
-pub returns-in_err-push_line-clause-count : goal.returns-in_err-push_line-clause-count
-returns-in_err-push_line-clause-count g c =
-    let lt : c.loop-step.step-index < length c.args.steps.now = omega (arith, c.loop-step-test.true) in
-    all_make c.args.graph.now c.loop-step.graph c.subterm_after.new.graph c.args.steps.now c.loop-step.step-index c.step-item.result lt (sym c.step-item.is) c.loop-step.invariant.takes.reads.image c.loop-step.invariant.made c.subterm_after.ensures.count
+    step_lacks c.args.graph.now c.loop-step.graph c.take_step.new.graph c.args.steps.now c.loop-step.step-index c.step-item.result lt (sym c.step-item.is) c.loop-step.invariant.takes.reads.image c.loop-step.invariant.made (c.in_err-take_step.ensures.full (search rules))
 
 pub loop-step-preserved : goal.loop-step-preserved
 loop-step-preserved g c =
     let lt : c.loop-step.step-index < length c.args.steps.now = omega (arith, c.loop-step-test.true) in
     let inv = c.loop-step.invariant in
     record {
-      takes = takes_twice c.args.graph.now c.loop-step.graph c.subterm_after.new.graph inv.takes c.subterm_after.ensures.takes;
-      made = step_makes c.args.graph.now c.loop-step.graph c.subterm_after.new.graph c.args.steps.now c.loop-step.step-index c.step-item.result lt (sym c.step-item.is) inv.takes.reads.image inv.made c.subterm_after.ensures.count;
+      takes = takes_twice c.args.graph.now c.loop-step.graph c.take_step.new.graph inv.takes c.take_step.ensures.takes;
+      made = step_makes c.args.graph.now c.loop-step.graph c.take_step.new.graph c.args.steps.now c.loop-step.step-index c.step-item.result lt (sym c.step-item.is) inv.takes.reads.image inv.made c.take_step.ensures.count;
     }
