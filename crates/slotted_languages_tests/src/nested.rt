@@ -1,12 +1,10 @@
 //! Two languages with slots beside and after a scope, as no operator of `Small` has them. They are neither written nor read:
 //! their nodes are made from their elements in order.
-ghost use Rattle.std.specs.Prelude.{ℕ, Bool, List, [], ◌∷◌, ◌&&◌, nat_eq, None, refl};
-ghost use Rattle.std.specs.Cmp.Lexicographic.{pointwise};
+ghost use Rattle.std.specs.Prelude.{[], None};
 ghost use Rattle.std.proofs.Common.{lit<};
-ghost use Rattle.slotted_slots.specs.declared.types.AppliedId as applied_id;
-ghost use Rattle.slotted_nodes.specs.Equal.{applied_id_same, bind_form_fits, bind_same, child_form_fits, slot_same};
-ghost use Rattle.slotted_nodes.specs.Form.{bind_form, child_form, join_form, slot_form};
-ghost use Rattle.slotted_nodes.specs.PairEqual.{join_form_fits, join_form_same};
+ghost use Rattle.slotted_nodes.specs.Equal.{bind_form_fits, bind_same};
+ghost use Rattle.slotted_nodes.specs.Form.{bind_form};
+ghost use Rattle.slotted_languages_tests.specs.Nested.{tail_fits, tail_form, tail_same, tri_fits, tri_form, tri_same};
 
 use crate::reading::Made;
 use slotted_languages::{Bind, Language, LanguageChildren, pair};
@@ -18,20 +16,20 @@ use std::alloc::Global;
 pub(crate) struct Tail(Bind<AppliedId>, Slot);
 
 impl LanguageChildren for Tail {
-    ghost form = { λ t. join_form (bind_form t.0.slot (child_form t.0.elem.id.0 t.0.elem.m)) (slot_form t.1) };
+    ghost form = { λ t. tail_form t.0.slot t.0.elem t.1 };
 
     ghost shown = { λ _. [] };
 
     ghost read = { λ _. None };
 
-    ghost fits = { λ t. join_form_fits (bind_form t.0.slot (child_form t.0.elem.id.0 t.0.elem.m)) (slot_form t.1) (bind_form_fits t.0.slot (child_form t.0.elem.id.0 t.0.elem.m) (child_form_fits t.0.elem.m)) refl };
+    ghost fits = { λ t. tail_fits t.0.slot t.0.elem t.1 };
 
     ghost few = { λ _. lit< tt };
 
     // It reads nothing.
     ghost faithful = { λ _. tt };
 
-    ghost same = { λ a b. join_form_same (nat_eq a.0.slot b.0.slot && (nat_eq a.0.elem.id.0 b.0.elem.id.0 && pointwise (λ p q. nat_eq p.0 q.0 && nat_eq p.1 q.1) a.0.elem.m b.0.elem.m)) (nat_eq a.1 b.1) (bind_form a.0.slot (child_form a.0.elem.id.0 a.0.elem.m)) (slot_form a.1) (bind_form b.0.slot (child_form b.0.elem.id.0 b.0.elem.m)) (slot_form b.1) (bind_form_fits a.0.slot (child_form a.0.elem.id.0 a.0.elem.m) (child_form_fits a.0.elem.m)) (bind_form_fits b.0.slot (child_form b.0.elem.id.0 b.0.elem.m) (child_form_fits b.0.elem.m)) (record { same_operator = refl; as_many_payloads = refl; as_many_arguments = refl }) (record { same_operator = refl; as_many_payloads = refl; as_many_arguments = refl }) (bind_same (nat_eq a.0.elem.id.0 b.0.elem.id.0 && pointwise (λ p q. nat_eq p.0 q.0 && nat_eq p.1 q.1) a.0.elem.m b.0.elem.m) a.0.slot b.0.slot (child_form a.0.elem.id.0 a.0.elem.m) (child_form b.0.elem.id.0 b.0.elem.m) (applied_id_same a.0.elem b.0.elem)) (slot_same a.1 b.1) };
+    ghost same = { λ a b. tail_same a.0.slot a.0.elem a.1 b.0.slot b.0.elem b.1 };
 
     fn copy(&self, alloc: Global) -> Result<Self, Error> {
         Ok(Tail(self.0.copy(alloc)?, self.1))
@@ -83,20 +81,20 @@ impl LanguageChildren for Tail {
 pub(crate) struct Tri(Slot, Tail);
 
 impl LanguageChildren for Tri {
-    ghost form = { λ t. join_form (slot_form t.0) (join_form (bind_form t.1.0.slot (child_form t.1.0.elem.id.0 t.1.0.elem.m)) (slot_form t.1.1)) };
+    ghost form = { λ t. tri_form t.0 t.1.0.slot t.1.0.elem t.1.1 };
 
     ghost shown = { λ _. [] };
 
     ghost read = { λ _. None };
 
-    ghost fits = { λ t. join_form_fits (slot_form t.0) (join_form (bind_form t.1.0.slot (child_form t.1.0.elem.id.0 t.1.0.elem.m)) (slot_form t.1.1)) refl (join_form_fits (bind_form t.1.0.slot (child_form t.1.0.elem.id.0 t.1.0.elem.m)) (slot_form t.1.1) (bind_form_fits t.1.0.slot (child_form t.1.0.elem.id.0 t.1.0.elem.m) (child_form_fits t.1.0.elem.m)) refl) };
+    ghost fits = { λ t. tri_fits t.0 t.1.0.slot t.1.0.elem t.1.1 };
 
     ghost few = { λ _. lit< tt };
 
     // It reads nothing.
     ghost faithful = { λ _. tt };
 
-    ghost same = { λ a b. join_form_same (nat_eq a.0 b.0) ((nat_eq a.1.0.slot b.1.0.slot && (nat_eq a.1.0.elem.id.0 b.1.0.elem.id.0 && pointwise (λ p q. nat_eq p.0 q.0 && nat_eq p.1 q.1) a.1.0.elem.m b.1.0.elem.m)) && nat_eq a.1.1 b.1.1) (slot_form a.0) (join_form (bind_form a.1.0.slot (child_form a.1.0.elem.id.0 a.1.0.elem.m)) (slot_form a.1.1)) (slot_form b.0) (join_form (bind_form b.1.0.slot (child_form b.1.0.elem.id.0 b.1.0.elem.m)) (slot_form b.1.1)) refl refl (record { same_operator = refl; as_many_payloads = refl; as_many_arguments = refl }) (record { same_operator = refl; as_many_payloads = refl; as_many_arguments = refl }) (slot_same a.0 b.0) (join_form_same (nat_eq a.1.0.slot b.1.0.slot && (nat_eq a.1.0.elem.id.0 b.1.0.elem.id.0 && pointwise (λ p q. nat_eq p.0 q.0 && nat_eq p.1 q.1) a.1.0.elem.m b.1.0.elem.m)) (nat_eq a.1.1 b.1.1) (bind_form a.1.0.slot (child_form a.1.0.elem.id.0 a.1.0.elem.m)) (slot_form a.1.1) (bind_form b.1.0.slot (child_form b.1.0.elem.id.0 b.1.0.elem.m)) (slot_form b.1.1) (bind_form_fits a.1.0.slot (child_form a.1.0.elem.id.0 a.1.0.elem.m) (child_form_fits a.1.0.elem.m)) (bind_form_fits b.1.0.slot (child_form b.1.0.elem.id.0 b.1.0.elem.m) (child_form_fits b.1.0.elem.m)) (record { same_operator = refl; as_many_payloads = refl; as_many_arguments = refl }) (record { same_operator = refl; as_many_payloads = refl; as_many_arguments = refl }) (bind_same (nat_eq a.1.0.elem.id.0 b.1.0.elem.id.0 && pointwise (λ p q. nat_eq p.0 q.0 && nat_eq p.1 q.1) a.1.0.elem.m b.1.0.elem.m) a.1.0.slot b.1.0.slot (child_form a.1.0.elem.id.0 a.1.0.elem.m) (child_form b.1.0.elem.id.0 b.1.0.elem.m) (applied_id_same a.1.0.elem b.1.0.elem)) (slot_same a.1.1 b.1.1)) };
+    ghost same = { λ a b. tri_same a.0 a.1.0.slot a.1.0.elem a.1.1 b.0 b.1.0.slot b.1.0.elem b.1.1 };
 
     fn copy(&self, alloc: Global) -> Result<Self, Error> {
         Ok(Tri(self.0, self.1.copy(alloc)?))
@@ -160,13 +158,16 @@ impl LanguageChildren for Outer {
 
     ghost read = { λ _. None };
 
-    ghost fits = { λ t. bind_form_fits t.0.slot (⟦<Tail as LanguageChildren>⟧.form t.0.elem) (join_form_fits (bind_form t.0.elem.0.slot (child_form t.0.elem.0.elem.id.0 t.0.elem.0.elem.m)) (slot_form t.0.elem.1) (bind_form_fits t.0.elem.0.slot (child_form t.0.elem.0.elem.id.0 t.0.elem.0.elem.m) (child_form_fits t.0.elem.0.elem.m)) refl) };
+    ghost fits = { λ t. bind_form_fits t.0.slot (⟦<Tail as LanguageChildren>⟧.form t.0.elem)
+        (tail_fits t.0.elem.0.slot t.0.elem.0.elem t.0.elem.1) };
 
     ghost few = { λ _. lit< tt };
 
     ghost faithful = { λ _. tt };
 
-    ghost same = { λ a b. bind_same (⟦<Tail as PartialEq>⟧.eq a.0.elem b.0.elem) a.0.slot b.0.slot (⟦<Tail as LanguageChildren>⟧.form a.0.elem) (⟦<Tail as LanguageChildren>⟧.form b.0.elem) (join_form_same (nat_eq a.0.elem.0.slot b.0.elem.0.slot && (nat_eq a.0.elem.0.elem.id.0 b.0.elem.0.elem.id.0 && pointwise (λ p q. nat_eq p.0 q.0 && nat_eq p.1 q.1) a.0.elem.0.elem.m b.0.elem.0.elem.m)) (nat_eq a.0.elem.1 b.0.elem.1) (bind_form a.0.elem.0.slot (child_form a.0.elem.0.elem.id.0 a.0.elem.0.elem.m)) (slot_form a.0.elem.1) (bind_form b.0.elem.0.slot (child_form b.0.elem.0.elem.id.0 b.0.elem.0.elem.m)) (slot_form b.0.elem.1) (bind_form_fits a.0.elem.0.slot (child_form a.0.elem.0.elem.id.0 a.0.elem.0.elem.m) (child_form_fits a.0.elem.0.elem.m)) (bind_form_fits b.0.elem.0.slot (child_form b.0.elem.0.elem.id.0 b.0.elem.0.elem.m) (child_form_fits b.0.elem.0.elem.m)) (record { same_operator = refl; as_many_payloads = refl; as_many_arguments = refl }) (record { same_operator = refl; as_many_payloads = refl; as_many_arguments = refl }) (bind_same (nat_eq a.0.elem.0.elem.id.0 b.0.elem.0.elem.id.0 && pointwise (λ p q. nat_eq p.0 q.0 && nat_eq p.1 q.1) a.0.elem.0.elem.m b.0.elem.0.elem.m) a.0.elem.0.slot b.0.elem.0.slot (child_form a.0.elem.0.elem.id.0 a.0.elem.0.elem.m) (child_form b.0.elem.0.elem.id.0 b.0.elem.0.elem.m) (applied_id_same a.0.elem.0.elem b.0.elem.0.elem)) (slot_same a.0.elem.1 b.0.elem.1)) };
+    ghost same = { λ a b. bind_same (⟦<Tail as PartialEq>⟧.eq a.0.elem b.0.elem) a.0.slot b.0.slot
+        (⟦<Tail as LanguageChildren>⟧.form a.0.elem) (⟦<Tail as LanguageChildren>⟧.form b.0.elem)
+        (tail_same a.0.elem.0.slot a.0.elem.0.elem a.0.elem.1 b.0.elem.0.slot b.0.elem.0.elem b.0.elem.1) };
 
     fn copy(&self, alloc: Global) -> Result<Self, Error> {
         Ok(Outer(self.0.copy(alloc)?))

@@ -1,0 +1,2 @@
+-- The laws of the languages of these tests.
+pub mod Nested
