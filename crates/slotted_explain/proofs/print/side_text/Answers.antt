@@ -1,5 +1,5 @@
 -- A valid id lacks no name.
-use Rattle.std.proofs.Common.{◌≡◌, ◌∙◌, ap, inr, rules}
+use Rattle.std.proofs.Common.{◌∙◌, ap, inr, rules}
 use Rattle.slotted_slots.specs.Table.{Table}
 use Rattle.slotted_proofs.specs.Equations.{to_applied}
 use Rattle.slotted_core.proofs.CallerLemmas.{full-valid}

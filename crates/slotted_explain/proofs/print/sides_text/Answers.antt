@@ -1,14 +1,10 @@
 -- Both sides are valid ids.
-use Rattle.std.proofs.Common.{◌≡◌, ◌∙◌, ℕ, List, [], ◌∷◌, ◌++◌, codes, decimal, Option, ap, sym, subst, refl, inl, inr, rules, string_bytes}
-use Rattle.std.specs.Prelude.{IfSome}
+use Rattle.std.proofs.Common.{◌∙◌, List, ap, sym, subst, inl, inr, rules, string_bytes}
 use Rattle.slotted_model.specs.Classes.{term_of}
-use Rattle.slotted_model.specs.ProofList.{Step}
 use Rattle.slotted_proofs.specs.Equations.{IsWritten, to_applied}
-use Rattle.slotted_proofs.specs.Entries.{Proven, proven_at, statement_at, step_of, text_of}
+use Rattle.slotted_proofs.specs.Entries.{Proven, statement_at}
 use Rattle.slotted_proofs.specs.Proving.{IsProved}
-use Rattle.slotted_proofs.specs.Reasons.{reason_text}
 use Rattle.slotted_core.specs.Image.{Image}
-use Rattle.slotted_explain.specs.Printed.{IsLine}
 use Rattle.slotted_explain.proofs.PrintedLines.{side_later}
 use Rattle.slotted_explain.proofs.Sides.{left_valid, right_valid}
 use Rattle.slotted_explain.proofs.SlotsOfLines.{left_makes, both_make, left_lacks, right_lacks}
