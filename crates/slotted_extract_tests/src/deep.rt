@@ -93,13 +93,23 @@ fn class_of_levels(
 }
 
 // Two nodes are extracted for each level, and one for the first class.
-fn check(rt: &impl Abort, alloc: Global, round: bool) -> Result<(), Error> {
-    let mut graph: EGraph<Small> = EGraph::new(alloc, SlotTable::new(alloc), ())?;
-    let last = class_of_levels(alloc, &mut graph, 10_000, round)?;
-    let term = given(alloc, &mut graph, &last)?;
+fn check_in(
+    rt: &impl Abort,
+    alloc: Global,
+    graph: &mut EGraph<Small>,
+    round: bool,
+) -> Result<(), Error> {
+    let last = class_of_levels(alloc, graph, 10_000, round)?;
+    let term = given(alloc, graph, &last)?;
     let nodes = node_count(alloc, term, 30_000)?;
     assert!(rt; nodes == 20_001, "{nodes}");
     Ok(())
+}
+
+// The same in a new graph.
+fn check(rt: &impl Abort, alloc: Global, round: bool) -> Result<(), Error> {
+    let mut graph: EGraph<Small> = EGraph::new(alloc, SlotTable::new(alloc), ())?;
+    check_in(rt, alloc, &mut graph, round)
 }
 
 #[test]
