@@ -1,7 +1,9 @@
 //! What no line of text shows of the commands: streams that fail, bytes that are no text, answers that wait, refused
-//! memory. They stand in a crate of their own, since a crate with tests is proved twice.
+//! memory; and the callers of `slotted_egraphs`. They stand in a crate of their own, since a crate with tests is proved twice.
 #![tactic(auto)]
 
+#[cfg(test)]
+mod callers;
 #[cfg(test)]
 mod lines;
 #[cfg(test)]

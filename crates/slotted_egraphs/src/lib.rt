@@ -5,8 +5,6 @@
 #![tactic(auto)]
 
 pub mod example;
-#[cfg(test)]
-mod tests;
 
 pub use slotted_explain::Explanation;
 pub use slotted_extract::{AstSize, CostFunction, Extractor, ast_size_extract, extract};

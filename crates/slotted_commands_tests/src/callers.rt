@@ -1,0 +1,33 @@
+//! The callers that `slotted_egraphs` has as examples.
+use slotted_egraphs::example::{add_again, is_filed_as, unite_and_ask};
+use slotted_egraphs::{EGraph, Error, SlotTable, Small};
+
+// Whether a node is filed as the id that it was added as.
+fn is_filed(graph: &mut EGraph<Small>) -> Result<bool, Error> {
+    let node = Small::Number(7);
+    if !graph.is_valid_node(&node) {
+        return Ok(false);
+    }
+    let id = graph.add(node)?;
+    let again = Small::Number(7);
+    if graph.is_valid_node(&again) && graph.is_valid(&id) {
+        is_filed_as(graph, &again, &id)
+    } else {
+        Ok(false)
+    }
+}
+
+// Two nodes over the same names are united, a term under a binder is added again, and a node is looked up.
+fn all_hold(graph: &mut EGraph<Small>) -> Result<bool, Error> {
+    let united = unite_and_ask(graph, "(f $x $y)", "(app (var $y) (var $x))")?;
+    let again = add_again(graph, "(lam $x (app (var $x) (var $y)))")?;
+    Ok(united && again && is_filed(graph)?)
+}
+
+#[test]
+fn callers_are_answered(rt: HostRuntime) -> Result<(), Error> {
+    let mut graph: EGraph<Small> = EGraph::new(rt.alloc(), SlotTable::new(rt.alloc()), ())?;
+    let answer = all_hold(&mut graph);
+    assert!(rt; answer?);
+    Ok(())
+}
