@@ -2,24 +2,26 @@
 ghost use Rattle.std.specs.Prelude.{◌≡◌, ◌<◌, length, Contains, IfOk, IfErr, IsErrOf};
 ghost use Rattle.slotted_slots.specs.Error.{IsOutOfMemory, IsShortage};
 ghost use Rattle.slotted_slots.specs.Maps.{values};
-ghost use Rattle.slotted_slots.specs.Table.{KnowsMore};
+ghost use Rattle.slotted_nodes.specs.Form.{IsSmall};
 ghost use Rattle.slotted_languages.specs.Shape.{shape};
 ghost use Rattle.slotted_proofs.specs.Equations.{to_applied};
 ghost use Rattle.slotted_filing.specs.Filed.{HasKey};
 ghost use Rattle.slotted_filing.specs.FiledRows.{IsFiled};
 ghost use Rattle.slotted_rebuilding.specs.Filed.{IsWellFiled};
 ghost use Rattle.slotted_store.specs.Finding.{HasFinds, IsFindable};
-ghost use Rattle.slotted_adding.specs.Enodes.{AllKnownTo, IsLookedUpAs, IsMet, RunsOutForKey, names_beside_of};
+ghost use Rattle.slotted_adding.specs.Enodes.{AreFresh, HasNamesOrNumbers, IsLargeKeyOf, IsLookedUpAs, IsMet, names_beside_of};
 
 use crate::finding::found_class;
 use slotted_filing::Hashcons;
 use slotted_languages::Language;
-use slotted_slots::{AppliedId, Error, SlotMap, SlotTable};
+use slotted_languages::shape::PLACES;
+use slotted_slots::{AppliedId, Error, SlotMap};
 use slotted_store::Store;
+use slotted_store::names::put_at_places;
 use std::alloc::Global;
 
-// For each number whose slot stands for one of what an id finds the name that it has.
-fn names_beside<L: Language>(
+/// For each number whose slot stands for one of what an id finds the name that it has.
+pub fn names_beside<L: Language>(
     store: &Store<L>,
     alloc: Global,
     source: usize,
@@ -40,13 +42,12 @@ fn names_beside<L: Language>(
     Ok(names)
 }
 
-/// The node that is filed of a class, with the names of an id that finds the same class. A slot that finds do not use
-/// has a fresh name. The class does not wait.
-pub fn applied_node<L: Language>(
+/// The node that is filed of a class, with the names of an id that finds the same class, which are fresh slots. Each number that stands for
+/// none of them stays as it is, and so does each binder: so no table is needed. The class does not wait.
+pub fn class_node<L: Language>(
     store: &Store<L>,
     nodes: &Hashcons<L>,
     alloc: Global,
-    table: &mut SlotTable,
     source: usize,
     a: &AppliedId,
 ) -> Result<L, Error>
@@ -55,20 +56,24 @@ pub fn applied_node<L: Language>(
     requires quiet { ¬ Contains nodes.now.waiting source }
     requires findable { IsFindable store.now (to_applied a.now) }
     requires met { IsMet store.now source (to_applied a.now) }
-    requires known { AllKnownTo table.old (values a.now.m) }
+    requires fresh { AreFresh (values a.now.m) }
 
     // It has the filed key as its shape, and is looked up as what the id finds.
     ensures key { IfOk result (λ n. HasKey nodes.now.filed source (shape (L.form n)).0) }
-    ensures ok { IfOk result (λ n. IsLookedUpAs store.now nodes.now (to_applied a.now) (L.form n)) }
-    ensures more { KnowsMore table.old table.new }
-    ensures kept { table.new.names ≡ table.old.names }
-    ensures full { IsErrOf result Error.OutOfSlots → RunsOutForKey nodes.now source table.new }
+    ensures found { IfOk result (λ n. IsLookedUpAs store.now nodes.now (to_applied a.now) (L.form n)) }
+    ensures names { IfOk result (λ n. HasNamesOrNumbers (values a.now.m) (L.form n)) }
+    ensures few { IfOk result (λ n. IsSmall (L.form n)) }
+    ensures full { IsErrOf result Error.OutOfSlots → IsLargeKeyOf nodes.now source }
     ensures err { IfErr result IsShortage }
 {
     match nodes.node(source) {
         Some((key, slots)) => {
+            if key.slot_count() >= PLACES {
+                return Err(Error::OutOfSlots);
+            }
             let names = names_beside(store, alloc, source, slots, a)?;
-            let node = key.apply_slotmap_fresh(alloc, &names, table)?;
+            let mut node = key.copy(alloc)?;
+            put_at_places(&mut node, &names);
             Ok(node)
         }
         None => unreachable!(),

@@ -21,7 +21,6 @@ pub mod LackingNames
 pub mod Unions
 pub mod FilledUnions
 pub mod ExplainedTerms
-pub mod FreshCanonicalNodes
 pub mod NodeAddition
 pub mod FiledClasses
 pub mod KnownNames

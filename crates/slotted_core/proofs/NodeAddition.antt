@@ -61,7 +61,7 @@ use Rattle.slotted_core.proofs.FullIds.{length-classes}
 use Rattle.slotted_core.proofs.LargeNodes.{large-old_or_new}
 use Rattle.slotted_store.proofs.KeptLists.{length-entries_of, length-proofs_of, equation_at-of}
 use Rattle.slotted_store.proofs.NamePairs.{ascending-values, between-moved}
-use Rattle.slotted_core.proofs.FreshCanonicalNodes.{fits_put, shape-put, length-free, numeric-shape, put_own}
+use Rattle.slotted_store.proofs.PutNames.{fits_put, shape-put, length-free, numeric-shape, put_own}
 
 -- lists with one element more
 

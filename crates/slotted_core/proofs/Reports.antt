@@ -1,9 +1,9 @@
 -- What a graph reports of its classes, as contracts see it and as what is kept has it.
 use Rattle.std.proofs.Common.{◌≡◌, ◌<◌, ◌≤◌, ◌+◌, ◌∙◌, ℕ, zero, suc, List, [], ◌∷◌, ◌++◌, cond, length, ap, refl, sym, subst, inl, inr, arith}
-use Rattle.std.specs.Prelude.{◌↔◌, Bool, IsTrue, nat_eq}
+use Rattle.std.specs.Prelude.{◌↔◌, Bool, Contains, IsTrue, nat_eq}
 use Rattle.std.specs.List.{filter, range_with_len}
 use Rattle.std.proofs.lemmas.Bool.{cases_Bool, eq-eqb, eqb-true, false≢true, lt-ltb, ne_eqb}
-use Rattle.slotted_slots.specs.Table.{Table, is_known}
+use Rattle.slotted_slots.specs.Table.{Table, empty_table, is_known}
 use Rattle.slotted_slots.proofs.TableLaws.{is_known-fresh_slot}
 use Rattle.slotted_slots.specs.declared.types.Id.{Id}
 use Rattle.slotted_theory.specs.Nameless.{DTerm}
@@ -25,7 +25,7 @@ use Rattle.slotted_adding.specs.Reports.{live_ids, lives}
 use Rattle.slotted_core.specs.Causes.{class_found}
 use Rattle.slotted_core.specs.ValidIds.{IsValidId}
 use Rattle.slotted_core.specs.Good.{Good, HasFreshSlots, image_of}
-use Rattle.slotted_core.specs.Graph.{Graph}
+use Rattle.slotted_core.specs.Graph.{Graph, IsFreshBetween}
 use Rattle.slotted_core.specs.Image.{Image, found_id}
 use Rattle.slotted_core.specs.Reports.{IsFoundFor, class_numbers, finds_itself, live_classes, names_slots, slots_used}
 use Rattle.slotted_core.proofs.ValidIds.{findable-within, of-valid, to-valid}
@@ -101,11 +101,15 @@ module _ (k : Kept) (good : Good k) where
   used-are i l = ap (λ (b : Applied). ascending (values b.1)) (sym (found-at k i l))
 
   -- the table made them
+  pub used-fresh : (t : Table) → HasFreshSlots t k → (i s : ℕ) → i < length k.classes → Contains (used_slots found i) s → IsFreshBetween empty_table t s
+  used-fresh t over i s l h =
+      let c = Contains-of_value (find_map found i) s (of_used found i s h) in
+      over i s l ((find_map-partial nodes found L i (in_nodes i l)).within c.0 s c.1)
+
   pub used-known : (t : Table) → HasFreshSlots t k → (i : ℕ) → i < length k.classes → AllKnown t (used_slots found i)
   used-known t over i l j d h =
       let S : List ℕ = used_slots found i in
-      let c = Contains-of_value (find_map found i) _ (of_used found i _ (Contains-In S _ (In-at S j d h))) in
-      let b = over i _ l ((find_map-partial nodes found L i (in_nodes i l)).within c.0 _ c.1) in
+      let b = used-fresh t over i _ l (Contains-In S _ (In-at S j d h)) in
       subst (λ y. IsTrue (is_known t y)) (sym b.is_slot) (is_known-fresh_slot t b.index ∙ lt-ltb b.index t.fresh b.made)
 
   module _ (g : Graph) (image : image_of k ≡ g.image) where

@@ -24,6 +24,10 @@ report slots => 3
 report applied: (f $5 $6) => yes
 report applied: (app (var $1) (var $0)) => yes
 report applied: (var $3) => yes
+report found set: (f $5 $6) => 2
+report found set: (app (var $1) (var $0)) => 2
+report found set: (var $3) => 1
+report all sets => 3
 report check => yes
 --- 0
 # A dropped slot of a node stands for any name. The id of the class that died has no nodes.
@@ -34,6 +38,9 @@ report slots => 1
 report total => 2
 report nodes: (g $0) => 2
 report nodes: (f $2 $3) => 0
+report set: (g $0) => 2
+report set: (f $2 $3) => 0
+report all sets => 2
 report applied: (f $2 $3) => yes
 report applied: (g $7) => yes
 report check => yes
@@ -50,6 +57,9 @@ report classes => 7
 report live => 4
 report slots => 2
 report applied: (lam $z (app b (var $z))) => yes
+report found set: (lam $z (app b (var $z))) => 1
+report found set: a => 2
+report all sets => 5
 report nodes: b => 2
 report check => yes";
 

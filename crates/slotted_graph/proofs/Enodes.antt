@@ -1,29 +1,36 @@
 -- The filed nodes of a class, as contracts see them and as they are filed.
 use Rattle.std.proofs.Common.{◌≡◌, ◌≤◌, ◌<◌, ◌+◌, ◌∙◌, ℕ, zero, suc, List, [], ◌∷◌, Some, cond, length, map, ap, refl, sym, subst, inl, inr, arith}
-use Rattle.std.specs.Prelude.{All, Bool, Contains, is_some, nat_eq, ◌&&◌}
+use Rattle.std.specs.Prelude.{All, Bool, Contains, IsTrue, is_some, nat_eq, ◌&&◌}
 use Rattle.std.specs.List.{filter, range_with_len, sum_by}
 use Rattle.std.specs.List.Sorted.{IsPermutation}
 use Rattle.std.proofs.lemmas.List.{length-map}
+use Rattle.std.proofs.lemmas.List.Elements.{All-contains}
 use Rattle.std.proofs.lemmas.List.Sorted.{IsPermutation-refl, length_permutation, sum_by-IsPermutation}
 use Rattle.std.proofs.lemmas.List.Sums.{sum_by-cons}
 use Rattle.slotted_theory.specs.Nameless.{DArgs, DTerm, lift, moved_args, stop, place, sub, scope}
 use Rattle.slotted_theory.specs.Shape as theory
-use Rattle.slotted_slots.specs.Table.{Table}
-use Rattle.slotted_nodes.specs.Form.{Form}
+use Rattle.slotted_slots.specs.Table.{Table, is_known}
+use Rattle.slotted_slots.proofs.TableLaws.{is_known-numeric_slot}
+use Rattle.slotted_nodes.specs.Form.{Form, IsSmall}
 use Rattle.slotted_languages.specs.NodeTerm.{nameless_node}
 use Rattle.slotted_languages.specs.Shape.{Fits}
-use Rattle.slotted_model.specs.Applied.{Applied}
+use Rattle.slotted_terms.specs.Valid.{AllKnown}
+use Rattle.slotted_model.specs.Applied.{Applied, values}
 use Rattle.slotted_model.specs.Find.{find_class}
 use Rattle.slotted_model.specs.State.{Row}
+use Rattle.slotted_model.proofs.Members.{Contains-In}
 use Rattle.slotted_store.specs.Finding.{IsFindable}
 use Rattle.slotted_store.specs.Kept.{Kept, entries_of}
+use Rattle.slotted_store.specs.ChildIds.{child_ids}
 use Rattle.slotted_store.proofs.ChildIds.{Each, Each-from_All}
+use Rattle.slotted_store.proofs.NameMaps.{In-at}
 use Rattle.slotted_filing.specs.Filed.{filed_of}
 use Rattle.slotted_filing.specs.FiledRows.{IsFiled, Rows, row_of_entry, rows_in}
 use Rattle.slotted_filing.proofs.FiledRows.{row-filed}
+use Rattle.slotted_adding.specs.Enodes.{HasNamesOrNumbers, IsLookedUpAs}
 use Rattle.slotted_adding.specs.Reports.{class_sources, is_source}
 use Rattle.slotted_adding.proofs.AppliedNodes.{filed-key}
-use Rattle.slotted_reports.specs.Nodes.{HasLargeKey, IsAppliedNode, RunsOutForKeys, TakesForKeys, key_at, key_in, key_of, places_at}
+use Rattle.slotted_reports.specs.Nodes.{HasLargeKey, IsAppliedNode, IsClassNode, RunsOutForKeys, TakesForKeys, key_at, key_in, key_of, places_at}
 use Rattle.slotted_reports.proofs.FiledShapes.{passes, shape_at, shapes_in, shapes-permuted, sources-permuted}
 use Rattle.slotted_reports.proofs.Sources.{dead-none, each-filed}
 use Rattle.slotted_core.specs.Canonical.{args_count, place_count}
@@ -58,20 +65,39 @@ empty (x ∷ xs) e = absurd (omega (arith, e))
 places-of_shape : (f : Form) → Fits f → place_count (theory.shape (nameless_node f)) ≡ length f.names
 places-of_shape f fits = count-moved (theory.number_in (theory.free_names (nameless_node f).args)) (nameless_node f).args ∙ places-counted f fits
 
+-- a list in its own order
+pub permuted-same : {X : Type 0} (xs ys : List X) → xs ≡ ys → IsPermutation ys xs
+permuted-same xs ys e = subst (IsPermutation ys) (sym e) (IsPermutation-refl ys)
+
+-- a table that knows some names knows those of a node with these names and numbers
+class-known : (t : Table) (vs : List ℕ) (f : Form) → AllKnown t vs → HasNamesOrNumbers vs f → AllKnown t f.names
+class-known t vs f known names j d l = elim (names _ (Contains-In f.names _ (In-at f.names j d l))) [
+  | inl h ↦ All-contains (λ x. IsTrue (is_known t x)) vs _ known h
+  | inr n ↦ subst (λ x. IsTrue (is_known t x)) (sym n.1) (is_known-numeric_slot t n.0)
+]
+
 module _ (k : Kept) (r : Rows) (good : Good k) (rests : RestsWith k r) where
   -- one node
-  pub enode : (h : Graph) → image_of k ≡ h.image → rows_in r.filed ≡ h.filed → (a : Applied) → IsFindable k a → (f : Form) → Fits f → (t : Table) → IsAppliedNode t h.table k r a f → IsEnode h a f
-  enode h image filed a v f fits t is =
-      let valid : IsValidNode h f = record { few = is.small; known = is.known; children = node-children_valid k good h image f is.known is.children } in
-      let finds = sym (found_id-is k a (findable-within k a v)) ∙ ap (λ (i : Image). found_id i a) image in
-      record {
-        valid = valid;
-        found = looked_up-is k r good rests h image filed (nameless_node f) (findable-children k good h image f fits valid.children) ∙ (is.found ∙ ap Some finds);
-      }
+  module _ (h : Graph) (image : image_of k ≡ h.image) (filed : rows_in r.filed ≡ h.filed) (a : Applied) (v : IsFindable k a) where
+    enode : (f : Form) → Fits f → IsLookedUpAs k r a f → IsSmall f → AllKnown h.table f.names → All (IsFindable k) (child_ids f) → IsEnode h a f
+    enode f fits found small known children =
+        let valid : IsValidNode h f = record { few = small; known = known; children = node-children_valid k good h image f known children } in
+        let finds = sym (found_id-is k a (findable-within k a v)) ∙ ap (λ (i : Image). found_id i a) image in
+        record {
+          valid = valid;
+          found = looked_up-is k r good rests h image filed (nameless_node f) (findable-children k good h image f fits valid.children) ∙ (found ∙ ap Some finds);
+        }
 
-  pub enodes : {L : Type 0} (form : L → Form) (h : Graph) → image_of k ≡ h.image → rows_in r.filed ≡ h.filed → (a : Applied) → IsFindable k a → ((n : L) → Fits (form n)) →
-      (ns : List L) (t : Table) → All (λ n. IsAppliedNode t h.table k r a (form n)) ns → All (λ n. IsEnode h a (form n)) ns
-  enodes form h image filed a v fits ns t each j d l = enode h image filed a v (form _) (fits _) t (each j d l)
+    module _ {L : Type 0} (form : L → Form) (fits : (n : L) → Fits (form n)) (ns : List L) where
+      pub enodes : (t : Table) → All (λ n. IsAppliedNode t h.table k r a (form n)) ns → All (λ n. IsEnode h a (form n)) ns
+      enodes t each j d l =
+          let is = each j d l in
+          enode (form _) (fits _) is.found is.small is.known is.children
+
+      pub class-enodes : AllKnown h.table (values a.1) → All (λ n. IsClassNode k r a (form n)) ns → All (λ n. IsEnode h a (form n)) ns
+      class-enodes known each j d l =
+          let is = each j d l in
+          enode (form _) (fits _) is.found is.small (class-known h.table (values a.1) (form _) known is.names) is.children
 
   abbrev P : ℕ → ℕ → Bool
   P c i = nat_eq (class_found (image_of k) i) c
@@ -86,18 +112,18 @@ module _ (k : Kept) (r : Rows) (good : Good k) (rests : RestsWith k r) where
 
     -- one for each filed node of the class
     pub each-node : {L : Type 0} (form : L → Form) → ((n : L) → Fits (form n)) → (os : List ℕ) (ns : List L) →
-        IsPermutation (class_sources k r c) os → map (key_in form) ns ≡ map (key_at r.filed) os → HasEachNode form g c ns
+        IsPermutation (class_sources k r c) os → IsPermutation (map (key_at r.filed) os) (map (key_in form) ns) → HasEachNode form g c ns
     each-node form fits os ns same keys =
         subst (λ xs. IsPermutation xs (map (λ n. theory.shape (nameless_node (form n))) ns)) found-are
         (shapes-permuted (P c) r.filed form fits os ns (subst (λ xs. IsPermutation xs os) (tests c) same) keys)
 
     -- and none for a class that does not find itself
     pub none-dead : {L : Type 0} (form : L → Form) → c < length k.classes → ¬ (class_found g.image c ≡ c) → (os : List ℕ) (ns : List L) →
-        IsPermutation (class_sources k r c) os → map (key_in form) ns ≡ map (key_at r.filed) os → ns ≡ []
+        IsPermutation (class_sources k r c) os → IsPermutation (map (key_at r.filed) os) (map (key_in form) ns) → ns ≡ []
     none-dead form within dead os ns same keys =
         let is : class_found g.image c ≡ find_class (entries_of k) c = ap (λ (x : Image). class_found x c) (sym image) ∙ class_found-is k c within in
         let none : length (class_sources k r c) ≡ 0 = ap length (dead-none k r rests.filed (c, []) (λ e. dead (is ∙ e))) in
-        let many : length ns ≡ length os = sym (length-map ns (key_in form)) ∙ (ap length keys ∙ length-map os (key_at r.filed)) in
+        let many : length ns ≡ length os = sym (length-map ns (key_in form)) ∙ (length_permutation _ _ keys ∙ length-map os (key_at r.filed)) in
         empty ns (omega (arith, none, many, length_permutation _ _ same))
 
     -- two slots for each of their places

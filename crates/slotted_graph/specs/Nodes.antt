@@ -4,6 +4,7 @@
 --     IsNoneIfDead g c ns              ns is empty if the class c does not find itself
 --     AscendByShape form cmp ns        the shapes of ns ascend by the order of the language
 --     IsEnode g a f                    f is a valid node that is looked up as what the id a finds
+--     HasOwnNames g c f                each name in the node is a slot that the class c has left, or numeric
 --     slots_for_enodes g c             two for each place of these nodes
 --     HasLargeRow g                    a filed node has too many places to be numbered
 --     CanRunOutForEnodes g u           why slots can run out where they are given out, which leaves the table u
@@ -18,12 +19,14 @@ use Rattle.slotted_nodes.specs.Form.{Form}
 use Rattle.slotted_languages.specs.NodeTerm.{nameless_node}
 use Rattle.slotted_model.specs.Applied.{Applied}
 use Rattle.slotted_model.specs.State.{Row}
+use Rattle.slotted_store.specs.Names.{IsNumeric}
 use Rattle.slotted_reports.specs.Nodes.{Ascend, key_in}
 use Rattle.slotted_core.specs.Canonical.{place_count}
 use Rattle.slotted_core.specs.Causes.{class_found}
 use Rattle.slotted_core.specs.Graph.{Graph}
 use Rattle.slotted_core.specs.Image.{Image, found_id}
 use Rattle.slotted_core.specs.LookUp.{look_up}
+use Rattle.slotted_core.specs.Reports.{slots_used}
 use Rattle.slotted_core.specs.ValidIds.{IsValidNode}
 
 -- whether the class of the filed node finds c
@@ -50,6 +53,9 @@ slots_for_enodes g c = 2 * sum_by place_count (shapes_found g c)
 pub record IsEnode (g : Graph) (a : Applied) (f : Form) : Type 0 where
   pub valid : IsValidNode g f
   pub found : look_up g f ≡ Some (found_id g.image a)
+
+abbrev pub HasOwnNames : Image → ℕ → Form → Type 0
+HasOwnNames g c f = (x : ℕ) → Contains f.names x → Contains (slots_used g c) x ⊎ IsNumeric x
 
 abbrev pub HasLargeRow : Graph → Type 0
 HasLargeRow g = (r : Row) × Contains g.filed r × (slot_limit ≤ place_count r.shape)

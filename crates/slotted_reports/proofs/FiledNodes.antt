@@ -55,60 +55,10 @@ All-from_Each P (x ∷ xs) h = All-cons P x xs h.0 (All-from_Each P xs h.1)
 
 -- the names of a shape are numbers, which each table knows
 
-module _ (t : Table) where
-  abbrev K : ℕ → Type 0
-  K x = IsTrue (is_known t x)
-
-  abbrev KnownKeys : List (ℕ × ℕ) → Type 0
-  KnownKeys m = Each (λ (p : ℕ × ℕ). K p.0) m
-
-  more : {X : Type 0} (P : X → Type 0) (xs ys : List X) → Each P xs → Each P ys → Each P (xs ++ ys)
-  more P [] ys h g = g
-  more P (x ∷ xs) ys h g = (h.0, more P xs ys h.1 g)
-
-  met : (m : List (ℕ × ℕ)) (x n : ℕ) → KnownKeys m → number_of m x ≡ Some n → K n
-  met [] x n h e = cc
-  met (p ∷ m) x n h e = elim (cases_Bool (nat_eq p.1 x)) [
-    | inl y ↦
-        let same : Some p.0 ≡ Some n = sym (ap (λ b. cond b (Some p.0) (number_of m x)) y) ∙ e in
-        subst K (ap (λ o. unwrap_or o 0) same) h.0
-    | inr y ↦ met m x n h.1 (sym (ap (λ b. cond b (Some p.0) (number_of m x)) y) ∙ e)
-  ]
-
-  free : (o : Option ℕ) (k : Numbers) (x : ℕ) → KnownKeys k.free → number_of k.free x ≡ o → K (free_number o k x).0 × KnownKeys (free_number o k x).1.free
-  free (Some n) k x h e = (met k.free x n h e, h)
-  free None k x h e = (is_known-numeric_slot t k.next, more (λ (p : ℕ × ℕ). K p.0) k.free ((numeric_slot k.next, x) ∷ []) h (is_known-numeric_slot t k.next, tt))
-
-  occurs : (ns : List ℕ) (k : Numbers) (x : ℕ) → Each K ns → KnownKeys k.free → K (number_at ns k x).0 × KnownKeys (number_at ns k x).1.free
-  occurs [] k x g h = free (number_of k.free x) k x h refl
-  occurs (n ∷ ns) k zero g h = (g.0, h)
-  occurs (n ∷ ns) k (suc x) g h = occurs ns k x g.1 h
-
-  in-numbered : (ns : List ℕ) (k : Numbers) (d : DArgs) → Each K ns → KnownKeys k.free → Each K (names_in (numbered ns k d).0) × KnownKeys (numbered ns k d).1.free
-  in-numbered ns k stop g h = (tt, h)
-  in-numbered ns k (place x rest) g h =
-      let p = number_at ns k x in
-      let here = occurs ns k x g h in
-      let later = in-numbered ns p.1 rest g here.1 in
-      ((here.0, later.0), later.1)
-  in-numbered ns k (sub op payloads args rest) g h =
-      let a = numbered ns k args in
-      let r = numbered ns a.1 rest in
-      let here = in-numbered ns k args g h in
-      let later = in-numbered ns a.1 rest g here.1 in
-      (more K (names_in a.0) (names_in r.0) here.0 later.0, later.1)
-  in-numbered ns k (scope inner rest) g h =
-      let n : K (numeric_slot k.next) = is_known-numeric_slot t k.next in
-      let i = numbered (numeric_slot k.next ∷ ns) (past_binder k) inner in
-      let r = numbered ns i.1 rest in
-      let here = in-numbered (numeric_slot k.next ∷ ns) (past_binder k) inner (n, g) h in
-      let later = in-numbered ns i.1 rest g here.1 in
-      ((n, more K (names_in i.0) (names_in r.0) here.0 later.0), later.1)
-
-  pub key-known : (f : Form) → (shape f).0 ≡ f → AllKnownTo t f.names
-  key-known f itself =
-      let named : All K (shape f).0.names = All-from_Each K (shape f).0.names (in-numbered [] no_numbers (nameless_node f).args tt tt).0 in
-      subst (λ (g : Form). All K g.names) itself named
+pub key-known : (t : Table) (f : Form) → (shape f).0 ≡ f → AllKnownTo t f.names
+key-known t f itself j d l =
+    let number = subst (λ (g : Form). AreNumeric g.names) itself (numeric-shape f).0 _ (In-at f.names j d l) in
+    subst (λ x. IsTrue (is_known t x)) (sym number.1) (is_known-numeric_slot t number.0)
 
 -- the names that are put in are names of the id
 

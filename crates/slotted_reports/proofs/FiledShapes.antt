@@ -97,9 +97,10 @@ module _ (P : ℕ → Bool) where
 
     -- so nodes with the keys of these classes have the shapes of these rows
     pub shapes-permuted : {L : Type 0} (form : L → Form) → ((n : L) → Fits (form n)) → (os : List ℕ) (ns : List L) → IsPermutation (filter (passes v) (range_with_len 0 (length v))) os →
-        map (key_in form) ns ≡ map (key_at v) os → IsPermutation (shapes_in (rows_in v)) (map (λ n. theory.shape (nameless_node (form n))) ns)
+        IsPermutation (map (key_at v) os) (map (key_in form) ns) → IsPermutation (shapes_in (rows_in v)) (map (λ n. theory.shape (nameless_node (form n))) ns)
     shapes-permuted form fits os ns same keys =
         let T : Form → DTerm = λ f. theory.shape (nameless_node f) in
-        let each : map (shape_at v) os ≡ map (λ n. T (form n)) ns =
-        sym (map-twice T (key_at v) os) ∙ (ap (map T) (sym keys) ∙ (map-twice T (key_in form) ns ∙ (λ j. map (λ n. shape-of_key (form n) (fits n) j) ns))) in
-        subst (IsPermutation (shapes_in (rows_in v))) each (sources-permuted os same)
+        let shapes : List DTerm = map (λ n. T (form n)) ns in
+        let right : map T (map (key_in form) ns) ≡ shapes = map-twice T (key_in form) ns ∙ (λ j. map (λ n. shape-of_key (form n) (fits n) j) ns) in
+        let moved : IsPermutation (map T (map (key_at v) os)) shapes = subst (IsPermutation (map T (map (key_at v) os))) right (IsPermutation-map T (map (key_at v) os) (map (key_in form) ns) keys) in
+        IsPermutation-trans _ _ _ (sources-permuted os same) (subst (λ xs. IsPermutation xs shapes) (map-twice T (key_at v) os) moved)

@@ -5,3 +5,4 @@ pub mod FiledNodes
 pub mod FreshNodes
 pub mod FiledShapes
 pub mod Sources
+pub mod ClassNodes

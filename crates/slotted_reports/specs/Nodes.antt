@@ -9,6 +9,8 @@
 --                               did not know and u knows
 --     AreAppliedNodes           one such node for each of some sources, with its key
 --     AreEnodes                 one for each source of the id's class, ascending by key
+--     IsClassNode k r a f       a node that is looked up as what a finds, over ids that find, with names of a and numbers
+--     AreClassNodes             one such node for each of some sources, with its key, in some order
 --     places_at v o             how many places the key has that is filed of the class o
 --     TakesForKeys r os t u     from t to u two fresh slots are made at most for each place of the keys of the classes os
 --     RunsOutForKeys r u        no fresh slot is left, or some filed key has too many places
@@ -29,7 +31,7 @@ use Rattle.slotted_store.specs.Finding.{IsFindable}
 use Rattle.slotted_store.specs.Kept.{Kept}
 use Rattle.slotted_filing.specs.Filed.{Filing, HasKey, filed_of, no_row}
 use Rattle.slotted_filing.specs.FiledRows.{IsFiled, Rows}
-use Rattle.slotted_adding.specs.Enodes.{AllKnownTo, IsLookedUpAs, IsMet}
+use Rattle.slotted_adding.specs.Enodes.{AllKnownTo, HasNamesOrNumbers, IsLookedUpAs, IsMet}
 use Rattle.slotted_adding.specs.Reports.{class_sources}
 
 -- the key, if something is filed
@@ -77,6 +79,17 @@ pub record AreEnodes {L : Type 0} (form : L → Form) (cmp : L → L → Orderin
   pub same : IsPermutation (class_sources k r a.0) sources
   pub nodes : AreAppliedNodes form t u k r a sources ns
   pub ascend : Ascend form cmp (map (key_in form) ns)
+
+pub record IsClassNode (k : Kept) (r : Rows) (a : Applied) (f : Form) : Type 0 where
+  pub found : IsLookedUpAs k r a f
+  pub small : IsSmall f
+  pub names : HasNamesOrNumbers (values a.1) f
+  pub children : All (IsFindable k) (child_ids f)
+
+-- one for each of the sources os, with its key
+pub record AreClassNodes {L : Type 0} (form : L → Form) (k : Kept) (r : Rows) (a : Applied) (os : List ℕ) (ns : List L) : Type 0 where
+  pub keys : IsPermutation (map (key_at r.filed) os) (map (key_in form) ns)
+  pub each : All (λ n. IsClassNode k r a (form n)) ns
 
 abbrev pub places_at : List (Option Filing) → ℕ → ℕ
 places_at v o = length (key_at v o).names

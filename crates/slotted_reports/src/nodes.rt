@@ -1,27 +1,29 @@
-//! The filed nodes of a class, ascending by their keys, with the names of an id.
-ghost use Rattle.std.specs.Prelude.{◌≡◌, ◌<◌, [], ◌∷◌, length, map, All, Contains, IfOk, IfErr, IsErrOf, OnOk};
+//! The filed nodes of a class, ascending by their keys, with the names of an id; and as a set, over slots of the class.
+ghost use Rattle.std.specs.Prelude.{◌≡◌, [], ◌∷◌, map, All, IfOk, IfErr, IsErrOf};
 ghost use Rattle.std.specs.List.Sorted.{IsPermutation};
 ghost use Rattle.slotted_slots.specs.Error.{IsOutOfMemory, IsShortage};
 ghost use Rattle.slotted_slots.specs.Maps.{values};
 ghost use Rattle.slotted_slots.specs.Table.{KnowsMore};
 ghost use Rattle.slotted_languages.specs.Shape.{shape};
+ghost use Rattle.slotted_model.specs.Correspondence.{AllDifferent};
 ghost use Rattle.slotted_proofs.specs.Equations.{to_applied};
 ghost use Rattle.slotted_filing.specs.Filed.{HasKey};
 ghost use Rattle.slotted_filing.specs.FiledRows.{IsFiled};
 ghost use Rattle.slotted_rebuilding.specs.Filed.{IsWellFiled};
-ghost use Rattle.slotted_store.specs.Finding.{HasFinds, IsFindable};
-ghost use Rattle.slotted_adding.specs.Enodes.{AllKnownTo, names_beside_of};
+ghost use Rattle.slotted_store.specs.Finding.{IsFindable};
+ghost use Rattle.slotted_adding.specs.Enodes.{AllKnownTo, AreFresh};
 ghost use Rattle.slotted_adding.specs.Reports.{class_sources};
-ghost use Rattle.slotted_reports.specs.Nodes.{AreAppliedNodes, AreEnodes, Ascend, HasKeyOf, IsAppliedNode, IsSourceOf, key_at};
-ghost use Rattle.slotted_reports.specs.Nodes.{RunsOutForKeys, TakesForKeys};
+ghost use Rattle.slotted_reports.specs.Nodes.{AreAppliedNodes, AreClassNodes, AreEnodes, Ascend, HasKeyOf, HasLargeKey, IsAppliedNode};
+ghost use Rattle.slotted_reports.specs.Nodes.{IsSourceOf, RunsOutForKeys, TakesForKeys, key_at};
 
-use slotted_adding::finding::found_class;
+use slotted_adding::enodes::{class_node, names_beside};
 use slotted_adding::reports::class_nodes;
 use slotted_filing::Hashcons;
 use slotted_languages::Language;
-use slotted_slots::{AppliedId, Error, SlotMap, SlotTable};
+use slotted_slots::{AppliedId, Error, SlotTable};
 use slotted_store::Store;
 use std::alloc::Global;
+use std::collections::HashSet;
 
 // In order.
 
@@ -75,28 +77,6 @@ fn in_order<L: Language>(
 }
 
 // With names.
-
-// For each number whose slot stands for one of what an id finds the name that it has.
-fn names_beside<L: Language>(
-    store: &Store<L>,
-    alloc: Global,
-    source: usize,
-    slots: &SlotMap,
-    a: &AppliedId,
-) -> Result<SlotMap, Error>
-    requires good { HasFinds store.now }
-    requires within { source < length store.now.classes }
-    requires findable { IsFindable store.now (to_applied a.now) }
-    ensures ok { IfOk result (λ m. m ≡ names_beside_of store.now source slots.now (to_applied a.now)) }
-    ensures err { IfErr result IsOutOfMemory }
-{
-    let found = found_class(store, alloc, source)?;
-    let back = found.m.inverse(alloc)?;
-    let numbered = slots.compose_partial(alloc, &back)?;
-    let named = store.found_id(alloc, a)?;
-    let names = numbered.compose_partial(alloc, &named.m)?;
-    Ok(names)
-}
 
 // The node that is filed of a class, with the names of an id that finds the same class. Each other name is fresh.
 fn filed_node<L: Language>(
@@ -184,4 +164,53 @@ pub fn enodes_applied<L: Language>(
     let ordered = in_order(nodes, alloc, &sources)?;
     let answer = filed_nodes(store, nodes, alloc, table, &ordered, a)?;
     Ok(answer)
+}
+
+// As a set.
+
+// The nodes of these sources with the names of an id, in a set: no two have one key.
+fn node_set<L: Language>(
+    store: &Store<L>,
+    nodes: &Hashcons<L>,
+    alloc: Global,
+    sources: &[usize],
+    a: &AppliedId,
+) -> Result<HashSet<L>, Error>
+    requires good { IsWellFiled store.now nodes.now }
+    requires quiet { nodes.now.waiting ≡ [] }
+    requires sources { All (IsSourceOf store.now nodes.now (to_applied a.now)) sources.now }
+    requires different { AllDifferent sources.now }
+    requires findable { IsFindable store.now (to_applied a.now) }
+    requires fresh { AreFresh (values a.now.m) }
+    ensures ok { IfOk result (λ s. AreClassNodes L.form store.now nodes.now (to_applied a.now) sources.now s.keys) }
+    ensures full { IsErrOf result Error.OutOfSlots → HasLargeKey nodes.now }
+    ensures err { IfErr result IsShortage }
+{
+    let mut set = HashSet::new(alloc);
+    for i in 0..sources.len() {
+        let node = class_node(store, nodes, alloc, sources[i], a)?;
+        set.insert(node)?;
+    }
+    Ok(set)
+}
+
+/// The filed nodes of an id's class with the id's names, which are fresh slots. No node waits. A number stays that stands for no name of
+/// the id, and so does each binder: so no table is needed.
+pub fn enodes<L: Language>(
+    store: &Store<L>,
+    nodes: &Hashcons<L>,
+    alloc: Global,
+    a: &AppliedId,
+) -> Result<HashSet<L>, Error>
+    requires good { IsWellFiled store.now nodes.now }
+    requires quiet { nodes.now.waiting ≡ [] }
+    requires findable { IsFindable store.now (to_applied a.now) }
+    requires fresh { AreFresh (values a.now.m) }
+    ensures ok { IfOk result (λ s. AreClassNodes L.form store.now nodes.now (to_applied a.now) (class_sources store.now nodes.now a.now.id.0) s.keys) }
+    ensures full { IsErrOf result Error.OutOfSlots → HasLargeKey nodes.now }
+    ensures err { IfErr result IsShortage }
+{
+    let sources = class_nodes(store, nodes, alloc, a.id.0)?;
+    let set = node_set(store, nodes, alloc, &sources, a)?;
+    Ok(set)
 }

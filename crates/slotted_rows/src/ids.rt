@@ -40,8 +40,8 @@ pub fn found<L: Language>(graph: &EGraph<L>, a: &AppliedId) -> Result<AppliedId,
     }
 }
 
-// The class of an id with its own slots as its names, if it can be asked.
-fn own<L: Language>(graph: &EGraph<L>, a: &AppliedId) -> Result<AppliedId, Error> {
+/// The class of an id with its own slots as its names, if it can be asked.
+pub fn own<L: Language>(graph: &EGraph<L>, a: &AppliedId) -> Result<AppliedId, Error> {
     if graph.is_valid_id(a.id) {
         graph.mk_identity_applied_id(a.id)
     } else {

@@ -1,10 +1,11 @@
 //! What is counted in a graph, and what is asked of its filed nodes.
 use crate::found::look_up;
-use crate::ids::slots_left;
+use crate::ids::{own, slots_left};
 use slotted_graph::EGraph;
 use slotted_languages::Language;
-use slotted_slots::{AppliedId, Error};
+use slotted_slots::{AppliedId, Error, Id};
 use std::alloc::Global;
+use std::collections::HashSet;
 
 // The filed nodes of an id's class, if it can be asked.
 fn nodes_of<L: Language>(graph: &mut EGraph<L>, a: &AppliedId) -> Result<Vec<L>, Error> {
@@ -48,6 +49,46 @@ fn ascend<L: Language>(alloc: Global, nodes: &[L]) -> Result<bool, Error> {
         }
     }
     Ok(true)
+}
+
+// The filed nodes of a class in a set, if it can be asked.
+fn set_of<L: Language>(graph: &EGraph<L>, id: Id) -> Result<HashSet<L>, Error> {
+    if graph.is_valid_id(id) {
+        graph.enodes(id)
+    } else {
+        Err(Error::NotATerm)
+    }
+}
+
+// How many of these are looked up as this id.
+fn found_count<L: Language>(
+    graph: &EGraph<L>,
+    nodes: &HashSet<L>,
+    id: &AppliedId,
+) -> Result<usize, Error> {
+    let mut count: usize = 0;
+    for node in nodes.iter() {
+        if is_found(graph, node, id)? {
+            count = count.saturating_add(1);
+        }
+    }
+    Ok(count)
+}
+
+// How many nodes the set of a class has that are looked up as the class with its own slots.
+fn member_count<L: Language>(graph: &EGraph<L>, a: &AppliedId) -> Result<usize, Error> {
+    let class = own(graph, a)?;
+    let nodes = set_of(graph, a.id)?;
+    found_count(graph, &nodes, &class)
+}
+
+// How many nodes the sets of all live classes have together.
+fn all_members<L: Language>(graph: &EGraph<L>) -> Result<usize, Error> {
+    let mut count: usize = 0;
+    for id in graph.ids()? {
+        count = count.saturating_add(set_of(graph, id)?.len());
+    }
+    Ok(count)
 }
 
 /// Whether the filed nodes of an id's class ascend, and are looked up as the id.
@@ -104,6 +145,8 @@ pub fn number_of<L: Language>(
         "children" => child_count(graph, id),
         "slots" => slots_left(graph, id),
         "nodes" => node_count(graph, id),
+        "members" => member_count(graph, id),
+        "sets" => all_members(graph),
         "filed" => Ok(number_of_report(graph, word)),
         _ => number_of_list(graph, word),
     }

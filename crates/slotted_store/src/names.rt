@@ -22,8 +22,8 @@ pub fn map_between(alloc: Global, from: &SlotMap, to: &SlotMap) -> Result<SlotMa
     Ok(map)
 }
 
-// Puts the value of each key in the places that have the key.
-pub(crate) fn put_at_places<L: Language>(node: &mut L, map: &SlotMap)
+/// Puts the value of each key in the places that have the key. Each other place keeps its name.
+pub fn put_at_places<L: Language>(node: &mut L, map: &SlotMap)
     requires { IsSmall (L.form node.old) }
     ensures { L.form node.new ≡ with_put map.now (L.form node.old) }
 {

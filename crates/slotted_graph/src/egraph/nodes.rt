@@ -1,19 +1,21 @@
 //! What the graph tells of its filed nodes.
-ghost use Rattle.std.specs.Prelude.{◌≡◌, ◌⊎◌, ◌↔◌, length, All, IsTrue, IfOk, IfErr, IsErrOf};
+ghost use Rattle.std.specs.Prelude.{◌≡◌, ◌⊎◌, ◌↔◌, ◌<◌, length, All, IsTrue, IfOk, IfErr, IsErrOf};
 ghost use Rattle.slotted_slots.specs.Error.{IsShortage};
 ghost use Rattle.slotted_slots.specs.Maps.{values};
 ghost use Rattle.slotted_proofs.specs.Equations.{to_applied};
 ghost use Rattle.slotted_core.specs.ValidIds.{IsValidId};
 ghost use Rattle.slotted_core.specs.Graph.{MakesAtMost, OnlyTakesSlots};
+ghost use Rattle.slotted_core.specs.Reports.{names_slots};
 ghost use Rattle.slotted_reports.specs.Nodes.{HasFreshNames};
-ghost use Rattle.slotted_graph.specs.Nodes.{AscendByShape, CanRunOutForEnodes, HasEachNode, HasLargeRow, IsEnode};
+ghost use Rattle.slotted_graph.specs.Nodes.{AscendByShape, CanRunOutForEnodes, HasEachNode, HasLargeRow, HasOwnNames, IsEnode};
 ghost use Rattle.slotted_graph.specs.Nodes.{IsNoneIfDead, slots_for_enodes};
 
 use super::EGraph;
 use slotted_adding::reports;
 use slotted_languages::Language;
 use slotted_reports::{checking, nodes};
-use slotted_slots::{AppliedId, Error};
+use slotted_slots::{AppliedId, Error, Id};
+use std::collections::HashSet;
 
 impl<L: Language, N: Drop> EGraph<L, N> {
     /// The number of filed nodes, also of a failed graph. It takes no memory.
@@ -48,6 +50,28 @@ impl<L: Language, N: Drop> EGraph<L, N> {
             return Err(Error::Failed);
         }
         nodes::enodes_applied(&self.store, &self.nodes, self.alloc, &mut self.table, a)
+    }
+
+    /// The filed nodes of a class, over the slots that it has left. A number stands for each slot that unions dropped, and for each binder.
+    /// A class that does not find itself has none.
+    pub fn enodes(&self, id: Id) -> Result<HashSet<L>, Error>
+        requires { IsTrue self.now.failed ⊎ (id.0 < length self.now.image.canonical) }
+        ensures each { IfOk result (λ s. HasEachNode L.form self.now id.0 s.keys) }
+        ensures dead { IfOk result (λ s. IsNoneIfDead self.now id.0 s.keys) }
+
+        // Each is valid, and is looked up as what the class with its slots as names finds.
+        ensures nodes { IfOk result (λ s. All (λ n. IsEnode self.now (names_slots self.now.image id.0) (L.form n)) s.keys) }
+        ensures names { IfOk result (λ s. All (λ n. HasOwnNames self.now.image id.0 (L.form n)) s.keys) }
+
+        ensures failed { IsErrOf result Error.Failed ↔ IsTrue self.now.failed }
+        ensures full { IsErrOf result Error.OutOfSlots → HasLargeRow self.now }
+        ensures only { IfErr result (λ e. (e ≡ Error.Failed) ⊎ IsShortage e) }
+    {
+        if self.failed {
+            return Err(Error::Failed);
+        }
+        let class = reports::mk_identity_applied_id(&self.store, self.alloc, id.0)?;
+        nodes::enodes(&self.store, &self.nodes, self.alloc, &class)
     }
 
     /// Whether what is kept of filed nodes fits together: each class finds one that finds itself, and each filed node stands under its own

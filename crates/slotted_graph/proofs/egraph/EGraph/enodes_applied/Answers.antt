@@ -15,7 +15,7 @@ use Rattle.slotted_core.proofs.FreshSlots.{fresh_slots-more}
 use Rattle.slotted_core.proofs.Reports.{within}
 use Rattle.slotted_core.proofs.ValidIds.{of-valid}
 use Rattle.slotted_graph.specs.Nodes.{AscendByShape, HasEachNode, IsNoneIfDead, slots_for_enodes}
-use Rattle.slotted_graph.proofs.Enodes.{each-node, enodes, none-dead, runs-out, takes-found}
+use Rattle.slotted_graph.proofs.Enodes.{each-node, enodes, none-dead, permuted-same, runs-out, takes-found}
 use Rattle.slotted_graph.proofs.egraph.EGraph.enodes_applied.Goals as goal
 
 pub enodes_applied-requires-clause-good : goal.enodes_applied-requires-clause-good
@@ -55,7 +55,8 @@ returns-clause-each l c =
     let a = to_applied c.args.a.now in
     let inv : Good k × HasFreshSlots c.self.inside.table k × RestsWith k r = elim c.self.invariant [ inl h ↦ absurd (false≢true (sym c.if-self.false ∙ h)) | inr h ↦ h ] in
     IfOk-weaker c.enodes_applied.result (λ v. AreEnodes form l.L.Ord.cmp c.self.inside.table c.enodes_applied.new.table k r a v.items) (λ v. HasEachNode form g a.0 v.items)
-    (λ v is. each-node k r inv.0 inv.2 g (ap (λ (x : Graph). x.image) c.self.view_is) (ap (λ (x : Graph). x.filed) c.self.view_is) a.0 form l.met.L.LanguageChildren.fits is.sources v.items is.same is.nodes.keys)
+    (λ v is. each-node k r inv.0 inv.2 g (ap (λ (x : Graph). x.image) c.self.view_is) (ap (λ (x : Graph). x.filed) c.self.view_is) a.0 form l.met.L.LanguageChildren.fits is.sources v.items is.same
+        (permuted-same _ _ is.nodes.keys))
     c.enodes_applied.ensures.ok
 
 pub returns-clause-ascend : goal.returns-clause-ascend
@@ -75,7 +76,7 @@ returns-clause-nodes l c =
     let valid : IsValidId g a = elim c.requires [ inl h ↦ absurd (false≢true (sym c.if-self.false ∙ (ap (λ (x : Graph). x.failed) c.self.view_is ∙ h))) | inr v ↦ v ] in
     let findable : IsFindable k a = of-valid k inv.0 g (ap (λ (x : Graph). x.image) c.self.view_is) a valid in
     IfOk-weaker c.enodes_applied.result (λ v. AreEnodes form l.L.Ord.cmp c.self.inside.table c.enodes_applied.new.table k r a v.items) _
-    (λ v is. enodes k r inv.0 inv.2 form _ refl refl a findable l.met.L.LanguageChildren.fits v.items c.self.inside.table is.nodes.each) c.enodes_applied.ensures.ok
+    (λ v is. enodes k r inv.0 inv.2 _ refl refl a findable form l.met.L.LanguageChildren.fits v.items c.self.inside.table is.nodes.each) c.enodes_applied.ensures.ok
 
 pub returns-clause-full : goal.returns-clause-full
 returns-clause-full l c out =
@@ -95,7 +96,7 @@ returns-clause-dead l c =
     let inv : Good k × HasFreshSlots c.self.inside.table k × RestsWith k r = elim c.self.invariant [ inl h ↦ absurd (false≢true (sym c.if-self.false ∙ h)) | inr h ↦ h ] in
     let valid : IsValidId g a = elim c.requires [ inl h ↦ absurd (false≢true (sym c.if-self.false ∙ (ap (λ (x : Graph). x.failed) c.self.view_is ∙ h))) | inr v ↦ v ] in
     IfOk-weaker c.enodes_applied.result (λ v. AreEnodes form l.L.Ord.cmp c.self.inside.table c.enodes_applied.new.table k r a v.items) (λ v. IsNoneIfDead g a.0 v.items)
-    (λ v is dead. none-dead k r inv.0 inv.2 g image (ap (λ (x : Graph). x.filed) c.self.view_is) a.0 form (within k g.image image a.0 valid.in_range) dead is.sources v.items is.same is.nodes.keys)
+    (λ v is dead. none-dead k r inv.0 inv.2 g image (ap (λ (x : Graph). x.filed) c.self.view_is) a.0 form (within k g.image image a.0 valid.in_range) dead is.sources v.items is.same (permuted-same _ _ is.nodes.keys))
     c.enodes_applied.ensures.ok
 
 pub returns-clause-fresh : goal.returns-clause-fresh

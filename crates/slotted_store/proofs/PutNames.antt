@@ -1,4 +1,5 @@
--- The canonical node of a new class: the shape with fresh slots for the numbers of its free names has that shape.
+-- Nodes with slots in the place of numbers. A shape with fresh slots for some of its numbers has that shape, and with slots for the numbers of all of
+-- its free names it has these as its names.
 use Rattle.std.proofs.Common.{◌≡◌, ◌≢◌, ◌≤◌, ◌+◌, ℕ, zero, suc, length-append, List, [], ◌∷◌, ◌++◌, Option, Some, None, length, take, drop, map, cond, sym, ◌∙◌, ap, refl, subst, arith, inl, inr}
 use Rattle.std.specs.Prelude.{slice_index, unwrap_or, ◌⊎◌}
 use Rattle.std.proofs.lemmas.Bool.{cases_eq, eq-eqb, ne_eqb}
@@ -220,18 +221,12 @@ same_values F inj G (p ∷ m) e =
     let q : p.1 ≡ p.0 = sym (inj p.0 p.1 (ap (λ (x : ℕ × ℕ). x.1) h)) in
     λ i. (p.0, G (q i)) ∷ same_values F inj G m t i
 
-module _ (f : Form) (hf : Fits f) (slots : List (ℕ × ℕ)) (same_keys : keys slots ≡ keys (shape f).1) (inj : IsInjectiveMap slots) (fresh : (v : ℕ) → In v (values slots) → (n : ℕ) × (v ≡ fresh_slot n)) where
-  abbrev s : Form
-  s = (shape f).0
+-- at numbers slots are put in that are different from one another, and from the numbers that stay
+abbrev pub IsPutApart : List (ℕ × ℕ) → Type 0
+IsPutApart slots = (x y : ℕ) → IsNumeric x → IsNumeric y → put slots x ≡ put slots y → x ≡ y
 
-  -- the names of the shape
-  abbrev all : List ℕ
-  all = ascending (s.names ++ keys slots)
-
-  numeric_all : (x : ℕ) → In x all → IsNumeric x
-  numeric_all x h =
-      numeric_append s.names (keys slots) (numeric-shape f).0 (subst AreNumeric (sym same_keys) (numeric-shape f).1) x (In-of_ascending x (s.names ++ keys slots) h)
-
+-- as fresh slots are, each for one number
+module _ (slots : List (ℕ × ℕ)) (once : (x y v : ℕ) → value_of slots x ≡ Some v → value_of slots y ≡ Some v → x ≡ y) (fresh : (v : ℕ) → In v (values slots) → (n : ℕ) × (v ≡ fresh_slot n)) where
   put_apart : (o p : Option ℕ) (x y : ℕ) → IsNumeric x → IsNumeric y → value_of slots x ≡ o → value_of slots y ≡ p → unwrap_or o x ≡ unwrap_or p y → x ≡ y
   put_apart None None x y a b c d e = e
   put_apart (Some v) None x y a b c d e =
@@ -240,43 +235,71 @@ module _ (f : Form) (hf : Fits f) (slots : List (ℕ × ℕ)) (same_keys : keys 
   put_apart None (Some w) x y a b c d e =
       let n = fresh w (In-values slots w (value_has slots y w d)) in
       absurd (omega (arith, n.1, a.1, e))
-  put_apart (Some v) (Some w) x y a b c d e = value_one slots inj x y v c (d ∙ ap Some (sym e))
+  put_apart (Some v) (Some w) x y a b c d e = once x y v c (d ∙ ap Some (sym e))
+
+  pub fresh-apart : IsPutApart slots
+  fresh-apart x y a b e = put_apart (value_of slots x) (value_of slots y) x y a b refl refl e
+
+module _ (f : Form) (hf : Fits f) (slots : List (ℕ × ℕ)) (numeric : AreNumeric (keys slots)) (apart : IsPutApart slots) where
+  abbrev shaped : Form
+  shaped = (shape f).0
+
+  -- the names of the shape
+  abbrev all : List ℕ
+  all = ascending (shaped.names ++ keys slots)
+
+  numeric_all : (x : ℕ) → In x all → IsNumeric x
+  numeric_all x h = numeric_append shaped.names (keys slots) (numeric-shape f).0 numeric x (In-of_ascending x (shaped.names ++ keys slots) h)
 
   -- on these names the slots are put in by an injective function of all names
-  abbrev g : ℕ → ℕ
-  g = filled (map_on (put slots) all)
+  abbrev pub putting : ℕ → ℕ
+  putting = filled (map_on (put slots) all)
 
-  g-injective : IsInjective g
-  g-injective =
+  pub putting-injective : IsInjective putting
+  putting-injective =
       filled-injective (map_on (put slots) all)
-      (IsInjectiveMap-map_on (put slots) all
-      (λ x y hx hy e. put_apart (value_of slots x) (value_of slots y) x y (numeric_all x hx) (numeric_all y hy) refl refl e)
-      (IsAscending-ascending (s.names ++ keys slots)))
+      (IsInjectiveMap-map_on (put slots) all (λ x y hx hy e. apart x y (numeric_all x hx) (numeric_all y hy) e) (IsAscending-ascending (shaped.names ++ keys slots)))
 
-  g-put : (x : ℕ) → In x (s.names ++ keys slots) → g x ≡ put slots x
-  g-put x h = filled-map_on (put slots) all x (In-ascending x (s.names ++ keys slots) h)
+  pub putting-put : (x : ℕ) → In x (shaped.names ++ keys slots) → putting x ≡ put slots x
+  putting-put x h = filled-map_on (put slots) all x (In-ascending x (shaped.names ++ keys slots) h)
 
-  pub fits_shape : Fits s
+  pub fits_shape : Fits shaped
   fits_shape = length-shape f hf ∙ hf
 
-  put_names : with_put slots s ≡ with_names s (map g s.names)
-  put_names = ap (with_names s) (map-agrees (put slots) g s.names (λ x h. sym (g-put x (In-left x s.names (keys slots) h))))
+  put_names : with_put slots shaped ≡ with_names shaped (map putting shaped.names)
+  put_names = ap (with_names s) (map-agrees (put slots) putting shaped.names (λ x h. sym (putting-put x (In-left x shaped.names (keys slots) h))))
 
-  pub fits_put : Fits (with_put slots s)
-  fits_put = length-map_of (put slots) s.names ∙ fits_shape
+  pub putting-fits : Fits (with_put slots shaped)
+  putting-fits = length-map_of (put slots) shaped.names ∙ fits_shape
     where
       length-map_of : (h : ℕ → ℕ) (xs : List ℕ) → length (map h xs) ≡ length xs
       length-map_of h [] = refl
       length-map_of h (x ∷ xs) = ap suc (length-map_of h xs)
 
-  moved_put : moved g (nameless_node s) ≡ nameless_node (with_put slots s)
-  moved_put = sym (ap nameless_node put_names ∙ nameless-renamed_node g g-injective s fits_shape)
+  pub putting-moved : moved putting (nameless_node shaped) ≡ nameless_node (with_put slots shaped)
+  putting-moved = sym (ap nameless_node put_names ∙ nameless-renamed_node putting putting-injective shaped fits_shape)
+
+module _ (f : Form) (hf : Fits f) (slots : List (ℕ × ℕ)) (same_keys : keys slots ≡ keys (shape f).1) (inj : IsInjectiveMap slots) (fresh : (v : ℕ) → In v (values slots) → (n : ℕ) × (v ≡ fresh_slot n)) where
+  numeric : AreNumeric (keys slots)
+  numeric = subst AreNumeric (sym same_keys) (numeric-shape f).1
+
+  apart : IsPutApart slots
+  apart = fresh-apart slots (value_one slots inj) fresh
+
+  abbrev s : Form
+  s = (shape f).0
+
+  abbrev g : ℕ → ℕ
+  g = putting f hf slots numeric apart
+
+  pub fits_put : Fits (with_put slots s)
+  fits_put = putting-fits f hf slots numeric apart
 
   abbrev of_shape : ((shape s).0 ≡ (shape f).0) × ((shape f).1 ≡ with_values (filled (shape f).1) (shape s).1)
   of_shape = shape-same (filled (shape f).1) (filled-injective (shape f).1 (injective-shape f)) s f (shape-renamed f hf)
 
   abbrev of_put : ((shape s).0 ≡ (shape (with_put slots s)).0) × ((shape (with_put slots s)).1 ≡ with_values g (shape s).1)
-  of_put = shape-same g g-injective s (with_put slots s) moved_put
+  of_put = shape-same g (putting-injective f hf slots numeric apart) s (with_put slots s) (putting-moved f hf slots numeric apart)
 
   keys_same : keys (shape f).1 ≡ keys (shape s).1
   keys_same = ap keys of_shape.1 ∙ keys-with_values (filled (shape f).1) (shape s).1
@@ -288,7 +311,7 @@ module _ (f : Form) (hf : Fits f) (slots : List (ℕ × ℕ)) (same_keys : keys 
 
   slots_are : map_on g (keys slots) ≡ slots
   slots_are =
-      map_on-agrees g (filled slots) (keys slots) (λ k h. g-put k (In-right k s.names (keys slots) h) ∙ put-filled slots k h)
+      map_on-agrees g (filled slots) (keys slots) (λ k h. putting-put f hf slots numeric apart k (In-right k s.names (keys slots) h) ∙ put-filled slots k h)
       ∙ map_on-filled slots (subst model.IsAscending (sym same_keys) (ascends (keys (shape f).1) (keys-shape f)))
 
   -- the shape with these slots for its numbers has the shape, and the slots as names
