@@ -164,15 +164,15 @@ module _ (k : Kept) (r : Rows) (well : IsWellFiled k r) (o : ℕ) (f : Form) (m 
   module _ (new : (v : ℕ) → Contains (values a.1) v → (i : ℕ) × (v ≡ fresh_slot i)) where
     new-value : (v : ℕ) → In v (values w) → (i : ℕ) × (v ≡ fresh_slot i)
     new-value v h =
-        let p = Contains-of_value w v (In-Contains (values w) v h) in
+        let p = Contains-of_value w v (Contains-In (values w) v h) in
         new v (of-id p.0 v p.1)
 
     numeric : AreNumeric (keys w)
     numeric x h =
-        let p = Contains-of_key w x (In-Contains (keys w) x h) in
+        let p = Contains-of_key w x (Contains-In (keys w) x h) in
         let q = composite-over (same_names m F) A x p.0 p.1 in
         let s = same_names-over m F x q.0 q.1 in
-        (numeric-shape f).1 x (subst (In x) kept.numbers (Contains-In (keys m) x (Contains-key m x s.0 s.1)))
+        (numeric-shape f).1 x (subst (In x) kept.numbers (In-Contains (keys m) x (Contains-key m x s.0 s.1)))
 
     numbers-apart : IsPutApart w
     numbers-apart = fresh-apart w (λ x z u i j. same-value x z u u i j refl) new-value
@@ -182,7 +182,7 @@ module _ (k : Kept) (r : Rows) (well : IsWellFiled k r) (o : ℕ) (f : Form) (m 
 
     knows : (x u : ℕ) → slots.value_of w x ≡ Some u → by x ≡ u
     knows x u e =
-        let h = Contains-In (keys w) x (Contains-key w x u (Contains-value_of w x u (sym (value_of-model w x) ∙ e))) in
+        let h = In-Contains (keys w) x (Contains-key w x u (Contains-value_of w x u (sym (value_of-model w x) ∙ e))) in
         putting-put f kept.fits w numeric numbers-apart x (In-right x (shape f).0.names (keys w) h) ∙ ap (λ o. unwrap_or o x) e
 
     pub put-fits : Fits (with_put w f)
@@ -202,9 +202,9 @@ module _ (k : Kept) (r : Rows) (well : IsWellFiled k r) (o : ℕ) (f : Form) (m 
 
     -- each name is one of the id, or a number
     pub put-names : (x : ℕ) → Contains (with_put w f).names x → Contains (values a.1) x ⊎ IsNumeric x
-    put-names x h = elim (put_own w f.names (subst (λ (s : Form). AreNumeric s.names) kept.itself (numeric-shape f).0) x (Contains-In (map (put w) f.names) x h)) [
+    put-names x h = elim (put_own w f.names (subst (λ (s : Form). AreNumeric s.names) kept.itself (numeric-shape f).0) x (In-Contains (map (put w) f.names) x h)) [
       | inl i ↦
-          let p = Contains-of_value w x (In-Contains (values w) x i) in
+          let p = Contains-of_value w x (Contains-In (values w) x i) in
           inl (of-id p.0 x p.1)
       | inr n ↦ inr n
     ]

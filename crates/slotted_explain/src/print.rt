@@ -4,7 +4,8 @@ ghost use Rattle.slotted_slots.specs.Error.{IsShortage};
 ghost use Rattle.slotted_core.specs.Graph.{IsFullId, OnlyTakesSlots};
 ghost use Rattle.slotted_proofs.specs.Equations.{to_applied};
 ghost use Rattle.slotted_core.specs.Syn.{MakesForTermAt, RunsOutForTermAt};
-ghost use Rattle.slotted_explain.specs.Printed.{AppendsLine, ArePrinted, IsSideText, IsSidesText, LineRunsOut, LinesRunOut, MakesForLine, MakesForLines};
+ghost use Rattle.slotted_explain.specs.Printed.{AppendsLine, ArePrinted, IsSideText, IsSidesText, LineRunsOut};
+ghost use Rattle.slotted_explain.specs.Printed.{LinesRunOut, MakesForLine, MakesForLines};
 
 use slotted_graph::EGraph;
 use slotted_proofs::reasons::reason;

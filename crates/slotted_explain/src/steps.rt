@@ -2,7 +2,8 @@
 ghost use Rattle.std.specs.Prelude.{◌≡◌, ◌<◌, ◌∷◌, ◌++◌, [], length, reverse, IfOk, IfErr, OnOk};
 ghost use Rattle.slotted_slots.specs.Error.{IsOutOfMemory};
 ghost use Rattle.slotted_proofs.specs.Lines.{PartsAreEarlier};
-ghost use Rattle.slotted_explain.specs.Chain.{AreWithin, IsChain, child_rewrite, child_rewrites, from_class, own_step, rewrite, rewrites_below, to_class};
+ghost use Rattle.slotted_explain.specs.Chain.{AreWithin, IsChain, child_rewrite, child_rewrites, from_class};
+ghost use Rattle.slotted_explain.specs.Chain.{own_step, rewrite, rewrites_below, to_class};
 
 use slotted_proofs::{Proof, ProofList, ProvenEq};
 use slotted_slots::{AppliedId, Error};

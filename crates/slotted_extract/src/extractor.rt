@@ -10,7 +10,9 @@ ghost use Rattle.slotted_proofs.specs.Equations.{to_applied};
 ghost use Rattle.slotted_core.specs.Graph.{OnlyTakesSlots};
 ghost use Rattle.slotted_core.specs.ValidIds.{IsValidId};
 ghost use Rattle.slotted_extraction.specs.Terms.{IsFreshTerm, entry_at};
-ghost use Rattle.slotted_graph.specs.LeastTerms.{AreLeastOf, HasEachLiveClass, IsExtracted, IsLeastTerm, LacksEntry, MakesForExtracted, MakesForLeast, RunsOutForExtracted, RunsOutForLeast};
+ghost use Rattle.slotted_graph.specs.LeastTerms.{AreLeastOf, HasEachLiveClass, IsExtracted, IsLeastTerm, LacksEntry};
+ghost use Rattle.slotted_graph.specs.LeastTerms.{MakesForExtracted, MakesForLeast, RunsOutForExtracted};
+ghost use Rattle.slotted_graph.specs.LeastTerms.{RunsOutForLeast};
 
 use slotted_costs::{AstSize, CostFunction};
 use slotted_extraction::LeastTerms;

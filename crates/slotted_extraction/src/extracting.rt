@@ -14,7 +14,9 @@ ghost use Rattle.slotted_adding.specs.Enodes.{AllKnownTo};
 ghost use Rattle.slotted_adding.specs.Filling.{MakesAtMost};
 ghost use Rattle.slotted_reports.specs.Nodes.{HasFreshNames};
 ghost use Rattle.slotted_extraction.specs.Terms.{IsFreshTerm, IsMade, IsNamedBy, RunsOutWith, entry_at, slots_at, slots_for, slots_of};
-ghost use Rattle.slotted_extraction.specs.Frames.{IsClosing, IsFrameFor, IsFreshFrame, IsKnownFrame, IsKnownStack, IsLessWork, IsStack, KeepsFresh, KeepsGoal, MakesLeft, MakesSlots, RunsOutForKey, RunsOutLeft, has_all};
+ghost use Rattle.slotted_extraction.specs.Frames.{IsClosing, IsFrameFor, IsFreshFrame, IsKnownFrame, IsKnownStack};
+ghost use Rattle.slotted_extraction.specs.Frames.{IsLessWork, IsStack, KeepsFresh, KeepsGoal, MakesLeft, MakesSlots};
+ghost use Rattle.slotted_extraction.specs.Frames.{RunsOutForKey, RunsOutLeft, has_all};
 
 use crate::entry::TermEntry;
 use crate::terms::LeastTerms;

@@ -2,9 +2,11 @@
 --     HaveOneShape k i m j n    m and n have the slots of the classes i and j for the numbers of one shape
 --     number_partners m n right for each slot of an id that has a number in n the slot with the number in m
 --     AreTwinSides k i j e      e pairs the slots that have one number
-use Rattle.std.specs.Prelude.{◌≡◌, ◌↔◌, ℕ, List, Contains}
+--     HaveManySlots k i j       the two classes have too many canonical slots together to be numbered
+use Rattle.std.specs.Prelude.{◌≡◌, ◌≤◌, ◌+◌, ◌↔◌, ℕ, List, Contains, length}
+use Rattle.slotted_slots.specs.Table.{slot_limit}
 use Rattle.slotted_nodes.specs.Form.{Form}
-use Rattle.slotted_model.specs.Classes.{IsFull}
+use Rattle.slotted_model.specs.Classes.{IsFull, canonical_slots}
 use Rattle.slotted_model.specs.Correspondence.{composite, same_names}
 use Rattle.slotted_model.specs.Normal.{HasNormalTwin, HasOneNumber}
 use Rattle.slotted_proofs.specs.declared.equation.Equation.{Equation as Sides}
@@ -27,3 +29,6 @@ pub record AreTwinSides (k : Kept) (i j : ℕ) (e : Sides) : Type 0 where
   pub left : IsFull (nodes_of k) (to_applied e.l)
   pub twins : HasNormalTwin (nodes_of k) (entries_of k) (to_applied e.l) (to_applied e.r)
   pub pairs : (s t : ℕ) → Contains (pairs_of e) (s, t) ↔ HasOneNumber (entries_of k) (nodes_of k) i j s t
+
+abbrev pub HaveManySlots : Kept → ℕ → ℕ → Type 0
+HaveManySlots k i j = slot_limit ≤ length (canonical_slots (nodes_of k) i) + length (canonical_slots (nodes_of k) j)

@@ -1,14 +1,13 @@
 //! The equation of two classes whose nodes have one shape in normal form.
-ghost use Rattle.std.specs.Prelude.{◌≡◌, ◌≤◌, ◌<◌, ◌+◌, length, IfOk, IfErr, IsErrOf};
+ghost use Rattle.std.specs.Prelude.{◌≡◌, ◌<◌, length, IfOk, IfErr, IsErrOf};
 ghost use Rattle.slotted_theory.specs.FiniteMaps.{IsInjectiveMap};
 ghost use Rattle.slotted_slots.specs.Error.{IsOutOfMemory, IsShortage};
-ghost use Rattle.slotted_slots.specs.Table.{slot_limit};
 ghost use Rattle.slotted_model.specs.Applied.{keys};
 ghost use Rattle.slotted_model.specs.Classes.{Canonical, canonical_slots};
 ghost use Rattle.slotted_model.specs.Correspondence.{IsPartialInjection, identity};
 ghost use Rattle.slotted_proofs.specs.Equations.{HaveManyNames, IsWritten, partnered_statement, to_applied};
 ghost use Rattle.slotted_store.specs.Kept.{nodes_of, rows_from};
-ghost use Rattle.slotted_normal_forms.specs.Sides.{AreTwinSides, HaveOneShape, number_partners};
+ghost use Rattle.slotted_normal_forms.specs.Sides.{AreTwinSides, HaveManySlots, HaveOneShape, number_partners};
 
 use slotted_languages::Language;
 use slotted_proofs::Equation;
@@ -82,7 +81,7 @@ pub fn sides<L: Language>(
     requires right { right < length store.now.classes }
     requires shape { HaveOneShape store.now left names.now right others.now }
     ensures ok { IfOk result (AreTwinSides store.now left right) }
-    ensures full { IsErrOf result Error.OutOfSlots → slot_limit ≤ length (canonical_slots (nodes_of store.now) left) + length (canonical_slots (nodes_of store.now) right) }
+    ensures full { IsErrOf result Error.OutOfSlots → HaveManySlots store.now left right }
     ensures err { IfErr result IsShortage }
 {
     let l = own_id(store, alloc, left)?;

@@ -267,7 +267,7 @@ module _ (f : Form) (hf : Fits f) (slots : List (ℕ × ℕ)) (numeric : AreNume
   fits_shape = length-shape f hf ∙ hf
 
   put_names : with_put slots shaped ≡ with_names shaped (map putting shaped.names)
-  put_names = ap (with_names s) (map-agrees (put slots) putting shaped.names (λ x h. sym (putting-put x (In-left x shaped.names (keys slots) h))))
+  put_names = ap (with_names shaped) (map-agrees (put slots) putting shaped.names (λ x h. sym (putting-put x (In-left x shaped.names (keys slots) h))))
 
   pub putting-fits : Fits (with_put slots shaped)
   putting-fits = length-map_of (put slots) shaped.names ∙ fits_shape
