@@ -5,7 +5,7 @@ use Rattle.std.specs.List.{list_any, range_with_len}
 use Rattle.std.specs.List.Sorted.{IsPermutation}
 use Rattle.std.proofs.lemmas.Bool.{cases_Bool}
 use Rattle.std.proofs.lemmas.List.{map-append, take_more}
-use Rattle.std.proofs.lemmas.List.Elements.{All-cons, All-contains}
+use Rattle.std.proofs.lemmas.List.Elements.{All-cons, All-contains, All-take}
 use Rattle.std.proofs.lemmas.List.Folds.{Any-from_list_any}
 use Rattle.std.proofs.lemmas.List.Sorted.{All-permutation, Contains-permutation, IsPermutation-map, IsPermutation-push_more, IsPermutation-sym}
 use Rattle.slotted_nodes.specs.Form.{Form}
@@ -89,6 +89,6 @@ module _ (k : Kept) (r : Rows) (well : IsWellFiled k r) where
         }
 
     -- the node of the next source is not there yet
-    pub node-absent : (a : Applied) (xs : List ℕ) (i : ℕ) (ns : List L) (n : L) → i < length xs → AllDifferent xs → All (IsFiled r.filed) (take i xs) → HasKey r.filed (get_or xs i 0) (shape (form n)).0 →
+    pub node-absent : (a : Applied) (xs : List ℕ) (i : ℕ) (ns : List L) (n : L) → i < length xs → AllDifferent xs → All (IsFiled r.filed) xs → HasKey r.filed (get_or xs i 0) (shape (form n)).0 →
         AreClassNodes form k r a (take i xs) ns → list_any (eq n) ns ≡ false
-    node-absent a xs i ns n lt different filed key so_far = new-node (take i xs) ns n (get_or xs i 0) filed so_far.keys (different-before xs i 0 lt different) key
+    node-absent a xs i ns n lt different filed key so_far = new-node (take i xs) ns n (get_or xs i 0) (All-take (IsFiled r.filed) i xs filed) so_far.keys (different-before xs i 0 lt different) key

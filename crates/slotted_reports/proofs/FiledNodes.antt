@@ -33,6 +33,7 @@ use Rattle.slotted_store.specs.Finding.{IsFindable}
 use Rattle.slotted_store.specs.Kept.{Kept, nodes_of, entries_of}
 use Rattle.slotted_store.proofs.ChildIds.{Each, EachChild-node_args}
 use Rattle.slotted_store.proofs.NameMaps.{In-at, at_In}
+use Rattle.slotted_store.proofs.PutNames.{AreNumeric, numeric-shape}
 use Rattle.slotted_filing.specs.Filed.{HasKey, filed_of}
 use Rattle.slotted_filing.specs.FiledRows.{Rows}
 use Rattle.slotted_normal_forms.specs.FoundNodes.{IsFoundNode}
