@@ -11,6 +11,7 @@
 --     AreEnodes                 one for each source of the id's class, ascending by key
 --     IsClassNode k r a f       a node that is looked up as what a finds, over ids that find, with names of a and numbers
 --     AreClassNodes             one such node for each of some sources, with its key, in some order
+--     AreNodesOf form k r a ns  one for each source of the id's class
 --     places_at v o             how many places the key has that is filed of the class o
 --     TakesForKeys r os t u     from t to u two fresh slots are made at most for each place of the keys of the classes os
 --     RunsOutForKeys r u        no fresh slot is left, or some filed key has too many places
@@ -90,6 +91,10 @@ pub record IsClassNode (k : Kept) (r : Rows) (a : Applied) (f : Form) : Type 0 w
 pub record AreClassNodes {L : Type 0} (form : L → Form) (k : Kept) (r : Rows) (a : Applied) (os : List ℕ) (ns : List L) : Type 0 where
   pub keys : IsPermutation (map (key_at r.filed) os) (map (key_in form) ns)
   pub each : All (λ n. IsClassNode k r a (form n)) ns
+
+-- one for each source of the id's class
+abbrev pub AreNodesOf : {L : Type 0} → (L → Form) → Kept → Rows → Applied → List L → Type 0
+AreNodesOf form k r a ns = AreClassNodes form k r a (class_sources k r a.0) ns
 
 abbrev pub places_at : List (Option Filing) → ℕ → ℕ
 places_at v o = length (key_at v o).names

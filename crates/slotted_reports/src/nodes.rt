@@ -13,8 +13,8 @@ ghost use Rattle.slotted_rebuilding.specs.Filed.{IsWellFiled};
 ghost use Rattle.slotted_store.specs.Finding.{IsFindable};
 ghost use Rattle.slotted_adding.specs.Enodes.{AllKnownTo, AreFresh};
 ghost use Rattle.slotted_adding.specs.Reports.{class_sources};
-ghost use Rattle.slotted_reports.specs.Nodes.{AreAppliedNodes, AreClassNodes, AreEnodes, Ascend, HasKeyOf, HasLargeKey, IsAppliedNode};
-ghost use Rattle.slotted_reports.specs.Nodes.{IsSourceOf, RunsOutForKeys, TakesForKeys, key_at};
+ghost use Rattle.slotted_reports.specs.Nodes.{AreAppliedNodes, AreClassNodes, AreEnodes, AreNodesOf, Ascend, HasKeyOf, HasLargeKey};
+ghost use Rattle.slotted_reports.specs.Nodes.{IsAppliedNode, IsSourceOf, RunsOutForKeys, TakesForKeys, key_at};
 
 use slotted_adding::enodes::{class_node, names_beside};
 use slotted_adding::reports::class_nodes;
@@ -206,7 +206,7 @@ pub fn enodes<L: Language>(
     requires quiet { nodes.now.waiting ≡ [] }
     requires findable { IsFindable store.now (to_applied a.now) }
     requires fresh { AreFresh (values a.now.m) }
-    ensures ok { IfOk result (λ s. AreClassNodes L.form store.now nodes.now (to_applied a.now) (class_sources store.now nodes.now a.now.id.0) s.keys) }
+    ensures ok { IfOk result (λ s. AreNodesOf L.form store.now nodes.now (to_applied a.now) s.keys) }
     ensures full { IsErrOf result Error.OutOfSlots → HasLargeKey nodes.now }
     ensures err { IfErr result IsShortage }
 {
