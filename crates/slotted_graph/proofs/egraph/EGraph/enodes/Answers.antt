@@ -1,4 +1,4 @@
-use Rattle.std.proofs.Common.{◌≡◌, ◌<◌, ◌∙◌, length, ap, sym, subst, inl, inr}
+use Rattle.std.proofs.Common.{◌≡◌, ◌<◌, ◌∙◌, ap, get_or, length, sym, subst, inl, inr}
 use Rattle.std.specs.Prelude.{All, Contains}
 use Rattle.std.proofs.lemmas.Bool.{false≢true}
 use Rattle.std.proofs.lemmas.List.Sorted.{IsPermutation-refl}
@@ -113,7 +113,7 @@ returns-clause-names l c =
     let valid : i < length g.image.canonical = elim c.requires [ inl h ↦ absurd (false≢true (sym c.if-self.false ∙ (ap (λ (x : Graph). x.failed) c.self.view_is ∙ h))) | inr v ↦ v ] in
     let slots = ap (λ (x : Applied). values x.1) c.in_ok-class.ensures.ok ∙ (values-identity (used_slots (entries_of k) i) ∙ slots-are k inv.0 g image i valid) in
     IfOk-weaker c.enodes.result (λ s. AreClassNodes form k r a (class_sources k r a.0) s.keys) (λ s. All (λ n. HasOwnNames g.image i (form n)) s.keys)
-    (λ s is j d h. subst (λ vs. HasNamesOrNumbers vs (form _)) slots (is.each j d h).names) c.enodes.ensures.ok
+    (λ s is j d h. subst (λ vs. HasNamesOrNumbers vs (form (get_or s.keys j d))) slots (is.each j d h).names) c.enodes.ensures.ok
 
 pub returns-clause-full : goal.returns-clause-full
 returns-clause-full l c out =
