@@ -7,7 +7,7 @@ use Rattle.std.proofs.lemmas.List.{length-map}
 use Rattle.std.proofs.lemmas.List.Elements.{All-contains}
 use Rattle.std.proofs.lemmas.List.Sorted.{IsPermutation-refl, length_permutation, sum_by-IsPermutation}
 use Rattle.std.proofs.lemmas.List.Sums.{sum_by-cons}
-use Rattle.slotted_theory.specs.Nameless.{DArgs, DTerm, lift, moved_args, stop, place, sub, scope}
+use Rattle.slotted_theory.specs.Nameless.{DTerm}
 use Rattle.slotted_theory.specs.Shape as theory
 use Rattle.slotted_slots.specs.Table.{Table, is_known}
 use Rattle.slotted_slots.proofs.TableLaws.{is_known-numeric_slot}
@@ -33,7 +33,7 @@ use Rattle.slotted_adding.proofs.AppliedNodes.{filed-key}
 use Rattle.slotted_reports.specs.Nodes.{HasLargeKey, IsAppliedNode, IsClassNode, RunsOutForKeys, TakesForKeys, key_at, key_in, key_of, places_at}
 use Rattle.slotted_reports.proofs.FiledShapes.{passes, shape_at, shapes_in, shapes-permuted, sources-permuted}
 use Rattle.slotted_reports.proofs.Sources.{dead-none, each-filed}
-use Rattle.slotted_core.specs.Canonical.{args_count, place_count}
+use Rattle.slotted_core.specs.Canonical.{place_count}
 use Rattle.slotted_core.specs.Causes.{class_found}
 use Rattle.slotted_core.specs.Good.{Good, RestsWith, image_of}
 use Rattle.slotted_core.specs.Graph.{Graph}

@@ -1,17 +1,15 @@
 -- What is made of entries of least cost, as callers of the graph see it.
-use Rattle.std.proofs.Common.{◌≡◌, ◌<◌, ◌∙◌, ℕ, List, [], Option, Some, Bool, length, ap, refl, sym, subst, arith}
-use Rattle.slotted_theory.specs.Derives.{Equal}
-use Rattle.slotted_theory.specs.Nameless.{DTerm, nameless}
+use Rattle.std.proofs.Common.{◌≡◌, ◌<◌, ◌∙◌, List, [], Option, Some, Bool, length, ap, refl, sym, subst, arith}
+use Rattle.slotted_theory.specs.Nameless.{nameless}
 use Rattle.slotted_theory.specs.Term.{Term}
 use Rattle.slotted_slots.specs.Table.{Table}
 use Rattle.slotted_nodes.specs.Form.{Form}
 use Rattle.slotted_model.specs.Applied.{Applied}
-use Rattle.slotted_model.specs.Classes.{IsFull, term_of}
-use Rattle.slotted_model.specs.Cost.{AtMost, CostFunction, tree_cost}
+use Rattle.slotted_model.specs.Classes.{IsFull}
+use Rattle.slotted_model.specs.Cost.{CostFunction}
 use Rattle.slotted_model.specs.Find.{IsLive, find, find_class}
 use Rattle.slotted_model.specs.Rest.{AtRest}
 use Rattle.slotted_model.specs.State.{State, look_up_tree}
-use Rattle.slotted_model.specs.Trees.{IsTree}
 use Rattle.slotted_model.proofs.NormalIds.{found-again, found-valid}
 use Rattle.slotted_model.proofs.Finding.{found-live, leads}
 use Rattle.slotted_model.proofs.Options.{option_map-some}
@@ -20,14 +18,13 @@ use Rattle.slotted_store.specs.Kept.{Kept, entries_of, nodes_of}
 use Rattle.slotted_store.proofs.KeptLists.{length-nodes_of}
 use Rattle.slotted_filing.specs.FiledRows.{Rows, rows_in}
 use Rattle.slotted_rebuilding.specs.Filed.{state_in}
-use Rattle.slotted_costs.specs.Costs.{cost_of_term}
 use Rattle.slotted_core.specs.Affected.{IsAffected}
 use Rattle.slotted_core.specs.Causes.{class_found}
 use Rattle.slotted_core.specs.Good.{Good, RestsWith, image_of}
 use Rattle.slotted_core.specs.Graph.{Graph}
-use Rattle.slotted_core.specs.Image.{Image, asserted_in, found_id}
+use Rattle.slotted_core.specs.Image.{Image, found_id}
 use Rattle.slotted_core.specs.LookUp.{look_up_term}
-use Rattle.slotted_core.specs.ValidIds.{Fills, IsValidId}
+use Rattle.slotted_core.specs.ValidIds.{IsValidId}
 use Rattle.slotted_core.proofs.AffectedClasses.{affected-is}
 use Rattle.slotted_core.proofs.Images.{class_found-is, found_id-is}
 use Rattle.slotted_core.proofs.LookUps.{tree-is}
@@ -37,7 +34,7 @@ use Rattle.slotted_extraction.specs.Least.{AreLeast}
 use Rattle.slotted_extraction.specs.Terms.{IsMade, entry_at}
 use Rattle.slotted_extraction.specs.declared.entry.TermEntry.{TermEntry}
 use Rattle.slotted_extraction.proofs.ExtractedTerms.{made-cost, made-equal, made-least, made-least_equal, made-least_term, made-looked_up}
-use Rattle.slotted_graph.specs.LeastTerms.{AreLeastOf, CostsAsEntered, HasEachLiveClass, IsEqualTo, IsExtracted, IsFullBeside, IsLeastTerm, IsLiveIn}
+use Rattle.slotted_graph.specs.LeastTerms.{CostsAsEntered, HasEachLiveClass, IsEqualTo, IsExtracted, IsFullBeside, IsLeastTerm}
 
 module _ {L C : Type 0} (form : L → Form) (k : Kept) (r : Rows) (good : Good k) (rests : RestsWith k r) (costs : CostFunction C) (es : List (Option (TermEntry L C)))
     (least : AreLeast form k r costs es) (failed : Bool) (table : Table) where

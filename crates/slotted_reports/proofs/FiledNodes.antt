@@ -1,19 +1,19 @@
 -- A filed node with other names put in: its names are known, and its children find.
-use Rattle.std.proofs.Common.{◌≡◌, ◌∙◌, ℕ, true, zero, suc, List, [], ◌∷◌, ◌++◌, None, Some, length, refl, ap, sym, subst, inl, inr}
-use Rattle.std.specs.Prelude.{All, Contains, IsTrue, Option, cond, nat_eq, unwrap_or}
-use Rattle.std.proofs.lemmas.Bool.{cases_Bool, false≢true}
+use Rattle.std.proofs.Common.{◌≡◌, ◌∙◌, ℕ, true, List, [], ◌∷◌, Some, length, ap, sym, subst, inl, inr}
+use Rattle.std.specs.Prelude.{All, Contains, IsTrue}
+use Rattle.std.proofs.lemmas.Bool.{false≢true}
 use Rattle.std.proofs.lemmas.List.Elements.{All-cons, All-nil}
 use Rattle.slotted_theory.specs.FiniteMaps.{filled}
-use Rattle.slotted_theory.specs.Nameless.{DArgs, DTerm, stop, place, sub, scope, moved, nameless_args}
+use Rattle.slotted_theory.specs.Nameless.{DTerm, moved, nameless_args}
 use Rattle.slotted_theory.proofs.Filled.{filled-injective}
 use Rattle.slotted_theory.proofs.Laws.{moved-nameless_args}
 use Rattle.slotted_slots.specs.Maps.{is_among}
-use Rattle.slotted_slots.specs.Table.{Table, is_known, numeric_slot}
+use Rattle.slotted_slots.specs.Table.{Table, is_known}
 use Rattle.slotted_slots.proofs.MapLaws.{is_among-cons}
 use Rattle.slotted_slots.proofs.TableLaws.{is_known-numeric_slot}
 use Rattle.slotted_nodes.specs.Form.{Form, scopes}
 use Rattle.slotted_languages.specs.NodeTerm.{nameless_node, node_args}
-use Rattle.slotted_languages.specs.Shape.{Fits, Numbers, free_number, names_in, no_numbers, number_at, number_of, numbered, past_binder, shape}
+use Rattle.slotted_languages.specs.Shape.{Fits, shape}
 use Rattle.slotted_languages.proofs.Shapes.{injective-shape, shape-renamed}
 use Rattle.slotted_model.specs.Applied.{Applied, EachChild, values}
 use Rattle.slotted_model.specs.Classes.{canonical_node}

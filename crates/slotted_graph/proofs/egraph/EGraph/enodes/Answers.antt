@@ -9,12 +9,12 @@ use Rattle.slotted_model.proofs.NormalIds.{values-identity}
 use Rattle.slotted_proofs.specs.Equations.{to_applied}
 use Rattle.slotted_store.specs.Kept.{entries_of}
 use Rattle.slotted_terms.specs.Valid.{AllKnown}
-use Rattle.slotted_adding.specs.Enodes.{AreFresh, HasNamesOrNumbers}
+use Rattle.slotted_adding.specs.Enodes.{HasNamesOrNumbers}
 use Rattle.slotted_adding.specs.Reports.{class_sources}
 use Rattle.slotted_reports.specs.Nodes.{AreClassNodes}
 use Rattle.slotted_core.specs.Good.{Good, HasFreshSlots, RestsWith, image_of}
 use Rattle.slotted_core.specs.Graph.{Graph}
-use Rattle.slotted_core.specs.Reports.{names_slots, slots_used}
+use Rattle.slotted_core.specs.Reports.{names_slots}
 use Rattle.slotted_core.proofs.GoodFinds.{good-finds}
 use Rattle.slotted_core.proofs.Reports.{names-are, names-known, slots-are, used-fresh, within}
 use Rattle.slotted_graph.specs.Nodes.{HasEachNode, HasOwnNames, IsEnode, IsNoneIfDead}
@@ -60,8 +60,8 @@ returns-clause-each l c =
     let inv : Good k × HasFreshSlots c.self.inside.table k × RestsWith k r = elim c.self.invariant [ inl h ↦ absurd (false≢true (sym c.if-self.false ∙ h)) | inr h ↦ h ] in
     IfOk-weaker c.enodes.result (λ s. AreClassNodes form k r a (class_sources k r a.0) s.keys) (λ s. HasEachNode form g c.args.id.0 s.keys)
     (λ s is. subst (λ j. HasEachNode form g j s.keys) (ap (λ (x : Applied). x.0) c.in_ok-class.ensures.ok)
-        (each-node k r inv.0 inv.2 g (ap (λ (x : Graph). x.image) c.self.view_is) (ap (λ (x : Graph). x.filed) c.self.view_is) a.0 form l.met.L.LanguageChildren.fits
-            (class_sources k r a.0) s.keys (IsPermutation-refl (class_sources k r a.0)) is.keys))
+    (each-node k r inv.0 inv.2 g (ap (λ (x : Graph). x.image) c.self.view_is) (ap (λ (x : Graph). x.filed) c.self.view_is) a.0 form l.met.L.LanguageChildren.fits
+    (class_sources k r a.0) s.keys (IsPermutation-refl (class_sources k r a.0)) is.keys))
     c.enodes.ensures.ok
 
 pub returns-clause-dead : goal.returns-clause-dead
@@ -78,7 +78,7 @@ returns-clause-dead l c =
     let same = ap (λ (x : Applied). x.0) c.in_ok-class.ensures.ok in
     IfOk-weaker c.enodes.result (λ s. AreClassNodes form k r a (class_sources k r a.0) s.keys) (λ s. IsNoneIfDead g i s.keys)
     (λ s is dead. none-dead k r inv.0 inv.2 g image (ap (λ (x : Graph). x.filed) c.self.view_is) i form (within k g.image image i valid) dead (class_sources k r i) s.keys (IsPermutation-refl (class_sources k r i))
-        (subst (λ j. AreClassNodes form k r a (class_sources k r j) s.keys) same is).keys)
+    (subst (λ j. AreClassNodes form k r a (class_sources k r j) s.keys) same is).keys)
     c.enodes.ensures.ok
 
 pub returns-clause-nodes : goal.returns-clause-nodes
@@ -97,7 +97,7 @@ returns-clause-nodes l c =
     let known = subst (λ (x : Applied). AllKnown g.table (values x.1)) (sym c.in_ok-class.ensures.ok) (names-known k inv.0 g image fresh i valid) in
     IfOk-weaker c.enodes.result (λ s. AreClassNodes form k r a (class_sources k r a.0) s.keys) (λ s. All (λ n. IsEnode g (names_slots g.image i) (form n)) s.keys)
     (λ s is. subst (λ (x : Applied). All (λ n. IsEnode g x (form n)) s.keys) same
-        (class-enodes k r inv.0 inv.2 g image (ap (λ (x : Graph). x.filed) c.self.view_is) a c.in_ok-class.ensures.findable form l.met.L.LanguageChildren.fits s.keys known is.each))
+    (class-enodes k r inv.0 inv.2 g image (ap (λ (x : Graph). x.filed) c.self.view_is) a c.in_ok-class.ensures.findable form l.met.L.LanguageChildren.fits s.keys known is.each))
     c.enodes.ensures.ok
 
 pub returns-clause-names : goal.returns-clause-names

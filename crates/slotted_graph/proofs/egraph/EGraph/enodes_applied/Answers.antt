@@ -56,7 +56,7 @@ returns-clause-each l c =
     let inv : Good k × HasFreshSlots c.self.inside.table k × RestsWith k r = elim c.self.invariant [ inl h ↦ absurd (false≢true (sym c.if-self.false ∙ h)) | inr h ↦ h ] in
     IfOk-weaker c.enodes_applied.result (λ v. AreEnodes form l.L.Ord.cmp c.self.inside.table c.enodes_applied.new.table k r a v.items) (λ v. HasEachNode form g a.0 v.items)
     (λ v is. each-node k r inv.0 inv.2 g (ap (λ (x : Graph). x.image) c.self.view_is) (ap (λ (x : Graph). x.filed) c.self.view_is) a.0 form l.met.L.LanguageChildren.fits is.sources v.items is.same
-        (permuted-same _ _ is.nodes.keys))
+    (permuted-same _ _ is.nodes.keys))
     c.enodes_applied.ensures.ok
 
 pub returns-clause-ascend : goal.returns-clause-ascend

@@ -1,4 +1,4 @@
-use Rattle.std.proofs.Common.{ap, sym, subst, inl, inr, ◌∙◌}
+use Rattle.std.proofs.Common.{ap, sym, inl, inr, ◌∙◌}
 use Rattle.slotted_core.specs.Graph.{Graph}
 use Rattle.slotted_core.proofs.LookedUpClasses.{are-looked_up}
 use Rattle.slotted_graph.proofs.egraph.EGraph.is_failed.Goals as goal
