@@ -1,7 +1,7 @@
 -- The words of the clauses that callers meet, handed on from the crates that define them.
 --     terms: Term, Nameless, Derives, Valid          slots: Table, Error, Maps
 --     ids and classes: Applied, Classes, Growth, Ids     the graph: Graph, ValidIds, LookUp, Adding, AddingTerms, Reports, Affected, Image, Nodes, Checks,
---     Leaves, Causes, Syn     extraction: Costs, Laws, Terms, LeastTerms
+--     Leaves, Causes, Syn, FiledNodes, Measure     extraction: Costs, Laws, Terms, LeastTerms
 pub use Rattle.slotted_theory.specs.Term
 pub use Rattle.slotted_theory.specs.Nameless
 pub use Rattle.slotted_theory.specs.Derives
@@ -36,5 +36,7 @@ pub use Rattle.slotted_costs.specs.Costs
 pub use Rattle.slotted_costs.specs.Laws
 pub use Rattle.slotted_extraction.specs.Terms
 pub use Rattle.slotted_graph.specs.LeastTerms
+pub use Rattle.slotted_graph.specs.FiledNodes
+pub use Rattle.slotted_graph.specs.Measure
 -- what a caller of its own says
 pub mod Filed

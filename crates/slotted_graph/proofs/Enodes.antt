@@ -44,7 +44,7 @@ use Rattle.slotted_core.proofs.Images.{class_found-is, found_id-is}
 use Rattle.slotted_core.proofs.LookUps.{looked_up-is}
 use Rattle.slotted_core.proofs.ValidIds.{findable-children, findable-within, node-children_valid}
 use Rattle.slotted_extraction.proofs.Names.{count-moved}
-use Rattle.slotted_graph.specs.Nodes.{CanRunOutForEnodes, HasEachNode, HasLargeRow, IsEnode, shapes_found, slots_for_enodes}
+use Rattle.slotted_graph.specs.FiledNodes.{CanRunOutForEnodes, HasEachNode, HasLargeRow, IsEnode, shapes_found, slots_for_enodes}
 
 -- tests that agree on a range let the same numbers through
 filter-agrees : (f g : ℕ → Bool) (s n : ℕ) → ((i : ℕ) → s ≤ i → i < s + n → f i ≡ g i) → filter f (range_with_len s n) ≡ filter g (range_with_len s n)

@@ -1,4 +1,4 @@
 -- What calls of the graph report of it as a whole.
 pub mod Measure
-pub mod Nodes
+pub mod FiledNodes
 pub mod LeastTerms

@@ -6,7 +6,7 @@ ghost use Rattle.slotted_core.specs.Good.{Good, HasFreshSlots, RestsWith};
 ghost use Rattle.slotted_core.specs.Graph.{OnlyTakesSlots};
 ghost use Rattle.slotted_nodes.specs.Form.{IsSmall};
 ghost use Rattle.slotted_reports.specs.Nodes.{RunsOutForKeys};
-ghost use Rattle.slotted_graph.specs.Nodes.{CanRunOutForEnodes};
+ghost use Rattle.slotted_graph.specs.FiledNodes.{CanRunOutForEnodes};
 
 use super::EGraph;
 use slotted_adding::reports;

@@ -6,9 +6,8 @@ ghost use Rattle.slotted_proofs.specs.Equations.{to_applied};
 ghost use Rattle.slotted_core.specs.ValidIds.{IsValidId};
 ghost use Rattle.slotted_core.specs.Graph.{MakesAtMost, OnlyTakesSlots};
 ghost use Rattle.slotted_core.specs.Reports.{names_slots};
-ghost use Rattle.slotted_reports.specs.Nodes.{HasFreshNames};
-ghost use Rattle.slotted_graph.specs.Nodes.{AscendByShape, CanRunOutForEnodes, HasEachNode, HasLargeRow, HasOwnNames, IsEnode};
-ghost use Rattle.slotted_graph.specs.Nodes.{IsNoneIfDead, slots_for_enodes};
+ghost use Rattle.slotted_graph.specs.FiledNodes.{AscendByShape, CanRunOutForEnodes, HasEachNode, HasFreshNames};
+ghost use Rattle.slotted_graph.specs.FiledNodes.{HasLargeRow, HasOwnNames, IsEnode, IsNoneIfDead, slots_for_enodes};
 
 use super::EGraph;
 use slotted_adding::reports;

@@ -17,7 +17,7 @@ use Rattle.slotted_core.specs.Graph.{Graph}
 use Rattle.slotted_core.specs.Reports.{names_slots}
 use Rattle.slotted_core.proofs.GoodFinds.{good-finds}
 use Rattle.slotted_core.proofs.Reports.{names-are, names-known, slots-are, used-fresh, within}
-use Rattle.slotted_graph.specs.Nodes.{HasEachNode, HasOwnNames, IsEnode, IsNoneIfDead}
+use Rattle.slotted_graph.specs.FiledNodes.{HasEachNode, HasOwnNames, IsEnode, IsNoneIfDead}
 use Rattle.slotted_graph.proofs.Enodes.{class-enodes, each-node, large-row, none-dead}
 use Rattle.slotted_graph.proofs.egraph.EGraph.enodes.Goals as goal
 

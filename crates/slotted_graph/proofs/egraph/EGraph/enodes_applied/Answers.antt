@@ -14,7 +14,7 @@ use Rattle.slotted_core.specs.ValidIds.{IsValidId}
 use Rattle.slotted_core.proofs.FreshSlots.{fresh_slots-more}
 use Rattle.slotted_core.proofs.Reports.{within}
 use Rattle.slotted_core.proofs.ValidIds.{of-valid}
-use Rattle.slotted_graph.specs.Nodes.{AscendByShape, HasEachNode, IsNoneIfDead, slots_for_enodes}
+use Rattle.slotted_graph.specs.FiledNodes.{AscendByShape, HasEachNode, IsNoneIfDead, slots_for_enodes}
 use Rattle.slotted_graph.proofs.Enodes.{each-node, enodes, none-dead, permuted-same, runs-out, takes-found}
 use Rattle.slotted_graph.proofs.egraph.EGraph.enodes_applied.Goals as goal
 

@@ -7,7 +7,9 @@
 --     HasOwnNames g c f                each name in the node is a slot that the class c has left, or numeric
 --     slots_for_enodes g c             two for each place of these nodes
 --     HasLargeRow g                    a filed node has too many places to be numbered
+--     HasFreshNames t vs f             the table t knew no binder's name of f, and no free name but those of vs
 --     CanRunOutForEnodes g u           why slots can run out where they are given out, which leaves the table u
+pub use Rattle.slotted_reports.specs.Nodes.{HasFreshNames}
 use Rattle.std.specs.Prelude.{◌≡◌, ◌≤◌, ◌*◌, ◌⊎◌, ℕ, List, [], Bool, Contains, Some, map, nat_eq}
 use Rattle.std.specs.List.{filter, sum_by}
 use Rattle.std.specs.List.Sorted.{IsPermutation}
