@@ -2,6 +2,7 @@ pub mod KeptLists
 pub mod NameMaps
 pub mod NamePairs
 pub mod PutNames
+pub mod AscendingLists
 pub mod ChildIds
 pub mod NameCounts
 pub mod DistinctValues

@@ -1,6 +1,7 @@
 pub mod ListedSides
 pub mod ListedSoFar
 pub mod EnteredProofs
+pub mod WholeEntries
 pub mod ProofsOfFinds
 pub mod TurnedEntries
 pub mod ChangedEntries

@@ -1,22 +1,23 @@
 -- The proofs of what finds say, entry by entry, and of what an entry says of the classes that its sides find.
-use Rattle.std.proofs.Common.{◌≡◌, ℕ, ◌<◌, List, length, sym, ◌∙◌, ap, inl, inr, arith}
+use Rattle.std.proofs.Common.{◌≡◌, ℕ, ◌<◌, List, length, subst, sym, ◌∙◌, ap, inl, inr, arith}
 use Rattle.slotted_slots.specs.declared.types.AppliedId.{AppliedId}
 use Rattle.slotted_theory.specs.Nameless.{DTerm}
 use Rattle.slotted_model.specs.Applied.{Applied}
 use Rattle.slotted_model.specs.Classes.{canonical_slots}
-use Rattle.slotted_model.specs.Correspondence.{composite, turned}
+use Rattle.slotted_model.specs.Correspondence.{IsPartialInjection, composite, identity, turned}
 use Rattle.slotted_model.specs.Find.{Entry, entry_at, find_class, find_map}
-use Rattle.slotted_model.specs.ProofList.{Equation, equation_at, turned_equation, entry_equation, find_equation}
+use Rattle.slotted_model.specs.ProofList.{Equation, IsOver, equation_at, turned_equation, entry_equation, find_equation}
 use Rattle.slotted_model.specs.Changes.{found_entry}
-use Rattle.slotted_model.specs.Link.{found_equation}
-use Rattle.slotted_model.proofs.Correspondences.PartialInjections.{turned-turned}
+use Rattle.slotted_model.specs.Link.{found_equation, half_found_equation}
+use Rattle.slotted_model.proofs.Correspondences.PartialInjections.{composite-identity, composite-partial, identity-composite, identity-partial, turned-turned}
+use Rattle.slotted_model.proofs.Dropping.{turned-identity}
 use Rattle.slotted_model.proofs.Finding.{leads, find_class-follows, find_map-partial}
 use Rattle.slotted_model.proofs.FindProofs.{find_equation-live, find_equation-composite}
 use Rattle.slotted_proofs.specs.Equations.{Statement, Meets, to_applied}
 use Rattle.slotted_proofs.specs.Entries.{statement_at, composite_entry}
 use Rattle.slotted_store.specs.Kept.{Kept, find_at, nodes_of, entries_of, proofs_of, EntersIn, HasManySlots}
 use Rattle.slotted_store.proofs.KeptLists.{equation_at-of, entry_at-of, length-nodes_of, length-proofs_of}
-use Rattle.slotted_unions.specs.Proving.{OnlyProves, Proves, ProvesFind, ProvesBack, ProvesFound, HasLargeClassOf, HasLargeSide}
+use Rattle.slotted_unions.specs.Proving.{FindsByEntry, FindsWhole, OnlyProves, Proves, ProvesFind, ProvesBack, ProvesHalf, ProvesFound, HasLargeClassOf, HasLargeSide}
 use Rattle.slotted_unions.specs.StateOf.{state_of}
 use Rattle.slotted_unions.specs.Stored.{Stored}
 use Rattle.slotted_unions.proofs.EnteredProofs.{nothing-proved, proved-then, only-nodes, only-entries, only-stands}
@@ -62,6 +63,10 @@ module _ (k : Kept) (stored : Stored k) (i : ℕ) (h : i < length k.classes) (p 
     equation = proof-says ∙ sym (find_equation-live nodes found stored.sane.sound.linked i here
         (ap (λ (x : Entry). x.class) (entry_at-of k i) ∙ e));
   }
+
+  -- and so where the find says what the entry says
+  pub entry-proves : FindsByEntry k i → ProvesFind k k i p
+  entry-proves e = record { only = nothing-proved k stored; in_range = proof-within; equation = proof-says ∙ sym e }
 
   -- what the next class finds this one finds
   next-finds : (j : ℕ) → j ≡ (find_at k i).class → find_class found j ≡ find_class found i
@@ -176,99 +181,128 @@ module _ (k : Kept) (stored : Stored k) (p : ℕ) (h : p < length k.proofs) wher
       let e : find_class es j ≡ find_class es said.right = ap (find_class es) ej in
       large-among k j j said.left said.right (inr e) (inr e) (only-large k l only j j large)
 
-  module _ (l m : Kept) (i j q r : ℕ) (ei : i ≡ said.left) (ej : j ≡ said.right) (back : ProvesBack k l i q)
-      (onward : ProvesFind l m j r) where
-    after : OnlyProves k m
-    after = proved-then k l m back.only onward.only
+  -- the class that the left side finds, and the right class
+  abbrev half : Equation
+  half = half_found_equation ns es said
 
-    back-still : Proves k m (turned_equation ns (find_equation ns es i)) q
-    back-still = proves-still k l m (turned_equation ns (find_equation ns es i)) q back onward.only
+  over : IsOver ns said
+  over = stored-over k stored p h
 
-    there : (p < length m.proofs) × (statement_at m.proofs p ≡ statement_at k.proofs p)
-    there = only-stands k m after p h
+  left-finds : find_class es (find_class es said.left) ≡ find_class es said.left
+  left-finds = found-twice ns es stored.sane.sound.linked said.left over.left
 
-    says : (statement_at m.proofs p).equation ≡ said
+  abbrev P : List (ℕ × ℕ)
+  P = find_map es said.left
+
+  P-partial : IsPartialInjection (canonical_slots ns (find_class es said.left)) (canonical_slots ns said.left) P
+  P-partial = find_map-partial ns es (leads ns es stored.sane.sound.linked) said.left over.left
+
+  module _ (l : Kept) (i q : ℕ) (ei : i ≡ said.left) (back : ProvesBack k l i q) where
+    there : (p < length l.proofs) × (statement_at l.proofs p ≡ statement_at k.proofs p)
+    there = only-stands k l back.only p h
+
+    says : (statement_at l.proofs p).equation ≡ said
     says = ap (λ (s : Statement). s.equation) there.1
 
-    pub half-first : q < length m.proofs
-    half-first = back-still.in_range
-
-    pub half-second : p < length m.proofs
+    pub half-second : p < length l.proofs
     half-second = there.0
 
-    half-joins : (statement_at m.proofs q).equation.right ≡ (statement_at m.proofs p).equation.left
-    half-joins = ap (λ (e : Equation). e.right) back-still.equation ∙ (ei ∙ sym (ap (λ (e : Equation). e.left) says))
+    half-joins : (statement_at l.proofs q).equation.right ≡ (statement_at l.proofs p).equation.left
+    half-joins = ap (λ (e : Equation). e.right) back.equation ∙ (ei ∙ sym (ap (λ (e : Equation). e.left) says))
 
-    pub half-meets : Meets (statement_at m.proofs q) (statement_at m.proofs p)
-    half-meets = stored-meet m after.stored q p half-first half-second half-joins
+    pub half-meets : Meets (statement_at l.proofs q) (statement_at l.proofs p)
+    half-meets = stored-meet l back.only.stored q p back.in_range half-second half-joins
 
-    -- the classes that the finds of either side lead to
-    left-finds : find_class es (find_class es i) ≡ find_class es said.left
-    left-finds = ap (λ c. find_class es (find_class es c)) ei
-        ∙ found-twice ns es stored.sane.sound.linked said.left (stored-over k stored p h).left
-
-    right-finds : find_class es (find_class es j) ≡ find_class es said.right
-    right-finds = ap (λ c. find_class es (find_class es c)) ej
-        ∙ found-twice ns es stored.sane.sound.linked said.right (stored-over k stored p h).right
-
-    pub half-large : HasManySlots m q p → HasLargeSide k said
+    pub half-large : HasManySlots l q p → HasLargeSide k said
     half-large many =
-        large-among k (statement_at m.proofs q).equation.left (statement_at m.proofs p).equation.right said.left said.right
-        (inl (ap (λ (e : Equation). find_class es e.left) back-still.equation ∙ left-finds))
+        large-among k (statement_at l.proofs q).equation.left (statement_at l.proofs p).equation.right said.left said.right
+        (inl (ap (λ (e : Equation). find_class es e.left) back.equation ∙ (ap (λ c. find_class es (find_class es c)) ei ∙ left-finds)))
         (inr (ap (λ (e : Equation). find_class es e.right) says))
-        (then-large k m after q p half-first half-second many)
+        (then-large k l back.only q p back.in_range half-second many)
 
-    abbrev back_equation : Equation
-    back_equation = turned_equation ns (find_equation ns es i)
+    half-is : chained_equation (turned_equation ns (find_equation ns es i)) said ≡ half
+    half-is =
+        let straight : turned (canonical_slots ns (find_class es said.left)) (turned (canonical_slots ns said.left) P) ≡ P =
+        turned-turned (canonical_slots ns (find_class es said.left)) (canonical_slots ns said.left) P P-partial in
+        (λ t. chained_equation (turned_equation ns (find_equation ns es (ei t))) said)
+        ∙ (λ t. record { left = find_class es said.left; right = said.right; pairs = composite (straight t) said.pairs })
 
-    module _ (o : Kept) (s : ℕ) (enters : EntersIn m o (composite_entry m.proofs q p) s) where
-      halved : Proves k o (chained_equation back_equation said) s
-      halved = then-chained k m o back_equation said q p s back-still half-second says ei enters
+    pub half-proves : (o : Kept) (s : ℕ) → EntersIn l o (composite_entry l.proofs q p) s → ProvesHalf k o p s
+    half-proves o s enters =
+        let step = then-chained k l o (turned_equation ns (find_equation ns es i)) said q p s back half-second says ei enters in
+        record { only = step.only; in_range = step.in_range; equation = step.equation ∙ half-is }
 
-      onward-still : ProvesFind k o j r
-      onward-still =
-          proves-still k m o (find_equation ns es j) r (still-finds k l m j r back.only onward)
-          (chained-only m after.stored o q p s half-first half-second half-joins enters).only
+  -- where the left side is what it finds, the entry says it
+  pub half-itself : FindsWhole k said.left → ProvesHalf k k p p
+  half-itself w = record {
+    only = nothing-proved k stored;
+    in_range = h;
+    equation = λ t. record {
+      left = sym w.0 t;
+      right = said.right;
+      pairs = sym (ap (λ m. composite m said.pairs) w.1 ∙ identity-composite (canonical_slots ns said.left) (canonical_slots ns said.right) said.pairs over.pairs) t;
+    };
+  }
 
-      pub whole-first : s < length o.proofs
-      whole-first = halved.in_range
+  -- and from there along the find of the right side
+  module _ (o : Kept) (s : ℕ) (first : ProvesHalf k o p s) where
+    pub still-stands : p < length o.proofs
+    still-stands = (only-stands k o first.only p h).0
 
-      pub whole-second : r < length o.proofs
-      whole-second = onward-still.in_range
+    pub still-right : (j : ℕ) → j ≡ (statement_at o.proofs p).equation.right → j ≡ said.right
+    still-right j e = e ∙ ap (λ (x : Statement). x.equation.right) (only-stands k o first.only p h).1
 
-      pub whole-meets : Meets (statement_at o.proofs s) (statement_at o.proofs r)
-      whole-meets = stored-meet o halved.only.stored s r whole-first whole-second
-          (ap (λ (e : Equation). e.right) halved.equation
-          ∙ (sym ej ∙ sym (ap (λ (e : Equation). e.left) onward-still.equation)))
+    whole-before : (j : ℕ) → FindsWhole o j → FindsWhole k j
+    whole-before j w = (
+      subst (λ (x : List Entry). find_class x j ≡ j) (only-entries k o first.only) w.0,
+      subst (λ (x : List Entry). find_map x j ≡ identity (canonical_slots ns j)) (only-entries k o first.only)
+          (subst (λ (x : List DTerm). find_map (entries_of o) j ≡ identity (canonical_slots x j)) (only-nodes k o first.only) w.1),
+    )
 
-      pub whole-large : HasManySlots o s r → HasLargeSide k said
+    -- where the right side is what it finds nothing is left
+    pub found-itself : (j : ℕ) → j ≡ said.right → FindsWhole o j → ProvesFound k o p s
+    found-itself j ej whole =
+        let w : FindsWhole k said.right = subst (FindsWhole k) ej (whole-before j whole) in
+        let C : List ℕ = canonical_slots ns said.right in
+        let partial : IsPartialInjection (canonical_slots ns (find_class es said.left)) C half.pairs =
+        composite-partial (canonical_slots ns (find_class es said.left)) (canonical_slots ns said.left) C P said.pairs P-partial over.pairs in
+        let pairs : composite half.pairs (turned C (find_map es said.right)) ≡ half.pairs =
+        ap (λ m. composite half.pairs (turned C m)) w.1 ∙ (ap (composite half.pairs) (turned-identity C C (identity-partial C))
+        ∙ composite-identity (canonical_slots ns (find_class es said.left)) C half.pairs partial) in
+        record {
+          only = first.only;
+          in_range = first.in_range;
+          equation = first.equation
+              ∙ (sym (λ t. record { left = find_class es said.left; right = w.0 t; pairs = pairs t }) ∙ ap (found_equation ns es) (sym (equation_at-of k.proofs p)));
+        }
+
+    module _ (m : Kept) (j r : ℕ) (ej : j ≡ said.right) (onward : ProvesFind o m j r) where
+      onward-still : ProvesFind k m j r
+      onward-still = still-finds k o m j r first.only onward
+
+      half-still : Proves k m half s
+      half-still = proves-still k o m half s first onward.only
+
+      pub whole-first : s < length m.proofs
+      whole-first = half-still.in_range
+
+      pub whole-meets : Meets (statement_at m.proofs s) (statement_at m.proofs r)
+      whole-meets = stored-meet m half-still.only.stored s r whole-first onward-still.in_range
+          (ap (λ (e : Equation). e.right) half-still.equation ∙ (sym ej ∙ sym (ap (λ (e : Equation). e.left) onward-still.equation)))
+
+      pub whole-large : HasManySlots m s r → HasLargeSide k said
       whole-large many =
-          large-among k (statement_at o.proofs s).equation.left (statement_at o.proofs r).equation.right said.left said.right
-          (inl (ap (λ (e : Equation). find_class es e.left) halved.equation ∙ left-finds))
-          (inr (ap (λ (e : Equation). find_class es e.right) onward-still.equation ∙ right-finds))
-          (then-large k o halved.only s r whole-first whole-second many)
+          large-among k (statement_at m.proofs s).equation.left (statement_at m.proofs r).equation.right said.left said.right
+          (inl (ap (λ (e : Equation). find_class es e.left) half-still.equation ∙ left-finds))
+          (inr (ap (λ (e : Equation). find_class es e.right) onward-still.equation
+          ∙ (ap (λ c. find_class es (find_class es c)) ej ∙ found-twice ns es stored.sane.sound.linked said.right over.right)))
+          (then-large k m half-still.only s r whole-first onward-still.in_range many)
 
-      is_found : chained_equation (chained_equation back_equation said) (find_equation ns es j) ≡ found_entry (state_of k) p
-      is_found =
-          let n : length ns ≡ length k.classes = length-nodes_of k in
-          let within : said.left < length ns = (stored-over k stored p h).left in
-          let P : List (ℕ × ℕ) = find_map es said.left in
-          let straight : turned (canonical_slots ns (find_class es said.left))
-          (turned (canonical_slots ns said.left) P) ≡ P =
-          turned-turned (canonical_slots ns (find_class es said.left)) (canonical_slots ns said.left) P
-          (find_map-partial ns es (leads ns es stored.sane.sound.linked) said.left within) in
-          (λ t. chained_equation (chained_equation (turned_equation ns (find_equation ns es (ei t))) said)
-          (find_equation ns es (ej t)))
-          ∙ ((λ t. record {
-            left = find_class es said.left;
-            right = find_class es said.right;
-            pairs = composite (composite (straight t) said.pairs)
-                (turned (canonical_slots ns said.right) (find_map es said.right));
-          })
-          ∙ ap (found_equation ns es) (sym (equation_at-of k.proofs p)))
-
-      pub whole-proves : (w : Kept) (z : ℕ) → EntersIn o w (composite_entry o.proofs s r) z → ProvesFound k w p z
+      pub whole-proves : (w : Kept) (z : ℕ) → EntersIn m w (composite_entry m.proofs s r) z → ProvesFound k w p z
       whole-proves w z e =
-          let step = then-chained k o w (chained_equation back_equation said) (find_equation ns es j) s r z halved
-          whole-second onward-still.equation (sym ej) e in
-          record { only = step.only; in_range = step.in_range; equation = step.equation ∙ is_found }
+          let step = then-chained k m w half (find_equation ns es j) s r z half-still onward-still.in_range onward-still.equation (sym ej) e in
+          record {
+            only = step.only;
+            in_range = step.in_range;
+            equation = step.equation ∙ ((λ t. chained_equation half (find_equation ns es (ej t))) ∙ ap (found_equation ns es) (sym (equation_at-of k.proofs p)));
+          }

@@ -16,10 +16,10 @@ use Rattle.slotted_proofs.specs.Entries.{Proven, statement_at}
 use Rattle.slotted_proofs.specs.Equations.{Statement, IsWritten, to_applied}
 use Rattle.slotted_proofs.proofs.Bridges.{injective_differ, shared-model}
 use Rattle.slotted_store.specs.Kept.{Kept, find_at, nodes_of, entries_of}
-use Rattle.slotted_store.proofs.KeptLists.{length-nodes_of, entry_at-of}
+use Rattle.slotted_store.proofs.KeptLists.{length-mapped, length-nodes_of, entry_at-of}
 use Rattle.slotted_unions.specs.Stored.{Stored}
 use Rattle.slotted_unions.specs.Uniting.{IsOfLive, IsLackedBy, PairsLeft, equation_in, heir_in}
-use Rattle.slotted_unions.proofs.EnteredProofs.{stored-over, entry-left}
+use Rattle.slotted_unions.proofs.EnteredProofs.{stored-over, entry-left, entry-right}
 
 -- what follows where there is no value
 if_none : {X A B : Type 0} (o : Option X) → IfNone o A → (A → B) → IfNone o B
@@ -55,6 +55,26 @@ module _ (k : Kept) (good : Stored k) where
 
     pub left-in_range : s.l.id.0 < length k.classes
     left-in_range = subst (λ i. i < length k.classes) (sym (entry-left k ps q s same written)) left-in_classes
+
+    right-in_classes : e.right < length k.classes
+    right-in_classes =
+        let l : length (nodes_of k) ≡ length k.classes = length-nodes_of k in
+        let h : e.right < length (nodes_of k) = (stored-over k good q within).right in
+        omega arith
+
+    pub right-in_range : s.r.id.0 < length k.classes
+    right-in_range = subst (λ i. i < length k.classes) (sym (entry-right k ps q s same written)) right-in_classes
+
+    -- each side has a name for each canonical slot of its class
+    pub left-many : length s.l.m ≡ length (canonical_slots (nodes_of k) s.l.id.0)
+    left-many =
+        sym (length-mapped (λ (p : ℕ × ℕ). p.0) s.l.m)
+        ∙ (ap length (sides.left_full.slots ∙ (good.proved.canonical q within).left) ∙ ap (λ i. length (canonical_slots (nodes_of k) i)) (sym (entry-left k ps q s same written)))
+
+    pub right-many : length s.r.m ≡ length (canonical_slots (nodes_of k) s.r.id.0)
+    right-many =
+        sym (length-mapped (λ (p : ℕ × ℕ). p.0) s.r.m)
+        ∙ (ap length (sides.right_full.slots ∙ (good.proved.canonical q within).right) ∙ ap (λ i. length (canonical_slots (nodes_of k) i)) (sym (entry-right k ps q s same written)))
 
     -- no name stands twice on the left
     pub left-differ : IsTrue (all_differ (values s.l.m))

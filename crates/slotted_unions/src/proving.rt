@@ -1,11 +1,12 @@
 //! Proofs of what finds say, of what an entry says of the classes that its sides find, and of two ids that find alike.
-ghost use Rattle.std.specs.Prelude.{◌<◌, length, IfOk, IfErr, IsErrOf};
+ghost use Rattle.std.specs.Prelude.{◌≡◌, ◌<◌, length, IsTrue, IfOk, IfErr, IsErrOf};
 ghost use Rattle.slotted_slots.specs.Error.{IsShortage};
-ghost use Rattle.slotted_model.specs.Classes.{IsFull};
+ghost use Rattle.slotted_model.specs.Classes.{IsFull, canonical_slots};
 ghost use Rattle.slotted_proofs.specs.Equations.{to_applied};
 ghost use Rattle.slotted_store.specs.Finding.{FindAlike};
 ghost use Rattle.slotted_store.specs.Kept.{nodes_of, entries_of};
-ghost use Rattle.slotted_unions.specs.Proving.{ProvesFind, ProvesBack, ProvesFound, ProvesEqual, HasLargeClassOf, HasLargeSide};
+ghost use Rattle.slotted_unions.specs.Proving.{FindsByEntry, FindsWhole, ProvesFind, ProvesBack, ProvesHalf, ProvesFound, ProvesEqual};
+ghost use Rattle.slotted_unions.specs.Proving.{HasLargeClassOf, HasLargeSide};
 ghost use Rattle.slotted_unions.specs.Stored.{Stored};
 ghost use Rattle.slotted_unions.specs.Uniting.{equation_in};
 
@@ -14,6 +15,18 @@ use slotted_proofs::{Equation, ProvenEq};
 use slotted_slots::{AppliedId, Error};
 use slotted_store::Store;
 use std::alloc::Global;
+
+// Whether the class that a class leads to lives, and has as many slots left as the entry has pairs: so the find of the class says what
+// its entry says.
+fn leads_to_whole<L: Language>(store: &Store<L>, id: usize) -> bool
+    requires good { Stored store.now }
+    requires within { id < length store.now.classes }
+    ensures { IsTrue result → FindsByEntry store.now id }
+{
+    let entry = store.entry(id);
+    let next = store.entry(entry.id.0);
+    next.id.0 == entry.id.0 && next.m.len() == entry.m.len()
+}
 
 /// The proof of what the find of a class says. Of a live class it is that of its own entry.
 pub fn find_proof<L: Language>(
@@ -30,6 +43,9 @@ pub fn find_proof<L: Language>(
     let next = store.entry(id).id.0;
     let proof = store.proof_of(id);
     if next == id {
+        return Ok(proof);
+    }
+    if leads_to_whole(store, id) {
         return Ok(proof);
     }
     let rest = find_proof(store, alloc, next)?;
@@ -54,7 +70,40 @@ pub fn back_proof<L: Language>(
     Ok(answer)
 }
 
-/// The proof of what an entry says of the classes that its sides find.
+// Whether the class of a full id finds itself, with all its slots: so the id is what it finds.
+fn is_whole<L: Language>(store: &Store<L>, a: &AppliedId) -> bool
+    requires good { Stored store.now }
+    requires within { a.now.id.0 < length store.now.classes }
+    requires full { length a.now.m ≡ length (canonical_slots (nodes_of store.now) a.now.id.0) }
+    ensures { IsTrue result → FindsWhole store.now a.now.id.0 }
+{
+    let entry = store.entry(a.id.0);
+    entry.id.0 == a.id.0 && entry.m.len() == a.m.len()
+}
+
+// The proof of what an entry says of the class that its left side finds, and of its right class.
+fn half_proof<L: Language>(
+    store: &mut Store<L>,
+    alloc: Global,
+    p: ProvenEq,
+) -> Result<ProvenEq, Error>
+    requires good { Stored store.old }
+    requires within { p < length store.old.proofs }
+    ensures ok { IfOk result (ProvesHalf store.old store.new p) }
+    ensures full { IsErrOf result Error.OutOfSlots → HasLargeSide store.old (equation_in store.old p) }
+    ensures err { IfErr result IsShortage }
+{
+    let side = &store.proofs().equ(p).l;
+    let left = side.id.0;
+    if is_whole(store, side) {
+        return Ok(p);
+    }
+    let back = back_proof(store, alloc, left)?;
+    let answer = store.chain(alloc, back, p)?;
+    Ok(answer)
+}
+
+/// The proof of what an entry says of the classes that its sides find. Nothing is entered for a side that is what it finds.
 pub fn found_proof<L: Language>(
     store: &mut Store<L>,
     alloc: Global,
@@ -66,11 +115,13 @@ pub fn found_proof<L: Language>(
     ensures full { IsErrOf result Error.OutOfSlots → HasLargeSide store.old (equation_in store.old p) }
     ensures err { IfErr result IsShortage }
 {
-    let left = store.proofs().equ(p).l.id.0;
-    let right = store.proofs().equ(p).r.id.0;
-    let back = back_proof(store, alloc, left)?;
+    let half = half_proof(store, alloc, p)?;
+    let side = &store.proofs().equ(p).r;
+    let right = side.id.0;
+    if is_whole(store, side) {
+        return Ok(half);
+    }
     let onward = find_proof(store, alloc, right)?;
-    let half = store.chain(alloc, back, p)?;
     let answer = store.chain(alloc, half, onward)?;
     Ok(answer)
 }

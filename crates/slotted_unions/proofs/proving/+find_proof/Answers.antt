@@ -2,7 +2,7 @@ use Rattle.std.proofs.Common.{◌≡◌, ◌≢◌, ◌<◌, length, sym, subst,
 use Rattle.slotted_store.specs.Kept.{Kept, find_at}
 use Rattle.slotted_store.proofs.Chasing.{moments_left, next_within, nearer}
 use Rattle.slotted_unions.proofs.EnteredProofs.{stored-finds}
-use Rattle.slotted_unions.proofs.ProofsOfFinds.{next-class_of, live-proves, next-first, next-meets, next-among, next-large}
+use Rattle.slotted_unions.proofs.ProofsOfFinds.{entry-proves, next-class_of, live-proves, next-first, next-meets, next-among, next-large}
 use Rattle.slotted_unions.proofs.ProofsOfFinds.{next-proves}
 use Rattle.slotted_unions.proofs.proving.+find_proof.Goals as goal
 
@@ -13,6 +13,10 @@ returns-then-next-id-clause-ok g t c =
     next-class_of c.args.store.now c.args.id c.entry.result.now c.entry.ensures in
     live-proves k c.requires.good c.args.id c.requires.within c.proof_of-proof.result c.proof_of-proof.ensures
     (omega (arith, next, c.if-next-id.true))
+
+pub returns-then-leads_to_whole-clause-ok : goal.returns-then-leads_to_whole-clause-ok
+returns-then-leads_to_whole-clause-ok g t c =
+    entry-proves c.args.store.now c.requires.good c.args.id c.requires.within c.proof_of-proof.result c.proof_of-proof.ensures (c.leads_to_whole.ensures c.if-leads_to_whole.true)
 
 pub find_proof-requires : goal.find_proof-requires
 find_proof-requires g t c =
