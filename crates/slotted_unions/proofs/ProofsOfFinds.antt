@@ -7,7 +7,6 @@ use Rattle.slotted_model.specs.Classes.{canonical_slots}
 use Rattle.slotted_model.specs.Correspondence.{IsPartialInjection, composite, identity, turned}
 use Rattle.slotted_model.specs.Find.{Entry, entry_at, find_class, find_map}
 use Rattle.slotted_model.specs.ProofList.{Equation, IsOver, equation_at, turned_equation, entry_equation, find_equation}
-use Rattle.slotted_model.specs.Changes.{found_entry}
 use Rattle.slotted_model.specs.Link.{found_equation, half_found_equation}
 use Rattle.slotted_model.proofs.Correspondences.PartialInjections.{composite-identity, composite-partial, identity-composite, identity-partial, turned-turned}
 use Rattle.slotted_model.proofs.Dropping.{turned-identity}
@@ -18,11 +17,10 @@ use Rattle.slotted_proofs.specs.Entries.{statement_at, composite_entry}
 use Rattle.slotted_store.specs.Kept.{Kept, find_at, nodes_of, entries_of, proofs_of, EntersIn, HasManySlots}
 use Rattle.slotted_store.proofs.KeptLists.{equation_at-of, entry_at-of, length-nodes_of, length-proofs_of}
 use Rattle.slotted_unions.specs.Proving.{FindsByEntry, FindsWhole, OnlyProves, Proves, ProvesFind, ProvesBack, ProvesHalf, ProvesFound, HasLargeClassOf, HasLargeSide}
-use Rattle.slotted_unions.specs.StateOf.{state_of}
 use Rattle.slotted_unions.specs.Stored.{Stored}
-use Rattle.slotted_unions.proofs.EnteredProofs.{nothing-proved, proved-then, only-nodes, only-entries, only-stands}
+use Rattle.slotted_unions.proofs.EnteredProofs.{nothing-proved, only-nodes, only-entries, only-stands}
 use Rattle.slotted_unions.proofs.EnteredProofs.{then-proves, proves-still, stored-over, stored-meet, chained_equation}
-use Rattle.slotted_unions.proofs.EnteredProofs.{chained-only, then-chained, only-large, then-large}
+use Rattle.slotted_unions.proofs.EnteredProofs.{then-chained, only-large, then-large}
 use Rattle.slotted_unions.proofs.LargeClasses.{found-twice, large-among}
 
 -- the class that a find entry leads to, as the code reads it

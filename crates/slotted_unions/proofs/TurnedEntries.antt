@@ -1,24 +1,60 @@
 -- An entry of two live classes turned round: it is one of live classes too, and what its left class does, the right one of
 -- the entry does.
-use Rattle.std.proofs.Common.{◌≡◌, ℕ, ◌<◌, List, length, sym, ap, refl, subst, inl, inr}
-use Rattle.std.specs.Prelude.{Contains, Bool, true, false, Some, None}
+use Rattle.std.proofs.Common.{◌≡◌, ℕ, suc, ◌<◌, ◌≤◌, ◌∙◌, List, [], ◌∷◌, length, sym, ap, refl, subst, inl, inr, arith}
+use Rattle.std.specs.Prelude.{◌⊎◌, Contains, Bool, true, false, Some, None}
 use Rattle.std.specs.Map.{keys_of, values_of}
-use Rattle.std.proofs.lemmas.Bool.{false≢true}
+use Rattle.std.proofs.lemmas.Bool.{cases_eq, false≢true}
 use Rattle.slotted_model.specs.Classes.{canonical_slots}
-use Rattle.slotted_model.specs.Correspondence.{turned, IsPartialInjection}
-use Rattle.slotted_model.specs.Find.{used_slots}
+use Rattle.slotted_theory.proofs.Lists.{Contains-nil, contains_cases, contains_head, contains_tail}
+use Rattle.slotted_model.specs.Correspondence.{AllDifferent, turned, IsFullMap, IsPartialInjection}
+use Rattle.slotted_model.specs.Find.{Entry, entry_at, find_map, used_slots}
 use Rattle.slotted_model.specs.ProofList.{Equation, turned_equation}
 use Rattle.slotted_model.specs.Changes.{PairsAll}
 use Rattle.slotted_model.proofs.Correspondences.Pairs.{Contains-key, Contains-value, Contains-of_key, Contains-of_value}
 use Rattle.slotted_model.proofs.Correspondences.PartialInjections.{turned-pair, turned-by}
+use Rattle.slotted_model.proofs.Correspondences.FullIds.{ascending-different}
+use Rattle.slotted_model.proofs.Correspondences.FullMaps.{full-from}
+use Rattle.slotted_model.proofs.Correspondences.Listing.{injective-different}
+use Rattle.slotted_model.proofs.Finding.{slots-ascending}
+use Rattle.slotted_model.proofs.NormalIds.{used-live}
+use Rattle.slotted_model.proofs.Ordered.{in_order-once}
+use Rattle.slotted_model.proofs.Sets.{IsAscending-ascending}
+use Rattle.slotted_model.proofs.Touching.{different-length}
 use Rattle.slotted_proofs.specs.Entries.{turned_entry}
-use Rattle.slotted_store.specs.Kept.{Kept, nodes_of, entries_of, EntersIn, HasManySlots}
+use Rattle.slotted_store.specs.Kept.{Kept, find_at, nodes_of, entries_of, EntersIn, HasManySlots}
+use Rattle.slotted_store.proofs.KeptLists.{entry_at-of, length-mapped}
 use Rattle.slotted_unions.specs.Proving.{OnlyProves, Proves, HasLargeSide}
 use Rattle.slotted_unions.specs.StateOf.{state_of}
 use Rattle.slotted_unions.specs.Stored.{Stored}
 use Rattle.slotted_unions.specs.Uniting.{IsOfLive, PairsLeft, HasDropped, DropsLeft, DropsSide, HasLinked, LinksEither}
 use Rattle.slotted_unions.specs.Uniting.{equation_in}
-use Rattle.slotted_unions.proofs.EnteredProofs.{stored-over, turned-only, stands-at, proves-stands, many-large}
+use Rattle.slotted_unions.proofs.EnteredProofs.{nothing-proved, stored-over, turned-only, stands-at, proves-stands, many-large}
+
+-- different numbers that all stand in a list which is no longer are all of it
+
+in-or-not : (x : ℕ) (xs : List ℕ) → Contains xs x ⊎ (¬ Contains xs x)
+in-or-not x [] = inr (λ c. Contains-nil x c)
+in-or-not x (y ∷ ys) = elim (cases_eq x y) [
+  | inl e ↦ inl (subst (Contains (y ∷ ys)) (sym e) (contains_head y ys))
+  | inr n ↦ elim (in-or-not x ys) [
+    | inl c ↦ inl (contains_tail y ys x c)
+    | inr m ↦ inr (λ c. elim (contains_cases y ys x c) [
+      | inl e ↦ n e
+      | inr h ↦ m h
+    ])
+  ]
+]
+
+covers : (xs ys : List ℕ) → AllDifferent xs → ((z : ℕ) → Contains xs z → Contains ys z) → length ys ≤ length xs → (t : ℕ) → Contains ys t → Contains xs t
+covers xs ys once within few t c = elim (in-or-not t xs) [
+  | inl h ↦ h
+  | inr n ↦
+      let more : suc (length xs) ≤ length ys = different-length (t ∷ xs) ys (n, once) (λ z d. elim (contains_cases t xs z d) [
+        | inl e ↦ subst (Contains ys) (sym e) c
+        | inr h ↦ within z h
+      ]) in
+      absurd (omega (arith, more, few))
+]
 
 -- the slots of turned pairs
 module _ (Q : List ℕ) (A : List (ℕ × ℕ)) where
@@ -150,6 +186,42 @@ module _ (k : Kept) (stored : Stored k) (q : ℕ) (h : q < length k.proofs) (liv
     pub still-large : HasManySlots l q q → HasLargeSide k e
     still-large many = many-large k stored q q h h (subst (λ (x : Kept). HasManySlots x q q)
         (none-dropped k l e b no drops).0 many)
+
+    -- nor does a slot of the right class lack a partner, if that has as many left
+    pub as-many-keeps : length (find_at l e.left).pairs ≡ length (find_at l e.right).pairs → DropsSide k l e None
+    as-many-keeps many =
+        let found = entries_of k in
+        let nodes = nodes_of k in
+        let linked = stored.sane.sound.linked in
+        let over = stored-over k stored q h in
+        let is : l ≡ k = (none-dropped k l e b no drops).0 in
+        let left : PairsLeft k e = (none-dropped k l e b no drops).1 in
+        let entries : length (entry_at found e.left).pairs ≡ length (entry_at found e.right).pairs =
+        ap (λ (x : Entry). length x.pairs) (entry_at-of k e.left) ∙ (subst (λ (x : Kept). length (find_at x e.left).pairs ≡ length (find_at x e.right).pairs) is many
+        ∙ sym (ap (λ (x : Entry). length x.pairs) (entry_at-of k e.right))) in
+        let U : used_slots found e.left ≡ keys_of (entry_at found e.left).pairs = used-live nodes found linked e.left over.left live.left_lives in
+        let V : used_slots found e.right ≡ keys_of (entry_at found e.right).pairs = used-live nodes found linked e.right over.right live.right_lives in
+        let once = in_order-once (canonical_slots nodes e.left) e.pairs (slots-ascending nodes e.left) pairs-partial.in_order in
+        let full : IsFullMap (keys_of e.pairs) e.pairs = full-from (keys_of e.pairs) e.pairs refl once pairs-partial.injective in
+        let keys : length (used_slots found e.left) ≤ length (keys_of e.pairs) =
+        different-length (used_slots found e.left) (keys_of e.pairs) (ascending-different (used_slots found e.left) (IsAscending-ascending (values_of (find_map found e.left)))) left in
+        let few : length (used_slots found e.right) ≤ length (values_of e.pairs) =
+        omega (
+          arith,
+          keys,
+          entries,
+          ap length U,
+          ap length V,
+          length-mapped (λ (p : ℕ × ℕ). p.0) e.pairs,
+          length-mapped (λ (p : ℕ × ℕ). p.1) e.pairs,
+          length-mapped (λ (p : ℕ × ℕ). p.0) (entry_at found e.left).pairs,
+          length-mapped (λ (p : ℕ × ℕ). p.0) (entry_at found e.right).pairs,
+        ) in
+        let all : PairsAll (state_of k) e = record {
+          left = left;
+          right = covers (values_of e.pairs) (used_slots found e.right) (injective-different e.pairs full.injective) live.right few;
+        } in
+        subst (λ (x : Kept). DropsSide k x e None) (sym is) (record { only = nothing-proved k stored; pairs_all = all })
 
     module _ (m : Kept) (t : ℕ) (enters : EntersIn l m (turned_entry l.proofs q) t) where
       same : EntersIn k m (turned_entry k.proofs q) t

@@ -1,18 +1,18 @@
 -- A class that leads to a live one which has all its slots left finds what its entry says, and a live class with all its slots itself.
-use Rattle.std.proofs.Common.{◌≡◌, ◌<◌, ◌∙◌, ℕ, List, ap, arith, length, subst, sym}
+use Rattle.std.proofs.Common.{◌≡◌, ◌<◌, ◌∙◌, ℕ, List, ap, length, subst, sym}
 use Rattle.std.specs.Map.{keys_of, values_of}
 use Rattle.std.specs.Prelude.{Contains}
 use Rattle.slotted_theory.specs.Nameless.{DTerm}
 use Rattle.slotted_model.specs.Ascending.{IsAscending}
 use Rattle.slotted_model.specs.Classes.{canonical_slots}
 use Rattle.slotted_model.specs.Correspondence.{IsFullMap, composite, identity, turned}
-use Rattle.slotted_model.specs.Find.{Entry, IsLive, Linked, entry_at, find_class, find_map, used_slots}
+use Rattle.slotted_model.specs.Find.{Entry, IsLive, Linked, entry_at, find_class, find_map}
 use Rattle.slotted_model.specs.ProofList.{entry_equation, find_equation}
 use Rattle.slotted_model.proofs.Correspondences.FullMaps.{full-partial}
 use Rattle.slotted_model.proofs.Correspondences.Pairs.{Contains-of_value, Contains-value}
 use Rattle.slotted_model.proofs.Correspondences.PartialInjections.{identity-composite}
 use Rattle.slotted_model.proofs.Finding.{Leads, find_class-follows, find_class-live, find_map-follows, find_map-live, leads, live-full, slots-ascending}
-use Rattle.slotted_model.proofs.Members.{Contains-In, In, In-Contains}
+use Rattle.slotted_model.proofs.Members.{Contains-In, In-Contains}
 use Rattle.slotted_model.proofs.NormalIds.{used-live, values-identity}
 use Rattle.slotted_model.proofs.Ordered.{in_order-ascending}
 use Rattle.slotted_model.proofs.Sets.{IsAscending-ascending}

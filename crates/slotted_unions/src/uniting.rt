@@ -2,6 +2,7 @@
 ghost use Rattle.std.specs.Prelude.{◌≡◌, ◌↔◌, ◌<◌, length, IsTrue, IfErr, IsErrOf, IfOk, ◌≢◌};
 ghost use Rattle.slotted_slots.specs.Error.{IsShortage};
 ghost use Rattle.slotted_model.specs.Changes.{PairsAll, found_entry};
+ghost use Rattle.slotted_store.specs.Kept.{find_at};
 ghost use Rattle.slotted_unions.specs.Proving.{HasLargeSide};
 ghost use Rattle.slotted_unions.specs.StateOf.{state_of};
 ghost use Rattle.slotted_unions.specs.Stored.{Stored};
@@ -38,6 +39,15 @@ pub fn sides_find_alike<L: Language>(store: &Store<L>, p: ProvenEq) -> bool
     store.eq(&equation.l, &equation.r)
 }
 
+// Whether two classes have as many slots left: so where each slot of the one has a partner, each of the other has.
+fn have_as_many<L: Language>(store: &Store<L>, left: usize, right: usize) -> bool
+    requires left { left < length store.now.classes }
+    requires right { right < length store.now.classes }
+    ensures { IsTrue result → length (find_at store.now left).pairs ≡ length (find_at store.now right).pairs }
+{
+    store.entry(left).m.len() == store.entry(right).m.len()
+}
+
 // Of the two classes of an entry or else of the entry turned round the left one drops the slots without a partner. Answers this class.
 fn drop_either<L: Language>(
     store: &mut Store<L>,
@@ -55,6 +65,9 @@ fn drop_either<L: Language>(
     let (left, right) = (equation.l.id.0, equation.r.id.0);
     if drop_left(store, alloc, q)? {
         return Ok(Some(left));
+    }
+    if have_as_many(store, left, right) {
+        return Ok(None);
     }
     let turned = store.turn(alloc, q)?;
     if drop_left(store, alloc, turned)? {

@@ -1,6 +1,5 @@
 -- Back along the find of the left side, and then the entry.
-use Rattle.std.proofs.Common.{◌≡◌, ◌<◌, ap, length, rules, subst, sym}
-use Rattle.slotted_store.specs.Kept.{Kept}
+use Rattle.std.proofs.Common.{rules, subst}
 use Rattle.slotted_unions.specs.Proving.{FindsWhole}
 use Rattle.slotted_unions.proofs.EnteredProofs.{entry-left}
 use Rattle.slotted_unions.proofs.ProofsOfFinds.{half-itself, half-large, half-meets, half-proves, half-second, left-large}

@@ -3,8 +3,7 @@ use Rattle.std.proofs.Common.{◌≡◌, ◌<◌, ◌∙◌, ap, arith, length, 
 use Rattle.std.proofs.lemmas.Bool.{eqb-true}
 use Rattle.slotted_model.specs.Applied.{Applied}
 use Rattle.slotted_model.specs.Find.{Entry, IsLive, entry_at}
-use Rattle.slotted_proofs.specs.Equations.{to_applied}
-use Rattle.slotted_store.specs.Kept.{entries_of, find_at, nodes_of}
+use Rattle.slotted_store.specs.Kept.{entries_of, nodes_of}
 use Rattle.slotted_store.proofs.Chasing.{next_within}
 use Rattle.slotted_store.proofs.KeptLists.{entry_at-of, length-nodes_of}
 use Rattle.slotted_unions.proofs.EnteredProofs.{stored-finds}
