@@ -10,10 +10,10 @@ use Rattle.slotted_slots.specs.declared.error.Error.TheVariants.{OutOfSlots, Fai
 use Rattle.slotted_slots.specs.Error.{IsShortage}
 use Rattle.slotted_slots.specs.Table.{KnowsMore}
 use Rattle.slotted_slots.specs.Syntax.{Element}
-use Rattle.slotted_core.specs.Explaining.{AddsTerms, Explains, FindsApart, RunsOutForTerms}
+use Rattle.slotted_core.specs.Explaining.{AddsTerms, Explains, FilesOnlyTerms, FindsApart, KeepsKnown, RunsOutForTerms}
 use Rattle.slotted_core.specs.Graph.{Graph, MakesAtMost, OnlyTakesSlots}
 use Rattle.slotted_core.specs.Places.{term_slots}
-use Rattle.slotted_explain.specs.Printed.{ProofRunsOut}
+use Rattle.slotted_explain.specs.Printed.{MakesForProof, ProofRunsOut}
 use Rattle.slotted_explain.proofs.LastLine.{EndsInLineFeed}
 use Rattle.slotted_commands.specs.declared.answer.Answer.TheVariants.{Refused}
 use Rattle.slotted_commands.specs.Explained.{AddsBothTerms, ExplanationAnswers, PrintingRunsOut, Proves, not_equal, proving_ran_out}
@@ -36,18 +36,21 @@ not_shortage e s n = elim s [ inl m ↦ cc | inr o ↦ cc ]
 
 -- printing that was refused
 pub printing_refused : {A : Type 0} (g h : Graph) (p : ℕ) (x : Result A Error) (e : Error) → x ≡ Err e → ¬ IsTrue g.failed → (IsErrOf x Failed → IsTrue g.failed) → (IsErrOf x OutOfSlots → ProofRunsOut g h p) → IfErr x (λ y. (y ≡ Failed) ⊎ IsShortage y)
-    → OnlyTakesSlots g h → PrintingRunsOut g p e h
-printing_refused g h p (Ok y) e is sound was full only takes = cc
-printing_refused g h p (Err y) e is sound was full only takes =
+    → OnlyTakesSlots g h → MakesForProof g h p → PrintingRunsOut g p e h
+printing_refused g h p (Ok y) e is sound was full only takes count = cc
+printing_refused g h p (Err y) e is sound was full only takes count =
     let same : y ≡ e = cc in
     let short : IsShortage y = elim only [ inl f ↦ absurd (sound (was (ap Err f))) | inr s ↦ s ] in
-    subst (λ z. PrintingRunsOut g p z h) same (record { shortage = short; cause = λ q. full (ap Err q); takes = takes })
+    subst (λ z. PrintingRunsOut g p z h) same (record { shortage = short; cause = λ q. full (ap Err q); takes = takes; count = count })
 
-module _ (r h : Graph) (t u : Term) (more : KnowsMore r.table h.table) (takes : MakesAtMost (term_slots t + term_slots u) r.table h.table) (adds : IsTrue h.failed ⊎ AddsTerms r.image h.image) where
+module _ (r h : Graph) (t u : Term) (more : KnowsMore r.table h.table) (takes : MakesAtMost (term_slots t + term_slots u) r.table h.table) (adds : IsTrue h.failed ⊎ AddsTerms r.image h.image)
+    (files : IsTrue h.failed ⊎ FilesOnlyTerms r h t u) (keeps : IsTrue h.failed ⊎ KeepsKnown r h t u) where
   adds_both : ¬ IsTrue h.failed → AddsBothTerms r t u h
   adds_both well = record {
     sound = not_true h.failed well;
     adds = elim adds [ inl f ↦ absurd (well f) | inr a ↦ a ];
+    filed = elim files [ inl f ↦ absurd (well f) | inr a ↦ a ];
+    kept = elim keeps [ inl f ↦ absurd (well f) | inr a ↦ a ];
     more = more;
     takes = takes;
   }

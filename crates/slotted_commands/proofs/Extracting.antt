@@ -3,18 +3,51 @@ use Rattle.std.proofs.Common.{◌≡◌, ◌⊎◌, ℕ, List, inl, inr, refl, s
 use Rattle.std.specs.Prelude.{Option, None, Some, IsTrue, Result, Ok, Err, IfErr, IsErrOf, option_map}
 use Rattle.slotted_theory.specs.Term.{Term}
 use Rattle.slotted_slots.specs.declared.error.Error.{Error}
-use Rattle.slotted_slots.specs.declared.error.Error.TheVariants.{Failed, UnknownClass}
+use Rattle.slotted_slots.specs.declared.error.Error.TheVariants.{Failed, OutOfSlots, UnknownClass}
 use Rattle.slotted_slots.specs.Error.{IsOutOfMemory, IsShortage}
 use Rattle.slotted_nodes.specs.Form.{Form}
 use Rattle.slotted_terms.specs.Valid.{IsValidTerm}
 use Rattle.slotted_model.specs.Applied.{Applied}
 use Rattle.slotted_costs.specs.Costs.{MayRefuse, cost_of_term}
-use Rattle.slotted_core.specs.Graph.{Graph, OnlyTakesSlots}
+use Rattle.slotted_core.specs.Causes.{class_found}
+use Rattle.slotted_core.specs.Graph.{Graph, MakesAtMost, OnlyTakesSlots}
 use Rattle.slotted_core.specs.Reports.{IsFound}
 use Rattle.slotted_extraction.specs.Terms.{entry_at}
 use Rattle.slotted_extraction.specs.declared.entry.TermEntry.{TermEntry}
-use Rattle.slotted_graph.specs.LeastTerms.{AreLeastOf, HasEachLiveClass, IsExtracted, LacksEntry}
-use Rattle.slotted_commands.specs.Extracted.{IsSmallest, sizes}
+use Rattle.slotted_extraction.proofs.EntryForms.{forms_of, least-forms, runs_out-form, slots-forms}
+use Rattle.slotted_graph.specs.LeastTerms.{AreLeastOf, HasEachLiveClass, IsExtracted, LacksEntry, MakesForExtracted, RunsOutForExtracted}
+use Rattle.slotted_commands.specs.Extracted.{IsSmallest, LacksForSmallest, TakesForSmallest, sizes}
+
+-- entries of least cost, over the forms of their nodes
+
+least-of_forms : {L : Type 0} (form : L → Form) (g : Graph) (es : List (Option (TermEntry L ℕ))) → AreLeastOf form g sizes es → AreLeastOf (λ (f : Form). f) g sizes (forms_of form es)
+least-of_forms form g es least = record {
+  kept = least.kept;
+  rows = least.rows;
+  good = least.good;
+  rests = least.rests;
+  image = least.image;
+  filed = least.filed;
+  least = least-forms form least.kept least.rows sizes es least.least;
+}
+
+pub takes_for_smallest : {L : Type 0} (form : L → Form) (g h : Graph) (a : Applied) (es : List (Option (TermEntry L ℕ))) → AreLeastOf form g sizes es → MakesForExtracted form es a g h → TakesForSmallest g a h
+takes_for_smallest form g h a es least makes = inr (record {
+  entries = forms_of form es;
+  least = least-of_forms form g es least;
+  makes = subst (λ n. MakesAtMost n g.table h.table) (sym (slots-forms form es (class_found g.image a.0))) makes;
+})
+
+pub lacks_for_smallest : {L : Type 0} (form : L → Form) (g h : Graph) (a : Applied) (es : List (Option (TermEntry L ℕ))) → AreLeastOf form g sizes es → RunsOutForExtracted form es a g h → LacksForSmallest g a h
+lacks_for_smallest form g h a es least out = record {
+  entries = forms_of form es;
+  least = least-of_forms form g es least;
+  runs_out = runs_out-form form es (class_found g.image a.0) g.table h.table out;
+}
+
+-- memory is no slot
+pub not_slots : (e : Error) → IsOutOfMemory e → e ≡ OutOfSlots → ⊥
+not_slots e m o = cc
 
 -- a refusal that is not f is one of the others
 other_refusal : {A : Type 0} (x : Result A Error) (e f : Error) (S : Error → Type 0) → x ≡ Err e → ¬ IsErrOf x f → IfErr x (λ y. (y ≡ f) ⊎ S y) → S e

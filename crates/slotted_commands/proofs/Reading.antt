@@ -14,7 +14,7 @@ use Rattle.slotted_commands.specs.declared.answer.Answer.{Answer}
 use Rattle.slotted_commands.specs.Answers.{text_of}
 use Rattle.slotted_commands.specs.Commands.{command_of}
 use Rattle.slotted_commands.specs.Sessions.{Answered}
-use Rattle.slotted_commands.specs.Streams.{with_first, lines_of, LineWrites, one_line, LinesWrite, no_line, next_line, WritesFrom}
+use Rattle.slotted_commands.specs.Streams.{with_first, lines_of, LineLeaves, LineWrites, one_line, LinesWrite, no_line, next_line, WritesFrom}
 
 kept : (t : Bool) (b : ℕ) (xs ys : List ℕ) → cond t (b ∷ xs) (b ∷ ys) ≡ b ∷ cond t xs ys
 kept true b xs ys = refl
@@ -134,15 +134,23 @@ Appends-kept (Some x) None c xs p k = absurd p
 Appends-kept (Some x) (Some y) None xs p k = absurd k
 Appends-kept (Some x) (Some y) (Some z) xs p k = k ∙ p
 
--- one line that is text was answered, and the answer written out
+-- one line that is text
+line_writes : (read : List Element → Option Form) (written : Term → List Element) (g h : Graph) (a : Answer) (line bytes text : List ℕ)
+    → bytes ≡ line → text ≡ bytes → IsUtf8 bytes → (length text == 0) ≡ false → Answered read written g h (command_of text) a → LineWrites read written g line (text_of a ++ 10 ∷ []) h
+line_writes read written g h a line bytes text same is_text utf8 some answered =
+    subst (λ l. LineWrites read written g l (text_of a ++ 10 ∷ []) h) (is_text ∙ same) (one_line (not_empty text some) (subst IsUtf8 (sym is_text) utf8) answered)
+
+-- what it leaves, whether its answer is written out or not
+pub line_left : (read : List Element → Option Form) (written : Term → List Element) (g h : Graph) (a : Answer) (line bytes text : List ℕ)
+    → bytes ≡ line → text ≡ bytes → IsUtf8 bytes → (length text == 0) ≡ false → Answered read written g h (command_of text) a → LineLeaves read written g line h
+line_left read written g h a line bytes text same is_text utf8 some answered = (text_of a ++ 10 ∷ [], line_writes read written g h a line bytes text same is_text utf8 some answered)
+
+-- and where it was
 pub line_answered : (read : List Element → Option Form) (written : Term → List Element) (g h : Graph) (a : Answer) (line bytes text : List ℕ) (c₀ c₁ c₂ : Option (List ℕ))
     → bytes ≡ line → text ≡ bytes → IsUtf8 bytes → (length text == 0) ≡ false → Answered read written g h (command_of text) a → Appends c₀ c₁ (text_of a ++ 10 ∷ []) → Keeps c₁ c₂
     → (bs : List ℕ) × LineWrites read written g line bs h × Appends c₀ c₂ bs
-line_answered read written g h a line bytes text c₀ c₁ c₂ same is_text utf8 some answered appends keeps = (
-  text_of a ++ 10 ∷ [],
-  subst (λ l. LineWrites read written g l (text_of a ++ 10 ∷ []) h) (is_text ∙ same) (one_line (not_empty text some) (subst IsUtf8 (sym is_text) utf8) answered),
-  Appends-kept c₀ c₁ c₂ _ appends keeps,
-)
+line_answered read written g h a line bytes text c₀ c₁ c₂ same is_text utf8 some answered appends keeps =
+    (text_of a ++ 10 ∷ [], line_writes read written g h a line bytes text same is_text utf8 some answered, Appends-kept c₀ c₁ c₂ _ appends keeps)
 
 pub on_ok : {T E : Type 0} {P : Type 0} (r : Result T E) → P → OnOk r P
 on_ok (Ok x) p = p

@@ -10,17 +10,20 @@ use Rattle.slotted_slots.specs.declared.error.Error.TheVariants.{OutOfSlots, Not
 use Rattle.slotted_slots.specs.Error.{IsShortage}
 use Rattle.slotted_slots.specs.Table.{KnowsMore}
 use Rattle.slotted_slots.specs.Syntax.{Element}
-use Rattle.slotted_core.specs.Explaining.{AddsTerms, Explains, FindsApart, RunsOutForTerms}
+use Rattle.slotted_core.specs.Explaining.{AddsTerms, Explains, FilesOnlyTerms, FindsApart, KeepsKnown, RunsOutForTerms}
 use Rattle.slotted_core.specs.Graph.{Graph, MakesAtMost, OnlyTakesSlots}
 use Rattle.slotted_core.specs.Places.{term_slots}
-use Rattle.slotted_explain.specs.Printed.{IsProofText, ProofRunsOut}
+use Rattle.slotted_explain.specs.Printed.{IsProofText, MakesForProof, ProofRunsOut}
 use Rattle.slotted_commands.specs.declared.answer.Answer.{Answer}
 use Rattle.slotted_commands.specs.declared.answer.Answer.TheVariants.{Explained, Refused}
 
--- k has all that r has, with nothing more asserted, and at most one fresh slot more for each place of the two terms
+-- k has all that r has, with nothing more asserted, no other classes than the terms' subterms need, and none where both terms have ids, and
+-- at most one fresh slot more for each place of the two terms
 pub record AddsBothTerms (r : Graph) (t u : Term) (k : Graph) : Type 0 where
   pub sound : k.failed ≡ false
   pub adds : AddsTerms r.image k.image
+  pub filed : FilesOnlyTerms r k t u
+  pub kept : KeepsKnown r k t u
   pub more : KnowsMore r.table k.table
   pub takes : MakesAtMost (term_slots t + term_slots u) r.table k.table
 
@@ -41,16 +44,19 @@ pub record ProvingRunsOut (r : Graph) (t u : Term) (e : Error) (h : Graph) : Typ
   pub cause : e ≡ OutOfSlots → RunsOutForTerms r.image t u r.table h.table
   pub more : KnowsMore r.table h.table
 
--- the text, ended by a line feed, is the proof of the entry p of k, and printing it makes fresh slots alone
+-- the text, ended by a line feed, is the proof of the entry p of k, and printing it makes fresh slots alone, one at most for each binder
+-- of its lines
 pub record Prints (written : Term → List Element) (k : Graph) (p : ℕ) (text : String Global) (h : Graph) : Type 0 where
   pub proof : IsProofText written k h p (string_bytes text ++ 10 ∷ [])
   pub takes : OnlyTakesSlots k h
+  pub count : MakesForProof k h p
 
 -- printing the proof runs out of memory or slots, which does not fail the graph
 pub record PrintingRunsOut (k : Graph) (p : ℕ) (e : Error) (h : Graph) : Type 0 where
   pub shortage : IsShortage e
   pub cause : e ≡ OutOfSlots → ProofRunsOut k h p
   pub takes : OnlyTakesSlots k h
+  pub count : MakesForProof k h p
 
 -- what an explanation of two terms over r answers, and the graph h that it leaves
 pub data ExplanationAnswers (written : Term → List Element) (r : Graph) (t u : Term) (h : Graph) : Answer → Type 0 where

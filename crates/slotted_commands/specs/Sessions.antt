@@ -24,7 +24,7 @@ use Rattle.slotted_model.specs.Ids.{id_of}
 use Rattle.slotted_core.specs.AddingTerms.{FilesOnlyLookedUp, IsEqualToTerm, LacksForTerm, TakesForTerm}
 use Rattle.slotted_core.specs.Image.{FoundAlike, AddsClasses, IsUnion, CountsOpen, asserted_in, RecordsFilled}
 use Rattle.slotted_core.specs.Affected.{AreAffected}
-use Rattle.slotted_core.specs.Causes.{CanRunOutForTerm, HasLargeClassIn}
+use Rattle.slotted_core.specs.Causes.{CanRunOutForTerm, HasLargeClassIn, IsUnknownTerm}
 use Rattle.slotted_core.specs.Graph.{FilesOnlySubterms, Graph, IsFullId, MakesAtMost, OnlyReads, id_of_term}
 use Rattle.slotted_core.specs.LookUp.{IsOneGraph, KeepsLookUps, look_up_term}
 use Rattle.slotted_core.specs.Nodes.{to_applied}
@@ -130,7 +130,7 @@ Gains canonically g t id h = GainsSyn g t id h
 -- why slots can run out where the term t is added to g in this manner
 abbrev pub LacksSlots : Manner → Graph → Term → Table → Type 0
 LacksSlots by_look_up g t new = LacksForTerm t g new
-LacksSlots canonically g t new = CanRunOutForTerm g.image t g.table new
+LacksSlots canonically g t new = CanRunOutForTerm g.image t g.table new × IsUnknownTerm g.image t
 
 -- adding the term t to g runs out of memory or slots, and leaves the failed graph h
 pub record RunsOut (m : Manner) (g : Graph) (t : Term) (e : Error) (h : Graph) : Type 0 where

@@ -1,10 +1,10 @@
 //! What an extraction of a term answers.
-ghost use Rattle.std.specs.Prelude.{IsTrue, IfOk, IfErr};
+ghost use Rattle.std.specs.Prelude.{IsTrue, IfOk, IfErr, IsErrOf};
 ghost use Rattle.slotted_slots.specs.Error.{IsShortage};
 ghost use Rattle.slotted_core.specs.Graph.{OnlyTakesSlots};
 ghost use Rattle.slotted_core.specs.Nodes.{to_applied};
 ghost use Rattle.slotted_core.specs.Reports.{IsFound};
-ghost use Rattle.slotted_commands.specs.Extracted.{ExtractionAnswers, IsSmallest};
+ghost use Rattle.slotted_commands.specs.Extracted.{ExtractionAnswers, IsSmallest, LacksForSmallest, TakesForSmallest};
 ghost use Rattle.slotted_commands.specs.Sessions.{answer_of};
 
 use crate::answer::Answer;
@@ -40,6 +40,8 @@ fn smallest_term<L: Printable>(
     requires found { IsFound graph.old (to_applied id.now) }
     ensures ok { IfOk result (λ p. IsSmallest graph.old (to_applied id.now) p.0 p.1 graph.new) }
     ensures takes { OnlyTakesSlots graph.old graph.new }
+    ensures count { TakesForSmallest graph.old (to_applied id.now) graph.new }
+    ensures full { IsErrOf result Error.OutOfSlots → LacksForSmallest graph.old (to_applied id.now) graph.new }
     ensures err { IfErr result IsShortage }
 {
     let extractor: Extractor<L, AstSize> = Extractor::new(alloc, graph, AstSize)?;

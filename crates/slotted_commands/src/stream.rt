@@ -3,7 +3,7 @@ ghost use Rattle.std.specs.Prelude.{◌≡◌, ℕ, List, IfSome, OnSome, IsErr,
 ghost use Rattle.std.specs.Str.{IsUtf8};
 ghost use Rattle.std.specs.Io.BufRead.{strip_last};
 ghost use Rattle.std.specs.Io.KnownBytes.{Appends, IsAtEnd, Keeps};
-ghost use Rattle.slotted_commands.specs.Streams.{LineWrites, SessionWrites, WritesFrom};
+ghost use Rattle.slotted_commands.specs.Streams.{LineLeaves, LineWrites, SessionWrites, WritesFrom};
 
 use crate::session::answer;
 use slotted_graph::EGraph;
@@ -53,7 +53,8 @@ fn answer_each<L: Printable, R: BufRead, W: Write>(
     Err(io::Error::from(ErrorKind::FileTooLarge))
 }
 
-/// Answers one line, which may end in a line feed, on `output`, and writes it out. An empty line has no answer.
+/// Answers one line, which may end in a line feed, on `output`, and writes it out. An empty line has no answer. Where it cannot be written,
+/// the line was asked all the same.
 pub fn answer_line<L: Printable, W: Write>(
     alloc: Global,
     graph: &mut EGraph<L>,
@@ -62,6 +63,7 @@ pub fn answer_line<L: Printable, W: Write>(
 ) -> io::Result<()>
     ensures answers { OnOk result ((bs : List ℕ) × LineWrites L.read L.written graph.old (strip_last 10 line.now) bs graph.new
         × Appends (W.contents output.old) (W.contents output.new) bs) }
+    ensures leaves { IsUtf8 (strip_last 10 line.now) → LineLeaves L.read L.written graph.old (strip_last 10 line.now) graph.new }
     ensures not_text { ¬ (IsUtf8 (strip_last 10 line.now)) → IsErr result × (graph.new ≡ graph.old)
         × Keeps (W.contents output.old) (W.contents output.new) }
 {

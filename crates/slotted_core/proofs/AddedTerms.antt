@@ -40,6 +40,7 @@ use Rattle.slotted_core.specs.Good.{AddsNodeIn, AddsNodesIn, Good, HasFreshSlots
 use Rattle.slotted_core.specs.Image.{AddsClasses}
 use Rattle.slotted_core.specs.Nodes.{ids_in, child_ids}
 use Rattle.slotted_core.specs.Places.{args_places, term_places}
+use Rattle.slotted_core.specs.Subterms.{IsSubterm, IsTopIn}
 use Rattle.slotted_core.proofs.AddedByLookUp.{keeps-none}
 use Rattle.slotted_core.proofs.ContinuedFinds.{finds-on}
 use Rattle.slotted_core.proofs.FiledClasses.{adds-none, same-goes_on}
@@ -100,18 +101,22 @@ module _ (w : Term) (t : Table) (k : Kept) (r : Rows) (good : Good k) (rests : R
 pub of-larger : (c w : Term) (f : Form) → term_places c ≤ term_places w → term_size c ≤ term_size w → IsOfTerm c f → IsOfTerm w f
 of-larger c w f p s o = record { places = omega (arith, p, o.places); size = omega (arith, s, o.size) }
 
+abbrev pub top-larger : (c w : Term) → ((s : Term) → IsSubterm s c → IsSubterm s w) → (look : DTerm → Option Applied) (f : Form) → IsTopIn look c f → IsTopIn look w f
+top-larger c w up look f o = record { subterm = o.subterm; stands = up o.subterm o.stands; top = o.top }
+
 -- some nodes, and then those of a smaller term
-pub nodes-then : (c w : Term) → term_places c ≤ term_places w → term_size c ≤ term_size w → (t u : Table) (k l : Kept) (r q : Rows) (n : ℕ) → AddsNodesIn w t k r n u l q →
+pub nodes-then : (c w : Term) → term_places c ≤ term_places w → term_size c ≤ term_size w → ((s : Term) → IsSubterm s c → IsSubterm s w) → (t u : Table) (k l : Kept) (r q : Rows) (n : ℕ) → AddsNodesIn w t k r n u l q →
     (j : ℕ) (v : Table) (m : Kept) (s : Rows) → AddsNodesIn c u l q j v m s → AddsNodesIn w t k r (j + n) v m s
-nodes-then c w p z t u k l r q n first _ _ _ _ none_added = subst (λ i. AddsNodesIn w t k r i u l q) (omega arith) first
-nodes-then c w p z t u k l r q n first _ _ _ _ (one_added {n = i} {u = x} {v = y} {l = a} {m = b} {q = e} {s = g} before step) =
+nodes-then c w p z up t u k l r q n first _ _ _ _ none_added = subst (λ i. AddsNodesIn w t k r i u l q) (omega arith) first
+nodes-then c w p z up t u k l r q n first _ _ _ _ (one_added {n = i} {u = x} {v = y} {l = a} {m = b} {q = e} {s = g} before step) =
     let same : suc (i + n) ≡ suc i + n = omega arith in
-    subst (λ d. AddsNodesIn w t k r d y b g) same (one_added (nodes-then c w p z t u k l r q n first i x a e before) (record {
+    subst (λ d. AddsNodesIn w t k r d y b g) same (one_added (nodes-then c w p z up t u k l r q n first i x a e before) (record {
       node = step.node;
       fits = step.fits;
       children = step.children;
       known = step.known;
       small = of-larger c w step.node p z step.small;
+      top = top-larger c w up (look_up_node (state_in a e)) step.node step.top;
       answer = step.answer;
       added = step.added;
       more = step.more;

@@ -1,7 +1,7 @@
 -- What explaining two terms leaves: both are added, and an entry that asserts nothing may be entered.
 use Rattle.std.proofs.Common.{◌≡◌, ◌<◌, ◌+◌, ℕ, [], length, refl, sym, ◌∙◌, ap, subst, arith, inl, inr}
-use Rattle.std.specs.Prelude.{Bool, false, IsTrue, Some, None, ◌↔◌}
-use Rattle.std.proofs.lemmas.Bool.{false≢true}
+use Rattle.std.specs.Prelude.{Bool, false, IsSome, IsTrue, Option, Some, None, is_some, ◌↔◌}
+use Rattle.std.proofs.lemmas.Bool.{cases_lt, false≢true}
 use Rattle.std.proofs.lemmas.List.{append-nil}
 use Rattle.slotted_slots.specs.Table.{Table}
 use Rattle.slotted_theory.specs.Term.{Term}
@@ -15,6 +15,7 @@ use Rattle.slotted_model.specs.ProofList.{asserted}
 use Rattle.slotted_model.proofs.GoingOn.{goes_on-then}
 use Rattle.slotted_model.proofs.Growing.{Extends-same, Extends-then}
 use Rattle.slotted_model.proofs.GrowingLists.{proofs-go_on}
+use Rattle.slotted_model.specs.Ids.{id_of}
 use Rattle.slotted_model.proofs.Ids.{id_of-iff}
 use Rattle.slotted_store.specs.Kept.{Kept, nodes_of, entries_of, proofs_of}
 use Rattle.slotted_store.proofs.KeptLists.{equation_at-of, length-nodes_of, length-proofs_of}
@@ -23,11 +24,11 @@ use Rattle.slotted_unions.specs.Proving as unions
 use Rattle.slotted_unions.specs.Proving.{OnlyProves, ProvesEqual}
 use Rattle.slotted_unions.proofs.EnteredProofs.{only-nodes, only-proofs, only-state, only-grows}
 use Rattle.slotted_rebuilding.specs.Filed.{state_in}
-use Rattle.slotted_core.specs.Causes.{CanRunOutForTerm}
-use Rattle.slotted_core.specs.Explaining.{AddsTerms, HasIds, ExplainsTerms, RunsOutForTerms, no_slots, large_left, large_right, large_graph, wide_left, wide_right, large_class}
+use Rattle.slotted_core.specs.Causes.{CanRunOutForTerm, IsUnknownTerm}
+use Rattle.slotted_core.specs.Explaining.{AddsTerms, HasIds, ExplainsTerms, IsIdOfEither, RunsOutForTerms, no_slots, large_left, large_right, large_graph, wide_left, wide_right, large_class}
 use Rattle.slotted_core.specs.Good.{Good, RestsWith, AddsTerm, image_of}
 use Rattle.slotted_core.specs.Graph.{MakesAtMost}
-use Rattle.slotted_core.specs.Image.{AddsClasses, FoundAlike}
+use Rattle.slotted_core.specs.Image.{AddsClasses, FoundAlike, IsIdOfSubterm, NewClassesAre}
 use Rattle.slotted_core.specs.Places.{term_slots}
 use Rattle.slotted_core.proofs.ContinuedFinds.{finds-on, alike-on, adds-classes}
 use Rattle.slotted_core.proofs.FiledClasses.{grown-good, grown-fresh}
@@ -74,6 +75,23 @@ module _ (k : Kept) (r : Rows) (good : Good k) (m : Kept) (s : Rows) (n : Kept) 
     right = (id_of-iff (nodes_of n) second.good.stored.sane.sound.canonical (nameless right) b).1 (second.full, second.term);
   }
 
+  -- each class that came is that of a subterm
+  later : (c : Applied) → IsIdOfSubterm (nodes_of m) left c → IsIdOfSubterm (nodes_of n) left c
+  later c is = record { subterm = is.subterm; stands = is.stands; found = second.extends.ids (nameless is.subterm) c is.found }
+
+  both-filed : NewClassesAre (nodes_of k) (nodes_of n) (IsIdOfEither (nodes_of n) left right)
+  both-filed i new in_range = elim (cases_lt i (length (nodes_of m))) [
+    | inl before ↦ let is = first.filed i new before in (is.0, is.1, inl (later is.0 is.2))
+    | inr past ↦ let is = second.filed i (omega (arith, past)) in_range in (is.0, is.1, inr is.2)
+  ]
+
+  -- and none comes where both terms have ids
+  both-kept : IsSome (id_of (nodes_of k) (nameless left)) → IsSome (id_of (nodes_of k) (nameless right)) → (nodes_of n ≡ nodes_of k) × (q ≡ r) × (w ≡ t)
+  both-kept x y =
+      let one = first.kept x in
+      let two = second.kept (subst (λ (z : Kept). IsSome (id_of (nodes_of z) (nameless right))) (sym one.0) y) in
+      (ap nodes_of (two.0 ∙ one.0), two.1 ∙ one.1, two.2 ∙ one.2)
+
   within : (c : Applied) → IsFull (nodes_of n) c → c.0 < length n.classes
   within c full = let h : c.0 < length (nodes_of n) = full.in_range in let e : length (nodes_of n) ≡ length n.classes = length-nodes_of n in omega arith
 
@@ -84,17 +102,19 @@ module _ (k : Kept) (r : Rows) (good : Good k) (m : Kept) (s : Rows) (n : Kept) 
       (λ e. ea ∙ (e ∙ sym eb), λ e. sym ea ∙ (e ∙ eb))
 
   -- their ids do not find alike
-  pub explains-none : (alike : Bool) → alike ≡ false → (IsTrue alike ↔ (find (entries_of n) a ≡ find (entries_of n) b)) → ExplainsTerms w k r n q left right None
+  pub explains-none : (alike : Bool) → alike ≡ false → (IsTrue alike ↔ (find (entries_of n) a ≡ find (entries_of n) b)) → ExplainsTerms t w k r n q left right None
   explains-none alike e says = record {
     good = second.good;
     rests = second.rests;
     fresh_slots = second.fresh_slots;
     adds = both-added;
+    filed = both-filed;
+    kept = both-kept;
     answers = record { left = a; right = b; ids = both-ids; apart = λ f. false≢true (sym e ∙ says.1 (says-alike.1 f)) };
   }
 
   -- they do, and an entry has their equation
-  pub explains-some : find (entries_of n) a ≡ find (entries_of n) b → (l : Kept) (p : ℕ) → ProvesEqual n l a b p → ExplainsTerms w k r l q left right (Some p)
+  pub explains-some : find (entries_of n) a ≡ find (entries_of n) b → (l : Kept) (p : ℕ) → ProvesEqual n l a b p → ExplainsTerms t w k r l q left right (Some p)
   explains-some e l p proves =
       let same : nodes_of l ≡ nodes_of n = only-nodes n l proves.only in
       let x : Extends (nodes_of n) (nodes_of l) = subst (Extends (nodes_of n)) (sym same) (Extends-same (nodes_of n)) in
@@ -108,6 +128,8 @@ module _ (k : Kept) (r : Rows) (good : Good k) (m : Kept) (s : Rows) (n : Kept) 
           extends = Extends-then (nodes_of k) (nodes_of n) (nodes_of l) both-added.extends x;
           adds = adds-then (image_of k) (image_of n) (image_of l) both-added.extends both-added.adds (proving-adds n q second.good second.rests l proves.only) (finds-on k r good l q on);
         };
+        filed = subst (λ ns. NewClassesAre (nodes_of k) ns (IsIdOfEither ns left right)) (sym same) both-filed;
+        kept = λ x y. let all = both-kept x y in (same ∙ all.0, all.1, all.2);
         answers = record {
           left = a;
           right = b;
@@ -123,17 +145,26 @@ module _ (k : Kept) (r : Rows) (good : Good k) (m : Kept) (s : Rows) (n : Kept) 
 
 -- slots ran out for the classes of either term
 
-pub runs-left : (k : Kept) (t u : Term) (old new : Table) → CanRunOutForTerm (image_of k) t old new → RunsOutForTerms (image_of k) t u old new
-runs-left k t u old new (inl (inl short)) = no_slots (runs_out-more (term_slots t) (term_slots t + term_slots u) old new short (omega arith))
-runs-left k t u old new (inl (inr large)) = large_left large
-runs-left k t u old new (inr (inl large)) = large_graph large
-runs-left k t u old new (inr (inr wide)) = wide_left wide
+pub runs-left : (k : Kept) (t u : Term) (old new : Table) → IsUnknownTerm (image_of k) t → CanRunOutForTerm (image_of k) t old new → RunsOutForTerms (image_of k) t u old new
+runs-left k t u old new (inl none) (inl (inl short)) = no_slots (runs_out-more (term_slots t) (term_slots t + term_slots u) old new short (omega arith)) (inl none)
+runs-left k t u old new (inr large) (inl (inl short)) = large_left large
+runs-left k t u old new unknown (inl (inr large)) = large_left large
+runs-left k t u old new unknown (inr (inl large)) = large_graph large
+runs-left k t u old new unknown (inr (inr wide)) = wide_left wide
 
-pub runs-right : (k : Kept) (r : Rows) (m : Kept) (s : Rows) (t u : Term) (old mid new : Table) (a : Applied) → AddsTerm old mid k r m s t a → MakesAtMost (term_slots t) old mid → CanRunOutForTerm (image_of m) u mid new → RunsOutForTerms (image_of k) t u old new
-runs-right k r m s t u old mid new a first makes (inl (inl short)) = no_slots (runs_out-then (term_slots t) (term_slots u) (term_slots t + term_slots u) old mid new makes short (omega arith))
-runs-right k r m s t u old mid new a first makes (inl (inr large)) = large_right large
-runs-right k r m s t u old mid new a first makes (inr (inl large)) = elim (first.large large) [
+-- a term without an id had none before
+none-before : (k m : Kept) → Extends (nodes_of k) (nodes_of m) → (t : Term) (o : Option Applied) → id_of (nodes_of k) (nameless t) ≡ o → id_of (nodes_of m) (nameless t) ≡ None → id_of (nodes_of k) (nameless t) ≡ None
+none-before k m extends t None is none = is
+none-before k m extends t (Some a) is none = absurd (false≢true (sym (ap is_some none) ∙ ap is_some (extends.ids (nameless t) a is)))
+
+pub runs-right : (k : Kept) (r : Rows) (m : Kept) (s : Rows) (t u : Term) (old mid new : Table) (a : Applied) → AddsTerm old mid k r m s t a → MakesAtMost (term_slots t) old mid → IsUnknownTerm (image_of m) u → CanRunOutForTerm (image_of m) u mid new → RunsOutForTerms (image_of k) t u old new
+runs-right k r m s t u old mid new a first makes (inl none) (inl (inl short)) =
+    no_slots (runs_out-then (term_slots t) (term_slots u) (term_slots t + term_slots u) old mid new makes short (omega arith))
+    (inr (none-before k m first.extends u (id_of (nodes_of k) (nameless u)) refl none))
+runs-right k r m s t u old mid new a first makes (inr large) (inl (inl short)) = large_right large
+runs-right k r m s t u old mid new a first makes unknown (inl (inr large)) = large_right large
+runs-right k r m s t u old mid new a first makes unknown (inr (inl large)) = elim (first.large large) [
   | inl h ↦ large_graph h
   | inr wide ↦ wide_left wide
 ]
-runs-right k r m s t u old mid new a first makes (inr (inr wide)) = wide_right wide
+runs-right k r m s t u old mid new a first makes unknown (inr (inr wide)) = wide_right wide

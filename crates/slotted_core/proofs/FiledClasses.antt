@@ -29,11 +29,12 @@ use Rattle.slotted_rebuilding.specs.Causes.{HasLargeClass}
 use Rattle.slotted_rebuilding.specs.Filed.{state_in}
 use Rattle.slotted_rebuilding.specs.NewClasses.{IsUnfiled, FilesNewest}
 use Rattle.slotted_rebuilding.proofs.FiledStates.{fits-grown}
-use Rattle.slotted_core.specs.Causes.{HasLargeClassIn, CanRunOutForNode, IsLargeClass, IsWideClass}
+use Rattle.slotted_core.specs.Causes.{HasLargeClassIn, CanRunOutForNode, IsLargeClass, IsUnknownNode, IsWideClass}
 use Rattle.slotted_core.specs.Good.{Good, RestsWith, HasFreshSlots, MakesOne, Makes, Adds, image_of}
 use Rattle.slotted_core.specs.Graph.{HasNewClass}
 use Rattle.slotted_core.specs.Image.{AddsClasses, NewClassesAre, IsIdOfNode}
 use Rattle.slotted_core.proofs.ContinuedFinds.{adds-classes}
+use Rattle.slotted_core.proofs.Options.{none-where}
 use Rattle.slotted_core.proofs.Resting.{at-rest}
 
 -- what stands in the classes stays
@@ -94,6 +95,10 @@ module _ (k : Kept) (r : Rows) (good : Good k) (rests : RestsWith k r) where
     | inl e ↦ absurd (different (rests.filed.count ∙ ap (λ (z : Kept). length z.classes) (sym e)))
     | inr one ↦ one
   ]
+
+  -- so the node had none
+  pub unknown-made : (t u : Table) (f : Form) (a : Applied) (m : Kept) → Makes t u k m f a → length r.filed ≢ length m.classes → IsUnknownNode (nodes_of k) f
+  unknown-made t u f a m make different = inl (none-where (id_of_node (nodes_of k) (nameless_node f)) (λ s. different (rests.filed.count ∙ ap (λ (z : Kept). length z.classes) (sym (make.kept s).0))))
 
   -- a class was made
   module _ (m : Kept) (good-m : Good m) (f : Form) (one : MakesOne k m f) where

@@ -1,6 +1,6 @@
 -- A graph to which a term was added by look-up, as contracts see it.
 use Rattle.std.proofs.Common.{◌≡◌, ◌∙◌, ℕ, List, [], false, length, Option, Some, ap, refl, sym, subst, inl, inr}
-use Rattle.std.specs.Prelude.{All, IsSome}
+use Rattle.std.specs.Prelude.{All, IsSome, slice_index_or}
 use Rattle.slotted_theory.specs.Nameless.{nameless}
 use Rattle.slotted_theory.specs.Term.{Term}
 use Rattle.slotted_slots.specs.Table.{KnowsMore, Table}
@@ -24,9 +24,10 @@ use Rattle.slotted_core.specs.Good.{AddsFoundTerm, AddsNodeIn, AddsNodesIn, Good
 use Rattle.slotted_core.specs.Good as kept
 use Rattle.slotted_core.specs.Graph.{Graph}
 use Rattle.slotted_core.specs.Image.{Image}
-use Rattle.slotted_core.specs.LookUp.{IsOneGraph, KeepsLookUps, look_up, look_up_term}
+use Rattle.slotted_core.specs.LookUp.{IsOneGraph, KeepsLookUps, look_up, look_up_nameless, look_up_term}
 use Rattle.slotted_core.specs.Nodes.{child_ids}
 use Rattle.slotted_core.specs.Reports.{IsFound}
+use Rattle.slotted_core.specs.Subterms.{IsTopIn}
 use Rattle.slotted_core.proofs.AddedNodes.{added-answers, added-id, added-kept, added-made}
 use Rattle.slotted_core.proofs.AddedTerms.{Reached, reached}
 use Rattle.slotted_core.proofs.ValidIds.{fills-filling, findable-children, to-valid}
@@ -45,6 +46,19 @@ ids-over t k r good f all known = record { known = known; children = λ j d l. t
 over-children : (t : Table) (k : Kept) (r : Rows) → Good k → (f : Form) → Fits f → All (IsFoundIn t k) (child_ids f) → AllKnown t f.names → EachChild (IsFindable k) (nameless_node f).args
 over-children t k r good f fits all known = findable-children k good (seen t k r) refl f fits (ids-over t k r good f all known).children
 
+-- the node at the top of a subterm, as contracts see it
+abbrev graph-top : (t : Table) (k : Kept) (r : Rows) → Good k → RestsWith k r → (w : Term) (f : Form) → IsTopIn (look_up_node (state_in k r)) w f → IsTopIn (look_up_nameless (seen t k r)) w f
+graph-top t k r good rests w f o = record {
+  subterm = o.subterm;
+  stands = o.stands;
+  top = record {
+    parts = o.top.parts;
+    whole = o.top.whole;
+    count = o.top.count;
+    each = λ i a c l. tree-is k r good rests (seen t k r) refl refl (nameless (slice_index_or o.top.parts i c)) ∙ o.top.each i a c l;
+  };
+}
+
 module _ (w : Term) (t : Table) (k : Kept) (r : Rows) (good : Good k) (rests : RestsWith k r) (fresh : HasFreshSlots t k) where
   graph-node : (u v : Table) (l m : Kept) (q s : Rows) → Reached t k r u l q → AddsNodeIn w u l q v m s → AddsNode w (seen u l q) (seen v m s)
   graph-node u v l m q s p step =
@@ -55,6 +69,7 @@ module _ (w : Term) (t : Table) (k : Kept) (r : Rows) (good : Good k) (rests : R
         node = step.node;
         over = ids-over u l q p.good step.node step.children step.known;
         small = step.small;
+        top = graph-top u l q p.good p.rests w step.node step.top;
         answer = step.answer;
         id = added-id l q p.good p.rests g refl refl u refl step.node step.fits c step.known m s step.answer h refl refl step.more step.added;
         kept = added-kept l q p.good p.rests g refl refl u refl step.node step.fits c step.known m s step.answer h refl refl step.more step.added;
@@ -81,7 +96,7 @@ module _ (w : Term) (t : Table) (k : Kept) (r : Rows) (good : Good k) (rests : R
         nodes = graph-nodes takes.count takes.between takes.kept takes.rows takes.nodes;
         last = elim takes.last [
           | inl e ↦ inl e
-          | inr y ↦ inr (y.0, ids-over takes.between takes.kept takes.rows p.good y.0 y.1 y.2, y.4, y.5)
+          | inr y ↦ inr (y.0, ids-over takes.between takes.kept takes.rows p.good y.0 y.1 y.2, y.4, y.5, graph-top takes.between takes.kept takes.rows p.good p.rests w y.0 y.6)
         ];
       }
 
@@ -106,9 +121,8 @@ module _ (w : Term) (t : Table) (k : Kept) (r : Rows) (good : Good k) (rests : R
           | inl none ↦ inl (is_node ∙ none)
           | inr large ↦ inr large
         ];
-        subterm = lacks.subterm;
-        stands = lacks.stands;
-        same = tree-is lacks.kept lacks.rows p.good p.rests there refl refl (nameless lacks.subterm) ∙ (lacks.same ∙ sym is_node);
+        top = graph-top lacks.between lacks.kept lacks.rows p.good p.rests w lacks.node lacks.top;
+        same = tree-is lacks.kept lacks.rows p.good p.rests there refl refl (nameless lacks.top.subterm) ∙ (lacks.same ∙ sym is_node);
       }
 
   -- the graph before

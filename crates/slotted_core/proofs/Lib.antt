@@ -31,6 +31,7 @@ pub mod FoundParts
 pub mod LookedUpParts
 pub mod Filing
 pub mod Tables
+pub mod Options
 pub mod TermAddition
 pub mod ValidTerms
 pub mod Sizes

@@ -34,8 +34,8 @@ use Rattle.slotted_core.specs.Good.{AddsFound, AddsFoundTerm, AddsNodeIn, AddsNo
 use Rattle.slotted_core.specs.Graph.{MakesAtMost}
 use Rattle.slotted_core.specs.Nodes.{child_ids}
 use Rattle.slotted_core.specs.Places.{term_places}
-use Rattle.slotted_core.specs.Subterms.{IsSubterm}
-use Rattle.slotted_core.proofs.AddedTerms.{Reached, looked-bounded, node-of_term, nodes-then, nodes_in, nodes_in-all, nodes_in-next, nodes_in-take, places-known, reached, term_nodes-is}
+use Rattle.slotted_core.specs.Subterms.{IsSubterm, IsTopIn}
+use Rattle.slotted_core.proofs.AddedTerms.{Reached, looked-bounded, node-of_term, nodes-then, nodes_in, nodes_in-all, nodes_in-next, nodes_in-take, places-known, reached, term_nodes-is, top-larger}
 use Rattle.slotted_core.proofs.CallerLemmas.{known_later}
 use Rattle.slotted_core.proofs.ChildReplacement.{plugs}
 use Rattle.slotted_core.proofs.Filing.{of_child}
@@ -100,9 +100,12 @@ module _ (w : Term) (t : Table) (k : Kept) (r : Rows) (good : Good k) (rests : R
       larger : (g : Form) → IsOfTerm c g → IsOfTerm w g
       larger g o = record { places = omega (arith, places, o.places); size = omega (arith, size, o.size) }
 
+      up : (s : Term) → IsSubterm s c → IsSubterm s w
+      up s stands = subst (IsSubterm s) view (of_child s f us i c lt (subst (IsSubterm s) (sym (at c)) stands))
+
       -- its nodes come after those of the children before it
       after : (j : ℕ) (x : Table) (m : Kept) (s : Rows) → AddsNodesIn c u l q j x m s → AddsNodesIn w t k r (j + nodes_in (take i us)) x m s
-      after j x m s more = nodes-then c w places size t u k l r q (nodes_in (take i us)) p.nodes j x m s more
+      after j x m s more = nodes-then c w places size up t u k l r q (nodes_in (take i us)) p.nodes j x m s more
 
       few-nodes : nodes_in (take i us) + term_nodes c < term_nodes w
       few-nodes =
@@ -120,7 +123,7 @@ module _ (w : Term) (t : Table) (k : Kept) (r : Rows) (good : Good k) (rests : R
         nodes = after takes.count takes.between takes.kept takes.rows takes.nodes;
         last = elim takes.last [
           | inl e ↦ inl e
-          | inr y ↦ inr (y.0, y.1, y.2, y.3, larger y.0 y.4, y.5)
+          | inr y ↦ inr (y.0, y.1, y.2, y.3, larger y.0 y.4, y.5, top-larger c w up (look_up_node (state_in takes.kept takes.rows)) y.0 y.6)
         ];
       }
 
@@ -138,8 +141,7 @@ module _ (w : Term) (t : Table) (k : Kept) (r : Rows) (good : Good k) (rests : R
         known = lacks.known;
         small = larger lacks.node lacks.small;
         cause = lacks.cause;
-        subterm = lacks.subterm;
-        stands = subst (IsSubterm lacks.subterm) view (of_child lacks.subterm f us i c lt (subst (IsSubterm lacks.subterm) (sym (at c)) lacks.stands));
+        top = top-larger c w up (look_up_node (state_in lacks.kept lacks.rows)) lacks.node lacks.top;
         same = lacks.same;
       }
 
@@ -198,8 +200,7 @@ module _ (w : Term) (t : Table) (k : Kept) (r : Rows) (good : Good k) (rests : R
                 | inl old ↦ let y = p.filed j past old in (y.0, y.1, y.2, y.3, then-on.keeps.trees (nameless y.2) y.0 y.4)
                 | inr new ↦
                     let y = add.filed j new within in
-                    let up : IsSubterm y.2 (form.term_of f us) = of_child y.2 f us i c lt (subst (IsSubterm y.2) (sym (at c)) y.3) in
-                    (y.0, y.1, y.2, subst (IsSubterm y.2) view up, y.4)
+                    (y.0, y.1, y.2, up y.2 y.3, y.4)
               ];
             }
 
@@ -248,6 +249,13 @@ module _ (w : Term) (t : Table) (k : Kept) (r : Rows) (good : Good k) (rests : R
       looked-before (b ∷ ids) [] y o = absurd (omega (arith, y))
       looked-before (b ∷ ids) (c ∷ vs) y o = (o 0 b c (omega arith), looked-before ids vs (omega (arith, y)) (λ j d e z. o (suc j) d e (omega arith)))
 
+      abbrev node-top : IsTopIn (look_up_node (state_in l q)) w h
+      node-top = record {
+        subterm = w;
+        stands = inl refl;
+        top = record { parts = us; whole = one-term ∙ view; count = sym as-many; each = λ j d e y. (each j d e y).found };
+      }
+
       -- so the term is looked up as the node is
       tree-is-node : look_up_tree (state_in l q) (nameless w) ≡ look_up_node (state_in l q) (nameless_node h)
       tree-is-node =
@@ -268,7 +276,7 @@ module _ (w : Term) (t : Table) (k : Kept) (r : Rows) (good : Good k) (rests : R
         kept = l;
         rows = q;
         nodes = p.nodes;
-        last = inr (h, node-ids, node-known known, fits, node-small, makes);
+        last = inr (h, node-ids, node-known known, fits, node-small, makes, node-top);
       }
 
       pub node-lacks : HasKnownNames t w.args → (x : Table) → RunsOutForUnknownIn u x l q h → LacksForTermIn w t k r x
@@ -285,8 +293,7 @@ module _ (w : Term) (t : Table) (k : Kept) (r : Rows) (good : Good k) (rests : R
         known = node-known known;
         small = node-small;
         cause = cause;
-        subterm = w;
-        stands = inl refl;
+        top = node-top;
         same = tree-is-node;
       }
 
@@ -357,6 +364,7 @@ module _ (w : Term) (t : Table) (k : Kept) (r : Rows) (good : Good k) (rests : R
             children = node-ids;
             known = node-known known;
             small = node-small;
+            top = node-top;
             answer = a;
             added = add;
             more = more;

@@ -414,6 +414,11 @@ class_makes t u k l good over f hf full a slots s m e =
     (λ none ks vs mv made ea. subst (λ (x : Kept × Applied). Makes t u k x.0 f x.1) (λ i. (sym made.class i, sym ea i))
     (makes_one t u k good over f hf full (sym none) slots ks vs mv made.proofs made.proof made.enters))
 
+-- a shape that has no row is of a node that has no class
+pub absent-unknown : (k : Kept) → Good k → (f : Form) → Fits f → (s : Form) (m : List (ℕ × ℕ)) → ◌≡◌ {A = Form × List (ℕ × ℕ)} (s, m) (shape f) → None ≡ found k.rows s → id_of_node (nodes_of k) (nameless_node f) ≡ None
+absent-unknown k good f hf s m e none =
+    sym (look_up-rows k good f hf) ∙ ap (option_map (answer (shape f).1)) (ap (λ (x : Form × List (ℕ × ℕ)). found k.rows x.0) (sym e) ∙ sym none)
+
 -- the slots of a new class are no more than the places of its node
 
 pub shape-places : (f : Form) → Fits f → (s : Form) (m slots : List (ℕ × ℕ)) → ◌≡◌ {A = Form × List (ℕ × ℕ)} (s, m) (shape f) → slots ≡ m → length slots ≤ length f.names

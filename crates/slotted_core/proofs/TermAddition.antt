@@ -1,7 +1,7 @@
 -- Adding a term from below: the ids of the children stand in the node so far.
 use Rattle.std.proofs.Common.{◌≡◌, ◌<◌, ◌≤◌, ℕ, zero, suc, ◌+◌, List, [], ◌∷◌, length, get_or, Some, sym, ◌∙◌, ap, refl, subst, arith, inl, inr}
-use Rattle.std.specs.Prelude.{slice_set, slice_index_or, All, IsSome}
-use Rattle.std.proofs.lemmas.Bool.{cases_eq}
+use Rattle.std.specs.Prelude.{slice_set, slice_index_or, All, IsSome, is_some}
+use Rattle.std.proofs.lemmas.Bool.{cases_eq, false≢true}
 use Rattle.slotted_theory.specs.Term.{Args, Term, done, args_size, term_size}
 use Rattle.slotted_theory.specs.Nameless.{nameless, nameless_args}
 use Rattle.slotted_slots.specs.Maps.{keys, values}
@@ -26,12 +26,13 @@ use Rattle.slotted_store.specs.Kept.{Kept, nodes_of}
 use Rattle.slotted_filing.specs.FiledRows.{Rows}
 use Rattle.slotted_congruence.specs.Named.{node_size}
 use Rattle.slotted_rebuilding.specs.Filed.{state_in}
-use Rattle.slotted_core.specs.Causes.{HasLargeClassIn, HasLargeClassOrNode, HasLargeClassOrTerm}
+use Rattle.slotted_core.specs.Causes.{HasLargeClassIn, HasLargeClassOrNode, HasLargeClassOrTerm, IsUnknownNode, IsUnknownTerm}
 use Rattle.slotted_core.specs.Good.{image_of, Good, RestsWith, HasFreshSlots, Adds, AddsTerm}
 use Rattle.slotted_core.specs.Nodes.{child_ids}
 use Rattle.slotted_core.specs.Places.{args_places, term_places}
 use Rattle.slotted_core.specs.Subterms.{IsSubterm}
 use Rattle.slotted_core.proofs.NodeAddition.{full_children}
+use Rattle.slotted_core.proofs.Options.{none-where}
 use Rattle.slotted_core.proofs.ContinuedFinds.{finds-on}
 use Rattle.slotted_core.proofs.FiledClasses.{adds-none, same-goes_on}
 use Rattle.slotted_core.proofs.Images.{adds-then}
@@ -180,6 +181,26 @@ module _ (k : Kept) (r : Rows) (l : Kept) (q : Rows) (f h : Form) (us : List Ter
   pub child-large : (c : Term) → term_size c < term_size w → HasLargeClassOrTerm (image_of l) c → HasLargeClassOrTerm (image_of k) w
   child-large c smaller (inl o) = grown-large o
   child-large c smaller (inr wide) = inr (omega (arith, wide, smaller))
+
+  -- a term of which a child has no id has none
+  pub child-unknown : Good k → length us ≡ length (children f.tree) → (c : Term) → ((e : Term) → slice_index_or us i e ≡ c) → i < length us → term_places c ≤ term_places w → IsUnknownTerm (image_of l) c → IsUnknownTerm (image_of k) w
+  child-unknown good n c at lt places (inr large) = inr (omega (arith, large, places))
+  child-unknown good n c at lt places (inl none) = inl (none-where (id_of (nodes_of k) (nameless w)) (λ s.
+      let some : IsSome (id_of (nodes_of k) (nameless (form.term_of f us))) = subst (λ (x : Term). IsSome (id_of (nodes_of k) (nameless x))) (sym view) s in
+      let of_part : IsSome (id_of (nodes_of k) (nameless c)) =
+      subst (λ (x : Term). IsSome (id_of (nodes_of k) (nameless x))) (at c)
+      (each_at (λ (x : Term). IsSome (id_of (nodes_of k) (nameless x))) us i c lt (children_found (id_of_node (nodes_of k)) (id_of_node-moved (nodes_of k) good.stored.sane.sound.canonical) f us n some)) in
+      false≢true (sym (ap is_some none) ∙ subst (λ (x : Kept). IsSome (id_of (nodes_of x) (nameless c))) (sym (p.kept some).0) of_part)))
+
+-- nor has one whose node has no class
+pub node-unknown : (k : Kept) (r : Rows) (l : Kept) (q : Rows) (f h : Form) (us : List Term) (w : Term) → form.term_of f us ≡ w → (o t : Table) → Fits h → IsPart o k r t l q f h us (length us) → length us ≡ length (children f.tree) → IsUnknownNode (nodes_of l) h → IsUnknownTerm (image_of k) w
+node-unknown k r l q f h us w view o t fits p n (inr large) = inr (omega (arith, large, part_size o k r t l q f h us fits p n, ap term_places view))
+node-unknown k r l q f h us w view o t fits p n (inl none) = inl (none-where (id_of (nodes_of k) (nameless w)) (λ s.
+    let some : IsSome (id_of (nodes_of k) (nameless (form.term_of f us))) = subst (λ (x : Term). IsSome (id_of (nodes_of k) (nameless x))) (sym view) s in
+    let here : IsSome (id_of (nodes_of l) (nameless (form.term_of f us))) = subst (λ (x : Kept). IsSome (id_of (nodes_of x) (nameless (form.term_of f us)))) (sym (p.kept some).0) some in
+    let children = full_children (nodes_of l) h fits (part_full o k r t l q f h us p n) in
+    let filed = node_has_id (nodes_of l) p.good.stored.sane.sound.canonical (nameless_node h) children (nameless (form.term_of f us)) (part_layer o k r t l q f h us fits p n) here in
+    false≢true (sym (ap is_some none) ∙ filed)))
 
 -- and then the node's id is that of the term
 pub part_end : (k : Kept) (r : Rows) → Good k → (o t v : Table) (l : Kept) (q : Rows) (m : Kept) (s : Rows) (f h : Form) (us : List Term) (a : Applied) → Fits h → IsPart o k r t l q f h us (length us) → length us ≡ length (children f.tree) → Adds t v l q m s h a → AddsTerm o v k r m s (form.term_of f us) a

@@ -21,21 +21,22 @@ use Rattle.slotted_core.specs.Adding.{IsOfTerm, RunsOutForFilled, slots_needed, 
 use Rattle.slotted_core.specs.ValidIds.{Fills, IsValidId}
 use Rattle.slotted_core.specs.Graph.{Graph, MakesAtMost}
 use Rattle.slotted_core.specs.Image.{AddsClasses, Image, NewClassesAre, asserted_in}
-use Rattle.slotted_core.specs.LookUp.{IsOneGraph, KeepsLookUps, MakesClassFor, look_up, look_up_term}
+use Rattle.slotted_core.specs.LookUp.{IsOneGraph, KeepsLookUps, MakesClassFor, look_up, look_up_nameless, look_up_term}
 use Rattle.slotted_core.specs.Nodes.{child_ids}
-use Rattle.slotted_core.specs.Subterms.{IsSubterm}
+use Rattle.slotted_core.specs.Subterms.{IsSubterm, IsTopIn}
 
 -- the node's names are known, and `eq` can be asked of its children
 pub record IsOver (g : Graph) (f : Form) : Type 0 where
   pub known : AllKnown g.table f.names
   pub children : All (IsValidId g) (child_ids f)
 
--- a node that is no larger than the term is added: it has an id from now on, by a class of its own where it was not looked up, and what was
+-- the node at the top of a subterm, which is no larger than the term, is added: it has an id from now on, by a class of its own where it was not looked up, and what was
 -- looked up stays
 pub record AddsNode (t : Term) (g h : Graph) : Type 0 where
   pub node : Form
   pub over : IsOver g node
   pub small : IsOfTerm t node
+  pub top : IsTopIn (look_up_nameless g) t node
   pub answer : Applied
   pub id : look_up h node ≡ Some answer
   pub kept : IsSome (look_up g node) → IsOneGraph g h
@@ -56,9 +57,11 @@ pub record TakesForTerm (t : Term) (g : Graph) (new : Table) : Type 0 where
   pub few : count ≤ term_nodes t
   pub reached : Graph
   pub nodes : AddsNodes t g count reached
-  pub last : (new ≡ reached.table) ⊎ ((f : Form) × IsOver reached f × IsOfTerm t f × MakesAtMost (slots_needed reached.image f) reached.table new)
+  pub last : (new ≡ reached.table) ⊎ ((f : Form) × IsOver reached f × IsOfTerm t f
+      × MakesAtMost (slots_needed reached.image f) reached.table new × IsTopIn (look_up_nameless reached) t f)
 
--- slots ran out for a node, after others were added: one that is looked up as a subterm is, so as nothing, or that has too many places
+-- slots ran out for the node at the top of a subterm, after others were added: one that is looked up as the subterm is, so as nothing, or that
+-- has too many places
 pub record LacksForTerm (t : Term) (g : Graph) (new : Table) : Type 0 where
   pub count : ℕ
   pub few : count < term_nodes t
@@ -70,9 +73,8 @@ pub record LacksForTerm (t : Term) (g : Graph) (new : Table) : Type 0 where
   pub small : IsOfTerm t node
   pub cause : RunsOutForFilled reached.image node reached.table new
   pub unknown : (look_up reached node ≡ None) ⊎ IsTooLarge node
-  pub subterm : Term
-  pub stands : IsSubterm subterm t
-  pub same : look_up_term reached subterm ≡ look_up reached node
+  pub top : IsTopIn (look_up_nameless reached) t node
+  pub same : look_up_term reached top.subterm ≡ look_up reached node
 
 -- a subterm of t is looked up as the id
 pub record IsLookedUpSubterm (g : Graph) (t : Term) (a : Applied) : Type 0 where

@@ -9,19 +9,22 @@
 --     HasLargeClassIn g       a class of the graph has so many slots, or its node so many places, that two ids of it have too many names
 --     HasLargeClassOrNode g f, HasLargeClassOrTerm g t     or so would a class of the node, or of a node of the term
 --     CanRunOutForNode, CanRunOutForTerm     why slots can run out where these are added
-use Rattle.std.specs.Prelude.{◌≡◌, ℕ, zero, suc, ◌^◌, ◌<◌, ◌≤◌, ◌⊎◌, List, [], ◌∷◌, length, slice_index_or}
+use Rattle.std.specs.Prelude.{◌≡◌, ℕ, zero, suc, ◌^◌, ◌<◌, ◌≤◌, ◌⊎◌, List, [], ◌∷◌, None, length, slice_index_or}
 use Rattle.slotted_slots.specs.Table.{slot_limit}
 use Rattle.slotted_slots.specs.Table.{Table}
-use Rattle.slotted_theory.specs.Nameless.{DArgs, DTerm, stop, place, sub, scope}
+use Rattle.slotted_theory.specs.Nameless.{DArgs, DTerm, nameless, stop, place, sub, scope}
 use Rattle.slotted_theory.specs.Term.{Term, term_size}
 use Rattle.slotted_nodes.specs.Form.{Form}
+use Rattle.slotted_languages.specs.NodeTerm.{nameless_node}
 use Rattle.slotted_model.specs.Applied.{Applied}
 use Rattle.slotted_model.specs.Classes.{canonical_node, canonical_slots}
+use Rattle.slotted_model.specs.Ids.{id_of, id_of_node}
 pub use Rattle.slotted_proofs.specs.Equations.{HaveManyNames, HasManyNames}
 pub use Rattle.slotted_congruence.specs.Named.{SidesRunOut, IsWideClass, IsWideNode}
 use Rattle.slotted_core.specs.Canonical.{place_count}
 use Rattle.slotted_core.specs.Graph.{Graph, RunsOutIn, RunsOutForNode, RunsOutForTerm}
 use Rattle.slotted_core.specs.Image.{Image}
+use Rattle.slotted_core.specs.Places.{term_places}
 
 -- the class has so many slots that two ids of it have too many names
 abbrev pub IsLargeClass : List DTerm → ℕ → Type 0
@@ -76,6 +79,14 @@ HasLargeClassOrNode g f = HasLargeClassIn g ⊎ IsWideNode f
 -- or the term is so large that a node of it may have such a class
 abbrev pub HasLargeClassOrTerm : Image → Term → Type 0
 HasLargeClassOrTerm g t = HasLargeClassIn g ⊎ (2 ^ 29 ≤ term_size t)
+
+-- by canonical nodes there is no class of the node, or no id of the term, or there are too many places to be numbered
+
+abbrev pub IsUnknownNode : List DTerm → Form → Type 0
+IsUnknownNode nodes f = (id_of_node nodes (nameless_node f) ≡ None) ⊎ (slot_limit ≤ length f.names)
+
+abbrev pub IsUnknownTerm : Image → Term → Type 0
+IsUnknownTerm g t = (id_of g.canonical (nameless t) ≡ None) ⊎ (slot_limit ≤ term_places t)
 
 -- no slots are left for a class of the node, or a class is too large to be rebuilt
 abbrev pub CanRunOutForNode : Image → Form → Table → Table → Type 0

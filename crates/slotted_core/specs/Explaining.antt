@@ -1,23 +1,26 @@
 -- What an explanation of two terms leaves.
 --     AddsTerms g h       terms were added, and perhaps entries that assert nothing
 --     HasIds g t u a b    the two terms are looked up as these ids
+--     IsIdOfEither        an id of a subterm of one of the two terms
+--     FilesOnlyTerms      each new class is that of such an id
+--     KeepsClasses g h    the graphs have one table, the same classes and the same filed nodes
 --     Explains g t u p    the entry p says that the two terms are equal
 --     FindsApart g t u    their ids do not find alike
 --     RunsOutForTerms     slots ran out
-use Rattle.std.specs.Prelude.{◌≡◌, ◌<◌, ◌≤◌, ◌+◌, ◌^◌, ℕ, Option, Some, None, length}
+use Rattle.std.specs.Prelude.{◌≡◌, ◌<◌, ◌≤◌, ◌+◌, ◌⊎◌, ◌^◌, ℕ, List, Option, Some, None, IsSome, length}
 use Rattle.slotted_slots.specs.Table.{Table, slot_limit}
 use Rattle.slotted_theory.specs.Term.{Term, term_size}
-use Rattle.slotted_theory.specs.Nameless.{nameless}
+use Rattle.slotted_theory.specs.Nameless.{DTerm, nameless}
 use Rattle.slotted_model.specs.Applied.{Applied}
 use Rattle.slotted_model.specs.Growth.{Extends}
 use Rattle.slotted_model.specs.Ids.{id_of}
 use Rattle.slotted_model.specs.ProofList.{equation_of, equation_at}
-use Rattle.slotted_store.specs.Kept.{Kept}
+use Rattle.slotted_store.specs.Kept.{Kept, nodes_of}
 use Rattle.slotted_filing.specs.FiledRows.{Rows}
 use Rattle.slotted_core.specs.Causes.{HasLargeClassIn, HasLargeClassOf}
 use Rattle.slotted_core.specs.Good.{Good, RestsWith, HasFreshSlots, image_of}
-use Rattle.slotted_core.specs.Graph.{RunsOut}
-use Rattle.slotted_core.specs.Image.{Image, AddsClasses, FoundAlike}
+use Rattle.slotted_core.specs.Graph.{Graph, RunsOut, id_of_term}
+use Rattle.slotted_core.specs.Image.{Image, AddsClasses, FoundAlike, IsIdOfSubterm, NewClassesAre}
 use Rattle.slotted_core.specs.Places.{term_places, term_slots}
 
 -- classes are added, and nothing is asserted
@@ -29,6 +32,23 @@ pub record AddsTerms (g h : Image) : Type 0 where
 pub record HasIds (g : Image) (t u : Term) (a b : Applied) : Type 0 where
   pub left : id_of g.canonical (nameless t) ≡ Some a
   pub right : id_of g.canonical (nameless u) ≡ Some b
+
+-- what a subterm of one of the two terms is looked up as
+abbrev pub IsIdOfEither : List DTerm → Term → Term → Applied → Type 0
+IsIdOfEither nodes t u a = IsIdOfSubterm nodes t a ⊎ IsIdOfSubterm nodes u a
+
+-- each new class is that of such an id
+abbrev pub FilesOnlyTerms : Graph → Graph → Term → Term → Type 0
+FilesOnlyTerms g h t u = NewClassesAre g.image.canonical h.image.canonical (IsIdOfEither h.image.canonical t u)
+
+pub record KeepsClasses (g h : Graph) : Type 0 where
+  pub table : h.table ≡ g.table
+  pub canonical : h.image.canonical ≡ g.image.canonical
+  pub filed : h.filed ≡ g.filed
+
+-- where both terms have ids, entries of the proof list are all that is new
+abbrev pub KeepsKnown : Graph → Graph → Term → Term → Type 0
+KeepsKnown g h t u = IsSome (id_of_term g t) → IsSome (id_of_term g u) → KeepsClasses g h
 
 -- the two ids find alike, and the entry p has their equation
 pub record Explains (g : Image) (t u : Term) (p : ℕ) : Type 0 where
@@ -52,18 +72,24 @@ Answers g t u (Some p) = Explains g t u p
 Answers g t u None = FindsApart g t u
 
 -- what is kept has ids for both terms, and answers whether they find alike, by an entry where they do
-pub record ExplainsTerms (new : Table) (k : Kept) (r : Rows) (l : Kept) (q : Rows) (t u : Term) (answer : Option ℕ) : Type 0 where
+pub record ExplainsTerms (old new : Table) (k : Kept) (r : Rows) (l : Kept) (q : Rows) (t u : Term) (answer : Option ℕ) : Type 0 where
   pub good : Good l
   pub rests : RestsWith l q
   pub fresh_slots : HasFreshSlots new l
   pub adds : AddsTerms (image_of k) (image_of l)
+  pub filed : NewClassesAre (nodes_of k) (nodes_of l) (IsIdOfEither (nodes_of l) t u)
+  pub kept : IsSome (id_of (nodes_of k) (nameless t)) → IsSome (id_of (nodes_of k) (nameless u)) → (nodes_of l ≡ nodes_of k) × (q ≡ r) × (new ≡ old)
   pub answers : Answers (image_of l) t u answer
 
--- slots ran out for the classes of the terms, a term has too many places to be numbered, a class of the graph or of a term is too large to
+-- one of the terms has no id
+abbrev pub LacksId : Image → Term → Term → Type 0
+LacksId g t u = (id_of g.canonical (nameless t) ≡ None) ⊎ (id_of g.canonical (nameless u) ≡ None)
+
+-- slots ran out for the classes of the terms, one of which has no id, a term has too many places to be numbered, a class of the graph or of a term is too large to
 -- be rebuilt, or the ids of the terms find alike in the graph to which they were added, and of the classes that find the same one has so many
 -- slots that two ids of it have too many names
 pub data RunsOutForTerms (g : Image) (t u : Term) (old new : Table) : Type 0 where
-  no_slots : RunsOut (term_slots t + term_slots u) old new → RunsOutForTerms g t u old new
+  no_slots : RunsOut (term_slots t + term_slots u) old new → LacksId g t u → RunsOutForTerms g t u old new
   large_left : slot_limit ≤ term_places t → RunsOutForTerms g t u old new
   large_right : slot_limit ≤ term_places u → RunsOutForTerms g t u old new
   large_graph : HasLargeClassIn g → RunsOutForTerms g t u old new

@@ -40,7 +40,7 @@ use Rattle.slotted_core.specs.Causes.{HasLargeClassIn, HasLargeClassOrNode, HasL
 use Rattle.slotted_core.specs.Graph.{IsFreshBetween, HasNewClass, MakesAtMost}
 use Rattle.slotted_core.specs.Image.{Image, AddsClasses, NewClassesAre, IsIdOfNode, IsIdOfSubterm, IsUnion, RecordsFilled}
 use Rattle.slotted_core.specs.Nodes.{child_ids}
-use Rattle.slotted_core.specs.Subterms.{IsSubterm}
+use Rattle.slotted_core.specs.Subterms.{IsSubterm, IsTopIn}
 
 -- what the classes from the number i on find: a live class, and their own slot for each slot of that
 abbrev pub finds_from : List Entry → ℕ → List Entry → List Applied
@@ -191,13 +191,15 @@ pub record AddsTerm (old new : Table) (k : Kept) (r : Rows) (l : Kept) (q : Rows
 abbrev pub IsFoundIn : Table → Kept → Applied → Type 0
 IsFoundIn t k a = IsFindable k a × AllKnown t (values a.1)
 
--- a node whose children find is added to what is kept: by look-up, with known names, and of no more places and no larger than the term w
+-- a node at the top of a subterm of w, whose children find, is added to what is kept: by look-up, with known names, and of no more places and
+-- no larger than w
 pub record AddsNodeIn (w : Term) (t : Table) (k : Kept) (r : Rows) (u : Table) (l : Kept) (q : Rows) : Type 0 where
   pub node : Form
   pub fits : Fits node
   pub children : All (IsFoundIn t k) (child_ids node)
   pub known : AllKnown t node.names
   pub small : IsOfTerm w node
+  pub top : IsTopIn (look_up_node (state_in k r)) w node
   pub answer : Applied
   pub added : AddsFound t u k r l q node answer
   pub more : KnowsMore t u
@@ -230,7 +232,8 @@ pub record TakesForTermIn (w : Term) (t : Table) (k : Kept) (r : Rows) (v : Tabl
   pub kept : Kept
   pub rows : Rows
   pub nodes : AddsNodesIn w t k r count between kept rows
-  pub last : (v ≡ between) ⊎ ((f : Form) × All (IsFoundIn between kept) (child_ids f) × AllKnown between f.names × Fits f × IsOfTerm w f × MakesAtMost (slots_needed (image_of kept) f) between v)
+  pub last : (v ≡ between) ⊎ ((f : Form) × All (IsFoundIn between kept) (child_ids f) × AllKnown between f.names × Fits f × IsOfTerm w f
+      × MakesAtMost (slots_needed (image_of kept) f) between v × IsTopIn (look_up_node (state_in kept rows)) w f)
 
 -- slots ran out for a node that is looked up as a subterm is, after others were added
 pub record LacksForTermIn (w : Term) (t : Table) (k : Kept) (r : Rows) (v : Table) : Type 0 where
@@ -246,9 +249,8 @@ pub record LacksForTermIn (w : Term) (t : Table) (k : Kept) (r : Rows) (v : Tabl
   pub known : AllKnown between node.names
   pub small : IsOfTerm w node
   pub cause : RunsOutForUnknownIn between v kept rows node
-  pub subterm : Term
-  pub stands : IsSubterm subterm w
-  pub same : look_up_tree (state_in kept rows) (nameless subterm) ≡ look_up_node (state_in kept rows) (nameless_node node)
+  pub top : IsTopIn (look_up_node (state_in kept rows)) w node
+  pub same : look_up_tree (state_in kept rows) (nameless top.subterm) ≡ look_up_node (state_in kept rows) (nameless_node node)
 
 -- what a union of a and b answers, and what it leaves, where the text says why
 pub record Unites (k l : Kept) (q : Rows) (a b : Applied) (text : Option (List ℕ)) (y : Bool) : Type 0 where

@@ -5,7 +5,7 @@ ghost use Rattle.slotted_slots.specs.Table.{KnowsMore};
 ghost use Rattle.slotted_model.specs.Classes.{IsFull};
 ghost use Rattle.slotted_proofs.specs.Equations.{to_applied};
 ghost use Rattle.slotted_terms.specs.Valid.{IsWhole};
-ghost use Rattle.slotted_core.specs.Causes.{CanRunOutForNode, CanRunOutForTerm};
+ghost use Rattle.slotted_core.specs.Causes.{CanRunOutForNode, CanRunOutForTerm, IsUnknownNode, IsUnknownTerm};
 ghost use Rattle.slotted_core.specs.Graph.{MakesAtMost, RunsOutForNode};
 ghost use Rattle.slotted_core.specs.Good.{Good, RestsWith, HasFreshSlots, IsFullOver, IsIdOver, IsNodeOver};
 ghost use Rattle.slotted_core.specs.Good.{Makes, Adds, AddsTerm, image_of};
@@ -112,6 +112,7 @@ fn made<L: Language>(
     ensures more { KnowsMore table.old table.new }
     ensures takes { MakesAtMost (length (L.form node.now).names) table.old table.new }
     ensures full { IsErrOf result Error.OutOfSlots → RunsOutForNode (L.form node.now) table.old table.new }
+    ensures unknown { IsErrOf result Error.OutOfSlots → IsUnknownNode (nodes_of store.old) (L.form node.now) }
     ensures err { IfErr result IsShortage }
 {
     let (shape, names) = node.weak_shape(alloc)?;
@@ -145,6 +146,7 @@ pub fn add_syn<L: Language>(
     ensures more { KnowsMore table.old table.new }
     ensures takes { MakesAtMost (length (L.form node.now).names) table.old table.new }
     ensures full { IsErrOf result Error.OutOfSlots → CanRunOutForNode (image_of store.old) (L.form node.now) table.old table.new }
+    ensures unknown { IsErrOf result Error.OutOfSlots → IsUnknownNode (nodes_of store.old) (L.form node.now) }
     ensures err { IfErr result IsShortage }
 {
     let answer = made(store, alloc, table, node)?;
@@ -171,6 +173,7 @@ pub fn add_syn_expr<L: Language>(
     ensures more { KnowsMore table.old table.new }
     ensures takes { MakesAtMost (term_slots term.now) table.old table.new }
     ensures full { IsErrOf result Error.OutOfSlots → CanRunOutForTerm (image_of store.old) term.now table.old table.new }
+    ensures unknown { IsErrOf result Error.OutOfSlots → IsUnknownTerm (image_of store.old) term.now }
     ensures err { IfErr result IsShortage }
 {
     let mut node = term.node.copy(alloc)?;

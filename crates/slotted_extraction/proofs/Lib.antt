@@ -11,3 +11,4 @@ pub mod RowsOfNodes
 pub mod MadeTerms
 pub mod ExtractedTerms
 pub mod LeastTables
+pub mod EntryForms

@@ -4,11 +4,9 @@ use Rattle.std.specs.Prelude.{IsTrue}
 use Rattle.std.proofs.lemmas.List.Elements.{All-append, All-nil}
 use Rattle.slotted_theory.specs.Nameless.{DArgs, DTerm, lift, moved_args, place, scope, stop, sub}
 use Rattle.slotted_slots.specs.Table.{KnowsMore, Table, is_known, slot_limit}
-use Rattle.slotted_slots.proofs.SlotsTaken.{fresh_goes_on, lacks_known}
 use Rattle.slotted_nodes.specs.Form.{Form}
 use Rattle.slotted_languages.specs.Children.{binders}
 use Rattle.slotted_languages.specs.Fresh.{IsRenamedFresh}
-use Rattle.slotted_languages.specs.Fresh as fresh
 use Rattle.slotted_languages.specs.NewNames.{LacksPerBinder, LacksPerPlace, TakesPerBinder, TakesPerPlace}
 use Rattle.slotted_languages.specs.NodeTerm.{nameless_node}
 use Rattle.slotted_languages.specs.Shape.{Fits}
@@ -17,9 +15,8 @@ use Rattle.slotted_model.specs.Applied.{values}
 use Rattle.slotted_model.specs.Correspondence.{composite}
 use Rattle.slotted_store.proofs.NameMaps.{In-at, at_In}
 use Rattle.slotted_adding.specs.Enodes.{AllKnownTo}
-use Rattle.slotted_adding.specs.Filling.{RunsOut}
 use Rattle.slotted_reports.proofs.FiledNodes.{name-of}
-use Rattle.slotted_reports.proofs.FreshNodes.{made-beside, none-unknown}
+use Rattle.slotted_reports.proofs.FreshNodes.{lacked-beside, made-beside, runs_out-more}
 use Rattle.slotted_core.specs.Canonical.{args_count}
 use Rattle.slotted_core.proofs.CanonicalTerms.{places-counted}
 use Rattle.slotted_extraction.specs.Frames.{RunsOutForKey}
@@ -42,26 +39,6 @@ count-moved ρ (scope inner rest) = λ i. 1 + count-moved (lift ρ) inner i + co
 pub renamed-places : (t : Table) (m : List (ℕ × ℕ)) (f g : Form) → Fits f → Fits g → IsRenamedFresh t m f g → length g.names ≡ length f.names
 renamed-places t m f g fits_f fits_g is =
     sym (places-counted g fits_g) ∙ (ap (λ (d : DTerm). args_count d.args) is.renamed ∙ (count-moved is.by (nameless_node f).args ∙ places-counted f fits_f))
-
--- beside names that are known the counter tells what was made, and what was lacking
-
-lacked-beside : (t u : Table) (n : ℕ) (xs : List ℕ) → AllKnownTo t xs → KnowsMore t u → fresh.RunsOut n xs t u → RunsOut n t u
-lacked-beside t u n xs known more out =
-    let fits : t.fresh ≤ slot_limit = subst (λ k. t.fresh ≤ k) out.0 (fresh_goes_on t u more) in
-    record { lacks = lacks_known n xs t (none-unknown t xs known) fits out.1; used = out.0 }
-
-pub runs_out-more : (n m : ℕ) (t u : Table) → n ≤ m → RunsOut n t u → RunsOut m t u
-runs_out-more n m t u le out = record { lacks = further slot_limit out.lacks; used = out.used }
-  where
-    further : (limit : ℕ) → limit < t.fresh + n → limit < t.fresh + m
-    further limit lacks = omega (arith, le, lacks)
-
--- what runs out later ran out from before, with what was made between
-pub runs_out-after : (n m : ℕ) (t u v : Table) → u.fresh + n ≤ t.fresh + m → RunsOut n u v → RunsOut m t v
-runs_out-after n m t u v made out = record { lacks = further slot_limit out.lacks; used = out.used }
-  where
-    further : (limit : ℕ) → limit < u.fresh + n → limit < t.fresh + m
-    further limit lacks = omega (arith, made, lacks)
 
 -- a key that is renamed by m
 module _ (t u : Table) (m : List (ℕ × ℕ)) (key b : Form) (own : AllKnownTo t key.names) (handed : AllKnownTo t (values m)) (more : KnowsMore t u) where

@@ -12,7 +12,7 @@ use Rattle.slotted_extraction.specs.declared.extracting.Frame.{Frame}
 use Rattle.slotted_extraction.specs.declared.extracting.Stack.{Stack}
 use Rattle.slotted_extraction.specs.Terms.{IsOrdered, RunsOutWith, entry_at, slots_at, slots_of}
 use Rattle.slotted_extraction.specs.Frames.{IsFrameFor, MakesLeft, RunsOutLeft, made_count, next_child, rest_from, slots_left}
-use Rattle.slotted_extraction.proofs.Names.{runs_out-more}
+use Rattle.slotted_reports.proofs.FreshNodes.{runs_out-more}
 use Rattle.slotted_extraction.proofs.Work.{next-slots}
 
 pub next-is : {L : Type 0} (form : L → Form) (f : Frame L) → made_count f < length (children (form f.node).tree) → (k : ℕ) → k ≡ made_count f → (a : Applied) → a.0 ≡ child_id (form f.node) k →

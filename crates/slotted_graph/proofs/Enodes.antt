@@ -3,13 +3,14 @@ use Rattle.std.proofs.Common.{◌≡◌, ◌≤◌, ◌<◌, ◌+◌, ◌∙◌,
 use Rattle.std.specs.Prelude.{All, Bool, Contains, IsTrue, is_some, nat_eq, ◌&&◌}
 use Rattle.std.specs.List.{filter, range_with_len, sum_by}
 use Rattle.std.specs.List.Sorted.{IsPermutation}
+use Rattle.std.proofs.lemmas.Bool.{cases_lt}
 use Rattle.std.proofs.lemmas.List.{length-map}
 use Rattle.std.proofs.lemmas.List.Elements.{All-contains}
 use Rattle.std.proofs.lemmas.List.Sorted.{IsPermutation-refl, length_permutation, sum_by-IsPermutation}
 use Rattle.std.proofs.lemmas.List.Sums.{sum_by-cons}
 use Rattle.slotted_theory.specs.Nameless.{DTerm}
 use Rattle.slotted_theory.specs.Shape as theory
-use Rattle.slotted_slots.specs.Table.{Table, is_known}
+use Rattle.slotted_slots.specs.Table.{Table, is_known, slot_limit}
 use Rattle.slotted_slots.proofs.TableLaws.{is_known-numeric_slot}
 use Rattle.slotted_nodes.specs.Form.{Form, IsSmall}
 use Rattle.slotted_languages.specs.NodeTerm.{nameless_node}
@@ -23,16 +24,18 @@ use Rattle.slotted_store.specs.Finding.{IsFindable}
 use Rattle.slotted_store.specs.Kept.{Kept, entries_of}
 use Rattle.slotted_store.specs.ChildIds.{child_ids}
 use Rattle.slotted_store.proofs.ChildIds.{Each, Each-from_All}
+use Rattle.slotted_store.proofs.KeptLists.{length-nodes_of}
 use Rattle.slotted_store.proofs.NameMaps.{In-at}
 use Rattle.slotted_filing.specs.Filed.{filed_of}
 use Rattle.slotted_filing.specs.FiledRows.{IsFiled, Rows, row_of_entry, rows_in}
 use Rattle.slotted_filing.proofs.FiledRows.{row-filed}
-use Rattle.slotted_adding.specs.Enodes.{HasNamesOrNumbers, IsLookedUpAs}
+use Rattle.slotted_adding.specs.Enodes.{HasNamesOrNumbers, IsLargeKeyOf, IsLookedUpAs}
 use Rattle.slotted_adding.specs.Reports.{class_sources, is_source}
-use Rattle.slotted_adding.proofs.AppliedNodes.{filed-key}
-use Rattle.slotted_reports.specs.Nodes.{HasLargeKey, IsAppliedNode, IsClassNode, RunsOutForKeys, TakesForKeys, key_at, key_in, key_of, places_at}
+use Rattle.slotted_adding.proofs.AppliedNodes.{filed-in_nodes, filed-key}
+use Rattle.slotted_reports.specs.Nodes.{HasLargeKey, HasLargeKeyOf, IsAppliedNode, IsClassNode, RunsOutForClasses, RunsOutForKeys, TakesForClasses, TakesForKeys, key_at, key_in, key_of, places_at, slots_of_class}
 use Rattle.slotted_reports.proofs.FiledShapes.{passes, shape_at, shapes_in, shapes-permuted, sources-permuted}
-use Rattle.slotted_reports.proofs.Sources.{dead-none, each-filed}
+use Rattle.slotted_reports.proofs.FreshNodes.{runs_out-after, runs_out-more, sum-range}
+use Rattle.slotted_reports.proofs.Sources.{dead-none, each-filed, each-finds}
 use Rattle.slotted_core.specs.Canonical.{place_count}
 use Rattle.slotted_core.specs.Causes.{class_found}
 use Rattle.slotted_core.specs.Good.{Good, RestsWith, image_of}
@@ -44,7 +47,7 @@ use Rattle.slotted_core.proofs.Images.{class_found-is, found_id-is}
 use Rattle.slotted_core.proofs.LookUps.{looked_up-is}
 use Rattle.slotted_core.proofs.ValidIds.{findable-children, findable-within, node-children_valid}
 use Rattle.slotted_extraction.proofs.Names.{count-moved}
-use Rattle.slotted_graph.specs.FiledNodes.{CanRunOutForEnodes, HasEachNode, HasLargeRow, IsEnode, shapes_found, slots_for_enodes}
+use Rattle.slotted_graph.specs.FiledNodes.{CanRunOutForDump, CanRunOutForEnodes, HasEachNode, HasLargeRow, HasLargeRowOf, IsEnode, shapes_found, slots_for_dump, slots_for_enodes}
 
 -- tests that agree on a range let the same numbers through
 filter-agrees : (f g : ℕ → Bool) (s n : ℕ) → ((i : ℕ) → s ≤ i → i < s + n → f i ≡ g i) → filter f (range_with_len s n) ≡ filter g (range_with_len s n)
@@ -132,26 +135,86 @@ module _ (k : Kept) (r : Rows) (good : Good k) (rests : RestsWith k r) where
         ap (λ x. place_count (theory.shape (nameless_node (key_of x)))) h.1
         ∙ (places-of_shape h.0.0 (filed-key k r rests.filed o h.0.0 h.0.1 h.1).fits ∙ sym (ap (λ x. length (key_of x).names) h.1))
 
-    pub takes-found : (t u : Table) → TakesForKeys r (class_sources k r c) t u → u.fresh ≤ t.fresh + slots_for_enodes g c
-    takes-found t u takes =
+    slots-are : slots_of_class k r c ≡ slots_for_enodes g c
+    slots-are =
         let os = class_sources k r c in
         let all : All (λ o. place_count (shape_at r.filed o) ≡ places_at r.filed o) os = λ j d l. place-count _ (each-filed k r rests.filed (c, []) j d l) in
         let one : sum_by place_count (map (shape_at r.filed) os) ≡ sum_by (places_at r.filed) os =
         sum-mapped place_count (shape_at r.filed) (places_at r.filed) os (Each-from_All (λ o. place_count (shape_at r.filed o) ≡ places_at r.filed o) os all) in
         let same = sources-permuted (P c) r.filed os (subst (λ xs. IsPermutation xs os) (tests c) (IsPermutation-refl os)) in
         let two : sum_by place_count (map (shape_at r.filed) os) ≡ sum_by place_count (shapes_in (P c) (rows_in r.filed)) = sum_by-IsPermutation place_count _ _ same in
-        omega (arith, takes, one, two, ap (sum_by place_count) found-are)
+        omega (arith, one, two, ap (sum_by place_count) found-are)
+
+    pub takes-found : (t u : Table) → TakesForKeys r (class_sources k r c) t u → u.fresh ≤ t.fresh + slots_for_enodes g c
+    takes-found t u takes = omega (arith, takes, slots-are)
 
   -- why slots run out
+  filed-large : (g : Graph) → rows_in r.filed ≡ g.filed → (o : ℕ) → IsLargeKeyOf r o → (x : Row) × Contains g.filed x × (x.source ≡ o) × (slot_limit ≤ place_count x.shape)
+  filed-large g filed o large =
+      let f = large.0 in
+      let m = large.1.0 in
+      let row : Row = row_of_entry (f, (o, m)) in
+      let fits : Fits f = (filed-key k r rests.filed o f m large.1.1).fits in
+      (row, subst (λ rs. Contains rs row) filed (row-filed r.filed o f m large.1.1), refl, omega (arith, large.2, places-of_shape f fits))
+
   pub large-row : (g : Graph) → rows_in r.filed ≡ g.filed → HasLargeKey r → HasLargeRow g
   large-row g filed x =
-      let o = x.0 in
-      let f = x.1 in
-      let m = x.2.0 in
-      let row : Row = row_of_entry (f, (o, m)) in
-      let fits : Fits f = (filed-key k r rests.filed o f m x.2.1).fits in
-      (row, subst (λ rs. Contains rs row) filed (row-filed r.filed o f m x.2.1), omega (arith, x.3, places-of_shape f fits))
+      let row = filed-large g filed x.0 x.1 in
+      (row.0, row.1, row.3)
 
-  pub runs-out : (g : Graph) (u : Table) → rows_in r.filed ≡ g.filed → RunsOutForKeys r u → CanRunOutForEnodes g u
-  runs-out g u filed (inl e) = inl e
-  runs-out g u filed (inr x) = inr (large-row g filed x)
+  pub large-of_class : (g : Graph) → image_of k ≡ g.image → rows_in r.filed ≡ g.filed → (c : ℕ) → HasLargeKeyOf r (class_sources k r c) → HasLargeRowOf g c
+  large-of_class g image filed c x =
+      let row = filed-large g filed x.0 x.2 in
+      let finds : find_class (entries_of k) x.0 ≡ c = All-contains (λ o. find_class (entries_of k) o ≡ c) (class_sources k r c) x.0 (each-finds k r rests.filed (c, [])) x.1 in
+      let within : x.0 < length k.classes = subst (λ n. x.0 < n) (length-nodes_of k) (filed-in_nodes k r rests.filed x.0 x.2.0 x.2.1.0 x.2.1.1) in
+      let found : class_found g.image x.0 ≡ c = ap (λ (i : Image). class_found i x.0) (sym image) ∙ (class_found-is k x.0 within ∙ finds) in
+      (row.0, row.1, ap (class_found g.image) row.2 ∙ found, row.3)
+
+  pub runs-out_of : (g : Graph) (u : Table) → image_of k ≡ g.image → rows_in r.filed ≡ g.filed → (c : ℕ) → RunsOutForKeys r (class_sources k r c) g.table u → CanRunOutForEnodes g c u
+  runs-out_of g u image filed c (inl out) = inl (runs_out-more (slots_of_class k r c) (slots_for_enodes g c) g.table u (omega (arith, slots-are g image filed c)) out)
+  runs-out_of g u image filed c (inr x) = inr (large-of_class g image filed c x)
+
+  -- of all classes together
+  module _ (g : Graph) (image : image_of k ≡ g.image) (filed : rows_in r.filed ≡ g.filed) where
+    dump-slots : sum_by (slots_of_class k r) (range_with_len 0 (length k.classes)) ≡ slots_for_dump g
+    dump-slots =
+        let classes : length k.classes ≡ length g.image.canonical = sym (length-nodes_of k) ∙ ap (λ (i : Image). length i.canonical) image in
+        λ j. sum_by (λ c. slots-are g image filed c j) (range_with_len 0 (classes j))
+
+    pub dump-takes : (t u : Table) → TakesForClasses k r (range_with_len 0 (length k.classes)) t u → u.fresh ≤ t.fresh + slots_for_dump g
+    dump-takes t u takes = omega (arith, takes, dump-slots)
+
+    pub dump-runs_out : (u : Table) → RunsOutForClasses k r (range_with_len 0 (length k.classes)) g.table u → CanRunOutForDump g u
+    dump-runs_out u (inl out) = inl (runs_out-more _ (slots_for_dump g) g.table u (omega (arith, dump-slots)) out)
+    dump-runs_out u (inr x) = inr (large-row g filed x)
+
+-- the classes of a dump, one after another
+
+range-next : (f : ℕ → ℕ) (c : ℕ) → sum_by f (range_with_len 0 (c + 1)) ≡ sum_by f (range_with_len 0 c) + f c
+range-next f c =
+    let one : c + 1 ≡ suc c = omega arith in
+    let here : 0 + c ≡ c = omega arith in
+    omega (arith, ap (λ m. sum_by f (range_with_len 0 m)) one, sum-range f 0 c, ap f here)
+
+pub takes-next : (k : Kept) (r : Rows) (s t u : Table) (c : ℕ) → TakesForClasses k r (range_with_len 0 c) s t → TakesForKeys r (class_sources k r c) t u → TakesForClasses k r (range_with_len 0 (c + 1)) s u
+takes-next k r s t u c so_far here = omega (arith, so_far, here, range-next (slots_of_class k r) c)
+
+-- some of the classes take no more than all
+range-within : (f : ℕ → ℕ) (c n : ℕ) → c ≤ n → sum_by f (range_with_len 0 c) ≤ sum_by f (range_with_len 0 n)
+range-within f c zero le = omega (arith, ap (λ m. sum_by f (range_with_len 0 m)) (none c le))
+  where
+    none : (c : ℕ) → c ≤ 0 → c ≡ 0
+    none c le = omega (arith, le)
+range-within f c (suc n) le = elim (cases_lt c (suc n)) [
+  | inl l ↦ omega (arith, range-within f c n (omega (arith, l)), sum-range f 0 n)
+  | inr h ↦ let same : c ≡ suc n = omega (arith, le, h) in omega (arith, ap (λ m. sum_by f (range_with_len 0 m)) same)
+]
+
+pub takes-of_all : (k : Kept) (r : Rows) (s t : Table) (c n : ℕ) → c ≤ n → TakesForClasses k r (range_with_len 0 c) s t → TakesForClasses k r (range_with_len 0 n) s t
+takes-of_all k r s t c n le takes = omega (arith, takes, range-within (slots_of_class k r) c n le)
+
+pub runs_out-next : (k : Kept) (r : Rows) (s t u : Table) (c n : ℕ) → c < n → TakesForClasses k r (range_with_len 0 c) s t → RunsOutForKeys r (class_sources k r c) t u → RunsOutForClasses k r (range_with_len 0 n) s u
+runs_out-next k r s t u c n lt so_far (inl out) =
+    inl (runs_out-after (slots_of_class k r c) (sum_by (slots_of_class k r) (range_with_len 0 n)) s t u
+    (omega (arith, so_far, range-next (slots_of_class k r) c, range-within (slots_of_class k r) (c + 1) n (omega (arith, lt)))) out)
+runs_out-next k r s t u c n lt so_far (inr h) = inr (h.0, h.2)

@@ -7,11 +7,14 @@
 --     HasOwnNames g c f                each name in the node is a slot that the class c has left, or numeric
 --     slots_for_enodes g c             two for each place of these nodes
 --     HasLargeRow g                    a filed node has too many places to be numbered
+--     HasLargeRowOf g c                one of those whose class finds c has
 --     HasFreshNames t vs f             the table t knew no binder's name of f, and no free name but those of vs
---     CanRunOutForEnodes g u           why slots can run out where they are given out, which leaves the table u
+--     CanRunOutForEnodes g c u         fewer fresh slots were left than these, and none is in u, or one of these nodes has too many places
+--     slots_for_dump g                 two for each place of all filed nodes, class by class
+--     CanRunOutForDump g u             the same of all
 pub use Rattle.slotted_reports.specs.Nodes.{HasFreshNames}
-use Rattle.std.specs.Prelude.{◌≡◌, ◌≤◌, ◌*◌, ◌⊎◌, ℕ, List, [], Bool, Contains, Some, map, nat_eq}
-use Rattle.std.specs.List.{filter, sum_by}
+use Rattle.std.specs.Prelude.{◌≡◌, ◌≤◌, ◌*◌, ◌⊎◌, ℕ, List, [], Bool, Contains, Some, length, map, nat_eq}
+use Rattle.std.specs.List.{filter, range_with_len, sum_by}
 use Rattle.std.specs.List.Sorted.{IsPermutation}
 use Rattle.std.specs.declared.cmp.Ordering.{Ordering}
 use Rattle.slotted_theory.specs.Nameless.{DTerm}
@@ -25,7 +28,7 @@ use Rattle.slotted_store.specs.Names.{IsNumeric}
 use Rattle.slotted_reports.specs.Nodes.{Ascend, key_in}
 use Rattle.slotted_core.specs.Canonical.{place_count}
 use Rattle.slotted_core.specs.Causes.{class_found}
-use Rattle.slotted_core.specs.Graph.{Graph}
+use Rattle.slotted_core.specs.Graph.{Graph, RunsOut}
 use Rattle.slotted_core.specs.Image.{Image, found_id}
 use Rattle.slotted_core.specs.LookUp.{look_up}
 use Rattle.slotted_core.specs.Reports.{slots_used}
@@ -62,6 +65,14 @@ HasOwnNames g c f = (x : ℕ) → Contains f.names x → Contains (slots_used g 
 abbrev pub HasLargeRow : Graph → Type 0
 HasLargeRow g = (r : Row) × Contains g.filed r × (slot_limit ≤ place_count r.shape)
 
--- no fresh slot is left, or a filed node is too large
-abbrev pub CanRunOutForEnodes : Graph → Table → Type 0
-CanRunOutForEnodes g u = (u.fresh ≡ slot_limit) ⊎ HasLargeRow g
+abbrev pub HasLargeRowOf : Graph → ℕ → Type 0
+HasLargeRowOf g c = (r : Row) × Contains g.filed r × (class_found g.image r.source ≡ c) × (slot_limit ≤ place_count r.shape)
+
+abbrev pub CanRunOutForEnodes : Graph → ℕ → Table → Type 0
+CanRunOutForEnodes g c u = RunsOut (slots_for_enodes g c) g.table u ⊎ HasLargeRowOf g c
+
+abbrev pub slots_for_dump : Graph → ℕ
+slots_for_dump g = sum_by (slots_for_enodes g) (range_with_len 0 (length g.image.canonical))
+
+abbrev pub CanRunOutForDump : Graph → Table → Type 0
+CanRunOutForDump g u = RunsOut (slots_for_dump g) g.table u ⊎ HasLargeRow g

@@ -1,23 +1,24 @@
 -- A filed node with the names of an id and fresh ones beside them: it is looked up as what the id finds.
 use Rattle.std.proofs.Common.{◌≡◌, ◌≤◌, ◌<◌, ◌+◌, ◌*◌, ◌∙◌, ℕ, zero, suc, List, [], ◌∷◌, ◌++◌, None, Some, true, false, get_or, take, length, map, refl, ap, sym, subst, inl, inr, arith}
 use Rattle.std.specs.Prelude.{◌⊎◌, Contains, IsSome, IsTrue, Option, cond, not, slice_index}
-use Rattle.std.specs.List.{sum_by}
+use Rattle.std.specs.List.{range_with_len, sum_by}
 use Rattle.std.specs.List.Sorted.{IsPermutation}
 use Rattle.std.proofs.lemmas.List.{take_more}
-use Rattle.std.proofs.lemmas.List.Sorted.{sum_by-IsPermutation}
+use Rattle.std.proofs.lemmas.List.Sorted.{Contains-permutation, IsPermutation-sym, sum_by-IsPermutation}
 use Rattle.std.proofs.lemmas.List.Sums.{sum_by-cons}
 use Rattle.std.proofs.lemmas.Bool.{cases_Bool, false≢true}
-use Rattle.std.proofs.lemmas.List.Elements.{All-append, All-nil, All-push}
+use Rattle.std.proofs.lemmas.List.Elements.{All-append, All-nil, All-push, Contains-get_or}
 use Rattle.slotted_theory.specs.Nameless.{DTerm}
+use Rattle.slotted_theory.proofs.Lists.{Contains-nil, contains_cases, contains_head}
 use Rattle.slotted_theory.specs.Shape.{free_names}
 use Rattle.slotted_slots.specs.Maps as slots
 use Rattle.slotted_slots.specs.Maps.{is_among}
 use Rattle.slotted_slots.specs.Table.{KnowsMore, Table, TakesAtMost, is_known, slot_limit, unknown_names}
-use Rattle.slotted_slots.proofs.SlotsTaken.{at_most_known}
+use Rattle.slotted_slots.proofs.SlotsTaken.{at_most_known, fresh_goes_on, lacks_known}
 use Rattle.slotted_nodes.specs.Form.{Form, Tree, scope_end_of, scopes}
 use Rattle.slotted_languages.specs.Children.{binders}
-use Rattle.slotted_languages.specs.Fresh.{IsRenamedFresh}
-use Rattle.slotted_languages.specs.NewNames.{BindersAreUnknown, PutsIn, TakesPerBinder, TakesPerPlace}
+use Rattle.slotted_languages.specs.Fresh.{IsRenamedFresh, RunsOut as LacksFresh}
+use Rattle.slotted_languages.specs.NewNames.{BindersAreUnknown, LacksPerBinder, LacksPerPlace, PutsIn, TakesPerBinder, TakesPerPlace}
 use Rattle.slotted_languages.specs.NodeTerm.{free_names_of, nameless_node}
 use Rattle.slotted_languages.specs.Shape.{Fits, shape}
 use Rattle.slotted_languages.proofs.Counting.{binders_fit}
@@ -34,10 +35,11 @@ use Rattle.slotted_store.specs.Kept.{Kept, entries_of}
 use Rattle.slotted_filing.specs.Filed.{HasKey, filed_of}
 use Rattle.slotted_filing.specs.FiledRows.{Rows}
 use Rattle.slotted_rebuilding.specs.Filed.{IsWellFiled}
-use Rattle.slotted_adding.specs.Enodes.{AllKnownTo, IsMet, names_beside_of}
+use Rattle.slotted_adding.specs.Enodes.{AllKnownTo, IsLargeKeyOf, IsMet, names_beside_of}
+use Rattle.slotted_adding.specs.Filling.{RunsOut}
 use Rattle.slotted_adding.proofs.EnodeNames.{beside-key, beside-looked_up}
 use Rattle.slotted_adding.proofs.Reported.{In-among}
-use Rattle.slotted_reports.specs.Nodes.{AreAppliedNodes, IsAppliedNode, TakesForKeys, key_at, key_in, key_of, places_at}
+use Rattle.slotted_reports.specs.Nodes.{AreAppliedNodes, HasLargeKeyOf, IsAppliedNode, RunsOutForKeys, TakesForKeys, key_at, key_in, key_of, places_at}
 use Rattle.slotted_reports.proofs.FiledNodes.{among-in, filed-children, filed-names_known, filed-places, name-of, names-known, same-key}
 use Rattle.slotted_reports.proofs.Sorted.{mapped-more}
 
@@ -81,6 +83,26 @@ none-unknown t (x ∷ xs) h =
 pub made-beside : (t u : Table) (n : ℕ) (vs : List ℕ) (f : Form) → AllKnownTo t vs → AllKnownTo t f.names → TakesAtMost n (vs ++ f.names) t u → u.fresh ≤ t.fresh + n
 made-beside t u n vs f given own takes = at_most_known n (vs ++ f.names) t u (none-unknown t (vs ++ f.names) (All-append (λ s. IsTrue (is_known t s)) vs f.names given own)) takes
 
+-- beside names that are known the counter tells what was lacking
+
+pub lacked-beside : (t u : Table) (n : ℕ) (xs : List ℕ) → AllKnownTo t xs → KnowsMore t u → LacksFresh n xs t u → RunsOut n t u
+lacked-beside t u n xs known more out =
+    let fits : t.fresh ≤ slot_limit = subst (λ k. t.fresh ≤ k) out.0 (fresh_goes_on t u more) in
+    record { lacks = lacks_known n xs t (none-unknown t xs known) fits out.1; used = out.0 }
+
+pub runs_out-more : (n m : ℕ) (t u : Table) → n ≤ m → RunsOut n t u → RunsOut m t u
+runs_out-more n m t u le out = record { lacks = further slot_limit out.lacks; used = out.used }
+  where
+    further : (limit : ℕ) → limit < t.fresh + n → limit < t.fresh + m
+    further limit lacks = omega (arith, le, lacks)
+
+-- what runs out later ran out from before, with what was made between
+pub runs_out-after : (n m : ℕ) (t u v : Table) → u.fresh + n ≤ t.fresh + m → RunsOut n u v → RunsOut m t v
+runs_out-after n m t u v made out = record { lacks = further slot_limit out.lacks; used = out.used }
+  where
+    further : (limit : ℕ) → limit < u.fresh + n → limit < t.fresh + m
+    further limit lacks = omega (arith, made, lacks)
+
 -- a filed node with the names of an id, and with fresh binders then
 module _ (k : Kept) (r : Rows) (well : IsWellFiled k r) (o : ℕ) (f : Form) (m : List (ℕ × ℕ)) (at : filed_of r.filed o ≡ Some (f, m)) (quiet : ¬ Contains r.waiting o)
     (a : Applied) (valid : IsFindable k a) (meets : IsMet k o a) (t : Table) (known : AllKnownTo t (values a.1)) (w : List (ℕ × ℕ)) (beside : w ≡ names_beside_of k o m a) where
@@ -95,6 +117,15 @@ module _ (k : Kept) (r : Rows) (well : IsWellFiled k r) (o : ℕ) (f : Form) (m 
 
   pub renamed-takes : (u : Table) → TakesPerPlace w f t u → u.fresh ≤ t.fresh + length f.names
   renamed-takes u takes = made-beside t u (length f.names) (values w) f handed (filed-names_known k r well o f m at quiet t) takes
+
+  key-slots : length f.names ≤ sum_by (places_at r.filed) (o ∷ [])
+  key-slots = omega (arith, ap (λ e. length (key_of e).names) at, one-key (places_at r.filed) o)
+
+  pub renamed-lacks : (u : Table) → KnowsMore t u → LacksPerPlace w f t u → RunsOutForKeys r (o ∷ []) t u
+  renamed-lacks u more (inl large) = inr (o, contains_head o [], (f, (m, at), large))
+  renamed-lacks u more (inr out) =
+      let all = All-append (λ s. IsTrue (is_known t s)) (values w) f.names handed (filed-names_known k r well o f m at quiet t) in
+      inl (runs_out-more (length f.names) (2 * sum_by (places_at r.filed) (o ∷ [])) t u (omega (arith, key-slots)) (lacked-beside t u (length f.names) (values w ++ f.names) all more out))
 
   module _ (b : Form) (fits : Fits b) (is : IsRenamedFresh t w f b) where
     by : IsRenamedFresh t (names_beside_of k o m a) f b
@@ -113,6 +144,12 @@ module _ (k : Kept) (r : Rows) (well : IsWellFiled k r) (o : ℕ) (f : Form) (m 
       pub refreshed-takes : (v : Table) → TakesPerPlace w f t u → TakesPerBinder [] b u v → v.fresh ≤ t.fresh + 2 * length f.names
       refreshed-takes v one two =
           omega (arith, renamed-takes u one, made-beside u v (binders b) [] b (All-nil (λ s. IsTrue (is_known u s))) renamed-known two, binders_fit b, renamed-places)
+
+      pub refreshed-lacks : (v : Table) → KnowsMore u v → TakesPerPlace w f t u → LacksPerBinder [] b u v → RunsOutForKeys r (o ∷ []) t v
+      refreshed-lacks v later one (inl large) = inr (o, contains_head o [], (f, (m, at), omega (arith, large, renamed-places)))
+      refreshed-lacks v later one (inr out) =
+          inl (runs_out-after (binders b) (2 * sum_by (places_at r.filed) (o ∷ [])) t u v (omega (arith, renamed-takes u one, binders_fit b, renamed-places, key-slots))
+          (lacked-beside u v (binders b) b.names renamed-known later out))
 
       module _ (v : Table) (c : Form) (fits_c : Fits c) (same : nameless_node c ≡ nameless_node b) (more_c : KnowsMore u v) (puts_c : PutsIn v [] b c) (binders_c : BindersAreUnknown u b c) where
         is_c : IsRenamedFresh t w f c
@@ -190,3 +227,34 @@ takes-within r s t xs i so_far = omega (arith, so_far, sum-within (places_at r.f
 
 pub takes-ordered : (r : Rows) (s t : Table) (xs ys : List ℕ) → IsPermutation xs ys → TakesForKeys r ys s t → TakesForKeys r xs s t
 takes-ordered r s t xs ys same takes = omega (arith, takes, sum_by-IsPermutation (places_at r.filed) xs ys same)
+
+-- why slots run out: for one of the keys at hand
+
+pub one-large : (r : Rows) (o : ℕ) (xs : List ℕ) → Contains xs o → HasLargeKeyOf r (o ∷ []) → HasLargeKeyOf r xs
+one-large r o xs within h = elim (contains_cases o [] h.0 h.1) [
+  | inl e ↦ (o, within, subst (IsLargeKeyOf r) e h.2)
+  | inr n ↦ absurd (Contains-nil h.0 n)
+]
+
+pub runs_out-then : (r : Rows) (s t u : Table) (xs : List ℕ) (i : ℕ) → i < length xs → TakesForKeys r (take i xs) s t → RunsOutForKeys r (get_or xs i 0 ∷ []) t u → RunsOutForKeys r xs s u
+runs_out-then r s t u xs i lt so_far (inl out) =
+    let f = places_at r.filed in
+    let o = get_or xs i 0 in
+    let more : sum_by f (take (i + 1) xs) ≡ sum_by f (take i xs) + f o = ap (sum_by f) (take_more xs i 0 lt) ∙ sum-then f (take i xs) o in
+    inl (runs_out-after (2 * sum_by f (o ∷ [])) (2 * sum_by f xs) s t u (omega (arith, so_far, more, one-key f o, sum-within f (i + 1) xs)) out)
+runs_out-then r s t u xs i lt so_far (inr h) = inr (one-large r (get_or xs i 0) xs (Contains-get_or xs i 0 lt) h)
+
+pub runs_out-ordered : (r : Rows) (t u : Table) (xs ys : List ℕ) → IsPermutation xs ys → RunsOutForKeys r ys t u → RunsOutForKeys r xs t u
+runs_out-ordered r t u xs ys same (inl out) =
+    let f = places_at r.filed in
+    inl (runs_out-more (2 * sum_by f ys) (2 * sum_by f xs) t u (omega (arith, sum_by-IsPermutation f xs ys same)) out)
+runs_out-ordered r t u xs ys same (inr h) = inr (h.0, Contains-permutation ys xs h.0 (IsPermutation-sym xs ys same) h.1, h.2)
+
+-- one class after another
+pub sum-range : (f : ℕ → ℕ) (a n : ℕ) → sum_by f (range_with_len a (suc n)) ≡ sum_by f (range_with_len a n) + f (a + n)
+sum-range f a zero =
+    let here : a ≡ a + 0 = omega arith in
+    omega (arith, sum_by-cons f a [], ap f here)
+sum-range f a (suc n) =
+    let same : a + 1 + n ≡ a + suc n = omega arith in
+    omega (arith, sum_by-cons f a (range_with_len (a + 1) (suc n)), sum_by-cons f a (range_with_len (a + 1) n), sum-range f (a + 1) n, ap f same)

@@ -68,6 +68,10 @@ module _ (k : Kept) (r : Rows) (well : IsWellFiled k r) (a : Applied) where
   pub each-source : All (IsSourceOf k r a) (class_sources k r a.0)
   each-source = All-from_Each (IsSourceOf k r a) (class_sources k r a.0) (each-passes (IsSourceOf k r a) (is_source k r a.0) (range_with_len 0 (length r.filed)) one-source)
 
+  pub each-finds : All (λ o. find_class (entries_of k) o ≡ a.0) (class_sources k r a.0)
+  each-finds = All-from_Each (λ o. find_class (entries_of k) o ≡ a.0) (class_sources k r a.0) (each-passes (λ o. find_class (entries_of k) o ≡ a.0) (is_source k r a.0) (range_with_len 0 (length r.filed))
+      (λ o h. eqb-true (find_class (entries_of k) o) a.0 (second-of (is_some (filed_of r.filed o)) (nat_eq (find_class (entries_of k) o) a.0) h)))
+
   pub each-filed : All (IsFiled r.filed) (class_sources k r a.0)
   each-filed = λ j d h. (each-source j d h).0
 

@@ -14,16 +14,19 @@
 --     AreNodesOf form k r a ns  one for each source of the id's class
 --     places_at v o             how many places the key has that is filed of the class o
 --     TakesForKeys r os t u     from t to u two fresh slots are made at most for each place of the keys of the classes os
---     RunsOutForKeys r u        no fresh slot is left, or some filed key has too many places
-use Rattle.std.specs.Prelude.{◌≡◌, ◌⊎◌, ◌≤◌, ◌+◌, ◌*◌, ℕ, List, All, Option, None, Some, length, map, true, false}
+--     HasLargeKeyOf r os        the key of one of the classes os has too many places
+--     RunsOutForKeys r os t u   so many were not to be had from t on, and none is left in u, or the key of one of the classes os has too many places
+--     slots_of_class k r c      two for each place of the keys whose classes find the class c
+--     TakesForClasses, RunsOutForClasses     the same of the classes cs together
+use Rattle.std.specs.Prelude.{Contains, ◌≡◌, ◌⊎◌, ◌≤◌, ◌+◌, ◌*◌, ℕ, List, All, Option, None, Some, length, map, true, false}
 use Rattle.std.specs.List.{sum_by}
 use Rattle.std.specs.List.Sorted.{IsPermutation, IsSorted}
 use Rattle.std.specs.declared.cmp.Ordering.{Ordering}
 use Rattle.std.specs.Borrow.{Bor}
 use Rattle.slotted_slots.specs.Maps.{is_among}
-use Rattle.slotted_slots.specs.Table.{Table, is_known, slot_limit}
+use Rattle.slotted_slots.specs.Table.{Table, is_known}
 use Rattle.slotted_nodes.specs.Form.{Form, IsSmall}
-use Rattle.slotted_languages.specs.NewNames.{BindersAreUnknown, IsTooLarge}
+use Rattle.slotted_languages.specs.NewNames.{BindersAreUnknown}
 use Rattle.slotted_languages.specs.NodeTerm.{free_names_of}
 use Rattle.slotted_languages.specs.Shape.{shape}
 use Rattle.slotted_model.specs.Applied.{Applied, values}
@@ -32,7 +35,8 @@ use Rattle.slotted_store.specs.Finding.{IsFindable}
 use Rattle.slotted_store.specs.Kept.{Kept}
 use Rattle.slotted_filing.specs.Filed.{Filing, HasKey, filed_of, no_row}
 use Rattle.slotted_filing.specs.FiledRows.{IsFiled, Rows}
-use Rattle.slotted_adding.specs.Enodes.{AllKnownTo, HasNamesOrNumbers, IsLookedUpAs, IsMet}
+use Rattle.slotted_adding.specs.Enodes.{AllKnownTo, HasNamesOrNumbers, IsLargeKeyOf, IsLookedUpAs, IsMet}
+use Rattle.slotted_adding.specs.Filling.{RunsOut}
 use Rattle.slotted_adding.specs.Reports.{class_sources}
 
 -- the key, if something is filed
@@ -103,7 +107,21 @@ abbrev pub TakesForKeys : Rows → List ℕ → Table → Table → Type 0
 TakesForKeys r os t u = u.fresh ≤ t.fresh + 2 * sum_by (places_at r.filed) os
 
 abbrev pub HasLargeKey : Rows → Type 0
-HasLargeKey r = (o : ℕ) × (f : Form) × HasKey r.filed o f × IsTooLarge f
+HasLargeKey r = (o : ℕ) × IsLargeKeyOf r o
 
-abbrev pub RunsOutForKeys : Rows → Table → Type 0
-RunsOutForKeys r u = (u.fresh ≡ slot_limit) ⊎ HasLargeKey r
+abbrev pub HasLargeKeyOf : Rows → List ℕ → Type 0
+HasLargeKeyOf r os = (o : ℕ) × Contains os o × IsLargeKeyOf r o
+
+abbrev pub RunsOutForKeys : Rows → List ℕ → Table → Table → Type 0
+RunsOutForKeys r os t u = RunsOut (2 * sum_by (places_at r.filed) os) t u ⊎ HasLargeKeyOf r os
+
+-- of classes, with the keys whose classes find them
+
+abbrev pub slots_of_class : Kept → Rows → ℕ → ℕ
+slots_of_class k r c = 2 * sum_by (places_at r.filed) (class_sources k r c)
+
+abbrev pub TakesForClasses : Kept → Rows → List ℕ → Table → Table → Type 0
+TakesForClasses k r cs t u = u.fresh ≤ t.fresh + sum_by (slots_of_class k r) cs
+
+abbrev pub RunsOutForClasses : Kept → Rows → List ℕ → Table → Table → Type 0
+RunsOutForClasses k r cs t u = RunsOut (sum_by (slots_of_class k r) cs) t u ⊎ HasLargeKey r

@@ -13,7 +13,7 @@ ghost use Rattle.slotted_rebuilding.specs.Filed.{IsWellFiled};
 ghost use Rattle.slotted_store.specs.Finding.{IsFindable};
 ghost use Rattle.slotted_adding.specs.Enodes.{AllKnownTo, AreFresh};
 ghost use Rattle.slotted_adding.specs.Reports.{class_sources};
-ghost use Rattle.slotted_reports.specs.Nodes.{AreAppliedNodes, AreClassNodes, AreEnodes, AreNodesOf, Ascend, HasKeyOf, HasLargeKey};
+ghost use Rattle.slotted_reports.specs.Nodes.{AreAppliedNodes, AreClassNodes, AreEnodes, AreNodesOf, Ascend, HasKeyOf, HasLargeKeyOf};
 ghost use Rattle.slotted_reports.specs.Nodes.{IsAppliedNode, IsSourceOf, RunsOutForKeys, TakesForKeys, key_at};
 
 use slotted_adding::enodes::{class_node, names_beside};
@@ -97,7 +97,7 @@ fn filed_node<L: Language>(
     ensures more { KnowsMore table.old table.new }
     ensures kept { table.new.names ≡ table.old.names }
     ensures takes { TakesForKeys nodes.now (source ∷ []) table.old table.new }
-    ensures full { IsErrOf result Error.OutOfSlots → RunsOutForKeys nodes.now table.new }
+    ensures full { IsErrOf result Error.OutOfSlots → RunsOutForKeys nodes.now (source ∷ []) table.old table.new }
     ensures err { IfErr result IsShortage }
 {
     match nodes.node(source) {
@@ -129,7 +129,7 @@ fn filed_nodes<L: Language>(
     ensures more { KnowsMore table.old table.new }
     ensures kept { table.new.names ≡ table.old.names }
     ensures takes { TakesForKeys nodes.now sources.now table.old table.new }
-    ensures full { IsErrOf result Error.OutOfSlots → RunsOutForKeys nodes.now table.new }
+    ensures full { IsErrOf result Error.OutOfSlots → RunsOutForKeys nodes.now sources.now table.old table.new }
     ensures err { IfErr result IsShortage }
 {
     let mut answer = Vec::new(alloc);
@@ -157,7 +157,7 @@ pub fn enodes_applied<L: Language>(
     ensures more { KnowsMore table.old table.new }
     ensures kept { table.new.names ≡ table.old.names }
     ensures takes { TakesForKeys nodes.now (class_sources store.now nodes.now a.now.id.0) table.old table.new }
-    ensures full { IsErrOf result Error.OutOfSlots → RunsOutForKeys nodes.now table.new }
+    ensures full { IsErrOf result Error.OutOfSlots → RunsOutForKeys nodes.now (class_sources store.now nodes.now a.now.id.0) table.old table.new }
     ensures err { IfErr result IsShortage }
 {
     let sources = class_nodes(store, nodes, alloc, a.id.0)?;
@@ -183,7 +183,7 @@ fn node_set<L: Language>(
     requires findable { IsFindable store.now (to_applied a.now) }
     requires fresh { AreFresh (values a.now.m) }
     ensures ok { IfOk result (λ s. AreClassNodes L.form store.now nodes.now (to_applied a.now) sources.now s.keys) }
-    ensures full { IsErrOf result Error.OutOfSlots → HasLargeKey nodes.now }
+    ensures full { IsErrOf result Error.OutOfSlots → HasLargeKeyOf nodes.now sources.now }
     ensures err { IfErr result IsShortage }
 {
     let mut set = HashSet::new(alloc);
@@ -207,7 +207,7 @@ pub fn enodes<L: Language>(
     requires findable { IsFindable store.now (to_applied a.now) }
     requires fresh { AreFresh (values a.now.m) }
     ensures ok { IfOk result (λ s. AreNodesOf L.form store.now nodes.now (to_applied a.now) s.keys) }
-    ensures full { IsErrOf result Error.OutOfSlots → HasLargeKey nodes.now }
+    ensures full { IsErrOf result Error.OutOfSlots → HasLargeKeyOf nodes.now (class_sources store.now nodes.now a.now.id.0) }
     ensures err { IfErr result IsShortage }
 {
     let sources = class_nodes(store, nodes, alloc, a.id.0)?;

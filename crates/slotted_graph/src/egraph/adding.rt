@@ -10,7 +10,7 @@ ghost use Rattle.slotted_proofs.specs.Equations.{to_applied};
 ghost use Rattle.slotted_terms.specs.Valid.{IsValidTerm};
 ghost use Rattle.slotted_core.specs.Adding.{AddsSyn, IsEqualToNode, RunsOutForFilled, slots_needed, term_nodes};
 ghost use Rattle.slotted_core.specs.AddingTerms.{AddsNodes, FilesOnlyLookedUp, IsEqualToTerm, LacksForTerm, TakesForTerm};
-ghost use Rattle.slotted_core.specs.Causes.{CanRunOutForTerm};
+ghost use Rattle.slotted_core.specs.Causes.{CanRunOutForTerm, IsUnknownTerm};
 ghost use Rattle.slotted_core.specs.ValidIds.{IsValidNode};
 ghost use Rattle.slotted_core.specs.Graph.{FilesOnlySubterms, IsFullId, MakesAtMost, id_of_term};
 ghost use Rattle.slotted_core.specs.Image.{AddsClasses};
@@ -192,6 +192,7 @@ impl<L: Language, N: Drop> EGraph<L, N> {
         ensures more { KnowsMore self.old.table self.new.table }
         ensures takes { MakesAtMost (term_slots term.now) self.old.table self.new.table }
         ensures full { IsErrOf result Error.OutOfSlots → CanRunOutForTerm self.old.image term.now self.old.table self.new.table }
+        ensures unknown { IsErrOf result Error.OutOfSlots → IsUnknownTerm self.old.image term.now }
 
         // A failed graph stays as it is.
         ensures stays { IsTrue self.old.failed → self.new ≡ self.old }

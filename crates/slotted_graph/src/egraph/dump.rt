@@ -1,12 +1,14 @@
 //! What a graph holds, as a text: for each live class its slots, the node that it was made with, and its filed nodes.
 ghost use Rattle.std.specs.Prelude.{◌≡◌, ◌⊎◌, ◌↔◌, ◌<◌, length, All, IsTrue, IfOk, IfErr, IsErrOf};
+ghost use Rattle.std.specs.List.{range_with_len};
 ghost use Rattle.slotted_slots.specs.Error.{IsOutOfMemory, IsShortage};
 ghost use Rattle.slotted_slots.specs.Table.{KnowsMore};
 ghost use Rattle.slotted_core.specs.Good.{Good, HasFreshSlots, RestsWith};
-ghost use Rattle.slotted_core.specs.Graph.{OnlyTakesSlots};
+ghost use Rattle.slotted_core.specs.Graph.{MakesAtMost, OnlyTakesSlots};
 ghost use Rattle.slotted_nodes.specs.Form.{IsSmall};
-ghost use Rattle.slotted_reports.specs.Nodes.{RunsOutForKeys};
-ghost use Rattle.slotted_graph.specs.FiledNodes.{CanRunOutForEnodes};
+ghost use Rattle.slotted_adding.specs.Reports.{class_sources};
+ghost use Rattle.slotted_reports.specs.Nodes.{RunsOutForClasses, RunsOutForKeys, TakesForClasses, TakesForKeys};
+ghost use Rattle.slotted_graph.specs.FiledNodes.{CanRunOutForDump, slots_for_dump};
 
 use super::EGraph;
 use slotted_adding::reports;
@@ -137,7 +139,8 @@ fn own_nodes<L: Language>(
     ensures small { IfOk result (λ v. All (λ n. IsSmall (L.form n)) v.items) }
     ensures more { KnowsMore table.old table.new }
     ensures kept { table.new.names ≡ table.old.names }
-    ensures full { IsErrOf result Error.OutOfSlots → RunsOutForKeys nodes.now table.new }
+    ensures takes { TakesForKeys nodes.now (class_sources store.now nodes.now class) table.old table.new }
+    ensures full { IsErrOf result Error.OutOfSlots → RunsOutForKeys nodes.now (class_sources store.now nodes.now class) table.old table.new }
     ensures err { IfErr result IsShortage }
 {
     let a = reports::mk_identity_applied_id(store, alloc, class)?;
@@ -160,7 +163,8 @@ fn push_whole<L: Language>(
     requires within { class < length store.now.classes }
     ensures more { KnowsMore table.old table.new }
     ensures kept { table.new.names ≡ table.old.names }
-    ensures full { IsErrOf result Error.OutOfSlots → RunsOutForKeys nodes.now table.new }
+    ensures takes { TakesForKeys nodes.now (class_sources store.now nodes.now class) table.old table.new }
+    ensures full { IsErrOf result Error.OutOfSlots → RunsOutForKeys nodes.now (class_sources store.now nodes.now class) table.old table.new }
     ensures err { IfErr result IsShortage }
 {
     let slots = reports::slots_of(store, alloc, class)?;
@@ -184,7 +188,9 @@ fn push_live<L: Language>(
     requires fresh_slots { HasFreshSlots table.old store.now }
     ensures more { KnowsMore table.old table.new }
     ensures kept { table.new.names ≡ table.old.names }
-    ensures full { IsErrOf result Error.OutOfSlots → RunsOutForKeys nodes.now table.new }
+    ensures takes { TakesForClasses store.now nodes.now (range_with_len 0 (length store.now.classes)) table.old table.new }
+    ensures full { IsErrOf result Error.OutOfSlots
+        → RunsOutForClasses store.now nodes.now (range_with_len 0 (length store.now.classes)) table.old table.new }
     ensures err { IfErr result IsShortage }
 {
     out.push('\n')?;
@@ -201,12 +207,14 @@ impl<L: Language, N: Drop> EGraph<L, N> {
     /// Appends a line feed, then for each live class by its number a line feed, its line with its slots, `>> ` and the node that it was made
     /// with, and for each filed node by shape ` - ` and the node with the class that it was made with; and a line feed.
     pub fn dump(&mut self, out: &mut String) -> Result<(), Error>
-        // Only fresh slots are made, and a refusal does not fail the graph. The text may have a part of it then.
+        // Only fresh slots are made, two at most for each place of all filed nodes, and a refusal does not fail the graph. The text may
+        // have a part of it then.
         ensures takes { OnlyTakesSlots self.old self.new }
+        ensures count { MakesAtMost (slots_for_dump self.old) self.old.table self.new.table }
         ensures stays { IsTrue self.old.failed → self.new ≡ self.old }
 
         ensures failed { IsErrOf result Error.Failed ↔ IsTrue self.old.failed }
-        ensures full { IsErrOf result Error.OutOfSlots → CanRunOutForEnodes self.old self.new.table }
+        ensures full { IsErrOf result Error.OutOfSlots → CanRunOutForDump self.old self.new.table }
         ensures only { IfErr result (λ e. (e ≡ Error.Failed) ⊎ IsShortage e) }
     {
         if self.failed {

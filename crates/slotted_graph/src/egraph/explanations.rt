@@ -3,7 +3,7 @@ ghost use Rattle.std.specs.Prelude.{◌≡◌, ◌⊎◌, ◌↔◌, ◌+◌, Is
 ghost use Rattle.slotted_slots.specs.Error.{IsShortage};
 ghost use Rattle.slotted_slots.specs.Table.{KnowsMore};
 ghost use Rattle.slotted_terms.specs.Valid.{IsValidTerm};
-ghost use Rattle.slotted_core.specs.Explaining.{AddsTerms, Explains, FindsApart, RunsOutForTerms};
+ghost use Rattle.slotted_core.specs.Explaining.{AddsTerms, Explains, FilesOnlyTerms, FindsApart, KeepsKnown, RunsOutForTerms};
 ghost use Rattle.slotted_core.specs.Graph.{MakesAtMost};
 ghost use Rattle.slotted_core.specs.Places.{term_slots};
 
@@ -31,6 +31,10 @@ impl<L: Language, N: Drop> EGraph<L, N> {
 
         // Nothing is asserted, what found alike still does, and what was there stays. `NotEqual` does not fail the graph.
         ensures adds { IsTrue self.new.failed ⊎ AddsTerms self.old.image self.new.image }
+
+        // Each class that is made is what a subterm is looked up as from now on, and where both terms have ids there is none.
+        ensures filed { IsTrue self.new.failed ⊎ FilesOnlyTerms self.old self.new left.now right.now }
+        ensures kept { IsTrue self.new.failed ⊎ KeepsKnown self.old self.new left.now right.now }
         ensures more { KnowsMore self.old.table self.new.table }
         ensures takes { MakesAtMost (term_slots left.now + term_slots right.now) self.old.table self.new.table }
         ensures full { IsErrOf result Error.OutOfSlots → RunsOutForTerms self.old.image left.now right.now self.old.table self.new.table }

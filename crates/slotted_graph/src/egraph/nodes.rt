@@ -7,7 +7,7 @@ ghost use Rattle.slotted_core.specs.ValidIds.{IsValidId};
 ghost use Rattle.slotted_core.specs.Graph.{MakesAtMost, OnlyTakesSlots};
 ghost use Rattle.slotted_core.specs.Reports.{names_slots};
 ghost use Rattle.slotted_graph.specs.FiledNodes.{AscendByShape, CanRunOutForEnodes, HasEachNode, HasFreshNames};
-ghost use Rattle.slotted_graph.specs.FiledNodes.{HasLargeRow, HasOwnNames, IsEnode, IsNoneIfDead, slots_for_enodes};
+ghost use Rattle.slotted_graph.specs.FiledNodes.{HasLargeRow, HasLargeRowOf, HasOwnNames, IsEnode, IsNoneIfDead, slots_for_enodes};
 
 use super::EGraph;
 use slotted_adding::reports;
@@ -42,7 +42,7 @@ impl<L: Language, N: Drop> EGraph<L, N> {
         ensures stays { IsTrue self.old.failed → self.new ≡ self.old }
 
         ensures failed { IsErrOf result Error.Failed ↔ IsTrue self.old.failed }
-        ensures full { IsErrOf result Error.OutOfSlots → CanRunOutForEnodes self.old self.new.table }
+        ensures full { IsErrOf result Error.OutOfSlots → CanRunOutForEnodes self.old a.now.id.0 self.new.table }
         ensures only { IfErr result (λ e. (e ≡ Error.Failed) ⊎ IsShortage e) }
     {
         if self.failed {
@@ -63,7 +63,7 @@ impl<L: Language, N: Drop> EGraph<L, N> {
         ensures names { IfOk result (λ s. All (λ n. HasOwnNames self.now.image id.0 (L.form n)) s.keys) }
 
         ensures failed { IsErrOf result Error.Failed ↔ IsTrue self.now.failed }
-        ensures full { IsErrOf result Error.OutOfSlots → HasLargeRow self.now }
+        ensures full { IsErrOf result Error.OutOfSlots → HasLargeRowOf self.now id.0 }
         ensures only { IfErr result (λ e. (e ≡ Error.Failed) ⊎ IsShortage e) }
     {
         if self.failed {

@@ -14,7 +14,7 @@ pub returns-in_err-text-clause-err : goal.returns-in_err-text-clause-err
 returns-in_err-text-clause-err g c =
     let e = c.in_err-text.ensures in
     let p = err_from_is_err_and c.from_residual.result c.from_residual.ensures.1 in
-    rw (p.1, p.2) (printing_refused c.args.graph.now c.to_string.new.graph c.args.proof (Err c.in_err-text.field-0.0) c.in_err-text.field-0.0 refl c.requires.sound e.failed.0 e.full e.only c.to_string.ensures.takes)
+    rw (p.1, p.2) (printing_refused c.args.graph.now c.to_string.new.graph c.args.proof (Err c.in_err-text.field-0.0) c.in_err-text.field-0.0 refl c.requires.sound e.failed.0 e.full e.only c.to_string.ensures.takes c.to_string.ensures.count)
 
 pub returns-clause-ok : goal.returns-clause-ok
 returns-clause-ok g c =
@@ -25,4 +25,5 @@ returns-clause-ok g c =
     record {
       proof = subst (λ (bs : List ℕ). IsProofText written graph c.to_string.new.graph c.args.proof bs) (popped text c.pop.new.self (proof_ends written graph c.to_string.new.graph c.args.proof _ printed) c.pop.ensures.ascii_bytes) printed;
       takes = c.to_string.ensures.takes;
+      count = c.to_string.ensures.count;
     }

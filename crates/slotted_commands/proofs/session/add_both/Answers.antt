@@ -20,7 +20,7 @@ returns-in_err-left-clause-err g c =
     let read = c.in_ok-one.ensures.ok in
     let e = c.in_err-left.ensures in
     let p = err_from_is_err_and c.from_residual-in_err-left.result c.from_residual-in_err-left.ensures.1 in
-    let short = runs_out canonically c.read_both.new.graph c.add_syn_expr.new.self c.in_ok-one.one (Err c.in_err-left.field-0.0) c.in_err-left.field-0.0 refl read.sound_now e.failed.0 e.fails.1 e.full e.only e.more in
+    let short = runs_out canonically c.read_both.new.graph c.add_syn_expr.new.self c.in_ok-one.one (Err c.in_err-left.field-0.0) c.in_err-left.field-0.0 refl read.sound_now e.failed.0 e.fails.1 (λ o. (e.full o, e.unknown o)) e.only e.more in
     rw (p.1, p.2) (terms_run_out canonically g.L.LanguageChildren.read g.L.Printable.written c.args.graph.now c.read_both.new.graph c.add_syn_expr.new.self (c.args.left.now ∷ c.args.right.now ∷ []) (c.in_ok-one.one ∷ c.in_ok-one.two ∷ []) c.in_err-left.field-0.0 read.sound read.writes (runs_out_here short))
 
 pub add_syn_expr-requires-2 : goal.add_syn_expr-requires-2
@@ -33,7 +33,7 @@ returns-in_err-right-clause-err g c =
     let gains_one = gains_syn c.read_both.new.graph c.add_syn_expr.new.self c.in_ok-one.one c.in_ok-left.left left.fails.0 left.valid left.term left.found left.extends left.adds left.more left.kept left.filed left.takes in
     let e = c.in_err-right.ensures in
     let p = err_from_is_err_and c.from_residual-in_err-right.result c.from_residual-in_err-right.ensures.1 in
-    let short = runs_out canonically c.add_syn_expr.new.self c.add_syn_expr-2.new.self c.in_ok-one.two (Err c.in_err-right.field-0.0) c.in_err-right.field-0.0 refl gains_one.sound e.failed.0 e.fails.1 e.full e.only e.more in
+    let short = runs_out canonically c.add_syn_expr.new.self c.add_syn_expr-2.new.self c.in_ok-one.two (Err c.in_err-right.field-0.0) c.in_err-right.field-0.0 refl gains_one.sound e.failed.0 e.fails.1 (λ o. (e.full o, e.unknown o)) e.only e.more in
     rw (p.1, p.2) (terms_run_out canonically g.L.LanguageChildren.read g.L.Printable.written c.args.graph.now c.read_both.new.graph c.add_syn_expr-2.new.self (c.args.left.now ∷ c.args.right.now ∷ []) (c.in_ok-one.one ∷ c.in_ok-one.two ∷ []) c.in_err-right.field-0.0 read.sound read.writes (runs_out_later (to_applied c.in_ok-left.left) gains_one (runs_out_here short)))
 
 pub returns-clause-ok : goal.returns-clause-ok

@@ -1,7 +1,7 @@
 use Rattle.std.proofs.Common.{[], sym, ◌∙◌, subst}
 use Rattle.std.specs.Io.BufRead.{strip_last}
-use Rattle.slotted_commands.specs.Streams.{LineWrites, empty_line}
-use Rattle.slotted_commands.proofs.Reading.{Appends-nothing, is_empty, line_answered, on_ok}
+use Rattle.slotted_commands.specs.Streams.{LineLeaves, LineWrites, empty_line}
+use Rattle.slotted_commands.proofs.Reading.{Appends-nothing, is_empty, line_answered, line_left, on_ok}
 use Rattle.slotted_commands.proofs.stream.answer_line.Goals as goal
 
 pub returns-then-is_empty-clause-answers : goal.returns-then-is_empty-clause-answers
@@ -16,3 +16,19 @@ returns-clause-answers g c =
     (line_answered g.L.LanguageChildren.read g.L.Printable.written c.args.graph.now c.answer-answer.new.graph c.answer-answer.result (strip_last 10 c.args.line.now) c.without_line_feed.result.now c.in-Ok.text.now
     (g.W.Write.contents c.args.output.now) (g.W.Write.contents c.writeln.new.self) (g.W.Write.contents c.flush.new.self)
     c.without_line_feed.ensures c.in-Ok.ensures.cases.0 c.in-Ok.ensures.cases.1 (sym c.is_empty.ensures ∙ c.if-is_empty.false) c.answer-answer.ensures c.in_ok-writeln.ensures.bytes c.flush.ensures.bytes)
+
+pub returns-then-is_empty-clause-leaves : goal.returns-then-is_empty-clause-leaves
+returns-then-is_empty-clause-leaves g c utf8 =
+    let none = is_empty c.in-Ok.text.now (sym c.is_empty.ensures ∙ c.if-is_empty.true) in
+    let line = sym none ∙ (c.in-Ok.ensures.cases.0 ∙ c.without_line_feed.ensures) in
+    ([], subst (λ l. LineWrites g.L.LanguageChildren.read g.L.Printable.written c.args.graph.now l [] c.args.graph.now) line empty_line)
+
+pub returns-in_err-writeln-clause-leaves : goal.returns-in_err-writeln-clause-leaves
+returns-in_err-writeln-clause-leaves g c utf8 =
+    line_left g.L.LanguageChildren.read g.L.Printable.written c.args.graph.now c.answer-answer.new.graph c.answer-answer.result (strip_last 10 c.args.line.now) c.without_line_feed.result.now c.in-Ok.text.now
+    c.without_line_feed.ensures c.in-Ok.ensures.cases.0 c.in-Ok.ensures.cases.1 (sym c.is_empty.ensures ∙ c.if-is_empty.false) c.answer-answer.ensures
+
+pub returns-clause-leaves : goal.returns-clause-leaves
+returns-clause-leaves g c utf8 =
+    line_left g.L.LanguageChildren.read g.L.Printable.written c.args.graph.now c.answer-answer.new.graph c.answer-answer.result (strip_last 10 c.args.line.now) c.without_line_feed.result.now c.in-Ok.text.now
+    c.without_line_feed.ensures c.in-Ok.ensures.cases.0 c.in-Ok.ensures.cases.1 (sym c.is_empty.ensures ∙ c.if-is_empty.false) c.answer-answer.ensures

@@ -8,7 +8,7 @@ use Rattle.slotted_proofs.specs.Equations.{to_applied}
 use Rattle.slotted_core.specs.Places.{term_slots}
 use Rattle.slotted_core.proofs.Tables.{makes-none, makes-then, child-runs_out}
 use Rattle.slotted_core.proofs.TermSlots.{slots_of, child_within, child_makes, node_makes, node_lacks}
-use Rattle.slotted_core.proofs.TermAddition.{IsPart, part_start, part_step, part_full, part_end, part_size, part_width, node-large, child-large}
+use Rattle.slotted_core.proofs.TermAddition.{IsPart, part_start, part_step, part_full, part_end, part_size, part_width, node-large, child-large, child-unknown, node-unknown}
 use Rattle.slotted_core.proofs.Layers.{whole_count, whole_each, each_at, child_smaller}
 use Rattle.slotted_store.proofs.KeptLists.{any_default}
 use Rattle.slotted_core.proofs.adding.+add_syn_expr.Goals as goal
@@ -154,3 +154,26 @@ loop-k-init g t c =
       more = λ s h. h;
       makes = makes-none 0 c.args.table.now;
     }
+
+pub returns-in_err-answer-clause-unknown : goal.returns-in_err-answer-clause-unknown
+returns-in_err-answer-clause-unknown g t c e =
+    let form = g.L.LanguageChildren.form in
+    let us : List Term = c.deref-child-items.result.now in
+    let f : Form = form c.in_ok-node.node in
+    let view : term_of f us ≡ c.args.term.now = (λ i. term_of (form (c.in_ok-node.ensures.ok i)) (c.deref-child-items.ensures.value i)) ∙ c.term.view_is in
+    let n = whole_count f.tree f.names us (subst (λ (x : Term). IsWhole x.args) (sym view) c.requires.whole) in
+    let l : c.loop-k.k < length us = omega (arith, c.loop-k-test.true, c.deref-child-items.ensures.len) in
+    child-unknown c.args.store.now c.args.nodes.now c.loop-k.store c.loop-k.nodes f (form c.loop-k.node) us c.loop-k.k c.args.term.now view c.args.table.now c.loop-k.table c.loop-k.invariant.part
+    c.requires.good n c.child-item.result (λ e. any_default us c.loop-k.k e c.child-item.result l ∙ sym c.child-item.is) l
+    (child_within f us c.loop-k.k c.child-item.result c.args.term.now view l c.child-item.is).1 (c.in_err-answer.ensures.unknown (search rules))
+
+pub returns-in_err-answer-2-clause-unknown : goal.returns-in_err-answer-2-clause-unknown
+returns-in_err-answer-2-clause-unknown g t c e =
+    let form = g.L.LanguageChildren.form in
+    let f : Form = form c.in_ok-node.node in
+    let us : List Term = c.deref-child-items.result.now in
+    let view : term_of f us ≡ c.args.term.now = (λ i. term_of (form (c.in_ok-node.ensures.ok i)) (c.deref-child-items.ensures.value i)) ∙ c.term.view_is in
+    let n = whole_count f.tree f.names us (subst (λ (x : Term). IsWhole x.args) (sym view) c.requires.whole) in
+    let k : c.loop-k.k ≡ length us = omega (arith, c.loop-k-test.false, c.loop-k.auto.k-end, c.deref-child-items.ensures.len) in
+    node-unknown c.args.store.now c.args.nodes.now c.loop-k.store c.loop-k.nodes f (form c.loop-k.node) us c.args.term.now view c.args.table.now c.loop-k.table (g.met.L.LanguageChildren.fits c.loop-k.node)
+    (subst (λ (i : ℕ). IsPart c.args.table.now c.args.store.now c.args.nodes.now c.loop-k.table c.loop-k.store c.loop-k.nodes f (form c.loop-k.node) us i) k c.loop-k.invariant.part) n (c.in_err-answer-2.ensures.unknown (search rules))

@@ -1,7 +1,7 @@
 use Rattle.std.proofs.Common.{◌≡◌, length, arith, rules}
 use Rattle.slotted_core.specs.Good.{MakesOne}
 use Rattle.slotted_proofs.specs.Equations.{to_applied}
-use Rattle.slotted_core.proofs.FiledClasses.{adds-made, one-made, unfiled, adds-filed, rebuild-runs_out}
+use Rattle.slotted_core.proofs.FiledClasses.{adds-made, one-made, unfiled, adds-filed, rebuild-runs_out, unknown-made}
 use Rattle.slotted_core.proofs.adding.add_syn.Goals as goal
 
 pub returns-then-class_count-clause-ok : goal.returns-then-class_count-clause-ok
@@ -25,3 +25,8 @@ returns-clause-ok g c =
 pub returns-in_err-file_newest-clause-full : goal.returns-in_err-file_newest-clause-full
 returns-in_err-file_newest-clause-full g c e =
     rebuild-runs_out c.args.table.now c.made.new.table c.args.table.now c.made.new.table c.args.store.now c.made.new.store (g.L.LanguageChildren.form c.args.node.now) (to_applied c.in_ok-answer.answer) c.in_ok-answer.ensures.ok (c.in_err-file_newest.ensures.full (search rules))
+
+pub returns-in_err-file_newest-clause-unknown : goal.returns-in_err-file_newest-clause-unknown
+returns-in_err-file_newest-clause-unknown g c e =
+    unknown-made c.args.store.now c.args.nodes.now c.requires.good c.requires.rests c.args.table.now c.made.new.table (g.L.LanguageChildren.form c.args.node.now) (to_applied c.in_ok-answer.answer) c.made.new.store
+    c.in_ok-answer.ensures.ok (λ e. c.if-class_count.false (omega (arith, e, c.class_count.ensures, c.class_count-2.ensures)))

@@ -3,7 +3,7 @@ use Rattle.slotted_slots.specs.Maps.{keys}
 use Rattle.slotted_slots.specs.Table.{Table}
 use Rattle.slotted_core.proofs.RowLookUps.{row-names}
 use Rattle.slotted_store.proofs.NameMaps.{length-keys}
-use Rattle.slotted_core.proofs.NodeAddition.{fresh_injective, row_makes, class_makes, shape-places}
+use Rattle.slotted_core.proofs.NodeAddition.{absent-unknown, fresh_injective, row_makes, class_makes, shape-places}
 use Rattle.slotted_core.proofs.Tables.{makes-more, runs_out-more}
 use Rattle.slotted_store.specs.Names.{fresh_slots}
 use Rattle.slotted_proofs.specs.Equations.{to_applied}
@@ -77,3 +77,15 @@ returns-clause-takes g c =
     let f = g.L.LanguageChildren.form c.args.node.now in
     makes-more (length c.in_ok-slots.slots) (length f.names) c.args.table.now c.renew_values.new.table c.renew_values.ensures.takes
     (shape-places f (g.met.L.LanguageChildren.fits c.args.node.now) (g.L.LanguageChildren.form c.in_ok-shape.shape) c.in_ok-shape.names c.in_ok-slots.slots c.in_ok-shape.ensures.shape c.in_ok-slots.ensures.ok)
+
+-- the node has no class
+
+pub returns-in_err-renew_values-clause-unknown : goal.returns-in_err-renew_values-clause-unknown
+returns-in_err-renew_values-clause-unknown g c e =
+    inl (absent-unknown c.args.store.now c.requires.good (g.L.LanguageChildren.form c.args.node.now) (g.met.L.LanguageChildren.fits c.args.node.now)
+    (g.L.LanguageChildren.form c.in_ok-shape.shape) c.in_ok-shape.names c.in_ok-shape.ensures.shape c.in_default.ensures)
+
+pub returns-in_err-make_class-clause-unknown : goal.returns-in_err-make_class-clause-unknown
+returns-in_err-make_class-clause-unknown g c e =
+    inl (absent-unknown c.args.store.now c.requires.good (g.L.LanguageChildren.form c.args.node.now) (g.met.L.LanguageChildren.fits c.args.node.now)
+    (g.L.LanguageChildren.form c.in_ok-shape.shape) c.in_ok-shape.names c.in_ok-shape.ensures.shape c.in_default.ensures)

@@ -1,6 +1,6 @@
 use Rattle.std.proofs.Common.{rules}
 use Rattle.slotted_proofs.specs.Equations.{to_applied}
-use Rattle.slotted_core.proofs.ExplainedTerms.{left-full, explains-none, explains-some, runs-large}
+use Rattle.slotted_core.proofs.ExplainedTerms.{left-full, explains-none, explains-some, runs-large, runs-left, runs-right}
 use Rattle.slotted_core.proofs.GoodFinds.{full-findable}
 use Rattle.slotted_core.proofs.explaining.explain.Goals as goal
 
@@ -33,3 +33,12 @@ returns-in_err-answer-clause-more g c s h = c.add_syn_expr-2.ensures.more s (c.a
 
 pub returns-clause-more : goal.returns-clause-more
 returns-clause-more g c s h = c.add_syn_expr-2.ensures.more s (c.add_syn_expr.ensures.more s h)
+
+pub returns-in_err-a-clause-full : goal.returns-in_err-a-clause-full
+returns-in_err-a-clause-full g c e =
+    runs-left c.args.store.now c.args.left.now c.args.right.now c.args.table.now c.add_syn_expr.new.table (c.in_err-a.ensures.unknown (search rules)) (c.in_err-a.ensures.full (search rules))
+
+pub returns-in_err-b-clause-full : goal.returns-in_err-b-clause-full
+returns-in_err-b-clause-full g c e =
+    runs-right c.args.store.now c.args.nodes.now c.add_syn_expr.new.store c.add_syn_expr.new.nodes c.args.left.now c.args.right.now c.args.table.now c.add_syn_expr.new.table c.add_syn_expr-2.new.table
+    (to_applied c.in_ok-a.a) c.in_ok-a.ensures.ok c.add_syn_expr.ensures.takes (c.in_err-b.ensures.unknown (search rules)) (c.in_err-b.ensures.full (search rules))

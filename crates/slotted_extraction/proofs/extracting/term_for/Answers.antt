@@ -11,7 +11,7 @@ use Rattle.slotted_core.proofs.GivenNodes.{valid-beside}
 use Rattle.slotted_extraction.specs.Terms.{IsFreshTerm, IsMade, entry_at, slots_at, slots_for, slots_of}
 use Rattle.slotted_extraction.specs.Frames.{IsFreshFrame, IsKnownFrame, Waits, slots_left, waiting_rest}
 use Rattle.slotted_extraction.proofs.FreshTerms.{fresh-term}
-use Rattle.slotted_extraction.proofs.Names.{runs_out-after, runs_out-more}
+use Rattle.slotted_reports.proofs.FreshNodes.{runs_out-after, runs_out-more}
 use Rattle.slotted_extraction.proofs.Stacks.{frame-closes}
 use Rattle.slotted_extraction.proofs.Work.{bare-slots, own-slots}
 use Rattle.slotted_extraction.proofs.extracting.term_for.Goals as goal

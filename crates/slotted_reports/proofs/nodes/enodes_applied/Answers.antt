@@ -1,10 +1,11 @@
 -- The sources, in order, and the node of each.
-use Rattle.std.proofs.Common.{◌∙◌, sym, subst}
+use Rattle.std.proofs.Common.{rules, ◌∙◌, sym, subst}
 use Rattle.std.specs.Prelude.{All}
 use Rattle.std.specs.List.Sorted.{IsPermutation}
 use Rattle.slotted_filing.specs.FiledRows.{IsFiled}
 use Rattle.slotted_proofs.specs.Equations.{to_applied}
-use Rattle.slotted_reports.specs.Nodes.{AreAppliedNodes, Ascend, IsSourceOf}
+use Rattle.slotted_reports.specs.Nodes.{AreAppliedNodes, Ascend, IsSourceOf, RunsOutForKeys}
+use Rattle.slotted_reports.proofs.FreshNodes.{runs_out-ordered}
 use Rattle.slotted_reports.proofs.Sources.{each-filed, each-ordered}
 use Rattle.slotted_reports.proofs.nodes.enodes_applied.Goals as goal
 
@@ -33,3 +34,12 @@ returns-clause-ok g c =
       nodes = nodes;
       ascend = subst (Ascend form g.L.Ord.cmp) (sym nodes.keys) c.in_ok-ordered.ensures.ascend;
     }
+
+pub returns-in_err-answer-clause-full : goal.returns-in_err-answer-clause-full
+returns-in_err-answer-clause-full g c e =
+    let r = c.args.nodes.now in
+    let t = c.args.table.now in
+    let u = c.filed_nodes.new.table in
+    let sources = c.deref.ensures.value ∙ c.in_ok-sources.ensures.ok in
+    let same = subst (λ xs. IsPermutation xs c.in_ok-ordered.ordered.items) sources c.in_ok-ordered.ensures.same in
+    runs_out-ordered r t u _ c.in_ok-ordered.ordered.items same (subst (λ os. RunsOutForKeys r os t u) c.deref-2.ensures.value (c.in_err-answer.ensures.full (search rules)))

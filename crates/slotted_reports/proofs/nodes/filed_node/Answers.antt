@@ -7,7 +7,7 @@ use Rattle.slotted_slots.specs.Table.{slot_limit}
 use Rattle.slotted_proofs.specs.Equations.{to_applied}
 use Rattle.slotted_filing.proofs.Indexed.{place-within}
 use Rattle.slotted_unions.proofs.EnteredProofs.{stored-finds}
-use Rattle.slotted_reports.proofs.FreshNodes.{key-takes, refreshed-is, refreshed-key, refreshed-takes, renamed-places, renamed-takes}
+use Rattle.slotted_reports.proofs.FreshNodes.{key-takes, refreshed-is, refreshed-key, refreshed-lacks, refreshed-takes, renamed-lacks, renamed-takes}
 use Rattle.slotted_reports.proofs.nodes.filed_node.Goals as goal
 
 pub names_beside-requires-clause-good : goal.names_beside-requires-clause-good
@@ -58,11 +58,14 @@ returns-clause-ok g c =
 pub returns-in_err-node-in-Some-clause-full : goal.returns-in_err-node-in-Some-clause-full
 returns-in_err-node-in-Some-clause-full g c e =
     let form = g.L.LanguageChildren.form in
+    let k = c.args.store.now in
+    let r = c.args.nodes.now in
+    let o = c.args.source in
+    let a = to_applied c.args.a.now in
+    let quiet : ¬ Contains r.waiting o = λ h. Contains-nil o (subst (λ (w : List ℕ). Contains w o) c.requires.quiet h) in
     let at = sym (ap (option_map (λ p. (form p.0.now, p.1.now))) (sym c.in-Some.is) ∙ c.node.ensures) in
-    elim (c.in_err-node-in-Some.ensures.full (search rules)) [
-      | inl h ↦ inr (c.args.source, form c.in-Some.key.now, (c.in-Some.slots.now, at), h)
-      | inr h ↦ inl h.0
-    ]
+    renamed-lacks k r c.requires.good o (form c.in-Some.key.now) c.in-Some.slots.now at quiet a c.requires.findable c.requires.source.1 c.args.table.now c.requires.known
+    c.in_ok-names-in-Some.names c.in_ok-names-in-Some.ensures.ok c.apply_slotmap_fresh.new.table c.apply_slotmap_fresh.ensures.more (c.in_err-node-in-Some.ensures.full (search rules))
 
 pub returns-in_err-node-in-Some-clause-takes : goal.returns-in_err-node-in-Some-clause-takes
 returns-in_err-node-in-Some-clause-takes g c =
@@ -130,17 +133,11 @@ returns-in_err-answer-in-Some-clause-full g c e =
     let fits = g.met.L.LanguageChildren.fits in
     let k = c.args.store.now in
     let r = c.args.nodes.now in
-    let t = c.args.table.now in
     let o = c.args.source in
     let a = to_applied c.args.a.now in
-    let key = form c.in-Some.key.now in
-    let slots = c.in-Some.slots.now in
     let b = c.in_ok-node-in-Some.node in
     let quiet : ¬ Contains r.waiting o = λ h. Contains-nil o (subst (λ (w : List ℕ). Contains w o) c.requires.quiet h) in
     let at = sym (ap (option_map (λ p. (form p.0.now, p.1.now))) (sym c.in-Some.is) ∙ c.node.ensures) in
-    let places = renamed-places k r c.requires.good o key slots at quiet a c.requires.findable c.requires.source.1 t c.requires.known
-    c.in_ok-names-in-Some.names c.in_ok-names-in-Some.ensures.ok (form b) (fits b) c.in_ok-node-in-Some.ensures.renamed in
-    elim (c.in_err-answer-in-Some.ensures.full (search rules)) [
-      | inl h ↦ inr (o, key, (slots, at), omega (arith, h, places))
-      | inr h ↦ inl h.0
-    ]
+    refreshed-lacks k r c.requires.good o (form c.in-Some.key.now) c.in-Some.slots.now at quiet a c.requires.findable c.requires.source.1 c.args.table.now c.requires.known
+    c.in_ok-names-in-Some.names c.in_ok-names-in-Some.ensures.ok (form b) (fits b) c.in_ok-node-in-Some.ensures.renamed c.apply_slotmap_fresh.new.table c.in_ok-node-in-Some.ensures.more
+    c.in_ok-node-in-Some.ensures.known c.refresh_private.new.table c.refresh_private.ensures.more c.in_ok-node-in-Some.ensures.count (c.in_err-answer-in-Some.ensures.full (search rules))

@@ -1,8 +1,8 @@
 -- One node after another.
-use Rattle.std.proofs.Common.{◌<◌, ◌+◌, ◌∙◌, take, sym, subst, length, arith}
+use Rattle.std.proofs.Common.{rules, ◌<◌, ◌+◌, ◌∙◌, take, sym, subst, length, arith}
 use Rattle.slotted_proofs.specs.Equations.{to_applied}
 use Rattle.slotted_reports.specs.Nodes.{AreAppliedNodes}
-use Rattle.slotted_reports.proofs.FreshNodes.{nodes-then, takes-then, takes-within}
+use Rattle.slotted_reports.proofs.FreshNodes.{nodes-then, runs_out-then, takes-then, takes-within}
 use Rattle.slotted_reports.proofs.nodes.filed_nodes.Goals as goal
 
 pub filed_node-requires-clause-known : goal.filed_node-requires-clause-known
@@ -47,3 +47,10 @@ returns-in_err-push-clause-takes g c =
     let i = c.loop-i.i in
     let lt : i < length xs = omega (arith, c.loop-i-test.true, c.loop-i.auto.i-end) in
     takes-within r s u xs (i + 1) (takes-then r s t u xs i lt c.loop-i.invariant.taken c.filed_node.ensures.takes)
+
+pub returns-in_err-node-clause-full : goal.returns-in_err-node-clause-full
+returns-in_err-node-clause-full g c e =
+    let xs = c.args.sources.now in
+    let i = c.loop-i.i in
+    let lt : i < length xs = omega (arith, c.loop-i-test.true, c.loop-i.auto.i-end) in
+    runs_out-then c.args.nodes.now c.args.table.now c.loop-i.table c.filed_node.new.table xs i lt c.loop-i.invariant.taken (c.in_err-node.ensures.full (search rules))

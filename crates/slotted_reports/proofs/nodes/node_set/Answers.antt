@@ -1,7 +1,8 @@
 -- One source after another.
-use Rattle.std.proofs.Common.{◌<◌, ◌∙◌, List, ℕ, ap, get_or, length, subst, arith}
+use Rattle.std.proofs.Common.{rules, ◌<◌, ◌∙◌, List, ℕ, ap, get_or, length, subst, arith}
 use Rattle.std.specs.Prelude.{Contains, not}
 use Rattle.std.specs.HashSet.{PutsKey}
+use Rattle.std.proofs.lemmas.List.Elements.{Contains-get_or}
 use Rattle.slotted_theory.proofs.Lists.{Contains-nil}
 use Rattle.slotted_proofs.specs.Equations.{to_applied}
 use Rattle.slotted_reports.specs.Nodes.{IsClassNode}
@@ -35,3 +36,10 @@ loop-i-preserved g c =
     let absent = node-absent k r well form eq same a xs i before n lt c.requires.different (λ j d h. (c.requires.sources j d h).0) c.in_ok-node.ensures.key c.loop-i.invariant in
     let puts = subst (PutsKey c.loop-i.set c.insert.new.self n) (c.in_ok-insert.ensures.added ∙ ap not absent) c.in_ok-insert.ensures.keys in
     node-put k r well form eq same a xs i before c.insert.new.self.keys n lt c.in_ok-node.ensures.key is c.loop-i.invariant puts
+
+pub returns-in_err-node-clause-full : goal.returns-in_err-node-clause-full
+returns-in_err-node-clause-full g c e =
+    let xs = c.args.sources.now in
+    let i = c.loop-i.i in
+    let lt : i < length xs = omega (arith, c.loop-i-test.true, c.loop-i.auto.i-end) in
+    (get_or xs i 0, Contains-get_or xs i 0 lt, c.in_err-node.ensures.full (search rules))

@@ -1,8 +1,9 @@
-use Rattle.std.proofs.Common.{◌≡◌, ◌∙◌, ap, sym, subst, inl, inr}
+use Rattle.std.proofs.Common.{rules, ◌≡◌, ◌∙◌, ap, sym, subst, inl, inr}
 use Rattle.std.proofs.lemmas.Bool.{false≢true}
 use Rattle.slotted_slots.specs.Table.{Table}
 use Rattle.slotted_model.proofs.Ids.{id_of-iff}
 use Rattle.slotted_terms.specs.Valid.{IsValidTerm}
+use Rattle.slotted_core.specs.Causes.{IsUnknownTerm}
 use Rattle.slotted_core.specs.Good.{image_of}
 use Rattle.slotted_core.specs.Graph.{Graph}
 use Rattle.slotted_core.specs.Image.{Image}
@@ -60,3 +61,6 @@ returns-clause-kept g c some =
       image = ap image_of same.0 ∙ image;
       filed = ap (λ (x : Rows). rows_in x.filed) same.1 ∙ filed;
     }
+
+pub returns-in_err-answer-clause-unknown : goal.returns-in_err-answer-clause-unknown
+returns-in_err-answer-clause-unknown g c e = subst (λ (x : Graph). IsUnknownTerm x.image c.args.term.now) c.self.view_is (c.in_err-answer.ensures.unknown (search rules))

@@ -1,9 +1,13 @@
-use Rattle.std.proofs.Common.{◌∙◌, ap, sym, inl, inr}
+use Rattle.std.proofs.Common.{◌≤◌, ◌+◌, ◌∙◌, ap, length, subst, sym, inl, inr}
+use Rattle.std.specs.List.{range_with_len}
 use Rattle.std.proofs.lemmas.Bool.{false≢true}
+use Rattle.slotted_slots.specs.Table.{Table}
+use Rattle.slotted_reports.specs.Nodes.{RunsOutForClasses}
 use Rattle.slotted_core.specs.Good.{Good, HasFreshSlots, RestsWith}
 use Rattle.slotted_core.specs.Graph.{Graph}
 use Rattle.slotted_core.proofs.FreshSlots.{fresh_slots-more}
-use Rattle.slotted_graph.proofs.Enodes.{runs-out}
+use Rattle.slotted_graph.specs.FiledNodes.{slots_for_dump}
+use Rattle.slotted_graph.proofs.Enodes.{dump-runs_out, dump-takes}
 use Rattle.slotted_graph.proofs.egraph.EGraph.dump.Goals as goal
 
 pub push_live-requires-clause-good : goal.push_live-requires-clause-good
@@ -26,4 +30,17 @@ returns-clause-full l c out =
     let k = c.self.inside.store in
     let r = c.self.inside.nodes in
     let inv : Good k × HasFreshSlots c.self.inside.table k × RestsWith k r = elim c.self.invariant [ inl h ↦ absurd (false≢true (sym c.if-self.false ∙ h)) | inr h ↦ h ] in
-    runs-out k r inv.0 inv.2 c.args.self.now c.push_live.new.table (ap (λ (x : Graph). x.filed) c.self.view_is) (c.push_live.ensures.full out)
+    dump-runs_out k r inv.0 inv.2 c.args.self.now (ap (λ (x : Graph). x.image) c.self.view_is) (ap (λ (x : Graph). x.filed) c.self.view_is) c.push_live.new.table
+    (subst (λ (t : Table). RunsOutForClasses k r (range_with_len 0 (length k.classes)) t c.push_live.new.table) (ap (λ (x : Graph). x.table) c.self.view_is) (c.push_live.ensures.full out))
+
+pub returns-clause-count : goal.returns-clause-count
+returns-clause-count l c =
+    let k = c.self.inside.store in
+    let r = c.self.inside.nodes in
+    let g = c.args.self.now in
+    let inv : Good k × HasFreshSlots c.self.inside.table k × RestsWith k r = elim c.self.invariant [ inl h ↦ absurd (false≢true (sym c.if-self.false ∙ h)) | inr h ↦ h ] in
+    let taken = dump-takes k r inv.0 inv.2 g (ap (λ (x : Graph). x.image) c.self.view_is) (ap (λ (x : Graph). x.filed) c.self.view_is) c.self.inside.table c.push_live.new.table c.push_live.ensures.takes in
+    record {
+      names = c.push_live.ensures.kept ∙ ap (λ (x : Graph). x.table.names) c.self.view_is;
+      taken = subst (λ (t : Table). c.push_live.new.table.fresh ≤ t.fresh + slots_for_dump g) (ap (λ (x : Graph). x.table) c.self.view_is) taken;
+    }

@@ -11,14 +11,14 @@ use Rattle.slotted_store.specs.Kept.{entries_of}
 use Rattle.slotted_terms.specs.Valid.{AllKnown}
 use Rattle.slotted_adding.specs.Enodes.{HasNamesOrNumbers}
 use Rattle.slotted_adding.specs.Reports.{class_sources}
-use Rattle.slotted_reports.specs.Nodes.{AreClassNodes}
+use Rattle.slotted_reports.specs.Nodes.{AreClassNodes, HasLargeKeyOf}
 use Rattle.slotted_core.specs.Good.{Good, HasFreshSlots, RestsWith, image_of}
 use Rattle.slotted_core.specs.Graph.{Graph}
 use Rattle.slotted_core.specs.Reports.{names_slots}
 use Rattle.slotted_core.proofs.GoodFinds.{good-finds}
 use Rattle.slotted_core.proofs.Reports.{names-are, names-known, slots-are, used-fresh, within}
 use Rattle.slotted_graph.specs.FiledNodes.{HasEachNode, HasOwnNames, IsEnode, IsNoneIfDead}
-use Rattle.slotted_graph.proofs.Enodes.{class-enodes, each-node, large-row, none-dead}
+use Rattle.slotted_graph.proofs.Enodes.{class-enodes, each-node, large-of_class, none-dead}
 use Rattle.slotted_graph.proofs.egraph.EGraph.enodes.Goals as goal
 
 pub mk_identity_applied_id-requires-clause-good : goal.mk_identity_applied_id-requires-clause-good
@@ -120,4 +120,5 @@ returns-clause-full l c out =
     let k = c.self.inside.store in
     let r = c.self.inside.nodes in
     let inv : Good k × HasFreshSlots c.self.inside.table k × RestsWith k r = elim c.self.invariant [ inl h ↦ absurd (false≢true (sym c.if-self.false ∙ h)) | inr h ↦ h ] in
-    large-row k r inv.0 inv.2 c.args.self.now (ap (λ (x : Graph). x.filed) c.self.view_is) (c.enodes.ensures.full out)
+    large-of_class k r inv.0 inv.2 c.args.self.now (ap (λ (x : Graph). x.image) c.self.view_is) (ap (λ (x : Graph). x.filed) c.self.view_is)
+    c.args.id.0 (subst (λ i. HasLargeKeyOf r (class_sources k r i)) (ap (λ (x : Applied). x.0) c.in_ok-class.ensures.ok) (c.enodes.ensures.full out))

@@ -7,7 +7,8 @@ use Rattle.slotted_terms.specs.Valid.{AllKnown}
 use Rattle.slotted_model.specs.Applied.{values}
 use Rattle.slotted_proofs.specs.Equations.{to_applied}
 use Rattle.slotted_store.specs.Finding.{IsFindable}
-use Rattle.slotted_reports.specs.Nodes.{AreEnodes, HasFreshNames}
+use Rattle.slotted_adding.specs.Reports.{class_sources}
+use Rattle.slotted_reports.specs.Nodes.{AreEnodes, HasFreshNames, RunsOutForKeys}
 use Rattle.slotted_core.specs.Good.{Good, HasFreshSlots, RestsWith, image_of}
 use Rattle.slotted_core.specs.Graph.{Graph, MakesAtMost}
 use Rattle.slotted_core.specs.ValidIds.{IsValidId}
@@ -15,7 +16,7 @@ use Rattle.slotted_core.proofs.FreshSlots.{fresh_slots-more}
 use Rattle.slotted_core.proofs.Reports.{within}
 use Rattle.slotted_core.proofs.ValidIds.{of-valid}
 use Rattle.slotted_graph.specs.FiledNodes.{AscendByShape, HasEachNode, IsNoneIfDead, slots_for_enodes}
-use Rattle.slotted_graph.proofs.Enodes.{each-node, enodes, none-dead, permuted-same, runs-out, takes-found}
+use Rattle.slotted_graph.proofs.Enodes.{each-node, enodes, none-dead, permuted-same, runs-out_of, takes-found}
 use Rattle.slotted_graph.proofs.egraph.EGraph.enodes_applied.Goals as goal
 
 pub enodes_applied-requires-clause-good : goal.enodes_applied-requires-clause-good
@@ -83,7 +84,8 @@ returns-clause-full l c out =
     let k = c.self.inside.store in
     let r = c.self.inside.nodes in
     let inv : Good k × HasFreshSlots c.self.inside.table k × RestsWith k r = elim c.self.invariant [ inl h ↦ absurd (false≢true (sym c.if-self.false ∙ h)) | inr h ↦ h ] in
-    runs-out k r inv.0 inv.2 c.args.self.now c.enodes_applied.new.table (ap (λ (x : Graph). x.filed) c.self.view_is) (c.enodes_applied.ensures.full out)
+    runs-out_of k r inv.0 inv.2 c.args.self.now c.enodes_applied.new.table (ap (λ (x : Graph). x.image) c.self.view_is) (ap (λ (x : Graph). x.filed) c.self.view_is)
+    c.args.a.now.id.0 (subst (λ (t : Table). RunsOutForKeys r (class_sources k r c.args.a.now.id.0) t c.enodes_applied.new.table) (ap (λ (x : Graph). x.table) c.self.view_is) (c.enodes_applied.ensures.full out))
 
 pub returns-clause-dead : goal.returns-clause-dead
 returns-clause-dead l c =

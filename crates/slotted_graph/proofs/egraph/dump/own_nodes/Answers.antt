@@ -1,9 +1,11 @@
-use Rattle.std.proofs.Common.{sym, subst}
+use Rattle.std.proofs.Common.{rules, ap, sym, subst}
 use Rattle.slotted_terms.specs.Valid.{AllKnown}
 use Rattle.slotted_model.specs.Applied.{Applied, values}
 use Rattle.slotted_model.specs.Find.{used_slots}
 use Rattle.slotted_model.proofs.NormalIds.{values-identity}
 use Rattle.slotted_store.specs.Kept.{entries_of}
+use Rattle.slotted_adding.specs.Reports.{class_sources}
+use Rattle.slotted_reports.specs.Nodes.{RunsOutForKeys, TakesForKeys}
 use Rattle.slotted_core.proofs.GoodFinds.{good-finds}
 use Rattle.slotted_core.proofs.Reports.{used-known}
 use Rattle.slotted_graph.proofs.egraph.dump.own_nodes.Goals as goal
@@ -27,3 +29,21 @@ enodes_applied-requires-clause-known g c =
 
 pub returns-clause-small : goal.returns-clause-small
 returns-clause-small g c j d h = (c.in_ok-answer.ensures.ok.nodes.each j d h).small
+
+pub returns-in_err-answer-clause-full : goal.returns-in_err-answer-clause-full
+returns-in_err-answer-clause-full g c e =
+    let k = c.args.store.now in
+    let r = c.args.nodes.now in
+    subst (λ i. RunsOutForKeys r (class_sources k r i) c.args.table.now c.enodes_applied.new.table) (ap (λ (x : Applied). x.0) c.in_ok-a.ensures.ok) (c.in_err-answer.ensures.full (search rules))
+
+pub returns-in_err-answer-clause-takes : goal.returns-in_err-answer-clause-takes
+returns-in_err-answer-clause-takes g c =
+    let k = c.args.store.now in
+    let r = c.args.nodes.now in
+    subst (λ i. TakesForKeys r (class_sources k r i) c.args.table.now c.enodes_applied.new.table) (ap (λ (x : Applied). x.0) c.in_ok-a.ensures.ok) c.enodes_applied.ensures.takes
+
+pub returns-clause-takes : goal.returns-clause-takes
+returns-clause-takes g c =
+    let k = c.args.store.now in
+    let r = c.args.nodes.now in
+    subst (λ i. TakesForKeys r (class_sources k r i) c.args.table.now c.enodes_applied.new.table) (ap (λ (x : Applied). x.0) c.in_ok-a.ensures.ok) c.enodes_applied.ensures.takes
