@@ -1,5 +1,5 @@
 -- What was valid stays valid: in the table as names are added to it, in the graph as it grows or ids are united.
-use Rattle.std.proofs.Common.{◌≡◌, ◌⊎◌, ◌↔◌, ◌<◌, ℕ, List, [], Bool, length, ap, refl, sym, ◌∙◌, subst, inl, inr}
+use Rattle.std.proofs.Common.{◌≡◌, ◌≢◌, ◌⊎◌, ◌↔◌, ◌<◌, ℕ, List, [], Bool, length, ap, refl, sym, ◌∙◌, subst, inl, inr}
 use Rattle.std.specs.Prelude.{Contains, IsTrue, Option, slice_index_or}
 use Rattle.slotted_theory.specs.Term.{Args, Term, done, name, child, bind}
 use Rattle.slotted_theory.specs.Nameless.{DTerm}
@@ -122,6 +122,10 @@ symmetry-sides g (inr sides) y c = (inr (sides y c).0, inr (sides y c).1)
 -- after a union an answer that says whether its sides find alike is yes, where no listed symmetry is open
 pub yes_if_closed : (g h : Image) (a b : Applied) (y : Bool) → IsUnion g h a b y → (answer : Bool) → (IsTrue answer ↔ FoundAlike h a b) → AreClosed h → IsTrue answer
 yes_if_closed g h a b y u answer says closed = says.1 (u.together.alike (λ e c finds. closed e c))
+
+-- and where the sides found two classes before, whichever symmetries are open
+pub yes_of_two : (g h : Image) (a b : Applied) (y : Bool) → IsUnion g h a b y → (answer : Bool) → (IsTrue answer ↔ FoundAlike h a b) → (found_id g a).0 ≢ (found_id g b).0 → IsTrue answer
+yes_of_two g h a b y u answer says two = says.1 (u.of_two two)
 
 -- where no listed symmetry is open, none affects a class
 closed-unaffected : (g : Image) → AreClosed g → {c : ℕ} → ¬ IsAffected g c

@@ -5,7 +5,7 @@ use Rattle.std.proofs.lemmas.Bool.{false≢true}
 use Rattle.slotted_model.specs.Applied.{Applied, values}
 use Rattle.slotted_model.specs.Classes.{IsFull}
 use Rattle.slotted_model.specs.Filling.{IsFilling}
-use Rattle.slotted_model.specs.Find.{Linked, find, used_slots}
+use Rattle.slotted_model.specs.Find.{Linked, find, find_class, used_slots}
 use Rattle.slotted_model.specs.ProofList.{equation_of}
 use Rattle.slotted_model.proofs.FillingEquations.{filled-equation}
 use Rattle.slotted_model.proofs.NormalIds.{filling-found, full-is_valid}
@@ -119,6 +119,10 @@ module _ (k : Kept) (good : Good k) (a b : Applied) (va : IsFindable k a) (vb : 
         ∙ (sym (full.goes_on.finds y w).1
         ∙ sym (found_id-is l y (within-new y w)))))
 
+    -- and is of its class
+    class-old : (x : Applied) → IsFindable k x → (given : List ℕ) (y : Applied) → IsFilling (nodes_of k) given x y → (found_id (image_of k) x).0 ≡ find_class (entries_of k) y.0
+    class-old x v given y f = ap (λ (z : Applied). z.0) (found-old x v) ∙ ap (find_class (entries_of k)) (sym f.class)
+
     same-equation : (left right : Applied) → FillApart (image_of k) a b left right → equation_of c d ≡ equation_of left right
     same-equation left right f = one-equation (nodes_of k) slots slots a b va vb c d left right fills_left fills_right f.left_fills f.right_fills
 
@@ -133,6 +137,10 @@ module _ (k : Kept) (good : Good k) (a b : Applied) (va : IsFindable k a) (vb : 
           λ e. h.1 (sym (found-old a va) ∙ (e ∙ found-old b vb)),
         );
         together = together-found (image_of l) a b c d (found-new (values b.1) a c va fills_left) (found-new (values c.1) b d vb fills_right) full.together;
+        of_two = λ differ.
+            found-new (values b.1) a c va fills_left
+            ∙ (full.of_two (λ same. differ (class-old a va (values b.1) c fills_left ∙ (same ∙ sym (class-old b vb (values c.1) d fills_right))))
+            ∙ sym (found-new (values c.1) b d vb fills_right));
         asserts = λ left right f. subst (Asserts (image_of k) (image_of l)) (same-equation left right f) full.asserts;
         filled = (c, d, apart);
         canonical = full.nodes;

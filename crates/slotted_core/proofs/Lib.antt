@@ -18,6 +18,7 @@ pub mod Asserting
 pub mod Symmetries
 pub mod LiveSizes
 pub mod LackingNames
+pub mod UnitedClasses
 pub mod Unions
 pub mod FilledUnions
 pub mod ExplainedTerms

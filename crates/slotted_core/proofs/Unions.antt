@@ -1,5 +1,5 @@
 -- A whole union of full ids: what was asserted, the union by its entry, and the rebuild that follows.
-use Rattle.std.proofs.Common.{◌≡◌, ◌<◌, ◌≤◌, ◌+◌, ◌^◌, ℕ, List, length, sym, ◌∙◌, ap, subst, inl, inr, arith, length-append}
+use Rattle.std.proofs.Common.{◌≡◌, ◌≢◌, ◌<◌, ◌≤◌, ◌+◌, ◌^◌, ℕ, List, length, sym, ◌∙◌, ap, subst, inl, inr, arith, length-append}
 use Rattle.std.specs.Prelude.{Contains, Option, map}
 use Rattle.std.proofs.lemmas.Bool.{cases_lt}
 use Rattle.std.proofs.lemmas.List.{map-append, get_or_append_left}
@@ -9,13 +9,13 @@ use Rattle.slotted_model.specs.Applied.{Applied, values}
 use Rattle.slotted_model.specs.Changes.{GoesOn, HasUnited}
 use Rattle.slotted_model.specs.Classes.{canonical_slots, IsFull}
 use Rattle.slotted_model.specs.Find.{find_class, find}
-use Rattle.slotted_model.specs.ProofList.{equation_of}
+use Rattle.slotted_model.specs.ProofList.{Equation, equation_at, equation_of}
 use Rattle.slotted_model.specs.Rebuild.{IsRebuilt}
 use Rattle.slotted_model.specs.Rest as model
 use Rattle.slotted_model.specs.Rest.{FoundTogether, id_names, size}
 use Rattle.slotted_model.proofs.Asserting as laws
 use Rattle.slotted_model.proofs.EndsGrow.{assertion-exact}
-use Rattle.slotted_model.proofs.NormalIds.{Contains-ascending, Contains-of_ascending}
+use Rattle.slotted_model.proofs.NormalIds.{Contains-ascending, Contains-of_ascending, full-is_valid}
 use Rattle.slotted_model.proofs.Turning.{run}
 use Rattle.slotted_model.proofs.Unions.{unites}
 use Rattle.slotted_proofs.specs.Entries.{Proven, entry_of, nothing_proven, statement_at, asserted_entry}
@@ -31,7 +31,7 @@ use Rattle.slotted_rebuilding.specs.Filed.{state_in, IsWellFiled, UnitesFiled}
 use Rattle.slotted_rebuilding.specs.Turns.{Rebuilds}
 use Rattle.slotted_core.specs.Causes.{HasLargeClassIn, HasLargeClassOf, class_found}
 use Rattle.slotted_core.specs.Good.{Good, RestsWith, image_of}
-use Rattle.slotted_core.specs.Image.{Asserts, AreTogether, Continues, Records, SameNames, asserted_in, found_id, live_size}
+use Rattle.slotted_core.specs.Image.{Asserts, AreTogether, Continues, FoundAlike, Records, SameNames, asserted_in, found_id, live_size}
 use Rattle.slotted_core.proofs.Asserting.{IsAsserted, is_asserted, asserted-filed, asserts-by}
 use Rattle.slotted_core.proofs.ContinuedFinds.{finds-new, finds-on, alike-on}
 use Rattle.slotted_core.proofs.EntryTexts.{records-more}
@@ -40,6 +40,7 @@ use Rattle.slotted_core.proofs.Images.{class_found-is}
 use Rattle.slotted_core.proofs.LiveSizes.{live_size-is}
 use Rattle.slotted_core.proofs.Resting.{at-rest}
 use Rattle.slotted_core.proofs.Symmetries.{none_open}
+use Rattle.slotted_core.proofs.UnitedClasses.{united-alike}
 
 -- a slot of either list of names
 same_set : (a b : Applied) → id_names a ≡ id_names b → SameNames a b
@@ -63,6 +64,7 @@ pub record UnitesFull (k : Kept) (r : Rows) (l : Kept) (q : Rows) (x : Proven) (
   pub nodes : nodes_of l ≡ nodes_of k
   pub goes_on : GoesOn (state_in k r) (state_in l q)
   pub together : AreTogether (image_of l) a b
+  pub of_two : find_class (entries_of k) a.0 ≢ find_class (entries_of k) b.0 → FoundAlike (image_of l) a b
   pub asserts : Asserts (image_of k) (image_of l) (equation_of a b)
   pub continues : Continues (image_of k) (image_of l)
   pub size : live_size (image_of l) ≤ live_size (image_of k)
@@ -113,6 +115,20 @@ module _ (k : Kept) (r : Rows) (good : Good k) (rests : RestsWith k r) (a b : Ap
   united-together : AreTogether (image_of l) a b
   united-together = together-in l q united-good a b (new a fa) (new b fb) asserted.together
 
+  -- of two classes they find alike
+  united-of_two : find_class (entries_of k) a.0 ≢ find_class (entries_of k) b.0 → FoundAlike (image_of l) a b
+  united-of_two differ =
+      let on_a : IsFull (nodes_of m) a = subst (λ nodes. IsFull nodes a) (sym said.grows.nodes) fa in
+      let on_b : IsFull (nodes_of m) b = subst (λ nodes. IsFull nodes b) (sym said.grows.nodes) fb in
+      let at : equation_at (proofs_of m) p ≡ equation_of a b = said.stands.1 in
+      let apart : find_class (entries_of m) a.0 ≢ find_class (entries_of m) b.0 = subst (λ found. find_class found a.0 ≢ find_class found b.0) (sym said.found) differ in
+      let alike : find (entries_of n) a ≡ find (entries_of n) b =
+      united-alike p u.unites well.sane said.stands.0 (subst (λ (e : Equation). find_class (entries_of m) e.left ≢ find_class (entries_of m) e.right) (sym at) apart) a b on_a on_b (sym at) in
+      let links = well.sane.sound.linked in
+      let va = (united.goes_on.finds a (full-is_valid (nodes_of m) (entries_of m) links a on_a)).0 in
+      let vb = (united.goes_on.finds b (full-is_valid (nodes_of m) (entries_of m) links b on_b)).0 in
+      new a fa ∙ ((rebuilt.goes_on.finds a va).1 ∙ (ap (find (entries_of l)) alike ∙ (sym (rebuilt.goes_on.finds b vb).1 ∙ sym (new b fb))))
+
   united-continues : Continues (image_of k) (image_of l)
   united-continues = record {
     more = map entry_of grows.more;
@@ -159,6 +175,7 @@ module _ (k : Kept) (r : Rows) (good : Good k) (rests : RestsWith k r) (a b : Ap
     nodes = grows.nodes;
     goes_on = asserted.goes_on;
     together = united-together;
+    of_two = united-of_two;
     asserts = united-asserts;
     continues = united-continues;
     size = united-size;

@@ -195,6 +195,7 @@ live_size g = live_size_from 0 g.found
 pub record IsUnion (g h : Image) (a b : Applied) (y : Bool) : Type 0 where
   pub answer : IsTrue y ↔ (¬ FoundAlike g a b)
   pub together : AreTogether h a b
+  pub of_two : (found_id g a).0 ≢ (found_id g b).0 → FoundAlike h a b
   pub asserts : (left right : Applied) → FillApart g a b left right → Asserts g h (equation_of left right)
   pub filled : (left : Applied) × (right : Applied) × FillApart g a b left right
   pub canonical : h.canonical ≡ g.canonical
