@@ -1,5 +1,5 @@
 //! What a graph holds, as a text: for each live class its slots, the node that it was made with, and its filed nodes.
-ghost use Rattle.std.specs.Prelude.{◌≡◌, ◌⊎◌, ◌↔◌, ◌<◌, length, All, IsTrue, IfOk, IfErr, IsErrOf};
+ghost use Rattle.std.specs.Prelude.{◌≡◌, ◌⊎◌, ◌↔◌, ◌<◌, length, string_bytes, All, IsTrue, IfOk, OnOk, OnErr, IfErr, IsErrOf};
 ghost use Rattle.std.specs.List.{range_with_len};
 ghost use Rattle.slotted_slots.specs.Error.{IsOutOfMemory, IsShortage};
 ghost use Rattle.slotted_slots.specs.Table.{KnowsMore};
@@ -8,7 +8,7 @@ ghost use Rattle.slotted_core.specs.Graph.{MakesAtMost, OnlyTakesSlots};
 ghost use Rattle.slotted_nodes.specs.Form.{IsSmall};
 ghost use Rattle.slotted_adding.specs.Reports.{class_sources};
 ghost use Rattle.slotted_reports.specs.Nodes.{RunsOutForClasses, RunsOutForKeys, TakesForClasses, TakesForKeys};
-ghost use Rattle.slotted_graph.specs.FiledNodes.{CanRunOutForDump, slots_for_dump};
+ghost use Rattle.slotted_graph.specs.FiledNodes.{CanRunOutForDump, IsAppended, slots_for_dump};
 
 use super::EGraph;
 use slotted_adding::reports;
@@ -203,12 +203,41 @@ fn push_live<L: Language>(
     Ok(())
 }
 
+// Appends what is told of all live classes, whole or not at all.
+fn append_live<L: Language>(
+    alloc: Global,
+    out: &mut String,
+    store: &Store<L>,
+    nodes: &Hashcons<L>,
+    table: &mut SlotTable,
+) -> Result<(), Error>
+    requires good { Good store.now }
+    requires rests { RestsWith store.now nodes.now }
+    requires fresh_slots { HasFreshSlots table.old store.now }
+    ensures appends { OnOk result (IsAppended (string_bytes out.old) (string_bytes out.new)) }
+    ensures unchanged { OnErr result (string_bytes out.new ≡ string_bytes out.old) }
+    ensures more { KnowsMore table.old table.new }
+    ensures kept { table.new.names ≡ table.old.names }
+    ensures takes { TakesForClasses store.now nodes.now (range_with_len 0 (length store.now.classes)) table.old table.new }
+    ensures full { IsErrOf result Error.OutOfSlots
+        → RunsOutForClasses store.now nodes.now (range_with_len 0 (length store.now.classes)) table.old table.new }
+    ensures err { IfErr result IsShortage }
+{
+    let mut text = String::new(alloc);
+    push_live(alloc, &mut text, store, nodes, table)?;
+    out.push_str(&text)?;
+    Ok(())
+}
+
 impl<L: Language, N: Drop> EGraph<L, N> {
     /// Appends a line feed, then for each live class by its number a line feed, its line with its slots, `>> ` and the node that it was made
     /// with, and for each filed node by shape ` - ` and the node with the class that it was made with; and a line feed.
     pub fn dump(&mut self, out: &mut String) -> Result<(), Error>
-        // Only fresh slots are made, two at most for each place of all filed nodes, and a refusal does not fail the graph. The text may
-        // have a part of it then.
+        // What stood in the text stays before it; it stays as it is where the call is refused.
+        ensures appends { OnOk result (IsAppended (string_bytes out.old) (string_bytes out.new)) }
+        ensures unchanged { OnErr result (string_bytes out.new ≡ string_bytes out.old) }
+
+        // Only fresh slots are made, two at most for each place of all filed nodes, and a refusal does not fail the graph.
         ensures takes { OnlyTakesSlots self.old self.new }
         ensures count { MakesAtMost (slots_for_dump self.old) self.old.table self.new.table }
         ensures stays { IsTrue self.old.failed → self.new ≡ self.old }
@@ -220,6 +249,6 @@ impl<L: Language, N: Drop> EGraph<L, N> {
         if self.failed {
             return Err(Error::Failed);
         }
-        push_live(self.alloc, out, &self.store, &self.nodes, &mut self.table)
+        append_live(self.alloc, out, &self.store, &self.nodes, &mut self.table)
     }
 }

@@ -10,19 +10,19 @@ use Rattle.slotted_graph.specs.FiledNodes.{slots_for_dump}
 use Rattle.slotted_graph.proofs.Enodes.{dump-runs_out, dump-takes}
 use Rattle.slotted_graph.proofs.egraph.EGraph.dump.Goals as goal
 
-pub push_live-requires-clause-good : goal.push_live-requires-clause-good
-push_live-requires-clause-good l c = elim c.self.invariant [ inl h ↦ absurd (false≢true (sym c.if-self.false ∙ h)) | inr h ↦ h.0 ]
+pub append_live-requires-clause-good : goal.append_live-requires-clause-good
+append_live-requires-clause-good l c = elim c.self.invariant [ inl h ↦ absurd (false≢true (sym c.if-self.false ∙ h)) | inr h ↦ h.0 ]
 
-pub push_live-requires-clause-rests : goal.push_live-requires-clause-rests
-push_live-requires-clause-rests l c = elim c.self.invariant [ inl h ↦ absurd (false≢true (sym c.if-self.false ∙ h)) | inr h ↦ h.2 ]
+pub append_live-requires-clause-rests : goal.append_live-requires-clause-rests
+append_live-requires-clause-rests l c = elim c.self.invariant [ inl h ↦ absurd (false≢true (sym c.if-self.false ∙ h)) | inr h ↦ h.2 ]
 
-pub push_live-requires-clause-fresh_slots : goal.push_live-requires-clause-fresh_slots
-push_live-requires-clause-fresh_slots l c = elim c.self.invariant [ inl h ↦ absurd (false≢true (sym c.if-self.false ∙ h)) | inr h ↦ h.1 ]
+pub append_live-requires-clause-fresh_slots : goal.append_live-requires-clause-fresh_slots
+append_live-requires-clause-fresh_slots l c = elim c.self.invariant [ inl h ↦ absurd (false≢true (sym c.if-self.false ∙ h)) | inr h ↦ h.1 ]
 
 pub invariant_of-self : goal.invariant_of-self
 invariant_of-self g c = elim c.self.invariant [
   | inl h ↦ inl h
-  | inr h ↦ inr (h.0, fresh_slots-more c.self.inside.table c.push_live.new.table c.self.inside.store c.push_live.ensures.more h.1, h.2)
+  | inr h ↦ inr (h.0, fresh_slots-more c.self.inside.table c.append_live.new.table c.self.inside.store c.append_live.ensures.more h.1, h.2)
 ]
 
 pub returns-clause-full : goal.returns-clause-full
@@ -30,8 +30,8 @@ returns-clause-full l c out =
     let k = c.self.inside.store in
     let r = c.self.inside.nodes in
     let inv : Good k × HasFreshSlots c.self.inside.table k × RestsWith k r = elim c.self.invariant [ inl h ↦ absurd (false≢true (sym c.if-self.false ∙ h)) | inr h ↦ h ] in
-    dump-runs_out k r inv.0 inv.2 c.args.self.now (ap (λ (x : Graph). x.image) c.self.view_is) (ap (λ (x : Graph). x.filed) c.self.view_is) c.push_live.new.table
-    (subst (λ (t : Table). RunsOutForClasses k r (range_with_len 0 (length k.classes)) t c.push_live.new.table) (ap (λ (x : Graph). x.table) c.self.view_is) (c.push_live.ensures.full out))
+    dump-runs_out k r inv.0 inv.2 c.args.self.now (ap (λ (x : Graph). x.image) c.self.view_is) (ap (λ (x : Graph). x.filed) c.self.view_is) c.append_live.new.table
+    (subst (λ (t : Table). RunsOutForClasses k r (range_with_len 0 (length k.classes)) t c.append_live.new.table) (ap (λ (x : Graph). x.table) c.self.view_is) (c.append_live.ensures.full out))
 
 pub returns-clause-count : goal.returns-clause-count
 returns-clause-count l c =
@@ -39,8 +39,8 @@ returns-clause-count l c =
     let r = c.self.inside.nodes in
     let g = c.args.self.now in
     let inv : Good k × HasFreshSlots c.self.inside.table k × RestsWith k r = elim c.self.invariant [ inl h ↦ absurd (false≢true (sym c.if-self.false ∙ h)) | inr h ↦ h ] in
-    let taken = dump-takes k r inv.0 inv.2 g (ap (λ (x : Graph). x.image) c.self.view_is) (ap (λ (x : Graph). x.filed) c.self.view_is) c.self.inside.table c.push_live.new.table c.push_live.ensures.takes in
+    let taken = dump-takes k r inv.0 inv.2 g (ap (λ (x : Graph). x.image) c.self.view_is) (ap (λ (x : Graph). x.filed) c.self.view_is) c.self.inside.table c.append_live.new.table c.append_live.ensures.takes in
     record {
-      names = c.push_live.ensures.kept ∙ ap (λ (x : Graph). x.table.names) c.self.view_is;
-      taken = subst (λ (t : Table). c.push_live.new.table.fresh ≤ t.fresh + slots_for_dump g) (ap (λ (x : Graph). x.table) c.self.view_is) taken;
+      names = c.append_live.ensures.kept ∙ ap (λ (x : Graph). x.table.names) c.self.view_is;
+      taken = subst (λ (t : Table). c.append_live.new.table.fresh ≤ t.fresh + slots_for_dump g) (ap (λ (x : Graph). x.table) c.self.view_is) taken;
     }
