@@ -59,7 +59,8 @@ fn is_found<L: Language>(store: &Store<L>, a: &AppliedId) -> bool
 fn is_normal<L: Language>(store: &Store<L>, node: &L) -> bool
     requires good { HasFinds store.now }
     requires children { HasFindableChildren store.now (L.form node.now) }
-    ensures { IsTrue result → normal (entries_of store.now) (nameless_node (L.form node.now)) ≡ nameless_node (L.form node.now) }
+    ensures { IsTrue result
+        → normal (entries_of store.now) (nameless_node (L.form node.now)) ≡ nameless_node (L.form node.now) }
 {
     for k in 0..node.applied_id_count() {
         if !is_found(store, node.applied_id(k)) {

@@ -61,10 +61,12 @@ pub record PrintingRunsOut (k : Graph) (p : ℕ) (e : Error) (h : Graph) : Type 
 -- what an explanation of two terms over r answers, and the graph h that it leaves
 pub data ExplanationAnswers (written : Term → List Element) (r : Graph) (t u : Term) (h : Graph) : Answer → Type 0 where
   -- there is a proof, and it is printed
-  explained : {text : String Global} (p : ℕ) (k : Graph) → Proves r t u p k → Prints written k p text h → ExplanationAnswers written r t u h (Explained text)
+  explained : {text : String Global} (p : ℕ) (k : Graph) → Proves r t u p k → Prints written k p text h →
+      ExplanationAnswers written r t u h (Explained text)
   -- the graph does not find the terms equal
   not_equal : AreAddedApart r t u h → ExplanationAnswers written r t u h (Refused NotEqual)
   -- a shortage before there is a proof
   proving_ran_out : {e : Error} → ProvingRunsOut r t u e h → ExplanationAnswers written r t u h (Refused e)
   -- a shortage while it is printed
-  printing_ran_out : {e : Error} (p : ℕ) (k : Graph) → Proves r t u p k → PrintingRunsOut k p e h → ExplanationAnswers written r t u h (Refused e)
+  printing_ran_out : {e : Error} (p : ℕ) (k : Graph) → Proves r t u p k → PrintingRunsOut k p e h →
+      ExplanationAnswers written r t u h (Refused e)

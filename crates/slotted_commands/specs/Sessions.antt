@@ -84,12 +84,15 @@ pub record IsRefused (read : List Element → Option Form) (g : Graph) (text : L
 -- the texts write these terms, one text read after another
 pub data WritesTerms (read : List Element → Option Form) : Graph → List (List ℕ) → List Term → Graph → Type 0 where
   no_text : {g : Graph} → WritesTerms read g [] [] g
-  next_text : {g h k : Graph} {text : List ℕ} {texts : List (List ℕ)} {t : Term} {ts : List Term} → WritesTerm read g text t h → WritesTerms read h texts ts k → WritesTerms read g (text ∷ texts) (t ∷ ts) k
+  next_text : {g h k : Graph} {text : List ℕ} {texts : List (List ℕ)} {t : Term} {ts : List Term} → WritesTerm read g text t h →
+      WritesTerms read h texts ts k → WritesTerms read g (text ∷ texts) (t ∷ ts) k
 
 -- the first of the texts that writes no term is refused with e
 pub data FirstIsRefused (read : List Element → Option Form) : Graph → List (List ℕ) → Error → Graph → Type 0 where
-  refused_here : {g h : Graph} {text : List ℕ} {texts : List (List ℕ)} {e : Error} → IsRefused read g text e h → FirstIsRefused read g (text ∷ texts) e h
-  refused_later : {g h k : Graph} {text : List ℕ} {texts : List (List ℕ)} {t : Term} {e : Error} → WritesTerm read g text t h → FirstIsRefused read h texts e k → FirstIsRefused read g (text ∷ texts) e k
+  refused_here : {g h : Graph} {text : List ℕ} {texts : List (List ℕ)} {e : Error} → IsRefused read g text e h →
+      FirstIsRefused read g (text ∷ texts) e h
+  refused_later : {g h k : Graph} {text : List ℕ} {texts : List (List ℕ)} {t : Term} {e : Error} → WritesTerm read g text t h →
+      FirstIsRefused read h texts e k → FirstIsRefused read g (text ∷ texts) e k
 
 -- h has all that g has, with nothing more asserted, and an id that a look-up of the term t answers, which `eq` can be asked of: it is what
 -- it finds itself, and equal to t by what is asserted. What was looked up is looked up as before, and where t was, nothing changes; else
@@ -142,12 +145,14 @@ pub record RunsOut (m : Manner) (g : Graph) (t : Term) (e : Error) (h : Graph) :
 -- the terms are added, one after another, and have these ids
 pub data GainsTerms (m : Manner) : Graph → List Term → List Applied → Graph → Type 0 where
   no_term : {g : Graph} → GainsTerms m g [] [] g
-  next_term : {g h k : Graph} {t : Term} {a : Applied} {ts : List Term} {ids : List Applied} → Gains m g t a h → GainsTerms m h ts ids k → GainsTerms m g (t ∷ ts) (a ∷ ids) k
+  next_term : {g h k : Graph} {t : Term} {a : Applied} {ts : List Term} {ids : List Applied} → Gains m g t a h →
+      GainsTerms m h ts ids k → GainsTerms m g (t ∷ ts) (a ∷ ids) k
 
 -- adding the terms runs out at one of them
 pub data RunsOutAt (m : Manner) : Graph → List Term → Error → Graph → Type 0 where
   runs_out_here : {g h : Graph} {t : Term} {ts : List Term} {e : Error} → RunsOut m g t e h → RunsOutAt m g (t ∷ ts) e h
-  runs_out_later : {g h k : Graph} {t : Term} {ts : List Term} {e : Error} (a : Applied) → Gains m g t a h → RunsOutAt m h ts e k → RunsOutAt m g (t ∷ ts) e k
+  runs_out_later : {g h k : Graph} {t : Term} {ts : List Term} {e : Error} (a : Applied) → Gains m g t a h →
+      RunsOutAt m h ts e k → RunsOutAt m g (t ∷ ts) e k
 
 -- the ids of two terms find the same: so the terms are derivable from any named equations that are the asserted list, and where
 -- nothing is asserted they differ in bound names alone
@@ -180,13 +185,19 @@ pub record UnionRunsOut (g : Graph) (e : Error) (h : Graph) : Type 0 where
 -- what a command says of its terms and their ids once they are added to g, and the graph that it leaves
 pub data Says (written : Term → List Element) (g : Graph) : Command → List Term → List Applied → Graph → Answer → Type 0 where
   done : {text : List ℕ} {t : Term} {a : Applied} → Says written g (adds text) (t ∷ []) (a ∷ []) g Done
-  are_equal : {left right : List ℕ} {t u : Term} {a b : Applied} → AreFoundEqual g t u a b → Says written g (compares left right) (t ∷ u ∷ []) (a ∷ b ∷ []) g Yes
-  are_different : {left right : List ℕ} {t u : Term} {a b : Applied} → AreFoundDifferent g t u a b → Says written g (compares left right) (t ∷ u ∷ []) (a ∷ b ∷ []) g No
-  are_united : {left right : List ℕ} {t u : Term} {a b : Applied} {h : Graph} → Unites g a b h true → Says written g (unites left right) (t ∷ u ∷ []) (a ∷ b ∷ []) h United
-  were_equal : {left right : List ℕ} {t u : Term} {a b : Applied} {h : Graph} → Unites g a b h false → Says written g (unites left right) (t ∷ u ∷ []) (a ∷ b ∷ []) h WereEqual
-  union_ran_out : {left right : List ℕ} {t u : Term} {a b : Applied} {e : Error} {h : Graph} → UnionRunsOut g e h → Says written g (unites left right) (t ∷ u ∷ []) (a ∷ b ∷ []) h (Refused e)
+  are_equal : {left right : List ℕ} {t u : Term} {a b : Applied} → AreFoundEqual g t u a b →
+      Says written g (compares left right) (t ∷ u ∷ []) (a ∷ b ∷ []) g Yes
+  are_different : {left right : List ℕ} {t u : Term} {a b : Applied} → AreFoundDifferent g t u a b →
+      Says written g (compares left right) (t ∷ u ∷ []) (a ∷ b ∷ []) g No
+  are_united : {left right : List ℕ} {t u : Term} {a b : Applied} {h : Graph} → Unites g a b h true →
+      Says written g (unites left right) (t ∷ u ∷ []) (a ∷ b ∷ []) h United
+  were_equal : {left right : List ℕ} {t u : Term} {a b : Applied} {h : Graph} → Unites g a b h false →
+      Says written g (unites left right) (t ∷ u ∷ []) (a ∷ b ∷ []) h WereEqual
+  union_ran_out : {left right : List ℕ} {t u : Term} {a b : Applied} {e : Error} {h : Graph} → UnionRunsOut g e h →
+      Says written g (unites left right) (t ∷ u ∷ []) (a ∷ b ∷ []) h (Refused e)
   -- what is extracted is the id that the term has
-  extraction : {text : List ℕ} {t : Term} {a : Applied} {h : Graph} {x : Answer} → ExtractionAnswers written g a h x → Says written g (extracts text) (t ∷ []) (a ∷ []) h x
+  extraction : {text : List ℕ} {t : Term} {a : Applied} {h : Graph} {x : Answer} → ExtractionAnswers written g a h x →
+      Says written g (extracts text) (t ∷ []) (a ∷ []) h x
   counted : {n : ℕ} → CountsOpen g.image g.image.symmetries n → Says written g counts [] [] g (Symmetries (length g.image.symmetries) n)
 
 -- what a command answers over g, and the graph h that it leaves
@@ -198,11 +209,15 @@ pub data Answered (read : List Element → Option Form) (written : Term → List
   -- the first text that is refused gives the answer, and no term is added
   refused : {e : Error} → g.failed ≡ false → FirstIsRefused read g (texts_of c) e h → Answered read written g h c (Refused e)
   -- a shortage while terms are added
-  ran_out : {e : Error} (ts : List Term) (r : Graph) → g.failed ≡ false → WritesTerms read g (texts_of c) ts r → RunsOutAt (manner_of c) r ts e h → Answered read written g h c (Refused e)
+  ran_out : {e : Error} (ts : List Term) (r : Graph) → g.failed ≡ false → WritesTerms read g (texts_of c) ts r →
+      RunsOutAt (manner_of c) r ts e h → Answered read written g h c (Refused e)
   -- all texts are read, then all terms are added in the manner of the command, and then it says of them what it does
-  carried_out : {a : Answer} (ts : List Term) (ids : List Applied) (r k : Graph) → g.failed ≡ false → WritesTerms read g (texts_of c) ts r → GainsTerms (manner_of c) r ts ids k → Says written k c ts ids h a → Answered read written g h c a
+  carried_out : {a : Answer} (ts : List Term) (ids : List Applied) (r k : Graph) → g.failed ≡ false →
+      WritesTerms read g (texts_of c) ts r → GainsTerms (manner_of c) r ts ids k → Says written k c ts ids h a →
+      Answered read written g h c a
   -- both texts are read, and then their terms are explained, which adds them
-  explanation : {a : Answer} (left right : List ℕ) (t u : Term) (r : Graph) → c ≡ explains left right → g.failed ≡ false → WritesTerms read g (left ∷ right ∷ []) (t ∷ u ∷ []) r → ExplanationAnswers written r t u h a → Answered read written g h c a
+  explanation : {a : Answer} (left right : List ℕ) (t u : Term) (r : Graph) → c ≡ explains left right → g.failed ≡ false →
+      WritesTerms read g (left ∷ right ∷ []) (t ∷ u ∷ []) r → ExplanationAnswers written r t u h a → Answered read written g h c a
 
 -- two texts write these terms, and reading them leaves r, to which both can be added
 pub record ReadsBoth (read : List Element → Option Form) (g r : Graph) (left right : List ℕ) (t u : Term) : Type 0 where
@@ -254,7 +269,8 @@ IsAnsweredWith read written g h texts e = (c : Command) → IsCommand c → text
 
 -- any such command that adds its terms in this manner
 abbrev pub IsAnsweredIn : Manner → (List Element → Option Form) → (Term → List Element) → Graph → Graph → List (List ℕ) → Error → Type 0
-IsAnsweredIn m read written g h texts e = (c : Command) → IsCommand c → manner_of c ≡ m → texts_of c ≡ texts → Answered read written g h c (Refused e)
+IsAnsweredIn m read written g h texts e = (c : Command) → IsCommand c → manner_of c ≡ m → texts_of c ≡ texts →
+    Answered read written g h c (Refused e)
 
 -- the answer, where a refusal is an answer too
 abbrev pub answer_of : Result Answer Error → Answer

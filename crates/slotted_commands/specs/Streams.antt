@@ -26,16 +26,19 @@ lines_of (b ∷ bs) = if b == 10 then [] ∷ lines_of bs else with_first b (line
 -- its answer and a line feed
 pub data LineWrites (read : List Element → Option Form) (written : Term → List Element) (g : Graph) : List ℕ → List ℕ → Graph → Type 0 where
   empty_line : LineWrites read written g [] [] g
-  one_line : {line : List ℕ} {a : Answer} {h : Graph} → 0 < length line → IsUtf8 line → Answered read written g h (command_of line) a → LineWrites read written g line (text_of a ++ 10 ∷ []) h
+  one_line : {line : List ℕ} {a : Answer} {h : Graph} → 0 < length line → IsUtf8 line →
+      Answered read written g h (command_of line) a → LineWrites read written g line (text_of a ++ 10 ∷ []) h
 
 -- the line leaves the graph h, whether its answer is written or not
 abbrev pub LineLeaves : (List Element → Option Form) → (Term → List Element) → Graph → List ℕ → Graph → Type 0
 LineLeaves read written g line h = (bs : List ℕ) × LineWrites read written g line bs h
 
 -- what lines write over g, one after another
-pub data LinesWrite (read : List Element → Option Form) (written : Term → List Element) : Graph → List (List ℕ) → List ℕ → Graph → Type 0 where
+pub data LinesWrite (read : List Element → Option Form) (written : Term → List Element) : Graph → List (List ℕ) → List ℕ → Graph →
+    Type 0 where
   no_line : {g : Graph} → LinesWrite read written g [] [] g
-  next_line : {g h k : Graph} {line : List ℕ} {lines : List (List ℕ)} {bs cs : List ℕ} → LineWrites read written g line bs h → LinesWrite read written h lines cs k → LinesWrite read written g (line ∷ lines) (bs ++ cs) k
+  next_line : {g h k : Graph} {line : List ℕ} {lines : List (List ℕ)} {bs cs : List ℕ} → LineWrites read written g line bs h →
+      LinesWrite read written h lines cs k → LinesWrite read written g (line ∷ lines) (bs ++ cs) k
 
 -- the graph without classes, over an empty table
 abbrev pub empty_graph : Graph

@@ -78,7 +78,8 @@ fn look_up_both<L: Printable>(
     right: &str,
 ) -> Result<(AppliedId, AppliedId), Error>
     ensures ok { IfOk result (λ p. LooksUpBoth L.read graph.old graph.new left.now right.now p.0 p.1) }
-    ensures err { IfErr result (IsAnsweredIn by_look_up L.read L.written graph.old graph.new (left.now ∷ right.now ∷ [])) }
+    ensures err { IfErr result
+        (IsAnsweredIn by_look_up L.read L.written graph.old graph.new (left.now ∷ right.now ∷ [])) }
 {
     let (one, two) = read_both(graph, left, right)?;
     let left = graph.add_expr(&one)?;
@@ -93,7 +94,8 @@ fn add_both<L: Printable>(
     right: &str,
 ) -> Result<(AppliedId, AppliedId), Error>
     ensures ok { IfOk result (λ p. AddsBoth L.read graph.old graph.new left.now right.now p.0 p.1) }
-    ensures err { IfErr result (IsAnsweredIn canonically L.read L.written graph.old graph.new (left.now ∷ right.now ∷ [])) }
+    ensures err { IfErr result
+        (IsAnsweredIn canonically L.read L.written graph.old graph.new (left.now ∷ right.now ∷ [])) }
 {
     let (one, two) = read_both(graph, left, right)?;
     let left = graph.add_syn_expr(&one)?;

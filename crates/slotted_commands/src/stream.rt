@@ -61,9 +61,11 @@ pub fn answer_line<L: Printable, W: Write>(
     line: &[u8],
     output: &mut W,
 ) -> io::Result<()>
-    ensures answers { OnOk result ((bs : List ℕ) × LineWrites L.read L.written graph.old (strip_last 10 line.now) bs graph.new
+    ensures answers { OnOk result
+        ((bs : List ℕ) × LineWrites L.read L.written graph.old (strip_last 10 line.now) bs graph.new
         × Appends (W.contents output.old) (W.contents output.new) bs) }
-    ensures leaves { IsUtf8 (strip_last 10 line.now) → LineLeaves L.read L.written graph.old (strip_last 10 line.now) graph.new }
+    ensures leaves { IsUtf8 (strip_last 10 line.now)
+        → LineLeaves L.read L.written graph.old (strip_last 10 line.now) graph.new }
     ensures not_text { ¬ (IsUtf8 (strip_last 10 line.now)) → IsErr result × (graph.new ≡ graph.old)
         × Keeps (W.contents output.old) (W.contents output.new) }
 {

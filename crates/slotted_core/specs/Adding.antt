@@ -66,7 +66,8 @@ pub record IsOfTerm (t : Term) (f : Form) : Type 0 where
 
 -- no slots are left, the node with its children filled has too many places to be numbered, or a class is too large to be rebuilt
 abbrev pub RunsOutForFilled : Image → Form → Table → Table → Type 0
-RunsOutForFilled g f old new = RunsOut (slots_needed g f) old new ⊎ (slot_limit ≤ length f.names + children_lack g f) ⊎ HasLargeClassOrFilled g f
+RunsOutForFilled g f old new = RunsOut (slots_needed g f) old new ⊎ (slot_limit ≤ length f.names + children_lack g f) ⊎
+    HasLargeClassOrFilled g f
 
 -- e is the node with its children filled, by none of the names that the table knows
 abbrev pub HasChildrenFilled : List DTerm → Table → Form → DTerm → Type 0
@@ -87,7 +88,8 @@ pub record AddsSyn (g h : Graph) (f : Form) (a : Applied) : Type 0 where
   pub same : All (IsFull g.image.canonical) (child_ids f) → node ≡ nameless_node f
   pub found : id_of_node h.image.canonical node ≡ Some a
   pub term : term_of h.image.canonical a ≡ layer_of h.image.canonical node
-  pub kept : IsSome (id_of_node g.image.canonical node) → (h.image ≡ g.image) × (h.filed ≡ g.filed) × MakesAtMost (children_lack g.image f) g.table h.table
+  pub kept : IsSome (id_of_node g.image.canonical node) → (h.image ≡ g.image) × (h.filed ≡ g.filed) ×
+      MakesAtMost (children_lack g.image f) g.table h.table
   pub made : id_of_node g.image.canonical node ≡ None → HasNewClass g.table h.table g.image.canonical h.image.canonical node
   pub filed : NewClassesAre g.image.canonical h.image.canonical (IsIdOfNode h.image.canonical node)
 

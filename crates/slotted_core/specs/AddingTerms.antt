@@ -30,8 +30,8 @@ pub record IsOver (g : Graph) (f : Form) : Type 0 where
   pub known : AllKnown g.table f.names
   pub children : All (IsValidId g) (child_ids f)
 
--- the node at the top of a subterm, which is no larger than the term, is added: it has an id from now on, by a class of its own where it was not looked up, and what was
--- looked up stays
+-- the node at the top of a subterm, which is no larger than the term, is added: it has an id from now on, by a class of its own
+-- where it was not looked up, and what was looked up stays
 pub record AddsNode (t : Term) (g h : Graph) : Type 0 where
   pub node : Form
   pub over : IsOver g node

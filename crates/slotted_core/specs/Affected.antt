@@ -17,7 +17,8 @@ use Rattle.slotted_core.specs.Image.{Image, SymmetryEntry, asserted_in, FoundAli
 -- the least set of live classes that has the class of each open symmetry, and that of each canonical node with a child of a class of the set
 pub data IsAffected (g : Image) : ℕ → Type 0 where
   by_open_symmetry : (y : SymmetryEntry) → Contains g.symmetries y → ¬ FoundAlike g y.0.0 y.0.1 → IsAffected g (class_found g y.0.0.0)
-  by_affected_child : (i c : ℕ) → i < length g.canonical → HasChildOf (canonical_node g.canonical i).args c → IsAffected g (class_found g c) → IsAffected g (class_found g i)
+  by_affected_child : (i c : ℕ) → i < length g.canonical → HasChildOf (canonical_node g.canonical i).args c →
+      IsAffected g (class_found g c) → IsAffected g (class_found g i)
 
 -- both ids find affected classes
 abbrev pub AreAffected : Image → Applied → Applied → Type 0

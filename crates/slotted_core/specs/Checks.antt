@@ -42,7 +42,8 @@ pub record IsCongruentStep (g : Image) (e : Sides) (parts : List ℕ) : Type 0 w
   pub children : List Sides
   pub alike : AreAlikeNodes (canonical_node g.canonical e.l.id.0) (canonical_node g.canonical e.r.id.0) e children
   pub count : length parts ≡ length children
-  pub each : (k n : ℕ) (d : Sides) → k < length parts → SaysIn g (slice_index_or parts k n) (to_applied (slice_index_or children k d).l) (to_applied (slice_index_or children k d).r)
+  pub each : (k n : ℕ) (d : Sides) → k < length parts →
+      SaysIn g (slice_index_or parts k n) (to_applied (slice_index_or children k d).l) (to_applied (slice_index_or children k d).r)
 
 -- the step proves an equation of full ids; no caller can ask for an explicit step
 abbrev pub FitsBy : Image → Sides → Step → Type 0
@@ -86,4 +87,5 @@ with_entry g x = record g { image = record g.image { entries = g.image.entries +
 pub record Accepts (g h : Graph) (x : Proven) (p : ℕ) : Type 0 where
   pub in_range : p < length h.image.entries
   pub stands : equation_at h.image.entries p ≡ x.statement.equation
-  pub grows : ((p < length g.image.entries) × (h ≡ g)) ⊎ ((¬ StandsIn g.image x.statement.equation) × (p ≡ length g.image.entries) × (h ≡ with_entry g x))
+  pub grows : ((p < length g.image.entries) × (h ≡ g)) ⊎
+      ((¬ StandsIn g.image x.statement.equation) × (p ≡ length g.image.entries) × (h ≡ with_entry g x))

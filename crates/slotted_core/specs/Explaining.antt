@@ -78,16 +78,17 @@ pub record ExplainsTerms (old new : Table) (k : Kept) (r : Rows) (l : Kept) (q :
   pub fresh_slots : HasFreshSlots new l
   pub adds : AddsTerms (image_of k) (image_of l)
   pub filed : NewClassesAre (nodes_of k) (nodes_of l) (IsIdOfEither (nodes_of l) t u)
-  pub kept : IsSome (id_of (nodes_of k) (nameless t)) → IsSome (id_of (nodes_of k) (nameless u)) → (nodes_of l ≡ nodes_of k) × (q ≡ r) × (new ≡ old)
+  pub kept : IsSome (id_of (nodes_of k) (nameless t)) → IsSome (id_of (nodes_of k) (nameless u)) → (nodes_of l ≡ nodes_of k) ×
+      (q ≡ r) × (new ≡ old)
   pub answers : Answers (image_of l) t u answer
 
 -- one of the terms has no id
 abbrev pub LacksId : Image → Term → Term → Type 0
 LacksId g t u = (id_of g.canonical (nameless t) ≡ None) ⊎ (id_of g.canonical (nameless u) ≡ None)
 
--- slots ran out for the classes of the terms, one of which has no id, a term has too many places to be numbered, a class of the graph or of a term is too large to
--- be rebuilt, or the ids of the terms find alike in the graph to which they were added, and of the classes that find the same one has so many
--- slots that two ids of it have too many names
+-- slots ran out for the classes of the terms, one of which has no id, a term has too many places to be numbered, a class of the
+-- graph or of a term is too large to be rebuilt, or the ids of the terms find alike in the graph to which they were added, and of
+-- the classes that find the same one has so many slots that two ids of it have too many names
 pub data RunsOutForTerms (g : Image) (t u : Term) (old new : Table) : Type 0 where
   no_slots : RunsOut (term_slots t + term_slots u) old new → LacksId g t u → RunsOutForTerms g t u old new
   large_left : slot_limit ≤ term_places t → RunsOutForTerms g t u old new
@@ -95,4 +96,5 @@ pub data RunsOutForTerms (g : Image) (t u : Term) (old new : Table) : Type 0 whe
   large_graph : HasLargeClassIn g → RunsOutForTerms g t u old new
   wide_left : 2 ^ 29 ≤ term_size t → RunsOutForTerms g t u old new
   wide_right : 2 ^ 29 ≤ term_size u → RunsOutForTerms g t u old new
-  large_class : (h : Image) (a b : Applied) → AddsTerms g h → HasIds h t u a b → FoundAlike h a b → HasLargeClassOf h a b → RunsOutForTerms g t u old new
+  large_class : (h : Image) (a b : Applied) → AddsTerms g h → HasIds h t u a b → FoundAlike h a b → HasLargeClassOf h a b →
+      RunsOutForTerms g t u old new

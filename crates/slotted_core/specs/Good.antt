@@ -136,7 +136,8 @@ pub record Adds (old new : Table) (k : Kept) (r : Rows) (l : Kept) (q : Rows) (f
 -- valid ids find what they found, and what was looked up is looked up as before
 pub record KeepsAnswers (k : Kept) (r : Rows) (l : Kept) (q : Rows) : Type 0 where
   pub finds : (a : Applied) → IsFindable k a → find (entries_of l) a ≡ find (entries_of k) a
-  pub nodes : (d : DTerm) → EachChild (IsFindable k) d.args → (a : Applied) → look_up_node (state_in k r) d ≡ Some a → look_up_node (state_in l q) d ≡ Some a
+  pub nodes : (d : DTerm) → EachChild (IsFindable k) d.args → (a : Applied) → look_up_node (state_in k r) d ≡ Some a →
+      look_up_node (state_in l q) d ≡ Some a
   pub trees : (t : DTerm) (a : Applied) → look_up_tree (state_in k r) t ≡ Some a → look_up_tree (state_in l q) t ≡ Some a
 
 -- the class of the node with its children filled was there by canonical nodes, or is made
@@ -208,7 +209,8 @@ pub record AddsNodeIn (w : Term) (t : Table) (k : Kept) (r : Rows) (u : Table) (
 -- so many nodes of the term w are added, one after another
 pub data AddsNodesIn (w : Term) (t : Table) (k : Kept) (r : Rows) : ℕ → Table → Kept → Rows → Type 0 where
   none_added : AddsNodesIn w t k r 0 t k r
-  one_added : {n : ℕ} {u v : Table} {l m : Kept} {q s : Rows} → AddsNodesIn w t k r n u l q → AddsNodeIn w u l q v m s → AddsNodesIn w t k r (suc n) v m s
+  one_added : {n : ℕ} {u v : Table} {l m : Kept} {q s : Rows} → AddsNodesIn w t k r n u l q → AddsNodeIn w u l q v m s →
+      AddsNodesIn w t k r (suc n) v m s
 
 -- each class that l has more than k is what a subterm of w is looked up as
 abbrev pub FilesSubterms : Kept → Kept → Rows → Term → Type 0

@@ -72,7 +72,8 @@ asserted_in g = asserted g.canonical g.entries
 
 -- named terms of which a and b are the nameless form are derivable from named equations that are the asserted list
 abbrev pub AreDerivable : Image → Applied → Applied → Type 0
-AreDerivable g a b = (E : List (Term × Term)) (t u : Term) → map nameless_pair E ≡ asserted_in g → nameless t ≡ term_of g.canonical a → nameless u ≡ term_of g.canonical b → Derives E t u
+AreDerivable g a b = (E : List (Term × Term)) (t u : Term) → map nameless_pair E ≡ asserted_in g →
+    nameless t ≡ term_of g.canonical a → nameless u ≡ term_of g.canonical b → Derives E t u
 
 -- a yes says that by the asserted list the terms of a and b are equal
 abbrev pub SaysEqual : Image → Applied → Applied → Bool → Type 0
@@ -131,7 +132,8 @@ pub record Asserts (g h : Image) (e : Equation) : Type 0 where
   pub number : ℕ
   pub in_range : number < length h.entries
   pub stands : equation_at h.entries number ≡ e
-  pub asserted : (StandsIn g e × (asserted_in h ≡ asserted_in g)) ⊎ ((¬ StandsIn g e) × (asserted_in h ≡ asserted_in g ++ term_pair g.canonical e ∷ []))
+  pub asserted : (StandsIn g e × (asserted_in h ≡ asserted_in g)) ⊎
+      ((¬ StandsIn g e) × (asserted_in h ≡ asserted_in g ++ term_pair g.canonical e ∷ []))
 
 -- x is the entry at a number past the list of g
 pub record IsNewEntry (g h : Image) (x : Proven) : Type 0 where
@@ -167,8 +169,10 @@ HasNoOpenSymmetry g c = (y : SymmetryEntry) → Contains g.symmetries y → (fou
 -- how many of these symmetries are open: their sides do not find alike
 pub data CountsOpen (g : Image) : List SymmetryEntry → ℕ → Type 0 where
   none : CountsOpen g [] 0
-  one_open : {ys : List SymmetryEntry} {n : ℕ} (y : SymmetryEntry) → CountsOpen g ys n → ¬ FoundAlike g y.0.0 y.0.1 → CountsOpen g (ys ++ y ∷ []) (suc n)
-  one_closed : {ys : List SymmetryEntry} {n : ℕ} (y : SymmetryEntry) → CountsOpen g ys n → FoundAlike g y.0.0 y.0.1 → CountsOpen g (ys ++ y ∷ []) n
+  one_open : {ys : List SymmetryEntry} {n : ℕ} (y : SymmetryEntry) → CountsOpen g ys n → ¬ FoundAlike g y.0.0 y.0.1 →
+      CountsOpen g (ys ++ y ∷ []) (suc n)
+  one_closed : {ys : List SymmetryEntry} {n : ℕ} (y : SymmetryEntry) → CountsOpen g ys n → FoundAlike g y.0.0 y.0.1 →
+      CountsOpen g (ys ++ y ∷ []) n
 
 -- no listed symmetry is open
 abbrev pub AreClosed : Image → Type 0

@@ -14,10 +14,12 @@ use Rattle.slotted_core.specs.Image.{Image}
 -- named terms of which a and b are the nameless form are derivable from all named equations that have the leaves of the entry p
 abbrev pub FollowsFromLeaves : Image → ℕ → Applied → Applied → Type 0
 FollowsFromLeaves g p a b =
-    (E : List (Term × Term)) (t u : Term) → HasLeaves (map nameless_pair E) g.canonical g.entries p → nameless t ≡ term_of g.canonical a → nameless u ≡ term_of g.canonical b → Derives E t u
+    (E : List (Term × Term)) (t u : Term) → HasLeaves (map nameless_pair E) g.canonical g.entries p →
+    nameless t ≡ term_of g.canonical a → nameless u ≡ term_of g.canonical b → Derives E t u
 
 -- of each entry the two sides, whatever their names, follow from its leaves
 abbrev pub EntriesFollow : Image → Type 0
 EntriesFollow g =
-    (p : ℕ) → p < length g.entries → (a b : Applied) → IsFull g.canonical a → IsFull g.canonical b → equation_of a b ≡ equation_at g.entries p →
+    (p : ℕ) → p < length g.entries → (a b : Applied) → IsFull g.canonical a → IsFull g.canonical b →
+    equation_of a b ≡ equation_at g.entries p →
     FollowsFromLeaves g p a b

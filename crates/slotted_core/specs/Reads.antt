@@ -20,7 +20,8 @@ abbrev pub AnswersTerm : (List Element → Option Form) → Graph → Graph → 
 AnswersTerm read g h text r = g.failed ≡ false → Answers (λ t. t) (λ o. TextReads read g.table (chars text) o h.table) r
 
 -- the same of the pattern
-abbrev pub AnswersPattern : {L : Type 0} → (L → Form) → (List Element → Option Form) → Graph → Graph → List ℕ → Result (Pattern L) Error → Type 0
+abbrev pub AnswersPattern : {L : Type 0} → (L → Form) → (List Element → Option Form) → Graph → Graph → List ℕ →
+    Result (Pattern L) Error → Type 0
 AnswersPattern form read g h text r =
     g.failed ≡ false → Answers (tree_of form) (λ o. PatternReads read g.table (chars text) o h.table) r
 

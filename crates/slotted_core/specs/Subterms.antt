@@ -15,7 +15,8 @@ use Rattle.slotted_core.specs.Nodes.{child_ids}
 abbrev pub StandsUnder : Term → Args → Type 0
 StandsUnder s done = ⊥
 StandsUnder s (name x rest) = StandsUnder s rest
-StandsUnder s (child op payloads args rest) = (s ≡ record { op = op; payloads = payloads; args = args }) ⊎ StandsUnder s args ⊎ StandsUnder s rest
+StandsUnder s (child op payloads args rest) = (s ≡ record { op = op; payloads = payloads; args = args }) ⊎ StandsUnder s args ⊎
+    StandsUnder s rest
 StandsUnder s (bind x inner rest) = StandsUnder s inner ⊎ StandsUnder s rest
 
 abbrev pub IsSubterm : Term → Term → Type 0
@@ -26,7 +27,8 @@ pub record IsTopOf (look : DTerm → Option Applied) (t : Term) (f : Form) : Typ
   pub parts : List Term
   pub whole : term_of f parts ≡ t
   pub count : length parts ≡ length (child_ids f)
-  pub each : (i : ℕ) (a : Applied) (c : Term) → i < length parts → look_up look (nameless (slice_index_or parts i c)) ≡ Some (slice_index_or (child_ids f) i a)
+  pub each : (i : ℕ) (a : Applied) (c : Term) → i < length parts →
+      look_up look (nameless (slice_index_or parts i c)) ≡ Some (slice_index_or (child_ids f) i a)
 
 pub record IsTopIn (look : DTerm → Option Applied) (t : Term) (f : Form) : Type 0 where
   pub subterm : Term

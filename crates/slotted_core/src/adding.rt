@@ -142,10 +142,12 @@ pub fn add_syn<L: Language>(
     requires rests { RestsWith store.old nodes.old }
     requires fresh_slots { HasFreshSlots table.old store.old }
     requires children { All (IsFull (nodes_of store.old)) (child_ids (L.form node.now)) }
-    ensures ok { IfOk result (λ a. Adds table.old table.new store.old nodes.old store.new nodes.new (L.form node.now) (to_applied a)) }
+    ensures ok { IfOk result
+        (λ a. Adds table.old table.new store.old nodes.old store.new nodes.new (L.form node.now) (to_applied a)) }
     ensures more { KnowsMore table.old table.new }
     ensures takes { MakesAtMost (length (L.form node.now).names) table.old table.new }
-    ensures full { IsErrOf result Error.OutOfSlots → CanRunOutForNode (image_of store.old) (L.form node.now) table.old table.new }
+    ensures full { IsErrOf result Error.OutOfSlots
+        → CanRunOutForNode (image_of store.old) (L.form node.now) table.old table.new }
     ensures unknown { IsErrOf result Error.OutOfSlots → IsUnknownNode (nodes_of store.old) (L.form node.now) }
     ensures err { IfErr result IsShortage }
 {
@@ -169,10 +171,12 @@ pub fn add_syn_expr<L: Language>(
     requires rests { RestsWith store.old nodes.old }
     requires fresh_slots { HasFreshSlots table.old store.old }
     requires whole { IsWhole term.now.args }
-    ensures ok { IfOk result (λ a. AddsTerm table.old table.new store.old nodes.old store.new nodes.new term.now (to_applied a)) }
+    ensures ok { IfOk result
+        (λ a. AddsTerm table.old table.new store.old nodes.old store.new nodes.new term.now (to_applied a)) }
     ensures more { KnowsMore table.old table.new }
     ensures takes { MakesAtMost (term_slots term.now) table.old table.new }
-    ensures full { IsErrOf result Error.OutOfSlots → CanRunOutForTerm (image_of store.old) term.now table.old table.new }
+    ensures full { IsErrOf result Error.OutOfSlots
+        → CanRunOutForTerm (image_of store.old) term.now table.old table.new }
     ensures unknown { IsErrOf result Error.OutOfSlots → IsUnknownTerm (image_of store.old) term.now }
     ensures err { IfErr result IsShortage }
 {

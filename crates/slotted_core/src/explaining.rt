@@ -32,10 +32,12 @@ pub fn explain<L: Language>(
     requires fresh_slots { HasFreshSlots table.old store.old }
     requires left { IsWhole left.now.args }
     requires right { IsWhole right.now.args }
-    ensures ok { IfOk result (ExplainsTerms table.old table.new store.old nodes.old store.new nodes.new left.now right.now) }
+    ensures ok { IfOk result
+        (ExplainsTerms table.old table.new store.old nodes.old store.new nodes.new left.now right.now) }
     ensures more { KnowsMore table.old table.new }
     ensures takes { MakesAtMost (term_slots left.now + term_slots right.now) table.old table.new }
-    ensures full { IsErrOf result Error.OutOfSlots → RunsOutForTerms (image_of store.old) left.now right.now table.old table.new }
+    ensures full { IsErrOf result Error.OutOfSlots
+        → RunsOutForTerms (image_of store.old) left.now right.now table.old table.new }
     ensures err { IfErr result IsShortage }
 {
     let a = add_syn_expr(store, nodes, alloc, table, left)?;

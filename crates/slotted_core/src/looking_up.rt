@@ -33,10 +33,12 @@ pub fn add_filled<L: Language>(
     requires fresh_slots { HasFreshSlots table.old store.old }
     requires children { HasFindableChildren store.old (L.form node.now) }
     requires known { AllKnown table.old (L.form node.now).names }
-    ensures ok { IfOk result (λ a. AddsFilled table.old table.new store.old nodes.old store.new nodes.new (L.form node.now) (to_applied a)) }
+    ensures ok { IfOk result
+        (λ a. AddsFilled table.old table.new store.old nodes.old store.new nodes.new (L.form node.now) (to_applied a)) }
     ensures more { KnowsMore table.old table.new }
     ensures takes { MakesAtMost (slots_needed (image_of store.old) (L.form node.now)) table.old table.new }
-    ensures full { IsErrOf result Error.OutOfSlots → RunsOutForFilled (image_of store.old) (L.form node.now) table.old table.new }
+    ensures full { IsErrOf result Error.OutOfSlots
+        → RunsOutForFilled (image_of store.old) (L.form node.now) table.old table.new }
     ensures err { IfErr result IsShortage }
 {
     let filled = fill_node(store, alloc, table, node)?;
@@ -57,10 +59,12 @@ pub fn add<L: Language>(
     requires fresh_slots { HasFreshSlots table.old store.old }
     requires children { HasFindableChildren store.old (L.form node.now) }
     requires known { AllKnown table.old (L.form node.now).names }
-    ensures ok { IfOk result (λ a. AddsFound table.old table.new store.old nodes.old store.new nodes.new (L.form node.now) (to_applied a)) }
+    ensures ok { IfOk result
+        (λ a. AddsFound table.old table.new store.old nodes.old store.new nodes.new (L.form node.now) (to_applied a)) }
     ensures more { KnowsMore table.old table.new }
     ensures takes { MakesAtMost (slots_needed (image_of store.old) (L.form node.now)) table.old table.new }
-    ensures full { IsErrOf result Error.OutOfSlots → RunsOutForUnknownIn table.old table.new store.old nodes.old (L.form node.now) }
+    ensures full { IsErrOf result Error.OutOfSlots
+        → RunsOutForUnknownIn table.old table.new store.old nodes.old (L.form node.now) }
     ensures err { IfErr result IsShortage }
 {
     if let Some(answer) = look_up(store, nodes, alloc, node)? {
@@ -85,7 +89,8 @@ pub fn add_expr<L: Language>(
     requires rests { RestsWith store.old nodes.old }
     requires fresh_slots { HasFreshSlots table.old store.old }
     requires valid { IsValidTerm table.old term.now }
-    ensures ok { IfOk result (λ a. AddsFoundTerm table.old store.old nodes.old table.new store.new nodes.new term.now (to_applied a)) }
+    ensures ok { IfOk result
+        (λ a. AddsFoundTerm table.old store.old nodes.old table.new store.new nodes.new term.now (to_applied a)) }
     ensures more { KnowsMore table.old table.new }
     ensures takes { TakesForTermIn term.now table.old store.old nodes.old table.new }
     ensures full { IsErrOf result Error.OutOfSlots → LacksForTermIn term.now table.old store.old nodes.old table.new }

@@ -43,7 +43,8 @@ fn have_all_names<L: Language>(store: &Store<L>, l: &AppliedId, r: &AppliedId) -
 fn own_id<L: Language>(store: &Store<L>, alloc: Global, a: &AppliedId) -> Result<AppliedId, Error>
     requires good { Good store.now }
     requires findable { IsFindable store.now (to_applied a.now) }
-    ensures ok { IfOk result (λ o. to_applied o ≡ (a.now.id.0, identity (canonical_slots (nodes_of store.now) a.now.id.0))) }
+    ensures ok { IfOk result
+        (λ o. to_applied o ≡ (a.now.id.0, identity (canonical_slots (nodes_of store.now) a.now.id.0))) }
     ensures err { IfErr result IsOutOfMemory }
 {
     let slots = store.names_of(a.id.0);
@@ -115,7 +116,8 @@ fn assert_classes<L: Language>(
     requires good { Good store.old }
     requires left { IsFindable store.old (to_applied l.now) }
     requires right { IsFindable store.old (to_applied r.now) }
-    ensures ok { IfOk result (EntersFilled store.old store.new (to_applied l.now) (to_applied r.now) (text_bytes text)) }
+    ensures ok { IfOk result
+        (EntersFilled store.old store.new (to_applied l.now) (to_applied r.now) (text_bytes text)) }
     ensures full { IsErrOf result Error.OutOfSlots → HasLargeClassIn (image_of store.old) }
     ensures err { IfErr result IsShortage }
 {
@@ -136,7 +138,8 @@ pub(crate) fn assert_sides<L: Language>(
     requires good { Good store.old }
     requires left { IsFindable store.old (to_applied l.now) }
     requires right { IsFindable store.old (to_applied r.now) }
-    ensures ok { IfOk result (EntersFilled store.old store.new (to_applied l.now) (to_applied r.now) (text_bytes text)) }
+    ensures ok { IfOk result
+        (EntersFilled store.old store.new (to_applied l.now) (to_applied r.now) (text_bytes text)) }
     ensures full { IsErrOf result Error.OutOfSlots → HasLargeClassIn (image_of store.old) }
     ensures err { IfErr result IsShortage }
 {

@@ -33,7 +33,8 @@ missing table (c ∷ cs) = lacks (cost_in table c) + missing table cs
 -- from us to vs the source stands over each of these classes once more for each time that it is listed
 pub record UsesMore (cs : List ℕ) (source : ℕ) (us vs : List (List ℕ)) : Type 0 where
   pub lists : length vs ≡ length us
-  pub each : (c s : ℕ) → c < length us → times s (slice_index_or vs c []) ≡ times s (slice_index_or us c []) + only_if (nat_eq source s) (times c cs)
+  pub each : (c s : ℕ) → c < length us →
+      times s (slice_index_or vs c []) ≡ times s (slice_index_or us c []) + only_if (nat_eq source s) (times c cs)
 
 pub record AreUsers (v : List (Option Filing)) (users : List (List ℕ)) : Type 0 where
   pub lists : length users ≡ length v

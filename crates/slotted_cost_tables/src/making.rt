@@ -69,7 +69,8 @@ fn tell<L: Language, F: CostFunction<L>>(
     source: usize,
 ) -> Result<(), Error>
     requires { 0 < slice_index_or making.old.lacking.items source 0 }
-    ensures ok { OnOk result (TellsRow L.form F.Cost.cmp (F.node_cost costs.now) nodes.now.filed source making.old making.new) }
+    ensures ok { OnOk result
+        (TellsRow L.form F.Cost.cmp (F.node_cost costs.now) nodes.now.filed source making.old making.new) }
     ensures err { IfErr result (MayRefuse F.refuses) }
 {
     let left = making.lacking[source] - 1;
@@ -96,7 +97,8 @@ fn tell_all<L: Language, F: CostFunction<L>>(
     sources: &[usize],
 ) -> Result<(), Error>
     requires { (s : ℕ) → times s sources.now ≤ slice_index_or making.old.lacking.items s 0 }
-    ensures ok { OnOk result (TellsRows L.form F.Cost.cmp (F.node_cost costs.now) nodes.now.filed sources.now making.old making.new) }
+    ensures ok { OnOk result
+        (TellsRows L.form F.Cost.cmp (F.node_cost costs.now) nodes.now.filed sources.now making.old making.new) }
     ensures err { IfErr result (MayRefuse F.refuses) }
 {
     for source in sources {
@@ -172,7 +174,8 @@ fn step<L: Language, F: CostFunction<L>>(
     requires made { IsMadeSoFar L.form F.Cost.cmp (F.node_cost costs.now) store.now nodes.now making.old }
     ensures ok { OnOk result (IsMadeSoFar L.form F.Cost.cmp (F.node_cost costs.now) store.now nodes.now making.new) }
     ensures more { IfOk result (λ more. more ≡ true → work_left making.new < work_left making.old) }
-    ensures end { IfOk result (λ more. more ≡ false → IsDone L.form F.Cost.cmp (F.node_cost costs.now) store.now nodes.now making.new) }
+    ensures end { IfOk result
+        (λ more. more ≡ false → IsDone L.form F.Cost.cmp (F.node_cost costs.now) store.now nodes.now making.new) }
     ensures err { IfErr result (MayRefuse F.refuses) }
 {
     let Some(next) = making.queue.pop() else {
@@ -199,7 +202,8 @@ pub fn make_table<L: Language, F: CostFunction<L>>(
     requires count { length nodes.now.filed ≡ length store.now.classes }
     ensures ok { IfOk result (λ t. IsLeastTable (table_state store.now nodes.now)
         (costs_by F.Cost.cmp (F.node_cost costs.now)) (table_of L.form t.entries.items)) }
-    ensures fits { AtRest (table_state store.now nodes.now) → IfOk result (λ t. Fits F.Cost (table_state store.now nodes.now)
+    ensures fits { AtRest (table_state store.now nodes.now)
+        → IfOk result (λ t. Fits F.Cost (table_state store.now nodes.now)
         (costs_by F.Cost.cmp (F.node_cost costs.now)) (table_of L.form t.entries.items)) }
     ensures filed { IfOk result (λ t. All (IsFiledAs L.form nodes.now.filed) t.entries.items) }
     ensures err { IfErr result (MayRefuse F.refuses) }

@@ -16,7 +16,8 @@ IsOfLanguage {L} form d = (n : L) × AreAlike d (nameless_node (form n))
 
 abbrev pub NeverFalls : {L C : Type 0} → (L → Form) → CostFunction C → Type 0
 NeverFalls {L} {C} form k =
-    (n : L) (xs ys : List C) → HasCostsFor (form n) xs → EachAtMost k xs ys → AtMost k (k.node_cost (nameless_node (form n)) xs) (k.node_cost (nameless_node (form n)) ys)
+    (n : L) (xs ys : List C) → HasCostsFor (form n) xs → EachAtMost k xs ys →
+    AtMost k (k.node_cost (nameless_node (form n)) xs) (k.node_cost (nameless_node (form n)) ys)
 
 abbrev pub CoversChildren : {L C : Type 0} → (L → Form) → CostFunction C → Type 0
 CoversChildren {L} {C} form k =

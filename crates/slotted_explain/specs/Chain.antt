@@ -55,7 +55,8 @@ own_step list r = cond (is_explicit (proven_at list r.entry).step) (r ∷ []) []
 -- the rewrites, one after the other, come down to these steps
 pub data Rewrites (list : List Proven) : List Rewrite → List Rewrite → Type 0 where
   none : Rewrites list [] []
-  next : {r : Rewrite} {rs steps : List Rewrite} → Rewrites list (rewrites_below list r ++ rs) steps → Rewrites list (r ∷ rs) (own_step list r ++ steps)
+  next : {r : Rewrite} {rs steps : List Rewrite} → Rewrites list (rewrites_below list r ++ rs) steps →
+      Rewrites list (r ∷ rs) (own_step list r ++ steps)
 
 -- the steps of the chain of terms of an entry's proof
 abbrev pub IsChain : List Proven → ℕ → List Rewrite → Type 0

@@ -56,7 +56,8 @@ pub record IsLine (written : Term → List Element) (g h : Graph) (lines : List 
 -- the first n lines
 abbrev pub ArePrinted : (Term → List Element) → Graph → Graph → List ℕ → ℕ → List ℕ → Type 0
 ArePrinted written g h lines zero bs = bs ≡ []
-ArePrinted written g h lines (suc n) bs = (before line : List ℕ) × ArePrinted written g h lines n before × IsLine written g h lines n (slice_index_or lines n 0) line × (bs ≡ before ++ line)
+ArePrinted written g h lines (suc n) bs = (before line : List ℕ) × ArePrinted written g h lines n before ×
+    IsLine written g h lines n (slice_index_or lines n 0) line × (bs ≡ before ++ line)
 
 -- a line for each entry that the proof of p stands on, parts first
 pub record IsProofText (written : Term → List Element) (g h : Graph) (p : ℕ) (bs : List ℕ) : Type 0 where

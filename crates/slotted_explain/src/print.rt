@@ -23,7 +23,8 @@ pub(crate) fn lines_text<L: Printable, N: Drop>(
 ) -> Result<String, Error>
     requires well { ¬ IsTrue graph.old.failed }
     requires within { All (λ q. q < length graph.old.image.stored) lines.now }
-    ensures text { IfOk result (λ s. ArePrinted L.written graph.old graph.new lines.now (length lines.now) (string_bytes s)) }
+    ensures text { IfOk result
+        (λ s. ArePrinted L.written graph.old graph.new lines.now (length lines.now) (string_bytes s)) }
     ensures takes { OnlyTakesSlots graph.old graph.new }
     ensures count { MakesForLines graph.old graph.new lines.now }
     ensures full { IsErrOf result Error.OutOfSlots → LinesRunOut graph.old graph.new lines.now }

@@ -82,8 +82,10 @@ impl<L: Language, CF: CostFunction<L>> Extractor<L, CF> {
     /// The least cost of an id's own class: it is not looked at what the id finds. It is refused with `UnknownClass` where the class had no
     /// cost when the extractor was made.
     pub fn get_best_cost(&self, i: &AppliedId) -> Result<CF::Cost, Error>
-        ensures cost { IfOk result (λ c. option_map (λ e. e.cost) (entry_at self.now.terms.entries.items i.now.id.0) ≡ Some c) }
-        ensures unknown { IsErrOf result Error.UnknownClass ↔ (entry_at self.now.terms.entries.items i.now.id.0 ≡ None) }
+        ensures cost { IfOk result
+            (λ c. option_map (λ e. e.cost) (entry_at self.now.terms.entries.items i.now.id.0) ≡ Some c) }
+        ensures unknown { IsErrOf result Error.UnknownClass
+            ↔ (entry_at self.now.terms.entries.items i.now.id.0 ≡ None) }
         ensures only { IfErr result (λ e. (e ≡ Error.UnknownClass) ⊎ IsOutOfMemory e) }
     {
         match self.terms.get(i.id.0) {

@@ -36,7 +36,8 @@ is_below n (Some e) = ltb e.rank n
 
 abbrev pub IsOrderedEntry : {L C : Type 0} → (L → Form) → List (Option (TermEntry L C)) → TermEntry L C → Type 0
 IsOrderedEntry form es e =
-    ((t : Table) → AllKnownTo t (form e.node).names) × Fits (form e.node) × ((c : ℕ) → Contains (key_children (form e.node)) c → IsTrue (is_below e.rank (entry_at es c)))
+    ((t : Table) → AllKnownTo t (form e.node).names) × Fits (form e.node) ×
+    ((c : ℕ) → Contains (key_children (form e.node)) c → IsTrue (is_below e.rank (entry_at es c)))
 
 abbrev pub IsOrdered : {L C : Type 0} → (L → Form) → List (Option (TermEntry L C)) → Type 0
 IsOrdered {L} {C} form es = (c : ℕ) (e : TermEntry L C) → entry_at es c ≡ Some e → IsOrderedEntry form es e
@@ -50,12 +51,14 @@ pub record IsNamedBy (m : List (ℕ × ℕ)) (key : Form) (a : Applied) (f : For
 
 mutual
   pub data IsMade {L C : Type 0} (form : L → Form) (es : List (Option (TermEntry L C))) : Applied → Term → Type 0 where
-    by_entry : {a : Applied} {t : Term} (e : TermEntry L C) (f : Form) (ts : List Term) → entry_at es a.0 ≡ Some e → IsNamedBy e.names (form e.node) a f →
+    by_entry : {a : Applied} {t : Term} (e : TermEntry L C) (f : Form) (ts : List Term) → entry_at es a.0 ≡ Some e →
+        IsNamedBy e.names (form e.node) a f →
         AreMade form es (child_ids f) ts → t ≡ term_of f ts → IsMade form es a t
 
   pub data AreMade {L C : Type 0} (form : L → Form) (es : List (Option (TermEntry L C))) : List Applied → List Term → Type 0 where
     no_more : AreMade form es [] []
-    one_more : {a : Applied} {t : Term} {ids : List Applied} {ts : List Term} → IsMade form es a t → AreMade form es ids ts → AreMade form es (a ∷ ids) (t ∷ ts)
+    one_more : {a : Applied} {t : Term} {ids : List Applied} {ts : List Term} → IsMade form es a t → AreMade form es ids ts →
+        AreMade form es (a ∷ ids) (t ∷ ts)
 
 -- a weight of the entry, and what its children have
 abbrev pub entry_sum : {L C : Type 0} → (L → Form) → (TermEntry L C → ℕ) → (ℕ → ℕ) → Option (TermEntry L C) → ℕ

@@ -126,7 +126,8 @@ fn go_down<L: Language, C: Drop>(
     ensures made { OnOk result (MakesSlots L.form terms.now.entries.items table.old table.new stack.old stack.new) }
     ensures count { MakesLeft L.form terms.now.entries.items table.old table.new stack.old }
     ensures more { KnowsMore table.old table.new }
-    ensures full { IsErrOf result Error.OutOfSlots → RunsOutLeft L.form terms.now.entries.items table.old table.new stack.old }
+    ensures full { IsErrOf result Error.OutOfSlots
+        → RunsOutLeft L.form terms.now.entries.items table.old table.new stack.old }
     ensures err { IfErr result IsShortage }
 {
     let next = stack.current.children.len();
@@ -154,7 +155,8 @@ fn step<L: Language, C: Drop>(
     ensures made { OnOk result (MakesSlots L.form terms.now.entries.items table.old table.new stack.old stack.new) }
     ensures count { MakesLeft L.form terms.now.entries.items table.old table.new stack.old }
     ensures more { KnowsMore table.old table.new }
-    ensures full { IsErrOf result Error.OutOfSlots → RunsOutLeft L.form terms.now.entries.items table.old table.new stack.old }
+    ensures full { IsErrOf result Error.OutOfSlots
+        → RunsOutLeft L.form terms.now.entries.items table.old table.new stack.old }
     ensures err { IfErr result IsShortage }
 {
     if !has_all_children(&stack.current) {
@@ -209,10 +211,12 @@ pub fn extract<L: Language, C: Drop>(
     requires good { HasFinds store.now }
     requires findable { IsFindable store.now (to_applied a.now) }
     requires known { AllKnownTo table.old (values a.now.m) }
-    ensures made { IfOk result (IsMade L.form terms.now.entries.items (find (entries_of store.now) (to_applied a.now))) }
+    ensures made { IfOk result
+        (IsMade L.form terms.now.entries.items (find (entries_of store.now) (to_applied a.now))) }
     ensures valid { IfOk result (IsValidTerm table.new) }
     ensures fresh { IfOk result (IsFreshTerm table.old (values a.now.m)) }
-    ensures count { MakesAtMost (slots_for L.form terms.now.entries.items (find_class (entries_of store.now) a.now.id.0)) table.old table.new }
+    ensures count { MakesAtMost
+        (slots_for L.form terms.now.entries.items (find_class (entries_of store.now) a.now.id.0)) table.old table.new }
     ensures more { KnowsMore table.old table.new }
     ensures unknown { IsErrOf result Error.UnknownClass
         ↔ (entry_at terms.now.entries.items (find_class (entries_of store.now) a.now.id.0) ≡ None) }

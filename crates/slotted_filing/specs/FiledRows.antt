@@ -69,7 +69,8 @@ with_filed s i f m = record { filed = set s.filed i (Some (f, m)); waiting = s.w
 
 -- the class i waits: it did, and nothing changed, or it is the last one now
 abbrev pub QueuesUp : Rows → Rows → ℕ → Type 0
-QueuesUp s t i = (Contains s.waiting i × (t ≡ s)) ⊎ ((¬ Contains s.waiting i) × (t ≡ record { filed = s.filed; waiting = s.waiting ++ i ∷ [] }))
+QueuesUp s t i = (Contains s.waiting i × (t ≡ s)) ⊎
+    ((¬ Contains s.waiting i) × (t ≡ record { filed = s.filed; waiting = s.waiting ++ i ∷ [] }))
 
 -- the first of those that waited waits no more, and this is filed of it
 pub record TakesTurn (s t : Rows) (i : ℕ) (x : Option Filing) : Type 0 where

@@ -57,7 +57,8 @@ pub record IsLeastTerm {C : Type 0} (g : Graph) (costs : CostFunction C) (a : Ap
   pub represented : look_up_term g t ≡ Some (found_id g.image a)
   pub equal : IsEqualTo g a (nameless t)
   -- no term that is looked up as an id of the found class costs less
-  pub least : (u : Term) (b : Applied) → look_up_term g u ≡ Some b → b.0 ≡ class_found g.image a.0 → AtMost costs (cost_of_term costs t) (cost_of_term costs u)
+  pub least : (u : Term) (b : Applied) → look_up_term g u ≡ Some b → b.0 ≡ class_found g.image a.0 →
+      AtMost costs (cost_of_term costs t) (cost_of_term costs u)
   -- nor does the canonical term of an id that finds this class, also while symmetries are open
   pub canonical : (b : Applied) → IsFullBeside g a b → AtMost costs (cost_of_term costs t) (tree_cost costs (term_of g.image.canonical b))
   -- nor does any term that is equal to one of these, if no open symmetry affects the class

@@ -32,7 +32,8 @@ pub record IsRenamedFresh (t : Table) (m : List (ℕ × ℕ)) (f g : Form) : Typ
   pub known : (x y : ℕ) → value_of m x ≡ Some y → by x ≡ y
   pub unused : (x : ℕ) → is_among x (free_names_of f) ≡ true → value_of m x ≡ None → is_known t (by x) ≡ false
   pub apart : (x : ℕ) → is_among x (free_names_of f) ≡ true → value_of m x ≡ None → is_among (by x) f.names ≡ false
-  pub differ : (x z : ℕ) → is_among x (free_names_of f) ≡ true → value_of m x ≡ None → is_among z (free_names_of f) ≡ true → by x ≡ by z → x ≡ z
+  pub differ : (x z : ℕ) → is_among x (free_names_of f) ≡ true → value_of m x ≡ None → is_among z (free_names_of f) ≡ true →
+      by x ≡ by z → x ≡ z
   pub renamed : nameless_node g ≡ moved by (nameless_node f)
 
 -- g is the node f with a fresh slot for each chosen name, at all its places, and every other name as it was. Up to bound

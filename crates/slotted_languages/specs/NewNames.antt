@@ -31,7 +31,8 @@ IsRefreshedBut t xs f g = IsRefreshed t (λ x. not (is_among x xs)) f g
 
 -- a binder keeps its name where that is no free one of g
 abbrev pub BindersStay : Form → Form → Type 0
-BindersStay f g = (j : ℕ) → j < length f.names → IsBinder f j → is_among (slice_index f.names j) (free_names_of g) ≡ false → slice_index g.names j ≡ slice_index f.names j
+BindersStay f g = (j : ℕ) → j < length f.names → IsBinder f j → is_among (slice_index f.names j) (free_names_of g) ≡ false →
+    slice_index g.names j ≡ slice_index f.names j
 
 -- no binder of g has a name of f
 abbrev pub BindersAreNew : Form → Form → Type 0
@@ -43,11 +44,13 @@ BindersAreUnknown t f g = (j : ℕ) → j < length f.names → IsBinder f j → 
 
 -- no two binders of g have one name
 abbrev pub BindersDiffer : Form → Form → Type 0
-BindersDiffer f g = (j k : ℕ) → j < length f.names → k < length f.names → IsBinder f j → IsBinder f k → slice_index g.names j ≡ slice_index g.names k → j ≡ k
+BindersDiffer f g = (j k : ℕ) → j < length f.names → k < length f.names → IsBinder f j → IsBinder f k →
+    slice_index g.names j ≡ slice_index g.names k → j ≡ k
 
 -- what has the name of a binder in g had its name in f
 abbrev pub BindersMeetAsBefore : Form → Form → Type 0
-BindersMeetAsBefore f g = (j k : ℕ) → j < length f.names → k < length f.names → IsBinder f j → slice_index g.names j ≡ slice_index g.names k → slice_index f.names j ≡ slice_index f.names k
+BindersMeetAsBefore f g = (j k : ℕ) → j < length f.names → k < length f.names → IsBinder f j →
+    slice_index g.names j ≡ slice_index g.names k → slice_index f.names j ≡ slice_index f.names k
 
 -- the name y that stands where x stood is x, or known to the table, or one of vs
 abbrev pub IsPutIn : Table → List ℕ → ℕ → ℕ → Type 0

@@ -39,11 +39,17 @@ pub record IsEntered (t u : Table) (xs avoid : List ℕ) (free old new : List (�
 pub record IsRenamed (t u : Table) (π : ℕ → ℕ) (f : Form) (avoid : List ℕ) (g : Form) : Type 0 where
   pub renamed : nameless_node g ≡ moved π (nameless_node f)
   pub bound : (j : ℕ) → j < length f.names → IsBinder f j → is_among (slice_index g.names j) avoid ≡ false
-  pub unused : (j : ℕ) → j < length f.names → IsBinder f j → is_among (slice_index f.names j) avoid ≡ true → is_known t (slice_index g.names j) ≡ false
-  pub kept : (j : ℕ) → j < length f.names → IsBinder f j → is_among (slice_index f.names j) avoid ≡ false → slice_index g.names j ≡ slice_index f.names j
-  pub apart : (j k : ℕ) → j < length f.names → k < length f.names → IsBinder f j → IsBinder f k → is_among (slice_index f.names j) avoid ≡ true → is_among (slice_index f.names k) avoid ≡ true → slice_index g.names j ≡ slice_index g.names k → j ≡ k
-  pub differ : (j k : ℕ) → j < length f.names → k < length f.names → IsBinder f j → slice_index g.names j ≡ slice_index g.names k → slice_index f.names j ≡ slice_index f.names k
-  pub put : (j : ℕ) → j < length f.names → (slice_index g.names j ≡ slice_index f.names j) ⊎ ((is_known u (slice_index g.names j) ≡ true) ⊎ ((is_among (slice_index f.names j) (free_names_of f) ≡ true) × (slice_index g.names j ≡ π (slice_index f.names j))))
+  pub unused : (j : ℕ) → j < length f.names → IsBinder f j → is_among (slice_index f.names j) avoid ≡ true →
+      is_known t (slice_index g.names j) ≡ false
+  pub kept : (j : ℕ) → j < length f.names → IsBinder f j → is_among (slice_index f.names j) avoid ≡ false →
+      slice_index g.names j ≡ slice_index f.names j
+  pub apart : (j k : ℕ) → j < length f.names → k < length f.names → IsBinder f j → IsBinder f k →
+      is_among (slice_index f.names j) avoid ≡ true → is_among (slice_index f.names k) avoid ≡ true →
+      slice_index g.names j ≡ slice_index g.names k → j ≡ k
+  pub differ : (j k : ℕ) → j < length f.names → k < length f.names → IsBinder f j →
+      slice_index g.names j ≡ slice_index g.names k → slice_index f.names j ≡ slice_index f.names k
+  pub put : (j : ℕ) → j < length f.names → (slice_index g.names j ≡ slice_index f.names j) ⊎
+      ((is_known u (slice_index g.names j) ≡ true) ⊎ ((is_among (slice_index f.names j) (free_names_of f) ≡ true) × (slice_index g.names j ≡ π (slice_index f.names j))))
   pub places : g ≡ with_names f g.names
 
 -- g is f renamed as any π by which the map `free` names the free numbers of its shape

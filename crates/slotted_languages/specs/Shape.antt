@@ -94,7 +94,8 @@ ShapesDecide = (f g : Form) → Fits f → Fits g → ((shape f).0 ≡ (shape g)
 
 -- where an injective function of names takes a node to another, it takes the names of the one's map to the other's
 abbrev pub ShapesMove : Type 0
-ShapesMove = (π : ℕ → ℕ) → IsInjective π → (f g : Form) → moved π (nameless_node f) ≡ nameless_node g → shape g ≡ ((shape f).0, with_values π (shape f).1)
+ShapesMove = (π : ℕ → ℕ) → IsInjective π → (f g : Form) → moved π (nameless_node f) ≡ nameless_node g →
+    shape g ≡ ((shape f).0, with_values π (shape f).1)
 
 pub record ShapeLaws : Type 0 where
   pub decide : ShapesDecide

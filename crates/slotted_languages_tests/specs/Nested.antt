@@ -49,12 +49,14 @@ tails_alike : (x : ℕ) (c : AppliedId) (y z : ℕ) (d : AppliedId) (w : ℕ) �
 tails_alike x c y z d w = record { same_operator = refl; as_many_payloads = refl; as_many_arguments = refl }
 
 -- two are equal exactly if their forms are
-pub tail_same : (x : ℕ) (c : AppliedId) (y z : ℕ) (d : AppliedId) (w : ℕ) → IsTrue (tails_equal x c y z d w) ↔ tail_form x c y ≡ tail_form z d w
+pub tail_same : (x : ℕ) (c : AppliedId) (y z : ℕ) (d : AppliedId) (w : ℕ) → IsTrue (tails_equal x c y z d w) ↔
+    tail_form x c y ≡ tail_form z d w
 tail_same x c y z d w =
     join_form_same (scopes_equal x c z d) (nat_eq y w) (scope_form x c) (slot_form y) (scope_form z d) (slot_form w) (scope_fits x c) (scope_fits z d)
     (scopes_alike x c z d) (slots_alike y w) (scope_same x c z d) (slot_same y w)
 
-pub tri_same : (u x : ℕ) (c : AppliedId) (y v z : ℕ) (d : AppliedId) (w : ℕ) → IsTrue (nat_eq u v && tails_equal x c y z d w) ↔ tri_form u x c y ≡ tri_form v z d w
+pub tri_same : (u x : ℕ) (c : AppliedId) (y v z : ℕ) (d : AppliedId) (w : ℕ) → IsTrue (nat_eq u v && tails_equal x c y z d w) ↔
+    tri_form u x c y ≡ tri_form v z d w
 tri_same u x c y v z d w =
     join_form_same (nat_eq u v) (tails_equal x c y z d w) (slot_form u) (tail_form x c y) (slot_form v) (tail_form z d w) refl refl
     (slots_alike u v) (tails_alike x c y z d w) (slot_same u v) (tail_same x c y z d w)

@@ -38,10 +38,14 @@ with_quiet_row g i = record g { rows = row_for g i ∷ g.rows }
 abbrev pub with_assertion : State → Equation → State
 with_assertion g e = record g { proofs = g.proofs ++ record { equation = e; step = explicit } ∷ [] }
 
--- a class is made of the node c: if a row has the shape of its normal form, it is united with the class of that, else its node is filed; then a run follows that leaves nothing to do
+-- a class is made of the node c: if a row has the shape of its normal form, it is united with the class of that, else its node is
+-- filed; then a run follows that leaves nothing to do
 pub data Adds (g : State) (c : DTerm) : State → Type 0 where
-  joins_row : {n : ℕ} {f h : State} (proofs : List ProofEntry) (p : ℕ) (r : Row) → ProofsGrow (with_new_class g c).nodes (with_new_class g c).proofs proofs → Contains g.rows r → r.shape ≡ shape (normal_node (with_new_class g c) (length g.nodes)) →
-      IsCongruence (with_proofs (with_new_class g c) proofs) p (length g.nodes) r.source → Unites p (with_proofs (with_new_class g c) proofs) f → Runs f n h → HasNothingLeft h → Adds g c h
+  joins_row : {n : ℕ} {f h : State} (proofs : List ProofEntry) (p : ℕ) (r : Row) →
+      ProofsGrow (with_new_class g c).nodes (with_new_class g c).proofs proofs → Contains g.rows r →
+      r.shape ≡ shape (normal_node (with_new_class g c) (length g.nodes)) →
+      IsCongruence (with_proofs (with_new_class g c) proofs) p (length g.nodes) r.source →
+      Unites p (with_proofs (with_new_class g c) proofs) f → Runs f n h → HasNothingLeft h → Adds g c h
   files_row : {n : ℕ} {h : State} → ((r : Row) → Contains g.rows r → r.shape ≢ shape (normal_node (with_new_class g c) (length g.nodes))) →
       Runs (with_new_row (with_new_class g c) (length g.nodes)) n h → HasNothingLeft h → Adds g c h
 
@@ -65,7 +69,8 @@ pub record HasAsserted (g : State) (a b : Applied) (h : State) : Type 0 where
   pub same_nodes : h.nodes ≡ g.nodes
   pub together : FoundTogether h a b
   pub stands : (p : ℕ) × StandsAt h p (equation_of a b)
-  pub asserted_list : (asserted h.nodes h.proofs ≡ asserted g.nodes g.proofs) ⊎ (asserted h.nodes h.proofs ≡ asserted g.nodes g.proofs ++ term_pair g.nodes (equation_of a b) ∷ [])
+  pub asserted_list : (asserted h.nodes h.proofs ≡ asserted g.nodes g.proofs) ⊎
+      (asserted h.nodes h.proofs ≡ asserted g.nodes g.proofs ++ term_pair g.nodes (equation_of a b) ∷ [])
 
 -- after a was asserted to equal b: lists have grown at their ends alone; where the equation stood nowhere it is the next entry, an explicit one;
 -- and neither the size nor a count has risen
@@ -77,7 +82,8 @@ pub record IsExactAssertion (g : State) (a b : Applied) (h : State) : Type 0 whe
   pub lives : lives_from 0 h.found ≤ lives_from 0 g.found
   pub slots : lives_from 0 h.found ≡ lives_from 0 g.found → slots_from 0 h.found ≤ slots_from 0 g.found
 
--- a class was made of the node c, and nothing else has changed: valid ids find what they found, nodes and trees that were looked up are looked up as the same ids, and c is looked up as the new class
+-- a class was made of the node c, and nothing else has changed: valid ids find what they found, nodes and trees that were looked
+-- up are looked up as the same ids, and c is looked up as the new class
 pub record KeepsLookUps (g : State) (c : DTerm) (h : State) : Type 0 where
   pub finds : (a : Applied) → IsValidIn g a → find h.found a ≡ find g.found a
   pub nodes : (d : DTerm) → EachChild (IsValidIn g) d.args → (a : Applied) → look_up_node g d ≡ Some a → look_up_node h d ≡ Some a

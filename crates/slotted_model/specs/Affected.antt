@@ -43,4 +43,5 @@ HasNoOpenSymmetries g = (y : Symmetry) → Contains g.symmetries y → ¬ IsOpen
 
 -- the two find alike, or both find affected classes
 abbrev pub AreAlikeOrAffected : State → Applied → Applied → Type 0
-AreAlikeOrAffected g a b = (find g.found a ≡ find g.found b) ⊎ (IsAffected g (find_class g.found a.0) × IsAffected g (find_class g.found b.0))
+AreAlikeOrAffected g a b = (find g.found a ≡ find g.found b) ⊎
+    (IsAffected g (find_class g.found a.0) × IsAffected g (find_class g.found b.0))

@@ -71,7 +71,8 @@ pub record PairsAll (g : State) (e : Equation) : Type 0 where
 
 -- a slot of either class has no partner
 abbrev pub Lacks : State → Equation → Type 0
-Lacks g e = ((s : ℕ) × Contains (used_slots g.found e.left) s × (¬ Contains (keys_of e.pairs) s)) ⊎ ((t : ℕ) × Contains (used_slots g.found e.right) t × (¬ Contains (values_of e.pairs) t))
+Lacks g e = ((s : ℕ) × Contains (used_slots g.found e.left) s × (¬ Contains (keys_of e.pairs) s)) ⊎
+    ((t : ℕ) × Contains (used_slots g.found e.right) t × (¬ Contains (values_of e.pairs) t))
 
 -- the symmetry says what the equation says of its class and of the slots that it has
 pub record IsSymmetryOf (g : State) (e : Equation) (y : Symmetry) : Type 0 where
@@ -82,20 +83,33 @@ pub record IsSymmetryOf (g : State) (e : Equation) (y : Symmetry) : Type 0 where
 -- union by the entry p leads from one graph to another. While a slot of the classes that its sides find has no partner, it is dropped, on the left first;
 -- then one of two classes dies, or a symmetry of one class is listed, if it is not; and it ends where the sides find alike
 pub data Unites (p : ℕ) : State → State → Type 0 where
-  finds_alike : {g : State} → (found_entry g p).left ≡ (found_entry g p).right → (found_entry g p).pairs ≡ identity (used_slots g.found (found_entry g p).left) → Unites p g g
+  finds_alike : {g : State} → (found_entry g p).left ≡ (found_entry g p).right →
+      (found_entry g p).pairs ≡ identity (used_slots g.found (found_entry g p).left) → Unites p g g
   proves : {g h : State} (proofs : List ProofEntry) → ProofsGrow g.nodes g.proofs proofs → Unites p (with_proofs g proofs) h → Unites p g h
-  drops_left : {g h : State} (n s : ℕ) (w : List ℕ) → Contains (used_slots g.found (found_entry g p).left) s → ¬ Contains (keys_of (found_entry g p).pairs) s → StandsAt g n (kept_equation (found_entry g p)) →
-      HasTouched g (found_entry g p).left w → Unites p (dropped_state g (found_entry g p).left (keys_of (found_entry g p).pairs) n w) h → Unites p g h
-  drops_right : {g h : State} (n t : ℕ) (w : List ℕ) → ((s : ℕ) → Contains (used_slots g.found (found_entry g p).left) s → Contains (keys_of (found_entry g p).pairs) s) →
-      Contains (used_slots g.found (found_entry g p).right) t → ¬ Contains (values_of (found_entry g p).pairs) t → StandsAt g n (kept_equation (turned_equation g.nodes (found_entry g p))) →
-      HasTouched g (found_entry g p).right w → Unites p (dropped_state g (found_entry g p).right (keys_of (turned_equation g.nodes (found_entry g p)).pairs) n w) h → Unites p g h
-  left_dies : {g : State} (n moment : ℕ) (w : List ℕ) → (found_entry g p).left ≢ (found_entry g p).right → PairsAll g (found_entry g p) → StandsAt g n (found_entry g p) → IsLater g.found moment → HasTouched g (found_entry g p).left w →
+  drops_left : {g h : State} (n s : ℕ) (w : List ℕ) → Contains (used_slots g.found (found_entry g p).left) s →
+      ¬ Contains (keys_of (found_entry g p).pairs) s → StandsAt g n (kept_equation (found_entry g p)) →
+      HasTouched g (found_entry g p).left w →
+      Unites p (dropped_state g (found_entry g p).left (keys_of (found_entry g p).pairs) n w) h → Unites p g h
+  drops_right : {g h : State} (n t : ℕ) (w : List ℕ) →
+      ((s : ℕ) → Contains (used_slots g.found (found_entry g p).left) s → Contains (keys_of (found_entry g p).pairs) s) →
+      Contains (used_slots g.found (found_entry g p).right) t → ¬ Contains (values_of (found_entry g p).pairs) t →
+      StandsAt g n (kept_equation (turned_equation g.nodes (found_entry g p))) →
+      HasTouched g (found_entry g p).right w →
+      Unites p (dropped_state g (found_entry g p).right (keys_of (turned_equation g.nodes (found_entry g p)).pairs) n w) h →
+      Unites p g h
+  left_dies : {g : State} (n moment : ℕ) (w : List ℕ) → (found_entry g p).left ≢ (found_entry g p).right →
+      PairsAll g (found_entry g p) → StandsAt g n (found_entry g p) → IsLater g.found moment → HasTouched g (found_entry g p).left w →
       Unites p g (linked_state g (found_entry g p) n moment w)
-  right_dies : {g : State} (n moment : ℕ) (w : List ℕ) → (found_entry g p).left ≢ (found_entry g p).right → PairsAll g (found_entry g p) → StandsAt g n (turned_equation g.nodes (found_entry g p)) → IsLater g.found moment → HasTouched g (found_entry g p).right w →
+  right_dies : {g : State} (n moment : ℕ) (w : List ℕ) → (found_entry g p).left ≢ (found_entry g p).right →
+      PairsAll g (found_entry g p) → StandsAt g n (turned_equation g.nodes (found_entry g p)) → IsLater g.found moment →
+      HasTouched g (found_entry g p).right w →
       Unites p g (linked_state g (turned_equation g.nodes (found_entry g p)) n moment w)
-  lists : {g : State} (n : ℕ) → (found_entry g p).left ≡ (found_entry g p).right → PairsAll g (found_entry g p) → (found_entry g p).pairs ≢ identity (used_slots g.found (found_entry g p).left) →
-      ((y : Symmetry) → Contains g.symmetries y → ¬ IsSymmetryOf g (found_entry g p) y) → StandsAt g n (found_entry g p) → Unites p g (with_symmetry g (symmetry_of g (found_entry g p) n))
-  is_listed : {g : State} (y : Symmetry) → (found_entry g p).left ≡ (found_entry g p).right → PairsAll g (found_entry g p) → Contains g.symmetries y → IsSymmetryOf g (found_entry g p) y → Unites p g g
+  lists : {g : State} (n : ℕ) → (found_entry g p).left ≡ (found_entry g p).right → PairsAll g (found_entry g p) →
+      (found_entry g p).pairs ≢ identity (used_slots g.found (found_entry g p).left) →
+      ((y : Symmetry) → Contains g.symmetries y → ¬ IsSymmetryOf g (found_entry g p) y) → StandsAt g n (found_entry g p) →
+      Unites p g (with_symmetry g (symmetry_of g (found_entry g p) n))
+  is_listed : {g : State} (y : Symmetry) → (found_entry g p).left ≡ (found_entry g p).right → PairsAll g (found_entry g p) →
+      Contains g.symmetries y → IsSymmetryOf g (found_entry g p) y → Unites p g g
 
 -- after the union by the entry p: classes and rows are the same, nothing more is asserted, the sides of the entry are equal up to listed symmetries,
 -- and if the size has not fallen, finds and what waits are the same too
@@ -105,9 +119,11 @@ pub record HasUnited (p : ℕ) (older newer : State) : Type 0 where
   pub same_nodes : newer.nodes ≡ older.nodes
   pub same_rows : newer.rows ≡ older.rows
   pub still_waits : (o : ℕ) → Contains older.waiting o → Contains newer.waiting o
-  pub asserts_nothing : (q : ℕ) → q < length newer.proofs → step_at newer.proofs q ≡ explicit → (q < length older.proofs) × (step_at older.proofs q ≡ explicit)
+  pub asserts_nothing : (q : ℕ) → q < length newer.proofs → step_at newer.proofs q ≡ explicit → (q < length older.proofs) ×
+      (step_at older.proofs q ≡ explicit)
   pub same_asserted : asserted newer.nodes newer.proofs ≡ asserted older.nodes older.proofs
-  pub equal : (a b : Applied) → IsFull older.nodes a → IsFull older.nodes b → equation_of a b ≡ equation_at older.proofs p → UpToSymmetries newer a b
+  pub equal : (a b : Applied) → IsFull older.nodes a → IsFull older.nodes b → equation_of a b ≡ equation_at older.proofs p →
+      UpToSymmetries newer a b
   pub smaller : (size newer < size older) ⊎ ((newer.found ≡ older.found) × (newer.waiting ≡ older.waiting))
 
 -- the graph represents what was added and asserted, where the entry p need not be respected yet

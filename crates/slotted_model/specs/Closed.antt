@@ -13,7 +13,8 @@ use Rattle.slotted_model.specs.State.{child_classes}
 
 -- the two find alike, or both find marked classes
 abbrev pub AreAlikeUpTo : List Entry → (ℕ → Bool) → Applied → Applied → Type 0
-AreAlikeUpTo found marked a b = (find found a ≡ find found b) ⊎ (IsTrue (marked (find_class found a.0)) × IsTrue (marked (find_class found b.0)))
+AreAlikeUpTo found marked a b = (find found a ≡ find found b) ⊎
+    (IsTrue (marked (find_class found a.0)) × IsTrue (marked (find_class found b.0)))
 
 -- the canonical node of a full id is looked up, as an id of the class that the full id finds, and as just what it finds where that class is not marked
 pub record IsAnswered (nodes : List DTerm) (found : List Entry) (look : DTerm → Option Applied) (marked : ℕ → Bool) (a : Applied) : Type 0 where
@@ -37,5 +38,6 @@ pub record IsClosed (nodes : List DTerm) (found : List Entry) (E : List (DTerm �
   pub renames : Renames look
   pub answers : (a : Applied) → IsFull nodes a → IsAnswered nodes found look marked a
   -- a class is marked if its canonical node stands over a marked class
-  pub marks_rise : (i c : ℕ) → i < length nodes → Contains (child_classes (normal found (canonical_node nodes i)).args) c → IsTrue (marked c) → IsTrue (marked (find_class found i))
+  pub marks_rise : (i c : ℕ) → i < length nodes → Contains (child_classes (normal found (canonical_node nodes i)).args) c →
+      IsTrue (marked c) → IsTrue (marked (find_class found i))
   pub pairs : (d e : DTerm) → Contains E (d, e) → IsFoundPair nodes found marked d e

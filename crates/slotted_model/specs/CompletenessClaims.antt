@@ -37,78 +37,101 @@ EqualTreesHaveOneValue =
 -- a tree whose value is an id is looked up as that id
 abbrev pub ValuesAreLookedUp : Type 0
 ValuesAreLookedUp =
-    (look : DTerm → Option Applied) (marked : ℕ → Bool) (t : DTerm) → IsTree t → (a : Applied) → value_of_term look marked t ≡ as_term a → look_up look t ≡ Some a
+    (look : DTerm → Option Applied) (marked : ℕ → Bool) (t : DTerm) → IsTree t → (a : Applied) →
+    value_of_term look marked t ≡ as_term a → look_up look t ≡ Some a
 
 -- where no class is marked a tree is looked up as an id exactly if that is its value
 abbrev pub LookUpsAreValues : Type 0
 LookUpsAreValues =
-    (look : DTerm → Option Applied) (t : DTerm) → IsTree t → (a : Applied) → (look_up look t ≡ Some a) ↔ (value_of_term look (λ c. false) t ≡ as_term a)
+    (look : DTerm → Option Applied) (t : DTerm) → IsTree t → (a : Applied) → (look_up look t ≡ Some a) ↔
+    (value_of_term look (λ c. false) t ≡ as_term a)
 
 -- ids of one value are the same, or both of marked classes
 abbrev pub OneValueIsOneId : Type 0
-OneValueIsOneId = (marked : ℕ → Bool) (a b : Applied) → id_value marked a ≡ id_value marked b → (a ≡ b) ⊎ (IsTrue (marked a.0) × IsTrue (marked b.0))
+OneValueIsOneId = (marked : ℕ → Bool) (a b : Applied) → id_value marked a ≡ id_value marked b → (a ≡ b) ⊎
+    (IsTrue (marked a.0) × IsTrue (marked b.0))
 
 -- the term of a full id has the value of what the id finds
 abbrev pub CanonicalTermsHaveFoundValues : Type 0
 CanonicalTermsHaveFoundValues =
-    (nodes : List DTerm) → Canonical nodes → (found : List Entry) (E : List (DTerm × DTerm)) (look : DTerm → Option Applied) (marked : ℕ → Bool) → IsClosed nodes found E look marked →
+    (nodes : List DTerm) → Canonical nodes →
+    (found : List Entry) (E : List (DTerm × DTerm)) (look : DTerm → Option Applied) (marked : ℕ → Bool) →
+    IsClosed nodes found E look marked →
     (a : Applied) → IsFull nodes a → value_of_term look marked (term_of nodes a) ≡ id_value marked (find found a)
 
 -- the terms of a listed pair have one value
 abbrev pub ListedPairsHaveOneValue : Type 0
 ListedPairsHaveOneValue =
-    (nodes : List DTerm) → Canonical nodes → (found : List Entry) (E : List (DTerm × DTerm)) (look : DTerm → Option Applied) (marked : ℕ → Bool) → IsClosed nodes found E look marked →
+    (nodes : List DTerm) → Canonical nodes →
+    (found : List Entry) (E : List (DTerm × DTerm)) (look : DTerm → Option Applied) (marked : ℕ → Bool) →
+    IsClosed nodes found E look marked →
     (d e : DTerm) → Contains E (d, e) → value_of_term look marked d ≡ value_of_term look marked e
 
 -- full ids whose terms are equal find alike, or both find marked classes
 abbrev pub EqualTermsAreFoundAlike : Type 0
 EqualTermsAreFoundAlike =
-    (nodes : List DTerm) → Canonical nodes → (found : List Entry) (E : List (DTerm × DTerm)) (look : DTerm → Option Applied) (marked : ℕ → Bool) → IsClosed nodes found E look marked →
+    (nodes : List DTerm) → Canonical nodes →
+    (found : List Entry) (E : List (DTerm × DTerm)) (look : DTerm → Option Applied) (marked : ℕ → Bool) →
+    IsClosed nodes found E look marked →
     (a b : Applied) → IsFull nodes a → IsFull nodes b → Equal E (term_of nodes a) (term_of nodes b) → AreAlikeUpTo found marked a b
 
 -- so do valid ids, if some names fill them so that their terms are equal
 abbrev pub EqualFillingsAreFoundAlike : Type 0
 EqualFillingsAreFoundAlike =
-    (nodes : List DTerm) → Canonical nodes → (found : List Entry) → Linked nodes found → (E : List (DTerm × DTerm)) (look : DTerm → Option Applied) (marked : ℕ → Bool) → IsClosed nodes found E look marked →
+    (nodes : List DTerm) → Canonical nodes → (found : List Entry) → Linked nodes found →
+    (E : List (DTerm × DTerm)) (look : DTerm → Option Applied) (marked : ℕ → Bool) → IsClosed nodes found E look marked →
     (a b left right : Applied) (given more_given : List ℕ) → IsValid (used_slots found) nodes a → IsValid (used_slots found) nodes b →
-    IsFilling nodes given a left → IsFilling nodes more_given b right → Equal E (term_of nodes left) (term_of nodes right) → AreAlikeUpTo found marked a b
+    IsFilling nodes given a left → IsFilling nodes more_given b right → Equal E (term_of nodes left) (term_of nodes right) →
+    AreAlikeUpTo found marked a b
 
 -- the same of terms with names: where they are derivable from the equations, the ids find alike, or both find marked classes
 abbrev pub DerivableTermsAreFoundAlike : Type 0
 DerivableTermsAreFoundAlike =
-    (nodes : List DTerm) → Canonical nodes → (found : List Entry) → Linked nodes found → (E : List (Term × Term)) (look : DTerm → Option Applied) (marked : ℕ → Bool) → IsClosed nodes found (map nameless_pair E) look marked →
+    (nodes : List DTerm) → Canonical nodes → (found : List Entry) → Linked nodes found →
+    (E : List (Term × Term)) (look : DTerm → Option Applied) (marked : ℕ → Bool) →
+    IsClosed nodes found (map nameless_pair E) look marked →
     (a b left right : Applied) (given more_given : List ℕ) → IsValid (used_slots found) nodes a → IsValid (used_slots found) nodes b →
     IsFilling nodes given a left → IsFilling nodes more_given b right →
     (t u : Term) → nameless t ≡ term_of nodes left → nameless u ≡ term_of nodes right → Derives E t u → AreAlikeUpTo found marked a b
 
--- full ids find alike, or both find marked classes, if their nodes have one normal form: the same operator, payloads, names and binders, and children that find alike in turn
+-- full ids find alike, or both find marked classes, if their nodes have one normal form: the same operator, payloads, names and
+-- binders, and children that find alike in turn
 abbrev pub FindingAlikeIsACongruence : Type 0
 FindingAlikeIsACongruence =
-    (nodes : List DTerm) (found : List Entry) (E : List (DTerm × DTerm)) (look : DTerm → Option Applied) (marked : ℕ → Bool) → IsClosed nodes found E look marked →
-    (a b : Applied) → IsFull nodes a → IsFull nodes b → normal found (node_of nodes a) ≡ normal found (node_of nodes b) → AreAlikeUpTo found marked a b
+    (nodes : List DTerm) (found : List Entry) (E : List (DTerm × DTerm)) (look : DTerm → Option Applied) (marked : ℕ → Bool) →
+    IsClosed nodes found E look marked →
+    (a b : Applied) → IsFull nodes a → IsFull nodes b → normal found (node_of nodes a) ≡ normal found (node_of nodes b) →
+    AreAlikeUpTo found marked a b
 
 -- where no class is marked, two ids find alike exactly if their terms are equal by the asserted equations, whatever names fill them
 abbrev pub FindingAlikeIsEquality : Type 0
 FindingAlikeIsEquality =
-    (nodes : List DTerm) (found : List Entry) (proofs : List ProofEntry) (look : DTerm → Option Applied) → Sound nodes found proofs → IsClosed nodes found (asserted nodes proofs) look (λ c. false) →
-    (a b left right : Applied) (given more_given : List ℕ) → IsValid (used_slots found) nodes a → IsValid (used_slots found) nodes b → IsFilling nodes given a left → IsFilling nodes more_given b right →
+    (nodes : List DTerm) (found : List Entry) (proofs : List ProofEntry) (look : DTerm → Option Applied) →
+    Sound nodes found proofs → IsClosed nodes found (asserted nodes proofs) look (λ c. false) →
+    (a b left right : Applied) (given more_given : List ℕ) → IsValid (used_slots found) nodes a →
+    IsValid (used_slots found) nodes b → IsFilling nodes given a left → IsFilling nodes more_given b right →
     (find found a ≡ find found b) ↔ Equal (asserted nodes proofs) (term_of nodes left) (term_of nodes right)
 
 -- each tree that is equal to the term of an id is looked up as what the id finds, if that is no marked class: also one that was never added
 abbrev pub EqualTreesAreLookedUp : Type 0
 EqualTreesAreLookedUp =
-    (nodes : List DTerm) → Canonical nodes → (found : List Entry) (E : List (DTerm × DTerm)) (look : DTerm → Option Applied) (marked : ℕ → Bool) → IsClosed nodes found E look marked →
-    (a : Applied) → IsFull nodes a → IsFalse (marked (find_class found a.0)) → (t : DTerm) → IsTree t → Equal E (term_of nodes a) t → look_up look t ≡ Some (find found a)
+    (nodes : List DTerm) → Canonical nodes →
+    (found : List Entry) (E : List (DTerm × DTerm)) (look : DTerm → Option Applied) (marked : ℕ → Bool) →
+    IsClosed nodes found E look marked →
+    (a : Applied) → IsFull nodes a → IsFalse (marked (find_class found a.0)) → (t : DTerm) → IsTree t →
+    Equal E (term_of nodes a) t → look_up look t ≡ Some (find found a)
 
 -- where no class is marked, equal trees are looked up alike, or both are not
 abbrev pub EqualTreesAreLookedUpAlike : Type 0
 EqualTreesAreLookedUpAlike =
-    (nodes : List DTerm) → Canonical nodes → (found : List Entry) (E : List (DTerm × DTerm)) (look : DTerm → Option Applied) → IsClosed nodes found E look (λ c. false) →
+    (nodes : List DTerm) → Canonical nodes → (found : List Entry) (E : List (DTerm × DTerm)) (look : DTerm → Option Applied) →
+    IsClosed nodes found E look (λ c. false) →
     (t u : DTerm) → IsTree t → IsTree u → Equal E t u → look_up look t ≡ look_up look u
 
 -- at rest a graph is closed, for its look-up and what was asserted, by each test that covers the classes that open symmetries affect
 abbrev pub RestIsClosed : Type 0
-RestIsClosed = (g : State) → AtRest g → (marked : ℕ → Bool) → CoversAffected g marked → IsClosed g.nodes g.found (asserted g.nodes g.proofs) (look_up_node g) marked
+RestIsClosed = (g : State) → AtRest g → (marked : ℕ → Bool) → CoversAffected g marked →
+    IsClosed g.nodes g.found (asserted g.nodes g.proofs) (look_up_node g) marked
 
 -- the test of affected classes covers them, and says yes to no other
 abbrev pub AffectedIsDecided : Type 0
@@ -117,27 +140,33 @@ AffectedIsDecided = (g : State) → CoversAffected g (is_affected g) × ((c : �
 -- completeness: at rest, valid ids find alike, or both find affected classes, if some names fill them so that their terms are equal by what was asserted
 abbrev pub EqualIsFoundAtRest : Type 0
 EqualIsFoundAtRest =
-    (g : State) → AtRest g → (a b left right : Applied) (given more_given : List ℕ) → IsValidIn g a → IsValidIn g b → IsFilling g.nodes given a left → IsFilling g.nodes more_given b right →
+    (g : State) → AtRest g → (a b left right : Applied) (given more_given : List ℕ) → IsValidIn g a → IsValidIn g b →
+    IsFilling g.nodes given a left → IsFilling g.nodes more_given b right →
     Equal (asserted g.nodes g.proofs) (term_of g.nodes left) (term_of g.nodes right) → AreAlikeOrAffected g a b
 
 -- the same of terms with names that are derivable from the asserted equations
 abbrev pub DerivableIsFoundAtRest : Type 0
 DerivableIsFoundAtRest =
-    (g : State) → AtRest g → (a b left right : Applied) (given more_given : List ℕ) → IsValidIn g a → IsValidIn g b → IsFilling g.nodes given a left → IsFilling g.nodes more_given b right →
-    (E : List (Term × Term)) (t u : Term) → map nameless_pair E ≡ asserted g.nodes g.proofs → nameless t ≡ term_of g.nodes left → nameless u ≡ term_of g.nodes right →
+    (g : State) → AtRest g → (a b left right : Applied) (given more_given : List ℕ) → IsValidIn g a → IsValidIn g b →
+    IsFilling g.nodes given a left → IsFilling g.nodes more_given b right →
+    (E : List (Term × Term)) (t u : Term) → map nameless_pair E ≡ asserted g.nodes g.proofs → nameless t ≡ term_of g.nodes left →
+    nameless u ≡ term_of g.nodes right →
     Derives E t u → AreAlikeOrAffected g a b
 
 -- at rest and with no open symmetry, two ids find alike exactly if their terms are derivable from the asserted equations, whatever names fill them
 abbrev pub FoundIsDerivableAtRest : Type 0
 FoundIsDerivableAtRest =
-    (g : State) → AtRest g → HasNoOpenSymmetries g → (a b left right : Applied) (given more_given : List ℕ) → IsValidIn g a → IsValidIn g b → IsFilling g.nodes given a left → IsFilling g.nodes more_given b right →
-    (E : List (Term × Term)) (t u : Term) → map nameless_pair E ≡ asserted g.nodes g.proofs → nameless t ≡ term_of g.nodes left → nameless u ≡ term_of g.nodes right →
+    (g : State) → AtRest g → HasNoOpenSymmetries g → (a b left right : Applied) (given more_given : List ℕ) → IsValidIn g a →
+    IsValidIn g b → IsFilling g.nodes given a left → IsFilling g.nodes more_given b right →
+    (E : List (Term × Term)) (t u : Term) → map nameless_pair E ≡ asserted g.nodes g.proofs → nameless t ≡ term_of g.nodes left →
+    nameless u ≡ term_of g.nodes right →
     (find g.found a ≡ find g.found b) ↔ Derives E t u
 
 -- at rest, full ids find alike, or both find affected classes, if their nodes have one normal form
 abbrev pub CongruentIsFoundAtRest : Type 0
 CongruentIsFoundAtRest =
-    (g : State) → AtRest g → (a b : Applied) → IsFull g.nodes a → IsFull g.nodes b → normal g.found (node_of g.nodes a) ≡ normal g.found (node_of g.nodes b) → AreAlikeOrAffected g a b
+    (g : State) → AtRest g → (a b : Applied) → IsFull g.nodes a → IsFull g.nodes b →
+    normal g.found (node_of g.nodes a) ≡ normal g.found (node_of g.nodes b) → AreAlikeOrAffected g a b
 
 -- at rest, a tree that is looked up is equal by what was asserted to the term of the answer, which is valid, whatever names fill it
 abbrev pub LookedUpIsEqualAtRest : Type 0
@@ -154,32 +183,38 @@ EqualIsLookedUpAtRest =
 -- so the term of such an id is looked up as what the id finds
 abbrev pub TermsAreLookedUpAtRest : Type 0
 TermsAreLookedUpAtRest =
-    (g : State) → AtRest g → (a : Applied) → IsFull g.nodes a → ¬ IsAffected g (find_class g.found a.0) → look_up_tree g (term_of g.nodes a) ≡ Some (find g.found a)
+    (g : State) → AtRest g → (a : Applied) → IsFull g.nodes a → ¬ IsAffected g (find_class g.found a.0) →
+    look_up_tree g (term_of g.nodes a) ≡ Some (find g.found a)
 
 -- at rest, a node over valid ids that is looked up stands for what is equal to the term of the answer, which is valid, whatever names fill it
 abbrev pub LookedUpNodeIsEqualAtRest : Type 0
 LookedUpNodeIsEqualAtRest =
     (g : State) → AtRest g → (d : DTerm) → EachChild (IsValidIn g) d.args → (x : Applied) → look_up_node g d ≡ Some x →
-    IsValidIn g x × ((b : Applied) (given : List ℕ) → IsFilling g.nodes given x b → Equal (asserted g.nodes g.proofs) (term_of g.nodes b) (layer_of g.nodes d))
+    IsValidIn g x ×
+    ((b : Applied) (given : List ℕ) → IsFilling g.nodes given x b → Equal (asserted g.nodes g.proofs) (term_of g.nodes b) (layer_of g.nodes d))
 
 -- at rest, a node over valid ids is looked up as what an id of no affected class finds exactly if what it stands for is equal to the id's term
 abbrev pub EqualNodeIsLookedUpAtRest : Type 0
 EqualNodeIsLookedUpAtRest =
-    (g : State) → AtRest g → (a : Applied) → IsFull g.nodes a → ¬ IsAffected g (find_class g.found a.0) → (d : DTerm) → 0 < d.op → EachChild (IsValidIn g) d.args →
+    (g : State) → AtRest g → (a : Applied) → IsFull g.nodes a → ¬ IsAffected g (find_class g.found a.0) → (d : DTerm) → 0 < d.op →
+    EachChild (IsValidIn g) d.args →
     (look_up_node g d ≡ Some (find g.found a)) ↔ Equal (asserted g.nodes g.proofs) (term_of g.nodes a) (layer_of g.nodes d)
 
 -- at rest and with no open symmetry, a tree is looked up exactly if it is equal to the term of some full id
 abbrev pub EqualIsRepresentedAtRest : Type 0
 EqualIsRepresentedAtRest =
     (g : State) → AtRest g → HasNoOpenSymmetries g → (t : DTerm) → IsTree t →
-    ((x : Applied) × (look_up_tree g t ≡ Some x)) ↔ ((a : Applied) × IsFull g.nodes a × Equal (asserted g.nodes g.proofs) (term_of g.nodes a) t)
+    ((x : Applied) × (look_up_tree g t ≡ Some x)) ↔
+    ((a : Applied) × IsFull g.nodes a × Equal (asserted g.nodes g.proofs) (term_of g.nodes a) t)
 
 -- at rest and with no open symmetry, equal trees are looked up alike, or both are not
 abbrev pub EqualIsLookedUpAlikeAtRest : Type 0
 EqualIsLookedUpAlikeAtRest =
-    (g : State) → AtRest g → HasNoOpenSymmetries g → (t u : DTerm) → IsTree t → IsTree u → Equal (asserted g.nodes g.proofs) t u → look_up_tree g t ≡ look_up_tree g u
+    (g : State) → AtRest g → HasNoOpenSymmetries g → (t u : DTerm) → IsTree t → IsTree u → Equal (asserted g.nodes g.proofs) t u →
+    look_up_tree g t ≡ look_up_tree g u
 
--- graphs at rest of the same classes that know what each other assert, with no open symmetry, find alike alike; the same classes lead to one class, and they have the same slots: in whatever order they were united
+-- graphs at rest of the same classes that know what each other assert, with no open symmetry, find alike alike; the same classes
+-- lead to one class, and they have the same slots: in whatever order they were united
 abbrev pub GraphsAgreeAtRest : Type 0
 GraphsAgreeAtRest =
     (g h : State) → AtRest g → AtRest h → HasNoOpenSymmetries g → HasNoOpenSymmetries h → g.nodes ≡ h.nodes →
@@ -215,13 +250,15 @@ SessionsHoldJustThat = (trees : List DTerm) (pairs : List (DTerm × DTerm)) (g :
 -- knows what the one asserts and has the terms of its classes
 abbrev pub SessionsShareTerms : Type 0
 SessionsShareTerms =
-    (trees others : List DTerm) (pairs other_pairs : List (DTerm × DTerm)) (g h : State) → Session trees pairs g → Session others other_pairs h →
+    (trees others : List DTerm) (pairs other_pairs : List (DTerm × DTerm)) (g h : State) → Session trees pairs g →
+    Session others other_pairs h →
     Follow pairs other_pairs → AreAmong trees others → Knows h g × HasTermsOf h g
 
 -- so sessions of the same trees and pairs lead to graphs that agree where no symmetry is open: whatever the order
 abbrev pub SessionsAgree : Type 0
 SessionsAgree =
-    (trees others : List DTerm) (pairs other_pairs : List (DTerm × DTerm)) (g h : State) → Session trees pairs g → Session others other_pairs h →
+    (trees others : List DTerm) (pairs other_pairs : List (DTerm × DTerm)) (g h : State) → Session trees pairs g →
+    Session others other_pairs h →
     HasNoOpenSymmetries g → HasNoOpenSymmetries h → Follow pairs other_pairs → Follow other_pairs pairs →
     AreAmong trees others → AreAmong others trees → Agree g h
 

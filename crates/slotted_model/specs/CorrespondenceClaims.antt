@@ -9,7 +9,8 @@ use Rattle.slotted_model.specs.Correspondence.{AllDifferent, IsFullMap, IsInject
 abbrev pub PartialInjectionIsPlain : Type 0
 PartialInjectionIsPlain =
     (P Q : List ℕ) (A : List (ℕ × ℕ)) → AllDifferent P →
-    IsPartialInjection P Q A ↔ ((keys_of A ≡ filter (has_slot (keys_of A)) P) × AllDifferent (values_of A) × ((t : ℕ) → Contains (values_of A) t → Contains Q t))
+    IsPartialInjection P Q A ↔
+    ((keys_of A ≡ filter (has_slot (keys_of A)) P) × AllDifferent (values_of A) × ((t : ℕ) → Contains (values_of A) t → Contains Q t))
 
 -- a partial injection pairs slots of P with slots of Q
 abbrev pub PairsAreOfSlots : Type 0
@@ -37,7 +38,8 @@ TurnedIsInverse =
 abbrev pub CompositeGoesOver : Type 0
 CompositeGoesOver =
     (P Q R : List ℕ) (A B : List (ℕ × ℕ)) → IsPartialInjection P Q A → IsPartialInjection Q R B →
-    IsPartialInjection P R (composite A B) × ((s u : ℕ) → Contains (composite A B) (s, u) ↔ ((t : ℕ) × Contains A (s, t) × Contains B (t, u)))
+    IsPartialInjection P R (composite A B) ×
+    ((s u : ℕ) → Contains (composite A B) (s, u) ↔ ((t : ℕ) × Contains A (s, t) × Contains B (t, u)))
 
 -- the identity is a partial injection, with the pairs of a slot of P and itself
 abbrev pub IdentityStays : Type 0
@@ -72,7 +74,8 @@ IdentityIsNeutral =
 abbrev pub CorrespondenceIsSharing : Type 0
 CorrespondenceIsSharing =
     (P Q : List ℕ) (m n : List (ℕ × ℕ)) → IsFullMap P m → IsFullMap Q n →
-    IsPartialInjection P Q (same_names m n) × ((s t : ℕ) → Contains (same_names m n) (s, t) ↔ ((x : ℕ) × Contains m (s, x) × Contains n (t, x)))
+    IsPartialInjection P Q (same_names m n) ×
+    ((s t : ℕ) → Contains (same_names m n) (s, t) ↔ ((x : ℕ) × Contains m (s, x) × Contains n (t, x)))
 
 -- other names, different where the names were, make another full map
 abbrev pub RenamingKeepsFullMaps : Type 0
@@ -111,7 +114,8 @@ MatchIsOneCorrespondence =
 abbrev pub EachCorrespondenceOccurs : Type 0
 EachCorrespondenceOccurs =
     (P Q : List ℕ) (m A : List (ℕ × ℕ)) (avoid : List ℕ) → IsFullMap P m → AllDifferent Q → IsPartialInjection P Q A →
-    (n : List (ℕ × ℕ)) × IsFullMap Q n × (same_names m n ≡ A) × ((t x : ℕ) → Contains n (t, x) → ((s : ℕ) × Contains A (s, t)) ⊎ (¬ Contains avoid x))
+    (n : List (ℕ × ℕ)) × IsFullMap Q n × (same_names m n ≡ A) ×
+    ((t x : ℕ) → Contains n (t, x) → ((s : ℕ) × Contains A (s, t)) ⊎ (¬ Contains avoid x))
 
 -- names for the middle of a transitive step exist exactly if its halves can be joined
 abbrev pub MiddleExists : Type 0

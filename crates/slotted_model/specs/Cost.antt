@@ -53,7 +53,8 @@ pub record IsLawfulOn (P : DTerm → Type 0) (C : Type 0) (k : CostFunction C) :
   -- alike nodes over children of equal costs cost the same
   pub alike : (d e : DTerm) (xs : List C) → P d → P e → AreAlike d e → length xs ≡ child_count d.args → k.node_cost d xs ≡ k.node_cost e xs
   -- dearer children never make a node cheaper
-  pub rises : (d : DTerm) (xs ys : List C) → P d → length xs ≡ child_count d.args → EachAtMost k xs ys → AtMost k (k.node_cost d xs) (k.node_cost d ys)
+  pub rises : (d : DTerm) (xs ys : List C) → P d → length xs ≡ child_count d.args → EachAtMost k xs ys →
+      AtMost k (k.node_cost d xs) (k.node_cost d ys)
   -- a node costs no less than any child
   pub no_less : (d : DTerm) (xs : List C) → P d → length xs ≡ child_count d.args → (x : C) → Contains xs x → AtMost k x (k.node_cost d xs)
 

@@ -102,33 +102,41 @@ pub record IsQueue (C : Type 0) (g : State) (k : CostFunction C) (table : List (
   pub each : (r : Row) (x : C) → Contains queue (r, x) → Contains g.rows r × (row_cost k table r ≡ Some x)
   pub has : (r : Row) (x : C) → IsCandidate C g k table r x → Contains queue (r, x)
 
--- what stands in a queue after the entry e: only rows that stood there or have a cost now, all that stood there but those of e's class, and those over e's class that have a cost now
+-- what stands in a queue after the entry e: only rows that stood there or have a cost now, all that stood there but those of e's
+-- class, and those over e's class that have a cost now
 pub record QueueAfter (C : Type 0) (g : State) (k : CostFunction C) (table : List (TableEntry C)) (e : TableEntry C) (before after : List (Row × C)) : Type 0 where
   pub from : (r : Row) (x : C) → Contains after (r, x) → Contains before (r, x) ⊎ (Contains g.rows r × (row_cost k (e ∷ table) r ≡ Some x))
   pub kept : (r : Row) (x : C) → Contains before (r, x) → row_class g r ≢ e.class → Contains after (r, x)
-  pub parents : (r : Row) (x : C) → Contains g.rows r → Contains (child_classes r.shape.args) e.class → row_cost k (e ∷ table) r ≡ Some x → row_class g r ≢ e.class → Contains after (r, x)
+  pub parents : (r : Row) (x : C) → Contains g.rows r → Contains (child_classes r.shape.args) e.class →
+      row_cost k (e ∷ table) r ≡ Some x → row_class g r ≢ e.class → Contains after (r, x)
 
 -- the entries are rows of the graph, each over earlier ones; each live class has one; and no row of a class costs less than its entry
 pub record Fits (C : Type 0) (g : State) (k : CostFunction C) (table : List (TableEntry C)) : Type 0 where
   pub in_order : IsInOrder g k table
   pub covered : (c : ℕ) → c < length g.nodes → IsLive g.found c → (x : C) × (cost_in table c ≡ Some x)
-  pub closed : (r : Row) → Contains g.rows r → (x y : C) → row_cost k table r ≡ Some x → cost_in table (row_class g r) ≡ Some y → AtMost k y x
+  pub closed : (r : Row) → Contains g.rows r → (x y : C) → row_cost k table r ≡ Some x → cost_in table (row_class g r) ≡ Some y →
+      AtMost k y x
 
 mutual
   -- t is the node of the row of a's class, under a full id b of the row's source that finds what a finds, over what is extracted for its children:
   -- so it has a's names, and for names that a lacks any others
   pub data Extracts {C : Type 0} (g : State) (table : List (TableEntry C)) : Applied → DTerm → Type 0 where
-    by_entry : {a : Applied} {args : DArgs} (e : TableEntry C) (b : Applied) → Contains table e → IsFull g.nodes b → b.0 ≡ e.row.source → find g.found b ≡ find g.found a →
-        ExtractsArgs g table (moved (filled b.1) (filed_node e.row)).args args → Extracts g table a (node e.row.shape.op e.row.shape.payloads args)
+    by_entry : {a : Applied} {args : DArgs} (e : TableEntry C) (b : Applied) → Contains table e → IsFull g.nodes b →
+        b.0 ≡ e.row.source → find g.found b ≡ find g.found a →
+        ExtractsArgs g table (moved (filled b.1) (filed_node e.row)).args args →
+        Extracts g table a (node e.row.shape.op e.row.shape.payloads args)
 
   -- the same names and binders, and in the place of each child what is extracted for it
   pub data ExtractsArgs {C : Type 0} (g : State) (table : List (TableEntry C)) : DArgs → DArgs → Type 0 where
     no_more : ExtractsArgs g table stop stop
     own_name : {x : ℕ} {d e : DArgs} → ExtractsArgs g table d e → ExtractsArgs g table (place x d) (place x e)
-    extracted : {op : ℕ} {payloads : List (List ℕ)} {args d e : DArgs} {t : DTerm} → Extracts g table (applied_of payloads args) t → ExtractsArgs g table d e → ExtractsArgs g table (sub op payloads args d) (child_before t e)
+    extracted : {op : ℕ} {payloads : List (List ℕ)} {args d e : DArgs} {t : DTerm} →
+        Extracts g table (applied_of payloads args) t → ExtractsArgs g table d e →
+        ExtractsArgs g table (sub op payloads args d) (child_before t e)
     under_binder : {c f d e : DArgs} → ExtractsArgs g table c f → ExtractsArgs g table d e → ExtractsArgs g table (scope c d) (scope f e)
 
--- t is made by the entry e: it is the node of e's row, under a full id of the row's source that finds what a finds, over what is extracted for the node's children
+-- t is made by the entry e: it is the node of e's row, under a full id of the row's source that finds what a finds, over what is
+-- extracted for the node's children
 pub record IsMadeBy {C : Type 0} (g : State) (table : List (TableEntry C)) (a : Applied) (t : DTerm) (e : TableEntry C) : Type 0 where
   pub id : Applied
   pub args : DArgs

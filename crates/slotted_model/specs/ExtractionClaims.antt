@@ -46,17 +46,20 @@ FinishedCovers C =
 -- so a table that was made least first, to the end, is what extraction needs
 abbrev pub FinishedFits : Type 0 → Type 0
 FinishedFits C =
-    (g : State) → AtRest g → (k : CostFunction C) → IsLawfulFor C g k → (table : List (TableEntry C)) → IsLeastFirst g k table → IsFinished g k table → Fits C g k table
+    (g : State) → AtRest g → (k : CostFunction C) → IsLawfulFor C g k → (table : List (TableEntry C)) → IsLeastFirst g k table →
+    IsFinished g k table → Fits C g k table
 
 -- such a table can be made in every graph, if of two costs one is at most the other
 abbrev pub TablesCanBeMade : Type 0 → Type 0
-TablesCanBeMade C = (g : State) (k : CostFunction C) → IsLawfulFor C g k → IsTotal k → (table : List (TableEntry C)) × IsLeastFirst g k table × IsFinished g k table
+TablesCanBeMade C = (g : State) (k : CostFunction C) → IsLawfulFor C g k → IsTotal k → (table : List (TableEntry C)) ×
+    IsLeastFirst g k table × IsFinished g k table
 
 -- a member of a queue that costs least can enter, as the least, if its class is not in the table
 abbrev pub LeastOfQueueEnters : Type 0 → Type 0
 LeastOfQueueEnters C =
     (g : State) (k : CostFunction C) (table : List (TableEntry C)) (queue : List (Row × C)) → IsQueue C g k table queue →
-    (r : Row) (x : C) → Contains queue (r, x) → ((q : Row) (y : C) → Contains queue (q, y) → AtMost k x y) → cost_in table (row_class g r) ≡ None →
+    (r : Row) (x : C) → Contains queue (r, x) → ((q : Row) (y : C) → Contains queue (q, y) → AtMost k x y) →
+    cost_in table (row_class g r) ≡ None →
     CanEnterTable C g k table (record { class = row_class g r; cost = x; row = r }) × IsLeast g k table x
 
 -- after an entry the queue needs no more than the rows over its class
@@ -85,12 +88,14 @@ ClassesCostLeast C =
 abbrev pub TermsCostNoLess : Type 0 → Type 0
 TermsCostNoLess C =
     (g : State) → AtRest g → (k : CostFunction C) → IsLawfulFor C g k → (table : List (TableEntry C)) → Fits C g k table →
-    (a : Applied) → IsFull g.nodes a → (x : C) × (cost_in table (find_class g.found a.0) ≡ Some x) × AtMost k x (tree_cost k (term_of g.nodes a))
+    (a : Applied) → IsFull g.nodes a → (x : C) × (cost_in table (find_class g.found a.0) ≡ Some x) ×
+    AtMost k x (tree_cost k (term_of g.nodes a))
 
 -- no table of the same graph has a lower cost, in whatever order its entries entered: so two that fit have the same costs
 abbrev pub NoTableCostsLess : Type 0 → Type 0
 NoTableCostsLess C =
-    (g : State) → AtRest g → (k : CostFunction C) → IsLawfulFor C g k → (table other : List (TableEntry C)) → Fits C g k table → IsInOrder g k other →
+    (g : State) → AtRest g → (k : CostFunction C) → IsLawfulFor C g k → (table other : List (TableEntry C)) → Fits C g k table →
+    IsInOrder g k other →
     (c : ℕ) (x y : C) → cost_in table c ≡ Some x → cost_in other c ≡ Some y → AtMost k x y
 
 -- a tree can be extracted for each valid id whose class is in the table: its children come from entries before it
@@ -109,7 +114,8 @@ ExtractingMovesWithNames C =
 abbrev pub ExtractedIsOfItsEntry : Type 0 → Type 0
 ExtractedIsOfItsEntry C =
     (g : State) (k : CostFunction C) (table : List (TableEntry C)) → IsInOrder g k table →
-    (a : Applied) (t : DTerm) → Extracts g table a t → (e : TableEntry C) → Contains table e → e.class ≡ find_class g.found a.0 → IsMadeBy g table a t e
+    (a : Applied) (t : DTerm) → Extracts g table a t → (e : TableEntry C) → Contains table e → e.class ≡ find_class g.found a.0 →
+    IsMadeBy g table a t e
 
 -- what is extracted for an id is a tree that is looked up as what the id finds
 abbrev pub ExtractedIsRepresented : Type 0 → Type 0
@@ -127,25 +133,29 @@ ExtractedCostsAsNamed C =
 abbrev pub ExtractedIsEqual : Type 0 → Type 0
 ExtractedIsEqual C =
     (g : State) → AtRest g → (k : CostFunction C) (table : List (TableEntry C)) → IsInOrder g k table →
-    (a : Applied) → IsValidIn g a → (t : DTerm) → Extracts g table a t → (b : Applied) (given : List ℕ) → IsFilling g.nodes given a b → Equal (asserted g.nodes g.proofs) (term_of g.nodes b) t
+    (a : Applied) → IsValidIn g a → (t : DTerm) → Extracts g table a t → (b : Applied) (given : List ℕ) →
+    IsFilling g.nodes given a b → Equal (asserted g.nodes g.proofs) (term_of g.nodes b) t
 
 -- no tree that is looked up as an id of the found class costs less
 abbrev pub ExtractedCostsLeast : Type 0 → Type 0
 ExtractedCostsLeast C =
     (g : State) → AtRest g → (k : CostFunction C) → IsLawfulFor C g k → (table : List (TableEntry C)) → Fits C g k table →
-    (a : Applied) (t : DTerm) → Extracts g table a t → (u : DTerm) (b : Applied) → look_up_tree g u ≡ Some b → b.0 ≡ find_class g.found a.0 → AtMost k (tree_cost k t) (tree_cost k u)
+    (a : Applied) (t : DTerm) → Extracts g table a t → (u : DTerm) (b : Applied) → look_up_tree g u ≡ Some b →
+    b.0 ≡ find_class g.found a.0 → AtMost k (tree_cost k t) (tree_cost k u)
 
 -- nor does the term of a full id that finds this class, also where symmetries are open
 abbrev pub ExtractedCostsNoMoreThanTerms : Type 0 → Type 0
 ExtractedCostsNoMoreThanTerms C =
     (g : State) → AtRest g → (k : CostFunction C) → IsLawfulFor C g k → (table : List (TableEntry C)) → Fits C g k table →
-    (a : Applied) (t : DTerm) → Extracts g table a t → (b : Applied) → IsFull g.nodes b → find_class g.found b.0 ≡ find_class g.found a.0 → AtMost k (tree_cost k t) (tree_cost k (term_of g.nodes b))
+    (a : Applied) (t : DTerm) → Extracts g table a t → (b : Applied) → IsFull g.nodes b →
+    find_class g.found b.0 ≡ find_class g.found a.0 → AtMost k (tree_cost k t) (tree_cost k (term_of g.nodes b))
 
 -- nor does any tree that is equal by what was asserted to such a term, where no open symmetry affects the class: also one that was never added
 abbrev pub ExtractedCostsLeastOfEqual : Type 0 → Type 0
 ExtractedCostsLeastOfEqual C =
     (g : State) → AtRest g → (k : CostFunction C) → IsLawfulFor C g k → (table : List (TableEntry C)) → Fits C g k table →
-    (a : Applied) (t : DTerm) → Extracts g table a t → (b : Applied) → IsFull g.nodes b → find_class g.found b.0 ≡ find_class g.found a.0 → ¬ IsAffected g (find_class g.found a.0) →
+    (a : Applied) (t : DTerm) → Extracts g table a t → (b : Applied) → IsFull g.nodes b →
+    find_class g.found b.0 ≡ find_class g.found a.0 → ¬ IsAffected g (find_class g.found a.0) →
     (u : DTerm) → IsTree u → Equal (asserted g.nodes g.proofs) (term_of g.nodes b) u → AtMost k (tree_cost k t) (tree_cost k u)
 
 -- graphs that agree give the same costs to ids that correspond: whatever the order, and whichever classes were kept
@@ -153,7 +163,8 @@ abbrev pub CostsAgree : Type 0 → Type 0
 CostsAgree C =
     (g h : State) → AtRest g → AtRest h → Agree g h → (k : CostFunction C) → IsLawfulFor C g k → IsLawfulFor C h k →
     (table other : List (TableEntry C)) → Fits C g k table → Fits C h k other → (a b : Applied) → Correspond g h a b →
-    (x y : C) → cost_in table (find_class g.found a.0) ≡ Some x → cost_in other (find_class h.found b.0) ≡ Some y → AtMost k x y × AtMost k y x
+    (x y : C) → cost_in table (find_class g.found a.0) ≡ Some x → cost_in other (find_class h.found b.0) ≡ Some y → AtMost k x y ×
+    AtMost k y x
 
 -- all these laws
 pub record ExtractionLaws (C : Type 0) : Type 0 where
@@ -202,7 +213,8 @@ TiesAreBroken C comes_first =
 -- a member that among those of its class and no higher cost was chosen by the order, if all its children cost less, breaks ties
 abbrev pub QueuesBreakTies : Type 0 → (Row → Row → Type 0) → Type 0
 QueuesBreakTies C comes_first =
-    (g : State) (k : CostFunction C) (table : List (TableEntry C)) (queue : List (Row × C)) → IsQueue C g k table queue → (r : Row) (x : C) →
+    (g : State) (k : CostFunction C) (table : List (TableEntry C)) (queue : List (Row × C)) → IsQueue C g k table queue →
+    (r : Row) (x : C) →
     ((q : Row) (y : C) → Contains queue (q, y) → row_class g q ≡ row_class g r → AtMost k y x → HasCheaperChildren k table q y →
     HasCheaperChildren k table r x × comes_first r q) →
     BreaksTies g k comes_first table (record { class = row_class g r; cost = x; row = r })

@@ -33,7 +33,8 @@ pub record EqualForSomeFilling (nodes : List DTerm) (a b : Applied) : Type 0 whe
 
 -- the same for each choice of such names
 abbrev pub EqualForEveryFilling : List DTerm → Applied → Applied → Type 0
-EqualForEveryFilling nodes a b = (left right : Applied) → IsFilling nodes (values b.1) a left → IsFilling nodes (values left.1) b right → term_of nodes left ≡ term_of nodes right
+EqualForEveryFilling nodes a b = (left right : Applied) → IsFilling nodes (values b.1) a left →
+    IsFilling nodes (values left.1) b right → term_of nodes left ≡ term_of nodes right
 
 -- b becomes c by a bijection of names that leaves the names of a and those given
 pub record RenamedFilling (given : List ℕ) (a b c : Applied) : Type 0 where
@@ -54,7 +55,8 @@ abbrev pub FillsArgs : List DTerm → List ℕ → DArgs → DArgs → Type 0
 FillsArgs nodes given stop e = e ≡ stop
 FillsArgs nodes given (place x rest) e = (r : DArgs) × (e ≡ place x r) × FillsArgs nodes given rest r
 FillsArgs nodes given (sub op payloads args rest) e =
-    (b : Applied) × (r : DArgs) × (e ≡ child_before (as_term b) r) × IsFilling nodes given (applied_of payloads args) b × FillsArgs nodes given rest r
+    (b : Applied) × (r : DArgs) × (e ≡ child_before (as_term b) r) × IsFilling nodes given (applied_of payloads args) b ×
+    FillsArgs nodes given rest r
 FillsArgs nodes given (scope inner rest) e =
     (i : DArgs) × (r : DArgs) × (e ≡ scope i r) × FillsArgs nodes (0 ∷ map suc given) inner i × FillsArgs nodes given rest r
 

@@ -60,10 +60,12 @@ pub record Linked (nodes : List DTerm) (found : List Entry) : Type 0 where
   -- an entry leads to a class
   pub in_range : (i : ℕ) → i < length nodes → (entry_at found i).class < length nodes
   -- it pairs canonical slots of that class with different ones of its own
-  pub maps : (i : ℕ) → i < length nodes → IsPartialInjection (canonical_slots nodes (entry_at found i).class) (canonical_slots nodes i) (entry_at found i).pairs
+  pub maps : (i : ℕ) → i < length nodes →
+      IsPartialInjection (canonical_slots nodes (entry_at found i).class) (canonical_slots nodes i) (entry_at found i).pairs
   -- a live class pairs each of its slots with itself
   pub live : (i : ℕ) → i < length nodes → IsLive found i → (entry_at found i).pairs ≡ identity (keys_of (entry_at found i).pairs)
   -- an entry leads to a class that lives or died later
-  pub ends : (i : ℕ) → i < length nodes → IsLive found (entry_at found i).class ⊎ ((entry_at found i).died < (entry_at found (entry_at found i).class).died)
+  pub ends : (i : ℕ) → i < length nodes → IsLive found (entry_at found i).class ⊎
+      ((entry_at found i).died < (entry_at found (entry_at found i).class).died)
   -- it knows each slot that the next find uses
   pub uses : (i : ℕ) → i < length nodes → (s : ℕ) → Contains (values_of (find_map found (entry_at found i).class)) s → Contains (keys_of (entry_at found i).pairs) s

@@ -52,7 +52,8 @@ with_link nodes found e proof moment = set found e.left (record {
 
 -- the newer find goes on from what the older one found
 abbrev pub Refines : List DTerm → List Entry → List Entry → Type 0
-Refines nodes older newer = (a : Applied) → IsValid (used_slots older) nodes a → IsValid (used_slots newer) nodes a × (find newer a ≡ find newer (find older a))
+Refines nodes older newer = (a : Applied) → IsValid (used_slots older) nodes a → IsValid (used_slots newer) nodes a ×
+    (find newer a ≡ find newer (find older a))
 
 -- these slots are slots of a live class, in their order
 pub record CanDrop (nodes : List DTerm) (found : List Entry) (c : ℕ) (slots : List ℕ) : Type 0 where

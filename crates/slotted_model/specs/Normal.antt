@@ -59,5 +59,6 @@ abbrev pub EqualInTurn : List Entry → DArgs → DArgs → Type 0
 EqualInTurn found stop e = e ≡ stop
 EqualInTurn found (place x rest) e = (r : DArgs) × (e ≡ place x r) × EqualInTurn found rest r
 EqualInTurn found (sub op payloads args rest) e =
-    (b : Applied) × (r : DArgs) × (e ≡ child_before (as_term b) r) × (find found (applied_of payloads args) ≡ find found b) × EqualInTurn found rest r
+    (b : Applied) × (r : DArgs) × (e ≡ child_before (as_term b) r) × (find found (applied_of payloads args) ≡ find found b) ×
+    EqualInTurn found rest r
 EqualInTurn found (scope inner rest) e = (i : DArgs) × (r : DArgs) × (e ≡ scope i r) × EqualInTurn found inner i × EqualInTurn found rest r

@@ -71,8 +71,10 @@ pub record IsTransitive (e first second : Equation) : Type 0 where
 pub data AreCongruent (nodes : List DTerm) : DArgs → DArgs → List Equation → Type 0 where
   no_more : AreCongruent nodes stop stop []
   one_name : {x : ℕ} {d e : DArgs} {parts : List Equation} → AreCongruent nodes d e parts → AreCongruent nodes (place x d) (place x e) parts
-  one_child : (a b : Applied) {d e : DArgs} {parts : List Equation} → IsFull nodes a → IsFull nodes b → AreCongruent nodes d e parts → AreCongruent nodes (child_before (as_term a) d) (child_before (as_term b) e) (equation_of a b ∷ parts)
-  one_binder : {d e r s : DArgs} {inner parts : List Equation} → AreCongruent nodes d e inner → AreCongruent nodes r s parts → AreCongruent nodes (scope d r) (scope e s) (inner ++ parts)
+  one_child : (a b : Applied) {d e : DArgs} {parts : List Equation} → IsFull nodes a → IsFull nodes b →
+      AreCongruent nodes d e parts → AreCongruent nodes (child_before (as_term a) d) (child_before (as_term b) e) (equation_of a b ∷ parts)
+  one_binder : {d e r s : DArgs} {inner parts : List Equation} → AreCongruent nodes d e inner → AreCongruent nodes r s parts →
+      AreCongruent nodes (scope d r) (scope e s) (inner ++ parts)
 
 -- the canonical node of an id's class with the id's names
 abbrev pub node_of : List DTerm → Applied → DTerm

@@ -64,9 +64,12 @@ pub record CongruenceEntered (g : State) (i j : ℕ) : Type 0 where
 -- if another row has the shape, the two classes are united, and the row goes; else the node is filed anew. Entries of the proof list may come first
 pub data Turn : State → State → Type 0 where
   enters : {g h : State} (proofs : List ProofEntry) → ProofsGrow g.nodes g.proofs proofs → Turn (with_proofs g proofs) h → Turn g h
-  narrows : {g h : State} (o p s : ℕ) → Contains g.waiting o → Contains (used_slots g.found o) s → ¬ Contains (names (normal_node g o)) s → IsCongruence g p o o → Unites p g h → Turn g h
-  unites_parents : {g h : State} (o p : ℕ) (r : Row) → Contains g.waiting o → Contains g.rows r → r.source ≢ o → r.shape ≡ shape (normal_node g o) → IsCongruence g p o r.source → Unites p g h → Turn g (removed_state h o)
-  refiles : {g : State} (o : ℕ) → Contains g.waiting o → IsCovered g o → ((r : Row) → Contains g.rows r → r.source ≢ o → r.shape ≢ shape (normal_node g o)) → Turn g (refiled_state g o)
+  narrows : {g h : State} (o p s : ℕ) → Contains g.waiting o → Contains (used_slots g.found o) s →
+      ¬ Contains (names (normal_node g o)) s → IsCongruence g p o o → Unites p g h → Turn g h
+  unites_parents : {g h : State} (o p : ℕ) (r : Row) → Contains g.waiting o → Contains g.rows r → r.source ≢ o →
+      r.shape ≡ shape (normal_node g o) → IsCongruence g p o r.source → Unites p g h → Turn g (removed_state h o)
+  refiles : {g : State} (o : ℕ) → Contains g.waiting o → IsCovered g o →
+      ((r : Row) → Contains g.rows r → r.source ≢ o → r.shape ≢ shape (normal_node g o)) → Turn g (refiled_state g o)
 
 -- a listed symmetry that is not aligned is acted on by its own proof
 pub data Acts : State → State → Type 0 where
@@ -88,7 +91,8 @@ pub record IsRebuilt (older newer : State) : Type 0 where
   pub same_nodes : newer.nodes ≡ older.nodes
   pub goes_on : GoesOn older newer
   pub represents : Represents older → Represents newer
-  pub asserts_nothing : (q : ℕ) → q < length newer.proofs → step_at newer.proofs q ≡ explicit → (q < length older.proofs) × (step_at older.proofs q ≡ explicit)
+  pub asserts_nothing : (q : ℕ) → q < length newer.proofs → step_at newer.proofs q ≡ explicit → (q < length older.proofs) ×
+      (step_at older.proofs q ≡ explicit)
   pub same_asserted : asserted newer.nodes newer.proofs ≡ asserted older.nodes older.proofs
   pub rows : length newer.rows ≤ length older.rows
 

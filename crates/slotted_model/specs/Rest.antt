@@ -32,7 +32,8 @@ IsValidIn g a = IsValid (used_slots g.found) g.nodes a
 -- a chain of steps from a to b: over ids that find alike, and over the two sides of a listed symmetry, with any names put in
 pub data UpToSymmetries (g : State) : Applied → Applied → Type 0 where
   found_alike : {a b : Applied} → IsValidIn g a → IsValidIn g b → find g.found a ≡ find g.found b → UpToSymmetries g a b
-  listed : (y : Symmetry) (f : ℕ → ℕ) → Contains g.symmetries y → IsInjective f → UpToSymmetries g (renamed_id f (left_of y)) (renamed_id f (right_of y))
+  listed : (y : Symmetry) (f : ℕ → ℕ) → Contains g.symmetries y → IsInjective f →
+      UpToSymmetries g (renamed_id f (left_of y)) (renamed_id f (right_of y))
   turned_round : {a b : Applied} → UpToSymmetries g a b → UpToSymmetries g b a
   joined : {a b c : Applied} → UpToSymmetries g a b → UpToSymmetries g b c → UpToSymmetries g a c
 
@@ -63,7 +64,8 @@ IsOpen g y = find g.found (left_of y) ≢ find g.found (right_of y)
 abbrev pub HasNoOpenSymmetry : State → ℕ → Type 0
 HasNoOpenSymmetry g c = (y : Symmetry) → Contains g.symmetries y → find_class g.found y.class ≡ c → ¬ IsOpen g y
 
--- what holds of each row: a shape over valid ids, with a canonical slot of the source for each name, and the filed node and the canonical node of the source have one normal form
+-- what holds of each row: a shape over valid ids, with a canonical slot of the source for each name, and the filed node and the
+-- canonical node of the source have one normal form
 pub record IsRow (g : State) (r : Row) : Type 0 where
   pub in_range : r.source < length g.nodes
   pub operator : 0 < r.shape.op
@@ -88,7 +90,8 @@ pub record Filed (g : State) : Type 0 where
   pub waits_for_row : (o : ℕ) → Contains g.waiting o → Contains (sources g.rows) o
   pub current : (r : Row) → Contains g.rows r → ¬ Contains g.waiting r.source → IsCurrent g r
 
--- what holds of each listed symmetry: its slots are canonical slots of the class, and all that the class still uses; it is a bijection of them, not the identity; and its proof says just this
+-- what holds of each listed symmetry: its slots are canonical slots of the class, and all that the class still uses; it is a
+-- bijection of them, not the identity; and its proof says just this
 pub record IsListed (g : State) (y : Symmetry) : Type 0 where
   pub in_range : y.class < length g.nodes
   pub ascending : IsAscending y.slots
@@ -106,7 +109,8 @@ pub record Sane (g : State) : Type 0 where
   pub sound : Sound g.nodes g.found g.proofs
   pub filed : Filed g
   pub each_listed : (y : Symmetry) → Contains g.symmetries y → IsListed g y
-  pub listed_once : (y z : Symmetry) → Contains g.symmetries y → Contains g.symmetries z → y.class ≡ z.class → y.slots ≡ z.slots → y.pairs ≡ z.pairs → y ≡ z
+  pub listed_once : (y z : Symmetry) → Contains g.symmetries y → Contains g.symmetries z → y.class ≡ z.class → y.slots ≡ z.slots →
+      y.pairs ≡ z.pairs → y ≡ z
 
 -- up to listed symmetries the node of each class is filed, and the sides of each asserted equation are equal
 pub record Represents (g : State) : Type 0 where
@@ -147,21 +151,26 @@ slots_from i (e ∷ found) = cond (nat_eq e.class i) (length e.pairs) 0 + slots_
 -- the least set of classes that has the class of each open symmetry, and that of each filed node over a class of the set
 pub data IsAffected (g : State) : ℕ → Type 0 where
   by_symmetry : (y : Symmetry) → Contains g.symmetries y → IsOpen g y → IsAffected g (find_class g.found y.class)
-  by_child : {c : ℕ} (r : Row) → Contains g.rows r → Contains (child_classes r.shape.args) c → IsAffected g c → IsAffected g (find_class g.found r.source)
+  by_child : {c : ℕ} (r : Row) → Contains g.rows r → Contains (child_classes r.shape.args) c → IsAffected g c →
+      IsAffected g (find_class g.found r.source)
 
--- a test of classes that says yes to the class of each open symmetry, and to that of each filed node over a class to which it says yes: all that completeness needs of affected classes
+-- a test of classes that says yes to the class of each open symmetry, and to that of each filed node over a class to which it
+-- says yes: all that completeness needs of affected classes
 pub record CoversAffected (g : State) (marked : ℕ → Bool) : Type 0 where
   pub symmetries : (y : Symmetry) → Contains g.symmetries y → IsOpen g y → IsTrue (marked (find_class g.found y.class))
-  pub parents : (r : Row) (c : ℕ) → Contains g.rows r → Contains (child_classes r.shape.args) c → IsTrue (marked c) → IsTrue (marked (find_class g.found r.source))
+  pub parents : (r : Row) (c : ℕ) → Contains g.rows r → Contains (child_classes r.shape.args) c → IsTrue (marked c) →
+      IsTrue (marked (find_class g.found r.source))
 
--- the sides a and x are equal up to listed symmetries, so they find one class and one set of names, and find alike where no listed symmetry of that class is open
+-- the sides a and x are equal up to listed symmetries, so they find one class and one set of names, and find alike where no
+-- listed symmetry of that class is open
 pub record FoundTogether (g : State) (a x : Applied) : Type 0 where
   pub equal : UpToSymmetries g a x
   pub class : find_class g.found a.0 ≡ find_class g.found x.0
   pub names : id_names (find g.found a) ≡ id_names (find g.found x)
   pub alike : HasNoOpenSymmetry g (find_class g.found a.0) → find g.found a ≡ find g.found x
 
--- the node of a's class with a's names is looked up: the answer x is in normal form and found together with a, and the row of the node's shape is a row of a's class
+-- the node of a's class with a's names is looked up: the answer x is in normal form and found together with a, and the row of the
+-- node's shape is a row of a's class
 pub record LookedUp (g : State) (a : Applied) : Type 0 where
   pub answer : Applied
   pub looked_up : look_up_node g (node_of g.nodes a) ≡ Some answer
@@ -179,7 +188,8 @@ pub record IsAnswer (g : State) (d : DTerm) (x : Applied) : Type 0 where
   pub same : normal g.found (node_of g.nodes id) ≡ normal g.found d
   pub found : find g.found id ≡ x
 
--- what rest gives, and all that completeness needs of it: the node of each class is looked up under all names, and the sides of each asserted equation are found together
+-- what rest gives, and all that completeness needs of it: the node of each class is looked up under all names, and the sides of
+-- each asserted equation are found together
 pub record RestGives (g : State) : Type 0 where
   pub nodes : (a : Applied) → IsFull g.nodes a → LookedUp g a
   pub asserted : (p : ℕ) → p < length g.proofs → step_at g.proofs p ≡ explicit →

@@ -29,7 +29,8 @@ LookUpsMoveWithNames =
 -- nodes with the same operator, payloads, names and binders whose children find alike in turn are looked up alike
 abbrev pub EqualInTurnIsLookedUpAlike : Type 0
 EqualInTurnIsLookedUpAlike =
-    (g : State) (d e : DTerm) → d.op ≡ e.op → d.payloads ≡ e.payloads → EqualInTurn g.found d.args e.args → look_up_node g d ≡ look_up_node g e
+    (g : State) (d e : DTerm) → d.op ≡ e.op → d.payloads ≡ e.payloads → EqualInTurn g.found d.args e.args →
+    look_up_node g d ≡ look_up_node g e
 
 -- at rest a filed node, with the names of a full id of its source, is looked up as what that id finds, and each id of the row's class finds
 -- what such an id finds
@@ -118,7 +119,8 @@ GoingOnKeepsRows =
 -- a link by an equation that is proved is an event
 abbrev pub LinksAreEvents : Type 0
 LinksAreEvents =
-    (g : State) → Sane g → (e : Equation) (proof moment : ℕ) → CanLink g.nodes g.found e → IsLater g.found moment → proof < length g.proofs → equation_at g.proofs proof ≡ e →
+    (g : State) → Sane g → (e : Equation) (proof moment : ℕ) → CanLink g.nodes g.found e → IsLater g.found moment →
+    proof < length g.proofs → equation_at g.proofs proof ≡ e →
     (w : List ℕ) → HasTouched g e.left w → IsEvent g (linked_state g e proof moment w)
 
 -- dropping a slot, by an equation that is proved, is an event
@@ -131,13 +133,16 @@ DropsAreEvents =
 -- a link by an equation that pairs all slots of both classes keeps listed symmetries aligned
 abbrev pub LinksKeepAligned : Type 0
 LinksKeepAligned =
-    (g : State) → Sane g → (e : Equation) (proof moment : ℕ) → CanLink g.nodes g.found e → IsLater g.found moment → proof < length g.proofs → equation_at g.proofs proof ≡ e →
-    (w : List ℕ) → HasTouched g e.left w → PairsAll g e → ((s : ℕ) → Contains (values_of e.pairs) s → Contains (used_slots g.found e.right) s) →
+    (g : State) → Sane g → (e : Equation) (proof moment : ℕ) → CanLink g.nodes g.found e → IsLater g.found moment →
+    proof < length g.proofs → equation_at g.proofs proof ≡ e →
+    (w : List ℕ) → HasTouched g e.left w → PairsAll g e →
+    ((s : ℕ) → Contains (values_of e.pairs) s → Contains (used_slots g.found e.right) s) →
     (y : Symmetry) → IsListed g y → IsAligned g y → IsAligned (linked_state g e proof moment w) y
 
 -- a symmetry of all slots that a live class has is aligned
 abbrev pub ListedAreAligned : Type 0
-ListedAreAligned = (g : State) → Sane g → (y : Symmetry) → IsListed g y → IsLive g.found y.class → y.slots ≡ used_slots g.found y.class → IsAligned g y
+ListedAreAligned = (g : State) → Sane g → (y : Symmetry) → IsListed g y → IsLive g.found y.class →
+    y.slots ≡ used_slots g.found y.class → IsAligned g y
 
 -- a new class, of which no row is filed yet, keeps a graph sane
 abbrev pub NewClassesKeepSane : Type 0
@@ -146,20 +151,24 @@ NewClassesKeepSane = (g : State) → Sane g → (c : DTerm) → IsNew g.nodes c 
 -- and so does its row, if no other one has the shape
 abbrev pub NewRowsKeepSane : Type 0
 NewRowsKeepSane =
-    (g : State) → Sane g → (c : DTerm) → IsNew g.nodes c → ((r : Row) → Contains g.rows r → r.shape ≢ shape (normal_node (with_new_class g c) (length g.nodes))) →
+    (g : State) → Sane g → (c : DTerm) → IsNew g.nodes c →
+    ((r : Row) → Contains g.rows r → r.shape ≢ shape (normal_node (with_new_class g c) (length g.nodes))) →
     Sane (with_new_row (with_new_class g c) (length g.nodes)) × GoesOn g (with_new_row (with_new_class g c) (length g.nodes))
 
 -- where the node of a class that has no row is covered, and no row has its shape, one turn files it and changes nothing else
 abbrev pub QuietTurns : Type 0
 QuietTurns =
-    (g : State) (i : ℕ) → IsCovered g i → ((r : Row) → Contains g.rows r → r.source ≢ i) → ((r : Row) → Contains g.rows r → r.shape ≢ shape (normal_node g i)) →
+    (g : State) (i : ℕ) → IsCovered g i → ((r : Row) → Contains g.rows r → r.source ≢ i) →
+    ((r : Row) → Contains g.rows r → r.shape ≢ shape (normal_node g i)) →
     ¬ Contains g.waiting i → Runs (with_new_row g i) 1 (with_quiet_row g i)
 
 -- and so does an assertion, which need not be respected yet
 abbrev pub AssertionsKeepSane : Type 0
 AssertionsKeepSane =
-    (g : State) → Sane g → (a b : Applied) → IsFull g.nodes a → IsFull g.nodes b → ((q : ℕ) → q < length g.proofs → equation_at g.proofs q ≢ equation_of a b) →
-    Sane (with_assertion g (equation_of a b)) × GoesOn g (with_assertion g (equation_of a b)) × (Represents g → RepresentsBut (length g.proofs) (with_assertion g (equation_of a b)))
+    (g : State) → Sane g → (a b : Applied) → IsFull g.nodes a → IsFull g.nodes b →
+    ((q : ℕ) → q < length g.proofs → equation_at g.proofs q ≢ equation_of a b) →
+    Sane (with_assertion g (equation_of a b)) × GoesOn g (with_assertion g (equation_of a b)) ×
+    (Represents g → RepresentsBut (length g.proofs) (with_assertion g (equation_of a b)))
 
 -- the size is one for each live class and one for each of its slots: the entry of a live class has as many pairs as the class has slots
 abbrev pub SizeCountsSlots : Type 0
@@ -179,7 +188,8 @@ GoingOnRepresents =
 -- more entries of the proof list, which assert nothing, keep a graph sane
 abbrev pub NewProofsKeepSane : Type 0
 NewProofsKeepSane =
-    (g : State) → Sane g → (proofs : List ProofEntry) → ProofsGrow g.nodes g.proofs proofs → Sane (with_proofs g proofs) × GoesOn g (with_proofs g proofs)
+    (g : State) → Sane g → (proofs : List ProofEntry) → ProofsGrow g.nodes g.proofs proofs → Sane (with_proofs g proofs) ×
+    GoesOn g (with_proofs g proofs)
 
 -- and so does one more listed symmetry, if it was not listed
 abbrev pub NewSymmetriesKeepSane : Type 0
@@ -208,7 +218,8 @@ UnionsUniteSides = (p : ℕ) (g h : State) → Unites p g h → Sane g → p < l
 abbrev pub UnionsKeepCounts : Type 0
 UnionsKeepCounts =
     (p : ℕ) (g h : State) → Unites p g h → Sane g → p < length g.proofs →
-    (lives_from 0 h.found ≤ lives_from 0 g.found) × (lives_from 0 h.found ≡ lives_from 0 g.found → slots_from 0 h.found ≤ slots_from 0 g.found)
+    (lives_from 0 h.found ≤ lives_from 0 g.found) ×
+    (lives_from 0 h.found ≡ lives_from 0 g.found → slots_from 0 h.found ≤ slots_from 0 g.found)
 
 -- its size falls if a slot of the classes that the sides find has no partner
 abbrev pub LackingUnionsFall : Type 0
@@ -227,7 +238,8 @@ RowsShowCongruence =
 -- the congruence of two classes, or of one with itself, whose normal forms have one shape can be entered
 abbrev pub CongruencesCanBeEntered : Type 0
 CongruencesCanBeEntered =
-    (g : State) → Sane g → (i : ℕ) → i < length g.nodes → (j : ℕ) → j < length g.nodes → shape (normal_node g i) ≡ shape (normal_node g j) → CongruenceEntered g i j
+    (g : State) → Sane g → (i : ℕ) → i < length g.nodes → (j : ℕ) → j < length g.nodes →
+    shape (normal_node g i) ≡ shape (normal_node g j) → CongruenceEntered g i j
 
 -- a turn keeps a graph sane, and all that it represents, and lowers the size or what waits
 abbrev pub TurnsRebuild : Type 0
@@ -241,7 +253,8 @@ ActsRebuild = (g h : State) → Acts g h → Sane g → HasActed g h
 abbrev pub NoMoreWaitThanRows : Type 0
 NoMoreWaitThanRows = (g : State) → Sane g → length g.waiting ≤ length g.rows
 
--- so do turns and acts one after another; at each moment the turns taken and the classes that wait are at most the rows at the start, times one more than the size has fallen by
+-- so do turns and acts one after another; at each moment the turns taken and the classes that wait are at most the rows at the
+-- start, times one more than the size has fallen by
 abbrev pub RunsAreCounted : Type 0
 RunsAreCounted =
     (f : State) (n : ℕ) (h : State) → Sane f → Runs f n h →
@@ -252,7 +265,8 @@ abbrev pub RunsKeepCounts : Type 0
 RunsKeepCounts =
     ((g : State) → size g ≡ lives_from 0 g.found + slots_from 0 g.found)
     × ((f : State) (n : ℕ) (h : State) → Sane f → Runs f n h →
-    (lives_from 0 h.found ≤ lives_from 0 f.found) × (lives_from 0 h.found ≡ lives_from 0 f.found → slots_from 0 h.found ≤ slots_from 0 f.found))
+    (lives_from 0 h.found ≤ lives_from 0 f.found) ×
+    (lives_from 0 h.found ≡ lives_from 0 f.found → slots_from 0 h.found ≤ slots_from 0 f.found))
 
 -- a run that ends where nothing is left to do ends at rest
 abbrev pub RunsEndAtRest : Type 0
@@ -304,16 +318,19 @@ AssertingEndsAtRest =
 -- an assertion adds to the ends of lists alone; it is an explicit entry where its equation stood nowhere, and no count rises
 abbrev pub AssertingIsExact : Type 0
 AssertingIsExact =
-    (g : State) → AtRest g → (a b : Applied) → IsFull g.nodes a → IsFull g.nodes b → (h : State) → Asserts g a b h → IsExactAssertion g a b h
+    (g : State) → AtRest g → (a b : Applied) → IsFull g.nodes a → IsFull g.nodes b → (h : State) → Asserts g a b h →
+    IsExactAssertion g a b h
 
 -- proofs that assert nothing, as those of explanations, change no answer
 abbrev pub NewProofsShowNowhere : Type 0
-NewProofsShowNowhere = (g : State) → AtRest g → (proofs : List ProofEntry) → ProofsGrow g.nodes g.proofs proofs → SameAnswers g (with_proofs g proofs)
+NewProofsShowNowhere = (g : State) → AtRest g → (proofs : List ProofEntry) → ProofsGrow g.nodes g.proofs proofs →
+    SameAnswers g (with_proofs g proofs)
 
 -- nor does a shortcut, by which the entry of a dead class leads at once to what is found
 abbrev pub ShortcutsShowNowhere : Type 0
 ShortcutsShowNowhere =
-    (g : State) → AtRest g → (i proof : ℕ) → i < length g.nodes → ¬ IsLive g.found i → proof < length g.proofs → equation_at g.proofs proof ≡ find_equation g.nodes g.found i →
+    (g : State) → AtRest g → (i proof : ℕ) → i < length g.nodes → ¬ IsLive g.found i → proof < length g.proofs →
+    equation_at g.proofs proof ≡ find_equation g.nodes g.found i →
     SameAnswers g (record g { found = with_shortcut g.found i proof })
 
 -- all these laws

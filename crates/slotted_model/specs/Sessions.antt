@@ -31,7 +31,8 @@ pub data Session : List DTerm → List (DTerm × DTerm) → State → Type 0 whe
       Session trees pairs g → StandsFor g a t → Session (t ∷ trees) pairs g
   -- a tree is added by a new class, of a node that stands for it
   adds : {trees : List DTerm} {pairs : List (DTerm × DTerm)} {g h : State} (t c : DTerm) →
-      Session trees pairs g → IsNew g.nodes c → Equal (asserted g.nodes g.proofs) (layer_of g.nodes c) t → Adds g c h → Session (t ∷ trees) pairs h
+      Session trees pairs g → IsNew g.nodes c → Equal (asserted g.nodes g.proofs) (layer_of g.nodes c) t → Adds g c h →
+      Session (t ∷ trees) pairs h
   -- two trees are asserted to be equal, for which ids stand
   asserts : {trees : List DTerm} {pairs : List (DTerm × DTerm)} {g h : State} (t u : DTerm) (a b : Applied) →
       Session trees pairs g → StandsFor g a t → StandsFor g b u → Asserts g a b h → Session trees ((t, u) ∷ pairs) h

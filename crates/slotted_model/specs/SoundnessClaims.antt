@@ -36,11 +36,13 @@ FindsFollowEntries =
 abbrev pub FindsAreLive : Type 0
 FindsAreLive =
     (nodes : List DTerm) (found : List Entry) → Linked nodes found → (a : Applied) → IsValid (used_slots found) nodes a →
-    IsLive found (find found a).0 × (keys (find found a).1 ≡ used_slots found (find found a).0) × IsValid (used_slots found) nodes (find found a)
+    IsLive found (find found a).0 × (keys (find found a).1 ≡ used_slots found (find found a).0) ×
+    IsValid (used_slots found) nodes (find found a)
 
 -- what is found is found as it is
 abbrev pub FoundIsFoundAgain : Type 0
-FoundIsFoundAgain = (nodes : List DTerm) (found : List Entry) → Linked nodes found → (a : Applied) → IsValid (used_slots found) nodes a → find found (find found a) ≡ find found a
+FoundIsFoundAgain = (nodes : List DTerm) (found : List Entry) → Linked nodes found → (a : Applied) →
+    IsValid (used_slots found) nodes a → find found (find found a) ≡ find found a
 
 -- other names of an id are the same other names of what it finds
 abbrev pub FindsMoveWithNames : Type 0
@@ -49,7 +51,8 @@ FindsMoveWithNames = (found : List Entry) (f : ℕ → ℕ) (a : Applied) → fi
 -- only the names at the slots that are used matter
 abbrev pub FindsNeedUsedSlots : Type 0
 FindsNeedUsedSlots =
-    (nodes : List DTerm) (found : List Entry) → Linked nodes found → (a b : Applied) → IsValid (used_slots found) nodes a → IsValid (used_slots found) nodes b →
+    (nodes : List DTerm) (found : List Entry) → Linked nodes found → (a b : Applied) → IsValid (used_slots found) nodes a →
+    IsValid (used_slots found) nodes b →
     a.0 ≡ b.0 → ((s x : ℕ) → Contains (used_slots found a.0) s → Contains a.1 (s, x) → Contains b.1 (s, x)) → find found a ≡ find found b
 
 -- an id finds no names that it has not
@@ -58,7 +61,8 @@ FindsHaveOldNames = (found : List Entry) (a : Applied) (x : ℕ) → Contains (v
 
 -- full ids are valid
 abbrev pub FullIdsAreValid : Type 0
-FullIdsAreValid = (nodes : List DTerm) (found : List Entry) → Linked nodes found → (a : Applied) → IsFull nodes a → IsValid (used_slots found) nodes a
+FullIdsAreValid = (nodes : List DTerm) (found : List Entry) → Linked nodes found → (a : Applied) → IsFull nodes a →
+    IsValid (used_slots found) nodes a
 
 -- an id and its fillings find alike
 abbrev pub FillingsFindAlike : Type 0
@@ -75,7 +79,8 @@ FillingsKeepEquations =
 -- the children of a node can be filled, by names other than those given; then they are full, and the node has the normal form that it had
 abbrev pub FilledNodesAreThere : Type 0
 FilledNodesAreThere =
-    (nodes : List DTerm) (slots : ℕ → List ℕ) (given : List ℕ) (d : DTerm) → EachChild (IsValid slots nodes) d.args → (e : DTerm) × FillsNode nodes given d e
+    (nodes : List DTerm) (slots : ℕ → List ℕ) (given : List ℕ) (d : DTerm) → EachChild (IsValid slots nodes) d.args →
+    (e : DTerm) × FillsNode nodes given d e
 
 abbrev pub FilledNodesAreFull : Type 0
 FilledNodesAreFull = (nodes : List DTerm) (given : List ℕ) (d e : DTerm) → FillsNode nodes given d e → EachChild (IsFull nodes) e.args
@@ -103,7 +108,8 @@ ReflexiveIsSound = (E : List (DTerm × DTerm)) (nodes : List DTerm) (e : Equatio
 
 -- a symmetric step is sound
 abbrev pub SymmetricIsSound : Type 0
-SymmetricIsSound = (E : List (DTerm × DTerm)) (nodes : List DTerm) (e part : Equation) → IsSymmetric nodes e part → HoldsFrom E nodes part → HoldsFrom E nodes e
+SymmetricIsSound = (E : List (DTerm × DTerm)) (nodes : List DTerm) (e part : Equation) → IsSymmetric nodes e part →
+    HoldsFrom E nodes part → HoldsFrom E nodes e
 
 -- a transitive step is sound
 abbrev pub TransitiveIsSound : Type 0
@@ -168,14 +174,16 @@ FindsAreProvedAlong =
 -- two full ids that find alike are joined by one transitive step over their finds
 abbrev pub FoundAlikeAreJoined : Type 0
 FoundAlikeAreJoined =
-    (nodes : List DTerm) (found : List Entry) → Linked nodes found → (a b : Applied) → IsFull nodes a → IsFull nodes b → find found a ≡ find found b →
+    (nodes : List DTerm) (found : List Entry) → Linked nodes found → (a b : Applied) → IsFull nodes a → IsFull nodes b →
+    find found a ≡ find found b →
     IsTransitive (equation_of a b) (find_equation nodes found a.0) (turned_equation nodes (find_equation nodes found b.0))
 
 -- valid ids that find alike stand for terms that are equal by the asserted list, whatever names fill them
 abbrev pub FoundAlikeAreEqual : Type 0
 FoundAlikeAreEqual =
     (nodes : List DTerm) (found : List Entry) (proofs : List ProofEntry) → Sound nodes found proofs →
-    (a b left right : Applied) (given more_given : List ℕ) → IsValid (used_slots found) nodes a → IsValid (used_slots found) nodes b → find found a ≡ find found b →
+    (a b left right : Applied) (given more_given : List ℕ) → IsValid (used_slots found) nodes a →
+    IsValid (used_slots found) nodes b → find found a ≡ find found b →
     IsFilling nodes given a left → IsFilling nodes more_given b right →
     Equal (asserted nodes proofs) (term_of nodes left) (term_of nodes right)
 
@@ -183,9 +191,11 @@ FoundAlikeAreEqual =
 abbrev pub FoundAlikeAreDerivable : Type 0
 FoundAlikeAreDerivable =
     (nodes : List DTerm) (found : List Entry) (proofs : List ProofEntry) → Sound nodes found proofs →
-    (a b left right : Applied) (given more_given : List ℕ) → IsValid (used_slots found) nodes a → IsValid (used_slots found) nodes b → find found a ≡ find found b →
+    (a b left right : Applied) (given more_given : List ℕ) → IsValid (used_slots found) nodes a →
+    IsValid (used_slots found) nodes b → find found a ≡ find found b →
     IsFilling nodes given a left → IsFilling nodes more_given b right →
-    (E : List (Term × Term)) (t u : Term) → map nameless_pair E ≡ asserted nodes proofs → nameless t ≡ term_of nodes left → nameless u ≡ term_of nodes right → Derives E t u
+    (E : List (Term × Term)) (t u : Term) → map nameless_pair E ≡ asserted nodes proofs → nameless t ≡ term_of nodes left →
+    nameless u ≡ term_of nodes right → Derives E t u
 
 -- where nothing is asserted valid ids lack no name, and ids find alike exactly where they stand for one term
 abbrev pub NothingAssertedIsAlpha : Type 0
@@ -246,7 +256,8 @@ NewClassesKeepFinds =
 -- a new entry of the proof list keeps storage sound
 abbrev pub NewEntriesKeepSound : Type 0
 NewEntriesKeepSound =
-    (nodes : List DTerm) (found : List Entry) (proofs : List ProofEntry) (entry : ProofEntry) → Sound nodes found proofs → CanEnter nodes proofs entry →
+    (nodes : List DTerm) (found : List Entry) (proofs : List ProofEntry) (entry : ProofEntry) → Sound nodes found proofs →
+    CanEnter nodes proofs entry →
     Sound nodes found (proofs ++ entry ∷ [])
 
 -- it leaves the earlier equations, and its number is the length of the list before it
@@ -293,7 +304,8 @@ LinksKeepSound =
 -- finds go on from what they found before the link
 abbrev pub LinksRefine : Type 0
 LinksRefine =
-    (nodes : List DTerm) (found : List Entry) → Linked nodes found → (e : Equation) (proof moment : ℕ) → CanLink nodes found e → IsLater found moment →
+    (nodes : List DTerm) (found : List Entry) → Linked nodes found → (e : Equation) (proof moment : ℕ) → CanLink nodes found e →
+    IsLater found moment →
     Refines nodes found (with_link nodes found e proof moment)
 
 -- the sides of an equation find alike once their found classes are linked by it
@@ -306,7 +318,8 @@ LinkedSidesFindAlike =
 -- two ids that find different classes with the same names are united by one new entry and one link: nothing that was found alike is lost
 abbrev pub UnionsUnite : Type 0
 UnionsUnite =
-    (nodes : List DTerm) (found : List Entry) (proofs : List ProofEntry) (entry : ProofEntry) (moment : ℕ) (a b : Applied) → Sound nodes found proofs → IsFull nodes a → IsFull nodes b →
+    (nodes : List DTerm) (found : List Entry) (proofs : List ProofEntry) (entry : ProofEntry) (moment : ℕ) (a b : Applied) →
+    Sound nodes found proofs → IsFull nodes a → IsFull nodes b →
     find_class found a.0 ≢ find_class found b.0 → ((x : ℕ) → Contains (values (find found a).1) x ↔ Contains (values (find found b).1) x) →
     entry.equation ≡ found_equation nodes found (equation_of a b) → CanEnter nodes proofs entry → IsLater found moment →
     United nodes found proofs entry moment a b
@@ -327,7 +340,8 @@ SlotsWithoutPartnerCanDrop =
 abbrev pub DropsKeepSound : Type 0
 DropsKeepSound =
     (nodes : List DTerm) (found : List Entry) (proofs : List ProofEntry) (c : ℕ) (slots : List ℕ) (proof : ℕ) → Sound nodes found proofs →
-    CanDrop nodes found c slots → proof < length proofs → equation_at proofs proof ≡ record { left = c; right = c; pairs = identity slots } →
+    CanDrop nodes found c slots → proof < length proofs →
+    equation_at proofs proof ≡ record { left = c; right = c; pairs = identity slots } →
     Sound nodes (with_slots found c slots proof) proofs
 
 -- the class lives on with just these slots
@@ -358,7 +372,8 @@ ShortcutsKeepFinds =
 -- after a link the next moment is later than each death
 abbrev pub LinksMoveMoments : Type 0
 LinksMoveMoments =
-    (nodes : List DTerm) (found : List Entry) → Linked nodes found → (e : Equation) (proof moment : ℕ) → CanLink nodes found e → IsLater found moment →
+    (nodes : List DTerm) (found : List Entry) → Linked nodes found → (e : Equation) (proof moment : ℕ) → CanLink nodes found e →
+    IsLater found moment →
     IsLater (with_link nodes found e proof moment) (suc moment)
 
 -- no other event moves a moment that is later than each death
@@ -378,7 +393,8 @@ RefinedStaysAlike =
 -- a find that goes on from one that goes on from a third goes on from that
 abbrev pub RefinementsCompose : Type 0
 RefinementsCompose =
-    (nodes : List DTerm) (first second third : List Entry) → Linked nodes first → Refines nodes first second → Refines nodes second third → Refines nodes first third
+    (nodes : List DTerm) (first second third : List Entry) → Linked nodes first → Refines nodes first second →
+    Refines nodes second third → Refines nodes first third
 
 -- normal forms move with names
 abbrev pub NormalFormsMoveWithNames : Type 0
@@ -393,7 +409,8 @@ NormalFormsAreFound =
 -- where the find goes on, so do normal forms
 abbrev pub NormalFormsAreRefined : Type 0
 NormalFormsAreRefined =
-    (nodes : List DTerm) (older newer : List Entry) → Refines nodes older newer → (d : DTerm) → EachChild (IsValid (used_slots older) nodes) d.args →
+    (nodes : List DTerm) (older newer : List Entry) → Refines nodes older newer → (d : DTerm) →
+    EachChild (IsValid (used_slots older) nodes) d.args →
     normal newer d ≡ normal newer (normal older d)
 
 -- full ids whose nodes have one normal form are equal by a congruent step over children that find alike
@@ -411,7 +428,8 @@ TwinsPairByNumbers =
 -- ids with the equation of twins are twins
 abbrev pub TwinsMoveTogether : Type 0
 TwinsMoveTogether =
-    (nodes : List DTerm) (found : List Entry) (a b c d : Applied) → IsFull nodes a → HasNormalTwin nodes found a b → IsFull nodes c → IsFull nodes d →
+    (nodes : List DTerm) (found : List Entry) (a b c d : Applied) → IsFull nodes a → HasNormalTwin nodes found a b →
+    IsFull nodes c → IsFull nodes d →
     equation_of c d ≡ equation_of a b → HasNormalTwin nodes found c d
 
 -- where the normal forms of two canonical nodes have one shape, each full id of the one class has a twin of the other

@@ -14,13 +14,16 @@ use Rattle.slotted_model_rules.specs.Patterns.{Pattern, PatternArgs, pattern_nod
 use Rattle.slotted_model_rules.specs.Substitution.{substituted}
 
 abbrev mutual
-  -- a variable stands for the term of its value, each time with any names for those that the value lacks; what is to be replaced is replaced from the top in what represents the body
+  -- a variable stands for the term of its value, each time with any names for those that the value lacks; what is to be replaced
+  -- is replaced from the top in what represents the body
   pub IsInstance : (DTerm → DTerm → Bool) → List DTerm → List ℕ → (List ℕ → Applied) → (ℕ → ℕ) → Pattern → DTerm → Type 0
-  IsInstance R nodes given σ ρ (pattern_node op payloads args) t = (a : DArgs) × (t ≡ node op payloads a) × IsInstanceArgs R nodes given σ ρ args a
+  IsInstance R nodes given σ ρ (pattern_node op payloads args) t = (a : DArgs) × (t ≡ node op payloads a) ×
+      IsInstanceArgs R nodes given σ ρ args a
   IsInstance R nodes given σ ρ (variable v) t = (b : Applied) × IsFilling nodes given (renamed_id ρ (σ v)) b × (t ≡ term_of nodes b)
   IsInstance R nodes given σ ρ (replacing body part value) t =
       (u : DTerm) × (r : DTerm) × (x : DTerm) × (y : DTerm)
-      × IsInstance R nodes given σ ρ body u × IsTrue (R u r) × IsInstance R nodes given σ ρ part x × IsInstance R nodes given σ ρ value y × (t ≡ substituted x y r)
+      × IsInstance R nodes given σ ρ body u × IsTrue (R u r) × IsInstance R nodes given σ ρ part x ×
+      IsInstance R nodes given σ ρ value y × (t ≡ substituted x y r)
 
   -- the same names and binders, and an instance of each child pattern: under a binder the binder's place is given too
   pub IsInstanceArgs : (DTerm → DTerm → Bool) → List DTerm → List ℕ → (List ℕ → Applied) → (ℕ → ℕ) → PatternArgs → DArgs → Type 0
@@ -29,7 +32,8 @@ abbrev mutual
   IsInstanceArgs R nodes given σ ρ (child_pattern p rest) a =
       (c : DTerm) × (r : DArgs) × (a ≡ child_before c r) × IsInstance R nodes given σ ρ p c × IsInstanceArgs R nodes given σ ρ rest r
   IsInstanceArgs R nodes given σ ρ (binding x inner rest) a =
-      (i : DArgs) × (r : DArgs) × (a ≡ scope i r) × IsInstanceArgs R nodes (0 ∷ map suc given) σ (extend x ρ) inner i × IsInstanceArgs R nodes given σ ρ rest r
+      (i : DArgs) × (r : DArgs) × (a ≡ scope i r) × IsInstanceArgs R nodes (0 ∷ map suc given) σ (extend x ρ) inner i ×
+      IsInstanceArgs R nodes given σ ρ rest r
 
 -- each term is represented by itself alone
 abbrev pub is_itself : DTerm → DTerm → Bool
@@ -45,6 +49,8 @@ abbrev pub HasAnswers : (DTerm → DTerm → Bool) → List DTerm → List ℕ �
 HasAnswers R nodes given σ ρ no_argument d = d ≡ stop
 HasAnswers R nodes given σ ρ (own_name x rest) d = (r : DArgs) × (d ≡ place (ρ x) r) × HasAnswers R nodes given σ ρ rest r
 HasAnswers R nodes given σ ρ (child_pattern p rest) d =
-    (a : Applied) × (r : DArgs) × (d ≡ child_before (as_term (renamed_id ρ a)) r) × IsAnswer R nodes given σ p a × HasAnswers R nodes given σ ρ rest r
+    (a : Applied) × (r : DArgs) × (d ≡ child_before (as_term (renamed_id ρ a)) r) × IsAnswer R nodes given σ p a ×
+    HasAnswers R nodes given σ ρ rest r
 HasAnswers R nodes given σ ρ (binding x inner rest) d =
-    (i : DArgs) × (r : DArgs) × (d ≡ scope i r) × HasAnswers R nodes (x ∷ given) σ (extend x ρ) inner i × HasAnswers R nodes given σ ρ rest r
+    (i : DArgs) × (r : DArgs) × (d ≡ scope i r) × HasAnswers R nodes (x ∷ given) σ (extend x ρ) inner i ×
+    HasAnswers R nodes given σ ρ rest r

@@ -140,8 +140,10 @@ abbrev mutual
   pub FoundIn : State → List Row → PatternArgs → NodeArgs → MatchState → List MatchState → Type 0
   FoundIn g order no_argument n st outs = outs ≡ st ∷ []
   FoundIn g order (own_name x rest) n st outs = FoundIn g order rest (rest_of n) st outs
-  FoundIn g order (child_pattern p rest) n st outs = (mid : List MatchState) × Found g order p st (id_of_first n) mid × Gives (λ s here. FoundIn g order rest (rest_of n) s here) mid outs
-  FoundIn g order (binding x inner rest) n st outs = (mid : List MatchState) × FoundIn g order inner (inside_first n) st mid × Gives (λ s here. FoundIn g order rest (rest_of n) s here) mid outs
+  FoundIn g order (child_pattern p rest) n st outs = (mid : List MatchState) × Found g order p st (id_of_first n) mid ×
+      Gives (λ s here. FoundIn g order rest (rest_of n) s here) mid outs
+  FoundIn g order (binding x inner rest) n st outs = (mid : List MatchState) × FoundIn g order inner (inside_first n) st mid ×
+      Gives (λ s here. FoundIn g order rest (rest_of n) s here) mid outs
 
 abbrev mutual
   -- P holds of each slot that the pattern names, binders too
@@ -163,7 +165,8 @@ class_id g c = (c, identity (used_slots g.found c))
 abbrev pub start_at : State → ℕ → MatchState
 start_at g c = record { values = []; pairs = []; seen = used_slots g.found c }
 
--- f gives a name to each name of the graph, and the slots of the pattern to those that stand for them; σ v is the value of v with these names, up to what finds alike
+-- f gives a name to each name of the graph, and the slots of the pattern to those that stand for them; σ v is the value of v with
+-- these names, up to what finds alike
 pub record Reads (g : State) (f : ℕ → ℕ) (σ : List ℕ → Applied) (st : MatchState) : Type 0 where
   pub injective : IsInjective f
   pub slots : (s t : ℕ) → Contains st.pairs (s, t) → f s ≡ t

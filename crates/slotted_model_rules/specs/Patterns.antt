@@ -76,10 +76,12 @@ pub record IsOfRow (g : State) (r : Row) (b a : Applied) : Type 0 where
   pub same : find g.found b ≡ find g.found a
 
 abbrev mutual
-  -- a variable matches what finds alike with its value; a node matches an id if its children match those of some row of the id's class, with the id's names put in
+  -- a variable matches what finds alike with its value; a node matches an id if its children match those of some row of the id's
+  -- class, with the id's names put in
   pub Matches : State → (ℕ → ℕ) → (List ℕ → Applied) → Pattern → Applied → Type 0
   Matches g ρ σ (pattern_node op payloads args) a =
-      (r : Row) × (b : Applied) × IsOfRow g r b a × (r.shape.op ≡ op) × (r.shape.payloads ≡ payloads) × MatchesArguments g ρ σ args (row_node r b).args
+      (r : Row) × (b : Applied) × IsOfRow g r b a × (r.shape.op ≡ op) × (r.shape.payloads ≡ payloads) ×
+      MatchesArguments g ρ σ args (row_node r b).args
   Matches g ρ σ (variable v) a = find g.found (renamed_id ρ (σ v)) ≡ find g.found a
   Matches g ρ σ (replacing body part value) a = ⊥
 

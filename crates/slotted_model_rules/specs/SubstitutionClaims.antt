@@ -21,7 +21,8 @@ OthersAreSearched = (x t b : DTerm) → b ≢ x → substituted x t b ≡ node b
 pub record ArgumentsAreSearched : Type 0 where
   pub ends : (x t : DTerm) → substituted_args x t stop ≡ stop
   pub own_names : (x t : DTerm) (y : ℕ) (rest : DArgs) → substituted_args x t (place y rest) ≡ place y (substituted_args x t rest)
-  pub children : (x t c : DTerm) (rest : DArgs) → substituted_args x t (child_before c rest) ≡ child_before (substituted x t c) (substituted_args x t rest)
+  pub children : (x t c : DTerm) (rest : DArgs) →
+      substituted_args x t (child_before c rest) ≡ child_before (substituted x t c) (substituted_args x t rest)
   pub binders : (x t : DTerm) (inner rest : DArgs) →
       substituted_args x t (scope inner rest) ≡ scope (substituted_args (seen_inside x) (seen_inside t) inner) (substituted_args x t rest)
 
@@ -35,20 +36,24 @@ ReplacedByItself = (x b : DTerm) → substituted x x b ≡ b
 
 -- a term with other names, in which what becomes of x is replaced by what becomes of t
 abbrev pub SubstitutionMovesWithNames : Type 0
-SubstitutionMovesWithNames = (f : ℕ → ℕ) → IsInjective f → (x t b : DTerm) → moved f (substituted x t b) ≡ substituted (moved f x) (moved f t) (moved f b)
+SubstitutionMovesWithNames = (f : ℕ → ℕ) → IsInjective f → (x t b : DTerm) →
+    moved f (substituted x t b) ≡ substituted (moved f x) (moved f t) (moved f b)
 
 -- each free name of the result is one of b or of t
 abbrev pub NamesComeFromBoth : Type 0
 NamesComeFromBoth =
-    (x t b : DTerm) (y : ℕ) → Contains (free_names (substituted x t b).args) y → Contains (free_names b.args) y ⊎ Contains (free_names t.args) y
+    (x t b : DTerm) (y : ℕ) → Contains (free_names (substituted x t b).args) y → Contains (free_names b.args) y ⊎
+    Contains (free_names t.args) y
 
 -- nothing is captured: where something is replaced each free name of t is free in the result, whatever binders of b it stands under
 abbrev pub NothingIsCaptured : Type 0
-NothingIsCaptured = (x t b : DTerm) → StandsIn x b → (y : ℕ) → Contains (free_names t.args) y → Contains (free_names (substituted x t b).args) y
+NothingIsCaptured = (x t b : DTerm) → StandsIn x b → (y : ℕ) → Contains (free_names t.args) y →
+    Contains (free_names (substituted x t b).args) y
 
 -- on terms with names it is replacing as it is written, where the binders of b have names that are free in neither x nor t
 abbrev pub ReplacingIsSubstitution : Type 0
-ReplacingIsSubstitution = (x t b : Term) → HasOthersBound x t b → nameless (replaced x t b) ≡ substituted (nameless x) (nameless t) (nameless b)
+ReplacingIsSubstitution = (x t b : Term) → HasOthersBound x t b →
+    nameless (replaced x t b) ≡ substituted (nameless x) (nameless t) (nameless b)
 
 -- and each term has bound names of that kind
 abbrev pub BindersCanBeOthers : Type 0

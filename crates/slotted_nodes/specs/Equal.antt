@@ -23,7 +23,8 @@ pairs_same (p ∷ m) (q ∷ n) h i = grind (arith, pairs_same m n)
 pub child_form_fits : (m : List (ℕ × ℕ)) → length (child_form 0 m).names ≡ length (scopes (child_form 0 m).tree)
 child_form_fits m = simp (append-nil, length-map) refl
 
-pub bind_form_fits : (x : ℕ) (f : Form) → length f.names ≡ length (scopes f.tree) → length (bind_form x f).names ≡ length (scopes (bind_form x f).tree)
+pub bind_form_fits : (x : ℕ) (f : Form) → length f.names ≡ length (scopes f.tree) →
+    length (bind_form x f).names ≡ length (scopes (bind_form x f).tree)
 bind_form_fits x f h = grind (arith, append-nil)
 
 -- a binder has the children of what stands under it
@@ -60,9 +61,12 @@ pub and_same : (e : Bool) (x y : ℕ) {P : Type 0} → (IsTrue e ↔ P) → IsTr
 and_same e x y h = search rules
 
 -- children, and binders over what has this law, are equal exactly if their forms are
-pub applied_id_same : (a b : AppliedId) → IsTrue (nat_eq a.id.0 b.id.0 && pointwise (λ p q. nat_eq p.0 q.0 && nat_eq p.1 q.1) a.m b.m) ↔ child_form a.id.0 a.m ≡ child_form b.id.0 b.m
+pub applied_id_same : (a b : AppliedId) →
+    IsTrue (nat_eq a.id.0 b.id.0 && pointwise (λ p q. nat_eq p.0 q.0 && nat_eq p.1 q.1) a.m b.m) ↔
+    child_form a.id.0 a.m ≡ child_form b.id.0 b.m
 applied_id_same a b =
-    let s : IsTrue (nat_eq a.id.0 b.id.0 && pointwise (λ p q. nat_eq p.0 q.0 && nat_eq p.1 q.1) a.m b.m) ↔ ((a.id.0 ≡ b.id.0) × (a.m ≡ b.m)) = and_same _ _ _ (map_same a.m b.m) in (
+    let s : IsTrue (nat_eq a.id.0 b.id.0 && pointwise (λ p q. nat_eq p.0 q.0 && nat_eq p.1 q.1) a.m b.m) ↔
+    ((a.id.0 ≡ b.id.0) × (a.m ≡ b.m)) = and_same _ _ _ (map_same a.m b.m) in (
       λ i. let p = s.0 i in cc,
       λ e. s.1 (
           let t = tree_child _ _ _ _ _ _ (ap (λ f. f.tree) e) in

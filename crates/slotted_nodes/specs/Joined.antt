@@ -26,7 +26,8 @@ child_place-join_left (child i ks r) b zero h = refl
 child_place-join_left (child i ks r) b (suc k) h = ap (λ n. length ks + n) (child_place-join_left r b k (omega arith))
 child_place-join_left (bind u r) b k h = grind (arith, length-append, child_place-join_left r b (k - length (children u)))
 
-pub child_place-join_right : (a b : Tree) (k : ℕ) → length (children a) ≤ k → child_place (join a b) k ≡ length (scopes a) + child_place b (k - length (children a))
+pub child_place-join_right : (a b : Tree) (k : ℕ) → length (children a) ≤ k →
+    child_place (join a b) k ≡ length (scopes a) + child_place b (k - length (children a))
 child_place-join_right leaf b k h = grind arith
 child_place-join_right (own r) b k h = grind (arith, child_place-join_right r b k h)
 child_place-join_right (child i ks r) b zero h = grind arith
@@ -34,14 +35,16 @@ child_place-join_right (child i ks r) b (suc k) h = grind (arith, length-append,
 child_place-join_right (bind u r) b k h = grind (arith, length-append, child_place-join_right r b (k - length (children u)))
 
 -- another child goes into the one or into the other
-pub with_child_in-join_left : (a b : Tree) (k j : ℕ) (ls : List ℕ) → k < length (children a) → with_child_in (join a b) k j ls ≡ join (with_child_in a k j ls) b
+pub with_child_in-join_left : (a b : Tree) (k j : ℕ) (ls : List ℕ) → k < length (children a) →
+    with_child_in (join a b) k j ls ≡ join (with_child_in a k j ls) b
 with_child_in-join_left leaf b k j ls h = grind arith
 with_child_in-join_left (own r) b k j ls h = ap own (with_child_in-join_left r b k j ls h)
 with_child_in-join_left (child i ks r) b zero j ls h = refl
 with_child_in-join_left (child i ks r) b (suc k) j ls h = ap (λ t. child i ks t) (with_child_in-join_left r b k j ls (omega arith))
 with_child_in-join_left (bind u r) b k j ls h = grind (arith, length-append, with_child_in-join_left r b (k - length (children u)) j ls)
 
-pub with_child_in-join_right : (a b : Tree) (k j : ℕ) (ls : List ℕ) → length (children a) ≤ k → with_child_in (join a b) k j ls ≡ join a (with_child_in b (k - length (children a)) j ls)
+pub with_child_in-join_right : (a b : Tree) (k j : ℕ) (ls : List ℕ) → length (children a) ≤ k →
+    with_child_in (join a b) k j ls ≡ join a (with_child_in b (k - length (children a)) j ls)
 with_child_in-join_right leaf b k j ls h = grind arith
 with_child_in-join_right (own r) b k j ls h = ap own (with_child_in-join_right r b k j ls h)
 with_child_in-join_right (child i ks r) b zero j ls h = grind arith
@@ -49,7 +52,8 @@ with_child_in-join_right (child i ks r) b (suc k) j ls h = grind (arith, with_ch
 with_child_in-join_right (bind u r) b k j ls h = grind (arith, length-append, with_child_in-join_right r b (k - length (children u)) j ls)
 
 -- a child's places are places of the tree
-pub child_fits : (a : Tree) (k : ℕ) → k < length (children a) → child_place a k + length (slice_index_or (children a) k (0, [])).1 ≤ length (scopes a)
+pub child_fits : (a : Tree) (k : ℕ) → k < length (children a) →
+    child_place a k + length (slice_index_or (children a) k (0, [])).1 ≤ length (scopes a)
 child_fits leaf k h = grind arith
 child_fits (own r) k h = grind (arith, child_fits r k)
 child_fits (child i ks r) zero h = grind (arith, length-append, length-map)
@@ -63,7 +67,9 @@ none_at (k ∷ ks) zero = refl
 none_at (k ∷ ks) (suc i) = none_at ks i
 
 -- what stands at a place of two lists
-pub at_append : {A : Type 0} (a b : List A) (d : A) (i : ℕ) → ((i < length a) × (slice_index_or (a ++ b) i d ≡ slice_index_or a i d)) ⊎ ((length a ≤ i) × (slice_index_or (a ++ b) i d ≡ slice_index_or b (i - length a) d))
+pub at_append : {A : Type 0} (a b : List A) (d : A) (i : ℕ) →
+    ((i < length a) × (slice_index_or (a ++ b) i d ≡ slice_index_or a i d)) ⊎
+    ((length a ≤ i) × (slice_index_or (a ++ b) i d ≡ slice_index_or b (i - length a) d))
 at_append [] b d i = inr (omega arith, ap (λ n. slice_index_or b n d) (omega arith))
 at_append (x ∷ a) b d zero = inl (omega arith, refl)
 at_append (x ∷ a) b d (suc i) = elim (at_append a b d i) [ inl h ↦ inl (omega (arith, h.0), h.1) | inr h ↦ inr (omega (arith, h.0), h.1 ∙ ap (λ n. slice_index_or b n d) (omega arith)) ]

@@ -43,11 +43,13 @@ join_parts (bind u r) b (bind v s) d n h =
 join_parts a b c d n h = absurd (cc)
 
 -- two fields have as many names as places
-pub join_form_fits : (f g : Form) → length f.names ≡ length (scopes f.tree) → length g.names ≡ length (scopes g.tree) → length (join_form f g).names ≡ length (scopes (join_form f g).tree)
+pub join_form_fits : (f g : Form) → length f.names ≡ length (scopes f.tree) → length g.names ≡ length (scopes g.tree) →
+    length (join_form f g).names ≡ length (scopes (join_form f g).tree)
 join_form_fits f g a b =
     rw (scopes-join f.tree g.tree) (omega (arith, a, b, length-append f.names g.names, length-append (scopes f.tree) (scopes g.tree)))
 
-join_form_parts : (f g h k : Form) → length f.names ≡ length (scopes f.tree) → length h.names ≡ length (scopes h.tree) → AreAlike f h → AreAlike g k → join_form f g ≡ join_form h k → (f ≡ h) × (g ≡ k)
+join_form_parts : (f g h k : Form) → length f.names ≡ length (scopes f.tree) → length h.names ≡ length (scopes h.tree) →
+    AreAlike f h → AreAlike g k → join_form f g ≡ join_form h k → (f ≡ h) × (g ≡ k)
 join_form_parts f g h k a b left right e =
     let t = join_parts f.tree g.tree h.tree k.tree left.as_many_arguments (ap (λ x. x.tree) e) in
     let p = append_parts f.payloads h.payloads g.payloads k.payloads left.as_many_payloads (ap (λ x. x.payloads) e) in
@@ -61,7 +63,9 @@ both_same true false p q f g = (λ h. cc, λ r. q.1 (g r).1)
 both_same false e p q f g = (λ h. cc, λ r. p.1 (g r).0)
 
 -- two fields are equal exactly if their forms together are
-pub join_form_same : (d e : Bool) (f g h k : Form) → length f.names ≡ length (scopes f.tree) → length h.names ≡ length (scopes h.tree) → AreAlike f h → AreAlike g k → (IsTrue d ↔ f ≡ h) → (IsTrue e ↔ g ≡ k) → IsTrue (d && e) ↔ join_form f g ≡ join_form h k
+pub join_form_same : (d e : Bool) (f g h k : Form) → length f.names ≡ length (scopes f.tree) →
+    length h.names ≡ length (scopes h.tree) → AreAlike f h → AreAlike g k → (IsTrue d ↔ f ≡ h) → (IsTrue e ↔ g ≡ k) →
+    IsTrue (d && e) ↔ join_form f g ≡ join_form h k
 join_form_same d e f g h k a b left right p q =
     both_same d e p q (λ r. ap (λ x. join_form x g) r.0 ∙ ap (join_form h) r.1) (join_form_parts f g h k a b left right)
 

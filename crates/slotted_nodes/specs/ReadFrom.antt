@@ -95,18 +95,22 @@ pub child_faithful : (es : List Element) → IfSome (read_child es) (IsReadFrom 
 child_faithful (applied i m ∷ []) = child_read i m
 child_faithful _ = tt
 
-bind_faithful_of : (x : ℕ) (es : List Element) (o : Option Form) → IfSome o (IsReadFrom es) → IfSome (option_map (bind_form x) o) (IsReadFrom (name x ∷ es))
+bind_faithful_of : (x : ℕ) (es : List Element) (o : Option Form) → IfSome o (IsReadFrom es) →
+    IfSome (option_map (bind_form x) o) (IsReadFrom (name x ∷ es))
 bind_faithful_of x es None h = tt
 bind_faithful_of x es (Some f) h = bind_read x es f h
 
-pub bind_faithful : (read : List Element → Option Form) → ((es : List Element) → IfSome (read es) (IsReadFrom es)) → (es : List Element) → IfSome (read_bind read es) (IsReadFrom es)
+pub bind_faithful : (read : List Element → Option Form) → ((es : List Element) → IfSome (read es) (IsReadFrom es)) →
+    (es : List Element) → IfSome (read_bind read es) (IsReadFrom es)
 bind_faithful read law (name x ∷ es) = bind_faithful_of x es (read es) (law es)
 bind_faithful read law _ = tt
 
-text_faithful_of : {A : Type 0} (word : A → List ℕ) (bs : List ℕ) (o : Option A) → IfSome (option_map (λ a. plain (word a ∷ [])) o) (IsReadFrom (text bs ∷ []))
+text_faithful_of : {A : Type 0} (word : A → List ℕ) (bs : List ℕ) (o : Option A) →
+    IfSome (option_map (λ a. plain (word a ∷ [])) o) (IsReadFrom (text bs ∷ []))
 text_faithful_of word bs None = tt
 text_faithful_of word bs (Some a) = plain_read bs (word a ∷ [])
 
-pub text_faithful : {A : Type 0} (word : A → List ℕ) (reads : List ℕ → Option A) (es : List Element) → IfSome (option_map (λ a. plain (word a ∷ [])) (read_text reads es)) (IsReadFrom es)
+pub text_faithful : {A : Type 0} (word : A → List ℕ) (reads : List ℕ → Option A) (es : List Element) →
+    IfSome (option_map (λ a. plain (word a ∷ [])) (read_text reads es)) (IsReadFrom es)
 text_faithful word reads (text bs ∷ []) = text_faithful_of word bs (reads bs)
 text_faithful word reads _ = tt

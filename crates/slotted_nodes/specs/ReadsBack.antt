@@ -60,7 +60,8 @@ decimal_identifier n small =
 
 -- what is read from identifiers is written as one that reads as it
 abbrev pub WritesBack : {A : Type 0} → (List ℕ → Option A) → (A → List ℕ) → Type 0
-WritesBack reads written = (bs : List ℕ) (a : _) → IsIdentifier bs → reads bs ≡ Some a → IsIdentifier (written a) × (reads (written a) ≡ Some a)
+WritesBack reads written = (bs : List ℕ) (a : _) → IsIdentifier bs → reads bs ≡ Some a → IsIdentifier (written a) ×
+    (reads (written a) ≡ Some a)
 
 -- an answer under a test
 guarded : {A : Type 0} (b : Bool) (v a : A) → (if b then Some v else None) ≡ Some a → (b ≡ true) × (v ≡ a)
@@ -118,7 +119,8 @@ signed_identifier k wide (negsuc n) f =
     ascii_identifier (45 ∷ decimal (suc n)) (ascii_after_minus (decimal (suc n)) (IsAscii-decimal_wide (suc n) small))
     (digits_run (decimal (suc n)) (decimal_is_IsNumeral_wide (suc n) small).0.1)
 
-signed_answer : (k : ℕ) (bs ds : List ℕ) (z : ℤ) → without_leading_sign bs ≡ ds → signed_digits_value 10 bs ≡ z → is_numeral ds ≡ true → fits_beside_sign k z ≡ true → reads_signed k bs ≡ Some z
+signed_answer : (k : ℕ) (bs ds : List ℕ) (z : ℤ) → without_leading_sign bs ≡ ds → signed_digits_value 10 bs ≡ z →
+    is_numeral ds ≡ true → fits_beside_sign k z ≡ true → reads_signed k bs ≡ Some z
 unfolding reads_signed
 signed_answer k bs ds z w v n f =
     let holds : (is_numeral (without_leading_sign bs) && fits_beside_sign k (signed_digits_value 10 bs)) ≡ true = and_from _ _ (ap is_numeral w ∙ n) (ap (fits_beside_sign k) v ∙ f) in
@@ -169,14 +171,16 @@ abbrev pub word_form : {A : Type 0} → (A → List ℕ) → A → Form
 word_form word a = plain (word a ∷ [])
 
 -- a payload that was read from these elements
-payload_read : {A : Type 0} (word : A → List ℕ) → ((a b : A) → word a ≡ word b → a ≡ b) → (o : Option A) (a : A) → option_map (word_form word) o ≡ Some (word_form word a) → o ≡ Some a
+payload_read : {A : Type 0} (word : A → List ℕ) → ((a b : A) → word a ≡ word b → a ≡ b) → (o : Option A) (a : A) →
+    option_map (word_form word) o ≡ Some (word_form word a) → o ≡ Some a
 payload_read word told None a e = cc
 payload_read word told (Some b) a e =
     let same : word_form word b ≡ word_form word a = cc in
     ap Some (told b a (cons_parts (word b) (word a) [] [] (ap (λ f. f.payloads) same)).0)
 
 payload_back : {A : Type 0} (word : A → List ℕ) (told : (a b : A) → word a ≡ word b → a ≡ b) (reads : List ℕ → Option A) (written : A → List ℕ) → WritesBack reads written
-    → (es : List Element) (a : A) → HasIdentifiers es → option_map (word_form word) (read_text reads es) ≡ Some (word_form word a) → IsIdentifier (written a) × (reads (written a) ≡ Some a)
+    → (es : List Element) (a : A) → HasIdentifiers es →
+    option_map (word_form word) (read_text reads es) ≡ Some (word_form word a) → IsIdentifier (written a) × (reads (written a) ≡ Some a)
 payload_back word told reads written law (text bs ∷ []) a h e = law bs a h.0 (payload_read word told (reads bs) a e)
 payload_back word told reads written law es a h e = cc
 
@@ -189,18 +193,22 @@ ReadsAgain {A} form shown read = (es : List Element) (a : A) → HasIdentifiers 
 
 -- the laws of payloads
 pub payload_words : {A : Type 0} (word : A → List ℕ) (told : (a b : A) → word a ≡ word b → a ≡ b) (reads : List ℕ → Option A) (written : A → List ℕ) → WritesBack reads written
-    → (es : List Element) (a : A) → HasIdentifiers es → option_map (word_form word) (read_text reads es) ≡ Some (word_form word a) → HasIdentifiers (text (written a) ∷ [])
+    → (es : List Element) (a : A) → HasIdentifiers es →
+    option_map (word_form word) (read_text reads es) ≡ Some (word_form word a) → HasIdentifiers (text (written a) ∷ [])
 payload_words word told reads written law es a h e = ((payload_back word told reads written law es a h e).0, tt)
 
 pub payload_reads : {A : Type 0} (word : A → List ℕ) (told : (a b : A) → word a ≡ word b → a ≡ b) (reads : List ℕ → Option A) (written : A → List ℕ) → WritesBack reads written
-    → (es : List Element) (a : A) → HasIdentifiers es → option_map (word_form word) (read_text reads es) ≡ Some (word_form word a) → option_map (word_form word) (read_text reads (text (written a) ∷ [])) ≡ Some (word_form word a)
+    → (es : List Element) (a : A) → HasIdentifiers es →
+    option_map (word_form word) (read_text reads es) ≡ Some (word_form word a) →
+    option_map (word_form word) (read_text reads (text (written a) ∷ [])) ≡ Some (word_form word a)
 payload_reads word told reads written law es a h e = ap (option_map (word_form word)) (payload_back word told reads written law es a h e).1
 
 payload_null_of : {A : Type 0} (word : A → List ℕ) (o : Option A) → IfSome (option_map (word_form word) o) HasNullChildren
 payload_null_of word None = tt
 payload_null_of word (Some a) = tt
 
-pub payload_null : {A : Type 0} (word : A → List ℕ) (reads : List ℕ → Option A) (es : List Element) → HasNullIds es → IfSome (option_map (word_form word) (read_text reads es)) HasNullChildren
+pub payload_null : {A : Type 0} (word : A → List ℕ) (reads : List ℕ → Option A) (es : List Element) → HasNullIds es →
+    IfSome (option_map (word_form word) (read_text reads es)) HasNullChildren
 payload_null word reads (text bs ∷ []) h = payload_null_of word (reads bs)
 payload_null word reads es h = tt
 
@@ -228,7 +236,8 @@ bound_read : (x y : ℕ) (o : Option Form) (f : Form) → option_map (bind_form 
 bound_read x y None f e = cc
 bound_read x y (Some g) f e = let same : bind_form x g ≡ bind_form y f = cc in ap Some (bind_parts x y g f same)
 
-bind_read_of : (read : List Element → Option Form) (es : List Element) (x : ℕ) (f : Form) → HasIdentifiers es → read_bind read es ≡ Some (bind_form x f) → (ds : List Element) × HasIdentifiers ds × (read ds ≡ Some f)
+bind_read_of : (read : List Element → Option Form) (es : List Element) (x : ℕ) (f : Form) → HasIdentifiers es →
+    read_bind read es ≡ Some (bind_form x f) → (ds : List Element) × HasIdentifiers ds × (read ds ≡ Some f)
 bind_read_of read (name y ∷ ds) x f h e = (ds, h, bound_read y x (read ds) f e)
 bind_read_of read es x f h e = cc
 
@@ -239,14 +248,16 @@ bound_words read x f shown law es h e = let d = bind_read_of read es x f h e in 
 
 pub bound_back : (read : List Element → Option Form) (x : ℕ) (f : Form) (shown : List Element)
     → ((ds : List Element) → HasIdentifiers ds → read ds ≡ Some f → read shown ≡ Some f)
-    → (es : List Element) → HasIdentifiers es → read_bind read es ≡ Some (bind_form x f) → read_bind read (name x ∷ shown) ≡ Some (bind_form x f)
+    → (es : List Element) → HasIdentifiers es → read_bind read es ≡ Some (bind_form x f) →
+    read_bind read (name x ∷ shown) ≡ Some (bind_form x f)
 bound_back read x f shown law es h e = let d = bind_read_of read es x f h e in ap (option_map (bind_form x)) (law d.0 d.1 d.2)
 
 bound_null : (x : ℕ) (o : Option Form) → IfSome o HasNullChildren → IfSome (option_map (bind_form x) o) HasNullChildren
 bound_null x None h = tt
 bound_null x (Some f) h = subst AreNull (sym (append-nil (children f.tree))) h
 
-pub bind_null : (read : List Element → Option Form) → ((es : List Element) → HasNullIds es → IfSome (read es) HasNullChildren) → (es : List Element) → HasNullIds es → IfSome (read_bind read es) HasNullChildren
+pub bind_null : (read : List Element → Option Form) → ((es : List Element) → HasNullIds es → IfSome (read es) HasNullChildren) →
+    (es : List Element) → HasNullIds es → IfSome (read_bind read es) HasNullChildren
 bind_null read law (name x ∷ es) h = bound_null x (read es) (law es h)
 bind_null read law es h = tt
 
@@ -254,14 +265,18 @@ bind_null read law es h = tt
 abbrev number_form : ℕ → Form
 number_form = word_form (λ n. n ∷ [])
 
-pub unsigned_words : (k : ℕ) → 2 ^ k < 10 ^ 64 → WritesIdentifiers number_form (λ n. text (decimal n) ∷ []) (λ es. option_map number_form (read_text (reads_unsigned k) es))
+pub unsigned_words : (k : ℕ) → 2 ^ k < 10 ^ 64 →
+    WritesIdentifiers number_form (λ n. text (decimal n) ∷ []) (λ es. option_map number_form (read_text (reads_unsigned k) es))
 unsigned_words k wide = payload_words (λ n. n ∷ []) number_parts (reads_unsigned k) decimal (unsigned_back k wide)
 
-pub unsigned_reads : (k : ℕ) → 2 ^ k < 10 ^ 64 → ReadsAgain number_form (λ n. text (decimal n) ∷ []) (λ es. option_map number_form (read_text (reads_unsigned k) es))
+pub unsigned_reads : (k : ℕ) → 2 ^ k < 10 ^ 64 →
+    ReadsAgain number_form (λ n. text (decimal n) ∷ []) (λ es. option_map number_form (read_text (reads_unsigned k) es))
 unsigned_reads k wide = payload_reads (λ n. n ∷ []) number_parts (reads_unsigned k) decimal (unsigned_back k wide)
 
-pub signed_words : (k : ℕ) → 2 ^ k < 10 ^ 64 → WritesIdentifiers (word_form signed_word) (λ z. text (signed_decimal z) ∷ []) (λ es. option_map (word_form signed_word) (read_text (reads_signed k) es))
+pub signed_words : (k : ℕ) → 2 ^ k < 10 ^ 64 →
+    WritesIdentifiers (word_form signed_word) (λ z. text (signed_decimal z) ∷ []) (λ es. option_map (word_form signed_word) (read_text (reads_signed k) es))
 signed_words k wide = payload_words signed_word signed_parts (reads_signed k) signed_decimal (signed_back k wide)
 
-pub signed_reads : (k : ℕ) → 2 ^ k < 10 ^ 64 → ReadsAgain (word_form signed_word) (λ z. text (signed_decimal z) ∷ []) (λ es. option_map (word_form signed_word) (read_text (reads_signed k) es))
+pub signed_reads : (k : ℕ) → 2 ^ k < 10 ^ 64 →
+    ReadsAgain (word_form signed_word) (λ z. text (signed_decimal z) ∷ []) (λ es. option_map (word_form signed_word) (read_text (reads_signed k) es))
 signed_reads k wide = payload_reads signed_word signed_parts (reads_signed k) signed_decimal (signed_back k wide)

@@ -5,7 +5,8 @@ use Rattle.slotted_nodes.specs.Form.{Form, IsSmall, children, child_place, count
 use Rattle.slotted_nodes.specs.Joined.{child_fits, scope_end_within}
 
 -- the end of a scope
-pub small_end : (f : Form) (i : ℕ) → length f.names ≡ length (scopes f.tree) → IsSmall f → counted_end (scope_end_of (scopes f.tree) i) ≡ scope_end_of (scopes f.tree) i
+pub small_end : (f : Form) (i : ℕ) → length f.names ≡ length (scopes f.tree) → IsSmall f →
+    counted_end (scope_end_of (scopes f.tree) i) ≡ scope_end_of (scopes f.tree) i
 small_end f i fits small = same (scope_end_of (scopes f.tree) i) refl
   where
     same : (o : Option ℕ) → o ≡ scope_end_of (scopes f.tree) i → counted_end o ≡ o
@@ -13,5 +14,6 @@ small_end f i fits small = same (scope_end_of (scopes f.tree) i) refl
     same (Some e) p = ap Some (omega (arith, small, fits, scope_end_within f.tree i e p))
 
 -- the place of a child
-pub small_place : (f : Form) (k : ℕ) → length f.names ≡ length (scopes f.tree) → IsSmall f → k < length (children f.tree) → counted (child_place f.tree k) ≡ child_place f.tree k
+pub small_place : (f : Form) (k : ℕ) → length f.names ≡ length (scopes f.tree) → IsSmall f → k < length (children f.tree) →
+    counted (child_place f.tree k) ≡ child_place f.tree k
 small_place f k fits small h = omega (arith, fits, small, child_fits f.tree k h)

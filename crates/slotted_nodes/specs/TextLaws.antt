@@ -30,7 +30,8 @@ pub test_from_numeral : (ds : List ℕ) → IsNumeral 10 ds → is_numeral ds �
 test_from_numeral ds n = and_from _ _ (lt-ltb _ _ n.0) (digits.from ds n.1)
 
 -- an answer under a condition that a test decides
-answer_by_test : {A E P : Type 0} (t : Bool) (v : A) (r : Result A E) → (t ≡ true → P) → (P → t ≡ true) → OkIff r P v → result_ok r ≡ (if t then Some v else None)
+answer_by_test : {A E P : Type 0} (t : Bool) (v : A) (r : Result A E) → (t ≡ true → P) → (P → t ≡ true) → OkIff r P v →
+    result_ok r ≡ (if t then Some v else None)
 answer_by_test true v (Ok x) to from h = ap Some h.1
 answer_by_test true v (Err e) to from h = absurd (h (to refl))
 answer_by_test false v (Ok x) to from h = absurd (let e = from h.0 in cc)
@@ -80,7 +81,8 @@ test_from_fits w128 (pos n) h = lt-ltb _ _ h.sfits
 test_from_fits w128 (negsuc n) h = lt-ltb _ _ h.sfits
 
 -- at a signed type
-pub signed_parses : {E : Type 0} (w : Width) (bs : List ℕ) (r : Result ℤ E) → ParsesSigned w 10 bs r → result_ok r ≡ reads_signed (bits_beside_sign w) bs
+pub signed_parses : {E : Type 0} (w : Width) (bs : List ℕ) (r : Result ℤ E) → ParsesSigned w 10 bs r →
+    result_ok r ≡ reads_signed (bits_beside_sign w) bs
 unfolding reads_signed
 signed_parses w bs r h =
     let ds = without_leading_sign bs in

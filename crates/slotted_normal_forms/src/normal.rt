@@ -17,7 +17,8 @@ use std::alloc::Global;
 pub fn normal_of<L: Language>(store: &Store<L>, alloc: Global, node: &L) -> Result<L, Error>
     requires good { HasFinds store.now }
     requires children { HasFindableChildren store.now (L.form node.now) }
-    ensures normal { IfOk result (λ n. nameless_node (L.form n) ≡ normal (entries_of store.now) (nameless_node (L.form node.now))) }
+    ensures normal { IfOk result
+        (λ n. nameless_node (L.form n) ≡ normal (entries_of store.now) (nameless_node (L.form node.now))) }
     ensures found { IfOk result (λ n. EachChild (IsFound (entries_of store.now)) (nameless_node (L.form n)).args) }
     ensures places { IfOk result (λ n. length (L.form n).names ≤ length (L.form node.now).names) }
     ensures names { IfOk result (λ n. HasNoOtherNames (L.form node.now) (L.form n)) }

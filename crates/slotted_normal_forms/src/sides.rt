@@ -55,8 +55,10 @@ fn numbered_equation(
     others: &SlotMap,
 ) -> Result<Equation, Error>
     requires different { IsInjectiveMap others.now }
-    requires partners { IsPartialInjection (keys right.now.m) (keys left.now.m) (number_partners names.now others.now right.now.m) }
-    ensures ok { IfOk result (IsWritten (partnered_statement left.now right.now (number_partners names.now others.now right.now.m))) }
+    requires partners { IsPartialInjection
+        (keys right.now.m) (keys left.now.m) (number_partners names.now others.now right.now.m) }
+    ensures ok { IfOk result
+        (IsWritten (partnered_statement left.now right.now (number_partners names.now others.now right.now.m))) }
     ensures full { IsErrOf result Error.OutOfSlots → HaveManyNames left.now.m right.now.m }
     ensures err { IfErr result IsShortage }
 {

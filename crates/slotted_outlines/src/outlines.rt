@@ -115,8 +115,10 @@ impl<L: Language> Outlines<L> {
     #[inline(never)]
     pub fn push_above(&self, k: usize, binders: &mut Binders) -> Result<(), Error>
         requires { AreMatchedBy L.form self.now.one self.now.two self.now.skeleton }
-        ensures left { IfOk result (λ _. lefts binders.new.items ≡ lefts_above (L.form self.now.one) binders.old.items k) }
-        ensures right { IfOk result (λ _. rights binders.new.items ≡ rights_above (L.form self.now.two) binders.old.items k) }
+        ensures left { IfOk result
+            (λ _. lefts binders.new.items ≡ lefts_above (L.form self.now.one) binders.old.items k) }
+        ensures right { IfOk result
+            (λ _. rights binders.new.items ≡ rights_above (L.form self.now.two) binders.old.items k) }
         ensures kept { IfOk result (λ _. take (length binders.old.items) binders.new.items ≡ binders.old.items) }
         ensures err { IfErr result IsOutOfMemory }
     {

@@ -90,7 +90,8 @@ mutual
     -- a word alone is the node of the one text
     alone : {w : List ℕ} {ls : List Lexeme} → ReadsBase read (word w ∷ ls) (node read (found (one_text w) ls))
     -- a bracket is the node of its operator's text and of what follows, up to its end
-    bracket : {w : List ℕ} {ls : List Lexeme} {r : Reading Bracket} → ReadsBracket read ls r → ReadsBase read (left_paren ∷ word w ∷ ls) (node read (after (one_text w) r))
+    bracket : {w : List ℕ} {ls : List Lexeme} {r : Reading Bracket} → ReadsBracket read ls r →
+        ReadsBase read (left_paren ∷ word w ∷ ls) (node read (after (one_text w) r))
     -- the operator must be a word
     no_operator : {ls : List Lexeme} → begins_with_word ls ≡ false → ReadsBase read (left_paren ∷ ls) (fault (no_pattern ls))
     -- nothing else begins a pattern
@@ -99,30 +100,40 @@ mutual
   -- what the rest of a bracket reads as, up to its end
   pub data ReadsBracket (read : List Element → Option Form) : List Lexeme → Reading Bracket → Type 0 where
     end : {ls : List Lexeme} → ReadsBracket read (right_paren ∷ ls) (found (record { elements = []; children = [] }) ls)
-    then_slot : {s : ℕ} {ls : List Lexeme} {r : Reading Bracket} → ReadsBracket read ls r → ReadsBracket read (slot s ∷ ls) (after (one_slot s) r)
-    then_child : {ls : List Lexeme} {p : Reading PatternTree} {r : Reading Bracket} → begins_slot_or_end ls ≡ false → ReadsPattern read ls p → ReadsOnAfter read p r → ReadsBracket read ls r
+    then_slot : {s : ℕ} {ls : List Lexeme} {r : Reading Bracket} → ReadsBracket read ls r →
+        ReadsBracket read (slot s ∷ ls) (after (one_slot s) r)
+    then_child : {ls : List Lexeme} {p : Reading PatternTree} {r : Reading Bracket} → begins_slot_or_end ls ≡ false →
+        ReadsPattern read ls p → ReadsOnAfter read p r → ReadsBracket read ls r
 
   -- what a bracket reads as whose next child was read so
   pub data ReadsOnAfter (read : List Element → Option Form) : Reading PatternTree → Reading Bracket → Type 0 where
-    goes_on : {p : PatternTree} {ls : List Lexeme} {r : Reading Bracket} → ReadsBracket read ls r → ReadsOnAfter read (found p ls) (after (one_child p) r)
+    goes_on : {p : PatternTree} {ls : List Lexeme} {r : Reading Bracket} → ReadsBracket read ls r →
+        ReadsOnAfter read (found p ls) (after (one_child p) r)
     faulty_child : {f : Fault} → ReadsOnAfter read (fault f) (fault f)
 
   -- what the substitutions after a base that was read so make of it, from the left
   pub data ReadsSubstitutions (read : List Element → Option Form) : Reading PatternTree → Reading PatternTree → Type 0 where
-    no_substitution : {b : PatternTree} {ls : List Lexeme} → begins_with_left_bracket ls ≡ false → ReadsSubstitutions read (found b ls) (found b ls)
-    substituted : {b : PatternTree} {ls : List Lexeme} {x r : Reading PatternTree} → ReadsPattern read ls x → ReadsValue read b x r → ReadsSubstitutions read (found b (left_bracket ∷ ls)) r
+    no_substitution : {b : PatternTree} {ls : List Lexeme} → begins_with_left_bracket ls ≡ false →
+        ReadsSubstitutions read (found b ls) (found b ls)
+    substituted : {b : PatternTree} {ls : List Lexeme} {x r : Reading PatternTree} → ReadsPattern read ls x →
+        ReadsValue read b x r → ReadsSubstitutions read (found b (left_bracket ∷ ls)) r
     faulty_base : {f : Fault} → ReadsSubstitutions read (fault f) (fault f)
 
   -- what `b[x` reads as, whose x was read so: `:=` and a pattern are due
   pub data ReadsValue (read : List Element → Option Form) : PatternTree → Reading PatternTree → Reading PatternTree → Type 0 where
-    becomes : {b x : PatternTree} {ls : List Lexeme} {t r : Reading PatternTree} → ReadsPattern read ls t → ReadsClose read b x t r → ReadsValue read b (found x (colon_equals ∷ ls)) r
-    no_becomes : {b x : PatternTree} {ls : List Lexeme} → begins_with_colon_equals ls ≡ false → ReadsValue read b (found x ls) (fault (no_colon_equals ls))
+    becomes : {b x : PatternTree} {ls : List Lexeme} {t r : Reading PatternTree} → ReadsPattern read ls t →
+        ReadsClose read b x t r → ReadsValue read b (found x (colon_equals ∷ ls)) r
+    no_becomes : {b x : PatternTree} {ls : List Lexeme} → begins_with_colon_equals ls ≡ false →
+        ReadsValue read b (found x ls) (fault (no_colon_equals ls))
     faulty_place : {b : PatternTree} {f : Fault} → ReadsValue read b (fault f) (fault f)
 
   -- what `b[x := t` reads as, whose t was read so: `]` is due, and more substitutions may follow
-  pub data ReadsClose (read : List Element → Option Form) : PatternTree → PatternTree → Reading PatternTree → Reading PatternTree → Type 0 where
-    closed : {b x t : PatternTree} {ls : List Lexeme} {r : Reading PatternTree} → ReadsSubstitutions read (found (substitution b x t) ls) r → ReadsClose read b x (found t (right_bracket ∷ ls)) r
-    not_closed : {b x t : PatternTree} {ls : List Lexeme} → begins_with_right_bracket ls ≡ false → ReadsClose read b x (found t ls) (fault (no_right_bracket ls))
+  pub data ReadsClose (read : List Element → Option Form) : PatternTree → PatternTree → Reading PatternTree →
+      Reading PatternTree → Type 0 where
+    closed : {b x t : PatternTree} {ls : List Lexeme} {r : Reading PatternTree} →
+        ReadsSubstitutions read (found (substitution b x t) ls) r → ReadsClose read b x (found t (right_bracket ∷ ls)) r
+    not_closed : {b x t : PatternTree} {ls : List Lexeme} → begins_with_right_bracket ls ≡ false →
+        ReadsClose read b x (found t ls) (fault (no_right_bracket ls))
     faulty_value : {b x : PatternTree} {f : Fault} → ReadsClose read b x (fault f) (fault f)
 
 -- tokens are one pattern, with nothing after it

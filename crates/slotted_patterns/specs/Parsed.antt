@@ -24,8 +24,10 @@ TextReadsPattern read t bs u o = PatternReads read t (chars bs) o u
 
 -- a text reads in at most one way, whatever the language
 abbrev pub ReadsOneWay : Type 0
-ReadsOneWay = (read : List Element → Option Form) (t : Table) (cs : List ℕ) (o p : PatternOutcome) (u v : Table) → PatternReads read t cs o u → PatternReads read t cs p v → (o ≡ p) × (u ≡ v)
+ReadsOneWay = (read : List Element → Option Form) (t : Table) (cs : List ℕ) (o p : PatternOutcome) (u v : Table) →
+    PatternReads read t cs o u → PatternReads read t cs p v → (o ≡ p) × (u ≡ v)
 
 -- a text reads in at least one way, whatever the language
 abbrev pub ReadsSomeWay : Type 0
-ReadsSomeWay = (read : List Element → Option Form) (t : Table) (cs : List ℕ) → (o : PatternOutcome) × (u : Table) × PatternReads read t cs o u
+ReadsSomeWay = (read : List Element → Option Form) (t : Table) (cs : List ℕ) → (o : PatternOutcome) × (u : Table) ×
+    PatternReads read t cs o u

@@ -45,13 +45,16 @@ module _ {L : Type 0} (form : L → Form) where
   IsFaultFrom read parts at ls o = (f : Fault) × (o ≡ outside f) × ReadsFrom read parts at ls (fault f)
 
   -- whatever is read from the second point is read after this pattern, inside this part and those of the stack
-  abbrev pub ResumesAs : (List Element → Option Form) → List (Part L) → Part L → Pattern L → List Lexeme → List (Part L) → Point L → List Lexeme → Type 0
+  abbrev pub ResumesAs : (List Element → Option Form) → List (Part L) → Part L → Pattern L → List Lexeme → List (Part L) →
+      Point L → List Lexeme → Type 0
   ResumesAs read parts part p ls parts' at' ls' =
-      (r : Reading PatternTree) → ReadsFrom read parts' at' ls' r → Resumes read (part_of part ∷ parts_of parts) (found (tree_of form p) ls) r
+      (r : Reading PatternTree) → ReadsFrom read parts' at' ls' r →
+      Resumes read (part_of part ∷ parts_of parts) (found (tree_of form p) ls) r
 
   -- the outcome is the fault that is read after this pattern, inside this part and those of the stack
   abbrev pub IsFaultAfter : (List Element → Option Form) → List (Part L) → Part L → Pattern L → List Lexeme → PatternOutcome → Type 0
-  IsFaultAfter read parts part p ls o = (f : Fault) × (o ≡ outside f) × Resumes read (part_of part ∷ parts_of parts) (found (tree_of form p) ls) (fault f)
+  IsFaultAfter read parts part p ls o = (f : Fault) × (o ≡ outside f) ×
+      Resumes read (part_of part ∷ parts_of parts) (found (tree_of form p) ls) (fault f)
 
 -- the outcome is the fault of a pattern at the front of the tokens
 abbrev pub IsFaultOf : (List Element → Option Form) → List Lexeme → PatternOutcome → Type 0

@@ -21,7 +21,8 @@ IsOutside parts = Unit {0}
 abbrev pub Resumes : (List Element → Option Form) → List Part → Reading PatternTree → Reading PatternTree → Type 0
 Resumes read [] p r = r ≡ p
 Resumes read (in_bracket b ∷ parts) p r =
-    (more : Reading Bracket) × ReadsOnAfter read p more × (q : Reading PatternTree) × ReadsSubstitutions read (node read (after b more)) q × Resumes read parts q r
+    (more : Reading Bracket) × ReadsOnAfter read p more × (q : Reading PatternTree) ×
+    ReadsSubstitutions read (node read (after b more)) q × Resumes read parts q r
 Resumes read (before_place b ∷ parts) p r = (q : Reading PatternTree) × ReadsValue read b p q × Resumes read parts q r
 Resumes read (before_value b x ∷ parts) p r = (q : Reading PatternTree) × ReadsClose read b x p q × Resumes read parts q r
 
@@ -31,7 +32,8 @@ Continues read parts b r = (p : Reading PatternTree) × ReadsSubstitutions read 
 
 -- what tokens inside open parts make of them all
 abbrev pub ReadsOpen : (List Element → Option Form) → List Part → List Lexeme → Reading PatternTree → Type 0
-ReadsOpen read (in_bracket b ∷ parts) ls r = (more : Reading Bracket) × ReadsBracket read ls more × Continues read parts (node read (after b more)) r
+ReadsOpen read (in_bracket b ∷ parts) ls r = (more : Reading Bracket) × ReadsBracket read ls more ×
+    Continues read parts (node read (after b more)) r
 ReadsOpen read parts ls r = (p : Reading PatternTree) × ReadsPattern read ls p × Resumes read parts p r
 
 -- the outcome is the fault that was met

@@ -13,7 +13,8 @@ abbrev pub AreAlikeArgs : DArgs → DArgs → List Sides → Type 0
 AreAlikeArgs stop stop [] = Unit {0}
 AreAlikeArgs (place x d) (place y e) children = (x ≡ y) × AreAlikeArgs d e children
 AreAlikeArgs (sub o p a d) (sub q r b e) (c ∷ children) = Matches (applied_of p a) (applied_of r b) (to_applied c.l) (to_applied c.r) × AreAlikeArgs d e children
-AreAlikeArgs (scope i d) (scope j e) children = (inner : List Sides) × (rest : List Sides) × (children ≡ inner ++ rest) × AreAlikeArgs i j inner × AreAlikeArgs d e rest
+AreAlikeArgs (scope i d) (scope j e) children = (inner : List Sides) × (rest : List Sides) × (children ≡ inner ++ rest) ×
+    AreAlikeArgs i j inner × AreAlikeArgs d e rest
 AreAlikeArgs d e children = ⊥
 
 -- the nodes c and d, with the names of the two sides of an equation put in, have the same operator, payloads, own names and

@@ -26,13 +26,15 @@ AssertedIsProvable =
 abbrev pub ReflexiveIsProvable : Type 0
 ReflexiveIsProvable =
     (nodes : List DTerm) (list : List Proven) (i : ℕ) → i < length nodes →
-    IsProvable nodes list (reflexive_entry i (canonical_slots nodes i)) × ((reflexive_entry i (canonical_slots nodes i)).statement.equation ≡ reflexive_equation nodes i)
+    IsProvable nodes list (reflexive_entry i (canonical_slots nodes i)) ×
+    ((reflexive_entry i (canonical_slots nodes i)).statement.equation ≡ reflexive_equation nodes i)
 
 -- each entry can be turned round
 abbrev pub TurnedIsProvable : Type 0
 TurnedIsProvable =
     (nodes : List DTerm) (list : List Proven) → IsProved nodes list → (p : ℕ) → p < length list →
-    IsProvable nodes list (turned_entry list p) × ((turned_entry list p).statement.equation ≡ turned_equation nodes (statement_at list p).equation)
+    IsProvable nodes list (turned_entry list p) ×
+    ((turned_entry list p).statement.equation ≡ turned_equation nodes (statement_at list p).equation)
 
 -- entries that meet can be put together, and they meet where their classes do
 abbrev pub CompositeIsProvable : Type 0
@@ -50,13 +52,15 @@ NewCanEnter =
 -- a list stays proved when what is provable is entered
 abbrev pub EnteringKeepsProved : Type 0
 EnteringKeepsProved =
-    (nodes : List DTerm) (old new : List Proven) (x : Proven) (p : ℕ) → IsProved nodes old → IsProvable nodes old x → Enters old new x p → IsProved nodes new
+    (nodes : List DTerm) (old new : List Proven) (x : Proven) (p : ℕ) → IsProved nodes old → IsProvable nodes old x →
+    Enters old new x p → IsProved nodes new
 
 -- and storage stays sound
 abbrev pub EnteringKeepsSound : Type 0
 EnteringKeepsSound =
     (nodes : List DTerm) (found : List Entry) (old new : List Proven) (x : Proven) (p : ℕ) →
-    Sound nodes found (entries_of old) → IsProved nodes old → IsProvable nodes old x → Enters old new x p → Sound nodes found (entries_of new)
+    Sound nodes found (entries_of old) → IsProved nodes old → IsProvable nodes old x → Enters old new x p →
+    Sound nodes found (entries_of new)
 
 -- the equation stands at the answered number, and the earlier ones stand where they stood
 abbrev pub EnteredStands : Type 0

@@ -21,7 +21,8 @@ has_line lines p = list_any (nat_eq p) lines
 pub data Lines (list : List Proven) : List ℕ → List ℕ → List ℕ → Type 0 where
   all : {lines : List ℕ} → Lines list lines [] lines
   passed : {lines ps end : List ℕ} {p : ℕ} → has_line lines p ≡ true → Lines list lines ps end → Lines list lines (p ∷ ps) end
-  next : {lines before ps end : List ℕ} {p : ℕ} → has_line lines p ≡ false → Lines list lines (parts_at list p) before → Lines list (before ++ p ∷ []) ps end → Lines list lines (p ∷ ps) end
+  next : {lines before ps end : List ℕ} {p : ℕ} → has_line lines p ≡ false → Lines list lines (parts_at list p) before →
+      Lines list (before ++ p ∷ []) ps end → Lines list lines (p ∷ ps) end
 
 -- the first of some entries that has no line
 abbrev pub first_new : List ℕ → List ℕ → Option ℕ

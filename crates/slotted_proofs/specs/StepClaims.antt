@@ -47,7 +47,8 @@ TransitiveStepProves =
 abbrev pub CongruentStepProves : Type 0
 CongruentStepProves =
     (nodes : List DTerm) (list : List Proven) (e : Sides) (children : List Sides) (parts : List ℕ) → Canonical nodes → IsOfFull nodes e →
-    All HasInjectiveSides children → AreAlikeNodes (canonical_node nodes e.l.id.0) (canonical_node nodes e.r.id.0) e children → AreEntries list parts children →
+    All HasInjectiveSides children → AreAlikeNodes (canonical_node nodes e.l.id.0) (canonical_node nodes e.r.id.0) e children →
+    AreEntries list parts children →
     IsProvable nodes list (by_step (statement_of e) (congruent parts))
 
 -- the parts of each entry of a proved list stand at earlier numbers

@@ -78,7 +78,8 @@ reached_pairs asked second = composite (composite asked (same_names second.r.m s
 
 -- the halves, one after the other, say what the asked pairs say of the slots that the first one knows, and of those that the second one reaches
 abbrev pub AreAsked : Sides → Sides → List (ℕ × ℕ) → Type 0
-AreAsked first second asked = (middle_pairs first second ≡ known_pairs first asked) × (middle_pairs first second ≡ reached_pairs asked second)
+AreAsked first second asked = (middle_pairs first second ≡ known_pairs first asked) ×
+    (middle_pairs first second ≡ reached_pairs asked second)
 
 -- the two sides have a name of its own for each of their slots
 pub record AreFull (e : Sides) : Type 0 where
@@ -96,7 +97,8 @@ EntersStep old new e step p = Enters old new (by_step (statement_of e) step) p
 -- each part matches the equation of its children, and there are as many of the one as of the other
 pub record AreEntries (list : List Proven) (parts : List ℕ) (children : List Sides) : Type 0 where
   pub count : length parts ≡ length children
-  pub each : (k n : ℕ) (d : Sides) → k < length parts → IsEntry list (slice_index_or parts k n) (to_applied (slice_index_or children k d).l) (to_applied (slice_index_or children k d).r)
+  pub each : (k n : ℕ) (d : Sides) → k < length parts →
+      IsEntry list (slice_index_or parts k n) (to_applied (slice_index_or children k d).l) (to_applied (slice_index_or children k d).r)
 
 -- no name stands twice on a side
 pub record HasInjectiveSides (e : Sides) : Type 0 where

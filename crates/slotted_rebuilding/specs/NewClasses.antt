@@ -37,7 +37,8 @@ pub record HasNewest (k : Kept) (r : Rows) (o : ℕ) : Type 0 where
 
 -- what a run that leaves nothing to do leads to is what the making of the class leads to, wherever there was one class less
 pub record BeginsAdding (k : Kept) (r : Rows) (l : Kept) (q : Rows) : Type 0 where
-  pub begins : (g : State) (c : DTerm) → state_in k r ≡ with_new_class g c → (turns : ℕ) (h : State) → Runs (state_in l q) turns h → HasNothingLeft h → Adds g c h
+  pub begins : (g : State) (c : DTerm) → state_in k r ≡ with_new_class g c → (turns : ℕ) (h : State) →
+      Runs (state_in l q) turns h → HasNothingLeft h → Adds g c h
   pub filed : IsWellFiled l q
   pub grows : Grows k l
 

@@ -93,7 +93,8 @@ fn filed_node<L: Language>(
     requires findable { IsFindable store.now (to_applied a.now) }
     requires known { AllKnownTo table.old (values a.now.m) }
     ensures key { IfOk result (λ n. HasKey nodes.now.filed source (shape (L.form n)).0) }
-    ensures ok { IfOk result (λ n. IsAppliedNode table.old table.new store.now nodes.now (to_applied a.now) (L.form n)) }
+    ensures ok { IfOk result
+        (λ n. IsAppliedNode table.old table.new store.now nodes.now (to_applied a.now) (L.form n)) }
     ensures more { KnowsMore table.old table.new }
     ensures kept { table.new.names ≡ table.old.names }
     ensures takes { TakesForKeys nodes.now (source ∷ []) table.old table.new }
@@ -125,7 +126,8 @@ fn filed_nodes<L: Language>(
     requires sources { All (IsSourceOf store.now nodes.now (to_applied a.now)) sources.now }
     requires findable { IsFindable store.now (to_applied a.now) }
     requires known { AllKnownTo table.old (values a.now.m) }
-    ensures ok { IfOk result (λ v. AreAppliedNodes L.form table.old table.new store.now nodes.now (to_applied a.now) sources.now v.items) }
+    ensures ok { IfOk result
+        (λ v. AreAppliedNodes L.form table.old table.new store.now nodes.now (to_applied a.now) sources.now v.items) }
     ensures more { KnowsMore table.old table.new }
     ensures kept { table.new.names ≡ table.old.names }
     ensures takes { TakesForKeys nodes.now sources.now table.old table.new }
@@ -153,11 +155,13 @@ pub fn enodes_applied<L: Language>(
     requires quiet { nodes.now.waiting ≡ [] }
     requires findable { IsFindable store.now (to_applied a.now) }
     requires known { AllKnownTo table.old (values a.now.m) }
-    ensures ok { IfOk result (λ v. AreEnodes L.form L.cmp table.old table.new store.now nodes.now (to_applied a.now) v.items) }
+    ensures ok { IfOk result
+        (λ v. AreEnodes L.form L.cmp table.old table.new store.now nodes.now (to_applied a.now) v.items) }
     ensures more { KnowsMore table.old table.new }
     ensures kept { table.new.names ≡ table.old.names }
     ensures takes { TakesForKeys nodes.now (class_sources store.now nodes.now a.now.id.0) table.old table.new }
-    ensures full { IsErrOf result Error.OutOfSlots → RunsOutForKeys nodes.now (class_sources store.now nodes.now a.now.id.0) table.old table.new }
+    ensures full { IsErrOf result Error.OutOfSlots
+        → RunsOutForKeys nodes.now (class_sources store.now nodes.now a.now.id.0) table.old table.new }
     ensures err { IfErr result IsShortage }
 {
     let sources = class_nodes(store, nodes, alloc, a.id.0)?;
@@ -207,7 +211,8 @@ pub fn enodes<L: Language>(
     requires findable { IsFindable store.now (to_applied a.now) }
     requires fresh { AreFresh (values a.now.m) }
     ensures ok { IfOk result (λ s. AreNodesOf L.form store.now nodes.now (to_applied a.now) s.keys) }
-    ensures full { IsErrOf result Error.OutOfSlots → HasLargeKeyOf nodes.now (class_sources store.now nodes.now a.now.id.0) }
+    ensures full { IsErrOf result Error.OutOfSlots
+        → HasLargeKeyOf nodes.now (class_sources store.now nodes.now a.now.id.0) }
     ensures err { IfErr result IsShortage }
 {
     let sources = class_nodes(store, nodes, alloc, a.id.0)?;

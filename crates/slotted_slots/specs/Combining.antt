@@ -85,4 +85,5 @@ pub record IsCompleted (old new : Table) (m n r : List (ℕ × ℕ)) : Type 0 wh
   pub same_keys : keys r ≡ keys m
   pub sent : (k v w : ℕ) → value_of m k ≡ Some v → value_of n v ≡ Some w → value_of r k ≡ Some w
   pub made : (k v s : ℕ) → value_of m k ≡ Some v → value_of n v ≡ None → value_of r k ≡ Some s → IsNew old new (values m ++ values n) s
-  pub apart : (j k v w s : ℕ) → value_of m j ≡ Some v → value_of n v ≡ None → value_of m k ≡ Some w → value_of n w ≡ None → value_of r j ≡ Some s → value_of r k ≡ Some s → j ≡ k
+  pub apart : (j k v w s : ℕ) → value_of m j ≡ Some v → value_of n v ≡ None → value_of m k ≡ Some w → value_of n w ≡ None →
+      value_of r j ≡ Some s → value_of r k ≡ Some s → j ≡ k

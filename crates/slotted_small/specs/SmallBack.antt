@@ -41,7 +41,8 @@ one_text_or_operator (text op ∷ applied i m ∷ applied j n ∷ []) =
 one_text_or_operator es = inr tt
 
 -- a number or a word was read from one text
-from_one_text : (es : List Element) (f : Form) → 6 < f.operator → small_read es ≡ Some f → (bs : List ℕ) × (es ≡ text bs ∷ []) × (alone bs (reads_u32 bs) ≡ f)
+from_one_text : (es : List Element) (f : Form) → 6 < f.operator → small_read es ≡ Some f → (bs : List ℕ) × (es ≡ text bs ∷ []) ×
+    (alone bs (reads_u32 bs) ≡ f)
 from_one_text es f high e = elim (one_text_or_operator es) [
   | inl (bs, one) ↦ (bs, one, let e : ◌≡◌ {A = Option Form} (Some (alone bs (reads_u32 bs))) (Some f) = ap small_read (sym one) ∙ e in cc)
   | inr low ↦ absurd (let low : f.operator < 7 = subst (λ o. IfSome o IsOperator) e low in omega (arith, low, high))
@@ -56,12 +57,14 @@ alone_word bs (Some m) w e = absurd (omega (arith, ap (λ f. f.operator) e))
 alone_word bs None w e = (refl, (cons_parts bs w [] [] (ap (λ f. f.payloads) e)).0)
 
 -- a number or a word that was read from identifiers
-number_read : (es : List Element) (n : ℕ) → HasIdentifiers es → small_read es ≡ Some (small_form (Number n)) → IsIdentifier (decimal n) × (reads_u32 (decimal n) ≡ Some n)
+number_read : (es : List Element) (n : ℕ) → HasIdentifiers es → small_read es ≡ Some (small_form (Number n)) →
+    IsIdentifier (decimal n) × (reads_u32 (decimal n) ≡ Some n)
 number_read es n h e =
     let one = from_one_text es (small_form (Number n)) (lit< tt) e in
     u32_back one.0 n (subst HasIdentifiers one.1 h).0 (alone_number one.0 (reads_u32 one.0) n one.2)
 
-word_read : (es : List Element) (w : List ℕ) → HasIdentifiers es → small_read es ≡ Some (small_form (Word w)) → IsIdentifier w × (reads_u32 w ≡ None)
+word_read : (es : List Element) (w : List ℕ) → HasIdentifiers es → small_read es ≡ Some (small_form (Word w)) → IsIdentifier w ×
+    (reads_u32 w ≡ None)
 word_read es w h e =
     let one = from_one_text es (small_form (Word w)) (lit< tt) e in
     let same = alone_word one.0 (reads_u32 one.0) w one.2 in
@@ -83,7 +86,8 @@ small_words es (Mul a b) h e = (ascii_text _ refl refl, tt)
 small_words es (Number n) h e = ((number_read es n h e).0, tt)
 small_words es (Word w) h e = ((word_read es w h e).0, tt)
 
-pub small_back : (es : List Element) (a : Small) → HasIdentifiers es → small_read es ≡ Some (small_form a) → small_read (small_shown a) ≡ Some (small_form a)
+pub small_back : (es : List Element) (a : Small) → HasIdentifiers es → small_read es ≡ Some (small_form a) →
+    small_read (small_shown a) ≡ Some (small_form a)
 small_back es (Lam b) h e = refl
 small_back es (App a b) h e = refl
 small_back es (Var x) h e = refl

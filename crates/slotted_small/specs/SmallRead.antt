@@ -7,7 +7,8 @@ use Rattle.slotted_nodes.specs.ReadFrom.{IsReadFrom, slot_read, child_read, bind
 use Rattle.slotted_small.specs.Small.{small_read, alone}
 
 -- one of two answers
-either : (b : Bool) (o p : Option Form) (es : List Element) → IfSome o (IsReadFrom es) → IfSome p (IsReadFrom es) → IfSome (cond b o p) (IsReadFrom es)
+either : (b : Bool) (o p : Option Form) (es : List Element) → IfSome o (IsReadFrom es) → IfSome p (IsReadFrom es) →
+    IfSome (cond b o p) (IsReadFrom es)
 either true o p es h k = h
 either false o p es h k = k
 
@@ -22,16 +23,19 @@ alone_read bs None = variant_read 8 (text bs ∷ []) (plain (bs ∷ [])) (plain_
 over_slot_read : (k : ℕ) (op : List ℕ) (x : ℕ) → IsReadFrom (text op ∷ name x ∷ []) (variant k (slot_form x))
 over_slot_read k op x = after_operator k op (name x ∷ []) (slot_form x) (slot_read x)
 
-over_slots_read : (k : ℕ) (op : List ℕ) (x y : ℕ) → IsReadFrom (text op ∷ name x ∷ name y ∷ []) (variant k (join_form (slot_form x) (slot_form y)))
+over_slots_read : (k : ℕ) (op : List ℕ) (x y : ℕ) →
+    IsReadFrom (text op ∷ name x ∷ name y ∷ []) (variant k (join_form (slot_form x) (slot_form y)))
 over_slots_read k op x y =
     after_operator k op (name x ∷ name y ∷ []) (join_form (slot_form x) (slot_form y))
     (join_read (name x ∷ []) (name y ∷ []) (slot_form x) (slot_form y) (slot_read x) (slot_read y))
 
-over_binder_read : (k : ℕ) (op : List ℕ) (x i : ℕ) (m : List (ℕ × ℕ)) → IsReadFrom (text op ∷ name x ∷ applied i m ∷ []) (variant k (bind_form x (child_form i m)))
+over_binder_read : (k : ℕ) (op : List ℕ) (x i : ℕ) (m : List (ℕ × ℕ)) →
+    IsReadFrom (text op ∷ name x ∷ applied i m ∷ []) (variant k (bind_form x (child_form i m)))
 over_binder_read k op x i m =
     after_operator k op (name x ∷ applied i m ∷ []) (bind_form x (child_form i m)) (bind_read x (applied i m ∷ []) (child_form i m) (child_read i m))
 
-over_children_read : (k : ℕ) (op : List ℕ) (i : ℕ) (m : List (ℕ × ℕ)) (j : ℕ) (n : List (ℕ × ℕ)) → IsReadFrom (text op ∷ applied i m ∷ applied j n ∷ []) (variant k (join_form (child_form i m) (child_form j n)))
+over_children_read : (k : ℕ) (op : List ℕ) (i : ℕ) (m : List (ℕ × ℕ)) (j : ℕ) (n : List (ℕ × ℕ)) →
+    IsReadFrom (text op ∷ applied i m ∷ applied j n ∷ []) (variant k (join_form (child_form i m) (child_form j n)))
 over_children_read k op i m j n =
     after_operator k op (applied i m ∷ applied j n ∷ []) (join_form (child_form i m) (child_form j n))
     (join_read (applied i m ∷ []) (applied j n ∷ []) (child_form i m) (child_form j n) (child_read i m) (child_read j n))

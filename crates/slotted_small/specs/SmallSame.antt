@@ -50,7 +50,8 @@ small_few (Number n) = lit< tt
 small_few (Word w) = lit< tt
 
 -- nodes of one operator with two children
-children_same : (k : ℕ) (a b c d : AppliedId) → IsTrue (id_eq a c && id_eq b d) ↔ variant k (join_form (form_of a) (form_of b)) ≡ variant k (join_form (form_of c) (form_of d))
+children_same : (k : ℕ) (a b c d : AppliedId) → IsTrue (id_eq a c && id_eq b d) ↔
+    variant k (join_form (form_of a) (form_of b)) ≡ variant k (join_form (form_of c) (form_of d))
 children_same k a b c d = variant_same k (id_eq a c && id_eq b d) (join_form (form_of a) (form_of b)) (join_form (form_of c) (form_of d)) refl
     (join_form_same (id_eq a c) (id_eq b d) (form_of a) (form_of b) (form_of c) (form_of d) (child_form_fits a.m) (child_form_fits c.m) (alike_children a c) (alike_children b d) (applied_id_same a c) (applied_id_same b d))
 

@@ -69,7 +69,8 @@ both_Decides true true p q f g = (λ h. f (p.0 refl, q.0 refl), λ r. refl)
 both_Decides true false p q f g = (λ h. cc, λ r. q.1 (g r).1)
 both_Decides false e p q f g = (λ h. cc, λ r. p.1 (g r).0)
 
-list_Decides : {A : Type 0} {E : A → A → Bool} → ((a b : A) → Decides (E a b) (a ≡ b)) → (xs ys : List A) → Decides (pointwise E xs ys) (xs ≡ ys)
+list_Decides : {A : Type 0} {E : A → A → Bool} → ((a b : A) → Decides (E a b) (a ≡ b)) → (xs ys : List A) →
+    Decides (pointwise E xs ys) (xs ≡ ys)
 list_Decides {A} {E} d xs ys = slice_eq-Decides d xs ys (pointwise E xs ys) refl
 
 pub tree_Decides : (r t : Tree) → Decides (tree_is r t) (r ≡ t)

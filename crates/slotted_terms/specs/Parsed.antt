@@ -32,7 +32,8 @@ pub data TextReads (read : List Element → Option Form) (t : Table) (cs : List 
 
 -- a text reads in at most one way, whatever the language
 abbrev pub ReadsOneWay : Type 0
-ReadsOneWay = (read : List Element → Option Form) (t : Table) (cs : List ℕ) (o p : TermOutcome) (u v : Table) → TextReads read t cs o u → TextReads read t cs p v → (o ≡ p) × (u ≡ v)
+ReadsOneWay = (read : List Element → Option Form) (t : Table) (cs : List ℕ) (o p : TermOutcome) (u v : Table) →
+    TextReads read t cs o u → TextReads read t cs p v → (o ≡ p) × (u ≡ v)
 
 -- a text reads in at least one way, whatever the language
 abbrev pub ReadsSomeWay : Type 0

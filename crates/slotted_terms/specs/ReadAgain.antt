@@ -23,4 +23,5 @@ pub record ReadsAsNodes {L : Type 0} (form : L → Form) (read : List Element �
 -- that table as it is
 abbrev pub TermReadsAsItself : {L : Type 0} → (L → Form) → (Term → List Element) → (List Element → Option Form) → Type 0
 TermReadsAsItself {L} form written read =
-    (t u : Table) (bs : List ℕ) (x : Term) → IsUtf8 bs → IsTable u → ReadsAsNodes form read t (chars bs) x u → TextReads read u (chars (term_text written u x)) (parsed x) u
+    (t u : Table) (bs : List ℕ) (x : Term) → IsUtf8 bs → IsTable u → ReadsAsNodes form read t (chars bs) x u →
+    TextReads read u (chars (term_text written u x)) (parsed x) u

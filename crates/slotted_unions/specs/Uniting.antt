@@ -145,12 +145,14 @@ IsDone p k l = (rows : List Row) (w : List ℕ) → Unites p (state_with k rows 
 -- the class c has died, and the union is done once the rows over the class wait
 pub record HasDied (p : ℕ) (k l : Kept) (c : ℕ) : Type 0 where
   pub in_range : c < length k.classes
-  pub unites : (rows : List Row) (w v : List ℕ) → HasTouched (state_with k rows w) c v → Unites p (state_with k rows w) (state_with l rows v)
+  pub unites : (rows : List Row) (w v : List ℕ) → HasTouched (state_with k rows w) c v →
+      Unites p (state_with k rows w) (state_with l rows v)
 
 -- the class c has lost slots, and the union goes on once the rows over the class wait; each class finds the class that it found
 pub record HasLost (p : ℕ) (k l : Kept) (c : ℕ) : Type 0 where
   pub in_range : c < length k.classes
-  pub goes_on : (rows : List Row) (w v : List ℕ) (h : State) → HasTouched (state_with k rows w) c v → Unites p (state_with l rows v) h → Unites p (state_with k rows w) h
+  pub goes_on : (rows : List Row) (w v : List ℕ) (h : State) → HasTouched (state_with k rows w) c v →
+      Unites p (state_with l rows v) h → Unites p (state_with k rows w) h
   pub smaller : size (state_of l) < size (state_of k)
   pub finds : (i : ℕ) → i < length k.classes → find_class (entries_of l) i ≡ find_class (entries_of k) i
 

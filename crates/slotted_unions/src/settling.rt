@@ -22,7 +22,8 @@ fn is_aligned<L: Language>(
 ) -> Result<bool, Error>
     requires good { Stored store.now }
     requires listed { Contains store.now.symmetries (symmetry_entry symmetry.now) }
-    ensures ok { IfOk result (λ y. IsTrue y ↔ IsAligned (state_of store.now) (symmetry_of_entry (symmetry_entry symmetry.now))) }
+    ensures ok { IfOk result
+        (λ y. IsTrue y ↔ IsAligned (state_of store.now) (symmetry_of_entry (symmetry_entry symmetry.now))) }
     ensures err { IfErr result IsOutOfMemory }
 {
     let left = store.found_id(alloc, &symmetry.equation.l)?;

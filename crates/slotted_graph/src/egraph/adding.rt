@@ -34,7 +34,8 @@ impl<L: Language, N: Drop> EGraph<L, N> {
 
         // The answer is what it finds itself, and equal to the node by what was asserted.
         ensures found { IfOk result (λ o. IfSome o (λ a. IsFound self.now (to_applied a))) }
-        ensures equal { IfOk result (λ o. IfSome o (λ a. IsEqualToNode self.now.image (to_applied a) (L.form node.now))) }
+        ensures equal { IfOk result
+            (λ o. IfSome o (λ a. IsEqualToNode self.now.image (to_applied a) (L.form node.now))) }
 
         ensures failed { IsErrOf result Error.Failed ↔ IsTrue self.now.failed }
         ensures only { IfErr result (λ e. (e ≡ Error.Failed) ⊎ (e ≡ Error.OutOfMemory)) }
@@ -105,7 +106,8 @@ impl<L: Language, N: Drop> EGraph<L, N> {
         // Where a class is made, fresh slots are made for its names, and for those that children lack.
         ensures more { KnowsMore self.old.table self.new.table }
         ensures takes { MakesAtMost (slots_needed self.old.image (L.form node)) self.old.table self.new.table }
-        ensures full { IsErrOf result Error.OutOfSlots → RunsOutForFilled self.old.image (L.form node) self.old.table self.new.table }
+        ensures full { IsErrOf result Error.OutOfSlots
+            → RunsOutForFilled self.old.image (L.form node) self.old.table self.new.table }
 
         // A failed graph stays as it is.
         ensures stays { IsTrue self.old.failed → self.new ≡ self.old }
@@ -191,7 +193,8 @@ impl<L: Language, N: Drop> EGraph<L, N> {
         // Where classes are made, fresh slots are made for their names.
         ensures more { KnowsMore self.old.table self.new.table }
         ensures takes { MakesAtMost (term_slots term.now) self.old.table self.new.table }
-        ensures full { IsErrOf result Error.OutOfSlots → CanRunOutForTerm self.old.image term.now self.old.table self.new.table }
+        ensures full { IsErrOf result Error.OutOfSlots
+            → CanRunOutForTerm self.old.image term.now self.old.table self.new.table }
         ensures unknown { IsErrOf result Error.OutOfSlots → IsUnknownTerm self.old.image term.now }
 
         // A failed graph stays as it is.

@@ -140,7 +140,8 @@ fn own_nodes<L: Language>(
     ensures more { KnowsMore table.old table.new }
     ensures kept { table.new.names ≡ table.old.names }
     ensures takes { TakesForKeys nodes.now (class_sources store.now nodes.now class) table.old table.new }
-    ensures full { IsErrOf result Error.OutOfSlots → RunsOutForKeys nodes.now (class_sources store.now nodes.now class) table.old table.new }
+    ensures full { IsErrOf result Error.OutOfSlots
+        → RunsOutForKeys nodes.now (class_sources store.now nodes.now class) table.old table.new }
     ensures err { IfErr result IsShortage }
 {
     let a = reports::mk_identity_applied_id(store, alloc, class)?;
@@ -164,7 +165,8 @@ fn push_whole<L: Language>(
     ensures more { KnowsMore table.old table.new }
     ensures kept { table.new.names ≡ table.old.names }
     ensures takes { TakesForKeys nodes.now (class_sources store.now nodes.now class) table.old table.new }
-    ensures full { IsErrOf result Error.OutOfSlots → RunsOutForKeys nodes.now (class_sources store.now nodes.now class) table.old table.new }
+    ensures full { IsErrOf result Error.OutOfSlots
+        → RunsOutForKeys nodes.now (class_sources store.now nodes.now class) table.old table.new }
     ensures err { IfErr result IsShortage }
 {
     let slots = reports::slots_of(store, alloc, class)?;
@@ -188,7 +190,8 @@ fn push_live<L: Language>(
     requires fresh_slots { HasFreshSlots table.old store.now }
     ensures more { KnowsMore table.old table.new }
     ensures kept { table.new.names ≡ table.old.names }
-    ensures takes { TakesForClasses store.now nodes.now (range_with_len 0 (length store.now.classes)) table.old table.new }
+    ensures takes { TakesForClasses store.now nodes.now
+        (range_with_len 0 (length store.now.classes)) table.old table.new }
     ensures full { IsErrOf result Error.OutOfSlots
         → RunsOutForClasses store.now nodes.now (range_with_len 0 (length store.now.classes)) table.old table.new }
     ensures err { IfErr result IsShortage }
@@ -218,7 +221,8 @@ fn append_live<L: Language>(
     ensures unchanged { OnErr result (string_bytes out.new ≡ string_bytes out.old) }
     ensures more { KnowsMore table.old table.new }
     ensures kept { table.new.names ≡ table.old.names }
-    ensures takes { TakesForClasses store.now nodes.now (range_with_len 0 (length store.now.classes)) table.old table.new }
+    ensures takes { TakesForClasses store.now nodes.now
+        (range_with_len 0 (length store.now.classes)) table.old table.new }
     ensures full { IsErrOf result Error.OutOfSlots
         → RunsOutForClasses store.now nodes.now (range_with_len 0 (length store.now.classes)) table.old table.new }
     ensures err { IfErr result IsShortage }

@@ -37,7 +37,8 @@ impl<L: Language, N: Drop> EGraph<L, N> {
         ensures kept { IsTrue self.new.failed ⊎ KeepsKnown self.old self.new left.now right.now }
         ensures more { KnowsMore self.old.table self.new.table }
         ensures takes { MakesAtMost (term_slots left.now + term_slots right.now) self.old.table self.new.table }
-        ensures full { IsErrOf result Error.OutOfSlots → RunsOutForTerms self.old.image left.now right.now self.old.table self.new.table }
+        ensures full { IsErrOf result Error.OutOfSlots
+            → RunsOutForTerms self.old.image left.now right.now self.old.table self.new.table }
 
         ensures stays { IsTrue self.old.failed → self.new ≡ self.old }
         ensures failed { IsErrOf result Error.Failed ↔ IsTrue self.old.failed }

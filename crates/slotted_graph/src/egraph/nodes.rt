@@ -59,7 +59,8 @@ impl<L: Language, N: Drop> EGraph<L, N> {
         ensures dead { IfOk result (λ s. IsNoneIfDead self.now id.0 s.keys) }
 
         // Each is valid, and is looked up as what the class with its slots as names finds.
-        ensures nodes { IfOk result (λ s. All (λ n. IsEnode self.now (names_slots self.now.image id.0) (L.form n)) s.keys) }
+        ensures nodes { IfOk result
+            (λ s. All (λ n. IsEnode self.now (names_slots self.now.image id.0) (L.form n)) s.keys) }
         ensures names { IfOk result (λ s. All (λ n. HasOwnNames self.now.image id.0 (L.form n)) s.keys) }
 
         ensures failed { IsErrOf result Error.Failed ↔ IsTrue self.now.failed }

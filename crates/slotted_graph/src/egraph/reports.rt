@@ -142,7 +142,8 @@ impl<L: Language, N: Drop> EGraph<L, N> {
         ensures err { OnErr result (self.new ≡ self.old) }
 
         ensures failed { IsErrOf result Error.Failed ↔ IsTrue self.old.failed }
-        ensures full { IsErrOf result Error.OutOfSlots ↔ ((self.old.failed ≡ false) × (self.old.table.fresh ≡ slot_limit)) }
+        ensures full { IsErrOf result Error.OutOfSlots
+            ↔ ((self.old.failed ≡ false) × (self.old.table.fresh ≡ slot_limit)) }
         ensures only { IfErr result (λ e. (e ≡ Error.Failed) ⊎ (e ≡ Error.OutOfSlots)) }
     {
         if self.failed {
@@ -162,8 +163,10 @@ impl<L: Language, N: Drop> EGraph<L, N> {
         ensures err { OnErr result (self.new ≡ self.old) }
 
         ensures failed { IsErrOf result Error.Failed ↔ IsTrue self.old.failed }
-        ensures large { IsErrOf result Error.NumberTooLarge ↔ ((self.old.failed ≡ false) × (named_of self.old.table s.now ≡ too_large)) }
-        ensures full { IsErrOf result Error.OutOfSlots ↔ ((self.old.failed ≡ false) × (named_of self.old.table s.now ≡ no_place)) }
+        ensures large { IsErrOf result Error.NumberTooLarge
+            ↔ ((self.old.failed ≡ false) × (named_of self.old.table s.now ≡ too_large)) }
+        ensures full { IsErrOf result Error.OutOfSlots
+            ↔ ((self.old.failed ≡ false) × (named_of self.old.table s.now ≡ no_place)) }
         ensures memory { IsErrOf result Error.OutOfMemory → IsNewName self.old.table s.now }
         ensures only { IfErr result (λ e. (e ≡ Error.Failed) ⊎ IsNamingRefusal e) }
     {
