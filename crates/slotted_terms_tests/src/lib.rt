@@ -1,22 +1,46 @@
-//! Tests of worked texts, patterns and terms, and of equations and steps, and nothing else. They stand in a crate of
-//! their own, since a crate with tests is proved twice. What is asked stands in rows of text beside its answer, and the
-//! functions that read the rows are lent what they ask about. Memory that is refused ends a test at once, by `expect`:
-//! a `?` would drop all that is held, which is proved for each.
+//! Tests of worked values below the graph: of slots, maps and sets, nodes and languages, of texts, patterns and terms, and of equations and steps.
+//! They stand in a crate of their own, since a crate with tests is proved twice. What is asked stands in rows of text beside its answer, and the
+//! functions that read the rows are lent what they ask about: so what answers a call is proved once for all of its rows. In those of terms and
+//! equations memory that is refused ends a test at once, by `expect`: a `?` would drop all that is held, which is proved for each.
 #![tactic(auto)]
 
 #[cfg(test)]
+mod applied;
+#[cfg(test)]
 mod checks;
+#[cfg(test)]
+mod elements;
 #[cfg(test)]
 mod equations;
 #[cfg(test)]
 mod lists;
 #[cfg(test)]
+mod maps;
+#[cfg(test)]
+mod names;
+#[cfg(test)]
+mod nested;
+#[cfg(test)]
+mod nodes;
+#[cfg(test)]
+mod parts;
+#[cfg(test)]
 mod patterns;
 #[cfg(test)]
+mod reading;
+#[cfg(test)]
 mod rows;
+#[cfg(test)]
+mod sets;
+#[cfg(test)]
+mod small_maps;
 #[cfg(test)]
 mod steps;
 #[cfg(test)]
 mod tables;
 #[cfg(test)]
 mod terms;
+#[cfg(test)]
+mod worked;
+#[cfg(test)]
+mod writing;

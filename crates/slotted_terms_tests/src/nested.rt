@@ -4,7 +4,7 @@ ghost use Rattle.std.specs.Prelude.{[], None};
 ghost use Rattle.std.proofs.Common.{lit<};
 ghost use Rattle.slotted_nodes.specs.Equal.{bind_form_fits, bind_same};
 ghost use Rattle.slotted_nodes.specs.Form.{bind_form};
-ghost use Rattle.slotted_languages_tests.specs.Nested.{tail_fits, tail_form, tail_same, tri_fits, tri_form, tri_same};
+ghost use Rattle.slotted_terms_tests.specs.Nested.{tail_fits, tail_form, tail_same, tri_fits, tri_form, tri_same};
 
 use crate::reading::Made;
 use slotted_languages::{Bind, Language, LanguageChildren, pair};
