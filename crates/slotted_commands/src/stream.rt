@@ -31,8 +31,8 @@ pub fn answer_session<L: Printable, R: BufRead, W: Write>(
     }
 }
 
-// Answers each line over a graph.
-fn answer_each<L: Printable, R: BufRead, W: Write>(
+/// The same over a graph that the caller keeps.
+pub fn answer_each<L: Printable, R: BufRead, W: Write>(
     alloc: Global,
     graph: &mut EGraph<L>,
     input: &mut R,

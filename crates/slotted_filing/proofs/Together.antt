@@ -158,6 +158,13 @@ module _ (us : List (List ℕ)) (f : Form) (i : ℕ) where
         (λ j l. user-more vs (child_id f k) w (child_id f j) i (s.so_far j l)) (user-there vs (child_id f k) w);
   })
 
+  -- it is one already
+  pub used-past : (vs : List (List ℕ)) (k : ℕ) → UsedSoFar us vs f i k → IsUser us (child_id f k) i → UsedSoFar us vs f i (k + 1)
+  used-past vs k s h = record {
+    more = s.more;
+    so_far = below_more (λ j. IsUser vs (child_id f j) i) k s.so_far (s.more.kept (child_id f k) i h);
+  }
+
   pub used-all : (vs : List (List ℕ)) (k : ℕ) → UsedSoFar us vs f i k → length (children f.tree) ≤ k → UsesEach vs (key_children f) i
   used-all vs k s l c h =
       let r = child-read f c h in
@@ -174,7 +181,7 @@ module _ (v : List (Option Filing)) (us : List (List ℕ)) (w : Waiting) (fit : 
     once = fit.once;
     filed = fit.filed;
     children = fit.children;
-    over = λ i c h. elim (fit.over i c h) [ inl k ↦ inl (m.kept c i k) | inr k ↦ inr k ];
+    over = λ i c h. m.kept c i (fit.over i c h);
   }
 
   -- one class more
@@ -219,23 +226,7 @@ module _ (v : List (Option Filing)) (us : List (List ℕ)) (w : Waiting) (fit : 
     once = m.once;
     filed = λ i h. elim (m.from i h) [ inl k ↦ fit.filed i k | inr k ↦ ((k.key, k.names), k.filed) ];
     children = fit.children;
-    over = λ i d h. elim (fit.over i d h) [ inl k ↦ inl k | inr k ↦ inr (m.kept i k) ];
-  }
-
-  pub fit-cleared : (c : ℕ) (u : Waiting) → WaitsMore v c w u → WaitOver (slice_index_or us c []) v c u.queue → FitTogether v (set us c []) u
-  fit-cleared c u m o = record {
-    lists = let a = fit.lists in omega (arith, a, length-set us c []);
-    flags = let a = fit.flags in let b = m.same in omega (arith, a, b);
-    once = m.once;
-    filed = (fit-waiting c u m).filed;
-    children = fit.children;
-    over = λ i d h. elim (fit.over i d h) [
-      | inr k ↦ inr (m.kept i k)
-      | inl k ↦ elim (cases_eq d c) [
-        | inl e ↦ inr (o i (subst (λ x. IsUser us x i) e k) (subst (HasChild v i) e h))
-        | inr n ↦ inl (subst (λ l. Contains l i) (sym (get_or-set_other us c d [] [] n)) k)
-      ]
-    ];
+    over = fit.over;
   }
 
   pub touched : (c : ℕ) (u : Waiting) → WaitsMore v c w u → WaitOver (slice_index_or us c []) v c u.queue → HasTouched (rows_state (record { filed = v; waiting = w.queue })) c u.queue
@@ -245,10 +236,7 @@ module _ (v : List (Option Filing)) (us : List (List ℕ)) (w : Waiting) (fit : 
     over = λ r k h.
         let q = filed-row v r k in
         let child : HasChild v q.0 c = record { key = q.1; names = q.2; filed = q.3; child = subst (λ l. Contains l c) (row-children (q.1, (q.0, q.2))) (subst (λ (x : Row). Contains (child_classes x.shape.args) c) q.4 h) } in
-        subst (λ (x : Row). Contains u.queue x.source) (sym q.4) (elim (fit.over q.0 c child) [
-          | inl a ↦ o q.0 a child
-          | inr a ↦ m.kept q.0 a
-        ]);
+        subst (λ (x : Row). Contains u.queue x.source) (sym q.4) (o q.0 (fit.over q.0 c child) child);
     from = λ i h. elim (m.from i h) [
       | inl k ↦ inl k
       | inr k ↦ inr (row_of_entry (k.key, (i, k.names)), row-filed v i k.key k.names k.filed, subst (λ l. Contains l c) (sym (row-children (k.key, (i, k.names)))) k.child, refl)
@@ -262,7 +250,7 @@ module _ (v : List (Option Filing)) (us : List (List ℕ)) (w : Waiting) (fit : 
     once = pushed-once p fit.once;
     filed = λ j h. elim (pushed-from p j h) [ inl k ↦ fit.filed j k | inr k ↦ subst (IsFiled v) (sym k) e ];
     children = fit.children;
-    over = λ j c h. elim (fit.over j c h) [ inl k ↦ inl k | inr k ↦ inr (pushed-kept p j k) ];
+    over = fit.over;
   }
 
   -- a node is filed
@@ -291,7 +279,7 @@ module _ (v : List (Option Filing)) (us : List (List ℕ)) (w : Waiting) (fit : 
         | inr n ↦ fit.children j c (child-same v after j c (other j n) h)
       ]);
       over = λ j c h. elim (cases_eq j i) [
-        | inl e ↦ inl (subst (IsUser us c) (sym e) (uses c (child-key after i c f m here (subst (λ x. HasChild after x c) e h))))
+        | inl e ↦ subst (IsUser us c) (sym e) (uses c (child-key after i c f m here (subst (λ x. HasChild after x c) e h)))
         | inr n ↦ fit.over j c (child-same v after j c (other j n) h)
       ];
     }
@@ -306,13 +294,7 @@ module _ (v : List (Option Filing)) (us : List (List ℕ)) (w : Waiting) (fit : 
     filed = λ j h. let k = fit.filed j (subst (λ l. Contains l j) (sym q) (contains_tail i u.queue j h)) in
         (k.0, other j (λ e. once.0 (subst (Contains u.queue) e h)) ∙ k.1);
     children = λ j c h. subst (λ x. c < x) (sym (length-set v i None)) (fit.children j c (child-same v (set v i None) j c (other j (has-other j c h)) h));
-    over = λ j c h. elim (fit.over j c (child-same v (set v i None) j c (other j (has-other j c h)) h)) [
-      | inl k ↦ inl k
-      | inr k ↦ elim (contains_cases i u.queue j (subst (λ l. Contains l j) q k)) [
-        | inl e ↦ absurd (has-other j c h e)
-        | inr a ↦ inr a
-      ]
-    ];
+    over = λ j c h. fit.over j c (child-same v (set v i None) j c (other j (has-other j c h)) h);
   }
     where
       once : AllDifferent (i ∷ u.queue)

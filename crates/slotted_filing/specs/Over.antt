@@ -1,6 +1,6 @@
 -- Who stands over a class, as it fits with what is filed and with what waits.
 --     HasChild v i c         a child of the node that is filed of i is of the class c
---     FitTogether v us w     each child class of a filed node has the node's source as a user, or the source waits
+--     FitTogether v us w     each child class of a filed node has the node's source as a user
 --     WaitsMore v c w u      from w to u more classes wait, each with a child of the class c
 --     AreUsedMore us vs      from us to vs each class has more users
 use Rattle.std.specs.Prelude.{◌≡◌, ◌⊎◌, ◌<◌, ◌≤◌, ℕ, List, [], ◌++◌, length, Option, Some, Contains, slice_index_or}
@@ -21,6 +21,10 @@ pub record HasChild (v : List (Option Filing)) (i c : ℕ) : Type 0 where
 abbrev pub IsUser : List (List ℕ) → ℕ → ℕ → Type 0
 IsUser users c i = Contains (slice_index_or users c []) i
 
+-- i is a user of each child class of what is filed of it
+abbrev pub UsesFiled : List (List ℕ) → List (Option Filing) → ℕ → Type 0
+UsesFiled users v i = (c : ℕ) → HasChild v i c → IsUser users c i
+
 pub record FitTogether (v : List (Option Filing)) (users : List (List ℕ)) (w : Waiting) : Type 0 where
   -- there is a list of users, and a flag, for each class
   pub lists : length v ≤ length users
@@ -28,7 +32,7 @@ pub record FitTogether (v : List (Option Filing)) (users : List (List ℕ)) (w :
   pub once : AllDifferent w.queue
   pub filed : (i : ℕ) → Contains w.queue i → IsFiled v i
   pub children : (i c : ℕ) → HasChild v i c → c < length v
-  pub over : (i c : ℕ) → HasChild v i c → IsUser users c i ⊎ Contains w.queue i
+  pub over : (i : ℕ) → UsesFiled users v i
 
 pub record WaitsMore (v : List (Option Filing)) (c : ℕ) (w u : Waiting) : Type 0 where
   pub same : u.count ≡ w.count

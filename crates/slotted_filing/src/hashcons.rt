@@ -7,7 +7,7 @@ ghost use Rattle.slotted_model.specs.State.{HasTouched};
 ghost use Rattle.slotted_filing.specs.Filed.{filed_of, HasKey, IsNewKey, IsNewToOthers, HasKeysOnce};
 ghost use Rattle.slotted_filing.specs.FiledRows.{no_rows, with_class, with_filed, rows_state, key_children};
 ghost use Rattle.slotted_filing.specs.FiledRows.{IsFiled, HasChildrenBelow, QueuesUp, TakesTurn, WaitsOn};
-ghost use Rattle.slotted_filing.specs.Over.{HasChild, WaitsMore, WaitOver, AreUsedMore, UsesEach};
+ghost use Rattle.slotted_filing.specs.Over.{HasChild, WaitsMore, WaitOver, AreUsedMore, UsesEach, UsesFiled};
 ghost use Rattle.slotted_filing.specs.Waiting.{Pops};
 
 use crate::index::NodeIndex;
@@ -134,7 +134,6 @@ impl<L: Language> Hashcons<L> {
         ensures err { IfErr result IsOutOfMemory }
     {
         wait_over(self.usages.of(class), &self.nodes, class, &mut self.waiting)?;
-        self.usages.clear(class);
         Ok(())
     }
 
@@ -147,7 +146,7 @@ impl<L: Language> Hashcons<L> {
         ensures ok { OnOk result (self.new ≡ with_filed self.old class (L.form key) names) }
         ensures err { IfErr result IsOutOfMemory }
     {
-        use_children(&mut self.usages, &key, class)?;
+        use_children(&mut self.usages, &self.nodes, &key, class)?;
         count_parent(&mut self.sizes, &key);
         self.sizes.add_node(class);
         self.nodes.file(class, key, names)?;
@@ -172,7 +171,7 @@ impl<L: Language> Hashcons<L> {
         ensures ok { OnOk result (TakesTurn self.old self.new class (Some (L.form key, names))) }
         ensures err { IfErr result IsOutOfMemory }
     {
-        use_children(&mut self.usages, &key, class)?;
+        use_children(&mut self.usages, &self.nodes, &key, class)?;
         uncount_parent(&mut self.sizes, &self.nodes, class);
         count_parent(&mut self.sizes, &key);
         end_turn(&mut self.waiting, class);
@@ -234,15 +233,24 @@ fn wait_over<L: Language>(
     Ok(())
 }
 
-// A source stands over the class of each child of a node.
-fn use_children<L: Language>(usages: &mut Usages, node: &L, source: usize) -> Result<(), Error>
-    requires { HasChildrenBelow (length usages.old) (L.form node.now) }
+// A source stands over the class of each child of a node from now on. It does already over those of the node that is filed of it.
+fn use_children<L: Language>(
+    usages: &mut Usages,
+    nodes: &NodeIndex<L>,
+    node: &L,
+    source: usize,
+) -> Result<(), Error>
+    requires below { HasChildrenBelow (length usages.old) (L.form node.now) }
+    requires used { UsesFiled usages.old nodes.now source }
     ensures more { AreUsedMore usages.old usages.new }
     ensures ok { OnOk result (UsesEach usages.new (key_children (L.form node.now)) source) }
     ensures err { IfErr result IsOutOfMemory }
 {
     for k in 0..node.applied_id_count() {
-        usages.add(node.applied_id(k).id.0, source)?;
+        let class = node.applied_id(k).id.0;
+        if !is_over(nodes, source, class) {
+            usages.add(class, source)?;
+        }
     }
     Ok(())
 }

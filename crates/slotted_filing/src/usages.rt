@@ -6,8 +6,8 @@ use slotted_slots::Error;
 use std::alloc::Global;
 use std::marker::Model;
 
-/// For each class a list of the sources of nodes that have it as a child. A source can stand there that is over the class no more, and
-/// twice: whoever reads the list looks at the nodes.
+/// For each class a list of the sources of nodes that have or had it as a child. A source stays there when it is over the class no more,
+/// and can stand there twice: whoever reads the list looks at the nodes.
 #[derive(Drop)]
 pub struct Usages {
     sources: Vec<Vec<usize>>,
@@ -59,13 +59,5 @@ impl Usages {
         ensures { result.now ≡ slice_index_or self.now class [] }
     {
         &self.sources[class]
-    }
-
-    /// No source is left over a class.
-    pub fn clear(&mut self, class: usize)
-        requires { class < length self.old }
-        ensures { self.new ≡ set self.old class [] }
-    {
-        self.sources[class].clear();
     }
 }

@@ -68,3 +68,9 @@ set_entry f cs i old new d x h e n =
     let at : slice_index_or (map f cs) i (no_form, no_entry) ≡ f old =
     any_default (map f cs) i (no_form, no_entry) (f d) l ∙ (at-mapped f cs i d ∙ ap f (sym e)) in
     map-set f cs i new ∙ ap (set (map f cs) i) (n ∙ ap (λ (y : ClassEntry). (y.0, x)) (sym at))
+
+-- a write of one class that no entry shows
+pub set_alike : {C : Type 0} (f : C → ClassEntry) (cs : List C) (i : ℕ) (old new d : C) → old ≡ get_or cs i d → f new ≡ f old → map f (set cs i new) ≡ map f cs
+set_alike f cs i old new d e n =
+    map-set f cs i new
+    ∙ (ap (set (map f cs) i) (n ∙ (ap f e ∙ sym (at-mapped f cs i d))) ∙ set-itself (map f cs) i (f d))

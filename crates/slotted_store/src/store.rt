@@ -24,13 +24,15 @@ use std::alloc::Global;
 use std::marker::Model;
 
 /// A class: the node that it was made with, over its own slots, the class that it leads to, with a slot of its own for each
-/// slot of that, the proof of this, and the moment of its link. A live class leads to itself.
+/// slot of that, the proof of this, and the moment of its link. A live class leads to itself. Beside them an entry of the proof list, which no
+/// clause speaks of: the one that was last found to say what the class finds.
 #[derive(Drop)]
 pub struct Class<L> {
     node: L,
     find: AppliedId,
     proof: ProvenEq,
     died: usize,
+    last_proof: ProvenEq,
 }
 
 /// A filed node's source class, and the slot of that class for each number of the shape.
@@ -125,6 +127,21 @@ impl<L: Language> Store<L> {
         ensures { result ≡ (find_at self.now id).proof }
     {
         self.classes[id].proof
+    }
+
+    /// The entry that was kept beside a class. Whether it says what the class finds now is for the caller to see.
+    pub fn last_proof(&self, id: usize) -> ProvenEq
+        requires { id < length self.now.classes }
+    {
+        self.classes[id].last_proof
+    }
+
+    /// Keeps an entry beside a class.
+    pub fn set_last_proof(&mut self, id: usize, p: ProvenEq)
+        requires { id < length self.old.classes }
+        ensures { self.new ≡ self.old }
+    {
+        self.classes[id].last_proof = p;
     }
 
     /// The row of a shape.
@@ -271,6 +288,7 @@ impl<L: Language> Store<L> {
             find,
             proof,
             died: 0,
+            last_proof: proof,
         };
         self.file(shape, row, class)?;
         Ok(())

@@ -49,12 +49,12 @@ module _ (k : Kept) (stored : Stored k) (p : ℕ) (within : p < length k.proofs)
   canonical : IsCanonical nodes (statement_at k.proofs p)
   canonical = stored.proved.canonical p within
 
-  left-is_full : IsFull nodes a
+  pub left-is_full : IsFull nodes a
   left-is_full =
       let e : a.0 ≡ (statement_at k.proofs p).equation.left = ap (λ (x : Applied). x.0) sides.left in
       record { in_range = subst (λ i. i < length nodes) (sym e) over.left; slots = sides.left_full.slots ∙ (canonical.left ∙ ap (canonical_slots nodes) (sym e)); injective = sides.left_full.injective }
 
-  right-is_full : IsFull nodes b
+  pub right-is_full : IsFull nodes b
   right-is_full =
       let e : b.0 ≡ (statement_at k.proofs p).equation.right = ap (λ (x : Applied). x.0) sides.right in
       record { in_range = subst (λ i. i < length nodes) (sym e) over.right; slots = sides.right_full.slots ∙ (canonical.right ∙ ap (canonical_slots nodes) (sym e)); injective = sides.right_full.injective }

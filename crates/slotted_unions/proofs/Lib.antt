@@ -12,6 +12,7 @@ pub mod UniteSteps
 pub mod OneClass
 pub mod NewSymmetries
 pub mod AlikeSides
+pub mod SaidFinds
 pub mod JoinedIds
 pub mod LargeClasses
 pub mod JoinedClasses

@@ -28,7 +28,36 @@ fn leads_to_whole<L: Language>(store: &Store<L>, id: usize) -> bool
     next.id.0 == entry.id.0 && next.m.len() == entry.m.len()
 }
 
-/// The proof of what the find of a class says. Of a live class it is that of its own entry.
+// Whether the class of a full id finds itself, with all its slots: so the id is what it finds.
+fn is_whole<L: Language>(store: &Store<L>, a: &AppliedId) -> bool
+    requires good { Stored store.now }
+    requires within { a.now.id.0 < length store.now.classes }
+    requires full { length a.now.m ≡ length (canonical_slots (nodes_of store.now) a.now.id.0) }
+    ensures { IsTrue result → FindsWhole store.now a.now.id.0 }
+{
+    let entry = store.entry(a.id.0);
+    entry.id.0 == a.id.0 && entry.m.len() == a.m.len()
+}
+
+// Whether an entry says what the find of a class says: its right side is what it finds itself, and the left one, an id of the class, finds
+// the same. It takes no memory.
+fn says_find<L: Language>(store: &Store<L>, id: usize, p: ProvenEq) -> bool
+    requires good { Stored store.now }
+    ensures { IsTrue result → ProvesFind store.now store.now id p }
+{
+    let list = store.proofs();
+    if !list.is_valid(p) {
+        return false;
+    }
+    let equation = list.equ(p);
+    if equation.l.id.0 != id || !is_whole(store, &equation.r) {
+        return false;
+    }
+    store.eq(&equation.l, &equation.r)
+}
+
+/// The proof of what the find of a class says. Of a live class it is that of its own entry. Where the one that was given last says what
+/// the class finds now, it is given again.
 pub fn find_proof<L: Language>(
     store: &mut Store<L>,
     alloc: Global,
@@ -48,8 +77,13 @@ pub fn find_proof<L: Language>(
     if leads_to_whole(store, id) {
         return Ok(proof);
     }
+    let last = store.last_proof(id);
+    if says_find(store, id, last) {
+        return Ok(last);
+    }
     let rest = find_proof(store, alloc, next)?;
     let answer = store.chain(alloc, proof, rest)?;
+    store.set_last_proof(id, answer);
     Ok(answer)
 }
 
@@ -68,17 +102,6 @@ pub fn back_proof<L: Language>(
     let proof = find_proof(store, alloc, id)?;
     let answer = store.turn(alloc, proof)?;
     Ok(answer)
-}
-
-// Whether the class of a full id finds itself, with all its slots: so the id is what it finds.
-fn is_whole<L: Language>(store: &Store<L>, a: &AppliedId) -> bool
-    requires good { Stored store.now }
-    requires within { a.now.id.0 < length store.now.classes }
-    requires full { length a.now.m ≡ length (canonical_slots (nodes_of store.now) a.now.id.0) }
-    ensures { IsTrue result → FindsWhole store.now a.now.id.0 }
-{
-    let entry = store.entry(a.id.0);
-    entry.id.0 == a.id.0 && entry.m.len() == a.m.len()
 }
 
 // The proof of what an entry says of the class that its left side finds, and of its right class.

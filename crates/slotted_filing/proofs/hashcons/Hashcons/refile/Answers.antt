@@ -7,10 +7,13 @@ use Rattle.slotted_filing.specs.Over.{FitTogether}
 use Rattle.slotted_filing.proofs.Together.{fit-used, fit-filed, fit-taken, front-within}
 use Rattle.slotted_filing.proofs.hashcons.Hashcons.refile.Goals as goal
 
-pub use_children-requires : goal.use_children-requires
-use_children-requires g c = λ d h.
+pub use_children-requires-clause-below : goal.use_children-requires-clause-below
+use_children-requires-clause-below g c = λ d h.
     let below = c.requires.children d h in
     omega (arith, below, c.self.invariant.lists, ap (λ (s : Rows). length s.filed) c.self.view_is)
+
+pub use_children-requires-clause-used : goal.use_children-requires-clause-used
+use_children-requires-clause-used g c = c.self.invariant.over c.args.class
 
 pub invariant_of-self : goal.invariant_of-self
 invariant_of-self g c = fit-used c.self.inside.nodes c.self.inside.usages c.self.inside.waiting c.self.invariant c.use_children.new.usages c.use_children.ensures.more

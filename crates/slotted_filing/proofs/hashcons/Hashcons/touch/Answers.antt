@@ -1,9 +1,9 @@
--- Those over the class wait first, and then no source is left over it.
-use Rattle.std.proofs.Common.{[], refl, sym, subst, slice_index_or}
+-- Those over the class wait.
+use Rattle.std.proofs.Common.{[], refl, subst, slice_index_or}
 use Rattle.slotted_model.specs.State.{HasTouched}
 use Rattle.slotted_filing.specs.FiledRows.{rows_state, WaitsOn}
-use Rattle.slotted_filing.specs.Over.{FitTogether, WaitOver}
-use Rattle.slotted_filing.proofs.Together.{fit-waiting, fit-cleared, touched}
+use Rattle.slotted_filing.specs.Over.{WaitOver}
+use Rattle.slotted_filing.proofs.Together.{fit-waiting, touched}
 use Rattle.slotted_filing.proofs.hashcons.Hashcons.touch.Goals as goal
 
 pub invariant_of-self : goal.invariant_of-self
@@ -12,12 +12,7 @@ invariant_of-self g c =
 
 pub invariant_of-self-2 : goal.invariant_of-self-2
 invariant_of-self-2 g c =
-    let v = c.self.inside.nodes in
-    let us = c.self.inside.usages in
-    let u = c.wait_over.new.waiting in
-    let over : WaitOver (slice_index_or us c.args.class []) v c.args.class u.queue = subst (λ xs. WaitOver xs v c.args.class u.queue) c.of.ensures c.in_ok-wait_over.ensures.ok in
-    subst (λ ls. FitTogether v ls u) (sym c.clear.ensures)
-    (fit-cleared v us c.self.inside.waiting c.self.invariant c.args.class u c.wait_over.ensures.more over)
+    fit-waiting c.self.inside.nodes c.self.inside.usages c.self.inside.waiting c.self.invariant c.args.class c.wait_over.new.waiting c.wait_over.ensures.more
 
 pub returns-clause-waiting : goal.returns-clause-waiting
 returns-clause-waiting g c =

@@ -21,7 +21,7 @@ invariant_of-self g c =
     let r = c.requires in
     let entry : Class g.row.L.Denot → ClassEntry = λ k. (form k.node, record { class = k.find.id.0; pairs = k.find.m; proof = k.proof; died = k.died }) in
     let x : Entry = record { class = c.args.find.id.0; pairs = c.args.find.m; proof = c.args.proof; died = c.self.inside.moment } in
-    let new : Class g.row.L.Denot = record { node = c.index_mut-class.result.now.node; find = c.args.find; proof = c.args.proof; died = c.self.inside.moment } in
+    let new : Class g.row.L.Denot = record { node = c.index_mut-class.result.now.node; find = c.args.find; proof = c.args.proof; died = c.self.inside.moment; last_proof = c.index_mut-class.result.now.last_proof } in
     let within : c.args.dead < length c.self.inside.classes.items = omega (arith, r.within, ap (λ (k : Kept). length k.classes) c.self.view_is, length-mapped entry c.self.inside.classes.items) in
     let classes = set_entry entry c.self.inside.classes.items c.args.dead c.index_mut-class.result.now new _ x within c.index_mut-class.ensures.value refl in
     let more = dead-linked c.args.self.now c.args.dead r.within r.live x r.different in
@@ -32,7 +32,7 @@ returns g c =
     let form = g.L.LanguageChildren.form in
     let entry : Class g.row.L.Denot → ClassEntry = λ k. (form k.node, record { class = k.find.id.0; pairs = k.find.m; proof = k.proof; died = k.died }) in
     let x : Entry = record { class = c.args.find.id.0; pairs = c.args.find.m; proof = c.args.proof; died = c.self.inside.moment } in
-    let new : Class g.row.L.Denot = record { node = c.index_mut-class.result.now.node; find = c.args.find; proof = c.args.proof; died = c.self.inside.moment } in
+    let new : Class g.row.L.Denot = record { node = c.index_mut-class.result.now.node; find = c.args.find; proof = c.args.proof; died = c.self.inside.moment; last_proof = c.index_mut-class.result.now.last_proof } in
     let within : c.args.dead < length c.self.inside.classes.items = omega (arith, c.requires.within, ap (λ (k : Kept). length k.classes) c.self.view_is, length-mapped entry c.self.inside.classes.items) in
     let classes = set_entry entry c.self.inside.classes.items c.args.dead c.index_mut-class.result.now new _ x within c.index_mut-class.ensures.value refl in
     let moment : c.self.inside.moment + 1 ≡ suc c.self.inside.moment = omega arith in

@@ -13,7 +13,7 @@ invariant_of-self g c =
     let r = c.requires in
     let entry : Class g.row.L.Denot → ClassEntry = λ k. (form k.node, record { class = k.find.id.0; pairs = k.find.m; proof = k.proof; died = k.died }) in
     let x : Entry = record { class = c.args.live; pairs = c.args.slots; proof = c.args.proof; died = 0 } in
-    let new : Class g.row.L.Denot = record { node = c.index_mut-class.result.now.node; find = record { id = record { 0 = c.args.live }; m = c.args.slots }; proof = c.args.proof; died = 0 } in
+    let new : Class g.row.L.Denot = record { node = c.index_mut-class.result.now.node; find = record { id = record { 0 = c.args.live }; m = c.args.slots }; proof = c.args.proof; died = 0; last_proof = c.index_mut-class.result.now.last_proof } in
     let within : c.args.live < length c.self.inside.classes.items = omega (arith, r.within, ap (λ (k : Kept). length k.classes) c.self.view_is, length-mapped entry c.self.inside.classes.items) in
     let classes = set_entry entry c.self.inside.classes.items c.args.live c.index_mut-class.result.now new _ x within c.index_mut-class.ensures.value refl in
     let same = dead-kept c.args.self.now c.args.live r.within r.live x refl in
@@ -24,7 +24,7 @@ returns g c =
     let form = g.L.LanguageChildren.form in
     let entry : Class g.row.L.Denot → ClassEntry = λ k. (form k.node, record { class = k.find.id.0; pairs = k.find.m; proof = k.proof; died = k.died }) in
     let x : Entry = record { class = c.args.live; pairs = c.args.slots; proof = c.args.proof; died = 0 } in
-    let new : Class g.row.L.Denot = record { node = c.index_mut-class.result.now.node; find = record { id = record { 0 = c.args.live }; m = c.args.slots }; proof = c.args.proof; died = 0 } in
+    let new : Class g.row.L.Denot = record { node = c.index_mut-class.result.now.node; find = record { id = record { 0 = c.args.live }; m = c.args.slots }; proof = c.args.proof; died = 0; last_proof = c.index_mut-class.result.now.last_proof } in
     let within : c.args.live < length c.self.inside.classes.items = omega (arith, c.requires.within, ap (λ (k : Kept). length k.classes) c.self.view_is, length-mapped entry c.self.inside.classes.items) in
     let classes = set_entry entry c.self.inside.classes.items c.args.live c.index_mut-class.result.now new _ x within c.index_mut-class.ensures.value refl in
     (λ i. record { classes = classes i; rows = map (λ e. (form e.0, (e.1.source.0, e.1.names))) c.self.inside.rows.entries; symmetries = map symmetry_entry c.self.inside.symmetries.items; dropped = true; proofs = c.self.inside.proofs; moment = c.self.inside.moment })
