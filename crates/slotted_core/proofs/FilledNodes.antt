@@ -1,7 +1,8 @@
 -- A node that is added with its children filled: what it takes, and what it leaves.
 use Rattle.std.proofs.Common.{◌≡◌, ◌≤◌, ◌+◌, ◌*◌, ◌⊎◌, ◌∙◌, ℕ, List, [], ◌∷◌, length, ap, refl, sym, subst, arith, inl, inr}
 use Rattle.std.specs.Prelude.{All}
-use Rattle.slotted_slots.specs.Table.{Table}
+use Rattle.slotted_slots.specs.Table.{KnowsMore, Table}
+use Rattle.slotted_slots.proofs.SlotsTaken.{fresh_goes_on}
 use Rattle.slotted_nodes.specs.Form.{Form}
 use Rattle.slotted_languages.specs.NewNames.{IsTooLarge}
 use Rattle.slotted_languages.specs.NodeTerm.{nameless_node}
@@ -83,6 +84,10 @@ makes-missing k f t new m = record { names = m.names; taken = omega (arith, m.ta
 
 pub runs_out-missing : (k : Kept) (f : Form) (t new : Table) → filling.RunsOutForNode k f t new → RunsOutForFilled (image_of k) f t new
 runs_out-missing k f t new r = inl (record { lacks = omega (arith, r.lacks, children_lack-is k f); used = r.used })
+
+-- for full children slots do not run out
+pub full-enough : (k : Kept) (f : Form) (t new : Table) → filling.RunsOutForNode k f t new → KnowsMore t new → All (IsFull (nodes_of k)) (child_ids f) → ⊥
+full-enough k f t new r more full = omega (arith, r.lacks, r.used, fresh_goes_on t new more, missing_of-full k f full)
 
 -- where nothing is taken
 pub none-taken : (k : Kept) (f : Form) (t : Table) → MakesAtMost (slots_needed (image_of k) f) t t

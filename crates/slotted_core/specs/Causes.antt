@@ -9,7 +9,7 @@
 --     HasLargeClassIn g       a class of the graph has so many slots, or its node so many places, that two ids of it have too many names
 --     HasLargeClassOrNode g f, HasLargeClassOrTerm g t     or so would a class of the node, or of a node of the term
 --     CanRunOutForNode, CanRunOutForTerm     why slots can run out where these are added
-use Rattle.std.specs.Prelude.{◌≡◌, ℕ, zero, suc, ◌^◌, ◌<◌, ◌≤◌, ◌⊎◌, List, [], ◌∷◌, None, length, slice_index_or}
+use Rattle.std.specs.Prelude.{◌≡◌, ℕ, zero, suc, ◌^◌, ◌<◌, ◌≤◌, ◌⊎◌, List, [], ◌∷◌, All, None, length, slice_index_or}
 use Rattle.slotted_slots.specs.Table.{slot_limit}
 use Rattle.slotted_slots.specs.Table.{Table}
 use Rattle.slotted_theory.specs.Nameless.{DArgs, DTerm, nameless, stop, place, sub, scope}
@@ -17,13 +17,14 @@ use Rattle.slotted_theory.specs.Term.{Term, term_size}
 use Rattle.slotted_nodes.specs.Form.{Form}
 use Rattle.slotted_languages.specs.NodeTerm.{nameless_node}
 use Rattle.slotted_model.specs.Applied.{Applied}
-use Rattle.slotted_model.specs.Classes.{canonical_node, canonical_slots}
+use Rattle.slotted_model.specs.Classes.{IsFull, canonical_node, canonical_slots}
 use Rattle.slotted_model.specs.Ids.{id_of, id_of_node}
 pub use Rattle.slotted_proofs.specs.Equations.{HaveManyNames, HasManyNames}
 pub use Rattle.slotted_congruence.specs.Named.{SidesRunOut, IsWideClass, IsWideNode}
 use Rattle.slotted_core.specs.Canonical.{place_count}
 use Rattle.slotted_core.specs.Graph.{Graph, RunsOutIn, RunsOutForNode, RunsOutForTerm}
 use Rattle.slotted_core.specs.Image.{Image}
+use Rattle.slotted_core.specs.Nodes.{child_ids}
 use Rattle.slotted_core.specs.Places.{term_places}
 
 -- the class has so many slots that two ids of it have too many names
@@ -84,6 +85,10 @@ HasLargeClassOrTerm g t = HasLargeClassIn g ⊎ (2 ^ 29 ≤ term_size t)
 
 abbrev pub IsUnknownNode : List DTerm → Form → Type 0
 IsUnknownNode nodes f = (id_of_node nodes (nameless_node f) ≡ None) ⊎ (slot_limit ≤ length f.names)
+
+-- where its children lack no names, it is unknown
+abbrev pub IsUnknownIfFull : List DTerm → Form → Type 0
+IsUnknownIfFull nodes f = All (IsFull nodes) (child_ids f) → IsUnknownNode nodes f
 
 abbrev pub IsUnknownTerm : Image → Term → Type 0
 IsUnknownTerm g t = (id_of g.canonical (nameless t) ≡ None) ⊎ (slot_limit ≤ term_places t)

@@ -5,7 +5,9 @@ ghost use Rattle.slotted_slots.specs.Table.{KnowsMore};
 ghost use Rattle.slotted_normal_forms.specs.NormalNodes.{HasFindableChildren};
 ghost use Rattle.slotted_proofs.specs.Equations.{to_applied};
 ghost use Rattle.slotted_terms.specs.Valid.{AllKnown, IsValidTerm};
+ghost use Rattle.slotted_store.specs.Kept.{nodes_of};
 ghost use Rattle.slotted_core.specs.Adding.{RunsOutForFilled, slots_needed};
+ghost use Rattle.slotted_core.specs.Causes.{IsUnknownIfFull};
 ghost use Rattle.slotted_core.specs.Good.{AddsFilled, AddsFound, AddsFoundTerm, Good, HasFreshSlots, RestsWith, image_of};
 ghost use Rattle.slotted_core.specs.Good.{LacksForTermIn, RunsOutForUnknownIn, TakesForTermIn};
 ghost use Rattle.slotted_core.specs.Graph.{MakesAtMost};
@@ -39,6 +41,7 @@ pub fn add_filled<L: Language>(
     ensures takes { MakesAtMost (slots_needed (image_of store.old) (L.form node.now)) table.old table.new }
     ensures full { IsErrOf result Error.OutOfSlots
         → RunsOutForFilled (image_of store.old) (L.form node.now) table.old table.new }
+    ensures unknown { IsErrOf result Error.OutOfSlots → IsUnknownIfFull (nodes_of store.old) (L.form node.now) }
     ensures err { IfErr result IsShortage }
 {
     let filled = fill_node(store, alloc, table, node)?;

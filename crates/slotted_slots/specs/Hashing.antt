@@ -1,9 +1,14 @@
 -- What lists feed to a hasher.
-use Rattle.std.specs.Prelude.{◌≡◌, Bool, true, List}
+use Rattle.std.specs.Prelude.{◌≡◌, ◌++◌, ◌&&◌, Bool, true, List, [], ◌∷◌, flat_map, refl}
+use Rattle.std.specs.Cmp.{first_so, second_so}
 use Rattle.std.specs.Cmp.Lexicographic.{pointwise}
-use Rattle.std.specs.Hash.{HashWrites, items_Alike, slice}
+use Rattle.std.specs.Hash.{HashWrites}
 
--- lists whose elements are equal in pairs feed the same, where equal elements do
-pub lists_alike : {T : Type 0} {E : T → T → Bool} (F : T → HashWrites) → ((x y : T) → E x y ≡ true → F x ≡ F y) →
-    (xs ys : List T) → pointwise E xs ys ≡ true → slice F xs ≡ slice F ys
-lists_alike F alike = (items_Alike (record { fed = alike })).fed
+-- the elements of lists feed the same, one after another, where equal ones do and the lists are equal in pairs
+pub elements_alike : {T : Type 0} {E : T → T → Bool} (F : T → HashWrites) → ((x y : T) → E x y ≡ true → F x ≡ F y) →
+    (xs ys : List T) → pointwise E xs ys ≡ true → flat_map F xs ≡ flat_map F ys
+elements_alike F alike [] [] h = refl
+elements_alike F alike [] (y ∷ ys) h = cc
+elements_alike F alike (x ∷ xs) [] h = cc
+elements_alike {T} {E} F alike (x ∷ xs) (y ∷ ys) h =
+    λ i. alike x y (first_so (E x y) (pointwise E xs ys) h) i ++ elements_alike F alike xs ys (second_so (E x y) (pointwise E xs ys) h) i

@@ -1,14 +1,13 @@
 //! Finite maps of slots, kept in the order of their keys.
-ghost use Rattle.std.specs.Prelude.{◌≡◌, ℕ, List, [], ◌<◌, length, Some, OnOk, OnErr, IfOk, IfErr, slice_get, MatchResult, IsSome, IsOk, IsTrue, ◌↔◌, is_some};
+ghost use Rattle.std.specs.Prelude.{◌≡◌, ℕ, List, [], ◌<◌, length, Some, OnOk, OnErr, IfOk, IfErr, slice_get, MatchResult, IsSome, IsOk, IsTrue, ◌↔◌, flat_map, is_some};
 ghost use Rattle.std.specs.Iterator.{YieldsFirst, item_count};
 ghost use Rattle.std.specs.Ordering.{nat_cmp};
 ghost use Rattle.std.specs.Cmp.Lexicographic.{pointwise, slice_cmp, slice_partial_cmp, lists_per, lists_equiv, lists_po, lists_total, lists_agrees, lists_ties};
 ghost use Rattle.std.proofs.Common.{rules};
 ghost use Rattle.std.specs.Cmp.Rules.{comparing};
-ghost use Rattle.std.specs.Hash as fed;
 ghost use Rattle.slotted_slots.specs.Ascending.{IsAscending};
 ghost use Rattle.slotted_slots.specs.Error.{IsOutOfMemory};
-ghost use Rattle.slotted_slots.specs.Hashing.{lists_alike};
+ghost use Rattle.slotted_slots.specs.Hashing.{elements_alike};
 ghost use Rattle.slotted_slots.specs.Maps.{IsAt, IsGapFor, value_of, with_value_at, with_pair, without_key, map_of, turned, doubled, composed, is_among, all_differ, values, keys, IsInverse};
 ghost use Rattle.slotted_slots.specs.Sets.{set_of};
 
@@ -346,11 +345,12 @@ impl Ord for SlotMap {
 }
 
 impl Hash for SlotMap {
-    ghost hash_input = { fed.slice ⟦<(Slot, Slot) as Hash>⟧.hash_input };
+    // The pairs, and not how many there are: most maps have none or one.
+    ghost hash_input = { flat_map ⟦<(Slot, Slot) as Hash>⟧.hash_input };
 
-    ghost respects_eq = { lists_alike ⟦<(Slot, Slot) as Hash>⟧.hash_input (Prim.search rules) };
+    ghost respects_eq = { elements_alike ⟦<(Slot, Slot) as Hash>⟧.hash_input (Prim.search rules) };
 
     fn hash<H: Hasher>(&self, state: &mut H) {
-        self.pairs.hash(state);
+        Hash::hash_slice(self.pairs.as_slice(), state);
     }
 }

@@ -10,7 +10,7 @@ ghost use Rattle.slotted_proofs.specs.Equations.{to_applied};
 ghost use Rattle.slotted_terms.specs.Valid.{IsValidTerm};
 ghost use Rattle.slotted_core.specs.Adding.{AddsSyn, IsEqualToNode, RunsOutForFilled, slots_needed, term_nodes};
 ghost use Rattle.slotted_core.specs.AddingTerms.{AddsNodes, FilesOnlyLookedUp, IsEqualToTerm, LacksForTerm, TakesForTerm};
-ghost use Rattle.slotted_core.specs.Causes.{CanRunOutForTerm, IsUnknownTerm};
+ghost use Rattle.slotted_core.specs.Causes.{CanRunOutForTerm, IsUnknownIfFull, IsUnknownTerm};
 ghost use Rattle.slotted_core.specs.ValidIds.{IsValidNode};
 ghost use Rattle.slotted_core.specs.Graph.{FilesOnlySubterms, IsFullId, MakesAtMost, id_of_term};
 ghost use Rattle.slotted_core.specs.Image.{AddsClasses};
@@ -108,6 +108,7 @@ impl<L: Language, N: Drop> EGraph<L, N> {
         ensures takes { MakesAtMost (slots_needed self.old.image (L.form node)) self.old.table self.new.table }
         ensures full { IsErrOf result Error.OutOfSlots
             → RunsOutForFilled self.old.image (L.form node) self.old.table self.new.table }
+        ensures unknown { IsErrOf result Error.OutOfSlots → IsUnknownIfFull self.old.image.canonical (L.form node) }
 
         // A failed graph stays as it is.
         ensures stays { IsTrue self.old.failed → self.new ≡ self.old }

@@ -1,6 +1,8 @@
-use Rattle.std.proofs.Common.{rules}
+use Rattle.std.proofs.Common.{rules, subst}
 use Rattle.slotted_proofs.specs.Equations.{to_applied}
-use Rattle.slotted_core.proofs.FilledNodes.{filled-adds, makes-both, makes-missing, runs_out-missing, runs_out-node}
+use Rattle.slotted_store.specs.Kept.{nodes_of}
+use Rattle.slotted_core.specs.Causes.{IsUnknownNode}
+use Rattle.slotted_core.proofs.FilledNodes.{filled-adds, full-enough, makes-both, makes-missing, runs_out-missing, runs_out-node}
 use Rattle.slotted_core.proofs.FreshSlots.{fresh_slots-more}
 use Rattle.slotted_core.proofs.looking_up.add_filled.Goals as goal
 
@@ -45,3 +47,10 @@ returns-in_err-filled-clause-takes g c = makes-missing c.args.store.now (g.L.Lan
 
 pub returns-in_err-filled-clause-full : goal.returns-in_err-filled-clause-full
 returns-in_err-filled-clause-full g c e = runs_out-missing c.args.store.now (g.L.LanguageChildren.form c.args.node.now) c.args.table.now c.fill_node.new.table (c.in_err-filled.ensures.full (search rules))
+
+pub returns-in_err-answer-clause-unknown : goal.returns-in_err-answer-clause-unknown
+returns-in_err-answer-clause-unknown g c e full = subst (IsUnknownNode (nodes_of c.args.store.now)) (c.in_ok-filled.ensures.same full) (c.in_err-answer.ensures.unknown (search rules))
+
+pub returns-in_err-filled-clause-unknown : goal.returns-in_err-filled-clause-unknown
+returns-in_err-filled-clause-unknown g c e full =
+    absurd (full-enough c.args.store.now (g.L.LanguageChildren.form c.args.node.now) c.args.table.now c.fill_node.new.table (c.in_err-filled.ensures.full (search rules)) c.fill_node.ensures.more full)
