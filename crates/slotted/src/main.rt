@@ -7,20 +7,16 @@ ghost use Rattle.slotted_small.specs.Small.{small_read};
 ghost use Rattle.slotted_small.specs.SmallWritten.{small_written};
 ghost use Rattle.slotted_commands.specs.Streams.{SessionWrites};
 
-use slotted_commands::answer_each;
-use slotted_graph::EGraph;
-use slotted_slots::SlotTable;
+use slotted_commands::answer_last_session;
 use slotted_small::Small;
 use std::alloc::Global;
-use std::io::{BufRead, BufReader, BufWriter, ErrorKind, Write};
+use std::io;
+use std::io::{BufRead, BufReader, BufWriter, Write};
 use std::process::ExitCode;
-use std::{io, mem};
 
 /// Answers each line of `input` on `output` over one graph of the written language, up to the end of the input. Each
 /// answer is written out before the next line is read. The first read or write that fails ends it, and so do bytes that
 /// are not UTF-8 and want of memory for a line; what was answered before stands.
-///
-/// The graph is not taken apart in the end: the process ends then, and its memory with it.
 pub fn answer_lines<R: BufRead, W: Write>(
     alloc: Global,
     input: &mut R,
@@ -30,14 +26,7 @@ pub fn answer_lines<R: BufRead, W: Write>(
         (Appends (W.contents output.old) (W.contents output.new)))) }
     ensures end { OnOk result (OnSome (R.remaining input.old) (IsAtEnd (R.remaining input.new))) }
 {
-    match EGraph::<Small>::new(alloc, SlotTable::new(alloc), ()) {
-        Ok(mut graph) => {
-            let outcome = answer_each(alloc, &mut graph, input, output);
-            mem::forget(graph);
-            outcome
-        }
-        Err(_) => Err(io::Error::from(ErrorKind::OutOfMemory)),
-    }
+    answer_last_session::<Small, R, W>(alloc, input, output)
 }
 
 fn answer_streams(rt: &HostRuntime) -> io::Result<()> {

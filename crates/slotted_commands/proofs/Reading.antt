@@ -7,14 +7,16 @@ use Rattle.std.proofs.lemmas.Bool.{cases_eq, eq-eqb, ne_eqb, lt-ltb, eqb-true, f
 use Rattle.std.proofs.lemmas.List.{append-nil}
 use Rattle.slotted_theory.specs.Term.{Term}
 use Rattle.slotted_slots.specs.Syntax.{Element}
+use Rattle.slotted_slots.specs.Table.{empty_table}
 use Rattle.slotted_nodes.specs.Form.{Form}
 use Rattle.slotted_core.specs.Graph.{Graph}
+use Rattle.slotted_core.specs.Image.{no_classes}
 use Rattle.std.specs.Str.{IsUtf8}
 use Rattle.slotted_commands.specs.declared.answer.Answer.{Answer}
 use Rattle.slotted_commands.specs.Answers.{text_of}
 use Rattle.slotted_commands.specs.Commands.{command_of}
 use Rattle.slotted_commands.specs.Sessions.{Answered}
-use Rattle.slotted_commands.specs.Streams.{with_first, lines_of, LineLeaves, LineWrites, one_line, LinesWrite, no_line, next_line, WritesFrom}
+use Rattle.slotted_commands.specs.Streams.{with_first, lines_of, LineLeaves, LineWrites, one_line, LinesWrite, no_line, next_line, WritesFrom, empty_graph}
 
 kept : (t : Bool) (b : ℕ) (xs ys : List ℕ) → cond t (b ∷ xs) (b ∷ ys) ≡ b ∷ cond t xs ys
 kept true b xs ys = refl
@@ -77,6 +79,10 @@ Appends-then (Some x) (Some y) (Some z) xs ys p q = q ∙ ap (λ w. w ++ ys) p �
 pub so_far_starts : (read : List Element → Option Form) (written : Term → List Element) (g : Graph) (r c : Option (List ℕ)) → ReadSoFar read written g g r r c c
 so_far_starts read written g None c = tt
 so_far_starts read written g (Some xs) c = (xs, refl, record { bytes = []; appended = Appends-nothing c; goes_on = λ more h w. w })
+
+-- a graph that has not failed, over an empty table, without classes
+pub is_empty_graph : (g : Graph) → g.failed ≡ false → g.table ≡ empty_table → g.image ≡ no_classes → g.filed ≡ [] → g ≡ empty_graph
+is_empty_graph g f t m r = λ i. record { failed = f i; table = t i; image = m i; filed = r i }
 
 -- at the end of the input all its lines are answered
 pub so_far_ends : (read : List Element → Option Form) (written : Term → List Element) (g₀ g : Graph) (r₀ r c₀ c : Option (List ℕ)) → ReadSoFar read written g₀ g r₀ r c₀ c → IsAtEnd r → IfSome r₀ (λ input. WritesFrom read written g₀ input (Appends c₀ c))

@@ -10,4 +10,4 @@ mod stream;
 
 pub use answer::Answer;
 pub use command::Command;
-pub use stream::{answer_each, answer_line, answer_session};
+pub use stream::{answer_last_session, answer_line, answer_session};

@@ -10,8 +10,8 @@ use slotted_graph::EGraph;
 use slotted_slots::SlotTable;
 use slotted_terms::expr::printing::Printable;
 use std::alloc::Global;
-use std::io;
 use std::io::{BufRead, ErrorKind, Write};
+use std::{io, mem};
 
 /// Answers each line of `input` on `output`, from a graph without classes on, up to the end of the input. Each answer is
 /// written out before the next line is read. The first read or write that fails ends it, and so do bytes that are not
@@ -31,8 +31,28 @@ pub fn answer_session<L: Printable, R: BufRead, W: Write>(
     }
 }
 
-/// The same over a graph that the caller keeps.
-pub fn answer_each<L: Printable, R: BufRead, W: Write>(
+/// The same for a process that ends with it: the graph is not taken apart, and its memory goes with the process.
+pub fn answer_last_session<L: Printable, R: BufRead, W: Write>(
+    alloc: Global,
+    input: &mut R,
+    output: &mut W,
+) -> io::Result<()>
+    ensures answers { OnOk result (IfSome (R.remaining input.old) (λ bytes. SessionWrites L.read L.written bytes
+        (Appends (W.contents output.old) (W.contents output.new)))) }
+    ensures end { OnOk result (OnSome (R.remaining input.old) (IsAtEnd (R.remaining input.new))) }
+{
+    match EGraph::<L>::new(alloc, SlotTable::new(alloc), ()) {
+        Ok(mut graph) => {
+            let outcome = answer_each(alloc, &mut graph, input, output);
+            mem::forget(graph);
+            outcome
+        }
+        Err(_) => Err(io::Error::from(ErrorKind::OutOfMemory)),
+    }
+}
+
+// Answers each line over a graph.
+fn answer_each<L: Printable, R: BufRead, W: Write>(
     alloc: Global,
     graph: &mut EGraph<L>,
     input: &mut R,
