@@ -1,5 +1,5 @@
-//! Tests of the graph where memory or slots end, of failed graphs, and of printed proofs. They stand in a crate of their own, since a crate
-//! with tests is proved twice, and apart from the other tests of the graph, which need no printed proofs.
+//! Tests of the graph where memory or slots end, of failed graphs, of printed proofs, and of the table that a graph gives back. They stand in a
+//! crate of their own, since a crate with tests is proved twice.
 #![tactic(auto)]
 
 #[cfg(test)]
@@ -14,3 +14,5 @@ mod printed;
 mod proofs;
 #[cfg(test)]
 mod refused;
+#[cfg(test)]
+mod tables;

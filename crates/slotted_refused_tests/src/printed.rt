@@ -25,7 +25,7 @@ fn check_over<L: Printable>(
 }
 
 // The same of a graph beside a new one.
-fn check_in<L: Printable>(rt: &impl Abort, alloc: Global, graph: &mut EGraph<L>, rows: &str) {
+pub fn check_in<L: Printable>(rt: &impl Abort, alloc: Global, graph: &mut EGraph<L>, rows: &str) {
     let mut other: EGraph<L> = empty(alloc, "0").expect(rt, "no memory is taken");
     check_over(rt, alloc, graph, &mut other, rows);
 }

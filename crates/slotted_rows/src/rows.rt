@@ -1,5 +1,5 @@
-//! The walk over the rows of a table, each of which is `ASK: TERMS => ANSWER`.
-use crate::graphs::{empty, parted};
+//! What is answered to a question `ASK: TERMS`.
+use crate::graphs::parted;
 use crate::words::{Question, asked, meaning};
 use slotted_graph::EGraph;
 use slotted_proofs::{Equation, ProvenEq};
@@ -80,8 +80,8 @@ pub fn answer<L: Printable>(
     Ok(out)
 }
 
-// What is answered to a question, which may be asked of the other graph.
-fn answer_of_either<L: Printable>(
+/// What is answered to a question, which may be asked of the other graph.
+pub fn answer_of_either<L: Printable>(
     alloc: Global,
     graph: &mut EGraph<L>,
     other: &mut EGraph<L>,
@@ -92,74 +92,4 @@ fn answer_of_either<L: Printable>(
         Some(question) => answer(alloc, other, graph, known, question),
         None => answer(alloc, graph, other, known, question),
     }
-}
-
-// Whether the answer, or the name of the refusal, is the wanted one.
-fn is_wanted(answer: &Result<String, Error>, wanted: &str) -> bool {
-    match answer {
-        Ok(text) => text.as_str() == wanted,
-        Err(e) => e.name() == wanted,
-    }
-}
-
-// Whether a question has the answer that stands behind its arrow.
-fn is_answered<L: Printable>(
-    alloc: Global,
-    graph: &mut EGraph<L>,
-    other: &mut EGraph<L>,
-    known: &mut Vec<ProvenEq>,
-    row: &str,
-) -> bool {
-    let (question, wanted) = parted(row, " => ");
-    let answer = answer_of_either(alloc, graph, other, known, question);
-    is_wanted(&answer, wanted)
-}
-
-// The first row of these that has another answer, or no text. A row that begins with `# ` is a remark.
-fn wrong_over<'a, L: Printable>(
-    alloc: Global,
-    graph: &mut EGraph<L>,
-    other: &mut EGraph<L>,
-    rows: &'a str,
-) -> &'a str {
-    let mut known = Vec::new(alloc);
-    for row in rows.lines() {
-        if !row.starts_with("# ") && !is_answered(alloc, graph, other, &mut known, row) {
-            return row;
-        }
-    }
-    ""
-}
-
-/// The first row that has another answer in this graph, beside a new one, than the one behind its arrow: no text if none has.
-pub fn wrong_in<'a, L: Printable>(
-    alloc: Global,
-    graph: &mut EGraph<L>,
-    rows: &'a str,
-) -> Result<&'a str, Error> {
-    let mut other = empty::<L>(alloc, "0")?;
-    Ok(wrong_over(alloc, graph, &mut other, rows))
-}
-
-// The same in a new graph over a table that has read a name.
-fn wrong_in_new<'a, L: Printable>(
-    alloc: Global,
-    name: &str,
-    rows: &'a str,
-) -> Result<&'a str, Error> {
-    let mut graph = empty::<L>(alloc, name)?;
-    wrong_in(alloc, &mut graph, rows)
-}
-
-/// The same of tables, each under a line `---`, and in a graph of its own. A name behind the sign is one that the graph's table
-/// has read.
-pub fn wrong_row<'a, L: Printable>(alloc: Global, tables: &'a str) -> Result<&'a str, Error> {
-    for table in tables.split("---") {
-        let (name, rows) = parted(table, "\n");
-        let row = wrong_in_new::<L>(alloc, name.trim_start(), rows)?;
-        if row != "" {
-            return Ok(row);
-        }
-    }
-    Ok("")
 }

@@ -1,7 +1,8 @@
 //! The program `slotted_sessions`: sessions in, answers out.
 //!
 //! A line `---` ends a session, and the next one has a graph of its own. A line that begins with `# ` is a title. Both are
-//! written as they stand, and each other line is answered as by the program `slotted`.
+//! written as they stand. A line that begins with `? ` is a question of `slotted_rows`, and each other line is answered as by the program
+//! `slotted`.
 #![tactic(auto)]
 
 ghost use Rattle.std.specs.Prelude.{◌≡◌, ◌↔◌, IsTrue, OnOk, codes, nat_eq};
@@ -11,6 +12,8 @@ ghost use Rattle.std.specs.Io.KnownBytes.{Appends};
 
 use slotted_commands::answer_line;
 use slotted_graph::EGraph;
+use slotted_proofs::ProvenEq;
+use slotted_rows::rows::answer_of_either;
 use slotted_slots::SlotTable;
 use slotted_small::Small;
 use slotted_terms::expr::printing::Printable;
@@ -32,10 +35,51 @@ fn is_title(line: &[u8]) -> bool
     line.starts_with(b"# ")
 }
 
+// Asks a question of a graph beside another one, and writes what is answered, or the name of the refusal.
+fn ask<L: Printable, W: Write>(
+    alloc: Global,
+    graph: &mut EGraph<L>,
+    other: &mut EGraph<L>,
+    known: &mut Vec<ProvenEq>,
+    question: &[u8],
+    output: &mut W,
+) -> io::Result<()> {
+    let Ok(text) = str::from_utf8(question) else {
+        return Err(io::Error::from(ErrorKind::InvalidData));
+    };
+    match answer_of_either(alloc, graph, other, known, text) {
+        Ok(answer) => writeln!(output, "{answer}"),
+        Err(e) => {
+            let name = e.name();
+            writeln!(output, "{name}")
+        }
+    }
+}
+
+// Answers a line over a graph, or asks its question.
+fn answer_or_ask<L: Printable, W: Write>(
+    alloc: Global,
+    graph: &mut EGraph<L>,
+    other: &mut EGraph<L>,
+    known: &mut Vec<ProvenEq>,
+    line: &[u8],
+    output: &mut W,
+) -> io::Result<()> {
+    match line.strip_prefix(b"? ") {
+        Some(question) => {
+            let question = question.strip_suffix(b"\n").unwrap_or(question);
+            ask(alloc, graph, other, known, question, output)
+        }
+        None => answer_line(alloc, graph, line, output),
+    }
+}
+
 // Answers a line over a graph, or writes it as it stands.
 fn answer_or_repeat<L: Printable, W: Write>(
     alloc: Global,
     graph: &mut EGraph<L>,
+    other: &mut EGraph<L>,
+    known: &mut Vec<ProvenEq>,
     line: &[u8],
     output: &mut W,
 ) -> io::Result<()>
@@ -47,7 +91,7 @@ fn answer_or_repeat<L: Printable, W: Write>(
     if is_title(line) || is_divider(line) {
         output.write_all(line)
     } else {
-        answer_line(alloc, graph, line, output)
+        answer_or_ask(alloc, graph, other, known, line, output)
     }
 }
 
@@ -55,6 +99,8 @@ fn answer_or_repeat<L: Printable, W: Write>(
 fn answer_lines<L: Printable, R: BufRead, W: Write>(
     alloc: Global,
     graph: &mut EGraph<L>,
+    other: &mut EGraph<L>,
+    known: &mut Vec<ProvenEq>,
     input: &mut R,
     output: &mut W,
 ) -> io::Result<bool> {
@@ -64,12 +110,37 @@ fn answer_lines<L: Printable, R: BufRead, W: Write>(
         if input.read_until(b'\n', &mut line)? == 0 {
             return Ok(false);
         }
-        answer_or_repeat(alloc, graph, &line, output)?;
+        answer_or_repeat(alloc, graph, other, known, &line, output)?;
         if is_divider(&line) {
             return Ok(true);
         }
     }
     Err(io::Error::from(ErrorKind::FileTooLarge))
+}
+
+// Answers a session over a graph beside another one, which its questions may ask.
+fn answer_beside<L: Printable, R: BufRead, W: Write>(
+    alloc: Global,
+    graph: &mut EGraph<L>,
+    other: &mut EGraph<L>,
+    input: &mut R,
+    output: &mut W,
+) -> io::Result<bool> {
+    let mut known = Vec::new(alloc);
+    answer_lines(alloc, graph, other, &mut known, input, output)
+}
+
+// Answers a session over a graph beside a new one.
+fn answer_over<L: Printable, R: BufRead, W: Write>(
+    alloc: Global,
+    graph: &mut EGraph<L>,
+    input: &mut R,
+    output: &mut W,
+) -> io::Result<bool> {
+    match EGraph::<L>::new(alloc, SlotTable::new(alloc), ()) {
+        Ok(mut other) => answer_beside(alloc, graph, &mut other, input, output),
+        Err(_) => Err(io::Error::from(ErrorKind::OutOfMemory)),
+    }
 }
 
 // Answers a session over a graph of its own, and says whether a line `---` ended it.
@@ -79,7 +150,7 @@ fn answer_next<L: Printable, R: BufRead, W: Write>(
     output: &mut W,
 ) -> io::Result<bool> {
     match EGraph::<L>::new(alloc, SlotTable::new(alloc), ()) {
-        Ok(mut graph) => answer_lines(alloc, &mut graph, input, output),
+        Ok(mut graph) => answer_over(alloc, &mut graph, input, output),
         Err(_) => Err(io::Error::from(ErrorKind::OutOfMemory)),
     }
 }
