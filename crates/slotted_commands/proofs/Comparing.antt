@@ -13,12 +13,12 @@ use Rattle.slotted_model.specs.Applied.{Applied}
 use Rattle.slotted_model.specs.Ascending.{names}
 use Rattle.slotted_model.specs.Classes.{term_of}
 use Rattle.slotted_model.specs.Growth.{Extends}
-use Rattle.slotted_core.specs.AddingTerms.{IsEqualToTerm}
-use Rattle.slotted_core.specs.Affected.{IsYesIfEqual}
-use Rattle.slotted_core.specs.Graph.{Graph}
-use Rattle.slotted_core.specs.Image.{AddsClasses, FoundAlike, SaysTerms, asserted_in}
-use Rattle.slotted_core.specs.ValidIds.{Fills, IsValidId, LackNothing, SaysFillingsEqual}
-use Rattle.slotted_core.proofs.CallerLemmas.{filled, fills-itself}
+use Rattle.slotted_explain.specs.AddingTerms.{IsEqualToTerm}
+use Rattle.slotted_explain.specs.Affected.{IsYesIfEqual}
+use Rattle.slotted_explain.specs.Graph.{Graph}
+use Rattle.slotted_explain.specs.Image.{AddsClasses, FoundAlike, SaysTerms, asserted_in}
+use Rattle.slotted_explain.specs.ValidIds.{Fills, IsValidId, LackNothing, SaysFillingsEqual}
+use Rattle.slotted_explain.proofs.CallerLemmas.{filled, fills-itself}
 use Rattle.slotted_commands.specs.Sessions.{AreFoundDifferent, AreFoundEqual}
 
 -- what fills an id of a class that was there filled it before classes were added

@@ -10,9 +10,9 @@ use Rattle.slotted_slots.specs.declared.error.Error.TheVariants.{OutOfSlots, Fai
 use Rattle.slotted_slots.specs.Error.{IsShortage}
 use Rattle.slotted_slots.specs.Table.{KnowsMore}
 use Rattle.slotted_slots.specs.Syntax.{Element}
-use Rattle.slotted_core.specs.Explaining.{AddsTerms, Explains, FilesOnlyTerms, FindsApart, KeepsKnown, RunsOutForTerms}
-use Rattle.slotted_core.specs.Graph.{Graph, MakesAtMost, OnlyTakesSlots}
-use Rattle.slotted_core.specs.Places.{term_slots}
+use Rattle.slotted_explain.specs.Explaining.{AddsTerms, Explains, FilesOnlyTerms, FindsApart, KeepsKnown, RunsOutForTerms}
+use Rattle.slotted_explain.specs.Graph.{Graph, MakesAtMost, OnlyTakesSlots}
+use Rattle.slotted_explain.specs.Places.{term_slots}
 use Rattle.slotted_explain.specs.Printed.{MakesForProof, ProofRunsOut}
 use Rattle.slotted_explain.proofs.LastLine.{EndsInLineFeed}
 use Rattle.slotted_commands.specs.declared.answer.Answer.TheVariants.{Refused}

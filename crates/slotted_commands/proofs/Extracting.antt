@@ -9,13 +9,13 @@ use Rattle.slotted_nodes.specs.Form.{Form}
 use Rattle.slotted_terms.specs.Valid.{IsValidTerm}
 use Rattle.slotted_model.specs.Applied.{Applied}
 use Rattle.slotted_costs.specs.Costs.{MayRefuse, cost_of_term}
-use Rattle.slotted_core.specs.Causes.{class_found}
-use Rattle.slotted_core.specs.Graph.{Graph, MakesAtMost, OnlyTakesSlots}
-use Rattle.slotted_core.specs.Reports.{IsFound}
-use Rattle.slotted_extraction.specs.Terms.{entry_at}
-use Rattle.slotted_extraction.specs.declared.entry.TermEntry.{TermEntry}
-use Rattle.slotted_extraction.proofs.EntryForms.{forms_of, least-forms, runs_out-form, slots-forms}
-use Rattle.slotted_graph.specs.LeastTerms.{AreLeastOf, HasEachLiveClass, IsExtracted, LacksEntry, MakesForExtracted, RunsOutForExtracted}
+use Rattle.slotted_explain.specs.Causes.{class_found}
+use Rattle.slotted_explain.specs.Graph.{Graph, MakesAtMost, OnlyTakesSlots}
+use Rattle.slotted_explain.specs.Reports.{IsFound}
+use Rattle.slotted_explain.specs.Terms.{entry_at}
+use Rattle.slotted_explain.specs.LeastTerms.{TermEntry}
+use Rattle.slotted_explain.proofs.EntryForms.{forms_of, least-forms, runs_out-form, slots-forms}
+use Rattle.slotted_explain.specs.LeastTerms.{AreLeastOf, HasEachLiveClass, IsExtracted, LacksEntry, MakesForExtracted, RunsOutForExtracted}
 use Rattle.slotted_commands.specs.Extracted.{IsSmallest, LacksForSmallest, TakesForSmallest, sizes}
 
 -- entries of least cost, over the forms of their nodes

@@ -9,8 +9,8 @@ use Rattle.slotted_theory.specs.Term.{Term}
 use Rattle.slotted_slots.specs.Syntax.{Element}
 use Rattle.slotted_slots.specs.Table.{empty_table}
 use Rattle.slotted_nodes.specs.Form.{Form}
-use Rattle.slotted_core.specs.Graph.{Graph}
-use Rattle.slotted_core.specs.Image.{no_classes}
+use Rattle.slotted_explain.specs.Graph.{Graph}
+use Rattle.slotted_explain.specs.Image.{no_classes}
 use Rattle.std.specs.Str.{IsUtf8}
 use Rattle.slotted_commands.specs.declared.answer.Answer.{Answer}
 use Rattle.slotted_commands.specs.Answers.{text_of}

@@ -18,14 +18,14 @@ use Rattle.slotted_model.specs.Applied.{Applied}
 use Rattle.slotted_model.specs.Classes.{term_of}
 use Rattle.slotted_model.specs.Growth.{Extends}
 use Rattle.slotted_model.specs.Ids.{id_of}
-use Rattle.slotted_core.specs.AddingTerms.{FilesOnlyLookedUp, IsEqualToTerm, TakesForTerm}
-use Rattle.slotted_core.specs.Graph.{FilesOnlySubterms, Graph, IsFullId, MakesAtMost, OnlyReads, id_of_term}
-use Rattle.slotted_core.specs.Image.{AddsClasses, IsUnion, RecordsFilled}
-use Rattle.slotted_core.specs.Places.{term_slots}
-use Rattle.slotted_core.specs.Causes.{HasLargeClassIn}
-use Rattle.slotted_core.specs.LookUp.{IsOneGraph, KeepsLookUps, look_up_term}
-use Rattle.slotted_core.specs.Nodes.{to_applied}
-use Rattle.slotted_core.specs.Reports.{IsFound}
+use Rattle.slotted_explain.specs.AddingTerms.{FilesOnlyLookedUp, IsEqualToTerm, TakesForTerm}
+use Rattle.slotted_explain.specs.Graph.{FilesOnlySubterms, Graph, IsFullId, MakesAtMost, OnlyReads, id_of_term}
+use Rattle.slotted_explain.specs.Image.{AddsClasses, IsUnion, RecordsFilled}
+use Rattle.slotted_explain.specs.Places.{term_slots}
+use Rattle.slotted_explain.specs.Causes.{HasLargeClassIn}
+use Rattle.slotted_explain.specs.LookUp.{IsOneGraph, KeepsLookUps, look_up_term}
+use Rattle.slotted_explain.specs.Nodes.{to_applied}
+use Rattle.slotted_explain.specs.Reports.{IsFound}
 use Rattle.slotted_commands.specs.declared.answer.Answer.{Answer}
 use Rattle.slotted_commands.specs.declared.answer.Answer.TheVariants.{Refused}
 use Rattle.slotted_commands.specs.Commands.{Command, compares, unites}

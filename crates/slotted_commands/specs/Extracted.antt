@@ -19,8 +19,8 @@ use Rattle.slotted_model.specs.Applied.{Applied}
 use Rattle.slotted_model.specs.Cost.{CostFunction}
 use Rattle.slotted_costs.specs.Costs.{costs_by, cost_of_term}
 use Rattle.slotted_costs.specs.Size.{size_cost}
-use Rattle.slotted_core.specs.Graph.{Graph, OnlyTakesSlots}
-use Rattle.slotted_graph.specs.LeastTerms.{IsLeastTerm, MakesForLeast, RunsOutForLeast}
+use Rattle.slotted_explain.specs.Graph.{Graph, OnlyTakesSlots}
+use Rattle.slotted_explain.specs.LeastTerms.{IsLeastTerm, MakesForLeast, RunsOutForLeast}
 use Rattle.slotted_commands.specs.declared.answer.Answer.{Answer}
 use Rattle.slotted_commands.specs.declared.answer.Answer.TheVariants.{Extracted, Refused}
 

@@ -5,8 +5,7 @@ ghost use Rattle.slotted_commands.specs.Explained.{ExplanationAnswers, Prints, P
 ghost use Rattle.slotted_commands.specs.Sessions.{answer_of};
 
 use crate::answer::Answer;
-use slotted_explain::Explanation;
-use slotted_graph::EGraph;
+use slotted_explain::{EGraph, Explanation};
 use slotted_proofs::ProvenEq;
 use slotted_slots::Error;
 use slotted_terms::expr::RecExpr;

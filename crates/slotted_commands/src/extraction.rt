@@ -1,15 +1,15 @@
 //! What an extraction of a term answers.
 ghost use Rattle.std.specs.Prelude.{IsTrue, IfOk, IfErr, IsErrOf};
 ghost use Rattle.slotted_slots.specs.Error.{IsShortage};
-ghost use Rattle.slotted_core.specs.Graph.{OnlyTakesSlots};
-ghost use Rattle.slotted_core.specs.Nodes.{to_applied};
-ghost use Rattle.slotted_core.specs.Reports.{IsFound};
+ghost use Rattle.slotted_explain.specs.Graph.{OnlyTakesSlots};
+ghost use Rattle.slotted_explain.specs.Nodes.{to_applied};
+ghost use Rattle.slotted_explain.specs.Reports.{IsFound};
 ghost use Rattle.slotted_commands.specs.Extracted.{ExtractionAnswers, IsSmallest, LacksForSmallest, TakesForSmallest};
 ghost use Rattle.slotted_commands.specs.Sessions.{answer_of};
 
 use crate::answer::Answer;
+use slotted_explain::EGraph;
 use slotted_extract::{AstSize, Extractor};
-use slotted_graph::EGraph;
 use slotted_slots::{AppliedId, Error};
 use slotted_terms::expr::RecExpr;
 use slotted_terms::expr::printing::Printable;

@@ -8,7 +8,7 @@ use crate::answer::Answer;
 use crate::command::Command;
 use crate::explanation::explain_terms;
 use crate::extraction::extract_term;
-use slotted_graph::EGraph;
+use slotted_explain::EGraph;
 use slotted_slots::{AppliedId, Error};
 use slotted_terms::expr::RecExpr;
 use slotted_terms::expr::printing::Printable;

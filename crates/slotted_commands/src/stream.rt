@@ -6,7 +6,7 @@ ghost use Rattle.std.specs.Io.KnownBytes.{Appends, IsAtEnd, Keeps};
 ghost use Rattle.slotted_commands.specs.Streams.{LineLeaves, LineWrites, SessionWrites, WritesFrom};
 
 use crate::session::answer;
-use slotted_graph::EGraph;
+use slotted_explain::EGraph;
 use slotted_slots::SlotTable;
 use slotted_terms::expr::printing::Printable;
 use std::alloc::Global;

@@ -12,14 +12,14 @@ use Rattle.slotted_nodes.specs.Form.{Form}
 use Rattle.slotted_model.specs.Applied.{Applied}
 use Rattle.slotted_model.specs.Ids.{id_of}
 use Rattle.slotted_model.proofs.Options.{Some-same}
-use Rattle.slotted_core.specs.Adding.{IsEqualToNode}
-use Rattle.slotted_core.specs.ValidIds.{SaysFillingsEqual}
-use Rattle.slotted_core.specs.Graph.{Graph, id_of_term}
-use Rattle.slotted_core.specs.Image.{Image, FoundAlike}
-use Rattle.slotted_core.specs.LookUp.{look_up}
-use Rattle.slotted_core.specs.Nodes.{to_applied}
-use Rattle.slotted_core.specs.Reports.{IsFound}
-use Rattle.slotted_core.proofs.CallerLemmas.{filled}
+use Rattle.slotted_explain.specs.Adding.{IsEqualToNode}
+use Rattle.slotted_explain.specs.ValidIds.{SaysFillingsEqual}
+use Rattle.slotted_explain.specs.Graph.{Graph, id_of_term}
+use Rattle.slotted_explain.specs.Image.{Image, FoundAlike}
+use Rattle.slotted_explain.specs.LookUp.{look_up}
+use Rattle.slotted_explain.specs.Nodes.{to_applied}
+use Rattle.slotted_explain.specs.Reports.{IsFound}
+use Rattle.slotted_explain.proofs.CallerLemmas.{filled}
 use Rattle.slotted_egraphs.specs.Filed.{IsFiledAs, SaysNodeEqual}
 
 -- where ids find alike, an answer that says whether they do is yes

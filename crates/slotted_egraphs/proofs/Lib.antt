@@ -1,5 +1,5 @@
 -- What callers cite.
-pub use Rattle.slotted_core.proofs.CallerLemmas
-pub use Rattle.slotted_core.proofs.YesesStay
-pub use Rattle.slotted_graph.proofs.LeastLater
+pub use Rattle.slotted_explain.proofs.CallerLemmas
+pub use Rattle.slotted_explain.proofs.YesesStay
+pub use Rattle.slotted_explain.proofs.LeastLater
 pub mod Asking

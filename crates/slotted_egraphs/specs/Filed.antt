@@ -4,10 +4,10 @@
 use Rattle.std.specs.Prelude.{Bool, IsTrue, IsSomeAnd}
 use Rattle.slotted_nodes.specs.Form.{Form}
 use Rattle.slotted_model.specs.Applied.{Applied}
-use Rattle.slotted_core.specs.Adding.{IsEqualToNode}
-use Rattle.slotted_core.specs.Graph.{Graph}
-use Rattle.slotted_core.specs.Image.{FoundAlike}
-use Rattle.slotted_core.specs.LookUp.{look_up}
+use Rattle.slotted_explain.specs.Adding.{IsEqualToNode}
+use Rattle.slotted_explain.specs.Graph.{Graph}
+use Rattle.slotted_explain.specs.Image.{FoundAlike}
+use Rattle.slotted_explain.specs.LookUp.{look_up}
 
 abbrev pub IsFiledAs : Graph → Form → Applied → Type 0
 IsFiledAs g f b = IsSomeAnd (look_up g f) (λ a. FoundAlike g.image a b)

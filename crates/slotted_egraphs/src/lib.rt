@@ -6,9 +6,8 @@
 
 pub mod example;
 
-pub use slotted_explain::Explanation;
+pub use slotted_explain::{Check, EGraph, Explanation, ProgressMeasure, Symmetry};
 pub use slotted_extract::{AstSize, CostFunction, Extractor, ast_size_extract, extract};
-pub use slotted_graph::{Check, EGraph, ProgressMeasure, Symmetry};
 pub use slotted_languages::{Bind, Language, LanguageChildren, ReadBack, Symbol, pair};
 pub use slotted_patterns::Pattern;
 pub use slotted_proofs::{

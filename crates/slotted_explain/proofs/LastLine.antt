@@ -7,7 +7,7 @@ use Rattle.slotted_theory.specs.Term.{Term}
 use Rattle.slotted_slots.specs.Syntax.{Element}
 use Rattle.slotted_proofs.specs.Entries.{Proven}
 use Rattle.slotted_proofs.specs.Lines.{Lines, passed, next, all}
-use Rattle.slotted_core.specs.Graph.{Graph}
+use Rattle.slotted_graph.specs.Graph.{Graph}
 use Rattle.slotted_explain.specs.Printed.{IsLine, ArePrinted, IsProofText}
 
 -- the text ends in a line feed

@@ -8,3 +8,8 @@ pub mod Sides
 pub mod SlotsOfLines
 pub mod SlotsOfSteps
 pub mod UsedNumbers
+-- What the crates above cite, handed on.
+pub use Rattle.slotted_graph.proofs.CallerLemmas
+pub use Rattle.slotted_graph.proofs.YesesStay
+pub use Rattle.slotted_graph.proofs.LeastLater
+pub use Rattle.slotted_graph.proofs.EntryForms

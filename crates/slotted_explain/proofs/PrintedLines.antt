@@ -9,10 +9,10 @@ use Rattle.slotted_model.specs.Classes.{term_of}
 use Rattle.slotted_proofs.specs.Equations.{AreSides}
 use Rattle.slotted_proofs.specs.Reasons.{reason_text}
 use Rattle.slotted_proofs.specs.Entries.{proven_at, statement_at}
-use Rattle.slotted_core.specs.Image.{Image}
+use Rattle.slotted_graph.specs.Image.{Image}
 use Rattle.slotted_slots.specs.Table.{KnowsMore}
-use Rattle.slotted_core.specs.Graph.{Graph, OnlyTakesSlots}
-use Rattle.slotted_core.proofs.CallerLemmas.{term_later}
+use Rattle.slotted_graph.specs.Graph.{Graph, OnlyTakesSlots}
+use Rattle.slotted_graph.proofs.CallerLemmas.{term_later}
 use Rattle.slotted_explain.specs.Printed.{IsSideText, IsSidesText, IsLine, ArePrinted}
 
 -- the entry of a line

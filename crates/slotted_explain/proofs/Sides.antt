@@ -8,8 +8,8 @@ use Rattle.slotted_model.specs.Correspondence.{numbered}
 use Rattle.slotted_proofs.specs.Entries.{entry_of, entries_of, statement_at}
 use Rattle.slotted_model.specs.ProofList.{Equation}
 use Rattle.slotted_proofs.specs.Proving.{IsProved}
-use Rattle.slotted_core.specs.Image.{Image}
-use Rattle.slotted_core.specs.Graph.{Graph, IsFullId}
+use Rattle.slotted_graph.specs.Image.{Image}
+use Rattle.slotted_graph.specs.Graph.{Graph, IsFullId}
 use Rattle.slotted_store.proofs.KeptLists.{equation_at-of, length-mapped}
 use Rattle.slotted_store.proofs.NameMaps.{numeric-known}
 

@@ -4,11 +4,11 @@ use Rattle.std.specs.Prelude.{slice_index_or}
 use Rattle.slotted_model.specs.Applied.{Applied}
 use Rattle.slotted_proofs.specs.Entries.{statement_at}
 use Rattle.slotted_proofs.specs.Equations.{AreSides}
-use Rattle.slotted_core.specs.Causes.{HasLargePart}
-use Rattle.slotted_core.specs.Graph.{Graph, MakesAtMost, RunsOut}
-use Rattle.slotted_core.specs.Image.{Image}
-use Rattle.slotted_core.specs.Syn.{term_binders, MakesForTermAt, RunsOutForTermAt}
-use Rattle.slotted_core.proofs.Tables.{makes-more, makes-then, runs_out-more, runs_out-then}
+use Rattle.slotted_graph.specs.Causes.{HasLargePart}
+use Rattle.slotted_graph.specs.Graph.{Graph, MakesAtMost, RunsOut}
+use Rattle.slotted_graph.specs.Image.{Image}
+use Rattle.slotted_graph.specs.Syn.{term_binders, MakesForTermAt, RunsOutForTermAt}
+use Rattle.slotted_graph.proofs.Tables.{makes-more, makes-then, runs_out-more, runs_out-then}
 use Rattle.slotted_explain.specs.Printed.{line_binders, lines_binders, HasLargeSide, LineRunsOut, LinesRunOut, MakesForLine, MakesForLines}
 
 -- a line's sides

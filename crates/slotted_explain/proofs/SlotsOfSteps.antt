@@ -4,10 +4,10 @@ use Rattle.std.specs.Prelude.{slice_index_or}
 use Rattle.std.proofs.lemmas.List.{take_more}
 use Rattle.std.proofs.lemmas.List.Sums.{sum_by-take-le, sum_by_push}
 use Rattle.slotted_proofs.specs.Entries.{statement_at}
-use Rattle.slotted_core.specs.Graph.{Graph, MakesAtMost, RunsOut}
-use Rattle.slotted_core.specs.Image.{Image}
-use Rattle.slotted_core.specs.Syn.{term_binders, MakesForTermAt}
-use Rattle.slotted_core.proofs.Tables.{makes-more, makes-then, runs_out-then}
+use Rattle.slotted_graph.specs.Graph.{Graph, MakesAtMost, RunsOut}
+use Rattle.slotted_graph.specs.Image.{Image}
+use Rattle.slotted_graph.specs.Syn.{term_binders, MakesForTermAt}
+use Rattle.slotted_graph.proofs.Tables.{makes-more, makes-then, runs_out-then}
 use Rattle.slotted_explain.specs.Chain.{Rewrite, chain_binders, step_binders, steps_binders, HasLargeStep, HasLargeStepOf, MakesForStep, MakesForSteps, StepRunsOut, StepsRunOut, TermsRunOut}
 
 pub steps-first : (g : Image) (rs : List Rewrite) (i : ℕ) → steps_binders g (take i rs) ≤ steps_binders g rs

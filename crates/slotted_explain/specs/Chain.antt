@@ -10,10 +10,10 @@ use Rattle.std.specs.Prelude.{◌≡◌, ◌⊎◌, ◌+◌, ◌*◌, ◌<◌, �
 use Rattle.std.specs.List.{sum_by}
 use Rattle.slotted_model.specs.ProofList.{Step, explicit, reflexive, symmetric, transitive, congruent}
 use Rattle.slotted_proofs.specs.Entries.{Proven, is_explicit, proven_at, statement_at}
-use Rattle.slotted_core.specs.Causes.{HasLargePart}
-use Rattle.slotted_core.specs.Graph.{Graph, MakesAtMost, RunsOutIn}
-use Rattle.slotted_core.specs.Image.{Image}
-use Rattle.slotted_core.specs.Syn.{term_binders}
+use Rattle.slotted_graph.specs.Causes.{HasLargePart}
+use Rattle.slotted_graph.specs.Graph.{Graph, MakesAtMost, RunsOutIn}
+use Rattle.slotted_graph.specs.Image.{Image}
+use Rattle.slotted_graph.specs.Syn.{term_binders}
 
 -- an entry that rewrites one place of a term, a turned one from right to left
 -- the path has the child to go down to at each node from the top

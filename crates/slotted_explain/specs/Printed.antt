@@ -19,10 +19,10 @@ use Rattle.slotted_proofs.specs.Equations.{AreSides}
 use Rattle.slotted_proofs.specs.Entries.{proven_at, statement_at}
 use Rattle.slotted_proofs.specs.Lines.{Lines}
 use Rattle.slotted_proofs.specs.Reasons.{reason_text}
-use Rattle.slotted_core.specs.Causes.{HasLargePart}
-use Rattle.slotted_core.specs.Image.{Image}
-use Rattle.slotted_core.specs.Graph.{Graph, MakesAtMost, RunsOutIn}
-use Rattle.slotted_core.specs.Syn.{term_binders}
+use Rattle.slotted_graph.specs.Causes.{HasLargePart}
+use Rattle.slotted_graph.specs.Image.{Image}
+use Rattle.slotted_graph.specs.Graph.{Graph, MakesAtMost, RunsOutIn}
+use Rattle.slotted_graph.specs.Syn.{term_binders}
 
 -- the print, with the names of the graph's table, of a term that is the canonical term of the id, up to bound names; the graph that is
 -- left knows each slot of the term, so none is shown as `$?`

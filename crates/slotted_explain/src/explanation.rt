@@ -3,7 +3,7 @@ ghost use Rattle.std.specs.Prelude.{◌≡◌, ◌⊎◌, ◌↔◌, ◌<◌, �
 ghost use Rattle.slotted_slots.specs.Error.{IsShortage};
 ghost use Rattle.slotted_proofs.specs.Entries.{proven_at, statement_at, step_of, text_of};
 ghost use Rattle.slotted_proofs.specs.Equations.{IsWritten};
-ghost use Rattle.slotted_core.specs.Graph.{OnlyTakesSlots};
+ghost use Rattle.slotted_graph.specs.Graph.{OnlyTakesSlots};
 ghost use Rattle.slotted_explain.specs.Printed.{IsProofText, MakesForProof, ProofRunsOut};
 ghost use Rattle.slotted_explain.specs.Chain.{ChainRunsOut, MakesForChain};
 

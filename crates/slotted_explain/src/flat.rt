@@ -1,8 +1,8 @@
 //! A proof printed as a chain of whole terms.
 ghost use Rattle.std.specs.Prelude.{◌<◌, length, IfErr, IsErrOf};
 ghost use Rattle.slotted_slots.specs.Error.{IsOutOfMemory, IsShortage};
-ghost use Rattle.slotted_core.specs.Graph.{OnlyTakesSlots};
-ghost use Rattle.slotted_core.specs.Syn.{MakesForTermAt, RunsOutForTermAt};
+ghost use Rattle.slotted_graph.specs.Graph.{OnlyTakesSlots};
+ghost use Rattle.slotted_graph.specs.Syn.{MakesForTermAt, RunsOutForTermAt};
 ghost use Rattle.slotted_explain.specs.Chain.{AreWithin, from_class};
 ghost use Rattle.slotted_explain.specs.Chain.{MakesForStep, MakesForSteps, MakesForTerms, MakesForTwoTermsOf};
 ghost use Rattle.slotted_explain.specs.Chain.{RunsOutForTwoTermsOf, StepRunsOut, StepsRunOut, TermsRunOut};

@@ -1,4 +1,4 @@
-//! Proofs as texts.
+//! Proofs as texts. The graph, whose proofs they are, is handed on.
 #![tactic(auto)]
 
 mod explanation;
@@ -8,3 +8,4 @@ mod print;
 mod steps;
 
 pub use explanation::Explanation;
+pub use slotted_graph::{Check, EGraph, LeastTerms, ProgressMeasure, Symmetry};

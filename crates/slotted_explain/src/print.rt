@@ -1,9 +1,9 @@
 //! A proof printed line by line.
 ghost use Rattle.std.specs.Prelude.{All, ◌<◌, length, string_bytes, IsTrue, IfOk, OnOk, IfErr, IsErrOf};
 ghost use Rattle.slotted_slots.specs.Error.{IsShortage};
-ghost use Rattle.slotted_core.specs.Graph.{IsFullId, OnlyTakesSlots};
+ghost use Rattle.slotted_graph.specs.Graph.{IsFullId, OnlyTakesSlots};
 ghost use Rattle.slotted_proofs.specs.Equations.{to_applied};
-ghost use Rattle.slotted_core.specs.Syn.{MakesForTermAt, RunsOutForTermAt};
+ghost use Rattle.slotted_graph.specs.Syn.{MakesForTermAt, RunsOutForTermAt};
 ghost use Rattle.slotted_explain.specs.Printed.{AppendsLine, ArePrinted, IsSideText, IsSidesText, LineRunsOut};
 ghost use Rattle.slotted_explain.specs.Printed.{LinesRunOut, MakesForLine, MakesForLines};
 

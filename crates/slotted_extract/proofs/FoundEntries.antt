@@ -13,14 +13,14 @@ use Rattle.slotted_model.proofs.Finding.{found-in_range, found-live, leads}
 use Rattle.slotted_model.proofs.Options.{None-Some, option_map-some}
 use Rattle.slotted_store.specs.Finding.{IsFindable}
 use Rattle.slotted_store.specs.Kept.{entries_of, nodes_of}
-use Rattle.slotted_core.specs.Causes.{class_found}
-use Rattle.slotted_core.specs.Graph.{Graph}
-use Rattle.slotted_core.specs.Image.{Image}
-use Rattle.slotted_core.specs.ValidIds.{IsValidId}
-use Rattle.slotted_core.proofs.Images.{class_found-is}
-use Rattle.slotted_core.proofs.ValidIds.{findable-within, of-valid}
-use Rattle.slotted_extraction.specs.Terms.{entry_at}
-use Rattle.slotted_extraction.specs.declared.entry.TermEntry.{TermEntry}
+use Rattle.slotted_graph.specs.Causes.{class_found}
+use Rattle.slotted_graph.specs.Graph.{Graph}
+use Rattle.slotted_graph.specs.Image.{Image}
+use Rattle.slotted_graph.specs.ValidIds.{IsValidId}
+use Rattle.slotted_graph.proofs.Images.{class_found-is}
+use Rattle.slotted_graph.proofs.ValidIds.{findable-within, of-valid}
+use Rattle.slotted_graph.specs.Terms.{entry_at}
+use Rattle.slotted_graph.specs.LeastTerms.{TermEntry}
 use Rattle.slotted_graph.specs.LeastTerms.{AreLeastOf, LacksEntry}
 
 module _ {L C : Type 0} (form : L → Form) (g : Graph) (costs : CostFunction C) (es : List (Option (TermEntry L C))) (of : AreLeastOf form g costs es) (a : Applied) (valid : IsValidId g a) where

@@ -1,5 +1,14 @@
 -- Lemmas of the graph that callers see.
 pub mod Measured
 pub mod Enodes
-pub mod LeastTerms
+pub mod MadeOfEntries
 pub mod LeastLater
+-- What the crates above cite, handed on.
+pub use Rattle.slotted_core.proofs.CallerLemmas
+pub use Rattle.slotted_core.proofs.YesesStay
+pub use Rattle.slotted_core.proofs.FilledNames
+pub use Rattle.slotted_core.proofs.Images
+pub use Rattle.slotted_core.proofs.Layers
+pub use Rattle.slotted_core.proofs.Tables
+pub use Rattle.slotted_core.proofs.ValidIds
+pub use Rattle.slotted_extraction.proofs.EntryForms

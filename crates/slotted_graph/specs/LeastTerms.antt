@@ -28,7 +28,7 @@ use Rattle.slotted_core.specs.LookUp.{look_up_term}
 use Rattle.slotted_core.specs.ValidIds.{Fills}
 use Rattle.slotted_extraction.specs.Least.{AreLeast}
 use Rattle.slotted_extraction.specs.Terms.{RunsOutWith, entry_at, slots_for}
-use Rattle.slotted_extraction.specs.declared.entry.TermEntry.{TermEntry}
+pub use Rattle.slotted_extraction.specs.declared.entry.TermEntry.{TermEntry}
 
 pub record AreLeastOf {L C : Type 0} (form : L → Form) (g : Graph) (costs : CostFunction C) (es : List (Option (TermEntry L C))) : Type 0 where
   pub kept : Kept

@@ -6,5 +6,6 @@ pub mod egraph;
 
 pub use egraph::EGraph;
 pub use egraph::steps::Check;
+pub use slotted_extraction::LeastTerms;
 pub use slotted_reports::ProgressMeasure;
 pub use slotted_store::Symmetry;

@@ -1,6 +1,6 @@
 //! What is asked by the rows of tables here: what other tests of the graph ask, and printed proofs.
 use crate::proofs::{printed, told};
-use slotted_graph::EGraph;
+use slotted_explain::EGraph;
 use slotted_proofs::ProvenEq;
 use slotted_rows::graphs::parted;
 use slotted_rows::rows::answer;

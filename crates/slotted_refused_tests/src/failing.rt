@@ -1,6 +1,5 @@
 //! What a failed graph refuses: each call that answers a `Result`.
-use slotted_explain::Explanation;
-use slotted_graph::{Check, EGraph};
+use slotted_explain::{Check, EGraph, Explanation};
 use slotted_languages::Language;
 use slotted_proofs::{
     CongruenceProof, Equation, ProvenEq, ReflexivityProof, SymmetryProof, TransitivityProof,

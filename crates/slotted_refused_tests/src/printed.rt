@@ -1,6 +1,6 @@
 //! Tables of printed proofs.
 use crate::asked::is_answered;
-use slotted_graph::EGraph;
+use slotted_explain::EGraph;
 use slotted_rows::graphs::empty;
 use slotted_small::Small;
 use slotted_terms::expr::printing::Printable;

@@ -1,6 +1,5 @@
 //! What is printed of the proofs of a graph.
-use slotted_explain::Explanation;
-use slotted_graph::EGraph;
+use slotted_explain::{EGraph, Explanation};
 use slotted_languages::Language;
 use slotted_proofs::{Proof, ProvenEq};
 use slotted_rows::graphs::{parted, yes};

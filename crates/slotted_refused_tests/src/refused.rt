@@ -1,7 +1,7 @@
 //! A script over most calls of a graph, in which memory or slots end. `rt try --test --fail-alloc N` has the Nth growth refused.
 use crate::asked::is_answered;
 use crate::failing::{assert_entries_refused, assert_failed};
-use slotted_graph::EGraph;
+use slotted_explain::EGraph;
 use slotted_proofs::ProvenEq;
 use slotted_rows::graphs::empty;
 use slotted_slots::{Error, SlotTable};

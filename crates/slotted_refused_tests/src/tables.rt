@@ -1,6 +1,6 @@
 //! The table of slots that comes out of a graph.
 use crate::printed::check_in;
-use slotted_graph::EGraph;
+use slotted_explain::EGraph;
 use slotted_rows::graphs::empty;
 use slotted_slots::{Error, SlotTable};
 use slotted_small::Small;
@@ -9,12 +9,7 @@ use std::alloc::Global;
 use std::process::Abort;
 
 // The table of a graph over a table that has read a name, after these rows.
-fn table_after<L: Printable>(
-    rt: &impl Abort,
-    alloc: Global,
-    name: &str,
-    rows: &str,
-) -> SlotTable {
+fn table_after<L: Printable>(rt: &impl Abort, alloc: Global, name: &str, rows: &str) -> SlotTable {
     let mut graph: EGraph<L> = empty(alloc, name).expect(rt, "no memory is taken");
     check_in(rt, alloc, &mut graph, rows);
     graph.into_table()

@@ -1,8 +1,8 @@
 -- Of an id that is what it finds itself, so that its class has an entry.
 use Rattle.std.proofs.Common.{rules, ◌≡◌, subst}
-use Rattle.slotted_core.specs.Graph.{Graph}
-use Rattle.slotted_core.specs.Nodes.{to_applied}
-use Rattle.slotted_graph.specs.LeastTerms.{IsExtracted, MakesForExtracted, RunsOutForExtracted}
+use Rattle.slotted_explain.specs.Graph.{Graph}
+use Rattle.slotted_explain.specs.Nodes.{to_applied}
+use Rattle.slotted_explain.specs.LeastTerms.{IsExtracted, MakesForExtracted, RunsOutForExtracted}
 use Rattle.slotted_commands.proofs.Extracting.{lacks_for_smallest, smallest, takes_for_smallest}
 use Rattle.slotted_commands.proofs.extraction.smallest_term.Goals as goal
 

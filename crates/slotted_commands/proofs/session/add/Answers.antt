@@ -1,6 +1,6 @@
 use Rattle.std.proofs.Common.{[], ◌∷◌, refl}
 use Rattle.std.proofs.lemmas.Result.{err_from_is_err_and}
-use Rattle.slotted_core.specs.Nodes.{to_applied}
+use Rattle.slotted_explain.specs.Nodes.{to_applied}
 use Rattle.slotted_commands.specs.Commands.{adds}
 use Rattle.slotted_commands.specs.Sessions.{carried_out, next_term, no_term, done}
 use Rattle.slotted_commands.proofs.session.add.Goals as goal

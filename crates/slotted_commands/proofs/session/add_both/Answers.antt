@@ -1,9 +1,9 @@
 use Rattle.std.proofs.Common.{[], ◌∷◌, inr, refl, ◌∙◌}
 use Rattle.std.specs.Prelude.{Err}
 use Rattle.std.proofs.lemmas.Result.{err_from_is_err_and}
-use Rattle.slotted_core.specs.Nodes.{to_applied}
+use Rattle.slotted_explain.specs.Nodes.{to_applied}
 use Rattle.slotted_commands.specs.Sessions.{canonically, runs_out_here, runs_out_later, next_term, no_term}
-use Rattle.slotted_core.proofs.CallerLemmas.{term_later, id_later}
+use Rattle.slotted_explain.proofs.CallerLemmas.{term_later, id_later}
 use Rattle.slotted_commands.proofs.Steps.{gains_syn, in_manner, runs_out, terms_run_out}
 use Rattle.slotted_commands.proofs.session.add_both.Goals as goal
 

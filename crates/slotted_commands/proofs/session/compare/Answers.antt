@@ -1,7 +1,7 @@
 use Rattle.std.proofs.Common.{sym, ◌∙◌, inr, refl}
 use Rattle.std.proofs.lemmas.Bool.{false≢true}
 use Rattle.std.proofs.lemmas.Result.{err_from_is_err_and}
-use Rattle.slotted_core.specs.Nodes.{to_applied}
+use Rattle.slotted_explain.specs.Nodes.{to_applied}
 use Rattle.slotted_commands.specs.Commands.{compares}
 use Rattle.slotted_commands.specs.Sessions.{are_different, are_equal}
 use Rattle.slotted_commands.proofs.Comparing.{found_equal, found_different}

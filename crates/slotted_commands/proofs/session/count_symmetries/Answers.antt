@@ -4,7 +4,7 @@ use Rattle.std.proofs.lemmas.List.{length-map}
 use Rattle.std.proofs.lemmas.Result.{err_from_is_err_and}
 use Rattle.slotted_slots.specs.declared.error.Error.{Error}
 use Rattle.slotted_slots.specs.declared.error.Error.TheVariants.{Failed}
-use Rattle.slotted_core.specs.Image.{symmetry_entry}
+use Rattle.slotted_explain.specs.Image.{symmetry_entry}
 use Rattle.slotted_commands.specs.declared.answer.Answer.TheVariants.{Symmetries, Refused}
 use Rattle.slotted_commands.specs.Commands.{counts}
 use Rattle.slotted_commands.specs.Sessions.{Answered, carried_out, counted, has_failed, no_text, no_term}

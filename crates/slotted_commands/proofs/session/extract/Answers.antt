@@ -1,7 +1,7 @@
 use Rattle.std.proofs.Common.{[], ◌∷◌, refl, sym, ◌∙◌}
 use Rattle.std.proofs.lemmas.Bool.{false≢true}
 use Rattle.std.proofs.lemmas.Result.{err_from_is_err_and}
-use Rattle.slotted_core.specs.Nodes.{to_applied}
+use Rattle.slotted_explain.specs.Nodes.{to_applied}
 use Rattle.slotted_commands.specs.Commands.{extracts}
 use Rattle.slotted_commands.specs.Sessions.{carried_out, extraction, next_term, no_term}
 use Rattle.slotted_commands.proofs.session.extract.Goals as goal

@@ -2,7 +2,7 @@ use Rattle.std.proofs.Common.{[], ◌∷◌, refl, ◌∙◌}
 use Rattle.std.specs.Prelude.{Ok}
 use Rattle.std.proofs.lemmas.Result.{err_from_is_err_and}
 use Rattle.slotted_commands.specs.Sessions.{refused_here, refused_later, next_text, no_text}
-use Rattle.slotted_core.proofs.CallerLemmas.{term_later}
+use Rattle.slotted_explain.proofs.CallerLemmas.{term_later}
 use Rattle.slotted_commands.proofs.Steps.{sound_graph, text_refused, later_text_refused, writes_term, is_refused}
 use Rattle.slotted_commands.proofs.session.read_both.Goals as goal
 

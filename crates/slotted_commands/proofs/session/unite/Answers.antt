@@ -2,9 +2,9 @@ use Rattle.std.proofs.Common.{subst, refl, inr}
 use Rattle.std.specs.Prelude.{true, false, Err}
 use Rattle.std.proofs.lemmas.Bool.{false≢true}
 use Rattle.std.proofs.lemmas.Result.{err_from_is_err_and}
-use Rattle.slotted_core.specs.Image.{IsUnion}
-use Rattle.slotted_core.specs.Nodes.{to_applied}
-use Rattle.slotted_core.proofs.CallerLemmas.{full-valid}
+use Rattle.slotted_explain.specs.Image.{IsUnion}
+use Rattle.slotted_explain.specs.Nodes.{to_applied}
+use Rattle.slotted_explain.proofs.CallerLemmas.{full-valid}
 use Rattle.slotted_commands.specs.Commands.{unites}
 use Rattle.slotted_commands.specs.Sessions.{are_united, were_equal}
 use Rattle.slotted_commands.proofs.Steps.{unites_says, union_refused, union_done}

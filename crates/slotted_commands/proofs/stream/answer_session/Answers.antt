@@ -1,7 +1,7 @@
 use Rattle.std.proofs.Common.{◌∙◌, subst}
 use Rattle.std.specs.Prelude.{IfSome, OnOk}
 use Rattle.std.specs.Io.KnownBytes.{Appends}
-use Rattle.slotted_core.specs.Graph.{Graph}
+use Rattle.slotted_explain.specs.Graph.{Graph}
 use Rattle.slotted_commands.specs.Streams.{WritesFrom}
 use Rattle.slotted_commands.proofs.Reading.{is_empty_graph}
 use Rattle.slotted_commands.proofs.stream.answer_session.Goals as goal

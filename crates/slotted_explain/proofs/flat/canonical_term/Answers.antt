@@ -1,9 +1,9 @@
 -- A valid id lacks no name.
 use Rattle.std.proofs.Common.{inr, rules}
 use Rattle.slotted_proofs.specs.Equations.{to_applied}
-use Rattle.slotted_core.specs.Graph.{IsFullId}
-use Rattle.slotted_core.proofs.CallerLemmas.{full-valid}
-use Rattle.slotted_core.proofs.FilledNames.{term_makes, term_runs_out}
+use Rattle.slotted_graph.specs.Graph.{IsFullId}
+use Rattle.slotted_graph.proofs.CallerLemmas.{full-valid}
+use Rattle.slotted_graph.proofs.FilledNames.{term_makes, term_runs_out}
 use Rattle.slotted_explain.proofs.flat.canonical_term.Goals as goal
 
 pub get_syn_expr-requires : goal.get_syn_expr-requires

@@ -1,6 +1,6 @@
 -- Each turn takes the slots of one step more.
 use Rattle.std.proofs.Common.{◌<◌, length, sym, arith, rules}
-use Rattle.slotted_core.proofs.CallerLemmas.{takes_twice}
+use Rattle.slotted_graph.proofs.CallerLemmas.{takes_twice}
 use Rattle.slotted_explain.proofs.SlotsOfSteps.{all_make, step_lacks, step_makes}
 use Rattle.slotted_explain.proofs.flat.steps_text.Goals as goal
 

@@ -1,6 +1,6 @@
 -- The graph is as it was but for the fresh slots that the first steps take.
 use Rattle.std.proofs.Common.{take}
-use Rattle.slotted_core.specs.Graph.{OnlyTakesSlots}
+use Rattle.slotted_graph.specs.Graph.{OnlyTakesSlots}
 use Rattle.slotted_explain.specs.Chain.{MakesForSteps}
 use Rattle.slotted_explain.proofs.flat.steps_text.Given as goal
 

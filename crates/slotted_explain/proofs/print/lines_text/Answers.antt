@@ -1,9 +1,9 @@
 -- Each turn prints one line more.
 use Rattle.std.proofs.Common.{◌<◌, ◌+◌, ◌∙◌, length, take, ap, sym, subst, arith, rules, string_bytes}
-use Rattle.slotted_core.specs.Graph.{Graph, OnlyTakesSlots}
-use Rattle.slotted_core.specs.Image.{Image}
-use Rattle.slotted_core.proofs.CallerLemmas.{takes_twice}
-use Rattle.slotted_core.proofs.Tables.{makes-more}
+use Rattle.slotted_graph.specs.Graph.{Graph, OnlyTakesSlots}
+use Rattle.slotted_graph.specs.Image.{Image}
+use Rattle.slotted_graph.proofs.CallerLemmas.{takes_twice}
+use Rattle.slotted_graph.proofs.Tables.{makes-more}
 use Rattle.slotted_explain.specs.Printed.{ArePrinted, MakesForLines, lines_binders}
 use Rattle.slotted_explain.proofs.SlotsOfLines.{binders-first, line_makes, all_make, line_lacks}
 use Rattle.slotted_explain.proofs.PrintedLines.{at_line, one_more, line_in, none_there, printed_later}

@@ -1,6 +1,6 @@
 -- The first lines are printed, over the graph as it was but for fresh slots.
 use Rattle.std.proofs.Common.{string_bytes, take}
-use Rattle.slotted_core.specs.Graph.{OnlyTakesSlots}
+use Rattle.slotted_graph.specs.Graph.{OnlyTakesSlots}
 use Rattle.slotted_explain.specs.Printed.{ArePrinted, MakesForLines}
 use Rattle.slotted_explain.proofs.print.lines_text.Given as goal
 

@@ -4,7 +4,7 @@ use Rattle.std.specs.Prelude.{IfSome}
 use Rattle.slotted_model.specs.ProofList.{Step}
 use Rattle.slotted_proofs.specs.Entries.{Proven, proven_at, step_of, text_of}
 use Rattle.slotted_proofs.specs.Reasons.{reason_text}
-use Rattle.slotted_core.specs.Image.{Image}
+use Rattle.slotted_graph.specs.Image.{Image}
 use Rattle.slotted_explain.specs.Printed.{IsLine}
 use Rattle.slotted_explain.proofs.print.push_line.Goals as goal
 

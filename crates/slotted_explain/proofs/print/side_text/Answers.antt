@@ -2,8 +2,8 @@
 use Rattle.std.proofs.Common.{◌∙◌, ap, inr, rules}
 use Rattle.slotted_slots.specs.Table.{Table}
 use Rattle.slotted_proofs.specs.Equations.{to_applied}
-use Rattle.slotted_core.proofs.CallerLemmas.{full-valid}
-use Rattle.slotted_core.proofs.FilledNames.{term_makes, term_runs_out}
+use Rattle.slotted_graph.proofs.CallerLemmas.{full-valid}
+use Rattle.slotted_graph.proofs.FilledNames.{term_makes, term_runs_out}
 use Rattle.slotted_explain.proofs.print.side_text.Goals as goal
 
 pub get_syn_expr-requires : goal.get_syn_expr-requires

@@ -4,7 +4,7 @@ use Rattle.slotted_model.specs.Classes.{term_of}
 use Rattle.slotted_proofs.specs.Equations.{IsWritten, to_applied}
 use Rattle.slotted_proofs.specs.Entries.{Proven, statement_at}
 use Rattle.slotted_proofs.specs.Proving.{IsProved}
-use Rattle.slotted_core.specs.Image.{Image}
+use Rattle.slotted_graph.specs.Image.{Image}
 use Rattle.slotted_explain.proofs.PrintedLines.{side_later}
 use Rattle.slotted_explain.proofs.Sides.{left_valid, right_valid}
 use Rattle.slotted_explain.proofs.SlotsOfLines.{left_makes, both_make, left_lacks, right_lacks}

@@ -5,7 +5,7 @@ use Rattle.slotted_slots.specs.Error.{IsShortage}
 use Rattle.slotted_costs.specs.Costs.{costs_by}
 use Rattle.slotted_costs.specs.Size.{size_cost}
 use Rattle.slotted_proofs.specs.Equations.{to_applied}
-use Rattle.slotted_core.specs.Graph.{Graph}
+use Rattle.slotted_graph.specs.Graph.{Graph}
 use Rattle.slotted_graph.specs.LeastTerms.{LacksEntry}
 use Rattle.slotted_extract.proofs.FoundEntries.{lacks-none, valid-unless, without-unknown}
 use Rattle.slotted_extract.proofs.extractor.ast_size_extract.Goals as goal

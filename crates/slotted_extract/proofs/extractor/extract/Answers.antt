@@ -4,7 +4,7 @@ use Rattle.std.specs.Prelude.{◌⊎◌}
 use Rattle.slotted_slots.specs.Error.{IsShortage}
 use Rattle.slotted_costs.specs.Costs.{costs_by, MayRefuse}
 use Rattle.slotted_proofs.specs.Equations.{to_applied}
-use Rattle.slotted_core.specs.Graph.{Graph}
+use Rattle.slotted_graph.specs.Graph.{Graph}
 use Rattle.slotted_graph.specs.LeastTerms.{LacksEntry, MakesForExtracted, RunsOutForExtracted}
 use Rattle.slotted_extract.proofs.FoundEntries.{lacks-none, valid-unless, without-unknown}
 use Rattle.slotted_extract.proofs.extractor.extract.Goals as goal

@@ -17,7 +17,7 @@ use Rattle.slotted_core.proofs.Images.{class_found-is}
 use Rattle.slotted_core.proofs.ValidIds.{findable-within, of-valid}
 use Rattle.slotted_extraction.specs.Terms.{IsFreshTerm, IsMade, RunsOutWith, entry_at, slots_for}
 use Rattle.slotted_graph.specs.LeastTerms.{IsExtracted}
-use Rattle.slotted_graph.proofs.LeastTerms.{made-extracted}
+use Rattle.slotted_graph.proofs.MadeOfEntries.{made-extracted}
 use Rattle.slotted_graph.proofs.egraph.EGraph.least_term.Goals as goal
 
 pub extract-requires-clause-findable : goal.extract-requires-clause-findable

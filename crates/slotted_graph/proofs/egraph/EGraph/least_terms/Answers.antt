@@ -6,7 +6,7 @@ use Rattle.slotted_core.specs.Good.{Good, HasFreshSlots, RestsWith}
 use Rattle.slotted_core.specs.Graph.{Graph}
 use Rattle.slotted_extraction.specs.Least.{AreLeast}
 use Rattle.slotted_graph.specs.LeastTerms.{HasEachLiveClass}
-use Rattle.slotted_graph.proofs.LeastTerms.{seen-each}
+use Rattle.slotted_graph.proofs.MadeOfEntries.{seen-each}
 use Rattle.slotted_graph.proofs.egraph.EGraph.least_terms.Goals as goal
 
 pub returns-clause-each : goal.returns-clause-each
