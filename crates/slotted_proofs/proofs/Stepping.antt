@@ -12,7 +12,7 @@ use Rattle.slotted_model.proofs.Correspondences.Middle.{middle_iff}
 use Rattle.slotted_model.proofs.Correspondences.Restricting.{joined_maps}
 use Rattle.slotted_proofs.specs.declared.equation.Equation.{Equation as Sides}
 use Rattle.slotted_proofs.specs.Equations.{Statement, to_applied, equality, statement_of, reflexive_statement, AreSides, IsWritten}
-use Rattle.slotted_proofs.specs.Entries.{Proven, statement_at}
+use Rattle.slotted_proofs.specs.Entries.{Proven, Stands, statement_at}
 use Rattle.slotted_proofs.specs.Steps.{AreFull, HasInjectiveSides, Matches, IsEntry, GoesOver, IsJoined, IsTransitiveStep}
 use Rattle.slotted_proofs.proofs.Written.{stated, sides_eq, sides_eq-same, SameSides, same_statement, written_once, maps_eq, map_same, not_false, not_true}
 
@@ -79,15 +79,18 @@ states-entry list p a b c d fa fb l w e = record {
   matches = state-matches a b c d fa fb (own_left (statement_at list p) c d w) (own_right (statement_at list p) c d w) (e ∙ sym (stated (statement_at list p) c d w));
 }
 
--- and so the code tells: the written form of the one is the other
-pub entry_told : (list : List Proven) (p : ℕ) (a b : Applied) (asked f : Sides) → AreSides (equality a b) (to_applied asked.l) (to_applied asked.r) → IsInjectiveMap a.1 → IsInjectiveMap b.1 → p < length list → IsWritten (statement_at list p) f → (t : Bool) → t ≡ sides_eq asked f → IsTrue t ↔ IsEntry list p a b
-entry_told list p a b asked f w h k l v t e =
+-- and so it does if its written form stands there
+pub entry_stands : (list : List Proven) (p : ℕ) (a b : Applied) (asked : Sides) → AreSides (equality a b) (to_applied asked.l) (to_applied asked.r) → IsInjectiveMap a.1 → IsInjectiveMap b.1 → Stands list (statement_of asked) p ↔ IsEntry list p a b
+entry_stands list p a b asked w h k =
+    let l : Applied = to_applied asked.l in
+    let r : Applied = to_applied asked.r in
     let fa : IsFullMap (keys a.1) a.1 = record { slots = refl; once = w.left_full.once; injective = h } in
     let fb : IsFullMap (keys b.1) b.1 = record { slots = refl; once = w.right_full.once; injective = k } in
-    let told : IsTrue (sides_eq asked f) ↔ SameSides asked f = sides_eq-same asked f in (
-      λ y. states-entry list p a b (to_applied f.l) (to_applied f.r) fa fb l v
-          (sym (stated (equality a b) (to_applied asked.l) (to_applied asked.r) w) ∙ (same_statement asked f (told.0 (sym e ∙ y)) ∙ stated (statement_at list p) (to_applied f.l) (to_applied f.r) v)),
-      λ i. e ∙ told.1 (written_once (statement_at list p) asked f (subst (λ s. AreSides s (to_applied asked.l) (to_applied asked.r)) (entry-states list p a b fa fb i) w) v),
+    let is : equality l r ≡ equality a b = stated (equality a b) l r w in (
+      λ stands.
+          let there : equality a b ≡ statement_at list p = sym (stands.statement ∙ is) in
+          states-entry list p a b l r fa fb stands.in_range (subst (λ s. AreSides s l r) there w) there,
+      λ entry. record { in_range = entry.in_range; statement = sym (entry-states list p a b fa fb entry) ∙ sym is },
     )
 
 -- the comparison of applied ids

@@ -11,8 +11,8 @@ invariant_of-self-2 c =
     let e = c.args.equation in
     let x : Proven = proven_of e c.args.proof in
     let is_new : IsNew (shown es) (statement_of e) = subst (λ list. IsNew list (statement_of e)) (sym c.self.view_is) c.requires.new in
-    let same : c.insert.new.self.entries ≡ es ++ (e, c.args.proof) ∷ [] = c.in_ok-insert.ensures.entries ∙ insert_new es e c.args.proof is_new in
-    let more : shown c.insert.new.self.entries ≡ shown es ++ x ∷ [] = ap shown same ∙ shown-more es e c.args.proof in (
+    let same : c.put.new.map.entries ≡ es ++ (e, c.args.proof) ∷ [] = c.in_ok-put.ensures.ok ∙ insert_new es e c.args.proof is_new in
+    let more : shown c.put.new.map.entries ≡ shown es ++ x ∷ [] = ap shown same ∙ shown-more es e c.args.proof in (
       subst AreWritten (sym same) (written_more es e c.args.proof c.self.invariant.0 c.requires.written),
       c.self.invariant.1 ∙ (sym (explicit-other 0 (shown es) x c.requires.step) ∙ ap (λ list. explicit_numbers (entries_of list)) (sym more)),
     )
@@ -23,6 +23,6 @@ returns-clause-ok c =
     let e = c.args.equation in
     let x : Proven = proven_of e c.args.proof in
     let is_new : IsNew (shown es) (statement_of e) = subst (λ list. IsNew list (statement_of e)) (sym c.self.view_is) c.requires.new in
-    let same : c.insert.new.self.entries ≡ es ++ (e, c.args.proof) ∷ [] = c.in_ok-insert.ensures.entries ∙ insert_new es e c.args.proof is_new in
-    let more : shown c.insert.new.self.entries ≡ shown es ++ x ∷ [] = ap shown same ∙ shown-more es e c.args.proof in
+    let same : c.put.new.map.entries ≡ es ++ (e, c.args.proof) ∷ [] = c.in_ok-put.ensures.ok ∙ insert_new es e c.args.proof is_new in
+    let more : shown c.put.new.map.entries ≡ shown es ++ x ∷ [] = ap shown same ∙ shown-more es e c.args.proof in
     more ∙ ap (λ list. list ++ x ∷ []) c.self.view_is
