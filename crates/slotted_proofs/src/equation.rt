@@ -12,7 +12,7 @@ ghost use Rattle.slotted_model.specs.Correspondence.{IsPartialInjection, same_na
 ghost use Rattle.slotted_proofs.specs.Equations.{to_applied, statement_of, partnered_statement, turned_statement, composite_statement, Meets, IsWritten, HaveManyNames, HasManyNames};
 ghost use Rattle.slotted_proofs.specs.Fresh.{IsSentBy, IsSentOn, AreKnownOr, StaysInjective, TakesFor, TakesToSend, LacksToSend, names_of, side_names};
 
-use crate::numbering::{composite, numbered, numbered_by, shared_names};
+use crate::numbering::{is_short, number_sides, numbered, shared_names, shared_over};
 use slotted_slots::{AppliedId, Error, Slot, SlotMap, SlotTable, SmallHashSet};
 use std::alloc::Global;
 
@@ -183,7 +183,12 @@ impl Equation {
         ensures full { IsErrOf result Error.OutOfSlots ↔ HaveManyNames self.now.l.m other.now.r.m }
         ensures err { IfErr result IsShortage }
     {
-        composite(alloc, self, other)
+        if !is_short(&self.l, &other.r) {
+            return Err(Error::OutOfSlots);
+        }
+        prove_eq!(self.r.m.len(), other.l.m.len());
+        let partners = shared_over(alloc, &other.r.m, &other.l.m, &self.r.m, &self.l.m)?;
+        number_sides(alloc, &self.l, &other.r, &partners)
     }
 
     /// The equation of two classes over the slots of two ids of them, with numbered names: a slot of the right class carries one name
@@ -199,6 +204,9 @@ impl Equation {
         ensures full { IsErrOf result Error.OutOfSlots ↔ HaveManyNames l.now.m r.now.m }
         ensures err { IfErr result IsShortage }
     {
-        numbered_by(alloc, l, r, partners)
+        if !is_short(l, r) {
+            return Err(Error::OutOfSlots);
+        }
+        number_sides(alloc, l, r, partners)
     }
 }

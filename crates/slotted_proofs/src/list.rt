@@ -131,22 +131,8 @@ impl ProofList {
             return Ok(number);
         }
         if proof.is_explicit() {
-            self.push_asserted(equation, proof)
-        } else {
-            self.push(equation, proof)
+            return self.push_asserted(equation, proof);
         }
-    }
-
-    // A new equation at the end, which is not asserted.
-    fn push(&mut self, equation: Equation, proof: Proof) -> Result<ProvenEq, Error>
-        requires written { IsWritten (statement_of equation) equation }
-        requires new { IsNew self.old (statement_of equation) }
-        requires step { is_explicit (step_of proof) ≡ false }
-        ensures ok { OnOk result (self.new ≡ self.old ++ proven_of equation proof ∷ []) }
-        ensures number { IfOk result (λ p. p ≡ length self.old) }
-        ensures memory { IfErr result IsOutOfMemory }
-        ensures err { OnErr result (self.new ≡ self.old) }
-    {
         let last = ProvenEq::at(self.len());
         put(&mut self.entries, equation, proof)?;
         Ok(last)

@@ -59,7 +59,7 @@ pub(crate) fn shared_over(
 }
 
 // Whether the two sides have fewer places than an equation may have.
-fn is_short(l: &AppliedId, r: &AppliedId) -> bool
+pub(crate) fn is_short(l: &AppliedId, r: &AppliedId) -> bool
     ensures short { IsTrue result ↔ (length l.now.m + length r.now.m < slot_limit) }
     ensures left_ascends { IsAscending (keys l.now.m) }
     ensures right_ascends { IsAscending (keys r.now.m) }
@@ -130,7 +130,7 @@ fn number_right(
 }
 
 // The equation between the classes of two sides, over their slots, where the partners of right slots are given.
-fn number_sides(
+pub(crate) fn number_sides(
     alloc: Global,
     l: &AppliedId,
     r: &AppliedId,
@@ -149,24 +149,6 @@ fn number_sides(
         l: AppliedId { id: l.id, m: left },
         r: AppliedId { id: r.id, m: right },
     })
-}
-
-// The same where the sides may have too many places.
-pub(crate) fn numbered_by(
-    alloc: Global,
-    l: &AppliedId,
-    r: &AppliedId,
-    partners: &SlotMap,
-) -> Result<Equation, Error>
-    requires { IsPartialInjection (keys r.now.m) (keys l.now.m) partners.now }
-    ensures ok { IfOk result (IsWritten (partnered_statement l.now r.now partners.now)) }
-    ensures full { IsErrOf result Error.OutOfSlots ↔ HaveManyNames l.now.m r.now.m }
-    ensures err { IfErr result IsShortage }
-{
-    if !is_short(l, r) {
-        return Err(Error::OutOfSlots);
-    }
-    number_sides(alloc, l, r, partners)
 }
 
 // The equality of two applied ids, with numbered names.
@@ -200,27 +182,4 @@ pub(crate) fn numbered_itself(alloc: Global, a: &AppliedId) -> Result<Equation, 
         l: AppliedId { id: a.id, m: left },
         r: AppliedId { id: a.id, m: right },
     })
-}
-
-// First the one equation, then the other, with numbered names.
-pub(crate) fn composite(
-    alloc: Global,
-    first: &Equation,
-    second: &Equation,
-) -> Result<Equation, Error>
-    requires left { IsInjectiveMap first.now.l.m }
-    requires middle { IsInjectiveMap first.now.r.m }
-    requires other_middle { IsInjectiveMap second.now.l.m }
-    requires right { IsInjectiveMap second.now.r.m }
-    requires meets { Meets (statement_of first.now) (statement_of second.now) }
-    ensures ok { IfOk result (IsWritten (composite_statement (statement_of first.now) (statement_of second.now))) }
-    ensures full { IsErrOf result Error.OutOfSlots ↔ HaveManyNames first.now.l.m second.now.r.m }
-    ensures err { IfErr result IsShortage }
-{
-    if !is_short(&first.l, &second.r) {
-        return Err(Error::OutOfSlots);
-    }
-    prove_eq!(first.r.m.len(), second.l.m.len());
-    let partners = shared_over(alloc, &second.r.m, &second.l.m, &first.r.m, &first.l.m)?;
-    number_sides(alloc, &first.l, &second.r, &partners)
 }

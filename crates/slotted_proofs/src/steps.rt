@@ -7,7 +7,7 @@ ghost use Rattle.slotted_model.specs.Applied.{keys};
 ghost use Rattle.slotted_model.specs.ProofList.{congruent, reflexive, symmetric, transitive};
 ghost use Rattle.slotted_proofs.specs.Equations.{to_applied, statement_of, IsWritten, HaveManyNames, HasManyNames};
 ghost use Rattle.slotted_proofs.specs.Entries.{Stands};
-ghost use Rattle.slotted_proofs.specs.Steps.{AreAsked, IsAsked, AreEntries, AreFull, HasInjectiveSides, IsLarge, HalvesGoOver, HalvesJoin, PairsJoin, IsEntry, IsOver, IsSideOver, IsReflexiveStep, IsSymmetricStep, IsTransitiveStep, FitsReflexive, FitsSymmetric, FitsTransitive, IsRefusal, EntersStep, middle_pairs, known_pairs, reached_pairs};
+ghost use Rattle.slotted_proofs.specs.Steps.{AreAsked, IsAsked, AreEntries, AreFull, HasInjectiveSides, IsLarge, HalvesGoOver, HalvesJoin, PairsJoin, IsEntry, IsOver, IsSideOver, IsReflexiveStep, IsSymmetricStep, IsTransitiveStep, FitsReflexive, FitsSymmetric, FitsTransitive, IsRefusal, EntersStep, known_pairs, reached_pairs};
 
 use crate::equation::Equation;
 use crate::list::ProofList;
@@ -70,16 +70,6 @@ fn reached_pairs(alloc: Global, asked: &SlotMap, second: &Equation) -> Result<Sl
 {
     let reached = sent_along(alloc, asked, &second.r.m, &second.l.m)?;
     sent_along(alloc, &reached, &second.l.m, &second.r.m)
-}
-
-// What the two halves say, one after the other.
-fn middle_pairs(alloc: Global, first: &Equation, second: &Equation) -> Result<SlotMap, Error>
-    requires first { IsInjectiveMap first.now.r.m }
-    requires second { IsInjectiveMap second.now.r.m }
-    ensures ok { IfOk result (λ m. m ≡ middle_pairs first.now second.now) }
-    ensures err { IfErr result IsOutOfMemory }
-{
-    shared_over(alloc, &first.l.m, &first.r.m, &second.l.m, &second.r.m)
 }
 
 // Whether these pairs are what the asked ones say of the slots that the first half knows.
@@ -145,7 +135,7 @@ fn joins_as(
     ensures ok { IfOk result (λ yes. IsTrue yes ↔ AreAsked first.now second.now asked.now) }
     ensures err { IfErr result IsOutOfMemory }
 {
-    let over = middle_pairs(alloc, first, second)?;
+    let over = shared_over(alloc, &first.l.m, &first.r.m, &second.l.m, &second.r.m)?;
     are_asked(alloc, &over, first, second, asked)
 }
 
