@@ -5,11 +5,12 @@ use Rattle.std.specs.Map.{keys_of, lookup}
 use Rattle.std.proofs.lemmas.List.Quantifiers.{position-Some}
 use Rattle.std.proofs.lemmas.Bool.{false≢true, cases_Bool}
 use Rattle.std.proofs.lemmas.List.{map-append}
+use Rattle.std.proofs.lemmas.Grind.{common_steps}
 use Rattle.indexmap.specs.IndexMap.{insert_entry}
 use Rattle.slotted_proofs.specs.declared.equation.Equation.{Equation as Sides}
 use Rattle.slotted_proofs.specs.declared.proof.Proof.{Proof}
 use Rattle.slotted_proofs.specs.Equations.{Statement, statement_of, IsWritten}
-use Rattle.slotted_proofs.specs.Entries.{Proven, proven_of, entries_of, statement_at, is_explicit, explicit_from, Stands, IsNew}
+use Rattle.slotted_proofs.specs.Entries.{Proven, proven_of, entries_of, statement_at, is_explicit, explicit_from, Stands, IsNew, Enters}
 use Rattle.slotted_proofs.specs.Stored.{AreWritten}
 use Rattle.slotted_proofs.proofs.Written.{sides_eq, sides_eq-same, same_statement, written_once}
 
@@ -109,3 +110,7 @@ explicit-asserted i [] x h = ap (λ b. cond b (i ∷ []) []) h ∙ ap (λ n. n �
 explicit-asserted i (y ∷ list) x h =
     ap (λ r. cond (is_explicit y.step) (i ∷ r) r) (explicit-asserted (suc i) list x h)
     ∙ number_last (is_explicit y.step) i (suc i + length list) (i + suc (length list)) (explicit_from (suc i) (entries_of list)) (omega arith)
+
+-- what is new and put last is entered
+pub entered_last : (old new : List Proven) (x : Proven) (p : ℕ) → IsNew old x.statement → p ≡ length old → new ≡ old ++ x ∷ [] → Enters old new x p
+entered_last old new x p is_new at more = grind (arith, common_steps, is_new, at, more)

@@ -15,7 +15,7 @@ use Rattle.slotted_model.proofs.Correspondences.Pairs.{Contains-flipped, Contain
 use Rattle.slotted_model.proofs.Correspondences.PartialInjections.{one_partner, turned-pair, turned-by, turned-partial, composite-partial, turned-composite}
 use Rattle.slotted_model.proofs.Correspondences.FullMaps.{with_values-full, same_names-with_values, same_names-partial, same_names-turned}
 use Rattle.slotted_model.proofs.Correspondences.Numbers.{numbered-form}
-use Rattle.slotted_proofs.specs.Equations.{Statement, AreSides, numbered_left, numbered_right}
+use Rattle.slotted_proofs.specs.Equations.{Statement, AreSides, named_after, numbered_left, numbered_right}
 use Rattle.slotted_proofs.proofs.Bridges.{value_of-model, composed-model}
 
 -- the map whose first i slots have the numbers from k on
@@ -102,13 +102,28 @@ with_pair-last (p ∷ m) rest t v w a =
     with_pair-after p m t v (above_last p.0 m rest t w a.0)
     ∙ ap (λ r. p ∷ r) (with_pair-last m rest t v w a.1)
 
+-- slots that are named after those of a map, as they are numbered where their partners are known
+pub keys-named_after : (known : List (ℕ × ℕ)) (n : ℕ) (Q : List ℕ) → keys (named_after known n Q) ≡ Q
+keys-named_after known n [] = refl
+keys-named_after known n (t ∷ Q) = ap (λ L. t ∷ L) (keys-named_after known (cond (is_some (code.value_of known t)) n (n + 1)) Q)
+
+pub named-numbered : (f : ℕ → Option ℕ) (known : List (ℕ × ℕ)) → ((t : ℕ) → code.value_of known t ≡ option_map numeric_slot (f t)) → (n : ℕ) (Q : List ℕ) → named_after known n Q ≡ with_values numeric_slot (numbered_after f n Q)
+named-numbered f known e n [] = refl
+named-numbered f known e n (t ∷ Q) =
+    let w : Option ℕ = code.value_of known t in
+    let takes = takes_name (f t) w n (unwrap_or w (numeric_slot n)) (cond (is_some w) n (n + 1)) (e t) refl refl in
+    (λ i. (t, takes.0 i) ∷ named_after known (takes.1 i) Q)
+    ∙ ap (λ r. (t, numeric_slot (unwrap_or (f t) n)) ∷ r) (named-numbered f known e (cond (is_some (f t)) n (suc n)) Q)
+
 -- one more slot of the right side has its name
-pub side-step : (f : ℕ → Option ℕ) (k : ℕ) (P : List ℕ) (side : List (ℕ × ℕ)) (n t v next : ℕ) (Q : List ℕ) → IsAscending P → v ≡ numeric_slot (unwrap_or (f t) n) → next ≡ cond (is_some (f t)) n (suc n) → side ++ with_values numeric_slot (numbered_after f n (t ∷ Q)) ≡ with_values numeric_slot (numbered_after f k P) → with_pair side t v ++ with_values numeric_slot (numbered_after f next Q) ≡ with_values numeric_slot (numbered_after f k P)
-side-step f k P side n t v next Q a ev en whole =
-    let rest : List (ℕ × ℕ) = with_values numeric_slot (numbered_after f (cond (is_some (f t)) n (suc n)) Q) in
-    let w : ℕ = numeric_slot (unwrap_or (f t) n) in
-    let up : IsAscending (keys (side ++ (t, w) ∷ rest)) = subst IsAscending (sym (ap keys whole ∙ keys-numbered_after f k P)) a in
-    (λ i. with_pair side t (ev i) ++ with_values numeric_slot (numbered_after f (en i) Q))
+pub side-step : (known : List (ℕ × ℕ)) (k : ℕ) (P : List ℕ) (side : List (ℕ × ℕ)) (n t v next : ℕ) (Q : List ℕ) → IsAscending P →
+    v ≡ unwrap_or (code.value_of known t) (numeric_slot n) → next ≡ cond (is_some (code.value_of known t)) n (n + 1) →
+    side ++ named_after known n (t ∷ Q) ≡ named_after known k P → with_pair side t v ++ named_after known next Q ≡ named_after known k P
+side-step known k P side n t v next Q a ev en whole =
+    let w : ℕ = unwrap_or (code.value_of known t) (numeric_slot n) in
+    let rest : List (ℕ × ℕ) = named_after known (cond (is_some (code.value_of known t)) n (n + 1)) Q in
+    let up : IsAscending (keys (side ++ (t, w) ∷ rest)) = subst IsAscending (sym (ap keys whole ∙ keys-named_after known k P)) a in
+    (λ i. with_pair side t (ev i) ++ named_after known (en i) Q)
     ∙ (ap (λ l. l ++ rest) (with_pair-last side rest t w w up)
     ∙ (append_assoc side ((t, w) ∷ []) rest ∙ whole))
 

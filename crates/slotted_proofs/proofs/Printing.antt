@@ -13,7 +13,7 @@ numbers_text-step lines before done ps i p line whole lt is found so_far =
     regrouped ∙ (ap (λ l. done ++ (before ++ (number_text l ++ rest))) found ∙ (ap (λ qs. done ++ numbers_text lines before qs) (sym head) ∙ so_far))
 
 -- all are written
-pub numbers_text-all : (lines before done name : List ℕ) (ps : List ℕ) (i : ℕ) → length ps ≤ i → done ++ numbers_text lines before (drop i ps) ≡ (name ++ codes "(") ++ numbers_text lines [] ps → done ++ codes ")" ≡ name ++ (codes "(" ++ (numbers_text lines [] ps ++ codes ")"))
-numbers_text-all lines before done name ps i le so_far =
-    let done_is : done ≡ (name ++ codes "(") ++ numbers_text lines [] ps = sym (append-nil done) ∙ (ap (λ qs. done ++ numbers_text lines before qs) (sym (drop_all i ps le)) ∙ so_far) in
-    ap (λ d. d ++ codes ")") done_is ∙ (append_assoc (name ++ codes "(") (numbers_text lines [] ps) (codes ")") ∙ append_assoc name (codes "(") (numbers_text lines [] ps ++ codes ")"))
+pub numbers_text-all : (lines before done first : List ℕ) (ps : List ℕ) (i : ℕ) → length ps ≤ i → done ++ numbers_text lines before (drop i ps) ≡ first ++ numbers_text lines [] ps → done ++ codes ")" ≡ first ++ (numbers_text lines [] ps ++ codes ")")
+numbers_text-all lines before done first ps i le so_far =
+    let done_is : done ≡ first ++ numbers_text lines [] ps = sym (append-nil done) ∙ (ap (λ qs. done ++ numbers_text lines before qs) (sym (drop_all i ps le)) ∙ so_far) in
+    ap (λ d. d ++ codes ")") done_is ∙ append_assoc first (numbers_text lines [] ps) (codes ")")

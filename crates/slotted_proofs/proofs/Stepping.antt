@@ -1,20 +1,19 @@
 -- When steps fit, by what their equations state.
-use Rattle.std.proofs.Common.{◌≡◌, ◌↔◌, ℕ, ◌<◌, List, [], ◌∷◌, length, Bool, true, false, rules, refl, sym, ap, ◌∙◌, subst}
+use Rattle.std.proofs.Common.{◌≡◌, ◌↔◌, ℕ, ◌<◌, List, length, Bool, true, false, rules, refl, sym, ap, ◌∙◌, subst}
 use Rattle.std.specs.Prelude.{IsTrue, ◌&&◌, nat_eq, not}
 use Rattle.slotted_slots.specs.declared.types.AppliedId.{AppliedId}
-use Rattle.slotted_slots.specs.Maps.{doubled}
 use Rattle.slotted_theory.specs.FiniteMaps.{IsInjectiveMap, with_values}
 use Rattle.slotted_model.specs.Applied.{Applied, keys}
-use Rattle.slotted_model.specs.Correspondence.{AllDifferent, IsFullMap, IsPartialInjection, CanJoin, composite, turned, same_names, identity}
+use Rattle.slotted_model.specs.Correspondence.{AllDifferent, IsFullMap, IsPartialInjection, CanJoin, composite, turned, same_names}
 use Rattle.slotted_model.proofs.Correspondences.FullMaps.{with_values-keys, same_names-partial, same_names-itself, same_names-turned}
 use Rattle.slotted_model.proofs.Correspondences.Matching.{match_iff}
 use Rattle.slotted_model.proofs.Correspondences.Middle.{middle_iff}
 use Rattle.slotted_model.proofs.Correspondences.Restricting.{joined_maps}
 use Rattle.slotted_proofs.specs.declared.equation.Equation.{Equation as Sides}
 use Rattle.slotted_proofs.specs.Equations.{Statement, to_applied, equality, statement_of, reflexive_statement, AreSides, IsWritten}
-use Rattle.slotted_proofs.specs.Entries.{Proven, statement_at}
+use Rattle.slotted_proofs.specs.Entries.{Proven, Stands, statement_at}
 use Rattle.slotted_proofs.specs.Steps.{AreFull, HasInjectiveSides, Matches, IsEntry, GoesOver, IsJoined, IsTransitiveStep}
-use Rattle.slotted_proofs.proofs.Written.{stated, sides_eq, sides_eq-same, SameSides, same_statement, written_once, maps_eq, map_same, not_false, not_true}
+use Rattle.slotted_proofs.proofs.Written.{stated, maps_eq, map_same, not_false, not_true}
 
 -- an injective map takes keys to keys
 match-keys : (m m' : List (ℕ × ℕ)) (f : ℕ → ℕ) → m' ≡ with_values f m → keys m ≡ keys m'
@@ -39,20 +38,6 @@ module _ (a b c d : Applied) (fa : IsFullMap (keys a.1) a.1) (fb : IsFullMap (ke
         right = ap (λ (s : Statement). s.equation.right) h;
         names = (match_iff (keys a.1) (keys b.1) a.1 b.1 c.1 d.1 fa fb (subst (λ K. IsFullMap K c.1) (sym P) fc) (subst (λ K. IsFullMap K d.1) (sym Q) fd)).1 e;
       }
-
--- the slots of a full map, each with itself
-keys-identity : (P : List ℕ) → keys (identity P) ≡ P
-keys-identity [] = refl
-keys-identity (x ∷ P) = ap (λ L. x ∷ L) (keys-identity P)
-
--- maps over the same slots are told by what they share with themselves
-pub same_slots : (m n : List (ℕ × ℕ)) → IsFullMap (keys m) m → IsFullMap (keys n) n → (same_names m m ≡ same_names n n) ↔ (keys m ≡ keys n)
-same_slots m n f g =
-    let a : same_names m m ≡ identity (keys m) = same_names-itself (keys m) m f in
-    let b : same_names n n ≡ identity (keys n) = same_names-itself (keys n) n g in (
-      λ e. sym (keys-identity (keys m)) ∙ (ap keys (sym a ∙ (e ∙ b)) ∙ keys-identity (keys n)),
-      λ e. a ∙ (ap identity e ∙ sym b),
-    )
 
 -- the sides of a written statement are full
 pub own_left : (s : Statement) (a b : Applied) → AreSides s a b → IsFullMap (keys a.1) a.1
@@ -79,15 +64,18 @@ states-entry list p a b c d fa fb l w e = record {
   matches = state-matches a b c d fa fb (own_left (statement_at list p) c d w) (own_right (statement_at list p) c d w) (e ∙ sym (stated (statement_at list p) c d w));
 }
 
--- and so the code tells: the written form of the one is the other
-pub entry_told : (list : List Proven) (p : ℕ) (a b : Applied) (asked f : Sides) → AreSides (equality a b) (to_applied asked.l) (to_applied asked.r) → IsInjectiveMap a.1 → IsInjectiveMap b.1 → p < length list → IsWritten (statement_at list p) f → (t : Bool) → t ≡ sides_eq asked f → IsTrue t ↔ IsEntry list p a b
-entry_told list p a b asked f w h k l v t e =
+-- and so it does if its written form stands there
+pub entry_stands : (list : List Proven) (p : ℕ) (a b : Applied) (asked : Sides) → AreSides (equality a b) (to_applied asked.l) (to_applied asked.r) → IsInjectiveMap a.1 → IsInjectiveMap b.1 → Stands list (statement_of asked) p ↔ IsEntry list p a b
+entry_stands list p a b asked w h k =
+    let l : Applied = to_applied asked.l in
+    let r : Applied = to_applied asked.r in
     let fa : IsFullMap (keys a.1) a.1 = record { slots = refl; once = w.left_full.once; injective = h } in
     let fb : IsFullMap (keys b.1) b.1 = record { slots = refl; once = w.right_full.once; injective = k } in
-    let told : IsTrue (sides_eq asked f) ↔ SameSides asked f = sides_eq-same asked f in (
-      λ y. states-entry list p a b (to_applied f.l) (to_applied f.r) fa fb l v
-          (sym (stated (equality a b) (to_applied asked.l) (to_applied asked.r) w) ∙ (same_statement asked f (told.0 (sym e ∙ y)) ∙ stated (statement_at list p) (to_applied f.l) (to_applied f.r) v)),
-      λ i. e ∙ told.1 (written_once (statement_at list p) asked f (subst (λ s. AreSides s (to_applied asked.l) (to_applied asked.r)) (entry-states list p a b fa fb i) w) v),
+    let is : equality l r ≡ equality a b = stated (equality a b) l r w in (
+      λ stands.
+          let there : equality a b ≡ statement_at list p = sym (stands.statement ∙ is) in
+          states-entry list p a b l r fa fb stands.in_range (subst (λ s. AreSides s l r) there w) there,
+      λ entry. record { in_range = entry.in_range; statement = sym (entry-states list p a b fa fb entry) ∙ sym is },
     )
 
 -- the comparison of applied ids
@@ -107,22 +95,6 @@ pub equal_sides : (a b c d : Applied) → IsInjectiveMap a.1 → a ≡ b → Are
 equal_sides a b c d h e w =
     let full : IsFullMap (keys a.1) a.1 = record { slots = refl; once = w.left_full.once; injective = h } in
     (λ i. record { left_slots = keys a.1; right_slots = keys a.1; equation = record { left = a.0; right = a.0; pairs = sym (same_names-itself (keys a.1) a.1 full) i } }) ∙ ap (equality a) e
-
--- slots that a map knows, each with itself
-keys-doubled : (xs : List ℕ) → keys (doubled xs) ≡ xs
-keys-doubled [] = refl
-keys-doubled (x ∷ xs) = ap (λ L. x ∷ L) (keys-doubled xs)
-
-doubled-identity : (xs : List ℕ) → doubled xs ≡ identity xs
-doubled-identity [] = refl
-doubled-identity (x ∷ xs) = ap (λ L. (x, x) ∷ L) (doubled-identity xs)
-
-pub over_slots : (m : List (ℕ × ℕ)) (xs : List ℕ) → IsFullMap (keys m) m → (same_names m m ≡ doubled xs) ↔ (keys m ≡ xs)
-over_slots m xs f =
-    let a : same_names m m ≡ identity (keys m) = same_names-itself (keys m) m f in (
-      λ e. sym (keys-identity (keys m)) ∙ (ap keys (sym a ∙ e) ∙ keys-doubled xs),
-      λ e. a ∙ (ap identity e ∙ sym (doubled-identity xs)),
-    )
 
 -- what matches an entry on the left has a name of its own for each slot
 pub left_full : (list : List Proven) (p : ℕ) (a b : Applied) → IsInjectiveMap a.1 → IsEntry list p a b → IsFullMap (keys a.1) a.1

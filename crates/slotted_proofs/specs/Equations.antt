@@ -3,9 +3,10 @@
 --     statement_of e    what an equation of the code states
 --     IsWritten s e     the equation of the code states s, and its names are numbered from `$0` as they first occur, left side first
 --     HasManyNames e    the equation of the code has too many names to be numbered
-use Rattle.std.specs.Prelude.{◌≡◌, ◌≤◌, ◌+◌, ℕ, List, length}
+use Rattle.std.specs.Prelude.{◌≡◌, ◌≤◌, ◌+◌, ℕ, List, [], ◌∷◌, length, cond, is_some, unwrap_or}
 use Rattle.slotted_theory.specs.FiniteMaps.{value_of, with_values}
 use Rattle.slotted_slots.specs.declared.types.AppliedId.{AppliedId}
+use Rattle.slotted_slots.specs.Maps.{value_of as found_at}
 use Rattle.slotted_slots.specs.Table.{numeric_slot, slot_limit}
 use Rattle.slotted_model.specs.Applied.{Applied, keys}
 use Rattle.slotted_model.specs.Correspondence.{IsFullMap, numbered, numbered_from, numbered_after, identity, turned, composite, same_names}
@@ -78,6 +79,11 @@ numbered_right P Q A = with_values numeric_slot (numbered P Q A).1
 abbrev pub numbered_beside : List (ℕ × ℕ) → List (ℕ × ℕ) → List ℕ → List (ℕ × ℕ)
 numbered_beside left partners Q =
     with_values numeric_slot (numbered_after (value_of (composite partners (numbered_from 0 (keys left)))) (length left) Q)
+
+-- the slots Q with the names that a map has for them, and the next numbered names, from n on, for the rest
+abbrev pub named_after : List (ℕ × ℕ) → ℕ → List ℕ → List (ℕ × ℕ)
+named_after known n [] = []
+named_after known n (t ∷ Q) = (t, unwrap_or (found_at known t) (numeric_slot n)) ∷ named_after known (cond (is_some (found_at known t)) n (n + 1)) Q
 
 -- a and b are the two sides of the statement, with numbered names
 pub record AreSides (s : Statement) (a b : Applied) : Type 0 where

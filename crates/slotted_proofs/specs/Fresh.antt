@@ -17,6 +17,11 @@ side_names e = values e.l.m ++ values e.r.m
 abbrev pub names_of : Sides → List ℕ
 names_of e = set_of nat_cmp (side_names e)
 
+-- the names of both sides are sent on by a map
+pub record IsSentBy (names : List (ℕ × ℕ)) (e s : Sides) : Type 0 where
+  pub left : to_applied s.l ≡ (e.l.id.0, composed e.l.m names)
+  pub right : to_applied s.r ≡ (e.r.id.0, composed e.r.m names)
+
 -- one map sends the names of both sides on: a name to what m has for it, and each that m lacks to a new slot of its own
 pub record IsSentOn (old new : Table) (m : List (ℕ × ℕ)) (e s : Sides) : Type 0 where
   pub names : List (ℕ × ℕ)

@@ -76,6 +76,10 @@ known_pairs first asked = composite (composite (pairs_of first) (same_names firs
 abbrev pub reached_pairs : List (ℕ × ℕ) → Sides → List (ℕ × ℕ)
 reached_pairs asked second = composite (composite asked (same_names second.r.m second.l.m)) (pairs_of second)
 
+-- these pairs are what the asked ones say of the slots that the first half knows, and of those that the second one reaches
+abbrev pub IsAsked : List (ℕ × ℕ) → Sides → Sides → List (ℕ × ℕ) → Type 0
+IsAsked over first second asked = (over ≡ known_pairs first asked) × (over ≡ reached_pairs asked second)
+
 -- the halves, one after the other, say what the asked pairs say of the slots that the first one knows, and of those that the second one reaches
 abbrev pub AreAsked : Sides → Sides → List (ℕ × ℕ) → Type 0
 AreAsked first second asked = (middle_pairs first second ≡ known_pairs first asked) ×

@@ -10,9 +10,9 @@ ghost use Rattle.slotted_slots.specs.Table.{KnowsMore, slot_limit};
 ghost use Rattle.slotted_model.specs.Applied.{keys};
 ghost use Rattle.slotted_model.specs.Correspondence.{IsPartialInjection, same_names};
 ghost use Rattle.slotted_proofs.specs.Equations.{to_applied, statement_of, partnered_statement, turned_statement, composite_statement, Meets, IsWritten, HaveManyNames, HasManyNames};
-ghost use Rattle.slotted_proofs.specs.Fresh.{IsSentOn, AreKnownOr, StaysInjective, TakesFor, TakesToSend, LacksToSend, names_of, side_names};
+ghost use Rattle.slotted_proofs.specs.Fresh.{IsSentBy, IsSentOn, AreKnownOr, StaysInjective, TakesFor, TakesToSend, LacksToSend, names_of, side_names};
 
-use crate::numbering::{composite, numbered, numbered_by, shared_names};
+use crate::numbering::{is_short, number_sides, numbered, shared_names, shared_over};
 use slotted_slots::{AppliedId, Error, Slot, SlotMap, SlotTable, SmallHashSet};
 use std::alloc::Global;
 
@@ -60,10 +60,7 @@ impl Equation {
         ensures right { IfOk result (λ e. to_applied e.r ≡ (self.now.r.id.0, composed self.now.r.m m.now)) }
         ensures err { IfErr result IsOutOfMemory }
     {
-        Ok(Equation {
-            l: self.l.apply_slotmap(alloc, m)?,
-            r: self.r.apply_slotmap(alloc, m)?,
-        })
+        self.over(alloc, m)
     }
 
     // Each name that stands on either side, with itself.
@@ -97,8 +94,7 @@ impl Equation {
 
     // Both sides, each with its names sent on by a map.
     fn over(&self, alloc: Global, names: &SlotMap) -> Result<Equation, Error>
-        ensures left { IfOk result (λ e. to_applied e.l ≡ (self.now.l.id.0, composed self.now.l.m names.now)) }
-        ensures right { IfOk result (λ e. to_applied e.r ≡ (self.now.r.id.0, composed self.now.r.m names.now)) }
+        ensures ok { IfOk result (IsSentBy names.now self.now) }
         ensures err { IfErr result IsOutOfMemory }
     {
         let left = self.l.m.compose_partial(alloc, names)?;
@@ -141,8 +137,7 @@ impl Equation {
         ensures only { IfErr result IsShortage }
     {
         let names = self.sent_names(alloc, m, table)?;
-        let sent = self.over(alloc, &names)?;
-        Ok(sent)
+        self.over(alloc, &names)
     }
 
     /// The slot of the right class, for each slot of the left one that carries one name with it.
@@ -173,8 +168,7 @@ impl Equation {
         ensures full { IsErrOf result Error.OutOfSlots ↔ HasManyNames self.now }
         ensures err { IfErr result IsShortage }
     {
-        let turned = numbered(alloc, &self.r, &self.l)?;
-        Ok(turned)
+        numbered(alloc, &self.r, &self.l)
     }
 
     /// From the left side of this equation to the right side of the other, with numbered names: slots share a name where
@@ -189,7 +183,12 @@ impl Equation {
         ensures full { IsErrOf result Error.OutOfSlots ↔ HaveManyNames self.now.l.m other.now.r.m }
         ensures err { IfErr result IsShortage }
     {
-        composite(alloc, self, other)
+        if !is_short(&self.l, &other.r) {
+            return Err(Error::OutOfSlots);
+        }
+        prove_eq!(self.r.m.len(), other.l.m.len());
+        let partners = shared_over(alloc, &other.r.m, &other.l.m, &self.r.m, &self.l.m)?;
+        number_sides(alloc, &self.l, &other.r, &partners)
     }
 
     /// The equation of two classes over the slots of two ids of them, with numbered names: a slot of the right class carries one name
@@ -205,7 +204,9 @@ impl Equation {
         ensures full { IsErrOf result Error.OutOfSlots ↔ HaveManyNames l.now.m r.now.m }
         ensures err { IfErr result IsShortage }
     {
-        let equation = numbered_by(alloc, l, r, partners)?;
-        Ok(equation)
+        if !is_short(l, r) {
+            return Err(Error::OutOfSlots);
+        }
+        number_sides(alloc, l, r, partners)
     }
 }

@@ -165,9 +165,9 @@ impl ProofList {
         ensures ok { IfOk result (λ lines. LinesOf self.now [] (p ∷ []) lines) }
         ensures err { IfErr result IsOutOfMemory }
     {
-        let mut lines = ProofLines::new(alloc);
         let mut stack = Vec::new(alloc);
         stack.push(p)?;
+        let mut lines = ProofLines::new(alloc);
         while let Some(top) = stack.pop() {
             self.take_turn(&mut lines, &mut stack, top)?;
         }

@@ -1,5 +1,6 @@
 //! The list of proved equations.
 ghost use Rattle.std.specs.Prelude.{◌≡◌, ◌<◌, ◌≤◌, ◌↔◌, ◌++◌, ◌∷◌, ℕ, [], false, length, IsTrue, IfSome, IfNone, IfOk, IfErr, OnOk, OnErr, IsErrOf, option_map, string_bytes};
+ghost use Rattle.indexmap.specs.IndexMap.{insert_entry};
 ghost use Rattle.slotted_theory.specs.FiniteMaps.{IsInjectiveMap};
 ghost use Rattle.slotted_slots.specs.Error.{IsOutOfMemory, IsShortage};
 ghost use Rattle.slotted_slots.specs.Table.{slot_limit};
@@ -15,6 +16,7 @@ use crate::proof::{
 use indexmap::IndexMap;
 use slotted_slots::{AppliedId, Error};
 use std::alloc::Global;
+use std::hash::Hash;
 use std::marker::Model;
 
 /// The proved equations, each once, in the order in which they were entered.
@@ -102,9 +104,7 @@ impl ProofList {
         ensures text { IfOk result (λ x. text_of x.proof ≡ (proven_at self.now p).text) }
         ensures err { IfErr result IsOutOfMemory }
     {
-        let equ = self.equ(p).copy(alloc)?;
-        let proof = self.proof(p).copy(alloc)?;
-        Ok(ProvenEqRaw { equ, proof })
+        ProvenEqRaw::of(alloc, self.equ(p), self.proof(p))
     }
 
     /// The number of the entry with this equation, whose names are numbered.
@@ -131,25 +131,11 @@ impl ProofList {
             return Ok(number);
         }
         if proof.is_explicit() {
-            self.push_asserted(equation, proof)
-        } else {
-            self.push(equation, proof)
+            return self.push_asserted(equation, proof);
         }
-    }
-
-    // A new equation at the end, which is not asserted.
-    fn push(&mut self, equation: Equation, proof: Proof) -> Result<ProvenEq, Error>
-        requires written { IsWritten (statement_of equation) equation }
-        requires new { IsNew self.old (statement_of equation) }
-        requires step { is_explicit (step_of proof) ≡ false }
-        ensures ok { OnOk result (self.new ≡ self.old ++ proven_of equation proof ∷ []) }
-        ensures number { IfOk result (λ p. p ≡ length self.old) }
-        ensures memory { IfErr result IsOutOfMemory }
-        ensures err { OnErr result (self.new ≡ self.old) }
-    {
-        let number = ProvenEq::at(self.len());
-        self.entries.insert(equation, proof)?;
-        Ok(number)
+        let last = ProvenEq::at(self.len());
+        put(&mut self.entries, equation, proof)?;
+        Ok(last)
     }
 
     // A new equation at the end, which is asserted.
@@ -164,7 +150,7 @@ impl ProofList {
     {
         let last = ProvenEq::at(self.len());
         self.asserted.reserve(1)?;
-        self.entries.insert(equation, proof)?;
+        put(&mut self.entries, equation, proof)?;
         self.asserted.push_reserved(last);
         Ok(last)
     }
@@ -259,4 +245,18 @@ impl ProofList {
         let equation = self.equ(p).composite(alloc, self.equ(q))?;
         self.enter(equation, Proof::Transitivity(TransitivityProof(p, q)))
     }
+}
+
+// Puts a value at a key, and lets go of what stood there.
+fn put<K: Eq + Hash + Drop, V: Drop>(
+    map: &mut IndexMap<K, V>,
+    key: K,
+    value: V,
+) -> Result<(), Error>
+    ensures ok { OnOk result (map.new.entries ≡ insert_entry K.eq map.old.entries key value) }
+    ensures memory { IfErr result IsOutOfMemory }
+    ensures err { OnErr result (map.new.entries ≡ map.old.entries) }
+{
+    map.insert(key, value)?;
+    Ok(())
 }

@@ -7,7 +7,7 @@ ghost use Rattle.slotted_slots.specs.Maps.{value_of as found_at};
 ghost use Rattle.slotted_slots.specs.Table.{numeric_slot, slot_limit};
 ghost use Rattle.slotted_model.specs.Applied.{keys};
 ghost use Rattle.slotted_model.specs.Correspondence.{AllDifferent, same_names, composite as one_after_another, numbered_from, IsPartialInjection};
-ghost use Rattle.slotted_proofs.specs.Equations.{to_applied, equality, statement_of, partnered_statement, reflexive_statement, composite_statement, numbered_beside, Meets, IsWritten, HaveManyNames};
+ghost use Rattle.slotted_proofs.specs.Equations.{to_applied, equality, statement_of, partnered_statement, reflexive_statement, composite_statement, numbered_beside, named_after, Meets, IsWritten, HaveManyNames};
 
 use crate::equation::Equation;
 use slotted_slots::{AppliedId, Error, Slot, SlotMap};
@@ -23,8 +23,7 @@ pub(crate) fn shared_names(alloc: Global, from: &SlotMap, to: &SlotMap) -> Resul
     ensures err { IfErr result IsOutOfMemory }
 {
     let back = to.inverse(alloc)?;
-    let shared = from.compose_partial(alloc, &back)?;
-    Ok(shared)
+    from.compose_partial(alloc, &back)
 }
 
 // Pairs whose second slots are sent on: a slot of the one map to that of the other with the same name.
@@ -60,7 +59,7 @@ pub(crate) fn shared_over(
 }
 
 // Whether the two sides have fewer places than an equation may have.
-fn is_short(l: &AppliedId, r: &AppliedId) -> bool
+pub(crate) fn is_short(l: &AppliedId, r: &AppliedId) -> bool
     ensures short { IsTrue result ↔ (length l.now.m + length r.now.m < slot_limit) }
     ensures left_ascends { IsAscending (keys l.now.m) }
     ensures right_ascends { IsAscending (keys r.now.m) }
@@ -99,6 +98,21 @@ fn name_or_next(known: &SlotMap, slot: Slot, next: &mut u32) -> Slot
     }
 }
 
+// The slots of a map with the names that they are known by, and the next numbers for the rest.
+fn name_slots(alloc: Global, map: &SlotMap, known: &SlotMap, first: u32) -> Result<SlotMap, Error>
+    requires { first + length map.now < slot_limit }
+    ensures ok { IfOk result (λ m. m ≡ named_after known.now first (keys map.now)) }
+    ensures err { IfErr result IsOutOfMemory }
+{
+    let mut side = SlotMap::new(alloc);
+    let mut next = first;
+    for (slot, _) in map.iter() {
+        let name = name_or_next(known, slot, &mut next);
+        side.insert(slot, name)?;
+    }
+    Ok(side)
+}
+
 // The right side: its slots with the names of their partners on the left side, and the next numbers for the rest.
 fn number_right(
     alloc: Global,
@@ -112,17 +126,11 @@ fn number_right(
     ensures err { IfErr result IsOutOfMemory }
 {
     let known = partners.compose_partial(alloc, left)?;
-    let mut side = SlotMap::new(alloc);
-    let mut next = left.len() as u32;
-    for (slot, _) in map.iter() {
-        let name = name_or_next(&known, slot, &mut next);
-        side.insert(slot, name)?;
-    }
-    Ok(side)
+    name_slots(alloc, map, &known, left.len() as u32)
 }
 
 // The equation between the classes of two sides, over their slots, where the partners of right slots are given.
-fn number_sides(
+pub(crate) fn number_sides(
     alloc: Global,
     l: &AppliedId,
     r: &AppliedId,
@@ -143,25 +151,6 @@ fn number_sides(
     })
 }
 
-// The same where the sides may have too many places.
-pub(crate) fn numbered_by(
-    alloc: Global,
-    l: &AppliedId,
-    r: &AppliedId,
-    partners: &SlotMap,
-) -> Result<Equation, Error>
-    requires { IsPartialInjection (keys r.now.m) (keys l.now.m) partners.now }
-    ensures ok { IfOk result (IsWritten (partnered_statement l.now r.now partners.now)) }
-    ensures full { IsErrOf result Error.OutOfSlots ↔ HaveManyNames l.now.m r.now.m }
-    ensures err { IfErr result IsShortage }
-{
-    if !is_short(l, r) {
-        return Err(Error::OutOfSlots);
-    }
-    let equation = number_sides(alloc, l, r, partners)?;
-    Ok(equation)
-}
-
 // The equality of two applied ids, with numbered names.
 pub(crate) fn numbered(alloc: Global, l: &AppliedId, r: &AppliedId) -> Result<Equation, Error>
     requires left { IsInjectiveMap l.now.m }
@@ -174,8 +163,7 @@ pub(crate) fn numbered(alloc: Global, l: &AppliedId, r: &AppliedId) -> Result<Eq
         return Err(Error::OutOfSlots);
     }
     let partners = shared_names(alloc, &r.m, &l.m)?;
-    let equation = number_sides(alloc, l, r, &partners)?;
-    Ok(equation)
+    number_sides(alloc, l, r, &partners)
 }
 
 // A class with these slots equals itself, with numbered names.
@@ -194,27 +182,4 @@ pub(crate) fn numbered_itself(alloc: Global, a: &AppliedId) -> Result<Equation, 
         l: AppliedId { id: a.id, m: left },
         r: AppliedId { id: a.id, m: right },
     })
-}
-
-// First the one equation, then the other, with numbered names.
-pub(crate) fn composite(
-    alloc: Global,
-    first: &Equation,
-    second: &Equation,
-) -> Result<Equation, Error>
-    requires left { IsInjectiveMap first.now.l.m }
-    requires middle { IsInjectiveMap first.now.r.m }
-    requires other_middle { IsInjectiveMap second.now.l.m }
-    requires right { IsInjectiveMap second.now.r.m }
-    requires meets { Meets (statement_of first.now) (statement_of second.now) }
-    ensures ok { IfOk result (IsWritten (composite_statement (statement_of first.now) (statement_of second.now))) }
-    ensures full { IsErrOf result Error.OutOfSlots ↔ HaveManyNames first.now.l.m second.now.r.m }
-    ensures err { IfErr result IsShortage }
-{
-    if !is_short(&first.l, &second.r) {
-        return Err(Error::OutOfSlots);
-    }
-    prove_eq!(first.r.m.len(), second.l.m.len());
-    let partners = shared_over(alloc, &second.r.m, &second.l.m, &first.r.m, &first.l.m)?;
-    number_sides(alloc, &first.l, &second.r, &partners)
 }

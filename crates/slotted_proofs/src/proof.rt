@@ -125,6 +125,18 @@ pub struct ProvenEqRaw {
 }
 
 impl ProvenEqRaw {
+    // An entry with copies of an equation and of a proof.
+    pub(crate) fn of(alloc: Global, equ: &Equation, proof: &Proof) -> Result<ProvenEqRaw, Error>
+        ensures equation { IfOk result (λ c. c.equ ≡ equ.now) }
+        ensures step { IfOk result (λ c. step_of c.proof ≡ step_of proof.now) }
+        ensures text { IfOk result (λ c. text_of c.proof ≡ text_of proof.now) }
+        ensures err { IfErr result IsOutOfMemory }
+    {
+        let equ = equ.copy(alloc)?;
+        let proof = proof.copy(alloc)?;
+        Ok(ProvenEqRaw { equ, proof })
+    }
+
     /// An entry with the same equation, by the same step, with the same text.
     pub fn copy(&self, alloc: Global) -> Result<ProvenEqRaw, Error>
         ensures equation { IfOk result (λ c. c.equ ≡ self.now.equ) }
@@ -132,8 +144,6 @@ impl ProvenEqRaw {
         ensures text { IfOk result (λ c. text_of c.proof ≡ text_of self.now.proof) }
         ensures err { IfErr result IsOutOfMemory }
     {
-        let equ = self.equ.copy(alloc)?;
-        let proof = self.proof.copy(alloc)?;
-        Ok(ProvenEqRaw { equ, proof })
+        ProvenEqRaw::of(alloc, &self.equ, &self.proof)
     }
 }

@@ -1,7 +1,7 @@
 //! How an entry was proved, as its line in a printed proof says it.
-ghost use Rattle.std.specs.Prelude.{◌≡◌, ◌++◌, string_bytes, codes, IfOk, OnOk, IfErr, IfSome, Option};
+ghost use Rattle.std.specs.Prelude.{◌≡◌, ◌++◌, [], string_bytes, codes, IfOk, OnOk, IfErr, IfSome, Option};
 ghost use Rattle.slotted_slots.specs.Error.{IsOutOfMemory};
-ghost use Rattle.slotted_proofs.specs.Reasons.{number_text, step_text, reason_of};
+ghost use Rattle.slotted_proofs.specs.Reasons.{number_text, numbers_text, step_text, reason_of};
 
 use crate::lines::ProofLines;
 use crate::proof::{Proof, ProvenEq};
@@ -40,14 +40,23 @@ fn step_text(
     ensures err { IfErr result IsOutOfMemory }
 {
     let mut text = format!(in alloc; "{name}(")?;
+    push_parts(&mut text, parts, lines)?;
+    Ok(text)
+}
+
+// Appends the lines of some parts, with a comma between two, and a bracket.
+fn push_parts(text: &mut String, parts: &[ProvenEq], lines: &ProofLines) -> Result<(), Error>
+    ensures ok { OnOk result (string_bytes text.new ≡ string_bytes text.old ++ (numbers_text lines.now [] parts.now ++ codes ")")) }
+    ensures err { IfErr result IsOutOfMemory }
+{
     let mut separator = "";
     for part in parts {
         text.push_str(separator)?;
-        push_number(&mut text, lines.line_of(*part))?;
+        push_number(text, lines.line_of(*part))?;
         separator = ", ";
     }
     text.push_str(")")?;
-    Ok(text)
+    Ok(())
 }
 
 // Appends the number of a line, or `?` where there is none.

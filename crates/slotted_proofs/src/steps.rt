@@ -5,8 +5,9 @@ ghost use Rattle.slotted_slots.specs.Error.{IsOutOfMemory, IsShortage};
 ghost use Rattle.slotted_slots.specs.Table.{slot_limit};
 ghost use Rattle.slotted_model.specs.Applied.{keys};
 ghost use Rattle.slotted_model.specs.ProofList.{congruent, reflexive, symmetric, transitive};
-ghost use Rattle.slotted_proofs.specs.Equations.{to_applied, HaveManyNames, HasManyNames};
-ghost use Rattle.slotted_proofs.specs.Steps.{AreAsked, AreEntries, AreFull, HasInjectiveSides, IsLarge, HalvesGoOver, HalvesJoin, PairsJoin, IsEntry, IsOver, IsSideOver, IsReflexiveStep, IsSymmetricStep, IsTransitiveStep, FitsReflexive, FitsSymmetric, FitsTransitive, IsRefusal, EntersStep, middle_pairs, known_pairs, reached_pairs};
+ghost use Rattle.slotted_proofs.specs.Equations.{to_applied, statement_of, IsWritten, HaveManyNames, HasManyNames};
+ghost use Rattle.slotted_proofs.specs.Entries.{Stands};
+ghost use Rattle.slotted_proofs.specs.Steps.{AreAsked, IsAsked, AreEntries, AreFull, HasInjectiveSides, IsLarge, HalvesGoOver, HalvesJoin, PairsJoin, IsEntry, IsOver, IsSideOver, IsReflexiveStep, IsSymmetricStep, IsTransitiveStep, FitsReflexive, FitsSymmetric, FitsTransitive, IsRefusal, EntersStep, known_pairs, reached_pairs};
 
 use crate::equation::Equation;
 use crate::list::ProofList;
@@ -19,41 +20,34 @@ use std::alloc::Global;
 
 // Joining two halves.
 
-// Whether two applied ids are of one class, over the same slots.
-fn have_one_class(alloc: Global, a: &AppliedId, b: &AppliedId) -> Result<bool, Error>
-    requires left { IsInjectiveMap a.now.m }
-    requires right { IsInjectiveMap b.now.m }
-    ensures ok { IfOk result (λ yes. IsTrue yes ↔ ((a.now.id.0 ≡ b.now.id.0) × (keys a.now.m ≡ keys b.now.m))) }
-    ensures err { IfErr result IsOutOfMemory }
+// Whether two maps have the same slots.
+fn have_same_slots(a: &SlotMap, b: &SlotMap) -> bool
+    ensures { IsTrue result ↔ (keys a.now ≡ keys b.now) }
 {
-    if a.id.0 != b.id.0 || a.m.len() != b.m.len() {
-        return Ok(false);
+    let mut others = b.iter();
+    for (slot, _) in a.iter() {
+        match others.next() {
+            Some((other, _)) if other == slot => {}
+            _ => return false,
+        }
     }
-    let left = shared_names(alloc, &a.m, &a.m)?;
-    let right = shared_names(alloc, &b.m, &b.m)?;
-    Ok(left == right)
+    others.next().is_none()
+}
+
+// Whether two applied ids are of one class, over the same slots.
+fn have_one_class(a: &AppliedId, b: &AppliedId) -> bool
+    ensures { IsTrue result ↔ ((a.now.id.0 ≡ b.now.id.0) × (keys a.now.m ≡ keys b.now.m)) }
+{
+    a.id.0 == b.id.0 && have_same_slots(&a.m, &b.m)
 }
 
 // Whether the halves begin, meet and end at the classes of the equation.
-fn goes_over(
-    alloc: Global,
-    whole: &Equation,
-    first: &Equation,
-    second: &Equation,
-) -> Result<bool, Error>
-    requires whole { HasInjectiveSides whole.now }
-    requires first { AreFull first.now }
-    requires second { AreFull second.now }
-    ensures ok { IfOk result (λ yes. IsTrue yes ↔ HalvesGoOver whole.now first.now second.now) }
-    ensures err { IfErr result IsOutOfMemory }
+fn goes_over(whole: &Equation, first: &Equation, second: &Equation) -> bool
+    ensures { IsTrue result ↔ HalvesGoOver whole.now first.now second.now }
 {
-    if !have_one_class(alloc, &whole.l, &first.l)? {
-        return Ok(false);
-    }
-    if !have_one_class(alloc, &first.r, &second.l)? {
-        return Ok(false);
-    }
-    have_one_class(alloc, &whole.r, &second.r)
+    have_one_class(&whole.l, &first.l)
+        && have_one_class(&first.r, &second.l)
+        && have_one_class(&whole.r, &second.r)
 }
 
 // What the asked pairs say of the slots that the first half knows.
@@ -76,16 +70,6 @@ fn reached_pairs(alloc: Global, asked: &SlotMap, second: &Equation) -> Result<Sl
 {
     let reached = sent_along(alloc, asked, &second.r.m, &second.l.m)?;
     sent_along(alloc, &reached, &second.l.m, &second.r.m)
-}
-
-// What the two halves say, one after the other.
-fn middle_pairs(alloc: Global, first: &Equation, second: &Equation) -> Result<SlotMap, Error>
-    requires first { IsInjectiveMap first.now.r.m }
-    requires second { IsInjectiveMap second.now.r.m }
-    ensures ok { IfOk result (λ m. m ≡ middle_pairs first.now second.now) }
-    ensures err { IfErr result IsOutOfMemory }
-{
-    shared_over(alloc, &first.l.m, &first.r.m, &second.l.m, &second.r.m)
 }
 
 // Whether these pairs are what the asked ones say of the slots that the first half knows.
@@ -120,6 +104,25 @@ fn are_reached(
     Ok(*over == reached)
 }
 
+// Whether they are both.
+fn are_asked(
+    alloc: Global,
+    over: &SlotMap,
+    first: &Equation,
+    second: &Equation,
+    asked: &SlotMap,
+) -> Result<bool, Error>
+    requires first { HasInjectiveSides first.now }
+    requires second { HasInjectiveSides second.now }
+    ensures ok { IfOk result (λ yes. IsTrue yes ↔ IsAsked over.now first.now second.now asked.now) }
+    ensures err { IfErr result IsOutOfMemory }
+{
+    if !are_known(alloc, over, first, asked)? {
+        return Ok(false);
+    }
+    are_reached(alloc, over, asked, second)
+}
+
 // Whether the two halves, one after the other, say what the asked pairs say of the slots that either half knows.
 fn joins_as(
     alloc: Global,
@@ -132,11 +135,8 @@ fn joins_as(
     ensures ok { IfOk result (λ yes. IsTrue yes ↔ AreAsked first.now second.now asked.now) }
     ensures err { IfErr result IsOutOfMemory }
 {
-    let over = middle_pairs(alloc, first, second)?;
-    if !are_known(alloc, &over, first, asked)? {
-        return Ok(false);
-    }
-    are_reached(alloc, &over, asked, second)
+    let over = shared_over(alloc, &first.l.m, &first.r.m, &second.l.m, &second.r.m)?;
+    are_asked(alloc, &over, first, second, asked)
 }
 
 // Whether names for the middle can be chosen by which the halves give the equation.
@@ -170,7 +170,7 @@ fn is_joined(
     ensures ok { IfOk result (λ yes. IsTrue yes ↔ HalvesJoin whole.now first.now second.now) }
     ensures err { IfErr result IsOutOfMemory }
 {
-    if !goes_over(alloc, whole, first, second)? {
+    if !goes_over(whole, first, second) {
         return Ok(false);
     }
     can_join(alloc, whole, first, second)
@@ -178,39 +178,43 @@ fn is_joined(
 
 // Equations over the slots of their classes.
 
-// Whether a side is over these slots of its class, with different names.
-fn is_side_over(alloc: Global, side: &AppliedId, slots: &SmallHashSet<Slot>) -> Result<bool, Error>
-    ensures ok { IfOk result (λ yes. IsTrue yes ↔ IsSideOver (to_applied side.now) slots.now) }
-    ensures err { IfErr result IsOutOfMemory }
+// Whether a map has these slots.
+fn has_slots(map: &SlotMap, slots: &SmallHashSet<Slot>) -> bool
+    ensures { IsTrue result ↔ (keys map.now ≡ slots.now) }
 {
-    if !side.m.is_bijection() {
-        return Ok(false);
+    let mut pairs = map.iter();
+    for asked in slots.as_slice() {
+        match pairs.next() {
+            Some((slot, _)) if slot == *asked => {}
+            _ => return false,
+        }
     }
-    if side.m.len() != slots.len() {
-        return Ok(false);
-    }
-    let own = shared_names(alloc, &side.m, &side.m)?;
-    let asked = SlotMap::identity(alloc, slots)?;
-    Ok(own == asked)
+    pairs.next().is_none()
+}
+
+// Whether a side is over these slots of its class, with different names.
+fn is_side_over(side: &AppliedId, slots: &SmallHashSet<Slot>) -> bool
+    ensures { IsTrue result ↔ IsSideOver (to_applied side.now) slots.now }
+{
+    side.m.is_bijection() && has_slots(&side.m, slots)
 }
 
 // Whether both sides are.
-fn is_over(
-    alloc: Global,
-    equation: &Equation,
-    left: &SmallHashSet<Slot>,
-    right: &SmallHashSet<Slot>,
-) -> Result<bool, Error>
-    ensures ok { IfOk result (λ yes. IsTrue yes ↔ IsOver equation.now left.now right.now) }
-    ensures err { IfErr result IsOutOfMemory }
+fn is_over(equation: &Equation, left: &SmallHashSet<Slot>, right: &SmallHashSet<Slot>) -> bool
+    ensures { IsTrue result ↔ IsOver equation.now left.now right.now }
 {
-    if !is_side_over(alloc, &equation.l, left)? {
-        return Ok(false);
-    }
-    is_side_over(alloc, &equation.r, right)
+    is_side_over(&equation.l, left) && is_side_over(&equation.r, right)
 }
 
 impl ProofList {
+    // Whether the entry with this number has this equation, whose names are numbered.
+    fn has_at(&self, p: ProvenEq, equation: &Equation) -> bool
+        requires { IsWritten (statement_of equation.now) equation.now }
+        ensures { IsTrue result ↔ Stands self.now (statement_of equation.now) p }
+    {
+        self.is_valid(p) && *self.equ(p) == *equation
+    }
+
     /// Whether the entry with this number says, up to renaming, that two applied ids are equal.
     pub fn is_entry(
         &self,
@@ -226,10 +230,7 @@ impl ProofList {
         ensures err { IfErr result IsShortage }
     {
         let asked = numbered(alloc, l, r)?;
-        if !self.is_valid(p) {
-            return Ok(false);
-        }
-        Ok(asked == *self.equ(p))
+        Ok(self.has_at(p, &asked))
     }
 
     // The steps. Each enters its equation only where it fits.
@@ -249,8 +250,7 @@ impl ProofList {
             return Err(Error::BadStep);
         }
         let asked = numbered_itself(alloc, &equation.l)?;
-        let number = self.enter(asked, Proof::Reflexivity(ReflexivityProof))?;
-        Ok(number)
+        self.enter(asked, Proof::Reflexivity(ReflexivityProof))
     }
 
     /// The equation, if that of the part, turned round, matches it.
@@ -273,8 +273,7 @@ impl ProofList {
             return Err(Error::BadStep);
         }
         let proof = Proof::Symmetry(SymmetryProof(p));
-        let number = self.enter_equality(alloc, &equation.l, &equation.r, proof)?;
-        Ok(number)
+        self.enter_equality(alloc, &equation.l, &equation.r, proof)
     }
 
     /// The equation, if those of the two parts, one after the other, give it by some names for the middle.
@@ -301,8 +300,7 @@ impl ProofList {
             return Err(Error::BadStep);
         }
         let proof = Proof::Transitivity(TransitivityProof(p, q));
-        let number = self.enter_equality(alloc, &equation.l, &equation.r, proof)?;
-        Ok(number)
+        self.enter_equality(alloc, &equation.l, &equation.r, proof)
     }
 
     // Whether each part says, up to renaming, what the equation of its children says.
@@ -352,8 +350,7 @@ impl ProofList {
             return Err(Error::BadStep);
         }
         let proof = Proof::Congruence(CongruenceProof(parts));
-        let number = self.enter_equality(alloc, &equation.l, &equation.r, proof)?;
-        Ok(number)
+        self.enter_equality(alloc, &equation.l, &equation.r, proof)
     }
 
     // The same over the slots of the two classes.
@@ -373,7 +370,7 @@ impl ProofList {
         ensures only { IfErr result IsRefusal }
         ensures err { OnErr result (self.new ≡ self.old) }
     {
-        if !is_over(alloc, equation, left, right)? {
+        if !is_over(equation, left, right) {
             return Err(Error::BadStep);
         }
         self.prove_reflexive(alloc, equation)
@@ -396,7 +393,7 @@ impl ProofList {
         ensures only { IfErr result IsRefusal }
         ensures err { OnErr result (self.new ≡ self.old) }
     {
-        if !is_over(alloc, equation, left, right)? {
+        if !is_over(equation, left, right) {
             return Err(Error::BadStep);
         }
         self.prove_symmetric(alloc, equation, p)
@@ -420,7 +417,7 @@ impl ProofList {
         ensures only { IfErr result IsRefusal }
         ensures err { OnErr result (self.new ≡ self.old) }
     {
-        if !is_over(alloc, equation, left, right)? {
+        if !is_over(equation, left, right) {
             return Err(Error::BadStep);
         }
         self.prove_transitive(alloc, equation, p, q)

@@ -1,8 +1,8 @@
-use Rattle.std.proofs.Common.{◌≡◌, ℕ, List, ap, ◌∙◌, sym, subst}
+use Rattle.std.proofs.Common.{◌≡◌, ℕ, List, IfOk, ap, ◌∙◌, sym, subst}
 use Rattle.slotted_model.specs.Applied.{keys}
 use Rattle.slotted_model.specs.Correspondence.{IsPartialInjection, same_names, turned}
 use Rattle.slotted_model.proofs.Correspondences.FullMaps.{same_names-partial, same_names-turned}
-use Rattle.slotted_proofs.specs.Equations.{AreSides, to_applied}
+use Rattle.slotted_proofs.specs.Equations.{IsWritten}
 use Rattle.slotted_proofs.proofs.Bridges.{slots-once, own_full}
 use Rattle.slotted_proofs.proofs.numbering.numbered.Goals as goal
 
@@ -26,5 +26,5 @@ returns-clause-ok c =
     let pairs : turned (keys l) c.in_ok-partners.partners ≡ same_names l r =
     ap (turned (keys l)) c.in_ok-partners.ensures.ok
     ∙ sym (same_names-turned (keys r) (keys l) r l (own_full r c.is_short.ensures.right_ascends c.requires.right) (own_full l c.is_short.ensures.left_ascends c.requires.left)) in
-    subst (λ (A : List (ℕ × ℕ)). AreSides (record { left_slots = keys l; right_slots = keys r; equation = record { left = c.args.l.now.id.0; right = c.args.r.now.id.0; pairs = A } }) (to_applied c.in_ok-equation.equation.l) (to_applied c.in_ok-equation.equation.r)) pairs
-    c.in_ok-equation.ensures.ok
+    subst (λ (A : List (ℕ × ℕ)). IfOk c.number_sides.result (IsWritten (record { left_slots = keys l; right_slots = keys r; equation = record { left = c.args.l.now.id.0; right = c.args.r.now.id.0; pairs = A } }))) pairs
+    c.number_sides.ensures.ok

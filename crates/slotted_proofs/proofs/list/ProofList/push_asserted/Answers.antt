@@ -11,8 +11,8 @@ invariant_of-self-2 c =
     let e = c.args.equation in
     let x : Proven = proven_of e c.args.proof in
     let is_new : IsNew (shown es) (statement_of e) = subst (λ list. IsNew list (statement_of e)) (sym c.self.view_is) c.requires.new in
-    let same : c.insert.new.self.entries ≡ es ++ (e, c.args.proof) ∷ [] = c.in_ok-insert.ensures.entries ∙ insert_new es e c.args.proof is_new in
-    let more : shown c.insert.new.self.entries ≡ shown es ++ x ∷ [] = ap shown same ∙ shown-more es e c.args.proof in
+    let same : c.put.new.map.entries ≡ es ++ (e, c.args.proof) ∷ [] = c.in_ok-put.ensures.ok ∙ insert_new es e c.args.proof is_new in
+    let more : shown c.put.new.map.entries ≡ shown es ++ x ∷ [] = ap shown same ∙ shown-more es e c.args.proof in
     let number : c.at-last.result ≡ 0 + length (shown es) = c.at-last.ensures ∙ (c.len.ensures ∙ (ap length (sym c.self.view_is) ∙ omega arith)) in (
       subst AreWritten (sym same) (written_more es e c.args.proof c.self.invariant.0 c.requires.written),
       c.push_reserved.ensures.items
@@ -26,6 +26,6 @@ returns-clause-ok c =
     let e = c.args.equation in
     let x : Proven = proven_of e c.args.proof in
     let is_new : IsNew (shown es) (statement_of e) = subst (λ list. IsNew list (statement_of e)) (sym c.self.view_is) c.requires.new in
-    let same : c.insert.new.self.entries ≡ es ++ (e, c.args.proof) ∷ [] = c.in_ok-insert.ensures.entries ∙ insert_new es e c.args.proof is_new in
-    let more : shown c.insert.new.self.entries ≡ shown es ++ x ∷ [] = ap shown same ∙ shown-more es e c.args.proof in
+    let same : c.put.new.map.entries ≡ es ++ (e, c.args.proof) ∷ [] = c.in_ok-put.ensures.ok ∙ insert_new es e c.args.proof is_new in
+    let more : shown c.put.new.map.entries ≡ shown es ++ x ∷ [] = ap shown same ∙ shown-more es e c.args.proof in
     more ∙ ap (λ list. list ++ x ∷ []) c.self.view_is

@@ -1,6 +1,6 @@
 use Rattle.slotted_model.specs.Applied.{keys}
 use Rattle.slotted_proofs.proofs.Bridges.{slots-once}
-use Rattle.slotted_proofs.proofs.numbering.numbered_by.Goals as goal
+use Rattle.slotted_proofs.proofs.equation.Equation.by_partners.Goals as goal
 
 pub number_sides-requires-clause-left_once : goal.number_sides-requires-clause-left_once
 number_sides-requires-clause-left_once c = slots-once (keys c.args.l.now.m) c.is_short.ensures.left_ascends
