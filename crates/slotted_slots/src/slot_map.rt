@@ -17,7 +17,6 @@ mod showing;
 
 use crate::{Error, Slot, SmallHashSet};
 pub use lists::{IntoIter, ValuesImmut};
-use smallvec::SmallVec;
 use std::alloc::{AllocError, Global};
 use std::cmp::Ordering;
 use std::hash::{Hash, Hasher};
@@ -26,7 +25,7 @@ use std::marker::Model;
 /// A finite map from slots to slots, seen as the list of its pairs in key order. It is ordered, compared and hashed as that list.
 #[derive(Drop, Debug)]
 pub struct SlotMap {
-    pairs: SmallVec<(Slot, Slot), 4>,
+    pairs: Vec<(Slot, Slot)>,
 }
 
 impl Model for SlotMap {
@@ -41,7 +40,7 @@ impl Model for SlotMap {
     ghost invariant = { λ a. IsAscending (keys a.pairs.items) };
 }
 
-type Pairs = SmallVec<(Slot, Slot), 4>;
+type Pairs = Vec<(Slot, Slot)>;
 
 // Puts another value beside a key.
 fn write_value(pairs: &mut Pairs, i: usize, r: Slot)
@@ -57,7 +56,7 @@ impl SlotMap {
         ensures { result ≡ [] }
     {
         SlotMap {
-            pairs: SmallVec::new(alloc),
+            pairs: Vec::new(alloc),
         }
     }
 
@@ -183,7 +182,7 @@ impl SlotMap {
         ensures ok { IfOk result (λ m. m ≡ doubled set.now) }
         ensures memory { IfErr result IsOutOfMemory }
     {
-        let mut pairs = SmallVec::new(alloc);
+        let mut pairs = Vec::new(alloc);
         for slot in set.as_slice() {
             pairs.push((*slot, *slot))?;
         }
@@ -195,7 +194,7 @@ impl SlotMap {
         ensures ok { IfOk result (λ m. m ≡ composed self.now other.now) }
         ensures memory { IfErr result IsOutOfMemory }
     {
-        let mut pairs = SmallVec::new(alloc);
+        let mut pairs = Vec::new(alloc);
         for pair in self.pairs.iter() {
             if let Some(value) = other.get(pair.1) {
                 pairs.push((pair.0, value))?;
@@ -238,7 +237,7 @@ impl SlotMap {
         ensures memory { IfErr result IsOutOfMemory }
     {
         Ok(SlotMap {
-            pairs: SmallVec::from_slice(alloc, self.pairs.as_slice())?,
+            pairs: Vec::from_slice(alloc, self.pairs.as_slice())?,
         })
     }
 

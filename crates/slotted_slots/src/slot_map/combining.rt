@@ -9,7 +9,6 @@ ghost use Rattle.slotted_slots.specs.Table.{KnowsMore, TakesAmong, TakesAtMost, 
 
 use super::{SlotMap, has_value};
 use crate::{Error, Slot, SlotTable, SmallHashSet};
-use smallvec::SmallVec;
 use std::alloc::Global;
 
 impl SlotMap {
@@ -72,7 +71,7 @@ impl SlotMap {
         ensures end { IsErrOf result Error.OutOfSlots → table.new.fresh ≡ slot_limit }
         ensures only { IfErr result IsShortage }
     {
-        let mut pairs = SmallVec::new(alloc);
+        let mut pairs = Vec::new(alloc);
         for pair in self.pairs.iter() {
             let value = value_or_fresh(self.pairs.as_slice(), other, pair.1, table)?;
             pairs.push((pair.0, value))?;
@@ -100,7 +99,7 @@ impl SlotMap {
         ensures end { IsErrOf result Error.OutOfSlots → table.new.fresh ≡ slot_limit }
         ensures only { IfErr result IsShortage }
     {
-        let mut pairs = SmallVec::new(alloc);
+        let mut pairs = Vec::new(alloc);
         for slot in set.as_slice() {
             let key = fresh_outside(set, table)?;
             pairs.push((key, *slot))?;

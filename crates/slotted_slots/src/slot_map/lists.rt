@@ -1,6 +1,7 @@
 //! Slot maps to and from lists, arrays and iterators.
 ghost use Rattle.std.specs.Prelude.{◌≡◌, IfOk, IfErr};
 ghost use Rattle.std.specs.Iterator.{YieldsFirst, item_count};
+ghost use Rattle.std.specs.Vec.Iter.{into_iter_items};
 ghost use Rattle.slotted_slots.specs.Error.{IsOutOfMemory};
 ghost use Rattle.slotted_slots.specs.Iterating.{EachIteratorEnds, IsMapOfItems};
 ghost use Rattle.slotted_slots.specs.Maps.{map_of, keys, values};
@@ -102,14 +103,14 @@ impl<'a> Iterator for ValuesImmut<'a> {
 }
 
 /// The pairs of a map that was given up, in key order, seen as the list of those that are left.
-pub type IntoIter = smallvec::IntoIter<(Slot, Slot), 4>;
+pub type IntoIter = std::vec::IntoIter<(Slot, Slot)>;
 
 impl IntoIterator for SlotMap {
     type Item = (Slot, Slot);
 
     type IntoIter = IntoIter;
 
-    ghost into_iter_gives = { λ m it. it ≡ m };
+    ghost into_iter_gives = { λ m it. into_iter_items it ≡ m };
 
     fn into_iter(self) -> IntoIter {
         self.pairs.into_iter()

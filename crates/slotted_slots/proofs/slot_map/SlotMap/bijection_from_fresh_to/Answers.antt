@@ -13,10 +13,10 @@ loop-slot-preserved c =
     let x = c.slot-item.result in
     let last = subst (λ used. IsFreshFrom c.loop-slot.table.fresh c.fresh_outside.new.table.fresh used c.in_ok-key.key) (sym c.as_slice-slot-items.ensures.elements) c.in_ok-key.ensures.slot in
     let step = from_fresh_step xs c.args.table.now.fresh c.loop-slot.table.fresh c.fresh_outside.new.table.fresh xs c.loop-slot.pairs.items c.push.new.self.items c.loop-slot.slot-index x c.in_ok-key.key
-    c.loop-slot-test.true c.slot-item.is c.in_ok-push.ensures.ok c.loop-slot.invariant.values c.loop-slot.invariant.keys last in
+    c.loop-slot-test.true c.slot-item.is c.in_ok-push.ensures.items c.loop-slot.invariant.values c.loop-slot.invariant.keys last in
     let counted = subst (λ used. TakesAtMost 1 used c.loop-slot.table c.fresh_outside.new.table) (sym c.as_slice-slot-items.ensures.elements) c.in_ok-key.ensures.count in
     record {
-      taken = takes_key c.args.table.now c.loop-slot.table c.fresh_outside.new.table xs c.loop-slot.pairs.items c.push.new.self.items (c.in_ok-key.key, x) c.in_ok-push.ensures.ok c.loop-slot.invariant.taken
+      taken = takes_key c.args.table.now c.loop-slot.table c.fresh_outside.new.table xs c.loop-slot.pairs.items c.push.new.self.items (c.in_ok-key.key, x) c.in_ok-push.ensures.items c.loop-slot.invariant.taken
           (subst (λ used. Takes c.loop-slot.table c.fresh_outside.new.table (IsInEither (c.in_ok-key.key ∷ []) used)) (sym c.as_slice-slot-items.ensures.elements) c.in_ok-key.ensures.taken);
       count = omega (arith, c.loop-slot.invariant.count, counted);
       keys = step.keys;

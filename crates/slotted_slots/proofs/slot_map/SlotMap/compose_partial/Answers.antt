@@ -9,4 +9,4 @@ use Rattle.slotted_slots.proofs.slot_map.SlotMap.compose_partial.Goals as goal
 pub invariant_of-result : goal.invariant_of-result
 invariant_of-result c =
     let whole = gathered_all (λ m. composed m c.args.other.now) refl c.loop-pair.pairs.items c.deref-pair-items.result.now c.loop-pair.pair-index c.loop-pair-test.false c.loop-pair.invariant in
-    subst (λ m. IsAscending (keys m)) (sym whole) (IsAscending-composed c.deref-pair-items.result.now c.args.other.now (rw c.deref-pair-items.ensures c.self.invariant))
+    subst (λ m. IsAscending (keys m)) (sym whole) (IsAscending-composed c.deref-pair-items.result.now c.args.other.now (rw c.deref-pair-items.ensures.value c.self.invariant))

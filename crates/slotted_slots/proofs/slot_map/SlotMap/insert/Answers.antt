@@ -10,7 +10,7 @@ invariant_of-self c = rw c.write_value.ensures (IsAscending-with_value_at _ _ _ 
 pub invariant_of-self-in-Continue-1 : goal.invariant_of-self-in-Continue-1
 invariant_of-self-in-Continue-1 c =
     let put = with_pair-gap _ _ c.args.r _ c.in-Err.ensures.absent in
-    rw (c.in_ok-insert-in-Err.ensures.ok, c.self.view_is, ← put) (IsAscending-with_pair _ _ _ c.in-Err.ensures.ascending)
+    rw (c.in_ok-insert-in-Err.ensures.items, c.self.view_is, ← put) (IsAscending-with_pair _ _ _ c.in-Err.ensures.ascending)
 
 pub returns-in_err-insert-in-Err-clause-overwrites : goal.returns-in_err-insert-in-Err-clause-overwrites
 returns-in_err-insert-in-Err-clause-overwrites c found = grind (arith, value_of-gap _ _ _ c.in-Err.ensures.absent)
@@ -18,5 +18,5 @@ returns-in_err-insert-in-Err-clause-overwrites c found = grind (arith, value_of-
 pub returns-clause-ok : goal.returns-clause-ok
 returns-clause-ok c = elim c.match-search.branch [
   | in-Ok w ↦ w.self-is ∙ rw (w.write_value.ensures, c.self.view_is) (sym (with_pair-at _ w.in-Ok.ensures.ascending _ c.args.r _ w.in-Ok.ensures.found))
-  | in-Err+in_ok-insert-in-Err w ↦ w.self-is ∙ rw (w.in_ok-insert-in-Err.ensures.ok, c.self.view_is) (sym (with_pair-gap _ _ c.args.r _ w.in-Err.ensures.absent))
+  | in-Err+in_ok-insert-in-Err w ↦ w.self-is ∙ rw (w.in_ok-insert-in-Err.ensures.items, c.self.view_is) (sym (with_pair-gap _ _ c.args.r _ w.in-Err.ensures.absent))
 ]

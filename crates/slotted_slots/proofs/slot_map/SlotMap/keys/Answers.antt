@@ -10,4 +10,4 @@ use Rattle.slotted_slots.proofs.slot_map.SlotMap.keys.Goals as goal
 pub returns-clause-ok : goal.returns-clause-ok
 returns-clause-ok c =
     let whole = folded_all (λ (s : List ℕ) (m : List (ℕ × ℕ)). fold (insert_key nat_cmp) s (keys m)) (λ _. refl) c.loop-pair.set _ c.deref-pair-items.result.now c.loop-pair.pair-index c.loop-pair-test.false c.loop-pair.invariant in
-    whole ∙ (set_of-ascending _ (rw c.deref-pair-items.ensures c.self.invariant) ∙ ap keys (c.deref-pair-items.ensures ∙ c.self.view_is))
+    whole ∙ (set_of-ascending _ (rw c.deref-pair-items.ensures.value c.self.invariant) ∙ ap keys (c.deref-pair-items.ensures.value ∙ c.self.view_is))

@@ -11,6 +11,6 @@ pub returns-clause-values : goal.returns-clause-values
 returns-clause-values c k =
     let pairs = c.deref-pair-items.result.now in
     let whole = folded_all joined (λ _. refl) c.loop-pair.union _ pairs c.loop-pair.pair-index c.loop-pair-test.false c.loop-pair.invariant in
-    let same = c.deref-pair-items.ensures ∙ c.other.view_is in
+    let same = c.deref-pair-items.ensures.value ∙ c.other.view_is in
     let up = subst (λ m. IsAscending (keys m)) c.other.view_is c.other.invariant in
     ap (λ m. value_of m k) (whole ∙ ap (joined c.args.self.now) same) ∙ value_of-joined c.args.self.now c.args.other.now up c.requires k

@@ -11,4 +11,4 @@ pub returns-clause-members : goal.returns-clause-members
 returns-clause-members c v =
     let pairs = c.deref-pair-items.result.now in
     let whole = folded_all (λ (s : List ℕ) (m : List (ℕ × ℕ)). fold (insert_key nat_cmp) s (values m)) (λ _. refl) c.loop-pair.set _ pairs c.loop-pair.pair-index c.loop-pair-test.false c.loop-pair.invariant in
-    ap (is_among v) whole ∙ (is_among-set_of v (values pairs) ∙ ap (λ m. is_among v (values m)) (c.deref-pair-items.ensures ∙ c.self.view_is))
+    ap (is_among v) whole ∙ (is_among-set_of v (values pairs) ∙ ap (λ m. is_among v (values m)) (c.deref-pair-items.ensures.value ∙ c.self.view_is))

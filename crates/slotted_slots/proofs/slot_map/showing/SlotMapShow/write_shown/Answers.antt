@@ -32,5 +32,5 @@ returns g c plain ok =
     let before = c.loop-pair.separator.now in
     let all : so_far.0 ≡ codes "[" ++ shown_pairs t [] xs =
     sym (append-nil so_far.0) ∙ (ap (λ ys. so_far.0 ++ shown_pairs t before ys) (sym (drop_all c.loop-pair.pair-index xs c.loop-pair-test.false)) ∙ so_far.2) in
-    let same = ap (λ m. codes "[" ++ shown_pairs t [] m) (c.deref-pair-items.ensures ∙ c.self.view_is) in
+    let same = ap (λ m. codes "[" ++ shown_pairs t [] m) (c.deref-pair-items.ensures.value ∙ c.self.view_is) in
     put_two g.W.Write.write_str_gives _ _ _ _ _ _ so_far.1 wrote (ap (λ text. text ++ codes "]") (all ∙ same))
