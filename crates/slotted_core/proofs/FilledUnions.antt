@@ -25,6 +25,7 @@ use Rattle.slotted_core.specs.Causes.{HasLargeClassIn}
 use Rattle.slotted_core.specs.Good.{Good, RestsWith, Unites, image_of}
 use Rattle.slotted_core.specs.Image.{Image, Asserts, AreTogether, FillApart, FoundAlike, HasNoOpenSymmetry, Records, SameNames, found_id}
 use Rattle.slotted_core.specs.Sides.{EntersFilled}
+use Rattle.slotted_core.proofs.AlikeUnions.{alike-unites, alike-rebuilds}
 use Rattle.slotted_core.proofs.Asserting.{IsAsserted, is_asserted, asserted-filed}
 use Rattle.slotted_core.proofs.FiledClasses.{large-seen}
 use Rattle.slotted_core.proofs.Images.{found_id-is}
@@ -34,6 +35,11 @@ use Rattle.slotted_core.proofs.Unions.{UnitesFull, unites-full}
 not-iff : (b : Bool) (P : Type 0) → (IsTrue b ↔ P) → IsTrue (not b) ↔ (¬ P)
 not-iff true P h = ((λ t. absurd (false≢true t)), λ n. absurd (n (h.0 refl)))
 not-iff false P h = ((λ t p. false≢true (h.1 p)), λ n. refl)
+
+-- what holds where a test says yes holds where its negation is false
+of_negation : (b : Bool) (P : Type 0) → (IsTrue b → P) → not b ≡ false → P
+of_negation true P h e = h refl
+of_negation false P h e = absurd (false≢true (sym e))
 
 -- ids that find what two others find are together where those are
 together-found : (g : Image) (a b c d : Applied) → found_id g a ≡ found_id g c → found_id g b ≡ found_id g d → AreTogether g c d → AreTogether g a b
@@ -126,8 +132,9 @@ module _ (k : Kept) (good : Good k) (a b : Applied) (va : IsFindable k a) (vb : 
     same-equation : (left right : Applied) → FillApart (image_of k) a b left right → equation_of c d ≡ equation_of left right
     same-equation left right f = one-equation (nodes_of k) slots slots a b va vb c d left right fills_left fills_right f.left_fills f.right_fills
 
-    pub unites-filled : (alike : Bool) → (IsTrue alike ↔ (find (entries_of k) a ≡ find (entries_of k) b)) → Unites k l q a b text (not alike)
-    unites-filled alike h = record {
+    pub unites-filled : (alike : Bool) → (IsTrue alike ↔ (find (entries_of k) a ≡ find (entries_of k) b)) →
+        (IsTrue alike → ((image_of l).found ≡ (image_of k).found) × ((image_of l).symmetries ≡ (image_of k).symmetries)) → Unites k l q a b text (not alike)
+    unites-filled alike h same = record {
       good = full.good;
       rests = full.rests;
       nodes = full.nodes;
@@ -146,9 +153,21 @@ module _ (k : Kept) (good : Good k) (a b : Applied) (va : IsFindable k a) (vb : 
         canonical = full.nodes;
         continues = full.continues;
         size = full.size;
+        unchanged = of_negation alike _ same;
       };
       records = record {
         each = λ left right f.
             subst (Records (image_of k) (image_of l)) (one-entry (nodes_of k) c d left right fills_left.full fills_right.full f.left_fills.full f.right_fills.full (same-equation left right f) text) full.records;
       };
     }
+
+  -- where both find alike, the equation is all that is new
+  pub stays-filled : (r : Rows) → RestsWith k r → find (entries_of k) a ≡ find (entries_of k) b → Unites k m r a b text false
+  stays-filled r rests alike =
+      let linked : Linked (nodes_of k) (entries_of k) = good.stored.sane.sound.linked in
+      let filled : find (entries_of k) c ≡ find (entries_of k) d =
+      sym (filling-found (nodes_of k) (entries_of k) linked (values b.1) a c va fills_left)
+      ∙ (alike ∙ filling-found (nodes_of k) (entries_of k) linked (values c.1) b d vb fills_right) in
+      unites-filled r rests m r (alike-unites k m (asserted_entry c d text) c d p said fills_left.full fills_right.full filled r)
+      m r 0 (alike-rebuilds k m (asserted_entry c d text) c d p said r (filled-filed r rests.filed) rests.quiet)
+      true (λ _. alike, λ _. refl) (λ _. subst (λ (z : Kept). ((image_of z).found ≡ (image_of k).found) × ((image_of z).symmetries ≡ (image_of k).symmetries)) (sym entered_full.kept) (refl, refl))

@@ -20,6 +20,7 @@ pub mod LiveSizes
 pub mod LackingNames
 pub mod UnitedClasses
 pub mod Unions
+pub mod AlikeUnions
 pub mod FilledUnions
 pub mod ExplainedTerms
 pub mod NodeAddition

@@ -20,7 +20,7 @@
 --     IsUnion g h a b y   a union of a and b answers y
 --     AreSymmetries g     what holds of the listed symmetries
 --     AreListedOnce g     each equation is listed once
-use Rattle.std.specs.Prelude.{◌≡◌, ℕ, ◌<◌, ◌≤◌, ◌⊎◌, List, [], ◌∷◌, ◌++◌, ◌+◌, suc, length, map, slice_index_or, refl, ◌≢◌, ◌↔◌, Bool, Contains, IsTrue, Some, cond, nat_eq, Option}
+use Rattle.std.specs.Prelude.{◌≡◌, ℕ, ◌<◌, ◌≤◌, ◌⊎◌, List, [], ◌∷◌, ◌++◌, ◌+◌, suc, length, map, slice_index_or, refl, ◌≢◌, ◌↔◌, Bool, false, Contains, IsTrue, Some, cond, nat_eq, Option}
 use Rattle.std.specs.Coded.{Coded, code_by, coded×, coded_ℕ, coded_list}
 use Rattle.slotted_theory.specs.Term.{Term}
 use Rattle.slotted_theory.specs.Nameless.{DTerm, nameless}
@@ -195,7 +195,7 @@ live_size g = live_size_from 0 g.found
 
 -- what a union of a and b answers, and what it leaves: true exactly where they did not find alike; they are together from now on, the
 -- equation of any two ids that fill them apart stands in the proof list (there are some), no class is made, and there are no more live
--- classes and slots than before
+-- classes and slots than before; where it answers false, what classes find and the listed symmetries stay as they were
 pub record IsUnion (g h : Image) (a b : Applied) (y : Bool) : Type 0 where
   pub answer : IsTrue y ↔ (¬ FoundAlike g a b)
   pub together : AreTogether h a b
@@ -205,6 +205,7 @@ pub record IsUnion (g h : Image) (a b : Applied) (y : Bool) : Type 0 where
   pub canonical : h.canonical ≡ g.canonical
   pub continues : Continues g h
   pub size : live_size h ≤ live_size g
+  pub unchanged : y ≡ false → (h.found ≡ g.found) × (h.symmetries ≡ g.symmetries)
 
 -- what holds of a listed symmetry: its sides are one class with the same slots and the same names in another order, and an entry says just
 -- this of the class; and both sides find the same names

@@ -1,5 +1,5 @@
 //! Two ids are equal because the caller says so.
-ghost use Rattle.std.specs.Prelude.{IfErr, IfOk, IsErrOf};
+ghost use Rattle.std.specs.Prelude.{◌≡◌, false, IfErr, IfOk, IsErrOf};
 ghost use Rattle.slotted_slots.specs.Error.{IsShortage};
 ghost use Rattle.slotted_proofs.specs.Equations.{to_applied};
 ghost use Rattle.slotted_store.specs.Finding.{IsFindable};
@@ -32,14 +32,18 @@ pub fn union<L: Language>(
     requires left { IsFindable store.old (to_applied l.now) }
     requires right { IsFindable store.old (to_applied r.now) }
     ensures ok { IfOk result (UnitesSides store.old store.new nodes.new l.now r.now (text_bytes text)) }
+    ensures same { IfOk result (λ y. y ≡ false → nodes.new ≡ nodes.old) }
     ensures full { IsErrOf result Error.OutOfSlots → HasLargeClassIn (image_of store.old) }
     ensures err { IfErr result IsShortage }
 {
     let found_alike = store.eq(l, r);
     let p = assert_sides(store, alloc, l, r, text)?;
+    if found_alike {
+        return Ok(false);
+    }
     unite(store, nodes, alloc, p)?;
     rebuild(store, nodes, alloc)?;
-    Ok(!found_alike)
+    Ok(true)
 }
 
 /// How many of the listed symmetries are open. It takes no memory.

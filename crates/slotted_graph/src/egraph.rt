@@ -226,6 +226,9 @@ impl<L: Language, N: Drop> EGraph<L, N> {
         requires right { IsTrue self.old.failed ⊎ IsValidId self.old (to_applied r.now) }
         ensures union { IfOk result (IsUnion self.old.image self.new.image (to_applied l.now) (to_applied r.now)) }
         ensures text { OnOk result (RecordsUnion self.old self.new l.now r.now None) }
+
+        // No node is filed anew where it answers false.
+        ensures filed { IfOk result (λ y. y ≡ false → self.new.filed ≡ self.old.filed) }
         ensures table { self.new.table ≡ self.old.table }
 
         ensures stays { IsTrue self.old.failed → self.new ≡ self.old }
@@ -253,6 +256,8 @@ impl<L: Language, N: Drop> EGraph<L, N> {
         // Where it was not proved before, it is a new entry, asserted with the text.
         ensures text { OnOk result (RecordsUnion self.old self.new l.now r.now (text_bytes text)) }
 
+        // No node is filed anew where it answers false.
+        ensures filed { IfOk result (λ y. y ≡ false → self.new.filed ≡ self.old.filed) }
         ensures table { self.new.table ≡ self.old.table }
 
         ensures stays { IsTrue self.old.failed → self.new ≡ self.old }

@@ -31,7 +31,7 @@ module _ (nodes : List DTerm) (found : List Entry) (linked : Linked nodes found)
   left-full : IsFullMap (used_slots found says.left) (find found a).1
   left-full = subst (λ K. IsFullMap K (find found a).1) (found-used nodes found linked a.0 fa.in_range) (found-full nodes found linked a (full-is_valid nodes found linked a fa))
 
-  alike-identity : find found a ≡ find found b → says.pairs ≡ identity (used_slots found says.left)
+  pub alike-identity : find found a ≡ find found b → says.pairs ≡ identity (used_slots found says.left)
   alike-identity e =
       sym (found_equation-shares nodes found linked a b fa fb)
       ∙ (ap (λ (x : Applied). same_names (find found a).1 x.1) (sym e) ∙ same_names-itself (used_slots found says.left) (find found a).1 left-full)

@@ -1,9 +1,10 @@
-use Rattle.std.proofs.Common.{◌∙◌, sym, rules}
+use Rattle.std.proofs.Common.{◌∙◌, false, sym, rules}
+use Rattle.std.proofs.lemmas.Bool.{false≢true}
 use Rattle.slotted_store.specs.Kept.{text_bytes}
 use Rattle.slotted_proofs.specs.Equations.{to_applied}
 use Rattle.slotted_unions.proofs.GrownRows.{grown-count}
 use Rattle.slotted_rebuilding.proofs.FiledStates.{united-well}
-use Rattle.slotted_core.proofs.FilledUnions.{said, filled-filed, unites-filled, large-uniting, large-rebuilding}
+use Rattle.slotted_core.proofs.FilledUnions.{said, filled-filed, stays-filled, unites-filled, large-uniting, large-rebuilding}
 use Rattle.slotted_core.proofs.GoodFinds.{good-finds}
 use Rattle.slotted_core.proofs.uniting.union.Goals as goal
 
@@ -37,11 +38,17 @@ rebuild-requires g c =
           (said k c.requires.good a b c.requires.left c.requires.right text m c.in_ok-p.p c.in_ok-p.ensures.ok).in_range c.in_ok-unite.ensures.ok;
     }
 
+-- ids that find alike
+pub returns-then-found_alike-clause-ok : goal.returns-then-found_alike-clause-ok
+returns-then-found_alike-clause-ok g c =
+    stays-filled c.args.store.now c.requires.good (to_applied c.args.l.now) (to_applied c.args.r.now) c.requires.left c.requires.right (text_bytes c.args.text) c.assert_sides.new.store c.in_ok-p.p c.in_ok-p.ensures.ok
+    c.args.nodes.now c.requires.rests (c.eq-found_alike.ensures.0 c.if-found_alike)
+
 pub returns-clause-ok : goal.returns-clause-ok
 returns-clause-ok g c =
     unites-filled c.args.store.now c.requires.good (to_applied c.args.l.now) (to_applied c.args.r.now) c.requires.left c.requires.right (text_bytes c.args.text) c.assert_sides.new.store c.in_ok-p.p c.in_ok-p.ensures.ok
     c.args.nodes.now c.requires.rests c.unite.new.store c.unite.new.nodes c.in_ok-unite.ensures.ok c.rebuild.new.store c.rebuild.new.nodes c.in_ok-rebuild.field-0 c.in_ok-rebuild.ensures.ok
-    c.eq-found_alike.result c.eq-found_alike.ensures
+    false (λ y. absurd (false≢true y), λ e. absurd (false≢true (sym c.if-found_alike ∙ c.eq-found_alike.ensures.1 e))) (λ y. absurd (false≢true y))
 
 -- a class that is too large was so
 
