@@ -8,7 +8,7 @@ ghost use Rattle.slotted_filing.specs.Filed.{filed_of};
 ghost use Rattle.slotted_filing.specs.FiledRows.{rows_in};
 ghost use Rattle.slotted_store.specs.Finding.{HasFinds, IsFindable};
 ghost use Rattle.slotted_store.specs.Kept.{entries_of};
-ghost use Rattle.slotted_adding.specs.Reports.{class_sources, live_ids};
+ghost use Rattle.slotted_adding.specs.Reports.{class_sources};
 
 use crate::finding::found_class;
 use slotted_filing::Hashcons;
@@ -25,20 +25,6 @@ pub fn is_alive<L: Language>(store: &Store<L>, class: usize) -> bool
     ensures { IsTrue result ↔ IsLive (entries_of store.now) class }
 {
     store.entry(class).id.0 == class
-}
-
-/// The classes that find themselves, ascending.
-pub fn live_classes<L: Language>(store: &Store<L>, alloc: Global) -> Result<Vec<usize>, Error>
-    ensures ok { IfOk result (λ v. v.items ≡ live_ids store.now) }
-    ensures err { IfErr result IsOutOfMemory }
-{
-    let mut classes = Vec::new(alloc);
-    for class in 0..store.class_count() {
-        if is_alive(store, class) {
-            classes.push(class)?;
-        }
-    }
-    Ok(classes)
 }
 
 /// The slots of a class that finds still use: of a live class, those that it has left.

@@ -3,7 +3,7 @@ ghost use Rattle.slotted_theory.specs.FiniteMaps.{IsInjectiveMap};
 
 use crate::checks::{check_shown, equation, map_of};
 use slotted_proofs::Equation;
-use slotted_slots::{Error, Show, SlotMap, SlotTable};
+use slotted_slots::{AppliedId, Error, Id, Show, Slot, SlotMap, SlotTable};
 use std::alloc::Global;
 use std::process::Abort;
 
@@ -69,10 +69,33 @@ fn check_sent(rt: &impl Abort, alloc: Global, e: &Equation)
     check_answer(rt, alloc, sent.numbered(alloc), NUMBERED);
 }
 
+// `id7` over one name equals `id9` over it, sent on by a map that knows the name.
+fn known_sent(alloc: Global, name: Slot, on: &SlotMap) -> Result<Equation, Error> {
+    if !on.contains_key(name) {
+        return Err(Error::NotEqual);
+    }
+    let mut m = SlotMap::new(alloc);
+    m.insert(Slot::numeric_at(0), name)?;
+    let mut n = SlotMap::new(alloc);
+    n.insert(Slot::numeric_at(1), name)?;
+    let e = Equation {
+        l: AppliedId { id: Id(7), m },
+        r: AppliedId { id: Id(9), m: n },
+    };
+    e.apply_slotmap(alloc, on)
+}
+
+fn check_known(rt: &impl Abort, alloc: Global) {
+    let on = map_of(rt, alloc, "3:8");
+    let sent = known_sent(alloc, Slot::numeric_at(3), &on);
+    check_answer(rt, alloc, sent, "id7[$0 -> $8] = id9[$1 -> $8]");
+}
+
 #[test]
 fn names_are_numbered_as_they_occur_and_sent_on(rt: HostRuntime) {
     let e = equation(&rt, rt.alloc(), SAMPLE);
     check_names(&rt, rt.alloc(), &e);
     check_copies(&rt, rt.alloc(), &e);
     check_sent(&rt, rt.alloc(), &e);
+    check_known(&rt, rt.alloc());
 }

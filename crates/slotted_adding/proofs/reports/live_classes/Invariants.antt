@@ -1,9 +1,0 @@
-use Rattle.std.proofs.Common.{◌≡◌}
-use Rattle.std.specs.List.{filter, range_with_len}
-use Rattle.slotted_store.specs.Kept.{entries_of}
-use Rattle.slotted_adding.specs.Reports.{lives}
-use Rattle.slotted_adding.proofs.reports.live_classes.Given as goal
-
--- the live ones so far
-abbrev pub invariant-loop-class : goal.invariant-loop-class
-invariant-loop-class g l = l.classes.items ≡ filter (lives (entries_of l.store)) (range_with_len 0 l.class)
