@@ -42,13 +42,13 @@ rebuild-requires g c =
 pub returns-then-found_alike-clause-ok : goal.returns-then-found_alike-clause-ok
 returns-then-found_alike-clause-ok g c =
     stays-filled c.args.store.now c.requires.good (to_applied c.args.l.now) (to_applied c.args.r.now) c.requires.left c.requires.right (text_bytes c.args.text) c.assert_sides.new.store c.in_ok-p.p c.in_ok-p.ensures.ok
-    c.args.nodes.now c.requires.rests (c.eq-found_alike.ensures.0 c.if-found_alike)
+    c.args.nodes.now c.requires.rests (c.eq-found_alike.ensures.0 c.if-found_alike.true)
 
 pub returns-clause-ok : goal.returns-clause-ok
 returns-clause-ok g c =
     unites-filled c.args.store.now c.requires.good (to_applied c.args.l.now) (to_applied c.args.r.now) c.requires.left c.requires.right (text_bytes c.args.text) c.assert_sides.new.store c.in_ok-p.p c.in_ok-p.ensures.ok
     c.args.nodes.now c.requires.rests c.unite.new.store c.unite.new.nodes c.in_ok-unite.ensures.ok c.rebuild.new.store c.rebuild.new.nodes c.in_ok-rebuild.field-0 c.in_ok-rebuild.ensures.ok
-    false (λ y. absurd (false≢true y), λ e. absurd (false≢true (sym c.if-found_alike ∙ c.eq-found_alike.ensures.1 e))) (λ y. absurd (false≢true y))
+    false (λ y. absurd (false≢true y), λ e. absurd (false≢true (sym c.if-found_alike.false ∙ c.eq-found_alike.ensures.1 e))) (λ y. absurd (false≢true y))
 
 -- a class that is too large was so
 
