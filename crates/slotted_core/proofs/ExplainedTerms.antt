@@ -17,7 +17,7 @@ use Rattle.slotted_model.proofs.Growing.{Extends-same, Extends-then}
 use Rattle.slotted_model.proofs.GrowingLists.{proofs-go_on}
 use Rattle.slotted_model.specs.Ids.{id_of}
 use Rattle.slotted_model.proofs.Ids.{id_of-iff}
-use Rattle.slotted_store.specs.Kept.{Kept, nodes_of, entries_of, proofs_of}
+use Rattle.slotted_store.specs.Kept.{Kept, nodes_of, entries_of, proofs_of, with_proofs}
 use Rattle.slotted_store.proofs.KeptLists.{equation_at-of, length-nodes_of, length-proofs_of}
 use Rattle.slotted_filing.specs.FiledRows.{Rows, rows_in}
 use Rattle.slotted_unions.specs.Proving as unions
@@ -86,11 +86,11 @@ module _ (k : Kept) (r : Rows) (good : Good k) (m : Kept) (s : Rows) (n : Kept) 
   ]
 
   -- and none comes where both terms have ids
-  both-kept : IsSome (id_of (nodes_of k) (nameless left)) → IsSome (id_of (nodes_of k) (nameless right)) → (nodes_of n ≡ nodes_of k) × (q ≡ r) × (w ≡ t)
+  both-kept : IsSome (id_of (nodes_of k) (nameless left)) → IsSome (id_of (nodes_of k) (nameless right)) → (n ≡ k) × (q ≡ r) × (w ≡ t)
   both-kept x y =
       let one = first.kept x in
       let two = second.kept (subst (λ (z : Kept). IsSome (id_of (nodes_of z) (nameless right))) (sym one.0) y) in
-      (ap nodes_of (two.0 ∙ one.0), two.1 ∙ one.1, two.2 ∙ one.2)
+      (two.0 ∙ one.0, two.1 ∙ one.1, two.2 ∙ one.2)
 
   within : (c : Applied) → IsFull (nodes_of n) c → c.0 < length n.classes
   within c full = let h : c.0 < length (nodes_of n) = full.in_range in let e : length (nodes_of n) ≡ length n.classes = length-nodes_of n in omega arith
@@ -109,7 +109,7 @@ module _ (k : Kept) (r : Rows) (good : Good k) (m : Kept) (s : Rows) (n : Kept) 
     fresh_slots = second.fresh_slots;
     adds = both-added;
     filed = both-filed;
-    kept = both-kept;
+    kept = λ x y. let all = both-kept x y in (ap nodes_of all.0, ap (λ (z : Kept). (image_of z).found) all.0, ap (λ (z : Kept). (image_of z).symmetries) all.0, all.1, all.2);
     answers = record { left = a; right = b; ids = both-ids; apart = λ f. false≢true (sym e ∙ says.1 (says-alike.1 f)) };
   }
 
@@ -129,7 +129,14 @@ module _ (k : Kept) (r : Rows) (good : Good k) (m : Kept) (s : Rows) (n : Kept) 
           adds = adds-then (image_of k) (image_of n) (image_of l) both-added.extends both-added.adds (proving-adds n q second.good second.rests l proves.only) (finds-on k r good l q on);
         };
         filed = subst (λ ns. NewClassesAre (nodes_of k) ns (IsIdOfEither ns left right)) (sym same) both-filed;
-        kept = λ x y. let all = both-kept x y in (same ∙ all.0, all.1, all.2);
+        kept = λ x y.
+            let all = both-kept x y in (
+              same ∙ ap nodes_of all.0,
+              ap (λ (z : Kept). (image_of z).found) (proves.only.kept ∙ ap (λ (z : Kept). with_proofs z proves.only.proofs) all.0),
+              ap (λ (z : Kept). (image_of z).symmetries) (proves.only.kept ∙ ap (λ (z : Kept). with_proofs z proves.only.proofs) all.0),
+              all.1,
+              all.2,
+            );
         answers = record {
           left = a;
           right = b;

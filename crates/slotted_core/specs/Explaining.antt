@@ -3,7 +3,7 @@
 --     HasIds g t u a b    the two terms are looked up as these ids
 --     IsIdOfEither        an id of a subterm of one of the two terms
 --     FilesOnlyTerms      each new class is that of such an id
---     KeepsClasses g h    the graphs have one table, the same classes and the same filed nodes
+--     KeepsClasses g h    the graphs have one table, the same classes, which find the same, and the same filed nodes and symmetries
 --     Explains g t u p    the entry p says that the two terms are equal
 --     FindsApart g t u    their ids do not find alike
 --     RunsOutForTerms     slots ran out
@@ -44,6 +44,8 @@ FilesOnlyTerms g h t u = NewClassesAre g.image.canonical h.image.canonical (IsId
 pub record KeepsClasses (g h : Graph) : Type 0 where
   pub table : h.table ≡ g.table
   pub canonical : h.image.canonical ≡ g.image.canonical
+  pub found : h.image.found ≡ g.image.found
+  pub symmetries : h.image.symmetries ≡ g.image.symmetries
   pub filed : h.filed ≡ g.filed
 
 -- where both terms have ids, entries of the proof list are all that is new
@@ -79,7 +81,7 @@ pub record ExplainsTerms (old new : Table) (k : Kept) (r : Rows) (l : Kept) (q :
   pub adds : AddsTerms (image_of k) (image_of l)
   pub filed : NewClassesAre (nodes_of k) (nodes_of l) (IsIdOfEither (nodes_of l) t u)
   pub kept : IsSome (id_of (nodes_of k) (nameless t)) → IsSome (id_of (nodes_of k) (nameless u)) → (nodes_of l ≡ nodes_of k) ×
-      (q ≡ r) × (new ≡ old)
+      ((image_of l).found ≡ (image_of k).found) × ((image_of l).symmetries ≡ (image_of k).symmetries) × (q ≡ r) × (new ≡ old)
   pub answers : Answers (image_of l) t u answer
 
 -- one of the terms has no id
