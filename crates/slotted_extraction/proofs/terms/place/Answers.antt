@@ -34,17 +34,6 @@ loop-entry-preserved-in_ok-term_entry g c =
           c.loop-entry.placed.items c.in_ok-term_entry.field-0 c.loop-entry.invariant.count (subst (λ i. IsTermFor c.args.store.now c.in-Some.entry i c.in_ok-term_entry.field-0) n c.in_ok-term_entry.ensures.ok) c.loop-entry.invariant.placed;
     }
 
-pub loop-entry-preserved-in_ok-term_entry-2 : goal.loop-entry-preserved-in_ok-term_entry-2
-loop-entry-preserved-in_ok-term_entry-2 g c =
-    let rest = c.pop.new.self.items in
-    let n : c.len.result ≡ length rest = omega (arith, c.len.ensures, c.pop.new.self.ok) in
-    record {
-      count = length-placed c.args.store.now c.args.entries.items c.loop-entry.placed.items c.in-Some.entry.class c.in_ok-term_entry.field-0 ∙ c.loop-entry.invariant.count;
-      left = popped-rest c.args.store.now c.args.entries.items c.loop-entry.left.items rest c.in-Some.entry c.loop-entry.invariant.left c.in-Some.ensures.items;
-      placed = placed-step c.args.store.now c.args.entries.items c.args.classes c.requires.within c.requires.differ c.loop-entry.left.items rest c.in-Some.entry c.loop-entry.invariant.left c.in-Some.ensures.items
-          c.loop-entry.placed.items c.in_ok-term_entry.field-0 c.loop-entry.invariant.count (subst (λ i. IsTermFor c.args.store.now c.in-Some.entry i c.in_ok-term_entry.field-0) n c.in_ok-term_entry.ensures.ok) c.loop-entry.invariant.placed;
-    }
-
 pub loop-entry-preserved : goal.loop-entry-preserved
 loop-entry-preserved g c =
     let rest = c.pop.new.self.items in
