@@ -155,6 +155,7 @@ module _ (k : Kept) (good : Good k) (a b : Applied) (va : IsFindable k a) (vb : 
         size = full.size;
         unchanged = of_negation alike _ same;
       };
+      counts = full.counts;
       records = record {
         each = λ left right f.
             subst (Records (image_of k) (image_of l)) (one-entry (nodes_of k) c d left right fills_left.full fills_right.full f.left_fills.full f.right_fills.full (same-equation left right f) text) full.records;

@@ -30,7 +30,7 @@ use Rattle.slotted_unions.proofs.KeptSlots.{grows-then}
 use Rattle.slotted_rebuilding.specs.Filed.{state_in, IsWellFiled, UnitesFiled}
 use Rattle.slotted_rebuilding.specs.Turns.{Rebuilds}
 use Rattle.slotted_core.specs.Causes.{HasLargeClassIn, HasLargeClassOf, class_found}
-use Rattle.slotted_core.specs.Good.{Good, RestsWith, image_of}
+use Rattle.slotted_core.specs.Good.{Good, NeverMore, RestsWith, image_of}
 use Rattle.slotted_core.specs.Image.{Asserts, AreTogether, Continues, FoundAlike, Records, SameNames, asserted_in, found_id, live_size}
 use Rattle.slotted_core.proofs.Asserting.{IsAsserted, is_asserted, asserted-filed, asserts-by}
 use Rattle.slotted_core.proofs.ContinuedFinds.{finds-new, finds-on, alike-on}
@@ -68,6 +68,7 @@ pub record UnitesFull (k : Kept) (r : Rows) (l : Kept) (q : Rows) (x : Proven) (
   pub asserts : Asserts (image_of k) (image_of l) (equation_of a b)
   pub continues : Continues (image_of k) (image_of l)
   pub size : live_size (image_of l) ≤ live_size (image_of k)
+  pub counts : NeverMore k l
   pub records : Records (image_of k) (image_of l) x
 
 module _ (k : Kept) (r : Rows) (good : Good k) (rests : RestsWith k r) (a b : Applied) (fa : IsFull (nodes_of k) a) (fb : IsFull (nodes_of k) b) (text : Option (List ℕ))
@@ -179,6 +180,7 @@ module _ (k : Kept) (r : Rows) (good : Good k) (rests : RestsWith k r) (a b : Ap
     asserts = united-asserts;
     continues = united-continues;
     size = united-size;
+    counts = record { live = exact.lives; slots = exact.slots };
     records = records-more (image_of k) (image_of m) (image_of l) x said.records grows-after.more grows-after.proofs;
   }
 

@@ -23,7 +23,7 @@ use Rattle.slotted_model.specs.Classes.{canonical_slots, term_of, IsFull}
 use Rattle.slotted_model.specs.Find.{Entry, find, find_class, find_map}
 use Rattle.slotted_model.specs.Growth.{Extends, IsNew}
 use Rattle.slotted_model.specs.Ids.{id_of_node, id_of}
-use Rattle.slotted_model.specs.Rest.{Represents}
+use Rattle.slotted_model.specs.Rest.{Represents, lives_from, slots_from}
 use Rattle.slotted_model.specs.Normal.{normal}
 use Rattle.slotted_model.specs.State.{Row, State, look_up_node, look_up_tree}
 use Rattle.slotted_proofs.specs.Entries.{Proven}
@@ -254,12 +254,18 @@ pub record LacksForTermIn (w : Term) (t : Table) (k : Kept) (r : Rows) (v : Tabl
   pub top : IsTopIn (look_up_node (state_in kept rows)) w node
   pub same : look_up_tree (state_in kept rows) (nameless top.subterm) ≡ look_up_node (state_in kept rows) (nameless_node node)
 
+-- from k to l the number of live classes does not rise, and where it stays, that of their slots does not
+pub record NeverMore (k l : Kept) : Type 0 where
+  pub live : lives_from 0 (entries_of l) ≤ lives_from 0 (entries_of k)
+  pub slots : lives_from 0 (entries_of l) ≡ lives_from 0 (entries_of k) → slots_from 0 (entries_of l) ≤ slots_from 0 (entries_of k)
+
 -- what a union of a and b answers, and what it leaves, where the text says why
 pub record Unites (k l : Kept) (q : Rows) (a b : Applied) (text : Option (List ℕ)) (y : Bool) : Type 0 where
   pub good : Good l
   pub rests : RestsWith l q
   pub nodes : nodes_of l ≡ nodes_of k
   pub union : IsUnion (image_of k) (image_of l) a b y
+  pub counts : NeverMore k l
   pub records : RecordsFilled (image_of k) (image_of l) a b text
 
 -- the same of two ids of the code

@@ -1,26 +1,27 @@
 -- How far a graph is, as contracts see it and as what is kept has it.
-use Rattle.std.proofs.Common.{◌≡◌, ◌≤◌, ◌<◌, ◌+◌, ◌∙◌, ℕ, zero, suc, List, ◌∷◌, true, cond, length, ap, refl, sym, inl, inr, arith}
-use Rattle.std.specs.Prelude.{Bool}
+use Rattle.std.proofs.Common.{◌≡◌, ◌≤◌, ◌<◌, ◌+◌, ◌∙◌, ℕ, zero, suc, List, [], ◌∷◌, true, false, cond, length, get_or, ap, refl, subst, sym, inl, inr, arith}
+use Rattle.std.specs.Prelude.{Bool, nat_eq}
 use Rattle.std.specs.List.{filter, range_with_len, sum_by}
 use Rattle.std.proofs.lemmas.Bool.{cases_Bool, eqb-true}
 use Rattle.std.proofs.lemmas.List.Sums.{sum_by-cons}
 use Rattle.slotted_nodes.specs.Form.{counted}
 use Rattle.slotted_model.specs.Applied.{Applied, values}
-use Rattle.slotted_model.specs.Find.{entry_at, find_map}
+use Rattle.slotted_model.specs.Find.{Entry, entry_at, find_map}
+use Rattle.slotted_model.specs.Rest.{lives_from, slots_from}
 use Rattle.slotted_model.proofs.Finding.{find_map-live, leads}
-use Rattle.slotted_store.specs.Kept.{Kept, entries_of, nodes_of}
-use Rattle.slotted_store.proofs.KeptLists.{length-mapped, length-nodes_of}
+use Rattle.slotted_store.specs.Kept.{Kept, entries_of, no_entry, nodes_of}
+use Rattle.slotted_store.proofs.KeptLists.{length-entries_of, length-mapped, length-nodes_of}
 use Rattle.slotted_adding.specs.Reports.{live_ids, lives}
 use Rattle.slotted_reports.specs.declared.measure.ProgressMeasure.{ProgressMeasure}
 use Rattle.slotted_reports.specs.Measure.{entry_slots, live_slots}
-use Rattle.slotted_core.specs.Good.{Good, image_of}
+use Rattle.slotted_core.specs.Good.{Good, NeverMore, image_of}
 use Rattle.slotted_core.specs.Image.{Image}
 use Rattle.slotted_core.specs.Reports.{live_classes}
 use Rattle.slotted_core.specs.ValidIds.{slots_left}
 use Rattle.slotted_core.proofs.GoodFinds.{good-finds}
 use Rattle.slotted_core.proofs.Images.{found-at}
 use Rattle.slotted_core.proofs.Reports.{class_count-is, live_ids-are}
-use Rattle.slotted_graph.specs.Measure.{IsProgress, slots_of_live}
+use Rattle.slotted_graph.specs.Measure.{IsProgress, NeverRises, slots_of_live}
 
 -- sums agree where what is summed does
 sums-agree : (f g : ℕ → ℕ) (test : ℕ → Bool) (s n : ℕ) → ((i : ℕ) → s ≤ i → i < s + n → test i ≡ true → f i ≡ g i) →
@@ -62,3 +63,86 @@ module _ (k : Kept) (good : Good k) where
         slots = slots ∙ (ap counted slots-are ∙ ap (λ (x : Image). counted (slots_of_live x)) image);
         symmetries = symmetries ∙ lives_are;
       }
+
+-- counted from the number i on, by the classes that find themselves and by their entries
+module _ (found : List Entry) where
+  -- the entries of es are those from i on
+  abbrev AreFrom : ℕ → List Entry → Type 0
+  AreFrom i es = (j : ℕ) → j < length es → entry_at found (i + j) ≡ get_or es j no_entry
+
+  first-of : (i : ℕ) (e : Entry) (es : List Entry) → AreFrom i (e ∷ es) → entry_at found i ≡ e
+  first-of i e es from = let z : i + 0 ≡ i = omega arith in subst (λ n. entry_at found n ≡ e) z (from 0 (omega arith))
+
+  later-of : (i : ℕ) (e : Entry) (es : List Entry) → AreFrom i (e ∷ es) → AreFrom (suc i) es
+  later-of i e es from j l = let q : i + suc j ≡ suc i + j = omega arith in subst (λ n. entry_at found n ≡ get_or es j no_entry) q (from (suc j) (omega arith))
+
+  lives-counted : (i : ℕ) (es : List Entry) → AreFrom i es → length (filter (lives found) (range_with_len i (length es))) ≡ lives_from i es
+  lives-counted i [] from = refl
+  lives-counted i (e ∷ es) from =
+      let next : suc i ≡ i + 1 = omega arith in
+      let rest = filter (lives found) (range_with_len (i + 1) (length es)) in
+      let later : length rest ≡ lives_from (suc i) es = subst (λ n. length (filter (lives found) (range_with_len n (length es))) ≡ lives_from (suc i) es) next (lives-counted (suc i) es (later-of i e es from)) in
+      let here : entry_at found i ≡ e = first-of i e es from in
+      elim (cases_Bool (nat_eq e.class i)) [
+        | inl y ↦
+            let z : lives found i ≡ true = ap (λ (x : Entry). nat_eq x.class i) here ∙ y in
+            let both : suc (length rest) ≡ 1 + lives_from (suc i) es = omega (arith, later) in
+            ap (λ b. length (cond b (i ∷ rest) rest)) z ∙ (both ∙ ap (λ b. cond b 1 0 + lives_from (suc i) es) (sym y))
+        | inr n ↦
+            let z : lives found i ≡ false = ap (λ (x : Entry). nat_eq x.class i) here ∙ n in
+            let both : length rest ≡ 0 + lives_from (suc i) es = omega (arith, later) in
+            ap (λ b. length (cond b (i ∷ rest) rest)) z ∙ (both ∙ ap (λ b. cond b 1 0 + lives_from (suc i) es) (sym n))
+      ]
+
+  slots-counted : (i : ℕ) (es : List Entry) → AreFrom i es → sum_by (λ c. length (entry_at found c).pairs) (filter (lives found) (range_with_len i (length es))) ≡ slots_from i es
+  slots-counted i [] from = refl
+  slots-counted i (e ∷ es) from =
+      let f : ℕ → ℕ = λ c. length (entry_at found c).pairs in
+      let next : suc i ≡ i + 1 = omega arith in
+      let rest = filter (lives found) (range_with_len (i + 1) (length es)) in
+      let later : sum_by f rest ≡ slots_from (suc i) es = subst (λ n. sum_by f (filter (lives found) (range_with_len n (length es))) ≡ slots_from (suc i) es) next (slots-counted (suc i) es (later-of i e es from)) in
+      let here : entry_at found i ≡ e = first-of i e es from in
+      let own : f i ≡ length e.pairs = ap (λ (x : Entry). length x.pairs) here in
+      elim (cases_Bool (nat_eq e.class i)) [
+        | inl y ↦
+            let z : lives found i ≡ true = ap (λ (x : Entry). nat_eq x.class i) here ∙ y in
+            let both : sum_by f (i ∷ rest) ≡ length e.pairs + slots_from (suc i) es = omega (arith, sum_by-cons f i rest, own, later) in
+            ap (λ b. sum_by f (cond b (i ∷ rest) rest)) z ∙ (both ∙ ap (λ b. cond b (length e.pairs) 0 + slots_from (suc i) es) (sym y))
+        | inr n ↦
+            let z : lives found i ≡ false = ap (λ (x : Entry). nat_eq x.class i) here ∙ n in
+            let both : sum_by f rest ≡ 0 + slots_from (suc i) es = omega (arith, later) in
+            ap (λ b. sum_by f (cond b (i ∷ rest) rest)) z ∙ (both ∙ ap (λ b. cond b (length e.pairs) 0 + slots_from (suc i) es) (sym n))
+      ]
+
+  itself : AreFrom 0 found
+  itself j l = let z : j ≡ 0 + j = omega arith in subst (λ n. entry_at found n ≡ get_or found j no_entry) z refl
+
+module _ (k : Kept) (good : Good k) where
+  same_count : length (entries_of k) ≡ length k.classes
+  same_count = length-entries_of k
+
+  live-count : length (live_classes (image_of k)) ≡ lives_from 0 (entries_of k)
+  live-count =
+      sym (ap length (live_ids-are k good))
+      ∙ (ap (λ n. length (filter (lives (entries_of k)) (range_with_len 0 n))) (sym same_count) ∙ lives-counted (entries_of k) 0 (entries_of k) (itself (entries_of k)))
+
+  slot-count : slots_of_live (image_of k) ≡ slots_from 0 (entries_of k)
+  slot-count =
+      sym (slots-are k good)
+      ∙ (ap (λ n. sum_by (entry_slots k) (filter (lives (entries_of k)) (range_with_len 0 n))) (sym same_count) ∙ slots-counted (entries_of k) 0 (entries_of k) (itself (entries_of k)))
+
+-- what never rises in what is kept never rises as contracts see it
+pub never-rises : (k l : Kept) → Good k → Good l → nodes_of l ≡ nodes_of k → NeverMore k l → (g h : Image) → image_of k ≡ g → image_of l ≡ h → NeverRises g h
+never-rises k l good_k good_l nodes never g h eg eh =
+    let lk = live-count k good_k in
+    let ll = live-count l good_l in
+    let sk = slot-count k good_k in
+    let sl = slot-count l good_l in
+    let here : NeverRises (image_of k) (image_of l) = record {
+      classes = ap length nodes;
+      live = omega (arith, lk, ll, never.live);
+      slots = λ same.
+          let fewer : slots_from 0 (entries_of l) ≤ slots_from 0 (entries_of k) = never.slots (sym ll ∙ (same ∙ lk)) in
+          omega (arith, sk, sl, fewer);
+    } in
+    subst (λ (x : Image). NeverRises x h) eg (subst (NeverRises (image_of k)) eh here)

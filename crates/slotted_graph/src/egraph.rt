@@ -9,6 +9,7 @@ ghost use Rattle.slotted_model.specs.Classes.{Canonical, term_of};
 ghost use Rattle.slotted_model.specs.ProofList.{Proved};
 ghost use Rattle.slotted_proofs.specs.Entries.{explicit_numbers};
 ghost use Rattle.slotted_terms.specs.Valid.{IsValidTerm};
+ghost use Rattle.slotted_graph.specs.Measure.{NeverRises};
 ghost use Rattle.slotted_core.specs.Image.{no_classes, FoundAlike, SaysEqual, SaysDerivable, SaysTerms};
 ghost use Rattle.slotted_core.specs.Image.{AddsClasses, IsUnion, AreSymmetries, AreListedOnce, CountsOpen};
 ghost use Rattle.slotted_store.specs.Kept.{text_bytes, symmetry_entry};
@@ -227,8 +228,9 @@ impl<L: Language, N: Drop> EGraph<L, N> {
         ensures union { IfOk result (IsUnion self.old.image self.new.image (to_applied l.now) (to_applied r.now)) }
         ensures text { OnOk result (RecordsUnion self.old self.new l.now r.now None) }
 
-        // No node is filed anew where it answers false.
+        // No node is filed anew where it answers false. No class is made, no more live, and where as many live, they have no more slots.
         ensures filed { IfOk result (λ y. y ≡ false → self.new.filed ≡ self.old.filed) }
+        ensures counts { OnOk result (NeverRises self.old.image self.new.image) }
         ensures table { self.new.table ≡ self.old.table }
 
         ensures stays { IsTrue self.old.failed → self.new ≡ self.old }
@@ -256,8 +258,9 @@ impl<L: Language, N: Drop> EGraph<L, N> {
         // Where it was not proved before, it is a new entry, asserted with the text.
         ensures text { OnOk result (RecordsUnion self.old self.new l.now r.now (text_bytes text)) }
 
-        // No node is filed anew where it answers false.
+        // No node is filed anew where it answers false. No class is made, no more live, and where as many live, they have no more slots.
         ensures filed { IfOk result (λ y. y ≡ false → self.new.filed ≡ self.old.filed) }
+        ensures counts { OnOk result (NeverRises self.old.image self.new.image) }
         ensures table { self.new.table ≡ self.old.table }
 
         ensures stays { IsTrue self.old.failed → self.new ≡ self.old }

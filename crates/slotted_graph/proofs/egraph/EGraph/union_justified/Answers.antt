@@ -1,4 +1,4 @@
-use Rattle.std.proofs.Common.{◌≡◌, ◌∙◌, ap, sym, inl, inr}
+use Rattle.std.proofs.Common.{◌≡◌, ◌∙◌, ap, refl, sym, inl, inr}
 use Rattle.std.proofs.lemmas.Bool.{false≢true}
 use Rattle.slotted_proofs.specs.Equations.{to_applied}
 use Rattle.slotted_core.specs.ValidIds.{IsValidId}
@@ -6,6 +6,7 @@ use Rattle.slotted_core.specs.Good.{Good, image_of}
 use Rattle.slotted_core.specs.Graph.{Graph}
 use Rattle.slotted_core.proofs.FiledClasses.{grown-fresh}
 use Rattle.slotted_core.proofs.ValidIds.{of-valid}
+use Rattle.slotted_graph.proofs.Measured.{never-rises}
 use Rattle.slotted_graph.proofs.egraph.EGraph.union_justified.Goals as goal
 
 pub union-requires-clause-left : goal.union-requires-clause-left
@@ -37,3 +38,10 @@ invariant_of-self-2 g c = elim c.self.invariant [
     c.in_ok-answer.ensures.ok.rests,
   )
 ]
+
+pub returns-clause-counts : goal.returns-clause-counts
+returns-clause-counts l c =
+    let core = c.self.inside.store in
+    let good : Good core = elim c.self.invariant [ inl h ↦ absurd (false≢true (sym c.if-self.false ∙ h)) | inr h ↦ h.0 ] in
+    let ok = c.in_ok-answer.ensures.ok in
+    never-rises core c.union.new.store good ok.good ok.nodes ok.counts c.args.self.now.image (image_of c.union.new.store) (ap (λ (x : Graph). x.image) c.self.view_is) refl
