@@ -86,6 +86,22 @@ fn assert_gives_nothing<L: Language>(rt: &impl Abort, graph: &mut EGraph<L>, id:
     assert!(rt; graph.is_failed());
 }
 
+// It gives out none of its nodes.
+fn assert_gives_no_nodes<L: Language>(
+    rt: &impl Abort,
+    alloc: Global,
+    graph: &mut EGraph<L>,
+    id: &AppliedId,
+) {
+    assert!(rt; graph.is_failed());
+    assert!(rt; refusal(graph.check()) == 3);
+    assert!(rt; refusal(graph.enodes(id.id)) == 3);
+    assert!(rt; refusal(graph.enodes_applied(id)) == 3);
+    let mut out = String::new(alloc);
+    assert!(rt; refusal(graph.dump(&mut out)) == 3);
+    assert!(rt; graph.is_failed());
+}
+
 // It proves nothing.
 fn assert_proves_nothing<L: Language>(rt: &impl Abort, graph: &mut EGraph<L>, sides: &Equation) {
     assert!(rt; graph.is_failed());
@@ -138,7 +154,9 @@ pub fn assert_failed<L: Language>(
     graph: &mut EGraph<L>,
     term: &RecExpr<L>,
 ) {
-    assert_refuses(rt, graph, term, &null_sides(alloc));
+    let sides = null_sides(alloc);
+    assert_refuses(rt, graph, term, &sides);
+    assert_gives_no_nodes(rt, alloc, graph, &sides.l);
     if let Ok(node) = term.node.copy(alloc) {
         assert_takes_no_node(rt, graph, node);
     }

@@ -52,6 +52,9 @@ print canonical: (app (g $p) (f $p $q)) => (app (g $p) (f $p $q))
 count children: (lam $z (app (var $z) (g $x))) => 1
 print pattern: (lam $x (app ?f (var $y)))[(var $x) := ?t] => (lam $x (app ?f (var $y)))[(var $x) := ?t]
 print slot: w => $w
+report applied: (f $x $y) => yes
+report found set: (f $x $y) => 2
+report check => yes
 count asserted => 4"#;
 
 // What is answered to a question that was refused, and is asked again: one growth at most is refused, but no slot comes back.
