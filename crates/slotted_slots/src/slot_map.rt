@@ -22,7 +22,7 @@ use std::cmp::Ordering;
 use std::hash::{Hash, Hasher};
 use std::marker::Model;
 
-/// A finite map from slots to slots, seen as the list of its pairs in key order. It is ordered, compared and hashed as that list.
+/// A finite map from slots to slots, seen as the list of its pairs in key order. It is ordered and compared as that list, and hashed by its pairs.
 #[derive(Drop, Debug)]
 pub struct SlotMap {
     pairs: Vec<(Slot, Slot)>,

@@ -1,7 +1,9 @@
 //! Slot maps to and from lists, arrays and iterators.
-ghost use Rattle.std.specs.Prelude.{◌≡◌, IfOk, IfErr};
+ghost use Rattle.std.specs.Prelude.{◌≡◌, ℕ, length, IfOk, IfErr};
 ghost use Rattle.std.specs.Iterator.{YieldsFirst, item_count};
-ghost use Rattle.std.specs.Vec.Iter.{into_iter_items};
+ghost use Rattle.std.specs.Iterator.Runs.{EveryRun, ItemsAre};
+ghost use Rattle.std.proofs.Common.{Global};
+ghost use Rattle.std.specs.Vec.Iter.{into_iter_items, into_iter_len, into_iter_steps};
 ghost use Rattle.slotted_slots.specs.Error.{IsOutOfMemory};
 ghost use Rattle.slotted_slots.specs.Iterating.{EachIteratorEnds, IsMapOfItems};
 ghost use Rattle.slotted_slots.specs.Maps.{map_of, keys, values};
@@ -110,7 +112,8 @@ impl IntoIterator for SlotMap {
 
     type IntoIter = IntoIter;
 
-    ghost into_iter_gives = { λ m it. into_iter_items it ≡ m };
+    ghost into_iter_gives = { λ m it. (into_iter_items it ≡ m) × (into_iter_len it ≡ length m)
+        × EveryRun (into_iter_steps {X = ℕ × ℕ} {Z = Global}) (λ p. ItemsAre p (into_iter_items p.from)) };
 
     fn into_iter(self) -> IntoIter {
         self.pairs.into_iter()
