@@ -28,7 +28,7 @@ use Rattle.slotted_unions.specs.StateOf.{state_of, state_with}
 use Rattle.slotted_unions.specs.Stored.{Stored, Grows, IsOverOneClass}
 use Rattle.slotted_unions.proofs.GrownRows.{grown-count, grown-rows}
 use Rattle.slotted_rebuilding.specs.Filed.{state_in, IsWellFiled}
-use Rattle.slotted_rebuilding.proofs.FiledStates.{fits-grown}
+use Rattle.slotted_rebuilding.proofs.FiledStates.{fits-grown, places-grown}
 use Rattle.slotted_core.specs.Good.{image_of, Good}
 use Rattle.slotted_core.proofs.EntryTexts.{records-stood, records-last}
 
@@ -149,6 +149,7 @@ module _ (k : Kept) (good : Good k) (a b : Applied) (fa : IsFull (nodes_of k) a)
         count = well.count ∙ sym (grown-count k m said.grows);
         sane = subst (λ (z : Kept). Sane (state_in z r)) (sym e.kept) (sane-with (rows_in r.filed) r.waiting well.sane e.proofs p e.enters);
         keyed = well.keyed;
+        places = λ i f c. places-grown k m said.grows i f.0 (well.places i f c);
       }
 
   -- a union by the entry, and a run that leaves nothing to do, assert that the two are equal

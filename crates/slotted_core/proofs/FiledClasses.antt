@@ -11,18 +11,25 @@ use Rattle.slotted_model.specs.Adding.{HasAdded}
 use Rattle.slotted_model.specs.Adding as model
 use Rattle.slotted_model.specs.Applied.{Applied}
 use Rattle.slotted_model.specs.Changes.{GoesOn}
-use Rattle.slotted_model.specs.Classes.{canonical_slots}
+use Rattle.slotted_model.specs.Classes.{canonical_node, canonical_slots}
 use Rattle.slotted_model.specs.Growth.{Extends}
 use Rattle.slotted_model.specs.Ids.{id_of_node}
 use Rattle.slotted_model.specs.Rest.{Sane}
 use Rattle.slotted_model.specs.State.{State}
 use Rattle.slotted_model.proofs.Adding.{adds, class-sane}
 use Rattle.slotted_model.proofs.GoingOn.{goes_on-same}
+use Rattle.slotted_model.proofs.Growing.{node-old}
+use Rattle.slotted_model.proofs.Theory.{moved-id}
 use Rattle.slotted_proofs.specs.Entries.{Proven}
-use Rattle.slotted_store.specs.Kept.{Kept, SymmetryEntry, nodes_of}
+use Rattle.slotted_store.specs.Kept.{Kept, SymmetryEntry, node_at, nodes_of}
 use Rattle.slotted_store.specs.Names.{HasNumberedBinders}
 use Rattle.slotted_store.proofs.KeptLists.{length-nodes_of}
-use Rattle.slotted_filing.specs.FiledRows.{Rows, rows_in}
+use Rattle.slotted_filing.specs.Filed.{Filing, filed_of}
+use Rattle.slotted_filing.specs.FiledRows.{Rows, row_of_entry, rows_in}
+use Rattle.slotted_filing.proofs.FiledRows.{row-filed}
+use Rattle.slotted_normal_forms.specs.FoundNodes.{HasNoMorePlaces}
+use Rattle.slotted_normal_forms.proofs.CanonicalChildren.{node-is}
+use Rattle.slotted_normal_forms.proofs.KeyedNodes.{same-places}
 use Rattle.slotted_unions.specs.Stored.{Stored, Grows}
 use Rattle.slotted_unions.proofs.GrownRows.{grown-count, grown-rows}
 use Rattle.slotted_rebuilding.specs.Causes.{HasLargeClass}
@@ -102,6 +109,23 @@ module _ (k : Kept) (r : Rows) (good : Good k) (rests : RestsWith k r) where
 
   -- a class was made
   module _ (m : Kept) (good-m : Good m) (f : Form) (one : MakesOne k m f) where
+    -- the older classes have the nodes that they had
+    same-node : (i : ℕ) → i < length (nodes_of k) → nameless_node (node_at k i) ≡ nameless_node (node_at m i)
+    same-node i h =
+        let w : i < length k.classes = subst (λ n. i < n) (length-nodes_of k) h in
+        let n : nodes_of m ≡ nodes_of k ++ one.node ∷ [] = ap (λ (s : State). s.nodes) (one.state [] []) in
+        node-is k i w
+        ∙ (sym (node-old (nodes_of k) one.node i h) ∙ (ap (λ ns. canonical_node ns i) (sym n) ∙ sym (node-is m i (omega (arith, w, one.count)))))
+
+    places-made : (i : ℕ) (e : Filing) → filed_of r.filed i ≡ Some e → HasNoMorePlaces m i e.0
+    places-made i e f =
+        let h : i < length (nodes_of k) = (rests.filed.sane.filed.each (row_of_entry (e.0, (i, e.1))) (row-filed r.filed i e.0 e.1 f)).in_range in
+        let w : i < length k.classes = subst (λ n. i < n) (length-nodes_of k) h in
+        let same : length (node_at k i).names ≡ length (node_at m i).names =
+        same-places (λ x. x) (λ x y p. p) (node_at k i) (node_at m i) (rests.filed.fits i w) (good-m.fits i (omega (arith, w, one.count))) (moved-id (nameless_node (node_at k i)) ∙ same-node i h) in
+        let fewer = rests.filed.places i e f in
+        omega (arith, same, fewer)
+
     pub unfiled : IsUnfiled m r
     unfiled = record {
       stored = good-m.stored;
@@ -110,6 +134,7 @@ module _ (k : Kept) (r : Rows) (good : Good k) (rests : RestsWith k r) where
       count = one.count ∙ ap suc (sym rests.filed.count);
       sane = subst Sane (sym (one.state (rows_in r.filed) r.waiting)) (class-sane (state_in k r) rests.filed.sane one.node one.is_new);
       keyed = rests.filed.keyed;
+      places = places-made;
       quiet = rests.quiet;
     }
 

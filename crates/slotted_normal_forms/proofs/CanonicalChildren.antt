@@ -1,16 +1,16 @@
 -- Canonical nodes are over ids that find.
-use Rattle.std.proofs.Common.{◌≡◌, ◌<◌, ℕ, length, ap, ◌∙◌, sym, subst, arith, []}
+use Rattle.std.proofs.Common.{◌≡◌, ◌<◌, ℕ, length, ◌∙◌, sym, subst, arith, []}
 use Rattle.slotted_theory.specs.Nameless.{DTerm, stop}
 use Rattle.slotted_theory.proofs.Values.{node}
 use Rattle.slotted_languages.specs.NodeTerm.{nameless_node}
-use Rattle.slotted_model.specs.Applied.{Applied, EachChild}
+use Rattle.slotted_model.specs.Applied.{EachChild}
 use Rattle.slotted_model.specs.Classes.{Canonical, IsFull, canonical_node}
 use Rattle.slotted_model.specs.Find.{Linked}
 use Rattle.slotted_model.specs.Rest.{Sane}
 use Rattle.slotted_model.specs.State.{State}
 use Rattle.slotted_model.proofs.Children.{EachChild-map}
 use Rattle.slotted_model.proofs.NormalIds.{full-is_valid}
-use Rattle.slotted_store.specs.Finding.{HasFinds, IsFindable}
+use Rattle.slotted_store.specs.Finding.{IsFindable}
 use Rattle.slotted_store.specs.Kept.{Kept, ClassEntry, node_at, nodes_of, entries_of, no_form, no_entry}
 use Rattle.slotted_store.proofs.KeptLists.{any_default, at-mapped, length-nodes_of}
 use Rattle.slotted_normal_forms.specs.NormalNodes.{HasFindableChildren}

@@ -1,11 +1,11 @@
 -- The slots that a class uses, looked for among those of its node in normal form.
-use Rattle.std.proofs.Common.{◌≡◌, ◌<◌, ◌∙◌, ℕ, List, [], ◌∷◌, Option, Some, None, length, sym, ap, refl, subst}
+use Rattle.std.proofs.Common.{◌≡◌, ◌<◌, ℕ, List, [], ◌∷◌, Some, None, length, sym, ap, refl, subst}
 use Rattle.std.specs.Prelude.{◌↔◌, Bool, Contains, IsTrue, is_some, slice_index_or}
 use Rattle.slotted_theory.specs.FiniteMaps.{value_of}
 use Rattle.slotted_slots.specs.Maps as slots
 use Rattle.slotted_model.specs.Applied.{keys, values}
 use Rattle.slotted_model.specs.Correspondence.{flipped}
-use Rattle.slotted_model.specs.Find.{find_class, find_map, used_slots}
+use Rattle.slotted_model.specs.Find.{find_class, find_map}
 use Rattle.slotted_model.specs.Rebuild.{IsCovered}
 use Rattle.slotted_model.proofs.Correspondences.Pairs.{Contains-value_of}
 use Rattle.slotted_model.proofs.Members.{In-Contains}

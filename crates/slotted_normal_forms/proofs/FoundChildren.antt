@@ -1,27 +1,26 @@
 -- A node whose children are all replaced by what they find: its nameless form is the normal form, and it has no other names and no more places.
-use Rattle.std.proofs.Common.{◌≡◌, ℕ, suc, zero, ◌+◌, ◌-◌, ◌<◌, ◌≤◌, List, [], ◌∷◌, ◌++◌, Some, length, take, drop, map, refl, slice_index, ap, ◌∙◌, sym, subst, arith, length-append, length-drop, length-take, inl, inr}
-use Rattle.std.specs.Prelude.{Option, None, Contains, slice_index_or}
+use Rattle.std.proofs.Common.{◌≡◌, ℕ, suc, zero, ◌-◌, ◌<◌, ◌≤◌, List, [], ◌∷◌, ◌++◌, length, take, drop, refl, slice_index, ap, ◌∙◌, sym, subst, arith, length-append, length-drop, length-take, inl, inr}
+use Rattle.std.specs.Prelude.{Contains, slice_index_or}
 use Rattle.std.specs.List.{zip}
 use Rattle.std.proofs.lemmas.List.{length-map, take_at, drop_at}
-use Rattle.slotted_theory.specs.Nameless.{DArgs, DTerm, stop, place, sub, scope, extend, nameless_args}
-use Rattle.slotted_theory.specs.FiniteMaps.{with_values, value_of, HasValue, IsInjectiveMap}
+use Rattle.slotted_theory.specs.Nameless.{DTerm, place, sub, scope, extend, nameless_args}
+use Rattle.slotted_theory.specs.FiniteMaps.{with_values, HasValue, IsInjectiveMap}
 use Rattle.slotted_theory.proofs.Values.{node, child_before}
 use Rattle.slotted_slots.specs.Maps.{keys, values}
 use Rattle.slotted_nodes.specs.Form.{Form, Tree, leaf, own, child, bind, scopes, children}
 use Rattle.slotted_languages.specs.NodeTerm.{nameless_node, own_names, node_args}
 use Rattle.slotted_languages.specs.Shape.{Fits}
 use Rattle.slotted_languages.proofs.NodeTerms.{own_fits, child_keys_fit, child_rest_fits, bind_inner_fits, bind_rest_fits}
-use Rattle.slotted_model.specs.Applied.{Applied, renamed_id, as_term, applied_of, EachChild, IsApplied}
+use Rattle.slotted_model.specs.Applied.{Applied, renamed_id, as_term, applied_of, EachChild}
 use Rattle.slotted_model.specs.Ascending.{IsAscending}
-use Rattle.slotted_model.specs.Correspondence.{AllDifferent, composite}
 use Rattle.slotted_model.specs.Filling.{IsValid}
-use Rattle.slotted_model.specs.Find.{Entry, Linked, find, find_map, used_slots}
+use Rattle.slotted_model.specs.Find.{Entry, Linked, find, used_slots}
 use Rattle.slotted_model.specs.Normal.{normal, normal_args}
 use Rattle.slotted_model.proofs.Children.{zip-places}
 use Rattle.slotted_model.proofs.Congruence.{child-applied}
 use Rattle.slotted_model.proofs.Correspondences.Listing.{injective-different}
 use Rattle.slotted_model.proofs.Maps.{keys-with_values}
-use Rattle.slotted_model.proofs.Members.{In, In-left, In-right, In-append, In-map, In-of_map, In-Contains, Contains-In}
+use Rattle.slotted_model.proofs.Members.{In, In-append, In-map, In-of_map, In-Contains, Contains-In}
 use Rattle.slotted_model.proofs.NormalIds.{found-renamed, found-valid, found-name}
 use Rattle.slotted_model.proofs.Touching.{different-length}
 use Rattle.slotted_store.specs.ChildIds.{ids_in, child_ids}

@@ -2,6 +2,7 @@ pub mod ReplacedChildren
 pub mod FoundChildren
 pub mod NumbersInShapes
 pub mod ShapesOfNodes
+pub mod KeyedNodes
 pub mod CanonicalChildren
 pub mod OwnIds
 pub mod NumberPartners

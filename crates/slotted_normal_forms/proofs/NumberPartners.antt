@@ -1,9 +1,8 @@
 -- Slots of two classes that have one number: they are paired, and the sides that share names there are twins.
 use Rattle.std.proofs.Common.{◌≡◌, ◌↔◌, ◌<◌, ℕ, List, length, refl, ap, ◌∙◌, sym, subst}
 use Rattle.std.specs.Prelude.{Contains, map}
-use Rattle.std.specs.Map.{keys_of, values_of}
-use Rattle.slotted_theory.specs.Nameless.{DTerm, moved}
-use Rattle.slotted_theory.specs.FiniteMaps.{filled, IsInjectiveMap}
+use Rattle.slotted_theory.specs.Nameless.{DTerm}
+use Rattle.slotted_theory.specs.FiniteMaps.{filled}
 use Rattle.slotted_theory.specs.Shape.{free_names, number_in}
 use Rattle.slotted_theory.specs.Shape as theory
 use Rattle.slotted_theory.proofs.Filled.{filled-injective}
@@ -12,15 +11,14 @@ use Rattle.slotted_nodes.specs.Form.{Form}
 use Rattle.slotted_languages.specs.NodeTerm.{nameless_node}
 use Rattle.slotted_languages.proofs.Shapes.{keys-shape}
 use Rattle.slotted_languages.specs.Shape.{shape}
-use Rattle.slotted_slots.specs.Ascending as slots
-use Rattle.slotted_model.specs.Applied.{Applied, keys, values}
+use Rattle.slotted_model.specs.Applied.{Applied, keys}
 use Rattle.slotted_model.specs.Ascending.{IsAscending, names}
 use Rattle.slotted_model.specs.Classes.{Canonical, IsFull, canonical_slots}
-use Rattle.slotted_model.specs.Correspondence.{IsFullMap, IsPartialInjection, composite, identity, same_names, turned}
+use Rattle.slotted_model.specs.Correspondence.{IsFullMap, IsPartialInjection, identity, same_names, turned}
 use Rattle.slotted_model.specs.Normal.{HasNormalTwin, HasOneNumber}
-use Rattle.slotted_model.specs.ProofList.{Equation, equation_of}
+use Rattle.slotted_model.specs.ProofList.{equation_of}
 use Rattle.slotted_model.specs.State.{Row, normal_node}
-use Rattle.slotted_model.proofs.Correspondences.FullIds.{ascending-different, full_map, full_id, slots-different}
+use Rattle.slotted_model.proofs.Correspondences.FullIds.{ascending-different, full_map, slots-different}
 use Rattle.slotted_model.proofs.Correspondences.FullMaps.{full-from, full-partial, same_names-by, same_names-over, same_names-partial}
 use Rattle.slotted_model.proofs.Correspondences.Pairs.{Contains-value, Contains-of_value}
 use Rattle.slotted_model.proofs.Correspondences.PartialInjections.{composite-by, composite-over, composite-partial, identity-by, identity-pair, in_order-ext, turned-by, turned-pair, turned-partial}
@@ -34,7 +32,7 @@ use Rattle.slotted_model.proofs.TwinNumbers.{twins-move, twins-pair}
 use Rattle.slotted_proofs.proofs.Bridges.{ascends}
 use Rattle.slotted_store.specs.Kept.{Kept, nodes_of, entries_of}
 use Rattle.slotted_normal_forms.specs.FoundNodes.{finds_of, IsFoundNode}
-use Rattle.slotted_normal_forms.specs.Sides.{HaveOneShape, number_partners}
+use Rattle.slotted_normal_forms.specs.Sides.{number_partners}
 
 -- the map of a class's slots is full over its numbers
 names-ascend : (k : Kept) (i : ℕ) (f : Form) (m : List (ℕ × ℕ)) → IsFoundNode k i f m → IsAscending (keys m)

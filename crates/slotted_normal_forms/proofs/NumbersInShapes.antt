@@ -1,13 +1,15 @@
 -- The numbers of a shape and the free names in the order in which they first stand are beside one another.
-use Rattle.std.proofs.Common.{◌≡◌, ◌≢◌, ℕ, suc, zero, ◌+◌, ◌<◌, List, [], ◌∷◌, ◌++◌, length, map, cond, refl, ap, ◌∙◌, sym, subst, arith, append_assoc, length-append, inl, inr}
+use Rattle.std.proofs.Common.{◌≡◌, ℕ, suc, ◌<◌, List, [], ◌∷◌, ◌++◌, length, map, cond, refl, ap, ◌∙◌, sym, subst, arith, append_assoc, length-append, inl, inr}
 use Rattle.std.specs.Prelude.{Bool, true, false, nat_eq, ◌||◌}
 use Rattle.std.specs.List.{zip}
 use Rattle.std.proofs.lemmas.List.{map-append}
 use Rattle.std.proofs.lemmas.Bool.{cases_eq, eq-eqb, ne_eqb, false≢true}
 use Rattle.slotted_theory.specs.Nameless.{DTerm}
+use Rattle.slotted_theory.specs.Renaming.{IsInjective}
 use Rattle.slotted_theory.specs.Shape.{free_names, number_in, shape}
 use Rattle.slotted_theory.proofs.Names.{extend-same, extend-other}
 use Rattle.slotted_slots.specs.Maps.{is_among}
+use Rattle.slotted_slots.proofs.CombiningLaws.{same_test}
 use Rattle.slotted_languages.specs.Shape.{added, firsts}
 use Rattle.slotted_model.specs.Applied.{map_on}
 use Rattle.slotted_model.specs.Ascending.{IsAscending, ascending, names}
@@ -38,7 +40,7 @@ ascending-last (x ∷ xs) n a h =
         last (inl e) = let l : x < n = h x (inl refl) in omega arith
         last (inr e) = absurd e
 
-among-In : (xs : List ℕ) (x : ℕ) → is_among x xs ≡ true → In x xs
+pub among-In : (xs : List ℕ) (x : ℕ) → is_among x xs ≡ true → In x xs
 among-In [] x h = absurd (false≢true h)
 among-In (y ∷ ys) x h = elim (cases_eq y x) [
   | inl e ↦ inl (sym e)
@@ -49,10 +51,33 @@ or-true : (b : Bool) → (b || true) ≡ true
 or-true true = refl
 or-true false = refl
 
-In-among : (xs : List ℕ) (x : ℕ) → In x xs → is_among x xs ≡ true
+pub In-among : (xs : List ℕ) (x : ℕ) → In x xs → is_among x xs ≡ true
 In-among [] x h = absurd h
 In-among (y ∷ ys) x (inl e) = ap (λ b. b || is_among x ys) (eq-eqb y x (sym e))
 In-among (y ∷ ys) x (inr h) = ap (λ b. nat_eq y x || b) (In-among ys x h) ∙ or-true (nat_eq y x)
+
+-- an injective function moves the names of a list each to one place, and where each first stands
+among-map : (f : ℕ → ℕ) → IsInjective f → (x : ℕ) (vs : List ℕ) → is_among (f x) (map f vs) ≡ is_among x vs
+among-map f inj x vs =
+    same_test (is_among (f x) (map f vs)) (is_among x vs)
+    (λ h.
+    let r : (v : ℕ) × In v vs × (f x ≡ f v) = In-of_map f vs (f x) (among-In (map f vs) (f x) h) in
+    In-among vs x (subst (λ v. In v vs) (sym (inj x r.0 r.2)) r.1))
+    (λ h. In-among (map f vs) (f x) (In-map f vs x (among-In vs x h)))
+
+added-map : (f : ℕ → ℕ) → IsInjective f → (vs xs : List ℕ) → added (map f vs) (map f xs) ≡ map f (added vs xs)
+added-map f inj vs [] = refl
+added-map f inj vs (x ∷ xs) =
+    ap (λ b. added (cond b (map f vs) (map f vs ++ f x ∷ [])) (map f xs)) (among-map f inj x vs)
+    ∙ one (is_among x vs) (added-map f inj vs xs) (added-map f inj (vs ++ x ∷ []) xs)
+  where
+    one : (b : Bool) → added (map f vs) (map f xs) ≡ map f (added vs xs) → added (map f (vs ++ x ∷ [])) (map f xs) ≡ map f (added (vs ++ x ∷ []) xs) →
+        added (cond b (map f vs) (map f vs ++ f x ∷ [])) (map f xs) ≡ map f (added (cond b vs (vs ++ x ∷ [])) xs)
+    one true same more = same
+    one false same more = ap (λ ws. added ws (map f xs)) (sym (map-append f vs (x ∷ []))) ∙ more
+
+pub firsts-map : (f : ℕ → ℕ) → IsInjective f → (xs : List ℕ) → firsts (map f xs) ≡ map f (firsts xs)
+firsts-map f inj xs = added-map f inj [] xs
 
 -- the names vs of the part ys of all names, each once, in the order of their numbers
 record SoFar (whole ys vs : List ℕ) : Type 0 where

@@ -1,10 +1,8 @@
 -- A class with its canonical slots as names: they are read off the row of the class.
-use Rattle.std.proofs.Common.{◌≡◌, ◌<◌, ℕ, zero, suc, List, [], ◌∷◌, length, refl, ap, ◌∙◌, sym, arith}
+use Rattle.std.proofs.Common.{◌≡◌, ◌<◌, ℕ, zero, suc, List, [], ◌∷◌, length, refl, ap, ◌∙◌, arith}
 use Rattle.std.specs.Prelude.{slice_index_or}
 use Rattle.slotted_slots.specs.Maps.{values}
-use Rattle.slotted_languages.specs.NodeTerm.{nameless_node}
 use Rattle.slotted_languages.specs.Shape.{shape}
-use Rattle.slotted_model.specs.Applied.{map_on}
 use Rattle.slotted_model.specs.Ascending.{ascending, names}
 use Rattle.slotted_model.specs.Classes.{canonical_slots}
 use Rattle.slotted_model.specs.Correspondence.{identity}

@@ -4,7 +4,6 @@ use Rattle.std.specs.Prelude.{Option, None, map, slice_index_or}
 use Rattle.std.specs.List.{zip}
 use Rattle.std.proofs.lemmas.Grind.{common_steps}
 use Rattle.std.proofs.lemmas.List.{length-map, take-append-drop}
-use Rattle.std.proofs.lemmas.Bool.{cases_lt}
 use Rattle.std.proofs.Math.Nat.{sub-zero}
 use Rattle.slotted_slots.specs.Maps.{keys, values}
 use Rattle.slotted_nodes.specs.Form.{Form, Tree, leaf, own, child, bind, scopes, children, with_child, bind_form, join_form}

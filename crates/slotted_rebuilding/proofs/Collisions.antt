@@ -23,7 +23,7 @@ use Rattle.slotted_unions.proofs.KeptSlots.{grows-then}
 use Rattle.slotted_rebuilding.specs.Filed.{state_in, IsKeyed, IsWellFiled}
 use Rattle.slotted_rebuilding.specs.Turns.{NarrowsTo, SharesKey, TakesTurns}
 use Rattle.slotted_rebuilding.proofs.KeysByShapes.{one-key}
-use Rattle.slotted_rebuilding.proofs.NarrowedNodes.{waiting-within}
+use Rattle.slotted_rebuilding.proofs.NarrowedNodes.{filed-places, waiting-within}
 use Rattle.slotted_rebuilding.proofs.Runs.{runs-join}
 use Rattle.slotted_rebuilding.proofs.StaleRows.{stale-found}
 use Rattle.slotted_rebuilding.proofs.TakenTurns.{refiles-node}
@@ -97,7 +97,8 @@ module _ (k : Kept) (r : Rows) (well : IsWellFiled k r) (o : ℕ) (waits : Conta
   files-it s t =
       let within : o < length k.classes = waiting-within k r o well waits in
       let d : length r.filed ≡ length k.classes = well.count in
-      refiles-node k r s o key slots filed.0 well waits filed.1 (omega (arith, within, d)) (record { fits = fits; itself = node.itself; numbers = node.numbers }) node.row covered alone t
+      refiles-node k r s o key slots filed.0 well waits filed.1 (omega (arith, within, d)) (record { fits = fits; itself = node.itself; numbers = node.numbers })
+      (filed-places k r o well within key slots fits node) node.row covered alone t
 
 -- what comes after the node was narrowed
 pub turns-then : (k : Kept) (r : Rows) (o : ℕ) (l : Kept) (q : Rows) (f : Form) (m : List (ℕ × ℕ)) (n : Kept) (s : Rows) → NarrowsTo k r o l q f m → TakesTurns l q n s → TakesTurns k r n s

@@ -17,7 +17,7 @@ use Rattle.slotted_unions.proofs.GrownRows.{grown-rows, grown-count}
 use Rattle.slotted_unions.proofs.KeptSlots.{grows-then}
 use Rattle.slotted_rebuilding.specs.Filed.{state_in, IsWellFiled, UnitesFiled}
 use Rattle.slotted_rebuilding.specs.Turns.{LacksSlot, NarrowsOnce, ProvesCongruence}
-use Rattle.slotted_rebuilding.proofs.FiledStates.{fits-grown, united-well}
+use Rattle.slotted_rebuilding.proofs.FiledStates.{fits-grown, places-grown, united-well}
 
 -- what is kept is well filed after more entries
 pub proved-well : (k m : Kept) (r : Rows) → OnlyProves k m → IsWellFiled k r → IsWellFiled m r
@@ -28,6 +28,7 @@ proved-well k m r only well = record {
   count = well.count ∙ sym (grown-count k m (only-grows k m only));
   sane = subst Sane (sym (only-state k m only (rows_in r.filed) r.waiting)) (proofs-sane (state_in k r) well.sane (proofs_of m) only.asserts_nothing);
   keyed = well.keyed;
+  places = λ i e f. places-grown k m (only-grows k m only) i e.0 (well.places i e f);
 }
 
 -- a turn that begins with more entries

@@ -1,5 +1,5 @@
 -- What is kept with its filed nodes, from step to step.
-use Rattle.std.proofs.Common.{◌≡◌, ℕ, ◌<◌, List, [], ◌++◌, Some, length, refl, ap, ◌∙◌, sym, subst, append_assoc}
+use Rattle.std.proofs.Common.{◌≡◌, ℕ, ◌<◌, ◌≤◌, List, [], ◌++◌, Some, length, refl, ap, ◌∙◌, sym, subst, append_assoc}
 use Rattle.std.proofs.lemmas.List.{append-nil}
 use Rattle.std.specs.Prelude.{slice_get}
 use Rattle.slotted_model.specs.Changes.{HasUnited}
@@ -11,6 +11,8 @@ use Rattle.slotted_filing.specs.Filed.{filed_of}
 use Rattle.slotted_filing.proofs.Places.{at-append_left}
 use Rattle.slotted_filing.specs.FiledRows.{Rows, WaitsOn, rows_in, rows_state}
 use Rattle.slotted_languages.specs.Shape.{Fits}
+use Rattle.slotted_nodes.specs.Form.{Form}
+use Rattle.slotted_normal_forms.specs.FoundNodes.{HasNoMorePlaces}
 use Rattle.slotted_unions.specs.StateOf.{state_with}
 use Rattle.slotted_unions.specs.Stored.{Grows}
 use Rattle.slotted_unions.proofs.GrownRows.{grown-rows, grown-count}
@@ -43,6 +45,9 @@ first-still r q o w f = subst (λ x. slice_get x 0 ≡ Some o) (sym w.waits) (at
 pub fits-grown : (k l : Kept) → Grows k l → ((i : ℕ) → i < length k.classes → Fits (node_at k i)) → (i : ℕ) → i < length l.classes → Fits (node_at l i)
 fits-grown k l grows fits i h = subst Fits (sym (grows.forms i)) (fits i (subst (λ n. i < n) (grown-count k l grows) h))
 
+pub places-grown : (k l : Kept) → Grows k l → (i : ℕ) (f : Form) → HasNoMorePlaces k i f → HasNoMorePlaces l i f
+places-grown k l grows i f = subst (λ (c : Form). length f.names ≤ length c.names) (sym (grows.forms i))
+
 -- what a union leaves is well filed
 pub united-well : (p : ℕ) (k : Kept) (r : Rows) (l : Kept) (q : Rows) → IsWellFiled k r → p < length k.proofs → UnitesFiled p k r l q → IsWellFiled l q
 united-well p k r l q well within u =
@@ -54,4 +59,5 @@ united-well p k r l q well within u =
       count = ap length u.waits.same ∙ (well.count ∙ sym (grown-count k l u.by.grows));
       sane = h.sane;
       keyed = λ i e f. well.keyed i e (subst (λ v. filed_of v i ≡ Some e) u.waits.same f);
+      places = λ i e f. places-grown k l u.by.grows i e.0 (well.places i e (subst (λ v. filed_of v i ≡ Some e) u.waits.same f));
     }

@@ -1,12 +1,14 @@
 -- The node of a class that waits, in normal form, until it has each slot of the class.
-use Rattle.std.proofs.Common.{◌≡◌, ◌<◌, ◌+◌, ℕ, List, [], ◌∷◌, Some, length, ◌∙◌, subst, refl, inl, inr, arith}
+use Rattle.std.proofs.Common.{◌≡◌, ◌<◌, ◌+◌, ℕ, List, [], ◌∷◌, Some, length, ◌∙◌, sym, subst, refl, inl, inr, arith}
 use Rattle.std.specs.Prelude.{Contains, slice_get}
 use Rattle.std.proofs.lemmas.Option.{none-some}
 use Rattle.slotted_nodes.specs.Form.{Form}
 use Rattle.slotted_languages.specs.NewNames.{IsTooLarge}
+use Rattle.slotted_languages.specs.Shape.{Fits}
 use Rattle.slotted_model.specs.Ascending.{names}
 use Rattle.slotted_model.specs.Find.{used_slots}
 use Rattle.slotted_model.specs.Rebuild.{IsCovered, starts, takes_turn}
+use Rattle.slotted_model.specs.Rest.{IsRow}
 use Rattle.slotted_model.specs.State.{Row, normal_node}
 use Rattle.slotted_model.proofs.Lacking.{missing-cases}
 use Rattle.slotted_model.proofs.Options.{Some-same}
@@ -14,20 +16,24 @@ use Rattle.slotted_theory.proofs.Lists.{contains_head, Contains-of_map}
 use Rattle.slotted_proofs.specs.declared.equation.Equation.{Equation as Sides}
 use Rattle.slotted_store.specs.Kept.{Kept, node_at, nodes_of, entries_of}
 use Rattle.slotted_store.proofs.KeptLists.{length-nodes_of}
-use Rattle.slotted_filing.specs.FiledRows.{Rows, rows_in}
+use Rattle.slotted_filing.specs.Filed.{filed_of}
+use Rattle.slotted_filing.specs.FiledRows.{IsFiled, Rows, row_of_entry, rows_in}
+use Rattle.slotted_filing.proofs.FiledRows.{row-filed, source-filed}
 use Rattle.slotted_unions.proofs.KeptSlots.{grows-then}
 use Rattle.slotted_unions.proofs.EnteredProofs.{only-grows, nothing-proved}
-use Rattle.slotted_normal_forms.specs.FoundNodes.{IsFoundNode, finds_of}
+use Rattle.slotted_normal_forms.specs.FoundNodes.{FilesNode, HasNoMorePlaces, IsFoundNode, finds_of}
 use Rattle.slotted_normal_forms.specs.NormalNodes.{HasFindableChildren}
 use Rattle.slotted_normal_forms.specs.Sides.{AreTwinSides}
 use Rattle.slotted_normal_forms.proofs.CanonicalChildren.{node-is, sane-findable}
+use Rattle.slotted_normal_forms.proofs.KeyedNodes.{no-more-places}
 use Rattle.slotted_congruence.specs.Congruence.{AreTwins, ProvesTwins}
 use Rattle.slotted_congruence.proofs.WideNodes.{wide_class}
 use Rattle.slotted_rebuilding.specs.Causes.{HasLargeClass}
-use Rattle.slotted_rebuilding.specs.Filed.{state_in, IsWellFiled}
+use Rattle.slotted_rebuilding.specs.Filed.{state_in, IsKeyed, IsWellFiled}
 use Rattle.slotted_rebuilding.specs.Turns.{IsFirst, LacksSlot, NarrowsOnce, NarrowsTo, ProvesCongruence}
 use Rattle.slotted_rebuilding.proofs.FiledStates.{waits-nothing, waits-then}
 use Rattle.slotted_rebuilding.proofs.Runs.{runs-join}
+use Rattle.slotted_rebuilding.proofs.StaleRows.{children-find, files-node}
 
 first-in : (w : List ℕ) (o : ℕ) → slice_get w 0 ≡ Some o → Contains w o
 first-in [] o e = absurd (none-some o e)
@@ -52,6 +58,35 @@ findable k r o well within = sane-findable k (state_in k r) well.sane refl refl 
 pub too-large : (k : Kept) (r : Rows) (o : ℕ) → IsWellFiled k r → o < length k.classes → IsTooLarge (node_at k o) → HasLargeClass k
 too-large k r o well within much =
     (o, within, inr (wide_class (nodes_of k) o (node_at k o) (well.fits o within) (node-is k o within) (omega (arith, much))))
+
+-- its node in normal form has no more places
+pub filed-places : (k : Kept) (r : Rows) (o : ℕ) → IsWellFiled k r → o < length k.classes → (f : Form) (m : List (ℕ × ℕ)) → Fits f → IsFoundNode k o f m → HasNoMorePlaces k o f
+filed-places k r o well within f m fits node =
+    no-more-places k (record { linked = well.stored.sane.sound.linked; later = well.stored.later }) o within (well.fits o within) (findable k r o well within) f m fits node
+
+-- something is filed of the first one
+pub first-filed : (k : Kept) (r : Rows) (o : ℕ) → IsWellFiled k r → IsFirst r o → IsFiled r.filed o
+first-filed k r o well first = (source-filed r.filed o).0 (well.sane.filed.waits_for_row o (first-waits r o first))
+
+-- what is filed of a class
+module _ (k : Kept) (r : Rows) (o : ℕ) (well : IsWellFiled k r) (f : Form) (m : List (ℕ × ℕ)) (fits : Fits f) (at : Some (f, m) ≡ filed_of r.filed o) where
+  abbrev keyed : IsKeyed (f, m)
+  keyed = well.keyed o (f, m) (sym at)
+
+  row : IsRow (state_in k r) (row_of_entry (f, (o, m)))
+  row = well.sane.filed.each (row_of_entry (f, (o, m))) (row-filed r.filed o f m (sym at))
+
+  -- it is over ids that find
+  pub filed-find : HasFindableChildren k f
+  filed-find = children-find f fits keyed.itself o m keyed.numbers k (state_in k r) refl refl row
+
+  -- and has the normal form of the node of the class
+  pub filed-files : FilesNode k o f m
+  filed-files = files-node f fits keyed.itself o m keyed.numbers k (state_in k r) refl refl row
+
+  -- where it has too many places, the class is large
+  pub key-large : o < length k.classes → IsTooLarge f → HasLargeClass k
+  key-large within much = too-large k r o well within (let fewer = well.places o (f, m) (sym at) in omega (arith, fewer, much))
 
 -- a node that does not have each slot lacks one
 pub lacks-slot : (k : Kept) (o : ℕ) → ¬ IsCovered (finds_of k) o → LacksSlot k o

@@ -22,20 +22,21 @@ use Rattle.slotted_filing.specs.Filed.{Filing, IsNewKey, filed_of}
 use Rattle.slotted_filing.specs.FiledRows.{IsFiled, QueuesUp, Rows, row_of_entry, rows_in, with_class, with_filed}
 use Rattle.slotted_filing.proofs.FiledRows.{row-filed, rows-added, rows-added_filed, source-filed}
 use Rattle.slotted_filing.proofs.Indexed.{place-added}
-use Rattle.slotted_normal_forms.specs.FoundNodes.{IsFoundNode, finds_of}
+use Rattle.slotted_normal_forms.specs.FoundNodes.{HasNoMorePlaces, IsFoundNode, finds_of}
 use Rattle.slotted_unions.specs.Proving.{OnlyProves}
 use Rattle.slotted_unions.specs.StateOf.{state_with}
 use Rattle.slotted_unions.proofs.EnteredProofs.{only-grows, only-state, nothing-proved}
 use Rattle.slotted_unions.proofs.KeptSlots.{grows-then}
-use Rattle.slotted_rebuilding.specs.Filed.{state_in, IsWellFiled, UnitesFiled}
+use Rattle.slotted_rebuilding.specs.Filed.{state_in, IsKeyed, IsWellFiled, UnitesFiled}
 use Rattle.slotted_rebuilding.specs.NewClasses.{BeginsAdding, FilesNewest, HasNewest, IsUnfiled}
 use Rattle.slotted_rebuilding.specs.Turns.{ProvesCongruence, Rebuilds, SharesKey}
 use Rattle.slotted_rebuilding.proofs.Collisions.{found-shape, has-key}
 use Rattle.slotted_rebuilding.proofs.EnteredCongruences.{congruence-in, proved-well, stands-within}
 use Rattle.slotted_rebuilding.proofs.FiledStates.{united-well}
+use Rattle.slotted_rebuilding.proofs.NarrowedNodes.{filed-places}
 use Rattle.slotted_rebuilding.proofs.NewRows.{HasNoTwinRow, new_row-sane}
 use Rattle.slotted_rebuilding.proofs.Runs.{runs-join, runs-sane}
-use Rattle.slotted_rebuilding.proofs.TakenTurns.{keyed-refiled}
+use Rattle.slotted_rebuilding.proofs.TakenTurns.{each-refiled}
 
 -- there is a place more, where nothing is filed
 
@@ -50,6 +51,7 @@ added-well k r u = record {
   count = let c : length k.classes ≡ suc (length r.filed) = u.count in omega (arith, c, length-append r.filed (None ∷ []));
   sane = subst Sane (sym (added-state k r)) u.sane;
   keyed = λ i e f. u.keyed i e (sym (place-added r.filed i) ∙ f);
+  places = λ i e f. u.places i e (sym (place-added r.filed i) ∙ f);
 }
 
 pub newest-added : (k : Kept) (r s : Rows) (o : ℕ) → IsUnfiled k r → o ≡ length r.filed → s ≡ with_class r → HasNewest k s o
@@ -182,7 +184,10 @@ module _ (k : Kept) (r : Rows) (o : ℕ) (newest : HasNewest k r o) where
       count = ap length e ∙ (length-set r.filed o (Some (key, slots)) ∙ newest.filed.count);
       sane = t;
       keyed = λ i x f.
-          keyed-refiled r.filed o (key, slots) newest-place (record { fits = fits; itself = node.itself; numbers = node.numbers }) newest.filed.keyed i x (subst (λ v. filed_of v i ≡ Some x) e f);
+          each-refiled (λ n. IsKeyed) r.filed o (key, slots) newest-place (record { fits = fits; itself = node.itself; numbers = node.numbers }) newest.filed.keyed i x (subst (λ v. filed_of v i ≡ Some x) e f);
+      places = λ i x f.
+          each-refiled (λ n y. HasNoMorePlaces k n y.0) r.filed o (key, slots) newest-place (filed-places k r o newest.filed newest-within key slots fits node) newest.filed.places i x
+          (subst (λ v. filed_of v i ≡ Some x) e f);
     }
 
     pub is-filed : (s : Rows) → s ≡ with_filed r o key slots → IsFiled s.filed o

@@ -1,11 +1,13 @@
 -- Acts on symmetries, until each is aligned, with the rows that wait.
-use Rattle.std.proofs.Common.{◌≡◌, ◌<◌, ℕ, false, length, ap, sym, subst}
+use Rattle.std.proofs.Common.{◌≡◌, ◌<◌, ℕ, Some, false, length, ap, sym, subst}
 use Rattle.slotted_model.specs.Changes.{Unites}
 use Rattle.slotted_model.specs.Rebuild.{Acts, acts, Runs, starts, takes_act}
 use Rattle.slotted_model.specs.Rest.{Sane}
 use Rattle.slotted_languages.specs.Shape.{Fits}
 use Rattle.slotted_store.specs.Kept.{Kept, node_at, rows_from, with_settled}
+use Rattle.slotted_filing.specs.Filed.{Filing, filed_of}
 use Rattle.slotted_filing.specs.FiledRows.{Rows}
+use Rattle.slotted_normal_forms.specs.FoundNodes.{HasNoMorePlaces}
 use Rattle.slotted_unions.specs.Settling.{AreAligned, IsUnaligned}
 use Rattle.slotted_unions.proofs.EnteredProofs.{only-grows, nothing-proved}
 use Rattle.slotted_unions.proofs.KeptSlots.{grows-then}
@@ -35,6 +37,7 @@ found-aligned k l r well aligned e = record {
     count = subst (λ (z : Kept). length r.filed ≡ length z.classes) (sym e) well.count;
     sane = subst (λ (z : Kept). Sane (state_in z r)) (sym e) well.sane;
     keyed = well.keyed;
+    places = subst (λ (z : Kept). (i : ℕ) (c : Filing) → filed_of r.filed i ≡ Some c → HasNoMorePlaces z i c.0) (sym e) well.places;
   };
   settled = ap (λ (z : Kept). z.dropped) e;
   grows = settled-grows k l e;

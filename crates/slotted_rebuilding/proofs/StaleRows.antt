@@ -4,54 +4,40 @@ use Rattle.std.specs.Prelude.{Contains}
 use Rattle.std.specs.List.{zip}
 use Rattle.std.proofs.lemmas.List.{length-map}
 use Rattle.slotted_theory.specs.Nameless.{DTerm, moved}
-use Rattle.slotted_theory.specs.FiniteMaps.{filled, HasValue, IsInjectiveMap, with_values}
-use Rattle.slotted_theory.specs.Renaming.{IsInjective}
+use Rattle.slotted_theory.specs.FiniteMaps.{filled, HasValue, IsInjectiveMap}
 use Rattle.slotted_theory.specs.Shape.{free_names, number_in}
 use Rattle.slotted_theory.specs.Shape as theory
+use Rattle.slotted_theory.proofs.Bijections.{to-injective}
 use Rattle.slotted_theory.proofs.Filled.{filled-injective}
-use Rattle.slotted_theory.proofs.Shapes.{shape-moved}
+use Rattle.slotted_theory.proofs.Shapes.{shape-moved, shape_iff}
 use Rattle.slotted_nodes.specs.Form.{Form}
 use Rattle.slotted_languages.specs.NodeTerm.{nameless_node, free_names_of}
 use Rattle.slotted_languages.specs.Shape.{Fits, firsts, shape}
-use Rattle.slotted_languages.proofs.Shapes.{keys-shape, values-shape, injective-shape, shape-renamed, shape-same}
-use Rattle.slotted_model.specs.Applied.{keys, values, map_on}
+use Rattle.slotted_languages.proofs.Shapes.{keys-shape}
+use Rattle.slotted_model.specs.Applied.{EachChild, keys, values, map_on}
 use Rattle.slotted_model.specs.Ascending.{IsAscending, names}
 use Rattle.slotted_model.specs.Classes.{canonical_node}
 use Rattle.slotted_model.specs.Normal.{normal}
 use Rattle.slotted_model.specs.State.{Row, State, filed_node, normal_node, name_numbered}
-use Rattle.slotted_model.specs.Rest.{IsRow, Sane}
+use Rattle.slotted_model.specs.Filling.{IsValid}
+use Rattle.slotted_model.specs.Find.{used_slots}
+use Rattle.slotted_model.specs.Rest.{IsRow, IsValidIn, Sane}
+use Rattle.slotted_model.proofs.Children.{EachChild-moved}
 use Rattle.slotted_model.proofs.Congruences.{row-normal}
-use Rattle.slotted_model.proofs.Maps.{map_on-filled, filled-pair, pair-filled, values-map_on, values-with_values}
+use Rattle.slotted_model.proofs.Maps.{map_on-filled, filled-pair, pair-filled, values-map_on}
 use Rattle.slotted_model.proofs.Members.{In, In-map, In-of_map, In-Contains, Contains-In}
+use Rattle.slotted_model.proofs.RenamedIds.{valid-renamed}
 use Rattle.slotted_model.proofs.Sets.{IsAscending-ascending, In-ascending, In-of_ascending}
 use Rattle.slotted_model.proofs.Theory.{moved-agrees, moved-moved, free_names-moved}
 use Rattle.slotted_proofs.proofs.Bridges.{ascends}
 use Rattle.slotted_store.specs.Kept.{Kept, nodes_of, entries_of}
 use Rattle.slotted_store.proofs.NamePairs.{In-firsts}
-use Rattle.slotted_normal_forms.specs.FoundNodes.{finds_of, IsFoundNode}
+use Rattle.slotted_normal_forms.specs.FoundNodes.{FilesNode, finds_of, IsFoundNode}
+use Rattle.slotted_normal_forms.specs.NormalNodes.{HasFindableChildren}
 use Rattle.slotted_filing.specs.FiledRows.{row_of_entry}
+use Rattle.slotted_normal_forms.proofs.KeyedNodes.{own-numbers}
 use Rattle.slotted_normal_forms.proofs.NumbersInShapes.{names-shape}
 use Rattle.slotted_rebuilding.proofs.CurrentRows.{row-itself}
-
--- an injective function tells lists apart
-map-apart : (F : ℕ → ℕ) → IsInjective F → (xs ys : List ℕ) → map F xs ≡ map F ys → xs ≡ ys
-map-apart F inj [] [] e = refl
-map-apart F inj [] (y ∷ ys) e = cc
-map-apart F inj (x ∷ xs) [] e = cc
-map-apart F inj (x ∷ xs) (y ∷ ys) e =
-    let h : F x ≡ F y = cc in
-    let t : map F xs ≡ map F ys = cc in
-    λ i. inj x y h i ∷ map-apart F inj xs ys t i
-
--- a node that is the shape of itself has its numbers as names, each where it first stands
-pub own-numbers : (f : Form) → Fits f → (shape f).0 ≡ f → keys (shape f).1 ≡ firsts (free_names_of f)
-own-numbers f fits own =
-    let m : List (ℕ × ℕ) = (shape f).1 in
-    let F : ℕ → ℕ = filled m in
-    let inj : IsInjective F = filled-injective m (injective-shape f) in
-    let back : moved F (nameless_node f) ≡ nameless_node f = ap (λ (h : Form). moved F (nameless_node h)) (sym own) ∙ shape-renamed f fits in
-    let e : map_on F (keys m) ≡ with_values F m = map_on-filled m (ascends (keys m) (keys-shape f)) ∙ (shape-same F inj f f back).1 in
-    map-apart F inj (keys m) (values m) (sym (values-map_on F (keys m)) ∙ (ap values e ∙ values-with_values F m)) ∙ values-shape f
 
 -- a map with other numbers for its keys
 
@@ -116,6 +102,23 @@ module _ (f : Form) (fits : Fits f) (own : (shape f).0 ≡ f) (j : ℕ) (n : Lis
 
   slots-are : values n ≡ map (filled n) (firsts xs)
   slots-are = ap values (sym (map_on-filled n rises)) ∙ (values-map_on (filled n) (keys n) ∙ ap (map (filled n)) firsts-keys)
+
+  -- what it files has the normal form of the node of its source, whether its source waits or not
+  pub files-node : (k : Kept) (g : State) → g.nodes ≡ nodes_of k → g.found ≡ entries_of k → IsRow g r → FilesNode k j f n
+  files-node k g nodes found row = record {
+    itself = own;
+    numbers = numbers;
+    different = values-apart N n (subst IsInjectiveMap entry-slots row.injective);
+    normal_form = (λ i. normal (sym found i) (sym entry-files i)) ∙ (row.normal_form ∙ (λ i. normal (found i) (canonical_node (nodes i) j)));
+  }
+
+  -- over ids that find
+  pub children-find : (k : Kept) (g : State) → g.nodes ≡ nodes_of k → g.found ≡ entries_of k → IsRow g r → HasFindableChildren k f
+  children-find k g nodes found row =
+      let π = (shape_iff r.shape d).0 row.is_shape in
+      let here : EachChild (IsValidIn g) d.args =
+      subst (λ (t : DTerm). EachChild (IsValidIn g) t.args) π.1 (EachChild-moved (IsValidIn g) (valid-renamed (used_slots g.found) g.nodes) π.0.to (to-injective π.0) r.shape.args row.children) in
+      subst (λ ns. EachChild (IsValid (used_slots (entries_of k)) ns) d.args) nodes (subst (λ es. EachChild (IsValid (used_slots es) g.nodes) d.args) found here)
 
   -- so it is the shape of the node of its source in normal form, if that is what it files
   pub filed-found : (k : Kept) (g : State) → g.nodes ≡ nodes_of k → g.found ≡ entries_of k → IsRow g r → filed_node r ≡ normal_node g j → IsFoundNode k j f n

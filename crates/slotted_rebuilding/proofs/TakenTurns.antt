@@ -11,7 +11,7 @@ use Rattle.slotted_model.specs.Correspondence.{AllDifferent}
 use Rattle.slotted_model.specs.Rebuild.{IsCongruence, IsCovered, Turn, refiled_state, removed_state, row_for, with_row, without, without_row, starts, takes_turn, refiles, unites_parents}
 use Rattle.slotted_model.specs.Rest.{Sane}
 use Rattle.slotted_model.specs.State.{Row, State, normal_node}
-use Rattle.slotted_normal_forms.specs.FoundNodes.{finds_of}
+use Rattle.slotted_normal_forms.specs.FoundNodes.{HasNoMorePlaces, finds_of}
 use Rattle.slotted_model.proofs.Options.{Some-same}
 use Rattle.slotted_store.specs.Kept.{Kept}
 use Rattle.slotted_filing.specs.Filed.{Filing, filed_of}
@@ -53,29 +53,32 @@ filed-none [] o = refl
 filed-none (x ∷ v) zero = refl
 filed-none (x ∷ v) (suc o) = filed-none v o
 
-keyed-removed : (v : List (Option Filing)) (o : ℕ) → ((i : ℕ) (e : Filing) → filed_of v i ≡ Some e → IsKeyed e) → (i : ℕ) (e : Filing) → filed_of (set v o None) i ≡ Some e → IsKeyed e
-keyed-removed v o keyed i e f = elim (cases_eq i o) [
+each-removed : (P : ℕ → Filing → Type 0) (v : List (Option Filing)) (o : ℕ) → ((i : ℕ) (e : Filing) → filed_of v i ≡ Some e → P i e) → (i : ℕ) (e : Filing) → filed_of (set v o None) i ≡ Some e → P i e
+each-removed P v o each i e f = elim (cases_eq i o) [
   | inl same ↦ absurd (none-some e (sym (filed-none v o) ∙ (ap (filed_of (set v o None)) (sym same) ∙ f)))
-  | inr differ ↦ keyed i e (sym (filed-other v o i None differ) ∙ f)
+  | inr differ ↦ each i e (sym (filed-other v o i None differ) ∙ f)
 ]
 
-pub keyed-refiled : (v : List (Option Filing)) (o : ℕ) (x : Filing) → o < length v → IsKeyed x → ((i : ℕ) (e : Filing) → filed_of v i ≡ Some e → IsKeyed e) →
-    (i : ℕ) (e : Filing) → filed_of (set v o (Some x)) i ≡ Some e → IsKeyed e
-keyed-refiled v o x within new keyed i e f = elim (cases_eq i o) [
-  | inl same ↦ subst IsKeyed (Some-same x e (sym (get_or-set_same v o (Some x) None within) ∙ (ap (filed_of (set v o (Some x))) (sym same) ∙ f))) new
-  | inr differ ↦ keyed i e (sym (filed-other v o i (Some x) differ) ∙ f)
+pub each-refiled : (P : ℕ → Filing → Type 0) (v : List (Option Filing)) (o : ℕ) (x : Filing) → o < length v → P o x → ((i : ℕ) (e : Filing) → filed_of v i ≡ Some e → P i e) →
+    (i : ℕ) (e : Filing) → filed_of (set v o (Some x)) i ≡ Some e → P i e
+each-refiled P v o x within new each i e f = elim (cases_eq i o) [
+  | inl same ↦
+      let is : x ≡ e = Some-same x e (sym (get_or-set_same v o (Some x) None within) ∙ (ap (filed_of (set v o (Some x))) (sym same) ∙ f)) in
+      subst (λ n. P n e) (sym same) (subst (P o) is new)
+  | inr differ ↦ each i e (sym (filed-other v o i (Some x) differ) ∙ f)
 ]
 
 -- what a turn leaves is well filed
 turned-well : (g : State) (l : Kept) (q s : Rows) → Sane g → Turn g (state_in l s) → IsWellFiled l q → length s.filed ≡ length q.filed →
-    ((i : ℕ) (e : Filing) → filed_of s.filed i ≡ Some e → IsKeyed e) → IsWellFiled l s
-turned-well g l q s sane turn well count keyed = record {
+    ((i : ℕ) (e : Filing) → filed_of s.filed i ≡ Some e → IsKeyed e) → ((i : ℕ) (e : Filing) → filed_of s.filed i ≡ Some e → HasNoMorePlaces l i e.0) → IsWellFiled l s
+turned-well g l q s sane turn well count keyed places = record {
   stored = well.stored;
   canonical = well.canonical;
   fits = well.fits;
   count = count ∙ well.count;
   sane = turn-sane g (state_in l s) sane turn;
   keyed = keyed;
+  places = places;
 }
 
 -- the class was united with one of which the shape of its node is filed, and its own node is filed no more
@@ -96,15 +99,16 @@ collides k m l r q s o other p well waits differ e filed shape proved u t =
       some = omega arith;
       runs = takes_turn starts (proved-turn k m r only (state_in l s) goes);
       filed = turned-well (state_in m r) l q s here.sane goes after count
-          (λ i x f. keyed-removed q.filed o after.keyed i x (subst (λ v. filed_of v i ≡ Some x) t.filed f));
+          (λ i x f. each-removed (λ n. IsKeyed) q.filed o after.keyed i x (subst (λ v. filed_of v i ≡ Some x) t.filed f))
+          (λ i x f. each-removed (λ n y. HasNoMorePlaces l n y.0) q.filed o after.places i x (subst (λ v. filed_of v i ≡ Some x) t.filed f));
       grows = grows-then k m l (only-grows k m only) u.by.grows;
     }
 
 -- no other class has the key, and the node is filed by it
-pub refiles-node : (k : Kept) (r s : Rows) (o : ℕ) (f : Form) (m : List (ℕ × ℕ)) (e : Filing) → IsWellFiled k r → Contains r.waiting o → filed_of r.filed o ≡ Some e → o < length r.filed → IsKeyed (f, m) →
+pub refiles-node : (k : Kept) (r s : Rows) (o : ℕ) (f : Form) (m : List (ℕ × ℕ)) (e : Filing) → IsWellFiled k r → Contains r.waiting o → filed_of r.filed o ≡ Some e → o < length r.filed → IsKeyed (f, m) → HasNoMorePlaces k o f →
     row_of_entry (f, (o, m)) ≡ row_for (finds_of k) o → IsCovered (finds_of k) o → ((x : Row) → Contains (rows_in r.filed) x → x.source ≢ o → x.shape ≢ theory.shape (normal_node (finds_of k) o)) →
     TakesTurn r s o (Some (f, m)) → TakesTurns k r k s
-refiles-node k r s o f m e well waits filed within key row covered others t =
+refiles-node k r s o f m e well waits filed within key places row covered others t =
     let turn : Turn (state_in k r) (refiled_state (state_in k r) o) = refiles o waits covered others in
     let goes : Turn (state_in k r) (state_in k s) = subst (Turn (state_in k r)) (sym (refiled-state k r s o f m e well.sane.filed.waits_once filed t row)) turn in
     let count : length s.filed ≡ length r.filed = ap length t.filed ∙ length-set r.filed o (Some (f, m)) in
@@ -113,6 +117,7 @@ refiles-node k r s o f m e well waits filed within key row covered others t =
       some = omega arith;
       runs = takes_turn starts goes;
       filed = turned-well (state_in k r) k r s well.sane goes well count
-          (λ i x h. keyed-refiled r.filed o (f, m) within key well.keyed i x (subst (λ v. filed_of v i ≡ Some x) t.filed h));
+          (λ i x h. each-refiled (λ n. IsKeyed) r.filed o (f, m) within key well.keyed i x (subst (λ v. filed_of v i ≡ Some x) t.filed h))
+          (λ i x h. each-refiled (λ n y. HasNoMorePlaces k n y.0) r.filed o (f, m) within places well.places i x (subst (λ v. filed_of v i ≡ Some x) t.filed h));
       grows = only-grows k k (nothing-proved k well.stored);
     }

@@ -12,6 +12,7 @@ use Rattle.slotted_model.specs.State.{State}
 use Rattle.slotted_languages.specs.Shape.{Fits, shape}
 use Rattle.slotted_store.specs.Kept.{Kept, node_at, rows_from}
 use Rattle.slotted_filing.specs.Filed.{Filing, filed_of}
+use Rattle.slotted_normal_forms.specs.FoundNodes.{HasNoMorePlaces}
 use Rattle.slotted_filing.specs.FiledRows.{Rows, WaitsOn, rows_in}
 use Rattle.slotted_unions.specs.StateOf.{state_with}
 use Rattle.slotted_unions.specs.Stored.{Stored, Grows}
@@ -26,7 +27,8 @@ pub record IsKeyed (e : Filing) : Type 0 where
   pub itself : (shape e.0).0 ≡ e.0
   pub numbers : keys e.1 ≡ keys (shape e.0).1
 
--- the state is sane, classes by their canonical shapes stand in the order of their ids, and each filed key is a shape
+-- the state is sane, classes by their canonical shapes stand in the order of their ids, and each filed key is a shape with no more places than
+-- the node of its class
 pub record IsWellFiled (k : Kept) (r : Rows) : Type 0 where
   pub stored : Stored k
   pub canonical : k.rows ≡ rows_from 0 k.classes
@@ -34,6 +36,7 @@ pub record IsWellFiled (k : Kept) (r : Rows) : Type 0 where
   pub count : length r.filed ≡ length k.classes
   pub sane : Sane (state_in k r)
   pub keyed : (i : ℕ) (e : Filing) → filed_of r.filed i ≡ Some e → IsKeyed e
+  pub places : (i : ℕ) (e : Filing) → filed_of r.filed i ≡ Some e → HasNoMorePlaces k i e.0
 
 -- the union by the entry p leads from one to the other, and the nodes over each class that changed wait
 pub record UnitesFiled (p : ℕ) (k : Kept) (r : Rows) (l : Kept) (q : Rows) : Type 0 where

@@ -13,6 +13,7 @@ use Rattle.slotted_languages.specs.Shape.{Fits}
 use Rattle.slotted_store.specs.Kept.{Kept, node_at, rows_from}
 use Rattle.slotted_filing.specs.Filed.{Filing, filed_of}
 use Rattle.slotted_filing.specs.FiledRows.{Rows, with_class}
+use Rattle.slotted_normal_forms.specs.FoundNodes.{HasNoMorePlaces}
 use Rattle.slotted_unions.specs.Stored.{Stored, Grows}
 use Rattle.slotted_rebuilding.specs.Filed.{state_in, IsKeyed, IsWellFiled}
 
@@ -24,6 +25,7 @@ pub record IsUnfiled (k : Kept) (r : Rows) : Type 0 where
   pub count : length k.classes ≡ suc (length r.filed)
   pub sane : Sane (state_in k r)
   pub keyed : (i : ℕ) (e : Filing) → filed_of r.filed i ≡ Some e → IsKeyed e
+  pub places : (i : ℕ) (e : Filing) → filed_of r.filed i ≡ Some e → HasNoMorePlaces k i e.0
   pub quiet : r.waiting ≡ []
 
 -- there is a place for the newest class o too, where nothing is filed

@@ -1,7 +1,7 @@
 //! A class whose node in normal form lacks one of its slots is united with itself, until it has each.
 ghost use Rattle.std.specs.Prelude.{◌≡◌, ◌<◌, length, IfOk, IfErr, IsErrOf, OnOk};
 ghost use Rattle.slotted_slots.specs.Error.{IsShortage};
-ghost use Rattle.slotted_normal_forms.specs.FoundNodes.{HasFoundNode};
+ghost use Rattle.slotted_normal_forms.specs.FoundNodes.{HasFoundNode, IsFoundNode};
 ghost use Rattle.slotted_normal_forms.specs.Sides.{HaveOneShape};
 ghost use Rattle.slotted_store.specs.Kept.{rows_from};
 ghost use Rattle.slotted_unions.specs.Stored.{Stored};
@@ -15,7 +15,7 @@ use slotted_filing::Hashcons;
 use slotted_languages::Language;
 use slotted_normal_forms::FoundNode;
 use slotted_normal_forms::covered::is_covered;
-use slotted_normal_forms::found::found_node;
+use slotted_normal_forms::found::refound_node;
 use slotted_normal_forms::sides::sides;
 use slotted_proofs::ProvenEq;
 use slotted_slots::{Error, SlotMap};
@@ -65,6 +65,25 @@ fn narrow<L: Language>(
     Ok(())
 }
 
+// The node of the first class that waits in normal form, made from what is filed of it: since that was filed few finds have gone on.
+fn refound<L: Language>(
+    store: &Store<L>,
+    nodes: &Hashcons<L>,
+    alloc: Global,
+    class: usize,
+) -> Result<FoundNode<L>, Error>
+    requires good { IsWellFiled store.now nodes.now }
+    requires first { IsFirst nodes.now class }
+    ensures ok { IfOk result (λ n. IsFoundNode store.now class (L.form n.key) n.names) }
+    ensures full { IsErrOf result Error.OutOfSlots → HasLargeClass store.now }
+    ensures err { IfErr result IsShortage }
+{
+    match nodes.node(class) {
+        Some((key, names)) => refound_node(store, alloc, key, names),
+        None => unreachable!(),
+    }
+}
+
 /// The node of a class in normal form, once it has each slot that the class uses: as long as it lacks one, the class loses it.
 pub fn narrowed<L: Language>(
     store: &mut Store<L>,
@@ -78,7 +97,7 @@ pub fn narrowed<L: Language>(
     ensures full { IsErrOf result Error.OutOfSlots → HasLargeClass store.old }
     ensures err { IfErr result IsShortage }
 {
-    let node = found_node(store, alloc, class)?;
+    let node = refound(store, nodes, alloc, class)?;
     if is_covered(store, class, &node.names) {
         return Ok(node);
     }

@@ -1,5 +1,5 @@
 -- The canonical node in normal form, and its shape.
-use Rattle.std.proofs.Common.{rules, ◌∙◌, ap, sym, subst, length, ◌≤◌, arith}
+use Rattle.std.proofs.Common.{rules, ◌∙◌, ap, sym, subst, length, arith}
 use Rattle.slotted_languages.specs.NodeTerm.{nameless_node}
 use Rattle.slotted_nodes.specs.Form.{Form}
 use Rattle.slotted_model.specs.Normal.{normal}

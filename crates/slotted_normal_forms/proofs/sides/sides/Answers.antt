@@ -1,7 +1,6 @@
 -- The slots of one number are partners, and the sides by these partners are twins.
-use Rattle.std.proofs.Common.{rules, ◌≡◌, ◌↔◌, ◌<◌, ◌+◌, ◌≤◌, ℕ, suc, List, [], ◌∷◌, length, refl, ap, ◌∙◌, sym, subst, arith}
+use Rattle.std.proofs.Common.{rules, ◌≡◌, ◌↔◌, ◌<◌, ℕ, suc, List, [], ◌∷◌, length, refl, ap, ◌∙◌, sym, subst, arith}
 use Rattle.std.specs.Prelude.{Contains}
-use Rattle.slotted_slots.specs.Table.{slot_limit}
 use Rattle.slotted_model.specs.Applied.{Applied, keys}
 use Rattle.slotted_model.specs.Classes.{IsFull, canonical_slots}
 use Rattle.slotted_model.specs.Correspondence.{IsFullMap, IsPartialInjection, identity, turned}
@@ -9,10 +8,10 @@ use Rattle.slotted_model.specs.Normal.{HasOneNumber}
 use Rattle.slotted_model.specs.ProofList.{Equation}
 use Rattle.slotted_model.proofs.Correspondences.FullIds.{full_id}
 use Rattle.slotted_model.proofs.NormalIds.{keys-identity}
-use Rattle.slotted_proofs.specs.Equations.{to_applied, pairs_of, AreSides, partnered_statement}
+use Rattle.slotted_proofs.specs.Equations.{to_applied, pairs_of}
 use Rattle.slotted_store.specs.Kept.{nodes_of, entries_of}
 use Rattle.slotted_store.proofs.KeptLists.{length-nodes_of}
-use Rattle.slotted_normal_forms.specs.Sides.{number_partners, AreTwinSides}
+use Rattle.slotted_normal_forms.specs.Sides.{number_partners}
 use Rattle.slotted_normal_forms.proofs.NumberPartners.{partners-partial, partner-pairs, twin-sides}
 use Rattle.slotted_normal_forms.proofs.sides.sides.Goals as goal
 

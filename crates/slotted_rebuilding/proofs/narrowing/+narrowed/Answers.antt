@@ -4,24 +4,8 @@ use Rattle.std.proofs.lemmas.Result.{IfOk-weaker}
 use Rattle.slotted_rebuilding.specs.Turns.{NarrowsTo}
 use Rattle.slotted_rebuilding.proofs.FiledStates.{first-still}
 use Rattle.slotted_rebuilding.proofs.LargeClasses.{large-grown}
-use Rattle.slotted_rebuilding.proofs.NarrowedNodes.{first-waits, waiting-within, findable, too-large, lacks-slot, narrowed-now, narrowed-then}
+use Rattle.slotted_rebuilding.proofs.NarrowedNodes.{lacks-slot, narrowed-now, narrowed-then}
 use Rattle.slotted_rebuilding.proofs.narrowing.+narrowed.Goals as goal
-
-pub found_node-requires-clause-within : goal.found_node-requires-clause-within
-found_node-requires-clause-within g t c =
-    let r = c.args.nodes.now in
-    waiting-within c.args.store.now r c.args.class c.requires.good (first-waits r c.args.class c.requires.first)
-
-pub found_node-requires-clause-children : goal.found_node-requires-clause-children
-found_node-requires-clause-children g t c =
-    let r = c.args.nodes.now in
-    findable c.args.store.now r c.args.class c.requires.good (waiting-within c.args.store.now r c.args.class c.requires.good (first-waits r c.args.class c.requires.first))
-
-pub returns-in_err-node-clause-full : goal.returns-in_err-node-clause-full
-returns-in_err-node-clause-full g t c h =
-    let r = c.args.nodes.now in
-    too-large c.args.store.now r c.args.class c.requires.good (waiting-within c.args.store.now r c.args.class c.requires.good (first-waits r c.args.class c.requires.first))
-    (c.in_err-node.ensures.full (search rules))
 
 pub returns-then-is_covered-clause-ok : goal.returns-then-is_covered-clause-ok
 returns-then-is_covered-clause-ok g t c =
