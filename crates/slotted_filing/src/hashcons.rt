@@ -75,7 +75,7 @@ impl<L: Language> Hashcons<L> {
 
     /// For each class how many filed nodes it has and how many have it as a child. No contract speaks of these sizes: they decide which
     /// class a union keeps.
-    pub fn sizes(&self) -> &[usize] {
+    pub fn sizes(&self) -> &[u32] {
         self.sizes.all()
     }
 

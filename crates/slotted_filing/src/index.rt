@@ -1,6 +1,6 @@
 //! The filed nodes, by their keys and by the classes that they come from.
 ghost use Rattle.std.specs.Prelude.{◌≡◌, ◌<◌, ◌++◌, ◌∷◌, [], length, None, Some, set, option_map, slice_get};
-ghost use Rattle.std.specs.Prelude.{swap_remove, IfSome, IfNone, IfErr, OnOk, OnErr};
+ghost use Rattle.std.specs.Prelude.{swap_remove, IfSome, IfNone, IfOk, IfErr, OnOk, OnErr};
 ghost use Rattle.slotted_slots.specs.Error.{IsOutOfMemory};
 ghost use Rattle.slotted_filing.specs.Filed.{FiledRow, filed_of, rows_of, HasKey, IsNewKey, IsNewToOthers, HasKeysOnce};
 
@@ -22,7 +22,7 @@ pub struct Filed {
 #[derive(Drop)]
 pub struct NodeIndex<L: Language> {
     nodes: IndexMap<L, Filed>,
-    places: Vec<Option<usize>>,
+    places: Vec<Option<u32>>,
 }
 
 impl<L: Language> Model for NodeIndex<L> {
@@ -70,7 +70,7 @@ impl<L: Language> NodeIndex<L> {
         ensures { option_map (λ p. (L.form p.0.now, p.1.now)) result ≡ filed_of self.now class }
     {
         let place = (*self.places.get(class)?)?;
-        let (key, filed) = self.nodes.get_index(place)?;
+        let (key, filed) = self.nodes.get_index(place as usize)?;
         Some((key, &filed.names))
     }
 
@@ -95,7 +95,7 @@ impl<L: Language> NodeIndex<L> {
         ensures unchanged { OnErr result (self.new ≡ self.old) }
         ensures err { IfErr result IsOutOfMemory }
     {
-        let place = self.nodes.len();
+        let place = small_place(self.nodes.len())?;
         let source = class;
         self.nodes.insert(key, Filed { source, names })?;
         self.places[class] = Some(place);
@@ -109,9 +109,9 @@ impl<L: Language> NodeIndex<L> {
     {
         match self.places[class] {
             Some(place) => {
-                remove_at(&mut self.nodes, place);
+                remove_at(&mut self.nodes, place as usize);
                 self.places[class] = None;
-                match source_at(&self.nodes, place) {
+                match source_at(&self.nodes, place as usize) {
                     Some(moved) => self.places[moved] = Some(place),
                     None => {}
                 }
@@ -131,6 +131,17 @@ impl<L: Language> NodeIndex<L> {
         self.unfile(class);
         self.file(class, key, names)?;
         Ok(())
+    }
+}
+
+// A place as it is kept. Memory for more nodes than there are such places is not given.
+fn small_place(place: usize) -> Result<u32, Error>
+    ensures ok { IfOk result (λ p. p ≡ place) }
+    ensures err { IfErr result IsOutOfMemory }
+{
+    match u32::try_from(place) {
+        Ok(small) => Ok(small),
+        Err(_) => Err(Error::OutOfMemory),
     }
 }
 

@@ -6,11 +6,11 @@ use slotted_slots::Error;
 use std::alloc::Global;
 
 /// For each class how many filed nodes it has, and its size: these nodes and the filed ones that have it as a child, as they are filed.
-/// No contract speaks of sizes: they decide which class a union keeps.
+/// No contract speaks of sizes: they decide which class a union keeps. A size that is too large for its number is the largest one.
 #[derive(Drop)]
 pub struct Sizes {
-    nodes: Vec<usize>,
-    sizes: Vec<usize>,
+    nodes: Vec<u32>,
+    sizes: Vec<u32>,
 }
 
 impl Sizes {
@@ -32,7 +32,7 @@ impl Sizes {
     }
 
     /// The size of each class.
-    pub fn all(&self) -> &[usize] {
+    pub fn all(&self) -> &[u32] {
         &self.sizes
     }
 
@@ -69,14 +69,14 @@ impl Sizes {
 }
 
 // The number of a class grows.
-fn raise(numbers: &mut [usize], class: usize, more: usize) {
+fn raise(numbers: &mut [u32], class: usize, more: u32) {
     if let Some(number) = numbers.get_mut(class) {
         *number = number.saturating_add(more);
     }
 }
 
 // The number of a class falls.
-fn lower(numbers: &mut [usize], class: usize, less: usize) {
+fn lower(numbers: &mut [u32], class: usize, less: u32) {
     if let Some(number) = numbers.get_mut(class) {
         *number = number.saturating_sub(less);
     }

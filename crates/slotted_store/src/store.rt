@@ -23,16 +23,16 @@ use slotted_slots::{AppliedId, Error, Id, SlotMap};
 use std::alloc::Global;
 use std::marker::Model;
 
-/// A class: the node that it was made with, over its own slots, the class that it leads to, with a slot of its own for each
-/// slot of that, the proof of this, and the moment of its link. A live class leads to itself. Beside them an entry of the proof list, which no
-/// clause speaks of: the one that was last found to say what the class finds.
+/// A class: the class that it leads to, with a slot of its own for each slot of that, the proof of this, the node that it was made with, over
+/// its own slots, and the moment of its link. A live class leads to itself. Beside them an entry of the proof list, which no clause speaks of:
+/// the one that was last found to say what the class finds. What finds and their proofs read stands together.
 #[derive(Drop)]
 pub struct Class<L> {
-    node: L,
     find: AppliedId,
     proof: ProvenEq,
-    died: usize,
     last_proof: ProvenEq,
+    node: L,
+    died: usize,
 }
 
 /// A filed node's source class, and the slot of that class for each number of the shape.

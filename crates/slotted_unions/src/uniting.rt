@@ -77,13 +77,13 @@ fn drop_either<L: Language>(
 }
 
 // The size of a class.
-fn size_of(sizes: &[usize], class: usize) -> usize {
+fn size_of(sizes: &[u32], class: usize) -> u32 {
     sizes.get(class).copied().unwrap_or(0)
 }
 
 // Whether the left class of an entry is the one that dies: the one with more canonical slots, and of two with as many the smaller one, or
 // the left one where they are of one size.
-fn left_dies<L: Language>(store: &Store<L>, q: ProvenEq, sizes: &[usize]) -> bool
+fn left_dies<L: Language>(store: &Store<L>, q: ProvenEq, sizes: &[u32]) -> bool
     requires { q < length store.now.proofs }
 {
     let equation = store.proofs().equ(q);
@@ -99,7 +99,7 @@ fn link_either<L: Language>(
     store: &mut Store<L>,
     alloc: Global,
     q: ProvenEq,
-    sizes: &[usize],
+    sizes: &[u32],
 ) -> Result<usize, Error>
     requires good { Stored store.old }
     requires within { q < length store.old.proofs }
@@ -126,7 +126,7 @@ fn act_on<L: Language>(
     store: &mut Store<L>,
     alloc: Global,
     q: ProvenEq,
-    sizes: &[usize],
+    sizes: &[u32],
 ) -> Result<UnionStep, Error>
     requires good { Stored store.old }
     requires within { q < length store.old.proofs }
@@ -152,7 +152,7 @@ pub fn unite_once<L: Language>(
     store: &mut Store<L>,
     alloc: Global,
     p: ProvenEq,
-    sizes: &[usize],
+    sizes: &[u32],
 ) -> Result<UnionStep, Error>
     requires good { Stored store.old }
     requires within { p < length store.old.proofs }

@@ -21,8 +21,8 @@ invariant_of-self-2 g c =
     let inside = c.requires.within in
     let within : c.args.class < length places = omega (arith, count, same, inside) in
     let grown = ap (map (filed_row form)) c.in_ok-insert.ensures.entries ∙ rows-insert_entry g.L.PartialEq.eq form (λ (r : Filed). (r.source, r.names)) g.met.L.LanguageChildren.same c.self.inside.nodes.entries c.args.key (record { source = c.args.class; names = c.args.names }) (new-key rows places c.self.invariant (form c.args.key) new) in
-    let place : c.len-place.result ≡ length rows = c.len-place.ensures.len ∙ sym (length-map c.self.inside.nodes.entries (filed_row form)) in
-    subst (λ (rs : List FiledRow). IsIndexed rs (set places c.args.class (Some c.len-place.result))) (sym grown)
+    let place : c.in_ok-place.place ≡ length rows = c.in_ok-place.ensures.ok ∙ c.len.ensures.len ∙ sym (length-map c.self.inside.nodes.entries (filed_row form)) in
+    subst (λ (rs : List FiledRow). IsIndexed rs (set places c.args.class (Some c.in_ok-place.place))) (sym grown)
     (subst (λ n. IsIndexed (rows ++ (form c.args.key, (c.args.class, c.args.names)) ∷ []) (set places c.args.class (Some n))) (sym place)
     (indexed-filed rows places c.args.class (form c.args.key) c.args.names c.self.invariant within free new))
 
@@ -39,7 +39,7 @@ returns-clause-ok g c =
     let inside = c.requires.within in
     let within : c.args.class < length places = omega (arith, count, same, inside) in
     let grown = ap (map (filed_row form)) c.in_ok-insert.ensures.entries ∙ rows-insert_entry g.L.PartialEq.eq form (λ (r : Filed). (r.source, r.names)) g.met.L.LanguageChildren.same c.self.inside.nodes.entries c.args.key (record { source = c.args.class; names = c.args.names }) (new-key rows places c.self.invariant (form c.args.key) new) in
-    let place : c.len-place.result ≡ length rows = c.len-place.ensures.len ∙ sym (length-map c.self.inside.nodes.entries (filed_row form)) in
+    let place : c.in_ok-place.place ≡ length rows = c.in_ok-place.ensures.ok ∙ c.len.ensures.len ∙ sym (length-map c.self.inside.nodes.entries (filed_row form)) in
     (λ i. filed_in (grown i) (set places c.args.class (Some (place i))))
     ∙ view-filed rows places c.args.class (form c.args.key) c.args.names c.self.invariant within free new
     ∙ ap (λ (v : List (Option Filing)). set v c.args.class (Some (form c.args.key, c.args.names))) view
