@@ -176,6 +176,7 @@ fn chars_of(alloc: Global, text: &str) -> Result<Vec<char>, Error>
     ensures ok { IfOk result (λ v. v.items ≡ chars text.now) }
     ensures memory { IfErr result IsOutOfMemory }
 {
-    let chars: Vec<char> = text.chars().collect(alloc)?;
+    let mut chars = Vec::with_capacity(alloc, text.len())?;
+    chars.extend(text.chars())?;
     Ok(chars)
 }
