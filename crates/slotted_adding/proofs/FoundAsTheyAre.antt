@@ -1,4 +1,4 @@
--- Ids that are what they find, and nodes over them, which are in normal form.
+-- Nodes over ids that are what they find: they are in normal form.
 use Rattle.std.proofs.Common.{◌≡◌, ◌<◌, ◌≤◌, ◌∙◌, ℕ, List, [], ◌∷◌, length, ap, refl, sym, subst, arith, inl, inr}
 use Rattle.std.specs.Map.{keys_of, values_of}
 use Rattle.std.specs.Prelude.{All}
@@ -27,23 +27,6 @@ use Rattle.slotted_store.specs.Kept.{Kept, entries_of, nodes_of}
 use Rattle.slotted_store.proofs.AscendingLists.{ascending-within}
 use Rattle.slotted_store.proofs.ChildIds.{Each-from_All, EachChild-node_args}
 use Rattle.slotted_store.proofs.KeptLists.{length-mapped}
-
--- an id is what it finds if its class lives and has as many slots left as the id has names
-pub found-itself : (k : Kept) → HasFinds k → (a : Applied) → IsFindable k a → IsLive (entries_of k) a.0 → length (entry_at (entries_of k) a.0).pairs ≡ length a.1 → find (entries_of k) a ≡ a
-found-itself k good a valid lives many =
-    let nodes : List DTerm = nodes_of k in
-    let found : List Entry = entries_of k in
-    let L : Leads nodes found = leads nodes found good.linked in
-    let K : List ℕ = keys_of (entry_at found a.0).pairs in
-    let used : used_slots found a.0 ≡ K = used-live nodes found good.linked a.0 valid.in_range lives in
-    let rises : IsAscending K = subst IsAscending used (IsAscending-ascending (values_of (find_map found a.0))) in
-    let as_many : length K ≡ length (keys a.1) = length-mapped (λ (p : ℕ × ℕ). p.0) (entry_at found a.0).pairs ∙ (many ∙ sym (length-mapped (λ (p : ℕ × ℕ). p.0) a.1)) in
-    let same : K ≡ keys a.1 = ascending-within K (keys a.1) rises valid.ascending
-    (λ z i. In-Contains (keys a.1) z (valid.has_slots z (Contains-In (used_slots found a.0) z (subst (λ S. In z S) (sym used) i)))) as_many in
-    let full : IsFullMap K a.1 = record { slots = sym same; once = ascending-different K rises; injective = valid.injective } in
-    let whole : find_map found a.0 ≡ identity K = find_map-live nodes found L a.0 valid.in_range lives ∙ good.linked.live a.0 valid.in_range lives in
-    let n : composite (find_map found a.0) a.1 ≡ a.1 = ap (λ m. composite m a.1) whole ∙ identity-composite K (values a.1) a.1 (full-partial K (values a.1) a.1 full (λ s x d. Contains-value a.1 s x d)) in
-    λ i. (find_class-live nodes found L a.0 valid.in_range lives i, n i)
 
 -- a node is in normal form where each child is what it finds
 normal-itself : (found : List Entry) (d : DArgs) → EachChild (λ a. find found a ≡ a) d → normal_args found d ≡ d

@@ -3,9 +3,8 @@ ghost use Rattle.std.specs.Prelude.{◌≡◌, option_map, IfOk, IfErr, IsErrOf,
 ghost use Rattle.slotted_slots.specs.Error.{IsOutOfMemory, IsShortage};
 ghost use Rattle.slotted_languages.specs.NewNames.{IsTooLarge};
 ghost use Rattle.slotted_languages.specs.NodeTerm.{nameless_node};
-ghost use Rattle.slotted_model.specs.Find.{find};
 ghost use Rattle.slotted_model.specs.Normal.{normal};
-ghost use Rattle.slotted_store.specs.Finding.{HasFinds, IsFindable};
+ghost use Rattle.slotted_store.specs.Finding.{HasFinds};
 ghost use Rattle.slotted_store.specs.Kept.{entries_of};
 ghost use Rattle.slotted_normal_forms.specs.NormalNodes.{HasFindableChildren};
 ghost use Rattle.slotted_proofs.specs.Equations.{to_applied};
@@ -15,7 +14,7 @@ ghost use Rattle.slotted_adding.specs.LookUp.{HasNamesFor, IsNormalShape, found_
 use crate::finding::found_with;
 use slotted_filing::Hashcons;
 use slotted_languages::Language;
-use slotted_normal_forms::normal::normal_of;
+use slotted_normal_forms::normal::{is_found, normal_of};
 use slotted_slots::{AppliedId, Error, SlotMap};
 use slotted_store::Store;
 use slotted_store::names::map_between;
@@ -43,16 +42,6 @@ fn found_source<L: Language>(
         }
         None => unreachable!(),
     }
-}
-
-// Whether an id is what it finds. So it is if its class lives and uses as many slots as it has names.
-fn is_found<L: Language>(store: &Store<L>, a: &AppliedId) -> bool
-    requires good { HasFinds store.now }
-    requires findable { IsFindable store.now (to_applied a.now) }
-    ensures { IsTrue result → find (entries_of store.now) (to_applied a.now) ≡ to_applied a.now }
-{
-    let entry = store.entry(a.id.0);
-    entry.id.0 == a.id.0 && entry.m.len() == a.m.len()
 }
 
 // Whether each child of a node is what it finds. It takes no memory.

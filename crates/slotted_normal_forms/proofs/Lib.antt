@@ -1,5 +1,6 @@
 pub mod ReplacedChildren
 pub mod FoundChildren
+pub mod FoundIds
 pub mod NumbersInShapes
 pub mod ShapesOfNodes
 pub mod KeyedNodes

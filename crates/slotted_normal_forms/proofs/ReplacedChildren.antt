@@ -192,6 +192,59 @@ step f (bind u r) k xs b d h e q =
           ∙ (λ j. join_form (bind_form (slice_index xs 0) (part (first_tree-all f u k us t j) (first_names-all f u k us t j))) (part (first_tree f r (z j) rs) (first_names f r (z j) rs)))))
     ]
 
+keys-zip : (ks vs : List ℕ) → length vs ≡ length ks → keys (zip ks vs) ≡ ks
+keys-zip [] vs h = refl
+keys-zip (k ∷ ks) [] h = absurd (omega arith)
+keys-zip (k ∷ ks) (v ∷ vs) h = ap (λ xs. k ∷ xs) (keys-zip ks vs (omega arith))
+
+values-zip : (ks vs : List ℕ) → length vs ≡ length ks → values (zip ks vs) ≡ vs
+values-zip [] [] h = refl
+values-zip [] (v ∷ vs) h = absurd (omega arith)
+values-zip (k ∷ ks) [] h = absurd (omega arith)
+values-zip (k ∷ ks) (v ∷ vs) h = ap (λ xs. v ∷ xs) (values-zip ks vs (omega arith))
+
+-- one more child that f leaves as it is
+same : (f : Applied → Applied) (u : Tree) (k : ℕ) (xs : List ℕ) (d : Applied) → k < length (children u) → length xs ≡ length (scopes u) → slice_index_or (ids_in u xs) k d ≡ f (slice_index_or (ids_in u xs) k d) →
+    part (first_tree f u k xs) (first_names f u k xs) ≡ part (first_tree f u (suc k) xs) (first_names f u (suc k) xs)
+unfolding part
+same f leaf k xs d h e q = absurd (omega arith)
+same f (own r) k xs d h e q =
+    ap (λ (p : Form). part (own p.tree) (slice_index xs 0 ∷ p.names)) (same f r k (drop 1 xs) d h (omega (arith, length-drop 1 xs)) q)
+same f (child i ks r) zero xs d h e q =
+    let vs = take (length ks) xs in
+    let ys = drop (length ks) xs in
+    let l : length ys ≡ length (scopes r) = length_after i ks r xs e in
+    let n : length vs ≡ length ks = omega (arith, length-take (length ks) xs, length-append (map {B = Option ℕ} (λ _. None) ks) (scopes r), length-map {B = Option ℕ} ks (λ _. None)) in
+    let k : ks ≡ keys (zip ks vs) = sym (keys-zip ks vs n) in
+    let w : xs ≡ values (zip ks vs) ++ ys = sym (take-append-drop (length ks) xs) ∙ ap (λ zs. zs ++ ys) (sym (values-zip ks vs n)) in
+    (λ j. part (child i (k j) r) (w j))
+    ∙ (λ j. part (child (q j).0 (keys (q j).1) (sym (first_tree-none f r 0 ys refl) j)) (values (q j).1 ++ sym (first_names-none f r 0 ys refl l) j))
+same f (child i ks r) (suc k) xs d h e q =
+    let ys = drop (length ks) xs in
+    let c : Applied = f (i, zip ks (take (length ks) xs)) in
+    ap (λ (p : Form). part (child c.0 (keys c.1) p.tree) (values c.1 ++ p.names)) (same f r k ys d (omega arith) (length_after i ks r xs e) q)
+same f (bind u r) k xs d h e q =
+    let n = length (scopes u) in
+    let m = k - length (children u) in
+    let us = take n (drop 1 xs) in
+    let rs = drop n (drop 1 xs) in
+    let w : length xs ≡ suc (n + length (scopes r)) = omega (arith, length-append (scopes u) (scopes r)) in
+    let l = length_below xs n (length (scopes r)) w in
+    let o = length-append (children u) (children r) in
+    elim (at_append (ids_in u us) (ids_in r rs) d k) [
+      | inl s ↦
+          let t : k < length (children u) = omega (arith, s.0, length-ids u us) in
+          let z : m ≡ suc k - length (children u) = omega arith in
+          λ j. join_form (bind_form (slice_index xs 0) (same f u k us d t l.0 (sym s.1 ∙ (q ∙ ap f s.1)) j)) (part (first_tree f r (z j) rs) (first_names f r (z j) rs))
+      | inr s ↦
+          let t : length (children u) ≤ k = omega (arith, s.0, length-ids u us) in
+          let z : suc m ≡ suc k - length (children u) = omega arith in
+          let v : k - length (ids_in u us) ≡ m = ap (λ (x : ℕ). k - x) (length-ids u us) in
+          let at = s.1 ∙ ap (λ (x : ℕ). slice_index_or (ids_in r rs) x d) v in
+          ap (join_form (bind_form (slice_index xs 0) (part (first_tree f u k us) (first_names f u k us)))) (same f r m rs d (omega arith) l.1 (sym at ∙ (q ∙ ap f at)))
+          ∙ (λ j. join_form (bind_form (slice_index xs 0) (part (first_tree-all f u k us t j) (first_names-all f u k us t j))) (part (first_tree f r (z j) rs) (first_names f r (z j) rs)))
+    ]
+
 -- the form whose first k children are what f makes of them
 abbrev pub first_form : (Applied → Applied) → Form → ℕ → Form
 first_form f g k = record g { tree = first_tree f g.tree k g.names; names = first_names f g.tree k g.names }
@@ -205,3 +258,11 @@ unfolding part
 first_form-more f g k b d h e q =
     let s = step f g.tree k g.names b d h e q in
     rw add-one (form_ext _ _ refl refl (ap (λ p. p.tree) s) (ap (λ p. p.names) s))
+
+-- one more child, which f leaves as it is
+pub first_form-same : (f : Applied → Applied) (g : Form) (k : ℕ) (d : Applied) → k < length (children g.tree) → length g.names ≡ length (scopes g.tree) → slice_index_or (child_ids g) k d ≡ f (slice_index_or (child_ids g) k d) →
+    first_form f g k ≡ first_form f g (k + 1)
+unfolding part
+first_form-same f g k d h e q =
+    let s = same f g.tree k g.names d h e q in
+    rw add-one (form_ext _ _ refl refl (ap (λ (p : Form). p.tree) s) (ap (λ (p : Form). p.names) s))

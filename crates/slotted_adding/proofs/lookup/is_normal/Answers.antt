@@ -26,7 +26,7 @@ loop-k-preserved g c =
     let f = g.L.LanguageChildren.form c.args.node.now in
     let l : c.loop-k.k < length (children f.tree) = omega (arith, c.loop-k-test.true, c.applied_id_count-k-end.ensures) in
     child_next (λ a. find (entries_of c.args.store.now) a ≡ a) f c.loop-k.k (to_applied c.applied_id.result.now) l c.applied_id.ensures.id c.applied_id.ensures.keys c.applied_id.ensures.names
-    (c.is_found.ensures c.if-not-is_found.false) c.loop-k.invariant
+    (c.is_found.ensures.0 c.if-not-is_found.false) c.loop-k.invariant
 
 pub returns : goal.returns
 returns g c =
