@@ -1,32 +1,18 @@
 -- Nodes over ids that are what they find: they are in normal form.
-use Rattle.std.proofs.Common.{◌≡◌, ◌<◌, ◌≤◌, ◌∙◌, ℕ, List, [], ◌∷◌, length, ap, refl, sym, subst, arith, inl, inr}
-use Rattle.std.specs.Map.{keys_of, values_of}
+use Rattle.std.proofs.Common.{◌≡◌, ◌∙◌, ℕ, List, ap, refl, sym}
 use Rattle.std.specs.Prelude.{All}
 use Rattle.slotted_theory.specs.Nameless.{DArgs, DTerm, stop, place, sub, scope}
 use Rattle.slotted_theory.proofs.Values.{child_before, node}
 use Rattle.slotted_nodes.specs.Form.{Form}
 use Rattle.slotted_languages.specs.NodeTerm.{nameless_node}
 use Rattle.slotted_languages.specs.Shape.{Fits}
-use Rattle.slotted_model.specs.Applied.{Applied, EachChild, as_term, keys, renamed_id, values}
-use Rattle.slotted_model.specs.Ascending.{IsAscending, IsBelowAll}
-use Rattle.slotted_model.specs.Correspondence.{IsFullMap, composite, identity}
-use Rattle.slotted_model.specs.Find.{Entry, IsLive, entry_at, find, find_map, used_slots}
+use Rattle.slotted_model.specs.Applied.{Applied, EachChild, as_term, renamed_id}
+use Rattle.slotted_model.specs.Find.{Entry, find}
 use Rattle.slotted_model.specs.Normal.{normal, normal_args}
 use Rattle.slotted_model.proofs.Congruence.{child-applied}
-use Rattle.slotted_model.proofs.Correspondences.FullMaps.{full-partial}
-use Rattle.slotted_model.proofs.Correspondences.Pairs.{Contains-value}
-use Rattle.slotted_model.proofs.Correspondences.PartialInjections.{identity-composite}
-use Rattle.slotted_model.proofs.Finding.{Leads, find_class-live, find_map-live, leads}
-use Rattle.slotted_model.proofs.Members.{Contains-In, In, In-Contains}
-use Rattle.slotted_model.proofs.NormalIds.{found-renamed, used-live}
-use Rattle.slotted_model.proofs.Correspondences.FullIds.{ascending-different}
-use Rattle.slotted_model.proofs.Sets.{IsAscending-ascending}
+use Rattle.slotted_model.proofs.NormalIds.{found-renamed}
 use Rattle.slotted_store.specs.ChildIds.{child_ids}
-use Rattle.slotted_store.specs.Finding.{HasFinds, IsFindable}
-use Rattle.slotted_store.specs.Kept.{Kept, entries_of, nodes_of}
-use Rattle.slotted_store.proofs.AscendingLists.{ascending-within}
 use Rattle.slotted_store.proofs.ChildIds.{Each-from_All, EachChild-node_args}
-use Rattle.slotted_store.proofs.KeptLists.{length-mapped}
 
 -- a node is in normal form where each child is what it finds
 normal-itself : (found : List Entry) (d : DArgs) → EachChild (λ a. find found a ≡ a) d → normal_args found d ≡ d
