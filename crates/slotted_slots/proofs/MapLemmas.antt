@@ -1,11 +1,12 @@
 -- What a search finds among pairs in key order, and what an edit at that place does.
-use Rattle.std.proofs.Common.{◌≡◌, ℕ, zero, suc, ◌<◌, ◌≤◌, eqb, true, false, List, [], ◌∷◌, length, get_or, Some, None, Result, Ok, Err, IfOk, IfErr, refl, sym, ap, subst, inl, inr, arith, if◌then◌else◌}
+use Rattle.std.proofs.Common.{◌≡◌, ℕ, zero, suc, ◌<◌, ◌≤◌, ◌-◌, eqb, true, false, List, [], ◌∷◌, length, get_or, Some, None, Result, Ok, Err, IfOk, IfErr, refl, sym, ap, subst, inl, inr, arith, if◌then◌else◌}
+use Rattle.std.specs.Prelude.{slice_get}
 use Rattle.std.specs.List.{insert, remove}
 use Rattle.std.specs.List.Sorted.{IsSearchInRange, IsBinarySearchResult, IsNonDecreasingBy}
 use Rattle.std.specs.Ordering.{nat_cmp, ordering_index}
 use Rattle.std.proofs.lemmas.Cmp.{ranked}
 use Rattle.std.proofs.lemmas.List.Sorted.{IsNonDecreasingBy-from_default}
-use Rattle.std.proofs.lemmas.Bool.{cases_order, lt-ltb, le-ltb, eq-eqb, ne_eqb}
+use Rattle.std.proofs.lemmas.Bool.{cases_eq, cases_order, lt-ltb, le-ltb, eq-eqb, ne_eqb}
 use Rattle.std.proofs.lemmas.Bool.Decides.{nat_tests}
 use Rattle.slotted_slots.specs.Ascending.{AllAbove, IsAscending}
 use Rattle.slotted_slots.proofs.Ascending.{AllAbove-down}
@@ -49,6 +50,24 @@ value_of-at (p ∷ m) up k (suc i) here =
     let tail = IsAt-tail p m k i here in
     let above : p.0 < key_at m i = key_above p.0 m i up.0 tail.in_range in
     grind (arith, nat_tests, above, tail.has_key, value_of-at m up.1 k i tail)
+
+-- what stands at a place has its key there
+key-got : (m : List (ℕ × ℕ)) (i : ℕ) (p : ℕ × ℕ) → slice_get m i ≡ Some p → key_at m i ≡ p.0
+key-got [] i p e = absurd (none-some p e)
+  where
+    none-some : (p : ℕ × ℕ) → None ≡ Some p → ⊥
+    none-some p e = cc
+key-got (q ∷ m) zero p e = ap (λ (x : ℕ × ℕ). x.0) (some-same q p e)
+  where
+    some-same : (q p : ℕ × ℕ) → Some q ≡ Some p → q ≡ p
+    some-same q p e = cc
+key-got (q ∷ m) (suc i) p e = key-got m i p e
+
+some-last : (p : ℕ × ℕ) (m : List (ℕ × ℕ)) → slice_get (p ∷ m) (length (p ∷ m) - 1) ≡ None → ⊥
+some-last p [] e = cc
+some-last p (q ∷ m) e =
+    let i : length (p ∷ q ∷ m) - 1 ≡ suc (length (q ∷ m) - 1) = omega arith in
+    some-last q m (subst (λ n. slice_get (p ∷ q ∷ m) n ≡ None) i e)
 
 -- a key that has a gap is not found
 pub value_of-gap : (m : List (ℕ × ℕ)) (k i : ℕ) → IsGapFor m k i → value_of m k ≡ None
@@ -180,3 +199,21 @@ IsAscending-composed (p ∷ m) n up = elim (value_of n p.1) as (λ v. IsAscendin
 pub keys-doubled : (xs : List ℕ) → keys (doubled xs) ≡ xs
 keys-doubled [] = refl
 keys-doubled (x ∷ xs) = ap (λ r. x ∷ r) (keys-doubled xs)
+
+-- a key above the last one has its gap at the end
+pub gap-past : (m : List (ℕ × ℕ)) (k : ℕ) (p : ℕ × ℕ) → slice_get m (length m - 1) ≡ Some p → p.0 < k → IsAscending (keys m) → IsGapFor m k (length m)
+gap-past m k p last below up = record {
+  in_range = omega arith;
+  smaller_before = λ j lt. elim (cases_eq j (length m - 1)) [
+    | inl e ↦ subst (λ x. x < k) (sym (key-got m j p (subst (λ i. slice_get m i ≡ Some p) (sym e) last))) below
+    | inr n ↦
+        let rise = keys_rise m up j (length m - 1) (omega (arith, lt, n)) (omega (arith, lt)) in
+        let key : key_at m (length m - 1) ≡ p.0 = key-got m (length m - 1) p last in
+        omega (arith, rise, key, below)
+  ];
+  greater_after = λ j le lt. absurd (omega (arith, le, lt));
+}
+
+pub gap-empty : (m : List (ℕ × ℕ)) (k : ℕ) → slice_get m (length m - 1) ≡ None → IsGapFor m k (length m)
+gap-empty [] k none = record { in_range = omega arith; smaller_before = λ j lt. absurd (omega (arith, lt)); greater_after = λ j le lt. absurd (omega (arith, le, lt)) }
+gap-empty (p ∷ m) k none = absurd (some-last p m none)

@@ -247,9 +247,22 @@ impl SlotMap {
         ensures absent { IfErr result (IsGapFor self.now k) }
         ensures ascending { IsAscending (keys self.now) }
     {
+        if self.ends_before(k) {
+            return Err(self.pairs.len());
+        }
         self.pairs
             .as_slice()
             .binary_search_by_key(&k, |pair| pair.0)
+    }
+
+    // Whether each key is below this one. Most maps are made from the first key to the last, and so most pairs are put in at the end.
+    fn ends_before(&self, k: Slot) -> bool
+        ensures { IsTrue result → IsGapFor self.now k (length self.now) }
+    {
+        match self.pairs.last() {
+            Some(last) => last.0.raw() < k.raw(),
+            None => true,
+        }
     }
 }
 
