@@ -12,9 +12,8 @@
 --     CanRunOutForEnodes g c u         fewer fresh slots were left than these, and none is in u, or one of these nodes has too many places
 --     slots_for_dump g                 two for each place of all filed nodes, class by class
 --     CanRunOutForDump g u             the same of all
---     IsAppended xs ys                 the text ys is xs and what stands behind it
-pub use Rattle.slotted_reports.specs.Nodes.{HasFreshNames}
-use Rattle.std.specs.Prelude.{◌≡◌, ◌≤◌, ◌*◌, ◌⊎◌, ◌++◌, ℕ, List, [], Bool, Contains, Some, length, map, nat_eq}
+pub use Rattle.slotted_reports.specs.Nodes.{HasFreshNames, IsAppended}
+use Rattle.std.specs.Prelude.{◌≡◌, ◌≤◌, ◌*◌, ◌⊎◌, ℕ, List, [], Bool, Contains, Some, length, map, nat_eq}
 use Rattle.std.specs.List.{filter, range_with_len, sum_by}
 use Rattle.std.specs.List.Sorted.{IsPermutation}
 use Rattle.std.specs.declared.cmp.Ordering.{Ordering}
@@ -77,6 +76,3 @@ slots_for_dump g = sum_by (slots_for_enodes g) (range_with_len 0 (length g.image
 
 abbrev pub CanRunOutForDump : Graph → Table → Type 0
 CanRunOutForDump g u = RunsOut (slots_for_dump g) g.table u ⊎ HasLargeRow g
-
-abbrev pub IsAppended : List ℕ → List ℕ → Type 0
-IsAppended xs ys = (bs : List ℕ) × (ys ≡ xs ++ bs)

@@ -6,3 +6,4 @@ pub mod FreshNodes
 pub mod FiledShapes
 pub mod Sources
 pub mod ClassNodes
+pub mod ClassesInTurn

@@ -18,7 +18,9 @@
 --     RunsOutForKeys r os t u   so many were not to be had from t on, and none is left in u, or the key of one of the classes os has too many places
 --     slots_of_class k r c      two for each place of the keys whose classes find the class c
 --     TakesForClasses, RunsOutForClasses     the same of the classes cs together
-use Rattle.std.specs.Prelude.{Contains, ◌≡◌, ◌⊎◌, ◌≤◌, ◌+◌, ◌*◌, ℕ, List, All, Option, None, Some, length, map, true, false}
+--     KnowsClassSlots t k       the table t knows the slots of each class
+--     IsAppended xs ys          the text ys is xs and what stands behind it
+use Rattle.std.specs.Prelude.{Contains, ◌≡◌, ◌⊎◌, ◌≤◌, ◌<◌, ◌+◌, ◌++◌, ◌*◌, ℕ, List, All, Option, None, Some, length, map, true, false}
 use Rattle.std.specs.List.{sum_by}
 use Rattle.std.specs.List.Sorted.{IsPermutation, IsSorted}
 use Rattle.std.specs.declared.cmp.Ordering.{Ordering}
@@ -30,9 +32,10 @@ use Rattle.slotted_languages.specs.NewNames.{BindersAreUnknown}
 use Rattle.slotted_languages.specs.NodeTerm.{free_names_of}
 use Rattle.slotted_languages.specs.Shape.{shape}
 use Rattle.slotted_model.specs.Applied.{Applied, values}
+use Rattle.slotted_model.specs.Find.{used_slots}
 use Rattle.slotted_store.specs.ChildIds.{child_ids}
 use Rattle.slotted_store.specs.Finding.{IsFindable}
-use Rattle.slotted_store.specs.Kept.{Kept}
+use Rattle.slotted_store.specs.Kept.{Kept, entries_of}
 use Rattle.slotted_filing.specs.Filed.{Filing, HasKey, filed_of, no_row}
 use Rattle.slotted_filing.specs.FiledRows.{IsFiled, Rows}
 use Rattle.slotted_adding.specs.Enodes.{AllKnownTo, HasNamesOrNumbers, IsLargeKeyOf, IsLookedUpAs, IsMet}
@@ -125,3 +128,11 @@ TakesForClasses k r cs t u = u.fresh ≤ t.fresh + sum_by (slots_of_class k r) c
 
 abbrev pub RunsOutForClasses : Kept → Rows → List ℕ → Table → Table → Type 0
 RunsOutForClasses k r cs t u = RunsOut (sum_by (slots_of_class k r) cs) t u ⊎ HasLargeKey r
+
+abbrev pub KnowsClassSlots : Table → Kept → Type 0
+KnowsClassSlots t k = (i : ℕ) → i < length k.classes → AllKnownTo t (used_slots (entries_of k) i)
+
+-- of texts
+
+abbrev pub IsAppended : List ℕ → List ℕ → Type 0
+IsAppended xs ys = (bs : List ℕ) × (ys ≡ xs ++ bs)

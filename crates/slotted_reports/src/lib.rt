@@ -2,6 +2,7 @@
 #![tactic(auto)]
 
 pub mod checking;
+pub mod dumping;
 pub mod measure;
 pub mod nodes;
 

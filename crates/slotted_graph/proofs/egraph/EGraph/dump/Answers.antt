@@ -6,18 +6,22 @@ use Rattle.slotted_reports.specs.Nodes.{RunsOutForClasses}
 use Rattle.slotted_core.specs.Good.{Good, HasFreshSlots, RestsWith}
 use Rattle.slotted_core.specs.Graph.{Graph}
 use Rattle.slotted_core.proofs.FreshSlots.{fresh_slots-more}
+use Rattle.slotted_core.proofs.Reports.{used-known}
 use Rattle.slotted_graph.specs.FiledNodes.{slots_for_dump}
 use Rattle.slotted_graph.proofs.Enodes.{dump-runs_out, dump-takes}
 use Rattle.slotted_graph.proofs.egraph.EGraph.dump.Goals as goal
 
 pub append_live-requires-clause-good : goal.append_live-requires-clause-good
-append_live-requires-clause-good l c = elim c.self.invariant [ inl h ↦ absurd (false≢true (sym c.if-self.false ∙ h)) | inr h ↦ h.0 ]
+append_live-requires-clause-good l c = elim c.self.invariant [ inl h ↦ absurd (false≢true (sym c.if-self.false ∙ h)) | inr h ↦ h.2.filed ]
 
-pub append_live-requires-clause-rests : goal.append_live-requires-clause-rests
-append_live-requires-clause-rests l c = elim c.self.invariant [ inl h ↦ absurd (false≢true (sym c.if-self.false ∙ h)) | inr h ↦ h.2 ]
+pub append_live-requires-clause-quiet : goal.append_live-requires-clause-quiet
+append_live-requires-clause-quiet l c = elim c.self.invariant [ inl h ↦ absurd (false≢true (sym c.if-self.false ∙ h)) | inr h ↦ h.2.quiet ]
 
-pub append_live-requires-clause-fresh_slots : goal.append_live-requires-clause-fresh_slots
-append_live-requires-clause-fresh_slots l c = elim c.self.invariant [ inl h ↦ absurd (false≢true (sym c.if-self.false ∙ h)) | inr h ↦ h.1 ]
+pub append_live-requires-clause-known : goal.append_live-requires-clause-known
+append_live-requires-clause-known l c = elim c.self.invariant [
+  | inl h ↦ absurd (false≢true (sym c.if-self.false ∙ h))
+  | inr h ↦ used-known c.self.inside.store h.0 c.self.inside.table h.1
+]
 
 pub invariant_of-self : goal.invariant_of-self
 invariant_of-self g c = elim c.self.invariant [

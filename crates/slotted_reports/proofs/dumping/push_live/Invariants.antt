@@ -2,7 +2,7 @@ use Rattle.std.proofs.Common.{◌≡◌}
 use Rattle.std.specs.List.{range_with_len}
 use Rattle.slotted_slots.specs.Table.{KnowsMore}
 use Rattle.slotted_reports.specs.Nodes.{TakesForClasses}
-use Rattle.slotted_graph.proofs.egraph.dump.push_live.Given as goal
+use Rattle.slotted_reports.proofs.dumping.push_live.Given as goal
 
 -- only fresh slots are made, for the classes so far
 abbrev pub invariant-loop-class : goal.invariant-loop-class

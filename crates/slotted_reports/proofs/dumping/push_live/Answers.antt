@@ -3,13 +3,12 @@ use Rattle.std.proofs.Common.{rules, ◌<◌, ◌+◌, ◌∙◌, ap, length, sy
 use Rattle.std.specs.List.{range_with_len}
 use Rattle.slotted_slots.specs.Table.{KnowsMore, Table}
 use Rattle.slotted_reports.specs.Nodes.{TakesForClasses}
-use Rattle.slotted_core.proofs.FreshSlots.{fresh_slots-more}
-use Rattle.slotted_graph.proofs.Enodes.{runs_out-next, takes-next, takes-of_all}
-use Rattle.slotted_graph.proofs.egraph.dump.push_live.Goals.{then-is_alive+in_ok-push_whole, else-is_alive}
-use Rattle.slotted_graph.proofs.egraph.dump.push_live.Goals as goal
+use Rattle.slotted_reports.proofs.ClassesInTurn.{knows-more, runs_out-next, takes-next, takes-of_all}
+use Rattle.slotted_reports.proofs.dumping.push_live.Goals.{then-is_alive+in_ok-push_whole, else-is_alive}
+use Rattle.slotted_reports.proofs.dumping.push_live.Goals as goal
 
-pub push_whole-requires-clause-fresh_slots : goal.push_whole-requires-clause-fresh_slots
-push_whole-requires-clause-fresh_slots g c = fresh_slots-more c.args.table.now c.loop-class.table c.args.store.now c.loop-class.invariant.more c.requires.fresh_slots
+pub push_whole-requires-clause-known : goal.push_whole-requires-clause-known
+push_whole-requires-clause-known g c = knows-more c.args.table.now c.loop-class.table c.args.store.now c.loop-class.invariant.more c.requires.known
 
 pub loop-class-preserved : goal.loop-class-preserved
 loop-class-preserved g c =
