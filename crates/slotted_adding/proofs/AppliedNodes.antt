@@ -36,9 +36,9 @@ use Rattle.slotted_store.proofs.KeptLists.{length-mapped}
 use Rattle.slotted_filing.specs.Filed.{filed_of}
 use Rattle.slotted_filing.specs.FiledRows.{Rows, row_of_entry}
 use Rattle.slotted_filing.proofs.FiledRows.{row-filed}
-use Rattle.slotted_normal_forms.specs.FoundNodes.{IsFoundNode}
+use Rattle.slotted_filing.specs.FoundNodes.{IsFoundNode}
 use Rattle.slotted_rebuilding.specs.Filed.{IsKeyed, IsWellFiled, state_in}
-use Rattle.slotted_normal_forms.proofs.KeyedNodes.{own-numbers}
+use Rattle.slotted_filing.proofs.KeyedNodes.{own-numbers}
 use Rattle.slotted_rebuilding.proofs.StaleRows.{current-found}
 use Rattle.slotted_adding.specs.Enodes.{IsMet}
 use Rattle.slotted_adding.specs.LookUp.{looked_up}

@@ -34,9 +34,9 @@ use Rattle.slotted_store.proofs.NamePairs.{In-firsts}
 use Rattle.slotted_store.proofs.PutNames.{AreNumeric, IsPutApart, fresh-apart, numeric-shape, put_own, putting, putting-fits, putting-injective, putting-moved, putting-put}
 use Rattle.slotted_filing.specs.Filed.{HasKey, filed_of}
 use Rattle.slotted_filing.specs.FiledRows.{Rows}
-use Rattle.slotted_normal_forms.specs.FoundNodes.{IsFoundNode}
+use Rattle.slotted_filing.specs.FoundNodes.{IsFoundNode}
 use Rattle.slotted_rebuilding.specs.Filed.{IsKeyed, IsWellFiled}
-use Rattle.slotted_normal_forms.proofs.KeyedNodes.{own-numbers}
+use Rattle.slotted_filing.proofs.KeyedNodes.{own-numbers}
 use Rattle.slotted_adding.specs.Enodes.{AllKnownTo, IsLookedUpAs, IsMet, names_beside_of}
 use Rattle.slotted_adding.proofs.AppliedNodes.{filed-in_nodes, filed-key, filed-node, named-looked_up, same-keys, shape-named}
 use Rattle.slotted_adding.proofs.Reported.{In-among}

@@ -25,8 +25,8 @@ use Rattle.slotted_store.specs.ChildIds.{ids_in, child_ids}
 use Rattle.slotted_store.specs.Finding.{IsFindable}
 use Rattle.slotted_store.specs.Kept.{Kept, nodes_of, entries_of}
 use Rattle.slotted_store.proofs.ChildIds.{Each, Each-append, Each-from_All, atom-is, zip-keys_values, length-ids}
-use Rattle.slotted_normal_forms.specs.NormalNodes.{HasFindableChildren}
-use Rattle.slotted_normal_forms.proofs.FoundChildren.{Each-at, child_ids-valid}
+use Rattle.slotted_filing.specs.NormalNodes.{HasFindableChildren}
+use Rattle.slotted_filing.proofs.FoundChildren.{Each-at, child_ids-valid}
 use Rattle.slotted_adding.specs.Filling.{AllKnown, HasFullChildren, HasOneNormalForm, MakesAtMost, RunsOut, with_fresh, filled_id, filled_ids, filled_node, missing, missing_in, missing_of, tree_over, names_over, node_over}
 use Rattle.slotted_adding.proofs.FilledIds.{FillsNew, Knows, knows, all_known, known-apart, filled-new, new-renamed, filled-found, filled-known, filled-whole, with_fresh-more}
 use Rattle.slotted_adding.proofs.NodesOver.{over_fits, names_fit, child_ids-over, node_over-own}

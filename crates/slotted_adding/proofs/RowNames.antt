@@ -16,7 +16,7 @@ use Rattle.slotted_model.proofs.Rows.{name_numbered-at}
 use Rattle.slotted_proofs.proofs.Bridges.{composite-agrees, value_of-model}
 use Rattle.slotted_store.specs.Names.{between, with_pairs}
 use Rattle.slotted_store.proofs.NamePairs.{In-firsts}
-use Rattle.slotted_normal_forms.proofs.NumbersInShapes.{names-shape}
+use Rattle.slotted_filing.proofs.NumbersInShapes.{names-shape}
 
 map-back : (g N : ℕ → ℕ) (vs : List ℕ) → ((v : ℕ) → In v vs → g (N v) ≡ v) → map g (map N vs) ≡ vs
 map-back g N [] h = refl

@@ -7,7 +7,7 @@ ghost use Rattle.slotted_model.specs.Classes.{IsFull};
 ghost use Rattle.slotted_proofs.specs.Equations.{to_applied};
 ghost use Rattle.slotted_store.specs.Finding.{IsFindable};
 ghost use Rattle.slotted_store.specs.Kept.{nodes_of, rows_from};
-ghost use Rattle.slotted_normal_forms.specs.NormalNodes.{HasFindableChildren};
+ghost use Rattle.slotted_filing.specs.NormalNodes.{HasFindableChildren};
 ghost use Rattle.slotted_adding.specs.Filling.{FillsChildren, FillsId, HasFullChildren, HasOneNormalForm, IsBeside};
 ghost use Rattle.slotted_adding.specs.Filling.{KeepsKnown, MakesAtMost, MakesFull, RunsOut, RunsOutForId};
 ghost use Rattle.slotted_adding.specs.Filling.{RunsOutForNode, filled_id, filled_node, lack, lacked, missing};

@@ -6,15 +6,15 @@ ghost use Rattle.slotted_languages.specs.NodeTerm.{nameless_node};
 ghost use Rattle.slotted_model.specs.Normal.{normal};
 ghost use Rattle.slotted_store.specs.Finding.{HasFinds};
 ghost use Rattle.slotted_store.specs.Kept.{entries_of};
-ghost use Rattle.slotted_normal_forms.specs.NormalNodes.{HasFindableChildren};
+ghost use Rattle.slotted_filing.specs.NormalNodes.{HasFindableChildren};
 ghost use Rattle.slotted_proofs.specs.Equations.{to_applied};
 ghost use Rattle.slotted_rebuilding.specs.Filed.{IsWellFiled};
 ghost use Rattle.slotted_adding.specs.LookUp.{HasNamesFor, IsNormalShape, found_named, looked_up};
 
 use crate::finding::found_with;
 use slotted_filing::Hashcons;
+use slotted_filing::normal::{is_found, normal_of};
 use slotted_languages::Language;
-use slotted_normal_forms::normal::{is_found, normal_of};
 use slotted_slots::{AppliedId, Error, SlotMap};
 use slotted_store::Store;
 use slotted_store::names::map_between;

@@ -27,9 +27,9 @@ use Rattle.slotted_store.proofs.KeptLists.{length-nodes_of}
 use Rattle.slotted_filing.specs.Filed.{Filing, filed_of}
 use Rattle.slotted_filing.specs.FiledRows.{Rows, row_of_entry, rows_in}
 use Rattle.slotted_filing.proofs.FiledRows.{row-filed}
-use Rattle.slotted_normal_forms.specs.FoundNodes.{HasNoMorePlaces}
-use Rattle.slotted_normal_forms.proofs.CanonicalChildren.{node-is}
-use Rattle.slotted_normal_forms.proofs.KeyedNodes.{same-places}
+use Rattle.slotted_filing.specs.FoundNodes.{HasNoMorePlaces}
+use Rattle.slotted_filing.proofs.CanonicalChildren.{node-is}
+use Rattle.slotted_filing.proofs.KeyedNodes.{same-places}
 use Rattle.slotted_unions.specs.Stored.{Stored, Grows}
 use Rattle.slotted_unions.proofs.GrownRows.{grown-count, grown-rows}
 use Rattle.slotted_rebuilding.specs.Causes.{HasLargeClass}

@@ -21,7 +21,7 @@ use Rattle.slotted_store.specs.Finding.{IsFindable}
 use Rattle.slotted_store.specs.Kept.{Kept, entries_of, nodes_of}
 use Rattle.slotted_store.proofs.KeptLists.{length-nodes_of}
 use Rattle.slotted_filing.specs.FiledRows.{Rows, rows_in}
-use Rattle.slotted_normal_forms.specs.NormalNodes.{HasFindableChildren}
+use Rattle.slotted_filing.specs.NormalNodes.{HasFindableChildren}
 use Rattle.slotted_rebuilding.specs.Filed.{IsWellFiled, state_in}
 use Rattle.slotted_core.specs.Good.{Good, RestsWith, image_of}
 use Rattle.slotted_core.specs.Graph.{Graph}

@@ -2,7 +2,7 @@
 ghost use Rattle.std.specs.Prelude.{IfErr, IfOk, IsErrOf};
 ghost use Rattle.slotted_slots.specs.Error.{IsShortage};
 ghost use Rattle.slotted_slots.specs.Table.{KnowsMore};
-ghost use Rattle.slotted_normal_forms.specs.NormalNodes.{HasFindableChildren};
+ghost use Rattle.slotted_filing.specs.NormalNodes.{HasFindableChildren};
 ghost use Rattle.slotted_proofs.specs.Equations.{to_applied};
 ghost use Rattle.slotted_terms.specs.Valid.{AllKnown, IsValidTerm};
 ghost use Rattle.slotted_store.specs.Kept.{nodes_of};

@@ -2,3 +2,12 @@ pub mod Alike
 pub mod TermCosts
 pub mod Lawful
 pub mod Within
+pub mod Tables
+pub mod Counting
+pub mod UserLists
+pub mod Rows
+pub mod Telling
+pub mod Entering
+pub mod Starting
+pub mod Turns
+pub mod Finished

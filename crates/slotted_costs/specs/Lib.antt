@@ -4,3 +4,8 @@ pub mod Laws
 pub mod Size
 pub mod SizeLaws
 pub mod Weights
+pub mod Entries
+pub mod Prices
+pub mod Counts
+pub mod Making
+pub mod Least

@@ -13,8 +13,8 @@ use Rattle.slotted_model.proofs.Tables.{cost-here, cost-later, costs-each, entry
 use Rattle.slotted_filing.specs.FiledRows.{key_children}
 use Rattle.slotted_filing.proofs.FiledRows.{row-children}
 use Rattle.slotted_filing.proofs.Places.{at-take}
-use Rattle.slotted_cost_tables.specs.Entries.{classes_in, entry_of, table_after, table_of}
-use Rattle.slotted_cost_tables.specs.declared.entry.CostEntry.{CostEntry}
+use Rattle.slotted_costs.specs.Entries.{classes_in, entry_of, table_after, table_of}
+use Rattle.slotted_costs.specs.declared.entry.CostEntry.{CostEntry}
 use Rattle.slotted_extraction.specs.Placing.{ClassesDiffer}
 
 within-take : {X : Type 0} (n : ℕ) (xs : List X) (j : ℕ) (x : X) → slice_get (take n xs) j ≡ Some x → (j < n) × (slice_get xs j ≡ Some x)

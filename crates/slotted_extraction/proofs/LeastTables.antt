@@ -17,10 +17,10 @@ use Rattle.slotted_filing.specs.Filed.{filed_of}
 use Rattle.slotted_filing.specs.FiledRows.{Rows, key_children, row_of_entry}
 use Rattle.slotted_filing.proofs.Indexed.{place-within}
 use Rattle.slotted_rebuilding.specs.Filed.{IsWellFiled, state_in}
-use Rattle.slotted_cost_tables.specs.Entries.{IsFiledAs, table_of}
-use Rattle.slotted_cost_tables.specs.Least.{IsLeastTable}
-use Rattle.slotted_cost_tables.specs.declared.entry.CostEntry.{CostEntry}
-use Rattle.slotted_cost_tables.proofs.Tables.{cost-of_entry, entry-after, entry-none}
+use Rattle.slotted_costs.specs.Entries.{IsFiledAs, table_of}
+use Rattle.slotted_costs.specs.Least.{IsLeastTable}
+use Rattle.slotted_costs.specs.declared.entry.CostEntry.{CostEntry}
+use Rattle.slotted_costs.proofs.Tables.{cost-of_entry, entry-after, entry-none}
 use Rattle.slotted_reports.proofs.FiledNodes.{key-known}
 use Rattle.slotted_extraction.specs.declared.entry.TermEntry.{TermEntry}
 use Rattle.slotted_extraction.specs.Least.{AreLeast, IsEntryOf}

@@ -43,11 +43,11 @@ use Rattle.slotted_filing.specs.Filed.{HasKey}
 use Rattle.slotted_filing.specs.FiledRows.{Rows, row_of_entry}
 use Rattle.slotted_filing.proofs.FiledRows.{row-filed}
 use Rattle.slotted_unions.proofs.EnteredProofs.{stored-finds}
-use Rattle.slotted_normal_forms.proofs.FoundChildren.{each-child, valid-back}
+use Rattle.slotted_filing.proofs.FoundChildren.{each-child, valid-back}
 use Rattle.slotted_rebuilding.specs.Filed.{IsWellFiled, state_in}
 use Rattle.slotted_adding.specs.Enodes.{IsLookedUpAs, IsMet, names_beside_of}
 use Rattle.slotted_adding.proofs.EnodeNames.{beside-key, beside-looked_up}
-use Rattle.slotted_normal_forms.proofs.FoundIds.{found-itself}
+use Rattle.slotted_filing.proofs.FoundIds.{found-itself}
 use Rattle.slotted_reports.proofs.FiledNodes.{same-key}
 use Rattle.slotted_extraction.specs.declared.entry.TermEntry.{TermEntry}
 use Rattle.slotted_extraction.specs.Least.{AreLeast, IsEntryOf}

@@ -7,7 +7,7 @@ use Rattle.std.proofs.lemmas.Option.{get_or_from_slice_get, slice_get_within, un
 use Rattle.slotted_model.proofs.Options.{None-Some, Some-same}
 use Rattle.slotted_store.specs.Kept.{Kept}
 use Rattle.slotted_filing.proofs.Places.{at-append_end, at-set_other, at-set_same, at-take}
-use Rattle.slotted_cost_tables.specs.declared.entry.CostEntry.{CostEntry}
+use Rattle.slotted_costs.specs.declared.entry.CostEntry.{CostEntry}
 use Rattle.slotted_extraction.specs.declared.entry.TermEntry.{TermEntry}
 use Rattle.slotted_extraction.specs.Terms.{entry_at}
 use Rattle.slotted_extraction.specs.Placing.{ArePlaced, ClassesDiffer, HasPlace, IsPlaced, IsTermFor, IsWithin}

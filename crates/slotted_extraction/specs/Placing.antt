@@ -7,7 +7,7 @@ use Rattle.std.specs.Prelude.{◌≡◌, ◌<◌, ◌≤◌, ℕ, List, Option, 
 use Rattle.slotted_model.specs.Correspondence.{same_names}
 use Rattle.slotted_model.specs.Find.{find_map}
 use Rattle.slotted_store.specs.Kept.{Kept, entries_of}
-use Rattle.slotted_cost_tables.specs.declared.entry.CostEntry.{CostEntry}
+use Rattle.slotted_costs.specs.declared.entry.CostEntry.{CostEntry}
 use Rattle.slotted_extraction.specs.declared.entry.TermEntry.{TermEntry}
 use Rattle.slotted_extraction.specs.Terms.{entry_at}
 

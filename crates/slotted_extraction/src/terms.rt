@@ -10,8 +10,7 @@ ghost use Rattle.slotted_extraction.specs.Placing.{ArePlaced, ClassesDiffer, IsT
 
 use crate::entry::TermEntry;
 use slotted_adding::finding::found_class;
-use slotted_cost_tables::{CostEntry, make_table};
-use slotted_costs::CostFunction;
+use slotted_costs::{CostEntry, CostFunction, make_table};
 use slotted_filing::Hashcons;
 use slotted_languages::Language;
 use slotted_slots::Error;

@@ -5,3 +5,13 @@ pub mod KeyedRows
 pub mod FiledRows
 pub mod KeyChildren
 pub mod Together
+pub mod ReplacedChildren
+pub mod FoundChildren
+pub mod FoundIds
+pub mod NumbersInShapes
+pub mod ShapesOfNodes
+pub mod KeyedNodes
+pub mod CanonicalChildren
+pub mod OwnIds
+pub mod NumberPartners
+pub mod CoveredNodes

@@ -17,8 +17,8 @@ use Rattle.slotted_store.proofs.KeptLists.{length-nodes_of}
 use Rattle.slotted_filing.specs.Filed.{Filing, HasKey, HasKeysOnce, IsNewKey, IsNewToOthers, filed_of}
 use Rattle.slotted_filing.specs.FiledRows.{HasChildrenBelow, Rows, TakesTurn, rows_in, row_of_entry, key_children}
 use Rattle.slotted_filing.proofs.FiledRows.{child_classes-shape, filed-row, row-filed, source-filed}
-use Rattle.slotted_normal_forms.specs.FoundNodes.{IsFoundNode, finds_of}
-use Rattle.slotted_normal_forms.specs.Sides.{HaveOneShape}
+use Rattle.slotted_filing.specs.FoundNodes.{IsFoundNode, finds_of}
+use Rattle.slotted_filing.specs.Sides.{HaveOneShape}
 use Rattle.slotted_unions.proofs.KeptSlots.{grows-then}
 use Rattle.slotted_rebuilding.specs.Filed.{state_in, IsKeyed, IsWellFiled}
 use Rattle.slotted_rebuilding.specs.Turns.{NarrowsTo, SharesKey, TakesTurns}

@@ -12,7 +12,7 @@ use Rattle.slotted_filing.proofs.Places.{at-append_left}
 use Rattle.slotted_filing.specs.FiledRows.{Rows, WaitsOn, rows_in, rows_state}
 use Rattle.slotted_languages.specs.Shape.{Fits}
 use Rattle.slotted_nodes.specs.Form.{Form}
-use Rattle.slotted_normal_forms.specs.FoundNodes.{HasNoMorePlaces}
+use Rattle.slotted_filing.specs.FoundNodes.{HasNoMorePlaces}
 use Rattle.slotted_unions.specs.StateOf.{state_with}
 use Rattle.slotted_unions.specs.Stored.{Grows}
 use Rattle.slotted_unions.proofs.GrownRows.{grown-rows, grown-count}

@@ -21,11 +21,11 @@ use Rattle.slotted_filing.specs.FiledRows.{IsFiled, Rows, row_of_entry, rows_in}
 use Rattle.slotted_filing.proofs.FiledRows.{row-filed, source-filed}
 use Rattle.slotted_unions.proofs.KeptSlots.{grows-then}
 use Rattle.slotted_unions.proofs.EnteredProofs.{only-grows, nothing-proved}
-use Rattle.slotted_normal_forms.specs.FoundNodes.{FilesNode, HasNoMorePlaces, IsFoundNode, finds_of}
-use Rattle.slotted_normal_forms.specs.NormalNodes.{HasFindableChildren}
-use Rattle.slotted_normal_forms.specs.Sides.{AreTwinSides}
-use Rattle.slotted_normal_forms.proofs.CanonicalChildren.{node-is, sane-findable}
-use Rattle.slotted_normal_forms.proofs.KeyedNodes.{no-more-places}
+use Rattle.slotted_filing.specs.FoundNodes.{FilesNode, HasNoMorePlaces, IsFoundNode, finds_of}
+use Rattle.slotted_filing.specs.NormalNodes.{HasFindableChildren}
+use Rattle.slotted_filing.specs.Sides.{AreTwinSides}
+use Rattle.slotted_filing.proofs.CanonicalChildren.{node-is, sane-findable}
+use Rattle.slotted_filing.proofs.KeyedNodes.{no-more-places}
 use Rattle.slotted_congruence.specs.Congruence.{AreTwins, ProvesTwins}
 use Rattle.slotted_congruence.proofs.WideNodes.{wide_class}
 use Rattle.slotted_rebuilding.specs.Causes.{HasLargeClass}

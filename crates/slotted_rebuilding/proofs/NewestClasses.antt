@@ -22,7 +22,7 @@ use Rattle.slotted_filing.specs.Filed.{Filing, IsNewKey, filed_of}
 use Rattle.slotted_filing.specs.FiledRows.{IsFiled, QueuesUp, Rows, row_of_entry, rows_in, with_class, with_filed}
 use Rattle.slotted_filing.proofs.FiledRows.{row-filed, rows-added, rows-added_filed, source-filed}
 use Rattle.slotted_filing.proofs.Indexed.{place-added}
-use Rattle.slotted_normal_forms.specs.FoundNodes.{HasNoMorePlaces, IsFoundNode, finds_of}
+use Rattle.slotted_filing.specs.FoundNodes.{HasNoMorePlaces, IsFoundNode, finds_of}
 use Rattle.slotted_unions.specs.Proving.{OnlyProves}
 use Rattle.slotted_unions.specs.StateOf.{state_with}
 use Rattle.slotted_unions.proofs.EnteredProofs.{only-grows, only-state, nothing-proved}

@@ -32,11 +32,11 @@ use Rattle.slotted_model.proofs.Theory.{moved-agrees, moved-moved, free_names-mo
 use Rattle.slotted_proofs.proofs.Bridges.{ascends}
 use Rattle.slotted_store.specs.Kept.{Kept, nodes_of, entries_of}
 use Rattle.slotted_store.proofs.NamePairs.{In-firsts}
-use Rattle.slotted_normal_forms.specs.FoundNodes.{FilesNode, finds_of, IsFoundNode}
-use Rattle.slotted_normal_forms.specs.NormalNodes.{HasFindableChildren}
+use Rattle.slotted_filing.specs.FoundNodes.{FilesNode, finds_of, IsFoundNode}
+use Rattle.slotted_filing.specs.NormalNodes.{HasFindableChildren}
 use Rattle.slotted_filing.specs.FiledRows.{row_of_entry}
-use Rattle.slotted_normal_forms.proofs.KeyedNodes.{own-numbers}
-use Rattle.slotted_normal_forms.proofs.NumbersInShapes.{names-shape}
+use Rattle.slotted_filing.proofs.KeyedNodes.{own-numbers}
+use Rattle.slotted_filing.proofs.NumbersInShapes.{names-shape}
 use Rattle.slotted_rebuilding.proofs.CurrentRows.{row-itself}
 
 -- a map with other numbers for its keys

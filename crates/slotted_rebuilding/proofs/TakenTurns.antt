@@ -11,7 +11,7 @@ use Rattle.slotted_model.specs.Correspondence.{AllDifferent}
 use Rattle.slotted_model.specs.Rebuild.{IsCongruence, IsCovered, Turn, refiled_state, removed_state, row_for, with_row, without, without_row, starts, takes_turn, refiles, unites_parents}
 use Rattle.slotted_model.specs.Rest.{Sane}
 use Rattle.slotted_model.specs.State.{Row, State, normal_node}
-use Rattle.slotted_normal_forms.specs.FoundNodes.{HasNoMorePlaces, finds_of}
+use Rattle.slotted_filing.specs.FoundNodes.{HasNoMorePlaces, finds_of}
 use Rattle.slotted_model.proofs.Options.{Some-same}
 use Rattle.slotted_store.specs.Kept.{Kept}
 use Rattle.slotted_filing.specs.Filed.{Filing, filed_of}

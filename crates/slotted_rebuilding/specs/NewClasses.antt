@@ -13,7 +13,7 @@ use Rattle.slotted_languages.specs.Shape.{Fits}
 use Rattle.slotted_store.specs.Kept.{Kept, node_at, rows_from}
 use Rattle.slotted_filing.specs.Filed.{Filing, filed_of}
 use Rattle.slotted_filing.specs.FiledRows.{Rows, with_class}
-use Rattle.slotted_normal_forms.specs.FoundNodes.{HasNoMorePlaces}
+use Rattle.slotted_filing.specs.FoundNodes.{HasNoMorePlaces}
 use Rattle.slotted_unions.specs.Stored.{Stored, Grows}
 use Rattle.slotted_rebuilding.specs.Filed.{state_in, IsKeyed, IsWellFiled}
 

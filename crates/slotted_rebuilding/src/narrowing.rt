@@ -1,8 +1,8 @@
 //! A class whose node in normal form lacks one of its slots is united with itself, until it has each.
 ghost use Rattle.std.specs.Prelude.{◌≡◌, ◌<◌, length, IfOk, IfErr, IsErrOf, OnOk};
 ghost use Rattle.slotted_slots.specs.Error.{IsShortage};
-ghost use Rattle.slotted_normal_forms.specs.FoundNodes.{HasFoundNode, IsFoundNode};
-ghost use Rattle.slotted_normal_forms.specs.Sides.{HaveOneShape};
+ghost use Rattle.slotted_filing.specs.FoundNodes.{HasFoundNode, IsFoundNode};
+ghost use Rattle.slotted_filing.specs.Sides.{HaveOneShape};
 ghost use Rattle.slotted_store.specs.Kept.{rows_from};
 ghost use Rattle.slotted_unions.specs.Stored.{Stored};
 ghost use Rattle.slotted_rebuilding.specs.Causes.{HasLargeClass};
@@ -11,12 +11,11 @@ ghost use Rattle.slotted_rebuilding.specs.Turns.{IsFirst, LacksSlot, NarrowsOnce
 
 use crate::uniting::unite;
 use slotted_congruence::twins::congruence;
-use slotted_filing::Hashcons;
+use slotted_filing::covered::is_covered;
+use slotted_filing::found::refound_node;
+use slotted_filing::sides::sides;
+use slotted_filing::{FoundNode, Hashcons};
 use slotted_languages::Language;
-use slotted_normal_forms::FoundNode;
-use slotted_normal_forms::covered::is_covered;
-use slotted_normal_forms::found::refound_node;
-use slotted_normal_forms::sides::sides;
 use slotted_proofs::ProvenEq;
 use slotted_slots::{Error, SlotMap};
 use slotted_store::Store;

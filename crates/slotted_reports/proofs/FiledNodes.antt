@@ -36,8 +36,8 @@ use Rattle.slotted_store.proofs.NameMaps.{In-at, at_In}
 use Rattle.slotted_store.proofs.PutNames.{AreNumeric, numeric-shape}
 use Rattle.slotted_filing.specs.Filed.{HasKey, filed_of}
 use Rattle.slotted_filing.specs.FiledRows.{Rows}
-use Rattle.slotted_normal_forms.specs.FoundNodes.{IsFoundNode}
-use Rattle.slotted_normal_forms.proofs.FoundChildren.{child_ids-valid, each-child, valid-back}
+use Rattle.slotted_filing.specs.FoundNodes.{IsFoundNode}
+use Rattle.slotted_filing.proofs.FoundChildren.{child_ids-valid, each-child, valid-back}
 use Rattle.slotted_rebuilding.specs.Filed.{IsKeyed, IsWellFiled, state_in}
 use Rattle.slotted_adding.specs.Enodes.{AllKnownTo}
 use Rattle.slotted_reports.specs.Nodes.{key_of}

@@ -12,7 +12,7 @@ use Rattle.slotted_store.specs.Kept.{Kept, nodes_of, names_at, rows_from}
 use Rattle.slotted_store.specs.Names.{between}
 use Rattle.slotted_store.proofs.ChildIds.{zip-keys_values}
 use Rattle.slotted_store.proofs.KeptLists.{length-nodes_of}
-use Rattle.slotted_normal_forms.proofs.OwnIds.{has-row, own-map}
+use Rattle.slotted_filing.proofs.OwnIds.{has-row, own-map}
 use Rattle.slotted_adding.specs.Filling.{FillsId, MakesAtMost, RunsOut, filled_id, lacked, missing, named, with_fresh}
 use Rattle.slotted_adding.proofs.FilledIds.{Knows, all_known, filled-fills, filled-known, filled-whole, knows}
 use Rattle.slotted_adding.proofs.filling.fill_id.Goals as goal

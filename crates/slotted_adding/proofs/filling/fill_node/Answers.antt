@@ -9,7 +9,7 @@ use Rattle.slotted_store.specs.ChildIds.{child_ids}
 use Rattle.slotted_store.specs.Finding.{IsFindable}
 use Rattle.slotted_store.specs.Kept.{Kept, nodes_of, entries_of}
 use Rattle.slotted_store.proofs.ChildIds.{child_is, length-ids}
-use Rattle.slotted_normal_forms.proofs.FoundChildren.{Each-at, child_ids-valid}
+use Rattle.slotted_filing.proofs.FoundChildren.{Each-at, child_ids-valid}
 use Rattle.slotted_adding.specs.Filling.{FillsChildren, HasOneNormalForm, IsBeside, KeepsKnown, MakesFull, filled_id, filled_ids, missing, missing_in, missing_of, node_over, tree_over, with_fresh}
 use Rattle.slotted_adding.proofs.FilledIds.{with_fresh-more}
 use Rattle.slotted_adding.proofs.FilledChildren.{filled-more, length-filled, makes-after, missing-more, missing-within, node-fills, node-full, node-known, node-normal, node-whole, runs_out-after}

@@ -7,7 +7,7 @@ use Rattle.slotted_store.specs.ChildIds.{child_ids}
 use Rattle.slotted_store.specs.Finding.{IsFindable}
 use Rattle.slotted_store.specs.Kept.{entries_of, nodes_of}
 use Rattle.slotted_store.proofs.ChildIds.{child_is, child_next, length-ids}
-use Rattle.slotted_normal_forms.proofs.FoundChildren.{Each-at, child_ids-valid}
+use Rattle.slotted_filing.proofs.FoundChildren.{Each-at, child_ids-valid}
 use Rattle.slotted_adding.proofs.FoundAsTheyAre.{normal-found}
 use Rattle.slotted_adding.proofs.lookup.is_normal.Goals as goal
 

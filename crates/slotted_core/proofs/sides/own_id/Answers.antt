@@ -1,5 +1,5 @@
 use Rattle.std.proofs.Common.{◌∙◌, arith}
-use Rattle.slotted_normal_forms.proofs.OwnIds.{own-map}
+use Rattle.slotted_filing.proofs.OwnIds.{own-map}
 use Rattle.slotted_core.proofs.FullIds.{length-classes, length-rows}
 use Rattle.slotted_core.proofs.sides.own_id.Goals as goal
 

@@ -2,8 +2,8 @@
 use Rattle.std.proofs.Common.{sym, subst}
 use Rattle.std.specs.Prelude.{All}
 use Rattle.slotted_costs.specs.Costs.{costs_by}
-use Rattle.slotted_cost_tables.specs.Entries.{IsFiledAs, table_of}
-use Rattle.slotted_cost_tables.specs.Least.{IsLeastTable}
+use Rattle.slotted_costs.specs.Entries.{IsFiledAs, table_of}
+use Rattle.slotted_costs.specs.Least.{IsLeastTable}
 use Rattle.slotted_model.specs.Extraction.{Fits}
 use Rattle.slotted_rebuilding.specs.Filed.{state_in}
 use Rattle.slotted_core.proofs.Resting.{at-rest}

@@ -1,9 +1,0 @@
-pub mod Tables
-pub mod Counting
-pub mod UserLists
-pub mod Rows
-pub mod Telling
-pub mod Entering
-pub mod Starting
-pub mod Turns
-pub mod Finished

@@ -1,6 +1,0 @@
--- One row after another.
-use Rattle.slotted_cost_tables.proofs.UserLists.{UsersBefore}
-use Rattle.slotted_cost_tables.proofs.users.users_of.Given as goal
-
-abbrev pub invariant-loop-source : goal.invariant-loop-source
-invariant-loop-source g l = UsersBefore l.nodes.filed l.source l.users

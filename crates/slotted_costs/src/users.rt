@@ -1,0 +1,102 @@
+// Which rows stand over a class, and how many children a row has.
+ghost use Rattle.std.specs.Prelude.{◌≡◌, ◌∷◌, ℕ, List, [], length, map, IfOk, IfErr, OnOk, slice_index_or};
+ghost use Rattle.slotted_slots.specs.Error.{IsOutOfMemory};
+ghost use Rattle.slotted_filing.specs.Filed.{filed_of};
+ghost use Rattle.slotted_costs.specs.Prices.{children_of};
+ghost use Rattle.slotted_costs.specs.Counts.{AreCounts, AreKeysOf, AreUsers, IsKeyOf, UsesMore};
+
+use slotted_filing::{Hashcons, Usages};
+use slotted_languages::Language;
+use slotted_slots::{Error, Id};
+use std::alloc::Global;
+
+// This many classes, which no row is over.
+fn no_users(alloc: Global, classes: usize) -> Result<Usages, Error>
+    ensures lists { IfOk result (λ u. length u ≡ classes) }
+    ensures none { IfOk result (λ u. (c : ℕ) → slice_index_or u c [] ≡ []) }
+    ensures err { IfErr result IsOutOfMemory }
+{
+    let mut users = Usages::new(alloc);
+    for k in 0..classes {
+        users.add_class(alloc)?;
+    }
+    Ok(users)
+}
+
+// A source stands over a class, if there is such a class.
+fn add_known(users: &mut Usages, classes: usize, class: usize, source: usize) -> Result<(), Error>
+    requires { classes ≡ length users.old }
+    ensures ok { OnOk result (UsesMore (class ∷ []) source users.old users.new) }
+    ensures err { IfErr result IsOutOfMemory }
+{
+    if class >= classes {
+        return Ok(());
+    }
+    users.add(class, source)
+}
+
+// A source stands over each of these classes.
+fn add_to_each(users: &mut Usages, classes: usize, ids: &[Id], source: usize) -> Result<(), Error>
+    requires { classes ≡ length users.old }
+    ensures ok { OnOk result (UsesMore (map (λ i. i.0) ids.now) source users.old users.new) }
+    ensures err { IfErr result IsOutOfMemory }
+{
+    for id in ids {
+        add_known(users, classes, id.0, source)?;
+    }
+    Ok(())
+}
+
+// The filed node of a source stands over the class of each child.
+fn add_row<L: Language>(
+    nodes: &Hashcons<L>,
+    alloc: Global,
+    source: usize,
+    users: &mut Usages,
+) -> Result<(), Error>
+    requires { length users.old ≡ length nodes.now.filed }
+    ensures ok { OnOk result (UsesMore (children_of nodes.now.filed source) source users.old users.new) }
+    ensures err { IfErr result IsOutOfMemory }
+{
+    let Some((node, _)) = nodes.node(source) else {
+        return add_to_each(users, nodes.class_count(), &[], source);
+    };
+    let ids = node.ids(alloc)?;
+    add_to_each(users, nodes.class_count(), &ids, source)
+}
+
+// For each class the sources of the rows over it, each as often as the class is a child.
+pub fn users_of<L: Language>(nodes: &Hashcons<L>, alloc: Global) -> Result<Usages, Error>
+    ensures ok { IfOk result (λ u. AreUsers nodes.now.filed u) }
+    ensures err { IfErr result IsOutOfMemory }
+{
+    let mut users = no_users(alloc, nodes.class_count())?;
+    for source in 0..nodes.class_count() {
+        add_row(nodes, alloc, source, &mut users)?;
+    }
+    Ok(users)
+}
+
+// How many children the filed node of a source has.
+fn child_count<L: Language>(nodes: &Hashcons<L>, source: usize) -> usize
+    ensures count { result ≡ length (children_of nodes.now.filed source) }
+    ensures key { IsKeyOf L.form (filed_of nodes.now.filed source) }
+{
+    match nodes.node(source) {
+        Some((node, _)) => node.applied_id_count(),
+        None => 0,
+    }
+}
+
+// How many children each row has. Its keys are nodes of the language.
+pub fn child_counts<L: Language>(nodes: &Hashcons<L>, alloc: Global) -> Result<Vec<usize>, Error>
+    ensures ok { IfOk result (λ n. AreCounts nodes.now.filed n.items) }
+    ensures keys { OnOk result (AreKeysOf L.form nodes.now.filed) }
+    ensures err { IfErr result IsOutOfMemory }
+{
+    let mut counts = Vec::new(alloc);
+    for source in 0..nodes.class_count() {
+        counts.push(child_count(nodes, source))?;
+    }
+    Ok(counts)
+}

@@ -1,0 +1,220 @@
+//! What is asked of an extractor by words, and the walk over the rows of a table, each of which is `ASK: TERM => ANSWER`.
+use slotted_costs::CostFunction;
+use slotted_explain::EGraph;
+use slotted_extract::{Extractor, ast_size_extract, extract};
+use slotted_languages::Language;
+use slotted_rows::graphs::{parted, put};
+use slotted_slots::{AppliedId, Error, SlotTable};
+use slotted_terms::expr::RecExpr;
+use slotted_terms::expr::printing::Printable;
+use std::alloc::Global;
+use std::process::Abort;
+
+// Unites two ids, if they can be asked.
+fn unite<L: Language>(graph: &mut EGraph<L>, l: &AppliedId, r: &AppliedId) -> Result<bool, Error> {
+    if graph.is_valid(l) && graph.is_valid(r) {
+        graph.union(l, r)
+    } else {
+        Err(Error::NotATerm)
+    }
+}
+
+// Puts both terms of each line, and unites them. The term of a line that has one is put alone.
+fn unite_lines<L: Language>(graph: &mut EGraph<L>, lines: &str) -> Result<(), Error> {
+    for line in lines.lines() {
+        let (left, right) = line.split_once(" == ").unwrap_or((line, line));
+        let l = put(graph, left)?;
+        let r = put(graph, right)?;
+        unite(graph, &l, &r)?;
+    }
+    Ok(())
+}
+
+// What an id finds, if it can be asked.
+fn found<L: Language>(graph: &EGraph<L>, id: &AppliedId) -> Result<AppliedId, Error> {
+    if graph.is_valid(id) {
+        graph.find_applied_id(id)
+    } else {
+        Err(Error::NotATerm)
+    }
+}
+
+// The term that is given out for an id by a word, if the id can be asked.
+fn given<L: Language, F: CostFunction<L> + Default>(
+    alloc: Global,
+    graph: &mut EGraph<L>,
+    extractor: &Extractor<L, F>,
+    word: &str,
+    id: &AppliedId,
+) -> Result<RecExpr<L>, Error> {
+    if !graph.is_valid(id) {
+        return Err(Error::NotATerm);
+    }
+    match word {
+        "by default" => extract::<L, (), F>(alloc, id, graph),
+        "by size" => ast_size_extract(alloc, id, graph),
+        _ => extractor.extract(id, graph),
+    }
+}
+
+// The text with `$fk` for the fresh slot that stands first.
+fn with_fresh(alloc: Global, text: &str) -> Result<String, Error> {
+    let (_, behind) = parted(text, "$f");
+    let (name, _) = parted(behind, ")");
+    let (name, _) = parted(name, " ");
+    let slot = format!(in alloc; "$f{name}")?;
+    Ok(text.replace(alloc, slot.as_str(), "$fk")?)
+}
+
+// The term that is given out, as it prints, with `$fk` for its first fresh slot.
+fn given_text<L: Printable, F: CostFunction<L> + Default>(
+    alloc: Global,
+    graph: &mut EGraph<L>,
+    extractor: &Extractor<L, F>,
+    word: &str,
+    id: &AppliedId,
+) -> Result<String, Error> {
+    let term = given(alloc, graph, extractor, word, id)?;
+    let text = term.text(alloc, graph.table())?;
+    with_fresh(alloc, text.as_str())
+}
+
+// What a term costs, if it is one.
+fn term_cost<L: Language, F: CostFunction<L>>(
+    alloc: Global,
+    graph: &EGraph<L>,
+    costs: &F,
+    term: &RecExpr<L>,
+) -> Result<F::Cost, Error> {
+    if graph.is_valid_expr(term) {
+        costs.cost_rec(alloc, term)
+    } else {
+        Err(Error::NotATerm)
+    }
+}
+
+// What the term costs that is given out.
+fn given_cost<L: Language, F: CostFunction<L> + Default>(
+    alloc: Global,
+    graph: &mut EGraph<L>,
+    extractor: &Extractor<L, F>,
+    id: &AppliedId,
+) -> Result<F::Cost, Error> {
+    let term = given(alloc, graph, extractor, "least", id)?;
+    term_cost(alloc, graph, &extractor.costs, &term)
+}
+
+// What the term costs that a text writes.
+fn written_cost<L: Language, F: CostFunction<L>>(
+    alloc: Global,
+    graph: &mut EGraph<L>,
+    costs: &F,
+    text: &str,
+) -> Result<F::Cost, Error> {
+    let term = graph.parse_expr(text)?;
+    term_cost(alloc, graph, costs, &term)
+}
+
+// The cost that is asked of a text's term by a word.
+fn cost<L: Language, F: CostFunction<L> + Default>(
+    alloc: Global,
+    graph: &mut EGraph<L>,
+    extractor: &Extractor<L, F>,
+    word: &str,
+    text: &str,
+) -> Result<F::Cost, Error> {
+    let id = put(graph, text)?;
+    match word {
+        "own cost" => extractor.get_best_cost(&id),
+        "found cost" => extractor.get_best_cost(&found(graph, &id)?),
+        "given cost" => given_cost(alloc, graph, extractor, &id),
+        _ => written_cost(alloc, graph, &extractor.costs, text),
+    }
+}
+
+// A cost in digits.
+fn cost_text<L: Language, F: CostFunction<L, Cost = u64> + Default>(
+    alloc: Global,
+    graph: &mut EGraph<L>,
+    extractor: &Extractor<L, F>,
+    word: &str,
+    text: &str,
+) -> Result<String, Error> {
+    let cost = cost(alloc, graph, extractor, word, text)?;
+    Ok(format!(in alloc; "{cost}")?)
+}
+
+// The term of a text as it is given out.
+fn term_text<L: Printable, F: CostFunction<L> + Default>(
+    alloc: Global,
+    graph: &mut EGraph<L>,
+    extractor: &Extractor<L, F>,
+    word: &str,
+    text: &str,
+) -> Result<String, Error> {
+    let id = put(graph, text)?;
+    given_text(alloc, graph, extractor, word, &id)
+}
+
+// What is answered, or the number of the refusal behind a sign.
+fn answer<L: Printable, F: CostFunction<L, Cost = u64> + Default>(
+    alloc: Global,
+    graph: &mut EGraph<L>,
+    extractor: &Extractor<L, F>,
+    word: &str,
+    text: &str,
+) -> Result<String, Error> {
+    let answered = if word.ends_with("cost") {
+        cost_text(alloc, graph, extractor, word, text)
+    } else {
+        term_text(alloc, graph, extractor, word, text)
+    };
+    match answered {
+        Ok(text) => Ok(text),
+        Err(e) => {
+            let number = e.number();
+            Ok(format!(in alloc; "refused {number}")?)
+        }
+    }
+}
+
+// Asks the rows of an extractor.
+fn check_rows<L: Printable, F: CostFunction<L, Cost = u64> + Default>(
+    rt: &impl Abort,
+    alloc: Global,
+    graph: &mut EGraph<L>,
+    extractor: &Extractor<L, F>,
+    rows: &str,
+) -> Result<(), Error> {
+    for row in rows.lines() {
+        let (ask, wanted) = parted(row, " => ");
+        let (word, text) = parted(ask, ": ");
+        let told = answer(alloc, graph, extractor, word, text)?;
+        assert!(rt; told.as_str() == wanted, "{row}: {told}");
+    }
+    Ok(())
+}
+
+// Asks them after unions. The extractor is made before the terms of the rows are put.
+fn check_in<L: Printable, F: CostFunction<L, Cost = u64> + Default>(
+    rt: &impl Abort,
+    alloc: Global,
+    graph: &mut EGraph<L>,
+    unions: &str,
+    rows: &str,
+) -> Result<(), Error> {
+    unite_lines(graph, unions)?;
+    let extractor: Extractor<L, F> = Extractor::new(alloc, graph, F::default())?;
+    check_rows(rt, alloc, graph, &extractor, rows)
+}
+
+/// Each row is answered in a new graph after the unions.
+pub fn check<L: Printable, F: CostFunction<L, Cost = u64> + Default>(
+    rt: &impl Abort,
+    alloc: Global,
+    unions: &str,
+    rows: &str,
+) -> Result<(), Error> {
+    let mut graph: EGraph<L> = EGraph::new(alloc, SlotTable::new(alloc), ())?;
+    check_in::<L, F>(rt, alloc, &mut graph, unions, rows)
+}

@@ -1,3 +1,0 @@
-pub mod FoundNodes
-pub mod NormalNodes
-pub mod Sides
