@@ -1,7 +1,11 @@
 -- Two full ids that find alike are joined by one transitive step over what their finds say.
 use Rattle.std.proofs.Common.{◌≡◌, ◌<◌, ◌≤◌, ◌+◌, ◌^◌, ℕ, List, length, sym, ◌∙◌, ap, refl, subst, inl, inr, arith}
+use Rattle.std.specs.Prelude.{Result, Ok, Err, IfErr, IsErrOf}
 use Rattle.std.proofs.lemmas.Bool.{cases_lt}
+use Rattle.slotted_slots.specs.declared.error.Error.{Error}
+use Rattle.slotted_slots.specs.declared.error.Error.TheVariants.{BadStep}
 use Rattle.slotted_slots.specs.declared.types.AppliedId.{AppliedId}
+use Rattle.slotted_slots.specs.Error.{IsShortage}
 use Rattle.slotted_slots.specs.Table.{numeric_slot}
 use Rattle.slotted_theory.specs.Nameless.{DTerm}
 use Rattle.slotted_theory.specs.FiniteMaps.{IsInjectiveMap}
@@ -19,7 +23,7 @@ use Rattle.slotted_proofs.specs.Equations.{Statement, to_applied, statement_of, 
 use Rattle.slotted_proofs.specs.Entries.{Proven, statement_at}
 use Rattle.slotted_proofs.specs.Proving.{IsCanonical, IsProved}
 use Rattle.slotted_proofs.specs.StepClaims.{IsOfFull}
-use Rattle.slotted_proofs.specs.Steps.{IsJoined, IsTransitiveStep, by_step}
+use Rattle.slotted_proofs.specs.Steps.{IsJoined, IsRefusal, IsTransitiveStep, by_step}
 use Rattle.slotted_proofs.proofs.Entering.{entry-over}
 use Rattle.slotted_proofs.proofs.Fitting.{transitive_fits}
 use Rattle.slotted_proofs.proofs.Stepping.{transitive_told}
@@ -67,6 +71,12 @@ sides_of c d = record {
   l = record { id = record { 0 = c.0 }; m = c.1 };
   r = record { id = record { 0 = d.0 }; m = d.1 };
 }
+
+-- a step that fits is refused for want of something alone
+pub no_bad_step : {A : Type 0} (r : Result A Error) → IfErr r IsRefusal → ¬ IsErrOf r BadStep → IfErr r IsShortage
+no_bad_step (Ok x) h fits = tt
+no_bad_step (Err x) (inl bad) fits = absurd (fits (ap Err bad))
+no_bad_step (Err x) (inr short) fits = short
 
 -- p stands for what the find of a says, and q for what that of b says turned round
 module _ (k : Kept) (stored : Stored k) (a b : Applied) (fa : IsFull (nodes_of k) a) (fb : IsFull (nodes_of k) b) (alike : FindAlike (entries_of k) a b) (m : Kept) (p q : ℕ)

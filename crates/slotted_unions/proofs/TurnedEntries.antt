@@ -28,7 +28,8 @@ use Rattle.slotted_unions.specs.StateOf.{state_of}
 use Rattle.slotted_unions.specs.Stored.{Stored}
 use Rattle.slotted_unions.specs.Uniting.{IsOfLive, PairsLeft, HasDropped, DropsLeft, DropsSide, HasLinked, LinksEither}
 use Rattle.slotted_unions.specs.Uniting.{equation_in}
-use Rattle.slotted_unions.proofs.EnteredProofs.{nothing-proved, stored-over, turned-only, stands-at, proves-stands, many-large}
+use Rattle.slotted_unions.proofs.EnteredProofs.{nothing-proved, stored-over, turned-only, stands-at, proves-stands, only-large, many-large}
+use Rattle.slotted_unions.proofs.LargeClasses.{large-among}
 
 -- different numbers that all stand in a list which is no longer are all of it
 
@@ -125,12 +126,20 @@ module _ (k : Kept) (stored : Stored k) (q : ℕ) (h : q < length k.proofs) (liv
     pub turned-stored : Stored m
     turned-stored = proves.only.stored
 
+    pub turned-within : t < length m.proofs
+    turned-within = proves.in_range
+
     pub turned-live : IsOfLive m (equation_in m t)
     turned-live = subst (IsOfLive m) (sym proves.equation) (still-live k m back proves.only back-live)
 
     pub turned-all : PairsAll (state_of k) e → PairsAll (state_of m) (equation_in m t)
     turned-all all = subst (PairsAll (state_of m)) (sym proves.equation)
         (still-pairs_all k m back proves.only (back-all all))
+
+    -- a class that is large then was so
+    pub turned-large : HasLargeSide m (equation_in m t) → HasLargeSide k e
+    turned-large large = large-among k e.right e.left e.left e.right (inr refl) (inl refl)
+        (only-large k m proves.only e.right e.left (subst (HasLargeSide m) proves.equation large))
 
     -- the right class drops slots
     pub turned-drops : PairsLeft k e → (l : Kept) (b : Bool) → b ≡ true → DropsLeft m l (equation_in m t) b → (c : ℕ) → c ≡ e.right → DropsSide k l e (Some c)
@@ -187,6 +196,9 @@ module _ (k : Kept) (stored : Stored k) (q : ℕ) (h : q < length k.proofs) (liv
     still-large many = many-large k stored q q h h (subst (λ (x : Kept). HasManySlots x q q)
         (none-dropped k l e b no drops).0 many)
 
+    pub still-within : q < length l.proofs
+    still-within = subst (λ (x : Kept). q < length x.proofs) (sym (none-dropped k l e b no drops).0) h
+
     -- nor does a slot of the right class lack a partner, if that has as many left
     pub as-many-keeps : length (find_at l e.left).pairs ≡ length (find_at l e.right).pairs → DropsSide k l e None
     as-many-keeps many =
@@ -230,8 +242,14 @@ module _ (k : Kept) (stored : Stored k) (q : ℕ) (h : q < length k.proofs) (liv
       pub after-stored : Stored m
       after-stored = turned-stored m t same
 
+      pub after-within : t < length m.proofs
+      after-within = turned-within m t same
+
       pub after-live : IsOfLive m (equation_in m t)
       after-live = turned-live m t same
+
+      pub after-large : HasLargeSide m (equation_in m t) → HasLargeSide k e
+      after-large = turned-large m t same
 
       pub after-drops : (n : Kept) (d : Bool) → d ≡ true → DropsLeft m n (equation_in m t) d → (c : ℕ) → c ≡ e.right → DropsSide k n e (Some c)
       after-drops = turned-drops m t same (none-dropped k l e b no drops).1

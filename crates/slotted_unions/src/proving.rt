@@ -1,6 +1,6 @@
 //! Proofs of what finds say, of what an entry says of the classes that its sides find, and of two ids that find alike.
 ghost use Rattle.std.specs.Prelude.{◌≡◌, ◌<◌, length, IsTrue, IfOk, IfErr, IsErrOf};
-ghost use Rattle.slotted_slots.specs.Error.{IsShortage};
+ghost use Rattle.slotted_slots.specs.Error.{IsOutOfMemory, IsShortage};
 ghost use Rattle.slotted_model.specs.Classes.{IsFull, canonical_slots};
 ghost use Rattle.slotted_proofs.specs.Equations.{to_applied};
 ghost use Rattle.slotted_store.specs.Finding.{FindAlike};
@@ -145,8 +145,19 @@ pub fn found_proof<L: Language>(
         return Ok(half);
     }
     let onward = find_proof(store, alloc, right)?;
-    let answer = store.chain(alloc, half, onward)?;
-    Ok(answer)
+    store.chain(alloc, half, onward)
+}
+
+// The equation of two ids.
+fn equation_between(alloc: Global, a: &AppliedId, b: &AppliedId) -> Result<Equation, Error>
+    ensures left { IfOk result (λ e. e.l ≡ a.now) }
+    ensures right { IfOk result (λ e. e.r ≡ b.now) }
+    ensures err { IfErr result IsOutOfMemory }
+{
+    Ok(Equation {
+        l: a.copy(alloc)?,
+        r: b.copy(alloc)?,
+    })
 }
 
 /// The proof that two full ids which find alike are equal: along the find of the one, and back along that of the other.
@@ -166,10 +177,6 @@ pub fn bridge<L: Language>(
 {
     let back = back_proof(store, alloc, b.id.0)?;
     let onward = find_proof(store, alloc, a.id.0)?;
-    let equation = Equation {
-        l: a.copy(alloc)?,
-        r: b.copy(alloc)?,
-    };
-    let answer = store.prove_transitive(alloc, &equation, onward, back)?;
-    Ok(answer)
+    let equation = equation_between(alloc, a, b)?;
+    store.prove_transitive(alloc, &equation, onward, back)
 }

@@ -1,10 +1,16 @@
 use Rattle.std.proofs.Common.{◌≡◌, ◌<◌, length, rules, subst, sym}
 use Rattle.slotted_store.specs.Kept.{Kept, find_at}
 use Rattle.slotted_unions.proofs.EnteredProofs.{entry-left, entry-right}
-use Rattle.slotted_unions.proofs.TurnedEntries.{still-large, after-stored, after-live, as-many-keeps, left-drops, after-drops, after-keeps, none-dropped}
+use Rattle.slotted_unions.proofs.TurnedEntries.{still-large, still-within, after-stored, after-within, after-live, after-large}
+use Rattle.slotted_unions.proofs.TurnedEntries.{as-many-keeps, left-drops, after-drops, after-keeps, none-dropped}
 use Rattle.slotted_unions.proofs.WrittenEntries.{left-in_range, right-in_range}
 use Rattle.slotted_unions.specs.Uniting.{equation_in}
 use Rattle.slotted_unions.proofs.uniting.drop_either.Goals as goal
+
+pub turn-requires : goal.turn-requires
+turn-requires g c =
+    still-within c.args.store.now c.requires.good c.args.q c.requires.within c.requires.live c.drop_left.new.store
+    c.in_ok-drop_left.field-0 c.if-branch.false c.in_ok-drop_left.ensures.ok
 
 pub returns-in_err-turned-clause-full : goal.returns-in_err-turned-clause-full
 returns-in_err-turned-clause-full g c h =
@@ -18,11 +24,24 @@ drop_left-requires-2-clause-good g c =
     c.in_ok-drop_left.field-0 c.if-branch.false c.in_ok-drop_left.ensures.ok
     c.turn.new.self c.in_ok-turned.turned c.in_ok-turned.ensures.ok
 
+pub drop_left-requires-2-clause-within : goal.drop_left-requires-2-clause-within
+drop_left-requires-2-clause-within g c =
+    after-within c.args.store.now c.requires.good c.args.q c.requires.within c.requires.live c.drop_left.new.store
+    c.in_ok-drop_left.field-0 c.if-branch.false c.in_ok-drop_left.ensures.ok
+    c.turn.new.self c.in_ok-turned.turned c.in_ok-turned.ensures.ok
+
 pub drop_left-requires-2-clause-live : goal.drop_left-requires-2-clause-live
 drop_left-requires-2-clause-live g c =
     after-live c.args.store.now c.requires.good c.args.q c.requires.within c.requires.live c.drop_left.new.store
     c.in_ok-drop_left.field-0 c.if-branch.false c.in_ok-drop_left.ensures.ok
     c.turn.new.self c.in_ok-turned.turned c.in_ok-turned.ensures.ok
+
+pub returns-in_err-drop_left-2-clause-full : goal.returns-in_err-drop_left-2-clause-full
+returns-in_err-drop_left-2-clause-full g c h =
+    after-large c.args.store.now c.requires.good c.args.q c.requires.within c.requires.live c.drop_left.new.store
+    c.in_ok-drop_left.field-0 c.if-branch.false c.in_ok-drop_left.ensures.ok
+    c.turn.new.self c.in_ok-turned.turned c.in_ok-turned.ensures.ok
+    (c.in_err-drop_left-2.ensures.full (search rules))
 
 pub returns-then-branch-clause-ok : goal.returns-then-branch-clause-ok
 returns-then-branch-clause-ok g c =

@@ -6,13 +6,20 @@ use Rattle.slotted_unions.specs.StateOf.{state_of}
 use Rattle.slotted_unions.specs.Uniting.{ActsOn, StepsBy, equation_in}
 use Rattle.slotted_unions.specs.declared.uniting.UnionStep.{UnionStep}
 use Rattle.slotted_unions.proofs.EnteredProofs.{nothing-proved}
-use Rattle.slotted_unions.proofs.UniteSteps.{alike-step, proof-live, proof-large, then-dropped, acting-live, acting-large, acting-step}
+use Rattle.slotted_unions.proofs.UniteSteps.{alike-step, proof-live, proof-large, then-dropped, still-stored, still-proved}
+use Rattle.slotted_unions.proofs.UniteSteps.{acting-live, acting-all, acting-moves, acting-large, acting-step}
 use Rattle.slotted_unions.proofs.uniting.unite_once.Goals as goal
 
 pub returns-then-sides_find_alike-clause-ok : goal.returns-then-sides_find_alike-clause-ok
 returns-then-sides_find_alike-clause-ok g c =
     let k = c.args.store.now in
     alike-step k c.requires.good c.args.p c.requires.within (found_entry (state_of k) c.args.p) (λ i. found_entry (state_of k) c.args.p) (c.sides_find_alike.ensures.0 c.if-sides_find_alike.true)
+
+pub drop_either-requires-clause-good : goal.drop_either-requires-clause-good
+drop_either-requires-clause-good g c = c.in_ok-q.ensures.ok.only.stored
+
+pub drop_either-requires-clause-within : goal.drop_either-requires-clause-within
+drop_either-requires-clause-within g c = c.in_ok-q.ensures.ok.in_range
 
 pub drop_either-requires-clause-live : goal.drop_either-requires-clause-live
 drop_either-requires-clause-live g c =
@@ -29,10 +36,31 @@ returns-in-Some-clause-ok g c =
     then-dropped c.args.store.now c.found_proof.new.store c.requires.good c.args.p c.in_ok-q.q c.requires.within c.in_ok-q.ensures.ok
     c.drop_either.new.store c.in_ok-class.field-0 c.in-Some.class c.in-Some.is c.in_ok-class.ensures.ok
 
+pub act_on-requires-clause-good : goal.act_on-requires-clause-good
+act_on-requires-clause-good g c =
+    still-stored c.args.store.now c.found_proof.new.store c.requires.good c.args.p c.in_ok-q.q c.requires.within c.in_ok-q.ensures.ok
+    c.drop_either.new.store c.in_ok-class.field-0 c.in_default.is c.in_ok-class.ensures.ok
+
+pub act_on-requires-clause-within : goal.act_on-requires-clause-within
+act_on-requires-clause-within g c =
+    still-proved c.args.store.now c.found_proof.new.store c.requires.good c.args.p c.in_ok-q.q c.requires.within c.in_ok-q.ensures.ok
+    c.drop_either.new.store c.in_ok-class.field-0 c.in_default.is c.in_ok-class.ensures.ok
+
 pub act_on-requires-clause-live : goal.act_on-requires-clause-live
 act_on-requires-clause-live g c =
     acting-live c.args.store.now c.found_proof.new.store c.requires.good c.args.p c.in_ok-q.q c.requires.within c.in_ok-q.ensures.ok
     c.drop_either.new.store c.in_ok-class.field-0 c.in_default.is c.in_ok-class.ensures.ok
+
+pub act_on-requires-clause-pairs_all : goal.act_on-requires-clause-pairs_all
+act_on-requires-clause-pairs_all g c =
+    acting-all c.args.store.now c.found_proof.new.store c.requires.good c.args.p c.in_ok-q.q c.requires.within c.in_ok-q.ensures.ok
+    c.drop_either.new.store c.in_ok-class.field-0 c.in_default.is c.in_ok-class.ensures.ok
+
+pub act_on-requires-clause-moves : goal.act_on-requires-clause-moves
+act_on-requires-clause-moves g c =
+    acting-moves c.args.store.now c.found_proof.new.store c.requires.good c.args.p c.in_ok-q.q c.requires.within c.in_ok-q.ensures.ok
+    c.drop_either.new.store c.in_ok-class.field-0 c.in_default.is c.in_ok-class.ensures.ok
+    (λ s. false≢true (sym c.if-sides_find_alike.false ∙ c.sides_find_alike.ensures.1 s))
 
 pub returns-clause-ok : goal.returns-clause-ok
 returns-clause-ok g c =
