@@ -100,3 +100,8 @@ pub child_binders : (nodes : List DTerm) (ids : List Applied) (k : ℕ) (b : App
 child_binders nodes ids k b lt is =
     let next : k + 1 ≡ suc k = omega arith in
     ap (λ n. ids_binders nodes (take n ids)) next ∙ (ids_binders-next nodes ids k (0, []) lt ∙ ap (λ (x : Applied). ids_binders nodes (take k ids) + term_binders nodes x.0) (sym is))
+
+-- its term is counted in that of the id
+pub child_counted : (nodes : List DTerm) → Canonical nodes → (a : Applied) → IsFull nodes a → (f : Form) → IsNodeOf nodes a f → (k : ℕ) (b : Applied) → k < length (child_ids f) → b ≡ slice_index_or (child_ids f) k (0, []) →
+    (node_binders nodes a.0 + ids_binders nodes (take k (child_ids f))) + term_binders nodes b.0 ≤ term_binders nodes a.0
+child_counted nodes canonical a full f is_node k b lt is = omega (arith, children_within nodes canonical a full f is_node (k + 1), child_binders nodes (child_ids f) k b lt is)

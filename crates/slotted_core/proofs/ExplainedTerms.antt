@@ -1,6 +1,6 @@
 -- What explaining two terms leaves: both are added, and an entry that asserts nothing may be entered.
 use Rattle.std.proofs.Common.{◌≡◌, ◌<◌, ◌+◌, ℕ, [], length, refl, sym, ◌∙◌, ap, subst, arith, inl, inr}
-use Rattle.std.specs.Prelude.{Bool, false, IsSome, IsTrue, Option, Some, None, is_some, ◌↔◌}
+use Rattle.std.specs.Prelude.{false, IsSome, Option, Some, None, is_some, ◌↔◌}
 use Rattle.std.proofs.lemmas.Bool.{cases_lt, false≢true}
 use Rattle.std.proofs.lemmas.List.{append-nil}
 use Rattle.slotted_slots.specs.Table.{Table}
@@ -25,7 +25,7 @@ use Rattle.slotted_unions.specs.Proving.{OnlyProves, ProvesEqual}
 use Rattle.slotted_unions.proofs.EnteredProofs.{only-nodes, only-proofs, only-state, only-grows}
 use Rattle.slotted_rebuilding.specs.Filed.{state_in}
 use Rattle.slotted_core.specs.Causes.{CanRunOutForTerm, IsUnknownTerm}
-use Rattle.slotted_core.specs.Explaining.{AddsTerms, HasIds, ExplainsTerms, IsIdOfEither, RunsOutForTerms, no_slots, large_left, large_right, large_graph, wide_left, wide_right, large_class}
+use Rattle.slotted_core.specs.Explaining.{AddsTerms, HasIds, ExplainsTerms, IsIdOfEither, ProvesIfAlike, RunsOutForTerms, no_slots, large_left, large_right, large_graph, wide_left, wide_right, large_class}
 use Rattle.slotted_core.specs.Good.{Good, RestsWith, AddsTerm, image_of}
 use Rattle.slotted_core.specs.Graph.{MakesAtMost}
 use Rattle.slotted_core.specs.Image.{AddsClasses, FoundAlike, IsIdOfSubterm, NewClassesAre}
@@ -102,19 +102,19 @@ module _ (k : Kept) (r : Rows) (good : Good k) (m : Kept) (s : Rows) (n : Kept) 
       (λ e. ea ∙ (e ∙ sym eb), λ e. sym ea ∙ (e ∙ eb))
 
   -- their ids do not find alike
-  pub explains-none : (alike : Bool) → alike ≡ false → (IsTrue alike ↔ (find (entries_of n) a ≡ find (entries_of n) b)) → ExplainsTerms t w k r n q left right None
-  explains-none alike e says = record {
+  explains-none : ¬ (find (entries_of n) a ≡ find (entries_of n) b) → ExplainsTerms t w k r n q left right None
+  explains-none apart = record {
     good = second.good;
     rests = second.rests;
     fresh_slots = second.fresh_slots;
     adds = both-added;
     filed = both-filed;
     kept = λ x y. let all = both-kept x y in (ap nodes_of all.0, ap (λ (z : Kept). (image_of z).found) all.0, ap (λ (z : Kept). (image_of z).symmetries) all.0, all.1, all.2);
-    answers = record { left = a; right = b; ids = both-ids; apart = λ f. false≢true (sym e ∙ says.1 (says-alike.1 f)) };
+    answers = record { left = a; right = b; ids = both-ids; apart = λ f. apart (says-alike.1 f) };
   }
 
   -- they do, and an entry has their equation
-  pub explains-some : find (entries_of n) a ≡ find (entries_of n) b → (l : Kept) (p : ℕ) → ProvesEqual n l a b p → ExplainsTerms t w k r l q left right (Some p)
+  explains-some : find (entries_of n) a ≡ find (entries_of n) b → (l : Kept) (p : ℕ) → ProvesEqual n l a b p → ExplainsTerms t w k r l q left right (Some p)
   explains-some e l p proves =
       let same : nodes_of l ≡ nodes_of n = only-nodes n l proves.only in
       let x : Extends (nodes_of n) (nodes_of l) = subst (Extends (nodes_of n)) (sym same) (Extends-same (nodes_of n)) in
@@ -146,6 +146,10 @@ module _ (k : Kept) (r : Rows) (good : Good k) (m : Kept) (s : Rows) (n : Kept) 
           equation = equation_at-of l.proofs p ∙ proves.equation;
         };
       }
+
+  pub explains : (l : Kept) (answer : Option ℕ) → ProvesIfAlike n l a b answer → ExplainsTerms t w k r l q left right answer
+  explains l (Some p) h = explains-some h.0 l p h.1
+  explains l None h = subst (λ (z : Kept). ExplainsTerms t w k r z q left right None) (sym h.0) (explains-none h.1)
 
   pub runs-large : find (entries_of n) a ≡ find (entries_of n) b → (old new : Table) → unions.HasLargeClassOf n a.0 b.0 → RunsOutForTerms (image_of k) left right old new
   runs-large e old new h = large_class (image_of n) a b both-added both-ids (says-alike.0 e) (large-class_of n a b left-full second.full h)

@@ -1,10 +1,14 @@
 -- A canonical node with the names of an id put in is over full ids, as large as it was, and known where those names are.
 use Rattle.std.proofs.Common.{◌≡◌, ◌<◌, ◌≤◌, ◌+◌, ℕ, suc, List, [], ◌∷◌, ◌++◌, length, cond, not, slice_index_or, sym, ◌∙◌, ap, refl, subst, arith, inr}
-use Rattle.std.specs.Prelude.{All, IsTrue, Result, Ok, Err, IfOk, IsErrOf}
+use Rattle.std.specs.Prelude.{All, IsTrue, Result, Ok, Err, IfOk, IfErr, IsErrOf}
 use Rattle.std.proofs.lemmas.List.Elements.{All-append, All-push}
 use Rattle.slotted_theory.specs.Nameless.{DArgs, DTerm, stop, place, sub, scope, lift, moved_args, moved}
 use Rattle.slotted_theory.specs.FiniteMaps.{filled}
 use Rattle.slotted_theory.specs.Term.{Term}
+use Rattle.slotted_slots.specs.Maps.{values}
+use Rattle.slotted_slots.specs.declared.error.Error.{Error}
+use Rattle.slotted_slots.specs.declared.error.Error.TheVariants.{OutOfSlots}
+use Rattle.slotted_slots.specs.Error.{IsOutOfMemory}
 use Rattle.slotted_slots.specs.Table.{Table, KnowsMore, TakesAtMost, is_known, slot_limit, unknown_names}
 use Rattle.slotted_slots.proofs.SlotsTaken.{at_most_known, fresh_goes_on, lacks_known}
 use Rattle.slotted_nodes.specs.Form.{Form, children, child_names, child_place, width}
@@ -17,11 +21,15 @@ use Rattle.slotted_model.specs.Applied.{Applied}
 use Rattle.slotted_model.specs.Classes.{canonical_node, IsFull, Canonical}
 use Rattle.slotted_terms.specs.Valid.{AllKnown, IsValidTerm}
 use Rattle.slotted_core.specs.Canonical.{args_count, place_count, IsBeside}
+use Rattle.slotted_store.specs.Kept.{Kept}
+use Rattle.slotted_core.specs.Good.{HasFreshSlots}
 use Rattle.slotted_core.specs.Graph.{RunsOut}
 use Rattle.slotted_core.specs.Nodes.{child_ids}
+use Rattle.slotted_core.specs.Syn.{KnowsSlotsAnd}
 use Rattle.slotted_core.proofs.CallerLemmas.{term_later}
 use Rattle.slotted_core.proofs.CanonicalTerms.{children-below, places-counted}
 use Rattle.slotted_store.proofs.ChildIds.{length-ids}
+use Rattle.slotted_core.proofs.FreshSlots.{fresh_slots-more}
 use Rattle.slotted_core.proofs.KnownNames.{In-take, In-drop}
 use Rattle.slotted_store.proofs.NameMaps.{In-at, at_In}
 use Rattle.slotted_core.proofs.ValidTerms.{valid_term}
@@ -71,6 +79,11 @@ child_names-known P f k all i d l =
     let x = slice_index_or (child_names f k) i d in
     at_In P f.names all x (In-drop (child_place f.tree k) f.names x (In-take (width f.tree k) _ x (In-at (child_names f k) i d l)))
 
+-- a table that knows the names of a node knows those of a child
+pub child-given : (t u : Table) (k : Kept) (f : Form) (i : ℕ) (m : List (ℕ × ℕ)) → KnowsMore t u → HasFreshSlots t k → AllKnown u f.names → values m ≡ child_names f i → KnowsSlotsAnd u k m
+child-given t u k f i m more over known is =
+    (fresh_slots-more t u k more over, subst (AllKnown u) (sym is) (child_names-known (λ s. IsTrue (is_known u s)) f i known))
+
 -- valid terms, and one more
 pub valid-push : (t u : Table) → KnowsMore t u → (us : List Term) (x : Term) → All (IsValidTerm t) us → IsValidTerm u x → All (IsValidTerm u) (us ++ x ∷ [])
 valid-push t u more us x all v = All-push (IsValidTerm u) us x (λ k d l. term_later t u more (slice_index_or us k d) (all k d l)) v
@@ -85,6 +98,11 @@ valid-beside t f h us fits beside n known ops all =
 pub err-no_ok : {A E : Type 0} (r : Result A E) (e : E) (P : A → Type 0) → IsErrOf r e → IfOk r P
 err-no_ok (Ok x) e P h = cc
 err-no_ok (Err x) e P h = tt
+
+-- a call that refuses only for want of memory does not run out of slots
+pub memory-no_slots : {A B : Type 0} (r : Result A Error) → IfErr r IsOutOfMemory → IsErrOf r OutOfSlots → B
+memory-no_slots (Ok x) m e = cc
+memory-no_slots (Err x) m e = cc
 
 -- what three clauses say of an answer, together
 pub ok-three : {A E : Type 0} (r : Result A E) (P Q R S : A → Type 0) → ((x : A) → P x → Q x → R x → S x) → IfOk r P → IfOk r Q → IfOk r R → IfOk r S

@@ -7,6 +7,7 @@
 --     Explains g t u p    the entry p says that the two terms are equal
 --     FindsApart g t u    their ids do not find alike
 --     RunsOutForTerms     slots ran out
+--     ProvesIfAlike k l a b       the answer is an entry where the two ids find alike
 use Rattle.std.specs.Prelude.{◌≡◌, ◌<◌, ◌≤◌, ◌+◌, ◌⊎◌, ◌^◌, ℕ, List, Option, Some, None, IsSome, length}
 use Rattle.slotted_slots.specs.Table.{Table, slot_limit}
 use Rattle.slotted_theory.specs.Term.{Term, term_size}
@@ -15,7 +16,9 @@ use Rattle.slotted_model.specs.Applied.{Applied}
 use Rattle.slotted_model.specs.Growth.{Extends}
 use Rattle.slotted_model.specs.Ids.{id_of}
 use Rattle.slotted_model.specs.ProofList.{equation_of, equation_at}
-use Rattle.slotted_store.specs.Kept.{Kept, nodes_of}
+use Rattle.slotted_store.specs.Finding.{FindAlike}
+use Rattle.slotted_store.specs.Kept.{Kept, entries_of, nodes_of}
+use Rattle.slotted_unions.specs.Proving.{ProvesEqual}
 use Rattle.slotted_filing.specs.FiledRows.{Rows}
 use Rattle.slotted_core.specs.Causes.{HasLargeClassIn, HasLargeClassOf}
 use Rattle.slotted_core.specs.Good.{Good, RestsWith, HasFreshSlots, image_of}
@@ -100,3 +103,8 @@ pub data RunsOutForTerms (g : Image) (t u : Term) (old new : Table) : Type 0 whe
   wide_right : 2 ^ 29 ≤ term_size u → RunsOutForTerms g t u old new
   large_class : (h : Image) (a b : Applied) → AddsTerms g h → HasIds h t u a b → FoundAlike h a b → HasLargeClassOf h a b →
       RunsOutForTerms g t u old new
+
+-- where the two ids find alike, the answer is an entry with their equation, and else all stays
+abbrev pub ProvesIfAlike : Kept → Kept → Applied → Applied → Option ℕ → Type 0
+ProvesIfAlike k l a b (Some p) = FindAlike (entries_of k) a b × ProvesEqual k l a b p
+ProvesIfAlike k l a b None = (l ≡ k) × ¬ FindAlike (entries_of k) a b

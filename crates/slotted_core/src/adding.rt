@@ -1,17 +1,18 @@
 //! Which ids and nodes are of the graph, and adding by canonical nodes.
-ghost use Rattle.std.specs.Prelude.{◌≡◌, ◌↔◌, length, IsTrue, IfOk, IfErr, IsErrOf, All};
+ghost use Rattle.std.specs.Prelude.{◌≡◌, ◌↔◌, ◌+◌, length, IsTrue, IfOk, IfErr, OnOk, IsErrOf, All};
 ghost use Rattle.slotted_slots.specs.Error.{IsOutOfMemory, IsShortage};
+ghost use Rattle.slotted_slots.specs.Maps.{keys, values};
 ghost use Rattle.slotted_slots.specs.Table.{KnowsMore};
 ghost use Rattle.slotted_model.specs.Classes.{IsFull};
 ghost use Rattle.slotted_proofs.specs.Equations.{to_applied};
 ghost use Rattle.slotted_terms.specs.Valid.{IsWhole};
 ghost use Rattle.slotted_core.specs.Causes.{CanRunOutForNode, CanRunOutForTerm, IsUnknownNode, IsUnknownTerm};
-ghost use Rattle.slotted_core.specs.Graph.{MakesAtMost, RunsOutForNode};
+ghost use Rattle.slotted_core.specs.Graph.{MakesAtMost, RunsOut, RunsOutForNode};
 ghost use Rattle.slotted_core.specs.Good.{Good, RestsWith, HasFreshSlots, IsFullOver, IsIdOver, IsNodeOver};
 ghost use Rattle.slotted_core.specs.Good.{Makes, Adds, AddsTerm, image_of};
 ghost use Rattle.slotted_store.specs.Finding.{IsFindable};
 ghost use Rattle.slotted_store.specs.Kept.{nodes_of};
-ghost use Rattle.slotted_store.specs.Names.{between};
+ghost use Rattle.slotted_store.specs.Names.{between, fresh_slots};
 ghost use Rattle.slotted_core.specs.Nodes.{child_ids};
 ghost use Rattle.slotted_core.specs.Places.{term_slots};
 
@@ -117,17 +118,33 @@ fn made<L: Language>(
 {
     let (shape, names) = node.weak_shape(alloc)?;
     if let Some(row) = store.row(&shape) {
-        let answer = class_of_row(alloc, row, &names)?;
-        return Ok(answer);
+        return class_of_row(alloc, row, &names);
     }
+    let (slots, m) = fresh_names(alloc, table, &names)?;
+    let id = Id(store.class_count());
+    store.make_class(alloc, shape, slots)?;
+    Ok(AppliedId { id, m })
+}
+
+// The names with a fresh slot in the place of each value, and the map from these slots to the values.
+fn fresh_names(
+    alloc: Global,
+    table: &mut SlotTable,
+    names: &SlotMap,
+) -> Result<(SlotMap, SlotMap), Error>
+    ensures keys { IfOk result (λ r. keys r.0 ≡ keys names.now) }
+    ensures values { IfOk result (λ r. values r.0 ≡ fresh_slots table.old.fresh (length names.now)) }
+    ensures map { IfOk result (λ r. r.1 ≡ between r.0 names.now) }
+    ensures table { OnOk result (table.new.fresh ≡ table.old.fresh + length names.now) }
+    ensures more { KnowsMore table.old table.new }
+    ensures takes { MakesAtMost (length names.now) table.old table.new }
+    ensures full { IsErrOf result Error.OutOfSlots → RunsOut (length names.now) table.old table.new }
+    ensures err { IfErr result IsShortage }
+{
     let mut slots = names.copy(alloc)?;
     renew_values(&mut slots, table)?;
-    let answer = AppliedId {
-        id: Id(store.class_count()),
-        m: map_between(alloc, &slots, &names)?,
-    };
-    store.make_class(alloc, shape, slots)?;
-    Ok(answer)
+    let m = map_between(alloc, &slots, names)?;
+    Ok((slots, m))
 }
 
 /// The class that holds the node's shape, or a new one, with the node's names put in. A new one is filed, and all is rebuilt.

@@ -2,8 +2,13 @@
 ghost use Rattle.std.specs.Prelude.{◌+◌, IfErr, IfOk, IsErrOf};
 ghost use Rattle.slotted_slots.specs.Error.{IsShortage};
 ghost use Rattle.slotted_slots.specs.Table.{KnowsMore};
+ghost use Rattle.slotted_model.specs.Classes.{IsFull};
+ghost use Rattle.slotted_proofs.specs.Equations.{to_applied};
 ghost use Rattle.slotted_terms.specs.Valid.{IsWhole};
-ghost use Rattle.slotted_core.specs.Explaining.{ExplainsTerms, RunsOutForTerms};
+ghost use Rattle.slotted_store.specs.Finding.{FindAlike};
+ghost use Rattle.slotted_store.specs.Kept.{nodes_of, entries_of};
+ghost use Rattle.slotted_unions.specs.Proving.{HasLargeClassOf};
+ghost use Rattle.slotted_core.specs.Explaining.{ExplainsTerms, ProvesIfAlike, RunsOutForTerms};
 ghost use Rattle.slotted_core.specs.Good.{Good, RestsWith, HasFreshSlots, image_of};
 ghost use Rattle.slotted_core.specs.Graph.{MakesAtMost};
 ghost use Rattle.slotted_core.specs.Places.{term_slots};
@@ -12,7 +17,7 @@ use crate::adding::add_syn_expr;
 use slotted_filing::Hashcons;
 use slotted_languages::Language;
 use slotted_proofs::ProvenEq;
-use slotted_slots::{Error, SlotTable};
+use slotted_slots::{AppliedId, Error, SlotTable};
 use slotted_store::Store;
 use slotted_terms::expr::RecExpr;
 use slotted_unions::proving::bridge;
@@ -42,9 +47,28 @@ pub fn explain<L: Language>(
 {
     let a = add_syn_expr(store, nodes, alloc, table, left)?;
     let b = add_syn_expr(store, nodes, alloc, table, right)?;
-    if !store.eq(&a, &b) {
+    bridge_if_alike(store, alloc, &a, &b)
+}
+
+// The proof that two full ids are equal, where they find alike.
+fn bridge_if_alike<L: Language>(
+    store: &mut Store<L>,
+    alloc: Global,
+    a: &AppliedId,
+    b: &AppliedId,
+) -> Result<Option<ProvenEq>, Error>
+    requires good { Good store.old }
+    requires left { IsFull (nodes_of store.old) (to_applied a.now) }
+    requires right { IsFull (nodes_of store.old) (to_applied b.now) }
+    ensures ok { IfOk result (ProvesIfAlike store.old store.new (to_applied a.now) (to_applied b.now)) }
+    ensures alike { IsErrOf result Error.OutOfSlots
+        → FindAlike (entries_of store.old) (to_applied a.now) (to_applied b.now) }
+    ensures full { IsErrOf result Error.OutOfSlots → HasLargeClassOf store.old a.now.id.0 b.now.id.0 }
+    ensures err { IfErr result IsShortage }
+{
+    if !store.eq(a, b) {
         return Ok(None);
     }
-    let answer = bridge(store, alloc, &a, &b)?;
+    let answer = bridge(store, alloc, a, b)?;
     Ok(Some(answer))
 }

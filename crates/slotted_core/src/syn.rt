@@ -112,8 +112,7 @@ fn syn_expr<L: Language>(
     let mut node = syn_node(store, alloc, table, a)?;
     let mut children = Vec::new(alloc);
     for k in 0..node.applied_id_count() {
-        let child = node.applied_id(k).copy(alloc)?;
-        let term = syn_expr(store, alloc, table, &child)?;
+        let term = syn_expr(store, alloc, table, node.applied_id(k))?;
         children.push(term)?;
     }
     forget_children(alloc, &mut node);
