@@ -109,3 +109,14 @@ turns-then k r o l q f m n s narrowed then = record {
   filed = then.filed;
   grows = grows-then k l n narrowed.grows then.grows;
 }
+
+-- the class that has the key is another one, if it was found
+pub other-has : (v : List (Option Filing)) (class other : ℕ) (key : Form) (o : Option ℕ) → IfSome o (λ i. HasKey v i key) → unwrap_or o class ≡ other → other ≢ class → HasKey v other key
+other-has v class other key None h e differ = absurd (differ (sym e))
+other-has v class other key (Some i) h e differ = subst (λ n. HasKey v n key) e h
+
+-- the class of which the key is filed is a class
+pub shared-within : (k : Kept) (r : Rows) (o : ℕ) (slots : List (ℕ × ℕ)) (other : ℕ) → IsWellFiled k r → SharesKey k r o slots other → other < length k.classes
+shared-within k r o slots other well s =
+    let m : List (ℕ × ℕ) = s.filed.0 in
+    subst (λ n. other < n) (length-nodes_of k) (well.sane.filed.each (row_of_entry (s.key, (other, m))) (row-filed r.filed other s.key m s.filed.1)).in_range

@@ -1,5 +1,5 @@
 -- Congruences that are entered before a union: what holds of what is kept then.
-use Rattle.std.proofs.Common.{ℕ, ◌<◌, length, ap, ◌∙◌, sym, subst}
+use Rattle.std.proofs.Common.{◌≡◌, ℕ, ◌<◌, length, ap, ◌∙◌, sym, subst}
 use Rattle.std.specs.Prelude.{Contains}
 use Rattle.slotted_model.specs.Rebuild.{IsCongruence, Turn, enters, narrows}
 use Rattle.slotted_model.specs.Rest.{Sane, size}
@@ -10,14 +10,17 @@ use Rattle.slotted_model.proofs.Lacking.{narrow-lacks}
 use Rattle.slotted_store.specs.Kept.{Kept, proofs_of}
 use Rattle.slotted_store.proofs.KeptLists.{length-proofs_of}
 use Rattle.slotted_filing.specs.FiledRows.{Rows, rows_in}
-use Rattle.slotted_unions.specs.Proving.{OnlyProves}
+use Rattle.slotted_unions.specs.Proving.{OnlyProves, HasLargeSide}
 use Rattle.slotted_unions.specs.StateOf.{state_of}
+use Rattle.slotted_unions.specs.Uniting.{equation_in}
 use Rattle.slotted_unions.proofs.EnteredProofs.{only-state, only-grows}
 use Rattle.slotted_unions.proofs.GrownRows.{grown-rows, grown-count}
 use Rattle.slotted_unions.proofs.KeptSlots.{grows-then}
+use Rattle.slotted_rebuilding.specs.Causes.{HasLargeClass}
 use Rattle.slotted_rebuilding.specs.Filed.{state_in, IsWellFiled, UnitesFiled}
 use Rattle.slotted_rebuilding.specs.Turns.{LacksSlot, NarrowsOnce, ProvesCongruence}
 use Rattle.slotted_rebuilding.proofs.FiledStates.{fits-grown, places-grown, united-well}
+use Rattle.slotted_rebuilding.proofs.LargeClasses.{large-grown, large-of}
 
 -- what is kept is well filed after more entries
 pub proved-well : (k m : Kept) (r : Rows) → OnlyProves k m → IsWellFiled k r → IsWellFiled m r
@@ -50,6 +53,17 @@ congruence-in m r p i j c = record {
   twins = c.twins;
   stands = c.stands;
 }
+
+-- what the union by the congruence asks for, and why slots run out there
+module _ (k m : Kept) (i j p : ℕ) (proved : ProvesCongruence k m i j p) where
+  pub proved-within : p < length m.proofs
+  proved-within = subst (λ n. p < n) (length-proofs_of m) proved.congruence.stands.0
+
+  pub proved-count : (r : Rows) → length r.filed ≡ length k.classes → length r.filed ≡ length m.classes
+  proved-count r count = count ∙ sym (grown-count k m (only-grows k m proved.only))
+
+  pub proved-large : HasLargeSide m (equation_in m p) → HasLargeClass k
+  proved-large h = large-grown k m (only-grows k m proved.only) (large-of m (equation_in m p).left (equation_in m p).right h)
 
 -- the union of a class with itself, whose node lacks a slot
 pub narrowed-once : (k m : Kept) (r : Rows) (o p : ℕ) → IsWellFiled k r → Contains r.waiting o → LacksSlot k o → ProvesCongruence k m o o p →

@@ -1,5 +1,7 @@
 -- The steps of a union, after each of which the rows over the class that changed wait.
 use Rattle.std.proofs.Common.{ℕ, [], sym, subst}
+use Rattle.std.specs.Prelude.{Result, Ok, Err, OnOk}
+use Rattle.slotted_slots.specs.declared.error.Error.{Error}
 use Rattle.slotted_model.specs.Changes.{Unites}
 use Rattle.slotted_model.specs.State.{HasTouched}
 use Rattle.slotted_store.specs.Kept.{Kept}
@@ -26,6 +28,10 @@ linked-filed p k l r q c s t w = record {
   by = record { unites = s.did.unites [] [] [] (untouched k c); stored = s.stored; grows = s.grows };
   waits = w;
 }
+
+pub touched-filed : (p : ℕ) (k l : Kept) (r q : Rows) (c : ℕ) → StepsBy p k l (Linked c) → {T : Type 0} (x : Result T Error) → OnOk x (HasTouched (rows_state r) c q.waiting) → OnOk x (WaitsOn r q) → OnOk x (UnitesFiled p k r l q)
+touched-filed p k l r q c s (Ok v) touched waits = linked-filed p k l r q c s touched waits
+touched-filed p k l r q c s (Err e) touched waits = tt
 
 -- a class lost slots, and the union went on
 pub dropped-filed : (p : ℕ) (k l : Kept) (r q : Rows) (c : ℕ) → StepsBy p k l (Dropped c) → HasTouched (rows_state r) c q.waiting → WaitsOn r q →

@@ -60,8 +60,7 @@ fn narrow<L: Language>(
     ensures err { IfErr result IsShortage }
 {
     let p = twin_proof(store, alloc, class, names, class, names)?;
-    unite(store, nodes, alloc, p)?;
-    Ok(())
+    unite(store, nodes, alloc, p)
 }
 
 // The node of the first class that waits in normal form, made from what is filed of it: since that was filed few finds have gone on.

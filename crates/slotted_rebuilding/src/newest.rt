@@ -34,8 +34,7 @@ fn join<L: Language>(
     ensures err { IfErr result IsShortage }
 {
     let p = collision(store, nodes, alloc, class, names, other)?;
-    unite(store, nodes, alloc, p)?;
-    Ok(())
+    unite(store, nodes, alloc, p)
 }
 
 // The node of the newest class is filed by its key, which no class has. Where it lacks a slot of the class, the class
@@ -57,8 +56,7 @@ fn file<L: Language>(
     if covered {
         return Ok(());
     }
-    nodes.wait(class)?;
-    Ok(())
+    nodes.wait(class)
 }
 
 // The newest class is united with the one that has its node, or, where none has, its node is filed.

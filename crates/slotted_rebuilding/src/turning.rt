@@ -81,6 +81,5 @@ pub fn take_turn<L: Language>(
     if other != class {
         return collide(store, nodes, alloc, class, &node.names, other);
     }
-    nodes.refile(class, node.key, node.names)?;
-    Ok(())
+    nodes.refile(class, node.key, node.names)
 }

@@ -33,8 +33,7 @@ pub fn unite<L: Language>(
         UnionStep::Done => Ok(()),
         UnionStep::Linked(class) => {
             nodes.move_nodes(class, store.entry(class).id.0);
-            nodes.touch(class)?;
-            Ok(())
+            nodes.touch(class)
         }
         UnionStep::Dropped(class) => {
             nodes.touch(class)?;

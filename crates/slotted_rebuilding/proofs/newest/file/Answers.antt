@@ -1,3 +1,6 @@
+use Rattle.indexmap.proofs.MapLemmas.{OnOk-map}
+use Rattle.slotted_filing.specs.FiledRows.{QueuesUp}
+use Rattle.slotted_rebuilding.specs.NewClasses.{BeginsAdding}
 use Rattle.slotted_rebuilding.proofs.Collisions.{children-within}
 use Rattle.slotted_rebuilding.proofs.NewestClasses.{filed-quietly, filed-waiting, is-filed, newest-place, newest-unfiled, newest-within}
 use Rattle.slotted_rebuilding.proofs.newest.file.Goals as goal
@@ -32,5 +35,10 @@ wait-requires g c =
 pub returns-clause-ok : goal.returns-clause-ok
 returns-clause-ok g c =
     let key = c.args.node.key in
-    filed-waiting c.args.store.now c.args.nodes.now c.args.class c.requires.newest (g.L.LanguageChildren.form key) c.args.node.names (g.met.L.LanguageChildren.fits key) c.requires.node c.requires.new_key
-    c.file.new.self c.wait.new.self c.in_ok-file.ensures.ok c.in_ok-wait.ensures.ok
+    let k = c.args.store.now in
+    let r = c.args.nodes.now in
+    let s = c.file.new.self in
+    let t = c.wait.new.self in
+    OnOk-map c.wait.result (QueuesUp s t c.args.class) (BeginsAdding k r k t)
+    (filed-waiting k r c.args.class c.requires.newest (g.L.LanguageChildren.form key) c.args.node.names (g.met.L.LanguageChildren.fits key) c.requires.node c.requires.new_key s t c.in_ok-file.ensures.ok)
+    c.wait.ensures.ok

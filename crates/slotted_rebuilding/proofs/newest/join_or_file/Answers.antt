@@ -1,6 +1,7 @@
-use Rattle.std.proofs.Common.{rules, subst}
+use Rattle.std.proofs.Common.{subst}
 use Rattle.std.specs.Prelude.{IfNone, IfSome}
 use Rattle.slotted_filing.specs.Filed.{HasKey, IsNewKey}
+use Rattle.slotted_rebuilding.proofs.LargeClasses.{keeps-slots, same-error}
 use Rattle.slotted_rebuilding.proofs.NarrowedNodes.{findable, too-large}
 use Rattle.slotted_rebuilding.proofs.NewestClasses.{newest-within}
 use Rattle.slotted_rebuilding.proofs.newest.join_or_file.Goals as goal
@@ -18,7 +19,7 @@ pub returns-in_err-node-clause-full : goal.returns-in_err-node-clause-full
 returns-in_err-node-clause-full g c h =
     let k = c.args.store.now in
     let r = c.args.nodes.now in
-    too-large k r c.args.class c.requires.newest.filed (newest-within k r c.args.class c.requires.newest) (c.in_err-node.ensures.full (search rules))
+    too-large k r c.args.class c.requires.newest.filed (newest-within k r c.args.class c.requires.newest) (c.in_err-node.ensures.full (same-error c.from_residual.result c.in_err-node.field-0.0 _ c.from_residual.ensures.1 h))
 
 pub join-requires-clause-shape : goal.join-requires-clause-shape
 join-requires-clause-shape g c =
@@ -33,3 +34,12 @@ join-requires-clause-shape g c =
 pub file-requires-clause-new_key : goal.file-requires-clause-new_key
 file-requires-clause-new_key g c =
     subst (λ o. IfNone o (IsNewKey c.args.nodes.now.filed (g.L.LanguageChildren.form c.in_ok-node.node.key))) c.in-None.is c.source_of.ensures.none
+
+pub returns-in-Some-clause-ok : goal.returns-in-Some-clause-ok
+returns-in-Some-clause-ok g c = c.join.ensures.ok
+
+pub returns-in-Some-clause-full : goal.returns-in-Some-clause-full
+returns-in-Some-clause-full g c h = c.join.ensures.full h
+
+pub returns-in-None-clause-full : goal.returns-in-None-clause-full
+returns-in-None-clause-full g c h = absurd (keeps-slots c.file.result c.file.ensures.err h)

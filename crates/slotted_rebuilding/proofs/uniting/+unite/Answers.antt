@@ -1,11 +1,35 @@
-use Rattle.std.proofs.Common.{subst, arith, rules, ◌∙◌, sym, ap, length}
+use Rattle.std.proofs.Common.{◌<◌, OnOk, subst, arith, rules, ◌∙◌, sym, ap, length}
 use Rattle.indexmap.proofs.MapLemmas.{OnOk-map}
 use Rattle.slotted_unions.specs.Uniting.{StepsBy}
 use Rattle.slotted_unions.proofs.GrownRows.{grown-count}
 use Rattle.slotted_unions.proofs.UniteSteps.{lost-large}
+use Rattle.slotted_filing.specs.FiledRows.{Rows}
 use Rattle.slotted_rebuilding.specs.Filed.{UnitesFiled}
-use Rattle.slotted_rebuilding.proofs.FiledUnions.{linked-filed, dropped-filed}
+use Rattle.slotted_rebuilding.proofs.LargeClasses.{had-slots, keeps-slots, same-error}
+use Rattle.slotted_rebuilding.proofs.FiledUnions.{done-filed, touched-filed, dropped-filed}
 use Rattle.slotted_rebuilding.proofs.uniting.+unite.Goals as goal
+
+pub returns-in-Done-clause-ok : goal.returns-in-Done-clause-ok
+returns-in-Done-clause-ok g t c =
+    let k = c.args.store.now in
+    let l = c.unite_once.new.store in
+    done-filed c.args.p k l c.args.nodes.now (subst (StepsBy c.args.p k l) c.in-Done.is c.in_ok-unite_once.ensures.ok)
+
+pub touch-requires : goal.touch-requires
+touch-requires g t c =
+    let s = subst (StepsBy c.args.p c.args.store.now c.unite_once.new.store) c.in-Linked.is c.in_ok-unite_once.ensures.ok in
+    subst (λ n. c.in-Linked.class < n) (sym (ap (λ (r : Rows). length r.filed) c.move_nodes.ensures ∙ c.requires.count)) s.did.in_range
+
+pub touch-requires-in-Dropped : goal.touch-requires-in-Dropped
+touch-requires-in-Dropped g t c =
+    let s = subst (StepsBy c.args.p c.args.store.now c.unite_once.new.store) c.in-Dropped.is c.in_ok-unite_once.ensures.ok in
+    subst (λ n. c.in-Dropped.class < n) (sym c.requires.count) s.did.in_range
+
+pub returns-in_err-unite_once-clause-full : goal.returns-in_err-unite_once-clause-full
+returns-in_err-unite_once-clause-full g t c h = c.in_err-unite_once.ensures.full (same-error c.from_residual.result c.in_err-unite_once.field-0.0 _ c.from_residual.ensures.1 h)
+
+pub returns-in_err-touch-in-Dropped-clause-full : goal.returns-in_err-touch-in-Dropped-clause-full
+returns-in_err-touch-in-Dropped-clause-full g t c h = absurd (had-slots c.from_residual-in_err-touch-in-Dropped.result c.in_err-touch-in-Dropped.field-0.0 c.from_residual-in_err-touch-in-Dropped.ensures.1 c.in_err-touch-in-Dropped.ensures.err h)
 
 pub entry-requires : goal.entry-requires
 entry-requires g t c =
@@ -14,11 +38,18 @@ entry-requires g t c =
     let s = subst (StepsBy c.args.p k l) c.in-Linked.is c.in_ok-unite_once.ensures.ok in
     omega (arith, s.did.in_range, grown-count k l s.grows)
 
-pub returns-in_ok-touch-in-Linked-clause-ok : goal.returns-in_ok-touch-in-Linked-clause-ok
-returns-in_ok-touch-in-Linked-clause-ok g t c =
-    let s = subst (StepsBy c.args.p c.args.store.now c.unite_once.new.store) c.in-Linked.is c.in_ok-unite_once.ensures.ok in
-    subst (λ r. UnitesFiled c.args.p c.args.store.now r c.unite_once.new.store c.touch.new.self) c.move_nodes.ensures
-    (linked-filed c.args.p c.args.store.now c.unite_once.new.store c.move_nodes.new.self c.touch.new.self c.in-Linked.class s c.in_ok-touch-in-Linked.ensures.waiting c.in_ok-touch-in-Linked.ensures.waits)
+pub returns-in-Linked-clause-ok : goal.returns-in-Linked-clause-ok
+returns-in-Linked-clause-ok g t c =
+    let k = c.args.store.now in
+    let r = c.args.nodes.now in
+    let l = c.unite_once.new.store in
+    let q = c.touch.new.self in
+    let s = subst (StepsBy c.args.p k l) c.in-Linked.is c.in_ok-unite_once.ensures.ok in
+    subst (λ x. OnOk c.touch.result (UnitesFiled c.args.p k x l q)) c.move_nodes.ensures
+    (touched-filed c.args.p k l c.move_nodes.new.self q c.in-Linked.class s c.touch.result c.touch.ensures.waiting c.touch.ensures.waits)
+
+pub returns-in-Linked-clause-full : goal.returns-in-Linked-clause-full
+returns-in-Linked-clause-full g t c h = absurd (keeps-slots c.touch.result c.touch.ensures.err h)
 
 pub unite-requires : goal.unite-requires
 unite-requires g t c =

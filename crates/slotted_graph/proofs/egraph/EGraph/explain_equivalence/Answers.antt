@@ -1,8 +1,10 @@
 use Rattle.std.proofs.Common.{◌∙◌, sym, subst, rules, inl, inr}
 use Rattle.std.proofs.lemmas.Bool.{false≢true}
-use Rattle.slotted_core.specs.Explaining.{RunsOutForTerms}
+use Rattle.slotted_core.specs.Explaining.{Answers, RunsOutForTerms}
+use Rattle.slotted_core.specs.Good.{image_of}
 use Rattle.slotted_core.specs.Graph.{Graph}
 use Rattle.slotted_graph.proofs.egraph.EGraph.explain_equivalence.Goals as goal
+use Rattle.slotted_graph.proofs.egraph.EGraph.explain_equivalence.Goals.{in-Some, in-None}
 
 pub explain-requires-clause-fresh_slots : goal.explain-requires-clause-fresh_slots
 explain-requires-clause-fresh_slots g c = elim c.self.invariant [
@@ -13,3 +15,10 @@ explain-requires-clause-fresh_slots g c = elim c.self.invariant [
 pub returns-in_err-answer-clause-full : goal.returns-in_err-answer-clause-full
 returns-in_err-answer-clause-full g c e =
     subst (λ (x : Graph). RunsOutForTerms x.image c.args.left.now c.args.right.now x.table c.explain.new.table) c.self.view_is (c.in_err-answer.ensures.full (search rules))
+
+-- `NotEqual` is answered where there is no entry alone
+pub returns-clause-not_equal : goal.returns-clause-not_equal
+returns-clause-not_equal g c e = elim c.match-answer.branch [
+  | in-Some w ↦ absurd (search (rules, sym w.result-is ∙ e))
+  | in-None w ↦ subst (Answers (image_of c.explain.new.store) c.args.left.now c.args.right.now) w.in-None.is c.in_ok-answer.ensures.ok.answers
+]
