@@ -1,5 +1,6 @@
 -- The lemmas that callers and the functions of this crate cite.
 pub mod Printing
+pub mod Refusals
 pub mod Bridges
 pub mod SentOn
 pub mod NumberedSides

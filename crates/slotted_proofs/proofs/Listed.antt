@@ -1,6 +1,6 @@
 -- The entries of a proof list: what is found among them, and what is put after them.
 use Rattle.std.proofs.Common.{◌≡◌, ℕ, zero, suc, ◌+◌, ◌<◌, List, [], ◌∷◌, ◌++◌, length, Option, Some, Bool, true, false, cond, refl, sym, ap, ◌∙◌, subst, inl, inr, arith}
-use Rattle.std.specs.Prelude.{map, is_some, position, slice_get, slice_index_or}
+use Rattle.std.specs.Prelude.{map, is_some, position, slice_get, slice_index_or, Result, Ok, Err, IfOk, OnOk}
 use Rattle.std.specs.Map.{keys_of, lookup}
 use Rattle.std.proofs.lemmas.List.Quantifiers.{position-Some}
 use Rattle.std.proofs.lemmas.Bool.{false≢true, cases_Bool}
@@ -10,7 +10,8 @@ use Rattle.indexmap.specs.IndexMap.{insert_entry}
 use Rattle.slotted_proofs.specs.declared.equation.Equation.{Equation as Sides}
 use Rattle.slotted_proofs.specs.declared.proof.Proof.{Proof}
 use Rattle.slotted_proofs.specs.Equations.{Statement, statement_of, IsWritten}
-use Rattle.slotted_proofs.specs.Entries.{Proven, proven_of, entries_of, statement_at, is_explicit, explicit_from, Stands, IsNew, Enters}
+use Rattle.slotted_slots.specs.declared.error.Error.{Error}
+use Rattle.slotted_proofs.specs.Entries.{Proven, proven_at, proven_of, entries_of, statement_at, is_explicit, explicit_from, Stands, IsNew, Enters}
 use Rattle.slotted_proofs.specs.Stored.{AreWritten}
 use Rattle.slotted_proofs.proofs.Written.{sides_eq, sides_eq-same, same_statement, written_once}
 
@@ -53,6 +54,14 @@ written_at (x ∷ es) zero e w h =
     let same : x ≡ e = cc in
     subst (λ y. IsWritten (statement_of x.0) y) (ap (λ (y : Sides × Proof). y.0) same) w.0
 written_at (x ∷ es) (suc p) e w h = written_at es p e w.1 h
+
+-- what the list shows there
+pub shown_at : (es : List (Sides × Proof)) (p : ℕ) (e : Sides × Proof) → slice_get es p ≡ Some e → proven_at (shown es) p ≡ proven_of e.0 e.1
+shown_at [] p e h = absurd (cc)
+shown_at (x ∷ es) zero e h =
+    let same : x ≡ e = cc in
+    ap (λ (y : Sides × Proof). proven_of y.0 y.1) same
+shown_at (x ∷ es) (suc p) e h = shown_at es p e h
 
 -- the equation of an entry has numbered names and states what stands there
 written_stands : (es : List (Sides × Proof)) (s : Statement) (p : ℕ) → AreWritten es → Stands (shown es) s p → (e : Sides × Proof) × (slice_get es p ≡ Some e) × IsWritten s e.0
@@ -114,3 +123,7 @@ explicit-asserted i (y ∷ list) x h =
 -- what is new and put last is entered
 pub entered_last : (old new : List Proven) (x : Proven) (p : ℕ) → IsNew old x.statement → p ≡ length old → new ≡ old ++ x ∷ [] → Enters old new x p
 entered_last old new x p is_new at more = grind (arith, common_steps, is_new, at, more)
+
+pub entered_by : (r : Result ℕ Error) (old new : List Proven) (x : Proven) → IsNew old x.statement → OnOk r (new ≡ old ++ x ∷ []) → IfOk r (λ p. p ≡ length old) → IfOk r (Enters old new x)
+entered_by (Ok p) old new x is_new more at = entered_last old new x p is_new at more
+entered_by (Err e) old new x is_new more at = tt

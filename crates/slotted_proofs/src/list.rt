@@ -128,6 +128,8 @@ impl ProofList {
         ensures err { OnErr result (self.new ≡ self.old) }
     {
         if let Some(number) = self.number_of(&equation) {
+            drop(proof);
+            drop(equation);
             return Ok(number);
         }
         if proof.is_explicit() {
