@@ -1,7 +1,7 @@
 -- What holds where a loop has gone through a whole list.
 use Rattle.std.proofs.Common.{◌≡◌, ℕ, ◌+◌, ◌<◌, ◌≤◌, Bool, true, false, List, [], ◌∷◌, ◌++◌, length, drop, get_or, append_assoc, add-one, sym, ap, ◌∙◌}
-use Rattle.std.specs.Prelude.{cond}
-use Rattle.std.specs.List.{filter}
+use Rattle.std.specs.Prelude.{cond, ◌&&◌}
+use Rattle.std.specs.List.{filter, list_all}
 use Rattle.std.proofs.Math.Seq.{drop-cons}
 use Rattle.std.proofs.lemmas.List.{append-nil, drop_all}
 
@@ -31,7 +31,16 @@ passes p x xs holds = ap (λ (b : Bool). cond b (x ∷ filter p xs) (filter p xs
 pub fails : {X : Type 0} (p : X → Bool) (x : X) (xs : List X) → p x ≡ false → filter p (x ∷ xs) ≡ filter p xs
 fails p x xs lacks = ap (λ (b : Bool). cond b (x ∷ filter p xs) (filter p xs)) lacks
 
+-- one more element was passed over
+pub passed_over : {X Y : Type 0} (f : List Y → List X) (acc next : List X) (xs : List Y) (i : ℕ) (y : Y) → f (y ∷ drop (i + 1) xs) ≡ f (drop (i + 1) xs) → i < length xs → y ≡ get_or xs i y → next ≡ acc → next ++ f (drop (i + 1) xs) ≡ acc ++ f (drop i xs)
+passed_over f acc next xs i y lacks le is same =
+    ap (λ l. l ++ f (drop (i + 1) xs)) same ∙ ap (λ l. acc ++ l) (sym (ap f (next_element xs i y le is) ∙ lacks))
+
 -- one more element was left out
 pub left_out : {X : Type 0} (p : X → Bool) (acc next xs : List X) (i : ℕ) (x : X) → p x ≡ false → i < length xs → x ≡ get_or xs i x → next ≡ acc → next ++ filter p (drop (i + 1) xs) ≡ acc ++ filter p (drop i xs)
-left_out p acc next xs i x lacks le is same =
-    ap (λ l. l ++ filter p (drop (i + 1) xs)) same ∙ ap (λ l. acc ++ l) (sym (ap (filter p) (next_element xs i x le is) ∙ fails p x (drop (i + 1) xs) lacks))
+left_out p acc next xs i x lacks le is same = passed_over (filter p) acc next xs i x (fails p x (drop (i + 1) xs) lacks) le is same
+
+-- one more element passed a test on all
+pub passed_one : {X : Type 0} (p : X → Bool) (xs : List X) (i : ℕ) (x : X) → p x ≡ true → i < length xs → x ≡ get_or xs i x → list_all p (drop (i + 1) xs) ≡ list_all p (drop i xs)
+passed_one p xs i x holds le is =
+    sym (ap (list_all p) (next_element xs i x le is) ∙ ap (λ (b : Bool). b && list_all p (drop (i + 1) xs)) holds)

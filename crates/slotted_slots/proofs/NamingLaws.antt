@@ -1,6 +1,6 @@
 -- What `named` reads, answers and leaves.
 use Rattle.std.proofs.Common.{◌≡◌, ℕ, ◌+◌, ◌*◌, ◌^◌, ◌<◌, ◌≤◌, Bool, true, false, ◌||◌, ◌≢◌, nat_lt, eqb, not, suc, ◌↔◌, IfOk, IsErrOf, IsOkUnless, max, IsTrue, List, [], ◌∷◌, ◌++◌, length, get_or, Option, Some, None, Result, Ok, Err, refl, sym, ap, subst, arith, ◌∙◌, if◌then◌else◌, cond, inl, inr, map}
-use Rattle.std.specs.Result.{result_ok}
+use Rattle.std.specs.Result.{result_ok, IsErrAnd}
 use Rattle.std.specs.List.{position, position_or_len, list_any}
 use Rattle.std.specs.String.{string_bytes, string_eq}
 use Rattle.std.specs.declared.string.String.{String}
@@ -13,9 +13,10 @@ use Rattle.std.proofs.lemmas.List.Folds.{position_or_len_push}
 use Rattle.std.proofs.lemmas.List.Quantifiers.{position-Some}
 use Rattle.std.proofs.lemmas.Slice.Eq.{bytes_eq-Decides}
 use Rattle.std.proofs.lemmas.Str.Parse.{IsNumeralModel, numerals_by_value, tells_all_ascii_digits}
-use Rattle.slotted_slots.specs.Table.{Table, NamedOutcome, gives, too_large, no_place, Reading, as_number, as_fresh, as_word, numeric_slot, name_slot, is_numeral_u32, reads_u32, reads_fresh, reading_from, reading_of, numeric_outcome, fresh_outcome, word_outcome, outcome_of, place_of, named_of, is_known, KnowsMore, FindsEach, AllWords, IsTable}
+use Rattle.slotted_slots.specs.Table.{Table, NamedOutcome, gives, too_large, no_place, Reading, as_number, as_fresh, as_word, numeric_slot, name_slot, is_numeral_u32, reads_u32, reads_fresh, reading_from, reading_of, numeric_outcome, fresh_outcome, word_outcome, outcome_of, place_of, named_of, is_known, KnowsMore, FindsEach, AllWords, IsTable, slot_limit}
 use Rattle.slotted_slots.specs.declared.error.Error.{Error}
-use Rattle.slotted_slots.specs.declared.error.Error.TheVariants.{NumberTooLarge}
+use Rattle.slotted_slots.specs.declared.error.Error.TheVariants.{NumberTooLarge, OutOfSlots}
+use Rattle.slotted_slots.specs.Error.{IsOutOfMemory}
 use Rattle.slotted_slots.specs.Naming.{Follows}
 use Rattle.slotted_slots.proofs.TableLaws.{is_known-numeric_slot, is_known-fresh_slot, is_known-name_slot, KnowsMore-grows, KnowsMore-refl}
 
@@ -221,6 +222,31 @@ Follows-too_large outcome t e = record {
   only = inr refl;
   err = refl;
 }
+
+-- a table with no place for another name refuses it
+pub Follows-no_place : (t : Table) (bs : List ℕ) → slot_limit ≤ length t.names → Follows (word_outcome t bs None) t t (Err OutOfSlots)
+Follows-no_place t bs high =
+    let none : word_outcome t bs None ≡ no_place = rw (le-ltb (length t.names) slot_limit high) refl in
+    record {
+      slot = tt;
+      large = (λ wrong. absurd (cc), λ wrong. absurd (cc));
+      full = (λ _. none, λ _. refl);
+      only = inl (inr refl);
+      err = refl;
+    }
+
+-- a name with a place may find no memory
+pub Follows-no_memory : (t u : Table) (bs : List ℕ) (r : Result ℕ Error) → length t.names < slot_limit → IsErrAnd r IsOutOfMemory → u ≡ t → Follows (word_outcome t bs None) t u r
+Follows-no_memory t u bs (Ok s) low wrong same = absurd wrong
+Follows-no_memory t u bs (Err e) low short same =
+    let given : word_outcome t bs None ≡ gives (name_slot (length t.names)) (record t { names = t.names ++ bs ∷ [] }) = rw (lt-ltb (length t.names) slot_limit low) refl in
+    record {
+      slot = tt;
+      large = (λ wrong. absurd (cc), λ wrong. absurd (cc));
+      full = (λ wrong. absurd (cc), λ wrong. absurd (cc));
+      only = inl (inl short);
+      err = same;
+    }
 
 -- what `numeric` says, as one fact
 pub Follows-numeric : (t : Table) (n : ℕ) (r : Result ℕ Error) → IfOk r (λ s. s ≡ numeric_slot n) → (IsErrOf r NumberTooLarge ↔ (2 ^ 30 ≤ n)) → IsOkUnless r NumberTooLarge → Follows (numeric_outcome t n) t t r

@@ -1,6 +1,7 @@
 -- The place among the strings is that among their bytes.
-use Rattle.std.proofs.Common.{sym, ◌∙◌, ap, subst}
+use Rattle.std.proofs.Common.{sym, ◌∙◌, ap, subst, arith}
 use Rattle.std.specs.String.{string_bytes}
+use Rattle.std.proofs.lemmas.List.{length-map}
 use Rattle.slotted_slots.specs.Naming.{Follows}
 use Rattle.slotted_slots.specs.Table.{place_of, word_outcome}
 use Rattle.slotted_slots.proofs.NamingLaws.{place_of-map, Follows-gives}
@@ -23,3 +24,12 @@ returns-in-None-clause-follows c =
 pub returns-in-None-clause-memory : goal.returns-in-None-clause-memory
 returns-in-None-clause-memory c =
     λ _. ap (λ t. place_of t.names c.args.s.now) (sym c.self.view_is) ∙ (sym (place_of-map string_bytes c.args.s.now c.self.inside.names.keys) ∙ sym c.in-None.ensures.index)
+
+pub overflow_cast-result : goal.overflow_cast-result
+overflow_cast-result c = omega (arith, c.in-Some.ensures.within, length-map c.self.inside.names.keys string_bytes, c.self.invariant.names_fit)
+
+pub overflow_mul-result : goal.overflow_mul-result
+overflow_mul-result c = omega (arith, c.in-Some.ensures.within, length-map c.self.inside.names.keys string_bytes, c.self.invariant.names_fit)
+
+pub overflow_add-result : goal.overflow_add-result
+overflow_add-result c = omega (arith, c.in-Some.ensures.within, length-map c.self.inside.names.keys string_bytes, c.self.invariant.names_fit)

@@ -1,10 +1,10 @@
 -- The name goes last, and the table stays one.
-use Rattle.std.proofs.Common.{◌≡◌, ◌<◌, ◌^◌, ◌+◌, ◌*◌, ◌++◌, ◌∷◌, [], length, map, None, Ok, sym, ◌∙◌, ap, subst, arith}
+use Rattle.std.proofs.Common.{◌≡◌, ◌<◌, ◌^◌, ◌+◌, ◌*◌, ◌++◌, ◌∷◌, [], length, map, None, Ok, refl, sym, ◌∙◌, ap, subst, arith}
 use Rattle.std.specs.String.{string_bytes}
 use Rattle.std.proofs.lemmas.List.{length-map}
 use Rattle.slotted_slots.specs.Naming.{Follows}
-use Rattle.slotted_slots.specs.Table.{place_of, word_outcome, IsTable}
-use Rattle.slotted_slots.proofs.NamingLaws.{names_after_insert, IsTable-push, Follows-gives, word_outcome-new}
+use Rattle.slotted_slots.specs.Table.{Table, place_of, word_outcome, IsTable}
+use Rattle.slotted_slots.proofs.NamingLaws.{names_after_insert, IsTable-push, Follows-gives, Follows-no_place, Follows-no_memory, word_outcome-new}
 use Rattle.slotted_slots.proofs.slot.SlotTable.push_name.Goals as goal
 
 -- what the text was not found among, and what is there now
@@ -31,3 +31,27 @@ returns-clause-follows c =
 
 pub returns-clause-table : goal.returns-clause-table
 returns-clause-table c = sound c
+
+pub overflow_cast-i : goal.overflow_cast-i
+overflow_cast-i c = omega (arith, length-map c.self.inside.names.keys string_bytes, c.self.invariant.names_fit)
+
+pub overflow_mul-result : goal.overflow_mul-result
+overflow_mul-result c = omega (arith, length-map c.self.inside.names.keys string_bytes, c.self.invariant.names_fit)
+
+pub overflow_add-result : goal.overflow_add-result
+overflow_add-result c = omega (arith, length-map c.self.inside.names.keys string_bytes, c.self.invariant.names_fit)
+
+pub returns-then-i-eq-LIMIT-clause-follows : goal.returns-then-i-eq-LIMIT-clause-follows
+returns-then-i-eq-LIMIT-clause-follows c =
+    Follows-no_place c.args.self.now c.args.s.now (omega (arith, ap (λ (t : Table). length t.names) c.self.view_is, length-map c.self.inside.names.keys string_bytes))
+
+pub returns-in_err-name-clause-follows : goal.returns-in_err-name-clause-follows
+returns-in_err-name-clause-follows c =
+    Follows-no_memory c.args.self.now c.args.self.now c.args.s.now c.from_residual.result
+    (omega (arith, ap (λ (t : Table). length t.names) c.self.view_is, length-map c.self.inside.names.keys string_bytes, c.self.invariant.names_fit)) c.from_residual.ensures.1 refl
+
+pub returns-in_err-insert-clause-follows : goal.returns-in_err-insert-clause-follows
+returns-in_err-insert-clause-follows c =
+    Follows-no_memory c.args.self.now _ c.args.s.now c.from_residual-in_err-insert.result
+    (omega (arith, ap (λ (t : Table). length t.names) c.self.view_is, length-map c.self.inside.names.keys string_bytes, c.self.invariant.names_fit)) c.from_residual-in_err-insert.ensures.1
+    (ap (λ keys. record { fresh = c.self.inside.fresh; names = map string_bytes keys }) c.in_err-insert.ensures.err ∙ c.self.view_is)

@@ -5,6 +5,7 @@ use Rattle.slotted_slots.specs.Maps.{IsInEither, keys}
 use Rattle.slotted_slots.proofs.FreshLaws.{IsNew-from_fresh, IsAscending-filled, fresh_among, from_fresh_step}
 use Rattle.slotted_slots.proofs.Taken.{takes_key}
 use Rattle.slotted_slots.specs.Table.{Takes, TakesAtMost}
+use Rattle.std.proofs.lemmas.List.{take_all}
 use Rattle.slotted_slots.proofs.slot_map.SlotMap.bijection_from_fresh_to.Goals as goal
 
 pub loop-slot-preserved : goal.loop-slot-preserved
@@ -39,3 +40,7 @@ returns-clause-made c s there =
     let xs = c.as_slice-slot-items.result.now in
     let fresh = fresh_among xs c.args.table.now.fresh c.loop-slot.table.fresh (take c.loop-slot.slot-index xs) (keys c.loop-slot.pairs.items) c.loop-slot.invariant.keys s there in
     subst (λ used. IsNew c.args.table.now c.loop-slot.table used s) c.as_slice-slot-items.ensures.elements (IsNew-from_fresh c.args.table.now c.loop-slot.table xs s fresh)
+
+pub returns-clause-values : goal.returns-clause-values
+returns-clause-values c =
+    c.loop-slot.invariant.values ∙ (take_all c.loop-slot.slot-index c.as_slice-slot-items.result.now c.loop-slot-test.false ∙ c.as_slice-slot-items.ensures.elements)

@@ -6,6 +6,7 @@ use Rattle.slotted_slots.specs.Maps.{IsInEither, keys, values, value_of, compose
 use Rattle.slotted_slots.proofs.FreshLaws.{AreFilled, lacked_step, IsCompleted-filled, all_differ-filled, among_second, completed_step, completing_takes, completing_lacks}
 use Rattle.slotted_slots.proofs.Taken.{takes_value}
 use Rattle.slotted_slots.specs.Table.{Takes}
+use Rattle.slotted_slots.specs.Ascending.{IsAscending}
 use Rattle.slotted_slots.proofs.slot_map.SlotMap.compose_fresh.Goals as goal
 
 pub loop-pair-preserved : goal.loop-pair-preserved
@@ -77,3 +78,17 @@ returns-in_err-push-clause-count c =
     let last = subst (λ m. TakesForLacked other (p.1 ∷ []) (both_values m other) c.loop-pair.table c.value_or_fresh.new.table) (c.as_slice.ensures.value ∙ sym c.deref-pair-items.ensures.value) c.in_ok-value.ensures.count in
     subst (λ m. TakesToComplete m other c.args.table.now c.value_or_fresh.new.table) (c.deref-pair-items.ensures.value ∙ c.self.view_is)
     (completing_takes xs other c.loop-pair.pair-index p c.args.table.now c.loop-pair.table c.value_or_fresh.new.table c.loop-pair-test.true c.pair-item.is c.loop-pair.invariant.count last)
+
+pub invariant_of-result : goal.invariant_of-result
+invariant_of-result c =
+    let xs = c.deref-pair-items.result.now in
+    let all : take c.loop-pair.pair-index xs ≡ xs = take_all c.loop-pair.pair-index xs c.loop-pair-test.false in
+    subst IsAscending (sym (c.loop-pair.invariant.keys ∙ (ap keys all ∙ ap keys c.deref-pair-items.ensures.value))) c.self.invariant
+
+pub returns-clause-count : goal.returns-clause-count
+returns-clause-count c =
+    let xs = c.deref-pair-items.result.now in
+    let other = c.args.other.now in
+    let all : take c.loop-pair.pair-index xs ≡ xs = take_all c.loop-pair.pair-index xs c.loop-pair-test.false in
+    subst (λ m. TakesToComplete m other c.args.table.now c.loop-pair.table) (c.deref-pair-items.ensures.value ∙ c.self.view_is)
+    (subst (λ m. TakesForLacked other (values m) (both_values xs other) c.args.table.now c.loop-pair.table) all c.loop-pair.invariant.count)

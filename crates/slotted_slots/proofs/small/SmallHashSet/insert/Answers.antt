@@ -1,7 +1,8 @@
 -- The element goes into the gap, or is there.
-use Rattle.std.proofs.Common.{sym, ap, ◌∙◌, not}
+use Rattle.std.proofs.Common.{sym, ap, ◌∙◌, not, ◌≤◌, length, subst, rules}
 use Rattle.std.proofs.lemmas.Bool.{false≢true}
 use Rattle.slotted_slots.proofs.SetLemmas.{has-at, has-gap, insert_key-at, insert_key-gap, IsStrictlySortedBy-insert_key}
+use Rattle.std.specs.List.Sorted.{IsStrictlySortedBy}
 use Rattle.slotted_slots.proofs.small.SmallHashSet.insert.Goals as goal
 
 pub returns-in_err-insert-in-Err-clause-succeeds : goal.returns-in_err-insert-in-Err-clause-succeeds
@@ -23,3 +24,9 @@ returns-in_ok-insert-in-Err-clause-ok g c = rw (c.in_ok-insert-in-Err.ensures.ok
 
 pub returns-in_ok-insert-in-Err-clause-added : goal.returns-in_ok-insert-in-Err-clause-added
 returns-in_ok-insert-in-Err-clause-added g c = ap not (sym (has-gap g.met.T.Ord.total _ _ _ c.in-Err.ensures.absent))
+
+pub insert-requires : goal.insert-requires
+insert-requires g c = (search rules, subst (λ xs. c.in-Err.at ≤ length xs) (sym c.self.view_is) c.in-Err.ensures.absent.in_range)
+
+pub invariant_of-self : goal.invariant_of-self
+invariant_of-self g c = subst (IsStrictlySortedBy g.T.Ord.cmp) (sym (ap (λ v. v.items) c.in_err-insert-in-Err.ensures.err)) c.self.invariant

@@ -41,3 +41,10 @@ loop-item-preserved g c =
           ∙ c.loop-item.invariant
       | else-shares w ↦ left_out kept acc c.if-shares.items.items items i x (sym c.contains-shares.ensures ∙ w.if-shares.false) c.loop-item-test.true c.item-item.is (ap (λ v. v.items) w.items-is) ∙ c.loop-item.invariant
     ]
+
+pub returns-clause-ok : goal.returns-clause-ok
+returns-clause-ok g c =
+    let cmp = g.T.Ord.cmp in
+    let items = c.as_slice-item-items.result.now in
+    let whole = gathered_all (λ xs. shared cmp xs c.args.other.now) refl c.loop-item.items.items items c.loop-item.item-index c.loop-item-test.false c.loop-item.invariant in
+    whole ∙ ap (λ xs. shared cmp xs c.args.other.now) (c.as_slice-item-items.ensures ∙ c.self.view_is)

@@ -5,6 +5,7 @@ use Rattle.std.proofs.lemmas.List.{drop_all}
 use Rattle.slotted_slots.specs.Sets.{has}
 use Rattle.slotted_slots.proofs.SetAlgebraLaws.{AreApart-from_test, has-element}
 use Rattle.std.proofs.lemmas.Bool.{false≢true}
+use Rattle.slotted_slots.proofs.Loops.{passed_one}
 use Rattle.slotted_slots.proofs.small.SmallHashSet.is_disjoint.Goals as goal
 
 pub returns : goal.returns
@@ -27,3 +28,8 @@ returns-then-contains g c =
       λ y. absurd (false≢true y),
       λ h. absurd (false≢true (sym (h x there) ∙ (sym c.contains.ensures ∙ c.if-contains.true))),
     )
+
+pub loop-item-preserved : goal.loop-item-preserved
+loop-item-preserved g c =
+    passed_one (λ x. not (has g.T.Ord.cmp c.args.other.now x)) c.as_slice-item-items.result.now c.loop-item.item-index c.item-item.result (ap not (sym c.contains.ensures ∙ c.if-contains.false)) c.loop-item-test.true c.item-item.is
+    ∙ c.loop-item.invariant

@@ -5,6 +5,7 @@ use Rattle.std.proofs.lemmas.List.{drop_all}
 use Rattle.slotted_slots.specs.Sets.{has}
 use Rattle.slotted_slots.proofs.SetAlgebraLaws.{IsWithin-from_test, has-element}
 use Rattle.std.proofs.lemmas.Bool.{false≢true}
+use Rattle.slotted_slots.proofs.Loops.{passed_one}
 use Rattle.slotted_slots.proofs.small.SmallHashSet.is_subset.Goals as goal
 
 pub returns : goal.returns
@@ -27,3 +28,8 @@ returns-then-not-contains g c =
       λ y. absurd (false≢true y),
       λ h. absurd (false≢true (sym c.if-not-contains.true ∙ (c.contains.ensures ∙ h x there))),
     )
+
+pub loop-item-preserved : goal.loop-item-preserved
+loop-item-preserved g c =
+    passed_one (has g.T.Ord.cmp c.args.other.now) c.as_slice-item-items.result.now c.loop-item.item-index c.item-item.result (sym c.contains.ensures ∙ c.if-not-contains.false) c.loop-item-test.true c.item-item.is
+    ∙ c.loop-item.invariant

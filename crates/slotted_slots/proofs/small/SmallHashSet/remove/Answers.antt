@@ -1,5 +1,5 @@
 -- The element goes that was found; with none the set stays.
-use Rattle.std.proofs.Common.{sym}
+use Rattle.std.proofs.Common.{sym, ◌<◌, length, subst, rules}
 use Rattle.slotted_slots.proofs.SetAlgebraLaws.{without-at, without-none, IsStrictlySortedBy-without}
 use Rattle.slotted_slots.proofs.SetLemmas.{has-gap, has-at}
 use Rattle.slotted_slots.proofs.small.SmallHashSet.remove.Goals as goal
@@ -20,3 +20,6 @@ returns-in-Err-clause-removed g c = sym (has-gap g.met.T.Ord.total _ _ _ c.in-Er
 
 pub returns-in-Ok-clause-removed : goal.returns-in-Ok-clause-removed
 returns-in-Ok-clause-removed g c = sym (has-at g.met.T.Ord.total _ _ _ c.in-Ok.ensures.found)
+
+pub remove-requires : goal.remove-requires
+remove-requires g c = (search rules, subst (λ xs. c.in-Ok.at < length xs) (sym c.self.view_is) c.in-Ok.ensures.found.in_range)
