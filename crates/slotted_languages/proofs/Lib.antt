@@ -24,3 +24,6 @@ pub mod FreeAndBound
 pub mod PutIn
 pub mod FirstPlaces
 pub mod Counting
+pub mod HandedOn
+pub mod Chosen
+pub mod BelowNext

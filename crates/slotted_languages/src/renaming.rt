@@ -95,7 +95,7 @@ fn choose_name<L: Language>(
     if !avoid.contains(&name) {
         return Ok(name);
     }
-    Ok(fresh_apart(node, names, avoid, table)?)
+    fresh_apart(node, names, avoid, table)
 }
 
 // The new name of a number, which it has from now on.

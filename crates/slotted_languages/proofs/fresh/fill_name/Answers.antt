@@ -1,5 +1,7 @@
 use Rattle.std.proofs.Common.{◌≡◌, ◌∙◌, sym, ap, None, inr}
 use Rattle.slotted_slots.specs.Maps.{is_among, value_of, values}
+use Rattle.slotted_languages.specs.Fresh.{at_hand}
+use Rattle.slotted_languages.proofs.HandedOn.{handed_memory, handed_short, no_slots, not_refused, slots_handed, takes_nothing}
 use Rattle.slotted_languages.proofs.Counting.{values_filled}
 use Rattle.slotted_languages.proofs.Fills.{one_filled, lacks_of}
 use Rattle.slotted_languages.proofs.Taken.{entered_taken, value_kept}
@@ -31,3 +33,33 @@ returns-clause-values g c =
 
 pub returns-then-contains_key-clause-values : goal.returns-then-contains_key-clause-values
 returns-then-contains_key-clause-values g c z h = inr h
+
+pub returns-then-contains_key-clause-count : goal.returns-then-contains_key-clause-count
+returns-then-contains_key-clause-count g c = takes_nothing 1 (at_hand c.args.avoid.now c.args.names.now (g.L.LanguageChildren.form c.args.node.now)) c.args.table.now
+
+pub returns-then-contains_key-clause-full : goal.returns-then-contains_key-clause-full
+returns-then-contains_key-clause-full g c is = not_refused tt is
+
+pub returns-in_err-new-clause-full : goal.returns-in_err-new-clause-full
+returns-in_err-new-clause-full g c is = c.fresh_apart.ensures.full (c.in_err-new.was ∙ slots_handed c.from_residual.result c.in_err-new.field-0.0 c.from_residual.ensures.1 is)
+
+pub returns-in_err-new-clause-only : goal.returns-in_err-new-clause-only
+returns-in_err-new-clause-only g c = handed_short c.from_residual.result c.in_err-new.field-0.0 c.from_residual.ensures.1 (inr c.in_err-new.ensures.only)
+
+pub returns-in_err-insert-clause-full : goal.returns-in_err-insert-clause-full
+returns-in_err-insert-clause-full g c is = no_slots c.from_residual-in_err-insert.result c.in_err-insert.field-0.0 c.from_residual-in_err-insert.ensures.1 c.in_err-insert.ensures.memory is
+
+pub returns-in_err-insert-clause-only : goal.returns-in_err-insert-clause-only
+returns-in_err-insert-clause-only g c = handed_memory c.from_residual-in_err-insert.result c.in_err-insert.field-0.0 c.from_residual-in_err-insert.ensures.1 c.in_err-insert.ensures.memory
+
+pub returns-in_err-new-clause-count : goal.returns-in_err-new-clause-count
+returns-in_err-new-clause-count g c = c.fresh_apart.ensures.count
+
+pub returns-in_err-insert-clause-count : goal.returns-in_err-insert-clause-count
+returns-in_err-insert-clause-count g c = c.fresh_apart.ensures.count
+
+pub returns-clause-count : goal.returns-clause-count
+returns-clause-count g c = c.fresh_apart.ensures.count
+
+pub returns-clause-full : goal.returns-clause-full
+returns-clause-full g c is = not_refused tt is

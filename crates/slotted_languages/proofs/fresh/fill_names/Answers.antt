@@ -1,11 +1,13 @@
-use Rattle.std.proofs.Common.{◌≡◌, ◌+◌, ◌∙◌, ap, arith, inl, inr, length, rules}
+use Rattle.std.proofs.Common.{◌≡◌, ◌+◌, ◌∙◌, ap, arith, inl, inr, length, subst, ◌≤◌}
 use Rattle.slotted_slots.specs.Maps.{values}
 use Rattle.slotted_slots.proofs.Ascending.{IsAscending-from_sorted}
 use Rattle.slotted_slots.proofs.SlotsTaken.{at_most_more, at_most_then}
-use Rattle.slotted_languages.specs.Fresh.{RunsOut, at_hand}
+use Rattle.slotted_languages.specs.Fresh.{IsFilled, RunsOut, at_hand}
 use Rattle.slotted_languages.proofs.Counting.{in_use_at_hand, runs_out_beside, runs_out_more, runs_out_then, takes_beside, values_at_hand, values_then}
 use Rattle.slotted_languages.proofs.Fills.{next_filled}
 use Rattle.slotted_languages.proofs.Taken.{grown_taken}
+use Rattle.slotted_languages.proofs.HandedOn.{handed_short, not_refused, slots_handed}
+use Rattle.std.proofs.lemmas.List.{take_all}
 use Rattle.slotted_languages.proofs.fresh.fill_names.Goals as goal
 
 pub loop-name-preserved : goal.loop-name-preserved
@@ -51,10 +53,33 @@ returns-in_err-fill_name-clause-count g c =
 pub returns-in_err-fill_name-clause-full : goal.returns-in_err-fill_name-clause-full
 returns-in_err-fill_name-clause-full g c is =
     let f = g.L.LanguageChildren.form c.args.node.now in
-    let out : RunsOut 1 (at_hand c.args.wanted.now c.loop-name.names f) c.loop-name.table c.fill_name.new.table = search rules in
+    let out : RunsOut 1 (at_hand c.args.wanted.now c.loop-name.names f) c.loop-name.table c.fill_name.new.table = c.fill_name.ensures.full (c.in_err-fill_name.was ∙ slots_handed c.from_residual.result c.in_err-fill_name.field-0.0 c.from_residual.ensures.1 is) in
     let hand = at_hand c.args.wanted.now c.args.names.now f in
     let same : length c.as_slice-name-items.result.now ≡ length c.args.wanted.now = ap (λ xs. length xs) c.as_slice-name-items.ensures.elements in
     runs_out_more (c.loop-name.name-index + 1) (length c.args.wanted.now) hand c.args.table.now c.fill_name.new.table (omega (arith, same, c.loop-name-test.true))
     (runs_out_then 1 c.loop-name.name-index hand c.args.table.now c.loop-name.table c.fill_name.new.table c.loop-name.invariant.count
     (runs_out_beside 1 c.loop-name.table c.fill_name.new.table c.args.wanted.now hand c.loop-name.names f c.fill_name.ensures.more (values_at_hand c.loop-name.table c.args.wanted.now c.args.names.now c.loop-name.names f c.loop-name.invariant.valued)
     (λ z q. in_use_at_hand c.args.wanted.now c.args.names.now f z (inl q)) (λ z q. in_use_at_hand c.args.wanted.now c.args.names.now f z (inr (inr q))) out))
+
+pub returns-in_err-fill_name-clause-only : goal.returns-in_err-fill_name-clause-only
+returns-in_err-fill_name-clause-only g c = handed_short c.from_residual.result c.in_err-fill_name.field-0.0 c.from_residual.ensures.1 c.in_err-fill_name.ensures.only
+
+pub returns-in_err-fill_name-clause-more : goal.returns-in_err-fill_name-clause-more
+returns-in_err-fill_name-clause-more g c z k = c.fill_name.ensures.more z (c.loop-name.invariant.more z k)
+
+pub returns-in_err-fill_name-clause-kept : goal.returns-in_err-fill_name-clause-kept
+returns-in_err-fill_name-clause-kept g c = c.fill_name.ensures.kept ∙ c.loop-name.invariant.kept
+
+pub returns-clause-full : goal.returns-clause-full
+returns-clause-full g c is = not_refused tt is
+
+pub returns-clause-taken : goal.returns-clause-taken
+returns-clause-taken g c = c.loop-name.invariant.taken
+
+pub returns-clause-ok : goal.returns-clause-ok
+returns-clause-ok g c =
+    let f = (g.L.LanguageChildren.form c.args.node.now) in
+    let items = c.as_slice-name-items.result.now in
+    let le : length items ≤ c.loop-name.name-index = omega (arith, c.loop-name-test.false) in
+    subst (λ ws. IsFilled c.args.table.now c.loop-name.table f.names ws c.args.names.now c.loop-name.names)
+    (take_all c.loop-name.name-index items le ∙ c.as_slice-name-items.ensures.elements) c.loop-name.invariant.filled

@@ -7,6 +7,7 @@ use Rattle.slotted_languages.proofs.Counting.{refreshed_runs_out, refreshed_take
 use Rattle.slotted_languages.proofs.Fills.{refreshed}
 use Rattle.slotted_languages.proofs.PutIn.{replaced_put}
 use Rattle.slotted_languages.proofs.Taken.{replaced_taken}
+use Rattle.slotted_languages.proofs.HandedOn.{handed_short, memory_only}
 use Rattle.slotted_languages.proofs.fresh.refresh_names.Goals as goal
 
 pub returns-clause-ok : goal.returns-clause-ok
@@ -57,3 +58,9 @@ returns-in_err-fill_names-clause-full g c is =
     let wanted = c.args.wanted.now in
     let out : RunsOut (length wanted) (at_hand wanted c.new-names.result f) c.args.table.now c.fill_names.new.table = search rules in
     inr (refreshed_runs_out c.args.table.now c.fill_names.new.table wanted c.new-names.result f c.new-names.ensures c.fill_names.ensures.sorted c.requires.own c.fill_names.ensures.more out)
+
+pub returns-in_err-fill_names-clause-only : goal.returns-in_err-fill_names-clause-only
+returns-in_err-fill_names-clause-only g c = handed_short c.from_residual.result c.in_err-fill_names.field-0.0 c.from_residual.ensures.1 c.in_err-fill_names.ensures.only
+
+pub returns-clause-full : goal.returns-clause-full
+returns-clause-full g c is = memory_only c.replace_names.result c.replace_names.ensures.err is

@@ -1,10 +1,11 @@
 -- The loop has gone through all places.
-use Rattle.std.proofs.Common.{◌≡◌, ◌∙◌, length, ap, arith}
-use Rattle.std.proofs.lemmas.Grind.{common_steps}
+use Rattle.std.proofs.Common.{◌≡◌, ◌++◌, ◌∷◌, ◌∙◌, [], length, ap, sym, arith}
 use Rattle.slotted_languages.specs.Occurrences.{names_where}
 use Rattle.slotted_nodes.specs.Public.{is_public}
+use Rattle.slotted_languages.proofs.BelowNext.{where_other, where_there}
 use Rattle.slotted_languages.proofs.PublicNames.{public_free}
 use Rattle.slotted_languages.proofs.places.seen_names.Goals as goal
+use Rattle.slotted_languages.proofs.places.seen_names.Goals.{then-is_public+in_ok-push, else-is_public}
 
 pub returns-clause-free : goal.returns-clause-free
 returns-clause-free g c =
@@ -13,4 +14,9 @@ returns-clause-free g c =
     c.loop-i.invariant ∙ (ap (names_where (is_public f) f.names) e ∙ public_free f (g.met.L.LanguageChildren.fits c.args.node.now))
 
 pub loop-i-preserved : goal.loop-i-preserved
-loop-i-preserved g c = grind (arith, common_steps)
+loop-i-preserved g c =
+    let f = (g.L.LanguageChildren.form c.args.node.now) in
+    elim c.if-is_public.branch [
+      | then-is_public+in_ok-push w ↦ ap (λ v. v.items) w.seen-is ∙ (w.in_ok-push.ensures.items ∙ (ap (λ xs. xs ++ w.slot.result ∷ []) c.loop-i.invariant ∙ (ap (λ x. names_where (is_public f) f.names c.loop-i.i ++ x ∷ []) w.slot.ensures ∙ sym (where_there (is_public f) f.names c.loop-i.i (sym c.is_public.ensures.test ∙ w.if-is_public.true)))))
+      | else-is_public w ↦ ap (λ v. v.items) w.seen-is ∙ (c.loop-i.invariant ∙ sym (where_other (is_public f) f.names c.loop-i.i (sym c.is_public.ensures.test ∙ w.if-is_public.false)))
+    ]

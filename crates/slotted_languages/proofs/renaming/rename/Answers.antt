@@ -1,4 +1,4 @@
-use Rattle.std.proofs.Common.{◌≡◌, ◌<◌, ◌+◌, ◌++◌, ◌∙◌, length, rules, sym, ap, arith, refl}
+use Rattle.std.proofs.Common.{◌≡◌, ◌<◌, ◌+◌, ◌++◌, ◌∙◌, length, sym, ap, arith, refl}
 use Rattle.std.specs.Prelude.{true}
 use Rattle.std.proofs.lemmas.Bool.{false≢true}
 use Rattle.slotted_slots.specs.Maps.{is_among, values}
@@ -9,6 +9,7 @@ use Rattle.slotted_languages.specs.Fresh.{IsInUse, RunsOut, at_hand}
 use Rattle.slotted_languages.specs.Renaming.{HasName}
 use Rattle.slotted_languages.proofs.TakenNames.{all_taken, entered_stands, entered_takes, renaming_length}
 use Rattle.slotted_languages.proofs.Renamings.{all_renamed, among_index, none_renamed, one_renamed}
+use Rattle.slotted_languages.proofs.HandedOn.{handed_short, not_refused, slots_handed}
 use Rattle.slotted_languages.proofs.renaming.rename.Goals as goal
 
 pub loop-i-init : goal.loop-i-init
@@ -85,8 +86,36 @@ returns-in_err-new-clause-full g c is =
     let ys = c.args.avoid.now ++ f.names in
     let i = c.loop-i.i in
     let lt : i < length f.names = omega (arith, c.loop-i-test.true, c.slot_count-i-end.ensures) in
-    let out : RunsOut 1 (at_hand c.args.avoid.now c.loop-i.names f) c.loop-i.table c.new_name.new.table = search rules in
-    let needed : ¬ (HasName c.loop-i.names c.args.free.now c.slot-number.result) = search rules in
+    let refused = c.in_err-new.was ∙ slots_handed c.from_residual.result c.in_err-new.field-0.0 c.from_residual.ensures.1 is in
+    let out : RunsOut 1 (at_hand c.args.avoid.now c.loop-i.names f) c.loop-i.table c.new_name.new.table = c.new_name.ensures.full refused in
+    let needed : ¬ (HasName c.loop-i.names c.args.free.now c.slot-number.result) = c.new_name.ensures.needed refused in
     place_runs_out c.args.table.now c.loop-i.table c.new_name.new.table f ys i (length f.names) lt c.loop-i.invariant.count (λ clear. needed (number_named c.args.table.now c.loop-i.table f (form c.loop-i.numbered) c.args.avoid.now c.args.free.now c.loop-i.names i c.slot-number.result (g.met.L.LanguageChildren.fits c.args.node.now) lt c.requires.free c.loop-i.invariant.renamed c.slot-number.ensures clear))
     (runs_out_beside 1 c.loop-i.table c.new_name.new.table c.args.avoid.now ys c.loop-i.names f c.new_name.ensures.more c.loop-i.invariant.valued
     (among_left c.args.avoid.now f.names) (among_right c.args.avoid.now f.names) out)
+
+pub slot-name-requires : goal.slot-name-requires
+slot-name-requires g c = omega (arith, c.loop-i-test.true, c.slot_count-i-end.ensures)
+
+pub slot-number-requires : goal.slot-number-requires
+slot-number-requires g c =
+    let form = g.L.LanguageChildren.form in
+    let same = renaming_length c.args.table.now c.loop-i.table (form c.args.node.now) (form c.loop-i.numbered) c.args.avoid.now c.args.free.now c.loop-i.names c.loop-i.i c.loop-i.invariant.renamed in
+    omega (arith, c.loop-i-test.true, c.slot_count-i-end.ensures, same)
+
+pub set_slot-requires : goal.set_slot-requires
+set_slot-requires g c =
+    let form = g.L.LanguageChildren.form in
+    let same = renaming_length c.args.table.now c.loop-i.table (form c.args.node.now) (form c.loop-i.numbered) c.args.avoid.now c.args.free.now c.loop-i.names c.loop-i.i c.loop-i.invariant.renamed in
+    omega (arith, c.loop-i-test.true, c.slot_count-i-end.ensures, same)
+
+pub returns-in_err-new-clause-only : goal.returns-in_err-new-clause-only
+returns-in_err-new-clause-only g c = handed_short c.from_residual.result c.in_err-new.field-0.0 c.from_residual.ensures.1 c.in_err-new.ensures.only
+
+pub returns-in_err-new-clause-more : goal.returns-in_err-new-clause-more
+returns-in_err-new-clause-more g c z k = c.new_name.ensures.more z (c.loop-i.invariant.more z k)
+
+pub returns-in_err-new-clause-kept : goal.returns-in_err-new-clause-kept
+returns-in_err-new-clause-kept g c = c.new_name.ensures.kept ∙ c.loop-i.invariant.kept
+
+pub returns-clause-full : goal.returns-clause-full
+returns-clause-full g c is = not_refused c.loop-i.numbered is

@@ -1,5 +1,4 @@
-use Rattle.std.proofs.lemmas.Grind.{common_steps}
-use Rattle.std.proofs.Common.{◌++◌, ◌∙◌, ap, sym, inl, inr, arith}
+use Rattle.std.proofs.Common.{◌++◌, ◌∙◌, ap, sym, inl, inr}
 use Rattle.slotted_slots.specs.Maps.{keys, values}
 use Rattle.slotted_slots.proofs.SlotsTaken.{at_most_beside}
 use Rattle.slotted_languages.specs.Children.{binders}
@@ -13,6 +12,7 @@ use Rattle.slotted_languages.proofs.PutIn.{renamed_put}
 use Rattle.slotted_languages.proofs.Renamings.{has_values, composed_shape}
 use Rattle.slotted_languages.proofs.Shapes.{values-shape}
 use Rattle.slotted_languages.proofs.TakenNames.{avoided_taken, both_ok, value_free, value_stands}
+use Rattle.slotted_languages.proofs.HandedOn.{handed_memory, handed_short, handed_slots, no_slots, not_large, slots_handed, small_of, takes_nothing}
 use Rattle.slotted_languages.proofs.language.Language.apply_slotmap.Goals as goal
 
 pub rename-requires-clause-avoided : goal.rename-requires-clause-avoided
@@ -43,12 +43,6 @@ returns-clause-renamed g c =
     let f = g.Self.LanguageChildren.form c.args.self.now in
     let e = c.in_ok-names.ensures.ok ∙ composed_shape f c.args.m.now c.in_ok-numbered.free c.requires (λ i. (c.in_ok-numbered.ensures.shape i).1) in
     IfOk-weaker c.rename.result _ _ (λ r h. (h (filled c.args.m.now) e).renamed) c.rename.ensures.renamed
-
-pub rename-requires-clause-numbered : goal.rename-requires-clause-numbered
-rename-requires-clause-numbered g c = grind (arith, common_steps)
-
-pub rename-requires-clause-small : goal.rename-requires-clause-small
-rename-requires-clause-small g c = grind (arith, common_steps)
 
 pub returns-clause-known : goal.returns-clause-known
 returns-clause-known g c =
@@ -94,3 +88,48 @@ returns-clause-full g c is =
     let m = c.args.m.now in
     inr (runs_out_from (binders f) (avoid ++ f.names) (values m ++ f.names) c.args.table.now c.rename.new.table c.rename.ensures.more
     (λ z before h. composed_within f avoid c.in_ok-numbered.free m c.in_ok-names.names c.in_ok-avoid.ensures.members c.in_ok-names.ensures.ok z h) (c.rename.ensures.full is))
+
+pub returns-in_err-numbered-clause-large : goal.returns-in_err-numbered-clause-large
+returns-in_err-numbered-clause-large g c large = handed_slots c.from_residual.result c.in_err-numbered.field-0.0 c.from_residual.ensures.1 (c.in_err-numbered.ensures.full.1 large)
+
+pub returns-in_err-numbered-clause-full : goal.returns-in_err-numbered-clause-full
+returns-in_err-numbered-clause-full g c is = inl (c.in_err-numbered.ensures.full.0 (slots_handed c.from_residual.result c.in_err-numbered.field-0.0 c.from_residual.ensures.1 is))
+
+pub returns-in_err-numbered-clause-count : goal.returns-in_err-numbered-clause-count
+returns-in_err-numbered-clause-count g c = takes_nothing (binders (g.Self.LanguageChildren.form c.args.self.now)) (values c.args.m.now ++ (g.Self.LanguageChildren.form c.args.self.now).names) c.args.table.now
+
+pub returns-in_err-numbered-clause-only : goal.returns-in_err-numbered-clause-only
+returns-in_err-numbered-clause-only g c = handed_short c.from_residual.result c.in_err-numbered.field-0.0 c.from_residual.ensures.1 c.in_err-numbered.ensures.only
+
+pub returns-in_err-names-clause-large : goal.returns-in_err-names-clause-large
+returns-in_err-names-clause-large g c large = not_large (c.in_ok-numbered.numbered, c.in_ok-numbered.free) (g.Self.LanguageChildren.form c.args.self.now) c.in_ok-numbered.ensures.full large
+
+pub returns-in_err-names-clause-full : goal.returns-in_err-names-clause-full
+returns-in_err-names-clause-full g c is = no_slots c.from_residual-in_err-names.result c.in_err-names.field-0.0 c.from_residual-in_err-names.ensures.1 c.in_err-names.ensures.memory is
+
+pub returns-in_err-names-clause-count : goal.returns-in_err-names-clause-count
+returns-in_err-names-clause-count g c = takes_nothing (binders (g.Self.LanguageChildren.form c.args.self.now)) (values c.args.m.now ++ (g.Self.LanguageChildren.form c.args.self.now).names) c.args.table.now
+
+pub returns-in_err-names-clause-only : goal.returns-in_err-names-clause-only
+returns-in_err-names-clause-only g c = handed_memory c.from_residual-in_err-names.result c.in_err-names.field-0.0 c.from_residual-in_err-names.ensures.1 c.in_err-names.ensures.memory
+
+pub returns-in_err-avoid-clause-large : goal.returns-in_err-avoid-clause-large
+returns-in_err-avoid-clause-large g c large = not_large (c.in_ok-numbered.numbered, c.in_ok-numbered.free) (g.Self.LanguageChildren.form c.args.self.now) c.in_ok-numbered.ensures.full large
+
+pub returns-in_err-avoid-clause-full : goal.returns-in_err-avoid-clause-full
+returns-in_err-avoid-clause-full g c is = no_slots c.from_residual-in_err-avoid.result c.in_err-avoid.field-0.0 c.from_residual-in_err-avoid.ensures.1 c.in_err-avoid.ensures.memory is
+
+pub returns-in_err-avoid-clause-count : goal.returns-in_err-avoid-clause-count
+returns-in_err-avoid-clause-count g c = takes_nothing (binders (g.Self.LanguageChildren.form c.args.self.now)) (values c.args.m.now ++ (g.Self.LanguageChildren.form c.args.self.now).names) c.args.table.now
+
+pub returns-in_err-avoid-clause-only : goal.returns-in_err-avoid-clause-only
+returns-in_err-avoid-clause-only g c = handed_memory c.from_residual-in_err-avoid.result c.in_err-avoid.field-0.0 c.from_residual-in_err-avoid.ensures.1 c.in_err-avoid.ensures.memory
+
+pub rename-requires-clause-small : goal.rename-requires-clause-small
+rename-requires-clause-small g c = small_of (c.in_ok-numbered.numbered, c.in_ok-numbered.free) (g.Self.LanguageChildren.form c.args.self.now) c.in_ok-numbered.ensures.full
+
+pub rename-requires-clause-numbered : goal.rename-requires-clause-numbered
+rename-requires-clause-numbered g c = λ i. (c.in_ok-numbered.ensures.shape i).0
+
+pub returns-clause-large : goal.returns-clause-large
+returns-clause-large g c large = not_large (c.in_ok-numbered.numbered, c.in_ok-numbered.free) (g.Self.LanguageChildren.form c.args.self.now) c.in_ok-numbered.ensures.full large

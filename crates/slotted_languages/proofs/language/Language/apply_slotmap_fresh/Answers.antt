@@ -1,15 +1,16 @@
 -- The map that was filled knows each free slot.
-use Rattle.std.proofs.Common.{◌∙◌, inl, inr, length, rules, subst}
+use Rattle.std.proofs.Common.{◌++◌, ◌∙◌, inl, inr, length, rules, subst}
 use Rattle.std.proofs.lemmas.Result.{IfOk-weaker}
 use Rattle.slotted_languages.specs.Fresh.{IsFilled, RunsOut, at_hand}
 use Rattle.slotted_languages.specs.NodeTerm.{free_names_of}
 use Rattle.slotted_slots.specs.Ascending.{IsAscending}
-use Rattle.slotted_slots.specs.Maps.{keys}
+use Rattle.slotted_slots.specs.Maps.{keys, values}
 use Rattle.slotted_slots.specs.Table.{TakesAtMost}
 use Rattle.slotted_languages.proofs.Counting.{filled_runs_out, filled_takes, filling_runs_out, filling_takes}
 use Rattle.slotted_languages.proofs.TakenNames.{both_ok, filled_taken}
 use Rattle.slotted_languages.proofs.Fills.{knows_each, renamed_fresh}
 use Rattle.slotted_languages.proofs.PutIn.{filled_put}
+use Rattle.slotted_languages.proofs.HandedOn.{handed_memory, handed_short, handed_slots, no_slots, not_large, slots_handed, small_of, takes_nothing}
 use Rattle.slotted_languages.proofs.language.Language.apply_slotmap_fresh.Goals as goal
 
 pub apply_slotmap-requires : goal.apply_slotmap-requires
@@ -116,3 +117,51 @@ returns-in_err-fill_names-clause-full g c is =
     let last : RunsOut (length wanted) (at_hand wanted c.in_ok-names.names f) t u = search rules in
     let out = subst (λ n. RunsOut (length wanted) (at_hand wanted n f) t u) c.in_ok-names.ensures.ok last in
     inr (filling_runs_out t u wanted m f fits c.fill_names.ensures.sorted c.in_ok-wanted.ensures.members c.fill_names.ensures.more out)
+
+pub returns-in_err-wanted-clause-large : goal.returns-in_err-wanted-clause-large
+returns-in_err-wanted-clause-large g c large = handed_slots c.from_residual.result c.in_err-wanted.field-0.0 c.from_residual.ensures.1 (c.in_err-wanted.ensures.full.1 large)
+
+pub returns-in_err-wanted-clause-full : goal.returns-in_err-wanted-clause-full
+returns-in_err-wanted-clause-full g c is = inl (c.in_err-wanted.ensures.full.0 (slots_handed c.from_residual.result c.in_err-wanted.field-0.0 c.from_residual.ensures.1 is))
+
+pub returns-in_err-wanted-clause-count : goal.returns-in_err-wanted-clause-count
+returns-in_err-wanted-clause-count g c = takes_nothing (length (g.Self.LanguageChildren.form c.args.self.now).names) (values c.args.m.now ++ (g.Self.LanguageChildren.form c.args.self.now).names) c.args.table.now
+
+pub returns-in_err-wanted-clause-only : goal.returns-in_err-wanted-clause-only
+returns-in_err-wanted-clause-only g c = handed_short c.from_residual.result c.in_err-wanted.field-0.0 c.from_residual.ensures.1 c.in_err-wanted.ensures.only
+
+pub returns-in_err-names-clause-large : goal.returns-in_err-names-clause-large
+returns-in_err-names-clause-large g c large = not_large c.in_ok-wanted.wanted (g.Self.LanguageChildren.form c.args.self.now) c.in_ok-wanted.ensures.full large
+
+pub returns-in_err-names-clause-full : goal.returns-in_err-names-clause-full
+returns-in_err-names-clause-full g c is = no_slots c.from_residual-in_err-names.result c.in_err-names.field-0.0 c.from_residual-in_err-names.ensures.1 c.in_err-names.ensures.memory is
+
+pub returns-in_err-names-clause-count : goal.returns-in_err-names-clause-count
+returns-in_err-names-clause-count g c = takes_nothing (length (g.Self.LanguageChildren.form c.args.self.now).names) (values c.args.m.now ++ (g.Self.LanguageChildren.form c.args.self.now).names) c.args.table.now
+
+pub returns-in_err-names-clause-only : goal.returns-in_err-names-clause-only
+returns-in_err-names-clause-only g c = handed_memory c.from_residual-in_err-names.result c.in_err-names.field-0.0 c.from_residual-in_err-names.ensures.1 c.in_err-names.ensures.memory
+
+pub fill_names-requires : goal.fill_names-requires
+fill_names-requires g c = record { small = small_of c.in_ok-wanted.wanted (g.Self.LanguageChildren.form c.args.self.now) c.in_ok-wanted.ensures.full }
+
+pub returns-in_err-fill_names-clause-large : goal.returns-in_err-fill_names-clause-large
+returns-in_err-fill_names-clause-large g c large = not_large c.in_ok-wanted.wanted (g.Self.LanguageChildren.form c.args.self.now) c.in_ok-wanted.ensures.full large
+
+pub returns-in_err-fill_names-clause-only : goal.returns-in_err-fill_names-clause-only
+returns-in_err-fill_names-clause-only g c = handed_short c.from_residual-in_err-fill_names.result c.in_err-fill_names.field-0.0 c.from_residual-in_err-fill_names.ensures.1 c.in_err-fill_names.ensures.only
+
+pub returns-clause-stays : goal.returns-clause-stays
+returns-clause-stays g c = c.apply_slotmap.ensures.stays
+
+pub returns-clause-checked : goal.returns-clause-checked
+returns-clause-checked g c = c.apply_slotmap.ensures.checked
+
+pub returns-clause-large : goal.returns-clause-large
+returns-clause-large g c large = not_large c.in_ok-wanted.wanted (g.Self.LanguageChildren.form c.args.self.now) c.in_ok-wanted.ensures.full large
+
+pub returns-clause-more : goal.returns-clause-more
+returns-clause-more g c z k = c.apply_slotmap.ensures.more z (c.fill_names.ensures.more z k)
+
+pub returns-clause-kept : goal.returns-clause-kept
+returns-clause-kept g c = c.apply_slotmap.ensures.kept ∙ c.fill_names.ensures.kept

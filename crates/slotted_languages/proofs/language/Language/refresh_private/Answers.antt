@@ -15,6 +15,7 @@ use Rattle.slotted_languages.proofs.FreeAndBound.{none_meets}
 use Rattle.slotted_languages.proofs.PutIn.{same_put}
 use Rattle.slotted_languages.proofs.Occurrences.{is_among-firsts, lacks_smaller}
 use Rattle.slotted_languages.proofs.Renamings.{among_index, has_values, moved_same, renamed_same}
+use Rattle.slotted_languages.proofs.HandedOn.{handed_memory, handed_short, handed_slots, no_slots, not_large, slots_handed, small_of, takes_nothing}
 use Rattle.slotted_languages.proofs.language.Language.refresh_private.Goals as goal
 
 pub rename-requires-clause-avoided : goal.rename-requires-clause-avoided
@@ -112,3 +113,51 @@ returns-clause-full g c is =
     let avoid = c.add_names.new.set in
     inr (runs_out_from (binders f) (avoid ++ f.names) f.names c.args.table.now c.rename.new.table c.rename.ensures.more
     (λ z before h. avoided_stands f c.in_ok-avoid.avoid avoid c.in_ok-numbered.free (g.met.Self.LanguageChildren.fits c.args.self.now) c.in_ok-numbered.ensures.names c.in_ok-avoid.ensures.members c.in_ok-add_names.ensures.within z h) (c.rename.ensures.full is))
+
+pub returns-in_err-numbered-clause-large : goal.returns-in_err-numbered-clause-large
+returns-in_err-numbered-clause-large g c large = handed_slots c.from_residual.result c.in_err-numbered.field-0.0 c.from_residual.ensures.1 (c.in_err-numbered.ensures.full.1 large)
+
+pub returns-in_err-numbered-clause-full : goal.returns-in_err-numbered-clause-full
+returns-in_err-numbered-clause-full g c is = inl (c.in_err-numbered.ensures.full.0 (slots_handed c.from_residual.result c.in_err-numbered.field-0.0 c.from_residual.ensures.1 is))
+
+pub returns-in_err-numbered-clause-count : goal.returns-in_err-numbered-clause-count
+returns-in_err-numbered-clause-count g c = takes_nothing (binders (g.Self.LanguageChildren.form c.args.self.now)) (g.Self.LanguageChildren.form c.args.self.now).names c.args.table.now
+
+pub returns-in_err-numbered-clause-only : goal.returns-in_err-numbered-clause-only
+returns-in_err-numbered-clause-only g c = handed_short c.from_residual.result c.in_err-numbered.field-0.0 c.from_residual.ensures.1 c.in_err-numbered.ensures.only
+
+pub returns-in_err-avoid-clause-large : goal.returns-in_err-avoid-clause-large
+returns-in_err-avoid-clause-large g c large = not_large (c.in_ok-numbered.numbered, c.in_ok-numbered.free) (g.Self.LanguageChildren.form c.args.self.now) c.in_ok-numbered.ensures.full large
+
+pub returns-in_err-avoid-clause-full : goal.returns-in_err-avoid-clause-full
+returns-in_err-avoid-clause-full g c is = no_slots c.from_residual-in_err-avoid.result c.in_err-avoid.field-0.0 c.from_residual-in_err-avoid.ensures.1 c.in_err-avoid.ensures.memory is
+
+pub returns-in_err-avoid-clause-count : goal.returns-in_err-avoid-clause-count
+returns-in_err-avoid-clause-count g c = takes_nothing (binders (g.Self.LanguageChildren.form c.args.self.now)) (g.Self.LanguageChildren.form c.args.self.now).names c.args.table.now
+
+pub returns-in_err-avoid-clause-only : goal.returns-in_err-avoid-clause-only
+returns-in_err-avoid-clause-only g c = handed_memory c.from_residual-in_err-avoid.result c.in_err-avoid.field-0.0 c.from_residual-in_err-avoid.ensures.1 c.in_err-avoid.ensures.memory
+
+pub returns-in_err-add_names-clause-large : goal.returns-in_err-add_names-clause-large
+returns-in_err-add_names-clause-large g c large = not_large (c.in_ok-numbered.numbered, c.in_ok-numbered.free) (g.Self.LanguageChildren.form c.args.self.now) c.in_ok-numbered.ensures.full large
+
+pub returns-in_err-add_names-clause-full : goal.returns-in_err-add_names-clause-full
+returns-in_err-add_names-clause-full g c is = no_slots c.from_residual-in_err-add_names.result c.in_err-add_names.field-0.0 c.from_residual-in_err-add_names.ensures.1 c.in_err-add_names.ensures.only is
+
+pub returns-in_err-add_names-clause-count : goal.returns-in_err-add_names-clause-count
+returns-in_err-add_names-clause-count g c = takes_nothing (binders (g.Self.LanguageChildren.form c.args.self.now)) (g.Self.LanguageChildren.form c.args.self.now).names c.args.table.now
+
+pub returns-in_err-add_names-clause-only : goal.returns-in_err-add_names-clause-only
+returns-in_err-add_names-clause-only g c = handed_memory c.from_residual-in_err-add_names.result c.in_err-add_names.field-0.0 c.from_residual-in_err-add_names.ensures.1 c.in_err-add_names.ensures.only
+
+pub add_names-requires : goal.add_names-requires
+add_names-requires g c = record { small = small_of (c.in_ok-numbered.numbered, c.in_ok-numbered.free) (g.Self.LanguageChildren.form c.args.self.now) c.in_ok-numbered.ensures.full }
+
+pub rename-requires-clause-small : goal.rename-requires-clause-small
+rename-requires-clause-small g c = small_of (c.in_ok-numbered.numbered, c.in_ok-numbered.free) (g.Self.LanguageChildren.form c.args.self.now) c.in_ok-numbered.ensures.full
+
+pub rename-requires-clause-numbered : goal.rename-requires-clause-numbered
+rename-requires-clause-numbered g c = λ i. (c.in_ok-numbered.ensures.shape i).0
+
+pub returns-clause-large : goal.returns-clause-large
+returns-clause-large g c large = not_large (c.in_ok-numbered.numbered, c.in_ok-numbered.free) (g.Self.LanguageChildren.form c.args.self.now) c.in_ok-numbered.ensures.full large
