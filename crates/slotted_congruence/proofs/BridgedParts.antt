@@ -1,12 +1,9 @@
 -- Proofs of equations, one for each, as the parts of a congruent step, and the congruence that the step proves.
 use Rattle.std.proofs.Common.{◌≡◌, ◌<◌, ◌+◌, ℕ, List, [], ◌∷◌, ◌++◌, length, sym, ◌∙◌, ap, refl, subst, inl, inr, arith, length-append}
-use Rattle.std.specs.Prelude.{All, slice_index_or, Result, Ok, Err, IfErr, IsErrOf}
+use Rattle.std.specs.Prelude.{slice_index_or}
 use Rattle.std.proofs.Math.Seq.{get_or-append_seam}
 use Rattle.std.proofs.lemmas.Bool.{cases_eq}
 use Rattle.std.proofs.lemmas.List.{get_or_append_left}
-use Rattle.slotted_slots.specs.declared.error.Error.{Error}
-use Rattle.slotted_slots.specs.declared.error.Error.TheVariants.{BadStep}
-use Rattle.slotted_slots.specs.Error.{IsShortage}
 use Rattle.slotted_theory.specs.Nameless.{DTerm}
 use Rattle.slotted_model.specs.Applied.{Applied}
 use Rattle.slotted_model.specs.Classes.{canonical_node, canonical_slots, IsFull}
@@ -19,7 +16,7 @@ use Rattle.slotted_proofs.specs.Entries.{Proven, statement_at}
 use Rattle.slotted_proofs.specs.Equations.{Statement, to_applied, equality, statement_of}
 use Rattle.slotted_proofs.specs.Proving.{IsCanonical}
 use Rattle.slotted_proofs.specs.StepClaims.{IsOfFull}
-use Rattle.slotted_proofs.specs.Steps.{AreEntries, IsEntry, IsRefusal, by_step}
+use Rattle.slotted_proofs.specs.Steps.{AreEntries, IsEntry, by_step}
 use Rattle.slotted_proofs.proofs.Fitting.{congruent_fits}
 use Rattle.slotted_proofs.proofs.Stepping.{states-entry}
 use Rattle.slotted_store.specs.Kept.{Kept, nodes_of, entries_of, with_proofs, EntersBy}
@@ -126,9 +123,3 @@ module _ (k : Kept) (e : Sides) (twins : AreTwins k e) (cs : List Sides) (childr
         where
           twin-of : (ps : List Proven) → HasNormalTwin (nodes_of (with_proofs k ps)) (entries_of (with_proofs k ps)) (to_applied e.l) (to_applied e.r)
           twin-of ps = twins.twin
-
--- a step that fits is refused for want of something alone
-pub no_bad_step : {A : Type 0} (r : Result A Error) → IfErr r IsRefusal → ¬ IsErrOf r BadStep → IfErr r IsShortage
-no_bad_step (Ok x) h fits = tt
-no_bad_step (Err x) (inl bad) fits = absurd (fits (ap Err bad))
-no_bad_step (Err x) (inr short) fits = short

@@ -1,6 +1,6 @@
 -- Why slots run out in a rebuild: a class that is too large, whichever step met it.
-use Rattle.std.proofs.Common.{refl, ◌≡◌, ◌≢◌, ◌≤◌, ◌<◌, ◌+◌, ◌^◌, ◌⊎◌, ℕ, length, rules, ap, ◌∙◌, sym, subst, inl, inr, arith}
-use Rattle.std.specs.Prelude.{Result, Ok, Err, IfErr, IsErrAnd, IsErrOf}
+use Rattle.std.proofs.Common.{◌≡◌, ◌≢◌, ◌≤◌, ◌<◌, ◌+◌, ◌^◌, ◌⊎◌, ℕ, length, rules, ap, ◌∙◌, sym, subst, inl, inr, arith}
+use Rattle.std.specs.Prelude.{Result, Ok, Err, IsErrAnd, IsErrOf}
 use Rattle.std.proofs.lemmas.Bool.{cases_lt}
 use Rattle.slotted_slots.specs.declared.error.Error.{Error}
 use Rattle.slotted_slots.specs.declared.error.Error.TheVariants.{OutOfMemory, OutOfSlots}
@@ -31,9 +31,6 @@ unfolding error-or
 handed-on (Ok v) e x said is = absurd said
 handed-on (Err y) e x said is = sym said ∙ ap (error-or x) is
 
-ok-err : {T E : Type 0} (v : T) (e : E) → Ok v ≢ Err e
-ok-err v e = search rules
-
 pub same-error : {T U E : Type 0} (r : Result T E) (e x : E) → IsErrAnd r (λ y. y ≡ e) → IsErrOf r x → IsErrOf {T = U} {E = E} (Err e) x
 same-error r e x said is = ap Err (handed-on r e x said is)
 
@@ -43,10 +40,6 @@ not-both = search rules
 
 pub had-slots : {T : Type 0} (r : Result T Error) (e : Error) → IsErrAnd r (λ y. y ≡ e) → IsOutOfMemory e → IsErrOf r OutOfSlots → ⊥
 had-slots r e said memory full = not-both (sym memory ∙ handed-on r e OutOfSlots said full)
-
-pub keeps-slots : {T : Type 0} (r : Result T Error) → IfErr r IsOutOfMemory → IsErrOf r OutOfSlots → ⊥
-keeps-slots (Ok v) memory full = ok-err v OutOfSlots full
-keeps-slots (Err e) memory full = had-slots (Err e) e refl memory full
 
 -- a large class was one before
 pub large-grown : (k l : Kept) → Grows k l → HasLargeClass l → HasLargeClass k

@@ -5,7 +5,8 @@ use Rattle.slotted_model.specs.ProofList.{congruent}
 use Rattle.slotted_proofs.specs.Steps.{AreEntries, HasInjectiveSides, IsLarge}
 use Rattle.slotted_store.specs.Kept.{EntersBy}
 use Rattle.slotted_congruence.specs.Congruence.{HasLargeBridge, IsOfAlike, ProvesEach, ProvesTwins}
-use Rattle.slotted_congruence.proofs.BridgedParts.{parts-entries, step-proves, no_bad_step}
+use Rattle.slotted_congruence.proofs.BridgedParts.{parts-entries, step-proves}
+use Rattle.slotted_unions.proofs.JoinedIds.{no_bad_step}
 use Rattle.slotted_congruence.proofs.twins.congruence.Goals as goal
 
 pub bridges-requires-clause-alike : goal.bridges-requires-clause-alike

@@ -1,7 +1,8 @@
 use Rattle.std.proofs.Common.{subst}
 use Rattle.std.specs.Prelude.{IfNone, IfSome}
 use Rattle.slotted_filing.specs.Filed.{HasKey, IsNewKey}
-use Rattle.slotted_rebuilding.proofs.LargeClasses.{keeps-slots, same-error}
+use Rattle.slotted_proofs.proofs.Refusals.{slots_left}
+use Rattle.slotted_rebuilding.proofs.LargeClasses.{same-error}
 use Rattle.slotted_rebuilding.proofs.NarrowedNodes.{findable, too-large}
 use Rattle.slotted_rebuilding.proofs.NewestClasses.{newest-within}
 use Rattle.slotted_rebuilding.proofs.newest.join_or_file.Goals as goal
@@ -42,4 +43,4 @@ pub returns-in-Some-clause-full : goal.returns-in-Some-clause-full
 returns-in-Some-clause-full g c h = c.join.ensures.full h
 
 pub returns-in-None-clause-full : goal.returns-in-None-clause-full
-returns-in-None-clause-full g c h = absurd (keeps-slots c.file.result c.file.ensures.err h)
+returns-in-None-clause-full g c h = absurd (slots_left c.file.result c.file.ensures.err h)

@@ -3,7 +3,8 @@ use Rattle.indexmap.proofs.MapLemmas.{OnOk-map}
 use Rattle.slotted_filing.specs.FiledRows.{TakesTurn}
 use Rattle.slotted_rebuilding.specs.Turns.{TakesTurns}
 use Rattle.slotted_rebuilding.proofs.FiledStates.{first-still}
-use Rattle.slotted_rebuilding.proofs.LargeClasses.{keeps-slots, large-grown, same-error}
+use Rattle.slotted_proofs.proofs.Refusals.{slots_left}
+use Rattle.slotted_rebuilding.proofs.LargeClasses.{large-grown, same-error}
 use Rattle.slotted_rebuilding.proofs.NarrowedNodes.{first-waits, waiting-within}
 use Rattle.slotted_rebuilding.proofs.Collisions.{children-within, files-it, new-to-others, other-has, turns-then}
 use Rattle.slotted_rebuilding.proofs.turning.take_turn.Goals as goal
@@ -41,7 +42,7 @@ pub returns-in_err-node-clause-full : goal.returns-in_err-node-clause-full
 returns-in_err-node-clause-full g c h = c.in_err-node.ensures.full (same-error c.from_residual.result c.in_err-node.field-0.0 _ c.from_residual.ensures.1 h)
 
 pub returns-clause-full : goal.returns-clause-full
-returns-clause-full g c h = absurd (keeps-slots c.refile.result c.refile.ensures.err h)
+returns-clause-full g c h = absurd (slots_left c.refile.result c.refile.ensures.err h)
 
 pub refile-requires-clause-front : goal.refile-requires-clause-front
 refile-requires-clause-front g c = first-still c.args.nodes.now c.narrowed.new.nodes c.args.class c.in_ok-node.ensures.ok.waits c.requires.first

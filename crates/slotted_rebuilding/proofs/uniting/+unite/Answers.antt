@@ -5,7 +5,8 @@ use Rattle.slotted_unions.proofs.GrownRows.{grown-count}
 use Rattle.slotted_unions.proofs.UniteSteps.{lost-large}
 use Rattle.slotted_filing.specs.FiledRows.{Rows}
 use Rattle.slotted_rebuilding.specs.Filed.{UnitesFiled}
-use Rattle.slotted_rebuilding.proofs.LargeClasses.{had-slots, keeps-slots, same-error}
+use Rattle.slotted_proofs.proofs.Refusals.{slots_left}
+use Rattle.slotted_rebuilding.proofs.LargeClasses.{had-slots, same-error}
 use Rattle.slotted_rebuilding.proofs.FiledUnions.{done-filed, touched-filed, dropped-filed}
 use Rattle.slotted_rebuilding.proofs.uniting.+unite.Goals as goal
 
@@ -49,7 +50,7 @@ returns-in-Linked-clause-ok g t c =
     (touched-filed c.args.p k l c.move_nodes.new.self q c.in-Linked.class s c.touch.result c.touch.ensures.waiting c.touch.ensures.waits)
 
 pub returns-in-Linked-clause-full : goal.returns-in-Linked-clause-full
-returns-in-Linked-clause-full g t c h = absurd (keeps-slots c.touch.result c.touch.ensures.err h)
+returns-in-Linked-clause-full g t c h = absurd (slots_left c.touch.result c.touch.ensures.err h)
 
 pub unite-requires : goal.unite-requires
 unite-requires g t c =
