@@ -94,7 +94,7 @@ fn tell_all<L: Language, F: CostFunction<L>>(
     nodes: &Hashcons<L>,
     alloc: Global,
     costs: &F,
-    sources: &[usize],
+    sources: &[u32],
 ) -> Result<(), Error>
     requires { (s : ℕ) → times s sources.now ≤ slice_index_or making.old.lacking.items s 0 }
     ensures ok { OnOk result
@@ -102,7 +102,7 @@ fn tell_all<L: Language, F: CostFunction<L>>(
     ensures err { IfErr result (MayRefuse F.refuses) }
 {
     for source in sources {
-        tell(making, nodes, alloc, costs, *source)?;
+        tell(making, nodes, alloc, costs, *source as usize)?;
     }
     Ok(())
 }

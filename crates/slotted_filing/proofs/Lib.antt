@@ -2,6 +2,7 @@ pub mod Flags
 pub mod Places
 pub mod Indexed
 pub mod KeyedRows
+pub mod JoinedNames
 pub mod FiledRows
 pub mod KeyChildren
 pub mod Together

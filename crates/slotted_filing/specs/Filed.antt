@@ -3,12 +3,11 @@
 --     filed_of v i       what is filed of the class i
 --     HasKey v i f       the node that is filed of the class i has the key f
 --     IsIndexed rs ps    rows by place and the place of each class fit together
-use Rattle.std.specs.Prelude.{◌≡◌, ◌≢◌, ℕ, List, [], Option, Some, None, option_map, slice_get, slice_index_or, map}
+use Rattle.std.specs.Prelude.{◌≡◌, ◌≢◌, ℕ, List, [], ◌∷◌, Bool, false, length, Option, Some, None, option_map, slice_get, slice_index_or, map}
 use Rattle.std.specs.Coded.{Coded, coded×, coded_ℕ, coded_list, coded_option}
 use Rattle.indexmap.specs.IndexMap.{IndexMap}
 use Rattle.slotted_nodes.specs.Form.{Form, leaf}
 use Rattle.slotted_store.specs.FormCode.{form_code}
-use Rattle.slotted_filing.specs.declared.index.Filed.{Filed}
 
 abbrev pub Filing : Type 0
 Filing = Form × List (ℕ × ℕ)
@@ -36,18 +35,18 @@ IsNewToOthers v i f = (j : ℕ) → j ≢ i → ¬ HasKey v j f
 abbrev pub HasKeysOnce : List (Option Filing) → Type 0
 HasKeysOnce v = (i j : ℕ) (f : Form) → HasKey v i f → HasKey v j f → i ≡ j
 
--- a filed node: its key, the class that it comes from, and the slot of that for each number of the key
+-- a filed key, and the class that it is filed of; the slots of that stand elsewhere
 abbrev pub FiledRow : Type 0
 FiledRow = Form × (ℕ × List (ℕ × ℕ))
 
 abbrev pub no_row : FiledRow
 no_row = (record { operator = 0; payloads = []; tree = leaf; names = [] }, (0, []))
 
-abbrev pub filed_row : {A : Type 0} → (A → Form) → A × Filed → FiledRow
-filed_row form e = (form e.0, (e.1.source, e.1.names))
+abbrev pub filed_row : {A : Type 0} → (A → Form) → A × ℕ → FiledRow
+filed_row form e = (form e.0, (e.1, []))
 
 -- the filed nodes by their places
-abbrev pub rows_of : {A S : Type 0} → (A → Form) → IndexMap A Filed S → List FiledRow
+abbrev pub rows_of : {A S : Type 0} → (A → Form) → IndexMap A ℕ S → List FiledRow
 rows_of form m = map (filed_row form) m.entries
 
 -- what stands at a place of the rows
@@ -64,3 +63,17 @@ pub record IsIndexed (rows : List FiledRow) (places : List (Option ℕ)) : Type 
   pub rows_at : (i p : ℕ) → place_of places i ≡ Some p → (r : FiledRow) × (slice_get rows p ≡ Some r) × (r.1.0 ≡ i)
   pub sources : (p : ℕ) (r : FiledRow) → slice_get rows p ≡ Some r → place_of places r.1.0 ≡ Some p
   pub keys : (p q : ℕ) (r s : FiledRow) → slice_get rows p ≡ Some r → slice_get rows q ≡ Some s → r.0 ≡ s.0 → p ≡ q
+
+-- a map is empty where its flag is down
+pub record HasNamesFlags (flags : List Bool) (names : List (List (ℕ × ℕ))) : Type 0 where
+  pub count : length flags ≡ length names
+  pub tells : (i : ℕ) → slice_index_or flags i false ≡ false → slice_index_or names i [] ≡ []
+
+-- the keys of classes with the slots for their numbers
+abbrev pub with_names : List (ℕ × ℕ) → Option Filing → Option Filing
+with_names m o = option_map (λ (x : Filing). (x.0, m)) o
+
+abbrev pub joined : List (Option Filing) → List (List (ℕ × ℕ)) → List (Option Filing)
+joined [] ms = []
+joined (k ∷ ks) [] = []
+joined (k ∷ ks) (m ∷ ms) = with_names m k ∷ joined ks ms

@@ -69,7 +69,7 @@ impl<L: Language> Hashcons<L> {
         self.sizes.grow()?;
         self.usages.add_class(alloc)?;
         self.waiting.add_class()?;
-        self.nodes.add_class()?;
+        self.nodes.add_class(alloc)?;
         Ok(())
     }
 
@@ -213,7 +213,7 @@ fn is_over<L: Language>(nodes: &NodeIndex<L>, source: usize, class: usize) -> bo
 
 // Those of the sources wait from now on whose nodes have a child of a class.
 fn wait_over<L: Language>(
-    sources: &[usize],
+    sources: &[u32],
     nodes: &NodeIndex<L>,
     class: usize,
     waiting: &mut Worklist,
@@ -225,7 +225,7 @@ fn wait_over<L: Language>(
     ensures err { IfErr result IsOutOfMemory }
 {
     for k in 0..sources.len() {
-        let source = sources[k];
+        let source = sources[k] as usize;
         if is_over(nodes, source, class) {
             waiting.push(source)?;
         }

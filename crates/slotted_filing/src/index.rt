@@ -1,41 +1,36 @@
 //! The filed nodes, by their keys and by the classes that they come from.
-ghost use Rattle.std.specs.Prelude.{◌≡◌, ◌<◌, ◌++◌, ◌∷◌, [], length, None, Some, set, option_map, slice_get};
-ghost use Rattle.std.specs.Prelude.{swap_remove, IfSome, IfNone, IfOk, IfErr, OnOk, OnErr};
+ghost use Rattle.std.specs.Prelude.{◌≡◌, ◌<◌, ◌++◌, ◌∷◌, [], length, None, Some, set, option_map};
+ghost use Rattle.std.specs.Prelude.{IfSome, IfNone, IfErr, OnOk, OnErr};
 ghost use Rattle.slotted_slots.specs.Error.{IsOutOfMemory};
-ghost use Rattle.slotted_filing.specs.Filed.{FiledRow, filed_of, rows_of, HasKey, IsNewKey, IsNewToOthers, HasKeysOnce};
+ghost use Rattle.slotted_filing.specs.Filed.{filed_of, HasKey, IsNewKey, IsNewToOthers, HasKeysOnce};
 
-use indexmap::IndexMap;
+use crate::keys::KeyIndex;
+use crate::names::ClassNames;
 use slotted_languages::Language;
 use slotted_slots::{Error, SlotMap};
 use std::alloc::Global;
 use std::marker::Model;
 
-/// The class that a filed node comes from, and the slot of that class for each number of the node's key.
-#[derive(Drop)]
-pub struct Filed {
-    source: usize,
-    names: SlotMap,
-}
-
 /// For each class the node that is filed of it, if there is one: a key, which is filed once, and the slot of the class for each number
 /// of the key. It is found by its key and by its class.
 #[derive(Drop)]
 pub struct NodeIndex<L: Language> {
-    nodes: IndexMap<L, Filed>,
-    places: Vec<Option<u32>>,
+    keys: KeyIndex<L>,
+    names: ClassNames,
 }
 
 impl<L: Language> Model for NodeIndex<L> {
-    ghost use Rattle.std.specs.Prelude.{List, Option, map};
-    ghost use Rattle.slotted_filing.specs.Filed.{Filing, IsIndexed, filed_at, rows_of, filings_code};
+    ghost use Rattle.std.specs.Prelude.{List, Option, ◌≤◌, length};
+    ghost use Rattle.slotted_filing.specs.Filed.{Filing, joined, filings_code};
 
     ghost Value = { List (Option Filing) };
 
     ghost coded = { filings_code };
 
-    ghost view = { λ s. map (filed_at (rows_of L.form s.nodes)) s.places.items };
+    ghost view = { λ s. joined s.keys s.names };
 
-    ghost invariant = { λ s. IsIndexed (rows_of L.form s.nodes) s.places.items };
+    // After want of memory there may be maps of classes that are not there.
+    ghost invariant = { λ s. length s.keys ≤ length s.names };
 }
 
 impl<L: Language> NodeIndex<L> {
@@ -44,24 +39,25 @@ impl<L: Language> NodeIndex<L> {
         ensures { result ≡ [] }
     {
         NodeIndex {
-            nodes: IndexMap::new(alloc),
-            places: Vec::new(alloc),
+            keys: KeyIndex::new(alloc),
+            names: ClassNames::new(alloc),
         }
     }
 
     pub fn class_count(&self) -> usize
         ensures { result ≡ length self.now }
     {
-        self.places.len()
+        self.keys.class_count()
     }
 
     /// One class more, of which nothing is filed.
-    pub fn add_class(&mut self) -> Result<(), Error>
+    pub fn add_class(&mut self, alloc: Global) -> Result<(), Error>
         ensures ok { OnOk result (self.new ≡ self.old ++ None ∷ []) }
         ensures unchanged { OnErr result (self.new ≡ self.old) }
         ensures err { IfErr result IsOutOfMemory }
     {
-        self.places.push(None)?;
+        self.names.add_class(alloc)?;
+        self.keys.add_class()?;
         Ok(())
     }
 
@@ -69,9 +65,10 @@ impl<L: Language> NodeIndex<L> {
     pub fn node(&self, class: usize) -> Option<(&L, &SlotMap)>
         ensures { option_map (λ p. (L.form p.0.now, p.1.now)) result ≡ filed_of self.now class }
     {
-        let place = (*self.places.get(class)?)?;
-        let (key, filed) = self.nodes.get_index(place as usize)?;
-        Some((key, &filed.names))
+        match self.keys.key(class) {
+            Some(key) => Some((key, self.names.of(class))),
+            None => None,
+        }
     }
 
     /// The class of which a key is filed. No key is filed of two classes.
@@ -80,10 +77,7 @@ impl<L: Language> NodeIndex<L> {
         ensures none { IfNone result (IsNewKey self.now (L.form key.now)) }
         ensures once { HasKeysOnce self.now }
     {
-        match self.nodes.get(key) {
-            Some(filed) => Some(filed.source),
-            None => None,
-        }
+        self.keys.source_of(key)
     }
 
     /// Files a key of a class that has none.
@@ -95,29 +89,17 @@ impl<L: Language> NodeIndex<L> {
         ensures unchanged { OnErr result (self.new ≡ self.old) }
         ensures err { IfErr result IsOutOfMemory }
     {
-        let place = small_place(self.nodes.len())?;
-        let source = class;
-        self.nodes.insert(key, Filed { source, names })?;
-        self.places[class] = Some(place);
+        self.keys.file(class, key)?;
+        self.names.put(class, names);
         Ok(())
     }
 
-    /// What is filed of a class is taken out. The last node moves into its place.
+    /// What is filed of a class is taken out.
     pub fn unfile(&mut self, class: usize)
         requires { class < length self.old }
         ensures { self.new ≡ set self.old class None }
     {
-        match self.places[class] {
-            Some(place) => {
-                remove_at(&mut self.nodes, place as usize);
-                self.places[class] = None;
-                match source_at(&self.nodes, place as usize) {
-                    Some(moved) => self.places[moved] = Some(place),
-                    None => {}
-                }
-            }
-            None => {}
-        }
+        self.keys.unfile(class);
     }
 
     /// Files a key of a class in the place of the one that it had. After want of memory nothing is filed of the class.
@@ -131,34 +113,5 @@ impl<L: Language> NodeIndex<L> {
         self.unfile(class);
         self.file(class, key, names)?;
         Ok(())
-    }
-}
-
-// A place as it is kept. Memory for more nodes than there are such places is not given.
-fn small_place(place: usize) -> Result<u32, Error>
-    ensures ok { IfOk result (λ p. p ≡ place) }
-    ensures err { IfErr result IsOutOfMemory }
-{
-    match u32::try_from(place) {
-        Ok(small) => Ok(small),
-        Err(_) => Err(Error::OutOfMemory),
-    }
-}
-
-// Takes out the node at a place. The last one moves there.
-fn remove_at<L: Language>(nodes: &mut IndexMap<L, Filed>, place: usize)
-    requires { place < length (rows_of L.form nodes.old) }
-    ensures { (d : FiledRow) → rows_of L.form nodes.new ≡ swap_remove (rows_of L.form nodes.old) place d }
-{
-    nodes.swap_remove_index(place);
-}
-
-// The class of the node at a place, if there is one.
-fn source_at<L: Language>(nodes: &IndexMap<L, Filed>, place: usize) -> Option<usize>
-    ensures { result ≡ option_map (λ r. r.1.0) (slice_get (rows_of L.form nodes.now) place) }
-{
-    match nodes.get_index(place) {
-        Some((_, filed)) => Some(filed.source),
-        None => None,
     }
 }

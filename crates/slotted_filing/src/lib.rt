@@ -7,6 +7,8 @@ pub mod covered;
 pub mod found;
 pub mod hashcons;
 pub mod index;
+pub mod keys;
+pub mod names;
 pub mod normal;
 pub mod sides;
 pub mod sizes;

@@ -2,6 +2,7 @@
 ghost use Rattle.std.specs.Prelude.{◌≡◌, ◌<◌, ◌++◌, ◌∷◌, [], length, set, slice_index_or, IfErr, OnOk, OnErr};
 ghost use Rattle.slotted_slots.specs.Error.{IsOutOfMemory};
 
+use crate::keys::as_small;
 use slotted_slots::Error;
 use std::alloc::Global;
 use std::marker::Model;
@@ -10,7 +11,7 @@ use std::marker::Model;
 /// and can stand there twice: whoever reads the list looks at the nodes.
 #[derive(Drop)]
 pub struct Usages {
-    sources: Vec<Vec<usize>>,
+    sources: Vec<Vec<u32>>,
 }
 
 impl Model for Usages {
@@ -49,12 +50,13 @@ impl Usages {
         ensures unchanged { OnErr result (self.new ≡ self.old) }
         ensures err { IfErr result IsOutOfMemory }
     {
+        let source = as_small(source)?;
         self.sources[class].push(source)?;
         Ok(())
     }
 
     /// The sources over a class.
-    pub fn of(&self, class: usize) -> &[usize]
+    pub fn of(&self, class: usize) -> &[u32]
         requires { class < length self.now }
         ensures { result.now ≡ slice_index_or self.now class [] }
     {

@@ -1,7 +1,18 @@
-use Rattle.std.proofs.Common.{subst, sym, map}
-use Rattle.slotted_filing.specs.Filed.{IsIndexed, filed_row}
-use Rattle.slotted_filing.proofs.Indexed.{indexed-added}
+use Rattle.std.proofs.Common.{◌∙◌, [], ◌∷◌, ◌++◌, List, Option, None, ap}
+use Rattle.slotted_filing.specs.Filed.{Filing, joined}
+use Rattle.slotted_filing.proofs.JoinedNames.{joined-added, joined-longer}
+use Rattle.slotted_filing.proofs.Places.{on_err}
 use Rattle.slotted_filing.proofs.index.NodeIndex.add_class.Goals as goal
 
-pub invariant_of-self-2 : goal.invariant_of-self-2
-invariant_of-self-2 g c = subst (IsIndexed _) (sym c.in_ok-push.ensures.items) (indexed-added (map (filed_row g.L.LanguageChildren.form) c.self.inside.nodes.entries) c.self.inside.places.items c.self.invariant)
+pub returns-in_err-add_class-2-clause-unchanged : goal.returns-in_err-add_class-2-clause-unchanged
+returns-in_err-add_class-2-clause-unchanged g c =
+    on_err c.from_residual-in_err-add_class-2.result
+    ((λ i. joined (c.in_err-add_class-2.ensures.unchanged i) (c.in_ok-add_class.ensures.ok i))
+    ∙ joined-longer c.self.inside.keys c.self.inside.names [] c.self.invariant
+    ∙ c.self.view_is)
+
+pub returns-clause-ok : goal.returns-clause-ok
+returns-clause-ok g c =
+    (λ i. joined (c.in_ok-add_class-2.ensures.ok i) (c.in_ok-add_class.ensures.ok i))
+    ∙ joined-added c.self.inside.keys c.self.inside.names [] c.self.invariant
+    ∙ ap (λ (v : List (Option Filing)). v ++ None ∷ []) c.self.view_is

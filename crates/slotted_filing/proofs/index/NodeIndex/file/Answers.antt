@@ -1,45 +1,38 @@
-use Rattle.std.proofs.Common.{◌≡◌, ◌∙◌, ap, sym, subst, Option, Some, List, [], ◌∷◌, ◌++◌, length, map, ◌<◌, arith}
-use Rattle.std.specs.Prelude.{set}
-use Rattle.std.proofs.lemmas.List.{length-map}
-use Rattle.slotted_filing.specs.Filed.{Filing, FiledRow, IsIndexed, IsNewKey, filed_of, filed_at, filed_row, rows_of}
-use Rattle.slotted_filing.specs.declared.index.Filed.{Filed}
-use Rattle.slotted_filing.proofs.Indexed.{filed_in, indexed-filed, view-filed, no-place}
-use Rattle.slotted_filing.proofs.KeyedRows.{new-key}
-use Rattle.slotted_store.proofs.RowsByForm.{rows-insert_entry}
+use Rattle.std.proofs.Common.{◌∙◌, [], List, Option, Some, length, ap, sym, subst, arith}
+use Rattle.std.specs.Prelude.{set, slice_index_or}
+use Rattle.slotted_filing.specs.Filed.{Filing, IsNewKey, filed_of, joined}
+use Rattle.slotted_filing.proofs.JoinedNames.{length-joined, joined-at, joined-set, new-joined, none-named}
 use Rattle.slotted_filing.proofs.index.NodeIndex.file.Goals as goal
 
-pub invariant_of-self-2 : goal.invariant_of-self-2
-invariant_of-self-2 g c =
-    let form = g.L.LanguageChildren.form in
-    let rows : List FiledRow = rows_of form c.self.inside.nodes in
-    let places = c.self.inside.places.items in
-    let view = c.self.view_is in
-    let new = subst (λ (v : List (Option Filing)). IsNewKey v (form c.args.key)) (sym view) c.requires.new_key in
-    let free = no-place rows places c.self.invariant c.args.class (ap (λ (v : List (Option Filing)). filed_of v c.args.class) view ∙ c.requires.free) in
-    let count = ap length view in
-    let same = length-map places (filed_at rows) in
-    let inside = c.requires.within in
-    let within : c.args.class < length places = omega (arith, count, same, inside) in
-    let grown = ap (map (filed_row form)) c.in_ok-insert.ensures.entries ∙ rows-insert_entry g.L.PartialEq.eq form (λ (r : Filed). (r.source, r.names)) g.met.L.LanguageChildren.same c.self.inside.nodes.entries c.args.key (record { source = c.args.class; names = c.args.names }) (new-key rows places c.self.invariant (form c.args.key) new) in
-    let place : c.in_ok-place.place ≡ length rows = c.in_ok-place.ensures.ok ∙ c.len.ensures.len ∙ sym (length-map c.self.inside.nodes.entries (filed_row form)) in
-    subst (λ (rs : List FiledRow). IsIndexed rs (set places c.args.class (Some c.in_ok-place.place))) (sym grown)
-    (subst (λ n. IsIndexed (rows ++ (form c.args.key, (c.args.class, c.args.names)) ∷ []) (set places c.args.class (Some n))) (sym place)
-    (indexed-filed rows places c.args.class (form c.args.key) c.args.names c.self.invariant within free new))
+pub file-requires-clause-within : goal.file-requires-clause-within
+file-requires-clause-within g c =
+    let within = c.requires.within in
+    let count = ap length c.self.view_is in
+    let same = length-joined c.self.inside.keys c.self.inside.names c.self.invariant in
+    omega (arith, within, count, same)
+
+pub file-requires-clause-free : goal.file-requires-clause-free
+file-requires-clause-free g c =
+    none-named (slice_index_or c.self.inside.names c.args.class []) (filed_of c.self.inside.keys c.args.class)
+    (sym (joined-at c.self.inside.keys c.self.inside.names c.args.class c.self.invariant)
+    ∙ ap (λ (v : List (Option Filing)). filed_of v c.args.class) c.self.view_is ∙ c.requires.free)
+
+pub file-requires-clause-new_key : goal.file-requires-clause-new_key
+file-requires-clause-new_key g c =
+    let f = g.L.LanguageChildren.form c.args.key in
+    new-joined c.self.inside.keys c.self.inside.names c.self.invariant f (subst (λ (v : List (Option Filing)). IsNewKey v f) (sym c.self.view_is) c.requires.new_key)
+
+pub put-requires : goal.put-requires
+put-requires g c =
+    let within = c.requires.within in
+    let count = ap length c.self.view_is in
+    let same = length-joined c.self.inside.keys c.self.inside.names c.self.invariant in
+    let long = c.self.invariant in
+    omega (arith, within, count, same, long)
 
 pub returns-clause-ok : goal.returns-clause-ok
 returns-clause-ok g c =
-    let form = g.L.LanguageChildren.form in
-    let rows : List FiledRow = rows_of form c.self.inside.nodes in
-    let places = c.self.inside.places.items in
-    let view = c.self.view_is in
-    let new = subst (λ (v : List (Option Filing)). IsNewKey v (form c.args.key)) (sym view) c.requires.new_key in
-    let free = no-place rows places c.self.invariant c.args.class (ap (λ (v : List (Option Filing)). filed_of v c.args.class) view ∙ c.requires.free) in
-    let count = ap length view in
-    let same = length-map places (filed_at rows) in
-    let inside = c.requires.within in
-    let within : c.args.class < length places = omega (arith, count, same, inside) in
-    let grown = ap (map (filed_row form)) c.in_ok-insert.ensures.entries ∙ rows-insert_entry g.L.PartialEq.eq form (λ (r : Filed). (r.source, r.names)) g.met.L.LanguageChildren.same c.self.inside.nodes.entries c.args.key (record { source = c.args.class; names = c.args.names }) (new-key rows places c.self.invariant (form c.args.key) new) in
-    let place : c.in_ok-place.place ≡ length rows = c.in_ok-place.ensures.ok ∙ c.len.ensures.len ∙ sym (length-map c.self.inside.nodes.entries (filed_row form)) in
-    (λ i. filed_in (grown i) (set places c.args.class (Some (place i))))
-    ∙ view-filed rows places c.args.class (form c.args.key) c.args.names c.self.invariant within free new
-    ∙ ap (λ (v : List (Option Filing)). set v c.args.class (Some (form c.args.key, c.args.names))) view
+    let f = g.L.LanguageChildren.form c.args.key in
+    (λ i. joined (c.in_ok-file.ensures.ok i) (c.put.ensures i))
+    ∙ joined-set c.self.inside.keys c.self.inside.names c.args.class (Some (f, [])) c.args.names c.self.invariant
+    ∙ ap (λ (v : List (Option Filing)). set v c.args.class (Some (f, c.args.names))) c.self.view_is

@@ -1,30 +1,20 @@
-use Rattle.std.proofs.Common.{◌∙◌, ap, sym, subst, Option, List}
-use Rattle.std.specs.Prelude.{option_map}
-use Rattle.slotted_filing.specs.Filed.{Filing, HasKey, HasKeysOnce, IsNewKey, rows_of}
-use Rattle.slotted_filing.specs.declared.index.Filed.{Filed}
-use Rattle.slotted_filing.proofs.Indexed.{keys-once}
-use Rattle.slotted_filing.proofs.KeyedRows.{found-key, not-found-key}
-use Rattle.slotted_store.proofs.RowsByForm.{found-lookup}
+use Rattle.std.proofs.Common.{ℕ, List, Option, subst}
+use Rattle.std.specs.Prelude.{IfSome, IfNone}
+use Rattle.slotted_filing.specs.Filed.{Filing, HasKey, HasKeysOnce, IsNewKey}
+use Rattle.slotted_filing.proofs.JoinedNames.{joined-once, none-joined, some-joined}
 use Rattle.slotted_filing.proofs.index.NodeIndex.source_of.Goals as goal
 
-pub returns-in-Some-clause-some : goal.returns-in-Some-clause-some
-returns-in-Some-clause-some g c =
-    let form = g.L.LanguageChildren.form in
-    subst (λ (v : List (Option Filing)). HasKey v c.in-Some.filed.now.source (form c.args.key.now)) c.self.view_is
-    (found-key (rows_of form c.self.inside.nodes) c.self.inside.places.items c.self.invariant (form c.args.key.now) c.in-Some.filed.now.source c.in-Some.filed.now.names
-    (sym (found-lookup g.L.PartialEq.eq form (λ (r : Filed). (r.source, r.names)) g.met.L.LanguageChildren.same c.self.inside.nodes.entries c.args.key.now)
-    ∙ ap (option_map (λ (r : Filed). (r.source, r.names))) (sym c.in-Some.ensures.value)))
+pub returns-clause-some : goal.returns-clause-some
+returns-clause-some g c =
+    let f = g.L.LanguageChildren.form c.args.key.now in
+    subst (λ (v : List (Option Filing)). IfSome c.source_of.result (λ (i : ℕ). HasKey v i f)) c.self.view_is
+    (some-joined c.self.inside.keys c.self.inside.names c.self.invariant f c.source_of.result c.source_of.ensures.some)
 
-pub returns-in-Some-clause-once : goal.returns-in-Some-clause-once
-returns-in-Some-clause-once g c = subst HasKeysOnce c.self.view_is (keys-once (rows_of g.L.LanguageChildren.form c.self.inside.nodes) c.self.inside.places.items c.self.invariant)
+pub returns-clause-none : goal.returns-clause-none
+returns-clause-none g c =
+    let f = g.L.LanguageChildren.form c.args.key.now in
+    subst (λ (v : List (Option Filing)). IfNone c.source_of.result (IsNewKey v f)) c.self.view_is
+    (none-joined c.self.inside.keys c.self.inside.names c.self.invariant f c.source_of.result c.source_of.ensures.none)
 
-pub returns-in-None-clause-none : goal.returns-in-None-clause-none
-returns-in-None-clause-none g c =
-    let form = g.L.LanguageChildren.form in
-    subst (λ (v : List (Option Filing)). IsNewKey v (form c.args.key.now)) c.self.view_is
-    (not-found-key (rows_of form c.self.inside.nodes) c.self.inside.places.items c.self.invariant (form c.args.key.now)
-    (sym (found-lookup g.L.PartialEq.eq form (λ (r : Filed). (r.source, r.names)) g.met.L.LanguageChildren.same c.self.inside.nodes.entries c.args.key.now)
-    ∙ ap (option_map (λ (r : Filed). (r.source, r.names))) (sym c.in-None.ensures.value)))
-
-pub returns-in-None-clause-once : goal.returns-in-None-clause-once
-returns-in-None-clause-once g c = subst HasKeysOnce c.self.view_is (keys-once (rows_of g.L.LanguageChildren.form c.self.inside.nodes) c.self.inside.places.items c.self.invariant)
+pub returns-clause-once : goal.returns-clause-once
+returns-clause-once g c = subst HasKeysOnce c.self.view_is (joined-once c.self.inside.keys c.self.inside.names c.self.invariant c.source_of.ensures.once)
