@@ -9,5 +9,6 @@ pub mod PairEqual
 pub mod ReadFrom
 pub mod Texts
 pub mod TextLaws
+pub mod Word
 pub mod Identifier
 pub mod ReadsBack

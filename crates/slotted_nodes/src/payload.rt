@@ -2,7 +2,7 @@
 //!
 //! Each payload has an implementation of its own, since one implementation for all of them would hide, from a proof
 //! over a concrete language, which implementation a call has.
-ghost use Rattle.std.specs.Prelude.{◌≡◌, ◌↔◌, ℕ, List, [], ◌∷◌, Option, Some, None, option_map, string_bytes};
+ghost use Rattle.std.specs.Prelude.{◌≡◌, ◌↔◌, ℕ, List, [], ◌∷◌, Option, Some, None, option_map};
 ghost use Rattle.std.specs.Prelude.{decimal, nat_eq, IsTrue, IfOk, IfErr, MatchResult, refl};
 ghost use Rattle.std.specs.Cmp.Lexicographic.{pointwise, slice_cmp, lists_per, lists_equiv, lists_total, lists_ties};
 ghost use Rattle.std.specs.Cmp.Lexicographic.{texts_po};
@@ -20,10 +20,11 @@ ghost use Rattle.slotted_nodes.specs.Texts.{number_form};
 ghost use Rattle.slotted_nodes.specs.Written.{read_text};
 
 use crate::children::LanguageChildren;
+use arrayvec::ArrayString;
 use slotted_slots::{AppliedId, Error, Slot, SyntaxElem};
 use std::alloc::{AllocError, Global};
 use std::cmp::Ordering;
-use std::fmt::Debug;
+use std::fmt;
 use std::hash::{Hash, Hasher};
 use std::marker::Model;
 
@@ -33,16 +34,25 @@ pub(crate) mod texts;
 pub mod truth;
 pub mod unsigned;
 
-/// A word. It is seen as its bytes, and ordered by them.
-#[derive(Drop, Debug)]
-pub struct Symbol(pub String);
+/// A word. It is seen as its bytes, and ordered by them. A word of up to 22 bytes takes no memory of its own.
+#[derive(Drop)]
+pub struct Symbol(Text);
+
+// Where the text of a word stands.
+#[derive(Drop)]
+enum Text {
+    Short(ArrayString<22>),
+    Long(String),
+}
 
 impl Model for Symbol {
-    ghost use Rattle.std.specs.Prelude.{List, ℕ, string_bytes};
+    ghost use Rattle.std.specs.Prelude.{List, ℕ};
 
     ghost Value = { List ℕ };
 
-    ghost view = { λ s. string_bytes s.0 };
+    ghost use Rattle.slotted_nodes.specs.Word.{word_bytes};
+
+    ghost view = { λ s. word_bytes s.0 };
 }
 
 impl Symbol {
@@ -51,7 +61,27 @@ impl Symbol {
         ensures ok { IfOk result (λ w. w ≡ text.now) }
         ensures err { IfErr result IsOutOfMemory }
     {
-        Ok(Symbol(String::from_str(alloc, text)?))
+        match ArrayString::from(text) {
+            Ok(short) => Ok(Symbol(Text::Short(short))),
+            Err(_) => Ok(Symbol(Text::Long(String::from_str(alloc, text)?))),
+        }
+    }
+
+    /// The text of the word.
+    pub fn as_str(&self) -> &str
+        ensures { result.now ≡ self.now }
+    {
+        match &self.0 {
+            Text::Short(short) => short.as_str(),
+            Text::Long(long) => long.as_str(),
+        }
+    }
+}
+
+// It prints as a struct around its text.
+impl fmt::Debug for Symbol {
+    fn fmt<W: fmt::Write>(&self, f: &mut fmt::Formatter<W>) -> fmt::Result {
+        f.debug_tuple("Symbol").field(&self.as_str()).finish()
     }
 }
 
@@ -61,7 +91,10 @@ impl Clone for Symbol {
     fn clone(&self) -> Result<Self, AllocError>
         ensures cases { MatchResult result (λ c. c ≡ self.now) (λ _. ¬ ⊥) }
     {
-        Ok(Symbol(self.0.clone()?))
+        match &self.0 {
+            Text::Short(short) => Ok(Symbol(Text::Short(*short))),
+            Text::Long(long) => Ok(Symbol(Text::Long(long.clone()?))),
+        }
     }
 }
 
@@ -71,7 +104,7 @@ impl PartialEq for Symbol {
     ghost laws = { lists_per (Prim.search (comparing, rules)) };
 
     fn eq(&self, other: &Self) -> bool {
-        self.0 == other.0
+        self.as_str() == other.as_str()
     }
 }
 
@@ -99,7 +132,7 @@ impl Ord for Symbol {
     ghost matches_eq = { lists_ties nat_cmp (Prim.search (comparing, rules)) };
 
     fn cmp(&self, other: &Self) -> Ordering {
-        self.0.cmp(&other.0)
+        self.as_str().cmp(other.as_str())
     }
 }
 
@@ -109,7 +142,7 @@ impl Hash for Symbol {
     ghost respects_eq = { Prim.search rules };
 
     fn hash<H: Hasher>(&self, state: &mut H) {
-        self.0.hash(state);
+        self.as_str().hash(state);
     }
 }
 
@@ -129,7 +162,7 @@ impl LanguageChildren for Symbol {
     ghost faithful = { text_faithful (λ w. w) Some };
 
     fn copy(&self, alloc: Global) -> Result<Self, Error> {
-        Symbol::from_text(alloc, self.0.as_str())
+        Symbol::from_text(alloc, self.as_str())
     }
 
     fn slot_count(&self) -> usize {
@@ -172,7 +205,7 @@ impl LanguageChildren for Symbol {
     {}
 
     fn to_syntax(&self, alloc: Global) -> Result<Vec<SyntaxElem>, Error> {
-        Ok(vec![in alloc; SyntaxElem::String(String::from_str(alloc, self.0.as_str())?)]?)
+        Ok(vec![in alloc; SyntaxElem::String(String::from_str(alloc, self.as_str())?)]?)
     }
 
     fn from_syntax(alloc: Global, elements: &[SyntaxElem]) -> Result<Option<Self>, Error> {
