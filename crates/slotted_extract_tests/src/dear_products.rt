@@ -3,7 +3,7 @@ ghost use Rattle.std.specs.Prelude.{◌≡◌};
 ghost use Rattle.slotted_small.specs.Small.{small_form};
 ghost use Rattle.slotted_costs.specs.Costs.{bare_node};
 ghost use Rattle.slotted_costs.specs.Weights.{weighed, weighed_never_falls, weighed_covers_children};
-ghost use Rattle.slotted_graph_tests.specs.DearProducts.{product_weight};
+ghost use Rattle.slotted_extract_tests.specs.DearProducts.{product_weight};
 
 use slotted_costs::{CostFunction, weighed_sum};
 use slotted_languages::Language;
