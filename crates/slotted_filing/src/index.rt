@@ -4,8 +4,8 @@ ghost use Rattle.std.specs.Prelude.{IfSome, IfNone, IfErr, OnOk, OnErr};
 ghost use Rattle.slotted_slots.specs.Error.{IsOutOfMemory};
 ghost use Rattle.slotted_filing.specs.Filed.{filed_of, HasKey, IsNewKey, IsNewToOthers, HasKeysOnce};
 
+use crate::class_names::ClassNames;
 use crate::keys::KeyIndex;
-use crate::names::ClassNames;
 use slotted_languages::Language;
 use slotted_slots::{Error, SlotMap};
 use std::alloc::Global;

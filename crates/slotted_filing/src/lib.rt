@@ -3,12 +3,12 @@
 //! shape then. Nothing of that writes a graph.
 #![tactic(auto)]
 
+pub mod class_names;
 pub mod covered;
 pub mod found;
 pub mod hashcons;
 pub mod index;
 pub mod keys;
-pub mod names;
 pub mod normal;
 pub mod sides;
 pub mod sizes;
