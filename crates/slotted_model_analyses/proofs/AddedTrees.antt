@@ -16,6 +16,7 @@ use Rattle.slotted_model_analyses.proofs.Writing.{merging}
 use Rattle.slotted_model_analyses.specs.DataWrites.{MergesInto}
 use Rattle.slotted_model_analyses.specs.Analysis.{Analysis, IsMerge, Absorbs}
 use Rattle.slotted_model_analyses.specs.DataPart.{DataPart, DataGoesDown, RestsWithData}
+use Rattle.slotted_model_analyses.specs.Carried.{CarriesTo}
 use Rattle.slotted_model_analyses.specs.Rounds.{Modify, AddsNodes, Rounds, AddsExpr, still_there, turned_away}
 use Rattle.slotted_model_analyses.proofs.Absorbing.{absorbs-then}
 use Rattle.slotted_model_analyses.proofs.RoundsAtRest.{nodes-made, rounds-on}
@@ -33,8 +34,8 @@ module _ {D : Type 0} (a : Analysis D) (law : IsMerge D a) where
     classes = λ i l. absorbs-then a law (u.data_of (find_class k.found i)) (t.data_of (find_class h.found i)) (s.data_of (find_class g.found i)) (q.classes i (p.goes_on.classes i l).0) (p.classes i l);
   }
 
-  nodes-led : {g h : State} {s t : DataPart D} → RestsWithData a g s → AddsNodes a g s h t → HasLed g s h t
-  nodes-led x n = let m = nodes-made a law x n in record { rest = m.gone.rest; goes_on = m.gone.goes_on; classes = m.gone.classes }
+  nodes-led : {g h : State} {s t : DataPart D} → RestsWithData a g s → AddsNodes g h → CarriesTo a g s h t → HasLed g s h t
+  nodes-led x n c = record { rest = c.rests; goes_on = (nodes-made x.rest n).goes_on; classes = c.down }
 
   rounds-led : (modify : Modify D) (limit : ℕ) {g h : State} {s t : DataPart D} → RestsWithData a g s → Rounds a modify limit g s h t → HasLed g s h t
   rounds-led modify limit x r = let m = rounds-on a law modify x r.rounds in record { rest = m.rest; goes_on = m.goes_on; classes = m.classes }
@@ -48,13 +49,13 @@ module _ {D : Type 0} (a : Analysis D) (law : IsMerge D a) where
   answered-by g s d h t x l p = (l.rest, l.goes_on, l.classes, p, (tree-equal h l.rest.rest d x p).0, λ b given f. filled-equal h l.rest.rest d x b given p f)
 
   pub tree-added : (modify : Modify D) (limit : ℕ) (g : State) (s : DataPart D) → RestsWithData a g s → (d : DTerm) (h : State) (t : DataPart D) (x : Applied) → AddsExpr a modify limit g s d h t x → IsAnswered g s d h t x
-  tree-added modify limit g s r d h t x (still_there {h = m} {k = k} {t = u} {u = w} n p rounds q) =
-      let l = nodes-led r n in
+  tree-added modify limit g s r d h t x (still_there {h = m} {k = k} {t = u} {u = w} n c p rounds q) =
+      let l = nodes-led r n c in
       answered-by g s d h t x (led-then g m h s u t r l (rounds-led modify limit l.rest rounds)) q
-  tree-added modify limit g s r d h t x (turned_away {h = m} {k = k} {t = u} {u = w} n p rounds none more q) =
-      let l = nodes-led r n in
+  tree-added modify limit g s r d h t x (turned_away {h = m} {k = k} {t = u} {u = w} n c p rounds none more again q) =
+      let l = nodes-led r n c in
       let b = led-then g m k s u w r l (rounds-led modify limit l.rest rounds) in
-      answered-by g s d h t x (led-then g k h s w t r b (nodes-led b.rest more)) q
+      answered-by g s d h t x (led-then g k h s w t r b (nodes-led b.rest more again)) q
 
   -- a merged value stays through rounds
   pub merged-stays : (modify : Modify D) (limit : ℕ) (g : State) (s : DataPart D) → RestsWithData a g s → (i : ℕ) → i < length g.nodes → (v : D) (h k : State) (t u : DataPart D) →

@@ -25,10 +25,12 @@ use Rattle.slotted_model.proofs.Options.{option_map-some, both-some}
 use Rattle.slotted_model_analyses.specs.Analysis.{Analysis, IsMerge}
 use Rattle.slotted_model_analyses.specs.DataPart.{DataPart, RestsWithData}
 use Rattle.slotted_model_analyses.specs.DataWrites.{AddsWithData}
-use Rattle.slotted_model_analyses.specs.Rounds.{Modify, AsksTrees, AddsNodes, no_more, one_more, Rounds, AddsExpr, still_there, turned_away}
-use Rattle.slotted_model_analyses.proofs.AddingTrees.{nodes-then, rests-after}
+use Rattle.slotted_model_analyses.specs.Rounds.{Modify, Answers, AnswersTrees, Rounds, AddsExpr, still_there, turned_away}
+use Rattle.slotted_model_analyses.specs.Steps.{AddsNodesWithData, none_more, then_one, RoundsAs, AddsExprAs}
+use Rattle.slotted_model_analyses.proofs.AddingTrees.{nodes-then, rests-after, nodes-after}
+use Rattle.slotted_model_analyses.proofs.CarriedSteps.{nodes-carried}
 use Rattle.slotted_model_analyses.proofs.MakingRounds.{rounds-there}
-use Rattle.slotted_model_analyses.proofs.RoundsAtRest.{nodes-made, rounds-on}
+use Rattle.slotted_model_analyses.proofs.RoundsAtRest.{rounds-on}
 use Rattle.slotted_model_analyses.proofs.Writing.{adding}
 
 -- what is looked up stays so
@@ -49,15 +51,15 @@ args-on g h on (scope inner rest) e p =
     (λ i. both scope (args-on g h on inner r.0 r.2 i) (args-on g h on rest r.1 r.3 i)) ∙ ap Some r.4
 
 module _ {D : Type 0} (a : Analysis D) (law : IsMerge D a) where
-  valid-after : {g : State} {s : DataPart D} {h : State} {t : DataPart D} → RestsWithData a g s → AddsNodes a g s h t → (d : DArgs) → EachChild (IsValidIn g) d → EachChild (IsValidIn h) d
-  valid-after {g} {s} {h} x n d v = EachChild-map (IsValidIn g) (IsValidIn h) (λ b k. ((nodes-made a law x n).gone.goes_on.finds b k).0) d v
+  valid-after : {g : State} {s : DataPart D} {h : State} {t : DataPart D} → RestsWithData a g s → AddsNodesWithData a g s h t → (d : DArgs) → EachChild (IsValidIn g) d → EachChild (IsValidIn h) d
+  valid-after {g} {s} {h} x n d v = EachChild-map (IsValidIn g) (IsValidIn h) (λ b k. ((nodes-after a law x n).goes_on.finds b k).0) d v
 
   -- the node d over valid ids is looked up then
   record LooksUpNode (g : State) (s : DataPart D) (d : DTerm) : Type 0 where
     after : State
     part : DataPart D
     id : Applied
-    nodes : AddsNodes a g s after part
+    nodes : AddsNodesWithData a g s after part
     on : LooksOn g after
     looked_up : look_up_node after d ≡ Some id
     valid : IsValidIn after id
@@ -78,13 +80,13 @@ module _ {D : Type 0} (a : Analysis D) (law : IsMerge D a) where
       let later : normal h.found d ≡ normal h.found c =
       still-normal g h r.rest.sane.sound w.goes_on d v ∙ (ap (normal h.found) (sym same) ∙ sym (still-normal g h r.rest.sane.sound w.goes_on c cv)) in
       let there : look_up_node h d ≡ Some k.new_class.0 = ap (look_up_normal h) later ∙ k.new_class.1 in
-      record { after = h; part = t; id = k.new_class.0; nodes = one_more {h = g} {k = h} {t = s} {u = t} c no_more new add; on = k.trees; looked_up = there; valid = answer-valid h t y.1 d k.new_class.0 there }
+      record { after = h; part = t; id = k.new_class.0; nodes = then_one {h = g} {k = h} {t = s} {u = t} c none_more new add; on = k.trees; looked_up = there; valid = answer-valid h t y.1 d k.new_class.0 there }
 
   node-looked_up : (g : State) (s : DataPart D) → RestsWithData a g s → (d : DTerm) → 0 < d.op → EachChild (IsValidIn g) d.args → LooksUpNode g s d
   node-looked_up g s r d op v = go (look_up_node g d) refl
     where
       go : (o : Option Applied) → look_up_node g d ≡ o → LooksUpNode g s d
-      go (Some x) e = record { after = g; part = s; id = x; nodes = no_more; on = λ t y p. p; looked_up = e; valid = answer-valid g s r d x e }
+      go (Some x) e = record { after = g; part = s; id = x; nodes = none_more; on = λ t y p. p; looked_up = e; valid = answer-valid g s r d x e }
       go None e =
           let f = a_filled_node g.nodes (used_slots g.found) [] d v in
           let full : EachChild (IsFull g.nodes) f.0.args = filled-full g.nodes [] d f.0 f.1 in
@@ -99,13 +101,13 @@ module _ {D : Type 0} (a : Analysis D) (law : IsMerge D a) where
     after : State
     part : DataPart D
     args : DArgs
-    nodes : AddsNodes a g s after part
+    nodes : AddsNodesWithData a g s after part
     on : LooksOn g after
     looked_up : look_up_args (look_up_node after) d ≡ Some args
     valid : EachChild (IsValidIn after) args
 
   args-looked_up : (d : DArgs) → HasNoIds d → (g : State) (s : DataPart D) → RestsWithData a g s → LooksUpArgs g s d
-  args-looked_up stop clean g s x = record { after = g; part = s; args = stop; nodes = no_more; on = λ t y p. p; looked_up = refl; valid = tt }
+  args-looked_up stop clean g s x = record { after = g; part = s; args = stop; nodes = none_more; on = λ t y p. p; looked_up = refl; valid = tt }
   args-looked_up (place y rest) clean g s x =
       let r : LooksUpArgs g s rest = args-looked_up rest clean g s x in
       record { after = r.after; part = r.part; args = place y r.args; nodes = r.nodes; on = r.on; looked_up = ap (option_map (place y)) r.looked_up; valid = r.valid }
@@ -126,7 +128,7 @@ module _ {D : Type 0} (a : Analysis D) (law : IsMerge D a) where
         nodes = nodes-then a law {h = n.after} {t = n.part} {k = q.after} {u = q.part} (nodes-then a law {h = r.after} {t = r.part} {k = n.after} {u = n.part} r.nodes n.nodes) q.nodes;
         on = λ t y p. q.on t y (n.on t y (r.on t y p));
         looked_up = λ i. both join (there i) (q.looked_up i);
-        valid = ((n.id, refl, ((nodes-made a law xn q.nodes).gone.goes_on.finds n.id n.valid).0), q.valid);
+        valid = ((n.id, refl, ((nodes-after a law {h = q.after} {t = q.part} xn q.nodes).goes_on.finds n.id n.valid).0), q.valid);
       }
   args-looked_up (scope inner rest) clean g s x =
       let r : LooksUpArgs g s inner = args-looked_up inner clean.0 g s x in
@@ -143,7 +145,7 @@ module _ {D : Type 0} (a : Analysis D) (law : IsMerge D a) where
       }
 
   -- a tree is looked up once classes are made for it
-  pub tree-looked_up : (g : State) (s : DataPart D) → RestsWithData a g s → (d : DTerm) → IsTree d → (h : State) × (t : DataPart D) × (x : Applied) × AddsNodes a g s h t × (look_up_tree h d ≡ Some x)
+  pub tree-looked_up : (g : State) (s : DataPart D) → RestsWithData a g s → (d : DTerm) → IsTree d → (h : State) × (t : DataPart D) × (x : Applied) × AddsNodesWithData a g s h t × (look_up_tree h d ≡ Some x)
   tree-looked_up g s x d tree =
       let r : LooksUpArgs g s d.args = args-looked_up d.args tree.children g s x in
       let n : LooksUpNode r.after r.part (node d.op d.payloads r.args) = node-looked_up r.after r.part (rests-after a law x r.nodes) (node d.op d.payloads r.args) tree.operator r.valid in (
@@ -155,16 +157,20 @@ module _ {D : Type 0} (a : Analysis D) (law : IsMerge D a) where
       )
 
   -- and so with rounds after it
-  pub tree-addable : (modify : Modify D) → AsksTrees modify → (limit : ℕ) (g : State) (s : DataPart D) → RestsWithData a g s → (d : DTerm) → IsTree d →
-      (h : State) × (t : DataPart D) × (x : Applied) × AddsExpr a modify limit g s d h t x
-  tree-addable modify asks limit g s r d tree =
+  pub tree-addable : (modify : Modify D) (answers : Answers D) → AnswersTrees modify answers → (limit : ℕ) (g : State) (s : DataPart D) → RestsWithData a g s → (d : DTerm) → IsTree d →
+      (h : State) × (t : DataPart D) × (x : Applied) × (m : AddsExpr a modify limit g s d h t x) × AddsExprAs answers m
+  tree-addable modify answers trees limit g s r d tree =
       let p = tree-looked_up g s r d tree in
       let xp : RestsWithData a p.0 p.1 = rests-after a law r p.3 in
-      let q = rounds-there a law modify asks p.0 p.1 xp limit in
+      let q = rounds-there a law modify answers trees p.0 p.1 xp limit in
       let xq : RestsWithData a q.0 q.1 = (rounds-on a law modify xp q.2.rounds).rest in
-      go p.0 p.1 p.2 p.3 p.4 q.0 q.1 q.2 xq (look_up_tree q.0 d) refl
+      go p.0 p.1 p.2 p.3 p.4 q.0 q.1 q.2 q.3 xq (look_up_tree q.0 d) refl
     where
-      go : (h : State) (t : DataPart D) (x : Applied) → AddsNodes a g s h t → look_up_tree h d ≡ Some x → (k : State) (u : DataPart D) → Rounds a modify limit h t k u → RestsWithData a k u →
-          (o : Option Applied) → look_up_tree k d ≡ o → (l : State) × (v : DataPart D) × (y : Applied) × AddsExpr a modify limit g s d l v y
-      go h t x n e k u rounds rest (Some y) f = (k, u, y, still_there n e rounds f)
-      go h t x n e k u rounds rest None f = let z = tree-looked_up k u rest d tree in (z.0, z.1, z.2, turned_away n e rounds f z.3 z.4)
+      go : (h : State) (t : DataPart D) (x : Applied) → AddsNodesWithData a g s h t → look_up_tree h d ≡ Some x → (k : State) (u : DataPart D) (m : Rounds a modify limit h t k u) → RoundsAs answers m.rounds → RestsWithData a k u →
+          (o : Option Applied) → look_up_tree k d ≡ o → (l : State) × (v : DataPart D) × (y : Applied) × (m : AddsExpr a modify limit g s d l v y) × AddsExprAs answers m
+      go h t x n e k u rounds exact rest (Some y) f = let c = nodes-carried a law r n in (k, u, y, still_there c.nodes c.carries e rounds f, (n, exact))
+      go h t x n e k u rounds exact rest None f =
+          let c = nodes-carried a law r n in
+          let z = tree-looked_up k u rest d tree in
+          let w = nodes-carried a law rest z.3 in
+          (z.0, z.1, z.2, turned_away c.nodes c.carries e rounds f w.nodes w.carries z.4, (n, exact, z.3))

@@ -21,7 +21,9 @@ use Rattle.slotted_model.proofs.Ids.{term_eq-true, term_eq-same, Stands, class-s
 use Rattle.slotted_model_analyses.specs.Analysis.{Analysis, IsMerge}
 use Rattle.slotted_model_analyses.specs.DataPart.{DataPart, RestsWithData}
 use Rattle.slotted_model_analyses.specs.DataWrites.{AddsWithData}
-use Rattle.slotted_model_analyses.specs.Rounds.{AddsNodes, no_more, one_more, AddsTree}
+use Rattle.slotted_model_analyses.specs.Rounds.{AddsTree}
+use Rattle.slotted_model_analyses.specs.Steps.{AddsNodesWithData, none_more, then_one}
+use Rattle.slotted_model_analyses.proofs.CarriedSteps.{nodes-carried}
 use Rattle.slotted_model_analyses.proofs.RoundsAtRest.{HasMadeNodes, nodes-made}
 use Rattle.slotted_model_analyses.proofs.Writing.{adding}
 
@@ -41,16 +43,16 @@ one-below P decide (suc n) = elim (decide n) [
 
 module _ {D : Type 0} (a : Analysis D) (law : IsMerge D a) where
   -- one chain after another
-  pub nodes-then : {g : State} {s : DataPart D} {h : State} {t : DataPart D} {k : State} {u : DataPart D} → AddsNodes a g s h t → AddsNodes a h t k u → AddsNodes a g s k u
-  nodes-then n no_more = n
-  nodes-then n (one_more c r new add) = one_more c (nodes-then n r) new add
+  pub nodes-then : {g : State} {s : DataPart D} {h : State} {t : DataPart D} {k : State} {u : DataPart D} → AddsNodesWithData a g s h t → AddsNodesWithData a h t k u → AddsNodesWithData a g s k u
+  nodes-then n none_more = n
+  nodes-then n (then_one c r new add) = then_one c (nodes-then n r) new add
 
   -- the node c over full ids has an id
   record HasNode (g : State) (s : DataPart D) (c : DTerm) : Type 0 where
     after : State
     part : DataPart D
     id : Applied
-    nodes : AddsNodes a g s after part
+    nodes : AddsNodesWithData a g s after part
     full : IsFull after.nodes id
     term : term_of after.nodes id ≡ layer_of g.nodes c
 
@@ -65,7 +67,7 @@ module _ {D : Type 0} (a : Analysis D) (law : IsMerge D a) where
     | inl r ↦
         let b : Applied = class_with_names g.nodes c r.0 in
         let y : Stands g.nodes c b = class-stands g.nodes c r.0 r.1 ((shape_iff (canonical_node g.nodes r.0) c).0 r.2) in
-        record { after = g; part = s; id = b; nodes = no_more; full = y.0; term = term_of-layer g.nodes x.rest.sane.sound.canonical b y.0 ∙ ap (layer_of g.nodes) y.1 }
+        record { after = g; part = s; id = b; nodes = none_more; full = y.0; term = term_of-layer g.nodes x.rest.sane.sound.canonical b y.0 ∙ ap (layer_of g.nodes) y.1 }
     | inr none ↦
         let new : IsNew g.nodes c = record { operator = op; children = children; shape_is_new = none } in
         let z = adding a law g s x c new in
@@ -76,7 +78,7 @@ module _ {D : Type 0} (a : Analysis D) (law : IsMerge D a) where
           after = z.0.0;
           part = z.0.1;
           id = identity_id (g.nodes ++ c ∷ []) (length g.nodes);
-          nodes = one_more c no_more new made;
+          nodes = then_one c none_more new made;
           full = subst (λ ns. IsFull ns (identity_id (g.nodes ++ c ∷ []) (length g.nodes))) (sym w.nodes) grown.full;
           term = ap (λ ns. term_of ns (identity_id (g.nodes ++ c ∷ []) (length g.nodes))) w.nodes ∙ grown.term;
         }
@@ -87,24 +89,28 @@ module _ {D : Type 0} (a : Analysis D) (law : IsMerge D a) where
     after : State
     part : DataPart D
     args : DArgs
-    nodes : AddsNodes a g s after part
+    nodes : AddsNodesWithData a g s after part
     full : EachChild (IsFull after.nodes) args
     stand : expand_args (stands (terms after.nodes)) args ≡ d
 
-  pub rests-after : {g : State} {s : DataPart D} {h : State} {t : DataPart D} → RestsWithData a g s → AddsNodes a g s h t → RestsWithData a h t
-  rests-after x n = (nodes-made a law x n).gone.rest
+  pub rests-after : {g : State} {s : DataPart D} {h : State} {t : DataPart D} → RestsWithData a g s → AddsNodesWithData a g s h t → RestsWithData a h t
+  rests-after x n = (nodes-carried a law x n).carries.rests
+
+  -- what holds of the graphs alone
+  pub nodes-after : {g : State} {s : DataPart D} {h : State} {t : DataPart D} → RestsWithData a g s → AddsNodesWithData a g s h t → HasMadeNodes g h
+  nodes-after x n = nodes-made x.rest (nodes-carried a law x n).nodes
 
   -- arguments over full ids stay as classes are made
-  args-stay : {g : State} {s : DataPart D} {h : State} {t : DataPart D} → RestsWithData a g s → AddsNodes a g s h t → (e : DArgs) → EachChild (IsFull g.nodes) e →
+  args-stay : {g : State} {s : DataPart D} {h : State} {t : DataPart D} → RestsWithData a g s → AddsNodesWithData a g s h t → (e : DArgs) → EachChild (IsFull g.nodes) e →
       EachChild (IsFull h.nodes) e × (expand_args (stands (terms h.nodes)) e ≡ expand_args (stands (terms g.nodes)) e)
   args-stay {g} {s} {h} x n e c =
-      let m : HasMadeNodes a law g s h _ = nodes-made a law x n in (
+      let m : HasMadeNodes g h = nodes-after x n in (
         EachChild-map (IsFull g.nodes) (IsFull h.nodes) (λ b f. (m.terms b f).0) e c,
         ap (λ (t : DTerm). t.args) (m.layers (node 1 [] e) c),
       )
 
   args-there : (d : DArgs) → HasNoIds d → (g : State) (s : DataPart D) → RestsWithData a g s → HasArgs g s d
-  args-there stop clean g s x = record { after = g; part = s; args = stop; nodes = no_more; full = tt; stand = refl }
+  args-there stop clean g s x = record { after = g; part = s; args = stop; nodes = none_more; full = tt; stand = refl }
   args-there (place y rest) clean g s x =
       let r : HasArgs g s rest = args-there rest clean g s x in
       record { after = r.after; part = r.part; args = place y r.args; nodes = r.nodes; full = r.full; stand = ap (place y) r.stand }
@@ -114,7 +120,7 @@ module _ {D : Type 0} (a : Analysis D) (law : IsMerge D a) where
       let n : HasNode r.after r.part c = node-there r.after r.part (rests-after x r.nodes) c clean.0 r.full in
       let y : RestsWithData a n.after n.part = rests-after (rests-after x r.nodes) n.nodes in
       let q : HasArgs n.after n.part rest = args-there rest clean.2 n.after n.part y in
-      let m : HasMadeNodes a law n.after n.part q.after q.part = nodes-made a law y q.nodes in
+      let m : HasMadeNodes n.after q.after = nodes-after y q.nodes in
       let f : IsFull q.after.nodes n.id = (m.terms n.id n.full).0 in
       let t : term_of q.after.nodes n.id ≡ node op payloads inner = (m.terms n.id n.full).1 ∙ (n.term ∙ ap (node op payloads) r.stand) in
       record {
@@ -140,9 +146,11 @@ module _ {D : Type 0} (a : Analysis D) (law : IsMerge D a) where
       }
 
   -- each tree can be added
-  pub tree-there : (g : State) (s : DataPart D) → RestsWithData a g s → (d : DTerm) → IsTree d → (h : State) × (t : DataPart D) × (b : Applied) × AddsTree a g s d h t b
+  pub tree-there : (g : State) (s : DataPart D) → RestsWithData a g s → (d : DTerm) → IsTree d → (h : State) × (t : DataPart D) × (b : Applied) × AddsTree a g s d h t b × AddsNodesWithData a g s h t
   tree-there g s x d tree =
       let r : HasArgs g s d.args = args-there d.args tree.children g s x in
       let c : DTerm = node d.op d.payloads r.args in
       let n : HasNode r.after r.part c = node-there r.after r.part (rests-after x r.nodes) c tree.operator r.full in
-      (n.after, n.part, n.id, record { nodes = nodes-then r.nodes n.nodes; full = n.full; term = n.term ∙ ap (node d.op d.payloads) r.stand })
+      let all : AddsNodesWithData a g s n.after n.part = nodes-then r.nodes n.nodes in
+      let m = nodes-carried a law x all in
+      (n.after, n.part, n.id, record { nodes = m.nodes; carries = m.carries; full = n.full; term = n.term ∙ ap (node d.op d.payloads) r.stand }, all)

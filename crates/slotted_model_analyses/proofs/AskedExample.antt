@@ -21,12 +21,14 @@ use Rattle.slotted_model.proofs.Touching.{touching, touched-is}
 use Rattle.slotted_model_analyses.specs.Analysis.{Analysis, IsMerge, Absorbs}
 use Rattle.slotted_model_analyses.specs.DataPart.{DataPart, with_data, with_pending, made, absorbed, lowered, Carries, starts, RestsWithData}
 use Rattle.slotted_model_analyses.specs.DataWrites.{AssertsWithData, is_new, stands, MergesInto, merges_into}
-use Rattle.slotted_model_analyses.specs.Rounds.{Modify, IsOfTrees, AsksTrees, adds, equals, equates, AddsTree, MakesEdit, makes_add, makes_equal, makes_equate, all_made, then_edit, all_modified, modified, passed_over, TakesRound, no_rounds, one_round, Rounds, AddsExpr, still_there, IsAsked}
+use Rattle.slotted_model_analyses.specs.Rounds.{Modify, Answers, IsOfTrees, AnswersTrees, AreAsked, adds, equals, equates, AddsTree, MakesEdit, makes_add, makes_equal, makes_equate, all_made, then_edit, all_modified, modified, passed_over, TakesRound, no_rounds, one_round, Rounds, AddsExpr, still_there, IsAsked}
 use Rattle.slotted_model_analyses.specs.Rounds as rounds
+use Rattle.slotted_model_analyses.specs.Steps.{none_more, RoundsAs}
 use Rattle.slotted_model_analyses.proofs.Merging.{noted-is}
+use Rattle.slotted_model_analyses.proofs.CarriedSteps.{carried-same, asserting-carried}
 use Rattle.slotted_model_analyses.proofs.AddedTrees.{merged-stays}
 use Rattle.slotted_model_analyses.proofs.MakingRounds.{rounds-there}
-use Rattle.slotted_model_analyses.proofs.RoundsAtRest.{rounds-on, round-on, none-modified}
+use Rattle.slotted_model_analyses.proofs.RoundsAtRest.{rounds-on, round-on, cleared, none-modified}
 use Rattle.slotted_model_analyses.proofs.Writing.{merging}
 
 -- p makes 5, and q makes 7; the least is kept
@@ -50,7 +52,11 @@ least_merge = record {
 
 -- a class of which the datum is 0 is to equal q
 abbrev asks : Modify ℕ
-asks x slots = cond (nat_eq x 0) (equals q ∷ []) []
+asks x slots e = (x ≡ 0) × (e ≡ equals q)
+
+-- and this is answered
+abbrev answered : Answers ℕ
+answered x slots = cond (nat_eq x 0) (equals q ∷ []) []
 
 abbrev words : DataPart ℕ
 words = record { data_of = with_data (λ i. 5) 1 7; pending = []; changed = [] }
@@ -91,8 +97,16 @@ told_rests = ((merging least least_merge with_q words words_rest 0 (omega arith)
 abbrev before_round : DataPart ℕ
 before_round = record told { changed = [] }
 
-q_there : (s : DataPart ℕ) → AddsTree least with_q s q with_q s (1, [])
-q_there s = record { nodes = rounds.no_more; full = record { in_range = omega arith; slots = refl; injective = tt }; term = refl }
+before_rests : RestsWithData least with_q before_round
+before_rests = cleared least least_merge asks with_q told told_rests
+
+q_there : (s : DataPart ℕ) → RestsWithData least with_q s → AddsTree least with_q s q with_q s (1, [])
+q_there s x = record {
+  nodes = rounds.no_more;
+  carries = carried-same least least_merge with_q s x;
+  full = record { in_range = omega arith; slots = refl; injective = tt };
+  term = refl;
+}
 
 -- an id without slots lacks no name
 filled : (g : State) (c : ℕ) (given : List ℕ) → IsFull g.nodes (c, []) → IsFilling g.nodes given (c, []) (c, [])
@@ -143,19 +157,25 @@ q_full : IsFull with_q.nodes (1, [])
 q_full = record { in_range = omega arith; slots = refl; injective = tt }
 
 edit_made : MakesEdit least with_q before_round 0 [] (equals q) united q_changed
-edit_made = makes_equal q (q_there before_round) (filled with_q 0 [] p_full) words_asserted
+edit_made =
+    let c = asserting-carried least least_merge with_q before_round before_rests united q_changed (0, []) (1, []) p_full q_full words_asserted in
+    makes_equal q (q_there before_round before_rests) (filled with_q 0 [] p_full) c.0 c.1
+
+-- for the datum 0, whatever class has it
+q_asked : (slots : List ℕ) → AreAsked (asks 0 slots) (equals q ∷ [])
+q_asked slots e c = (refl, one_of c)
 
 first_round : TakesRound least asks with_q told united q_changed
 first_round = record {
   order = 0 ∷ [];
   ascending = (tt, tt);
   waiting = λ c. (λ k. (k, subst (IsLive with_q.found) (sym (one_of k)) refl), λ k. k.0);
-  modifies = modified (omega arith) refl (then_edit edit_made all_made) all_modified;
+  modifies = modified (omega arith) refl (q_asked []) (then_edit edit_made all_made) all_modified;
 }
 
 -- of the two classes that of q alone is live, and its data has changed: it waits for the next round
 united_rests : RestsWithData least united q_changed
-united_rests = (round-on least least_merge asks with_q told told_rests united q_changed first_round).0.rest
+united_rests = (round-on least least_merge asks with_q told told_rests united q_changed first_round).0.carries.rests
 
 q_waits : (q_changed.changed ≡ 1 ∷ []) × (q_changed.data_of (find_class united.found 0) ≡ 0) × (find_class united.found 0 ≡ 1)
 q_waits = (refl, refl, refl)
@@ -164,16 +184,24 @@ q_waits = (refl, refl, refl)
 abbrev at_end : DataPart ℕ
 at_end = record q_changed { changed = [] }
 
+end_rested : RestsWithData least united at_end
+end_rested = cleared least least_merge asks united q_changed united_rests
+
+q_same : AssertsWithData least united at_end (1, []) (1, []) united at_end
+q_same = stands 1 (omega arith, refl) (finds_alike refl refl) refl starts ((refl, λ y c. absurd (Contains-nil y c)), refl)
+
+q_still : MakesEdit least united at_end 1 [] (equals q) united at_end
+q_still =
+    let c = asserting-carried least least_merge united at_end end_rested united at_end (1, []) (1, []) q_full q_full q_same in
+    makes_equal q (record { nodes = rounds.no_more; carries = carried-same least least_merge united at_end end_rested; full = q_full; term = refl })
+    (filled united 1 [] q_full) c.0 c.1
+
 second_round : TakesRound least asks united q_changed united at_end
 second_round = record {
   order = 1 ∷ [];
   ascending = (tt, tt);
   waiting = λ c. (λ k. (k, subst (IsLive united.found) (sym (one_of k)) refl), λ k. k.0);
-  modifies =
-      modified (omega arith) refl
-      (then_edit (makes_equal q (record { nodes = rounds.no_more; full = q_full; term = refl }) (filled united 1 [] q_full)
-      (stands 1 (omega arith, refl) (finds_alike refl refl) refl starts ((refl, λ y c. absurd (Contains-nil y c)), refl))) all_made)
-      all_modified;
+  modifies = modified (omega arith) refl (q_asked []) (then_edit q_still all_made) all_modified;
 }
 
 both_rounds : Rounds least asks 16 with_q told united at_end
@@ -183,6 +211,11 @@ both_rounds = record {
   rounds = one_round (one_round no_rounds 0 (contains_head 0 []) refl first_round) 1 (contains_head 1 []) refl second_round;
   ends = inr (λ c k. absurd (Contains-nil c k));
 }
+
+-- in both what is answered is made, and data goes along with each step
+in_steps : RoundsAs answered both_rounds.rounds
+unfolding both_rounds first_round edit_made second_round q_still
+in_steps = ((tt, (refl, ((none_more, words_asserted), tt), tt)), (refl, ((none_more, q_same), tt), tt))
 
 end_rests : RestsWithData least united at_end
 end_rests = (rounds-on least least_merge asks told_rests both_rounds.rounds).rest
@@ -204,50 +237,50 @@ still_told =
 
 -- an analysis that asks nothing leaves the graph in a round, and no class waits then
 abbrev asks_nothing : Modify ℕ
-asks_nothing x slots = []
+asks_nothing x slots e = ⊥
 
 quiet_round : TakesRound least asks_nothing with_q told with_q before_round
 quiet_round = record {
   order = 0 ∷ [];
   ascending = (tt, tt);
   waiting = λ c. (λ k. (k, subst (IsLive with_q.found) (sym (one_of k)) refl), λ k. k.0);
-  modifies = modified (omega arith) refl all_made all_modified;
+  modifies = modified (omega arith) refl (λ e c. Contains-nil e c) all_made all_modified;
 }
 
 nothing_asked : (h : State) (t : DataPart ℕ) → TakesRound least asks_nothing with_q told h t → (h ≡ with_q) × (t ≡ before_round)
-nothing_asked h t r = none-modified least asks_nothing (λ x slots. refl) r.modifies
+nothing_asked h t r = none-modified least asks_nothing (λ x slots e k. k) r.modifies
 
 -- without rounds all waits for the next write
 no_round : Rounds least asks 0 with_q told with_q told
 no_round = record { taken = 0; within = omega arith; rounds = no_rounds; ends = inl refl }
 
--- trees alone are asked for, so there are rounds for each limit
+-- trees alone are answered, so there are rounds for each limit
 q_is_tree : IsTree q
 q_is_tree = record { operator = omega arith; children = tt }
 
-asks_trees : AsksTrees asks
-asks_trees zero slots e c = subst IsOfTrees (sym (one_of c)) q_is_tree
-asks_trees (suc x) slots e c =
+answers_trees : AnswersTrees asks answered
+answers_trees zero slots e c = ((refl, one_of c), subst IsOfTrees (sym (one_of c)) q_is_tree)
+answers_trees (suc x) slots e c =
     let none = subst (λ b. Contains (cond b (equals q ∷ []) []) e) (ne_eqb (suc x) 0 (λ k. omega arith)) c in
     absurd (Contains-nil e none)
 
-rounds_for : (limit : ℕ) → (h : State) × (t : DataPart ℕ) × Rounds least asks limit with_q told h t
-rounds_for limit = rounds-there least least_merge asks asks_trees with_q told told_rests limit
+rounds_for : (limit : ℕ) → (h : State) × (t : DataPart ℕ) × (r : Rounds least asks limit with_q told h t) × RoundsAs answered r.rounds
+rounds_for limit = rounds-there least least_merge asks answered answers_trees with_q told told_rests limit
 
 -- an edit that adds q finds it there
 q_added : MakesEdit least with_q told 0 [] (adds q) with_q told
-q_added = makes_add q (q_there told)
+q_added = makes_add q (q_there told told_rests)
 
 -- p is added once more: its class waits, and the rounds lead it to the class of q, which is answered
 p_answered : AddsExpr least asks 16 with_q told p united at_end (1, [])
-p_answered = still_there rounds.no_more looked_up both_rounds refl
+p_answered = still_there rounds.no_more (carried-same least least_merge with_q told told_rests) looked_up both_rounds refl
   where
     looked_up : look_up_tree with_q p ≡ Some (0, [])
     looked_up = refl
 
 -- where q waits too, and the class of p asks that q equals p: the class of q dies before it is taken, and is passed over
 abbrev asks_of_both : Modify ℕ
-asks_of_both x slots = cond (nat_eq x 0) (equates q p ∷ []) []
+asks_of_both x slots e = (x ≡ 0) × (e ≡ equates q p)
 
 abbrev both_wait : DataPart ℕ
 both_wait = record told { changed = 0 ∷ 1 ∷ [] }
@@ -302,17 +335,23 @@ both_live c k = elim (contains_cases 0 (1 ∷ []) c k) [
   | inr j ↦ subst (IsLive with_q.found) (sym (one_of j)) refl
 ]
 
+both_made : MakesEdit least with_q before_round 0 [] (equates q p) q_dead before_round
+both_made =
+    let c = asserting-carried least least_merge with_q before_round before_rests q_dead before_round (1, []) (0, []) q_full p_full q_asserted in
+    makes_equate q p (q_there before_round before_rests)
+    (record { nodes = rounds.no_more; carries = carried-same least least_merge with_q before_round before_rests; full = p_full; term = refl })
+    c.0 c.1
+
 round_of_both : TakesRound least asks_of_both with_q both_wait q_dead before_round
 round_of_both = record {
   order = 0 ∷ 1 ∷ [];
   ascending = ((omega arith, tt), (tt, tt));
   waiting = λ c. (λ k. (k, both_live c k), λ k. k.0);
   modifies =
-      modified (omega arith) refl
-      (then_edit (makes_equate q p (q_there before_round) (record { nodes = rounds.no_more; full = p_full; term = refl }) q_asserted) all_made)
+      modified (omega arith) refl (λ e c. (refl, one_of c)) (then_edit both_made all_made)
       (passed_over (λ e. omega arith) all_modified);
 }
 
 both_round_rests : RestsWithData least q_dead before_round
 both_round_rests =
-    (round-on least least_merge asks_of_both with_q both_wait both_wait_rest q_dead before_round round_of_both).0.rest
+    (round-on least least_merge asks_of_both with_q both_wait both_wait_rest q_dead before_round round_of_both).0.carries.rests

@@ -17,7 +17,12 @@ pub mod TurnedExample
 pub mod AskedExample
 pub mod ActExample
 pub mod JoinedExample
+pub mod CarriedSteps
+pub mod CarriedData
+pub mod FollowingWrites
+pub mod CarriedExample
 pub mod RoundsAtRest
+pub mod LookUpsGoOn
 pub mod AddedTrees
 pub mod AddingTrees
 pub mod MakingRounds

@@ -1,5 +1,5 @@
 -- Edits and rounds lead from rest to rest, and assert what was asked alone.
-use Rattle.std.proofs.Common.{◌≡◌, ℕ, ◌≤◌, List, [], ◌∷◌, ◌++◌, length, sym, ◌∙◌, ap, refl, subst, inl, inr, arith}
+use Rattle.std.proofs.Common.{◌≡◌, ℕ, ◌≤◌, List, [], ◌∷◌, ◌++◌, sym, ◌∙◌, ap, refl, subst, inl, inr, arith}
 use Rattle.std.specs.Prelude.{◌⊎◌, Contains}
 use Rattle.std.proofs.lemmas.List.Elements.{Contains-append_cases}
 use Rattle.slotted_theory.specs.Nameless.{DTerm}
@@ -12,7 +12,7 @@ use Rattle.slotted_model.specs.ProofList.{equation_of, term_pair, asserted}
 use Rattle.slotted_model.specs.State.{State}
 use Rattle.slotted_model.specs.Rest.{AtRest}
 use Rattle.slotted_model.specs.Changes.{GoesOn}
-use Rattle.slotted_model.specs.Adding.{HasAdded, HasAsserted}
+use Rattle.slotted_model.specs.Adding.{HasAdded, Asserts, HasAsserted}
 use Rattle.slotted_model.proofs.Adding.{adds}
 use Rattle.slotted_model.proofs.Asserting.{asserts}
 use Rattle.slotted_model.proofs.Children.{EachChild-map}
@@ -20,91 +20,58 @@ use Rattle.slotted_model.proofs.GoingOn.{goes_on-same, goes_on-then}
 use Rattle.slotted_model.proofs.Growing.{added}
 use Rattle.slotted_model_analyses.specs.Analysis.{Analysis, IsMerge}
 use Rattle.slotted_model_analyses.specs.DataPart.{DataPart, DataGoesDown, RestsWithData}
-use Rattle.slotted_model_analyses.specs.DataWrites.{AssertsWithData, HasNotedAll}
+use Rattle.slotted_model_analyses.specs.Carried.{CarriesTo}
 use Rattle.slotted_model_analyses.specs.Rounds.{Edit, Modify, AddsNodes, no_more, one_more, MakesEdit, makes_add, makes_equal, makes_equate, MakesEdits, all_made, then_edit, Modifies, all_modified, modified, passed_over, TakesRound, TakesRounds, no_rounds, one_round, SaysEdit, IsAsked}
-use Rattle.slotted_model_analyses.proofs.Absorbing.{absorbs-same, absorbs-then}
-use Rattle.slotted_model_analyses.proofs.Writing.{adding, asserting}
+use Rattle.slotted_model_analyses.proofs.Absorbing.{absorbs-then}
+use Rattle.slotted_model_analyses.proofs.CarriedSteps.{carried-same, carried-then}
+
+-- classes that are made
+pub record HasMadeNodes (g h : State) : Type 0 where
+  pub rest : AtRest h
+  pub goes_on : GoesOn g h
+  pub same_asserted : asserted h.nodes h.proofs ≡ asserted g.nodes g.proofs
+  pub terms : (x : Applied) → IsFull g.nodes x → IsFull h.nodes x × (term_of h.nodes x ≡ term_of g.nodes x)
+  pub layers : (d : DTerm) → EachChild (IsFull g.nodes) d.args → layer_of h.nodes d ≡ layer_of g.nodes d
+
+pub nodes-made : {g h : State} → AtRest g → AddsNodes g h → HasMadeNodes g h
+nodes-made {g} x no_more = record { rest = x; goes_on = goes_on-same g x.sane.sound.linked; same_asserted = refl; terms = λ y f. (f, refl); layers = λ d e. refl }
+nodes-made {g} x (one_more {h = h} {k = k} c r new add) =
+    let y : HasMadeNodes g h = nodes-made x r in
+    let w : HasAdded h c k = adds h y.rest c new k add in
+    let grown : Added h.nodes (h.nodes ++ c ∷ []) c = added h.nodes c y.rest.sane.sound.canonical new in
+    record {
+      rest = w.rest;
+      goes_on = goes_on-then g h k x.sane.sound.linked y.goes_on w.goes_on;
+      same_asserted = w.same_asserted ∙ y.same_asserted;
+      terms = λ b f.
+          let j = y.terms b f in (
+            subst (λ ns. IsFull ns b) (sym w.nodes) (grown.extends.full b j.0),
+            ap (λ ns. term_of ns b) w.nodes ∙ (grown.extends.terms b j.0 ∙ j.1),
+          );
+      layers = λ d e.
+          ap (λ ns. layer_of ns d) w.nodes
+          ∙ (grown.extends.layers d (EachChild-map (IsFull g.nodes) (IsFull h.nodes) (λ b f. (y.terms b f).0) d.args e) ∙ y.layers d e);
+    }
 
 module _ {D : Type 0} (a : Analysis D) (law : IsMerge D a) where
   -- what holds after writes from rest to rest
   pub record HasGoneOn (g : State) (s : DataPart D) (h : State) (t : DataPart D) : Type 0 where
-    pub rest : RestsWithData a h t
     pub goes_on : GoesOn g h
-    pub classes : DataGoesDown a g s h t
-    pub noted : HasNotedAll g s h t
+    pub carries : CarriesTo a g s h t
 
   gone-same : (g : State) (s : DataPart D) → RestsWithData a g s → HasGoneOn g s g s
-  gone-same g s x = record {
-    rest = x;
-    goes_on = goes_on-same g x.rest.sane.sound.linked;
-    classes = λ i l. absorbs-same a law (s.data_of (find_class g.found i));
-    noted = record { kept = λ i c. c; noted = λ i l n. (l, refl) };
-  }
+  gone-same g s x = record { goes_on = goes_on-same g x.rest.sane.sound.linked; carries = carried-same a law g s x }
 
   gone-then : (g h k : State) (s t u : DataPart D) → RestsWithData a g s → HasGoneOn g s h t → HasGoneOn h t k u → HasGoneOn g s k u
   gone-then g h k s t u x p q = record {
-    rest = q.rest;
     goes_on = goes_on-then g h k x.rest.sane.sound.linked p.goes_on q.goes_on;
-    classes = λ i l. absorbs-then a law (u.data_of (find_class k.found i)) (t.data_of (find_class h.found i)) (s.data_of (find_class g.found i)) (q.classes i (p.goes_on.classes i l).0) (p.classes i l);
-    noted = record {
-      kept = λ i c. q.noted.kept i (p.noted.kept i c);
-      noted = λ i l n.
-          let y = q.noted.noted i l n in
-          let z = p.noted.noted i y.0 (λ c. n (q.noted.kept i c)) in
-          (z.0, y.1 ∙ z.1);
-    };
+    carries = carried-then a law g h k s t u p.goes_on p.carries q.carries;
   }
 
-  -- classes that are made
-  pub record HasMadeNodes (g : State) (s : DataPart D) (h : State) (t : DataPart D) : Type 0 where
-    pub gone : HasGoneOn g s h t
-    pub same_asserted : asserted h.nodes h.proofs ≡ asserted g.nodes g.proofs
-    pub terms : (x : Applied) → IsFull g.nodes x → IsFull h.nodes x × (term_of h.nodes x ≡ term_of g.nodes x)
-    pub layers : (d : DTerm) → EachChild (IsFull g.nodes) d.args → layer_of h.nodes d ≡ layer_of g.nodes d
-
-  pub nodes-made : {g : State} {s : DataPart D} {h : State} {t : DataPart D} → RestsWithData a g s → AddsNodes a g s h t → HasMadeNodes g s h t
-  nodes-made {g} {s} x no_more = record { gone = gone-same g s x; same_asserted = refl; terms = λ y f. (f, refl); layers = λ d e. refl }
-  nodes-made {g} {s} x (one_more {h = h} {k = k} {t = t} {u = u} c r new add) =
-      let y : HasMadeNodes g s h t = nodes-made x r in
-      let z = (adding a law h t y.gone.rest c new).1 k u add in
-      let w : HasAdded h c k = adds h y.gone.rest.rest c new k z.0 in
-      let grown : Added h.nodes (h.nodes ++ c ∷ []) c = added h.nodes c y.gone.rest.rest.sane.sound.canonical new in
-      record {
-        gone = gone-then g h k s t u x y.gone (record { rest = z.1; goes_on = w.goes_on; classes = z.2; noted = z.5 });
-        same_asserted = w.same_asserted ∙ y.same_asserted;
-        terms = λ b f.
-            let j = y.terms b f in (
-              subst (λ ns. IsFull ns b) (sym w.nodes) (grown.extends.full b j.0),
-              ap (λ ns. term_of ns b) w.nodes ∙ (grown.extends.terms b j.0 ∙ j.1),
-            );
-        layers = λ d e.
-            ap (λ ns. layer_of ns d) w.nodes
-            ∙ (grown.extends.layers d (EachChild-map (IsFull g.nodes) (IsFull h.nodes) (λ b f. (y.terms b f).0) d.args e) ∙ y.layers d e);
-      }
-
   -- an assertion
-  asserted-on : (g : State) (s : DataPart D) → RestsWithData a g s → (x y : Applied) → IsFull g.nodes x → IsFull g.nodes y → (h : State) (t : DataPart D) → AssertsWithData a g s x y h t →
+  asserted-on : (g : State) (s : DataPart D) → RestsWithData a g s → (x y : Applied) → IsFull g.nodes x → IsFull g.nodes y → (h : State) (t : DataPart D) → Asserts g x y h → CarriesTo a g s h t →
       HasGoneOn g s h t × HasAsserted g x y h
-  asserted-on g s r x y fx fy h t w =
-      let z = (asserting a law g s r x y fx fy).1 h t w in
-      let v : HasAsserted g x y h = asserts g r.rest x y fx fy h z.0 in (
-        record {
-          rest = z.1;
-          goes_on = v.goes_on;
-          classes = z.2;
-          noted = record {
-            kept = z.3.kept;
-            noted = λ i l n. (
-              (let e : length h.nodes ≡ length g.nodes = ap length v.same_nodes in omega arith),
-              elim (law.decided (t.data_of i) (s.data_of i)) [
-                | inl e ↦ e
-                | inr m ↦ absurd (n (z.3.noted i m))
-              ],
-            );
-          };
-        },
-        v,
-      )
+  asserted-on g s r x y fx fy h t w c = let v : HasAsserted g x y h = asserts g r.rest x y fx fy h w in (record { goes_on = v.goes_on; carries = c }, v)
 
   -- the pair was asserted for the edit e of the class c, between g and h
   pub record SaidEdit (g h : State) (c : ℕ) (slots : List ℕ) (e : Edit) (pair : DTerm × DTerm) : Type 0 where
@@ -138,27 +105,28 @@ module _ {D : Type 0} (a : Analysis D) (law : IsMerge D a) where
 
   pub edit-made : (g : State) (s : DataPart D) → RestsWithData a g s → (c : ℕ) (slots : List ℕ) {e : Edit} {h : State} {t : DataPart D} → MakesEdit a g s c slots e h t → HasGoneOn g s h t × Said g h c slots e
   edit-made g s x c slots (makes_add d tree) =
-      let n = nodes-made x tree.nodes in
-      (n.gone, λ pair j. inl (subst (λ ps. Contains ps pair) n.same_asserted j))
-  edit-made g s x c slots (makes_equal {h = h} {k = k} {t = t} {u = u} {b = b} {x = y} d tree fills says) =
-      let n = nodes-made x tree.nodes in
-      let v = asserted-on h t n.gone.rest y b fills.full tree.full k u says in (
-        gone-then g h k s t u x n.gone v.0,
+      let n = nodes-made x.rest tree.nodes in
+      (record { goes_on = n.goes_on; carries = tree.carries }, λ pair j. inl (subst (λ ps. Contains ps pair) n.same_asserted j))
+  edit-made g s x c slots (makes_equal {h = h} {k = k} {t = t} {u = u} {b = b} {x = y} d tree fills says carries) =
+      let n = nodes-made x.rest tree.nodes in
+      let gone : HasGoneOn g s h t = record { goes_on = n.goes_on; carries = tree.carries } in
+      let v = asserted-on h t tree.carries.rests y b fills.full tree.full k u says carries in (
+        gone-then g h k s t u x gone v.0,
         λ pair j. elim (said-pair g h k y b n.same_asserted v.1 pair j) [
           | inl i ↦ inl i
-          | inr q ↦ inr (record { said = h; left = y; right = b; said_rests = n.gone.rest.rest; between = n.gone.goes_on; to = v.0.goes_on; says = (fills, tree.term); is = q })
+          | inr q ↦ inr (record { said = h; left = y; right = b; said_rests = n.rest; between = n.goes_on; to = v.0.goes_on; says = (fills, tree.term); is = q })
         ],
       )
-  edit-made g s x c slots (makes_equate {h = h} {k = k} {l = l} {t = t} {u = u} {v = v} {b = b} {x = y} d e left right says) =
-      let n = nodes-made x left.nodes in
-      let m = nodes-made n.gone.rest right.nodes in
+  edit-made g s x c slots (makes_equate {h = h} {k = k} {l = l} {t = t} {u = u} {v = v} {b = b} {x = y} d e left right says carries) =
+      let n = nodes-made x.rest left.nodes in
+      let m = nodes-made n.rest right.nodes in
       let f = m.terms b left.full in
-      let both : HasGoneOn g s k u = gone-then g h k s t u x n.gone m.gone in
-      let w = asserted-on k u m.gone.rest b y f.0 right.full l v says in (
+      let both : HasGoneOn g s k u = gone-then g h k s t u x (record { goes_on = n.goes_on; carries = left.carries }) (record { goes_on = m.goes_on; carries = right.carries }) in
+      let w = asserted-on k u right.carries.rests b y f.0 right.full l v says carries in (
         gone-then g k l s u v x both w.0,
         λ pair j. elim (said-pair g k l b y (m.same_asserted ∙ n.same_asserted) w.1 pair j) [
           | inl i ↦ inl i
-          | inr q ↦ inr (record { said = k; left = b; right = y; said_rests = m.gone.rest.rest; between = both.goes_on; to = w.0.goes_on; says = (f.1 ∙ left.term, right.term); is = q })
+          | inr q ↦ inr (record { said = k; left = b; right = y; said_rests = m.rest; between = both.goes_on; to = w.0.goes_on; says = (f.1 ∙ left.term, right.term); is = q })
         ],
       )
 
@@ -168,7 +136,7 @@ module _ {D : Type 0} (a : Analysis D) (law : IsMerge D a) where
   edits-made c slots {g} {s} x all_made = (gone-same g s x, λ pair j. inl j)
   edits-made c slots {g} {s} x (then_edit {h = h} {k = k} {t = t} {u = u} {e = e} {es = es} one more) =
       let p = edit-made g s x c slots one in
-      let q = edits-made c slots p.0.rest more in (
+      let q = edits-made c slots p.0.carries.rests more in (
         gone-then g h k s t u x p.0 q.0,
         λ pair j. elim (q.1 pair j) [
           | inl i ↦ elim (p.1 pair i) [
@@ -248,9 +216,9 @@ module _ {D : Type 0} (a : Analysis D) (law : IsMerge D a) where
     -- the classes of a round
     modified-on : {g : State} {s : DataPart D} {cs : List ℕ} {h : State} {t : DataPart D} → RestsWithData a g s → Modifies a modify g s cs h t → HasGoneOn g s h t × Asked g h
     modified-on {g} {s} x all_modified = (gone-same g s x, λ pair j. inl j)
-    modified-on {g} {s} x (modified {h = h} {k = k} {t = t} {u = u} {c = c} l lives edits more) =
+    modified-on {g} {s} x (modified {h = h} {k = k} {t = t} {u = u} {c = c} l lives asked edits more) =
         let p = edits-made c (used_slots g.found c) x edits in
-        let q = modified-on p.0.rest more in
+        let q = modified-on p.0.carries.rests more in
         let here : Asked g h =
         λ pair j. elim (p.1 pair j) [
           | inl i ↦ inl i
@@ -268,7 +236,7 @@ module _ {D : Type 0} (a : Analysis D) (law : IsMerge D a) where
             between = y.2.between;
             to = y.2.to;
             lives = lives;
-            answered = y.1;
+            answered = asked y.0 y.1;
             says = y.2.says;
             is = y.2.is;
           })
@@ -301,14 +269,14 @@ module _ {D : Type 0} (a : Analysis D) (law : IsMerge D a) where
       pub asked : Asked g h
 
     pub rounds-on : {g : State} {s : DataPart D} {n : ℕ} {h : State} {t : DataPart D} → RestsWithData a g s → TakesRounds a modify g s n h t → HasTakenRounds g s h t
-    rounds-on {g} {s} x no_rounds = let p = gone-same g s x in record { rest = x; goes_on = p.goes_on; classes = p.classes; asked = λ pair j. inl j }
+    rounds-on {g} {s} x no_rounds = let p = gone-same g s x in record { rest = x; goes_on = p.goes_on; classes = p.carries.down; asked = λ pair j. inl j }
     rounds-on {g} {s} x (one_round {h = h} {k = k} {t = t} {u = u} more c waits lives r) =
         let p = rounds-on x more in
         let q = round-on h t p.rest k u r in
         record {
-          rest = q.0.rest;
+          rest = q.0.carries.rests;
           goes_on = goes_on-then g h k x.rest.sane.sound.linked p.goes_on q.0.goes_on;
-          classes = λ i l. absorbs-then a law (u.data_of (find_class k.found i)) (t.data_of (find_class h.found i)) (s.data_of (find_class g.found i)) (q.0.classes i (p.goes_on.classes i l).0) (p.classes i l);
+          classes = λ i l. absorbs-then a law (u.data_of (find_class k.found i)) (t.data_of (find_class h.found i)) (s.data_of (find_class g.found i)) (q.0.carries.down i (p.goes_on.classes i l).0) (p.classes i l);
           asked = asked-then g h k x.rest p.goes_on q.0.goes_on p.asked q.1;
         }
 
@@ -319,14 +287,14 @@ module _ {D : Type 0} (a : Analysis D) where
   no_rounds-same modify (one_round more c waits lives r) l = absurd (omega arith)
 
   -- an analysis that asks nothing changes nothing
-  none-made : (c : ℕ) (slots : List ℕ) {g : State} {s : DataPart D} {es : List Edit} {h : State} {t : DataPart D} → MakesEdits a c slots g s es h t → es ≡ [] → (h ≡ g) × (t ≡ s)
-  none-made c slots all_made e = (refl, refl)
-  none-made c slots (then_edit one more) e = absurd (cc)
+  none-made : (c : ℕ) (slots : List ℕ) {g : State} {s : DataPart D} {es : List Edit} {h : State} {t : DataPart D} → MakesEdits a c slots g s es h t → ((e : Edit) → ¬ Contains es e) → (h ≡ g) × (t ≡ s)
+  none-made c slots all_made n = (refl, refl)
+  none-made c slots (then_edit {e = e} {es = es} one more) n = absurd (n e (contains_head e es))
 
-  pub none-modified : (modify : Modify D) → ((x : D) (slots : List ℕ) → modify x slots ≡ []) → {g : State} {s : DataPart D} {cs : List ℕ} {h : State} {t : DataPart D} → Modifies a modify g s cs h t → (h ≡ g) × (t ≡ s)
+  pub none-modified : (modify : Modify D) → ((x : D) (slots : List ℕ) (e : Edit) → ¬ modify x slots e) → {g : State} {s : DataPart D} {cs : List ℕ} {h : State} {t : DataPart D} → Modifies a modify g s cs h t → (h ≡ g) × (t ≡ s)
   none-modified modify none all_modified = (refl, refl)
-  none-modified modify none (modified {g = g} {s = s} {c = c} l lives edits more) =
-      let p = none-made c (used_slots g.found c) edits (none (s.data_of c) (used_slots g.found c)) in
+  none-modified modify none (modified {g = g} {s = s} {c = c} l lives asked edits more) =
+      let p = none-made c (used_slots g.found c) edits (λ e k. none (s.data_of c) (used_slots g.found c) e (asked e k)) in
       let q = none-modified modify none more in
       (q.0 ∙ p.0, q.1 ∙ p.1)
   none-modified modify none (passed_over dead more) = none-modified modify none more

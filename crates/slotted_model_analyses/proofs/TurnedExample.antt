@@ -14,8 +14,8 @@ use Rattle.slotted_model.specs.Find.{IsLive, used_slots}
 use Rattle.slotted_model.specs.Growth.{IsNew}
 use Rattle.slotted_model.specs.Link.{IsLater, CanEnter, found_equation}
 use Rattle.slotted_model.specs.ProofList.{Equation, ProofEntry, explicit, congruent, equation_of, equation_at, no_more, one_name, one_child}
-use Rattle.slotted_model.specs.State.{Row, State, normal_node, child_classes, look_up_tree}
-use Rattle.slotted_model.specs.Rest.{IsAligned, Sane, AtRest}
+use Rattle.slotted_model.specs.State.{Row, State, normal_node, child_classes, look_up_node, look_up_tree}
+use Rattle.slotted_model.specs.Rest.{IsAligned, Sane, AtRest, IsValidIn, FoundTogether}
 use Rattle.slotted_model.specs.Changes.{ProofsGrow, with_proofs, symmetry_of, with_symmetry, found_entry, PairsAll, Unites, proves, left_dies, lists, linked_state}
 use Rattle.slotted_model.specs.Rebuild.{removed_state, IsCongruence, Turn, enters, unites_parents, refiles, takes_turn, starts}
 use Rattle.slotted_model.specs.Adding.{with_new_class, with_assertion, Adds, files_row, Asserts, is_new}
@@ -25,6 +25,7 @@ use Rattle.slotted_model.proofs.CompletenessExamples.{one_of}
 use Rattle.slotted_model.proofs.CongruenceExample.{stands_nowhere, is_later}
 use Rattle.slotted_model.proofs.Entering.{entered-proved}
 use Rattle.slotted_model.proofs.GrowingLists.{proofs-go_on, proofs-sane}
+use Rattle.slotted_model.proofs.NormalIds.{full-is_valid}
 use Rattle.slotted_model.proofs.Preparing.{Prepared, prepare}
 use Rattle.slotted_model.proofs.RestExamples.{made, p, q, with_q, q_rests}
 use Rattle.slotted_model.proofs.Touching.{touching, touched-is}
@@ -34,12 +35,15 @@ use Rattle.slotted_model_analyses.specs.DataPart.{DataPart, with_data, with_pend
 use Rattle.slotted_model_analyses.specs.DataPart as with
 use Rattle.slotted_model_analyses.specs.DataWrites.{AddsWithData, AssertsWithData}
 use Rattle.slotted_model_analyses.specs.DataWrites as write
-use Rattle.slotted_model_analyses.specs.Rounds.{Modify, equates, one_more, makes_equate, all_made, then_edit, all_modified, modified, TakesRound, no_rounds, one_round, Rounds, AddsExpr, turned_away}
+use Rattle.slotted_model_analyses.specs.Carried.{CarriesTo}
+use Rattle.slotted_model_analyses.specs.Rounds.{Modify, equates, one_more, MakesEdit, makes_equate, all_made, then_edit, all_modified, modified, TakesRound, no_rounds, one_round, Rounds, AddsExpr, turned_away}
 use Rattle.slotted_model_analyses.specs.Rounds as rounds
 use Rattle.slotted_model_analyses.proofs.Merging.{noted-is}
+use Rattle.slotted_model_analyses.proofs.CarriedSteps.{carried-same, adding-carried, asserting-carried, nodes-carried}
 use Rattle.slotted_model_analyses.proofs.AddedTrees.{tree-added}
 use Rattle.slotted_model_analyses.proofs.AddingByLookUps.{tree-looked_up}
-use Rattle.slotted_model_analyses.proofs.RoundsAtRest.{rounds-on}
+use Rattle.slotted_model_analyses.proofs.LookUpsGoOn.{look_up-goes_on}
+use Rattle.slotted_model_analyses.proofs.RoundsAtRest.{rounds-on, cleared}
 use Rattle.slotted_model_analyses.proofs.Writing.{adding}
 
 -- h over a word, and two names
@@ -192,7 +196,7 @@ one_merge = record {
     ]
 
 abbrev asks : Modify ℕ
-asks x slots = equates p q ∷ []
+asks x slots e = e ≡ equates p q
 
 abbrev no_data : DataPart ℕ
 no_data = record { data_of = λ i. 0; pending = []; changed = [] }
@@ -267,6 +271,9 @@ m_looked_up = refl
 -- the round: p is asserted to equal q, for the data of the class of m
 abbrev before_round : DataPart ℕ
 before_round = record m_data { changed = [] }
+
+before_rests : RestsWithData one with_m before_round
+before_rests = cleared one one_merge asks with_m m_data m_rests
 
 abbrev words : Equation
 words = equation_of (0, []) (1, [])
@@ -426,15 +433,19 @@ not_looked_up = refl
 h_turned : look_up_tree turned h_tree ≡ Some (in_order 3)
 h_turned = refl
 
+words_made : MakesEdit one with_m before_round 4 (0 ∷ 1 ∷ []) (equates p q) turned at_end
+words_made =
+    let c = asserting-carried one one_merge with_m before_round before_rests turned at_end (0, []) (1, []) words_full.0 words_full.1 words_asserted in
+    let same : CarriesTo one with_m before_round with_m before_round = carried-same one one_merge with_m before_round before_rests in
+    makes_equate p q (record { nodes = rounds.no_more; carries = same; full = words_full.0; term = refl })
+    (record { nodes = rounds.no_more; carries = same; full = words_full.1; term = refl }) c.0 c.1
+
 the_round : TakesRound one asks with_m m_data turned at_end
 the_round = record {
   order = 4 ∷ [];
   ascending = (tt, tt);
   waiting = λ c. (λ k. (k, subst (IsLive with_m.found) (sym (one_of k)) refl), λ k. k.0);
-  modifies =
-      modified (omega arith) refl
-      (then_edit (makes_equate p q (record { nodes = rounds.no_more; full = words_full.0; term = refl }) (record { nodes = rounds.no_more; full = words_full.1; term = refl }) words_asserted) all_made)
-      all_modified;
+  modifies = modified (omega arith) refl (λ e c. one_of c) (then_edit words_made all_made) all_modified;
 }
 
 the_rounds : Rounds one asks 16 with_m m_data turned at_end
@@ -443,11 +454,20 @@ the_rounds = record { taken = 1; within = omega arith; rounds = one_round no_rou
 turned_rests : RestsWithData one turned at_end
 turned_rests = (rounds-on one one_merge asks m_rests the_rounds.rounds).rest
 
+-- but the node over ids of which the class was made is looked up still, as this class
+m_node_stays : (look_up_node turned m_node ≡ Some (4, (0, 0) ∷ (1, 1) ∷ [])) × ((y : Applied) × (look_up_node turned m_node ≡ Some y) × IsValidIn turned y × FoundTogether turned (4, (0, 0) ∷ (1, 1) ∷ []) y)
+m_node_stays =
+    let on = (rounds-on one one_merge asks m_rests the_rounds.rounds).goes_on in
+    let valid : IsValidIn with_m (exchanged 3) = full-is_valid with_m.nodes with_m.found m_rests.rest.sane.sound.linked (exchanged 3) (two_full with_m 3 1 0 (omega arith) refl (λ e. omega arith)) in
+    (refl, look_up-goes_on with_m m_rests.rest turned turned_rests.rest on m_node ((exchanged 3, refl, valid), tt) (4, (0, 0) ∷ (1, 1) ∷ []) refl)
+
 -- so it is added once more, and what is answered is looked up
 answered : (h : State) × (t : DataPart ℕ) × (x : Applied) × AddsExpr one asks 16 joined no_data m_tree h t x
 answered =
     let z = tree-looked_up one one_merge turned at_end turned_rests m_tree (record { operator = omega arith; children = (omega arith, (omega arith, tt, tt), tt) }) in
-    (z.0, z.1, z.2, turned_away (one_more m_node rounds.no_more m_new m_adds) m_looked_up the_rounds not_looked_up z.3 z.4)
+    let m = adding-carried one one_merge joined no_data joined_has with_m m_data m_node m_new m_adds in
+    let w = nodes-carried one one_merge turned_rests z.3 in
+    (z.0, z.1, z.2, turned_away (one_more m_node rounds.no_more m_new m.0) m.1 m_looked_up the_rounds not_looked_up w.nodes w.carries z.4)
 
 looked_up_again : look_up_tree answered.0 m_tree ≡ Some answered.2
 looked_up_again = (tree-added one one_merge asks 16 joined no_data joined_has m_tree answered.0 answered.1 answered.2 answered.3).3

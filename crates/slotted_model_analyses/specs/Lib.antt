@@ -4,5 +4,8 @@ pub mod DataClaims
 pub mod RunClaims
 pub mod DataWrites
 pub mod WriteClaims
+pub mod Carried
 pub mod Rounds
+pub mod Steps
+pub mod CarryClaims
 pub mod EditClaims

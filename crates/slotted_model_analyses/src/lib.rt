@@ -2,6 +2,7 @@
 //! The definitions stand in `specs`. This crate has no program: its functions owe their laws.
 #![tactic(auto)]
 
+pub mod carry;
 pub mod data;
 pub mod edit;
 pub mod rebuild;

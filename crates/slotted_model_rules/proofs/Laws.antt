@@ -6,11 +6,14 @@ use Rattle.slotted_theory.proofs.Values.{node}
 use Rattle.slotted_model.specs.Applied.{Applied}
 use Rattle.slotted_model.specs.Classes.{term_of}
 use Rattle.slotted_model.specs.State.{State}
-use Rattle.slotted_model.proofs.Members.{In-Contains}
+use Rattle.slotted_model.proofs.Members.{In-Contains, Contains-In}
 use Rattle.slotted_model_rules.specs.Substitution.{substituted_args}
 use Rattle.slotted_model_rules.specs.SubstitutionClaims.{SubstitutionLaws}
 use Rattle.slotted_model_rules.specs.PatternClaims.{PatternLaws}
+use Rattle.slotted_model_rules.specs.RepresentingClaims.{RepresentingLaws}
 use Rattle.slotted_model_rules.specs.MatcherClaims.{MatcherLaws}
+use Rattle.slotted_model_rules.specs.GoalClaims.{GoalLaws}
+use Rattle.slotted_model_rules.specs.ReplacedIdsClaims.{ReplacedIdLaws}
 use Rattle.slotted_model_rules.specs.Complete.{IsFreeInPattern}
 use Rattle.slotted_model_rules.specs.RuleClaims.{ConditionLaws, RuleLaws}
 use Rattle.slotted_model_rules.specs.Runners.{AppliesRules}
@@ -20,16 +23,28 @@ use Rattle.slotted_model_rules.proofs.Substituting.{moved-substituted}
 use Rattle.slotted_model_rules.proofs.Substituting.{names-substituted, kept-substituted, substituted-equal}
 use Rattle.slotted_model_rules.proofs.Substituting.{trees-substituted}
 use Rattle.slotted_model_rules.proofs.Replacing.{replaced-substituted, with_others_bound}
+use Rattle.slotted_model_rules.proofs.ReplacedIds.{part-names, part-older, part-values, stands-nowhere, older-stays, older-inside}
+use Rattle.slotted_model_rules.proofs.ReplacedIds.{whole-replaced, other-searched, names-seen, named-searched, unchanged-stays}
+use Rattle.slotted_model_rules.proofs.ReplacedIds.{replaced-stays, replaced_ids-stay, filled-stays, added-replaced}
+use Rattle.slotted_model_rules.proofs.ReplacedIds.{replaced-by_number}
 use Rattle.slotted_model_rules.proofs.LookingUp.{pattern-moved, term-pattern, matches-look_ups}
 use Rattle.slotted_model_rules.proofs.Instantiating.{instance-moved, built-nodes, answer-instances, instance-stays}
 use Rattle.slotted_model_rules.proofs.Instantiating.{an-instance}
 use Rattle.slotted_model_rules.proofs.Instantiating.{one-instance, term-instances}
 use Rattle.slotted_model_rules.proofs.EqualInstances.{filled-instance_equal}
+use Rattle.slotted_model_rules.proofs.Representing.{listed-moves, represented-moves, pair-listed, listed-represented}
+use Rattle.slotted_model_rules.proofs.Representing.{itself-represented, listed_iff, represented_iff, listed-more, represented-more}
+use Rattle.slotted_model_rules.proofs.Representing.{instance-represented, answer-represented}
 use Rattle.slotted_model_rules.proofs.Answering.{found-look_up, found-values, found-grows}
 use Rattle.slotted_model_rules.proofs.Completing.{finds-all, names-free}
 use Rattle.slotted_model_rules.proofs.Readings.{slots-named, a-reading, readings-renamed}
 use Rattle.slotted_model_rules.proofs.ClassIds.{class-valid}
 use Rattle.slotted_model_rules.proofs.Running as running
+use Rattle.slotted_model_rules.proofs.Goals.{one-goal, goals-append, variable-goal, new-value, same-value, other-value}
+use Rattle.slotted_model_rules.proofs.Goals.{node-goal, replacing-goal}
+use Rattle.slotted_model_rules.proofs.HiddenNames.{names-stand, hidden-new, standing-names}
+use Rattle.slotted_model_rules.proofs.NamedRows.{row-named, named-node}
+use Rattle.slotted_model_rules.proofs.FlatWalks.{flat-walk, outline-unnamed, outline-moved, passed-over, row-goals-valid}
 use Rattle.slotted_model_rules.proofs.ValidValues.{values-valid}
 use Rattle.slotted_model_rules.proofs.Asking.{tables, asked-decides, values-stay}
 use Rattle.slotted_model_rules.proofs.Extending.{extension-same, extension-then}
@@ -63,6 +78,33 @@ substitution-laws = record {
   binders_can_be_others = with_others_bound;
   substitution_keeps_equality = substituted-equal;
   trees_become_trees = trees-substituted;
+}
+
+pub replaced-id-laws : ReplacedIdLaws
+replaced-id-laws = record {
+  parts_are_older = part-older;
+  parts_have_fewer_names = part-values;
+  parts_have_fewer_free_names = part-names;
+  older_ids_stay =
+      λ nodes can x b fx fb h. (stands-nowhere nodes can x b fx fb h, older-stays nodes can x b fx fb h);
+  older_ids_stay_inside = older-inside;
+  whole_ids_are_replaced = whole-replaced;
+  other_ids_are_searched = other-searched;
+  names_are_seen_inside = names-seen;
+  ids_are_replaced_by_number = replaced-by_number;
+  named_nodes_are_searched =
+      λ nodes can x t b a fx ft fb other op payloads n p m k given e f full q.
+      named-searched nodes can x t fx ft b a fb other op payloads n p m k given e f full q;
+  unchanged_nodes_stay =
+      λ nodes can x t b fx ft fb other op payloads n p k.
+      unchanged-stays nodes can x t fx ft b fb other op payloads n p k;
+  replaced_ids_stay =
+      λ older newer extends x t fx ft. (
+        replaced-stays older newer extends x t fx ft,
+        replaced_ids-stay older newer extends x t fx ft,
+      );
+  filled_arguments_stay = filled-stays;
+  added_nodes_are_replaced = added-replaced;
 }
 
 pub pattern-laws : PatternLaws
@@ -103,6 +145,25 @@ pattern-laws = record {
       filled-instance_equal g rest R σ given more_given ρ inj p valid x b e f t i;
 }
 
+pub representing-laws : RepresentingLaws
+representing-laws = record {
+  representing_moves_with_names = λ X. (listed-moves X, represented-moves X);
+  no_pairs_represent_terms = refl;
+  pairs_are_represented =
+      λ X. (
+        λ u r c. let t = pair-listed X u r c in (t, listed-represented X u r t),
+        itself-represented X,
+      );
+  listed_are_renamed_pairs = listed_iff;
+  represented_are_listed = represented_iff;
+  more_pairs_represent_more = λ X Y more u r. (listed-more X Y more u r, represented-more X Y more u r);
+  instances_stay_represented =
+      λ R Q more nodes given σ. (
+        instance-represented R Q more nodes σ given,
+        answer-represented R Q more nodes σ given,
+      );
+}
+
 pub matcher-laws : MatcherLaws
 matcher-laws = record {
   answers_are_looked_up =
@@ -128,6 +189,29 @@ matcher-laws = record {
       λ g rest σ p valid x e y h.
       let r = names-free g rest σ (λ z. z) (λ u v q. q) p valid x e y (In-Contains _ y h) in
       subst (λ z. IsFreeInPattern σ z p) (sym r.2) r.1;
+}
+
+pub goal-laws : GoalLaws
+goal-laws = record {
+  one_goal_is_found = one-goal;
+  goals_go_on = goals-append;
+  variables_take_values = record {
+    in_front = variable-goal;
+    new_value = new-value;
+    same_value = same-value;
+    other_value = other-value;
+  };
+  nodes_make_goals = node-goal;
+  substitutions_are_not_found = replacing-goal;
+  rows_can_be_passed_over = passed-over;
+  goals_are_valid = row-goals-valid;
+  found_names_stand = λ g rest r filed b full source z c. Contains-In _ z (names-stand g rest r filed b full source z (In-Contains _ z c));
+  hidden_names_can_be_new = hidden-new;
+  standing_names_suffice = standing-names;
+  rows_take_names = row-named;
+  named_rows_are_nodes = named-node;
+  walks_are_flat = flat-walk;
+  outlines_have_no_names = record { without_names = outline-unnamed; with_others = outline-moved };
 }
 
 pub condition-laws : ConditionLaws

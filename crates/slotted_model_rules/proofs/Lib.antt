@@ -2,9 +2,13 @@ pub mod Substituting
 pub mod Replacing
 pub mod SubstitutionExamples
 pub mod ReplacingExamples
+pub mod ReplacedIdsExamples
+pub mod RepresentingExamples
 pub mod Renamed
+pub mod ReplacedIds
 pub mod LookingUp
 pub mod Instantiating
+pub mod Representing
 pub mod Walking
 pub mod Answering
 pub mod PatternExamples
@@ -16,6 +20,10 @@ pub mod MatchingExamples
 pub mod EqualInstances
 pub mod ValidValues
 pub mod Running
+pub mod Goals
+pub mod HiddenNames
+pub mod NamedRows
+pub mod FlatWalks
 pub mod ClassIds
 pub mod Asking
 pub mod Extending
@@ -30,6 +38,8 @@ pub mod RunExamples
 pub mod LookUpExamples
 pub mod AnswerExamples
 pub mod CallExamples
+pub mod GoalExamples
+pub mod HiddenExamples
 pub mod InstanceExamples
 pub mod Rewriting
 pub mod Searching

@@ -161,13 +161,13 @@ lam_g_equal =
     (_, refl, (_, _, refl, (_, _, refl, (_, refl, (_, refl, refl)), refl), refl))
 
 -- in the graph of (app (lam $x (var $x)) (lam $x (var $x))) the pattern (app ?a ?a) is found once
-abbrev twice : Pattern
+abbrev pub twice : Pattern
 twice = pattern_node 3 [] (child_pattern (variable (97 ∷ [])) (child_pattern (variable (97 ∷ [])) no_argument))
 
-abbrev both_lams : NodeArgs
+abbrev pub both_lams : NodeArgs
 both_lams = an_id (1, []) (an_id (1, []) no_more)
 
-abbrev with_lam : MatchState
+abbrev pub with_lam : MatchState
 with_lam = record { values = ((97 ∷ []), (1, [])) ∷ []; pairs = []; seen = [] }
 
 -- the rows of lam and app
@@ -177,7 +177,7 @@ lam_row = record { shape = small.lam_node; source = 1; slots = [] }
 abbrev app_row : Row
 app_row = record { shape = small.app_node; source = 2; slots = [] }
 
-app_node : IsNodeOf small.graph [] app_row (2, []) both_lams
+pub app_node : IsNodeOf small.graph [] app_row (2, []) both_lams
 app_node = record {
   id = (2, []);
   of_row = record { filed = (0, omega arith, refl); full = record { in_range = omega arith; slots = refl; injective = tt }; source = refl; same = refl };

@@ -102,19 +102,19 @@ with_names σ ρ k (scope inner rest) c h =
     ]
 
 -- names of a list stay, and all others go up
-abbrev kept_or_up : List ℕ → ℕ → ℕ → ℕ
+abbrev pub kept_or_up : List ℕ → ℕ → ℕ → ℕ
 kept_or_up V k z = cond (has_slot V z) z (z + k)
 
-stays-in : (V : List ℕ) (k z : ℕ) → In z V → kept_or_up V k z ≡ z
+pub stays-in : (V : List ℕ) (k z : ℕ) → In z V → kept_or_up V k z ≡ z
 stays-in V k z i = ap (λ b. cond b z (z + k)) (in-has_slot V z i)
 
-goes-up : (V : List ℕ) (k z : ℕ) → (In z V × (kept_or_up V k z ≡ z)) ⊎ (kept_or_up V k z ≡ z + k)
+pub goes-up : (V : List ℕ) (k z : ℕ) → (In z V × (kept_or_up V k z ≡ z)) ⊎ (kept_or_up V k z ≡ z + k)
 goes-up V k z = elim (cases_Bool (has_slot V z)) [
   | inl t ↦ inl (has_slot-in V z t, ap (λ b. cond b z (z + k)) t)
   | inr f ↦ inr (ap (λ b. cond b z (z + k)) f)
 ]
 
-kept-injective : (V : List ℕ) (k : ℕ) → ((z : ℕ) → In z V → z < k) → IsInjective (kept_or_up V k)
+pub kept-injective : (V : List ℕ) (k : ℕ) → ((z : ℕ) → In z V → z < k) → IsInjective (kept_or_up V k)
 kept-injective V k low x y e = elim (goes-up V k x) [
   | inl p ↦ elim (goes-up V k y) [
     | inl q ↦ sym p.1 ∙ (e ∙ q.1)
@@ -138,7 +138,7 @@ module _ (g : State) (rest : AtRest g) (order : List Row) (filed : (r : Row) →
   linked = rest.sane.sound.linked
 
   -- a row of an id's class has a node with new names
-  a-node : (seen : List ℕ) (r : Row) → Contains g.rows r → (a : Applied) → IsValidIn g a → row_class g r ≡ find_class g.found a.0 → (n : NodeArgs) × IsNodeOf g seen r a n
+  pub a-node : (seen : List ℕ) (r : Row) → Contains g.rows r → (a : Applied) → IsValidIn g a → row_class g r ≡ find_class g.found a.0 → (n : NodeArgs) × IsNodeOf g seen r a n
   a-node seen r c a va same =
       let b : (b : Applied) × IsFull g.nodes b × (b.0 ≡ r.source) × (find g.found b ≡ find g.found a) = row-id g rest r c a va (sym same) in
       let V : List ℕ = values (find g.found a).1 in
@@ -175,7 +175,7 @@ module _ (g : State) (rest : AtRest g) (order : List Row) (filed : (r : Row) →
       )
 
   -- whether a row fits
-  fits-or-not : (r : Row) (op : ℕ) (payloads : List (List ℕ)) (a : Applied) → IsRowFor g r op payloads a ⊎ (¬ IsRowFor g r op payloads a)
+  pub fits-or-not : (r : Row) (op : ℕ) (payloads : List (List ℕ)) (a : Applied) → IsRowFor g r op payloads a ⊎ (¬ IsRowFor g r op payloads a)
   fits-or-not r op payloads a = elim (cases_eq (row_class g r) (find_class g.found a.0)) [
     | inr n ↦ inr (λ h. n h.class)
     | inl e ↦ elim (same_or_not (node r.shape.op r.shape.payloads stop) (node op payloads stop)) [

@@ -2,10 +2,16 @@ pub mod Substitution
 pub mod SubstitutionClaims
 pub mod Patterns
 pub mod Instances
+pub mod Representing
 pub mod PatternClaims
+pub mod RepresentingClaims
 pub mod Matcher
 pub mod Complete
+pub mod Goals
 pub mod MatcherClaims
+pub mod GoalClaims
+pub mod ReplacedIds
+pub mod ReplacedIdsClaims
 pub mod Conditions
 pub mod Rules
 pub mod RuleClaims

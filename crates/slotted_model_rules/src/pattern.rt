@@ -1,6 +1,7 @@
 //! Patterns: what they are looked up as, and the terms that are instances of them.
 
 ghost use Rattle.slotted_model_rules.specs.PatternClaims.{PatternLaws};
+ghost use Rattle.slotted_model_rules.specs.RepresentingClaims.{RepresentingLaws};
 
 /// The laws of look-ups and instances of patterns.
 ///
@@ -10,4 +11,12 @@ ghost use Rattle.slotted_model_rules.specs.PatternClaims.{PatternLaws};
 /// does what a substitution makes: so building a pattern from the bottom up builds an instance.
 pub fn pattern_laws_hold()
     ensures { PatternLaws }
+{}
+
+/// The laws of what represents the body of a substitution: the second terms of a list of pairs for the first.
+///
+/// Just the pairs of the list are listed, with any names, and each term represents itself besides. Without a pair
+/// it is the only one that does, and with more pairs all instances and answers stay.
+pub fn representing_laws_hold()
+    ensures { RepresentingLaws }
 {}

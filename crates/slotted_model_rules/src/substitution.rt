@@ -1,5 +1,6 @@
 //! Substitution: each topmost part that is one term becomes another, and nothing is captured.
 
+ghost use Rattle.slotted_model_rules.specs.ReplacedIdsClaims.{ReplacedIdLaws};
 ghost use Rattle.slotted_model_rules.specs.SubstitutionClaims.{SubstitutionLaws};
 
 /// The laws of substitution.
@@ -10,4 +11,14 @@ ghost use Rattle.slotted_model_rules.specs.SubstitutionClaims.{SubstitutionLaws}
 /// binders have names that are free in neither of the two terms.
 pub fn substitution_laws_hold()
     ensures { SubstitutionLaws }
+{}
+
+/// The laws of substitution over ids.
+///
+/// What stands in the term of an id is the id itself or of an older class, and has no name that the id lacks: so an
+/// id of an older class, or one that lacks a name, is left alone unseen. The id itself is replaced, and of any other
+/// the canonical node is searched: over what comes of its children it stands for what comes of the id. Under binders
+/// with names of their own children need no other names.
+pub fn replaced_id_laws_hold()
+    ensures { ReplacedIdLaws }
 {}
