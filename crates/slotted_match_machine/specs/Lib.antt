@@ -1,0 +1,2 @@
+-- What the machine answers.
+pub mod Machine
