@@ -1,0 +1,4 @@
+pub mod NamedNodes
+pub mod Naming
+pub mod Pairing
+pub mod Occurrences

@@ -1,0 +1,36 @@
+-- The laws of the machine, all owed by `machine_laws_hold` in src/laws.rt.
+use Rattle.std.specs.Prelude.{◌≡◌, ℕ, ◌<◌, List, length}
+use Rattle.slotted_model.specs.Find.{IsLive, used_slots}
+use Rattle.slotted_model.specs.State.{Row, State}
+use Rattle.slotted_model.specs.Rest.{AtRest}
+use Rattle.slotted_model_rules.specs.Conditions.{Values}
+use Rattle.slotted_model_rules.specs.Patterns.{Pattern}
+use Rattle.slotted_model_rules.specs.Matcher.{MatchState, Found, class_id, start_at}
+use Rattle.slotted_model_rules.specs.Rules.{Searches}
+use Rattle.slotted_match_machine.specs.declared.index.RowIndex.{RowIndex}
+use Rattle.slotted_match_machine.specs.declared.program.Step.{Step}
+use Rattle.slotted_match_machine.specs.Index.{OneByOne, IsIndexOf, IsOutlineIn}
+use Rattle.slotted_match_machine.specs.Machine.{answers_at, all_answers}
+use Rattle.slotted_match_machine.specs.Programs.{IsProgram}
+use Rattle.slotted_match_machine.specs.Readings.{name_at, IsReadAs, Reads}
+
+-- at rest the machine answers at each live class, one by one, the states in which the matcher finds the pattern there
+abbrev pub AnswersAreFound : Type 0
+AnswersAreFound =
+    (g : State) → AtRest g → (order : List Row) (index : RowIndex) → IsIndexOf g order index →
+    (variables : List (List ℕ)) (p : Pattern) (steps : List Step) → IsProgram (IsOutlineIn g order index) variables p steps →
+    (c : ℕ) → c < length g.nodes → IsLive g.found c →
+    (outs : List MatchState) × Found g order p (start_at g c) (class_id g c) outs ×
+    OneByOne (IsReadAs g (name_at (used_slots g.found c)) variables) outs (answers_at index.classes.items steps c)
+
+-- so substitutions that read all its answers, one by one, are what a search finds
+abbrev pub AnswersAreSearched : Type 0
+AnswersAreSearched =
+    (g : State) → AtRest g → (order : List Row) (index : RowIndex) → IsIndexOf g order index →
+    (variables : List (List ℕ)) (p : Pattern) (steps : List Step) → IsProgram (IsOutlineIn g order index) variables p steps →
+    (found : List Values) → OneByOne (Reads g variables) found (all_answers index steps) → Searches g order p found
+
+-- all these laws
+pub record MachineLaws : Type 0 where
+  pub answers_are_found : AnswersAreFound
+  pub answers_are_searched : AnswersAreSearched
