@@ -2,3 +2,5 @@ pub mod NamedNodes
 pub mod Naming
 pub mod Pairing
 pub mod Occurrences
+pub mod NormalNodes
+pub mod VisitedRows

@@ -3,6 +3,7 @@ use Rattle.std.proofs.Common.{◌≡◌, ◌≢◌, ℕ, suc, List, [], ◌∷�
 use Rattle.std.specs.Prelude.{◌⊎◌, Contains}
 use Rattle.std.proofs.lemmas.Bool.{cases_eq}
 use Rattle.std.proofs.lemmas.List.{map-append}
+use Rattle.std.proofs.Math.Nat.{suc-ne-zero, suc_inj}
 use Rattle.slotted_theory.specs.Nameless.{DArgs, DTerm, extend, lift, scope, place, moved, moved_args}
 use Rattle.slotted_theory.specs.Shape.{outside, free_names}
 use Rattle.slotted_theory.proofs.Names.{extend-same, extend-other}
@@ -11,7 +12,7 @@ use Rattle.slotted_model.specs.Applied.{Applied, values, renamed_id, as_term}
 use Rattle.slotted_model.specs.Correspondence.{AllDifferent, IsInjectiveOn}
 use Rattle.slotted_model.proofs.Children.{free_names-places, moved-as_term}
 use Rattle.slotted_model.proofs.Maps.{values-with_values}
-use Rattle.slotted_model.proofs.Members.{In, In-left, In-right, In-append, In-map, In-of_map, In-outside, In-Contains, Contains-In}
+use Rattle.slotted_model.proofs.Members.{In, In-left, In-right, In-append, In-map, In-of_map, In-outside, In-inside, In-Contains, Contains-In}
 use Rattle.slotted_model_rules.specs.Matcher.{NodeArgs, no_more, a_name, an_id, a_binder, unnamed, written_names, bound_names}
 use Rattle.slotted_model_rules.specs.Goals.{own_names}
 use Rattle.slotted_model_rules.proofs.AllSlots.{renamed-agrees}
@@ -117,6 +118,31 @@ bound-or-free ρ (a_binder x inner rest) z (inr j) =
         | inl b ↦ inl (inr (In-right z B C b))
         | inr b ↦ inr (In-right (ρ z) (outside F) G b)
       ]
+    ]
+
+-- and each free name is written
+pub free-written : (ρ : ℕ → ℕ) (n : NodeArgs) (y : ℕ) → In y (free_names (unnamed ρ n)) → (z : ℕ) × In z (written_names n) × (y ≡ ρ z)
+free-written ρ no_more y j = absurd j
+free-written ρ (a_name x rest) y (inl e) = (x, inl refl, e)
+free-written ρ (a_name x rest) y (inr j) = let r = free-written ρ rest y j in (r.0, inr r.1, r.2)
+free-written ρ (an_id a rest) y j =
+    let V : List ℕ = values a.1 in
+    let F : List ℕ = free_names (as_term (renamed_id ρ a)).args in
+    let own : F ≡ map ρ V = free_names-places (values (renamed_id ρ a).1) ∙ values-with_values ρ a.1 in
+    elim (In-append y F (free_names (unnamed ρ rest)) j) [
+      | inl k ↦ let r = In-of_map ρ V y (subst (In y) own k) in (r.0, In-left r.0 V (written_names rest) r.1, r.2)
+      | inr k ↦ let r = free-written ρ rest y k in (r.0, In-right r.0 V (written_names rest) r.1, r.2)
+    ]
+free-written ρ (a_binder x inner rest) y j =
+    let F : List ℕ = free_names (unnamed (extend x ρ) inner) in
+    elim (In-append y (outside F) (free_names (unnamed ρ rest)) j) [
+      | inl k ↦
+          let r : (z : ℕ) × In z (written_names inner) × (suc y ≡ extend x ρ z) = free-written (extend x ρ) inner (suc y) (In-inside y F k) in
+          elim (cases_eq r.0 x) [
+            | inl e ↦ absurd (suc-ne-zero y (r.2 ∙ extend-same x ρ r.0 e))
+            | inr n ↦ (r.0, inr (In-left r.0 (written_names inner) (written_names rest) r.1), suc_inj (r.2 ∙ extend-other x ρ r.0 n))
+          ]
+      | inr k ↦ let r = free-written ρ rest y k in (r.0, inr (In-right r.0 (written_names inner) (written_names rest) r.1), r.2)
     ]
 
 -- binders stand among the written names, and own names too
