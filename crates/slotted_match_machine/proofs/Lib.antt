@@ -4,3 +4,4 @@ pub mod Pairing
 pub mod Occurrences
 pub mod NormalNodes
 pub mod VisitedRows
+pub mod Lists
