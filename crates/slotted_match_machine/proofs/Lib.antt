@@ -5,3 +5,4 @@ pub mod Occurrences
 pub mod NormalNodes
 pub mod VisitedRows
 pub mod Lists
+pub mod PlacedGoals
