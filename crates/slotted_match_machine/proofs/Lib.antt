@@ -6,3 +6,4 @@ pub mod NormalNodes
 pub mod VisitedRows
 pub mod Lists
 pub mod PlacedGoals
+pub mod Answering
