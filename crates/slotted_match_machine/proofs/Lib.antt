@@ -7,3 +7,6 @@ pub mod VisitedRows
 pub mod Lists
 pub mod PlacedGoals
 pub mod Answering
+pub mod Starting
+pub mod Searched
+pub mod AllLaws

@@ -4,6 +4,7 @@
 #![tactic(auto)]
 
 pub mod index;
+pub mod laws;
 pub mod program;
 
 pub use index::{ClassRows, IndexChild, IndexRow, RowIndex};
