@@ -4,7 +4,7 @@ use Rattle.std.specs.Prelude.{◌⊎◌, Contains, cond, filter, nat_eq, nat_lt,
 use Rattle.std.specs.declared.alloc.Global.{Global}
 use Rattle.std.specs.List.{flat_map}
 use Rattle.std.proofs.lemmas.Bool.{cases_Bool, cases_eq, eqb-true, eq-eqb, ne_eqb, lt-ltb, le-ltb, and_parts, and_from, false≢true}
-use Rattle.std.proofs.lemmas.List.{length_push}
+use Rattle.std.proofs.lemmas.List.{length_push, get_or_default}
 use Rattle.std.proofs.lemmas.List.Elements.{Contains-get_or}
 use Rattle.std.proofs.lemmas.Simd.{map-map}
 use Rattle.std.proofs.Math.ListN.{get_or-append}
@@ -37,10 +37,10 @@ use Rattle.slotted_match_machine.specs.declared.program.Step.TheVariants.{Node, 
 use Rattle.slotted_match_machine.specs.Index.{OneByOne, IsIndexRow, rows_of_class, IsIndexOf, HasOutline, IsOutlineIn}
 use Rattle.slotted_match_machine.specs.Machine.{Occurrence, no_occurrence, same_occurrence, MachineState, Answer, occurrence_at, names_for, new_names, named, child_occurrence, entered, entered_with, after_row, with_variable, rows_in, if_there, answers_of}
 use Rattle.slotted_match_machine.specs.Programs.{child_patterns, placed, IsProgramFor, ends, compares, takes, enters}
-use Rattle.slotted_match_machine.specs.Readings.{read_id, read_pairs, IsReadAs}
+use Rattle.slotted_match_machine.specs.Readings.{read_id, read_pairs, IsWholeId, IsReadAs}
 use Rattle.slotted_match_machine.proofs.Lists.{one_by_one-both, one_by_one-append, filter-twice, In-filter, gives-beside}
 use Rattle.slotted_match_machine.proofs.NamedNodes.{own-with}
-use Rattle.slotted_match_machine.proofs.Occurrences.{IsOccurrenceOf, is-read, class-lives, class-in_range, same-ids, other-ids}
+use Rattle.slotted_match_machine.proofs.Occurrences.{IsOccurrenceOf, is-read, is-whole, class-lives, class-in_range, same-ids, other-ids}
 use Rattle.slotted_match_machine.proofs.Pairing.{all-read}
 use Rattle.slotted_match_machine.proofs.PlacedGoals.{IsAt, placed-last, goals-later, children-at}
 use Rattle.slotted_match_machine.proofs.VisitedRows as visited
@@ -106,11 +106,17 @@ module _ (g : State) (rest : AtRest g) (order : List Row) (index : RowIndex) (is
     st ∷ [],
     refl,
     subst (OneByOne (IsReadAs g f variables) (st ∷ [])) (sym (answers-end classes m))
-        (record { pairs = s.pairs; count = s.count; values = value; no_others = s.no_others }, tt),
+        (record { pairs = s.pairs; count = s.count; whole = whole; values = value; no_others = s.no_others }, tt),
   )
     where
       value : (k : ℕ) → k < length variables → value_at st.values (slice_index_or variables k []) ≡ Some (read_id g f (slice_index_or m.values k no_occurrence))
       value k h = let v = s.values k h in v.1 ∙ ap Some (is-read g rest f v.0 (slice_index_or m.values k no_occurrence) v.2)
+
+      whole : (o : Occurrence) → Contains m.values o → IsWholeId g o
+      whole o c =
+          let v = s.values c.0 (subst (λ n. c.0 < n) s.count c.1) in
+          let same : slice_index_or m.values c.0 no_occurrence ≡ o = get_or_default m.values c.0 no_occurrence o c.1 ∙ c.2 in
+          is-whole g rest f v.0 o (subst (IsOccurrenceOf g f v.0) same v.2)
 
   -- a variable that was seen before
   compared : (m : MachineState) (st : MatchState) (seen : List (List ℕ)) (k : ℕ) (from : Source) (steps : List Step) (a : Applied) (goals : List (Pattern × Applied)) → k < length seen → IsStateOf g f seen m st →

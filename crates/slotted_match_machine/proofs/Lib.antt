@@ -9,4 +9,6 @@ pub mod PlacedGoals
 pub mod Answering
 pub mod Starting
 pub mod Searched
+pub mod Whole
+pub mod Variables
 pub mod AllLaws

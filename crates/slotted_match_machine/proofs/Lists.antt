@@ -83,6 +83,19 @@ In-filter p (y ∷ xs) x i = go (p y) refl i (λ j. In-filter p xs x j)
     go true e (inr j) later = let r = later j in (inr r.0, r.1)
     go false e j later = let r = later j in (inr r.0, r.1)
 
+-- members of a list of lists
+pub In-flat_map : {A B : Type 0} (f : A → List B) (xs : List A) (x : A) (y : B) → In x xs → In y (f x) → In y (flat_map f xs)
+In-flat_map f [] x y i j = absurd i
+In-flat_map f (u ∷ xs) x y (inl e) j = In-left y (f u) (flat_map f xs) (subst (λ z. In y (f z)) e j)
+In-flat_map f (u ∷ xs) x y (inr i) j = In-right y (f u) (flat_map f xs) (In-flat_map f xs x y i j)
+
+pub In-of_flat_map : {A B : Type 0} (f : A → List B) (xs : List A) (y : B) → In y (flat_map f xs) → (x : A) × In x xs × In y (f x)
+In-of_flat_map f [] y i = absurd i
+In-of_flat_map f (u ∷ xs) y i = elim (In-append y (f u) (flat_map f xs) i) [
+  | inl j ↦ (u, inl refl, j)
+  | inr j ↦ let r = In-of_flat_map f xs y j in (r.0, inr r.1, r.2)
+]
+
 -- what is given for the members that are kept stands one by one beside a list that has nothing for the others
 pub gives-beside : {A B C D : Type 0} (P : A → List B → Type 0) (R : B → D → Type 0) (E : A → C → Type 0) (keep : A → Bool) (h : C → List D) (xs : List A) (ys : List C) → OneByOne E xs ys →
     ((x : A) (y : C) → In x xs → E x y → keep x ≡ true → (here : List B) × P x here × OneByOne R here (h y)) →

@@ -17,7 +17,7 @@ use Rattle.slotted_model.specs.Rest.{IsValidIn, AtRest}
 use Rattle.slotted_model.proofs.Correspondences.Listing.{injective-different}
 use Rattle.slotted_model.proofs.NormalIds.{found-slots, found-class_live}
 use Rattle.slotted_match_machine.specs.Machine.{Occurrence, same_occurrence}
-use Rattle.slotted_match_machine.specs.Readings.{read_id}
+use Rattle.slotted_match_machine.specs.Readings.{read_id, IsWholeId}
 
 -- the id of the occurrence is a, where f names the numbers
 pub record IsOccurrenceOf (g : State) (f : ℕ → ℕ) (a : Applied) (o : Occurrence) : Type 0 where
@@ -82,6 +82,9 @@ module _ (g : State) (rest : AtRest g) (f : ℕ → ℕ) (a : Applied) (o : Occu
   -- and no number stands twice
   pub names-differ : AllDifferent o.names
   names-differ = different-from f o.names (subst AllDifferent is.names (injective-different a.1 is.valid.injective))
+
+  pub is-whole : IsWholeId g o
+  is-whole = record { in_range = class-in_range; lives = class-lives; count = names-count; differ = names-differ }
 
   pub name-of_slot : (p : ℕ) → p < length (used_slots g.found o.class) → Contains a.1 (slice_index (used_slots g.found o.class) p, f (slice_index o.names p))
   name-of_slot p h =

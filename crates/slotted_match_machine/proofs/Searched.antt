@@ -18,32 +18,19 @@ use Rattle.slotted_model.proofs.NormalIds.{found-renamed}
 use Rattle.slotted_model.proofs.Options.{Some-same}
 use Rattle.slotted_model_rules.specs.Conditions.{Values}
 use Rattle.slotted_model_rules.specs.Patterns.{Pattern}
-use Rattle.slotted_model_rules.specs.Matcher.{MatchState, value_at, Found, class_id, start_at}
-use Rattle.slotted_model_rules.specs.Matcher as matcher
+use Rattle.slotted_model_rules.specs.Matcher.{MatchState, value_at, Found, class_id, start_at, Reads}
 use Rattle.slotted_model_rules.specs.Rules.{valued, IsMatch, IsRead, Searches}
 use Rattle.slotted_match_machine.specs.declared.index.RowIndex.{RowIndex}
 use Rattle.slotted_match_machine.specs.declared.program.Step.{Step}
 use Rattle.slotted_match_machine.specs.Index.{OneByOne, IsIndexOf, IsOutlineIn}
 use Rattle.slotted_match_machine.specs.Machine.{Occurrence, no_occurrence, Answer, answers_at, all_answers}
 use Rattle.slotted_match_machine.specs.Programs.{IsProgram}
-use Rattle.slotted_match_machine.specs.Readings.{name_at, read_id, read_pairs, IsReadAs, names_of, Reads}
-use Rattle.slotted_match_machine.proofs.Lists.{beside-left, beside-right}
+use Rattle.slotted_match_machine.specs.Readings.{name_at, read_id, read_pairs, IsReadAs, names_of, ReadsAnswer}
+use Rattle.slotted_match_machine.proofs.Lists.{beside-left, beside-right, In-flat_map, In-of_flat_map}
 use Rattle.slotted_match_machine.proofs.Starting.{f-injective, class-answers}
 
-In-flat_map : {A B : Type 0} (f : A → List B) (xs : List A) (x : A) (y : B) → In x xs → In y (f x) → In y (flat_map f xs)
-In-flat_map f [] x y i j = absurd i
-In-flat_map f (u ∷ xs) x y (inl e) j = In-left y (f u) (flat_map f xs) (subst (λ z. In y (f z)) e j)
-In-flat_map f (u ∷ xs) x y (inr i) j = In-right y (f u) (flat_map f xs) (In-flat_map f xs x y i j)
-
-In-of_flat_map : {A B : Type 0} (f : A → List B) (xs : List A) (y : B) → In y (flat_map f xs) → (x : A) × In x xs × In y (f x)
-In-of_flat_map f [] y i = absurd i
-In-of_flat_map f (u ∷ xs) y i = elim (In-append y (f u) (flat_map f xs) i) [
-  | inl j ↦ (u, inl refl, j)
-  | inr j ↦ let r = In-of_flat_map f xs y j in (r.0, inr r.1, r.2)
-]
-
 -- an answer that is read is a reading of the matcher's state
-module _ (g : State) (f : ℕ → ℕ) (inj : IsInjective f) (variables : List (List ℕ)) (out : MatchState) (x : Answer) (s : Values) (is : IsReadAs g f variables out x) (reads : Reads g variables s x) where
+module _ (g : State) (f : ℕ → ℕ) (inj : IsInjective f) (variables : List (List ℕ)) (out : MatchState) (x : Answer) (s : Values) (is : IsReadAs g f variables out x) (reads : ReadsAnswer g variables s x) where
   abbrev pub N : List ℕ
   N = names_of x
 
@@ -87,7 +74,7 @@ module _ (g : State) (f : ℕ → ℕ) (inj : IsInjective f) (variables : List (
       let there : In o x.values = In-Contains x.values o (Contains-get_or x.values k no_occurrence (subst (λ m. k < m) (sym is.count) h)) in
       In-right n (map (λ (p : ℕ × ℕ). p.0) x.pairs) (flat_map (λ (q : Occurrence). q.names) x.values) (In-flat_map (λ (q : Occurrence). q.names) x.values o n there i)
 
-  pub state-read : matcher.Reads g to (valued s) out
+  pub state-read : Reads g to (valued s) out
   state-read = record { injective = to-injective taken.bijection; slots = slots; values_read = values }
     where
       slots : (y t : ℕ) → Contains out.pairs (y, t) → to y ≡ t
@@ -107,7 +94,7 @@ module _ (g : State) (f : ℕ → ℕ) (inj : IsInjective f) (variables : List (
           ap (find g.found) (ap (valued s) (sym var) ∙ (reads.values k c.1 ∙ (sym renamed ∙ ap (renamed_id to) (sym is_b)))) ∙ found-renamed g.found to b
 
 module _ (g : State) (rest : AtRest g) (order : List Row) (index : RowIndex) (is : IsIndexOf g order index) (variables : List (List ℕ)) (p : Pattern) (steps : List Step) (program : IsProgram (IsOutlineIn g order index) variables p steps) (found : List Values)
-    (all : OneByOne (Reads g variables) found (all_answers index steps)) where
+    (all : OneByOne (ReadsAnswer g variables) found (all_answers index steps)) where
   abbrev at_class : ℕ → List Answer
   at_class c = answers_at index.classes.items steps c
 
@@ -124,13 +111,13 @@ module _ (g : State) (rest : AtRest g) (order : List Row) (index : RowIndex) (is
             read = λ out i.
                 let a = beside-left (IsReadAs g f variables) r.0 (at_class c) r.2 out (In-Contains r.0 out i) in
                 let there : In a.0 (all_answers index steps) = In-flat_map at_class index.live.items c a.0 (In-Contains index.live.items c ((is.live c).1 (h, live))) a.1 in
-                let b = beside-right (Reads g variables) found (all_answers index steps) all a.0 there in
+                let b = beside-right (ReadsAnswer g variables) found (all_answers index steps) all a.0 there in
                 (b.0, Contains-In found b.0 b.1, to g f (f-injective g rest c h live) variables out a.0 b.0 a.2 b.2, state-read g f (f-injective g rest c h live) variables out a.0 b.0 a.2 b.2);
           }
 
       matches : (s : Values) → Contains found s → IsMatch g order p s
       matches s i =
-          let b = beside-left (Reads g variables) found (all_answers index steps) all s (In-Contains found s i) in
+          let b = beside-left (ReadsAnswer g variables) found (all_answers index steps) all s (In-Contains found s i) in
           let k = In-of_flat_map at_class index.live.items b.0 b.1 in
           let c : ℕ = k.0 in
           let live = (is.live c).0 (Contains-In index.live.items c k.1) in

@@ -1,15 +1,29 @@
 -- When a list of steps is the program of a pattern.
+--     variables_of p           the variables of a pattern, as often as they stand there
 --     child_patterns args      the child patterns of a node, from the left
 --     placed register k ps     these patterns as goals, each at a child of the register, from the child k on
 --     IsProgramFor ..          the steps find the goals, in preorder
 --     IsProgram .. p steps     they find the pattern at the class at which the machine starts
 use Rattle.std.specs.Prelude.{◌≡◌, ℕ, suc, ◌<◌, List, [], ◌∷◌, ◌++◌, length, Contains, slice_index_or, Vec}
 use Rattle.std.specs.declared.alloc.Global.{Global}
-use Rattle.slotted_model_rules.specs.Patterns.{Pattern, PatternArgs, pattern_node, variable, no_argument, own_name, child_pattern, binding}
+use Rattle.slotted_model_rules.specs.Patterns.{Pattern, PatternArgs, pattern_node, variable, replacing, no_argument, own_name, child_pattern, binding}
 use Rattle.slotted_model_rules.specs.Goals.{own_slots}
 use Rattle.slotted_match_machine.specs.declared.program.Source.{Source}
 use Rattle.slotted_match_machine.specs.declared.program.Step.{Step}
 use Rattle.slotted_match_machine.specs.declared.program.Step.TheVariants.{Node, Variable}
+
+abbrev mutual
+  -- from the left, each as often as it stands there
+  pub variables_of : Pattern → List (List ℕ)
+  variables_of (pattern_node op payloads args) = variables_in args
+  variables_of (variable v) = v ∷ []
+  variables_of (replacing body part value) = variables_of body ++ variables_of part ++ variables_of value
+
+  pub variables_in : PatternArgs → List (List ℕ)
+  variables_in no_argument = []
+  variables_in (own_name x rest) = variables_in rest
+  variables_in (child_pattern p rest) = variables_of p ++ variables_in rest
+  variables_in (binding x inner rest) = variables_in inner ++ variables_in rest
 
 -- in the order in which the matcher goes through them
 abbrev pub child_patterns : PatternArgs → List Pattern
