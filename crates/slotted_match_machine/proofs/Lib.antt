@@ -12,3 +12,4 @@ pub mod Searched
 pub mod Whole
 pub mod Variables
 pub mod AllLaws
+pub mod MachineExamples
