@@ -11,5 +11,6 @@ pub mod Starting
 pub mod Searched
 pub mod Whole
 pub mod Variables
+pub mod MissingRows
 pub mod AllLaws
 pub mod MachineExamples

@@ -7,7 +7,8 @@
 --     rows_of_class g order c   the rows of `order` in the class c
 --     IsIndexOf g order index   the index has the rows of `order`, which are those of g, class by class, and the live classes
 --     HasOutline r op payloads args, IsOutlineIn ..   which rows can be held beside a node of a pattern, and the number of their outline
-use Rattle.std.specs.Prelude.{◌≡◌, ◌≢◌, ◌↔◌, ℕ, zero, suc, ◌<◌, List, [], ◌∷◌, ◌++◌, length, filter, Contains, true, nat_eq, slice_index}
+--     LacksRow rows p           some node of the pattern has no such row
+use Rattle.std.specs.Prelude.{◌≡◌, ◌≢◌, ◌⊎◌, ◌↔◌, ℕ, zero, suc, ◌<◌, List, [], ◌∷◌, ◌++◌, length, filter, Contains, true, nat_eq, slice_index}
 use Rattle.slotted_theory.specs.Nameless.{moved_args}
 use Rattle.slotted_theory.specs.FiniteMaps.{filled}
 use Rattle.slotted_theory.specs.Shape.{free_names}
@@ -17,7 +18,7 @@ use Rattle.slotted_model.specs.Correspondence.{AllDifferent, IsInjectiveOn}
 use Rattle.slotted_model.specs.Extraction.{row_class}
 use Rattle.slotted_model.specs.Find.{IsLive, find_map, used_slots}
 use Rattle.slotted_model.specs.State.{Row, State}
-use Rattle.slotted_model_rules.specs.Patterns.{PatternArgs}
+use Rattle.slotted_model_rules.specs.Patterns.{Pattern, PatternArgs, pattern_node, variable, replacing, no_argument, own_name, child_pattern, binding}
 use Rattle.slotted_model_rules.specs.Matcher.{NodeArgs, no_more, a_name, an_id, a_binder, unnamed, written_names, bound_names}
 use Rattle.slotted_model_rules.specs.Goals.{own_names, has_outline}
 use Rattle.slotted_match_machine.specs.declared.index.IndexChild.{IndexChild}
@@ -88,3 +89,16 @@ pub record HasOutline (r : Row) (op : ℕ) (payloads : List (List ℕ)) (args : 
 abbrev pub IsOutlineIn : State → List Row → RowIndex → ℕ → ℕ → List (List ℕ) → PatternArgs → Type 0
 IsOutlineIn g order index outline op payloads args = (c : ℕ) → c < length g.nodes → IsLive g.found c →
     OneByOne (λ r (row : IndexRow). (row.outline ≡ outline) ↔ HasOutline r op payloads args) (rows_of_class g order c) (rows_in index.classes.items c)
+
+abbrev mutual
+  -- of the pattern's node itself, or of one below it
+  pub LacksRow : List Row → Pattern → Type 0
+  LacksRow rows (pattern_node op payloads args) = ((r : Row) → Contains rows r → ¬ HasOutline r op payloads args) ⊎ LacksRowIn rows args
+  LacksRow rows (variable v) = ⊥
+  LacksRow rows (replacing body part value) = ⊥
+
+  pub LacksRowIn : List Row → PatternArgs → Type 0
+  LacksRowIn rows no_argument = ⊥
+  LacksRowIn rows (own_name x rest) = LacksRowIn rows rest
+  LacksRowIn rows (child_pattern p rest) = LacksRow rows p ⊎ LacksRowIn rows rest
+  LacksRowIn rows (binding x inner rest) = LacksRowIn rows inner ⊎ LacksRowIn rows rest

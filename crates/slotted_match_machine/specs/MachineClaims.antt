@@ -9,7 +9,7 @@ use Rattle.slotted_model_rules.specs.Matcher.{MatchState, Found, class_id, start
 use Rattle.slotted_model_rules.specs.Rules.{Searches}
 use Rattle.slotted_match_machine.specs.declared.index.RowIndex.{RowIndex}
 use Rattle.slotted_match_machine.specs.declared.program.Step.{Step}
-use Rattle.slotted_match_machine.specs.Index.{OneByOne, IsIndexOf, IsOutlineIn}
+use Rattle.slotted_match_machine.specs.Index.{OneByOne, IsIndexOf, IsOutlineIn, LacksRow}
 use Rattle.slotted_match_machine.specs.Machine.{Answer, answers_at, all_answers}
 use Rattle.slotted_match_machine.specs.Programs.{variables_of, IsProgram}
 use Rattle.slotted_match_machine.specs.Readings.{name_at, IsReadAs, ReadsAnswer, IsWholeAnswer}
@@ -37,6 +37,10 @@ AnswersAreSearched =
     (variables : List (List ℕ)) (p : Pattern) (steps : List Step) → IsProgram (IsOutlineIn g order index) variables p steps →
     (found : List Values) → OneByOne (ReadsAnswer g variables) found (all_answers index steps) → Searches g order p found
 
+-- a search finds nothing where a node of the pattern has no row: then no program is needed
+abbrev pub PatternsNeedRows : Type 0
+PatternsNeedRows = (g : State) → AtRest g → (order : List Row) → ((r : Row) → Contains g.rows r ↔ Contains order r) → (p : Pattern) → LacksRow g.rows p → Searches g order p []
+
 -- a program numbers the variables of its pattern, each once
 pub record ProgramsNumberVariables : Type 0 where
   pub same : (g : State) (order : List Row) (index : RowIndex) (variables : List (List ℕ)) (p : Pattern) (steps : List Step) →
@@ -50,4 +54,5 @@ pub record MachineLaws : Type 0 where
   pub answers_are_found : AnswersAreFound
   pub answers_are_whole : AnswersAreWhole
   pub answers_are_searched : AnswersAreSearched
+  pub patterns_need_rows : PatternsNeedRows
   pub programs_number_variables : ProgramsNumberVariables
