@@ -1,9 +1,9 @@
 -- What the machine answers from a state is what the matcher finds from it, goal by goal.
-use Rattle.std.proofs.Common.{◌≡◌, ◌≢◌, ◌↔◌, ℕ, suc, ◌+◌, ◌<◌, ◌≤◌, List, [], ◌∷◌, ◌++◌, length, map, Option, Some, None, Bool, true, false, sym, ◌∙◌, ap, refl, subst, inl, inr, arith}
+use Rattle.std.proofs.Common.{◌≡◌, ◌≢◌, ◌↔◌, ℕ, suc, ◌+◌, ◌<◌, List, [], ◌∷◌, ◌++◌, length, map, Option, Some, None, Bool, true, false, sym, ◌∙◌, ap, refl, subst, inl, inr, arith}
 use Rattle.std.specs.Prelude.{◌⊎◌, Contains, cond, filter, nat_eq, nat_lt, ◌&&◌, option_map, slice_index, slice_index_or, Vec}
 use Rattle.std.specs.declared.alloc.Global.{Global}
 use Rattle.std.specs.List.{flat_map}
-use Rattle.std.proofs.lemmas.Bool.{cases_Bool, cases_eq, eqb-true, eq-eqb, ne_eqb, lt-ltb, le-ltb, and_parts, and_from, false≢true}
+use Rattle.std.proofs.lemmas.Bool.{cases_eq, eqb-true, eq-eqb, ne_eqb, lt-ltb, le-ltb, and_parts, and_from, false≢true}
 use Rattle.std.proofs.lemmas.List.{length_push, get_or_default}
 use Rattle.std.proofs.lemmas.List.Elements.{Contains-get_or}
 use Rattle.std.proofs.lemmas.Simd.{map-map}
@@ -22,7 +22,6 @@ use Rattle.slotted_model.specs.State.{Row, State}
 use Rattle.slotted_model.specs.Rest.{AtRest}
 use Rattle.slotted_model.proofs.Ids.{term_eq-true, term_eq-same}
 use Rattle.slotted_model.proofs.Members.{In, In-append, In-Contains, Contains-In, In-left, In-right}
-use Rattle.slotted_model.proofs.Options.{Some-same}
 use Rattle.slotted_model_rules.specs.Patterns.{Pattern, PatternArgs, pattern_node, variable}
 use Rattle.slotted_model_rules.specs.Matcher.{NodeArgs, written_names, MatchState, value_at, walked, IsRowFor, Gives, IfThere}
 use Rattle.slotted_model_rules.specs.Goals.{FoundAll, goals_of, AtRow, after_walk, own_slots, own_names, paired_all, outlines_agree, has_outline}
@@ -35,13 +34,13 @@ use Rattle.slotted_match_machine.specs.declared.program.Source.{Source}
 use Rattle.slotted_match_machine.specs.declared.program.Step.{Step}
 use Rattle.slotted_match_machine.specs.declared.program.Step.TheVariants.{Node, Variable}
 use Rattle.slotted_match_machine.specs.Index.{OneByOne, IsIndexRow, rows_of_class, IsIndexOf, HasOutline, IsOutlineIn}
-use Rattle.slotted_match_machine.specs.Machine.{Occurrence, no_occurrence, same_occurrence, MachineState, Answer, occurrence_at, names_for, new_names, named, child_occurrence, entered, entered_with, after_row, with_variable, rows_in, if_there, answers_of}
+use Rattle.slotted_match_machine.specs.Machine.{Occurrence, no_occurrence, same_occurrence, MachineState, Answer, occurrence_at, new_names, named, child_occurrence, entered, after_row, with_variable, rows_in, if_there, answers_of}
 use Rattle.slotted_match_machine.specs.Programs.{child_patterns, placed, IsProgramFor, ends, compares, takes, enters}
 use Rattle.slotted_match_machine.specs.Readings.{read_id, read_pairs, IsWholeId, IsReadAs}
 use Rattle.slotted_match_machine.proofs.Lists.{one_by_one-both, one_by_one-append, filter-twice, In-filter, gives-beside}
 use Rattle.slotted_match_machine.proofs.NamedNodes.{own-with}
 use Rattle.slotted_match_machine.proofs.Occurrences.{IsOccurrenceOf, is-read, is-whole, class-lives, class-in_range, same-ids, other-ids}
-use Rattle.slotted_match_machine.proofs.Pairing.{all-read}
+use Rattle.slotted_match_machine.proofs.ReadPairs.{all-read}
 use Rattle.slotted_match_machine.proofs.PlacedGoals.{IsAt, placed-last, goals-later, children-at}
 use Rattle.slotted_match_machine.proofs.VisitedRows as visited
 use Rattle.slotted_match_machine.proofs.VisitedRows.{Visit}

@@ -1,6 +1,6 @@
 pub mod NamedNodes
-pub mod Naming
-pub mod Pairing
+pub mod RowNames
+pub mod ReadPairs
 pub mod Occurrences
 pub mod NormalNodes
 pub mod VisitedRows

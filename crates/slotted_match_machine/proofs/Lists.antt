@@ -1,8 +1,7 @@
 -- Lists member by member: what holds of each member and the one in its place.
-use Rattle.std.proofs.Common.{◌≡◌, ℕ, suc, ◌+◌, List, [], ◌∷◌, ◌++◌, length, map, Bool, true, false, sym, ◌∙◌, ap, refl, subst, inl, inr, arith}
+use Rattle.std.proofs.Common.{◌≡◌, List, [], ◌∷◌, ◌++◌, length, map, Bool, true, false, sym, ◌∙◌, ap, refl, subst, inl, inr, arith}
 use Rattle.std.specs.Prelude.{cond, filter, ◌&&◌}
 use Rattle.std.specs.List.{zip, flat_map}
-use Rattle.std.proofs.lemmas.Bool.{cases_Bool}
 use Rattle.slotted_model.proofs.Members.{In, In-left, In-right, In-append}
 use Rattle.slotted_model_rules.specs.Matcher.{Gives}
 use Rattle.slotted_match_machine.specs.Index.{OneByOne}

@@ -1,16 +1,15 @@
 -- An index and a program for the graph of (app (lam $x (var $x)) (lam $x (var $x))): what the machine answers there for (lam $7 ?a).
-use Rattle.std.proofs.Common.{◌≡◌, ◌≢◌, ◌↔◌, ℕ, zero, suc, ◌+◌, ◌<◌, ◌≤◌, List, [], ◌∷◌, length, Some, sym, ◌∙◌, ap, refl, subst, inl, inr, arith}
+use Rattle.std.proofs.Common.{◌≡◌, ℕ, zero, suc, ◌+◌, ◌<◌, List, [], ◌∷◌, length, sym, ◌∙◌, ap, refl, subst, inl, inr, arith}
 use Rattle.std.specs.Prelude.{Vec, ◌^◌, Contains, slice_index, slice_index_or}
 use Rattle.std.specs.declared.alloc.Global.{Global}
 use denote.RawPtr.{null_ptr}
 use Rattle.slotted_theory.proofs.Lists.{contains_head, contains_cases, Contains-nil}
-use Rattle.slotted_model.specs.Applied.{Applied}
 use Rattle.slotted_model.specs.Find.{IsLive, used_slots}
 use Rattle.slotted_model.specs.State.{Row}
 use Rattle.slotted_model.proofs.CompletenessExamples.{one_of}
 use Rattle.slotted_theory.specs.FiniteMaps.{filled}
-use Rattle.slotted_model_rules.specs.Patterns.{Pattern, PatternArgs, pattern_node, variable, no_argument, child_pattern, binding}
-use Rattle.slotted_model_rules.specs.Matcher.{NodeArgs, no_more, a_name, an_id, a_binder, MatchState, Found, class_id, start_at}
+use Rattle.slotted_model_rules.specs.Patterns.{PatternArgs, variable, no_argument, child_pattern, binding}
+use Rattle.slotted_model_rules.specs.Matcher.{no_more, a_name, an_id, a_binder, MatchState, Found, class_id, start_at}
 use Rattle.slotted_model_rules.specs.Conditions.{Values}
 use Rattle.slotted_model_rules.specs.Rules.{valued, Searches}
 use Rattle.slotted_model_rules.proofs.PatternExamples as small
@@ -20,7 +19,7 @@ use Rattle.slotted_match_machine.specs.declared.index.IndexRow.{IndexRow}
 use Rattle.slotted_match_machine.specs.declared.index.RowIndex.{RowIndex}
 use Rattle.slotted_match_machine.specs.declared.program.Step.{Step}
 use Rattle.slotted_match_machine.specs.declared.program.Step.TheVariants.{Node, Variable}
-use Rattle.slotted_match_machine.specs.Index.{OneByOne, IsPositionOf, IsIndexRow, rows_of_class, IsIndexOf, HasOutline, IsOutlineIn}
+use Rattle.slotted_match_machine.specs.Index.{OneByOne, IsPositionOf, IsIndexRow, rows_of_class, IsIndexOf, IsOutlineIn}
 use Rattle.slotted_match_machine.specs.Machine.{rows_in, slot_count_in, no_occurrence, Answer, answers_of, answers_at, all_answers}
 use Rattle.slotted_match_machine.specs.Programs.{ends, takes, enters, root, IsProgram}
 use Rattle.slotted_match_machine.specs.Readings.{name_at, read_id, IsReadAs, ReadsAnswer, IsWholeAnswer}

@@ -1,5 +1,5 @@
 -- Where a node of the pattern has no row nothing is found.
-use Rattle.std.proofs.Common.{◌≡◌, ℕ, ◌<◌, List, [], ◌++◌, Bool, true, false, Some, length, refl, sym, ◌∙◌, ap, subst, inl, inr}
+use Rattle.std.proofs.Common.{◌≡◌, ℕ, ◌<◌, List, [], ◌++◌, Bool, true, false, length, refl, sym, ◌∙◌, ap, inl, inr}
 use Rattle.std.specs.Prelude.{Contains}
 use Rattle.slotted_theory.specs.FiniteMaps.{filled}
 use Rattle.slotted_theory.proofs.Lists.{Contains-nil}
@@ -9,7 +9,6 @@ use Rattle.slotted_model.specs.State.{Row, State, filed_node}
 use Rattle.slotted_model.specs.Rest.{AtRest}
 use Rattle.slotted_model.proofs.Members.{In, In-Contains}
 use Rattle.slotted_model.proofs.Options.{None-Some}
-use Rattle.slotted_model_rules.specs.Conditions.{Values}
 use Rattle.slotted_model_rules.specs.Patterns.{Pattern, PatternArgs, pattern_node, variable, replacing, no_argument, own_name, child_pattern, binding}
 use Rattle.slotted_model_rules.specs.Matcher.{NodeArgs, written_names, rest_of, id_of_first, inside_first, MatchState, IsNodeOf, Found, FoundIn, class_id, start_at}
 use Rattle.slotted_model_rules.specs.Goals.{outlines_agree, has_outline}

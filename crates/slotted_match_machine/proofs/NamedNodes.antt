@@ -1,15 +1,15 @@
 -- A node with other names: f on all that are written, those of binders too.
-use Rattle.std.proofs.Common.{◌≡◌, ◌≢◌, ℕ, suc, List, [], ◌∷◌, ◌++◌, map, sym, ◌∙◌, ap, refl, subst, inl, inr}
-use Rattle.std.specs.Prelude.{◌⊎◌, Contains}
+use Rattle.std.proofs.Common.{◌≡◌, ℕ, suc, List, [], ◌∷◌, ◌++◌, map, sym, ◌∙◌, ap, refl, subst, inl, inr}
+use Rattle.std.specs.Prelude.{◌⊎◌}
 use Rattle.std.proofs.lemmas.Bool.{cases_eq}
 use Rattle.std.proofs.lemmas.List.{map-append}
 use Rattle.std.proofs.Math.Nat.{suc-ne-zero, suc_inj}
-use Rattle.slotted_theory.specs.Nameless.{DArgs, DTerm, extend, lift, scope, place, moved, moved_args}
+use Rattle.slotted_theory.specs.Nameless.{extend, lift, scope, place, moved, moved_args}
 use Rattle.slotted_theory.specs.Shape.{outside, free_names}
 use Rattle.slotted_theory.proofs.Names.{extend-same, extend-other}
 use Rattle.slotted_theory.proofs.Values.{child_before}
 use Rattle.slotted_model.specs.Applied.{Applied, values, renamed_id, as_term}
-use Rattle.slotted_model.specs.Correspondence.{AllDifferent, IsInjectiveOn}
+use Rattle.slotted_model.specs.Correspondence.{AllDifferent}
 use Rattle.slotted_model.proofs.Children.{free_names-places, moved-as_term}
 use Rattle.slotted_model.proofs.Maps.{values-with_values}
 use Rattle.slotted_model.proofs.Members.{In, In-left, In-right, In-append, In-map, In-of_map, In-outside, In-inside, In-Contains, Contains-In}

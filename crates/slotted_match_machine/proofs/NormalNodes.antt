@@ -1,7 +1,6 @@
 -- At rest the ids of each node that the matcher visits are valid and in normal form.
 use Rattle.std.proofs.Common.{◌≡◌, ℕ, List, sym, ◌∙◌, ap, subst, inl, inr}
-use Rattle.std.specs.Prelude.{Contains}
-use Rattle.slotted_theory.specs.Nameless.{DArgs, DTerm, extend}
+use Rattle.slotted_theory.specs.Nameless.{DTerm, extend}
 use Rattle.slotted_theory.specs.Renaming.{IsInjective}
 use Rattle.slotted_theory.proofs.ByBijection.{moved-injective}
 use Rattle.slotted_theory.proofs.Names.{extend-injective}

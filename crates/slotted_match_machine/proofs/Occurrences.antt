@@ -1,10 +1,9 @@
 -- Occurrences: ids in normal form, whose names are numbers.
-use Rattle.std.proofs.Common.{◌≡◌, ◌≢◌, ℕ, zero, suc, ◌<◌, List, [], ◌∷◌, length, map, Bool, true, false, sym, ◌∙◌, ap, refl, subst, inl, inr, arith}
-use Rattle.std.specs.Prelude.{◌⊎◌, Contains, slice_index, nat_eq, ◌&&◌}
+use Rattle.std.proofs.Common.{◌≡◌, ◌≢◌, ℕ, zero, suc, ◌<◌, List, [], ◌∷◌, length, map, true, false, sym, ◌∙◌, ap, refl, subst, arith}
+use Rattle.std.specs.Prelude.{Contains, slice_index, nat_eq}
 use Rattle.std.specs.List.{zip}
-use Rattle.std.proofs.lemmas.Bool.{cases_Bool, eqb-true, eq-eqb, and_parts, and_from, false≢true}
+use Rattle.std.proofs.lemmas.Bool.{eqb-true, eq-eqb, and_parts, and_from, false≢true}
 use Rattle.std.proofs.lemmas.List.{length-map}
-use Rattle.std.proofs.Math.ListN.{get_or-map}
 use Rattle.slotted_theory.specs.Decided.{numbers_eq}
 use Rattle.slotted_theory.specs.Renaming.{IsInjective}
 use Rattle.slotted_theory.proofs.Decides.{numbers_eq-true, numbers_eq-same}

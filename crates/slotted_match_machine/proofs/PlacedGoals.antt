@@ -1,20 +1,18 @@
 -- The machine's goals beside the matcher's: the same patterns, each at a place of the registers where its id stands.
-use Rattle.std.proofs.Common.{◌≡◌, ℕ, suc, ◌+◌, ◌<◌, ◌≤◌, List, [], ◌∷◌, ◌++◌, length, length-append, map, true, sym, ◌∙◌, ap, refl, subst, inl, inr, arith, append_assoc}
-use Rattle.std.specs.Prelude.{Contains, slice_index, slice_index_or, ◌&&◌}
+use Rattle.std.proofs.Common.{◌≡◌, ℕ, suc, ◌+◌, ◌<◌, ◌≤◌, List, [], ◌∷◌, ◌++◌, length, length-append, map, true, sym, ◌∙◌, ap, refl, subst, arith, append_assoc}
+use Rattle.std.specs.Prelude.{slice_index, slice_index_or}
 use Rattle.std.specs.List.{zip}
 use Rattle.std.proofs.lemmas.Bool.{and_parts, false≢true}
 use Rattle.std.proofs.lemmas.List.{length_push}
 use Rattle.std.proofs.lemmas.Simd.{map-map}
 use Rattle.std.proofs.Math.ListN.{get_or-append}
 use Rattle.std.proofs.Math.Seq.{get_or-append_seam}
-use Rattle.slotted_theory.proofs.Lists.{contains_head}
 use Rattle.slotted_model.specs.Applied.{Applied, values, renamed_id}
 use Rattle.slotted_model.specs.State.{Row, State}
-use Rattle.slotted_model.specs.Rest.{AtRest}
 use Rattle.slotted_model.proofs.Maps.{values-with_values}
 use Rattle.slotted_model.proofs.Members.{In, In-map, In-of_map}
 use Rattle.slotted_model_rules.specs.Patterns.{Pattern, PatternArgs, no_argument, own_name, child_pattern, binding}
-use Rattle.slotted_model_rules.specs.Matcher.{NodeArgs, no_more, a_name, an_id, a_binder, written_names}
+use Rattle.slotted_model_rules.specs.Matcher.{NodeArgs, no_more, a_name, an_id, a_binder}
 use Rattle.slotted_model_rules.specs.Goals.{goals_of, outlines_agree}
 use Rattle.slotted_match_machine.specs.declared.index.IndexChild.{IndexChild}
 use Rattle.slotted_match_machine.specs.declared.index.IndexRow.{IndexRow}

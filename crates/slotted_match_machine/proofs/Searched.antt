@@ -1,5 +1,5 @@
 -- Substitutions that read all answers of the machine are what a search finds.
-use Rattle.std.proofs.Common.{◌≡◌, ℕ, ◌<◌, List, [], ◌∷◌, ◌++◌, length, map, Some, sym, ◌∙◌, ap, refl, subst, inl, inr}
+use Rattle.std.proofs.Common.{◌≡◌, ℕ, ◌<◌, List, [], ◌∷◌, length, map, Some, sym, ◌∙◌, ap, refl, subst, inl, inr}
 use Rattle.std.specs.Prelude.{Contains, slice_index_or}
 use Rattle.std.specs.List.{zip, flat_map}
 use Rattle.std.proofs.lemmas.List.{get_or_default}
@@ -8,24 +8,23 @@ use Rattle.slotted_theory.specs.FiniteMaps.{with_values}
 use Rattle.slotted_theory.specs.Renaming.{IsInjective}
 use Rattle.slotted_theory.proofs.Bijections.{to-injective}
 use Rattle.slotted_model.specs.Applied.{Applied, renamed_id}
-use Rattle.slotted_model.specs.Correspondence.{IsInjectiveOn}
 use Rattle.slotted_model.specs.Find.{IsLive, used_slots, find}
 use Rattle.slotted_model.specs.State.{Row, State}
 use Rattle.slotted_model.specs.Rest.{AtRest}
 use Rattle.slotted_model.proofs.Correspondences.Matching.{Takes, IsOneToOne, takes_pairs}
-use Rattle.slotted_model.proofs.Members.{In, In-left, In-right, In-append, In-map, In-of_map, In-Contains, Contains-In}
+use Rattle.slotted_model.proofs.Members.{In, In-left, In-right, In-map, In-of_map, In-Contains, Contains-In}
 use Rattle.slotted_model.proofs.NormalIds.{found-renamed}
 use Rattle.slotted_model.proofs.Options.{Some-same}
 use Rattle.slotted_model_rules.specs.Conditions.{Values}
 use Rattle.slotted_model_rules.specs.Patterns.{Pattern}
-use Rattle.slotted_model_rules.specs.Matcher.{MatchState, value_at, Found, class_id, start_at, Reads}
+use Rattle.slotted_model_rules.specs.Matcher.{MatchState, value_at, Reads}
 use Rattle.slotted_model_rules.specs.Rules.{valued, IsMatch, IsRead, Searches}
 use Rattle.slotted_match_machine.specs.declared.index.RowIndex.{RowIndex}
 use Rattle.slotted_match_machine.specs.declared.program.Step.{Step}
 use Rattle.slotted_match_machine.specs.Index.{OneByOne, IsIndexOf, IsOutlineIn}
 use Rattle.slotted_match_machine.specs.Machine.{Occurrence, no_occurrence, Answer, answers_at, all_answers}
 use Rattle.slotted_match_machine.specs.Programs.{IsProgram}
-use Rattle.slotted_match_machine.specs.Readings.{name_at, read_id, read_pairs, IsReadAs, names_of, ReadsAnswer}
+use Rattle.slotted_match_machine.specs.Readings.{name_at, read_id, IsReadAs, names_of, ReadsAnswer}
 use Rattle.slotted_match_machine.proofs.Lists.{beside-left, beside-right, In-flat_map, In-of_flat_map}
 use Rattle.slotted_match_machine.proofs.Starting.{f-injective, class-answers}
 

@@ -1,13 +1,10 @@
 -- The machine begins as the matcher does: at a live class under its own slots, which are its first names.
-use Rattle.std.proofs.Common.{◌≡◌, ℕ, zero, suc, ◌+◌, ◌<◌, ◌≤◌, List, [], ◌∷◌, length, map, sym, ◌∙◌, ap, refl, subst, inl, inr, arith}
-use Rattle.std.specs.Prelude.{slice_index}
+use Rattle.std.proofs.Common.{◌≡◌, ℕ, zero, suc, ◌+◌, ◌<◌, List, [], ◌∷◌, length, map, sym, ◌∙◌, ap, refl, subst, inl, inr, arith}
 use Rattle.std.specs.List.{range_with_len}
 use Rattle.std.specs.Map.{keys_of, values_of}
 use Rattle.slotted_theory.specs.Renaming.{IsInjective}
-use Rattle.slotted_model.specs.Applied.{Applied}
-use Rattle.slotted_model.specs.Ascending.{IsAscending}
 use Rattle.slotted_model.specs.Correspondence.{AllDifferent, composite, identity}
-use Rattle.slotted_model.specs.Find.{entry_at, IsLive, find_class, find_map, used_slots, find, Linked}
+use Rattle.slotted_model.specs.Find.{entry_at, IsLive, find_map, used_slots, find, Linked}
 use Rattle.slotted_model.specs.State.{Row, State}
 use Rattle.slotted_model.specs.Rest.{AtRest}
 use Rattle.slotted_model.proofs.Correspondences.FullIds.{ascending-different}
@@ -24,11 +21,11 @@ use Rattle.slotted_model_rules.proofs.Goals.{one-goal}
 use Rattle.slotted_match_machine.specs.declared.index.RowIndex.{RowIndex}
 use Rattle.slotted_match_machine.specs.declared.program.Step.{Step}
 use Rattle.slotted_match_machine.specs.Index.{OneByOne, IsIndexOf, IsOutlineIn}
-use Rattle.slotted_match_machine.specs.Machine.{Occurrence, MachineState, slot_count_in, started, answers_at}
+use Rattle.slotted_match_machine.specs.Machine.{slot_count_in, started, answers_at}
 use Rattle.slotted_match_machine.specs.Programs.{root, IsProgram}
 use Rattle.slotted_match_machine.specs.Readings.{name_at, IsReadAs}
 use Rattle.slotted_match_machine.proofs.Answering.{IsStateOf, answers-found}
-use Rattle.slotted_match_machine.proofs.Naming.{name_at-injective, named-slots}
+use Rattle.slotted_match_machine.proofs.RowNames.{name_at-injective, named-slots}
 use Rattle.slotted_match_machine.proofs.Occurrences.{IsOccurrenceOf}
 use Rattle.slotted_match_machine.proofs.PlacedGoals.{IsAt, IsBelow}
 

@@ -11,7 +11,7 @@ use Rattle.slotted_theory.proofs.FreeNames.{free_names-moved}
 use Rattle.slotted_theory.proofs.Laws.{moved_args-moved_args}
 use Rattle.slotted_model.specs.Applied.{Applied, values}
 use Rattle.slotted_model.specs.Classes.{canonical_slots}
-use Rattle.slotted_model.specs.Correspondence.{AllDifferent, IsInjectiveOn, IsPartialInjection}
+use Rattle.slotted_model.specs.Correspondence.{AllDifferent, IsPartialInjection}
 use Rattle.slotted_model.specs.Extraction.{row_class}
 use Rattle.slotted_model.specs.Find.{find_class, find_map, used_slots, find}
 use Rattle.slotted_model.specs.State.{Row, State}
@@ -21,14 +21,14 @@ use Rattle.slotted_model.proofs.Correspondences.PartialInjections.{one_partner}
 use Rattle.slotted_model.proofs.Finding.{leads, find_map-partial}
 use Rattle.slotted_model.proofs.Members.{In, In-map, In-of_map, In-Contains, Contains-In}
 use Rattle.slotted_model_rules.specs.Matcher.{NodeArgs, unnamed, written_names, bound_names, IsNodeOf}
-use Rattle.slotted_model_rules.specs.Goals.{outlines_agree, has_outline, own_names}
+use Rattle.slotted_model_rules.specs.Goals.{outlines_agree, has_outline}
 use Rattle.slotted_model_rules.proofs.FlatWalks.{outline-unnamed, outline-moved}
 use Rattle.slotted_model_rules.proofs.NamedRows.{named-node}
 use Rattle.slotted_match_machine.specs.declared.index.IndexRow.{IndexRow}
 use Rattle.slotted_match_machine.specs.Index.{IsPositionOf, IsIndexRow}
 use Rattle.slotted_match_machine.specs.Machine.{Occurrence, names_for, new_names}
 use Rattle.slotted_match_machine.proofs.NamedNodes.{node_with, written-with, bound-with, unnamed-with, bound-or-free, free-written, bound-written, different-with}
-use Rattle.slotted_match_machine.proofs.Naming.{different-places, name-found, name-new, new-differ}
+use Rattle.slotted_match_machine.proofs.RowNames.{different-places, name-found, name-new, new-differ}
 use Rattle.slotted_match_machine.proofs.Occurrences.{IsOccurrenceOf, names-count, names-differ, name-of_slot}
 
 -- what the machine has when it enters the row r of the class of the occurrence o, whose id is a: f names the numbers, those that

@@ -1,7 +1,6 @@
 -- An answer is whole: it has an id for each variable, and pairs numbers with slots one to one.
-use Rattle.std.proofs.Common.{◌≡◌, ℕ, List, [], ◌∷◌, ◌++◌, length, map, Option, Some, None, Bool, true, false, sym, ◌∙◌, ap, refl, subst, inl, inr}
-use Rattle.std.specs.Prelude.{Contains, cond, nat_eq, nat_lt, option_map, option_and_then, slice_index_or}
-use Rattle.std.specs.List.{flat_map}
+use Rattle.std.proofs.Common.{◌≡◌, ℕ, List, [], ◌∷◌, ◌++◌, length, Option, Some, None, Bool, true, false, sym, ◌∙◌, refl, subst, inl, inr}
+use Rattle.std.specs.Prelude.{cond, nat_eq, nat_lt, option_map, option_and_then, slice_index_or}
 use Rattle.std.proofs.lemmas.Bool.{false≢true}
 use Rattle.slotted_theory.specs.FiniteMaps.{value_of}
 use Rattle.slotted_model.specs.Applied.{keys, values}
@@ -9,7 +8,7 @@ use Rattle.slotted_model.specs.Correspondence.{AllDifferent, has_slot}
 use Rattle.slotted_model.specs.State.{Row, State}
 use Rattle.slotted_model.specs.Rest.{AtRest}
 use Rattle.slotted_model.proofs.Correspondences.Pairs.{Contains-of_key, value_of-found}
-use Rattle.slotted_model.proofs.Members.{In, In-append, In-Contains, Contains-In}
+use Rattle.slotted_model.proofs.Members.{In, In-Contains, Contains-In}
 use Rattle.slotted_model.proofs.Options.{None-Some}
 use Rattle.slotted_model.proofs.Spreading.{in-has_slot}
 use Rattle.slotted_model_rules.specs.Matcher.{paired_with, paired}
@@ -21,7 +20,7 @@ use Rattle.slotted_match_machine.specs.declared.index.RowIndex.{RowIndex}
 use Rattle.slotted_match_machine.specs.declared.program.Step.{Step}
 use Rattle.slotted_match_machine.specs.declared.program.Step.TheVariants.{Node, Variable}
 use Rattle.slotted_match_machine.specs.Index.{IsIndexOf, IsOutlineIn}
-use Rattle.slotted_match_machine.specs.Machine.{Occurrence, MachineState, Answer, no_occurrence, same_occurrence, occurrence_at, names_for, named, entered, after_row, with_variable, rows_in, if_there, answers_of, answers_at, all_answers}
+use Rattle.slotted_match_machine.specs.Machine.{MachineState, Answer, no_occurrence, same_occurrence, occurrence_at, names_for, named, entered, after_row, rows_in, if_there, answers_of, answers_at, all_answers}
 use Rattle.slotted_match_machine.specs.Programs.{IsProgram}
 use Rattle.slotted_match_machine.specs.Readings.{IsReadAs, IsWholeAnswer}
 use Rattle.slotted_match_machine.proofs.Lists.{beside-right, In-of_flat_map}

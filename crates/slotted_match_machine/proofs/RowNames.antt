@@ -6,7 +6,7 @@ use Rattle.std.proofs.lemmas.List.{get_or_past}
 use Rattle.std.proofs.lemmas.Grind.{get_or_default_zero}
 use Rattle.std.proofs.lemmas.List.Elements.{Contains-get_or}
 use Rattle.slotted_theory.specs.Renaming.{IsInjective}
-use Rattle.slotted_theory.proofs.Lists.{above, Contains-below, contains_tail}
+use Rattle.slotted_theory.proofs.Lists.{above, Contains-below}
 use Rattle.slotted_model.specs.Correspondence.{AllDifferent}
 use Rattle.slotted_match_machine.specs.Machine.{names_for, new_names}
 use Rattle.slotted_match_machine.specs.Readings.{name_at}
