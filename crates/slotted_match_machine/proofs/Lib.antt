@@ -14,3 +14,4 @@ pub mod Variables
 pub mod MissingRows
 pub mod AllLaws
 pub mod MachineExamples
+pub mod DroppedExamples

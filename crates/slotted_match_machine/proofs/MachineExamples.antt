@@ -30,7 +30,7 @@ abbrev row_at : ℕ → Row
 row_at i = slice_index_or small.graph.rows i (record { shape = small.var_node; source = 0; slots = [] })
 
 module _ (alloc : Global) where
-  abbrev vec : {X : Type 0} (xs : List X) → length xs < 2 ^ 63 → Vec X Global
+  abbrev pub vec : {X : Type 0} (xs : List X) → length xs < 2 ^ 63 → Vec X Global
   vec xs h = record { ptr = null_ptr; len = length xs; cap = length xs; alloc = alloc; items = xs; ok = (refl, omega arith); small = h }
 
   -- var has one number, which stands for the slot of its class; lam one, for its binder; and app none
