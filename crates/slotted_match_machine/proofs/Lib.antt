@@ -7,6 +7,7 @@ pub mod VisitedRows
 pub mod Lists
 pub mod PlacedGoals
 pub mod Answering
+pub mod WholeIds
 pub mod Starting
 pub mod Searched
 pub mod Whole

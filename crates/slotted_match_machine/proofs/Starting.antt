@@ -1,17 +1,15 @@
 -- The machine begins as the matcher does: at a live class under its own slots, which are its first names.
 use Rattle.std.proofs.Common.{◌≡◌, ℕ, zero, suc, ◌+◌, ◌<◌, List, [], ◌∷◌, length, map, sym, ◌∙◌, ap, refl, subst, inl, inr, arith}
 use Rattle.std.specs.List.{range_with_len}
-use Rattle.std.specs.Map.{keys_of, values_of}
+use Rattle.std.specs.Map.{values_of}
 use Rattle.slotted_theory.specs.Renaming.{IsInjective}
-use Rattle.slotted_model.specs.Correspondence.{AllDifferent, composite, identity}
-use Rattle.slotted_model.specs.Find.{entry_at, IsLive, find_map, used_slots, find, Linked}
+use Rattle.slotted_model.specs.Correspondence.{AllDifferent}
+use Rattle.slotted_model.specs.Find.{IsLive, find_map, used_slots, find, Linked}
 use Rattle.slotted_model.specs.State.{Row, State}
 use Rattle.slotted_model.specs.Rest.{AtRest}
 use Rattle.slotted_model.proofs.Correspondences.FullIds.{ascending-different}
-use Rattle.slotted_model.proofs.Correspondences.PartialInjections.{identity-partial, identity-composite}
-use Rattle.slotted_model.proofs.Finding.{leads, find_class-live, find_map-live}
 use Rattle.slotted_model.proofs.Members.{In, In-of_map}
-use Rattle.slotted_model.proofs.NormalIds.{values-identity, used-live}
+use Rattle.slotted_model.proofs.NormalIds.{keys-identity, values-identity}
 use Rattle.slotted_model.proofs.Options.{None-Some}
 use Rattle.slotted_model.proofs.Sets.{IsAscending-ascending}
 use Rattle.slotted_model_rules.specs.Patterns.{Pattern}
@@ -28,6 +26,7 @@ use Rattle.slotted_match_machine.proofs.Answering.{IsStateOf, answers-found}
 use Rattle.slotted_match_machine.proofs.RowNames.{name_at-injective, named-slots}
 use Rattle.slotted_match_machine.proofs.Occurrences.{IsOccurrenceOf}
 use Rattle.slotted_match_machine.proofs.PlacedGoals.{IsAt, IsBelow}
+use Rattle.slotted_match_machine.proofs.WholeIds.{stays-found}
 
 in-range : (a n z : ℕ) → In z (range_with_len a n) → z < a + n
 in-range a zero z i = absurd i
@@ -52,11 +51,7 @@ module _ (g : State) (rest : AtRest g) (c : ℕ) (h : c < length g.nodes) (live 
 
   -- a live class under its own slots is in normal form
   class-found : find g.found (class_id g c) ≡ class_id g c
-  class-found =
-      let K : List ℕ = keys_of (entry_at g.found c).pairs in
-      let same : S ≡ K = used-live g.nodes g.found linked c h live in
-      let m : find_map g.found c ≡ identity S = find_map-live g.nodes g.found (leads g.nodes g.found linked) c h live ∙ (linked.live c h live ∙ ap identity (sym same)) in
-      λ i. (find_class-live g.nodes g.found (leads g.nodes g.found linked) c h live i, (ap (λ A. composite A (identity S)) m ∙ identity-composite S S (identity S) (identity-partial S)) i)
+  class-found = stays-found g rest (class_id g c) (class-valid g rest c h).0 live (keys-identity S)
 
   module _ (order : List Row) (index : RowIndex) (is : IsIndexOf g order index) where
     abbrev N : List ℕ
