@@ -1,0 +1,9 @@
+-- Lemmas on patterns of a language, their variables and their values.
+pub mod Rows
+pub mod Variables
+pub mod Values
+pub mod Whole
+pub mod Parts
+pub mod TermCodes
+pub mod OutlineCodes
+pub mod EachVariable

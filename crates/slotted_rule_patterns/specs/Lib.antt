@@ -1,0 +1,4 @@
+-- Patterns and substitutions of a language as rules see them.
+pub mod PatternCode
+pub mod Variables
+pub mod Values

@@ -1,0 +1,7 @@
+//! Patterns of any language as rules see them: their variables, and the values of these.
+#![tactic(auto)]
+
+pub mod pattern;
+pub mod subst;
+
+pub use subst::Subst;
