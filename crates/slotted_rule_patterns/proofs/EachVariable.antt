@@ -43,7 +43,7 @@ module _ (P : List ℕ → Type 0) where
   each-filled (child i ks r) xs (p ∷ ps) h = (h.0, each-filled r (drop (length ks) xs) ps h.1)
   each-filled (bind u r) xs ps h = (
     each-filled u (take (length (scopes u)) (drop 1 xs)) (take (length (children u)) ps) (EachOf-take (length (children u)) ps h),
-    each-filled r (drop (length (scopes u)) (drop 1 xs)) (drop (length (children u)) ps) (EachOf-drop (length (children u)) ps h)
+    each-filled r (drop (length (scopes u)) (drop 1 xs)) (drop (length (children u)) ps) (EachOf-drop (length (children u)) ps h),
   )
 
   mutual
@@ -58,7 +58,7 @@ module _ (P : List ℕ → Type 0) where
         subst (EachVariable P) (sym n.is) (
           each-code b n.body n.body_is (Each-left (variables_of b) (variables_of x ++ variables_of t) h),
           each-code x n.part n.part_is (Each-left (variables_of x) (variables_of t) r),
-          each-code t n.value n.value_is (Each-right (variables_of x) (variables_of t) r)
+          each-code t n.value n.value_is (Each-right (variables_of x) (variables_of t) r),
         )
 
     each-codes : (row : PatternRow) (ps : List Pattern) → patterns_in row ≡ Some ps → Each (variables_of_row row) → EachOf ps
@@ -67,7 +67,7 @@ module _ (P : List ℕ → Type 0) where
         let n = first-parts q row ps e in
         subst EachOf (sym n.is) (
           each-code q n.first n.first_is (Each-left (variables_of q) (variables_of_row row) h),
-          each-codes row n.others n.others_are (Each-right (variables_of q) (variables_of_row row) h)
+          each-codes row n.others n.others_are (Each-right (variables_of q) (variables_of_row row) h),
         )
 
   pub each-variable : (t : PatternTree) (p : Pattern) → pattern_in t ≡ Some p → All P (variables_of t) → EachVariable P p

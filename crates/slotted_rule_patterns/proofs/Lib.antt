@@ -7,3 +7,4 @@ pub mod Parts
 pub mod TermCodes
 pub mod OutlineCodes
 pub mod EachVariable
+pub mod KnownVariables

@@ -7,7 +7,7 @@ use Rattle.std.specs.Option.{option_or}
 use Rattle.std.specs.declared.alloc.Global.{Global}
 use Rattle.std.proofs.lemmas.List.Folds.{find-append}
 use Rattle.slotted_nodes.specs.Form.{Form}
-use Rattle.slotted_patterns.specs.Tree.{PatternTree, substitution, PatternRow, one_more, row_of}
+use Rattle.slotted_patterns.specs.Tree.{PatternRow, row_of}
 use Rattle.slotted_patterns.specs.View.{tree_of}
 use Rattle.slotted_patterns.specs.declared.pattern.Pattern.{Pattern, ENode, Subst}
 use Rattle.slotted_rule_patterns.specs.Variables.{variables_of, variables_of_row, first_outside}

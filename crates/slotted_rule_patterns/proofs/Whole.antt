@@ -4,7 +4,7 @@ use Rattle.std.specs.Prelude.{Option, Some, None, is_some, IsSome, option_and_th
 use Rattle.std.specs.declared.alloc.Global.{Global}
 use Rattle.std.proofs.lemmas.List.{length-map}
 use Rattle.slotted_nodes.specs.Form.{Form, children}
-use Rattle.slotted_patterns.specs.Tree.{PatternTree, enode, PatternRow, no_more, one_more, row_of}
+use Rattle.slotted_patterns.specs.Tree.{PatternTree, row_of}
 use Rattle.slotted_patterns.specs.View.{tree_of}
 use Rattle.slotted_patterns.specs.declared.pattern.Pattern.{Pattern, ENode}
 use Rattle.slotted_model.specs.LookUp.{both}

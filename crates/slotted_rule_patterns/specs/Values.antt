@@ -1,5 +1,5 @@
 -- A substitution of the code as variables with their ids.
-use Rattle.std.specs.Prelude.{ℕ, List, map, string_bytes, String}
+use Rattle.std.specs.Prelude.{map, string_bytes, String}
 use Rattle.std.specs.BTreeMap.{BTreeMap}
 use Rattle.std.specs.declared.alloc.Global.{Global}
 use Rattle.slotted_slots.specs.declared.types.AppliedId.{AppliedId}

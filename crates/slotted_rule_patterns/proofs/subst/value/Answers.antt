@@ -1,5 +1,5 @@
-use Rattle.std.proofs.Common.{◌≡◌, ap, ◌∙◌}
-use Rattle.std.specs.Prelude.{Option, Some, None, option_map, refl}
+use Rattle.std.proofs.Common.{ap, ◌∙◌}
+use Rattle.std.specs.Prelude.{option_map}
 use Rattle.slotted_proofs.specs.Equations.{to_applied}
 use Rattle.slotted_rule_patterns.proofs.Values.{value-found, copied}
 use Rattle.slotted_rule_patterns.proofs.subst.value.Goals as goal
