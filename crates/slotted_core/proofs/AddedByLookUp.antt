@@ -1,8 +1,8 @@
 -- Where a node is not looked up, a class is made of it with its children filled: it is looked up then, and no other answer changes.
-use Rattle.std.proofs.Common.{◌≡◌, ◌<◌, ◌≤◌, ◌+◌, ◌∙◌, ℕ, List, Option, Some, None, length, ap, refl, sym, subst, arith, inl, inr}
-use Rattle.std.specs.Prelude.{All, Contains, IsSome, is_some, option_map}
+use Rattle.std.proofs.Common.{◌≡◌, ◌≤◌, ◌∙◌, ℕ, Option, Some, None, ap, refl, sym, subst, arith, inl, inr}
+use Rattle.std.specs.Prelude.{is_some, option_map}
 use Rattle.std.proofs.lemmas.Bool.{false≢true}
-use Rattle.slotted_theory.specs.Nameless.{DTerm, moved}
+use Rattle.slotted_theory.specs.Nameless.{DTerm}
 use Rattle.slotted_theory.specs.Renaming.{Bijection}
 use Rattle.slotted_theory.specs.Shape.{SameUpToNames}
 use Rattle.slotted_theory.proofs.Bijections.{to-injective}
@@ -11,11 +11,9 @@ use Rattle.slotted_theory.proofs.Values.{node}
 use Rattle.slotted_slots.specs.Table.{Table}
 use Rattle.slotted_nodes.specs.Form.{Form}
 use Rattle.slotted_languages.specs.NodeTerm.{nameless_node}
-use Rattle.slotted_languages.specs.Shape.{Fits}
 use Rattle.slotted_model.specs.Adding.{KeepsLookUps}
 use Rattle.slotted_model.specs.Applied.{Applied, EachChild, renamed_id}
 use Rattle.slotted_model.specs.Classes.{IsFull}
-use Rattle.slotted_model.specs.Find.{find}
 use Rattle.slotted_model.specs.Ids.{id_of_node}
 use Rattle.slotted_model.specs.Normal.{normal}
 use Rattle.slotted_model.specs.Rest.{AtRest, LookedUp}
@@ -30,10 +28,8 @@ use Rattle.slotted_store.specs.Finding.{IsFindable}
 use Rattle.slotted_store.specs.Kept.{Kept, entries_of, nodes_of}
 use Rattle.slotted_filing.specs.FiledRows.{Rows}
 use Rattle.slotted_rebuilding.specs.Filed.{state_in}
-use Rattle.slotted_core.specs.Adding.{MakesFilledClass}
-use Rattle.slotted_core.specs.Good.{Good, RestsWith, HasFreshSlots, Adds, AddsFilled, AddsFound, KeepsAnswers, MakesClassOf}
+use Rattle.slotted_core.specs.Good.{Good, RestsWith, HasFreshSlots, AddsFilled, AddsFound, KeepsAnswers, MakesClassOf}
 use Rattle.slotted_core.specs.Graph.{HasNewClass, IsFreshBetween}
-use Rattle.slotted_core.specs.Nodes.{child_ids}
 use Rattle.slotted_core.proofs.FiledClasses.{same-goes_on, adds-none}
 use Rattle.slotted_core.proofs.GoodFinds.{full-findable}
 use Rattle.slotted_core.proofs.NodeAddition.{full_children}

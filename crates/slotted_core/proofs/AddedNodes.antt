@@ -1,6 +1,6 @@
 -- A graph to which a node was added, as contracts see it.
-use Rattle.std.proofs.Common.{◌≡◌, ◌∙◌, ℕ, List, Option, None, Some, ap, refl, sym, subst}
-use Rattle.std.specs.Prelude.{All, IsSome, IsTrue}
+use Rattle.std.proofs.Common.{◌≡◌, ◌∙◌, Option, Some, ap, sym, subst}
+use Rattle.std.specs.Prelude.{IsSome, IsTrue}
 use Rattle.slotted_theory.specs.Nameless.{DTerm}
 use Rattle.slotted_slots.specs.Table.{KnowsMore, Table, is_known}
 use Rattle.slotted_nodes.specs.Form.{Form}
@@ -20,7 +20,6 @@ use Rattle.slotted_core.specs.Good.{AddsFilled, AddsFound, Good, RestsWith, imag
 use Rattle.slotted_core.specs.Graph.{Graph, HasNewClass, IsFullId, MakesAtMost}
 use Rattle.slotted_core.specs.Image.{Image}
 use Rattle.slotted_core.specs.LookUp.{IsOneGraph, KeepsLookUps, MakesClassFor, look_up}
-use Rattle.slotted_core.specs.Nodes.{child_ids}
 use Rattle.slotted_core.specs.Reports.{IsFound}
 use Rattle.slotted_core.proofs.AddedByLookUp.{fresh-later}
 use Rattle.slotted_core.proofs.KnownNames.{answer_full, answer_names, answer_term}

@@ -1,28 +1,25 @@
 -- The nodes of a term, added from below by look-up: what holds after some of them, and sizes.
-use Rattle.std.proofs.Common.{◌≡◌, ◌<◌, ◌≤◌, ◌+◌, ◌∙◌, ℕ, zero, suc, List, [], ◌∷◌, ◌++◌, length, take, drop, get_or, Option, Some, ap, refl, sym, subst, arith, inl, inr, length-append}
-use Rattle.std.specs.Prelude.{◌⊎◌, Contains, IsTrue, slice_index, slice_index_or}
+use Rattle.std.proofs.Common.{◌≡◌, ◌<◌, ◌≤◌, ◌+◌, ◌∙◌, ℕ, zero, suc, List, [], ◌∷◌, length, take, drop, get_or, Option, Some, ap, refl, sym, subst, arith, inl, inr, length-append}
+use Rattle.std.specs.Prelude.{◌⊎◌, Contains, IsTrue, slice_index}
 use Rattle.std.specs.List.{zip}
 use Rattle.slotted_theory.specs.FiniteMaps.{HasValue, IsInjectiveMap}
 use Rattle.slotted_theory.specs.Nameless.{DTerm, nameless}
 use Rattle.slotted_theory.specs.Shape.{free_names}
 use Rattle.slotted_theory.specs.Term.{Term, term_size}
-use Rattle.slotted_theory.specs.Term as term
 use Rattle.slotted_theory.proofs.Lists.{contains_cases}
 use Rattle.slotted_slots.specs.Table.{KnowsMore, Table, is_known}
 use Rattle.slotted_nodes.specs.Form.{Form, Tree, leaf, own, child, bind, scopes, children}
 use Rattle.slotted_languages.specs.Filled.{filled}
 use Rattle.slotted_languages.specs.Filled as form
-use Rattle.slotted_languages.specs.NodeTerm.{nameless_node}
 use Rattle.slotted_languages.specs.Shape.{Fits}
 use Rattle.slotted_languages.proofs.NodeTerms.{own_fits, child_keys_fit, child_rest_fits, bind_inner_fits, bind_rest_fits}
 use Rattle.slotted_terms.specs.Valid.{HasKnownNames, IsValidTerm, IsWhole}
-use Rattle.slotted_model.specs.Applied.{Applied, EachChild, keys, values}
+use Rattle.slotted_model.specs.Applied.{Applied, values}
 use Rattle.slotted_model.specs.Changes.{GoesOn}
 use Rattle.slotted_model.specs.Correspondence.{AllDifferent}
-use Rattle.slotted_model.specs.Find.{find}
 use Rattle.slotted_model.specs.Growth.{Extends}
 use Rattle.slotted_model.specs.LookUp.{Renames, look_up}
-use Rattle.slotted_model.specs.State.{look_up_node, look_up_tree}
+use Rattle.slotted_model.specs.State.{look_up_node}
 use Rattle.slotted_model.proofs.Children.{EachChild-map}
 use Rattle.slotted_model.proofs.GoingOn.{goes_on-then}
 use Rattle.slotted_model.proofs.Growing.{Extends-same, Extends-then}
@@ -30,9 +27,8 @@ use Rattle.slotted_model.proofs.LookUps.{look_up-moved}
 use Rattle.slotted_model.proofs.Members.{Contains-In, In, In-Contains}
 use Rattle.slotted_model.proofs.Touching.{different-length}
 use Rattle.slotted_store.specs.Finding.{IsFindable}
-use Rattle.slotted_store.specs.Kept.{Kept, entries_of, nodes_of}
-use Rattle.slotted_store.proofs.ChildIds.{Each, Each-append, length-ids}
-use Rattle.slotted_store.proofs.NameMaps.{at_In}
+use Rattle.slotted_store.specs.Kept.{Kept, nodes_of}
+use Rattle.slotted_store.proofs.ChildIds.{Each, Each-append}
 use Rattle.slotted_filing.specs.FiledRows.{Rows}
 use Rattle.slotted_rebuilding.specs.Filed.{state_in}
 use Rattle.slotted_core.specs.Adding.{IsOfTerm, args_nodes, term_nodes}
@@ -45,7 +41,6 @@ use Rattle.slotted_core.proofs.AddedByLookUp.{keeps-none}
 use Rattle.slotted_core.proofs.ContinuedFinds.{finds-on}
 use Rattle.slotted_core.proofs.FiledClasses.{adds-none, same-goes_on}
 use Rattle.slotted_core.proofs.Images.{adds-then}
-use Rattle.slotted_core.proofs.KnownNames.{In-drop}
 use Rattle.slotted_core.proofs.Layers.{Each-parts, child_smaller, each_at, length-parts, whole_count, whole_each}
 use Rattle.slotted_core.proofs.LookedUpParts.{look-names}
 use Rattle.slotted_core.proofs.Sizes.{Bounded, child_places_fit, free_fit, places_fit, size_fit}

@@ -18,7 +18,7 @@ use Rattle.slotted_core.specs.Nodes.{ids_in, child_ids}
 use Rattle.slotted_core.specs.Syn.{node_binders, term_binders}
 
 -- other names, as many binders
-args_binders-moved : (ρ : ℕ → ℕ) (d : DArgs) → args_binders (moved_args ρ d) ≡ args_binders d
+pub args_binders-moved : (ρ : ℕ → ℕ) (d : DArgs) → args_binders (moved_args ρ d) ≡ args_binders d
 args_binders-moved ρ stop = refl
 args_binders-moved ρ (place x rest) = args_binders-moved ρ rest
 args_binders-moved ρ (sub op payloads args rest) = λ i. args_binders-moved ρ args i + args_binders-moved ρ rest i

@@ -1,6 +1,6 @@
 -- What a no says at rest: that no names can be filled in by which the terms are derivable, unless open symmetries affect both ids.
-use Rattle.std.proofs.Common.{◌≡◌, ◌↔◌, ◌<◌, [], length, sym, subst, inl, inr}
-use Rattle.std.specs.Prelude.{◌⊎◌, ℕ, Bool, IsTrue}
+use Rattle.std.proofs.Common.{◌≡◌, ◌↔◌, [], sym, subst, inl, inr}
+use Rattle.std.specs.Prelude.{◌⊎◌, Bool, IsTrue}
 use Rattle.slotted_model.specs.Affected.{AreAlikeOrAffected}
 use Rattle.slotted_model.specs.Applied.{Applied}
 use Rattle.slotted_model.specs.Find.{find, find_class}

@@ -1,12 +1,11 @@
 -- A class that was made is filed, and all is rebuilt.
 use Rattle.std.proofs.Common.{◌≡◌, ◌≢◌, ◌<◌, ℕ, suc, List, [], ◌∷◌, ◌++◌, length, sym, ◌∙◌, ap, refl, subst, append_assoc, arith, inl, inr}
-use Rattle.std.specs.Prelude.{◌⊎◌, false, None, Some, IsSome, Contains}
+use Rattle.std.specs.Prelude.{◌⊎◌, false, Some, Contains}
 use Rattle.std.proofs.lemmas.List.{append-nil}
 use Rattle.slotted_theory.specs.Nameless.{DTerm}
 use Rattle.slotted_slots.specs.Table.{Table}
 use Rattle.slotted_nodes.specs.Form.{Form}
 use Rattle.slotted_languages.specs.NodeTerm.{nameless_node}
-use Rattle.slotted_languages.specs.Shape.{Fits}
 use Rattle.slotted_model.specs.Adding.{HasAdded}
 use Rattle.slotted_model.specs.Adding as model
 use Rattle.slotted_model.specs.Applied.{Applied}

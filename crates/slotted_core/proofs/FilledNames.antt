@@ -1,5 +1,5 @@
 -- Ids whose missing names were filled in by fresh slots, and how many slots their canonical terms take.
-use Rattle.std.proofs.Common.{◌≡◌, ◌+◌, ◌<◌, ◌≤◌, ◌∙◌, ℕ, List, [], ap, subst, arith, inl, inr}
+use Rattle.std.proofs.Common.{◌≡◌, ◌+◌, ◌≤◌, [], ap, subst, arith, inl, inr}
 use Rattle.std.specs.Prelude.{Contains}
 use Rattle.slotted_slots.specs.Table.{Table, KnowsMore}
 use Rattle.slotted_slots.proofs.SlotsTaken.{fresh_goes_on}

@@ -1,5 +1,5 @@
 -- A node that is added with its children filled: what it takes, and what it leaves.
-use Rattle.std.proofs.Common.{◌≡◌, ◌≤◌, ◌+◌, ◌*◌, ◌⊎◌, ◌∙◌, ℕ, List, [], ◌∷◌, length, ap, refl, sym, subst, arith, inl, inr}
+use Rattle.std.proofs.Common.{◌≡◌, ◌≤◌, ◌+◌, ◌∙◌, List, [], ◌∷◌, length, ap, refl, sym, arith, inl, inr}
 use Rattle.std.specs.Prelude.{All}
 use Rattle.slotted_slots.specs.Table.{KnowsMore, Table}
 use Rattle.slotted_slots.proofs.SlotsTaken.{fresh_goes_on}
@@ -17,10 +17,9 @@ use Rattle.slotted_adding.specs.Filling as filling
 use Rattle.slotted_adding.specs.Filling.{FillsChildren, HasOneNormalForm, MakesFull, filled_node, missing_in, missing_of, with_fresh}
 use Rattle.slotted_adding.proofs.FilledSizes.{filled_node-places, filled_node-size, missing_of-full}
 use Rattle.slotted_core.specs.Adding.{RunsOutForFilled, HasLargeClassOrFilled, children_lack, lacking_in, slots_needed}
-use Rattle.slotted_core.specs.Causes.{CanRunOutForNode, HasLargeClassIn, HasLargeClassOrNode}
+use Rattle.slotted_core.specs.Causes.{CanRunOutForNode, HasLargeClassOrNode}
 use Rattle.slotted_core.specs.Good.{Adds, AddsFilled, image_of}
-use Rattle.slotted_core.specs.Graph.{MakesAtMost, RunsOut}
-use Rattle.slotted_core.specs.Image.{Image}
+use Rattle.slotted_core.specs.Graph.{MakesAtMost}
 use Rattle.slotted_core.specs.Nodes.{child_ids}
 
 -- how many names are missing, in both words

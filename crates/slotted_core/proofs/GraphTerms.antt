@@ -1,29 +1,25 @@
 -- A graph to which a term was added by look-up, as contracts see it.
-use Rattle.std.proofs.Common.{◌≡◌, ◌∙◌, ℕ, List, [], false, length, Option, Some, ap, refl, sym, subst, inl, inr}
+use Rattle.std.proofs.Common.{◌≡◌, ◌∙◌, ℕ, [], false, Option, Some, ap, refl, sym, subst, inl, inr}
 use Rattle.std.specs.Prelude.{All, IsSome, slice_index_or}
 use Rattle.slotted_theory.specs.Nameless.{nameless}
 use Rattle.slotted_theory.specs.Term.{Term}
-use Rattle.slotted_slots.specs.Table.{KnowsMore, Table}
+use Rattle.slotted_slots.specs.Table.{Table}
 use Rattle.slotted_nodes.specs.Form.{Form}
 use Rattle.slotted_languages.specs.NodeTerm.{nameless_node}
 use Rattle.slotted_languages.specs.Shape.{Fits}
 use Rattle.slotted_terms.specs.Valid.{AllKnown}
-use Rattle.slotted_model.specs.Applied.{Applied, EachChild, values}
-use Rattle.slotted_model.specs.Find.{find}
-use Rattle.slotted_model.specs.Rest.{AtRest}
+use Rattle.slotted_model.specs.Applied.{Applied, EachChild}
 use Rattle.slotted_model.specs.State.{look_up_node, look_up_tree}
-use Rattle.slotted_model.proofs.LookUpsAreEqual.{filled-equal, tree-equal}
+use Rattle.slotted_model.proofs.LookUpsAreEqual.{filled-equal}
 use Rattle.slotted_store.specs.Finding.{IsFindable}
-use Rattle.slotted_store.specs.Kept.{Kept, nodes_of}
+use Rattle.slotted_store.specs.Kept.{Kept}
 use Rattle.slotted_filing.specs.FiledRows.{Rows, rows_in}
 use Rattle.slotted_rebuilding.specs.Filed.{state_in}
 use Rattle.slotted_core.specs.Adding.{term_nodes}
 use Rattle.slotted_core.specs.AddingTerms.{AddsNode, AddsNodes, FilesOnlyLookedUp, IsEqualToTerm, IsOver, LacksForTerm, TakesForTerm, none_added, one_added}
-use Rattle.slotted_core.specs.ValidIds.{IsValidId}
 use Rattle.slotted_core.specs.Good.{AddsFoundTerm, AddsNodeIn, AddsNodesIn, Good, HasFreshSlots, IsFoundIn, LacksForTermIn, RestsWith, TakesForTermIn, image_of}
 use Rattle.slotted_core.specs.Good as kept
 use Rattle.slotted_core.specs.Graph.{Graph}
-use Rattle.slotted_core.specs.Image.{Image}
 use Rattle.slotted_core.specs.LookUp.{IsOneGraph, KeepsLookUps, look_up, look_up_nameless, look_up_term}
 use Rattle.slotted_core.specs.Nodes.{child_ids}
 use Rattle.slotted_core.specs.Reports.{IsFound}

@@ -1,5 +1,5 @@
 -- Images of graphs: what is added and what goes on, step after step.
-use Rattle.std.proofs.Common.{◌≡◌, ◌<◌, ◌+◌, ℕ, zero, suc, List, [], ◌∷◌, ◌++◌, length, sym, ◌∙◌, ap, refl, append_assoc, arith}
+use Rattle.std.proofs.Common.{◌≡◌, ◌<◌, ◌+◌, ℕ, zero, suc, List, [], ◌∷◌, ◌++◌, length, ◌∙◌, ap, append_assoc, arith}
 use Rattle.std.specs.Prelude.{slice_index_or}
 use Rattle.slotted_model.specs.Applied.{Applied}
 use Rattle.slotted_model.specs.Classes.{IsFull}
@@ -10,7 +10,7 @@ use Rattle.slotted_model.specs.ProofList.{ProofEntry}
 use Rattle.slotted_proofs.specs.Entries.{Proven}
 use Rattle.slotted_core.specs.Causes.{class_found}
 use Rattle.slotted_core.specs.Image.{Image, AddsClasses, found_id}
-use Rattle.slotted_store.specs.Kept.{Kept, SymmetryEntry, nodes_of, entries_of, proofs_of}
+use Rattle.slotted_store.specs.Kept.{Kept, SymmetryEntry, entries_of}
 use Rattle.slotted_core.specs.Good.{image_of, finds_from}
 use Rattle.slotted_store.proofs.KeptLists.{length-entries_of}
 

@@ -1,6 +1,6 @@
 -- The names of an answer are names of the node, so the table knows them.
 use Rattle.std.proofs.Common.{◌≡◌, ℕ, zero, suc, List, [], ◌∷◌, length, take, drop, map, sym, ◌∙◌, ap, refl, subst, arith, inl, inr}
-use Rattle.std.specs.Prelude.{slice_index, slice_index_or, Option, None, Some, option_map, IfSome, All, IsTrue}
+use Rattle.std.specs.Prelude.{slice_index, slice_index_or, Some, All, IsTrue}
 use Rattle.std.proofs.lemmas.Bool.{cases_eq}
 use Rattle.slotted_theory.specs.Term.{Args, Term, done, name}
 use Rattle.slotted_theory.specs.Term as term
@@ -24,8 +24,6 @@ use Rattle.slotted_model.proofs.Ids.{id_of_node-some}
 use Rattle.slotted_slots.specs.Table.{Table, is_known}
 use Rattle.slotted_model.specs.Ascending.{names}
 use Rattle.slotted_terms.specs.Valid.{AllKnown, HasKnownNames}
-use Rattle.slotted_slots.specs.declared.types.AppliedId.{AppliedId}
-use Rattle.slotted_proofs.specs.Equations.{to_applied}
 use Rattle.slotted_store.proofs.NameMaps.{In-at, at_In}
 
 pub In-take : (n : ℕ) (xs : List ℕ) (x : ℕ) → In x (take n xs) → In x xs

@@ -1,12 +1,12 @@
 -- Classes that are too large to be rebuilt: a new one is so only if its node is.
-use Rattle.std.proofs.Common.{◌≡◌, ◌⊎◌, ◌<◌, ◌≤◌, ◌^◌, ℕ, suc, List, [], ◌∷◌, ◌++◌, length, sym, ◌∙◌, ap, subst, arith, inl, inr, length-append}
+use Rattle.std.proofs.Common.{◌≡◌, ◌⊎◌, ◌<◌, ◌≤◌, ◌^◌, ℕ, suc, List, length, sym, ◌∙◌, ap, subst, arith, inl, inr, length-append}
 use Rattle.std.proofs.lemmas.Bool.{cases_lt}
 use Rattle.slotted_theory.specs.Nameless.{DArgs, DTerm, stop, place, sub, scope}
 use Rattle.slotted_theory.specs.Shape.{SameUpToNames, free_names, outside}
 use Rattle.slotted_nodes.specs.Form.{Form}
 use Rattle.slotted_languages.specs.NodeTerm.{nameless_node}
 use Rattle.slotted_model.specs.Ascending.{names}
-use Rattle.slotted_model.specs.Classes.{canonical_node, canonical_slots}
+use Rattle.slotted_model.specs.Classes.{canonical_node}
 use Rattle.slotted_model.specs.Growth.{Extends}
 use Rattle.slotted_store.proofs.NameCounts.{length-ascending, length-outside}
 use Rattle.slotted_congruence.specs.Named.{args_size, node_size}

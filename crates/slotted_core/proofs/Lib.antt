@@ -54,3 +54,4 @@ pub mod LookedUpTerms
 pub mod GraphTerms
 pub mod YesesStay
 pub mod LookedUpClasses
+pub mod RefreshedNodes

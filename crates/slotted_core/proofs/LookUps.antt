@@ -1,17 +1,13 @@
 -- What nodes and terms are looked up as: contracts say it by images and filed nodes, the model by its state.
 use Rattle.std.proofs.Common.{◌≡◌, ◌<◌, ◌∙◌, ℕ, List, Option, Some, None, length, ap, refl, sym, subst, arith}
 use Rattle.std.specs.Prelude.{option_map, option_and_then}
-use Rattle.slotted_theory.specs.Nameless.{DArgs, DTerm, stop, place, sub, scope, nameless}
+use Rattle.slotted_theory.specs.Nameless.{DArgs, DTerm, stop, place, sub, scope}
 use Rattle.slotted_theory.specs.Shape.{shape}
-use Rattle.slotted_theory.specs.Term.{Term}
 use Rattle.slotted_theory.proofs.Values.{node, child_before}
-use Rattle.slotted_nodes.specs.Form.{Form}
-use Rattle.slotted_languages.specs.NodeTerm.{nameless_node}
 use Rattle.slotted_model.specs.Applied.{Applied, as_term, applied_of, EachChild}
-use Rattle.slotted_model.specs.Find.{Entry, find}
+use Rattle.slotted_model.specs.Find.{find}
 use Rattle.slotted_model.specs.LookUp.{both, look_up, look_up_args}
 use Rattle.slotted_model.specs.Normal.{normal, normal_args}
-use Rattle.slotted_model.specs.Rest.{AtRest}
 use Rattle.slotted_model.specs.State.{Row, State, look_up_node, look_up_tree, row_of, source_with_names}
 use Rattle.slotted_model.proofs.Congruence.{child-applied}
 use Rattle.slotted_model.proofs.LookUpsAreEqual.{node-equal}
@@ -21,11 +17,10 @@ use Rattle.slotted_store.specs.Finding.{IsFindable}
 use Rattle.slotted_store.specs.Kept.{Kept, entries_of, nodes_of}
 use Rattle.slotted_store.proofs.KeptLists.{length-nodes_of}
 use Rattle.slotted_filing.specs.FiledRows.{Rows, rows_in}
-use Rattle.slotted_filing.specs.NormalNodes.{HasFindableChildren}
-use Rattle.slotted_rebuilding.specs.Filed.{IsWellFiled, state_in}
+use Rattle.slotted_rebuilding.specs.Filed.{state_in}
 use Rattle.slotted_core.specs.Good.{Good, RestsWith, image_of}
 use Rattle.slotted_core.specs.Graph.{Graph}
-use Rattle.slotted_core.specs.Image.{Image, found_id}
+use Rattle.slotted_core.specs.Image.{found_id}
 use Rattle.slotted_core.specs.LookUp as words
 use Rattle.slotted_core.proofs.ValidIds.{findable-within}
 use Rattle.slotted_core.proofs.Images.{found_id-is}

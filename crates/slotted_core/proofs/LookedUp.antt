@@ -1,6 +1,6 @@
 -- What a look-up answers: an id that is what it finds itself, with names of the node alone, and equal to the node by what was asserted.
-use Rattle.std.proofs.Common.{◌≡◌, ◌∙◌, ℕ, List, [], Option, None, Some, ap, refl, sym, subst, arith}
-use Rattle.std.specs.Prelude.{All, Contains, IfSome, IsTrue, option_map, slice_index_or}
+use Rattle.std.proofs.Common.{◌≡◌, ◌∙◌, ℕ, [], Option, None, Some, ap, refl, sym, subst}
+use Rattle.std.specs.Prelude.{IfSome, IsTrue, option_map, slice_index_or}
 use Rattle.slotted_theory.specs.Derives.{Equal}
 use Rattle.slotted_theory.specs.Nameless.{DTerm, nameless}
 use Rattle.slotted_theory.specs.Shape.{free_names}

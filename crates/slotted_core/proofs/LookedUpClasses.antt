@@ -1,5 +1,5 @@
 -- The node of each class is looked up: as what is found together with the class.
-use Rattle.std.proofs.Common.{◌≡◌, ◌∙◌, ◌<◌, Some, length, subst, sym, arith}
+use Rattle.std.proofs.Common.{◌≡◌, ◌∙◌, ◌<◌, Some, subst, sym}
 use Rattle.slotted_theory.specs.Nameless.{DTerm}
 use Rattle.slotted_model.specs.Applied.{EachChild}
 use Rattle.slotted_model.specs.Classes.{IsFull}

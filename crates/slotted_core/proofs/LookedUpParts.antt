@@ -1,10 +1,9 @@
 -- Look-ups from the bottom up, for any look-up of nodes that moves with names: names of answers, and what parts are looked up as.
-use Rattle.std.proofs.Common.{◌≡◌, ◌≢◌, ◌<◌, ◌≤◌, ◌+◌, ◌∙◌, ℕ, zero, suc, List, [], ◌∷◌, ◌++◌, length, take, drop, Option, None, Some, ap, refl, sym, subst, arith, inl, inr, length-append}
-use Rattle.std.specs.Prelude.{◌⊎◌, IsSome, is_some, map, option_and_then, option_map, slice_index}
+use Rattle.std.proofs.Common.{◌≡◌, ◌<◌, ◌≤◌, ◌+◌, ◌∙◌, ℕ, zero, suc, List, [], ◌∷◌, ◌++◌, length, take, drop, Option, None, Some, ap, refl, sym, subst, arith, inl, inr, length-append}
+use Rattle.std.specs.Prelude.{◌⊎◌, IsSome, map, option_and_then, option_map, slice_index}
 use Rattle.std.specs.List.{zip}
 use Rattle.std.proofs.lemmas.Bool.{cases_eq, false≢true}
-use Rattle.slotted_theory.specs.FiniteMaps.{with_values}
-use Rattle.slotted_theory.specs.Nameless.{DArgs, DTerm, place, scope, extend, moved, nameless, nameless_args, nameless_by}
+use Rattle.slotted_theory.specs.Nameless.{DTerm, place, scope, extend, moved, nameless, nameless_args, nameless_by}
 use Rattle.slotted_theory.specs.Renaming.{IsInjective, swapped}
 use Rattle.slotted_theory.specs.Shape.{free_names}
 use Rattle.slotted_theory.specs.Term.{Term}
@@ -15,7 +14,7 @@ use Rattle.slotted_theory.proofs.Values.{child_before, node}
 use Rattle.slotted_nodes.specs.Form.{Form, Tree, leaf, own, child, bind, scopes, children}
 use Rattle.slotted_languages.specs.Filled.{filled}
 use Rattle.slotted_languages.specs.Filled as form
-use Rattle.slotted_languages.specs.NodeTerm.{nameless_node, node_args, own_names}
+use Rattle.slotted_languages.specs.NodeTerm.{node_args, own_names}
 use Rattle.slotted_languages.proofs.NodeTerms.{own_fits, child_keys_fit, child_rest_fits, bind_inner_fits, bind_rest_fits}
 use Rattle.slotted_model.specs.Applied.{Applied, as_term, renamed_id, values}
 use Rattle.slotted_model.specs.LookUp.{Renames, both, look_up, look_up_args}

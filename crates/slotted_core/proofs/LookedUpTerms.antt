@@ -1,27 +1,25 @@
 -- Adding a term from below by look-up: the ids of the children stand in the node so far.
-use Rattle.std.proofs.Common.{◌≡◌, ◌<◌, ◌≤◌, ◌+◌, ◌∙◌, ℕ, zero, suc, List, [], ◌∷◌, ◌++◌, length, take, drop, get_or, Option, None, Some, ap, refl, sym, subst, arith, inl, inr, length-append}
+use Rattle.std.proofs.Common.{◌≡◌, ◌<◌, ◌≤◌, ◌+◌, ◌∙◌, ℕ, suc, List, [], ◌∷◌, length, take, get_or, Option, None, Some, ap, refl, sym, subst, arith, inl, inr, length-append}
 use Rattle.std.specs.Prelude.{All, IsSome, IsTrue, is_some, option_and_then, slice_index_or, slice_set}
-use Rattle.std.proofs.lemmas.Bool.{cases_eq, cases_lt, false≢true}
+use Rattle.std.proofs.lemmas.Bool.{cases_eq, cases_lt}
 use Rattle.slotted_theory.specs.Nameless.{DTerm, nameless}
 use Rattle.slotted_theory.specs.Term.{Term, done, term_size}
 use Rattle.slotted_theory.proofs.Values.{node}
 use Rattle.slotted_slots.specs.Maps.{keys, values}
 use Rattle.slotted_slots.specs.Table.{KnowsMore, Table, is_known}
-use Rattle.slotted_nodes.specs.Form.{Form, Tree, leaf, own, child, bind, scopes, children, with_child}
+use Rattle.slotted_nodes.specs.Form.{Form, children, with_child}
 use Rattle.slotted_nodes.specs.Joined.{length_children-with_child_in}
 use Rattle.slotted_languages.specs.Filled.{filled}
 use Rattle.slotted_languages.specs.Filled as form
 use Rattle.slotted_languages.specs.NodeTerm.{nameless_node}
 use Rattle.slotted_languages.specs.Shape.{Fits}
-use Rattle.slotted_terms.specs.Valid.{AllKnown, HasKnownNames, IsValidTerm}
+use Rattle.slotted_terms.specs.Valid.{AllKnown, HasKnownNames}
 use Rattle.slotted_model.specs.Applied.{Applied, EachChild}
 use Rattle.slotted_model.specs.LookUp.{Renames, look_up}
-use Rattle.slotted_model.specs.Rest.{AtRest}
-use Rattle.slotted_model.specs.State.{State, look_up_node, look_up_tree}
+use Rattle.slotted_model.specs.State.{look_up_node, look_up_tree}
 use Rattle.slotted_model.proofs.Children.{EachChild-map}
 use Rattle.slotted_model.proofs.LookUpsAreEqual.{tree-equal}
 use Rattle.slotted_model.proofs.Members.{In}
-use Rattle.slotted_model.proofs.Options.{None-Some}
 use Rattle.slotted_model.proofs.Rows.{look_up_node-moved}
 use Rattle.slotted_store.specs.Finding.{IsFindable}
 use Rattle.slotted_store.specs.Kept.{Kept, nodes_of}
@@ -30,7 +28,7 @@ use Rattle.slotted_store.proofs.NameMaps.{In-at, at_In, length-keys, length-valu
 use Rattle.slotted_filing.specs.FiledRows.{Rows}
 use Rattle.slotted_rebuilding.specs.Filed.{state_in}
 use Rattle.slotted_core.specs.Adding.{IsOfTerm, MakesFilledClass, slots_needed, term_nodes}
-use Rattle.slotted_core.specs.Good.{AddsFound, AddsFoundTerm, AddsNodeIn, AddsNodesIn, FilesSubterms, Good, HasFreshSlots, IsFoundIn, LacksForTermIn, RestsWith, RunsOutForUnknownIn, TakesForTermIn, image_of, none_added, one_added}
+use Rattle.slotted_core.specs.Good.{AddsFound, AddsFoundTerm, AddsNodesIn, FilesSubterms, Good, HasFreshSlots, IsFoundIn, LacksForTermIn, RestsWith, RunsOutForUnknownIn, TakesForTermIn, image_of, none_added, one_added}
 use Rattle.slotted_core.specs.Graph.{MakesAtMost}
 use Rattle.slotted_core.specs.Nodes.{child_ids}
 use Rattle.slotted_core.specs.Places.{term_places}
@@ -41,11 +39,10 @@ use Rattle.slotted_core.proofs.ChildReplacement.{plugs}
 use Rattle.slotted_core.proofs.Filing.{of_child}
 use Rattle.slotted_core.proofs.ValidIds.{renamed-findable}
 use Rattle.slotted_core.proofs.KnownNames.{free_from}
-use Rattle.slotted_core.proofs.Layers.{child_smaller, each_at}
+use Rattle.slotted_core.proofs.Layers.{each_at}
 use Rattle.slotted_core.proofs.LookedUp.{answer-name}
 use Rattle.slotted_core.proofs.LookedUpParts.{Looked, children_found, looked-args}
 use Rattle.slotted_core.proofs.Resting.{at-rest}
-use Rattle.slotted_core.proofs.Sizes.{child_places_fit}
 use Rattle.slotted_core.proofs.TermAddition.{set_other, set_same}
 
 -- what the ids so far are

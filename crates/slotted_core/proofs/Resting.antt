@@ -1,8 +1,7 @@
 -- What is kept with its filed nodes at rest: what the model says of it, and what keeps it so.
-use Rattle.std.proofs.Common.{◌≡◌, ◌≢◌, ℕ, refl, sym, subst}
+use Rattle.std.proofs.Common.{◌≢◌, ℕ, sym, subst}
 use Rattle.slotted_model.specs.Rest.{AtRest, Represents}
 use Rattle.slotted_model.specs.ProofList.{explicit}
-use Rattle.slotted_model.proofs.Asserting.{nothing-rests}
 use Rattle.slotted_model.proofs.Quiet.{proofs-quiet}
 use Rattle.slotted_proofs.specs.Entries.{Proven}
 use Rattle.slotted_proofs.specs.Proving.{IsProvable}

@@ -21,7 +21,7 @@ use Rattle.slotted_model.proofs.Growing.{Extends-same, Extends-then}
 use Rattle.slotted_model.specs.Ids.{id_of, id_of_node}
 use Rattle.slotted_model.proofs.LookUps.{id_of_node-moved}
 use Rattle.slotted_model.proofs.Ids.{id_of-iff}
-use Rattle.slotted_core.specs.Image.{Image, AddsClasses}
+use Rattle.slotted_core.specs.Image.{AddsClasses}
 use Rattle.slotted_store.specs.Kept.{Kept, nodes_of}
 use Rattle.slotted_filing.specs.FiledRows.{Rows}
 use Rattle.slotted_congruence.specs.Named.{node_size}

@@ -2,7 +2,7 @@
 use Rattle.std.proofs.Common.{◌≡◌, ◌≢◌, ◌<◌, ℕ, List, length, sym, ◌∙◌, subst}
 use Rattle.std.specs.Map.{keys_of}
 use Rattle.slotted_model.specs.Applied.{Applied}
-use Rattle.slotted_model.specs.Changes.{GoesOn, Unites, dropped_state, found_entry, with_proofs}
+use Rattle.slotted_model.specs.Changes.{GoesOn, Unites, found_entry, with_proofs}
 use Rattle.slotted_model.specs.Changes.{finds_alike, proves, drops_left, drops_right, left_dies, right_dies, lists, is_listed}
 use Rattle.slotted_model.specs.Classes.{IsFull}
 use Rattle.slotted_model.specs.Find.{Linked, find, find_class}

@@ -16,7 +16,7 @@ use Rattle.slotted_model.proofs.Correspondences.Pairs.{Contains-key, Contains-of
 use Rattle.slotted_model.proofs.Members.{Contains-In, In}
 use Rattle.slotted_model.proofs.Options.{None-Some}
 use Rattle.slotted_core.specs.Graph.{Graph}
-use Rattle.slotted_core.specs.Image.{AddsClasses, FoundAlike, Image, IsUnion, found_id}
+use Rattle.slotted_core.specs.Image.{AddsClasses, FoundAlike, IsUnion, found_id}
 use Rattle.slotted_core.specs.ValidIds.{Fills, IsValidId}
 use Rattle.slotted_core.proofs.CallerLemmas.{filled, valid_later, valid_united}
 

@@ -5,7 +5,7 @@
 --     LacksForTerm          slots ran out for a node of the term
 --     FilesOnlyLookedUp     each new class is what a subterm is looked up as now
 --     IsEqualToTerm g a t   by what was asserted the id is equal to the term, whatever names are filled in
-use Rattle.std.specs.Prelude.{◌≡◌, ◌⊎◌, ◌<◌, ◌≤◌, ℕ, suc, All, IsSome, None, Some, length}
+use Rattle.std.specs.Prelude.{◌≡◌, ◌⊎◌, ◌<◌, ◌≤◌, ℕ, suc, All, IsSome, None, Some}
 use Rattle.slotted_slots.specs.Table.{KnowsMore, Table}
 use Rattle.slotted_theory.specs.Derives.{Equal}
 use Rattle.slotted_theory.specs.Nameless.{nameless}

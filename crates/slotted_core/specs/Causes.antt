@@ -22,7 +22,7 @@ use Rattle.slotted_model.specs.Ids.{id_of, id_of_node}
 pub use Rattle.slotted_proofs.specs.Equations.{HaveManyNames, HasManyNames}
 pub use Rattle.slotted_congruence.specs.Named.{SidesRunOut, IsWideClass, IsWideNode}
 use Rattle.slotted_core.specs.Canonical.{place_count}
-use Rattle.slotted_core.specs.Graph.{Graph, RunsOutIn, RunsOutForNode, RunsOutForTerm}
+use Rattle.slotted_core.specs.Graph.{RunsOutForNode, RunsOutForTerm}
 use Rattle.slotted_core.specs.Image.{Image}
 use Rattle.slotted_core.specs.Nodes.{child_ids}
 use Rattle.slotted_core.specs.Places.{term_places}

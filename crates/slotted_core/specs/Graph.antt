@@ -4,7 +4,7 @@
 --     MakesAtMost n t u                  from t to u the table makes at most n fresh slots
 --     RunsOut n t u                      n more were not to be had
 --     HasNewClass                        there is one class more, for a node
-use Rattle.std.specs.Prelude.{◌≡◌, ◌⊎◌, ℕ, ◌<◌, ◌≤◌, Bool, List, [], ◌∷◌, ◌++◌, length, All, Contains, Option, None}
+use Rattle.std.specs.Prelude.{◌≡◌, ◌⊎◌, ℕ, ◌<◌, ◌≤◌, Bool, List, [], ◌∷◌, ◌++◌, length, Contains, Option}
 use Rattle.std.specs.Coded.{Coded, code_by, coded×, coded_bool, coded_ℕ, coded_list}
 use Rattle.std.specs.Prelude.{refl}
 use Rattle.slotted_theory.specs.Term.{Term}
@@ -12,17 +12,15 @@ use Rattle.slotted_theory.specs.Nameless.{DTerm, nameless}
 use Rattle.slotted_theory.specs.Shape.{shape}
 use Rattle.slotted_slots.specs.declared.types.AppliedId.{AppliedId}
 use Rattle.slotted_slots.specs.Table.{Table, slot_limit, fresh_slot, KnowsMore}
-use Rattle.slotted_nodes.specs.Form.{Form, IsSmall}
-use Rattle.slotted_languages.specs.NodeTerm.{nameless_node}
+use Rattle.slotted_nodes.specs.Form.{Form}
 use Rattle.slotted_terms.specs.Valid.{AllKnown}
 use Rattle.slotted_model.specs.Applied.{Applied, values}
-use Rattle.slotted_model.specs.Classes.{canonical_slots, IsFull, term_of, layer_of}
-use Rattle.slotted_model.specs.Ids.{id_of_node, id_of}
+use Rattle.slotted_model.specs.Classes.{canonical_slots, IsFull}
+use Rattle.slotted_model.specs.Ids.{id_of}
 use Rattle.slotted_model.specs.State.{Row}
 pub use Rattle.slotted_adding.specs.Filling.{MakesAtMost, RunsOut}
-use Rattle.slotted_core.specs.Nodes.{child_ids}
 use Rattle.slotted_proofs.specs.Equations.{to_applied}
-use Rattle.slotted_core.specs.Image.{Image, NewClassesAre, IsIdOfNode, IsIdOfSubterm, RecordsFilled, image_code}
+use Rattle.slotted_core.specs.Image.{Image, NewClassesAre, IsIdOfSubterm, RecordsFilled, image_code}
 use Rattle.slotted_core.specs.Places.{term_places, term_slots}
 use Rattle.slotted_core.specs.TermCode.{nameless_code}
 use Rattle.slotted_store.specs.EntryCode.{pairs_code}

@@ -9,7 +9,7 @@
 --     AreLookedUp g       the node of each class is looked up
 --     IsOneGraph g h      the graphs have one table, one image and the same filed nodes
 --     KeepsLookUps g h    ids find what they found, and what was looked up is looked up as before
-use Rattle.std.specs.Prelude.{◌≡◌, ℕ, Option, None, Some, option_map}
+use Rattle.std.specs.Prelude.{◌≡◌, Option, None, Some, option_map}
 use Rattle.slotted_theory.specs.Nameless.{DArgs, DTerm, stop, place, sub, scope, nameless}
 use Rattle.slotted_theory.specs.Shape.{shape}
 use Rattle.slotted_theory.specs.Term.{Term}

@@ -1,9 +1,7 @@
 -- The children of a node as applied ids.
-use Rattle.std.specs.Prelude.{ℕ, ◌+◌, ◌<◌, ◌≤◌, ◌⊎◌, List, [], ◌∷◌, ◌++◌, length, take, drop, slice_index, IsTrue}
-use Rattle.std.specs.List.{zip}
+use Rattle.std.specs.Prelude.{ℕ, ◌+◌, ◌<◌, ◌≤◌, ◌⊎◌, length, slice_index, IsTrue}
 use Rattle.slotted_slots.specs.Table.{Table, is_known}
-use Rattle.slotted_nodes.specs.Form.{Form, Tree, leaf, own, child, bind, scopes, children, child_place, width}
-use Rattle.slotted_model.specs.Applied.{Applied}
+use Rattle.slotted_nodes.specs.Form.{Form, Tree, children, child_place, width}
 pub use Rattle.slotted_proofs.specs.Equations.{to_applied}
 pub use Rattle.slotted_store.specs.ChildIds.{ids_in, child_ids}
 

@@ -9,13 +9,16 @@
 --     slots_for_node, slots_for_term       how many fresh slots those of an id take: so many as it lacks names and these have binders
 --     NodeRunsOut, TermRunsOut       fewer fresh slots were left than there are binders, or a node is too large
 --     MakesForNodeOf, MakesForTermOf, RunsOutForNodeOf, RunsOutForTermOf     the counts of an id, from g to h
-use Rattle.std.specs.Prelude.{◌≡◌, ◌⊎◌, ℕ, ◌+◌, List, All, Contains}
+--     HasUnknownBinders t f          the table t knows no binder's name of the node f
+--     FreshNodeRunsOut, MakesForFreshNode, RunsOutForFreshNode     the counts of a canonical node with fresh binders
+use Rattle.std.specs.Prelude.{◌≡◌, ◌⊎◌, ℕ, ◌+◌, ◌*◌, List, All, Contains}
 use Rattle.slotted_theory.specs.Term.{Term}
 use Rattle.slotted_theory.specs.Nameless.{DTerm, nameless}
 use Rattle.slotted_slots.specs.declared.types.AppliedId.{AppliedId}
 use Rattle.slotted_slots.specs.Maps.{values}
 use Rattle.slotted_slots.specs.Table.{Table}
 use Rattle.slotted_nodes.specs.Form.{Form}
+use Rattle.slotted_languages.specs.NewNames.{BindersAreUnknown}
 use Rattle.slotted_terms.specs.Valid.{AllKnown, IsValidTerm}
 use Rattle.slotted_model.specs.Applied.{Applied, keys}
 use Rattle.slotted_model.specs.Classes.{canonical_node, canonical_term, term_of, IsFull}
@@ -114,6 +117,22 @@ MakesForTermAt g h i = MakesAtMost (term_binders g.image.canonical i) g.table h.
 
 abbrev pub RunsOutForTermAt : Graph → Graph → ℕ → Type 0
 RunsOutForTermAt g h i = TermRunsOut g.image.canonical i g.table h.table
+
+-- nodes with fresh binders
+
+abbrev pub HasUnknownBinders : Table → Form → Type 0
+HasUnknownBinders t f = BindersAreUnknown t f f
+
+-- fewer fresh slots were left than two for each binder of the canonical node of the class, or it has too many places to be numbered
+abbrev pub FreshNodeRunsOut : List DTerm → ℕ → Table → Table → Type 0
+FreshNodeRunsOut nodes i old new = RunsOut (2 * node_binders nodes i) old new ⊎ IsLargeNode nodes i
+
+-- two slots at most for each binder of the id's canonical node
+abbrev pub MakesForFreshNode : Graph → Graph → Applied → Type 0
+MakesForFreshNode g h a = MakesAtMost (2 * node_binders g.image.canonical a.0) g.table h.table
+
+abbrev pub RunsOutForFreshNode : Graph → Graph → Applied → Type 0
+RunsOutForFreshNode g h a = FreshNodeRunsOut g.image.canonical a.0 g.table h.table
 
 -- over what is kept
 

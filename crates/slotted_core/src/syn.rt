@@ -1,5 +1,5 @@
 //! Canonical nodes and terms, with the names of an id put in. Names that the id lacks are filled in first, by fresh slots.
-ghost use Rattle.std.specs.Prelude.{◌≡◌, ◌<◌, IfOk, IfErr, IsErrOf, All};
+ghost use Rattle.std.specs.Prelude.{◌≡◌, ◌<◌, ◌*◌, IfOk, IfErr, IsErrOf, All};
 ghost use Rattle.slotted_theory.specs.Nameless.{nameless};
 ghost use Rattle.slotted_slots.specs.Error.{IsShortage};
 ghost use Rattle.slotted_slots.specs.Table.{KnowsMore};
@@ -7,14 +7,14 @@ ghost use Rattle.slotted_nodes.specs.Form.{IsSmall};
 ghost use Rattle.slotted_terms.specs.Valid.{AllKnown, IsValidTerm};
 ghost use Rattle.slotted_model.specs.Classes.{IsFull, term_of};
 ghost use Rattle.slotted_core.specs.Canonical.{IsNodeOf, IsBeside};
-ghost use Rattle.slotted_core.specs.Good.{Good, HasFreshSlots, IsIdOver};
+ghost use Rattle.slotted_core.specs.Good.{Good, HasFreshSlots, IsFullOver, IsIdOver, IsNodeOver};
 ghost use Rattle.slotted_core.specs.Graph.{MakesAtMost};
 ghost use Rattle.slotted_store.specs.Kept.{nodes_of};
 ghost use Rattle.slotted_core.specs.Nodes.{child_ids};
 ghost use Rattle.slotted_proofs.specs.Equations.{to_applied};
 ghost use Rattle.slotted_core.specs.Syn.{GivesNode, GivesTerm, KnowsSlotsAnd, LacksForFilledNode, LacksForFilledTerm};
 ghost use Rattle.slotted_core.specs.Syn.{LacksForFullNode, LacksForFullTerm, MakesForNode, MakesForTerm};
-ghost use Rattle.slotted_core.specs.Syn.{slots_for_node, slots_for_term};
+ghost use Rattle.slotted_core.specs.Syn.{FreshNodeRunsOut, HasUnknownBinders, node_binders, slots_for_node, slots_for_term};
 
 use slotted_adding::filling::fill_id;
 use slotted_languages::Language;
@@ -61,6 +61,29 @@ pub fn syn_expr_of<L: Language>(
 {
     let filled = fill_id(store, alloc, table, a)?;
     syn_expr(store, alloc, table, &filled)
+}
+
+/// The canonical node of an id that lacks no name, with a fresh slot for each binder.
+pub fn fresh_node<L: Language>(
+    store: &Store<L>,
+    alloc: Global,
+    table: &mut SlotTable,
+    a: &AppliedId,
+) -> Result<L, Error>
+    requires good { Good store.now }
+    requires fresh_slots { HasFreshSlots table.old store.now }
+    requires full { IsFullOver table.old store.now a.now }
+    ensures node { IfOk result (λ n. IsNodeOf (nodes_of store.now) (to_applied a.now) (L.form n)) }
+    ensures fresh { IfOk result (λ n. HasUnknownBinders table.old (L.form n)) }
+    ensures valid { IfOk result (λ n. IsNodeOver table.new store.now (L.form n)) }
+    ensures children { IfOk result (λ n. All (IsFull (nodes_of store.now)) (child_ids (L.form n))) }
+    ensures takes { MakesAtMost (2 * node_binders (nodes_of store.now) a.now.id.0) table.old table.new }
+    ensures more { KnowsMore table.old table.new }
+    ensures full { IsErrOf result Error.OutOfSlots → FreshNodeRunsOut (nodes_of store.now) a.now.id.0 table.old table.new }
+    ensures only { IfErr result IsShortage }
+{
+    let node = syn_node(store, alloc, table, a)?;
+    node.refresh_private(alloc, table)
 }
 
 // The node that a class was made with, with the id's names put in.

@@ -3,7 +3,6 @@ use Rattle.std.proofs.Common.{◌≡◌, ◌≤◌, ◌<◌, ◌+◌, ◌∙◌,
 use Rattle.std.specs.Prelude.{All, Bool, Contains, IsTrue, is_some, nat_eq, ◌&&◌}
 use Rattle.std.specs.List.{filter, range_with_len, sum_by}
 use Rattle.std.specs.List.Sorted.{IsPermutation}
-use Rattle.std.proofs.lemmas.Bool.{cases_lt}
 use Rattle.std.proofs.lemmas.List.{length-map}
 use Rattle.std.proofs.lemmas.List.Elements.{All-contains}
 use Rattle.std.proofs.lemmas.List.Sorted.{IsPermutation-refl, length_permutation, sum_by-IsPermutation}
@@ -34,7 +33,7 @@ use Rattle.slotted_adding.specs.Reports.{class_sources, is_source}
 use Rattle.slotted_adding.proofs.AppliedNodes.{filed-in_nodes, filed-key}
 use Rattle.slotted_reports.specs.Nodes.{HasLargeKey, HasLargeKeyOf, IsAppliedNode, IsClassNode, RunsOutForClasses, RunsOutForKeys, TakesForClasses, TakesForKeys, key_at, key_in, key_of, places_at, slots_of_class}
 use Rattle.slotted_reports.proofs.FiledShapes.{passes, shape_at, shapes_in, shapes-permuted, sources-permuted}
-use Rattle.slotted_reports.proofs.FreshNodes.{runs_out-after, runs_out-more, sum-range}
+use Rattle.slotted_reports.proofs.FreshNodes.{runs_out-more}
 use Rattle.slotted_reports.proofs.Sources.{dead-none, each-filed, each-finds}
 use Rattle.slotted_core.specs.Canonical.{place_count}
 use Rattle.slotted_core.specs.Causes.{class_found}

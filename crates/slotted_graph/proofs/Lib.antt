@@ -3,6 +3,7 @@ pub mod Measured
 pub mod Enodes
 pub mod MadeOfEntries
 pub mod LeastLater
+pub mod Extending
 -- What the crates above cite, handed on.
 pub use Rattle.slotted_core.proofs.CallerLemmas
 pub use Rattle.slotted_core.proofs.YesesStay

@@ -2,6 +2,8 @@
 pub mod Measure
 pub mod FiledNodes
 pub mod LeastTerms
+pub mod States
+pub mod Extension
 -- The words of the clauses of its calls, handed on to the crates above.
 pub use Rattle.slotted_core.specs.Graph
 pub use Rattle.slotted_core.specs.Image

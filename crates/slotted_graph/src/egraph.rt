@@ -1,5 +1,5 @@
 //! The graph that callers see: a failed one refuses every later call.
-ghost use Rattle.std.specs.Prelude.{◌≡◌, ◌<◌, ◌↔◌, ◌⊎◌, length, false, IsTrue, IsOk, IfOk, IfErr, OnOk};
+ghost use Rattle.std.specs.Prelude.{◌≡◌, ◌<◌, ◌↔◌, ◌⊎◌, length, true, false, IsTrue, IsOk, IfOk, IfErr, OnOk};
 ghost use Rattle.std.specs.Prelude.{IsErr, IsErrOf, IsOkUnless, IsSome, IfSome, None, Some, [], map, option_map};
 ghost use Rattle.slotted_slots.specs.Error.{IsShortage};
 ghost use Rattle.slotted_slots.specs.Table.{KnowsMore};
@@ -10,6 +10,7 @@ ghost use Rattle.slotted_model.specs.ProofList.{Proved};
 ghost use Rattle.slotted_proofs.specs.Entries.{explicit_numbers};
 ghost use Rattle.slotted_terms.specs.Valid.{IsValidTerm};
 ghost use Rattle.slotted_graph.specs.Measure.{NeverRises};
+ghost use Rattle.slotted_graph.specs.States.{IsGraph};
 ghost use Rattle.slotted_core.specs.Image.{no_classes, FoundAlike, SaysEqual, SaysDerivable, SaysTerms};
 ghost use Rattle.slotted_core.specs.Image.{AddsClasses, IsUnion, AreSymmetries, AreListedOnce, CountsOpen};
 ghost use Rattle.slotted_store.specs.Kept.{text_bytes, symmetry_entry};
@@ -24,6 +25,7 @@ ghost use Rattle.slotted_core.specs.SmallNodes.{IsSmallValidTerm};
 
 pub mod steps;
 
+use crate::method::SubstMethod;
 use slotted_core::adding::{is_full_id, is_valid, is_valid_node};
 use slotted_core::terms::is_valid_term;
 use slotted_core::uniting;
@@ -37,6 +39,7 @@ use std::alloc::Global;
 use std::marker::Model;
 
 mod adding;
+mod building;
 mod canonical;
 mod dump;
 mod explanations;
@@ -60,6 +63,7 @@ pub struct EGraph<L: Language, N = ()> {
     nodes: Hashcons<L>,
     table: SlotTable,
     analysis: N,
+    method: SubstMethod,
     alloc: Global,
 }
 
@@ -79,8 +83,24 @@ impl<L: Language, N> Model for EGraph<L, N> {
 }
 
 impl<L: Language, N: Drop> EGraph<L, N> {
-    /// The graph without classes, over a table of slots. It takes no memory.
+    /// The graph without classes, over a table of slots. Substitutions look into canonical terms. It takes no memory.
     pub fn new(alloc: Global, table: SlotTable, analysis: N) -> Result<Self, Error>
+        ensures answers { IsOk result }
+        ensures failed { IfOk result (λ g. g.failed ≡ false) }
+        ensures table { IfOk result (λ g. g.table ≡ table) }
+        ensures image { IfOk result (λ g. g.image ≡ no_classes) }
+        ensures filed { IfOk result (λ g. g.filed ≡ []) }
+    {
+        Self::with_subst_method(alloc, table, analysis, SubstMethod::SynExpr)
+    }
+
+    /// The graph without classes whose substitutions look into the terms that the method says. It takes no memory.
+    pub fn with_subst_method(
+        alloc: Global,
+        table: SlotTable,
+        analysis: N,
+        method: SubstMethod,
+    ) -> Result<Self, Error>
         ensures answers { IsOk result }
         ensures failed { IfOk result (λ g. g.failed ≡ false) }
         ensures table { IfOk result (λ g. g.table ≡ table) }
@@ -93,8 +113,21 @@ impl<L: Language, N: Drop> EGraph<L, N> {
             nodes: Hashcons::new(alloc),
             table,
             analysis,
+            method,
             alloc,
         })
+    }
+
+    /// The method that the graph was made with: which terms its substitutions look into. It takes no memory.
+    pub fn subst_method(&self) -> SubstMethod {
+        self.method
+    }
+
+    /// Marks the graph failed, as a structural write of a crate above does where it runs out of memory or slots. It takes no memory.
+    pub fn fail(&mut self)
+        ensures { self.new ≡ record self.old { failed = true } }
+    {
+        self.failed = true;
     }
 
     /// The graph's table of slots.
@@ -122,6 +155,9 @@ impl<L: Language, N: Drop> EGraph<L, N> {
 
         // And the node of each class is looked up, as an id that is found together with the class.
         ensures nodes { IsTrue self.now.failed ⊎ AreLookedUp self.now }
+
+        // And it has a state of the model that is at rest.
+        ensures rests { IsTrue self.now.failed ⊎ IsGraph self.now }
     {
         self.failed
     }

@@ -3,9 +3,11 @@
 #![tactic(auto)]
 
 pub mod egraph;
+pub mod method;
 
 pub use egraph::EGraph;
 pub use egraph::steps::Check;
+pub use method::SubstMethod;
 pub use slotted_extraction::LeastTerms;
 pub use slotted_reports::ProgressMeasure;
 pub use slotted_store::Symmetry;

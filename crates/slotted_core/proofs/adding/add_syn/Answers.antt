@@ -1,4 +1,4 @@
-use Rattle.std.proofs.Common.{◌≡◌, length, arith, rules}
+use Rattle.std.proofs.Common.{arith, rules}
 use Rattle.slotted_core.specs.Good.{MakesOne}
 use Rattle.slotted_proofs.specs.Equations.{to_applied}
 use Rattle.slotted_core.proofs.FiledClasses.{adds-made, one-made, unfiled, adds-filed, rebuild-runs_out, unknown-made}

@@ -1,6 +1,5 @@
 use Rattle.std.proofs.Common.{◌≡◌, ◌≤◌, ap, length, refl, sym, rules, arith, inl, inr}
 use Rattle.std.proofs.lemmas.Result.{IfOk-weaker}
-use Rattle.slotted_slots.specs.Maps.{keys}
 use Rattle.slotted_store.specs.Names.{between}
 use Rattle.slotted_store.proofs.NameMaps.{length-keys}
 use Rattle.slotted_proofs.specs.Equations.{to_applied}

@@ -1,5 +1,5 @@
-use Rattle.std.proofs.Common.{◌≡◌, ◌<◌, ◌+◌, ◌∙◌, ℕ, List, length, sym, subst, arith, rules}
-use Rattle.slotted_theory.specs.Term.{Term, term_size}
+use Rattle.std.proofs.Common.{◌≡◌, ◌<◌, ◌+◌, ◌∙◌, List, length, sym, subst, arith, rules}
+use Rattle.slotted_theory.specs.Term.{Term}
 use Rattle.slotted_nodes.specs.Form.{Form}
 use Rattle.slotted_languages.specs.Filled.{term_of}
 use Rattle.slotted_terms.specs.Valid.{IsValidTerm}
@@ -7,7 +7,7 @@ use Rattle.slotted_proofs.specs.Equations.{to_applied}
 use Rattle.slotted_store.proofs.KeptLists.{any_default}
 use Rattle.slotted_core.proofs.AddedTerms.{child-places, child-smaller, valid-child, valid-count}
 use Rattle.slotted_core.proofs.CallerLemmas.{term_later}
-use Rattle.slotted_core.proofs.LookedUpTerms.{IsFoundPart, all-taken, child-lacks, child-takes, found-end, found-start, found-step, node-children, node-known, node-lacks, node-takes, none-taken, so-far}
+use Rattle.slotted_core.proofs.LookedUpTerms.{IsFoundPart, child-lacks, child-takes, found-end, found-start, found-step, node-children, node-known, node-lacks, node-takes, none-taken, so-far}
 use Rattle.slotted_core.proofs.looking_up.+add_expr.Goals as goal
 
 pub add_expr-requires : goal.add_expr-requires

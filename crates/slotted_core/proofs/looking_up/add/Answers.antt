@@ -1,12 +1,9 @@
-use Rattle.std.proofs.Common.{◌≡◌, ◌∙◌, ap, inl, inr, rules, sym}
+use Rattle.std.proofs.Common.{◌∙◌, ap, inl, inr, rules, sym}
 use Rattle.std.specs.Prelude.{option_map}
 use Rattle.slotted_languages.specs.NodeTerm.{nameless_node}
-use Rattle.slotted_model.specs.Applied.{EachChild}
-use Rattle.slotted_model.specs.State.{look_up_node}
 use Rattle.slotted_model.proofs.Children.{EachChild-map}
 use Rattle.slotted_model.proofs.Options.{None-Some}
 use Rattle.slotted_store.specs.Finding.{IsFindable}
-use Rattle.slotted_rebuilding.specs.Filed.{state_in}
 use Rattle.slotted_proofs.specs.Equations.{to_applied}
 use Rattle.slotted_core.proofs.AddedByLookUp.{found, found-known, found-made}
 use Rattle.slotted_core.proofs.FilledNodes.{none-taken, runs_out-large}

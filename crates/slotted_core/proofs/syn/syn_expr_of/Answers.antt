@@ -1,6 +1,5 @@
 -- The id is filled, and what it is then is given out over the table that made its names.
-use Rattle.std.proofs.Common.{◌≡◌, ◌+◌, ap, subst, arith, inl, inr, rules}
-use Rattle.slotted_theory.specs.Term.{Term}
+use Rattle.std.proofs.Common.{◌≡◌, ap, subst, arith, inl, inr, rules}
 use Rattle.slotted_theory.specs.Nameless.{nameless}
 use Rattle.slotted_languages.proofs.TakenNames.{both_ok}
 use Rattle.slotted_terms.specs.Valid.{IsValidTerm}

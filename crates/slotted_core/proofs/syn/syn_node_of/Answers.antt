@@ -1,5 +1,5 @@
 -- The id is filled, and what it is then is given out over the table that made its names.
-use Rattle.std.proofs.Common.{◌≡◌, ◌+◌, ap, subst, arith, inl, inr, rules}
+use Rattle.std.proofs.Common.{◌≡◌, ap, subst, arith, inl, inr, rules}
 use Rattle.std.specs.Prelude.{All}
 use Rattle.slotted_nodes.specs.Form.{IsSmall}
 use Rattle.slotted_languages.proofs.TakenNames.{both_ok}

@@ -1,0 +1,73 @@
+-- The id is filled over the table that makes its names.
+use Rattle.std.proofs.Common.{◌≡◌, ◌∙◌, ap, subst, sym, inl, inr}
+use Rattle.std.proofs.lemmas.Bool.{false≢true}
+use Rattle.std.proofs.lemmas.Result.{IfOk-weaker}
+use Rattle.slotted_slots.specs.Table.{Table}
+use Rattle.slotted_languages.proofs.TakenNames.{both_ok}
+use Rattle.slotted_terms.specs.Valid.{AllKnown}
+use Rattle.slotted_model.specs.Applied.{values}
+use Rattle.slotted_proofs.specs.Equations.{to_applied}
+use Rattle.slotted_adding.specs.Filling.{FillsId, filled_id, missing, with_fresh}
+use Rattle.slotted_core.specs.Good.{image_of}
+use Rattle.slotted_core.specs.Graph.{Graph, IsFullId}
+use Rattle.slotted_core.specs.Syn.{FillsFresh}
+use Rattle.slotted_core.proofs.FilledNames.{filled-full, fills-fresh}
+use Rattle.slotted_core.proofs.FreshSlots.{fresh_slots-more}
+use Rattle.slotted_core.proofs.GivenNodes.{ok-three}
+use Rattle.slotted_core.proofs.ValidIds.{of-valid}
+use Rattle.slotted_graph.proofs.egraph.EGraph.full_id.Goals as goal
+
+pub fill_id-requires-clause-findable : goal.fill_id-requires-clause-findable
+fill_id-requires-clause-findable g c =
+    let graph = c.args.self.now in
+    let core = c.self.inside.store in
+    let a = to_applied c.args.a.now in
+    let image : image_of core ≡ graph.image = ap (λ (x : Graph). x.image) c.self.view_is in
+    elim c.self.invariant [
+      | inl e ↦ absurd (false≢true (sym c.if-self.false ∙ e))
+      | inr inv ↦
+          elim c.requires [
+            | inl e ↦ absurd (false≢true (sym c.if-self.false ∙ (ap (λ (x : Graph). x.failed) c.self.view_is ∙ e)))
+            | inr v ↦ of-valid core inv.0 graph image a v
+          ]
+    ]
+
+pub invariant_of-self : goal.invariant_of-self
+invariant_of-self g c = elim c.self.invariant [
+  | inl h ↦ inl h
+  | inr h ↦ inr (h.0, fresh_slots-more c.self.inside.table c.fill_id.new.table c.self.inside.store c.fill_id.ensures.more h.1, h.2)
+]
+
+pub returns-clause-id : goal.returns-clause-id
+returns-clause-id g c =
+    let graph = c.args.self.now in
+    let core = c.self.inside.store in
+    let t = c.self.inside.table in
+    let a = to_applied c.args.a.now in
+    let table : t ≡ graph.table = ap (λ (x : Graph). x.table) c.self.view_is in
+    elim c.requires [
+      | inl e ↦ absurd (false≢true (sym c.if-self.false ∙ (ap (λ (x : Graph). x.failed) c.self.view_is ∙ e)))
+      | inr v ↦
+          let known : AllKnown t (values a.1) = subst (λ (x : Table). AllKnown x (values a.1)) (sym table) v.known in
+          both_ok c.fill_id.result (λ b. FillsId core t a (to_applied b)) (λ b. AllKnown t (values a.1) → AllKnown c.fill_id.new.table (values (to_applied b).1)) (λ b. IsFullId _ (to_applied b))
+          (λ b fills k. record { full = filled-full core t a (to_applied b) known fills; known = k known }) c.fill_id.ensures.fills c.fill_id.ensures.known
+    ]
+
+pub returns-clause-fills : goal.returns-clause-fills
+returns-clause-fills g c =
+    let graph = c.args.self.now in
+    let core = c.self.inside.store in
+    let t = c.self.inside.table in
+    let u = c.fill_id.new.table in
+    let a = to_applied c.args.a.now in
+    let table : t ≡ graph.table = ap (λ (x : Graph). x.table) c.self.view_is in
+    elim c.requires [
+      | inl e ↦ absurd (false≢true (sym c.if-self.false ∙ (ap (λ (x : Graph). x.failed) c.self.view_is ∙ e)))
+      | inr v ↦
+          let known : AllKnown t (values a.1) = subst (λ (x : Table). AllKnown x (values a.1)) (sym table) v.known in
+          IfOk-weaker c.fill_id.result (λ b. FillsFresh (image_of core) t u a (to_applied b)) _
+          (λ b fresh. subst (λ (y : Graph). FillsFresh y.image y.table u a (to_applied b)) c.self.view_is fresh)
+          (ok-three c.fill_id.result (λ b. FillsId core t a (to_applied b)) (λ b. to_applied b ≡ filled_id core t.fresh a) (λ b. u ≡ with_fresh (missing core a) t)
+          (λ b. FillsFresh (image_of core) t u a (to_applied b)) (λ b fills is made. fills-fresh core t a (to_applied b) known fills u u is made (λ s k. k))
+          c.fill_id.ensures.fills c.fill_id.ensures.id c.fill_id.ensures.made)
+    ]
