@@ -1,0 +1,3 @@
+-- The words of the clauses of rules.
+pub mod Values
+pub mod Asking

@@ -1,0 +1,173 @@
+//! Conditions of rules: each answers yes or no for a substitution in a graph.
+ghost use Rattle.std.specs.Prelude.{◌≡◌, false, not, string_bytes, IfOk, IfErr};
+ghost use Rattle.slotted_slots.specs.Maps.{values};
+ghost use Rattle.slotted_model.specs.Correspondence.{has_slot};
+ghost use Rattle.slotted_rules.specs.Asking.{is_slot_free, LacksValue};
+ghost use Rattle.slotted_rule_patterns.specs.Values.{values_of};
+ghost use Rattle.slotted_rules.specs.Values.{AreValidValues};
+
+use slotted_graph::EGraph;
+use slotted_languages::Language;
+use slotted_rule_patterns::Subst;
+use slotted_rule_patterns::subst::value;
+use slotted_slots::{Error, Slot, SlotMap};
+use std::alloc::Global;
+
+/// A condition of a rule. It is asked just before the substitution is applied, in the graph as it is then.
+///
+/// Its answer is a function of the condition, the substitution and the graph alone.
+pub trait Cond<L: Language, N: Drop>: Drop {
+    ghost use Rattle.std.specs.Prelude.{Bool};
+    ghost use Rattle.slotted_model_rules.specs.Conditions.{Values};
+    ghost use Rattle.slotted_core.specs.Graph.{Graph};
+    ghost use Rattle.slotted_slots.specs.declared.error.Error.{Error};
+    ghost use Rattle.slotted_slots.specs.declared.error.Error.TheVariants.{Failed};
+
+    ghost yes: { Self → Values → Graph → Bool };
+
+    // which refusals it may answer
+    ghost refuses: { Self → Values → Graph → Error → Type 0 };
+
+    /// Whether the condition holds. The graph has not failed, and the values are valid ids of it.
+    fn holds(&self, alloc: Global, s: &Subst, graph: &EGraph<L, N>) -> Result<bool, Error>
+        requires well { graph.now.failed ≡ false }
+        requires valid { AreValidValues graph.now (values_of s.now) }
+        ensures ok { IfOk result (λ y. y ≡ yes self.now (values_of s.now) graph.now) }
+        ensures err { IfErr result (refuses self.now (values_of s.now) graph.now) };
+
+    ghost never_failed: { (c : Self) (s : Values) (g : Graph) → ¬ refuses c s g Failed };
+}
+
+/// Holds for each substitution.
+#[derive(Drop, Debug)]
+pub struct Always;
+
+impl<L: Language, N: Drop> Cond<L, N> for Always {
+    ghost use Rattle.std.specs.Prelude.{true};
+
+    ghost yes = { λ c s g. true };
+
+    ghost refuses = { λ c s g e. ⊥ };
+
+    ghost never_failed = { λ c s g r. r };
+
+    fn holds(&self, alloc: Global, s: &Subst, graph: &EGraph<L, N>) -> Result<bool, Error> {
+        Ok(true)
+    }
+}
+
+/// Holds if a slot does not occur in the value of a variable, as the value was handed in. A variable without a value is refused.
+#[derive(Drop, Debug)]
+pub struct SlotFreeIn {
+    pub slot: Slot,
+    pub variable: String,
+}
+
+impl<L: Language, N: Drop> Cond<L, N> for SlotFreeIn {
+    ghost use Rattle.slotted_rules.specs.Asking.{lacks-never_failed};
+
+    ghost yes = { λ c s g. is_slot_free c.slot (string_bytes c.variable) s };
+
+    ghost refuses = { λ c s g e. LacksValue (string_bytes c.variable) s e };
+
+    ghost never_failed = { λ c s g r. lacks-never_failed (string_bytes c.variable) s r };
+
+    fn holds(&self, alloc: Global, s: &Subst, graph: &EGraph<L, N>) -> Result<bool, Error> {
+        slot_is_free(alloc, s, &self.variable, self.slot)
+    }
+}
+
+// Whether no name of the map is this slot.
+fn names_lack(names: &SlotMap, slot: Slot) -> bool
+    ensures { result ≡ not (has_slot (values names.now) slot) }
+{
+    for i in 0..names.len() {
+        if names.value_at(i) == slot {
+            return false;
+        }
+    }
+    true
+}
+
+// Whether the slot stands in the value of a variable, or the refusal of a variable without one.
+fn slot_is_free(alloc: Global, s: &Subst, variable: &String, slot: Slot) -> Result<bool, Error>
+    ensures ok { IfOk result (λ y. y ≡ is_slot_free slot (string_bytes variable.now) (values_of s.now)) }
+    ensures err { IfErr result (LacksValue (string_bytes variable.now) (values_of s.now)) }
+{
+    match value(s, variable.as_str()) {
+        Some(a) => Ok(names_lack(&a.m, slot)),
+        None => {
+            let name = String::from_str(alloc, variable.as_str())?;
+            Err(Error::MissingVariable(name))
+        }
+    }
+}
+
+/// Holds if the first condition holds, and else if the second one does, which is asked only then.
+#[derive(Drop, Debug)]
+pub struct Or<X, Y> {
+    pub first: X,
+    pub second: Y,
+}
+
+impl<L: Language, N: Drop, X: Cond<L, N>, Y: Cond<L, N>> Cond<L, N> for Or<X, Y> {
+    ghost use Rattle.std.specs.Prelude.{◌||◌, ◌⊎◌};
+    ghost use Rattle.slotted_rules.specs.Asking.{either-never_failed};
+
+    ghost yes = { λ c s g. X.yes c.first s g || Y.yes c.second s g };
+
+    ghost refuses = { λ c s g e. X.refuses c.first s g e ⊎ ((X.yes c.first s g ≡ false) × Y.refuses c.second s g e) };
+
+    ghost never_failed = { λ c s g r. either-never_failed (X.never_failed c.first s g) (Y.never_failed c.second s g) r };
+
+    fn holds(&self, alloc: Global, s: &Subst, graph: &EGraph<L, N>) -> Result<bool, Error> {
+        if self.first.holds(alloc, s, graph)? {
+            return Ok(true);
+        }
+        self.second.holds(alloc, s, graph)
+    }
+}
+
+/// Holds if both conditions do. The second is asked only if the first holds.
+#[derive(Drop, Debug)]
+pub struct And<X, Y> {
+    pub first: X,
+    pub second: Y,
+}
+
+impl<L: Language, N: Drop, X: Cond<L, N>, Y: Cond<L, N>> Cond<L, N> for And<X, Y> {
+    ghost use Rattle.std.specs.Prelude.{true, ◌&&◌, ◌⊎◌};
+    ghost use Rattle.slotted_rules.specs.Asking.{either-never_failed};
+
+    ghost yes = { λ c s g. X.yes c.first s g && Y.yes c.second s g };
+
+    ghost refuses = { λ c s g e. X.refuses c.first s g e ⊎ ((X.yes c.first s g ≡ true) × Y.refuses c.second s g e) };
+
+    ghost never_failed = { λ c s g r. either-never_failed (X.never_failed c.first s g) (Y.never_failed c.second s g) r };
+
+    fn holds(&self, alloc: Global, s: &Subst, graph: &EGraph<L, N>) -> Result<bool, Error> {
+        if !self.first.holds(alloc, s, graph)? {
+            return Ok(false);
+        }
+        self.second.holds(alloc, s, graph)
+    }
+}
+
+/// Holds if the condition does not.
+#[derive(Drop, Debug)]
+pub struct Not<X> {
+    pub condition: X,
+}
+
+impl<L: Language, N: Drop, X: Cond<L, N>> Cond<L, N> for Not<X> {
+    ghost yes = { λ c s g. not (X.yes c.condition s g) };
+
+    ghost refuses = { λ c s g e. X.refuses c.condition s g e };
+
+    ghost never_failed = { λ c s g r. X.never_failed c.condition s g r };
+
+    fn holds(&self, alloc: Global, s: &Subst, graph: &EGraph<L, N>) -> Result<bool, Error> {
+        let held = self.condition.holds(alloc, s, graph)?;
+        Ok(!held)
+    }
+}

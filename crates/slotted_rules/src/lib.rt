@@ -1,0 +1,8 @@
+//! Rules: what is matched, under which condition, and what becomes equal to it.
+#![tactic(auto)]
+
+pub mod asking;
+pub mod condition;
+
+pub use asking::{and, not, or, slot_free_in};
+pub use condition::{Always, And, Cond, Not, Or, SlotFreeIn};
