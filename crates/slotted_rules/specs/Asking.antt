@@ -1,7 +1,9 @@
 -- What conditions answer.
+--     Outcome                  yes or no, or the variable without a value at which the condition is refused
+--     slot_outcome slot v a    whether the slot is no name of the id a, the value of v
 --     is_slot_free slot v s    the slot is no name of the value of v
 --     LacksValue v s e         v has no value, and e says so, or memory was lacking for that
-use Rattle.std.specs.Prelude.{◌≡◌, ◌⊎◌, ℕ, List, Bool, false, not, Option, Some, None, string_bytes}
+use Rattle.std.specs.Prelude.{◌≡◌, ◌⊎◌, ℕ, List, Bool, false, not, Option, Some, None, Result, Ok, Err, string_bytes}
 use Rattle.std.proofs.Common.{inl, inr}
 use Rattle.slotted_slots.specs.declared.error.Error.{Error}
 use Rattle.slotted_slots.specs.declared.error.Error.TheVariants.{OutOfMemory, MissingVariable, Failed}
@@ -10,12 +12,20 @@ use Rattle.slotted_model.specs.Correspondence.{has_slot}
 use Rattle.slotted_model_rules.specs.Conditions.{Values}
 use Rattle.slotted_model_rules.specs.Matcher.{value_at}
 
-abbrev pub lacks_slot : ℕ → Option Applied → Bool
-lacks_slot slot None = false
-lacks_slot slot (Some a) = not (has_slot (values a.1) slot)
+-- yes or no, or a variable without a value
+abbrev pub Outcome : Type 0
+Outcome = Result Bool (List ℕ)
+
+abbrev pub answer_of : Outcome → Bool
+answer_of (Ok b) = b
+answer_of (Err v) = false
+
+abbrev pub slot_outcome : ℕ → List ℕ → Option Applied → Outcome
+slot_outcome slot v None = Err v
+slot_outcome slot v (Some a) = Ok (not (has_slot (values a.1) slot))
 
 abbrev pub is_slot_free : ℕ → List ℕ → Values → Bool
-is_slot_free slot v s = lacks_slot slot (value_at s v)
+is_slot_free slot v s = answer_of (slot_outcome slot v (value_at s v))
 
 -- the refusal names the variable; memory may lack for that
 abbrev pub IsMissing : List ℕ → Error → Type 0

@@ -1,3 +1,4 @@
 -- The words of the clauses of rules.
 pub mod Values
 pub mod Asking
+pub mod TreeAnswers

@@ -1,8 +1,9 @@
 //! Conditions of rules: each answers yes or no for a substitution in a graph.
-ghost use Rattle.std.specs.Prelude.{◌≡◌, false, not, string_bytes, IfOk, IfErr};
+ghost use Rattle.std.specs.Prelude.{◌≡◌, false, not, string_bytes, Ok, IfOk, IfErr};
 ghost use Rattle.slotted_slots.specs.Maps.{values};
 ghost use Rattle.slotted_model.specs.Correspondence.{has_slot};
-ghost use Rattle.slotted_rules.specs.Asking.{is_slot_free, LacksValue};
+ghost use Rattle.slotted_model_rules.specs.Matcher.{value_at};
+ghost use Rattle.slotted_rules.specs.Asking.{is_slot_free, slot_outcome, LacksValue};
 ghost use Rattle.slotted_rule_patterns.specs.Values.{values_of};
 ghost use Rattle.slotted_rules.specs.Values.{AreValidValues};
 
@@ -63,6 +64,23 @@ pub struct SlotFreeIn {
     pub variable: String,
 }
 
+impl SlotFreeIn {
+    // The answer, for which no graph is asked.
+    pub(crate) fn answer(&self, alloc: Global, s: &Subst) -> Result<bool, Error>
+        ensures ok { IfOk result
+            (λ y. slot_outcome self.now.slot (string_bytes self.now.variable) (value_at (values_of s.now) (string_bytes self.now.variable)) ≡ Ok y) }
+        ensures err { IfErr result (LacksValue (string_bytes self.now.variable) (values_of s.now)) }
+    {
+        match value(s, self.variable.as_str()) {
+            Some(a) => Ok(names_lack(&a.m, self.slot)),
+            None => {
+                let name = String::from_str(alloc, self.variable.as_str())?;
+                Err(Error::MissingVariable(name))
+            }
+        }
+    }
+}
+
 impl<L: Language, N: Drop> Cond<L, N> for SlotFreeIn {
     ghost use Rattle.slotted_rules.specs.Asking.{lacks-never_failed};
 
@@ -73,7 +91,7 @@ impl<L: Language, N: Drop> Cond<L, N> for SlotFreeIn {
     ghost never_failed = { λ c s g r. lacks-never_failed (string_bytes c.variable) s r };
 
     fn holds(&self, alloc: Global, s: &Subst, graph: &EGraph<L, N>) -> Result<bool, Error> {
-        slot_is_free(alloc, s, &self.variable, self.slot)
+        self.answer(alloc, s)
     }
 }
 
@@ -87,20 +105,6 @@ fn names_lack(names: &SlotMap, slot: Slot) -> bool
         }
     }
     true
-}
-
-// Whether the slot stands in the value of a variable, or the refusal of a variable without one.
-fn slot_is_free(alloc: Global, s: &Subst, variable: &String, slot: Slot) -> Result<bool, Error>
-    ensures ok { IfOk result (λ y. y ≡ is_slot_free slot (string_bytes variable.now) (values_of s.now)) }
-    ensures err { IfErr result (LacksValue (string_bytes variable.now) (values_of s.now)) }
-{
-    match value(s, variable.as_str()) {
-        Some(a) => Ok(names_lack(&a.m, slot)),
-        None => {
-            let name = String::from_str(alloc, variable.as_str())?;
-            Err(Error::MissingVariable(name))
-        }
-    }
 }
 
 /// Holds if the first condition holds, and else if the second one does, which is asked only then.

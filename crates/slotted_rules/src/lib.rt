@@ -3,6 +3,8 @@
 
 pub mod asking;
 pub mod condition;
+pub mod condition_tree;
 
 pub use asking::{and, not, or, slot_free_in};
 pub use condition::{Always, And, Cond, Not, Or, SlotFreeIn};
+pub use condition_tree::CondTree;

@@ -1,0 +1,64 @@
+//! The five kinds of conditions as one type, for slices of rules whose conditions differ.
+ghost use Rattle.std.specs.Prelude.{◌≡◌, Ok, IfOk, IfErr};
+ghost use Rattle.slotted_rule_patterns.specs.Values.{values_of};
+ghost use Rattle.slotted_rules.specs.TreeAnswers.{outcome, tree_yes, TreeRefuses};
+
+use crate::condition::{Cond, SlotFreeIn};
+use slotted_graph::EGraph;
+use slotted_languages::Language;
+use slotted_rule_patterns::Subst;
+use slotted_slots::Error;
+use std::alloc::Global;
+
+/// A condition of one of the five kinds, over conditions of this type.
+#[derive(Drop, Debug)]
+pub enum CondTree {
+    Always,
+    SlotFreeIn(SlotFreeIn),
+    Or(Box<CondTree>, Box<CondTree>),
+    And(Box<CondTree>, Box<CondTree>),
+    Not(Box<CondTree>),
+}
+
+impl CondTree {
+    // The answer, for which no graph is asked.
+    fn answer(&self, alloc: Global, s: &Subst) -> Result<bool, Error>
+        ensures ok { IfOk result (λ y. outcome self.now (values_of s.now) ≡ Ok y) }
+        ensures err { IfErr result (TreeRefuses self.now (values_of s.now)) }
+    {
+        match self {
+            CondTree::Always => Ok(true),
+            CondTree::SlotFreeIn(condition) => condition.answer(alloc, s),
+            CondTree::Or(first, second) => {
+                if first.answer(alloc, s)? {
+                    return Ok(true);
+                }
+                second.answer(alloc, s)
+            }
+            CondTree::And(first, second) => {
+                if !first.answer(alloc, s)? {
+                    return Ok(false);
+                }
+                second.answer(alloc, s)
+            }
+            CondTree::Not(condition) => {
+                let held = condition.answer(alloc, s)?;
+                Ok(!held)
+            }
+        }
+    }
+}
+
+impl<L: Language, N: Drop> Cond<L, N> for CondTree {
+    ghost use Rattle.slotted_rules.specs.TreeAnswers.{tree-never_failed};
+
+    ghost yes = { λ c s g. tree_yes c s };
+
+    ghost refuses = { λ c s g e. TreeRefuses c s e };
+
+    ghost never_failed = { λ c s g r. tree-never_failed c s r };
+
+    fn holds(&self, alloc: Global, s: &Subst, graph: &EGraph<L, N>) -> Result<bool, Error> {
+        self.answer(alloc, s)
+    }
+}
