@@ -1,0 +1,7 @@
+//! Matching patterns against the classes of a graph: an index of its filed nodes as rows of numbers, patterns as programs of the machine, and answers
+//! with slots for numbers.
+#![tactic(auto)]
+
+pub mod skeletons;
+
+pub use skeletons::Skeletons;
