@@ -2,3 +2,5 @@
 pub mod Values
 pub mod Asking
 pub mod TreeAnswers
+pub mod Applying
+pub mod Loops

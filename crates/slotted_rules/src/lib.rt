@@ -1,10 +1,13 @@
 //! Rules: what is matched, under which condition, and what becomes equal to it.
 #![tactic(auto)]
 
+pub mod applying;
 pub mod asking;
 pub mod condition;
 pub mod condition_tree;
+pub mod rule;
 
 pub use asking::{and, not, or, slot_free_in};
 pub use condition::{Always, And, Cond, Not, Or, SlotFreeIn};
 pub use condition_tree::CondTree;
+pub use rule::RewriteT;

@@ -1,0 +1,2 @@
+-- Lemmas of rules.
+pub mod AppliedRules

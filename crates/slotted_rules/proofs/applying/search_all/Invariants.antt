@@ -1,0 +1,10 @@
+-- the rules so far were searched, one after another
+use Rattle.std.proofs.Common.{◌≡◌, false, take}
+use Rattle.slotted_model_rules.specs.Runners.{SearchesAll}
+use Rattle.slotted_graph.specs.Extension.{ExtendsTo}
+use Rattle.slotted_rules.specs.Applying.{CanApplyAll}
+use Rattle.slotted_rules.specs.Loops.{HasSearched}
+use Rattle.slotted_rules.proofs.applying.search_all.Given as goal
+
+abbrev pub invariant-loop-rule : goal.invariant-loop-rule
+invariant-loop-rule g l = HasSearched g.R.RewriteT.searches g.R.RewriteT.can_apply (take l.rule-index l.rules) l.fn.graph l.found.items l.graph

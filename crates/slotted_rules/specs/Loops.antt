@@ -1,0 +1,20 @@
+-- What loops over rules keep.
+--     HasSearched    some rules were searched, one after another, and what they found can be applied
+--     HasApplied     some rules were applied, one after another
+use Rattle.std.specs.Prelude.{◌≡◌, List, false}
+use Rattle.slotted_model_rules.specs.Runners.{AppliesAll, SearchesAll}
+use Rattle.slotted_core.specs.Graph.{Graph}
+use Rattle.slotted_graph.specs.Extension.{ExtendsTo}
+use Rattle.slotted_rules.specs.Applying.{CanApplyAll}
+
+pub record HasSearched {R F : Type 0} (searches : R → Graph → F → Graph → Type 0) (can : R → F → Graph → Type 0) (rules : List R) (g : Graph) (found : List F) (h : Graph) : Type 0 where
+  pub well : h.failed ≡ false
+  pub extends : ExtendsTo g h
+  pub searched : SearchesAll searches rules g found h
+  pub can_apply : CanApplyAll can rules found h
+
+pub record HasApplied {R F : Type 0} (applies : R → F → Graph → Graph → Type 0) (can : R → F → Graph → Type 0) (done : List R) (founds : List F) (left : List R) (more : List F) (g h : Graph) : Type 0 where
+  pub well : h.failed ≡ false
+  pub extends : ExtendsTo g h
+  pub applied : AppliesAll applies done founds g h
+  pub can_apply : CanApplyAll can left more h

@@ -1,0 +1,69 @@
+//! What a rule is to those that apply it.
+ghost use Rattle.std.specs.Prelude.{◌≡◌, ◌↔◌, ◌⊎◌, false, IsTrue, IsErrAnd, IsErrOf, IfOk, IfErr, OnOk};
+ghost use Rattle.slotted_slots.specs.Error.{IsShortage};
+ghost use Rattle.slotted_graph.specs.Extension.{ExtendsTo};
+
+use slotted_graph::EGraph;
+use slotted_languages::Language;
+use slotted_slots::Error;
+use std::alloc::Global;
+
+/// A rule: what it looks for in a graph, and what it does with what it found.
+///
+/// A rule type states what its search may find, what its apply may leave, and which refusals both may answer. A search and an apply only extend the
+/// graph, and if the graph fails in one of them, memory or slots were lacking.
+pub trait RewriteT<L: Language, N: Drop>: Drop {
+    ghost use Rattle.slotted_core.specs.Graph.{Graph};
+    ghost use Rattle.slotted_slots.specs.declared.error.Error.{Error};
+    ghost use Rattle.slotted_slots.specs.declared.error.Error.TheVariants.{Failed};
+
+    /// What a search found.
+    type Found: Drop;
+
+    // the rule can be handed to calls on this graph
+    ghost valid: { Self → Graph → Type 0 };
+
+    // what a search finds, from one graph to the other
+    ghost searches: { Self → Graph → Self.Found → Graph → Type 0 };
+
+    // what was found, in this graph or an older one, can be applied
+    ghost can_apply: { Self → Self.Found → Graph → Type 0 };
+
+    // what an apply leaves, from one graph to the other
+    ghost applies: { Self → Self.Found → Graph → Graph → Type 0 };
+
+    ghost refuses: { Self → Error → Type 0 };
+
+    /// Whether the rule can be handed to calls on this graph, for which its slots have to be known. It takes no memory.
+    fn is_valid(&self, graph: &EGraph<L, N>) -> bool
+        ensures { IsTrue result → (graph.now.failed ≡ false) × valid self.now graph.now };
+
+    /// What the rule finds in the graph.
+    fn search(&self, alloc: Global, graph: &mut EGraph<L, N>) -> Result<Self::Found, Error>
+        requires { IsTrue graph.old.failed ⊎ valid self.now graph.old }
+        ensures ok { IfOk result (λ f. searches self.now graph.old f graph.new) }
+        ensures extends { IsTrue graph.new.failed ⊎ ExtendsTo graph.old graph.new }
+        ensures stays { IsTrue graph.old.failed → graph.new ≡ graph.old }
+        ensures failed { IsErrOf result Error.Failed ↔ IsTrue graph.old.failed }
+        ensures fails { IsTrue graph.new.failed → IsErrAnd result (λ e. (e ≡ Error.Failed) ⊎ IsShortage e) }
+        ensures err { IfErr result (λ e. (e ≡ Error.Failed) ⊎ IsShortage e ⊎ refuses self.now e) };
+
+    /// Does with what was found what the rule is for.
+    fn apply(&self, alloc: Global, found: Self::Found, graph: &mut EGraph<L, N>) -> Result<(), Error>
+        requires valid { IsTrue graph.old.failed ⊎ valid self.now graph.old }
+        requires found { IsTrue graph.old.failed ⊎ can_apply self.now found graph.old }
+        ensures ok { OnOk result (applies self.now found graph.old graph.new) }
+        ensures extends { IsTrue graph.new.failed ⊎ ExtendsTo graph.old graph.new }
+        ensures stays { IsTrue graph.old.failed → graph.new ≡ graph.old }
+        ensures failed { IsErrOf result Error.Failed ↔ IsTrue graph.old.failed }
+        ensures fails { IsTrue graph.new.failed ↔ IsErrAnd result (λ e. (e ≡ Error.Failed) ⊎ IsShortage e) }
+        ensures err { IfErr result (λ e. (e ≡ Error.Failed) ⊎ IsShortage e ⊎ refuses self.now e) };
+
+    ghost valid_stays: { (r : Self) (g h : Graph) → ExtendsTo g h → valid r g → valid r h };
+
+    ghost searched_fits: { (r : Self) (g h : Graph) (f : Self.Found) → searches r g f h → can_apply r f h };
+
+    ghost can_apply_stays: { (r : Self) (f : Self.Found) (g h : Graph) → ExtendsTo g h → can_apply r f g → can_apply r f h };
+
+    ghost never_failed: { (r : Self) → ¬ refuses r Failed };
+}
