@@ -4,3 +4,4 @@ pub mod Pairs
 pub mod Growing
 pub mod Indexing
 pub mod NewNames
+pub mod States

@@ -1,7 +1,9 @@
 -- The names of a row's numbers, one after another.
 use Rattle.std.proofs.Common.{◌≡◌, ◌+◌, ◌-◌, ◌<◌, ◌≤◌, ◌++◌, ℕ, zero, suc, List, [], ◌∷◌, take, length, get_or, sym, ◌∙◌, ap, subst, refl, arith}
 use Rattle.std.specs.Prelude.{slice_index}
-use Rattle.std.proofs.lemmas.List.{take_more, append_assoc, length-append}
+use Rattle.std.specs.List.{range_with_len}
+use Rattle.std.proofs.lemmas.List.{take_more, append_assoc, length-append, map-id}
+use Rattle.std.proofs.lemmas.List.FromFn.{map-range_with_len_more}
 use Rattle.slotted_match_machine.specs.Machine.{names_for, new_names}
 
 pub length-names_for : (names slots : List ℕ) (n : ℕ) → length (names_for names slots n) ≡ length slots
@@ -64,3 +66,9 @@ named-known old names slots n i frames new count p h z q a e =
 pub names-fit : (old names slots : List ℕ) (n i : ℕ) (frames : List ℕ) (count : ℕ) → n ≤ length old → AreNamed old names slots n i frames count → count ≤ length frames
 names-fit old names slots n i frames count h a =
     omega (arith, a.counted, ap length a.given, length-append old (names_for names (take i slots) n), length-names_for names (take i slots) n, new_names-le (take i slots))
+
+-- one name more for a slot
+pub range-push : (n : ℕ) → range_with_len 0 (n + 1) ≡ range_with_len 0 n ++ n ∷ []
+range-push n =
+    sym (map-id (range_with_len 0 (n + 1)))
+    ∙ (map-range_with_len_more (λ x. x) 0 n n (omega arith) ∙ ap (λ (xs : List ℕ). xs ++ n ∷ []) (map-id (range_with_len 0 n)))

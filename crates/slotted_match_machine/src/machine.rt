@@ -7,7 +7,7 @@ ghost use Rattle.slotted_match_machine.specs.Answers.{answer_of, answered};
 
 use crate::answer::Answer;
 use crate::index::{IndexRow, RowIndex};
-use crate::names::{Names, name_numbers};
+use crate::names::{Names, name_numbers, name_slots};
 use crate::pairing::pair_all;
 use crate::program::Source;
 use crate::view::{Register, View, occurrences};
@@ -61,10 +61,7 @@ impl<'a> Machine<'a> {
         self.registers.clear();
         self.pairs.clear();
         self.values.clear();
-        self.frames.clear();
-        for name in 0..slot_count {
-            self.frames.push(name)?;
-        }
+        name_slots(&mut self.frames, slot_count)?;
         self.root = View::of_frame(class, 0, slot_count);
         self.count = slot_count;
         Ok(())

@@ -1,5 +1,6 @@
 // Names as they stand in frames.
 ghost use Rattle.std.specs.Prelude.{◌≡◌, ◌+◌, ◌≤◌, ◌++◌, length, slice_index, IfOk, OnOk};
+ghost use Rattle.std.specs.List.{range_with_len};
 ghost use Rattle.slotted_theory.specs.Decided.{numbers_eq};
 ghost use Rattle.slotted_match_machine.specs.Machine.{names_for, new_names};
 ghost use Rattle.slotted_match_machine.specs.Views.{AreIn, names_at, number_at};
@@ -77,6 +78,17 @@ pub fn copied(alloc: Global, frames: &[usize], names: &Names<'_>) -> Result<Vec<
         copy.push(names.get(frames, position))?;
     }
     Ok(copy)
+}
+
+// Forgets all frames but one, in which 0, 1 and so on are the names.
+pub fn name_slots(frames: &mut Vec<usize>, count: usize) -> Result<(), AllocError>
+    ensures { OnOk result (frames.new.items ≡ range_with_len 0 count) }
+{
+    frames.clear();
+    for name in 0..count {
+        frames.push(name)?;
+    }
+    Ok(())
 }
 
 // Names each number of a row: by the slot of the class that it stands for, or anew. Returns how many names there are then.

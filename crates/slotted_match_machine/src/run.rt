@@ -1,5 +1,5 @@
 // The machine's run: depth first, each row in its turn.
-ghost use Rattle.std.specs.Prelude.{◌≡◌, [], OnOk};
+ghost use Rattle.std.specs.Prelude.{◌≡◌, [], ◌∷◌, OnOk};
 ghost use Rattle.slotted_match_machine.specs.Machine.{answers_of, with_variable};
 ghost use Rattle.slotted_match_machine.specs.Views.{AreIn, names_at, occurrence_of};
 ghost use Rattle.slotted_match_machine.specs.Scratch.{IsReadable, scratch_of, state_of};
@@ -127,8 +127,7 @@ impl<'a> Machine<'a> {
 // Adds what the machine answers when no step is left.
 fn push_answer(machine: &Machine<'_>, answers: &mut Vec<Answer>) -> Result<(), AllocError>
     requires { IsReadable (scratch_of machine.now) }
-    ensures { OnOk result (AddsAnswers (answers_of (scratch_of machine.now).classes [] (state_of (scratch_of machine.now)))
-        answers.old.items answers.new.items) }
+    ensures { OnOk result (AddsAnswers (answered (state_of (scratch_of machine.now)) ∷ []) answers.old.items answers.new.items) }
 {
     let answer = machine.answer()?;
     answers.push(answer)?;
