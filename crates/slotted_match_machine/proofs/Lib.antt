@@ -5,3 +5,4 @@ pub mod Growing
 pub mod Indexing
 pub mod NewNames
 pub mod States
+pub mod RowAnswers
