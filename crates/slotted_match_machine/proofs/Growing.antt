@@ -1,6 +1,6 @@
 -- Lists that grow at their end.
-use Rattle.std.proofs.Common.{◌≡◌, ◌≤◌, ◌++◌, List, take, length, sym, ◌∙◌, ap, arith}
-use Rattle.std.proofs.lemmas.List.{take-take, length-take, take_at, take_all}
+use Rattle.std.proofs.Common.{◌≤◌, List, take, length, sym, ◌∙◌, ap, arith}
+use Rattle.std.proofs.lemmas.List.{take-take, length-take, take_all}
 use Rattle.slotted_match_machine.specs.Scratch.{GrowsTo}
 
 grown-longer : {X : Type 0} (a b : List X) → GrowsTo a b → length a ≤ length b

@@ -2,7 +2,6 @@
 use Rattle.std.proofs.Common.{◌≡◌, ◌≢◌, ◌+◌, ◌<◌, ◌≤◌, ◌++◌, ℕ, zero, suc, List, [], ◌∷◌, Option, Some, None, take, drop, length, get_or, sym, ◌∙◌, ap, refl, arith}
 use Rattle.std.proofs.lemmas.List.{get_or-take, get_or-drop, get_or_past, length-take, length-drop, drop-append-le, take-append-le}
 use Rattle.std.specs.Prelude.{Bool, true, false, ◌&&◌, nat_eq}
-use Rattle.std.proofs.lemmas.Bool.{eqb-true}
 use Rattle.slotted_theory.specs.Decided.{numbers_eq}
 use denote.Ref.{Bor}
 use Rattle.slotted_match_machine.specs.declared.names.Names.{Names}

@@ -1,7 +1,7 @@
 -- The pairs, in the order in which they were made, against those of the meaning, the last one first.
-use Rattle.std.specs.Prelude.{◌||◌, Bool, true, false, cond, nat_eq, option_map, option_and_then, Option, Some, None, reverse, map}
+use Rattle.std.specs.Prelude.{◌||◌, Bool, true, false, cond, nat_eq, option_map, option_and_then, Option, Some, None, reverse}
 use Rattle.std.specs.List.{find, list_any}
-use Rattle.std.proofs.Common.{◌≡◌, ◌≢◌, ◌+◌, ◌<◌, ◌≤◌, ◌++◌, ℕ, zero, suc, List, [], ◌∷◌, take, drop, length, get_or, sym, ◌∙◌, ap, refl, arith}
+use Rattle.std.proofs.Common.{◌≡◌, ◌≢◌, ◌+◌, ◌<◌, ◌≤◌, ◌++◌, ℕ, suc, List, [], ◌∷◌, drop, length, get_or, sym, ◌∙◌, ap, refl}
 use Rattle.std.proofs.lemmas.List.{reverse-append, at_drop_more, drop_all}
 use Rattle.std.proofs.lemmas.List.Folds.{list_any-append}
 use Rattle.slotted_theory.specs.FiniteMaps.{value_of}
@@ -13,9 +13,9 @@ use Rattle.slotted_model_rules.specs.Goals.{paired_all}
 pub value_of-find : (m : List (ℕ × ℕ)) (k : ℕ) → value_of m k ≡ option_map (λ p. p.1) (find (λ p. nat_eq k p.0) m)
 value_of-find [] k = refl
 value_of-find (x ∷ m) k = elim (nat_eq k x.0) as (λ b. cond b (Some x.1) (value_of m k) ≡ option_map (λ p. p.1) (cond b (Some x) (find (λ p. nat_eq k p.0) m))) [
-    | true ↦ refl
-    | false ↦ value_of-find m k
-  ]
+  | true ↦ refl
+  | false ↦ value_of-find m k
+]
 
 has_slot-values : (m : List (ℕ × ℕ)) (t : ℕ) → has_slot (values m) t ≡ list_any (λ p. nat_eq t p.1) m
 has_slot-values [] t = refl

@@ -1,8 +1,8 @@
 -- What is answered by one step, and by one row after another.
-use Rattle.std.specs.Prelude.{Bool, true, false, cond, nat_eq, nat_lt, Option, Some, None, map, Vec}
+use Rattle.std.specs.Prelude.{Bool, cond, nat_eq, Vec}
 use Rattle.std.specs.List.{flat_map}
-use Rattle.std.proofs.Common.{◌≡◌, ◌+◌, ◌<◌, ◌≤◌, ◌++◌, ℕ, List, [], ◌∷◌, take, length, get_or, sym, ◌∙◌, ap, subst, refl, arith}
-use Rattle.std.proofs.lemmas.List.{append-nil, flat_map_more, take_more, map-append, length-map, get_or-map}
+use Rattle.std.proofs.Common.{◌≡◌, ◌+◌, ◌<◌, ◌++◌, ℕ, List, [], ◌∷◌, take, length, get_or, sym, ◌∙◌, ap, refl, arith}
+use Rattle.std.proofs.lemmas.List.{append-nil, flat_map_more, take_more}
 use Rattle.std.proofs.lemmas.Bool.{eq-eqb, ne_eqb}
 use Rattle.std.specs.declared.alloc.Global.{Global}
 use Rattle.slotted_match_machine.specs.declared.answer.Answer.{Answer as AnswerRead}
@@ -11,7 +11,7 @@ use Rattle.slotted_match_machine.specs.declared.index.IndexRow.{IndexRow}
 use Rattle.slotted_match_machine.specs.declared.program.Source.{Source}
 use Rattle.slotted_match_machine.specs.declared.program.Step.{Step}
 use Rattle.slotted_match_machine.specs.declared.program.Step.TheVariants.{Node, Variable}
-use Rattle.slotted_match_machine.specs.Machine.{Answer, Occurrence, MachineState, answers_of, occurrence_at, with_variable, rows_in}
+use Rattle.slotted_match_machine.specs.Machine.{Answer, Occurrence, MachineState, answers_of, occurrence_at, with_variable}
 use Rattle.slotted_match_machine.specs.declared.names.Names.{Names}
 use Rattle.slotted_match_machine.specs.Scratch.{Scratch, state_of}
 use Rattle.slotted_match_machine.specs.Views.{names_at}

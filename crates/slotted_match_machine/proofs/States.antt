@@ -1,7 +1,7 @@
 -- The state after a row was entered, and after a variable took an occurrence.
-use Rattle.std.specs.Prelude.{Bool, true, false, cond, option_map, Option, Some, None, reverse, map}
+use Rattle.std.specs.Prelude.{option_map, Option, Some, None, reverse, map}
 use Rattle.std.specs.List.{All, range_with_len}
-use Rattle.std.proofs.Common.{◌≡◌, ◌+◌, ◌<◌, ◌≤◌, ◌++◌, ℕ, zero, suc, List, [], ◌∷◌, take, drop, length, get_or, sym, ◌∙◌, ap, subst, refl, arith}
+use Rattle.std.proofs.Common.{◌≡◌, ◌+◌, ◌≤◌, ◌++◌, ℕ, List, [], ◌∷◌, take, length, sym, ◌∙◌, ap, refl, arith}
 use Rattle.std.proofs.lemmas.List.{map-append, length-append, drop_at, take_all}
 use Rattle.std.proofs.lemmas.List.FromFn.{length-range_with_len}
 use Rattle.std.proofs.lemmas.List.Elements.{All-head, All-tail, All-push, All-weaker}
@@ -10,10 +10,9 @@ use Rattle.slotted_model_rules.specs.Goals.{paired_all}
 use Rattle.slotted_match_machine.specs.declared.index.ClassRows.{ClassRows}
 use Rattle.slotted_match_machine.specs.declared.index.IndexChild.{IndexChild}
 use Rattle.slotted_match_machine.specs.declared.index.IndexRow.{IndexRow}
-use Rattle.slotted_match_machine.specs.declared.names.Names.{Names}
 use Rattle.slotted_match_machine.specs.declared.view.View.{View}
 use Rattle.slotted_match_machine.specs.declared.view.Register.{Register}
-use Rattle.slotted_match_machine.specs.Machine.{Occurrence, MachineState, names_for, new_names, named, child_occurrence, entered, after_row, slot_count_in, started}
+use Rattle.slotted_match_machine.specs.Machine.{names_for, new_names, named, child_occurrence, entered, after_row, slot_count_in, started}
 use Rattle.slotted_match_machine.specs.Views.{AreIn, frame, names_at, occurrence_of, occurrences_in}
 use Rattle.slotted_match_machine.specs.Scratch.{Scratch, state_of, IsReadable}
 use Rattle.slotted_match_machine.proofs.Naming.{frame-grown, names_at-grown}
@@ -49,11 +48,11 @@ with_row-state s r more children start count pairs w e f g =
     let last : frame (s.frames ++ more) start count ≡ more = ap (λ k. frame (s.frames ++ more) k count) f ∙ frame-last s.frames more count g in
     let reg : Register = record { children = children; start = start; count = count } in
     let here : occurrences_in (s.frames ++ more) reg ≡ map (child_occurrence more) r.children.items =
-        ap (λ ns. map (child_occurrence ns) children.now) last ∙ ap (map (child_occurrence more)) e in
+    ap (λ ns. map (child_occurrence ns) children.now) last ∙ ap (map (child_occurrence more)) e in
     let regs : map (occurrences_in s.frames) s.registers ++ map (child_occurrence more) r.children.items ∷ [] ≡ map (occurrences_in (s.frames ++ more)) (s.registers ++ reg ∷ []) =
-        sym (map-append (occurrences_in (s.frames ++ more)) s.registers (reg ∷ [])
-        ∙ (ap (λ rs. rs ++ occurrences_in (s.frames ++ more) reg ∷ []) (registers-grown s.frames more s.registers w.registers)
-        ∙ ap (λ o. map (occurrences_in s.frames) s.registers ++ o ∷ []) here)) in
+    sym (map-append (occurrences_in (s.frames ++ more)) s.registers (reg ∷ [])
+    ∙ (ap (λ rs. rs ++ occurrences_in (s.frames ++ more) reg ∷ []) (registers-grown s.frames more s.registers w.registers)
+    ∙ ap (λ o. map (occurrences_in s.frames) s.registers ++ o ∷ []) here)) in
     let root : names_at s.frames s.root.names ≡ names_at (s.frames ++ more) s.root.names = sym (names_at-grown s.frames more s.root.names w.root) in
     λ i. record {
       registers = (record { class = s.root.class; names = root i } ∷ []) ∷ regs i;
@@ -84,7 +83,7 @@ pub after_row-paired : (s : Scratch) (names : List ℕ) (r : IndexRow) (slots fr
 after_row-paired s names r slots frames owns start count o e f g h p =
     let more = names_for names r.slots.items s.count in
     let last : frame frames start count ≡ more =
-        (λ i. frame (e i) (g i) count) ∙ frame-last s.frames more count (length-names_for names r.slots.items s.count ∙ sym h) in
+    (λ i. frame (e i) (g i) count) ∙ frame-last s.frames more count (length-names_for names r.slots.items s.count ∙ sym h) in
     let own : named (frame frames start count) owns.now ≡ named more r.owns.items = λ i. named (last i) (f i) in
     ap (option_map (entered (state_of s) more r)) (sym (ap (λ xs. paired_all (reverse s.pairs) xs slots) own) ∙ p)
 
@@ -105,7 +104,7 @@ pub started-state : (classes : List ClassRows) (class count : ℕ) (frames : Lis
     ≡ started classes class
 started-state classes class count frames e f =
     let own : take count frames ≡ range_with_len 0 (slot_count_in classes class) =
-        ap (take count) f ∙ (take_all count (range_with_len 0 count) (omega (arith, length-range_with_len 0 count)) ∙ ap (range_with_len 0) e) in
+    ap (take count) f ∙ (take_all count (range_with_len 0 count) (omega (arith, length-range_with_len 0 count)) ∙ ap (range_with_len 0) e) in
     λ i. record { registers = (record { class = class; names = own i } ∷ []) ∷ []; pairs = []; values = []; count = e i }
 
 pub started-readable : (classes : List ClassRows) (class count : ℕ) (frames : List ℕ) → frames ≡ range_with_len 0 count → IsReadable (at_start classes class count frames)

@@ -119,7 +119,12 @@ impl<'a> Machine<'a> {
     }
 
     // Names the numbers of a row, and pairs its own names and binders. Returns whether the row fits, and then it is in the next register.
-    pub fn enter(&mut self, row: &'a IndexRow, from: &View<'_>, slots: &[usize]) -> Result<bool, AllocError>
+    pub fn enter(
+        &mut self,
+        row: &'a IndexRow,
+        from: &View<'_>,
+        slots: &[usize],
+    ) -> Result<bool, AllocError>
         requires readable { IsReadable (scratch_of self.old) }
         requires names { AreIn self.old.frames.items from.now.names }
         ensures entered { IfOk result (λ y.

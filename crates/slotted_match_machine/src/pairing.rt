@@ -13,7 +13,11 @@ use std::alloc::AllocError;
 fn slot_of(pairs: &[(usize, usize)], name: usize) -> Option<usize>
     ensures { result ≡ option_map (λ p. p.1) (find (λ p. name == p.0) (reverse pairs.now)) }
 {
-    pairs.iter().rev().find(|pair| name == pair.0).map(|pair| pair.1)
+    pairs
+        .iter()
+        .rev()
+        .find(|pair| name == pair.0)
+        .map(|pair| pair.1)
 }
 
 // Whether a name stands for the slot.

@@ -54,7 +54,7 @@ impl<'a> Machine<'a> {
         requires names { AreIn self.old.frames.items from.now.names }
         ensures answers { OnOk result (AddsAnswers
             (answers_with (scratch_of self.old).classes rest.now
-                (with_variable (state_of (scratch_of self.old)) number (occurrence_of self.old.frames.items from.now)))
+            (with_variable (state_of (scratch_of self.old)) number (occurrence_of self.old.frames.items from.now)))
             answers.old.items answers.new.items) }
         ensures kept { OnOk result (scratch_of self.new ≡ scratch_of self.old) }
     {
@@ -84,7 +84,7 @@ impl<'a> Machine<'a> {
         requires names { AreIn self.old.frames.items from.now.names }
         ensures answers { OnOk result (AddsAnswers
             (answers_at_rows (scratch_of self.old).classes rest.now (state_of (scratch_of self.old))
-                (occurrence_of self.old.frames.items from.now) outline slots.now)
+            (occurrence_of self.old.frames.items from.now) outline slots.now)
             answers.old.items answers.new.items) }
         ensures kept { OnOk result (scratch_of self.new ≡ scratch_of self.old) }
     {
@@ -111,7 +111,7 @@ impl<'a> Machine<'a> {
         requires names { AreIn self.old.frames.items from.now.names }
         ensures answers { OnOk result (AddsAnswers
             (answers_at_row (scratch_of self.old).classes rest.now (state_of (scratch_of self.old))
-                (names_at self.old.frames.items from.now.names) slots.now row.now)
+            (names_at self.old.frames.items from.now.names) slots.now row.now)
             answers.old.items answers.new.items) }
         ensures kept { OnOk result (scratch_of self.new ≡ scratch_of self.old) }
     {

@@ -1,9 +1,9 @@
 use Rattle.std.specs.Prelude.{Bool, cond, reverse, Some, None}
 use Rattle.std.proofs.Common.{◌∙◌, length, ap, arith}
 use Rattle.std.proofs.lemmas.List.{length-append}
-use Rattle.slotted_match_machine.specs.Machine.{names_for, entered}
+use Rattle.slotted_match_machine.specs.Machine.{names_for}
 use Rattle.slotted_match_machine.specs.Views.{names_at}
-use Rattle.slotted_match_machine.specs.Scratch.{scratch_of, state_of}
+use Rattle.slotted_match_machine.specs.Scratch.{scratch_of}
 use Rattle.slotted_match_machine.proofs.NewNames.{length-names_for}
 use Rattle.slotted_match_machine.proofs.States.{with_row-state, with_row-readable, after_row-paired}
 use Rattle.slotted_match_machine.proofs.machine.Machine.enter.Goals as goal
@@ -12,8 +12,12 @@ pub pair_all-requires : goal.pair_all-requires
 pair_all-requires c =
     let names = names_at c.args.self.now.frames.items c.args.from.now.names in
     let frames = rw c.deref.ensures.value at c.in_ok-self.ensures.frames in
-    omega (arith, ap length (c.deref-3.ensures.value ∙ frames), length-append c.args.self.now.frames.items (names_for names c.args.row.now.slots.items c.args.self.now.count),
-        length-names_for names c.args.row.now.slots.items c.args.self.now.count)
+    omega (
+      arith,
+      ap length (c.deref-3.ensures.value ∙ frames),
+      length-append c.args.self.now.frames.items (names_for names c.args.row.now.slots.items c.args.self.now.count),
+      length-names_for names c.args.row.now.slots.items c.args.self.now.count,
+    )
 
 pub returns-then-not-branch-clause-entered : goal.returns-then-not-branch-clause-entered
 returns-then-not-branch-clause-entered c =
@@ -32,11 +36,11 @@ returns-clause-entered c =
     let count = rw c.deref.ensures.value at c.in_ok-self.ensures.count in
     let pairs = c.pair_all.new.pairs.items in
     let fits = after_row-paired s names c.args.row.now c.args.slots.now c.deref-3.result.now c.deref-2.result c.len-start.result c.len-count.result (Some (reverse pairs))
-        (c.deref-3.ensures.value ∙ frames) c.deref-2.ensures.value (omega arith) (omega arith)
-        (c.in_ok-pair_all.ensures.paired ∙ ap (λ (b : Bool). cond b (Some (reverse pairs)) None) c.if-not-branch.false) in
+    (c.deref-3.ensures.value ∙ frames) c.deref-2.ensures.value (omega arith) (omega arith)
+    (c.in_ok-pair_all.ensures.paired ∙ ap (λ (b : Bool). cond b (Some (reverse pairs)) None) c.if-not-branch.false) in
     rw (c.in_ok-push.ensures.items, frames, count)
     (fits ∙ ap Some (with_row-state s c.args.row.now more c.deref-4.result c.len-start.result c.len-count.result pairs c.requires.readable c.deref-4.ensures.value
-        (omega arith) (omega (arith, length-names_for names c.args.row.now.slots.items c.args.self.now.count))))
+    (omega arith) (omega (arith, length-names_for names c.args.row.now.slots.items c.args.self.now.count))))
 
 pub returns-clause-readable : goal.returns-clause-readable
 returns-clause-readable c = λ _.
@@ -48,4 +52,4 @@ returns-clause-readable c = λ _.
     let length = length-names_for names c.args.row.now.slots.items c.args.self.now.count in
     rw (c.in_ok-push.ensures.items, frames, count)
     (with_row-readable s c.args.row.now more (record { children = c.deref-4.result; start = c.len-start.result; count = c.len-count.result }) c.pair_all.new.pairs.items
-        c.requires.readable (omega arith) (omega (arith, length)) length)
+    c.requires.readable (omega arith) (omega (arith, length)) length)

@@ -1,9 +1,4 @@
-use Rattle.std.proofs.Common.{◌≡◌, ℕ, ◌≤◌, [], length, sym, subst, ◌∙◌, arith, ap}
-use Rattle.std.proofs.lemmas.List.FromFn.{length-range_with_len}
-use Rattle.slotted_match_machine.specs.declared.view.View.{View}
-use Rattle.slotted_match_machine.specs.Scratch.{Scratch, state_of, IsReadable}
-use Rattle.slotted_match_machine.specs.Machine.{started}
-use Rattle.slotted_match_machine.proofs.States.{started-state, started-readable, at_start}
+use Rattle.slotted_match_machine.proofs.States.{started-state, started-readable}
 use Rattle.slotted_match_machine.proofs.machine.Machine.start.Goals as goal
 
 pub returns-clause-started : goal.returns-clause-started
