@@ -1,3 +1,4 @@
+-- The laws of the machine, and lemmas of what it holds.
 pub mod NamedNodes
 pub mod RowNames
 pub mod ReadPairs
@@ -16,3 +17,10 @@ pub mod MissingRows
 pub mod AllLaws
 pub mod MachineExamples
 pub mod DroppedExamples
+pub mod Naming
+pub mod Pairs
+pub mod Growing
+pub mod Indexing
+pub mod NewNames
+pub mod States
+pub mod RowAnswers

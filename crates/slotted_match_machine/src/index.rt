@@ -1,4 +1,6 @@
 //! The filed nodes of a graph, by the classes that they are in, as numbers.
+ghost use Rattle.std.specs.Prelude.{◌≡◌};
+ghost use Rattle.slotted_match_machine.specs.Machine.{rows_in, slot_count_in};
 
 /// A child of a row: its class, and for each slot of that class, in order, the number in the row that stands for it.
 #[derive(Drop)]
@@ -31,4 +33,26 @@ pub struct ClassRows {
 pub struct RowIndex {
     pub classes: Vec<ClassRows>,
     pub live: Vec<usize>,
+}
+
+impl RowIndex {
+    /// Returns the rows of a class, and none past the last class.
+    pub fn rows_of(&self, class: usize) -> &[IndexRow]
+        ensures { result.now ≡ rows_in self.now.classes.items class }
+    {
+        match self.classes.get(class) {
+            Some(class) => &class.rows,
+            None => &[],
+        }
+    }
+
+    /// Returns how many slots a class has, and 0 past the last class.
+    pub fn slot_count(&self, class: usize) -> usize
+        ensures { result ≡ slot_count_in self.now.classes.items class }
+    {
+        match self.classes.get(class) {
+            Some(class) => class.slot_count,
+            None => 0,
+        }
+    }
 }

@@ -3,9 +3,18 @@
 //! A name is a number here. What stands for a slot of a pattern, and which class and names each variable stands for, is what the machine answers.
 #![tactic(auto)]
 
+pub mod answer;
 pub mod index;
 pub mod laws;
+pub(crate) mod machine;
+pub(crate) mod names;
+pub(crate) mod pairing;
 pub mod program;
+pub(crate) mod run;
+pub mod searching;
+pub(crate) mod view;
 
+pub use answer::{Answer, Occurrence};
 pub use index::{ClassRows, IndexChild, IndexRow, RowIndex};
 pub use program::{Source, Step};
+pub use searching::{search, search_class};

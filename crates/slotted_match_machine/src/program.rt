@@ -11,6 +11,13 @@ pub struct Source {
 /// beside slots of the pattern; a variable takes what stands at its place, or is compared with what it took before.
 #[derive(Drop)]
 pub enum Step {
-    Node { outline: usize, slots: Vec<usize>, from: Source },
-    Variable { number: usize, from: Source },
+    Node {
+        outline: usize,
+        slots: Vec<usize>,
+        from: Source,
+    },
+    Variable {
+        number: usize,
+        from: Source,
+    },
 }

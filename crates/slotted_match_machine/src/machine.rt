@@ -1,0 +1,154 @@
+// What the machine holds as it runs: what was entered, paired and taken so far.
+ghost use Rattle.std.specs.Prelude.{◌≡◌, IfOk, OnOk, Some, None, if◌then◌else◌, IsTrue};
+ghost use Rattle.slotted_match_machine.specs.Machine.{started, after_row, occurrence_at};
+ghost use Rattle.slotted_match_machine.specs.Views.{AreIn, names_at, occurrence_of};
+ghost use Rattle.slotted_match_machine.specs.Scratch.{IsReadable, scratch_of, state_of, mark_of, cut_to};
+ghost use Rattle.slotted_match_machine.specs.Answers.{answer_of, answered};
+
+use crate::answer::Answer;
+use crate::index::{IndexRow, RowIndex};
+use crate::names::{Names, name_numbers, name_slots};
+use crate::pairing::pair_all;
+use crate::program::Source;
+use crate::view::{Register, View, occurrences};
+use std::alloc::{AllocError, Global};
+
+// The lists grow where a row is entered or a variable takes a value, and are cut where this is taken back.
+#[derive(Drop)]
+pub struct Machine<'a> {
+    pub alloc: Global,
+    pub index: &'a RowIndex,
+    pub root: View<'a>,
+    pub registers: Vec<Register<'a>>,
+    pub frames: Vec<usize>,
+    pub pairs: Vec<(usize, usize)>,
+    pub values: Vec<View<'a>>,
+    pub count: usize,
+}
+
+// How long the lists were before a row was entered.
+#[derive(Clone, Copy)]
+pub struct Mark {
+    pub registers: usize,
+    pub frames: usize,
+    pub pairs: usize,
+    pub count: usize,
+}
+
+impl<'a> Machine<'a> {
+    pub fn new(alloc: Global, index: &'a RowIndex) -> Self
+        ensures { (scratch_of result).classes ≡ index.now.classes.items }
+    {
+        Machine {
+            alloc,
+            index,
+            root: View::nothing(),
+            registers: Vec::new(alloc),
+            frames: Vec::new(alloc),
+            pairs: Vec::new(alloc),
+            values: Vec::new(alloc),
+            count: 0,
+        }
+    }
+
+    // Forgets what it held, and looks at a class under names of its slots.
+    pub fn start(&mut self, class: usize) -> Result<(), AllocError>
+        ensures started { OnOk result (state_of (scratch_of self.new) ≡ started (scratch_of self.old).classes class) }
+        ensures readable { OnOk result (IsReadable (scratch_of self.new)) }
+        ensures classes { OnOk result ((scratch_of self.new).classes ≡ (scratch_of self.old).classes) }
+    {
+        let slot_count = self.index.slot_count(class);
+        self.registers.clear();
+        self.pairs.clear();
+        self.values.clear();
+        name_slots(&mut self.frames, slot_count)?;
+        self.root = View::of_frame(class, 0, slot_count);
+        self.count = slot_count;
+        Ok(())
+    }
+
+    // The occurrence that a step looks at.
+    pub fn view(&self, from: Source) -> View<'a>
+        requires { IsReadable (scratch_of self.now) }
+        ensures reads { occurrence_of self.now.frames.items result ≡ occurrence_at (state_of (scratch_of self.now)) from }
+        ensures names { AreIn self.now.frames.items result.names }
+    {
+        if from.register == 0 {
+            return if from.child == 0 {
+                self.root
+            } else {
+                View::nothing()
+            };
+        }
+        match self.registers.get(from.register - 1) {
+            Some(register) => register.child(from.child),
+            None => View::nothing(),
+        }
+    }
+
+    // Copies what was paired and taken.
+    pub fn answer(&self) -> Result<Answer, AllocError>
+        requires { IsReadable (scratch_of self.now) }
+        ensures { IfOk result (λ a. answer_of a ≡ answered (state_of (scratch_of self.now))) }
+    {
+        Ok(Answer {
+            values: occurrences(self.alloc, &self.frames, &self.values)?,
+            pairs: self.pairs.iter().rev().copied().collect(self.alloc)?,
+        })
+    }
+
+    pub fn mark(&self) -> Mark
+        ensures { result ≡ mark_of (scratch_of self.now) }
+    {
+        Mark {
+            registers: self.registers.len(),
+            frames: self.frames.len(),
+            pairs: self.pairs.len(),
+            count: self.count,
+        }
+    }
+
+    // Takes back what was done since the mark was made.
+    pub fn cut(&mut self, mark: Mark)
+        ensures { scratch_of self.new ≡ cut_to mark (scratch_of self.old) }
+    {
+        self.registers.truncate(mark.registers);
+        self.frames.truncate(mark.frames);
+        self.pairs.truncate(mark.pairs);
+        self.count = mark.count;
+    }
+
+    // Names the numbers of a row, and pairs its own names and binders. Returns whether the row fits, and then it is in the next register.
+    pub fn enter(
+        &mut self,
+        row: &'a IndexRow,
+        from: &View<'_>,
+        slots: &[usize],
+    ) -> Result<bool, AllocError>
+        requires readable { IsReadable (scratch_of self.old) }
+        requires names { AreIn self.old.frames.items from.now.names }
+        ensures entered { IfOk result (λ y.
+            after_row (state_of (scratch_of self.old)) (names_at self.old.frames.items from.now.names) row.now slots.now
+            ≡ (if y then Some (state_of (scratch_of self.new)) else None)) }
+        ensures readable { IfOk result (λ y. IsTrue y → IsReadable (scratch_of self.new)) }
+        ensures kept { OnOk result (cut_to (mark_of (scratch_of self.old)) (scratch_of self.new) ≡ scratch_of self.old) }
+    {
+        let start = self.frames.len();
+        let count = row.slots.len();
+        self.count = name_numbers(&mut self.frames, &from.names, &row.slots, self.count)?;
+        let owns = Names {
+            numbers: Some(&row.owns),
+            start,
+            count,
+        };
+        if !pair_all(&mut self.pairs, &self.frames, &owns, slots)? {
+            return Ok(false);
+        }
+        self.registers.push(Register {
+            children: &row.children,
+            start,
+            count,
+        })?;
+        Ok(true)
+    }
+}
