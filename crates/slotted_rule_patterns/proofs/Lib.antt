@@ -8,3 +8,4 @@ pub mod TermCodes
 pub mod OutlineCodes
 pub mod EachVariable
 pub mod KnownVariables
+pub mod NodeArguments

@@ -2,3 +2,4 @@
 pub mod PatternCode
 pub mod Variables
 pub mod Values
+pub mod NodeArguments
