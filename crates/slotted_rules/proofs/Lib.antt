@@ -1,2 +1,3 @@
 -- Lemmas of rules.
 pub mod AppliedRules
+pub mod Progress

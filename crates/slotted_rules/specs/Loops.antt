@@ -1,7 +1,7 @@
 -- What loops over rules keep.
 --     HasSearched    some rules were searched, one after another, and what they found can be applied
---     HasApplied     some rules were applied, one after another
-use Rattle.std.specs.Prelude.{◌≡◌, List, false}
+--     HasApplied     the rules `before` were applied to the first of what was found, and the rules `after` can be to what is left
+use Rattle.std.specs.Prelude.{◌≡◌, ◌++◌, List, false}
 use Rattle.slotted_model_rules.specs.Runners.{AppliesAll, SearchesAll}
 use Rattle.slotted_core.specs.Graph.{Graph}
 use Rattle.slotted_graph.specs.Extension.{ExtendsTo}
@@ -13,8 +13,10 @@ pub record HasSearched {R F : Type 0} (searches : R → Graph → F → Graph �
   pub searched : SearchesAll searches rules g found h
   pub can_apply : CanApplyAll can rules found h
 
-pub record HasApplied {R F : Type 0} (applies : R → F → Graph → Graph → Type 0) (can : R → F → Graph → Type 0) (done : List R) (founds : List F) (left : List R) (more : List F) (g h : Graph) : Type 0 where
+pub record HasApplied {R F : Type 0} (applies : R → F → Graph → Graph → Type 0) (can : R → F → Graph → Type 0) (before after : List R) (founds left : List F) (g h : Graph) : Type 0 where
   pub well : h.failed ≡ false
   pub extends : ExtendsTo g h
-  pub applied : AppliesAll applies done founds g h
-  pub can_apply : CanApplyAll can left more h
+  pub done : List F
+  pub whole : founds ≡ done ++ left
+  pub applied : AppliesAll applies before done g h
+  pub can_apply : CanApplyAll can after left h

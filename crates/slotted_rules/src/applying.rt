@@ -5,6 +5,7 @@ ghost use Rattle.slotted_model_rules.specs.Runners.{AppliesAll, AppliesRules, Se
 ghost use Rattle.slotted_graph.specs.Extension.{ExtendsTo};
 ghost use Rattle.slotted_rules.specs.Applying.{AreRefusedBy, CanApplyAll, HasProgressed};
 
+use crate::failing::failing;
 use crate::rule::RewriteT;
 use slotted_graph::EGraph;
 use slotted_languages::Language;
@@ -31,4 +32,74 @@ fn search_all<L: Language, N: Drop, R: RewriteT<L, N>>(
         found.push_back(rule.search(alloc, graph)?)?;
     }
     Ok(found)
+}
+
+// Each rule is applied to what it found, in order.
+fn apply_all<L: Language, N: Drop, R: RewriteT<L, N>>(
+    alloc: Global,
+    graph: &mut EGraph<L, N>,
+    rules: &[R],
+    found: VecDeque<R::Found>,
+) -> Result<(), Error>
+    requires well { graph.old.failed ≡ false }
+    requires valid { All (λ r. R.valid r graph.old) rules.now }
+    requires can { CanApplyAll R.can_apply rules.now found.items graph.old }
+    ensures ok { OnOk result (AppliesAll R.applies rules.now found.items graph.old graph.new) }
+    ensures extends { IsTrue graph.new.failed ⊎ ExtendsTo graph.old graph.new }
+    ensures fails { IsTrue graph.new.failed → IsErrAnd result IsShortage }
+    ensures err { IfErr result (λ e. IsShortage e ⊎ AreRefusedBy R.refuses rules.now e) }
+{
+    let mut left = found;
+    for rule in rules {
+        match left.pop_front() {
+            Some(next) => rule.apply(alloc, next, graph)?,
+            None => unreachable!(),
+        }
+    }
+    Ok(())
+}
+
+// All rules are searched, and then each is applied.
+fn search_and_apply<L: Language, N: Drop, R: RewriteT<L, N>>(
+    alloc: Global,
+    graph: &mut EGraph<L, N>,
+    rules: &[R],
+) -> Result<(), Error>
+    requires well { graph.old.failed ≡ false }
+    requires valid { All (λ r. R.valid r graph.old) rules.now }
+    ensures rules { OnOk result (AppliesRules R.searches R.applies rules.now graph.old graph.new) }
+    ensures extends { IsTrue graph.new.failed ⊎ ExtendsTo graph.old graph.new }
+    ensures fails { IsTrue graph.new.failed → IsErrAnd result IsShortage }
+    ensures err { IfErr result (λ e. IsShortage e ⊎ AreRefusedBy R.refuses rules.now e) }
+{
+    let found = search_all(alloc, graph, rules)?;
+    apply_all(alloc, graph, rules, found)
+}
+
+/// Searches with all rules, then applies each in order to what its search found. Returns whether the graph's progress measure changed.
+///
+/// What was applied before a refusal stays.
+pub fn apply_rewrites<L: Language, N: Drop, R: RewriteT<L, N>>(
+    alloc: Global,
+    graph: &mut EGraph<L, N>,
+    rules: &[R],
+) -> Result<bool, Error>
+    requires { IsTrue graph.old.failed ⊎ All (λ r. R.valid r graph.old) rules.now }
+    ensures rules { OnOk result (AppliesRules R.searches R.applies rules.now graph.old graph.new) }
+    ensures changed { IfOk result (λ y. IsTrue y ↔ HasProgressed graph.old.image graph.new.image) }
+
+    // What was there stays, also where a rule is refused.
+    ensures extends { IsTrue graph.new.failed ⊎ ExtendsTo graph.old graph.new }
+    ensures stays { IsTrue graph.old.failed → graph.new ≡ graph.old }
+    ensures failed { IsErrOf result Error.Failed ↔ IsTrue graph.old.failed }
+    ensures fails { IsTrue graph.new.failed ↔ IsErrAnd result (λ e. (e ≡ Error.Failed) ⊎ IsShortage e) }
+    ensures err { IfErr result (λ e. (e ≡ Error.Failed) ⊎ IsShortage e ⊎ AreRefusedBy R.refuses rules.now e) }
+{
+    if graph.is_failed() {
+        return Err(Error::Failed);
+    }
+    let before = graph.progress();
+    let applied = search_and_apply(alloc, graph, rules);
+    failing(graph, applied)?;
+    Ok(graph.progress() != before)
 }

@@ -5,8 +5,10 @@ pub mod applying;
 pub mod asking;
 pub mod condition;
 pub mod condition_tree;
+pub(crate) mod failing;
 pub mod rule;
 
+pub use applying::apply_rewrites;
 pub use asking::{and, not, or, slot_free_in};
 pub use condition::{Always, And, Cond, Not, Or, SlotFreeIn};
 pub use condition_tree::CondTree;

@@ -1,5 +1,5 @@
 -- Each rule is searched in the graph that the ones before it left.
-use Rattle.std.proofs.Common.{◌≡◌, ◌≢◌, ◌∙◌, ◌<◌, ◌⊎◌, ℕ, List, [], Bool, true, false, Result, Ok, Err, IfErr, IsErrOf, IsTrue, length, take, get_or, refl, sym, ap, subst, inl, inr}
+use Rattle.std.proofs.Common.{◌≡◌, ◌≢◌, ◌∙◌, ◌<◌, ◌⊎◌, ◌+◌, ◌++◌, ℕ, List, [], ◌∷◌, Bool, true, false, Result, Ok, Err, IfErr, IsErrOf, IsTrue, length, take, take_all, get_or, refl, sym, ap, subst, inl, inr}
 use Rattle.std.specs.Prelude.{All, IsErrAnd}
 use Rattle.std.proofs.lemmas.Bool.{false≢true}
 use Rattle.std.proofs.lemmas.List.{take_more}
@@ -12,17 +12,22 @@ use Rattle.slotted_core.specs.Graph.{Graph}
 use Rattle.slotted_model_rules.specs.Runners.{SearchesAll, none_searched}
 use Rattle.slotted_graph.specs.Extension.{ExtendsTo}
 use Rattle.slotted_graph.proofs.Extending.{extends-itself, extends-then}
-use Rattle.slotted_rules.specs.Applying.{CanApplyAll}
-use Rattle.slotted_rules.proofs.AppliedRules.{can-more, ok-well, refused-one, searches-more}
+use Rattle.slotted_rules.specs.Applying.{AreRefusedBy, CanApplyAll}
+use Rattle.slotted_rules.proofs.AppliedRules.{can-more, handed_and, not-failed, not-failed-so, ok-well, refused-one, searches-more, shortage_of}
 use Rattle.slotted_rules.proofs.applying.search_all.Goals as goal
 
 pub loop-rule-init : goal.loop-rule-init
-loop-rule-init g c = ?
+loop-rule-init g c = record {
+  well = c.requires.well;
+  extends = extends-itself c.args.graph.now;
+  searched = subst (λ xs. SearchesAll g.R.RewriteT.searches [] c.args.graph.now xs c.args.graph.now) (sym c.new-found.ensures.items) none_searched;
+  can_apply = subst (λ xs. CanApplyAll g.R.RewriteT.can_apply [] xs c.args.graph.now) (sym c.new-found.ensures.items) tt;
+}
 
 pub search-requires : goal.search-requires
 search-requires g c =
     inr (g.met.R.RewriteT.valid_stays c.rule-item.result c.args.graph.now c.loop-rule.graph c.loop-rule.invariant.extends
-    (All-contains _ c.args.rules.now c.requires.valid c.rule-item.result (subst (λ r. _) (sym c.rule-item.is) (Contains-get_or c.args.rules.now c.loop-rule.rule-index c.rule-item.result c.loop-rule-test.true))))
+    (subst (λ r. g.R.RewriteT.valid r c.args.graph.now) (sym c.rule-item.is) (c.requires.valid c.loop-rule.rule-index c.rule-item.result c.loop-rule-test.true)))
 
 pub returns-in_err-search-clause-extends : goal.returns-in_err-search-clause-extends
 returns-in_err-search-clause-extends g c = elim c.search.ensures.extends [
@@ -31,10 +36,17 @@ returns-in_err-search-clause-extends g c = elim c.search.ensures.extends [
 ]
 
 pub returns-in_err-search-clause-fails : goal.returns-in_err-search-clause-fails
-returns-in_err-search-clause-fails g c = ?
+returns-in_err-search-clause-fails g c failed =
+    handed_and c.from_residual.result c.in_err-search.field-0.0 c.from_residual.ensures.1 IsShortage
+    (shortage_of c.search.result c.in_err-search.field-0.0 c.in_err-search.was (not-failed c.search.result c.in_err-search.field-0.0 c.in_err-search.was c.loop-rule.graph.failed c.loop-rule.invariant.well c.search.ensures.failed) (c.search.ensures.fails failed))
 
 pub returns-in_err-search-clause-err : goal.returns-in_err-search-clause-err
-returns-in_err-search-clause-err g c = ?
+returns-in_err-search-clause-err g c =
+    let e = c.in_err-search.field-0.0 in
+    handed_err c.from_residual.result e c.from_residual.ensures.1 (λ x. IsShortage x ⊎ AreRefusedBy g.R.RewriteT.refuses c.args.rules.now x)
+    (refused-one g.R.RewriteT.refuses c.args.rules.now c.loop-rule.rule-index c.rule-item.result c.loop-rule-test.true c.rule-item.is e
+    (not-failed c.search.result e c.in_err-search.was c.loop-rule.graph.failed c.loop-rule.invariant.well c.search.ensures.failed)
+    (subst (λ (r : Result _ Error). IfErr r (λ x. (x ≡ Failed) ⊎ IsShortage x ⊎ g.R.RewriteT.refuses c.rule-item.result x)) c.in_err-search.was c.search.ensures.err))
 
 pub returns-in_err-push_back-clause-extends : goal.returns-in_err-push_back-clause-extends
 returns-in_err-push_back-clause-extends g c = elim c.search.ensures.extends [
@@ -43,13 +55,31 @@ returns-in_err-push_back-clause-extends g c = elim c.search.ensures.extends [
 ]
 
 pub loop-rule-preserved : goal.loop-rule-preserved
-loop-rule-preserved g c = ?
+loop-rule-preserved g c =
+    let x = c.in_ok-search.field-0 in
+    let i = c.loop-rule.rule-index in
+    let h = c.search.new.graph in
+    let well : h.failed ≡ false = ok-well _ h.failed c.search.result x c.in_ok-search.was c.search.ensures.fails in
+    let more : ExtendsTo c.loop-rule.graph h = not-failed-so h.failed well c.search.ensures.extends in
+    let found = c.in_ok-search.ensures.ok in
+    let rules : take (i + 1) c.args.rules.now ≡ take i c.args.rules.now ++ c.rule-item.result ∷ [] = take_more c.args.rules.now i c.rule-item.result c.loop-rule-test.true ∙ ap (λ r. take i c.args.rules.now ++ r ∷ []) (sym c.rule-item.is) in
+    record {
+      well = well;
+      extends = extends-then c.args.graph.now c.loop-rule.graph h c.loop-rule.invariant.extends more;
+      searched = subst (λ rs. SearchesAll g.R.RewriteT.searches rs c.args.graph.now c.push_back.new.self.items h) (sym rules)
+          (subst (λ fs. SearchesAll g.R.RewriteT.searches (take i c.args.rules.now ++ c.rule-item.result ∷ []) c.args.graph.now fs h) (sym c.in_ok-push_back.ensures.items)
+          (searches-more g.R.RewriteT.searches c.loop-rule.invariant.searched c.rule-item.result x found));
+      can_apply = subst (λ rs. CanApplyAll g.R.RewriteT.can_apply rs c.push_back.new.self.items h) (sym rules)
+          (subst (λ fs. CanApplyAll g.R.RewriteT.can_apply (take i c.args.rules.now ++ c.rule-item.result ∷ []) fs h) (sym c.in_ok-push_back.ensures.items)
+          (can-more g.R.RewriteT.can_apply g.met.R.RewriteT.can_apply_stays (take i c.args.rules.now) c.loop-rule.found.items c.loop-rule.graph h more c.loop-rule.invariant.can_apply c.rule-item.result x
+          (g.met.R.RewriteT.searched_fits c.rule-item.result c.loop-rule.graph h x found)));
+    }
 
 pub returns-clause-ok : goal.returns-clause-ok
-returns-clause-ok g c = ?
+returns-clause-ok g c = subst (λ rs. SearchesAll g.R.RewriteT.searches rs c.args.graph.now c.loop-rule.found.items c.loop-rule.graph) (take_all c.loop-rule.rule-index c.args.rules.now c.loop-rule-test.false) c.loop-rule.invariant.searched
 
 pub returns-clause-can : goal.returns-clause-can
-returns-clause-can g c = ?
+returns-clause-can g c = subst (λ rs. CanApplyAll g.R.RewriteT.can_apply rs c.loop-rule.found.items c.loop-rule.graph) (take_all c.loop-rule.rule-index c.args.rules.now c.loop-rule-test.false) c.loop-rule.invariant.can_apply
 
 pub returns-clause-extends : goal.returns-clause-extends
 returns-clause-extends g c = inr c.loop-rule.invariant.extends
