@@ -1,7 +1,6 @@
--- Names by their places, the state after steps, and undoing.
+-- Names by their places, pairs, the index, the state after a row was entered, and what is answered row by row.
 pub mod Naming
 pub mod Pairs
-pub mod Growing
 pub mod Indexing
 pub mod NewNames
 pub mod States
