@@ -29,7 +29,8 @@ fn is_taken(pairs: &[(usize, usize)], slot: usize) -> bool
 
 // The name is to stand for the slot. Returns whether it may.
 fn pair(pairs: &mut Vec<(usize, usize)>, name: usize, slot: usize) -> Result<bool, AllocError>
-    ensures paired { IfOk result (λ y. paired (reverse pairs.old.items) name slot ≡ (if y then Some (reverse pairs.new.items) else None)) }
+    ensures paired { IfOk result (λ y. paired (reverse pairs.old.items) name slot
+        ≡ (if y then Some (reverse pairs.new.items) else None)) }
     ensures grows { OnOk result (GrowsTo pairs.old.items pairs.new.items) }
 {
     if let Some(other) = slot_of(pairs, name) {
