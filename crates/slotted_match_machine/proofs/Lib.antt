@@ -19,7 +19,6 @@ pub mod MachineExamples
 pub mod DroppedExamples
 pub mod Naming
 pub mod Pairs
-pub mod Growing
 pub mod Indexing
 pub mod NewNames
 pub mod States

@@ -5,10 +5,10 @@
 --     state_of            the state that it stands for
 --     IsReadable          each frame that is read is one of those that were given, and so is each name
 --     mark_of, cut_to     how long the lists are, and the lists cut to these lengths
-use Rattle.std.specs.Prelude.{◌≡◌, ℕ, ◌+◌, ◌≤◌, List, [], ◌∷◌, take, length, map, reverse}
+use Rattle.std.specs.Prelude.{◌≡◌, ℕ, ◌≤◌, List, [], ◌∷◌, take, length, map, reverse}
 use Rattle.std.specs.List.{All}
 use Rattle.slotted_match_machine.specs.Machine.{MachineState}
-use Rattle.slotted_match_machine.specs.Views.{AreIn, occurrence_of, occurrences_in}
+use Rattle.slotted_match_machine.specs.Views.{IsIn, occurrence_of, occurrences_in}
 use Rattle.slotted_match_machine.specs.declared.index.ClassRows.{ClassRows}
 use Rattle.slotted_match_machine.specs.declared.machine.Machine.{Machine}
 use Rattle.slotted_match_machine.specs.declared.machine.Mark.{Mark}
@@ -48,9 +48,9 @@ state_of s = record {
 }
 
 pub record IsReadable (s : Scratch) : Type 0 where
-  pub root : AreIn s.frames s.root.names
-  pub registers : All (λ r. r.start + r.count ≤ length s.frames) s.registers
-  pub values : All (λ v. AreIn s.frames v.names) s.values
+  pub root : IsIn s.frames s.root.names.frame
+  pub registers : All (λ r. IsIn s.frames r.frame) s.registers
+  pub values : All (λ v. IsIn s.frames v.names.frame) s.values
   pub names : s.count ≤ length s.frames
 
 -- how long the lists are that grow where a row is entered

@@ -7,9 +7,11 @@ pub struct Occurrence {
     pub names: Vec<usize>,
 }
 
-/// Which name stands for which slot of the pattern, the last pair first, and what each variable stands for, by its number.
+/// What stands for the slots and the variables of a pattern.
 #[derive(Drop, Debug)]
 pub struct Answer {
+    /// Names, each with the slot that it stands for. The pair that was made last is the first.
     pub pairs: Vec<(usize, usize)>,
+    /// What each variable stands for, by its number.
     pub values: Vec<Occurrence>,
 }

@@ -1,19 +1,19 @@
 // What the machine holds as it runs: what was entered, paired and taken so far.
 ghost use Rattle.std.specs.Prelude.{◌≡◌, IfOk, OnOk, Some, None, if◌then◌else◌, IsTrue};
 ghost use Rattle.slotted_match_machine.specs.Machine.{started, after_row, occurrence_at};
-ghost use Rattle.slotted_match_machine.specs.Views.{AreIn, names_at, occurrence_of};
+ghost use Rattle.slotted_match_machine.specs.Views.{IsIn, names_at, occurrence_of};
 ghost use Rattle.slotted_match_machine.specs.Scratch.{IsReadable, scratch_of, state_of, mark_of, cut_to};
 ghost use Rattle.slotted_match_machine.specs.Answers.{answer_of, answered};
 
 use crate::answer::Answer;
 use crate::index::{IndexRow, RowIndex};
-use crate::names::{Names, name_numbers, name_slots};
+use crate::names::{Frame, Names, name_numbers, name_slots};
 use crate::pairing::pair_all;
 use crate::program::Source;
 use crate::view::{Register, View, occurrences};
 use std::alloc::{AllocError, Global};
 
-// The lists grow where a row is entered or a variable takes a value, and are cut where this is taken back.
+// The lists grow where a row is entered or a variable takes a value, and are cut where the machine backtracks.
 #[derive(Drop)]
 pub struct Machine<'a> {
     pub alloc: Global,
@@ -36,6 +36,7 @@ pub struct Mark {
 }
 
 impl<'a> Machine<'a> {
+    // A machine that holds nothing.
     pub fn new(alloc: Global, index: &'a RowIndex) -> Self
         ensures { (scratch_of result).classes ≡ index.now.classes.items }
     {
@@ -62,7 +63,11 @@ impl<'a> Machine<'a> {
         self.pairs.clear();
         self.values.clear();
         name_slots(&mut self.frames, slot_count)?;
-        self.root = View::of_frame(class, 0, slot_count);
+        let frame = Frame {
+            start: 0,
+            count: slot_count,
+        };
+        self.root = View::of_frame(class, frame);
         self.count = slot_count;
         Ok(())
     }
@@ -71,7 +76,7 @@ impl<'a> Machine<'a> {
     pub fn view(&self, from: Source) -> View<'a>
         requires { IsReadable (scratch_of self.now) }
         ensures reads { occurrence_of self.now.frames.items result ≡ occurrence_at (state_of (scratch_of self.now)) from }
-        ensures names { AreIn self.now.frames.items result.names }
+        ensures names { IsIn self.now.frames.items result.names.frame }
     {
         if from.register == 0 {
             return if from.child == 0 {
@@ -97,6 +102,7 @@ impl<'a> Machine<'a> {
         })
     }
 
+    // A mark to come back to.
     pub fn mark(&self) -> Mark
         ensures { result ≡ mark_of (scratch_of self.now) }
     {
@@ -108,8 +114,8 @@ impl<'a> Machine<'a> {
         }
     }
 
-    // Takes back what was done since the mark was made.
-    pub fn cut(&mut self, mark: Mark)
+    // Backtracks to where the mark was made.
+    pub fn backtrack(&mut self, mark: Mark)
         ensures { scratch_of self.new ≡ cut_to mark (scratch_of self.old) }
     {
         self.registers.truncate(mark.registers);
@@ -118,7 +124,8 @@ impl<'a> Machine<'a> {
         self.count = mark.count;
     }
 
-    // Names the numbers of a row, and pairs its own names and binders. Returns whether the row fits, and then it is in the next register.
+    // Names the numbers of a row, and pairs its own names and binders with slots of the pattern.
+    // Returns whether they can be paired. Then the row is in the next register.
     pub fn enter(
         &mut self,
         row: &'a IndexRow,
@@ -126,28 +133,28 @@ impl<'a> Machine<'a> {
         slots: &[usize],
     ) -> Result<bool, AllocError>
         requires readable { IsReadable (scratch_of self.old) }
-        requires names { AreIn self.old.frames.items from.now.names }
+        requires names { IsIn self.old.frames.items from.now.names.frame }
         ensures entered { IfOk result (λ y.
             after_row (state_of (scratch_of self.old)) (names_at self.old.frames.items from.now.names) row.now slots.now
             ≡ (if y then Some (state_of (scratch_of self.new)) else None)) }
         ensures readable { IfOk result (λ y. IsTrue y → IsReadable (scratch_of self.new)) }
         ensures kept { OnOk result (cut_to (mark_of (scratch_of self.old)) (scratch_of self.new) ≡ scratch_of self.old) }
     {
-        let start = self.frames.len();
-        let count = row.slots.len();
+        let frame = Frame {
+            start: self.frames.len(),
+            count: row.slots.len(),
+        };
         self.count = name_numbers(&mut self.frames, &from.names, &row.slots, self.count)?;
         let owns = Names {
             numbers: Some(&row.owns),
-            start,
-            count,
+            frame,
         };
         if !pair_all(&mut self.pairs, &self.frames, &owns, slots)? {
             return Ok(false);
         }
         self.registers.push(Register {
             children: &row.children,
-            start,
-            count,
+            frame,
         })?;
         Ok(true)
     }

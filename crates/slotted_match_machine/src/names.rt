@@ -1,29 +1,34 @@
 // Names as they stand in frames.
-ghost use Rattle.std.specs.Prelude.{◌≡◌, ◌+◌, ◌≤◌, ◌++◌, length, slice_index, IfOk, OnOk};
+ghost use Rattle.std.specs.Prelude.{◌≡◌, ◌+◌, ◌≤◌, ◌++◌, ℕ, List, length, slice_index, IfOk, OnOk};
 ghost use Rattle.std.specs.List.{range_with_len};
 ghost use Rattle.slotted_theory.specs.Decided.{numbers_eq};
 ghost use Rattle.slotted_match_machine.specs.Machine.{names_for, new_names};
-ghost use Rattle.slotted_match_machine.specs.Views.{AreIn, names_at, number_at};
+ghost use Rattle.slotted_match_machine.specs.Views.{IsIn, names_at, number_at};
 
 use std::alloc::{AllocError, Global};
+
+// Where the names of a row stand, one for each of its numbers.
+#[derive(Clone, Copy)]
+pub struct Frame {
+    pub start: usize,
+    pub count: usize,
+}
 
 // The names of a frame: all of them in order, or those of these numbers.
 #[derive(Clone, Copy)]
 pub struct Names<'a> {
     pub numbers: Option<&'a [usize]>,
-    pub start: usize,
-    pub count: usize,
+    pub frame: Frame,
 }
 
 impl Names<'_> {
     // How many names there are.
-    pub fn len(&self, frames: &[usize]) -> usize
-        requires { AreIn frames.now self.now }
-        ensures { result ≡ length (names_at frames.now self.now) }
+    pub fn len(&self) -> usize
+        ensures { (frames : List ℕ) → IsIn frames self.now.frame → result ≡ length (names_at frames self.now) }
     {
         match self.numbers {
             Some(numbers) => numbers.len(),
-            None => self.count,
+            None => self.frame.count,
         }
     }
 
@@ -32,52 +37,52 @@ impl Names<'_> {
         ensures { result ≡ number_at self.now position }
     {
         match self.numbers {
-            Some(numbers) => numbers.get(position).copied().unwrap_or(self.count),
+            Some(numbers) => numbers.get(position).copied().unwrap_or(self.frame.count),
             None => position,
         }
     }
 
     // The name at a position, and 0 past the end.
     pub fn get(&self, frames: &[usize], position: usize) -> usize
-        requires { AreIn frames.now self.now }
+        requires { IsIn frames.now self.now.frame }
         ensures { result ≡ slice_index (names_at frames.now self.now) position }
     {
         let number = self.number(position);
-        if number < self.count {
-            frames[self.start + number]
+        if number < self.frame.count {
+            frames[self.frame.start + number]
         } else {
             0
         }
     }
-}
 
-// Whether the names are the same, one after another.
-pub fn are_same(frames: &[usize], one: &Names<'_>, other: &Names<'_>) -> bool
-    requires one { AreIn frames.now one.now }
-    requires other { AreIn frames.now other.now }
-    ensures { result ≡ numbers_eq (names_at frames.now one.now) (names_at frames.now other.now) }
-{
-    if one.len(frames) != other.len(frames) {
-        return false;
-    }
-    for position in 0..one.len(frames) {
-        if one.get(frames, position) != other.get(frames, position) {
+    // Whether the names are the same, one after another.
+    pub fn are_same(&self, frames: &[usize], other: &Names<'_>) -> bool
+        requires own { IsIn frames.now self.now.frame }
+        requires other { IsIn frames.now other.now.frame }
+        ensures { result ≡ numbers_eq (names_at frames.now self.now) (names_at frames.now other.now) }
+    {
+        if self.len() != other.len() {
             return false;
         }
+        for position in 0..self.len() {
+            if self.get(frames, position) != other.get(frames, position) {
+                return false;
+            }
+        }
+        true
     }
-    true
-}
 
-// Returns a copy of the names.
-pub fn copied(alloc: Global, frames: &[usize], names: &Names<'_>) -> Result<Vec<usize>, AllocError>
-    requires { AreIn frames.now names.now }
-    ensures { IfOk result (λ v. v.items ≡ names_at frames.now names.now) }
-{
-    let mut copy = Vec::new(alloc);
-    for position in 0..names.len(frames) {
-        copy.push(names.get(frames, position))?;
+    // Returns a copy of the names.
+    pub fn to_vec(&self, alloc: Global, frames: &[usize]) -> Result<Vec<usize>, AllocError>
+        requires { IsIn frames.now self.now.frame }
+        ensures { IfOk result (λ v. v.items ≡ names_at frames.now self.now) }
+    {
+        let mut copy = Vec::new(alloc);
+        for position in 0..self.len() {
+            copy.push(self.get(frames, position))?;
+        }
+        Ok(copy)
     }
-    Ok(copy)
 }
 
 // Forgets all frames but one, in which 0, 1 and so on are the names.
@@ -91,14 +96,15 @@ pub fn name_slots(frames: &mut Vec<usize>, count: usize) -> Result<(), AllocErro
     Ok(())
 }
 
-// Names each number of a row: by the slot of the class that it stands for, or anew. Returns how many names there are then.
+// Adds a frame for a row, whose numbers stand for these slots of a class, or for none: then the name is a new one.
+// Returns how many names there are then.
 pub fn name_numbers(
     frames: &mut Vec<usize>,
     names: &Names<'_>,
     slots: &[usize],
     count: usize,
 ) -> Result<usize, AllocError>
-    requires names { AreIn frames.old.items names.now }
+    requires names { IsIn frames.old.items names.now.frame }
     requires count { count ≤ length frames.old.items }
     ensures frames { OnOk result (frames.new.items
         ≡ frames.old.items ++ names_for (names_at frames.old.items names.now) slots.now count) }

@@ -4,7 +4,7 @@ ghost use Rattle.std.specs.List.{find, list_any};
 ghost use Rattle.slotted_model_rules.specs.Matcher.{paired};
 ghost use Rattle.slotted_model_rules.specs.Goals.{paired_all};
 ghost use Rattle.slotted_match_machine.specs.Scratch.{GrowsTo};
-ghost use Rattle.slotted_match_machine.specs.Views.{AreIn, names_at};
+ghost use Rattle.slotted_match_machine.specs.Views.{IsIn, names_at};
 
 use crate::names::Names;
 use std::alloc::AllocError;
@@ -29,7 +29,8 @@ fn is_taken(pairs: &[(usize, usize)], slot: usize) -> bool
 
 // The name is to stand for the slot. Returns whether it may.
 fn pair(pairs: &mut Vec<(usize, usize)>, name: usize, slot: usize) -> Result<bool, AllocError>
-    ensures paired { IfOk result (λ y. paired (reverse pairs.old.items) name slot ≡ (if y then Some (reverse pairs.new.items) else None)) }
+    ensures paired { IfOk result (λ y. paired (reverse pairs.old.items) name slot
+        ≡ (if y then Some (reverse pairs.new.items) else None)) }
     ensures grows { OnOk result (GrowsTo pairs.old.items pairs.new.items) }
 {
     if let Some(other) = slot_of(pairs, name) {
@@ -49,12 +50,12 @@ pub fn pair_all(
     names: &Names<'_>,
     slots: &[usize],
 ) -> Result<bool, AllocError>
-    requires { AreIn frames.now names.now }
+    requires { IsIn frames.now names.now.frame }
     ensures paired { IfOk result (λ y. paired_all (reverse pairs.old.items) (names_at frames.now names.now) slots.now
         ≡ (if y then Some (reverse pairs.new.items) else None)) }
     ensures grows { OnOk result (GrowsTo pairs.old.items pairs.new.items) }
 {
-    if names.len(frames) != slots.len() {
+    if names.len() != slots.len() {
         return Ok(false);
     }
     for position in 0..slots.len() {

@@ -1,15 +1,15 @@
 // The machine's run: depth first, each row in its turn.
 ghost use Rattle.std.specs.Prelude.{◌≡◌, [], ◌∷◌, OnOk};
-ghost use Rattle.slotted_match_machine.specs.Machine.{answers_of, with_variable};
-ghost use Rattle.slotted_match_machine.specs.Views.{AreIn, names_at, occurrence_of};
+ghost use Rattle.slotted_match_machine.specs.Machine.{rows_in};
+ghost use Rattle.slotted_match_machine.specs.Views.{IsIn};
 ghost use Rattle.slotted_match_machine.specs.Scratch.{IsReadable, scratch_of, state_of};
-ghost use Rattle.slotted_match_machine.specs.Answers.{AddsAnswers, answered, answers_at_row, answers_at_rows, answers_with};
+ghost use Rattle.slotted_match_machine.specs.Answers.{AddsAnswers, answered, answers_from, answers_of_value, answers_of_row, answers_of_rows};
 
 use crate::answer::Answer;
 use crate::index::IndexRow;
 use crate::machine::Machine;
 use crate::program::Step;
-use crate::view::{View, is_same};
+use crate::view::View;
 use std::alloc::AllocError;
 
 impl<'a> Machine<'a> {
@@ -18,7 +18,7 @@ impl<'a> Machine<'a> {
     pub fn run(&mut self, steps: &[Step], answers: &mut Vec<Answer>) -> Result<(), AllocError>
         requires { IsReadable (scratch_of self.old) }
         ensures answers { OnOk result (AddsAnswers
-            (answers_of (scratch_of self.old).classes steps.now (state_of (scratch_of self.old)))
+            (answers_from (scratch_of self.old) steps.now)
             answers.old.items answers.new.items) }
         ensures kept { OnOk result (scratch_of self.new ≡ scratch_of self.old) }
     {
@@ -51,15 +51,14 @@ impl<'a> Machine<'a> {
         answers: &mut Vec<Answer>,
     ) -> Result<(), AllocError>
         requires readable { IsReadable (scratch_of self.old) }
-        requires names { AreIn self.old.frames.items from.now.names }
+        requires names { IsIn self.old.frames.items from.now.names.frame }
         ensures answers { OnOk result (AddsAnswers
-            (answers_with (scratch_of self.old).classes rest.now
-            (with_variable (state_of (scratch_of self.old)) number (occurrence_of self.old.frames.items from.now)))
+            (answers_of_value (scratch_of self.old) rest.now number from.now)
             answers.old.items answers.new.items) }
         ensures kept { OnOk result (scratch_of self.new ≡ scratch_of self.old) }
     {
         if let Some(value) = self.values.get(number) {
-            if is_same(&self.frames, value, from) {
+            if value.is_same(&self.frames, from) {
                 self.run(rest, answers)?;
             }
             return Ok(());
@@ -81,10 +80,10 @@ impl<'a> Machine<'a> {
         answers: &mut Vec<Answer>,
     ) -> Result<(), AllocError>
         requires readable { IsReadable (scratch_of self.old) }
-        requires names { AreIn self.old.frames.items from.now.names }
+        requires names { IsIn self.old.frames.items from.now.names.frame }
         ensures answers { OnOk result (AddsAnswers
-            (answers_at_rows (scratch_of self.old).classes rest.now (state_of (scratch_of self.old))
-            (occurrence_of self.old.frames.items from.now) outline slots.now)
+            (answers_of_rows (scratch_of self.old) rest.now from.now outline slots.now
+            (rows_in (scratch_of self.old).classes from.now.class))
             answers.old.items answers.new.items) }
         ensures kept { OnOk result (scratch_of self.new ≡ scratch_of self.old) }
     {
@@ -108,10 +107,9 @@ impl<'a> Machine<'a> {
         answers: &mut Vec<Answer>,
     ) -> Result<(), AllocError>
         requires readable { IsReadable (scratch_of self.old) }
-        requires names { AreIn self.old.frames.items from.now.names }
+        requires names { IsIn self.old.frames.items from.now.names.frame }
         ensures answers { OnOk result (AddsAnswers
-            (answers_at_row (scratch_of self.old).classes rest.now (state_of (scratch_of self.old))
-            (names_at self.old.frames.items from.now.names) slots.now row.now)
+            (answers_of_row (scratch_of self.old) rest.now from.now slots.now row.now)
             answers.old.items answers.new.items) }
         ensures kept { OnOk result (scratch_of self.new ≡ scratch_of self.old) }
     {
@@ -119,7 +117,7 @@ impl<'a> Machine<'a> {
         if self.enter(row, from, slots)? {
             self.run(rest, answers)?;
         }
-        self.cut(mark);
+        self.backtrack(mark);
         Ok(())
     }
 }
@@ -127,7 +125,9 @@ impl<'a> Machine<'a> {
 // Adds what the machine answers when no step is left.
 fn push_answer(machine: &Machine<'_>, answers: &mut Vec<Answer>) -> Result<(), AllocError>
     requires { IsReadable (scratch_of machine.now) }
-    ensures { OnOk result (AddsAnswers (answered (state_of (scratch_of machine.now)) ∷ []) answers.old.items answers.new.items) }
+    ensures { OnOk result (AddsAnswers
+        (answered (state_of (scratch_of machine.now)) ∷ [])
+        answers.old.items answers.new.items) }
 {
     let answer = machine.answer()?;
     answers.push(answer)?;

@@ -1,9 +1,7 @@
 -- Fewer steps are left for each row and for each value. Each row adds its answers, and is taken back.
 use Rattle.std.proofs.Common.{◌≡◌, ◌+◌, ◌*◌, take, length}
-use Rattle.slotted_match_machine.specs.Views.{names_at}
-use Rattle.slotted_match_machine.specs.Scratch.{scratch_of, state_of}
-use Rattle.slotted_match_machine.specs.Answers.{AddsAnswers}
-use Rattle.slotted_match_machine.proofs.RowAnswers.{answers_by_outline}
+use Rattle.slotted_match_machine.specs.Scratch.{scratch_of}
+use Rattle.slotted_match_machine.specs.Answers.{AddsAnswers, answers_of_rows}
 use Rattle.slotted_match_machine.proofs.machine.Machine.+run.Given as goal
 
 abbrev pub decreases-run : goal.decreases-run
@@ -19,9 +17,7 @@ abbrev pub decreases-visit_rows : goal.decreases-visit_rows
 decreases-visit_rows l = 3 * length l.rest.now + 2
 
 abbrev pub invariant-visit_rows-loop-row : goal.invariant-visit_rows-loop-row
-invariant-visit_rows-loop-row l =
-    let s = scratch_of l.initial.self in
-    record {
-      answers : AddsAnswers (answers_by_outline s.classes l.rest (state_of s) (names_at s.frames l.from.names) l.outline l.slots (take l.row-index l.row-items)) l.initial.answers.items l.answers.items;
-      kept : scratch_of l.self ≡ s;
-    }
+invariant-visit_rows-loop-row l = record {
+  answers : AddsAnswers (answers_of_rows (scratch_of l.initial.self) l.rest l.from l.outline l.slots (take l.row-index l.row-items)) l.initial.answers.items l.answers.items;
+  kept : scratch_of l.self ≡ scratch_of l.initial.self;
+}
