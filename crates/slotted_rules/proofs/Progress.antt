@@ -7,7 +7,7 @@ use Rattle.slotted_core.specs.Image.{Image}
 use Rattle.slotted_graph.specs.Measure.{IsProgress}
 use Rattle.slotted_rules.specs.Applying.{HasProgressed}
 
-pub same_measure : ProgressMeasure → ProgressMeasure → Bool
+unfoldable pub same_measure : ProgressMeasure → ProgressMeasure → Bool
 same_measure n m =
     nat_eq n.number_of_classes m.number_of_classes && (nat_eq n.number_of_live_classes m.number_of_live_classes && (nat_eq n.sum_of_slots m.sum_of_slots && nat_eq n.sum_of_symmetries m.sum_of_symmetries))
 
@@ -21,11 +21,30 @@ one-measure g m n p q = λ i. record {
 
 same-itself : (m : ProgressMeasure) → same_measure m m ≡ true
 unfolding same_measure
-same-itself m = ?
+same-itself m = grind (arith, itself)
+  where
+    itself : (x : ℕ) → nat_eq x x ≡ true
+    itself x = eq-eqb x x refl
 
 equal-same : (n m : ProgressMeasure) → same_measure n m ≡ true → m ≡ n
 unfolding same_measure
-equal-same n m e = ?
+equal-same n m e =
+    let a = split (nat_eq n.number_of_classes m.number_of_classes) _ e in
+    let b = split (nat_eq n.number_of_live_classes m.number_of_live_classes) _ a.1 in
+    let c = split (nat_eq n.sum_of_slots m.sum_of_slots) _ b.1 in
+    λ i. record {
+      number_of_classes = sym (equal n.number_of_classes m.number_of_classes a.0) i;
+      number_of_live_classes = sym (equal n.number_of_live_classes m.number_of_live_classes b.0) i;
+      sum_of_slots = sym (equal n.sum_of_slots m.sum_of_slots c.0) i;
+      sum_of_symmetries = sym (equal n.sum_of_symmetries m.sum_of_symmetries c.1) i;
+    }
+  where
+    split : (x y : Bool) → (x && y) ≡ true → (x ≡ true) × (y ≡ true)
+    split true y e = (refl, e)
+    split false y e = absurd (false≢true e)
+
+    equal : (x y : ℕ) → nat_eq x y ≡ true → x ≡ y
+    equal x y e = grind arith
 
 pub progressed : (g h : Image) (m n : ProgressMeasure) → IsProgress g m → IsProgress h n → (y : Bool) → y ≡ not (same_measure n m) → IsTrue y ↔ HasProgressed g h
 progressed g h m n p q y is = (
