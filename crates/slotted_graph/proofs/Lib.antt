@@ -4,6 +4,8 @@ pub mod Enodes
 pub mod MadeOfEntries
 pub mod LeastLater
 pub mod Extending
+pub mod PatternLookUps
+pub mod Matching
 -- What the crates above cite, handed on.
 pub use Rattle.slotted_core.proofs.CallerLemmas
 pub use Rattle.slotted_core.proofs.YesesStay

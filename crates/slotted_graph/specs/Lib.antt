@@ -3,6 +3,8 @@ pub mod Measure
 pub mod FiledNodes
 pub mod LeastTerms
 pub mod States
+pub mod PatternLookUps
+pub mod Matching
 pub mod Extension
 -- The words of the clauses of its calls, handed on to the crates above.
 pub use Rattle.slotted_core.specs.Graph

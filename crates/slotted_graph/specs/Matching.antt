@@ -1,0 +1,47 @@
+-- What is found where a pattern is matched against the classes of a graph.
+--     AreValidValues g s     each value is a valid id of the graph
+--     FindsAll g p found     the answers are what a search finds, over all filed nodes, where the matcher is run at each live class
+--     HasAllSlots g          no class has dropped a slot
+--     IsFoundUpTo g p found σ   σ is found, up to what finds alike and one renaming that leaves the pattern's slots
+--     FindsEach g p found    where no class has dropped a slot, each substitution that is looked up is found so
+use Rattle.std.specs.Prelude.{◌≡◌, ◌↔◌, ◌<◌, ℕ, List, length, Contains, Some}
+use Rattle.slotted_theory.specs.Renaming.{Bijection}
+use Rattle.slotted_model.specs.Applied.{Applied, renamed_id}
+use Rattle.slotted_model.specs.Classes.{canonical_slots}
+use Rattle.slotted_model.specs.State.{Row, State}
+use Rattle.slotted_model_rules.specs.Complete.{HasOwnBinders}
+use Rattle.slotted_model_rules.specs.Conditions.{Values}
+use Rattle.slotted_model_rules.specs.Matcher.{EachSlot}
+use Rattle.slotted_model_rules.specs.Patterns.{Pattern, EachVariable}
+use Rattle.slotted_model_rules.specs.Rules.{Searches, valued}
+use Rattle.slotted_core.specs.Graph.{Graph}
+use Rattle.slotted_core.specs.Image.{found_id}
+use Rattle.slotted_core.specs.ValidIds.{IsValidId, slots_left}
+use Rattle.slotted_graph.specs.PatternLookUps.{look_up_pattern}
+use Rattle.slotted_graph.specs.States.{IsStateOf}
+
+abbrev pub AreValidValues : Graph → Values → Type 0
+AreValidValues g s = (p : List ℕ × Applied) → Contains s p → IsValidId g p.1
+
+-- just the filed nodes of the graph are gone through
+pub record FindsAll (g : Graph) (p : Pattern) (found : List Values) : Type 0 where
+  pub state : State
+  pub is_state : IsStateOf g state
+  pub order : List Row
+  pub rows : (r : Row) → Contains state.rows r ↔ Contains order r
+  pub searches : Searches state order p found
+
+abbrev pub HasAllSlots : Graph → Type 0
+HasAllSlots g = (c : ℕ) → c < length g.image.canonical → slots_left g.image c ≡ canonical_slots g.image.canonical c
+
+pub record IsFoundUpTo (g : Graph) (p : Pattern) (found : List Values) (σ : List ℕ → Applied) : Type 0 where
+  pub values : Values
+  pub is_found : Contains found values
+  pub names : Bijection
+  pub slots : EachSlot (λ t. names.to t ≡ t) p
+  pub each : EachVariable (λ v. found_id g.image (valued values v) ≡ renamed_id names.to (found_id g.image (σ v))) p
+
+-- if each binder of the pattern has a name of its own, which stands in its scope alone, in values too
+abbrev pub FindsEach : Graph → Pattern → List Values → Type 0
+FindsEach g p found = HasAllSlots g → (σ : List ℕ → Applied) → EachVariable (λ v. IsValidId g (σ v)) p → HasOwnBinders σ p → (x : Applied) →
+    look_up_pattern g (λ y. y) σ p ≡ Some x → IsFoundUpTo g p found σ
