@@ -1,3 +1,4 @@
 -- Lemmas of rules.
 pub mod AppliedRules
 pub mod Progress
+pub mod KnownPatterns

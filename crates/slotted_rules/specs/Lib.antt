@@ -4,3 +4,4 @@ pub mod Asking
 pub mod TreeAnswers
 pub mod Applying
 pub mod Loops
+pub mod Written

@@ -6,10 +6,13 @@ pub mod asking;
 pub mod condition;
 pub mod condition_tree;
 pub(crate) mod failing;
+pub mod macros;
+pub mod rewrite;
 pub mod rule;
 
 pub use applying::apply_rewrites;
 pub use asking::{and, not, or, slot_free_in};
 pub use condition::{Always, And, Cond, Not, Or, SlotFreeIn};
 pub use condition_tree::CondTree;
+pub use rewrite::Rewrite;
 pub use rule::RewriteT;

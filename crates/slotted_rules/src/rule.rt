@@ -49,7 +49,12 @@ pub trait RewriteT<L: Language, N: Drop>: Drop {
         ensures err { IfErr result (λ e. (e ≡ Error.Failed) ⊎ IsShortage e ⊎ refuses self.now e) };
 
     /// Does with what was found what the rule is for.
-    fn apply(&self, alloc: Global, found: Self::Found, graph: &mut EGraph<L, N>) -> Result<(), Error>
+    fn apply(
+        &self,
+        alloc: Global,
+        found: Self::Found,
+        graph: &mut EGraph<L, N>,
+    ) -> Result<(), Error>
         requires valid { IsTrue graph.old.failed ⊎ valid self.now graph.old }
         requires found { IsTrue graph.old.failed ⊎ can_apply self.now found graph.old }
         ensures ok { OnOk result (applies self.now found graph.old graph.new) }

@@ -1,0 +1,24 @@
+//! Rules in one line.
+
+/// The rule `name: left => right` over a table of slots, with a condition after `if`, or one that has to fail after `if !`.
+///
+/// `rw!(alloc, table; "eta"; "(lam $x (app ?f (var $x)))" => "?f", if slot_free_in(alloc, x, "f")?)`
+#[macro_export]
+macro_rules! rw {
+    ($alloc:expr, $table:expr; $name:expr; $left:expr => $right:expr, if !$condition:expr) => {
+        $crate::rewrite::Rewrite::new_if(
+            $alloc,
+            $name,
+            $left,
+            $right,
+            $crate::asking::not($condition),
+            $table,
+        )
+    };
+    ($alloc:expr, $table:expr; $name:expr; $left:expr => $right:expr, if $condition:expr) => {
+        $crate::rewrite::Rewrite::new_if($alloc, $name, $left, $right, $condition, $table)
+    };
+    ($alloc:expr, $table:expr; $name:expr; $left:expr => $right:expr) => {
+        $crate::rewrite::Rewrite::new($alloc, $name, $left, $right, $table)
+    };
+}
