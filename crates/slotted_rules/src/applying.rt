@@ -13,6 +13,21 @@ use slotted_slots::Error;
 use std::alloc::Global;
 use std::collections::VecDeque;
 
+/// Whether each rule can be handed to calls on this graph. It takes no memory.
+pub fn are_valid<L: Language, N: Drop, R: RewriteT<L, N>>(
+    graph: &EGraph<L, N>,
+    rules: &[R],
+) -> bool
+    ensures { IsTrue result → IsTrue graph.now.failed ⊎ All (λ r. R.valid r graph.now) rules.now }
+{
+    for rule in rules {
+        if !rule.is_valid(graph) {
+            return false;
+        }
+    }
+    true
+}
+
 // What each rule found, in order.
 fn search_all<L: Language, N: Drop, R: RewriteT<L, N>>(
     alloc: Global,

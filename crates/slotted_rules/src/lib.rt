@@ -10,7 +10,7 @@ pub mod macros;
 pub mod rewrite;
 pub mod rule;
 
-pub use applying::apply_rewrites;
+pub use applying::{apply_rewrites, are_valid};
 pub use asking::{and, not, or, slot_free_in};
 pub use condition::{Always, And, Cond, Not, Or, SlotFreeIn};
 pub use condition_tree::CondTree;
