@@ -1,0 +1,22 @@
+-- What holds of what a call answers.
+use Rattle.std.proofs.Common.{◌≡◌, sym, subst}
+use Rattle.std.specs.Prelude.{Result, Ok, Err, IfOk, OnOk, OnErr}
+
+module _ {A E : Type 0} where
+  -- of a copy holds what holds of what is copied
+  pub ok-copied : (r : Result A E) (P : A → Type 0) (a : A) → IfOk r (λ c. c ≡ a) → P a → IfOk r P
+  ok-copied (Ok c) P a e h = subst P (sym e) h
+  ok-copied (Err x) P a e h = tt
+
+  pub err-then : (r : Result A E) {P : Type 0} → P → OnErr r P
+  err-then (Ok c) h = tt
+  err-then (Err x) h = h
+
+  -- three facts of an answer make one
+  pub ok-added : (r : Result A E) (P Q S : A → Type 0) (T : Type 0) → IfOk r Q → IfOk r S → OnOk r T → ((a : A) → Q a → S a → T → P a) → IfOk r P
+  ok-added (Ok a) P Q S T q s t made = made a q s t
+  ok-added (Err x) P Q S T q s t made = tt
+
+  pub err-mapped : (r : Result A E) {P Q : Type 0} → OnErr r P → (P → Q) → OnErr r Q
+  err-mapped (Ok c) h f = tt
+  err-mapped (Err x) h f = f h

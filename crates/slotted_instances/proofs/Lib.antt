@@ -1,0 +1,6 @@
+-- Lemmas on building in a graph.
+pub mod Growing
+pub mod NodesOver
+pub mod Walking
+pub mod SameIds
+pub mod Answering
