@@ -20,3 +20,7 @@ module _ {A E : Type 0} where
   pub err-mapped : (r : Result A E) {P Q : Type 0} → OnErr r P → (P → Q) → OnErr r Q
   err-mapped (Ok c) h f = tt
   err-mapped (Err x) h f = f h
+
+  pub ok-mapped : (r : Result A E) {P Q : A → Type 0} → IfOk r P → ((a : A) → P a → Q a) → IfOk r Q
+  ok-mapped (Ok a) h f = f a h
+  ok-mapped (Err x) h f = tt

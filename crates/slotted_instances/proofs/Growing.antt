@@ -70,3 +70,34 @@ later-builds f g h b (inr c) = inr (builds-then f g h b c)
 
 pub full-builds : (g h : Graph) (a : Applied) → Builds g h → IsFullId g a → IsFullId h a
 full-builds g h a b full = full-extends g h a b.grows.extends full
+
+-- the same of what only grows
+
+pub grows-itself : (g : Graph) → IsGraph g → Grows g g
+grows-itself g is = record { graph = is; extends = extends-itself g }
+
+pub grows-then : (f g h : Graph) → Grows f g → Grows g h → Grows f h
+grows-then f g h b c = record { graph = c.graph; extends = extends-then f g h b.extends c.extends }
+
+pub grows-takes : (g h : Graph) → IsGraph g → OnlyTakesSlots g h → Grows g h
+grows-takes g h is takes = record { graph = graph-takes g h is takes; extends = extends-takes g h takes }
+
+pub later-grows : (f g h : Graph) → Grows f g → IsTrue h.failed ⊎ Grows g h → IsTrue h.failed ⊎ Grows f h
+later-grows f g h b (inl failed) = inl failed
+later-grows f g h b (inr c) = inr (grows-then f g h b c)
+
+pub extended-grows : (g h : Graph) → IsTrue h.failed ⊎ IsGraph h → IsTrue h.failed ⊎ ExtendsTo g h → IsTrue h.failed ⊎ Grows g h
+extended-grows g h (inl failed) e = inl failed
+extended-grows g h (inr is) (inl failed) = inl failed
+extended-grows g h (inr is) (inr e) = inr (record { graph = is; extends = e })
+
+-- three times
+pub filled-grows : (g e f i : Graph) → IsGraph g → OnlyTakesSlots g e → OnlyTakesSlots e f → OnlyTakesSlots f i → Grows g i
+filled-grows g e f i is first second third =
+    let one = grows-takes g e is first in
+    let two = grows-then g e f one (grows-takes e f one.graph second) in
+    grows-then g f i two (grows-takes f i two.graph third)
+
+pub later-built : (f g h : Graph) → Grows f g → IsTrue h.failed ⊎ Builds g h → IsTrue h.failed ⊎ Grows f h
+later-built f g h b (inl failed) = inl failed
+later-built f g h b (inr c) = inr (grows-then f g h b c.grows)

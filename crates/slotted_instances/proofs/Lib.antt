@@ -4,3 +4,7 @@ pub mod NodesOver
 pub mod Walking
 pub mod SameIds
 pub mod Answering
+pub mod Putting
+pub mod Answers
+pub mod Parts
+pub mod BuiltInstances

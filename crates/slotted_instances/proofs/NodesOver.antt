@@ -24,12 +24,12 @@ use Rattle.slotted_rule_patterns.specs.NodeArguments.{args_of, node_arguments}
 
 -- lists of which something holds
 
-Each-take : {X : Type 0} (P : X → Type 0) (n : ℕ) (xs : List X) → Each P xs → Each P (take n xs)
+pub Each-take : {X : Type 0} (P : X → Type 0) (n : ℕ) (xs : List X) → Each P xs → Each P (take n xs)
 Each-take P zero xs h = tt
 Each-take P (suc n) [] h = tt
 Each-take P (suc n) (x ∷ xs) h = (h.0, Each-take P n xs h.1)
 
-Each-drop : {X : Type 0} (P : X → Type 0) (n : ℕ) (xs : List X) → Each P xs → Each P (drop n xs)
+pub Each-drop : {X : Type 0} (P : X → Type 0) (n : ℕ) (xs : List X) → Each P xs → Each P (drop n xs)
 Each-drop P zero xs h = h
 Each-drop P (suc n) [] h = tt
 Each-drop P (suc n) (x ∷ xs) h = Each-drop P n xs h.1
@@ -38,7 +38,7 @@ Each-join : {X : Type 0} (P : X → Type 0) (xs ys : List X) → Each P xs → E
 Each-join P [] ys h k = k
 Each-join P (x ∷ xs) ys h k = (h.0, Each-join P xs ys h.1 k)
 
-first-of : (P : ℕ → Type 0) (xs : List ℕ) (n : ℕ) → length xs ≡ suc n → Each P xs → P (slice_index xs 0)
+pub first-of : (P : ℕ → Type 0) (xs : List ℕ) (n : ℕ) → length xs ≡ suc n → Each P xs → P (slice_index xs 0)
 first-of P [] n e h = absurd (omega (arith, e))
 first-of P (x ∷ xs) n e h = h.0
 

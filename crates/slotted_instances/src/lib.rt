@@ -2,4 +2,8 @@
 #![tactic(auto)]
 
 mod adding;
+mod building;
+pub mod method;
 mod substitution;
+
+pub use method::OwnSubst;

@@ -1,0 +1,252 @@
+-- The instance of a pattern from those of its parts.
+use Rattle.std.proofs.Common.{◌≡◌, ◌∙◌, ap, refl, sym, subst, inl, inr, ℕ, zero, suc, ◌+◌, ◌<◌, ◌≤◌, List, [], ◌∷◌, ◌++◌, length, arith, length-append}
+use Rattle.std.specs.Prelude.{◌⊎◌, IsTrue, All, Contains, Bool, Option, Some, None, IsSome, is_some, true, slice_index_or}
+use Rattle.std.proofs.lemmas.Bool.{cases_eq, false≢true}
+use Rattle.std.proofs.lemmas.List.{get_or_append_left}
+use Rattle.std.proofs.lemmas.List.Elements.{Contains-append_left, Contains-append_right, Contains-append_cases}
+use Rattle.std.proofs.Math.Seq.{get_or-append_seam}
+use Rattle.slotted_slots.specs.declared.types.AppliedId.{AppliedId}
+use Rattle.slotted_slots.specs.Table.{Table, is_known}
+use Rattle.slotted_slots.specs.Maps.{keys, values}
+use Rattle.slotted_theory.specs.Nameless.{DArgs, DTerm}
+use Rattle.slotted_theory.proofs.Values.{node}
+use Rattle.slotted_nodes.specs.Form.{Form, children, with_applied, with_child}
+use Rattle.slotted_languages.specs.NodeTerm.{nameless_node}
+use Rattle.slotted_languages.specs.Shape.{Fits}
+use Rattle.slotted_terms.specs.Valid.{AllKnown}
+use Rattle.slotted_model.specs.Applied.{Applied}
+use Rattle.slotted_model.specs.Classes.{term_of, layer_of}
+use Rattle.slotted_model_rules.specs.Conditions.{Values}
+use Rattle.slotted_model_rules.specs.Instances.{IsAnswer, HasAnswers}
+use Rattle.slotted_model_rules.specs.Matcher.{value_at}
+use Rattle.slotted_model_rules.specs.Patterns.{Pattern, pattern_node, variable, replacing}
+use Rattle.slotted_model_rules.specs.Rules.{valued, id_or_none}
+use Rattle.slotted_model_rules.proofs.Instantiating.{built-nodes}
+use Rattle.slotted_model_rules.proofs.Laws.{pattern-laws}
+use Rattle.slotted_model_rules.proofs.ReplacedIds.{filled-stays}
+use Rattle.slotted_patterns.specs.Known.{AreKnown, HasKnownNames, HaveKnownNames}
+use Rattle.slotted_patterns.specs.Tree.{PatternTree, enode, pvar, substitution, row_of}
+use Rattle.slotted_proofs.specs.Equations.{to_applied}
+use Rattle.slotted_store.specs.ChildIds.{child_ids}
+use Rattle.slotted_store.proofs.ChildIds.{Each-from_All}
+use Rattle.slotted_store.proofs.KeptLists.{any_default}
+use Rattle.slotted_adding.specs.Filling.{node_over}
+use Rattle.slotted_adding.proofs.NodesOver.{node_over-none, node_over-more, child_ids-over, length-over}
+use Rattle.slotted_core.proofs.CallerLemmas.{full-valid}
+use Rattle.slotted_graph.proofs.Extending.{extends-itself}
+use Rattle.slotted_graph.specs.Adding.{AddsSyn}
+use Rattle.slotted_graph.specs.Graph.{Graph, IsFullId}
+use Rattle.slotted_graph.specs.States.{IsGraph}
+use Rattle.slotted_graph.specs.Extension.{ExtendsTo}
+use Rattle.slotted_graph.specs.ValidIds.{IsValidId}
+use Rattle.slotted_rule_patterns.specs.PatternCode.{pattern_in, patterns_in}
+use Rattle.slotted_rule_patterns.specs.Variables.{has_value, variables_of, variables_of_row}
+use Rattle.slotted_rule_patterns.proofs.KnownVariables.{entry-valued}
+use Rattle.slotted_rule_patterns.proofs.Parts.{node-parts, replacing-parts}
+use Rattle.slotted_rule_patterns.proofs.Whole.{length-patterns}
+use Rattle.slotted_instances.specs.Building.{Builds}
+use Rattle.slotted_instances.specs.Instances.{AreValidValues, HasValues, IsAnswerFor, Instantiates}
+use Rattle.slotted_instances.specs.Methods.{Method, represented, IsKnownMethod, AreRepresentatives}
+use Rattle.slotted_instances.specs.Putting.{PutsIn}
+use Rattle.slotted_instances.proofs.Answers.{method-moves, method-more, answer-more, answer-stays, Makes, makes-then, makes-instance, instance-wider, EachPair, IsAnswerOver, over-answers}
+use Rattle.slotted_instances.proofs.Growing.{graph-canonical, grows-itself, grows-then}
+use Rattle.slotted_instances.proofs.NodesOver.{known-over}
+use Rattle.slotted_instances.proofs.Parts.{pattern_at, all-known, part-at}
+use Rattle.slotted_instances.proofs.Putting.{representatives-longer}
+use Rattle.slotted_instances.proofs.Walking.{at}
+
+pub makes-itself : (m : Method) (g : Graph) → IsGraph g → Makes m g g
+makes-itself m g is = record { grows = grows-itself g is; asserts = λ k. refl }
+
+-- the pairs of two lists represent
+pub representatives-both : (g h : Graph) (X Y : List (DTerm × DTerm)) → AreRepresentatives g h X → AreRepresentatives g h Y → AreRepresentatives g h (X ++ Y)
+representatives-both g h X Y e d p c = elim (Contains-append_cases X Y p c) [ inl k ↦ e p k | inr k ↦ d p k ]
+
+-- after k children: n is the node over ids of instances of these
+pub record AreBuilt (m : Method) (g : Graph) (s : Values) (f : Form) (qs : List PatternTree) (h : Graph) (n : Form) (k : ℕ) : Type 0 where
+  pub ids : List Applied
+  pub count : length ids ≡ k
+  pub form : n ≡ node_over f ids
+  pub makes : Makes m g h
+  pub each : (j : ℕ) → j < k → Instantiates m g h s (pattern_at qs j) (at ids j)
+
+module _ (m : Method) (g : Graph) (s : Values) (f : Form) (qs : List PatternTree) (fits : Fits f) where
+  pub built-start : IsGraph g → AreBuilt m g s f qs g f 0
+  built-start is = record {
+    ids = [];
+    count = refl;
+    form = sym (node_over-none f fits);
+    makes = makes-itself m g is;
+    each = λ j l. absurd (omega arith);
+  }
+
+  module _ (h : Graph) (n : Form) (k : ℕ) (b : AreBuilt m g s f qs h n k) where
+    pub built-count : length (children n.tree) ≡ length (children f.tree)
+    built-count = ap (λ (z : Form). length (children z.tree)) b.form ∙ length-over f.tree b.ids
+
+    pub built-step : (i : Graph) (o : Form) (c : AppliedId) → IsGraph g → k < length (children f.tree) → Instantiates m h i s (pattern_at qs k) (to_applied c) → o ≡ with_applied n k c → AreBuilt m g s f qs i o (k + 1)
+    built-step i o c is l r put =
+        let a : Applied = to_applied c in
+        let more : Makes m h i = makes-instance m h i s (pattern_at qs k) a r in
+        record {
+          ids = b.ids ++ a ∷ [];
+          count = omega (arith, b.count, length-append b.ids (a ∷ []));
+          form = put ∙ (ap (λ (z : Form). with_child z k a.0 (keys a.1) (values a.1)) b.form ∙ node_over-more f b.ids k a b.count l fits);
+          makes = makes-then m g h i b.makes more;
+          each = λ p q. elim (cases_eq p k) [
+            | inl e ↦
+                let new : Instantiates m g i s (pattern_at qs k) a = instance-wider m g h i i s (pattern_at qs k) a b.makes (makes-itself m i r.grows.graph) r in
+                subst (λ (z : Applied). Instantiates m g i s (pattern_at qs p) z) (sym (ap (at (b.ids ++ a ∷ [])) (e ∙ sym b.count) ∙ get_or-append_seam b.ids a [] (0, [])))
+                (subst (λ z. Instantiates m g i s (pattern_at qs z) a) (sym e) new)
+            | inr ne ↦
+                let lt : p < k = omega (arith, q, ne) in
+                subst (λ (z : Applied). Instantiates m g i s (pattern_at qs p) z) (sym (get_or_append_left b.ids (a ∷ []) (0, []) p (omega (arith, lt, b.count))))
+                (instance-wider m g g h i s (pattern_at qs p) (at b.ids p) (makes-itself m g is) more (b.each p lt))
+          ];
+        }
+
+    -- it can be added
+    ids-valid : (j : ℕ) (d : Applied) → j < length b.ids → IsValidId h (slice_index_or b.ids j d)
+    ids-valid j d l = subst (IsValidId h) (any_default b.ids j (0, []) d l) (b.each j (omega (arith, l, b.count))).valid
+
+    pub built-known : k ≡ length (children f.tree) → AreKnown g.table f.names → AllKnown h.table n.names
+    built-known e known =
+        let more = b.makes.grows.extends.more in
+        subst (λ (z : Form). AllKnown h.table z.names) (sym b.form)
+        (known-over h.table f b.ids fits (λ j d l. more _ (all-known g.table f.names known j d l)) (λ j d l. (ids-valid j d l).known))
+
+    pub built-children : k ≡ length (children f.tree) → All (IsValidId h) (child_ids n)
+    built-children e =
+        let is : child_ids n ≡ b.ids = ap child_ids b.form ∙ child_ids-over f b.ids fits (b.count ∙ e) in
+        subst (All (IsValidId h)) (sym is) ids-valid
+
+    -- all answers, by the pairs of all
+    record Gathered (j : ℕ) : Type 0 where
+      pub pairs : List (DTerm × DTerm)
+      pub are : AreRepresentatives g h pairs
+      pub answers : (i : ℕ) → i < j → (p : Pattern) → pattern_in (pattern_at qs i) ≡ Some p → (given : List ℕ) → AllKnown g.table given → IsAnswer (represented m pairs) h.image.canonical given (valued s) p (at b.ids i)
+
+    gathered : IsKnownMethod m → (j : ℕ) → j ≤ k → Gathered j
+    gathered km zero l = record { pairs = []; are = λ p c. absurd (omega (arith, c.1)); answers = λ i h. absurd (omega arith) }
+    gathered km (suc j) l =
+        let before = gathered km j (omega arith) in
+        let here = (b.each j (omega arith)).instance km in
+        let all : List (DTerm × DTerm) = before.pairs ++ here.pairs in
+        record {
+          pairs = all;
+          are = representatives-both g h before.pairs here.pairs before.are here.are;
+          answers = λ i lt p e given known. elim (cases_eq i j) [
+            | inl same ↦
+                subst (λ z. IsAnswer (represented m all) h.image.canonical given (valued s) p (at b.ids z)) (sym same)
+                (answer-more m here.pairs all (λ q c. Contains-append_right before.pairs here.pairs q c) h.image.canonical (valued s) given p (at b.ids j)
+                (here.answers p (ap (λ z. pattern_in (pattern_at qs z)) (sym same) ∙ e) given known))
+            | inr other ↦
+                answer-more m before.pairs all (λ q c. Contains-append_left before.pairs here.pairs q c) h.image.canonical (valued s) given p (at b.ids i)
+                (before.answers i (omega (arith, lt, other)) p e given known)
+          ];
+        }
+
+    pub built-node : k ≡ length (children f.tree) → length qs ≡ length (children f.tree) → AreKnown g.table f.names → (i : Graph) (a : Applied) → AddsSyn h i n a → Builds h i → IsFullId i a → Instantiates m g i s (enode f (row_of qs)) a
+    built-node e ce own i a syn builds full = record {
+      grows = grows-then g h i b.makes.grows builds.grows;
+      valid = full-valid i a full;
+      instance = λ km.
+          let all = gathered km k (omega arith) in
+          record {
+            asserts = builds.asserts ∙ b.makes.asserts km;
+            pairs = all.pairs;
+            are = representatives-longer g g h i all.pairs (itself g) builds.grows.extends all.are;
+            answers = λ p is given known. answers km all p is given known;
+          };
+    }
+      where
+        itself : (g : Graph) → ExtendsTo g g
+        itself g = extends-itself g
+
+        each-pair : (P : Pattern → Applied → Type 0) (ps : List Pattern) (bs : List Applied) → length ps ≡ length bs → ((j : ℕ) → j < length ps → P (slice_index_or ps j (variable [])) (at bs j)) → EachPair P ps bs
+        each-pair P [] bs l all = tt
+        each-pair P (p ∷ ps) [] l all = absurd (omega (arith, l))
+        each-pair P (p ∷ ps) (b ∷ bs) l all = (all 0 (omega arith), each-pair P ps bs (omega (arith, l)) (λ j lt. all (suc j) (omega (arith, lt))))
+
+        answers : IsKnownMethod m → (all : Gathered k) → (p : Pattern) → pattern_in (enode f (row_of qs)) ≡ Some p → (given : List ℕ) → AllKnown g.table given → IsAnswer (represented m all.pairs) i.image.canonical given (valued s) p a
+        answers km all p is given known =
+            let R = represented m all.pairs in
+            let parts = node-parts f (row_of qs) p is in
+            let o : Form = node_over f b.ids in
+            let on = builds.grows.extends.canonical in
+            let added : AddsSyn h i o a = subst (λ (z : Form). AddsSyn h i z a) b.form syn in
+            let fills = added.fills given (λ j d l. b.makes.grows.extends.more _ (known j d l)) in
+            let pairs : EachPair (IsAnswerOver R i.image.canonical (valued s) g.table) parts.patterns b.ids =
+            each-pair (IsAnswerOver R i.image.canonical (valued s) g.table) parts.patterns b.ids (parts.count ∙ (sym e ∙ sym b.count))
+            (λ j lt given known.
+            answer-stays R h.image.canonical i.image.canonical on (valued s) given (slice_index_or parts.patterns j (variable [])) (at b.ids j)
+            (all.answers j (omega (arith, lt, parts.count, e)) (slice_index_or parts.patterns j (variable [])) (part-at qs parts.patterns parts.are j (omega (arith, lt, parts.count, ce))) given known)) in
+            let has : HasAnswers R i.image.canonical given (valued s) (λ y. y) _ (nameless_node o).args =
+            over-answers R i.image.canonical (valued s) g.table (λ y. y) given f.tree f.names b.ids parts.patterns fits (b.count ∙ e) parts.count
+            (Each-from_All (λ z. IsTrue (is_known g.table z)) f.names (all-known g.table f.names own)) known pairs in
+            subst (λ z. IsAnswer R i.image.canonical given (valued s) z a) (sym parts.is)
+            (built-nodes R (method-moves m all.pairs) i.image.canonical (graph-canonical i builds.grows.graph) (valued s) given (suc f.operator) f.payloads _ (nameless_node o).args added.node.args
+            has (filled-stays h.image.canonical i.image.canonical on given (nameless_node o).args added.node.args fills.children) a full.full
+            (added.term ∙ (λ z. layer_of i.image.canonical (node (fills.operator z) (fills.payloads z) added.node.args))))
+
+-- a variable has its value for an answer
+pub variable-instance : (m : Method) (g : Graph) (s : Values) → IsGraph g → AreValidValues g s → (v : List ℕ) (a : Applied) → value_at s v ≡ Some a → Instantiates m g g s (pvar v) a
+variable-instance m g s is valid v a found =
+    let value : valued s v ≡ a = ap id_or_none found in
+    record {
+      grows = grows-itself g is;
+      valid = subst (IsValidId g) value (entry-valued (IsValidId g) s v valid (ap is_some found));
+      instance = λ km. record {
+        asserts = refl;
+        pairs = [];
+        are = λ p c. absurd (omega (arith, c.1));
+        answers = λ p e given known. let same : variable v ≡ p = cc in inl (v, sym same, sym value);
+      };
+    }
+
+-- and a substitution what the method answers, for fillings of the answers for its parts
+pub substituted-instance : (m : Method) (g e f i h : Graph) (s : Values) (b x t : PatternTree) (body part value a : Applied) → IsGraph g → Instantiates m g e s b body → Instantiates m e f s x part → Instantiates m f i s t value →
+    PutsIn m i h body part value a → Instantiates m g h s (substitution b x t) a
+substituted-instance m g e f i h s b x t body part value a is nb nx nt put =
+    let one = makes-instance m g e s b body nb in
+    let two = makes-instance m e f s x part nx in
+    let three = makes-instance m f i s t value nt in
+    let last : Makes m i h = record { grows = put.grows; asserts = λ k. (put.filled k).stands.asserts } in
+    let before = makes-then m g f i (makes-then m g e f one two) three in
+    let wb = instance-wider m g g e h s b body (makes-itself m g is) (makes-then m e f h two (makes-then m f i h three last)) nb in
+    let wx = instance-wider m g e f h s x part one (makes-then m f i h three last) nx in
+    let wt = instance-wider m g f i h s t value (makes-then m g e f one two) last nt in
+    record {
+      grows = grows-then g i h before.grows put.grows;
+      valid = put.valid;
+      instance = λ km.
+          let q = put.filled km in
+          let pb = (wb.instance km).pairs in
+          let px = (wx.instance km).pairs in
+          let pt = (wt.instance km).pairs in
+          let pq = q.stands.pairs in
+          let all : List (DTerm × DTerm) = pb ++ (px ++ (pt ++ pq)) in
+          let more-x : (z : DTerm × DTerm) → Contains px z → Contains all z = λ z c. Contains-append_right pb (px ++ (pt ++ pq)) z (Contains-append_left px (pt ++ pq) z c) in
+          let more-t : (z : DTerm × DTerm) → Contains pt z → Contains all z = λ z c. Contains-append_right pb (px ++ (pt ++ pq)) z (Contains-append_right px (pt ++ pq) z (Contains-append_left pt pq z c)) in
+          let more-q : (z : DTerm × DTerm) → Contains pq z → Contains all z = λ z c. Contains-append_right pb (px ++ (pt ++ pq)) z (Contains-append_right px (pt ++ pq) z (Contains-append_right pt pq z c)) in
+          record {
+            asserts = q.stands.asserts ∙ before.asserts km;
+            pairs = all;
+            are =
+                representatives-both g h pb (px ++ (pt ++ pq)) (wb.instance km).are
+                (representatives-both g h px (pt ++ pq) (wx.instance km).are
+                (representatives-both g h pt pq (wt.instance km).are (representatives-longer g i h h pq before.grows.extends (extends-itself h) q.stands.are)));
+            answers = λ p found given known.
+                let n = replacing-parts b x t p found in
+                let R = represented m all in
+                let k : AllKnown i.table given = λ j d l. before.grows.extends.more _ (known j d l) in
+                subst (λ z. IsAnswer R h.image.canonical given (valued s) z a) (sym n.is)
+                (pattern-laws.replaced_are_instances R h.image.canonical given (valued s) n.body n.part n.value body part value q.body q.part q.value q.stands.body
+                (answer-more m pb all (λ z c. Contains-append_left pb (px ++ (pt ++ pq)) z c) h.image.canonical (valued s) given n.body body ((wb.instance km).answers n.body n.body_is given known))
+                (answer-more m px all more-x h.image.canonical (valued s) given n.part part ((wx.instance km).answers n.part n.part_is given known))
+                (answer-more m pt all more-t h.image.canonical (valued s) given n.value value ((wt.instance km).answers n.value n.value_is given known))
+                (q.body_fills given k) (q.part_fills given k) (q.value_fills given k)
+                (method-more m pq all more-q (term_of h.image.canonical q.body) q.stands.body q.stands.stands)
+                a q.stands.full.full q.stands.term);
+          };
+    }

@@ -1,0 +1,47 @@
+use Rattle.std.proofs.Common.{inl, inr}
+use Rattle.slotted_proofs.specs.Equations.{to_applied}
+use Rattle.slotted_instances.proofs.Answering.{err-then}
+use Rattle.slotted_instances.proofs.Growing.{extended-grows, filled-grows, grows-takes, grows-then, later-grows}
+use Rattle.slotted_instances.proofs.Putting.{ok-put}
+use Rattle.slotted_instances.proofs.building.put_in.Goals as goal
+
+pub returns-in_err-b-clause-err : goal.returns-in_err-b-clause-err
+returns-in_err-b-clause-err g c =
+    err-then c.from_residual.result (inr (grows-takes c.args.graph.now c.full_id.new.self c.requires.graph c.full_id.ensures.takes))
+
+pub full_id-requires-2 : goal.full_id-requires-2
+full_id-requires-2 g c =
+    inr ((grows-takes c.args.graph.now c.full_id.new.self c.requires.graph c.full_id.ensures.takes).extends.valid (to_applied c.args.x.now) c.requires.part)
+
+pub returns-in_err-x-clause-err : goal.returns-in_err-x-clause-err
+returns-in_err-x-clause-err g c =
+    let one = grows-takes c.args.graph.now c.full_id.new.self c.requires.graph c.full_id.ensures.takes in
+    err-then c.from_residual-in_err-x.result (inr (grows-then c.args.graph.now c.full_id.new.self c.full_id-2.new.self one (grows-takes c.full_id.new.self c.full_id-2.new.self one.graph c.full_id-2.ensures.takes)))
+
+pub full_id-requires-3 : goal.full_id-requires-3
+full_id-requires-3 g c =
+    let one = grows-takes c.args.graph.now c.full_id.new.self c.requires.graph c.full_id.ensures.takes in
+    let two = grows-then c.args.graph.now c.full_id.new.self c.full_id-2.new.self one (grows-takes c.full_id.new.self c.full_id-2.new.self one.graph c.full_id-2.ensures.takes) in
+    inr (two.extends.valid (to_applied c.args.t.now) c.requires.value)
+
+pub returns-in_err-t-clause-err : goal.returns-in_err-t-clause-err
+returns-in_err-t-clause-err g c =
+    err-then c.from_residual-in_err-t.result (inr (filled-grows c.args.graph.now c.full_id.new.self c.full_id-2.new.self c.full_id-3.new.self c.requires.graph c.full_id.ensures.takes c.full_id-2.ensures.takes c.full_id-3.ensures.takes))
+
+pub subst-answer-requires-clause-graph : goal.subst-answer-requires-clause-graph
+subst-answer-requires-clause-graph g c =
+    (filled-grows c.args.graph.now c.full_id.new.self c.full_id-2.new.self c.full_id-3.new.self c.requires.graph c.full_id.ensures.takes c.full_id-2.ensures.takes c.full_id-3.ensures.takes).graph
+
+pub returns-clause-ok : goal.returns-clause-ok
+returns-clause-ok g c =
+    ok-put g.M.OwnSubst.method c.args.graph.now c.full_id.new.self c.full_id-2.new.self c.full_id-3.new.self c.subst-answer.new.graph
+    (to_applied c.args.b.now) (to_applied c.args.x.now) (to_applied c.args.t.now) (to_applied c.in_ok-b.b) (to_applied c.in_ok-x.x) (to_applied c.in_ok-t.t)
+    c.requires.graph c.full_id.ensures.takes c.full_id-2.ensures.takes c.full_id-3.ensures.takes c.in_ok-b.ensures.fills c.in_ok-x.ensures.fills c.in_ok-t.ensures.fills
+    c.subst-answer.result c.is_failed.ensures.rests c.subst-answer.ensures.extends c.subst-answer.ensures.fails c.subst-answer.ensures.valid c.subst-answer.ensures.stands
+
+pub returns-clause-err : goal.returns-clause-err
+returns-clause-err g c =
+    let i = c.full_id-3.new.self in
+    let h = c.subst-answer.new.graph in
+    let all = filled-grows c.args.graph.now c.full_id.new.self c.full_id-2.new.self i c.requires.graph c.full_id.ensures.takes c.full_id-2.ensures.takes c.full_id-3.ensures.takes in
+    err-then c.subst-answer.result (later-grows c.args.graph.now i h all (extended-grows i h c.is_failed.ensures.rests c.subst-answer.ensures.extends))
