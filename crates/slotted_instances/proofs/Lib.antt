@@ -8,3 +8,4 @@ pub mod Putting
 pub mod Answers
 pub mod Parts
 pub mod BuiltInstances
+pub mod StoredMethods

@@ -3,6 +3,7 @@
 --     HasValues s q               each variable of the pattern has a value
 --     IsAnswerFor m g h σ q a     a is the value of the pattern if that is a variable, and else a full id of an instance of it
 --     Instantiates m g h s q a    from g to h such an id is built for the pattern q
+--     InstantiatesKnown g h s q a    the same by a method that is known
 use Rattle.std.specs.Prelude.{◌≡◌, ℕ, List, All, Some, true}
 use Rattle.slotted_theory.specs.Nameless.{DTerm}
 use Rattle.slotted_terms.specs.Valid.{AllKnown}
@@ -37,3 +38,9 @@ pub record Instantiates (m : Method) (g h : Graph) (s : Values) (q : PatternTree
   pub grows : Grows g h
   pub valid : IsValidId h a
   pub instance : IsKnownMethod m → IsAnswerFor m g h s q a
+
+-- the same by a known method: the one that the graph was made with
+pub record InstantiatesKnown (g h : Graph) (s : Values) (q : PatternTree) (a : Applied) : Type 0 where
+  pub method : Method
+  pub known : IsKnownMethod method
+  pub instance : Instantiates method g h s q a

@@ -4,6 +4,8 @@
 mod adding;
 mod building;
 pub mod method;
+mod refusals;
+mod stored;
 mod substitution;
 
 pub use method::OwnSubst;
