@@ -1,1 +1,3 @@
 -- Lemmas of matching.
+pub mod KeyNames
+pub mod NumberedKeys

@@ -1,1 +1,2 @@
 -- The words of the clauses of matching.
+pub mod KeyRows
