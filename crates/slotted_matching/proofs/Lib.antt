@@ -1,3 +1,4 @@
 -- Lemmas of matching.
 pub mod KeyNames
 pub mod NumberedKeys
+pub mod IndexedKeys
