@@ -2,3 +2,4 @@
 pub mod KeyNames
 pub mod NumberedKeys
 pub mod IndexedKeys
+pub mod SkeletonOutlines

@@ -1,2 +1,3 @@
 -- The words of the clauses of matching.
 pub mod KeyRows
+pub mod Skeletons
