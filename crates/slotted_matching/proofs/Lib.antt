@@ -3,3 +3,4 @@ pub mod KeyNames
 pub mod NumberedKeys
 pub mod IndexedKeys
 pub mod SkeletonOutlines
+pub mod SkeletonPlaces

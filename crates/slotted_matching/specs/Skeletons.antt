@@ -2,11 +2,10 @@
 --     StandOnce S          no form stands twice
 --     IsPlaceOf S f n      n is the place of the form f, or the length if f is nowhere
 --     GrowsTo S T          the forms of S stand first in T
---     HasManyPlaces f      the node f, or its outline, has more places than there are numeric slots
-use Rattle.std.specs.Prelude.{◌≡◌, ◌≢◌, ◌⊎◌, ◌≤◌, ℕ, List, ◌++◌, length, Some, slice_get}
+--     HasManyPlaces f      the node f has more places and children than there are numeric slots
+use Rattle.std.specs.Prelude.{◌≡◌, ◌⊎◌, ◌≤◌, ◌+◌, ℕ, List, ◌++◌, length, Some, slice_get}
 use Rattle.slotted_slots.specs.Table.{slot_limit}
-use Rattle.slotted_nodes.specs.Form.{Form, scopes}
-use Rattle.slotted_languages.specs.Outline.{outlined}
+use Rattle.slotted_nodes.specs.Form.{Form, children}
 
 abbrev pub StandOnce : List Form → Type 0
 StandOnce S = (i j : ℕ) (f : Form) → slice_get S i ≡ Some f → slice_get S j ≡ Some f → i ≡ j
@@ -21,4 +20,4 @@ abbrev pub GrowsTo : List Form → List Form → Type 0
 GrowsTo S T = (more : List Form) × (T ≡ S ++ more)
 
 abbrev pub HasManyPlaces : Form → Type 0
-HasManyPlaces f = (slot_limit ≤ length f.names) ⊎ (slot_limit ≤ length (scopes (outlined f.tree)))
+HasManyPlaces f = slot_limit ≤ length f.names + length (children f.tree)
