@@ -14,18 +14,18 @@ use Rattle.slotted_model_rules.specs.Matcher.{NodeArgs, written_names, bound_nam
 use Rattle.slotted_rule_patterns.specs.NodeArguments.{args_of, node_arguments}
 
 -- a part of a list
-In-take : (n : ℕ) (xs : List ℕ) (z : ℕ) → In z (take n xs) → In z xs
+pub In-take : (n : ℕ) (xs : List ℕ) (z : ℕ) → In z (take n xs) → In z xs
 In-take zero xs z h = absurd h
 In-take (suc n) [] z h = absurd h
 In-take (suc n) (x ∷ xs) z (inl e) = inl e
 In-take (suc n) (x ∷ xs) z (inr h) = inr (In-take n xs z h)
 
-In-drop : (n : ℕ) (xs : List ℕ) (z : ℕ) → In z (drop n xs) → In z xs
+pub In-drop : (n : ℕ) (xs : List ℕ) (z : ℕ) → In z (drop n xs) → In z xs
 In-drop zero xs z h = h
 In-drop (suc n) [] z h = absurd h
 In-drop (suc n) (x ∷ xs) z h = inr (In-drop n xs z h)
 
-In-first : (xs : List ℕ) (z n : ℕ) → length xs ≡ suc n → z ≡ slice_index xs 0 → In z xs
+pub In-first : (xs : List ℕ) (z n : ℕ) → length xs ≡ suc n → z ≡ slice_index xs 0 → In z xs
 In-first [] z n l e = absurd (omega (arith, l))
 In-first (x ∷ xs) z n l e = inl e
 

@@ -4,3 +4,5 @@ pub mod NumberedKeys
 pub mod IndexedKeys
 pub mod SkeletonOutlines
 pub mod SkeletonPlaces
+pub mod Positions
+pub mod Building

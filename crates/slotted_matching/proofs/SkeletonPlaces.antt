@@ -23,8 +23,8 @@ outline-places (child i ks r) =
 outline-places (bind u r) =
     omega (arith, outline-places u, outline-places r, length-append (scopes u) (scopes r), length-append (children u) (children r), length-append (scopes (outlined u)) (scopes (outlined r)))
 
-pub few-outlined : (f : Form) (n : ℕ) → length f.names ≡ length (scopes f.tree) → length f.names + length (children f.tree) < n → length (outlined_names 0 f.tree f.names) < n
-few-outlined f n fits h = omega (arith, fits, h, outline-places f.tree, length-outlined_names 0 f.tree f.names)
+pub few-outlined : (v : ℕ) (f : Form) (n : ℕ) → length f.names ≡ length (scopes f.tree) → length f.names + length (children f.tree) < n → length (outlined_names v f.tree f.names) < n
+few-outlined v f n fits h = omega (arith, fits, h, outline-places f.tree, length-outlined_names v f.tree f.names)
 
 -- a new form behind others
 behind : (T : List Form) (f h : Form) (y : ℕ) → StandsAt (T ++ f ∷ []) h y → StandsAt T h y ⊎ (h ≡ f)

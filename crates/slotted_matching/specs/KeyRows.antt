@@ -1,10 +1,12 @@
 -- The row of a filed key, whose names are numeric slots.
 --     slot_number s             the number of a numeric slot
 --     class_position F t        1 more than the place at which F has the value t, or 0 if it has not
+--     unmarked v xs             the names xs that are not v
+--     AreCovered f              each number of the node f is smaller than the number of its places
 --     own_numbers f             the numbers at the own names and binders of the node f
 --     numbered_ids f            its children, with numbers for names
 --     IsKeyRow f m F row        the row has the numbers of the key f: m has a slot for each of them, and F has each slot for one of the class that is found
-use Rattle.std.specs.Prelude.{◌≡◌, ℕ, zero, suc, ◌/◌, ◌<◌, List, [], ◌∷◌, map, Contains, Option, None, Some, cond, nat_eq}
+use Rattle.std.specs.Prelude.{◌≡◌, ℕ, zero, suc, ◌/◌, ◌<◌, List, [], ◌∷◌, map, filter, length, not, Contains, Option, None, Some, cond, nat_eq}
 use Rattle.std.specs.List.{range_with_len}
 use Rattle.slotted_slots.specs.Maps.{value_of}
 use Rattle.slotted_slots.specs.Table.{numeric_slot}
@@ -32,6 +34,12 @@ class_position (p ∷ F) t = cond (nat_eq p.1 t) 1 (one_later (class_position F 
 abbrev pub position_if : List (ℕ × ℕ) → Option ℕ → ℕ
 position_if F None = 0
 position_if F (Some t) = class_position F t
+
+abbrev pub unmarked : ℕ → List ℕ → List ℕ
+unmarked v xs = filter (λ x. not (nat_eq x v)) xs
+
+abbrev pub AreCovered : Form → Type 0
+AreCovered f = (x : ℕ) → Contains f.names x → slot_number x < length f.names
 
 abbrev pub own_numbers : Form → List ℕ
 own_numbers f = map slot_number (own_names (node_arguments f))

@@ -2,8 +2,9 @@
 --     StandOnce S          no form stands twice
 --     IsPlaceOf S f n      n is the place of the form f, or the length if f is nowhere
 --     GrowsTo S T          the forms of S stand first in T
---     HasManyPlaces f      the node f has more places and children than there are numeric slots
-use Rattle.std.specs.Prelude.{◌≡◌, ◌⊎◌, ◌≤◌, ◌+◌, ℕ, List, ◌++◌, length, Some, slice_get}
+--     HasManyPlaces f      the node f has as many places and children as there are numeric slots, or more
+--     HasFewPlaces f       it has fewer
+use Rattle.std.specs.Prelude.{◌≡◌, ◌⊎◌, ◌≤◌, ◌<◌, ◌+◌, ℕ, List, ◌++◌, length, Some, slice_get}
 use Rattle.slotted_slots.specs.Table.{slot_limit}
 use Rattle.slotted_nodes.specs.Form.{Form, children}
 
@@ -21,3 +22,6 @@ GrowsTo S T = (more : List Form) × (T ≡ S ++ more)
 
 abbrev pub HasManyPlaces : Form → Type 0
 HasManyPlaces f = slot_limit ≤ length f.names + length (children f.tree)
+
+abbrev pub HasFewPlaces : Form → Type 0
+HasFewPlaces f = length f.names + length (children f.tree) < slot_limit

@@ -2,6 +2,7 @@
 //! with slots for numbers.
 #![tactic(auto)]
 
+pub(crate) mod rows;
 pub mod skeletons;
 
 pub use skeletons::Skeletons;

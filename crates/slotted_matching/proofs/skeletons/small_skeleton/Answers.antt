@@ -13,4 +13,4 @@ skeleton-requires g c =
       | inl l ↦ l
       | inr many ↦ absurd (false≢true (sym c.if-has_many_places.false ∙ c.has_many_places.ensures.1 many))
     ] in
-    few-outlined f slot_limit (g.met.L.LanguageChildren.fits c.args.node.now) few
+    few-outlined 0 f slot_limit (g.met.L.LanguageChildren.fits c.args.node.now) few
