@@ -6,3 +6,4 @@ pub mod SkeletonOutlines
 pub mod SkeletonPlaces
 pub mod Positions
 pub mod Building
+pub mod CoveredKeys
