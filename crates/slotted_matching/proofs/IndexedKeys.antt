@@ -24,7 +24,7 @@ use Rattle.slotted_model_rules.specs.ReplacedIds as rules
 use Rattle.slotted_proofs.proofs.Bridges.{value_of-model}
 use Rattle.slotted_store.specs.ChildIds.{child_ids}
 use Rattle.slotted_store.specs.Kept.{Kept, nodes_of, entries_of}
-use Rattle.slotted_filing.specs.Filed.{filed_of}
+use Rattle.slotted_filing.specs.Filed.{Filing, filed_of}
 use Rattle.slotted_filing.specs.FiledRows.{Rows, row_of_entry}
 use Rattle.slotted_rebuilding.specs.Filed.{IsWellFiled, IsKeyed, state_in}
 use Rattle.slotted_adding.proofs.AppliedNodes.{filed-key, filed-in_nodes}
@@ -34,6 +34,9 @@ use Rattle.slotted_match_machine.specs.Index.{OneByOne, IsIndexChild, IsIndexRow
 use Rattle.slotted_match_machine.specs.declared.index.IndexRow.{IndexRow}
 use Rattle.slotted_match_machine.proofs.NamedNodes.{free-written, ids-with, own-with}
 use Rattle.slotted_matching.specs.KeyRows.{slot_number, class_position, one_later, position_if, positions_below, own_numbers, numbered_ids, IsKeyRow}
+use Rattle.slotted_languages.specs.Outline.{skeleton_form}
+use Rattle.slotted_matching.specs.Skeletons.{StandsAt}
+use Rattle.slotted_matching.specs.Indexed.{IsSourceRow, filing_at, no_filing}
 use Rattle.slotted_matching.proofs.KeyNames.{written-named}
 use Rattle.slotted_matching.proofs.NumberedKeys.{number, node, form, injective, binders-differ, binders-apart, of-name, of-binder, of-written, slot-at, a-key, key-value, numeric-name}
 
@@ -151,3 +154,12 @@ module _ (k : Kept) (r : Rows) (well : IsWellFiled k r) (o : ℕ) (f : Form) (m 
     positions = positions;
     binders_have_none = none;
   }
+
+  -- so it is the row of its source
+  pub source-row : (S : List Form) → StandsAt S (skeleton_form f) row.outline → IsSourceRow k r S o row
+  source-row S place =
+      let filing : filing_at r.filed o ≡ (f, m) = ap (λ x. unwrap_or x no_filing) at in
+      record {
+        is = subst (λ (e : Filing). IsIndexRow g (row_of_entry (e.0, (o, e.1))) row) (sym filing) row-is;
+        place = subst (λ (e : Filing). StandsAt S (skeleton_form e.0) row.outline) (sym filing) place;
+      }

@@ -1,3 +1,4 @@
 -- The words of the clauses of matching.
 pub mod KeyRows
 pub mod Skeletons
+pub mod Indexed

@@ -2,6 +2,7 @@
 //! with slots for numbers.
 #![tactic(auto)]
 
+pub mod index;
 pub(crate) mod rows;
 pub mod skeletons;
 

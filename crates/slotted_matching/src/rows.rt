@@ -24,8 +24,8 @@ fn slot_number(slot: Slot) -> usize
     slot.raw() as usize / 4
 }
 
-// Returns 1 more than the greatest number of a node, or 0 if it has no name.
-fn number_count<L: Language>(node: &L) -> usize
+/// Returns 1 more than the greatest number of a node, or 0 if it has no name.
+pub(crate) fn number_count<L: Language>(node: &L) -> usize
     requires { IsSmall (L.form node.now) }
     ensures covers { (x : ℕ) → Contains (L.form node.now).names x → keys.slot_number x < result }
     ensures within { result ≤ slot_limit }

@@ -1,8 +1,8 @@
 //! The skeletons of nodes by number: what is left of a node without its names and children.
-ghost use Rattle.std.specs.Prelude.{◌≡◌, ◌↔◌, [], IsTrue, IfOk, IfErr, IsErrOf};
+ghost use Rattle.std.specs.Prelude.{◌≡◌, ◌↔◌, [], IsTrue, IfOk, IfErr, OnOk, IsErrOf};
 ghost use Rattle.slotted_slots.specs.Error.{IsShortage};
 ghost use Rattle.slotted_languages.specs.Outline.{skeleton_form};
-ghost use Rattle.slotted_matching.specs.Skeletons.{GrowsTo, HasManyPlaces, IsPlaceOf, StandsAt};
+ghost use Rattle.slotted_matching.specs.Skeletons.{GrowsTo, HasManyPlaces, IsPlaceOf, StandOnce, StandsAt};
 
 use indexmap::IndexSet;
 use slotted_languages::Language;
@@ -59,6 +59,7 @@ impl<L: Language> Skeletons<L> {
     /// Returns the number of a node's skeleton, or how many there are if it is none of them.
     pub fn find(&self, alloc: Global, node: &L) -> Result<usize, Error>
         ensures ok { IfOk result (IsPlaceOf self.now (skeleton_form (L.form node.now))) }
+        ensures once { OnOk result (StandOnce self.now) }
         ensures full { IsErrOf result Error.OutOfSlots → HasManyPlaces (L.form node.now) }
         ensures err { IfErr result IsShortage }
     {
@@ -70,8 +71,8 @@ impl<L: Language> Skeletons<L> {
     }
 }
 
-// Whether a node has too many places and children for a skeleton.
-fn has_many_places<L: Language>(node: &L) -> bool
+/// Whether a node has too many places and children for a skeleton.
+pub(crate) fn has_many_places<L: Language>(node: &L) -> bool
     ensures { IsTrue result ↔ HasManyPlaces (L.form node.now) }
 {
     let places = node.slot_count();
