@@ -7,3 +7,4 @@ pub mod SkeletonPlaces
 pub mod Positions
 pub mod Building
 pub mod CoveredKeys
+pub mod AnswersOver

@@ -2,3 +2,4 @@
 pub mod KeyRows
 pub mod Skeletons
 pub mod Indexed
+pub mod Matches

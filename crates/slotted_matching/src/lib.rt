@@ -4,6 +4,8 @@
 
 pub mod index;
 pub(crate) mod rows;
+pub mod matches;
 pub mod skeletons;
 
+pub use matches::Matches;
 pub use skeletons::Skeletons;

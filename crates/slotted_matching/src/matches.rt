@@ -1,0 +1,98 @@
+//! What was found for a pattern.
+ghost use Rattle.std.specs.Prelude.{◌≡◌, ◌<◌, ◌↔◌, [], List, length, map, slice_index_or, string_bytes, Contains, IsTrue, IfOk, IfErr};
+ghost use Rattle.slotted_slots.specs.Error.{IsOutOfMemory};
+ghost use Rattle.slotted_model_rules.specs.Conditions.{Values};
+ghost use Rattle.slotted_proofs.specs.Equations.{to_applied};
+ghost use Rattle.slotted_rule_patterns.specs.Values.{values_of};
+ghost use Rattle.slotted_matching.specs.Matches.{AreWhole, AscendingNames, answers_over, id_in};
+
+use slotted_rule_patterns::Subst;
+use slotted_slots::{AppliedId, Error};
+use std::alloc::Global;
+use std::marker::Model;
+
+/// The answers for a pattern: each has an id for each variable.
+///
+/// The names of the variables are kept once, in ascending order, and the ids of all answers one after another.
+#[derive(Drop)]
+pub struct Matches {
+    variables: Vec<String>,
+    ids: Vec<AppliedId>,
+    count: usize,
+}
+
+impl Model for Matches {
+    ghost use Rattle.std.specs.Prelude.{List, map, string_bytes};
+    ghost use Rattle.slotted_model_rules.specs.Conditions.{Values};
+    ghost use Rattle.slotted_proofs.specs.Equations.{to_applied};
+    ghost use Rattle.slotted_matching.specs.Matches.{AreWhole, answers_over};
+
+    ghost Value = { List Values };
+
+    ghost view = { λ m. answers_over (map string_bytes m.variables.items) (map to_applied m.ids.items) m.count };
+
+    ghost invariant = { λ m. AreWhole (map string_bytes m.variables.items) (map to_applied m.ids.items) m.count };
+}
+
+impl Matches {
+    /// Makes answers of their ids, which stand in the order of the variables.
+    pub fn new(variables: Vec<String>, ids: Vec<AppliedId>, count: usize) -> Self
+        requires { AreWhole (map string_bytes variables.items) (map to_applied ids.items) count }
+        ensures { result ≡ answers_over (map string_bytes variables.items) (map to_applied ids.items) count }
+    {
+        Matches {
+            variables,
+            ids,
+            count,
+        }
+    }
+
+    /// The number of answers.
+    pub fn len(&self) -> usize
+        ensures { result ≡ length self.now }
+    {
+        self.count
+    }
+
+    /// Whether nothing was found.
+    pub fn is_empty(&self) -> bool
+        ensures { IsTrue result ↔ (self.now ≡ []) }
+    {
+        self.count == 0
+    }
+
+    /// The names of the variables, in ascending order.
+    pub fn variables(&self) -> &[String]
+        ensures ascending { AscendingNames (map string_bytes result.now) }
+        ensures each { (s : Values) → Contains self.now s → map (λ e. e.0) s ≡ map string_bytes result.now }
+    {
+        &self.variables
+    }
+
+    /// The id of a variable in an answer, both by their places.
+    pub fn value(&self, answer: usize, variable: usize) -> &AppliedId
+        requires answer { answer < length self.now }
+        requires variable { variable < length (slice_index_or self.now answer []) }
+        ensures { to_applied result.now ≡ id_in (slice_index_or self.now answer []) variable }
+    {
+        let ids = self.ids.as_slice();
+        let variables = self.variables.as_slice();
+        &ids[answer * variables.len() + variable]
+    }
+
+    /// Returns an answer as a substitution.
+    pub fn substitution(&self, alloc: Global, answer: usize) -> Result<Subst, Error>
+        requires { answer < length self.now }
+        ensures ok { IfOk result (λ s. values_of s ≡ slice_index_or self.now answer []) }
+        ensures err { IfErr result IsOutOfMemory }
+    {
+        let variables = self.variables.as_slice();
+        let mut values = Subst::new(alloc);
+        for variable in 0..variables.len() {
+            let name = String::from_str(alloc, variables[variable].as_str())?;
+            let id = self.value(answer, variable).copy(alloc)?;
+            values.insert(name, id)?;
+        }
+        Ok(values)
+    }
+}
