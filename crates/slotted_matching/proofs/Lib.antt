@@ -8,3 +8,4 @@ pub mod Positions
 pub mod Building
 pub mod CoveredKeys
 pub mod AnswersOver
+pub mod Names

@@ -3,3 +3,4 @@ pub mod KeyRows
 pub mod Skeletons
 pub mod Indexed
 pub mod Matches
+pub mod Naming

@@ -5,6 +5,7 @@
 pub mod index;
 pub(crate) mod rows;
 pub mod matches;
+pub(crate) mod naming;
 pub mod skeletons;
 
 pub use matches::Matches;
