@@ -1,19 +1,19 @@
 -- What the parts of a row are after one more place.
-use Rattle.std.proofs.Common.{◌≡◌, ◌≢◌, ℕ, zero, suc, ◌+◌, ◌<◌, ◌≤◌, List, [], ◌∷◌, ◌++◌, length, take, drop, map, cond, sym, ◌∙◌, ap, refl, subst, inl, inr, arith, get_or, slice_index, length-append}
-use Rattle.std.specs.Prelude.{Contains, filter, not, nat_eq}
+use Rattle.std.proofs.Common.{◌≡◌, ◌≢◌, ℕ, ◌+◌, ◌<◌, ◌≤◌, List, [], ◌∷◌, ◌++◌, length, take, drop, map, cond, sym, ◌∙◌, ap, refl, subst, inl, inr, arith, get_or, slice_index}
+use Rattle.std.specs.Prelude.{Contains, not, nat_eq}
 use Rattle.std.proofs.lemmas.Bool.{ne_eqb, eq-eqb}
-use Rattle.std.proofs.lemmas.List.{take_more, map_push, length-map, get_or-map}
+use Rattle.std.proofs.lemmas.List.{take_more, length-map, get_or-map}
 use Rattle.std.proofs.lemmas.List.Elements.{Contains-push_cases, filter-append}
 use Rattle.slotted_nodes.specs.Form.{Form, Tree, leaf, own, child, bind, scopes, children}
 use Rattle.slotted_languages.specs.Outline.{outlined_names}
 use Rattle.slotted_languages.proofs.NodeTerms.{own_fits, child_rest_fits, bind_inner_fits, bind_rest_fits}
 use Rattle.slotted_model.specs.Applied.{Applied, keys, values, renamed_id}
-use Rattle.slotted_model.proofs.Members.{In, Contains-In}
+use Rattle.slotted_model.proofs.Members.{In}
 use Rattle.slotted_model_rules.specs.Goals.{own_names}
 use Rattle.slotted_store.specs.ChildIds.{child_ids}
 use Rattle.slotted_store.proofs.ChildIds.{child_is, child_with_keys, length-ids}
 use Rattle.slotted_nodes.specs.Form.{child_names}
-use Rattle.slotted_rule_patterns.specs.NodeArguments.{args_of, node_arguments}
+use Rattle.slotted_rule_patterns.specs.NodeArguments.{args_of}
 use Rattle.slotted_match_machine.specs.Index.{OneByOne}
 use Rattle.slotted_matching.specs.KeyRows.{slot_number, unmarked, own_numbers, numbered_ids}
 use Rattle.slotted_matching.proofs.KeyNames.{In-drop, In-first, In-take}

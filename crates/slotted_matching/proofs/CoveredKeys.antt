@@ -1,6 +1,5 @@
 -- The numbers of a shape are below the number of its places.
-use Rattle.std.proofs.Common.{◌≡◌, ℕ, zero, suc, ◌+◌, ◌*◌, ◌/◌, ◌<◌, ◌≤◌, List, [], ◌∷◌, ◌++◌, length, map, Option, Some, None, cond, sym, ◌∙◌, ap, refl, subst, inl, inr, arith, length-append}
-use Rattle.std.specs.Prelude.{Contains}
+use Rattle.std.proofs.Common.{◌≡◌, ℕ, zero, suc, ◌+◌, ◌<◌, ◌≤◌, List, [], ◌∷◌, ◌++◌, length, Option, Some, None, cond, sym, ◌∙◌, ap, refl, subst, inl, inr, arith, length-append}
 use Rattle.std.proofs.lemmas.Bool.{cases_eq, eq-eqb, ne_eqb}
 use Rattle.std.proofs.lemmas.List.{map-append}
 use Rattle.slotted_theory.specs.Nameless.{DArgs, stop, place, sub, scope}
@@ -10,7 +9,7 @@ use Rattle.slotted_nodes.specs.Form.{Form}
 use Rattle.slotted_languages.specs.NodeTerm.{nameless_node}
 use Rattle.slotted_languages.specs.Shape.{Numbers, number_of, free_number, number_at, past_binder, numbered, no_numbers, names_in, shape}
 use Rattle.slotted_model.proofs.Members.{In, In-append, In-Contains}
-use Rattle.slotted_matching.specs.KeyRows.{slot_number, AreCovered}
+use Rattle.slotted_matching.specs.KeyRows.{AreCovered}
 
 -- below the slot of the number n
 abbrev AreUnder : ℕ → List ℕ → Type 0

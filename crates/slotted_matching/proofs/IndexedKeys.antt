@@ -1,20 +1,18 @@
 -- A row that has the numbers of a filed key is the model's row, by numbers.
 use Rattle.std.proofs.Common.{◌≡◌, ◌≢◌, ℕ, zero, suc, ◌<◌, ◌+◌, List, [], ◌∷◌, ◌++◌, length, map, Option, Some, None, cond, sym, ◌∙◌, ap, refl, subst, inl, inr, arith, get_or, slice_index}
-use Rattle.std.specs.Prelude.{◌⊎◌, Contains, nat_eq, unwrap_or}
-use Rattle.std.specs.List.{range_with_len}
+use Rattle.std.specs.Prelude.{Contains, unwrap_or}
 use Rattle.std.proofs.lemmas.Bool.{cases_eq, eq-eqb, ne_eqb}
 use Rattle.std.proofs.lemmas.List.FromFn.{get_or-map-range_with_len, length-map-range_with_len}
 use Rattle.slotted_theory.specs.FiniteMaps.{filled, top}
-use Rattle.slotted_theory.specs.FiniteMaps as model
 use Rattle.slotted_theory.specs.Shape.{free_names}
 use Rattle.slotted_theory.proofs.Lists.{contains_head, contains_tail, contains_cases, Contains-nil}
 use Rattle.slotted_slots.specs.Maps.{value_of}
 use Rattle.slotted_slots.specs.Table.{numeric_slot}
 use Rattle.slotted_nodes.specs.Form.{Form}
-use Rattle.slotted_languages.specs.NodeTerm.{nameless_node, free_names_of}
-use Rattle.slotted_model.specs.Applied.{Applied, keys, renamed_id}
-use Rattle.slotted_model.specs.Find.{Entry, find_class, find_map, used_slots, Linked}
-use Rattle.slotted_model.specs.State.{Row, State, name_numbered}
+use Rattle.slotted_languages.specs.NodeTerm.{free_names_of}
+use Rattle.slotted_model.specs.Applied.{keys, renamed_id}
+use Rattle.slotted_model.specs.Find.{find_class, find_map, used_slots, Linked}
+use Rattle.slotted_model.specs.State.{Row, State}
 use Rattle.slotted_model.proofs.Correspondences.Pairs.{Contains-key, Contains-value_of, value_of-found}
 use Rattle.slotted_model.proofs.Finding.{find_map-full, found-in_range, found-live, leads}
 use Rattle.slotted_model.proofs.Members.{In, In-Contains, Contains-In}
@@ -22,7 +20,6 @@ use Rattle.slotted_model.proofs.NormalIds.{used-live}
 use Rattle.slotted_model_rules.specs.Matcher.{NodeArgs, no_more, a_name, an_id, a_binder, bound_names, written_names}
 use Rattle.slotted_model_rules.specs.ReplacedIds as rules
 use Rattle.slotted_proofs.proofs.Bridges.{value_of-model}
-use Rattle.slotted_store.specs.ChildIds.{child_ids}
 use Rattle.slotted_store.specs.Kept.{Kept, nodes_of, entries_of}
 use Rattle.slotted_filing.specs.Filed.{Filing, filed_of}
 use Rattle.slotted_filing.specs.FiledRows.{Rows, row_of_entry}
@@ -33,7 +30,7 @@ use Rattle.slotted_rule_patterns.proofs.NodeArguments.{ids-node, unnamed-node}
 use Rattle.slotted_match_machine.specs.Index.{OneByOne, IsIndexChild, IsIndexRow, IsPositionOf, ids_of}
 use Rattle.slotted_match_machine.specs.declared.index.IndexRow.{IndexRow}
 use Rattle.slotted_match_machine.proofs.NamedNodes.{free-written, ids-with, own-with}
-use Rattle.slotted_matching.specs.KeyRows.{slot_number, class_position, one_later, position_if, positions_below, own_numbers, numbered_ids, IsKeyRow}
+use Rattle.slotted_matching.specs.KeyRows.{slot_number, class_position, one_later, position_if, IsKeyRow}
 use Rattle.slotted_languages.specs.Outline.{skeleton_form}
 use Rattle.slotted_matching.specs.Skeletons.{StandsAt}
 use Rattle.slotted_matching.specs.Indexed.{IsSourceRow, filing_at, no_filing}

@@ -1,16 +1,15 @@
 -- The names of a node's arguments stand at its places, and those of its binders at the places of binders.
-use Rattle.std.proofs.Common.{◌≡◌, ℕ, zero, suc, ◌+◌, ◌<◌, List, [], ◌∷◌, ◌++◌, length, take, drop, map, sym, ◌∙◌, ap, refl, subst, inl, inr, arith, slice_index, length-append, length-drop, length-take}
+use Rattle.std.proofs.Common.{◌≡◌, ℕ, zero, suc, ◌<◌, List, [], ◌∷◌, ◌++◌, length, take, drop, map, sym, ◌∙◌, ap, refl, subst, inl, inr, arith, slice_index}
 use Rattle.std.specs.Prelude.{Contains, Option, Some, None, IsSome, slice_index_or}
 use Rattle.std.specs.List.{zip}
-use Rattle.std.proofs.lemmas.List.{get_or-drop}
 use Rattle.slotted_nodes.specs.Form.{Form, Tree, leaf, own, child, bind, scopes, end_at}
 use Rattle.slotted_languages.specs.Children.{IsBinder}
 use Rattle.slotted_languages.specs.Shape.{Fits}
-use Rattle.slotted_languages.proofs.NodeTerms.{own_fits, child_keys_fit, child_rest_fits, bind_inner_fits, bind_rest_fits}
+use Rattle.slotted_languages.proofs.NodeTerms.{own_fits, child_rest_fits, bind_inner_fits, bind_rest_fits}
 use Rattle.slotted_model.specs.Applied.{values}
 use Rattle.slotted_model.specs.Correspondence.{AllDifferent}
-use Rattle.slotted_model.proofs.Members.{In, In-append, In-Contains, Contains-In}
-use Rattle.slotted_model_rules.specs.Matcher.{NodeArgs, written_names, bound_names}
+use Rattle.slotted_model.proofs.Members.{In, In-append, In-Contains}
+use Rattle.slotted_model_rules.specs.Matcher.{written_names, bound_names}
 use Rattle.slotted_rule_patterns.specs.NodeArguments.{args_of, node_arguments}
 
 -- a part of a list

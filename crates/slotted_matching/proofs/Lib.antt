@@ -9,3 +9,6 @@ pub mod Building
 pub mod CoveredKeys
 pub mod AnswersOver
 pub mod Names
+pub mod OwnSlots
+pub mod Compiling
+pub mod VariableNumbers

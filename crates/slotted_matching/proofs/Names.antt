@@ -1,8 +1,6 @@
 -- More names for the numbers of an answer.
-use Rattle.std.proofs.Common.{◌≡◌, ℕ, zero, suc, ◌+◌, ◌<◌, ◌≤◌, List, [], ◌∷◌, ◌++◌, Bool, true, false, length, take, get_or, map, refl, sym, ap, subst, ◌∙◌, inl, inr, arith}
-use Rattle.std.specs.Prelude.{Contains, Option, Some, None, option_map, cond, nat_eq, IsSome, IsTrue, ◌⊎◌, unwrap_or, is_some}
-use Rattle.std.specs.List.{find, flat_map}
-use Rattle.std.specs.Map.{lookup}
+use Rattle.std.proofs.Common.{◌≡◌, ℕ, ◌+◌, ◌<◌, ◌≤◌, List, [], ◌∷◌, ◌++◌, Bool, true, false, length, take, get_or, refl, sym, ap, subst, ◌∙◌, inl, inr}
+use Rattle.std.specs.Prelude.{Contains, Option, Some, None, cond, nat_eq, IsSome, IsTrue, ◌⊎◌, unwrap_or, is_some}
 use Rattle.slotted_theory.specs.FiniteMaps.{value_of}
 use Rattle.std.proofs.lemmas.List.{take_more, take_all, append-nil}
 use Rattle.std.proofs.lemmas.List.Folds.{length-flat_map-take}
@@ -10,9 +8,8 @@ use Rattle.std.proofs.lemmas.List.Concat.{flat_map-append}
 use Rattle.std.proofs.lemmas.Bool.{false≢true, eqb-true, eq-eqb}
 use Rattle.slotted_theory.proofs.Lists.{contains_cases, Contains-nil, contains_head, contains_tail}
 use Rattle.slotted_slots.specs.Table.{Table, KnowsMore, is_known}
-use Rattle.slotted_model.specs.Applied.{values}
 use Rattle.slotted_match_machine.specs.declared.answer.Occurrence.{Occurrence}
-use Rattle.slotted_matching.specs.Naming.{IsNaming, NamesMore, Covers, slot_in, numbers_of}
+use Rattle.slotted_matching.specs.Naming.{NamesMore, Covers, numbers_of}
 
 pub names_more-refl : (t : Table) (xs : List (ℕ × ℕ)) → NamesMore t xs t xs
 names_more-refl t xs = record { stays = λ n y e. e; naming = λ start pairs h. h }

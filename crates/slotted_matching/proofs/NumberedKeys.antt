@@ -1,27 +1,24 @@
 -- The names of a filed key are numeric slots, and their numbers are those of its row.
-use Rattle.std.proofs.Common.{◌≡◌, ◌≢◌, ℕ, zero, suc, ◌+◌, ◌*◌, ◌/◌, ◌<◌, List, [], ◌∷◌, length, map, Option, Some, None, sym, ◌∙◌, ap, refl, subst, inl, inr, arith, get_or, slice_index}
-use Rattle.std.specs.Prelude.{◌⊎◌, Contains, slice_index_or}
-use Rattle.std.specs.List.{zip, range_with_len}
-use Rattle.std.proofs.lemmas.List.FromFn.{get_or-map-range_with_len}
+use Rattle.std.proofs.Common.{◌≡◌, ◌≢◌, ℕ, List, [], ◌∷◌, map, sym, ◌∙◌, ap, refl, subst, inl, inr, arith, slice_index}
+use Rattle.std.specs.Prelude.{Contains}
+use Rattle.std.specs.List.{zip}
 use Rattle.slotted_theory.specs.Nameless.{DTerm, moved, moved_args}
 use Rattle.slotted_theory.specs.FiniteMaps.{filled, with_values}
 use Rattle.slotted_theory.specs.Shape.{free_names, number_in}
 use Rattle.slotted_theory.specs.Shape as theory
-use Rattle.slotted_slots.specs.Maps.{value_of}
 use Rattle.slotted_slots.specs.Table.{numeric_slot}
 use Rattle.slotted_nodes.specs.Form.{Form}
-use Rattle.slotted_languages.specs.Children.{IsBinder}
 use Rattle.slotted_languages.specs.NodeTerm.{nameless_node, free_names_of}
-use Rattle.slotted_languages.specs.Shape.{Fits, firsts, shape}
+use Rattle.slotted_languages.specs.Shape.{firsts, shape}
 use Rattle.slotted_languages.proofs.Numbered.{IsFreeOf}
 use Rattle.slotted_languages.proofs.Shapes.{keys-shape}
 use Rattle.slotted_languages.proofs.WalkBinders.{binder_number, binders_apart}
-use Rattle.slotted_model.specs.Applied.{Applied, keys, values, map_on, renamed_id}
-use Rattle.slotted_model.specs.Ascending.{IsAscending, ascending, names}
+use Rattle.slotted_model.specs.Applied.{keys, values, map_on}
+use Rattle.slotted_model.specs.Ascending.{IsAscending, names}
 use Rattle.slotted_model.specs.Correspondence.{AllDifferent, IsInjectiveOn}
 use Rattle.slotted_model.specs.State.{Row, name_numbered}
-use Rattle.slotted_model.proofs.Maps.{filled-map_on, filled-pair, map_on-filled, pair-filled, values-map_on}
-use Rattle.slotted_model.proofs.Members.{In, In-append, In-map, In-of_map, In-Contains, Contains-In}
+use Rattle.slotted_model.proofs.Maps.{filled-map_on, map_on-filled, pair-filled, values-map_on}
+use Rattle.slotted_model.proofs.Members.{In, In-of_map, In-Contains}
 use Rattle.slotted_model.proofs.Rows.{name_numbered-at}
 use Rattle.slotted_model.proofs.Sets.{In-ascending}
 use Rattle.slotted_model.proofs.Theory.{free_names-moved, moved-agrees, moved-moved}
@@ -30,7 +27,6 @@ use Rattle.slotted_proofs.proofs.Bridges.{ascends}
 use Rattle.slotted_store.specs.Names.{IsNumeric}
 use Rattle.slotted_store.proofs.NamePairs.{In-firsts}
 use Rattle.slotted_store.proofs.PutNames.{AreNumeric, numeric-shape}
-use Rattle.slotted_filing.specs.Filed.{Filing}
 use Rattle.slotted_filing.specs.FiledRows.{row_of_entry}
 use Rattle.slotted_filing.proofs.KeyedNodes.{own-numbers}
 use Rattle.slotted_filing.proofs.NumbersInShapes.{names-beside}

@@ -1,9 +1,9 @@
 -- The position of a slot, place by place.
 use Rattle.std.proofs.Common.{◌≡◌, ◌≢◌, ℕ, zero, suc, ◌+◌, ◌<◌, ◌≤◌, List, [], ◌∷◌, length, drop, cond, sym, ◌∙◌, ap, refl, arith, get_or, drop-cons}
-use Rattle.std.specs.Prelude.{nat_eq, slice_get, Some}
+use Rattle.std.specs.Prelude.{slice_get, Some}
 use Rattle.std.proofs.lemmas.Bool.{eq-eqb, ne_eqb}
 use Rattle.std.proofs.lemmas.Option.{get_or_from_slice_get}
-use Rattle.std.proofs.lemmas.List.{get_or-map, length-map}
+use Rattle.std.proofs.lemmas.List.{get_or-map}
 use Rattle.slotted_slots.specs.Maps.{values}
 use Rattle.slotted_matching.specs.KeyRows.{class_position, one_later}
 

@@ -1,8 +1,8 @@
 -- A node has the outline of a pattern's node exactly if both have one skeleton.
-use Rattle.std.proofs.Common.{◌≡◌, ℕ, zero, suc, ◌+◌, List, [], ◌∷◌, ◌++◌, length, take, drop, Bool, true, false, sym, ◌∙◌, ap, refl, subst, arith, slice_index, length-append, length-drop, length-take}
+use Rattle.std.proofs.Common.{◌≡◌, ℕ, suc, ◌+◌, List, [], ◌∷◌, length, take, drop, Bool, true, false, sym, ◌∙◌, ap, refl, arith, slice_index, length-append, length-drop, length-take}
 use Rattle.std.specs.Prelude.{◌&&◌, ◌↔◌}
 use Rattle.std.proofs.Math.Nat.{suc_inj}
-use Rattle.slotted_theory.specs.Nameless.{nameless_args, extend, moved_args}
+use Rattle.slotted_theory.specs.Nameless.{nameless_args, extend}
 use Rattle.slotted_theory.specs.Shape.{free_names, number_in}
 use Rattle.slotted_nodes.specs.Form.{Form, Tree, leaf, own, child, bind, scopes, children}
 use Rattle.slotted_languages.specs.NodeTerm.{node_args, nameless_node}

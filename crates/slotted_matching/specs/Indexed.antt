@@ -6,7 +6,7 @@
 --     HasWideKey r              some filed key has too many places and children
 --     HasOutlineOf v S q row    the outline of the row is the place of the skeleton of the key that q is the row of
 --     IsIndexed k r S x         the index x has the filed nodes as rows, whose outlines are places in S
-use Rattle.std.specs.Prelude.{◌≡◌, ◌<◌, ℕ, List, [], Option, None, Some, length, unwrap_or}
+use Rattle.std.specs.Prelude.{◌≡◌, ◌<◌, ℕ, List, [], Option, length, unwrap_or}
 use Rattle.std.specs.List.Sorted.{IsPermutation}
 use Rattle.slotted_nodes.specs.Form.{Form, leaf}
 use Rattle.slotted_languages.specs.Outline.{skeleton_form}
@@ -16,7 +16,6 @@ use Rattle.slotted_store.specs.Kept.{Kept, entries_of}
 use Rattle.slotted_filing.specs.Filed.{Filing, filed_of, HasKey}
 use Rattle.slotted_filing.specs.FiledRows.{Rows, row_of_entry}
 use Rattle.slotted_rebuilding.specs.Filed.{state_in}
-use Rattle.slotted_adding.specs.Reports.{class_sources}
 use Rattle.slotted_match_machine.specs.declared.index.IndexRow.{IndexRow}
 use Rattle.slotted_match_machine.specs.declared.index.RowIndex.{RowIndex}
 use Rattle.slotted_match_machine.specs.Index.{IsIndexOf, IsIndexRow, OneByOne, rows_of_class}

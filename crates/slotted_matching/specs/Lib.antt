@@ -2,5 +2,6 @@
 pub mod KeyRows
 pub mod Skeletons
 pub mod Indexed
+pub mod Compiled
 pub mod Matches
 pub mod Naming

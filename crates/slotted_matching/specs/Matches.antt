@@ -4,7 +4,7 @@
 --     answers_over vs ids n    n answers, each with the next ids for the variables
 --     AreWhole vs ids n   the names ascend, and there are just as many ids as n answers take
 --     id_in s k           the id of the variable at a place of an answer
-use Rattle.std.specs.Prelude.{◌≡◌, ◌*◌, ℕ, zero, suc, List, [], ◌∷◌, length, map, take, drop, slice_index_or}
+use Rattle.std.specs.Prelude.{◌≡◌, ◌*◌, ℕ, zero, suc, List, [], ◌∷◌, length, take, drop, slice_index_or}
 use Rattle.std.specs.List.{zip}
 use Rattle.std.specs.List.Sorted.{IsStrictlySortedBy}
 use Rattle.std.specs.Ordering.{nat_cmp}

@@ -2,10 +2,11 @@
 //! with slots for numbers.
 #![tactic(auto)]
 
+pub mod compile;
 pub mod index;
-pub(crate) mod rows;
 pub mod matches;
 pub(crate) mod naming;
+pub(crate) mod rows;
 pub mod skeletons;
 
 pub use matches::Matches;

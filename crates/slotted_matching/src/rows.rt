@@ -82,7 +82,11 @@ pub(crate) fn row_slots(
 }
 
 // The numbers at the places of an outline but for those of children, where `mark` stands.
-fn unmarked_numbers<L: Language>(alloc: Global, outline: &L, mark: Slot) -> Result<Vec<usize>, Error>
+fn unmarked_numbers<L: Language>(
+    alloc: Global,
+    outline: &L,
+    mark: Slot,
+) -> Result<Vec<usize>, Error>
     requires { IsSmall (L.form outline.now) }
     ensures ok { IfOk result (λ v. v.items ≡ map keys.slot_number (keys.unmarked mark (L.form outline.now).names)) }
     ensures err { IfErr result IsOutOfMemory }

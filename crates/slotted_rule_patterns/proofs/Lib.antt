@@ -1,5 +1,6 @@
 -- Lemmas on patterns of a language, their variables and their values.
 pub mod Rows
+pub mod Sizes
 pub mod Variables
 pub mod Values
 pub mod Whole

@@ -1,4 +1,4 @@
-use Rattle.std.proofs.Common.{◌≡◌, ◌∙◌, ℕ, List, ap, sym, subst}
+use Rattle.std.proofs.Common.{◌∙◌, ℕ, List, ap, sym, subst}
 use Rattle.std.specs.Prelude.{option_map}
 use Rattle.slotted_nodes.specs.Form.{Form}
 use Rattle.slotted_languages.specs.Outline.{skeleton_form}

@@ -1,5 +1,5 @@
-use Rattle.std.proofs.Common.{◌≡◌, ℕ, ap, sym, ◌∙◌, subst, List}
-use Rattle.std.specs.Prelude.{None, Option, is_some, false, IsSome}
+use Rattle.std.proofs.Common.{◌≡◌, ap, sym, ◌∙◌, subst}
+use Rattle.std.specs.Prelude.{None, IsSome}
 use Rattle.slotted_theory.specs.FiniteMaps.{value_of}
 use Rattle.slotted_matching.specs.Naming.{NamesMore}
 use Rattle.slotted_matching.proofs.Names.{name-added, named-last, no-name}

@@ -1,4 +1,4 @@
-use Rattle.std.proofs.Common.{ap, sym, ◌∙◌, arith}
+use Rattle.std.proofs.Common.{◌∙◌, arith}
 use Rattle.slotted_matching.proofs.Names.{covers-step, covers-all, names_more-trans}
 use Rattle.slotted_matching.proofs.naming.name_numbers.Goals as goal
 

@@ -1,4 +1,4 @@
-use Rattle.std.proofs.Common.{rules, ◌≡◌, ◌≤◌, ◌+◌, ap, sym, ◌∙◌, arith, subst, length, take, get_or, length-append}
+use Rattle.std.proofs.Common.{rules, ap, sym, ◌∙◌, arith, subst, length, take, length-append}
 use Rattle.slotted_matching.specs.Naming.{Covers, numbers_of}
 use Rattle.slotted_matching.proofs.Names.{covers-next, covers-more, names_more-trans, numbers-step, numbers-within}
 use Rattle.slotted_matching.proofs.naming.name_values.Goals as goal

@@ -1,4 +1,4 @@
-use Rattle.std.proofs.Common.{ℕ, ◌≡◌, ◌∙◌, ◌<◌, ◌∷◌, ◌++◌, [], length, map, take, ap, sym, arith}
+use Rattle.std.proofs.Common.{ℕ, ◌∙◌, ◌<◌, ◌∷◌, ◌++◌, [], length, map, take, ap, sym, arith}
 use Rattle.std.proofs.lemmas.List.{take_more, map_push, length-map}
 use Rattle.std.proofs.lemmas.Option.{get_or_from_slice_get}
 use Rattle.slotted_slots.specs.Maps.{values}

@@ -1,4 +1,4 @@
-use Rattle.std.proofs.Common.{◌≡◌, ◌≢◌, ◌∙◌, ◌<◌, length, sym, arith}
+use Rattle.std.proofs.Common.{◌≢◌, ◌∙◌, ◌<◌, length, sym, arith}
 use Rattle.std.proofs.lemmas.Bool.{eqb-true, eq-eqb, false≢true}
 use Rattle.slotted_matching.proofs.Positions.{later-none, position-there, position-past, position-none}
 use Rattle.slotted_matching.proofs.rows.class_position.Goals as goal

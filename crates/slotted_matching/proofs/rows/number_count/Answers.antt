@@ -1,4 +1,4 @@
-use Rattle.std.proofs.Common.{◌≡◌, ◌<◌, ◌≤◌, ℕ, length, ap, sym, ◌∙◌, subst, arith}
+use Rattle.std.proofs.Common.{◌<◌, length, ap, sym, ◌∙◌, subst, arith}
 use Rattle.std.specs.Prelude.{Contains}
 use Rattle.std.proofs.lemmas.List.{take_all}
 use Rattle.slotted_nodes.specs.Form.{Form}
@@ -15,13 +15,13 @@ loop-i-preserved g c =
     let n = c.slot_number-number.ensures ∙ ap slot_number c.slot.ensures in
     elim c.if-count-number.branch [
       | then-count-number w ↦ record {
-          covers = covers-more f.names i c.loop-i.count c.if-count-number.count h c.loop-i.invariant.covers (omega (arith, w.count-is, w.if-count-number.true)) (omega (arith, w.count-is, n));
-          within = omega (arith, w.count-is, c.slot_number-number.ensures, c.slot.type_inv);
-        }
+        covers = covers-more f.names i c.loop-i.count c.if-count-number.count h c.loop-i.invariant.covers (omega (arith, w.count-is, w.if-count-number.true)) (omega (arith, w.count-is, n));
+        within = omega (arith, w.count-is, c.slot_number-number.ensures, c.slot.type_inv);
+      }
       | else-count-number w ↦ record {
-          covers = covers-more f.names i c.loop-i.count c.if-count-number.count h c.loop-i.invariant.covers (omega (arith, w.count-is)) (omega (arith, w.count-is, w.if-count-number.false, n));
-          within = omega (arith, w.count-is, c.loop-i.invariant.within);
-        }
+        covers = covers-more f.names i c.loop-i.count c.if-count-number.count h c.loop-i.invariant.covers (omega (arith, w.count-is)) (omega (arith, w.count-is, w.if-count-number.false, n));
+        within = omega (arith, w.count-is, c.loop-i.invariant.within);
+      }
     ]
 
 pub returns-clause-covers : goal.returns-clause-covers

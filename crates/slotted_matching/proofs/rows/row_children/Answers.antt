@@ -1,4 +1,4 @@
-use Rattle.std.proofs.Common.{◌≡◌, ◌<◌, ◌+◌, length, subst, sym, arith, take}
+use Rattle.std.proofs.Common.{◌<◌, ◌+◌, length, subst, sym, arith, take}
 use Rattle.std.proofs.lemmas.List.{take_all, length-map}
 use Rattle.slotted_nodes.specs.Form.{Form, children}
 use Rattle.slotted_model.specs.Applied.{renamed_id}

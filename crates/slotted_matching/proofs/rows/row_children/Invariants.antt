@@ -1,4 +1,4 @@
-use Rattle.std.proofs.Common.{◌≡◌, take}
+use Rattle.std.proofs.Common.{take}
 use Rattle.slotted_match_machine.specs.Index.{IsIndexChild, OneByOne}
 use Rattle.slotted_matching.specs.KeyRows.{numbered_ids}
 use Rattle.slotted_matching.proofs.rows.row_children.Given as goal

@@ -1,4 +1,4 @@
-use Rattle.std.proofs.Common.{◌≡◌, ◌∙◌, ◌<◌, ◌*◌, ◌/◌, ℕ, length, map, ap, sym, subst, arith}
+use Rattle.std.proofs.Common.{◌≡◌, ◌∙◌, ◌<◌, ℕ, length, map, ap, sym, subst, arith}
 use Rattle.slotted_slots.specs.Table.{slot_limit}
 use Rattle.slotted_nodes.specs.Form.{Form}
 use Rattle.slotted_languages.specs.Outline.{outlined_names}

@@ -1,4 +1,4 @@
-use Rattle.std.proofs.Common.{◌≡◌, ◌∙◌, ◌<◌, ◌+◌, ℕ, length, sym, inl, inr}
+use Rattle.std.proofs.Common.{◌∙◌, ◌<◌, ◌+◌, ℕ, length, sym, inl, inr}
 use Rattle.std.proofs.lemmas.Bool.{cases_lt, false≢true}
 use Rattle.slotted_slots.specs.Table.{slot_limit}
 use Rattle.slotted_nodes.specs.Form.{Form, children}

@@ -1,4 +1,4 @@
-use Rattle.std.proofs.Common.{◌≡◌, sym, ◌∙◌, ap, length, map}
+use Rattle.std.proofs.Common.{sym, ◌∙◌, ap, length, map}
 use Rattle.std.specs.Prelude.{string_bytes}
 use Rattle.slotted_proofs.specs.Equations.{to_applied}
 use Rattle.slotted_matching.proofs.AnswersOver.{length-answers_over}

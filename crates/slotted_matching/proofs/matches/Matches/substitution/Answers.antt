@@ -1,12 +1,11 @@
-use Rattle.std.proofs.Common.{◌≡◌, ℕ, ◌<◌, ◌≤◌, ◌+◌, ◌*◌, sym, subst, ◌∙◌, ap, map, length, take, get_or, arith, List, []}
+use Rattle.std.proofs.Common.{◌≡◌, ℕ, ◌<◌, ◌+◌, ◌*◌, sym, ◌∙◌, ap, map, length, get_or, arith, List, []}
 use Rattle.std.specs.Prelude.{String, string_bytes}
 use Rattle.std.specs.declared.alloc.Global.{Global}
 use Rattle.std.proofs.lemmas.List.{length-map, get_or-map, take_all}
 use Rattle.slotted_model.specs.Applied.{Applied}
 use Rattle.slotted_model_rules.specs.Conditions.{Values}
 use Rattle.slotted_proofs.specs.Equations.{to_applied}
-use Rattle.slotted_rule_patterns.specs.Values.{values_of}
-use Rattle.slotted_matching.specs.Matches.{id_in, answers_over}
+use Rattle.slotted_matching.specs.Matches.{answers_over}
 use Rattle.slotted_matching.specs.declared.matches.Matches.TheInside.{Inside}
 use Rattle.slotted_matching.proofs.AnswersOver.{entry-at, entry-put, length-answer, length-answers_over, answer-names}
 use Rattle.slotted_matching.proofs.matches.Matches.substitution.Goals as goal

@@ -1,11 +1,10 @@
-use Rattle.std.proofs.Common.{◌≡◌, ℕ, ◌<◌, ◌≤◌, ◌+◌, ◌*◌, sym, subst, ◌∙◌, ap, map, length, get_or, arith, List, [], Fits, w64}
+use Rattle.std.proofs.Common.{◌≡◌, ℕ, ◌<◌, ◌≤◌, ◌+◌, ◌*◌, sym, subst, ◌∙◌, ap, map, length, get_or, arith, List, []}
 use Rattle.std.specs.Prelude.{String, string_bytes}
 use Rattle.std.specs.declared.alloc.Global.{Global}
 use Rattle.std.proofs.lemmas.List.{length-map, get_or-map}
 use Rattle.slotted_model_rules.specs.Conditions.{Values}
 use Rattle.slotted_proofs.specs.Equations.{to_applied}
 use Rattle.slotted_model.specs.Applied.{Applied}
-use Rattle.slotted_slots.specs.declared.types.AppliedId.{AppliedId}
 use Rattle.slotted_matching.specs.Matches.{id_in, answers_over}
 use Rattle.slotted_matching.specs.declared.matches.Matches.TheInside.{Inside}
 use Rattle.slotted_matching.proofs.AnswersOver.{entry-at, length-answer, length-answers_over, within-ids}

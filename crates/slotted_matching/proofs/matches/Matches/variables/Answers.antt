@@ -1,4 +1,4 @@
-use Rattle.std.proofs.Common.{◌≡◌, sym, ◌∙◌, ap, map, subst, List}
+use Rattle.std.proofs.Common.{sym, ◌∙◌, ap, map, subst, List}
 use Rattle.std.specs.Prelude.{Contains, string_bytes}
 use Rattle.slotted_model_rules.specs.Conditions.{Values}
 use Rattle.slotted_proofs.specs.Equations.{to_applied}

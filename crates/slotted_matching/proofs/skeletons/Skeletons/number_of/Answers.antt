@@ -1,6 +1,5 @@
-use Rattle.std.proofs.Common.{◌≡◌, ◌∙◌, List, ap, sym, subst, map}
+use Rattle.std.proofs.Common.{List, sym, subst, map}
 use Rattle.slotted_nodes.specs.Form.{Form}
-use Rattle.slotted_languages.specs.Outline.{skeleton_form}
 use Rattle.slotted_matching.specs.Skeletons.{GrowsTo, StandOnce, StandsAt}
 use Rattle.slotted_matching.proofs.SkeletonPlaces.{inserted-grows, inserted-once, stored-at}
 use Rattle.slotted_matching.proofs.skeletons.Skeletons.number_of.Goals as goal

@@ -1,0 +1,74 @@
+-- Patterns as programs of the machine.
+--     common_names xs ys        the names that stand in both lists at the same place
+--     pattern_names f           the own names and binders of the node f
+--     IsPlaceOutline S ..       a number is the place of the skeleton of a node that has these arguments over child patterns
+--     IsNumber seen v o         o is a number of the variable v, if it was seen
+--     Numbers seen more v k     the number k is that of v in `more`, which are the variables seen before and v if it is new
+--     Compiling, nothing        what was compiled, with the register that the next node fills
+--     Adds S c d goals          from c to d the steps are added that find these goals
+--     Enters S c d f from k     the step is added that finds the node f and fills the register k with it
+--     IsCompiled S t steps vs   the steps are the program of the pattern t, where outlines are places in S
+use Rattle.std.specs.Prelude.{◌≡◌, ◌⊎◌, ◌<◌, ℕ, suc, List, [], ◌∷◌, ◌++◌, length, map, filter, nat_eq, slice_index_or, Contains, Option, Some, None}
+use Rattle.std.specs.List.{zip}
+use Rattle.slotted_nodes.specs.Form.{Form}
+use Rattle.slotted_languages.specs.Outline.{outlined_names, skeleton_form}
+use Rattle.slotted_patterns.specs.Tree.{PatternTree}
+use Rattle.slotted_model_rules.specs.Patterns.{Pattern, PatternArgs, pattern_node}
+use Rattle.slotted_rule_patterns.specs.PatternCode.{pattern_in, pattern_over}
+use Rattle.slotted_match_machine.specs.declared.program.Source.{Source}
+use Rattle.slotted_match_machine.specs.declared.program.Step.{Step}
+use Rattle.slotted_match_machine.specs.Programs.{IsProgram, IsProgramFor, placed}
+use Rattle.slotted_matching.specs.Skeletons.{IsPlaceOf}
+
+abbrev pub common_names : List ℕ → List ℕ → List ℕ
+common_names xs ys = map (λ e. e.0) (filter (λ (e : ℕ × ℕ). nat_eq e.0 e.1) (zip xs ys))
+
+-- the names of two outlines agree just there
+abbrev pub pattern_names : Form → List ℕ
+pattern_names f = common_names (outlined_names 0 f.tree f.names) (outlined_names 4 f.tree f.names)
+
+abbrev pub IsPlaceOutline : List Form → ℕ → ℕ → List (List ℕ) → PatternArgs → Type 0
+IsPlaceOutline S n op payloads args = (f : Form) × (ps : List Pattern) × (pattern_over f ps ≡ Some (pattern_node op payloads args)) × IsPlaceOf S (skeleton_form f) n
+
+abbrev pub IsNumber : List (List ℕ) → List ℕ → Option ℕ → Type 0
+IsNumber seen v (Some k) = (k < length seen) × (slice_index_or seen k [] ≡ v)
+IsNumber seen v None = ¬ Contains seen v
+
+abbrev pub Numbers : List (List ℕ) → List (List ℕ) → List ℕ → ℕ → Type 0
+Numbers seen more v k =
+    ((more ≡ seen) × (k < length seen) × (slice_index_or seen k [] ≡ v))
+    ⊎ ((more ≡ seen ++ v ∷ []) × (k ≡ length seen) × (¬ Contains seen v))
+
+abbrev pub Goal : Type 0
+Goal = Pattern × Source
+
+-- what was compiled: its steps, its variables, and the register that the next node fills
+pub record Compiling : Type 0 where
+  pub steps : List Step
+  pub seen : List (List ℕ)
+  pub next : ℕ
+
+-- nothing yet, where the first register holds the class
+abbrev pub nothing : Compiling
+nothing = record { steps = []; seen = []; next = 1 }
+
+-- the steps that come after others find these goals before all that the next steps find
+pub record Adds (S : List Form) (c d : Compiling) (goals : List Goal) : Type 0 where
+  pub more : List Step
+  pub steps : d.steps ≡ c.steps ++ more
+  pub finds : (variables : List (List ℕ)) (rest : List Step) (others : List Goal) →
+      IsProgramFor (IsPlaceOutline S) variables d.next d.seen rest others → IsProgramFor (IsPlaceOutline S) variables c.next c.seen (more ++ rest) (goals ++ others)
+
+abbrev pub AddsPattern : List Form → Compiling → Compiling → PatternTree → Source → Type 0
+AddsPattern S c d t from = (p : Pattern) → pattern_in t ≡ Some p → Adds S c d ((p, from) ∷ [])
+
+-- a node was entered: its child patterns are found next, from this register
+pub record Enters (S : List Form) (c d : Compiling) (f : Form) (from : Source) (register : ℕ) : Type 0 where
+  pub seen : d.seen ≡ c.seen
+  pub register_is : register ≡ c.next
+  pub next : d.next ≡ suc c.next
+  pub finds : (ps : List Pattern) (p : Pattern) → pattern_over f ps ≡ Some p → (e : Compiling) → Adds S d e (placed register 0 ps) → Adds S c e ((p, from) ∷ [])
+
+-- the variables of the program in the order of their numbers
+abbrev pub IsCompiled : List Form → PatternTree → List Step → List (List ℕ) → Type 0
+IsCompiled S t steps variables = (p : Pattern) → pattern_in t ≡ Some p → IsProgram (IsPlaceOutline S) variables p steps

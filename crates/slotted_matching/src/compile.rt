@@ -1,0 +1,201 @@
+//! Patterns as programs of the machine, with their variables by number.
+ghost use Rattle.std.specs.Prelude.{◌≡◌, ◌∷◌, List, [], false, length, map, string_bytes, IsSome, IfOk, IfErr, OnOk};
+ghost use Rattle.slotted_slots.specs.Error.{IsOutOfMemory, IsShortage};
+ghost use Rattle.slotted_nodes.specs.Form.{Form, IsSmall};
+ghost use Rattle.slotted_model_rules.specs.Patterns.{variable};
+ghost use Rattle.slotted_patterns.specs.View.{tree_of};
+ghost use Rattle.slotted_rule_patterns.specs.PatternCode.{pattern_in};
+ghost use Rattle.slotted_rule_patterns.specs.Variables.{has_substitution};
+ghost use Rattle.slotted_matching.specs.Compiled.{Adds, AddsPattern, Compiling, Enters, nothing, IsCompiled, IsNumber, Numbers, common_names, pattern_names};
+ghost use Rattle.slotted_matching.specs.Skeletons.{HasFewPlaces};
+
+use crate::skeletons::{Skeletons, has_many_places};
+use slotted_languages::Language;
+use slotted_languages::outline::outline;
+use slotted_match_machine::{Source, Step};
+use slotted_patterns::Pattern;
+use slotted_slots::{Error, Slot};
+use std::alloc::Global;
+use std::marker::Model;
+
+/// A pattern as a list of steps. The name of each variable stands at its number.
+#[derive(Drop)]
+pub struct Program {
+    pub steps: Vec<Step>,
+    pub variables: Vec<String>,
+}
+
+// What was compiled so far, and which register the next node fills.
+#[derive(Drop)]
+struct Compiler {
+    steps: Vec<Step>,
+    variables: Vec<String>,
+    next: usize,
+}
+
+impl Model for Compiler {
+    ghost use Rattle.std.specs.Prelude.{◌≤◌, ◌+◌, length, map, string_bytes};
+    ghost use Rattle.slotted_matching.specs.Compiled.{Compiling};
+
+    ghost Value = { Compiling };
+
+    ghost view = { λ c. record { steps = c.steps.items; seen = map string_bytes c.variables.items; next = c.next } };
+
+    ghost invariant = { λ c. c.next ≤ length c.steps.items + 1 };
+}
+
+// The slots at the places where both nodes have the same one.
+fn common_slots<L: Language>(alloc: Global, first: &L, second: &L) -> Result<Vec<usize>, Error>
+    requires small { IsSmall (L.form first.now) }
+    requires same { length (L.form first.now).names ≡ length (L.form second.now).names }
+    ensures ok { IfOk result (λ v. v.items ≡ common_names (L.form first.now).names (L.form second.now).names) }
+    ensures err { IfErr result IsOutOfMemory }
+{
+    let mut slots = Vec::new(alloc);
+    for i in 0..first.slot_count() {
+        let slot = first.slot(i);
+        if slot == second.slot(i) {
+            slots.push(slot.raw() as usize)?;
+        }
+    }
+    Ok(slots)
+}
+
+// The own names and binders of a node.
+fn own_slots<L: Language>(alloc: Global, node: &L) -> Result<Vec<usize>, Error>
+    requires { HasFewPlaces (L.form node.now) }
+    ensures ok { IfOk result (λ v. v.items ≡ pattern_names (L.form node.now)) }
+    ensures err { IfErr result IsOutOfMemory }
+{
+    let zero = outline(alloc, node, Slot::numeric_at(0))?;
+    let one = outline(alloc, node, Slot::numeric_at(1))?;
+    common_slots(alloc, &zero, &one)
+}
+
+// The number of a variable that was seen.
+fn number_of(variables: &[String], name: &str) -> Option<usize>
+    ensures { IsNumber (map string_bytes variables.now) name.now result }
+{
+    for k in 0..variables.len() {
+        if variables[k].as_str() == name {
+            return Some(k);
+        }
+    }
+    None
+}
+
+impl Compiler {
+    // Nothing but the register in which the class stands.
+    fn new(alloc: Global) -> Self
+        ensures { result ≡ nothing }
+    {
+        Compiler {
+            steps: Vec::new(alloc),
+            variables: Vec::new(alloc),
+            next: 1,
+        }
+    }
+
+    // Returns the number of a variable, which is the next one if it is new.
+    fn number(&mut self, alloc: Global, name: &str) -> Result<usize, Error>
+        ensures ok { IfOk result (Numbers self.old.seen self.new.seen name.now) }
+        ensures steps { self.new.steps ≡ self.old.steps }
+        ensures next { self.new.next ≡ self.old.next }
+        ensures err { IfErr result IsOutOfMemory }
+    {
+        if let Some(number) = number_of(&self.variables, name) {
+            return Ok(number);
+        }
+        let number = self.variables.len();
+        let name = String::from_str(alloc, name)?;
+        self.variables.push(name)?;
+        Ok(number)
+    }
+
+    // Adds the step of a variable.
+    fn add_variable(&mut self, alloc: Global, name: &str, from: Source) -> Result<(), Error>
+        ensures ok { (S : List Form) → OnOk result (Adds S self.old self.new ((variable name.now, from) ∷ [])) }
+        ensures err { IfErr result IsOutOfMemory }
+    {
+        let number = self.number(alloc, name)?;
+        self.steps.push(Step::Variable { number, from })?;
+        Ok(())
+    }
+
+    // Adds the step of a node, and returns the register that the node fills.
+    fn enter<L: Language>(
+        &mut self,
+        alloc: Global,
+        node: &L,
+        from: Source,
+        skeletons: &Skeletons<L>,
+    ) -> Result<usize, Error>
+        ensures ok { IfOk result (Enters skeletons.now self.old self.new (L.form node.now) from) }
+        ensures err { IfErr result IsShortage }
+    {
+        if has_many_places(node) {
+            return Err(Error::OutOfSlots);
+        }
+        let outline = skeletons.find(alloc, node)?;
+        let slots = own_slots(alloc, node)?;
+        self.steps.push(Step::Node {
+            outline,
+            slots,
+            from,
+        })?;
+        let register = self.next;
+        self.next = register + 1;
+        Ok(register)
+    }
+
+    // Adds the steps of a pattern: of a node first, and then those of its child patterns from the left.
+    fn add<L: Language>(
+        &mut self,
+        alloc: Global,
+        pattern: &Pattern<L>,
+        from: Source,
+        skeletons: &Skeletons<L>,
+    ) -> Result<(), Error>
+        requires { has_substitution (tree_of L.form pattern.now) ≡ false }
+        ensures ok { OnOk result (AddsPattern skeletons.now self.old self.new (tree_of L.form pattern.now) from) }
+        ensures err { IfErr result IsShortage }
+    {
+        match pattern {
+            Pattern::ENode(node, children) => {
+                let register = self.enter(alloc, node, from, skeletons)?;
+                for (child, pattern) in children.iter().enumerate() {
+                    self.add(alloc, pattern, Source { register, child }, skeletons)?;
+                }
+                Ok(())
+            }
+            Pattern::PVar(name) => {
+                self.add_variable(alloc, name.as_str(), from)?;
+                Ok(())
+            }
+            Pattern::Subst(_, _, _) => unreachable!(),
+        }
+    }
+}
+
+/// Returns the program that finds a pattern, where the outline of each node is the place of its skeleton, or the number of all skeletons if it is none of them.
+pub fn compile<L: Language>(
+    alloc: Global,
+    pattern: &Pattern<L>,
+    skeletons: &Skeletons<L>,
+) -> Result<Program, Error>
+    requires { has_substitution (tree_of L.form pattern.now) ≡ false }
+    ensures ok { IfOk result
+        (λ c. IsCompiled skeletons.now (tree_of L.form pattern.now) c.steps.items (map string_bytes c.variables.items)) }
+    ensures err { IfErr result IsShortage }
+{
+    let mut compiler = Compiler::new(alloc);
+    let root = Source {
+        register: 0,
+        child: 0,
+    };
+    compiler.add(alloc, pattern, root, skeletons)?;
+    Ok(Program {
+        steps: compiler.steps,
+        variables: compiler.variables,
+    })
+}
