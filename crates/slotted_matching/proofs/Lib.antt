@@ -12,3 +12,7 @@ pub mod Names
 pub mod OwnSlots
 pub mod Compiling
 pub mod VariableNumbers
+pub mod SourceRows
+pub mod IndexedClasses
+pub mod IndexOutlines
+pub mod Blanking

@@ -67,10 +67,11 @@ module _ {L : Type 0} (E : L → L → Bool) (F : L → Form) (same : (a b : L) 
       let there : E k (get_or ks i p.0) ≡ true = ap (E k) (get_or_from_slice_get ks i p.0 p.0 p.1) ∙ (same k p.0).1 (sym p.2) in
       false≢true (sym n ∙ list_any_at (E k) ks i p.0 (slice_get_within ks i p.0 p.1) there)
 
-  pub found-place : (ks : List L) (k : L) (n : ℕ) → position (E k) ks ≡ Some n → IsPlaceOf (map F ks) (F k) n
-  found-place ks k n e =
+  pub found-place : (ks : List L) (k : L) (n : ℕ) → StandOnce (map F ks) → position (E k) ks ≡ Some n → IsPlaceOf (map F ks) (F k) n
+  found-place ks k n once e =
       let p = position-Some (E k) ks n k e in
-      inl (stored-at ks k (get_or ks n k) n (slice_get-get_or ks n k p.0) p.1)
+      let at = stored-at ks k (get_or ks n k) n (slice_get-get_or ks n k p.0) p.1 in
+      inl (λ i. (λ s. once i n (F k) s at, λ q. subst (StandsAt (map F ks) (F k)) (sym q) at))
 
   pub no-place : (ks : List L) (k : L) (n : ℕ) → list_any (E k) ks ≡ false → n ≡ length ks → IsPlaceOf (map F ks) (F k) n
   no-place ks k n none e = inr (e ∙ sym (length-map ks F), nowhere ks k none)

@@ -1,25 +1,32 @@
 -- The index of the filed nodes of a graph.
---     source_row v o            the row of what is filed of the class o
+--     filing_at v o             what is filed of the class o
+--     source_row v o            its row
 --     key_of v o                its key
 --     IsSourceRow k r S o row   the row is that of the class o by numbers, and its outline is the place of the key's skeleton in S
---     AreSourceRows k r S c rows   there is one for each filed node of the class c
+--     AreSourceRows k r S os rows   there is one for each of the classes os
 --     HasWideKey r              some filed key has too many places and children
+--     AreSourcesBelow k r i v   v has for each class its sources below i
+--     AreClassSources k r v     v has for each class its sources
+--     AreClassRows k r S n x    x has the rows of the first n classes
 --     HasOutlineOf v S q row    the outline of the row is the place of the skeleton of the key that q is the row of
 --     IsIndexed k r S x         the index x has the filed nodes as rows, whose outlines are places in S
-use Rattle.std.specs.Prelude.{◌≡◌, ◌<◌, ℕ, List, [], Option, length, unwrap_or}
+use Rattle.std.specs.Prelude.{◌≡◌, ◌<◌, ℕ, List, [], Option, filter, length, unwrap_or, slice_index_or}
+use Rattle.std.specs.List.{range_with_len}
 use Rattle.std.specs.List.Sorted.{IsPermutation}
 use Rattle.slotted_nodes.specs.Form.{Form, leaf}
 use Rattle.slotted_languages.specs.Outline.{skeleton_form}
-use Rattle.slotted_model.specs.Find.{IsLive}
+use Rattle.slotted_model.specs.Find.{IsLive, entry_at}
 use Rattle.slotted_model.specs.State.{Row}
 use Rattle.slotted_store.specs.Kept.{Kept, entries_of}
 use Rattle.slotted_filing.specs.Filed.{Filing, filed_of, HasKey}
 use Rattle.slotted_filing.specs.FiledRows.{Rows, row_of_entry}
 use Rattle.slotted_rebuilding.specs.Filed.{state_in}
+use Rattle.slotted_adding.specs.Reports.{class_sources, is_source}
+use Rattle.slotted_match_machine.specs.declared.index.ClassRows.{ClassRows}
 use Rattle.slotted_match_machine.specs.declared.index.IndexRow.{IndexRow}
 use Rattle.slotted_match_machine.specs.declared.index.RowIndex.{RowIndex}
 use Rattle.slotted_match_machine.specs.Index.{IsIndexOf, IsIndexRow, OneByOne, rows_of_class}
-use Rattle.slotted_match_machine.specs.Machine.{rows_in}
+use Rattle.slotted_match_machine.specs.Machine.{rows_in, slot_count_in}
 use Rattle.slotted_matching.specs.Skeletons.{HasManyPlaces, StandsAt}
 
 abbrev pub no_filing : Filing
@@ -57,3 +64,18 @@ pub record IsIndexed (k : Kept) (r : Rows) (S : List Form) (x : RowIndex) : Type
   pub index : IsIndexOf (state_in k r) order x
   pub outlines : (c : ℕ) → c < length k.classes → IsLive (entries_of k) c →
       OneByOne (HasOutlineOf r.filed S) (rows_of_class (state_in k r) order c) (rows_in x.classes.items c)
+
+-- for each class those of the first i classes that find it and of which something is filed
+pub record AreSourcesBelow (k : Kept) (r : Rows) (i : ℕ) (v : List (List ℕ)) : Type 0 where
+  pub count : length v ≡ length k.classes
+  pub at : (c : ℕ) → c < length k.classes → slice_index_or v c [] ≡ filter (is_source k r c) (range_with_len 0 i)
+
+-- for each class its sources
+abbrev pub AreClassSources : Kept → Rows → List (List ℕ) → Type 0
+AreClassSources k r v = AreSourcesBelow k r (length r.filed) v
+
+-- the rows of the first n classes
+pub record AreClassRows (k : Kept) (r : Rows) (S : List Form) (n : ℕ) (classes : List ClassRows) : Type 0 where
+  pub count : length classes ≡ n
+  pub slot_counts : (c : ℕ) → c < n → slot_count_in classes c ≡ length (entry_at (entries_of k) c).pairs
+  pub rows : (c : ℕ) → c < n → AreSourceRows k r S (class_sources k r c) (rows_in classes c)

@@ -1,7 +1,10 @@
 -- The row of a filed key, whose names are numeric slots.
 --     slot_number s             the number of a numeric slot
 --     class_position F t        1 more than the place at which F has the value t, or 0 if it has not
+--     positions_below n m F     for each number below n the position of the slot that it stands for
 --     unmarked v xs             the names xs that are not v
+--     blanked v x               the mark of a child, $1, for v, and $0 for any other name
+--     blanked_form v f          the form f with such names
 --     AreCovered f              each number of the node f is smaller than the number of its places
 --     own_numbers f             the numbers at the own names and binders of the node f
 --     numbered_ids f            its children, with numbers for names
@@ -11,6 +14,7 @@ use Rattle.std.specs.List.{range_with_len}
 use Rattle.slotted_slots.specs.Maps.{value_of}
 use Rattle.slotted_slots.specs.Table.{numeric_slot}
 use Rattle.slotted_nodes.specs.Form.{Form}
+use Rattle.slotted_languages.specs.Outline.{child_mark}
 use Rattle.slotted_model.specs.Applied.{Applied, renamed_id}
 use Rattle.slotted_model_rules.specs.Goals.{own_names}
 use Rattle.slotted_store.specs.ChildIds.{child_ids}
@@ -38,6 +42,12 @@ position_if F (Some t) = class_position F t
 abbrev pub unmarked : ℕ → List ℕ → List ℕ
 unmarked v xs = filter (λ x. not (nat_eq x v)) xs
 
+abbrev pub blanked : ℕ → ℕ → ℕ
+blanked v x = cond (nat_eq x v) child_mark 0
+
+abbrev pub blanked_form : ℕ → Form → Form
+blanked_form v f = record f { names = map (blanked v) f.names }
+
 abbrev pub AreCovered : Form → Type 0
 AreCovered f = (x : ℕ) → Contains f.names x → slot_number x < length f.names
 
@@ -47,7 +57,6 @@ own_numbers f = map slot_number (own_names (node_arguments f))
 abbrev pub numbered_ids : Form → List Applied
 numbered_ids f = map (renamed_id slot_number) (child_ids f)
 
--- for each number below n the position of the slot that it stands for
 abbrev pub positions_below : ℕ → List (ℕ × ℕ) → List (ℕ × ℕ) → List ℕ
 positions_below n m F = map (λ z. position_if F (value_of m (numeric_slot z))) (range_with_len 0 n)
 

@@ -1,10 +1,11 @@
 -- Skeletons by number.
 --     StandOnce S          no form stands twice
---     IsPlaceOf S f n      n is the place of the form f, or the length if f is nowhere
+--     StandsAt S f n       the form f stands at the place n
+--     IsPlaceOf S f n      n is the only place of the form f, or the length if f is nowhere
 --     GrowsTo S T          the forms of S stand first in T
 --     HasManyPlaces f      the node f has as many places and children as there are numeric slots, or more
 --     HasFewPlaces f       it has fewer
-use Rattle.std.specs.Prelude.{◌≡◌, ◌⊎◌, ◌≤◌, ◌<◌, ◌+◌, ℕ, List, ◌++◌, length, Some, slice_get}
+use Rattle.std.specs.Prelude.{◌≡◌, ◌↔◌, ◌⊎◌, ◌≤◌, ◌<◌, ◌+◌, ℕ, List, ◌++◌, length, Some, slice_get}
 use Rattle.slotted_slots.specs.Table.{slot_limit}
 use Rattle.slotted_nodes.specs.Form.{Form, children}
 
@@ -15,7 +16,7 @@ abbrev pub StandsAt : List Form → Form → ℕ → Type 0
 StandsAt S f n = slice_get S n ≡ Some f
 
 abbrev pub IsPlaceOf : List Form → Form → ℕ → Type 0
-IsPlaceOf S f n = StandsAt S f n ⊎ ((n ≡ length S) × ((i : ℕ) → ¬ StandsAt S f i))
+IsPlaceOf S f n = ((i : ℕ) → StandsAt S f i ↔ (i ≡ n)) ⊎ ((n ≡ length S) × ((i : ℕ) → ¬ StandsAt S f i))
 
 abbrev pub GrowsTo : List Form → List Form → Type 0
 GrowsTo S T = (more : List Form) × (T ≡ S ++ more)

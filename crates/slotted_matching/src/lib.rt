@@ -9,5 +9,7 @@ pub(crate) mod naming;
 pub(crate) mod rows;
 pub mod skeletons;
 
+pub use compile::Program;
+pub use index::Indexed;
 pub use matches::Matches;
 pub use skeletons::Skeletons;

@@ -4,13 +4,15 @@ ghost use Rattle.slotted_slots.specs.Error.{IsOutOfMemory};
 ghost use Rattle.slotted_slots.specs.Maps.{value_of, values};
 ghost use Rattle.slotted_slots.specs.Table.{slot_limit, numeric_slot};
 ghost use Rattle.slotted_nodes.specs.Form.{IsSmall};
+ghost use Rattle.slotted_languages.specs.Outline.{skeleton_form};
 ghost use Rattle.slotted_model.specs.Applied.{renamed_id};
 ghost use Rattle.slotted_proofs.specs.Equations.{to_applied};
 ghost use Rattle.slotted_match_machine.specs.Index.{IsIndexChild, OneByOne};
 ghost use Rattle.slotted_matching.specs.KeyRows as keys;
 ghost use Rattle.slotted_matching.specs.KeyRows.{AreCovered, own_numbers, numbered_ids, position_if, positions_below};
-ghost use Rattle.slotted_matching.specs.Skeletons.{HasFewPlaces};
+ghost use Rattle.slotted_matching.specs.Skeletons.{GrowsTo, HasFewPlaces, StandsAt};
 
+use crate::skeletons::Skeletons;
 use slotted_languages::Language;
 use slotted_languages::outline::outline;
 use slotted_match_machine::index::IndexChild;
@@ -52,7 +54,7 @@ fn class_position(found: &SlotMap, slot: Slot) -> usize
     0
 }
 
-// The same of the slot for a number, which a binder has not.
+// The position of the slot that a number stands for, or 0 if it stands for none.
 fn number_position(names: &SlotMap, found: &SlotMap, number: usize) -> usize
     requires { number < slot_limit }
     ensures { result ≡ position_if found.now (value_of names.now (numeric_slot number)) }
@@ -63,7 +65,9 @@ fn number_position(names: &SlotMap, found: &SlotMap, number: usize) -> usize
     }
 }
 
-/// Returns the position for each number below `count`, where `names` has a slot for each number and `found` has it for one of the class.
+/// Returns for each number below `count` 1 more than the position of the class's slot that it stands for, or 0 if it stands for none.
+///
+/// `names` has the source's slot for each number, and `found` has for each slot of the class the source's slot.
 pub(crate) fn row_slots(
     alloc: Global,
     names: &SlotMap,
@@ -101,17 +105,47 @@ fn unmarked_numbers<L: Language>(
     Ok(numbers)
 }
 
-/// Returns the numbers at the own names and binders of a node.
-pub(crate) fn row_owns<L: Language>(alloc: Global, node: &L) -> Result<Vec<usize>, Error>
+// `$1` for the mark of a child, and `$0` for any other name.
+fn blanked(mark: Slot, slot: Slot) -> Slot
+    ensures { result ≡ keys.blanked mark slot }
+{
+    if slot == mark {
+        Slot::numeric_at(1)
+    } else {
+        Slot::numeric_at(0)
+    }
+}
+
+// Turns an outline whose children have a mark of their own into the skeleton of its node.
+fn blank<L: Language>(outline: &mut L, mark: Slot)
+    requires { IsSmall (L.form outline.old) }
+    ensures { L.form outline.new ≡ keys.blanked_form mark (L.form outline.old) }
+{
+    for i in 0..outline.slot_count() {
+        let slot = blanked(mark, outline.slot(i));
+        outline.set_slot(i, slot);
+    }
+}
+
+/// Returns the number of a node's skeleton, and the numbers at the node's own names and binders. The skeleton is added if it is new.
+pub(crate) fn number_outline<L: Language>(
+    alloc: Global,
+    node: &L,
+    skeletons: &mut Skeletons<L>,
+) -> Result<(usize, Vec<usize>), Error>
     requires few { HasFewPlaces (L.form node.now) }
     requires covered { AreCovered (L.form node.now) }
-    ensures ok { IfOk result (λ v. v.items ≡ own_numbers (L.form node.now)) }
+    ensures place { IfOk result (λ p. StandsAt skeletons.new (skeleton_form (L.form node.now)) p.0) }
+    ensures owns { IfOk result (λ p. p.1.items ≡ own_numbers (L.form node.now)) }
+    ensures grows { GrowsTo skeletons.old skeletons.new }
     ensures err { IfErr result IsOutOfMemory }
 {
     let mark = Slot::numeric_at(node.slot_count() as u32);
-    let marked = outline(alloc, node, mark)?;
+    let mut marked = outline(alloc, node, mark)?;
     let owns = unmarked_numbers(alloc, &marked, mark)?;
-    Ok(owns)
+    blank(&mut marked, mark);
+    let number = skeletons.add(marked)?;
+    Ok((number, owns))
 }
 
 // The numbers of a child's names.

@@ -1,8 +1,8 @@
 //! The skeletons of nodes by number: what is left of a node without its names and children.
-ghost use Rattle.std.specs.Prelude.{◌≡◌, ◌↔◌, [], IsTrue, IfOk, IfErr, OnOk, IsErrOf};
-ghost use Rattle.slotted_slots.specs.Error.{IsShortage};
+ghost use Rattle.std.specs.Prelude.{◌≡◌, ◌↔◌, [], length, IsTrue, IfOk, IfErr, IsErrOf};
+ghost use Rattle.slotted_slots.specs.Error.{IsOutOfMemory, IsShortage};
 ghost use Rattle.slotted_languages.specs.Outline.{skeleton_form};
-ghost use Rattle.slotted_matching.specs.Skeletons.{GrowsTo, HasManyPlaces, IsPlaceOf, StandOnce, StandsAt};
+ghost use Rattle.slotted_matching.specs.Skeletons.{GrowsTo, HasManyPlaces, IsPlaceOf, StandsAt};
 
 use indexmap::IndexSet;
 use slotted_languages::Language;
@@ -44,14 +44,19 @@ impl<L: Language> Skeletons<L> {
         }
     }
 
-    /// Returns the number of a node's skeleton, which is added if it is new. Numbers stay.
-    pub fn number_of(&mut self, alloc: Global, node: &L) -> Result<usize, Error>
-        ensures ok { IfOk result (StandsAt self.new (skeleton_form (L.form node.now))) }
-        ensures grows { GrowsTo self.old self.new }
-        ensures full { IsErrOf result Error.OutOfSlots → HasManyPlaces (L.form node.now) }
-        ensures err { IfErr result IsShortage }
+    /// Returns how many skeletons there are. No skeleton has this number.
+    pub fn len(&self) -> usize
+        ensures { result ≡ length self.now }
     {
-        let skeleton = small_skeleton(alloc, node)?;
+        self.nodes.len()
+    }
+
+    /// Adds a skeleton if it is new, and returns its number. Numbers stay.
+    pub fn add(&mut self, skeleton: L) -> Result<usize, Error>
+        ensures ok { IfOk result (StandsAt self.new (L.form skeleton)) }
+        ensures grows { GrowsTo self.old self.new }
+        ensures err { IfErr result IsOutOfMemory }
+    {
         let (number, _) = self.nodes.insert_full(skeleton)?;
         Ok(number)
     }
@@ -59,7 +64,6 @@ impl<L: Language> Skeletons<L> {
     /// Returns the number of a node's skeleton, or how many there are if it is none of them.
     pub fn find(&self, alloc: Global, node: &L) -> Result<usize, Error>
         ensures ok { IfOk result (IsPlaceOf self.now (skeleton_form (L.form node.now))) }
-        ensures once { OnOk result (StandOnce self.now) }
         ensures full { IsErrOf result Error.OutOfSlots → HasManyPlaces (L.form node.now) }
         ensures err { IfErr result IsShortage }
     {

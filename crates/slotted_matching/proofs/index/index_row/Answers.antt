@@ -1,10 +1,8 @@
 use Rattle.std.proofs.Common.{◌∙◌, ℕ, List, ap, sym, subst}
 use Rattle.std.specs.Prelude.{option_map}
 use Rattle.slotted_nodes.specs.Form.{Form}
-use Rattle.slotted_languages.specs.Outline.{skeleton_form}
 use Rattle.slotted_model.specs.Applied.{Applied}
 use Rattle.slotted_matching.specs.KeyRows.{IsKeyRow}
-use Rattle.slotted_matching.specs.Skeletons.{StandsAt}
 use Rattle.slotted_matching.proofs.CoveredKeys.{covered-key}
 use Rattle.slotted_matching.proofs.IndexedKeys.{source-row}
 use Rattle.slotted_matching.proofs.index.index_row.Goals as goal
@@ -24,5 +22,4 @@ returns-clause-row g c =
     let at = sym (ap (option_map (λ p. (form p.0.now, p.1.now))) (sym c.in-Some.is) ∙ c.node.ensures) in
     let row = c.in_ok-row-in-Some.row in
     let is = subst (λ F. IsKeyRow f m F row) (ap (λ (a : Applied). a.1) c.in_ok-found-in-Some.ensures.ok) c.in_ok-row-in-Some.ensures.row in
-    let place = subst (StandsAt c.number_of.new.self (skeleton_form f)) (sym c.in_ok-row-in-Some.ensures.outline) c.in_ok-outline-in-Some.ensures.ok in
-    source-row c.args.store.now c.args.nodes.now c.requires.good c.args.source f m at row is c.number_of.new.self place
+    source-row c.args.store.now c.args.nodes.now c.requires.good c.args.source f m at row is c.key_row.new.skeletons c.in_ok-row-in-Some.ensures.place

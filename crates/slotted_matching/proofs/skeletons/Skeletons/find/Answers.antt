@@ -10,7 +10,7 @@ returns-in-Some-clause-ok g c =
     let form = g.L.LanguageChildren.form in
     subst (λ (S : List Form). IsPlaceOf S (skeleton_form (form c.args.node.now)) c.in-Some.number) c.self.view_is
     (subst (λ (f : Form). IsPlaceOf (map form c.self.inside.nodes.keys) f c.in-Some.number) c.in_ok-skeleton.ensures.ok
-    (found-place g.L.PartialEq.eq form g.met.L.LanguageChildren.same c.self.inside.nodes.keys c.in_ok-skeleton.skeleton c.in-Some.number (sym c.in-Some.ensures.index)))
+    (found-place g.L.PartialEq.eq form g.met.L.LanguageChildren.same c.self.inside.nodes.keys c.in_ok-skeleton.skeleton c.in-Some.number c.self.invariant (sym c.in-Some.ensures.index)))
 
 pub returns-clause-ok : goal.returns-clause-ok
 returns-clause-ok g c =
