@@ -16,3 +16,4 @@ pub mod SourceRows
 pub mod IndexedClasses
 pub mod IndexOutlines
 pub mod Blanking
+pub mod StepSlots

@@ -21,7 +21,7 @@ common-append xs us ys vs n =
     ∙ map-append (λ e. e.0) (filter (λ (e : ℕ × ℕ). nat_eq e.0 e.1) (zip xs ys)) (filter (λ (e : ℕ × ℕ). nat_eq e.0 e.1) (zip us vs)))
 
 -- a name that stands in both
-both-first : (x : ℕ) (xs ys : List ℕ) → common_names (x ∷ xs) (x ∷ ys) ≡ x ∷ common_names xs ys
+pub both-first : (x : ℕ) (xs ys : List ℕ) → common_names (x ∷ xs) (x ∷ ys) ≡ x ∷ common_names xs ys
 both-first x xs ys = ap (λ b. map (λ (e : ℕ × ℕ). e.0) (cond b ((x, x) ∷ filter (λ (e : ℕ × ℕ). nat_eq e.0 e.1) (zip xs ys)) (filter (λ (e : ℕ × ℕ). nat_eq e.0 e.1) (zip xs ys)))) (eq-eqb x x refl)
 
 one-place : (x y : ℕ) (b : Bool) → nat_eq x y ≡ b → common_names (x ∷ []) (y ∷ []) ≡ cond b (x ∷ []) []
@@ -45,7 +45,7 @@ pub common-pushed : (xs ys : List ℕ) (i x : ℕ) → length xs ≡ length ys �
     → common_names (take i xs) (take i ys) ++ x ∷ [] ≡ common_names (take (i + 1) xs) (take (i + 1) ys)
 common-pushed xs ys i x n l e is = ap (λ y. common_names (take i xs) (take i ys) ++ y ∷ []) is ∙ sym (common-more xs ys i true n l e)
 
-same-outlines : (v w : ℕ) (u : Tree) (xs : List ℕ) → length (outlined_names v u xs) ≡ length (outlined_names w u xs)
+pub same-outlines : (v w : ℕ) (u : Tree) (xs : List ℕ) → length (outlined_names v u xs) ≡ length (outlined_names w u xs)
 same-outlines v w u xs = length-outlined_names v u xs ∙ sym (length-outlined_names w u xs)
 
 pub own-common : (u : Tree) (xs : List ℕ) (ps : List Pattern) → length ps ≡ length (children u) → common_names (outlined_names 0 u xs) (outlined_names 4 u xs) ≡ own_slots (filled_pattern u xs ps)

@@ -5,18 +5,24 @@
 --     IsNumber seen v o         o is a number of the variable v, if it was seen
 --     Numbers seen more v k     the number k is that of v in `more`, which are the variables seen before and v if it is new
 --     Compiling, nothing        what was compiled, with the register that the next node fills
+--     HoldsSlots steps slots    the own names of nodes in the steps are among these slots
+--     AddsSlots old new t       the slots that were added stand in the pattern t
 --     Adds S c d goals          from c to d the steps are added that find these goals
 --     Enters S c d f from k     the step is added that finds the node f and fills the register k with it
 --     IsCompiled S t steps vs   the steps are the program of the pattern t, where outlines are places in S
-use Rattle.std.specs.Prelude.{◌≡◌, ◌⊎◌, ◌<◌, ℕ, suc, List, [], ◌∷◌, ◌++◌, length, map, filter, nat_eq, slice_index_or, Contains, Option, Some, None}
+use Rattle.std.specs.Prelude.{◌≡◌, ◌⊎◌, ◌<◌, ◌≤◌, ◌+◌, IsTrue, Vec, ℕ, suc, List, [], ◌∷◌, ◌++◌, length, map, filter, nat_eq, slice_index_or, Contains, Option, Some, None}
 use Rattle.std.specs.List.{zip}
+use Rattle.std.specs.declared.alloc.Global.{Global}
+use Rattle.slotted_slots.specs.Table.{Table, is_known}
 use Rattle.slotted_nodes.specs.Form.{Form}
 use Rattle.slotted_languages.specs.Outline.{outlined_names, skeleton_form}
+use Rattle.slotted_patterns.specs.Known.{HasKnownNames}
 use Rattle.slotted_patterns.specs.Tree.{PatternTree}
 use Rattle.slotted_model_rules.specs.Patterns.{Pattern, PatternArgs, pattern_node}
 use Rattle.slotted_rule_patterns.specs.PatternCode.{pattern_in, pattern_over}
 use Rattle.slotted_match_machine.specs.declared.program.Source.{Source}
 use Rattle.slotted_match_machine.specs.declared.program.Step.{Step}
+use Rattle.slotted_match_machine.specs.declared.program.Step.TheVariants.{Node}
 use Rattle.slotted_match_machine.specs.Programs.{IsProgram, IsProgramFor, placed}
 use Rattle.slotted_matching.specs.Skeletons.{IsPlaceOf}
 
@@ -46,11 +52,31 @@ Goal = Pattern × Source
 pub record Compiling : Type 0 where
   pub steps : List Step
   pub seen : List (List ℕ)
+  pub slots : List ℕ
   pub next : ℕ
+
+-- there are fewer registers than steps, but for the first
+abbrev pub AreFewer : ℕ → ℕ → Type 0
+AreFewer next steps = next ≤ steps + 1
+
+-- the own names of nodes in the steps are among these slots
+abbrev pub HoldsSlots : List Step → List ℕ → Type 0
+HoldsSlots steps slots = (outline : ℕ) (owns : Vec ℕ Global) (from : Source) → Contains steps (Node outline owns from) → (y : ℕ) → Contains owns.items y → Contains slots y
+
+abbrev pub BeginsWith : List ℕ → List ℕ → Type 0
+BeginsWith xs ys = (more : List ℕ) × (ys ≡ xs ++ more)
+
+-- the table knows each of these slots
+abbrev pub KnowsEach : Table → List ℕ → Type 0
+KnowsEach t slots = (y : ℕ) → Contains slots y → IsTrue (is_known t y)
+
+-- the slots that were added stand in the pattern
+abbrev pub AddsSlots : List ℕ → List ℕ → PatternTree → Type 0
+AddsSlots old new q = (t : Table) → HasKnownNames t q → KnowsEach t old → KnowsEach t new
 
 -- nothing yet, where the first register holds the class
 abbrev pub nothing : Compiling
-nothing = record { steps = []; seen = []; next = 1 }
+nothing = record { steps = []; seen = []; slots = []; next = 1 }
 
 -- the steps that come after others find these goals before all that the next steps find
 pub record Adds (S : List Form) (c d : Compiling) (goals : List Goal) : Type 0 where

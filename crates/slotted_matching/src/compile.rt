@@ -1,12 +1,14 @@
 //! Patterns as programs of the machine, with their variables by number.
-ghost use Rattle.std.specs.Prelude.{◌≡◌, ◌∷◌, List, [], false, length, map, string_bytes, IsSome, IfOk, IfErr, OnOk};
+ghost use Rattle.std.specs.Prelude.{◌≡◌, ◌∷◌, ◌++◌, List, [], false, length, map, string_bytes, IsSome, IfOk, IfErr, OnOk};
 ghost use Rattle.slotted_slots.specs.Error.{IsOutOfMemory, IsShortage};
+ghost use Rattle.slotted_slots.specs.Table.{Table};
+ghost use Rattle.slotted_patterns.specs.Known.{HasKnownNames};
 ghost use Rattle.slotted_nodes.specs.Form.{Form, IsSmall};
 ghost use Rattle.slotted_model_rules.specs.Patterns.{variable};
 ghost use Rattle.slotted_patterns.specs.View.{tree_of};
 ghost use Rattle.slotted_rule_patterns.specs.PatternCode.{pattern_in};
 ghost use Rattle.slotted_rule_patterns.specs.Variables.{has_substitution};
-ghost use Rattle.slotted_matching.specs.Compiled.{Adds, AddsPattern, Compiling, Enters, nothing, IsCompiled, IsNumber, Numbers, common_names, pattern_names};
+ghost use Rattle.slotted_matching.specs.Compiled.{Adds, AddsPattern, AddsSlots, BeginsWith, HoldsSlots, KnowsEach, Compiling, Enters, nothing, IsCompiled, IsNumber, Numbers, common_names, pattern_names};
 ghost use Rattle.slotted_matching.specs.Skeletons.{HasFewPlaces};
 
 use crate::skeletons::{Skeletons, has_many_places};
@@ -23,6 +25,8 @@ use std::marker::Model;
 pub struct Program {
     pub steps: Vec<Step>,
     pub variables: Vec<String>,
+    /// The slots of the pattern, which the steps know by their raw numbers.
+    pub slots: Vec<Slot>,
 }
 
 // What was compiled so far, and which register the next node fills.
@@ -30,22 +34,23 @@ pub struct Program {
 struct Compiler {
     steps: Vec<Step>,
     variables: Vec<String>,
+    slots: Vec<Slot>,
     next: usize,
 }
 
 impl Model for Compiler {
-    ghost use Rattle.std.specs.Prelude.{◌≤◌, ◌+◌, length, map, string_bytes};
-    ghost use Rattle.slotted_matching.specs.Compiled.{Compiling};
+    ghost use Rattle.std.specs.Prelude.{length, map, string_bytes};
+    ghost use Rattle.slotted_matching.specs.Compiled.{AreFewer, Compiling, HoldsSlots};
 
     ghost Value = { Compiling };
 
-    ghost view = { λ c. record { steps = c.steps.items; seen = map string_bytes c.variables.items; next = c.next } };
+    ghost view = { λ c. record { steps = c.steps.items; seen = map string_bytes c.variables.items; slots = c.slots.items; next = c.next } };
 
-    ghost invariant = { λ c. c.next ≤ length c.steps.items + 1 };
+    ghost invariant = { λ c. AreFewer c.next (length c.steps.items) × HoldsSlots c.steps.items c.slots.items };
 }
 
 // The slots at the places where both nodes have the same one.
-fn common_slots<L: Language>(alloc: Global, first: &L, second: &L) -> Result<Vec<usize>, Error>
+fn common_slots<L: Language>(alloc: Global, first: &L, second: &L) -> Result<Vec<Slot>, Error>
     requires small { IsSmall (L.form first.now) }
     requires same { length (L.form first.now).names ≡ length (L.form second.now).names }
     ensures ok { IfOk result (λ v. v.items ≡ common_names (L.form first.now).names (L.form second.now).names) }
@@ -55,14 +60,14 @@ fn common_slots<L: Language>(alloc: Global, first: &L, second: &L) -> Result<Vec
     for i in 0..first.slot_count() {
         let slot = first.slot(i);
         if slot == second.slot(i) {
-            slots.push(slot.raw() as usize)?;
+            slots.push(slot)?;
         }
     }
     Ok(slots)
 }
 
 // The own names and binders of a node.
-fn own_slots<L: Language>(alloc: Global, node: &L) -> Result<Vec<usize>, Error>
+fn own_slots<L: Language>(alloc: Global, node: &L) -> Result<Vec<Slot>, Error>
     requires { HasFewPlaces (L.form node.now) }
     ensures ok { IfOk result (λ v. v.items ≡ pattern_names (L.form node.now)) }
     ensures err { IfErr result IsOutOfMemory }
@@ -70,6 +75,21 @@ fn own_slots<L: Language>(alloc: Global, node: &L) -> Result<Vec<usize>, Error>
     let zero = outline(alloc, node, Slot::numeric_at(0))?;
     let one = outline(alloc, node, Slot::numeric_at(1))?;
     common_slots(alloc, &zero, &one)
+}
+
+// Adds the slots to those of a pattern, and returns their raw numbers.
+fn raw_slots(alloc: Global, slots: &[Slot], all: &mut Vec<Slot>) -> Result<Vec<usize>, Error>
+    ensures ok { IfOk result (λ v. v.items ≡ slots.now) }
+    ensures all { OnOk result (all.new.items ≡ all.old.items ++ slots.now) }
+    ensures begins { BeginsWith all.old.items all.new.items }
+    ensures err { IfErr result IsOutOfMemory }
+{
+    let mut numbers = Vec::new(alloc);
+    for slot in slots {
+        all.push(*slot)?;
+        numbers.push(slot.raw() as usize)?;
+    }
+    Ok(numbers)
 }
 
 // The number of a variable that was seen.
@@ -92,6 +112,7 @@ impl Compiler {
         Compiler {
             steps: Vec::new(alloc),
             variables: Vec::new(alloc),
+            slots: Vec::new(alloc),
             next: 1,
         }
     }
@@ -101,6 +122,7 @@ impl Compiler {
         ensures ok { IfOk result (Numbers self.old.seen self.new.seen name.now) }
         ensures steps { self.new.steps ≡ self.old.steps }
         ensures next { self.new.next ≡ self.old.next }
+        ensures slots { self.new.slots ≡ self.old.slots }
         ensures err { IfErr result IsOutOfMemory }
     {
         if let Some(number) = number_of(&self.variables, name) {
@@ -115,6 +137,7 @@ impl Compiler {
     // Adds the step of a variable.
     fn add_variable(&mut self, alloc: Global, name: &str, from: Source) -> Result<(), Error>
         ensures ok { (S : List Form) → OnOk result (Adds S self.old self.new ((variable name.now, from) ∷ [])) }
+        ensures slots { self.new.slots ≡ self.old.slots }
         ensures err { IfErr result IsOutOfMemory }
     {
         let number = self.number(alloc, name)?;
@@ -131,13 +154,15 @@ impl Compiler {
         skeletons: &Skeletons<L>,
     ) -> Result<usize, Error>
         ensures ok { IfOk result (Enters skeletons.now self.old self.new (L.form node.now) from) }
+        ensures slots { OnOk result (self.new.slots ≡ self.old.slots ++ pattern_names (L.form node.now)) }
         ensures err { IfErr result IsShortage }
     {
         if has_many_places(node) {
             return Err(Error::OutOfSlots);
         }
         let outline = skeletons.find(alloc, node)?;
-        let slots = own_slots(alloc, node)?;
+        let owns = own_slots(alloc, node)?;
+        let slots = raw_slots(alloc, &owns, &mut self.slots)?;
         self.steps.push(Step::Node {
             outline,
             slots,
@@ -158,6 +183,7 @@ impl Compiler {
     ) -> Result<(), Error>
         requires { has_substitution (tree_of L.form pattern.now) ≡ false }
         ensures ok { OnOk result (AddsPattern skeletons.now self.old self.new (tree_of L.form pattern.now) from) }
+        ensures slots { OnOk result (AddsSlots self.old.slots self.new.slots (tree_of L.form pattern.now)) }
         ensures err { IfErr result IsShortage }
     {
         match pattern {
@@ -186,6 +212,8 @@ pub fn compile<L: Language>(
     requires { has_substitution (tree_of L.form pattern.now) ≡ false }
     ensures ok { IfOk result
         (λ c. IsCompiled skeletons.now (tree_of L.form pattern.now) c.steps.items (map string_bytes c.variables.items)) }
+    ensures slots { IfOk result (λ c. HoldsSlots c.steps.items c.slots.items) }
+    ensures known { IfOk result (λ c. (t : Table) → HasKnownNames t (tree_of L.form pattern.now) → KnowsEach t c.slots.items) }
     ensures err { IfErr result IsShortage }
 {
     let mut compiler = Compiler::new(alloc);
@@ -197,5 +225,6 @@ pub fn compile<L: Language>(
     Ok(Program {
         steps: compiler.steps,
         variables: compiler.variables,
+        slots: compiler.slots,
     })
 }

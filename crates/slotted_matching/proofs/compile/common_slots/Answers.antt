@@ -16,7 +16,7 @@ loop-i-preserved g c =
       | then-eq+in_ok-push w ↦
           ap (λ v. v.items) w.slots-is
           ∙ (w.in_ok-push.ensures.items
-          ∙ (ap (λ l. l ++ w.raw.result ∷ []) c.loop-i.invariant
-          ∙ common-pushed xs ys i w.raw.result c.requires.same l (sym same ∙ w.if-eq.true) (w.raw.ensures ∙ c.slot-slot.ensures)))
+          ∙ (ap (λ l. l ++ c.slot-slot.result ∷ []) c.loop-i.invariant
+          ∙ common-pushed xs ys i c.slot-slot.result c.requires.same l (sym same ∙ w.if-eq.true) c.slot-slot.ensures))
       | else-eq w ↦ ap (λ v. v.items) w.slots-is ∙ (c.loop-i.invariant ∙ common-kept xs ys i c.requires.same l (sym same ∙ w.if-eq.false))
     ]
