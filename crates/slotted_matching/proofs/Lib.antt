@@ -17,3 +17,7 @@ pub mod IndexedClasses
 pub mod IndexOutlines
 pub mod Blanking
 pub mod StepSlots
+pub mod AnsweredIds
+pub mod AnsweredNames
+pub mod AnsweredInTurn
+pub mod NumberedNames

@@ -5,3 +5,4 @@ pub mod Indexed
 pub mod Compiled
 pub mod Matches
 pub mod Naming
+pub mod Answered

@@ -2,6 +2,7 @@
 //! with slots for numbers.
 #![tactic(auto)]
 
+pub mod answers;
 pub mod compile;
 pub mod index;
 pub mod matches;
