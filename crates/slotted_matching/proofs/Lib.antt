@@ -21,3 +21,5 @@ pub mod AnsweredIds
 pub mod AnsweredNames
 pub mod AnsweredInTurn
 pub mod NumberedNames
+pub mod Programs
+pub mod Finding

@@ -6,3 +6,4 @@ pub mod Compiled
 pub mod Matches
 pub mod Naming
 pub mod Answered
+pub mod Found

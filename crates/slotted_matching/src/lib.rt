@@ -4,6 +4,7 @@
 
 pub mod answers;
 pub mod compile;
+pub mod find;
 pub mod index;
 pub mod matches;
 pub(crate) mod naming;

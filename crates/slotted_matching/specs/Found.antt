@@ -1,0 +1,27 @@
+-- What a search over filed nodes finds.
+--     Finds k r t found     these substitutions are what the matcher finds at the live classes, over all filed nodes
+--     AreValidFound k r found   each value is a valid id
+use Rattle.std.specs.Prelude.{◌≡◌, ◌↔◌, ℕ, List, Contains, Some, map}
+use Rattle.slotted_model.specs.Applied.{Applied}
+use Rattle.slotted_model.specs.Rest.{IsValidIn}
+use Rattle.slotted_model.specs.State.{Row}
+use Rattle.slotted_model_rules.specs.Conditions.{Values}
+use Rattle.slotted_model_rules.specs.Patterns.{Pattern}
+use Rattle.slotted_model_rules.specs.Rules.{Searches}
+use Rattle.slotted_patterns.specs.Tree.{PatternTree}
+use Rattle.slotted_rule_patterns.specs.PatternCode.{pattern_in}
+use Rattle.slotted_store.specs.Kept.{Kept}
+use Rattle.slotted_filing.specs.FiledRows.{Rows}
+use Rattle.slotted_rebuilding.specs.Filed.{state_in}
+
+-- in some order of the filed nodes
+pub record IsFound (k : Kept) (r : Rows) (p : Pattern) (found : List Values) : Type 0 where
+  pub order : List Row
+  pub rows : (q : Row) → Contains (state_in k r).rows q ↔ Contains order q
+  pub searches : Searches (state_in k r) order p found
+
+abbrev pub Finds : Kept → Rows → PatternTree → List Values → Type 0
+Finds k r t found = (p : Pattern) → pattern_in t ≡ Some p → IsFound k r p found
+
+abbrev pub AreValidFound : Kept → Rows → List Values → Type 0
+AreValidFound k r found = (s : Values) → Contains found s → (e : List ℕ × Applied) → Contains s e → IsValidIn (state_in k r) e.1

@@ -1,0 +1,52 @@
+//! Finding a pattern at the classes of a graph.
+ghost use Rattle.std.specs.Prelude.{◌≡◌, IsSome, IsErrOf, IfOk, IfErr, false};
+ghost use Rattle.slotted_slots.specs.Error.{IsShortage};
+ghost use Rattle.slotted_slots.specs.Table.{KnowsMore};
+ghost use Rattle.slotted_model.specs.Rest.{AtRest};
+ghost use Rattle.slotted_patterns.specs.Known.{HasKnownNames};
+ghost use Rattle.slotted_patterns.specs.View.{tree_of};
+ghost use Rattle.slotted_store.specs.Finding.{HasFinds};
+ghost use Rattle.slotted_rebuilding.specs.Filed.{IsWellFiled, state_in};
+ghost use Rattle.slotted_rule_patterns.specs.PatternCode.{pattern_in};
+ghost use Rattle.slotted_rule_patterns.specs.Variables.{has_substitution};
+ghost use Rattle.slotted_matching.specs.Found.{AreValidFound, Finds};
+
+use crate::answers::answers_with_slots;
+use crate::compile::compile;
+use crate::index::row_index;
+use crate::matches::Matches;
+use slotted_filing::Hashcons;
+use slotted_languages::Language;
+use slotted_match_machine::search;
+use slotted_patterns::Pattern;
+use slotted_slots::{Error, SlotTable};
+use slotted_store::Store;
+use std::alloc::Global;
+
+/// Returns what is found for a pattern at the live classes, one class after another.
+///
+/// A name of a value that stands for no slot of the pattern is a fresh slot, which all values of the answer share.
+pub fn find_matches<L: Language>(
+    alloc: Global,
+    table: &mut SlotTable,
+    store: &Store<L>,
+    nodes: &Hashcons<L>,
+    pattern: &Pattern<L>,
+) -> Result<Matches, Error>
+    requires good { IsWellFiled store.now nodes.now }
+    requires links { HasFinds store.now }
+    requires rests { AtRest (state_in store.now nodes.now) }
+    requires known { HasKnownNames table.old (tree_of L.form pattern.now) }
+    requires whole { IsSome (pattern_in (tree_of L.form pattern.now)) }
+    requires plain { has_substitution (tree_of L.form pattern.now) ≡ false }
+    ensures finds { IfOk result (Finds store.now nodes.now (tree_of L.form pattern.now)) }
+    ensures valid { IfOk result (AreValidFound store.now nodes.now) }
+    ensures names { table.new.names ≡ table.old.names }
+    ensures more { KnowsMore table.old table.new }
+    ensures err { IfErr result IsShortage }
+{
+    let indexed = row_index(store, nodes, alloc)?;
+    let program = compile(alloc, pattern, &indexed.skeletons)?;
+    let answers = search(alloc, &indexed.index, &program.steps)?;
+    answers_with_slots(alloc, table, store, &program, &answers)
+}
