@@ -6,6 +6,7 @@ pub mod LeastLater
 pub mod Extending
 pub mod PatternLookUps
 pub mod Matching
+pub mod Finds
 -- What the crates above cite, handed on.
 pub use Rattle.slotted_core.proofs.CallerLemmas
 pub use Rattle.slotted_core.proofs.YesesStay

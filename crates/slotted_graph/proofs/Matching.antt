@@ -1,5 +1,5 @@
 -- What is found by a search over a graph: it is looked up, and where no slot was dropped all is found.
-use Rattle.std.proofs.Common.{◌≡◌, ◌∙◌, ◌<◌, ℕ, List, Some, length, ap, refl, sym, subst, arith}
+use Rattle.std.proofs.Common.{◌≡◌, ◌∙◌, ◌<◌, ℕ, List, length, ap, sym, subst, arith}
 use Rattle.std.specs.Prelude.{◌↔◌, Contains}
 use Rattle.std.specs.Map.{values_of}
 use Rattle.slotted_model.specs.Applied.{Applied, renamed_id}
@@ -7,8 +7,8 @@ use Rattle.slotted_theory.specs.Shape.{free_names}
 use Rattle.slotted_model.specs.Classes.{canonical_node, canonical_slots}
 use Rattle.slotted_theory.specs.Nameless.{DTerm}
 use Rattle.slotted_model.specs.Ascending.{ascending}
-use Rattle.slotted_model.specs.Find.{find, find_class, find_map, used_slots}
-use Rattle.slotted_model.specs.Rest.{AtRest, IsValidIn}
+use Rattle.slotted_model.specs.Find.{find, find_class, find_map}
+use Rattle.slotted_model.specs.Rest.{AtRest}
 use Rattle.slotted_model.specs.State.{Row, State}
 use Rattle.slotted_model.proofs.Lacking.{same-ascending}
 use Rattle.slotted_model.proofs.NormalIds.{Contains-ascending, Contains-of_ascending}
@@ -16,7 +16,6 @@ use Rattle.slotted_model_rules.specs.Complete as model
 use Rattle.slotted_model_rules.specs.Conditions.{Values}
 use Rattle.slotted_model_rules.specs.Matcher.{class_id}
 use Rattle.slotted_model_rules.specs.Patterns.{Pattern, PatternArgs, EachVariable, EachVariableIn, pattern_node, variable, replacing, no_argument, own_name, child_pattern, binding}
-use Rattle.slotted_model_rules.specs.Patterns as patterns
 use Rattle.slotted_model_rules.specs.Rules.{IsMatch, Searches, valued}
 use Rattle.slotted_model_rules.proofs.ClassIds.{class-valid}
 use Rattle.slotted_model_rules.proofs.Rewriting.{each-variable}
@@ -33,10 +32,9 @@ use Rattle.slotted_core.specs.Image.{Image, found_id}
 use Rattle.slotted_core.specs.ValidIds.{IsValidId, slots_left}
 use Rattle.slotted_core.proofs.Images.{class_found-is, found-at, found_id-is}
 use Rattle.slotted_core.proofs.Resting.{at-rest}
-use Rattle.slotted_core.proofs.ValidIds.{findable-within, of-valid}
-use Rattle.slotted_graph.specs.Matching.{AreValidValues, FindsAll, FindsEach, HasAllSlots, IsFoundUpTo}
-use Rattle.slotted_graph.specs.PatternLookUps.{IsLookedUpLive, look_up_pattern}
-use Rattle.slotted_graph.specs.States.{IsStateOf}
+use Rattle.slotted_core.proofs.ValidIds.{of-valid}
+use Rattle.slotted_graph.specs.Matching.{FindsAll, FindsEach, HasAllSlots}
+use Rattle.slotted_graph.specs.PatternLookUps.{IsLookedUpLive}
 use Rattle.slotted_graph.proofs.PatternLookUps.{pattern-is}
 
 ascending-twice : (xs : List ℕ) → ascending (ascending xs) ≡ ascending xs

@@ -1,7 +1,7 @@
 -- What patterns are looked up as: contracts say it by graphs, the model by its states.
-use Rattle.std.proofs.Common.{◌≡◌, ◌∙◌, ℕ, List, Option, Some, None, ap, refl, sym, subst}
+use Rattle.std.proofs.Common.{◌≡◌, ◌∙◌, ℕ, List, Option, Some, None, ap, refl, sym}
 use Rattle.std.specs.Prelude.{option_map, option_and_then}
-use Rattle.slotted_theory.specs.Nameless.{DArgs, stop, place, sub, scope, extend}
+use Rattle.slotted_theory.specs.Nameless.{DArgs, place, scope, extend}
 use Rattle.slotted_theory.specs.Renaming.{IsInjective}
 use Rattle.slotted_theory.proofs.Names.{extend-injective}
 use Rattle.slotted_theory.proofs.Values.{node, child_before}

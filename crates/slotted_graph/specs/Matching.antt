@@ -4,6 +4,8 @@
 --     HasAllSlots g          no class has dropped a slot
 --     IsFoundUpTo g p found σ   σ is found, up to what finds alike and one renaming that leaves the pattern's slots
 --     FindsEach g p found    where no class has dropped a slot, each substitution that is looked up is found so
+--     FindsAllOf, FindsEachOf, FindsLookedUp   the same of a pattern of a language, and that each answer is looked up
+--     AreFoundValid g found  each answer has valid values
 use Rattle.std.specs.Prelude.{◌≡◌, ◌↔◌, ◌<◌, ℕ, List, length, Contains, Some}
 use Rattle.slotted_theory.specs.Renaming.{Bijection}
 use Rattle.slotted_model.specs.Applied.{Applied, renamed_id}
@@ -17,7 +19,9 @@ use Rattle.slotted_model_rules.specs.Rules.{Searches, valued}
 use Rattle.slotted_core.specs.Graph.{Graph}
 use Rattle.slotted_core.specs.Image.{found_id}
 use Rattle.slotted_core.specs.ValidIds.{IsValidId, slots_left}
-use Rattle.slotted_graph.specs.PatternLookUps.{look_up_pattern}
+use Rattle.slotted_graph.specs.PatternLookUps.{IsLookedUpLive, look_up_pattern}
+use Rattle.slotted_patterns.specs.Tree.{PatternTree}
+use Rattle.slotted_rule_patterns.specs.PatternCode.{pattern_in}
 use Rattle.slotted_graph.specs.States.{IsStateOf}
 
 abbrev pub AreValidValues : Graph → Values → Type 0
@@ -45,3 +49,17 @@ pub record IsFoundUpTo (g : Graph) (p : Pattern) (found : List Values) (σ : Lis
 abbrev pub FindsEach : Graph → Pattern → List Values → Type 0
 FindsEach g p found = HasAllSlots g → (σ : List ℕ → Applied) → EachVariable (λ v. IsValidId g (σ v)) p → HasOwnBinders σ p → (x : Applied) →
     look_up_pattern g (λ y. y) σ p ≡ Some x → IsFoundUpTo g p found σ
+
+-- the same of a pattern of a language, where it is whole
+
+abbrev pub FindsAllOf : Graph → PatternTree → List Values → Type 0
+FindsAllOf g t found = (p : Pattern) → pattern_in t ≡ Some p → FindsAll g p found
+
+abbrev pub FindsEachOf : Graph → PatternTree → List Values → Type 0
+FindsEachOf g t found = (p : Pattern) → pattern_in t ≡ Some p → FindsEach g p found
+
+abbrev pub FindsLookedUp : Graph → PatternTree → List Values → Type 0
+FindsLookedUp g t found = (p : Pattern) → pattern_in t ≡ Some p → (s : Values) → Contains found s → IsLookedUpLive g s p
+
+abbrev pub AreFoundValid : Graph → List Values → Type 0
+AreFoundValid g found = (s : Values) → Contains found s → AreValidValues g s

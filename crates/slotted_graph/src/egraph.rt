@@ -44,6 +44,7 @@ mod canonical;
 mod dump;
 mod explanations;
 mod extraction;
+mod matching;
 mod nodes;
 mod patterns;
 mod reports;

@@ -1,20 +1,20 @@
 -- The ids of an answer, and what is known of them.
-use Rattle.std.proofs.Common.{◌≡◌, ℕ, zero, suc, ◌+◌, ◌<◌, ◌≤◌, List, [], ◌∷◌, ◌++◌, Bool, true, false, length, take, get_or, map, refl, sym, ap, subst, ◌∙◌, inl, inr, arith, append_assoc}
+use Rattle.std.proofs.Common.{◌≡◌, ℕ, ◌+◌, ◌<◌, List, [], ◌∷◌, ◌++◌, length, take, get_or, map, sym, ap, ◌∙◌, append_assoc}
 use Rattle.std.specs.Prelude.{Contains}
 use Rattle.std.specs.List.{zip, flat_map}
 use Rattle.std.proofs.lemmas.List.Folds.{flat_map-map}
 use Rattle.slotted_match_machine.specs.declared.answer.Occurrence.{Occurrence as OccurrenceRead}
 use Rattle.slotted_match_machine.specs.Answers.{occurrence_in}
-use Rattle.std.proofs.lemmas.List.{length-map, get_or-map, take_more, take_all, take_more_set, map-append, get_or_default}
-use Rattle.slotted_slots.specs.Maps.{keys, values, with_value_at, keys-with_value_at, values-with_value_at}
+use Rattle.std.proofs.lemmas.List.{take_more, take_more_set, map-append, get_or_default}
+use Rattle.slotted_slots.specs.Maps.{keys, values, with_value_at, values-with_value_at}
 use Rattle.slotted_model.specs.Applied.{Applied}
-use Rattle.slotted_model.specs.Find.{IsLive, used_slots}
+use Rattle.slotted_model.specs.Find.{used_slots}
 use Rattle.slotted_model.proofs.NormalIds.{used-live}
 use Rattle.slotted_store.specs.Kept.{Kept, find_at, nodes_of, entries_of}
 use Rattle.slotted_store.specs.Finding.{HasFinds}
 use Rattle.slotted_store.proofs.KeptLists.{entry_at-of}
 use Rattle.slotted_store.proofs.ChildIds.{zip-keys_values}
-use Rattle.slotted_store.proofs.NameMaps.{length-values, length-keys}
+use Rattle.slotted_store.proofs.NameMaps.{length-keys}
 use Rattle.slotted_unions.specs.StateOf.{state_of}
 use Rattle.slotted_match_machine.specs.Machine.{Occurrence, no_occurrence}
 use Rattle.slotted_match_machine.specs.Readings.{IsWholeId, read_id}

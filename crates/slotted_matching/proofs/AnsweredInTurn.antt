@@ -4,15 +4,14 @@ use Rattle.std.specs.Prelude.{Contains}
 use Rattle.std.specs.List.{zip, flat_map}
 use Rattle.std.proofs.lemmas.List.{length-map, take_more, take_all, length-drop, take-append-le, drop-append-le}
 use Rattle.std.proofs.Math.Nat.{suc-mul}
-use Rattle.slotted_theory.proofs.Lists.{Contains-map, Contains-of_map}
-use Rattle.slotted_slots.specs.Table.{Table, KnowsMore}
+use Rattle.slotted_theory.proofs.Lists.{Contains-of_map}
+use Rattle.slotted_slots.specs.Table.{Table}
 use Rattle.slotted_model.specs.Applied.{Applied}
 use Rattle.slotted_model_rules.specs.Conditions.{Values}
 use Rattle.slotted_match_machine.specs.Machine.{Answer, Occurrence, no_occurrence}
-use Rattle.slotted_match_machine.specs.Readings.{IsWholeAnswer, IsWholeId, read_id}
+use Rattle.slotted_match_machine.specs.Readings.{read_id}
 use Rattle.slotted_store.specs.Kept.{Kept}
 use Rattle.slotted_unions.specs.StateOf.{state_of}
-use Rattle.slotted_rebuilding.specs.Filed.{state_in}
 use Rattle.slotted_matching.specs.Matches.{answers_over}
 use Rattle.slotted_matching.specs.Answered.{NumbersByName, StandOnce, IsNamedAnswer, InTurn, HasWholeIds, HasDifferentPairs, AddsIds, AreWholeAnswers, ids_at, number_count}
 use Rattle.slotted_matching.specs.Naming.{slot_in}

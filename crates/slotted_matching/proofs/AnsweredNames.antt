@@ -1,6 +1,6 @@
 -- Answers whose numbers have slots for names are substitutions that read them.
-use Rattle.std.proofs.Common.{◌≡◌, ℕ, zero, suc, ◌+◌, ◌<◌, ◌≤◌, List, [], ◌∷◌, ◌++◌, Bool, true, false, length, get_or, map, refl, sym, ap, subst, ◌∙◌, inl, inr, arith}
-use Rattle.std.specs.Prelude.{Contains, ◌⊎◌, ◌↔◌, Option, Some, None, cond, IsSome, IsTrue, is_some, unwrap_or}
+use Rattle.std.proofs.Common.{◌≡◌, ℕ, ◌<◌, List, [], ◌∷◌, Bool, true, false, length, get_or, map, refl, sym, ap, subst, ◌∙◌, inl, inr}
+use Rattle.std.specs.Prelude.{Contains, Option, Some, None, cond, IsSome, IsTrue, is_some, unwrap_or}
 use Rattle.std.specs.List.{zip, flat_map}
 use Rattle.std.proofs.lemmas.Bool.{false≢true}
 use Rattle.std.proofs.lemmas.List.{length-map, get_or_default}
@@ -8,28 +8,27 @@ use Rattle.slotted_theory.specs.Decided.{numbers_eq}
 use Rattle.slotted_theory.specs.FiniteMaps.{value_of}
 use Rattle.slotted_theory.proofs.Decides.{numbers_eq-true, numbers_eq-same}
 use Rattle.slotted_theory.proofs.Lists.{contains_cases, contains_head, contains_tail, Contains-nil, Contains-map, Contains-of_map}
-use Rattle.slotted_slots.specs.Table.{Table, KnowsMore, is_known}
+use Rattle.slotted_slots.specs.Table.{Table, is_known}
 use Rattle.slotted_model.specs.Applied.{Applied, values}
 use Rattle.slotted_model.specs.Correspondence.{AllDifferent, IsInjectiveOn}
 use Rattle.slotted_model.specs.Find.{used_slots}
-use Rattle.slotted_model.specs.Rest.{AtRest, IsValidIn}
-use Rattle.slotted_model.proofs.Members.{In, In-Contains, Contains-In, In-append, In-right}
+use Rattle.slotted_model.specs.Rest.{IsValidIn}
+use Rattle.slotted_model.proofs.Members.{In-Contains, Contains-In, In-append, In-right}
 use Rattle.slotted_model.proofs.Correspondences.Pairs.{Contains-value_of, value_of-only}
 use Rattle.slotted_model_rules.specs.Conditions.{Values}
 use Rattle.slotted_model_rules.specs.Matcher.{value_at}
-use Rattle.slotted_model_rules.specs.Rules.{valued, id_or_none}
+use Rattle.slotted_model_rules.specs.Rules.{id_or_none}
 use Rattle.slotted_match_machine.specs.Machine.{Answer, Occurrence, no_occurrence}
-use Rattle.slotted_match_machine.specs.Readings.{IsWholeId, ReadsAnswer, names_of, read_id}
-use Rattle.slotted_match_machine.proofs.Lists.{In-flat_map, In-of_flat_map}
+use Rattle.slotted_match_machine.specs.Readings.{IsWholeId, names_of, read_id}
+use Rattle.slotted_match_machine.proofs.Lists.{In-flat_map}
 use Rattle.slotted_match_machine.proofs.WholeIds.{values-zip, whole-valid}
 use Rattle.slotted_store.specs.Kept.{Kept, entries_of}
-use Rattle.slotted_filing.specs.FiledRows.{Rows}
 use Rattle.slotted_unions.specs.StateOf.{state_of}
 use Rattle.slotted_rebuilding.specs.Filed.{state_in}
 use Rattle.slotted_matching.proofs.AnsweredIds.{contains-at}
 use Rattle.slotted_matching.specs.Matches.{AscendingNames}
 use Rattle.slotted_matching.specs.Naming.{IsNaming, slot_in}
-use Rattle.slotted_matching.specs.Answered.{NumbersByName, StandOnce, HasName, IsNamedAnswer, HasWholeIds, HasDifferentPairs, AddsIds, ids_at}
+use Rattle.slotted_matching.specs.Answered.{NumbersByName, StandOnce, HasName, IsNamedAnswer, HasWholeIds, HasDifferentPairs}
 
 -- one pair for each number, and for each slot
 one-pair : (f : ℕ × ℕ → ℕ) (A : List (ℕ × ℕ)) (p q : ℕ × ℕ) → AllDifferent (map f A) → Contains A p → Contains A q → f p ≡ f q → p ≡ q

@@ -18,7 +18,8 @@ use Rattle.slotted_model_rules.specs.Conditions.{Values}
 use Rattle.slotted_slots.specs.declared.types.AppliedId.{AppliedId}
 use Rattle.slotted_proofs.specs.Equations.{to_applied}
 use Rattle.slotted_rule_patterns.specs.Values.{values_of}
-use Rattle.slotted_matching.specs.Matches.{answers_over, name_order, AscendingNames}
+use Rattle.slotted_slots.proofs.SetLemmas.{IsStrictlySortedBy-nil}
+use Rattle.slotted_matching.specs.Matches.{AreWhole, answers_over, name_order, AscendingNames}
 
 pub length-answers_over : (vs : List (List ℕ)) (ids : List Applied) (n : ℕ) → length (answers_over vs ids n) ≡ n
 length-answers_over vs ids zero = refl
@@ -127,3 +128,6 @@ entry-put vs s i old new k v ascends names l so_far next put =
     ap (map (λ (e : String Global × AppliedId). (string_bytes e.0, to_applied e.1))) (put ∙ insert-last cmp old.entries k v above)
     ∙ (map-append (λ (e : String Global × AppliedId). (string_bytes e.0, to_applied e.1)) old.entries ((k, v) ∷ [])
     ∙ ((λ j. so_far j ++ next j ∷ []) ∙ sym (take_more s i ([], (0, [])) l)))
+
+pub no-answers : (vs : List (List ℕ)) (ids : List Applied) → vs ≡ [] → ids ≡ [] → AreWhole vs ids 0
+no-answers vs ids v i = subst (λ us. AreWhole us ids 0) (sym v) (record { ascending = IsStrictlySortedBy-nil name_order; count = ap length i })

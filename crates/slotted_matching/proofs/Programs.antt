@@ -1,17 +1,15 @@
 -- Programs of patterns in an index: outlines by places are outlines in the index, and pairs have slots of the steps.
-use Rattle.std.proofs.Common.{◌≡◌, ℕ, suc, ◌<◌, List, [], ◌∷◌, ◌++◌, length, Option, Some, None, Bool, true, false, sym, ◌∙◌, refl, subst, ap, inl, inr, Vec}
-use Rattle.std.specs.Prelude.{Contains, cond, nat_eq, nat_lt, option_map, option_and_then, slice_index_or}
+use Rattle.std.proofs.Common.{ℕ, List, [], ◌∷◌, ◌++◌, length, Option, Some, None, Bool, true, false, sym, refl, subst, inl, inr, Vec}
+use Rattle.std.specs.Prelude.{cond, nat_eq, nat_lt, option_map, option_and_then, slice_index_or}
 use Rattle.std.specs.declared.alloc.Global.{Global}
 use Rattle.slotted_theory.specs.FiniteMaps.{value_of}
 use Rattle.slotted_nodes.specs.Form.{Form}
-use Rattle.slotted_languages.specs.Outline.{skeleton_form}
 use Rattle.slotted_model.specs.Applied.{values}
 use Rattle.slotted_model.specs.Correspondence.{has_slot}
 use Rattle.slotted_model.proofs.Members.{In, In-Contains, Contains-In}
-use Rattle.slotted_model_rules.specs.Goals.{paired_all, own_slots}
+use Rattle.slotted_model_rules.specs.Goals.{paired_all}
 use Rattle.slotted_model_rules.specs.Matcher.{paired, paired_with}
-use Rattle.slotted_model_rules.specs.Patterns.{Pattern, PatternArgs, pattern_node}
-use Rattle.slotted_rule_patterns.specs.PatternCode.{pattern_over}
+use Rattle.slotted_model_rules.specs.Patterns.{Pattern, PatternArgs}
 use Rattle.slotted_store.specs.Kept.{Kept}
 use Rattle.slotted_filing.specs.FiledRows.{Rows}
 use Rattle.slotted_rebuilding.specs.Filed.{state_in}
@@ -23,12 +21,11 @@ use Rattle.slotted_match_machine.specs.declared.program.Step.{Step}
 use Rattle.slotted_match_machine.specs.declared.program.Step.TheVariants.{Node, Variable}
 use Rattle.slotted_match_machine.specs.Index.{IsOutlineIn}
 use Rattle.slotted_match_machine.specs.Machine.{MachineState, Answer, no_occurrence, same_occurrence, occurrence_at, names_for, named, entered, after_row, rows_in, if_there, answers_of, answers_at, all_answers, started}
-use Rattle.slotted_match_machine.specs.Programs.{IsProgram, IsProgramFor, ends, compares, takes, enters, child_patterns, placed}
+use Rattle.slotted_match_machine.specs.Programs.{IsProgram, IsProgramFor, ends, compares, takes, enters}
 use Rattle.slotted_match_machine.proofs.Lists.{In-of_flat_map}
 use Rattle.slotted_matching.specs.Answered.{PairSlotsIn}
 use Rattle.slotted_matching.specs.Compiled.{Goal, HoldsSlots, IsPlaceOutline}
 use Rattle.slotted_matching.specs.Indexed.{IsIndexed}
-use Rattle.slotted_matching.specs.Skeletons.{IsPlaceOf}
 use Rattle.slotted_matching.proofs.IndexOutlines.{outline-over}
 
 -- a program by one kind of outline is one by each kind that follows

@@ -1,8 +1,10 @@
 -- What a search over filed nodes finds.
 --     Finds k r t found     these substitutions are what the matcher finds at the live classes, over all filed nodes
---     AreValidFound k r found   each value is a valid id
+--     AreValidFound u k r found   each value is a valid id, whose names the table knows
+--     HaveVariables t found   each of them has a value for each variable
 use Rattle.std.specs.Prelude.{◌≡◌, ◌↔◌, ℕ, List, Contains, Some, map}
-use Rattle.slotted_model.specs.Applied.{Applied}
+use Rattle.slotted_slots.specs.Table.{Table}
+use Rattle.slotted_model.specs.Applied.{Applied, values}
 use Rattle.slotted_model.specs.Rest.{IsValidIn}
 use Rattle.slotted_model.specs.State.{Row}
 use Rattle.slotted_model_rules.specs.Conditions.{Values}
@@ -13,6 +15,8 @@ use Rattle.slotted_rule_patterns.specs.PatternCode.{pattern_in}
 use Rattle.slotted_store.specs.Kept.{Kept}
 use Rattle.slotted_filing.specs.FiledRows.{Rows}
 use Rattle.slotted_rebuilding.specs.Filed.{state_in}
+use Rattle.slotted_match_machine.specs.Programs.{variables_of}
+use Rattle.slotted_matching.specs.Compiled.{KnowsEach}
 
 -- in some order of the filed nodes
 pub record IsFound (k : Kept) (r : Rows) (p : Pattern) (found : List Values) : Type 0 where
@@ -23,5 +27,9 @@ pub record IsFound (k : Kept) (r : Rows) (p : Pattern) (found : List Values) : T
 abbrev pub Finds : Kept → Rows → PatternTree → List Values → Type 0
 Finds k r t found = (p : Pattern) → pattern_in t ≡ Some p → IsFound k r p found
 
-abbrev pub AreValidFound : Kept → Rows → List Values → Type 0
-AreValidFound k r found = (s : Values) → Contains found s → (e : List ℕ × Applied) → Contains s e → IsValidIn (state_in k r) e.1
+-- and the table knows its names
+abbrev pub AreValidFound : Table → Kept → Rows → List Values → Type 0
+AreValidFound u k r found = (s : Values) → Contains found s → (e : List ℕ × Applied) → Contains s e → IsValidIn (state_in k r) e.1 × KnowsEach u (values e.1.1)
+
+abbrev pub HaveVariables : PatternTree → List Values → Type 0
+HaveVariables t found = (s : Values) → Contains found s → (p : Pattern) → pattern_in t ≡ Some p → (v : List ℕ) → Contains (variables_of p) v → Contains (map (λ e. e.0) s) v

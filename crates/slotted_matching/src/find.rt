@@ -9,7 +9,7 @@ ghost use Rattle.slotted_store.specs.Finding.{HasFinds};
 ghost use Rattle.slotted_rebuilding.specs.Filed.{IsWellFiled, state_in};
 ghost use Rattle.slotted_rule_patterns.specs.PatternCode.{pattern_in};
 ghost use Rattle.slotted_rule_patterns.specs.Variables.{has_substitution};
-ghost use Rattle.slotted_matching.specs.Found.{AreValidFound, Finds};
+ghost use Rattle.slotted_matching.specs.Found.{AreValidFound, Finds, HaveVariables};
 
 use crate::answers::answers_with_slots;
 use crate::compile::compile;
@@ -40,7 +40,8 @@ pub fn find_matches<L: Language>(
     requires whole { IsSome (pattern_in (tree_of L.form pattern.now)) }
     requires plain { has_substitution (tree_of L.form pattern.now) ≡ false }
     ensures finds { IfOk result (Finds store.now nodes.now (tree_of L.form pattern.now)) }
-    ensures valid { IfOk result (AreValidFound store.now nodes.now) }
+    ensures valid { IfOk result (AreValidFound table.new store.now nodes.now) }
+    ensures variables { IfOk result (HaveVariables (tree_of L.form pattern.now)) }
     ensures names { table.new.names ≡ table.old.names }
     ensures more { KnowsMore table.old table.new }
     ensures err { IfErr result IsShortage }

@@ -47,6 +47,13 @@ impl Matches {
         }
     }
 
+    /// Returns no answers.
+    pub fn none(alloc: Global) -> Self
+        ensures { result ≡ [] }
+    {
+        Matches::new(Vec::new(alloc), Vec::new(alloc), 0)
+    }
+
     /// The number of answers.
     pub fn len(&self) -> usize
         ensures { result ≡ length self.now }

@@ -1,6 +1,5 @@
-use Rattle.std.proofs.Common.{◌≡◌, ◌++◌, ℕ, ap, sym, ◌∙◌, subst, map, List}
+use Rattle.std.proofs.Common.{◌++◌, ap, sym, ◌∙◌, subst, map}
 use Rattle.std.specs.Prelude.{Contains}
-use Rattle.slotted_model.specs.Applied.{values}
 use Rattle.slotted_proofs.specs.Equations.{to_applied}
 use Rattle.slotted_match_machine.specs.Answers.{answer_of}
 use Rattle.slotted_matching.specs.Naming.{IsNaming, numbers_of}

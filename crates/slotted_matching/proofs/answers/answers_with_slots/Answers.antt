@@ -1,18 +1,16 @@
 use Rattle.std.proofs.Common.{rules, ◌≡◌, ◌<◌, ◌≤◌, ◌+◌, ◌*◌, ◌++◌, ◌∷◌, [], ℕ, ap, sym, ◌∙◌, subst, arith, length, map, take, get_or, List}
 use Rattle.std.specs.Prelude.{Contains, String, string_bytes}
 use Rattle.std.specs.declared.alloc.Global.{Global}
-use Rattle.std.proofs.lemmas.List.{length-map, get_or-map, take-map, take_all, take_more}
+use Rattle.std.proofs.lemmas.List.{length-map, get_or-map, take_all, take_more}
 use Rattle.slotted_slots.specs.declared.slot.Slot.{Slot}
 use Rattle.slotted_proofs.specs.Equations.{to_applied}
-use Rattle.slotted_theory.proofs.Lists.{Contains-map}
-use Rattle.slotted_match_machine.specs.Machine.{Answer}
 use Rattle.slotted_match_machine.specs.declared.answer.Answer.{Answer as AnswerRead}
 use Rattle.slotted_match_machine.specs.Answers.{answer_of, answers_in}
 use Rattle.slotted_matching.specs.Matches.{answers_over, AscendingNames}
-use Rattle.slotted_matching.specs.Answered.{InTurn, IsNamedAnswer, HasWholeIds, AddsIds, NumbersByName, number_count}
+use Rattle.slotted_matching.specs.Answered.{InTurn, IsNamedAnswer, HasWholeIds, AddsIds, NumbersByName}
 use Rattle.slotted_matching.proofs.NumberedNames.{by_bytes, names-by_bytes, numbers-by_bytes}
-use Rattle.slotted_matching.proofs.AnsweredIds.{contains-at, numbers-read}
-use Rattle.slotted_matching.proofs.AnsweredInTurn.{turn-step, whole-has, count-step, count-within, numbers_in}
+use Rattle.slotted_matching.proofs.AnsweredIds.{numbers-read}
+use Rattle.slotted_matching.proofs.AnsweredInTurn.{turn-step, whole-has, count-step, count-within}
 use Rattle.slotted_matching.proofs.answers.answers_with_slots.Goals as goal
 
 -- the answer at a place

@@ -1,4 +1,4 @@
-use Rattle.std.proofs.Common.{◌≡◌, ◌<◌, ◌≤◌, ℕ, ap, sym, ◌∙◌, arith, length, map, take, List}
+use Rattle.std.proofs.Common.{◌≡◌, ◌<◌, ◌≤◌, ap, sym, ◌∙◌, arith, length, map}
 use Rattle.std.proofs.lemmas.List.{take_all}
 use Rattle.slotted_slots.specs.Maps.{keys, values, keys-with_value_at}
 use Rattle.slotted_model.specs.Applied.{Applied}

@@ -1,4 +1,4 @@
-use Rattle.std.proofs.Common.{◌≡◌, ◌∷◌, take, map}
+use Rattle.std.proofs.Common.{◌≡◌, take, map}
 use Rattle.slotted_slots.specs.Maps.{keys, values}
 use Rattle.slotted_matching.specs.Naming.{slot_in}
 use Rattle.slotted_matching.proofs.answers.named_id.Given as goal

@@ -1,7 +1,6 @@
-use Rattle.std.proofs.Common.{◌≡◌, ◌++◌, ℕ, ap, sym, ◌∙◌, map, [], List}
+use Rattle.std.proofs.Common.{◌++◌, ap, sym, ◌∙◌, map, List}
 use Rattle.std.specs.Prelude.{String, string_bytes}
 use Rattle.std.specs.declared.alloc.Global.{Global}
-use Rattle.std.specs.Map.{keys_of}
 use Rattle.std.proofs.lemmas.List.{append-nil}
 use Rattle.slotted_matching.proofs.NumberedNames.{names-of}
 use Rattle.slotted_matching.proofs.answers.names_in_order.Goals as goal

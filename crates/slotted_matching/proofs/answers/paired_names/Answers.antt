@@ -1,5 +1,4 @@
-use Rattle.std.proofs.Common.{◌≡◌, ◌<◌, ℕ, ap, sym, ◌∙◌, subst, map, get_or, refl, arith, length}
-use Rattle.std.specs.Prelude.{Contains}
+use Rattle.std.proofs.Common.{ℕ, get_or}
 use Rattle.std.proofs.lemmas.List.{get_or_default}
 use Rattle.slotted_theory.proofs.Lists.{Contains-map}
 use Rattle.slotted_matching.proofs.answers.paired_names.Goals as goal

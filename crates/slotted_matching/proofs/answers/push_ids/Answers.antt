@@ -1,15 +1,12 @@
-use Rattle.std.proofs.Common.{◌≡◌, ◌<◌, ◌+◌, ◌++◌, ◌∷◌, [], ℕ, ap, sym, ◌∙◌, subst, arith, length, map, take, get_or, List}
-use Rattle.std.specs.Prelude.{Contains}
-use Rattle.std.proofs.lemmas.List.{get_or_default, length-map, get_or-map, map-append}
-use Rattle.slotted_model.specs.Applied.{Applied}
+use Rattle.std.proofs.Common.{◌≡◌, ◌<◌, ◌∷◌, [], ap, sym, ◌∙◌, subst, arith, length, map, get_or, List}
+use Rattle.std.proofs.lemmas.List.{length-map, get_or-map, map-append}
 use Rattle.slotted_proofs.specs.Equations.{to_applied}
 use Rattle.slotted_unions.specs.StateOf.{state_of}
 use Rattle.slotted_match_machine.specs.declared.answer.Occurrence.{Occurrence as OccurrenceRead}
-use Rattle.slotted_match_machine.specs.Machine.{Occurrence, no_occurrence}
-use Rattle.slotted_match_machine.specs.Answers.{answer_of, occurrence_in}
+use Rattle.slotted_match_machine.specs.Machine.{no_occurrence}
+use Rattle.slotted_match_machine.specs.Answers.{occurrence_in}
 use Rattle.slotted_match_machine.specs.Readings.{IsWholeId, read_id}
 use Rattle.slotted_matching.specs.Naming.{slot_in}
-use Rattle.slotted_matching.specs.Answered.{ids_at}
 use Rattle.slotted_matching.proofs.AnsweredIds.{contains-at, ids-step}
 use Rattle.slotted_matching.proofs.answers.push_ids.Goals as goal
 

@@ -1,11 +1,9 @@
 use Rattle.std.proofs.Common.{◌≡◌, ◌∙◌, ℕ, List, map, string_bytes, ap, sym, subst}
-use Rattle.std.specs.Prelude.{Contains}
 use Rattle.slotted_patterns.specs.View.{tree_of}
 use Rattle.slotted_match_machine.specs.Answers.{answers_in}
 use Rattle.slotted_match_machine.specs.Machine.{Answer, all_answers}
 use Rattle.slotted_matching.specs.Answered.{PairSlotsIn}
-use Rattle.slotted_matching.specs.Found.{AreValidFound, Finds}
-use Rattle.slotted_matching.proofs.Finding.{numbered-once, answers-whole, found-all, valid-all, ok-mapped}
+use Rattle.slotted_matching.proofs.Finding.{numbered-once, answers-whole, found-all, valid-all, variables-all, ok-mapped}
 use Rattle.slotted_matching.proofs.Programs.{slots-among}
 use Rattle.slotted_matching.proofs.find.find_matches.Goals as goal
 
@@ -65,3 +63,15 @@ returns-clause-valid g c =
     ap answers_in c.deref-2.ensures.value ∙ (c.in_ok-answers.ensures ∙ ap (all_answers x.index) c.deref.ensures.value) in
     ok-mapped c.answers_with_slots.result c.answers_with_slots.ensures.ok
     (λ found named. valid-all c.args.store.now c.args.nodes.now x.skeletons x.index c.in_ok-indexed.ensures.ok c.requires.rests tree c.requires.whole p.steps.items variables c.in_ok-program.ensures.ok xs c.args.table.now c.answers_with_slots.new.table found named)
+
+pub returns-clause-variables : goal.returns-clause-variables
+returns-clause-variables g c =
+    let tree = tree_of g.L.LanguageChildren.form c.args.pattern.now in
+    let x = c.in_ok-indexed.indexed in
+    let p = c.in_ok-program.program in
+    let variables : List (List ℕ) = map string_bytes p.variables.items in
+    let xs : List Answer = answers_in c.deref-2.result.now in
+    let same : xs ≡ all_answers x.index p.steps.items =
+    ap answers_in c.deref-2.ensures.value ∙ (c.in_ok-answers.ensures ∙ ap (all_answers x.index) c.deref.ensures.value) in
+    ok-mapped c.answers_with_slots.result c.answers_with_slots.ensures.ok
+    (λ found named. variables-all c.args.store.now c.args.nodes.now x.skeletons x.index c.in_ok-indexed.ensures.ok c.requires.rests tree c.requires.whole p.steps.items variables c.in_ok-program.ensures.ok xs c.args.table.now c.answers_with_slots.new.table found named)

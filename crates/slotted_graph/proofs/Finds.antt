@@ -1,0 +1,117 @@
+-- What a search over what is kept and filed finds, as a search over the graph.
+use Rattle.std.proofs.Common.{◌≡◌, ◌∙◌, ◌<◌, ℕ, List, [], ◌∷◌, ◌++◌, Some, length, ap, refl, sym, subst, inl, inr}
+use Rattle.std.proofs.lemmas.Bool.{false≢true}
+use Rattle.std.specs.Prelude.{◌⊎◌, Bool, true, false, cond, slice_index_or, Contains, IsTrue, map, Result, Ok, Err, IfOk}
+use Rattle.std.proofs.lemmas.List.Elements.{Contains-append_left, Contains-append_right}
+use Rattle.std.proofs.lemmas.List.{get_or_default}
+use Rattle.slotted_slots.specs.declared.error.Error.{Error}
+use Rattle.slotted_slots.specs.Table.{Table}
+use Rattle.slotted_terms.specs.Valid.{AllKnown}
+use Rattle.slotted_theory.specs.Decided.{numbers_eq}
+use Rattle.slotted_model.specs.Applied.{values}
+use Rattle.slotted_model.proofs.Members.{In, In-Contains, Contains-In}
+use Rattle.slotted_model_rules.specs.Conditions.{Values}
+use Rattle.slotted_model_rules.specs.Matcher.{value_at}
+use Rattle.slotted_model_rules.specs.Patterns.{Pattern, PatternArgs, EachVariable, EachVariableIn, pattern_node, variable, replacing, no_argument, own_name, child_pattern, binding}
+use Rattle.slotted_model_rules.specs.Rules.{id_or_none, valued}
+use Rattle.slotted_theory.proofs.Decides.{numbers_eq-same}
+use Rattle.slotted_model_rules.proofs.Rewriting.{each-variable}
+use Rattle.slotted_patterns.specs.Tree.{PatternTree}
+use Rattle.slotted_rule_patterns.specs.PatternCode.{pattern_in}
+use Rattle.slotted_match_machine.specs.Programs.{variables_of, variables_in}
+use Rattle.slotted_matching.specs.Compiled.{KnowsEach}
+use Rattle.slotted_matching.specs.Found.{AreValidFound, Finds, HaveVariables}
+use Rattle.slotted_store.specs.Kept.{Kept}
+use Rattle.slotted_filing.specs.FiledRows.{Rows, rows_in}
+use Rattle.slotted_rebuilding.specs.Filed.{state_in}
+use Rattle.slotted_core.specs.Good.{Good, RestsWith, HasFreshSlots, image_of}
+use Rattle.slotted_core.specs.Graph.{Graph}
+use Rattle.slotted_core.specs.ValidIds.{IsValidId}
+use Rattle.slotted_core.proofs.ValidIds.{to-valid}
+use Rattle.slotted_graph.specs.Matching.{AreFoundValid, AreValidValues, FindsAll, FindsAllOf, FindsEachOf, FindsLookedUp}
+use Rattle.slotted_graph.proofs.Matching.{found-each, found-looked_up}
+
+first-there : (v : List ℕ) → Contains (v ∷ []) v
+first-there v = Contains-In (v ∷ []) v (inl refl)
+
+-- what holds of all that stand in a pattern holds of each variable
+module _ (P : List ℕ → Type 0) where
+  mutual
+    pub each-of : (p : Pattern) → ((v : List ℕ) → Contains (variables_of p) v → P v) → EachVariable P p
+    each-of (pattern_node op payloads args) h = each-in args h
+    each-of (variable v) h = h v (first-there v)
+    each-of (replacing b x t) h = (
+      each-of b (λ v c. h v (Contains-append_left (variables_of b ++ variables_of x) (variables_of t) v (Contains-append_left (variables_of b) (variables_of x) v c))),
+      each-of x (λ v c. h v (Contains-append_left (variables_of b ++ variables_of x) (variables_of t) v (Contains-append_right (variables_of b) (variables_of x) v c))),
+      each-of t (λ v c. h v (Contains-append_right (variables_of b ++ variables_of x) (variables_of t) v c)),
+    )
+
+    each-in : (args : PatternArgs) → ((v : List ℕ) → Contains (variables_in args) v → P v) → EachVariableIn P args
+    each-in no_argument h = tt
+    each-in (own_name x rest) h = each-in rest h
+    each-in (child_pattern p rest) h = (
+      each-of p (λ v c. h v (Contains-append_left (variables_of p) (variables_in rest) v c)),
+      each-in rest (λ v c. h v (Contains-append_right (variables_of p) (variables_in rest) v c)),
+    )
+    each-in (binding x inner rest) h = (
+      each-in inner (λ v c. h v (Contains-append_left (variables_in inner) (variables_in rest) v c)),
+      each-in rest (λ v c. h v (Contains-append_right (variables_in inner) (variables_in rest) v c)),
+    )
+
+-- a variable that has an entry has its value in one
+valued-entry : (s : Values) (v : List ℕ) → In v (map (λ e. e.0) s) → (w : List ℕ) × In (w, valued s v) s
+valued-entry [] v i = absurd i
+valued-entry (e ∷ s) v i = by (valued-entry s v) (numbers_eq e.0 v) refl
+  where
+    by : (In v (map (λ e. e.0) s) → (w : List ℕ) × In (w, valued s v) s) → (b : Bool) → numbers_eq e.0 v ≡ b → (w : List ℕ) × In (w, valued (e ∷ s) v) (e ∷ s)
+    by rest true q = (e.0, inl (λ j. (e.0, id_or_none (cond (q j) (Some e.1) (value_at s v)))))
+    by rest false q = elim i [
+      | inl h ↦ absurd (false≢true (sym q ∙ (ap (numbers_eq e.0) h ∙ numbers_eq-same e.0)))
+      | inr j ↦ let r = rest j in (r.0, subst (λ a. In (r.0, a) (e ∷ s)) (λ n. id_or_none (cond (sym q n) (Some e.1) (value_at s v))) (inr r.1))
+    ]
+
+known-all : (g : Graph) (xs : List ℕ) → KnowsEach g.table xs → AllKnown g.table xs
+known-all g xs h = λ j d l. h (slice_index_or xs j d) (j, l, get_or_default xs j (slice_index_or xs j d) d l)
+
+module _ (h : Graph) (k : Kept) (r : Rows) (good : Good k) (rests : RestsWith k r) (fresh : HasFreshSlots h.table k) (image : image_of k ≡ h.image) (filed : rows_in r.filed ≡ h.filed)
+    (t : PatternTree) (found : List Values) where
+  pub all-of : Finds k r t found → FindsAllOf h t found
+  all-of finds p e =
+      let f = finds p e in
+      record {
+        state = state_in k r;
+        is_state = record { kept = k; rows = r; good = good; rests = rests; fresh = fresh; image = image; filed = filed; state = refl };
+        order = f.order;
+        rows = f.rows;
+        searches = f.searches;
+      }
+
+  pub valid-of : AreValidFound h.table k r found → AreFoundValid h found
+  valid-of valid s c e d = let v = valid s c e d in to-valid k good h image e.1 v.0 (known-all h (values e.1.1) v.1)
+
+  module _ (finds : Finds k r t found) (valid : AreValidFound h.table k r found) (variables : HaveVariables t found) (p : Pattern) (e : pattern_in t ≡ Some p) where
+    each-valid : (s : Values) → Contains found s → EachVariable (λ v. IsValidId h (valued s v)) p
+    each-valid s c =
+        each-of (λ v. IsValidId h (valued s v)) p
+        (λ v d. let w = valued-entry s v (In-Contains (map (λ e. e.0) s) v (variables s c p e v d)) in valid-of valid s c (w.0, valued s v) (Contains-In s (w.0, valued s v) w.1))
+
+    pub looked-up-of : (s : Values) → Contains found s → Rattle.slotted_graph.specs.PatternLookUps.IsLookedUpLive h s p
+    looked-up-of s c = found-looked_up h p found (all-of finds p e) s c (each-valid s c)
+
+    pub each-of_found : Rattle.slotted_graph.specs.Matching.FindsEach h p found
+    each-of_found =
+        found-each h p found (all-of finds p e)
+        (λ s c. each-variable (λ v. (valued s v).0 < length h.image.canonical) (λ v. IsValidId h (valued s v)) (λ v w. w.in_range) p (each-valid s c))
+
+pub ok-with : {A : Type 0} {P Q : A → Type 0} (o : Result A Error) → IfOk o P → ((a : A) → P a → Q a) → IfOk o Q
+ok-with (Ok a) h f = f a h
+ok-with (Err e) h f = tt
+
+pub ok-three_of : {A : Type 0} {P Q R S : A → Type 0} (o : Result A Error) → IfOk o P → IfOk o Q → IfOk o R → ((a : A) → P a → Q a → R a → S a) → IfOk o S
+ok-three_of (Ok a) h i j f = f a h i j
+ok-three_of (Err e) h i j f = tt
+
+-- of a graph that has not failed
+pub invariant-of : (failed : Bool) (t : Table) (k : Kept) (r : Rows) → failed ≡ false → IsTrue failed ⊎ (Good k × HasFreshSlots t k × RestsWith k r) → Good k × HasFreshSlots t k × RestsWith k r
+invariant-of failed t k r f (inl h) = absurd (false≢true (sym f ∙ h))
+invariant-of failed t k r f (inr h) = h

@@ -1,0 +1,83 @@
+-- What is kept and filed has what the graph is asked for.
+use Rattle.std.proofs.Common.{◌∙◌, ap, subst, sym, refl, inl, inr}
+use Rattle.std.proofs.lemmas.Bool.{false≢true}
+use Rattle.slotted_filing.specs.FiledRows.{rows_in}
+use Rattle.slotted_core.specs.Good.{image_of}
+use Rattle.slotted_core.specs.Graph.{Graph}
+use Rattle.slotted_core.proofs.FreshSlots.{fresh_slots-more}
+use Rattle.slotted_core.proofs.GoodFinds.{good-finds}
+use Rattle.slotted_core.proofs.Resting.{at-rest}
+use Rattle.slotted_patterns.specs.View.{tree_of}
+use Rattle.slotted_patterns.specs.Known.{HasKnownNames}
+use Rattle.slotted_graph.proofs.Finds.{all-of, valid-of, looked-up-of, each-of_found, ok-with, ok-three_of, invariant-of}
+use Rattle.slotted_graph.proofs.egraph.EGraph.find_matches.Goals as goal
+
+pub find_matches-requires-clause-good : goal.find_matches-requires-clause-good
+find_matches-requires-clause-good g c = (invariant-of c.self.inside.failed c.self.inside.table c.self.inside.store c.self.inside.nodes c.if-self.false c.self.invariant).2.filed
+
+pub find_matches-requires-clause-links : goal.find_matches-requires-clause-links
+find_matches-requires-clause-links g c = good-finds c.self.inside.store (invariant-of c.self.inside.failed c.self.inside.table c.self.inside.store c.self.inside.nodes c.if-self.false c.self.invariant).0
+
+pub find_matches-requires-clause-rests : goal.find_matches-requires-clause-rests
+find_matches-requires-clause-rests g c =
+    let inv = invariant-of c.self.inside.failed c.self.inside.table c.self.inside.store c.self.inside.nodes c.if-self.false c.self.invariant in
+    at-rest c.self.inside.store c.self.inside.nodes inv.0 inv.2
+
+pub find_matches-requires-clause-known : goal.find_matches-requires-clause-known
+find_matches-requires-clause-known g c =
+    elim c.requires [
+      | inl e ↦ absurd (false≢true (sym c.if-self.false ∙ (ap (λ (x : Graph). x.failed) c.self.view_is ∙ e)))
+      | inr v ↦ subst (λ (x : Graph). HasKnownNames x.table (tree_of g.L.LanguageChildren.form c.args.pattern.now)) (sym c.self.view_is) v
+    ]
+
+pub invariant_of-self : goal.invariant_of-self
+invariant_of-self g c = elim c.self.invariant [
+  | inl h ↦ inl h
+  | inr h ↦ inr (h.0, fresh_slots-more c.self.inside.table c.find_matches.new.table c.self.inside.store c.find_matches.ensures.more h.1, h.2)
+]
+
+pub returns-clause-finds : goal.returns-clause-finds
+returns-clause-finds g c =
+    let inv = invariant-of c.self.inside.failed c.self.inside.table c.self.inside.store c.self.inside.nodes c.if-self.false c.self.invariant in
+    let more = fresh_slots-more c.self.inside.table c.find_matches.new.table c.self.inside.store c.find_matches.ensures.more inv.1 in
+    let tree = tree_of g.L.LanguageChildren.form c.args.pattern.now in
+    let k = c.self.inside.store in
+    let r = c.self.inside.nodes in
+    let h : Graph = record { failed = c.self.inside.failed; table = c.find_matches.new.table; image = image_of k; filed = rows_in r.filed } in
+    let e = c.find_matches.ensures in
+    ok-with c.find_matches.result e.finds (λ found finds. all-of h k r inv.0 inv.2 more refl refl tree found finds)
+
+pub returns-clause-valid : goal.returns-clause-valid
+returns-clause-valid g c =
+    let inv = invariant-of c.self.inside.failed c.self.inside.table c.self.inside.store c.self.inside.nodes c.if-self.false c.self.invariant in
+    let more = fresh_slots-more c.self.inside.table c.find_matches.new.table c.self.inside.store c.find_matches.ensures.more inv.1 in
+    let tree = tree_of g.L.LanguageChildren.form c.args.pattern.now in
+    let k = c.self.inside.store in
+    let r = c.self.inside.nodes in
+    let h : Graph = record { failed = c.self.inside.failed; table = c.find_matches.new.table; image = image_of k; filed = rows_in r.filed } in
+    let e = c.find_matches.ensures in
+    ok-with c.find_matches.result e.valid (λ found valid. valid-of h k r inv.0 inv.2 more refl refl tree found valid)
+
+pub returns-clause-looked_up : goal.returns-clause-looked_up
+returns-clause-looked_up g c =
+    let inv = invariant-of c.self.inside.failed c.self.inside.table c.self.inside.store c.self.inside.nodes c.if-self.false c.self.invariant in
+    let more = fresh_slots-more c.self.inside.table c.find_matches.new.table c.self.inside.store c.find_matches.ensures.more inv.1 in
+    let tree = tree_of g.L.LanguageChildren.form c.args.pattern.now in
+    let k = c.self.inside.store in
+    let r = c.self.inside.nodes in
+    let h : Graph = record { failed = c.self.inside.failed; table = c.find_matches.new.table; image = image_of k; filed = rows_in r.filed } in
+    let e = c.find_matches.ensures in
+    ok-three_of c.find_matches.result e.finds e.valid e.variables
+    (λ found finds valid variables p at s i. looked-up-of h k r inv.0 inv.2 more refl refl tree found finds valid variables p at s i)
+
+pub returns-clause-each : goal.returns-clause-each
+returns-clause-each g c =
+    let inv = invariant-of c.self.inside.failed c.self.inside.table c.self.inside.store c.self.inside.nodes c.if-self.false c.self.invariant in
+    let more = fresh_slots-more c.self.inside.table c.find_matches.new.table c.self.inside.store c.find_matches.ensures.more inv.1 in
+    let tree = tree_of g.L.LanguageChildren.form c.args.pattern.now in
+    let k = c.self.inside.store in
+    let r = c.self.inside.nodes in
+    let h : Graph = record { failed = c.self.inside.failed; table = c.find_matches.new.table; image = image_of k; filed = rows_in r.filed } in
+    let e = c.find_matches.ensures in
+    ok-three_of c.find_matches.result e.finds e.valid e.variables
+    (λ found finds valid variables p at. each-of_found h k r inv.0 inv.2 more refl refl tree found finds valid variables p at)
