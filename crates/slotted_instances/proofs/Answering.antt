@@ -1,6 +1,6 @@
 -- What holds of what a call answers.
 use Rattle.std.proofs.Common.{◌≡◌, sym, subst}
-use Rattle.std.specs.Prelude.{Result, Ok, Err, IfOk, OnOk, OnErr}
+use Rattle.std.specs.Prelude.{Result, Ok, Err, IfOk, IfErr, IsErrAnd, OnOk, OnErr}
 
 module _ {A E : Type 0} where
   -- of a copy holds what holds of what is copied
@@ -24,3 +24,11 @@ module _ {A E : Type 0} where
   pub ok-mapped : (r : Result A E) {P Q : A → Type 0} → IfOk r P → ((a : A) → P a → Q a) → IfOk r Q
   ok-mapped (Ok a) h f = f a h
   ok-mapped (Err x) h f = tt
+
+  pub if-err-mapped : (r : Result A E) {P Q : E → Type 0} → IfErr r P → ((e : E) → P e → Q e) → IfErr r Q
+  if-err-mapped (Ok a) h f = tt
+  if-err-mapped (Err x) h f = f x h
+
+  pub err-handed : (r : Result A E) (e : E) (Q : E → Type 0) → IsErrAnd r (λ x. x ≡ e) → Q e → IfErr r Q
+  err-handed (Ok a) e Q h k = tt
+  err-handed (Err x) e Q h k = subst Q (sym h) k

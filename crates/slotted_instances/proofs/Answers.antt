@@ -1,12 +1,10 @@
 -- Answers for patterns go along what is built later, and those for the children of a node make one for the node.
-use Rattle.std.proofs.Common.{◌≡◌, ◌∙◌, ap, refl, sym, subst, inl, inr, ℕ, zero, suc, ◌<◌, List, [], ◌∷◌, ◌++◌, length, take, drop, arith, slice_index, length-append, length-take, length-drop}
-use Rattle.std.specs.Prelude.{◌⊎◌, IsTrue, All, Contains, Bool, slice_index_or}
-use Rattle.std.specs.List.{zip}
+use Rattle.std.proofs.Common.{◌≡◌, ◌∙◌, ap, refl, sym, subst, inl, inr, ℕ, zero, suc, List, [], ◌∷◌, ◌++◌, length, take, drop, arith, slice_index, length-append, length-take, length-drop}
+use Rattle.std.specs.Prelude.{IsTrue, Contains, Bool}
 use Rattle.std.proofs.lemmas.List.{take_at, drop_at}
-use Rattle.std.proofs.lemmas.List.Elements.{Contains-append_left, Contains-append_right, Contains-append_cases}
 use Rattle.slotted_slots.specs.Table.{Table, is_known}
 use Rattle.slotted_slots.specs.Maps.{keys, values}
-use Rattle.slotted_theory.specs.Nameless.{DArgs, DTerm, place, scope, extend, nameless_args}
+use Rattle.slotted_theory.specs.Nameless.{DTerm, scope, extend, nameless_args}
 use Rattle.slotted_theory.proofs.Values.{child_before, node}
 use Rattle.slotted_nodes.specs.Form.{Tree, leaf, own, child, bind, scopes, children}
 use Rattle.slotted_languages.specs.NodeTerm.{node_args, own_names}
@@ -15,12 +13,10 @@ use Rattle.slotted_terms.specs.Valid.{AllKnown}
 use Rattle.slotted_model.specs.Applied.{Applied, as_term, renamed_id}
 use Rattle.slotted_model.specs.Classes.{term_of}
 use Rattle.slotted_model.specs.Growth.{Extends}
-use Rattle.slotted_store.proofs.ChildIds.{Each, Each-from_All, atom-is, zip-keys_values}
+use Rattle.slotted_store.proofs.ChildIds.{Each, atom-is, zip-keys_values}
 use Rattle.slotted_adding.specs.Filling.{tree_over, names_over}
 use Rattle.slotted_adding.proofs.NodesOver.{names_fit, over_fits}
 use Rattle.slotted_graph.specs.Graph.{Graph}
-use Rattle.slotted_graph.specs.Extension.{ExtendsTo}
-use Rattle.slotted_graph.proofs.Extending.{extends-itself}
 use Rattle.slotted_model_rules.specs.Conditions.{Values}
 use Rattle.slotted_model_rules.specs.Instances.{IsInstance, IsAnswer, HasAnswers}
 use Rattle.slotted_model_rules.specs.PatternClaims.{MovesWithNames}
@@ -29,10 +25,10 @@ use Rattle.slotted_model_rules.specs.Rules.{valued}
 use Rattle.slotted_model_rules.proofs.Instantiating.{instance-stays}
 use Rattle.slotted_model_rules.proofs.Representing.{listed-moves, represented-moves, listed-more, answer-represented}
 use Rattle.slotted_patterns.specs.Tree.{PatternTree}
-use Rattle.slotted_rule_patterns.specs.PatternCode.{filled_pattern, pattern_in}
+use Rattle.slotted_rule_patterns.specs.PatternCode.{filled_pattern}
 use Rattle.slotted_instances.specs.Building.{AssertsNothing, Grows}
-use Rattle.slotted_instances.specs.Methods.{Method, unknown, canonical, extracted, represented, IsKnownMethod, AreRepresentatives}
-use Rattle.slotted_instances.specs.Instances.{IsAnswerFor, Instantiates}
+use Rattle.slotted_instances.specs.Methods.{Method, unknown, canonical, extracted, represented, IsKnownMethod}
+use Rattle.slotted_instances.specs.Instances.{Instantiates}
 use Rattle.slotted_instances.proofs.Growing.{grows-then}
 use Rattle.slotted_instances.proofs.NodesOver.{Each-take, Each-drop, first-of}
 use Rattle.slotted_instances.proofs.Putting.{representatives-longer}

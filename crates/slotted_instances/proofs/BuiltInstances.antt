@@ -1,14 +1,14 @@
 -- The instance of a pattern from those of its parts.
 use Rattle.std.proofs.Common.{◌≡◌, ◌∙◌, ap, refl, sym, subst, inl, inr, ℕ, zero, suc, ◌+◌, ◌<◌, ◌≤◌, List, [], ◌∷◌, ◌++◌, length, arith, length-append}
-use Rattle.std.specs.Prelude.{◌⊎◌, IsTrue, All, Contains, Bool, Option, Some, None, IsSome, is_some, true, slice_index_or}
-use Rattle.std.proofs.lemmas.Bool.{cases_eq, false≢true}
+use Rattle.std.specs.Prelude.{IsTrue, All, Contains, Some, is_some, slice_index_or}
+use Rattle.std.proofs.lemmas.Bool.{cases_eq}
 use Rattle.std.proofs.lemmas.List.{get_or_append_left}
 use Rattle.std.proofs.lemmas.List.Elements.{Contains-append_left, Contains-append_right, Contains-append_cases}
 use Rattle.std.proofs.Math.Seq.{get_or-append_seam}
 use Rattle.slotted_slots.specs.declared.types.AppliedId.{AppliedId}
-use Rattle.slotted_slots.specs.Table.{Table, is_known}
+use Rattle.slotted_slots.specs.Table.{is_known}
 use Rattle.slotted_slots.specs.Maps.{keys, values}
-use Rattle.slotted_theory.specs.Nameless.{DArgs, DTerm}
+use Rattle.slotted_theory.specs.Nameless.{DTerm}
 use Rattle.slotted_theory.proofs.Values.{node}
 use Rattle.slotted_nodes.specs.Form.{Form, children, with_applied, with_child}
 use Rattle.slotted_languages.specs.NodeTerm.{nameless_node}
@@ -19,12 +19,12 @@ use Rattle.slotted_model.specs.Classes.{term_of, layer_of}
 use Rattle.slotted_model_rules.specs.Conditions.{Values}
 use Rattle.slotted_model_rules.specs.Instances.{IsAnswer, HasAnswers}
 use Rattle.slotted_model_rules.specs.Matcher.{value_at}
-use Rattle.slotted_model_rules.specs.Patterns.{Pattern, pattern_node, variable, replacing}
+use Rattle.slotted_model_rules.specs.Patterns.{Pattern, variable}
 use Rattle.slotted_model_rules.specs.Rules.{valued, id_or_none}
 use Rattle.slotted_model_rules.proofs.Instantiating.{built-nodes}
 use Rattle.slotted_model_rules.proofs.Laws.{pattern-laws}
 use Rattle.slotted_model_rules.proofs.ReplacedIds.{filled-stays}
-use Rattle.slotted_patterns.specs.Known.{AreKnown, HasKnownNames, HaveKnownNames}
+use Rattle.slotted_patterns.specs.Known.{AreKnown}
 use Rattle.slotted_patterns.specs.Tree.{PatternTree, enode, pvar, substitution, row_of}
 use Rattle.slotted_proofs.specs.Equations.{to_applied}
 use Rattle.slotted_store.specs.ChildIds.{child_ids}
@@ -39,13 +39,11 @@ use Rattle.slotted_graph.specs.Graph.{Graph, IsFullId}
 use Rattle.slotted_graph.specs.States.{IsGraph}
 use Rattle.slotted_graph.specs.Extension.{ExtendsTo}
 use Rattle.slotted_graph.specs.ValidIds.{IsValidId}
-use Rattle.slotted_rule_patterns.specs.PatternCode.{pattern_in, patterns_in}
-use Rattle.slotted_rule_patterns.specs.Variables.{has_value, variables_of, variables_of_row}
+use Rattle.slotted_rule_patterns.specs.PatternCode.{pattern_in}
 use Rattle.slotted_rule_patterns.proofs.KnownVariables.{entry-valued}
 use Rattle.slotted_rule_patterns.proofs.Parts.{node-parts, replacing-parts}
-use Rattle.slotted_rule_patterns.proofs.Whole.{length-patterns}
 use Rattle.slotted_instances.specs.Building.{Builds}
-use Rattle.slotted_instances.specs.Instances.{AreValidValues, HasValues, IsAnswerFor, Instantiates}
+use Rattle.slotted_instances.specs.Instances.{AreValidValues, Instantiates}
 use Rattle.slotted_instances.specs.Methods.{Method, represented, IsKnownMethod, AreRepresentatives}
 use Rattle.slotted_instances.specs.Putting.{PutsIn}
 use Rattle.slotted_instances.proofs.Answers.{method-moves, method-more, answer-more, answer-stays, Makes, makes-then, makes-instance, instance-wider, EachPair, IsAnswerOver, over-answers}

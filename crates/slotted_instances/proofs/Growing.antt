@@ -1,19 +1,14 @@
 -- One part built after another is built, and taking slots and adding a node build.
-use Rattle.std.proofs.Common.{◌≡◌, ◌∙◌, ap, refl, sym, subst, inl, inr}
-use Rattle.std.specs.Prelude.{◌⊎◌, IsTrue, All, List, ℕ}
-use Rattle.std.proofs.lemmas.Bool.{false≢true}
-use Rattle.slotted_slots.specs.Table.{KnowsMore, Table}
-use Rattle.slotted_terms.specs.Valid.{AllKnown}
-use Rattle.slotted_theory.specs.Nameless.{DTerm}
+use Rattle.std.proofs.Common.{◌∙◌, ap, refl, sym, subst, inl, inr}
+use Rattle.std.specs.Prelude.{◌⊎◌, IsTrue}
+use Rattle.slotted_slots.specs.Table.{KnowsMore}
 use Rattle.slotted_model.specs.Applied.{Applied}
 use Rattle.slotted_model.specs.Classes.{Canonical}
 use Rattle.slotted_model.specs.Growth.{Extends}
-use Rattle.slotted_store.specs.Kept.{nodes_of}
-use Rattle.slotted_core.specs.Good.{HasFreshSlots, image_of}
 use Rattle.slotted_core.proofs.FreshSlots.{fresh_slots-more}
 use Rattle.slotted_graph.specs.Graph.{Graph, IsFullId, OnlyTakesSlots}
 use Rattle.slotted_graph.specs.Image.{AddsClasses, Image, asserted_in}
-use Rattle.slotted_graph.specs.States.{IsGraph, IsStateOf}
+use Rattle.slotted_graph.specs.States.{IsGraph}
 use Rattle.slotted_graph.specs.Extension.{ExtendsTo}
 use Rattle.slotted_graph.proofs.Extending.{extends-itself, extends-then, extends-takes, extends-added, full-extends}
 use Rattle.slotted_instances.specs.Building.{Grows, Builds}

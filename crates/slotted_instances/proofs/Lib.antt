@@ -9,3 +9,8 @@ pub mod Answers
 pub mod Parts
 pub mod BuiltInstances
 pub mod StoredMethods
+pub mod Refusing
+pub mod UnitedInstances
+pub mod ExplicitEntries
+pub mod InstanceEquations
+pub mod LookedUp

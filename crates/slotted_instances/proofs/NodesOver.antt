@@ -1,6 +1,6 @@
 -- A node over other ids: its names are known where those of the ids are, its arguments are those of the node but for the ids, and a child that is put in
 -- leaves the later children.
-use Rattle.std.proofs.Common.{◌≡◌, ℕ, zero, suc, ◌+◌, ◌<◌, ◌≤◌, List, [], ◌∷◌, ◌++◌, length, take, drop, refl, sym, ◌∙◌, ap, subst, slice_index, arith, length-append, length-drop, length-take}
+use Rattle.std.proofs.Common.{◌≡◌, ℕ, zero, suc, ◌<◌, List, [], ◌∷◌, ◌++◌, length, take, drop, refl, sym, ◌∙◌, ap, slice_index, arith, length-append, length-drop, length-take}
 use Rattle.std.specs.Prelude.{slice_index_or, slice_set, IsTrue, All}
 use Rattle.std.specs.List.{zip}
 use Rattle.std.proofs.lemmas.List.{take_at, drop_at}
@@ -11,14 +11,14 @@ use Rattle.slotted_languages.specs.Shape.{Fits}
 use Rattle.slotted_languages.proofs.NodeTerms.{own_fits, child_rest_fits, bind_inner_fits, bind_rest_fits}
 use Rattle.slotted_terms.specs.Valid.{AllKnown}
 use Rattle.slotted_model.specs.Applied.{Applied}
-use Rattle.slotted_store.specs.ChildIds.{ids_in, child_ids}
+use Rattle.slotted_store.specs.ChildIds.{child_ids}
 use Rattle.slotted_store.proofs.ChildIds.{Each, Each-from_All, zip-keys_values}
 use Rattle.slotted_store.proofs.NameMaps.{length-keys, length-values}
 use Rattle.slotted_adding.specs.Filling.{tree_over, names_over, node_over}
 use Rattle.slotted_adding.proofs.NodesOver.{names_fit, over_fits}
 use Rattle.slotted_core.proofs.ChildReplacement.{plugs}
 use Rattle.slotted_core.proofs.Layers.{each_at}
-use Rattle.slotted_model_rules.specs.Matcher.{NodeArgs, an_id, a_binder}
+use Rattle.slotted_model_rules.specs.Matcher.{an_id, a_binder}
 use Rattle.slotted_model_rules.specs.ReplacedIds.{HasOtherIds}
 use Rattle.slotted_rule_patterns.specs.NodeArguments.{args_of, node_arguments}
 

@@ -1,14 +1,13 @@
 -- What holds of a pattern holds of its parts: known names, variables with values, and the right number of child patterns at each node.
-use Rattle.std.proofs.Common.{◌≡◌, ◌∙◌, ap, refl, sym, subst, ℕ, zero, suc, ◌+◌, ◌<◌, ◌≤◌, List, [], ◌∷◌, ◌++◌, length, map, get_or, arith, inl, inr}
-use Rattle.std.specs.Prelude.{IsTrue, All, Option, Some, None, IsSome, is_some, true, slice_index_or}
+use Rattle.std.proofs.Common.{◌≡◌, ◌∙◌, ap, refl, sym, ℕ, zero, suc, ◌+◌, ◌<◌, ◌≤◌, List, [], ◌∷◌, ◌++◌, length, map, get_or, arith}
+use Rattle.std.specs.Prelude.{All, Option, Some, None, IsSome, is_some, true, slice_index_or}
 use Rattle.std.proofs.lemmas.Bool.{false≢true}
-use Rattle.std.proofs.lemmas.List.{length-map}
-use Rattle.slotted_slots.specs.Table.{KnowsMore, Table, is_known}
+use Rattle.slotted_slots.specs.Table.{KnowsMore, Table}
 use Rattle.slotted_terms.specs.Valid.{AllKnown}
 use Rattle.slotted_nodes.specs.Form.{Form, children}
 use Rattle.slotted_patterns.specs.Known.{AreKnown, HasKnownNames, HaveKnownNames}
 use Rattle.slotted_patterns.specs.Tree.{PatternTree, enode, pvar, substitution, PatternRow, no_more, one_more, row_of}
-use Rattle.slotted_store.proofs.ChildIds.{Each, Each-from_All, Each-append}
+use Rattle.slotted_store.proofs.ChildIds.{Each-from_All, Each-append}
 use Rattle.slotted_model_rules.specs.Conditions.{Values}
 use Rattle.slotted_model_rules.specs.Patterns.{Pattern, variable}
 use Rattle.slotted_rule_patterns.specs.PatternCode.{pattern_in, patterns_in}

@@ -1,6 +1,6 @@
 -- Names that an id lacks are filled by fresh ones, and the method is asked for the filled ids.
-use Rattle.std.proofs.Common.{◌≡◌, ◌∙◌, ap, refl, sym, subst, inl, inr}
-use Rattle.std.specs.Prelude.{◌⊎◌, IsTrue, All, Contains, List, ℕ, Result, Ok, Err, IfOk, IsErrAnd}
+use Rattle.std.proofs.Common.{◌∙◌, ap, sym, inl, inr}
+use Rattle.std.specs.Prelude.{◌⊎◌, IsTrue, List, ℕ, Result, Ok, Err, IfOk, IsErrAnd}
 use Rattle.std.proofs.lemmas.Bool.{false≢true, le-ltb}
 use Rattle.std.proofs.lemmas.List.Elements.{All-contains}
 use Rattle.slotted_slots.specs.Error.{IsShortage}
@@ -8,21 +8,20 @@ use Rattle.slotted_slots.specs.declared.error.Error.{Error}
 use Rattle.slotted_slots.specs.declared.types.AppliedId.{AppliedId}
 use Rattle.slotted_slots.specs.Table.{KnowsMore, Table, is_known}
 use Rattle.slotted_slots.proofs.TableLaws.{is_known-fresh_slot}
-use Rattle.slotted_terms.specs.Valid.{AllKnown}
 use Rattle.slotted_theory.specs.Nameless.{DTerm}
 use Rattle.slotted_model.specs.Applied.{Applied}
 use Rattle.slotted_model.specs.Filling.{IsFilling}
 use Rattle.slotted_model.specs.Growth.{Extends}
 use Rattle.slotted_proofs.specs.Equations.{to_applied}
 use Rattle.slotted_graph.specs.Graph.{Graph, OnlyTakesSlots}
-use Rattle.slotted_graph.specs.Image.{Image, asserted_in}
+use Rattle.slotted_graph.specs.Image.{Image}
 use Rattle.slotted_graph.specs.States.{IsGraph}
 use Rattle.slotted_graph.specs.Syn.{FillsFresh}
 use Rattle.slotted_graph.specs.Extension.{ExtendsTo}
 use Rattle.slotted_graph.specs.ValidIds.{IsValidId}
 use Rattle.slotted_graph.proofs.Extending.{extends-itself, extends-then, between-longer}
 use Rattle.slotted_instances.specs.Building.{Grows, Builds}
-use Rattle.slotted_instances.specs.Methods.{IsKnownMethod, Method, SubstitutesBy, AreRepresentatives, IsRepresentative}
+use Rattle.slotted_instances.specs.Methods.{IsKnownMethod, Method, SubstitutesBy, AreRepresentatives}
 use Rattle.slotted_instances.specs.Putting.{FillsUnknown, PutsFilled, PutsIn}
 use Rattle.slotted_instances.proofs.Growing.{builds-takes, builds-then, extended-grows, grows-then}
 

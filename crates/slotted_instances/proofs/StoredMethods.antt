@@ -1,8 +1,7 @@
 -- What the methods of a graph answer for `b[x := t]`.
-use Rattle.std.proofs.Common.{◌≡◌, ◌∙◌, ap, refl, sym, subst, inl, inr, ℕ, zero, suc, ◌<◌, List, [], ◌∷◌, Option, Some, arith}
+use Rattle.std.proofs.Common.{◌≡◌, ◌∙◌, ap, sym, subst, inl, inr, ℕ, zero, suc, ◌<◌, List, [], ◌∷◌, Option, arith}
 use Rattle.std.specs.Prelude.{◌⊎◌, IsTrue, IfOk, Contains, OnErr, Result, Ok, Err, slice_index_or}
 use Rattle.std.specs.Ordering.{nat_cmp}
-use Rattle.std.proofs.lemmas.Bool.{false≢true}
 use Rattle.slotted_slots.specs.declared.error.Error.{Error}
 use Rattle.slotted_slots.specs.declared.types.AppliedId.{AppliedId}
 use Rattle.slotted_slots.specs.Table.{KnowsMore}
@@ -37,7 +36,7 @@ use Rattle.slotted_graph.specs.ValidIds.{IsValidId}
 use Rattle.slotted_graph.specs.LeastTerms.{AreLeastOf, IsLeastTerm, LacksEntry, TermEntry}
 use Rattle.slotted_graph.proofs.Extending.{extends-itself}
 use Rattle.slotted_instances.specs.Building.{Builds}
-use Rattle.slotted_instances.specs.Methods.{SubstitutesBy, canonical, extracted, AreRepresentatives}
+use Rattle.slotted_instances.specs.Methods.{SubstitutesBy, canonical, extracted}
 use Rattle.slotted_instances.specs.Substituting.{Replaces}
 use Rattle.slotted_instances.proofs.Growing.{builds-takes, builds-then, graph-added}
 

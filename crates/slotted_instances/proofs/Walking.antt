@@ -1,6 +1,6 @@
 -- The walk of a substitution through the children of a node: what holds after some of them, and what it leaves at the end.
-use Rattle.std.proofs.Common.{◌≡◌, ◌≢◌, ℕ, zero, suc, ◌+◌, ◌<◌, ◌≤◌, List, [], ◌∷◌, ◌++◌, length, take, refl, sym, ◌∙◌, ap, subst, arith, inl, inr, length-append}
-use Rattle.std.specs.Prelude.{All, Bool, true, false, Contains, IsTrue, slice_index_or, ◌⊎◌, ◌||◌}
+use Rattle.std.proofs.Common.{◌≡◌, ◌≢◌, ℕ, suc, ◌+◌, ◌<◌, ◌≤◌, List, [], ◌∷◌, ◌++◌, length, take, refl, sym, ◌∙◌, ap, subst, arith, inl, inr, length-append}
+use Rattle.std.specs.Prelude.{All, Bool, false, Contains, IsTrue, slice_index_or}
 use Rattle.std.proofs.lemmas.Bool.{cases_eq, false≢true}
 use Rattle.std.proofs.lemmas.List.{get_or_append_left, take_more, take_all}
 use Rattle.std.proofs.lemmas.List.Elements.{All-contains}
@@ -16,9 +16,8 @@ use Rattle.slotted_theory.specs.Nameless.{DArgs, DTerm}
 use Rattle.slotted_theory.proofs.Values.{node}
 use Rattle.slotted_terms.specs.Valid.{AllKnown}
 use Rattle.slotted_model.specs.Applied.{Applied}
-use Rattle.slotted_model.specs.Classes.{Canonical, IsFull, term_of, layer_of}
+use Rattle.slotted_model.specs.Classes.{IsFull, term_of, layer_of}
 use Rattle.slotted_model.specs.Filling.{FillsArgs}
-use Rattle.slotted_model.specs.Growth.{Extends}
 use Rattle.slotted_model.proofs.Full.{term_of-layer}
 use Rattle.slotted_proofs.specs.Equations.{to_applied}
 use Rattle.slotted_store.specs.ChildIds.{child_ids}
@@ -36,8 +35,8 @@ use Rattle.slotted_graph.specs.States.{IsGraph}
 use Rattle.slotted_graph.specs.Syn.{HasUnknownBinders}
 use Rattle.slotted_graph.specs.ValidIds.{IsValidId, IsValidNode}
 use Rattle.slotted_core.specs.Canonical.{IsNodeOf}
-use Rattle.slotted_model_rules.specs.Matcher.{NodeArgs, unnamed, bound_names}
-use Rattle.slotted_model_rules.specs.ReplacedIds.{IsReplaced, HasReplacedIds, HasOtherIds, ids_of}
+use Rattle.slotted_model_rules.specs.Matcher.{unnamed, bound_names}
+use Rattle.slotted_model_rules.specs.ReplacedIds.{IsReplaced, HasReplacedIds, ids_of}
 use Rattle.slotted_model_rules.proofs.ReplacedIds.{replaced-stays, replaced-by_number, added-replaced, unchanged-stays}
 use Rattle.slotted_rule_patterns.specs.NodeArguments.{node_arguments}
 use Rattle.slotted_rule_patterns.proofs.NodeArguments.{unnamed-node, ids-node, bound-name}

@@ -3,12 +3,13 @@
 --     HasValues s q               each variable of the pattern has a value
 --     IsAnswerFor m g h σ q a     a is the value of the pattern if that is a variable, and else a full id of an instance of it
 --     Instantiates m g h s q a    from g to h such an id is built for the pattern q
---     InstantiatesKnown g h s q a    the same by a method that is known
+--     InstantiatesKnown g h s q a    the same by a method that a graph can be made with
 use Rattle.std.specs.Prelude.{◌≡◌, ℕ, List, All, Some, true}
 use Rattle.slotted_theory.specs.Nameless.{DTerm}
 use Rattle.slotted_terms.specs.Valid.{AllKnown}
 use Rattle.slotted_patterns.specs.Tree.{PatternTree}
 use Rattle.slotted_model.specs.Applied.{Applied}
+use Rattle.slotted_graph.specs.declared.method.SubstMethod.{SubstMethod}
 use Rattle.slotted_graph.specs.Graph.{Graph}
 use Rattle.slotted_graph.specs.ValidIds.{IsValidId}
 use Rattle.slotted_model_rules.specs.Conditions.{Values}
@@ -18,7 +19,7 @@ use Rattle.slotted_model_rules.specs.Rules.{valued}
 use Rattle.slotted_rule_patterns.specs.PatternCode.{pattern_in}
 use Rattle.slotted_rule_patterns.specs.Variables.{has_value, variables_of}
 use Rattle.slotted_instances.specs.Building.{AssertsNothing, Grows}
-use Rattle.slotted_instances.specs.Methods.{AreRepresentatives, IsKnownMethod, Method, represented}
+use Rattle.slotted_instances.specs.Methods.{AreRepresentatives, IsKnownMethod, Method, method_of, represented}
 
 abbrev pub AreValidValues : Graph → Values → Type 0
 AreValidValues g s = All (λ e. IsValidId g e.1) s
@@ -39,8 +40,7 @@ pub record Instantiates (m : Method) (g h : Graph) (s : Values) (q : PatternTree
   pub valid : IsValidId h a
   pub instance : IsKnownMethod m → IsAnswerFor m g h s q a
 
--- the same by a known method: the one that the graph was made with
+-- the same by one of the methods that a graph can be made with
 pub record InstantiatesKnown (g h : Graph) (s : Values) (q : PatternTree) (a : Applied) : Type 0 where
-  pub method : Method
-  pub known : IsKnownMethod method
-  pub instance : Instantiates method g h s q a
+  pub method : SubstMethod
+  pub instance : Instantiates (method_of method) g h s q a

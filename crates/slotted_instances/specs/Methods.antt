@@ -1,5 +1,6 @@
 -- What is known of a method of substitution.
 --     Method                    nothing is known, or it looks into canonical terms, or into terms of least size
+--     method_of x               the method that a graph can be made with
 --     represented m X u r       by the method the term r stands for the term u, where X are the pairs that were extracted
 --     AreRepresentatives g h X  each pair of X is the term of an id and a term of least size that it represents, in a graph between g and h
 --     SubstitutesBy m g h b x t a      from g to h the method answers a for b[x := t]
@@ -11,6 +12,8 @@ use Rattle.slotted_model.specs.Applied.{Applied}
 use Rattle.slotted_model.specs.Classes.{term_of}
 use Rattle.slotted_costs.specs.Costs.{costs_by}
 use Rattle.slotted_costs.specs.Size.{size_cost}
+use Rattle.slotted_graph.specs.declared.method.SubstMethod.{SubstMethod}
+use Rattle.slotted_graph.specs.declared.method.SubstMethod.TheVariants.{SynExpr, Extraction}
 use Rattle.slotted_graph.specs.Graph.{Graph, IsFullId}
 use Rattle.slotted_graph.specs.LeastTerms.{IsLeastTerm}
 use Rattle.slotted_graph.specs.Extension.{IsBetween}
@@ -28,6 +31,11 @@ abbrev pub IsKnownMethod : Method → Type 0
 IsKnownMethod unknown = ⊥
 IsKnownMethod canonical = Unit {0}
 IsKnownMethod extracted = Unit {0}
+
+-- the methods that a graph can be made with
+abbrev pub method_of : SubstMethod → Method
+method_of SynExpr = canonical
+method_of Extraction = extracted
 
 abbrev pub represented : Method → List (DTerm × DTerm) → DTerm → DTerm → Bool
 represented unknown X = is_itself

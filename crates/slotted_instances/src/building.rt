@@ -1,5 +1,5 @@
 //! Instances of patterns: from the bottom, node by node.
-ghost use Rattle.std.specs.Prelude.{◌≡◌, ◌⊎◌, IsSome, IsTrue, IfOk, IfErr, OnErr};
+ghost use Rattle.std.specs.Prelude.{◌≡◌, ◌⊎◌, IsErrAnd, IsSome, IsTrue, IfOk, IfErr, OnErr};
 ghost use Rattle.slotted_slots.specs.Error.{IsShortage};
 ghost use Rattle.slotted_proofs.specs.Equations.{to_applied};
 ghost use Rattle.slotted_patterns.specs.Known.{HasKnownNames};
@@ -38,6 +38,7 @@ fn put_in<L: Language, N: Drop, M: OwnSubst<L, N>>(
     ensures ok { IfOk result
         (λ a. PutsIn M.method graph.old graph.new (to_applied b.now) (to_applied x.now) (to_applied t.now) (to_applied a)) }
     ensures err { OnErr result (IsTrue graph.new.failed ⊎ Grows graph.old graph.new) }
+    ensures fails { IsTrue graph.new.failed → IsErrAnd result IsShortage }
     ensures only { IfErr result (λ e. IsShortage e ⊎ M.refuses e) }
 {
     let b = graph.full_id(b)?;
@@ -49,8 +50,8 @@ fn put_in<L: Language, N: Drop, M: OwnSubst<L, N>>(
     answer
 }
 
-/// Returns the id of an instance of the pattern: of a variable its value, of a node the class of it over the answers for its child patterns, and of `b[x := t]` what
-/// the method answers.
+/// Returns the id of an instance of the pattern: of a variable its value, of a node the class of it over the answers for its child
+/// patterns, and of `b[x := t]` what the method answers.
 pub(crate) fn build<L: Language, N: Drop, M: OwnSubst<L, N>>(
     alloc: Global,
     graph: &mut EGraph<L, N>,
@@ -66,6 +67,7 @@ pub(crate) fn build<L: Language, N: Drop, M: OwnSubst<L, N>>(
     ensures ok { IfOk result (λ a. Instantiates M.method graph.old graph.new (values_of subst.now)
         (tree_of L.form pattern.now) (to_applied a)) }
     ensures err { OnErr result (IsTrue graph.new.failed ⊎ Grows graph.old graph.new) }
+    ensures fails { IsTrue graph.new.failed → IsErrAnd result IsShortage }
     ensures only { IfErr result (λ e. IsShortage e ⊎ M.refuses e) }
 {
     match pattern {

@@ -3,9 +3,19 @@
 
 mod adding;
 mod building;
+pub mod instances;
+pub mod looking_up;
 pub mod method;
 mod refusals;
 mod stored;
+pub mod substituting;
 mod substitution;
+pub mod uniting;
+pub mod with_method;
 
+pub use instances::pattern_subst;
+pub use looking_up::lookup_rec_expr;
 pub use method::OwnSubst;
+pub use substituting::subst_ids;
+pub use uniting::union_instantiations;
+pub use with_method::subst_with;

@@ -2,6 +2,7 @@
 ghost use Rattle.std.specs.Prelude.{◌≡◌, ◌⊎◌, IsTrue, IsErrAnd, IfOk, IfErr};
 ghost use Rattle.slotted_slots.specs.Error.{IsShortage};
 ghost use Rattle.slotted_slots.specs.declared.error.Error.{Error};
+ghost use Rattle.slotted_slots.specs.declared.error.Error.TheVariants.{Failed};
 ghost use Rattle.slotted_proofs.specs.Equations.{to_applied};
 ghost use Rattle.slotted_graph.specs.Extension.{ExtendsTo};
 ghost use Rattle.slotted_graph.specs.Graph.{IsFullId};
@@ -42,4 +43,7 @@ pub trait OwnSubst<L: Language, N: Drop> {
         ensures extends { IsTrue graph.new.failed ⊎ ExtendsTo graph.old graph.new }
         ensures fails { IsTrue graph.new.failed → IsErrAnd result IsShortage }
         ensures only { IfErr result (λ e. IsShortage e ⊎ refuses e) };
+
+    // Only a graph fails.
+    ghost never_failed: { ¬ refuses Failed };
 }

@@ -9,8 +9,8 @@ ghost use Rattle.slotted_graph.specs.States.{IsGraph};
 ghost use Rattle.slotted_rule_patterns.specs.PatternCode.{pattern_in};
 ghost use Rattle.slotted_rule_patterns.specs.Values.{values_of};
 ghost use Rattle.slotted_instances.specs.Building.{Grows};
-ghost use Rattle.slotted_instances.specs.Instances.{AreValidValues, HasValues, InstantiatesKnown};
-ghost use Rattle.slotted_instances.specs.Methods.{canonical, extracted};
+ghost use Rattle.slotted_instances.specs.Instances.{AreValidValues, HasValues, Instantiates};
+ghost use Rattle.slotted_instances.specs.Methods.{canonical, extracted, method_of};
 
 use crate::building::build;
 use crate::method::OwnSubst;
@@ -31,6 +31,8 @@ impl<L: Language, N: Drop> OwnSubst<L, N> for Canonical {
     ghost method = { canonical };
 
     ghost refuses = { λ _. ⊥ };
+
+    ghost never_failed = { λ h. h };
 
     fn subst(
         &mut self,
@@ -53,6 +55,8 @@ impl<L: Language, N: Drop> OwnSubst<L, N> for Extracted {
 
     ghost refuses = { λ _. ⊥ };
 
+    ghost never_failed = { λ h. h };
+
     fn subst(
         &mut self,
         alloc: Global,
@@ -70,10 +74,11 @@ impl<L: Language, N: Drop> OwnSubst<L, N> for Extracted {
     }
 }
 
-/// Builds an instance by the method that the graph was made with.
+/// Builds an instance by a method that a graph can be made with.
 pub(crate) fn build_stored<L: Language, N: Drop>(
     alloc: Global,
     graph: &mut EGraph<L, N>,
+    method: SubstMethod,
     pattern: &Pattern<L>,
     subst: &Subst,
 ) -> Result<AppliedId, Error>
@@ -82,11 +87,11 @@ pub(crate) fn build_stored<L: Language, N: Drop>(
     requires values { AreValidValues graph.old (values_of subst.now) }
     requires whole { IsSome (pattern_in (tree_of L.form pattern.now)) }
     requires given { HasValues (values_of subst.now) (tree_of L.form pattern.now) }
-    ensures ok { IfOk result (λ a. InstantiatesKnown graph.old graph.new (values_of subst.now)
+    ensures ok { IfOk result (λ a. Instantiates (method_of method) graph.old graph.new (values_of subst.now)
         (tree_of L.form pattern.now) (to_applied a)) }
     ensures only { IfErr result IsShortage }
 {
-    match graph.subst_method() {
+    match method {
         SubstMethod::SynExpr => build(alloc, graph, &mut Canonical, pattern, subst),
         SubstMethod::Extraction => build(alloc, graph, &mut Extracted, pattern, subst),
     }

@@ -35,8 +35,8 @@ fn is_older_or_lacks(b: &AppliedId, x: &AppliedId) -> bool
     b.id < x.id || has_name_beside(&x.m, &b.m)
 }
 
-/// Returns the id of `b[x := t]`: what `b` stands for, with what `t` stands for in the place of each topmost part that `x` stands for. A binder of `b` has a fresh
-/// name in between, so it captures nothing. What is put in is not searched again.
+/// Returns the id of `b[x := t]`: what `b` stands for, with what `t` stands for in the place of each topmost part that `x` stands for. A
+/// binder of `b` has a fresh name in between, so it captures nothing. What is put in is not searched again.
 pub(crate) fn replaced<L: Language, N: Drop>(
     alloc: Global,
     graph: &mut EGraph<L, N>,

@@ -1,7 +1,7 @@
 -- The arguments of a node with names: without bound names they are those of the nameless node, their ids are its children, and each name of a binder
 -- stands at one.
-use Rattle.std.proofs.Common.{◌≡◌, ℕ, zero, suc, ◌+◌, ◌<◌, List, [], ◌∷◌, ◌++◌, length, take, drop, sym, ◌∙◌, ap, refl, subst, inl, inr, arith, slice_index, length-append, length-drop, length-take}
-use Rattle.std.specs.Prelude.{◌⊎◌, Contains, Option, Some, None, IsSome, map, slice_index_or}
+use Rattle.std.proofs.Common.{◌≡◌, ℕ, zero, suc, ◌+◌, ◌<◌, List, [], ◌∷◌, ◌++◌, length, take, drop, sym, ◌∙◌, ap, refl, subst, inl, inr, arith, slice_index, length-drop, length-take}
+use Rattle.std.specs.Prelude.{Contains, Option, Some, None, IsSome, map, slice_index_or}
 use Rattle.std.specs.List.{zip}
 use Rattle.std.proofs.lemmas.List.{get_or-take, get_or-drop, get_or_append_left, get_or-append-add, length-map}
 use Rattle.slotted_theory.specs.Nameless.{place, scope, extend, nameless_args}
@@ -14,7 +14,7 @@ use Rattle.slotted_languages.proofs.NodeTerms.{own_fits, child_keys_fit, child_r
 use Rattle.slotted_model.proofs.Members.{In, In-append, In-Contains}
 use Rattle.slotted_store.specs.ChildIds.{ids_in, child_ids}
 use Rattle.slotted_store.proofs.ChildIds.{atom-is}
-use Rattle.slotted_model_rules.specs.Matcher.{NodeArgs, unnamed, bound_names}
+use Rattle.slotted_model_rules.specs.Matcher.{unnamed, bound_names}
 use Rattle.slotted_model_rules.specs.ReplacedIds.{ids_of}
 use Rattle.slotted_rule_patterns.specs.NodeArguments.{args_of, node_arguments, HasBinder}
 

@@ -2,7 +2,7 @@
 --     args_of u xs        the arguments of the tree u with the names xs at its places
 --     node_arguments f    those of the node f
 --     HasBinder u xs y    the name y stands at a binder of the tree u
-use Rattle.std.specs.Prelude.{◌≡◌, ℕ, ◌<◌, List, drop, take, length, slice_index, slice_index_or, Option, None, IsSome}
+use Rattle.std.specs.Prelude.{◌≡◌, ℕ, ◌<◌, List, drop, take, length, slice_index, slice_index_or, None, IsSome}
 use Rattle.std.specs.List.{zip}
 use Rattle.slotted_nodes.specs.Form.{Form, Tree, leaf, own, child, bind, scopes}
 use Rattle.slotted_model_rules.specs.Matcher.{NodeArgs, no_more, a_name, an_id, a_binder}

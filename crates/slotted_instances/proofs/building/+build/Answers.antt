@@ -1,10 +1,10 @@
-use Rattle.std.proofs.Common.{◌≡◌, ◌<◌, ◌∙◌, ap, sym, refl, subst, rules, arith, inl, inr, ℕ, length, List, map, string_bytes}
-use Rattle.std.specs.Prelude.{Some, None, [], IfOk, option_map, is_some}
+use Rattle.std.proofs.Common.{◌≡◌, ◌<◌, ◌∙◌, ap, sym, subst, rules, arith, inr, length, List, map, string_bytes}
+use Rattle.std.specs.Prelude.{Some, [], IfOk, is_some}
 use Rattle.std.proofs.lemmas.Bool.{false≢true}
 use Rattle.std.proofs.lemmas.List.{length-map}
 use Rattle.slotted_slots.specs.declared.types.AppliedId.{AppliedId}
 use Rattle.slotted_nodes.specs.Form.{Form, children}
-use Rattle.slotted_patterns.specs.Tree.{PatternTree, enode, pvar, substitution, row_of}
+use Rattle.slotted_patterns.specs.Tree.{PatternTree, enode, substitution, row_of}
 use Rattle.slotted_patterns.specs.View.{tree_of}
 use Rattle.slotted_proofs.specs.Equations.{to_applied}
 use Rattle.slotted_model_rules.specs.Matcher.{value_at}
@@ -13,8 +13,8 @@ use Rattle.slotted_rule_patterns.proofs.Rows.{tree_of-node, tree_of-variable, tr
 use Rattle.slotted_instances.specs.Instances.{HasValues, Instantiates}
 use Rattle.slotted_instances.proofs.Answering.{ok-copied, err-then, err-mapped, ok-added, ok-mapped}
 use Rattle.slotted_instances.proofs.Growing.{grows-itself, grows-then, later-grows, later-built}
-use Rattle.slotted_instances.proofs.BuiltInstances.{AreBuilt, built-start, built-count, built-step, built-known, built-children, built-node, variable-instance, substituted-instance}
-use Rattle.slotted_instances.proofs.Parts.{pattern_at, tree-at, pattern_size, IsReady, IsReadyNode, ready-node, ready-count, ready-child, smaller-child, AreReady, ready-parts}
+use Rattle.slotted_instances.proofs.BuiltInstances.{built-start, built-count, built-step, built-known, built-children, built-node, variable-instance, substituted-instance}
+use Rattle.slotted_instances.proofs.Parts.{pattern_at, tree-at, pattern_size, IsReady, IsReadyNode, ready-node, ready-count, ready-child, smaller-child, ready-parts}
 use Rattle.slotted_instances.proofs.building.+build.Goals as goal
 
 pub returns-in_err-built-in-ENode-clause-err : goal.returns-in_err-built-in-ENode-clause-err

@@ -1,4 +1,4 @@
-use Rattle.std.proofs.Common.{inl, inr}
+use Rattle.std.proofs.Common.{inr}
 use Rattle.slotted_proofs.specs.Equations.{to_applied}
 use Rattle.slotted_instances.proofs.Answering.{err-then}
 use Rattle.slotted_instances.proofs.Growing.{extended-grows, filled-grows, grows-takes, grows-then, later-grows}

@@ -1,20 +1,17 @@
-use Rattle.std.proofs.Common.{◌≡◌, ◌≢◌, ◌<◌, ◌∙◌, ap, sym, refl, subst, rules, arith, inl, inr, IfOk, ℕ, length}
-use Rattle.std.specs.Prelude.{Bool, false, ◌||◌, [], slice_index_or}
-use Rattle.std.proofs.lemmas.Bool.{false≢true}
+use Rattle.std.proofs.Common.{◌≡◌, ◌≢◌, ◌<◌, ◌∙◌, sym, subst, rules, arith, inr, length}
+use Rattle.std.specs.Prelude.{◌||◌, []}
 use Rattle.slotted_nodes.specs.Form.{Form, children}
 use Rattle.slotted_model.specs.Applied.{Applied}
 use Rattle.slotted_model_rules.specs.ReplacedIds.{IsReplaced}
 use Rattle.slotted_model_rules.proofs.ReplacedIds.{older-stays, whole-replaced}
 use Rattle.slotted_proofs.specs.Equations.{to_applied}
-use Rattle.slotted_store.specs.ChildIds.{child_ids}
 use Rattle.slotted_store.proofs.ChildIds.{child_is}
 use Rattle.slotted_graph.specs.Graph.{IsFullId}
 use Rattle.slotted_instances.proofs.Answering.{ok-copied, err-then, err-mapped, ok-added}
-use Rattle.slotted_instances.specs.Building.{Builds}
 use Rattle.slotted_instances.specs.Substituting.{Replaces}
 use Rattle.slotted_instances.proofs.Growing.{graph-canonical, builds-itself, builds-then, builds-takes, later-builds}
-use Rattle.slotted_instances.proofs.SameIds.{id_test, same-ids, other-ids, not-false, neither}
-use Rattle.slotted_instances.proofs.Walking.{IsEntered, IsWalked, walked-start, walked-count, next-full, next-earlier, walked-part, walked-value, walked-step, walked-known, walked-children, walked-same, walked-end}
+use Rattle.slotted_instances.proofs.SameIds.{same-ids, other-ids, not-false, neither}
+use Rattle.slotted_instances.proofs.Walking.{IsEntered, walked-start, walked-count, next-full, next-earlier, walked-part, walked-value, walked-step, walked-known, walked-children, walked-same, walked-end}
 use Rattle.slotted_instances.proofs.substitution.+replaced.Goals as goal
 
 pub returns-then-is_older_or_lacks-clause-ok : goal.returns-then-is_older_or_lacks-clause-ok

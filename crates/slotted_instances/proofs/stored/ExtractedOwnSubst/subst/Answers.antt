@@ -8,7 +8,7 @@ use Rattle.slotted_core.proofs.CallerLemmas.{full-valid}
 use Rattle.slotted_proofs.specs.Equations.{to_applied}
 use Rattle.slotted_costs.specs.Costs.{costs_by}
 use Rattle.slotted_costs.specs.Size.{size_cost}
-use Rattle.slotted_graph.proofs.Extending.{extends-takes, extends-then}
+use Rattle.slotted_graph.proofs.Extending.{extends-takes}
 use Rattle.slotted_instances.proofs.Answering.{ok-mapped}
 use Rattle.slotted_instances.proofs.Growing.{full-builds}
 use Rattle.slotted_instances.proofs.StoredMethods.{added-builds, entry-found, extends-from, extracted-answers, replaced-extends}

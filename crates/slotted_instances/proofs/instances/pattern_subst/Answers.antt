@@ -1,0 +1,26 @@
+use Rattle.std.proofs.Common.{sym, subst, rules}
+use Rattle.std.specs.Prelude.{IsSome, OnOk}
+use Rattle.slotted_patterns.specs.View.{tree_of}
+use Rattle.slotted_proofs.specs.Equations.{to_applied}
+use Rattle.slotted_rule_patterns.specs.PatternCode.{pattern_in}
+use Rattle.slotted_rule_patterns.specs.Values.{values_of}
+use Rattle.slotted_instances.specs.Instances.{InstantiatesKnown}
+use Rattle.slotted_instances.specs.Refusals.{IsMissing, PassesTests}
+use Rattle.slotted_instances.proofs.Refusing.{left-extends, missing-long, tests-passed}
+use Rattle.slotted_instances.proofs.instances.pattern_subst.Goals as goal
+
+pub returns-clause-extends : goal.returns-clause-extends
+returns-clause-extends g c =
+    let s = values_of c.args.subst.now in
+    let q = tree_of g.L.LanguageChildren.form c.args.pattern.now in
+    let g0 = c.args.graph.now in
+    let i = c.instance-answer.new.graph in
+    left-extends g0 i c.failing.new.graph (IsMissing s q) (missing-long s q) c.instance-answer.result (λ a. InstantiatesKnown g0 i s q (to_applied a)) (λ a k. k.instance.grows.extends)
+    c.instance-answer.ensures.ok c.instance-answer.ensures.err c.failing.ensures.fails c.failing.ensures.stays
+
+pub returns-clause-tested : goal.returns-clause-tested
+returns-clause-tested g c =
+    let s = values_of c.args.subst.now in
+    let q = tree_of g.L.LanguageChildren.form c.args.pattern.now in
+    let whole : IsSome (pattern_in q) = search rules in
+    subst (λ r. OnOk r (PassesTests s q)) (sym c.failing.ensures.same) (tests-passed s q c.instance-answer.result whole c.instance-answer.ensures.given)

@@ -1,0 +1,44 @@
+//! Substitution over ids, for callers of a graph.
+ghost use Rattle.std.specs.Prelude.{◌≡◌, ◌⊎◌, ◌↔◌, IsTrue, IsErr, IsErrOf, IfErr, IfOk, OnOk};
+ghost use Rattle.slotted_slots.specs.Error.{IsShortage};
+ghost use Rattle.slotted_proofs.specs.Equations.{to_applied};
+ghost use Rattle.slotted_graph.specs.Extension.{ExtendsTo};
+ghost use Rattle.slotted_graph.specs.Graph.{IsFullId};
+ghost use Rattle.slotted_instances.specs.Building.{AssertsNothing};
+ghost use Rattle.slotted_instances.specs.Substituting.{StandsForReplaced};
+
+use crate::refusals::failing;
+use crate::substitution::replaced;
+use slotted_graph::EGraph;
+use slotted_languages::Language;
+use slotted_slots::{AppliedId, Error};
+use std::alloc::Global;
+
+/// Returns the id of `b[x := t]`, of three ids that lack no name: its canonical term is that of `b` with the canonical term of `t` for each
+/// topmost part that is alpha-equal to the canonical term of `x`. Nothing is captured, and what is put in is not searched again.
+pub fn subst_ids<L: Language, N: Drop>(
+    alloc: Global,
+    graph: &mut EGraph<L, N>,
+    b: &AppliedId,
+    x: &AppliedId,
+    t: &AppliedId,
+) -> Result<AppliedId, Error>
+    requires body { IsTrue graph.old.failed ⊎ IsFullId graph.old (to_applied b.now) }
+    requires part { IsTrue graph.old.failed ⊎ IsFullId graph.old (to_applied x.now) }
+    requires value { IsTrue graph.old.failed ⊎ IsFullId graph.old (to_applied t.now) }
+    ensures full { IfOk result (λ a. IsFullId graph.new (to_applied a)) }
+    ensures term { IfOk result (λ a. StandsForReplaced graph.new (to_applied x.now) (to_applied t.now)
+        (to_applied b.now) (to_applied a)) }
+    ensures extends { IsTrue graph.new.failed ⊎ ExtendsTo graph.old graph.new }
+    ensures asserts { OnOk result (AssertsNothing graph.old graph.new) }
+    ensures stays { IsTrue graph.old.failed → graph.new ≡ graph.old }
+    ensures failed { IsErrOf result Error.Failed ↔ IsTrue graph.old.failed }
+    ensures fails { IsTrue graph.new.failed ↔ IsErr result }
+    ensures only { IfErr result (λ e. (e ≡ Error.Failed) ⊎ IsShortage e) }
+{
+    if graph.is_failed() {
+        return Err(Error::Failed);
+    }
+    let answer = replaced(alloc, graph, b, x, t);
+    failing(graph, answer)
+}

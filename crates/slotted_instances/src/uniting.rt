@@ -1,0 +1,141 @@
+//! Uniting instances of two patterns.
+ghost use Rattle.std.specs.Prelude.{◌≡◌, ◌⊎◌, ◌↔◌, false, None, IsSome, IsTrue, IsErrAnd, IsErrOf, IfErr, IfOk, OnOk};
+ghost use Rattle.slotted_slots.specs.Error.{IsShortage};
+ghost use Rattle.slotted_patterns.specs.Known.{HasKnownNames};
+ghost use Rattle.slotted_patterns.specs.View.{tree_of};
+ghost use Rattle.slotted_graph.specs.Extension.{ExtendsTo};
+ghost use Rattle.slotted_graph.specs.Image.{text_bytes};
+ghost use Rattle.slotted_graph.specs.States.{IsGraph};
+ghost use Rattle.slotted_rule_patterns.specs.PatternCode.{pattern_in};
+ghost use Rattle.slotted_rule_patterns.specs.Values.{values_of};
+ghost use Rattle.slotted_instances.specs.Instances.{AreValidValues, HasValues};
+ghost use Rattle.slotted_instances.specs.Refusals.{AreMissing, HavePassed, IsEitherNotWhole, IsFailedOrShort};
+ghost use Rattle.slotted_instances.specs.Refusals.{IsRefusedBefore, RefusesInstances};
+ghost use Rattle.slotted_instances.specs.Uniting.{UnitesInstances};
+
+use crate::refusals::{check_values, failing};
+use crate::stored::build_stored;
+use slotted_graph::EGraph;
+use slotted_languages::Language;
+use slotted_patterns::Pattern;
+use slotted_rule_patterns::Subst;
+use slotted_rule_patterns::pattern::is_whole;
+use slotted_slots::Error;
+use std::alloc::Global;
+
+// Whether each variable of both patterns has a value.
+fn check_both<L: Language>(
+    alloc: Global,
+    a: &Pattern<L>,
+    b: &Pattern<L>,
+    subst: &Subst,
+) -> Result<(), Error>
+    ensures left { OnOk result (HasValues (values_of subst.now) (tree_of L.form a.now)) }
+    ensures right { OnOk result (HasValues (values_of subst.now) (tree_of L.form b.now)) }
+    ensures err { IfErr result (λ e. IsShortage e
+        ⊎ AreMissing (values_of subst.now) (tree_of L.form a.now) (tree_of L.form b.now) e) }
+{
+    check_values(alloc, a, subst)?;
+    check_values(alloc, b, subst)
+}
+
+// The union of both instances.
+fn unite<L: Language, N: Drop>(
+    alloc: Global,
+    graph: &mut EGraph<L, N>,
+    a: &Pattern<L>,
+    b: &Pattern<L>,
+    subst: &Subst,
+    text: Option<String>,
+) -> Result<bool, Error>
+    requires graph { IsGraph graph.old }
+    requires left { HasKnownNames graph.old.table (tree_of L.form a.now) }
+    requires right { HasKnownNames graph.old.table (tree_of L.form b.now) }
+    requires values { AreValidValues graph.old (values_of subst.now) }
+    requires whole_left { IsSome (pattern_in (tree_of L.form a.now)) }
+    requires whole_right { IsSome (pattern_in (tree_of L.form b.now)) }
+    requires given_left { HasValues (values_of subst.now) (tree_of L.form a.now) }
+    requires given_right { HasValues (values_of subst.now) (tree_of L.form b.now) }
+    ensures unites { IfOk result (UnitesInstances graph.old graph.new (values_of subst.now)
+        (tree_of L.form a.now) (tree_of L.form b.now) (text_bytes text)) }
+    ensures well { OnOk result (graph.new.failed ≡ false) }
+    ensures only { IfErr result IsShortage }
+{
+    let method = graph.subst_method();
+    let left = build_stored(alloc, graph, method, a, subst)?;
+    let right = build_stored(alloc, graph, method, b, subst)?;
+    let answer = graph.union_justified(&left, &right, text);
+    // It is asked for what each graph keeps that has not failed.
+    let _ = graph.is_failed();
+    answer
+}
+
+// The same, where each variable has a value.
+fn test_and_unite<L: Language, N: Drop>(
+    alloc: Global,
+    graph: &mut EGraph<L, N>,
+    a: &Pattern<L>,
+    b: &Pattern<L>,
+    subst: &Subst,
+    text: Option<String>,
+) -> Result<bool, Error>
+    requires graph { IsGraph graph.old }
+    requires left { HasKnownNames graph.old.table (tree_of L.form a.now) }
+    requires right { HasKnownNames graph.old.table (tree_of L.form b.now) }
+    requires values { AreValidValues graph.old (values_of subst.now) }
+    requires whole_left { IsSome (pattern_in (tree_of L.form a.now)) }
+    requires whole_right { IsSome (pattern_in (tree_of L.form b.now)) }
+    ensures unites { IfOk result (UnitesInstances graph.old graph.new (values_of subst.now)
+        (tree_of L.form a.now) (tree_of L.form b.now) (text_bytes text)) }
+    ensures well { OnOk result (graph.new.failed ≡ false) }
+    ensures left { OnOk result (HasValues (values_of subst.now) (tree_of L.form a.now)) }
+    ensures right { OnOk result (HasValues (values_of subst.now) (tree_of L.form b.now)) }
+    ensures err { IfErr result (λ e. IsShortage e
+        ⊎ (AreMissing (values_of subst.now) (tree_of L.form a.now) (tree_of L.form b.now) e × (graph.new ≡ graph.old))) }
+{
+    check_both(alloc, a, b, subst)?;
+    unite(alloc, graph, a, b, subst, text)
+}
+
+/// Instances of both patterns, as `pattern_subst` answers them, are equal, because the caller says so. True if they did not find alike, as
+/// `union_justified` answers.
+///
+/// The equation of both is a new entry of the proof list with the text, if it was not proved.
+pub fn union_instantiations<L: Language, N: Drop>(
+    alloc: Global,
+    graph: &mut EGraph<L, N>,
+    a: &Pattern<L>,
+    b: &Pattern<L>,
+    subst: &Subst,
+    text: Option<String>,
+) -> Result<bool, Error>
+    requires left { IsTrue graph.old.failed ⊎ HasKnownNames graph.old.table (tree_of L.form a.now) }
+    requires right { IsTrue graph.old.failed ⊎ HasKnownNames graph.old.table (tree_of L.form b.now) }
+    requires values { IsTrue graph.old.failed ⊎ AreValidValues graph.old (values_of subst.now) }
+
+    // From this it follows that an entry is an equation of instances of both, and each new asserted one is it (`united-equation`).
+    ensures unites { IfOk result (UnitesInstances graph.old graph.new (values_of subst.now)
+        (tree_of L.form a.now) (tree_of L.form b.now) (text_bytes text)) }
+    ensures extends { IsTrue graph.new.failed ⊎ ExtendsTo graph.old graph.new }
+
+    // Both patterns are tested before anything is added: first that they are whole, and then their variables from the left.
+    ensures tested { OnOk result (HavePassed (values_of subst.now) (tree_of L.form a.now) (tree_of L.form b.now)) }
+    ensures whole { IsErrOf result Error.NotATerm ↔ ((graph.old.failed ≡ false)
+        × IsEitherNotWhole (tree_of L.form a.now) (tree_of L.form b.now)) }
+    ensures unchanged { IsErrAnd result IsRefusedBefore → graph.new ≡ graph.old }
+
+    ensures stays { IsTrue graph.old.failed → graph.new ≡ graph.old }
+    ensures failed { IsErrOf result Error.Failed ↔ IsTrue graph.old.failed }
+    ensures fails { IsTrue graph.new.failed ↔ IsErrAnd result IsFailedOrShort }
+    ensures only { IfErr result
+        (RefusesInstances (values_of subst.now) (tree_of L.form a.now) (tree_of L.form b.now)) }
+{
+    if graph.is_failed() {
+        return Err(Error::Failed);
+    }
+    if !is_whole(a) || !is_whole(b) {
+        return Err(Error::NotATerm);
+    }
+    let answer = test_and_unite(alloc, graph, a, b, subst, text);
+    failing(graph, answer)
+}
