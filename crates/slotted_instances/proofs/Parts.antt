@@ -12,6 +12,7 @@ use Rattle.slotted_model_rules.specs.Conditions.{Values}
 use Rattle.slotted_model_rules.specs.Patterns.{Pattern, variable}
 use Rattle.slotted_rule_patterns.specs.PatternCode.{pattern_in, patterns_in}
 use Rattle.slotted_rule_patterns.specs.Variables.{has_value, variables_of, variables_of_row}
+use Rattle.slotted_rule_patterns.proofs.Sizes.{pattern_size, row_size}
 use Rattle.slotted_rule_patterns.proofs.Whole.{length-patterns}
 use Rattle.slotted_rule_patterns.proofs.Parts.{node-parts, replacing-parts, first-parts}
 use Rattle.slotted_instances.specs.Instances.{HasValues}
@@ -87,17 +88,7 @@ part-at (q ∷ qs) ps e (suc k) l =
     let n = first-parts q (row_of qs) ps e in
     part-at qs n.others n.others_are k (omega arith) ∙ ap (λ z. Some (slice_index_or z (suc k) (variable []))) (sym n.is)
 
--- how many nodes, variables and substitutions stand in a pattern
-
-abbrev mutual
-  pub pattern_size : PatternTree → ℕ
-  pattern_size (enode f row) = suc (row_size row)
-  pattern_size (pvar v) = 1
-  pattern_size (substitution b x v) = suc (pattern_size b + pattern_size x + pattern_size v)
-
-  pub row_size : PatternRow → ℕ
-  row_size no_more = 0
-  row_size (one_more q rest) = pattern_size q + row_size rest
+-- child patterns are smaller
 
 size-at : (qs : List PatternTree) (k : ℕ) → k < length qs → pattern_size (pattern_at qs k) ≤ row_size (row_of qs)
 size-at [] k l = absurd (omega arith)

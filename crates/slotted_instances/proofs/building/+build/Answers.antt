@@ -14,7 +14,8 @@ use Rattle.slotted_instances.specs.Instances.{HasValues, Instantiates}
 use Rattle.slotted_instances.proofs.Answering.{ok-copied, err-then, err-mapped, ok-added, ok-mapped}
 use Rattle.slotted_instances.proofs.Growing.{grows-itself, grows-then, later-grows, later-built}
 use Rattle.slotted_instances.proofs.BuiltInstances.{built-start, built-count, built-step, built-known, built-children, built-node, variable-instance, substituted-instance}
-use Rattle.slotted_instances.proofs.Parts.{pattern_at, tree-at, pattern_size, IsReady, IsReadyNode, ready-node, ready-count, ready-child, smaller-child, ready-parts}
+use Rattle.slotted_instances.proofs.Parts.{pattern_at, tree-at, IsReady, IsReadyNode, ready-node, ready-count, ready-child, smaller-child, ready-parts}
+use Rattle.slotted_rule_patterns.proofs.Sizes.{pattern_size}
 use Rattle.slotted_instances.proofs.building.+build.Goals as goal
 
 pub returns-in_err-built-in-ENode-clause-err : goal.returns-in_err-built-in-ENode-clause-err

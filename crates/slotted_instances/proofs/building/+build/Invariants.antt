@@ -2,7 +2,7 @@ use Rattle.std.proofs.Common.{map}
 use Rattle.slotted_patterns.specs.View.{tree_of}
 use Rattle.slotted_rule_patterns.specs.Values.{values_of}
 use Rattle.slotted_instances.proofs.BuiltInstances.{AreBuilt}
-use Rattle.slotted_instances.proofs.Parts.{pattern_size}
+use Rattle.slotted_rule_patterns.proofs.Sizes.{pattern_size}
 use Rattle.slotted_instances.proofs.building.+build.Given as goal
 
 abbrev pub decreases-build : goal.decreases-build
