@@ -1,0 +1,81 @@
+//! What lines about patterns are answered with.
+
+use slotted_graph::EGraph;
+use slotted_instances::pattern_subst;
+use slotted_rule_patterns::Subst;
+use slotted_rule_patterns::subst::value;
+use slotted_slots::{AppliedId, Error};
+use slotted_small::Small;
+use std::alloc::Global;
+
+/// Whether a line is one of these.
+pub fn is_asked(line: &str) -> bool {
+    line == "counts"
+        || line.starts_with("matches ")
+        || line.starts_with("match ")
+        || line.starts_with("subst ")
+}
+
+// The canonical term of an id.
+fn term_text(alloc: Global, graph: &mut EGraph<Small>, id: &AppliedId) -> Result<String, Error> {
+    if !graph.is_valid(id) {
+        return Err(Error::Failed);
+    }
+    let term = graph.get_syn_expr(id)?;
+    term.text(alloc, graph.table())
+}
+
+// How many matches a pattern has.
+fn matches(alloc: Global, graph: &mut EGraph<Small>, text: &str) -> Result<String, Error> {
+    let pattern = graph.parse_pattern(text)?;
+    let found = graph.find_matches(&pattern)?;
+    let count = found.len();
+    Ok(format!(in alloc; "{count}")?)
+}
+
+// The term of a variable in a match.
+fn match_term(alloc: Global, graph: &mut EGraph<Small>, text: &str) -> Result<String, Error> {
+    let (place, pattern) = text.split_once(": ").unwrap_or((text, ""));
+    let (number, variable) = place.split_once(" ").unwrap_or((place, ""));
+    let pattern = graph.parse_pattern(pattern)?;
+    let found = graph.find_matches(&pattern)?;
+    let answer = number.parse::<usize>().unwrap_or(0);
+    if answer >= found.len() {
+        return Ok(String::from_str(alloc, "none")?);
+    }
+    let subst = found.substitution(alloc, answer)?;
+    match value(&subst, variable) {
+        Some(id) => term_text(alloc, graph, id),
+        None => Ok(String::from_str(alloc, "none")?),
+    }
+}
+
+// The canonical term of an instance of a pattern without variables.
+fn instance(alloc: Global, graph: &mut EGraph<Small>, text: &str) -> Result<String, Error> {
+    let pattern = graph.parse_pattern(text)?;
+    let subst = Subst::new(alloc);
+    let id = pattern_subst(alloc, graph, &pattern, &subst)?;
+    term_text(alloc, graph, &id)
+}
+
+// How many live classes, filed nodes and asserted equations there are.
+fn counts(alloc: Global, graph: &EGraph<Small>) -> Result<String, Error> {
+    let live = graph.ids()?.len();
+    let nodes = graph.total_number_of_nodes();
+    let asserted = graph.asserted().len();
+    Ok(format!(in alloc; "{live} {nodes} {asserted}")?)
+}
+
+/// The answer to a line about patterns.
+pub fn answer(alloc: Global, graph: &mut EGraph<Small>, line: &str) -> Result<String, Error> {
+    if line == "counts" {
+        return counts(alloc, graph);
+    }
+    if let Some(text) = line.strip_prefix("matches ") {
+        return matches(alloc, graph, text);
+    }
+    match line.strip_prefix("match ") {
+        Some(text) => match_term(alloc, graph, text),
+        None => instance(alloc, graph, line.strip_prefix("subst ").unwrap_or(line)),
+    }
+}

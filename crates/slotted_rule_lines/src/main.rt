@@ -1,0 +1,130 @@
+//! The program `slotted_rule_lines`: sessions of patterns in, answers out.
+//!
+//! Beside the lines that the program `slotted` answers there are these. `matches P` answers how many matches a pattern has, and `match K v: P` the term of
+//! the variable in the match of this number. `subst P` answers the canonical term of an instance of a pattern without variables. `counts` answers how many
+//! live classes, filed nodes and asserted equations there are.
+//!
+//! A line `---` ends a session, and the next one has a graph of its own. A line that begins with `# ` is a title. Both are written as they stand.
+#![tactic(auto)]
+
+mod asking;
+
+use asking::{answer, is_asked};
+use slotted_commands::answer_line;
+use slotted_graph::EGraph;
+use slotted_slots::SlotTable;
+use slotted_small::Small;
+use std::alloc::Global;
+use std::io;
+use std::io::{BufRead, BufReader, BufWriter, ErrorKind, Write};
+
+// Whether a line ends its session.
+fn is_divider(line: &[u8]) -> bool {
+    line.strip_suffix(b"\n").unwrap_or(line) == b"---".as_slice()
+}
+
+// Whether a line is the title of a session.
+fn is_title(line: &[u8]) -> bool {
+    line.starts_with(b"# ")
+}
+
+// Answers a line about patterns.
+fn ask<W: Write>(
+    alloc: Global,
+    graph: &mut EGraph<Small>,
+    text: &str,
+    output: &mut W,
+) -> io::Result<()> {
+    match answer(alloc, graph, text) {
+        Ok(told) => writeln!(output, "{told}"),
+        Err(e) => {
+            let number = e.number();
+            let name = e.name();
+            writeln!(output, "error: {number} {name}")
+        }
+    }
+}
+
+// Answers a line over a graph.
+fn answer_or_ask<W: Write>(
+    alloc: Global,
+    graph: &mut EGraph<Small>,
+    line: &[u8],
+    output: &mut W,
+) -> io::Result<()> {
+    let Ok(text) = str::from_utf8(line.strip_suffix(b"\n").unwrap_or(line)) else {
+        return Err(io::Error::from(ErrorKind::InvalidData));
+    };
+    if is_asked(text) {
+        return ask(alloc, graph, text, output);
+    }
+    answer_line(alloc, graph, line, output)
+}
+
+// Answers a line, or writes it as it stands.
+fn answer_or_repeat<W: Write>(
+    alloc: Global,
+    graph: &mut EGraph<Small>,
+    line: &[u8],
+    output: &mut W,
+) -> io::Result<()> {
+    if is_title(line) || is_divider(line) {
+        return output.write_all(line);
+    }
+    answer_or_ask(alloc, graph, line, output)
+}
+
+// Answers lines up to the end of their session, and says whether a line `---` ended it.
+fn answer_lines<R: BufRead, W: Write>(
+    alloc: Global,
+    graph: &mut EGraph<Small>,
+    input: &mut R,
+    output: &mut W,
+) -> io::Result<bool> {
+    let mut line = Vec::new(alloc);
+    for _ in 0..u64::MAX {
+        line.clear();
+        if input.read_until(b'\n', &mut line)? == 0 {
+            return Ok(false);
+        }
+        answer_or_repeat(alloc, graph, &line, output)?;
+        if is_divider(&line) {
+            return Ok(true);
+        }
+    }
+    Err(io::Error::from(ErrorKind::FileTooLarge))
+}
+
+// Answers a session over a graph of its own, and says whether a line `---` ended it.
+fn answer_next<R: BufRead, W: Write>(
+    alloc: Global,
+    input: &mut R,
+    output: &mut W,
+) -> io::Result<bool> {
+    match EGraph::<Small>::new(alloc, SlotTable::new(alloc), ()) {
+        Ok(mut graph) => answer_lines(alloc, &mut graph, input, output),
+        Err(_) => Err(io::Error::from(ErrorKind::OutOfMemory)),
+    }
+}
+
+// Answers one session after another up to the end of the input.
+fn answer_sessions<R: BufRead, W: Write>(
+    alloc: Global,
+    input: &mut R,
+    output: &mut W,
+) -> io::Result<()> {
+    for _ in 0..u64::MAX {
+        if !answer_next(alloc, input, output)? {
+            return Ok(());
+        }
+    }
+    Err(io::Error::from(ErrorKind::FileTooLarge))
+}
+
+fn main(rt: HostRuntime) -> io::Result<()> {
+    let alloc = rt.alloc();
+    let mut input = BufReader::new(alloc, rt.reader())?;
+    let mut output = BufWriter::new(alloc, io::writer(&rt))?;
+    answer_sessions(alloc, &mut input, &mut output)?;
+    output.flush()
+}
