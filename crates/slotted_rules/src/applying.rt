@@ -14,10 +14,7 @@ use std::alloc::Global;
 use std::collections::VecDeque;
 
 /// Whether each rule can be handed to calls on this graph. It takes no memory.
-pub fn are_valid<L: Language, N: Drop, R: RewriteT<L, N>>(
-    graph: &EGraph<L, N>,
-    rules: &[R],
-) -> bool
+pub fn are_valid<L: Language, N: Drop, R: RewriteT<L, N>>(graph: &EGraph<L, N>, rules: &[R]) -> bool
     ensures { IsTrue result → IsTrue graph.now.failed ⊎ All (λ r. R.valid r graph.now) rules.now }
 {
     for rule in rules {
