@@ -7,6 +7,7 @@ pub mod Extending
 pub mod PatternLookUps
 pub mod Matching
 pub mod Finds
+pub mod KnownPatterns
 -- What the crates above cite, handed on.
 pub use Rattle.slotted_core.proofs.CallerLemmas
 pub use Rattle.slotted_core.proofs.YesesStay

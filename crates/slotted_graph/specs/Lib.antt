@@ -23,3 +23,4 @@ pub use Rattle.slotted_core.specs.Leaves
 pub use Rattle.slotted_core.specs.Explaining
 pub use Rattle.slotted_core.specs.Syn
 pub use Rattle.slotted_extraction.specs.Terms
+pub mod KnownPatterns

@@ -1,14 +1,45 @@
 //! Patterns over the graph's table of slots.
-ghost use Rattle.std.specs.Prelude.{◌≡◌, ◌↔◌, IsTrue, IfOk, IsErrOf};
+ghost use Rattle.std.specs.Prelude.{◌≡◌, ◌↔◌, IsTrue, IfOk, IsErrOf, false};
 ghost use Rattle.slotted_patterns.specs.Known.{HasKnownNames};
 ghost use Rattle.slotted_patterns.specs.View.{tree_of};
 ghost use Rattle.slotted_core.specs.Graph.{OnlyReads};
 ghost use Rattle.slotted_core.specs.Reads.{AnswersPattern};
+ghost use Rattle.slotted_graph.specs.KnownPatterns.{knows_node, knows_pattern, HasSmallNodes};
 
 use super::EGraph;
+use slotted_core::names::{PLACES, places_are_known};
 use slotted_languages::Language;
 use slotted_patterns::Pattern;
-use slotted_slots::Error;
+use slotted_slots::{Error, SlotTable};
+
+// Whether the table knows each name of a node. One with 2^30 places or more cannot be read.
+fn is_known_node<L: Language>(table: &SlotTable, node: &L) -> bool
+    ensures { result ≡ knows_node table.now (L.form node.now) }
+{
+    node.slot_count() < PLACES && places_are_known(table, node)
+}
+
+// Whether the table knows each name of each node of the pattern.
+fn has_known_names<L: Language>(table: &SlotTable, pattern: &Pattern<L>) -> bool
+    ensures { result ≡ knows_pattern table.now (tree_of L.form pattern.now) }
+{
+    match pattern {
+        Pattern::ENode(node, children) => {
+            for child in children {
+                if !has_known_names(table, child) {
+                    return false;
+                }
+            }
+            is_known_node(table, node)
+        }
+        Pattern::PVar(_) => true,
+        Pattern::Subst(body, part, value) => {
+            has_known_names(table, body)
+                && has_known_names(table, part)
+                && has_known_names(table, value)
+        }
+    }
+}
 
 impl<L: Language, N: Drop> EGraph<L, N> {
     /// The pattern that a text writes, as `Pattern::parse` reads it: each slot's name is looked up or kept in the graph's
@@ -28,5 +59,16 @@ impl<L: Language, N: Drop> EGraph<L, N> {
             return Err(Error::Failed);
         }
         Pattern::parse(self.alloc, text, &mut self.table)
+    }
+
+    /// Whether a pattern is one over this graph: the slots of its nodes are known. The child ids inside pattern nodes are null, or have known names too. A
+    /// node with 2^30 places or more cannot be read: a pattern with one is not valid. Nothing is valid in a failed graph. It takes no memory.
+    pub fn is_valid_pattern(&self, pattern: &Pattern<L>) -> bool
+        ensures failed { IsTrue result → self.now.failed ≡ false }
+        ensures known { IsTrue result → HasKnownNames self.now.table (tree_of L.form pattern.now) }
+        ensures exact { self.now.failed ≡ false → HasKnownNames self.now.table (tree_of L.form pattern.now)
+            → HasSmallNodes (tree_of L.form pattern.now) → IsTrue result }
+    {
+        !self.failed && has_known_names(&self.table, pattern)
     }
 }

@@ -1,0 +1,83 @@
+-- What is known of a pattern whose nodes are all known.
+use Rattle.std.proofs.Common.{◌≡◌, ◌↔◌, ◌∙◌, ℕ, List, [], ◌∷◌, Bool, true, false, refl, sym, ap, length}
+use Rattle.std.specs.Prelude.{◌&&◌, IsTrue, All}
+use Rattle.std.specs.List.{list_all}
+use Rattle.std.proofs.Math.Dec.{ltb}
+use Rattle.std.proofs.lemmas.Bool.{false≢true, lt-ltb, ltb-true}
+use Rattle.std.proofs.lemmas.List.Elements.{All-from_recursion, recursion_from_All}
+use Rattle.slotted_slots.specs.Table.{Table, is_known, slot_limit}
+use Rattle.slotted_nodes.specs.Form.{Form, IsSmall}
+use Rattle.slotted_patterns.specs.Known.{AreKnown, HasKnownNames, HaveKnownNames}
+use Rattle.slotted_patterns.specs.Tree.{PatternTree, PatternRow, enode, pvar, substitution, no_more, one_more}
+use Rattle.slotted_terms.specs.Valid.{AllKnown}
+use Rattle.slotted_graph.specs.KnownPatterns.{knows_node, knows_pattern, know_row, HasSmallNodes, HaveSmallNodes}
+
+both-true : (x y : Bool) → (x && y) ≡ true → (x ≡ true) × (y ≡ true)
+both-true true y e = (refl, e)
+both-true false y e = absurd (false≢true e)
+
+true-both : (x y : Bool) → x ≡ true → y ≡ true → (x && y) ≡ true
+true-both x y e f = ap (λ b. b && y) e ∙ f
+
+-- a list of known names
+each-known : (t : Table) (xs : List ℕ) → list_all (is_known t) xs ≡ true → AreKnown t xs
+each-known t [] e = tt
+each-known t (x ∷ xs) e = let h = both-true (is_known t x) (list_all (is_known t) xs) e in (h.0, each-known t xs h.1)
+
+known-each : (t : Table) (xs : List ℕ) → AreKnown t xs → list_all (is_known t) xs ≡ true
+known-each t [] k = refl
+known-each t (x ∷ xs) k = true-both (is_known t x) (list_all (is_known t) xs) k.0 (known-each t xs k.1)
+
+all-listed : (t : Table) (xs : List ℕ) → AllKnown t xs → list_all (is_known t) xs ≡ true
+all-listed t xs h = known-each t xs (given xs (recursion_from_All (λ s. IsTrue (is_known t s)) xs h))
+  where
+    given : (ys : List ℕ) → Rattle.std.specs.List.AllByRecursion (λ s. IsTrue (is_known t s)) ys → AreKnown t ys
+    given [] k = tt
+    given (y ∷ ys) k = (k.0, given ys k.1)
+
+listed-all : (t : Table) (xs : List ℕ) → list_all (is_known t) xs ≡ true → AllKnown t xs
+listed-all t xs e = All-from_recursion (λ s. IsTrue (is_known t s)) xs (given xs (each-known t xs e))
+  where
+    given : (ys : List ℕ) → AreKnown t ys → Rattle.std.specs.List.AllByRecursion (λ s. IsTrue (is_known t s)) ys
+    given [] k = tt
+    given (y ∷ ys) k = (k.0, given ys k.1)
+
+-- a node that is small: the test of its names says all
+pub node-known : (t : Table) (f : Form) (b : Bool) → IsSmall f → IsTrue b ↔ AllKnown t f.names → b ≡ knows_node t f
+node-known t f b small same = decide b refl (list_all (is_known t) f.names) refl
+  where
+    decide : (x : Bool) → b ≡ x → (y : Bool) → list_all (is_known t) f.names ≡ y → b ≡ knows_node t f
+    decide true e true l = e ∙ sym (true-both (ltb (length f.names) slot_limit) (list_all (is_known t) f.names) (lt-ltb (length f.names) slot_limit small) l)
+    decide true e false l = absurd (false≢true (sym l ∙ all-listed t f.names (same.0 e)))
+    decide false e true l = absurd (false≢true (sym e ∙ same.1 (listed-all t f.names l)))
+    decide false e false l = e ∙ sym (ap (λ x. x && list_all (is_known t) f.names) (lt-ltb (length f.names) slot_limit small) ∙ l)
+
+module _ (t : Table) where
+  mutual
+    pub knows-known : (p : PatternTree) → knows_pattern t p ≡ true → HasKnownNames t p
+    knows-known (enode f row) e =
+        let h = both-true (know_row t row) (knows_node t f) e in
+        (each-known t f.names (both-true (ltb (length f.names) slot_limit) (list_all (is_known t) f.names) h.1).1, know-known row h.0)
+    knows-known (pvar v) e = tt
+    knows-known (substitution b x v) e =
+        let h = both-true (knows_pattern t b) (knows_pattern t x && knows_pattern t v) e in
+        let k = both-true (knows_pattern t x) (knows_pattern t v) h.1 in
+        (knows-known b h.0, knows-known x k.0, knows-known v k.1)
+
+    know-known : (row : PatternRow) → know_row t row ≡ true → HaveKnownNames t row
+    know-known no_more e = tt
+    know-known (one_more p rest) e = let h = both-true (knows_pattern t p) (know_row t rest) e in (knows-known p h.0, know-known rest h.1)
+
+  mutual
+    pub known-knows : (p : PatternTree) → HasKnownNames t p → HasSmallNodes p → knows_pattern t p ≡ true
+    known-knows (enode f row) k s =
+        true-both (know_row t row) (knows_node t f) (known-know row k.1 s.1)
+        (true-both (ltb (length f.names) slot_limit) (list_all (is_known t) f.names) (lt-ltb (length f.names) slot_limit s.0) (known-each t f.names k.0))
+    known-knows (pvar v) k s = refl
+    known-knows (substitution b x v) k s =
+        true-both (knows_pattern t b) (knows_pattern t x && knows_pattern t v) (known-knows b k.0 s.0)
+        (true-both (knows_pattern t x) (knows_pattern t v) (known-knows x k.1 s.1) (known-knows v k.2 s.2))
+
+    known-know : (row : PatternRow) → HaveKnownNames t row → HaveSmallNodes row → know_row t row ≡ true
+    known-know no_more k s = refl
+    known-know (one_more p rest) k s = true-both (knows_pattern t p) (know_row t rest) (known-knows p k.0 s.0) (known-know rest k.1 s.1)
