@@ -1,11 +1,11 @@
 -- What is known of a pattern whose nodes are all known.
 use Rattle.std.proofs.Common.{◌≡◌, ◌↔◌, ◌∙◌, ℕ, List, [], ◌∷◌, Bool, true, false, refl, sym, ap, length}
-use Rattle.std.specs.Prelude.{◌&&◌, IsTrue, All}
+use Rattle.std.specs.Prelude.{◌&&◌, IsTrue}
 use Rattle.std.specs.List.{list_all}
 use Rattle.std.proofs.Math.Dec.{ltb}
-use Rattle.std.proofs.lemmas.Bool.{false≢true, lt-ltb, ltb-true}
+use Rattle.std.proofs.lemmas.Bool.{false≢true, lt-ltb}
 use Rattle.std.proofs.lemmas.List.Elements.{All-from_recursion, recursion_from_All}
-use Rattle.slotted_slots.specs.Table.{Table, is_known, slot_limit}
+use Rattle.slotted_slots.specs.Table.{KnowsMore, Table, is_known, slot_limit}
 use Rattle.slotted_nodes.specs.Form.{Form, IsSmall}
 use Rattle.slotted_patterns.specs.Known.{AreKnown, HasKnownNames, HaveKnownNames}
 use Rattle.slotted_patterns.specs.Tree.{PatternTree, PatternRow, enode, pvar, substitution, no_more, one_more}
@@ -81,3 +81,19 @@ module _ (t : Table) where
     known-know : (row : PatternRow) → HaveKnownNames t row → HaveSmallNodes row → know_row t row ≡ true
     known-know no_more k s = refl
     known-know (one_more p rest) k s = true-both (knows_pattern t p) (know_row t rest) (known-knows p k.0 s.0) (known-know rest k.1 s.1)
+
+-- the names of patterns that a table knows, it knows later
+
+names-later : (t u : Table) → KnowsMore t u → (xs : List ℕ) → AreKnown t xs → AreKnown u xs
+names-later t u more [] k = tt
+names-later t u more (x ∷ xs) k = (more x k.0, names-later t u more xs k.1)
+
+mutual
+  pub pattern-later : (t u : Table) → KnowsMore t u → (p : PatternTree) → HasKnownNames t p → HasKnownNames u p
+  pattern-later t u more (enode f row) k = (names-later t u more f.names k.0, row-later t u more row k.1)
+  pattern-later t u more (pvar v) k = tt
+  pattern-later t u more (substitution b x v) k = (pattern-later t u more b k.0, pattern-later t u more x k.1, pattern-later t u more v k.2)
+
+  row-later : (t u : Table) → KnowsMore t u → (row : PatternRow) → HaveKnownNames t row → HaveKnownNames u row
+  row-later t u more no_more k = tt
+  row-later t u more (one_more p rest) k = (pattern-later t u more p k.0, row-later t u more rest k.1)

@@ -8,6 +8,7 @@ pub mod PatternLookUps
 pub mod Matching
 pub mod Finds
 pub mod KnownPatterns
+pub mod FoundValues
 -- What the crates above cite, handed on.
 pub use Rattle.slotted_core.proofs.CallerLemmas
 pub use Rattle.slotted_core.proofs.YesesStay

@@ -1,5 +1,4 @@
 use Rattle.std.proofs.Common.{◌≡◌, ◌∙◌, ap, sym}
-use Rattle.std.specs.Prelude.{true}
 use Rattle.slotted_slots.specs.Table.{Table}
 use Rattle.slotted_patterns.specs.Tree.{PatternTree}
 use Rattle.slotted_patterns.specs.View.{tree_of}

@@ -1,4 +1,4 @@
-use Rattle.std.proofs.Common.{◌<◌, length, arith}
+use Rattle.std.proofs.Common.{arith}
 use Rattle.slotted_nodes.specs.Form.{Form, IsSmall}
 use Rattle.slotted_graph.proofs.KnownPatterns.{node-known}
 use Rattle.slotted_graph.proofs.egraph.patterns.is_known_node.Goals as goal
