@@ -55,7 +55,7 @@ map-at f (x ∷ xs) (suc n) d = map-at f xs n d
 entry-at : (h : Graph) → IsGraph h → (n : ℕ) → slice_index_or h.image.entries n (entry_of nothing_proven) ≡ entry_of (proven_at h.image.stored n)
 entry-at h is n = ap (λ (l : List ProofEntry). slice_index_or l n (entry_of nothing_proven)) (graph-entries h is) ∙ map-at entry_of h.image.stored n nothing_proven
 
-stored-length : (h : Graph) → IsGraph h → length h.image.entries ≡ length h.image.stored
+pub stored-length : (h : Graph) → IsGraph h → length h.image.entries ≡ length h.image.stored
 stored-length h is = ap length (graph-entries h is) ∙ length-map h.image.stored entry_of
 
 module _ (g h : Graph) (s : Values) (p q : PatternTree) (text : Option (List ℕ)) (y : Bool) (u : UnitesInstances g h s p q text y) where

@@ -1,4 +1,5 @@
 -- Lemmas of rules.
 pub mod AppliedRules
 pub mod Progress
-pub mod KnownPatterns
+pub mod Settling
+pub mod UnitedAnswers

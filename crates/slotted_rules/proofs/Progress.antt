@@ -1,5 +1,5 @@
 -- Progress measures: a graph has one, and two that differ are told apart by their numbers.
-use Rattle.std.proofs.Common.{◌≡◌, ◌≢◌, ◌∙◌, ◌↔◌, ℕ, Bool, true, false, refl, sym, ap, subst, eq-eqb, arith}
+use Rattle.std.proofs.Common.{◌≡◌, ◌∙◌, ◌↔◌, ℕ, Bool, true, false, refl, sym, ap, eq-eqb, arith}
 use Rattle.std.specs.Prelude.{IsTrue, nat_eq, not, ◌&&◌}
 use Rattle.std.proofs.lemmas.Bool.{false≢true}
 use Rattle.slotted_reports.specs.declared.measure.ProgressMeasure.{ProgressMeasure}

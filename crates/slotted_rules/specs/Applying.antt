@@ -2,7 +2,7 @@
 --     CanApplyAll can rules founds g    each rule can apply what it found, in the graph g
 --     AreRefusedBy refuses rules e      one of the rules may refuse so
 --     HasProgressed g h                 the progress measures of the graphs differ
-use Rattle.std.specs.Prelude.{◌≡◌, ◌≢◌, List, [], ◌∷◌, Contains}
+use Rattle.std.specs.Prelude.{◌≢◌, List, [], ◌∷◌, Contains}
 use Rattle.slotted_slots.specs.declared.error.Error.{Error}
 use Rattle.slotted_reports.specs.declared.measure.ProgressMeasure.{ProgressMeasure}
 use Rattle.slotted_core.specs.Graph.{Graph}

@@ -1,7 +1,12 @@
 -- What loops over rules keep.
 --     HasSearched    some rules were searched, one after another, and what they found can be applied
 --     HasApplied     the rules `before` were applied to the first of what was found, and the rules `after` can be to what is left
-use Rattle.std.specs.Prelude.{◌≡◌, ◌++◌, List, false}
+--     HasAppliedSome    one rule was applied to so many of its answers
+use Rattle.std.specs.Prelude.{◌≡◌, ◌++◌, ◌<◌, ℕ, List, [], Bool, false, slice_index_or}
+use Rattle.slotted_model_rules.specs.Conditions.{Values}
+use Rattle.slotted_patterns.specs.Tree.{PatternTree}
+use Rattle.slotted_graph.specs.States.{IsGraph}
+use Rattle.slotted_rules.specs.Rewriting.{AreFromRule, IsSettled}
 use Rattle.slotted_model_rules.specs.Runners.{AppliesAll, SearchesAll}
 use Rattle.slotted_core.specs.Graph.{Graph}
 use Rattle.slotted_graph.specs.Extension.{ExtendsTo}
@@ -20,3 +25,10 @@ pub record HasApplied {R F : Type 0} (applies : R → F → Graph → Graph → 
   pub whole : founds ≡ done ++ left
   pub applied : AppliesAll applies before done g h
   pub can_apply : CanApplyAll can after left h
+
+-- the first i answers are settled, and each new explicit entry comes from the rule
+pub record HasAppliedSome (holds : Values → Graph → Bool) (p q : PatternTree) (name : List ℕ) (found : List Values) (i : ℕ) (g h : Graph) : Type 0 where
+  pub graph : IsGraph h
+  pub extends : ExtendsTo g h
+  pub settled : (j : ℕ) → j < i → IsSettled holds p q g h (slice_index_or found j [])
+  pub origin : AreFromRule holds p q name found g h

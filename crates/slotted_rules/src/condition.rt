@@ -5,7 +5,7 @@ ghost use Rattle.slotted_model.specs.Correspondence.{has_slot};
 ghost use Rattle.slotted_model_rules.specs.Matcher.{value_at};
 ghost use Rattle.slotted_rules.specs.Asking.{is_slot_free, slot_outcome, LacksValue};
 ghost use Rattle.slotted_rule_patterns.specs.Values.{values_of};
-ghost use Rattle.slotted_rules.specs.Values.{AreValidValues};
+ghost use Rattle.slotted_graph.specs.Matching.{AreValidValues};
 
 use slotted_graph::EGraph;
 use slotted_languages::Language;

@@ -9,6 +9,7 @@ pub(crate) mod failing;
 pub mod macros;
 pub mod rewrite;
 pub mod rule;
+pub mod written;
 
 pub use applying::{apply_rewrites, are_valid};
 pub use asking::{and, not, or, slot_free_in};

@@ -1,17 +1,9 @@
 -- Each rule is applied in the graph that the ones before it left.
-use Rattle.std.proofs.Common.{◌≡◌, ◌∙◌, ◌<◌, ◌⊎◌, ℕ, List, [], ◌∷◌, ◌++◌, Bool, true, false, Result, Option, Some, IfErr, IsTrue, length, get_or, refl, sym, ap, subst, inl, inr, append_assoc}
+use Rattle.std.proofs.Common.{◌≡◌, ◌∙◌, List, [], ◌∷◌, ◌++◌, false, Option, Some, refl, ap, inl, inr}
 use Rattle.std.specs.Prelude.{option_to_list}
-use Rattle.std.proofs.lemmas.Bool.{false≢true}
-use Rattle.slotted_slots.specs.declared.error.Error.{Error}
-use Rattle.slotted_slots.specs.declared.error.Error.TheVariants.{Failed}
-use Rattle.slotted_slots.specs.Error.{IsShortage}
-use Rattle.slotted_languages.proofs.HandedOn.{handed_err}
-use Rattle.slotted_core.specs.Graph.{Graph}
 use Rattle.slotted_model_rules.specs.Runners.{none_applied}
-use Rattle.slotted_graph.specs.Extension.{ExtendsTo}
 use Rattle.slotted_graph.proofs.Extending.{extends-itself, extends-then}
-use Rattle.slotted_rules.specs.Applying.{AreRefusedBy, CanApplyAll}
-use Rattle.slotted_rules.proofs.AppliedRules.{applied-more, applied-whole, can-next, handed_and, not-failed, not-failed-so, ok-well, refused-one, shortage_of}
+use Rattle.slotted_rules.proofs.AppliedRules.{applied-more, not-failed-so, ok-well}
 use Rattle.slotted_rules.proofs.applying.apply_all.Goals as goal
 
 popped : {F : Type 0} (old new : List F) (o : Option F) (x : F) → old ≡ option_to_list o ++ new → o ≡ Some x → old ≡ x ∷ new

@@ -1,14 +1,11 @@
 -- Each rule is searched in the graph that the ones before it left.
-use Rattle.std.proofs.Common.{◌≡◌, ◌≢◌, ◌∙◌, ◌<◌, ◌⊎◌, ◌+◌, ◌++◌, ℕ, List, [], ◌∷◌, Bool, true, false, Result, Ok, Err, IfErr, IsErrOf, IsTrue, length, take, take_all, get_or, refl, sym, ap, subst, inl, inr}
-use Rattle.std.specs.Prelude.{All, IsErrAnd}
+use Rattle.std.proofs.Common.{◌≡◌, ◌∙◌, ◌⊎◌, ◌+◌, ◌++◌, [], ◌∷◌, false, Result, IfErr, take, take_all, sym, ap, subst, inl, inr}
 use Rattle.std.proofs.lemmas.Bool.{false≢true}
 use Rattle.std.proofs.lemmas.List.{take_more}
-use Rattle.std.proofs.lemmas.List.Elements.{All-contains, Contains-get_or}
 use Rattle.slotted_slots.specs.declared.error.Error.{Error}
 use Rattle.slotted_slots.specs.declared.error.Error.TheVariants.{Failed}
 use Rattle.slotted_slots.specs.Error.{IsShortage}
-use Rattle.slotted_languages.proofs.HandedOn.{handed_err, handed_on}
-use Rattle.slotted_core.specs.Graph.{Graph}
+use Rattle.slotted_languages.proofs.HandedOn.{handed_err}
 use Rattle.slotted_model_rules.specs.Runners.{SearchesAll, none_searched}
 use Rattle.slotted_graph.specs.Extension.{ExtendsTo}
 use Rattle.slotted_graph.proofs.Extending.{extends-itself, extends-then}

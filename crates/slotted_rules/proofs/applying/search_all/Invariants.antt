@@ -1,8 +1,5 @@
 -- the rules so far were searched, one after another
-use Rattle.std.proofs.Common.{◌≡◌, false, take}
-use Rattle.slotted_model_rules.specs.Runners.{SearchesAll}
-use Rattle.slotted_graph.specs.Extension.{ExtendsTo}
-use Rattle.slotted_rules.specs.Applying.{CanApplyAll}
+use Rattle.std.proofs.Common.{take}
 use Rattle.slotted_rules.specs.Loops.{HasSearched}
 use Rattle.slotted_rules.proofs.applying.search_all.Given as goal
 

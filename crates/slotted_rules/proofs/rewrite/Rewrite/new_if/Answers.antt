@@ -1,17 +1,13 @@
 -- The texts are read one after the other.
-use Rattle.std.proofs.Common.{◌≡◌, ◌∙◌, Result, Ok, Err, IfOk, IfErr, ap, refl, sym, subst}
+use Rattle.std.proofs.Common.{◌≡◌, ◌∙◌, Result, Ok, Err, IfOk, ap, sym, subst}
 use Rattle.std.specs.Prelude.{None, false}
 use Rattle.std.proofs.lemmas.Result.{IfOk-weaker, IfErr-weaker}
-use Rattle.slotted_slots.specs.declared.error.Error.{Error}
-use Rattle.slotted_slots.specs.Table.{Table}
 use Rattle.slotted_languages.proofs.HandedOn.{handed_err}
-use Rattle.slotted_languages.proofs.TakenNames.{both_ok}
-use Rattle.slotted_patterns.specs.declared.pattern.Pattern.{Pattern}
 use Rattle.slotted_patterns.specs.Known.{HasKnownNames}
 use Rattle.slotted_patterns.specs.View.{tree_of}
 use Rattle.slotted_rule_patterns.specs.Variables.{first_lacking, has_substitution}
-use Rattle.slotted_rules.specs.Written.{AreRead, AreRefused, CanBeSearched, IsRule, IsRefusedRule, ReadsAs, right_refused, rule_refused}
-use Rattle.slotted_rules.proofs.KnownPatterns.{pattern-later}
+use Rattle.slotted_rules.specs.Written.{AreRefused, CanBeSearched, IsRule, IsRefusedRule, ReadsAs, right_refused, rule_refused}
+use Rattle.slotted_graph.proofs.KnownPatterns.{pattern-later}
 use Rattle.slotted_rules.proofs.rewrite.Rewrite.new_if.Goals as goal
 
 three_ok : {A E : Type 0} (r : Result A E) (P Q R S : A → Type 0) → ((x : A) → P x → Q x → R x → S x) → IfOk r P → IfOk r Q → IfOk r R → IfOk r S

@@ -1,0 +1,242 @@
+-- What a written rule leaves for one answer after another.
+use Rattle.std.proofs.Common.{◌≡◌, ◌∙◌, ◌<◌, ◌≤◌, ◌+◌, ℕ, List, [], length, ap, sym, subst, inl, inr, arith, refl, length-append}
+use Rattle.std.specs.Prelude.{◌⊎◌, Bool, true, Contains, Option, Some, None, IsErrAnd, IsSome, IsTrue, Result, Ok, Err, slice_index_or}
+use Rattle.std.proofs.lemmas.Bool.{cases_eq, cases_lt, false≢true}
+use Rattle.std.proofs.lemmas.List.{get_or_append_left, get_or_default}
+use Rattle.std.proofs.lemmas.List.Elements.{Contains-get_or}
+use Rattle.slotted_terms.specs.Valid.{AllKnown}
+use Rattle.slotted_theory.specs.Nameless.{DTerm}
+use Rattle.slotted_slots.specs.Error.{IsShortage, number_of}
+use Rattle.slotted_slots.specs.declared.error.Error.{Error}
+use Rattle.slotted_slots.specs.declared.error.Error.TheVariants.{OutOfMemory, OutOfSlots, Failed, Parse, NotATerm, SubstInSearch, MissingVariable, NotEqual, BadStep, UnknownClass, NumberTooLarge}
+use Rattle.slotted_patterns.specs.Tree.{PatternTree}
+use Rattle.slotted_model.specs.Growth.{Extends}
+use Rattle.slotted_model.specs.ProofList.{Equation, ProofEntry, equation_at, explicit, step_at}
+use Rattle.slotted_proofs.specs.Entries.{Proven, nothing_proven}
+use Rattle.slotted_model_rules.specs.Conditions.{Values, always}
+use Rattle.slotted_model_rules.specs.Rules.{IsEquationOfInstances, Rule, valued}
+use Rattle.slotted_model_rules.proofs.Instantiating.{instance-stays}
+use Rattle.slotted_graph.specs.Graph.{Graph}
+use Rattle.slotted_graph.specs.Extension.{Begins, ExtendsTo}
+use Rattle.slotted_graph.specs.States.{IsGraph}
+use Rattle.slotted_graph.proofs.Extending.{between-longer, extends-itself, extends-then}
+use Rattle.slotted_rule_patterns.specs.PatternCode.{pattern_in}
+use Rattle.slotted_instances.specs.Methods.{method_of, represented}
+use Rattle.slotted_instances.specs.Refusals.{HavePassed}
+use Rattle.slotted_instances.specs.Uniting.{UnitesInstances}
+use Rattle.slotted_instances.proofs.InstanceEquations.{stored-length, united-equation, united-pairs, united-representatives}
+use Rattle.slotted_instances.proofs.Putting.{representatives-longer}
+use Rattle.slotted_rules.specs.Loops.{HasAppliedSome}
+use Rattle.slotted_rules.specs.Rewriting.{AppliesOne, AreFromRule, ComesFromRule, HasEntryFor, HasEquationFor, IsEquationFor, IsSettled, LeavesApplied, asserts, passes_over}
+
+-- what is known is known later
+known-later : (g h : Graph) → ExtendsTo g h → (given : List ℕ) → AllKnown g.table given → AllKnown h.table given
+known-later g h e given known = λ k d l. e.more _ (known k d l)
+
+begins-within : {A : Type 0} (xs ys : List A) → Begins xs ys → (n : ℕ) → n < length xs → n < length ys
+begins-within xs ys b n l = omega (arith, l, ap length b.1, length-append xs b.0)
+
+begins-at : {A : Type 0} (xs ys : List A) (d : A) → Begins xs ys → (n : ℕ) → n < length xs → slice_index_or ys n d ≡ slice_index_or xs n d
+begins-at xs ys d b n l = ap (λ zs. slice_index_or zs n d) b.1 ∙ get_or_append_left xs b.0 d n l
+
+equation-begins : (xs ys : List ProofEntry) → Begins xs ys → (n : ℕ) → n < length xs → equation_at ys n ≡ equation_at xs n
+equation-begins xs ys b n l = ap (λ (z : ProofEntry). z.equation) (begins-at xs ys _ b n l)
+
+equation-stays : (older newer : List DTerm) → Extends older newer → (R : DTerm → DTerm → Bool) (given : List ℕ) (rule : Rule) (s : Values) (e : Equation) →
+    IsEquationOfInstances R given older rule s e → IsEquationOfInstances R given newer rule s e
+equation-stays older newer extends R given rule s e i = record {
+  left = i.left;
+  right = i.right;
+  left_full = extends.full i.left i.left_full;
+  right_full = extends.full i.right i.right_full;
+  equation = i.equation;
+  left_instance = subst (λ t. Rattle.slotted_model_rules.specs.Instances.IsInstance R newer given (valued s) (λ y. y) rule.left t) (sym (extends.terms i.left i.left_full))
+      (instance-stays R older newer extends (valued s) given (λ y. y) rule.left _ i.left_instance);
+  right_instance = subst (λ t. Rattle.slotted_model_rules.specs.Instances.IsInstance R newer given (valued s) (λ y. y) rule.right t) (sym (extends.terms i.right i.right_full))
+      (instance-stays R older newer extends (valued s) given (λ y. y) rule.right _ i.right_instance);
+}
+
+-- from f to h, and so in a longer stretch from g to i
+module _ (g f h i : Graph) (before : ExtendsTo g f) (after : ExtendsTo h i) (p q : PatternTree) (s : Values) where
+  entry-wider : (R : DTerm → DTerm → Bool) (given : List ℕ) (rule : Rule) → HasEntryFor R given h rule s → HasEntryFor R given i rule s
+  entry-wider R given rule e = record {
+    number = e.number;
+    in_range = begins-within h.image.entries i.image.entries after.entries e.number e.in_range;
+    instances = subst (IsEquationOfInstances R given i.image.canonical rule s) (sym (equation-begins h.image.entries i.image.entries after.entries e.number e.in_range))
+        (equation-stays h.image.canonical i.image.canonical after.canonical R given rule s (equation_at h.image.entries e.number) e.instances);
+  }
+
+  has-wider : HasEquationFor f h p q s → HasEquationFor g i p q s
+  has-wider e = record {
+    method = e.method;
+    pairs = e.pairs;
+    are = representatives-longer g f h i e.pairs before after e.are;
+    each = λ rule l r given known. entry-wider (represented (method_of e.method) e.pairs) given rule (e.each rule l r given (known-later g f before given known));
+  }
+
+  pub settled-wider : (holds : Values → Graph → Bool) → IsSettled holds p q f h s → IsSettled holds p q g i s
+  settled-wider holds (inl e) = inl (has-wider e)
+  settled-wider holds (inr m) = inr (m.0, between-longer g f h i m.0 before after m.1, m.2)
+
+  equation-wider : (e : Equation) → IsEquationFor f h p q s e → IsEquationFor g i p q s e
+  equation-wider e k = record {
+    method = k.method;
+    pairs = k.pairs;
+    are = representatives-longer g f h i k.pairs before after k.are;
+    each = λ rule l r given known.
+        equation-stays h.image.canonical i.image.canonical after.canonical (represented (method_of k.method) k.pairs) given rule s e (k.each rule l r given (known-later g f before given known));
+  }
+
+module _ (g f h i : Graph) (before : ExtendsTo g f) (after : ExtendsTo h i) (holds : Values → Graph → Bool) (p q : PatternTree) (name : List ℕ) (found : List Values) where
+  comes-wider : (n : ℕ) → n < length h.image.entries → n < length h.image.stored → ComesFromRule holds p q name found f h n → ComesFromRule holds p q name found g i n
+  comes-wider n l k c = record {
+    answer = c.answer;
+    is_found = c.is_found;
+    moment = c.moment;
+    between = between-longer g f h i c.moment before after c.between;
+    held = c.held;
+    equation = equation-wider g f h i before after p q c.answer (equation_at i.image.entries n)
+        (subst (IsEquationFor f h p q c.answer) (sym (equation-begins h.image.entries i.image.entries after.entries n l)) c.equation);
+    text = ap (λ (z : Proven). z.text) (begins-at h.image.stored i.image.stored nothing_proven after.stored n k) ∙ c.text;
+  }
+
+some-is : {A : Type 0} (o : Option A) → IsSome o → (a : A) × (o ≡ Some a)
+some-is None h = absurd (false≢true h)
+some-is (Some a) h = (a, refl)
+
+none-given : (g : Graph) → AllKnown g.table []
+none-given g = λ k d l. absurd (omega (arith, l))
+
+-- one answer whose condition holds
+module _ (holds : Values → Graph → Bool) (p q : PatternTree) (name : List ℕ) (s : Values) (g h : Graph) (y : Bool) (u : UnitesInstances g h s p q (Some name) y) where
+  united-has : HasEquationFor g h p q s
+  united-has = record {
+    method = u.method;
+    pairs = united-pairs g h s p q (Some name) y u;
+    are = united-representatives g h s p q (Some name) y u;
+    each = λ rule l r given known.
+        let e = united-equation g h s p q (Some name) y u rule l r given known in
+        record {
+          number = e.number;
+          in_range = e.in_range;
+          instances = subst (IsEquationOfInstances _ given h.image.canonical rule s) (sym e.stands) e.instances;
+        };
+  }
+
+  module _ (found : List Values) (c : Contains found s) (held : holds s g ≡ true) (is : IsGraph g) (passed : HavePassed s p q) where
+    united-comes : AreFromRule holds p q name found g h
+    united-comes n past lt new =
+        let l = some-is (pattern_in p) passed.0.0 in
+        let r = some-is (pattern_in q) passed.1.0 in
+        let rule : Rule = record { left = l.0; right = r.0; condition = always } in
+        let first = united-equation g h s p q (Some name) y u rule l.1 r.1 [] (none-given g) in
+        record {
+          answer = s;
+          is_found = c;
+          moment = g;
+          between = record { graph = is; after = extends-itself g; before = u.extends };
+          held = held;
+          equation = record {
+            method = u.method;
+            pairs = united-pairs g h s p q (Some name) y u;
+            are = united-representatives g h s p q (Some name) y u;
+            each = λ rule l r given known.
+                let e = united-equation g h s p q (Some name) y u rule l r given known in
+                subst (IsEquationOfInstances _ given h.image.canonical rule s) (sym (e.only n past lt new).0) e.instances;
+          };
+          text = (first.only n past lt new).1;
+        }
+
+module _ (holds : Values → Graph → Bool) (p q : PatternTree) (name : List ℕ) (found : List Values) (i : ℕ) (l : i < length found) (g f : Graph) (so_far : HasAppliedSome holds p q name found i g f) where
+  abbrev answer : Values
+  answer = slice_index_or found i []
+
+  earlier-settled : (h : Graph) → ExtendsTo f h → IsSettled holds p q g h answer → (j : ℕ) → j < i + 1 → IsSettled holds p q g h (slice_index_or found j [])
+  earlier-settled h e here j lt = elim (cases_eq j i) [
+    | inl same ↦ subst (λ k. IsSettled holds p q g h (slice_index_or found k [])) (sym same) here
+    | inr other ↦ settled-wider g g f h (extends-itself g) e p q (slice_index_or found j []) holds (so_far.settled j (omega (arith, lt, other)))
+  ]
+
+  -- an entry that is new from g to h is new from g to f, or from f to h
+  both-origins : (h : Graph) → IsGraph h → ExtendsTo f h → AreFromRule holds p q name found f h → AreFromRule holds p q name found g h
+  both-origins h is e later n past lt new = elim (cases_lt n (length f.image.entries)) [
+    | inl before ↦
+        let was : step_at f.image.entries n ≡ explicit = sym (ap (λ (z : ProofEntry). z.step) (begins-at f.image.entries h.image.entries _ e.entries n before)) ∙ new in
+        comes-wider g g f h (extends-itself g) e holds p q name found n before (omega (arith, before, stored-length f so_far.graph)) (so_far.origin n past before was)
+    | inr after ↦ comes-wider g f h h so_far.extends (extends-itself h) holds p q name found n lt (omega (arith, lt, stored-length h is)) (later n after lt new)
+  ]
+
+  pub one-applied : (h : Graph) → AppliesOne holds p q name answer f h → HasAppliedSome holds p q name found (i + 1) g h
+  one-applied h (passes_over none same) =
+      subst (HasAppliedSome holds p q name found (i + 1) g) (sym same) (record {
+        graph = so_far.graph;
+        extends = so_far.extends;
+        settled = earlier-settled f (extends-itself f) (inr (f, record { graph = so_far.graph; after = so_far.extends; before = extends-itself f }, none));
+        origin = so_far.origin;
+      })
+  one-applied h (asserts held passed y u) = record {
+    graph = u.graph;
+    extends = extends-then g f h so_far.extends u.extends;
+    settled = earlier-settled h u.extends (settled-wider g f h h so_far.extends (extends-itself h) p q answer holds (inl (united-has holds p q name answer f h y u)));
+    origin = both-origins h u.graph u.extends (united-comes holds p q name answer f h y u found (Contains-get_or found i [] l) held so_far.graph passed);
+  }
+
+-- before the first answer nothing is new
+pub none-applied : (holds : Values → Graph → Bool) (p q : PatternTree) (name : List ℕ) (found : List Values) (g : Graph) → IsGraph g → HasAppliedSome holds p q name found 0 g g
+none-applied holds p q name found g is = record {
+  graph = is;
+  extends = extends-itself g;
+  settled = λ j l. absurd (omega (arith, l));
+  origin = λ n past lt new. absurd (omega (arith, past, lt));
+}
+
+-- and after the last one each is settled
+pub all-applied : (holds : Values → Graph → Bool) (p q : PatternTree) (name : List ℕ) (found : List Values) (i : ℕ) (g h : Graph) → length found ≤ i → HasAppliedSome holds p q name found i g h → LeavesApplied holds p q name found g h
+all-applied holds p q name found i g h le a = record {
+  graph = a.graph;
+  extends = a.extends;
+  settled = λ s c. subst (IsSettled holds p q g h) (get_or_default found c.0 [] s c.1 ∙ c.2) (a.settled c.0 (omega (arith, c.1, le)));
+  origin = a.origin;
+}
+
+numbered : (e : Error) → IsShortage e → (number_of e ≡ 1) ⊎ (number_of e ≡ 2)
+numbered e (inl m) = inl (ap number_of m)
+numbered e (inr m) = inr (ap number_of m)
+
+far : (e : Error) → 3 ≤ number_of e → ¬ IsShortage e
+far e l s = elim (numbered e s) [
+  | inl m ↦ omega (arith, l, m)
+  | inr m ↦ omega (arith, l, m)
+]
+
+-- a refusal is a shortage, or it is none
+short_or : (e : Error) → IsShortage e ⊎ (¬ IsShortage e)
+short_or OutOfMemory = inl (inl refl)
+short_or OutOfSlots = inl (inr refl)
+short_or Failed = inr (far Failed (omega arith))
+short_or (Parse x) = inr (far (Parse x) (omega arith))
+short_or NotATerm = inr (far NotATerm (omega arith))
+short_or SubstInSearch = inr (far SubstInSearch (omega arith))
+short_or (MissingVariable v) = inr (far (MissingVariable v) (omega arith))
+short_or NotEqual = inr (far NotEqual (omega arith))
+short_or BadStep = inr (far BadStep (omega arith))
+short_or UnknownClass = inr (far UnknownClass (omega arith))
+short_or NumberTooLarge = inr (far NumberTooLarge (omega arith))
+
+-- what comes from a rule still does where a shortage fails the graph, or nothing is done
+pub left-origin : {A : Type 0} (holds : Values → Graph → Bool) (p q : PatternTree) (name : List ℕ) (found : List Values) (g h i : Graph) (r : Result A Error) → IsTrue h.failed ⊎ AreFromRule holds p q name found g h →
+    (IsErrAnd r IsShortage → i ≡ record h { failed = true }) → (¬ IsErrAnd r IsShortage → i ≡ h) → IsTrue i.failed ⊎ AreFromRule holds p q name found g i
+left-origin holds p q name found g h i (Ok a) from short other = by from (other (λ s. s))
+  where
+    by : IsTrue h.failed ⊎ AreFromRule holds p q name found g h → i ≡ h → IsTrue i.failed ⊎ AreFromRule holds p q name found g i
+    by (inl failed) e = inl (ap (λ (x : Graph). x.failed) e ∙ failed)
+    by (inr f) e = inr (subst (AreFromRule holds p q name found g) (sym e) f)
+left-origin holds p q name found g h i (Err e) from short other = by (short_or e)
+  where
+    stays : i ≡ h → IsTrue h.failed ⊎ AreFromRule holds p q name found g h → IsTrue i.failed ⊎ AreFromRule holds p q name found g i
+    stays e (inl failed) = inl (ap (λ (x : Graph). x.failed) e ∙ failed)
+    stays e (inr f) = inr (subst (AreFromRule holds p q name found g) (sym e) f)
+
+    by : IsShortage e ⊎ (¬ IsShortage e) → IsTrue i.failed ⊎ AreFromRule holds p q name found g i
+    by (inl s) = inl (ap (λ (x : Graph). x.failed) (short s))
+    by (inr n) = stays (other n) from

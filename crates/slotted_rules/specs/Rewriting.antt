@@ -1,0 +1,103 @@
+-- What a written rule finds, and what its apply leaves. A condition is given by its answers, and a rule by the trees of both sides and its name.
+--     IsSearched t g found h           from g to h these answers are what a search for the pattern t finds
+--     CanBeApplied t found g           each answer has valid values of g, one for each variable of t
+--     IsEquationFor g h p q s e        e is the equation of instances of p and q under s, whatever names are given that g knew
+--     HasEquationFor g h p q s         an entry of h is such an equation
+--     IsSettled holds p q g h s          so it is under s, or the condition is no in a graph between g and h
+--     ComesFromRule ..                 an entry of h is such an equation, of an answer for which the condition is yes in a graph between, with the rule's name
+--     AreFromRule ..                   so is each explicit entry that g has not
+--     LeavesApplied ..                 what an apply leaves
+--     AppliesOne holds p q name s g h    what it leaves for one answer
+--     IsRefusedRewrite ..              why an apply is refused
+use Rattle.std.specs.Prelude.{◌≡◌, ◌⊎◌, ◌<◌, ◌≤◌, ℕ, List, [], length, Contains, Bool, true, false, Some, None, IsSome}
+use Rattle.slotted_slots.specs.declared.error.Error.{Error}
+use Rattle.slotted_slots.specs.declared.error.Error.TheVariants.{NotATerm}
+use Rattle.slotted_theory.specs.Nameless.{DTerm}
+use Rattle.slotted_terms.specs.Valid.{AllKnown}
+use Rattle.slotted_patterns.specs.Tree.{PatternTree}
+use Rattle.slotted_model.specs.ProofList.{Equation, equation_at, explicit, step_at}
+use Rattle.slotted_proofs.specs.Entries.{proven_at}
+use Rattle.slotted_model_rules.specs.Conditions.{Values}
+use Rattle.slotted_model_rules.specs.Rules.{IsEquationOfInstances, Rule}
+use Rattle.slotted_rule_patterns.specs.PatternCode.{pattern_in}
+use Rattle.slotted_rule_patterns.specs.Variables.{first_missing}
+use Rattle.slotted_matching.specs.Found.{HaveVariables}
+use Rattle.slotted_core.specs.Graph.{Graph, OnlyTakesSlots}
+use Rattle.slotted_graph.specs.declared.method.SubstMethod.{SubstMethod}
+use Rattle.slotted_graph.specs.Extension.{ExtendsTo, IsBetween}
+use Rattle.slotted_graph.specs.Matching.{AreFoundValid, FindsAllOf, FindsEachOf, FindsLookedUp}
+use Rattle.slotted_graph.specs.States.{IsGraph}
+use Rattle.slotted_instances.specs.Methods.{AreRepresentatives, method_of, represented}
+use Rattle.slotted_instances.specs.Refusals.{HavePassed}
+use Rattle.slotted_instances.specs.Uniting.{UnitesInstances}
+
+-- all that the matcher finds over the filed nodes is found; each answer makes the pattern one that is looked up; and where no class has dropped a slot,
+-- each substitution that is looked up is found
+pub record IsSearched (t : PatternTree) (g : Graph) (found : List Values) (h : Graph) : Type 0 where
+  pub takes : OnlyTakesSlots g h
+  pub finds : FindsAllOf h t found
+  pub looked_up : FindsLookedUp h t found
+  pub each : FindsEachOf h t found
+  pub none : ¬ IsSome (pattern_in t) → found ≡ []
+  pub valid : AreFoundValid h found
+  pub variables : HaveVariables t found
+
+pub record CanBeApplied (t : PatternTree) (found : List Values) (g : Graph) : Type 0 where
+  pub valid : AreFoundValid g found
+  pub whole : (s : Values) → Contains found s → IsSome (pattern_in t)
+  pub values : (s : Values) → Contains found s → first_missing t s ≡ None
+
+-- what represents the bodies of substitutions is said by one of the methods that a graph can be made with
+pub record IsEquationFor (g h : Graph) (p q : PatternTree) (s : Values) (e : Equation) : Type 0 where
+  pub method : SubstMethod
+  pub pairs : List (DTerm × DTerm)
+  pub are : AreRepresentatives g h pairs
+  pub each : (rule : Rule) → pattern_in p ≡ Some rule.left → pattern_in q ≡ Some rule.right → (given : List ℕ) → AllKnown g.table given →
+      IsEquationOfInstances (represented (method_of method) pairs) given h.image.canonical rule s e
+
+pub record HasEntryFor (R : DTerm → DTerm → Bool) (given : List ℕ) (h : Graph) (rule : Rule) (s : Values) : Type 0 where
+  pub number : ℕ
+  pub in_range : number < length h.image.entries
+  pub instances : IsEquationOfInstances R given h.image.canonical rule s (equation_at h.image.entries number)
+
+pub record HasEquationFor (g h : Graph) (p q : PatternTree) (s : Values) : Type 0 where
+  pub method : SubstMethod
+  pub pairs : List (DTerm × DTerm)
+  pub are : AreRepresentatives g h pairs
+  pub each : (rule : Rule) → pattern_in p ≡ Some rule.left → pattern_in q ≡ Some rule.right → (given : List ℕ) → AllKnown g.table given →
+      HasEntryFor (represented (method_of method) pairs) given h rule s
+
+abbrev pub IsSettled : (Values → Graph → Bool) → PatternTree → PatternTree → Graph → Graph → Values → Type 0
+IsSettled holds p q g h s = HasEquationFor g h p q s ⊎ ((m : Graph) × IsBetween g h m × (holds s m ≡ false))
+
+pub record ComesFromRule (holds : Values → Graph → Bool) (p q : PatternTree) (name : List ℕ) (found : List Values) (g h : Graph) (n : ℕ) : Type 0 where
+  pub answer : Values
+  pub is_found : Contains found answer
+  pub moment : Graph
+  pub between : IsBetween g h moment
+  pub held : holds answer moment ≡ true
+  pub equation : IsEquationFor g h p q answer (equation_at h.image.entries n)
+  pub text : (proven_at h.image.stored n).text ≡ Some name
+
+abbrev pub AreFromRule : (Values → Graph → Bool) → PatternTree → PatternTree → List ℕ → List Values → Graph → Graph → Type 0
+AreFromRule holds p q name found g h = (n : ℕ) → length g.image.entries ≤ n → n < length h.image.entries → step_at h.image.entries n ≡ explicit →
+    ComesFromRule holds p q name found g h n
+
+pub record LeavesApplied (holds : Values → Graph → Bool) (p q : PatternTree) (name : List ℕ) (found : List Values) (g h : Graph) : Type 0 where
+  pub graph : IsGraph h
+  pub extends : ExtendsTo g h
+  pub settled : (s : Values) → Contains found s → IsSettled holds p q g h s
+  pub origin : AreFromRule holds p q name found g h
+
+-- the condition is asked in the graph as it is
+pub data AppliesOne (holds : Values → Graph → Bool) (p q : PatternTree) (name : List ℕ) (s : Values) (g h : Graph) : Type 0 where
+  passes_over : holds s g ≡ false → h ≡ g → AppliesOne holds p q name s g h
+  asserts : holds s g ≡ true → HavePassed s p q → (y : Bool) → UnitesInstances g h s p q (Some name) y → AppliesOne holds p q name s g h
+
+abbrev pub IsNotATerm : Error → Type 0
+IsNotATerm NotATerm = Unit {0}
+IsNotATerm e = ⊥
+
+-- the right side has a wrong number of child patterns at some node, or the condition is refused for some answer
+abbrev pub IsRefusedRewrite : (Values → Graph → Error → Type 0) → PatternTree → Error → Type 0
+IsRefusedRewrite refuses q e = (IsNotATerm e × (pattern_in q ≡ None)) ⊎ ((s : Values) × (g : Graph) × refuses s g e)

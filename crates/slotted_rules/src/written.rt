@@ -1,0 +1,189 @@
+//! Written rules as rules: their left side is searched for, and instances of both sides are united.
+ghost use Rattle.std.specs.Prelude.{◌≡◌, ◌<◌, ◌↔◌, ◌⊎◌, None, [], false, length, slice_index_or, string_bytes};
+ghost use Rattle.std.specs.Prelude.{IsErr, IsErrAnd, IsErrOf, IsSome, IsTrue, IfErr, IfOk, OnOk, Some};
+ghost use Rattle.slotted_slots.specs.Error.{IsShortage};
+ghost use Rattle.slotted_patterns.specs.View.{tree_of};
+ghost use Rattle.slotted_rule_patterns.specs.PatternCode.{pattern_in};
+ghost use Rattle.slotted_rule_patterns.specs.Values.{values_of};
+ghost use Rattle.slotted_rule_patterns.specs.Variables.{first_missing};
+ghost use Rattle.slotted_graph.specs.Extension.{ExtendsTo};
+ghost use Rattle.slotted_graph.specs.Matching.{AreValidValues};
+ghost use Rattle.slotted_graph.specs.States.{IsGraph};
+ghost use Rattle.slotted_instances.specs.Refusals.{HavePassed};
+ghost use Rattle.slotted_instances.specs.Uniting.{UnitesInstances};
+ghost use Rattle.slotted_rules.specs.Rewriting.{AppliesOne, AreFromRule, CanBeApplied, IsNotATerm, IsRefusedRewrite};
+ghost use Rattle.slotted_rules.specs.Rewriting.{IsSearched, LeavesApplied};
+ghost use Rattle.slotted_rules.specs.Written.{CanBeSearched};
+
+use crate::condition::Cond;
+use crate::failing::failing;
+use crate::rewrite::Rewrite;
+use crate::rule::RewriteT;
+use slotted_graph::EGraph;
+use slotted_instances::union_instantiations;
+use slotted_languages::Language;
+use slotted_matching::Matches;
+use slotted_rule_patterns::Subst;
+use slotted_rule_patterns::pattern::{first_lacking, has_substitution};
+use slotted_slots::Error;
+use std::alloc::Global;
+
+// The union of the instances of both sides, with the rule's name for a text.
+fn unite<L: Language, N: Drop, C: Drop>(
+    alloc: Global,
+    graph: &mut EGraph<L, N>,
+    rule: &Rewrite<L, C>,
+    subst: &Subst,
+) -> Result<bool, Error>
+    requires graph { IsGraph graph.old }
+    requires rule { CanBeSearched L.form graph.old.table rule.now }
+    requires valid { AreValidValues graph.old (values_of subst.now) }
+    requires whole { IsSome (pattern_in (tree_of L.form rule.now.left)) }
+    requires values { first_missing (tree_of L.form rule.now.left) (values_of subst.now) ≡ None }
+    ensures unites { IfOk result (UnitesInstances graph.old graph.new (values_of subst.now)
+        (tree_of L.form rule.now.left) (tree_of L.form rule.now.right) (Some (string_bytes rule.now.name))) }
+    ensures tested { OnOk result (HavePassed (values_of subst.now)
+        (tree_of L.form rule.now.left) (tree_of L.form rule.now.right)) }
+    ensures unchanged { IsErr result → IsTrue graph.new.failed ⊎ (graph.new ≡ graph.old) }
+    ensures fails { IsTrue graph.new.failed → IsErrAnd result IsShortage }
+    ensures err { IfErr result (λ e. IsShortage e
+        ⊎ (IsNotATerm e × (pattern_in (tree_of L.form rule.now.right) ≡ None))) }
+{
+    let name = String::from_str(alloc, rule.name.as_str())?;
+    union_instantiations(alloc, graph, &rule.left, &rule.right, subst, Some(name))
+}
+
+// The same, if the condition holds.
+fn apply_to<L: Language, N: Drop, C: Cond<L, N>>(
+    alloc: Global,
+    graph: &mut EGraph<L, N>,
+    rule: &Rewrite<L, C>,
+    subst: &Subst,
+) -> Result<(), Error>
+    requires graph { IsGraph graph.old }
+    requires rule { CanBeSearched L.form graph.old.table rule.now }
+    requires valid { AreValidValues graph.old (values_of subst.now) }
+    requires whole { IsSome (pattern_in (tree_of L.form rule.now.left)) }
+    requires values { first_missing (tree_of L.form rule.now.left) (values_of subst.now) ≡ None }
+    ensures applies { OnOk result (AppliesOne (C.yes rule.now.condition) (tree_of L.form rule.now.left)
+        (tree_of L.form rule.now.right) (string_bytes rule.now.name) (values_of subst.now) graph.old graph.new) }
+    ensures unchanged { IsErr result → IsTrue graph.new.failed ⊎ (graph.new ≡ graph.old) }
+    ensures fails { IsTrue graph.new.failed → IsErrAnd result IsShortage }
+    ensures err { IfErr result (λ e. IsShortage e
+        ⊎ IsRefusedRewrite (C.refuses rule.now.condition) (tree_of L.form rule.now.right) e) }
+{
+    if !rule.condition.holds(alloc, subst, graph)? {
+        return Ok(());
+    }
+    unite(alloc, graph, rule, subst)?;
+    Ok(())
+}
+
+// The same for one of the answers.
+fn apply_answer<L: Language, N: Drop, C: Cond<L, N>>(
+    alloc: Global,
+    graph: &mut EGraph<L, N>,
+    rule: &Rewrite<L, C>,
+    found: &Matches,
+    answer: usize,
+) -> Result<(), Error>
+    requires graph { IsGraph graph.old }
+    requires rule { CanBeSearched L.form graph.old.table rule.now }
+    requires found { CanBeApplied (tree_of L.form rule.now.left) found.now graph.old }
+    requires answer { answer < length found.now }
+    ensures applies { OnOk result (AppliesOne (C.yes rule.now.condition) (tree_of L.form rule.now.left)
+        (tree_of L.form rule.now.right) (string_bytes rule.now.name) (slice_index_or found.now answer []) graph.old graph.new) }
+    ensures unchanged { IsErr result → IsTrue graph.new.failed ⊎ (graph.new ≡ graph.old) }
+    ensures fails { IsTrue graph.new.failed → IsErrAnd result IsShortage }
+    ensures err { IfErr result (λ e. IsShortage e
+        ⊎ IsRefusedRewrite (C.refuses rule.now.condition) (tree_of L.form rule.now.right) e) }
+{
+    let subst = found.substitution(alloc, answer)?;
+    apply_to(alloc, graph, rule, &subst)
+}
+
+// The same for each answer, one after another.
+fn apply_found<L: Language, N: Drop, C: Cond<L, N>>(
+    alloc: Global,
+    graph: &mut EGraph<L, N>,
+    rule: &Rewrite<L, C>,
+    found: &Matches,
+) -> Result<(), Error>
+    requires graph { IsGraph graph.old }
+    requires rule { CanBeSearched L.form graph.old.table rule.now }
+    requires found { CanBeApplied (tree_of L.form rule.now.left) found.now graph.old }
+    ensures applied { OnOk result (LeavesApplied (C.yes rule.now.condition) (tree_of L.form rule.now.left)
+        (tree_of L.form rule.now.right) (string_bytes rule.now.name) found.now graph.old graph.new) }
+    ensures extends { IsTrue graph.new.failed ⊎ ExtendsTo graph.old graph.new }
+    ensures origin { IsTrue graph.new.failed ⊎ AreFromRule (C.yes rule.now.condition) (tree_of L.form rule.now.left)
+        (tree_of L.form rule.now.right) (string_bytes rule.now.name) found.now graph.old graph.new }
+    ensures fails { IsTrue graph.new.failed → IsErrAnd result IsShortage }
+    ensures err { IfErr result (λ e. IsShortage e
+        ⊎ IsRefusedRewrite (C.refuses rule.now.condition) (tree_of L.form rule.now.right) e) }
+{
+    for answer in 0..found.len() {
+        apply_answer(alloc, graph, rule, found, answer)?;
+    }
+    Ok(())
+}
+
+impl<L: Language, N: Drop, C: Cond<L, N>> RewriteT<L, N> for Rewrite<L, C> {
+    ghost use Rattle.slotted_rules.specs.WrittenLaws.{apply-later, found-applies, refused-other, valid-later};
+
+    type Found = Matches;
+
+    ghost valid = { λ r g. CanBeSearched L.form g.table r };
+
+    ghost searches = { λ r g found h. IsSearched (tree_of L.form r.left) g found h };
+
+    ghost can_apply = { λ r found g. CanBeApplied (tree_of L.form r.left) found g };
+
+    ghost applies = { λ r found g h. LeavesApplied (C.yes r.condition) (tree_of L.form r.left) (tree_of L.form r.right) (string_bytes r.name) found g h };
+
+    ghost refuses = { λ r e. IsRefusedRewrite (C.refuses r.condition) (tree_of L.form r.right) e };
+
+    ghost valid_stays = { λ r g h e v. valid-later L.form g h r e v };
+
+    ghost searched_fits = { λ r g h found s. found-applies (tree_of L.form r.left) g found h s };
+
+    ghost can_apply_stays = { λ r found g h e c. apply-later (tree_of L.form r.left) found g h e c };
+
+    ghost never_failed = { λ r. refused-other (C.refuses r.condition) (λ s g. C.never_failed r.condition s g) (tree_of L.form r.right) };
+
+    /// Whether the graph's table knows the names of both sides, nothing is replaced on the left, and no variable stands on the right alone.
+    fn is_valid(&self, graph: &EGraph<L, N>) -> bool {
+        graph.is_valid_pattern(&self.left)
+            && graph.is_valid_pattern(&self.right)
+            && !has_substitution(&self.left)
+            && first_lacking(&self.right, &self.left).is_none()
+    }
+
+    /// What `find_matches` finds for the left side.
+    fn search(&self, alloc: Global, graph: &mut EGraph<L, N>) -> Result<Matches, Error> {
+        graph.find_matches(&self.left)
+    }
+
+    /// Unites the instances of both sides for each answer for which the condition holds just then. The rule's name is the text of each new equation.
+    fn apply(&self, alloc: Global, found: Matches, graph: &mut EGraph<L, N>) -> Result<(), Error>
+        requires valid { IsTrue graph.old.failed ⊎ CanBeSearched L.form graph.old.table self.now }
+        requires found { IsTrue graph.old.failed ⊎ CanBeApplied (tree_of L.form self.now.left) found graph.old }
+        ensures ok { OnOk result (LeavesApplied (C.yes self.now.condition) (tree_of L.form self.now.left)
+            (tree_of L.form self.now.right) (string_bytes self.now.name) found graph.old graph.new) }
+
+        // What was applied before a refusal stays.
+        ensures origin { IsTrue graph.new.failed ⊎ AreFromRule (C.yes self.now.condition) (tree_of L.form self.now.left)
+            (tree_of L.form self.now.right) (string_bytes self.now.name) found graph.old graph.new }
+        ensures extends { IsTrue graph.new.failed ⊎ ExtendsTo graph.old graph.new }
+        ensures stays { IsTrue graph.old.failed → graph.new ≡ graph.old }
+        ensures failed { IsErrOf result Error.Failed ↔ IsTrue graph.old.failed }
+        ensures fails { IsTrue graph.new.failed ↔ IsErrAnd result (λ e. (e ≡ Error.Failed) ⊎ IsShortage e) }
+        ensures err { IfErr result (λ e. (e ≡ Error.Failed) ⊎ IsShortage e
+            ⊎ IsRefusedRewrite (C.refuses self.now.condition) (tree_of L.form self.now.right) e) }
+    {
+        if graph.is_failed() {
+            return Err(Error::Failed);
+        }
+        let applied = apply_found(alloc, graph, self, &found);
+        failing(graph, applied)
+    }
+}
