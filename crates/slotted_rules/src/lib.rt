@@ -9,6 +9,7 @@ pub(crate) mod failing;
 pub mod macros;
 pub mod rewrite;
 pub mod rule;
+pub mod searching;
 pub mod written;
 
 pub use applying::{apply_rewrites, are_valid};
@@ -17,3 +18,4 @@ pub use condition::{Always, And, Cond, Not, Or, SlotFreeIn};
 pub use condition_tree::CondTree;
 pub use rewrite::Rewrite;
 pub use rule::RewriteT;
+pub use searching::ematch_all;

@@ -1,0 +1,53 @@
+//! All matches of a pattern as substitutions.
+ghost use Rattle.std.specs.Prelude.{◌≡◌, ◌⊎◌, ◌↔◌, map, false, true, IsTrue, IfOk, IfErr, IsErrOf};
+ghost use Rattle.slotted_slots.specs.Error.{IsOutOfMemory, IsShortage};
+ghost use Rattle.slotted_patterns.specs.Known.{HasKnownNames};
+ghost use Rattle.slotted_patterns.specs.View.{tree_of};
+ghost use Rattle.slotted_rule_patterns.specs.Values.{values_of};
+ghost use Rattle.slotted_rule_patterns.specs.Variables.{has_substitution};
+ghost use Rattle.slotted_core.specs.Graph.{OnlyTakesSlots};
+ghost use Rattle.slotted_rules.specs.Rewriting.{IsSearched};
+
+use slotted_graph::EGraph;
+use slotted_languages::Language;
+use slotted_matching::Matches;
+use slotted_patterns::Pattern;
+use slotted_rule_patterns::Subst;
+use slotted_slots::Error;
+use std::alloc::Global;
+
+// The answers as substitutions.
+fn substitutions(alloc: Global, found: &Matches) -> Result<Vec<Subst>, Error>
+    ensures ok { IfOk result (λ all. map values_of all.items ≡ found.now) }
+    ensures err { IfErr result IsOutOfMemory }
+{
+    let mut all = Vec::new(alloc);
+    for answer in 0..found.len() {
+        all.push(found.substitution(alloc, answer)?)?;
+    }
+    Ok(all)
+}
+
+/// Returns what `find_matches` finds for a pattern, each answer as a substitution of its own: at the live classes in order, and at each of them by its filed
+/// nodes in ascending order.
+pub fn ematch_all<L: Language, N: Drop>(
+    alloc: Global,
+    graph: &mut EGraph<L, N>,
+    pattern: &Pattern<L>,
+) -> Result<Vec<Subst>, Error>
+    requires { IsTrue graph.old.failed ⊎ HasKnownNames graph.old.table (tree_of L.form pattern.now) }
+    ensures found { IfOk result (λ all.
+        IsSearched (tree_of L.form pattern.now) graph.old (map values_of all.items) graph.new) }
+
+    // Only fresh slots are made, and a refusal does not fail the graph.
+    ensures takes { OnlyTakesSlots graph.old graph.new }
+    ensures stays { IsTrue graph.old.failed → graph.new ≡ graph.old }
+
+    ensures failed { IsErrOf result Error.Failed ↔ IsTrue graph.old.failed }
+    ensures subst { IsErrOf result Error.SubstInSearch
+        ↔ ((graph.old.failed ≡ false) × (has_substitution (tree_of L.form pattern.now) ≡ true)) }
+    ensures only { IfErr result (λ e. (e ≡ Error.Failed) ⊎ ((e ≡ Error.SubstInSearch) ⊎ IsShortage e)) }
+{
+    let found = graph.find_matches(pattern)?;
+    substitutions(alloc, &found)
+}
