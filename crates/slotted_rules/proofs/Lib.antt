@@ -3,3 +3,4 @@ pub mod AppliedRules
 pub mod Progress
 pub mod Settling
 pub mod UnitedAnswers
+pub mod EqualInstances

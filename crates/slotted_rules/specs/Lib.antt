@@ -6,3 +6,4 @@ pub mod Rewriting
 pub mod WrittenLaws
 pub mod Loops
 pub mod Written
+pub mod EqualInstances

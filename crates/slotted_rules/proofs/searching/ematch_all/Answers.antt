@@ -1,4 +1,4 @@
-use Rattle.std.proofs.Common.{◌≡◌, List, subst, sym}
+use Rattle.std.proofs.Common.{List, subst, sym}
 use Rattle.slotted_model_rules.specs.Conditions.{Values}
 use Rattle.slotted_patterns.specs.Tree.{PatternTree}
 use Rattle.slotted_patterns.specs.View.{tree_of}

@@ -1,0 +1,107 @@
+-- Where rules without conditions were applied, instances of both sides are equal by what is asserted, for each match.
+use Rattle.std.proofs.Common.{◌≡◌, ◌∙◌, List, sym, subst, inl, inr}
+use Rattle.std.specs.Prelude.{◌<◌, ℕ, Bool, true, length, Contains, string_bytes}
+use Rattle.std.proofs.lemmas.Bool.{false≢true}
+use Rattle.slotted_nodes.specs.Form.{Form}
+use Rattle.slotted_theory.specs.Nameless.{DTerm}
+use Rattle.slotted_patterns.specs.Tree.{PatternTree}
+use Rattle.slotted_patterns.specs.View.{tree_of}
+use Rattle.slotted_model.specs.ProofList.{HoldsFrom, equation_at}
+use Rattle.slotted_model.proofs.FindProofs.{proved-holds}
+use Rattle.slotted_model.proofs.Members.{In, In-Contains}
+use Rattle.slotted_model_rules.specs.Conditions.{Values}
+use Rattle.slotted_model_rules.specs.Rules.{Rule}
+use Rattle.slotted_model_rules.specs.Runners.{AppliesAll, AppliesRules, SearchesAll, none_applied, none_searched, one_applied, one_searched}
+use Rattle.slotted_core.specs.Good.{image_of}
+use Rattle.slotted_core.specs.Graph.{Graph}
+use Rattle.slotted_core.specs.Image.{Image, asserted_in}
+use Rattle.slotted_graph.specs.Extension.{ExtendsTo}
+use Rattle.slotted_graph.specs.States.{IsGraph}
+use Rattle.slotted_graph.proofs.Extending.{extends-itself, extends-takes, extends-then}
+use Rattle.slotted_instances.specs.Methods.{method_of, represented}
+use Rattle.slotted_rules.specs.declared.rewrite.Rewrite.{Rewrite}
+use Rattle.slotted_rules.specs.EqualInstances.{HasAppliedMatches, HasEqualIds, HaveEqualInstances}
+use Rattle.slotted_rules.specs.Rewriting.{HasEntryFor, HasEquationFor, IsSearched, IsSettled, LeavesApplied}
+use Rattle.slotted_rules.proofs.Settling.{settled-wider}
+
+module _ (h : Graph) (is : IsGraph h) where
+  entry-equal : (R : DTerm → DTerm → Bool) (given : List ℕ) (rule : Rule) (s : Values) → HasEntryFor R given h rule s → HasEqualIds R given h rule s
+  entry-equal R given rule s e =
+      let i = e.instances in
+      let k = is.is_state.kept in
+      let good = is.is_state.good in
+      let same : image_of k ≡ h.image = is.is_state.image in
+      let holds = subst (λ (x : Image). HoldsFrom (asserted_in x) x.canonical (equation_at x.entries e.number)) same
+      (proved-holds (image_of k).canonical good.stored.sane.sound.canonical (image_of k).entries good.stored.sane.sound.proved e.number (subst (λ (x : Image). e.number < length x.entries) (sym same) e.in_range)) in
+      record {
+        left = i.left;
+        right = i.right;
+        left_full = i.left_full;
+        right_full = i.right_full;
+        left_instance = i.left_instance;
+        right_instance = i.right_instance;
+        equal = holds i.left i.right i.left_full i.right_full i.equation;
+      }
+
+  -- an answer that is settled by an entry
+  pub equation-equal : (g : Graph) (p q : PatternTree) (s : Values) → HasEquationFor g h p q s → HaveEqualInstances g h p q s
+  equation-equal g p q s e = record {
+    method = e.method;
+    pairs = e.pairs;
+    are = e.are;
+    each = λ rule l r given known. entry-equal (represented (method_of e.method) e.pairs) given rule s (e.each rule l r given known);
+  }
+
+-- rules without conditions, one after another
+module _ {L C : Type 0} (form : L → Form) (holds : C → Values → Graph → Bool) (always : (c : C) (s : Values) (g : Graph) → holds c s g ≡ true) where
+  abbrev searches : Rewrite L C → Graph → List Values → Graph → Type 0
+  searches r g found h = IsSearched (tree_of form r.left) g found h
+
+  abbrev applies : Rewrite L C → List Values → Graph → Graph → Type 0
+  applies r found g h = LeavesApplied (holds r.condition) (tree_of form r.left) (tree_of form r.right) (string_bytes r.name) found g h
+
+  -- the search of a rule, and that each of its answers is settled from g to h
+  abbrev SearchedAndSettled : Graph → Graph → Rewrite L C → Type 0
+  SearchedAndSettled g h r =
+      (before : Graph) × (after : Graph) × (found : List Values) × ExtendsTo g before × IsSearched (tree_of form r.left) before found after
+      × ((s : Values) → Contains found s → HasEquationFor g h (tree_of form r.left) (tree_of form r.right) s)
+
+  settled-has : (c : C) (p q : PatternTree) (g h : Graph) (s : Values) → IsSettled (holds c) p q g h s → HasEquationFor g h p q s
+  settled-has c p q g h s (inl e) = e
+  settled-has c p q g h s (inr m) = absurd (false≢true (sym m.2 ∙ always c s m.0))
+
+  searches-extend : {rules : List (Rewrite L C)} {g h : Graph} {founds : List (List Values)} → SearchesAll searches rules g founds h → ExtendsTo g h
+  searches-extend none_searched = extends-itself _
+  searches-extend (one_searched first more) = extends-then _ _ _ (extends-takes _ _ first.takes) (searches-extend more)
+
+  applies-extend : {rules : List (Rewrite L C)} {founds : List (List Values)} {g h : Graph} → AppliesAll applies rules founds g h → ExtendsTo g h
+  applies-extend none_applied = extends-itself _
+  applies-extend (one_applied first more) = extends-then _ _ _ first.extends (applies-extend more)
+
+  one-settled : (rule : Rewrite L C) (found : List Values) (g e f j k h : Graph) → ExtendsTo g e → ExtendsTo g j → searches rule e found f → applies rule found j k → ExtendsTo k h → SearchedAndSettled g h rule
+  one-settled rule found g e f j k h start end first now later =
+      let p = tree_of form rule.left in
+      let q = tree_of form rule.right in
+      (e, f, found, start, first, λ s c. settled-has rule.condition p q g h s (settled-wider g j k h end later p q s (holds rule.condition) (now.settled s c)))
+
+  -- searches from e on, and applies from j on, both later than g
+  each-settled : {rules : List (Rewrite L C)} {e i j h : Graph} {founds : List (List Values)} (g : Graph) → ExtendsTo g e → ExtendsTo g j → SearchesAll searches rules e founds i → AppliesAll applies rules founds j h →
+      (r : Rewrite L C) → In r rules → SearchedAndSettled g h r
+  each-settled g start end none_searched none_applied r among = absurd among
+  each-settled g start end (one_searched {rule = rule} {found = found} first more) (one_applied now later) r among = elim among [
+    | inl is ↦ subst (SearchedAndSettled g _) (sym is) (one-settled rule found g _ _ _ _ _ start end first now (applies-extend later))
+    | inr rest ↦ each-settled g (extends-then g _ _ start (extends-takes _ _ first.takes)) (extends-then g _ _ end now.extends) more later r rest
+  ]
+
+  -- for each match of each rule the instances of both sides are equal
+  pub rules-applied : (rules : List (Rewrite L C)) (g h : Graph) → IsGraph h → AppliesRules searches applies rules g h → (r : Rewrite L C) → Contains rules r → HasAppliedMatches g h (tree_of form r.left) (tree_of form r.right)
+  rules-applied rules g h is a r c =
+      let e = each-settled g (extends-itself g) (searches-extend a.by_searches) a.by_searches a.by_applies r (In-Contains rules r c) in
+      record {
+        before = e.0;
+        after = e.1;
+        found = e.2;
+        extends = e.3;
+        searched = e.4;
+        equal = λ s d. equation-equal h is g (tree_of form r.left) (tree_of form r.right) s (e.5 s d);
+      }
