@@ -2,6 +2,7 @@
 --     terms: Term, Nameless, Derives, Valid          slots: Table, Error, Maps
 --     ids and classes: Applied, Classes, Growth, Ids     the graph: Graph, ValidIds, LookUp, Adding, AddingTerms, Reports, Affected, Image, Nodes, Checks,
 --     Leaves, Causes, Syn, FiledNodes, Measure     extraction: Costs, Laws, Terms, LeastTerms
+--     patterns: Known, PatternCode, Variables, Values     rules: Extension, Matching, Methods, Uniting, Rewriting, Written, Applying, EqualInstances
 pub use Rattle.slotted_theory.specs.Term
 pub use Rattle.slotted_theory.specs.Nameless
 pub use Rattle.slotted_theory.specs.Derives
@@ -38,5 +39,26 @@ pub use Rattle.slotted_explain.specs.Terms
 pub use Rattle.slotted_explain.specs.LeastTerms
 pub use Rattle.slotted_explain.specs.FiledNodes
 pub use Rattle.slotted_explain.specs.Measure
+-- of patterns and rules
+pub use Rattle.slotted_model_rules.specs.Patterns
+pub use Rattle.slotted_model_rules.specs.Instances
+pub use Rattle.slotted_model_rules.specs.Rules
+pub use Rattle.slotted_patterns.specs.Known
+pub use Rattle.slotted_patterns.specs.View
+pub use Rattle.slotted_rule_patterns.specs.PatternCode
+pub use Rattle.slotted_rule_patterns.specs.Variables
+pub use Rattle.slotted_rule_patterns.specs.Values
+pub use Rattle.slotted_graph.specs.Extension
+pub use Rattle.slotted_graph.specs.States
+pub use Rattle.slotted_graph.specs.Matching
+pub use Rattle.slotted_instances.specs.Building
+pub use Rattle.slotted_instances.specs.Methods
+pub use Rattle.slotted_instances.specs.Putting
+pub use Rattle.slotted_instances.specs.Uniting
+pub use Rattle.slotted_rules.specs.Rewriting
+pub use Rattle.slotted_rules.specs.Written
+pub use Rattle.slotted_rules.specs.Applying
+pub use Rattle.slotted_rules.specs.EqualInstances
 -- what a caller of its own says
 pub mod Filed
+pub mod AppliedRules

@@ -1,11 +1,14 @@
-//! First callers: texts are added, united and asked, a canonical term is added again, and a node is looked up and asked.
-ghost use Rattle.std.specs.Prelude.{◌↔◌, ◌⊎◌, IsTrue, IfOk};
+//! First callers: texts are added, united and asked, a canonical term is added again, a node is looked up and asked, and rules are applied.
+ghost use Rattle.std.specs.Prelude.{◌↔◌, ◌⊎◌, All, IsTrue, IfOk, OnOk};
+ghost use Rattle.slotted_egraphs.specs.AppliedRules.{HasAppliedEach};
 ghost use Rattle.slotted_egraphs.specs.Filed.{IsFiledAs, SaysNodeEqual};
 ghost use Rattle.slotted_egraphs.specs.ValidIds.{IsValidId, IsValidNode};
 ghost use Rattle.slotted_egraphs.specs.Image.{AreClosed};
 ghost use Rattle.slotted_egraphs.specs.Nodes.{to_applied};
+ghost use Rattle.slotted_egraphs.specs.Written.{CanBeSearched};
 
-use crate::{AppliedId, EGraph, Error, Language};
+use crate::{Always, AppliedId, EGraph, Error, Language, Rewrite, apply_rewrites};
+use std::alloc::Global;
 
 /// Adds the terms of two texts, unites them and asks whether they are equal. Where there is an answer it is yes, or a symmetry that
 /// a union met is open, and this is proved.
@@ -48,4 +51,20 @@ pub fn is_filed_as<L: Language>(graph: &EGraph<L>, node: &L, id: &AppliedId) -> 
         return Ok(false);
     };
     graph.eq(&found, id)
+}
+
+/// Applies rules without conditions once. Where there is an answer, instances of both sides are equal by what is asserted, for each rule and each of its
+/// matches.
+pub fn apply_once<L: Language>(
+    alloc: Global,
+    graph: &mut EGraph<L>,
+    rules: &[Rewrite<L, Always>],
+) -> Result<bool, Error>
+    requires { All (CanBeSearched L.form graph.old.table) rules.now }
+    ensures { OnOk result (HasAppliedEach L.form graph.old graph.new rules.now) }
+{
+    let answer = apply_rewrites(alloc, graph, rules);
+    // It is asked for what each graph keeps that has not failed.
+    let _ = graph.is_failed();
+    answer
 }

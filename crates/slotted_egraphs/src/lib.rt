@@ -8,11 +8,21 @@ pub mod example;
 
 pub use slotted_explain::{Check, EGraph, Explanation, ProgressMeasure, Symmetry};
 pub use slotted_extract::{AstSize, CostFunction, Extractor, ast_size_extract, extract};
+pub use slotted_graph::SubstMethod;
+pub use slotted_instances::{
+    OwnSubst, lookup_rec_expr, pattern_subst, subst_ids, subst_with, union_instantiations,
+};
 pub use slotted_languages::{Bind, Language, LanguageChildren, ReadBack, Symbol, pair};
+pub use slotted_matching::Matches;
 pub use slotted_patterns::Pattern;
 pub use slotted_proofs::{
     CongruenceProof, Equation, ExplicitProof, Proof, ProofLines, ProofList, ProvenEq, ProvenEqRaw,
     ReflexivityProof, SymmetryProof, TransitivityProof,
+};
+pub use slotted_rule_patterns::Subst;
+pub use slotted_rules::{
+    Always, And, Cond, CondTree, Not, Or, Rewrite, RewriteT, SlotFreeIn, and, apply_rewrites,
+    are_valid, ematch_all, not, or, slot_free_in,
 };
 pub use slotted_slots::{
     AppliedId, Error, Id, ParseError, Show, Shown, Slot, SlotMap, SlotTable, SmallHashSet,
