@@ -112,6 +112,6 @@ ok-three_of (Ok a) h i j f = f a h i j
 ok-three_of (Err e) h i j f = tt
 
 -- of a graph that has not failed
-pub invariant-of : (failed : Bool) (t : Table) (k : Kept) (r : Rows) → failed ≡ false → IsTrue failed ⊎ (Good k × HasFreshSlots t k × RestsWith k r) → Good k × HasFreshSlots t k × RestsWith k r
+pub invariant-of : {Index : Type 0} (failed : Bool) (t : Table) (k : Kept) (r : Rows) → failed ≡ false → IsTrue failed ⊎ (Good k × HasFreshSlots t k × RestsWith k r × Index) → Good k × HasFreshSlots t k × RestsWith k r × Index
 invariant-of failed t k r f (inl h) = absurd (false≢true (sym f ∙ h))
 invariant-of failed t k r f (inr h) = h

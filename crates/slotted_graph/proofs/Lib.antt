@@ -9,6 +9,7 @@ pub mod Matching
 pub mod Finds
 pub mod KnownPatterns
 pub mod FoundValues
+pub mod Indexes
 -- What the crates above cite, handed on.
 pub use Rattle.slotted_core.proofs.CallerLemmas
 pub use Rattle.slotted_core.proofs.YesesStay

@@ -31,6 +31,7 @@ use slotted_core::terms::is_valid_term;
 use slotted_core::uniting;
 use slotted_filing::Hashcons;
 use slotted_languages::Language;
+use slotted_matching::IndexCache;
 use slotted_proofs::ProvenEq;
 use slotted_slots::{AppliedId, Error, SlotTable};
 use slotted_store::{Store, Symmetry};
@@ -62,6 +63,8 @@ pub struct EGraph<L: Language, N = ()> {
     failed: bool,
     store: Store<L>,
     nodes: Hashcons<L>,
+    // Which filed nodes a search goes through: cleared by each call that may change classes or filed nodes.
+    index: IndexCache<L>,
     table: SlotTable,
     analysis: N,
     method: SubstMethod,
@@ -69,10 +72,11 @@ pub struct EGraph<L: Language, N = ()> {
 }
 
 impl<L: Language, N> Model for EGraph<L, N> {
-    ghost use Rattle.std.specs.Prelude.{IsTrue, ◌⊎◌};
+    ghost use Rattle.std.specs.Prelude.{IfSome, IsTrue, ◌⊎◌};
     ghost use Rattle.slotted_core.specs.Graph.{Graph, graph_code};
     ghost use Rattle.slotted_core.specs.Good.{Good, RestsWith, HasFreshSlots, image_of};
     ghost use Rattle.slotted_filing.specs.FiledRows.{rows_in};
+    ghost use Rattle.slotted_matching.specs.Indexed.{IsIndexed};
 
     ghost Value = { Graph };
 
@@ -80,7 +84,8 @@ impl<L: Language, N> Model for EGraph<L, N> {
 
     ghost view = { λ s. record { failed = s.failed; table = s.table; image = image_of s.store; filed = rows_in s.nodes.filed } };
 
-    ghost invariant = { λ s. IsTrue s.failed ⊎ (Good s.store × HasFreshSlots s.table s.store × RestsWith s.store s.nodes) };
+    ghost invariant = { λ s. IsTrue s.failed ⊎ (Good s.store × HasFreshSlots s.table s.store × RestsWith s.store s.nodes
+        × IfSome s.index.indexed (λ x. IsIndexed s.store s.nodes x.skeletons x.index)) };
 }
 
 impl<L: Language, N: Drop> EGraph<L, N> {
@@ -112,6 +117,7 @@ impl<L: Language, N: Drop> EGraph<L, N> {
             failed: false,
             store: Store::new(alloc),
             nodes: Hashcons::new(alloc),
+            index: IndexCache::new(),
             table,
             analysis,
             method,
@@ -310,6 +316,7 @@ impl<L: Language, N: Drop> EGraph<L, N> {
             return Err(Error::Failed);
         }
         self.failed = true;
+        self.index.clear();
         let answer = uniting::union(&mut self.store, &mut self.nodes, self.alloc, l, r, text)?;
         self.failed = false;
         Ok(answer)

@@ -5,7 +5,8 @@
 use Rattle.std.specs.Prelude.{◌≡◌, ◌↔◌, ℕ, List, Contains, Some, map}
 use Rattle.slotted_slots.specs.Table.{Table}
 use Rattle.slotted_model.specs.Applied.{Applied, values}
-use Rattle.slotted_model.specs.Rest.{IsValidIn}
+use Rattle.slotted_nodes.specs.Form.{Form}
+use Rattle.slotted_model.specs.Rest.{AtRest, IsValidIn}
 use Rattle.slotted_model.specs.State.{Row}
 use Rattle.slotted_model_rules.specs.Conditions.{Values}
 use Rattle.slotted_model_rules.specs.Patterns.{Pattern}
@@ -15,8 +16,15 @@ use Rattle.slotted_rule_patterns.specs.PatternCode.{pattern_in}
 use Rattle.slotted_store.specs.Kept.{Kept}
 use Rattle.slotted_filing.specs.FiledRows.{Rows}
 use Rattle.slotted_rebuilding.specs.Filed.{state_in}
+use Rattle.slotted_match_machine.specs.declared.index.RowIndex.{RowIndex}
 use Rattle.slotted_match_machine.specs.Programs.{variables_of}
 use Rattle.slotted_matching.specs.Compiled.{KnowsEach}
+use Rattle.slotted_matching.specs.Indexed.{IsIndexed}
+
+-- the index is that of the filed nodes, which are those of a state at rest
+pub record IsIndexFor (k : Kept) (r : Rows) (S : List Form) (x : RowIndex) : Type 0 where
+  pub rest : AtRest (state_in k r)
+  pub is : IsIndexed k r S x
 
 -- in some order of the filed nodes
 pub record IsFound (k : Kept) (r : Rows) (p : Pattern) (found : List Values) : Type 0 where

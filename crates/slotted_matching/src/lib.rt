@@ -3,6 +3,7 @@
 #![tactic(auto)]
 
 pub mod answers;
+pub mod cache;
 pub mod compile;
 pub mod find;
 pub mod index;
@@ -11,6 +12,7 @@ pub(crate) mod naming;
 pub(crate) mod rows;
 pub mod skeletons;
 
+pub use cache::IndexCache;
 pub use compile::Program;
 pub use index::Indexed;
 pub use matches::Matches;

@@ -79,6 +79,7 @@ impl<L: Language, N: Drop> EGraph<L, N> {
             return Err(Error::Failed);
         }
         self.failed = true;
+        self.index.clear();
         let id = looking_up::add(
             &mut self.store,
             &mut self.nodes,
@@ -120,6 +121,7 @@ impl<L: Language, N: Drop> EGraph<L, N> {
             return Err(Error::Failed);
         }
         self.failed = true;
+        self.index.clear();
         let made = looking_up::add_filled(
             &mut self.store,
             &mut self.nodes,
@@ -164,6 +166,7 @@ impl<L: Language, N: Drop> EGraph<L, N> {
             return Err(Error::Failed);
         }
         self.failed = true;
+        self.index.clear();
         let answer = looking_up::add_expr(
             &mut self.store,
             &mut self.nodes,
@@ -208,6 +211,7 @@ impl<L: Language, N: Drop> EGraph<L, N> {
             return Err(Error::Failed);
         }
         self.failed = true;
+        self.index.clear();
         let answer = adding::add_syn_expr(
             &mut self.store,
             &mut self.nodes,

@@ -49,6 +49,7 @@ impl<L: Language, N: Drop> EGraph<L, N> {
             return Err(Error::Failed);
         }
         self.failed = true;
+        self.index.clear();
         let answer = explaining::explain(
             &mut self.store,
             &mut self.nodes,

@@ -59,6 +59,7 @@ impl<L: Language, N: Drop> EGraph<L, N> {
             &mut self.table,
             &self.store,
             &self.nodes,
+            &mut self.index,
             pattern,
         )
     }

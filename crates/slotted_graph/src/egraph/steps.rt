@@ -54,6 +54,7 @@ impl Check for ReflexivityProof {
         if graph.failed {
             return Err(Error::Failed);
         }
+        graph.index.clear();
         checking::check_reflexive(&mut graph.store, graph.alloc, equation)
     }
 }
@@ -69,6 +70,7 @@ impl Check for SymmetryProof {
         if graph.failed {
             return Err(Error::Failed);
         }
+        graph.index.clear();
         checking::check_symmetric(&mut graph.store, graph.alloc, equation, self.0)
     }
 }
@@ -84,6 +86,7 @@ impl Check for TransitivityProof {
         if graph.failed {
             return Err(Error::Failed);
         }
+        graph.index.clear();
         checking::check_transitive(&mut graph.store, graph.alloc, equation, self.0, self.1)
     }
 }
@@ -100,6 +103,7 @@ impl Check for CongruenceProof {
             return Err(Error::Failed);
         }
         let copy = self.copy(graph.alloc)?;
+        graph.index.clear();
         checking::check_congruent(&mut graph.store, graph.alloc, equation, copy.0)
     }
 }

@@ -27,7 +27,7 @@ add-requires-clause-children g c =
     let image : image_of k ≡ h.image = ap (λ (x : Graph). x.image) c.self.view_is in
     let filed : rows_in r.filed ≡ h.filed = ap (λ (x : Graph). x.filed) c.self.view_is in
     let table : t ≡ h.table = ap (λ (x : Graph). x.table) c.self.view_is in
-    let well : Good k × HasFreshSlots t k × RestsWith k r = elim c.self.invariant [ inl e ↦ absurd (false≢true (sym c.if-self.false ∙ e)) | inr v ↦ v ] in
+    let well : Good k × HasFreshSlots t k × RestsWith k r = elim c.self.invariant [ inl e ↦ absurd (false≢true (sym c.if-self.false ∙ e)) | inr v ↦ (v.0, v.1, v.2) ] in
     let valid : IsValidNode h f = elim c.requires [ inl e ↦ absurd (false≢true (sym c.if-self.false ∙ (ap (λ (x : Graph). x.failed) c.self.view_is ∙ e))) | inr v ↦ v ] in
     findable-children k well.0 h image f (g.met.L.LanguageChildren.fits c.args.node) valid.children
 
@@ -41,7 +41,7 @@ add-requires-clause-known g c =
     let image : image_of k ≡ h.image = ap (λ (x : Graph). x.image) c.self.view_is in
     let filed : rows_in r.filed ≡ h.filed = ap (λ (x : Graph). x.filed) c.self.view_is in
     let table : t ≡ h.table = ap (λ (x : Graph). x.table) c.self.view_is in
-    let well : Good k × HasFreshSlots t k × RestsWith k r = elim c.self.invariant [ inl e ↦ absurd (false≢true (sym c.if-self.false ∙ e)) | inr v ↦ v ] in
+    let well : Good k × HasFreshSlots t k × RestsWith k r = elim c.self.invariant [ inl e ↦ absurd (false≢true (sym c.if-self.false ∙ e)) | inr v ↦ (v.0, v.1, v.2) ] in
     let valid : IsValidNode h f = elim c.requires [ inl e ↦ absurd (false≢true (sym c.if-self.false ∙ (ap (λ (x : Graph). x.failed) c.self.view_is ∙ e))) | inr v ↦ v ] in
     subst (λ (x : Table). AllKnown x f.names) (sym table) valid.known
 
@@ -55,7 +55,7 @@ returns-clause-id g c =
     let image : image_of k ≡ h.image = ap (λ (x : Graph). x.image) c.self.view_is in
     let filed : rows_in r.filed ≡ h.filed = ap (λ (x : Graph). x.filed) c.self.view_is in
     let table : t ≡ h.table = ap (λ (x : Graph). x.table) c.self.view_is in
-    let well : Good k × HasFreshSlots t k × RestsWith k r = elim c.self.invariant [ inl e ↦ absurd (false≢true (sym c.if-self.false ∙ e)) | inr v ↦ v ] in
+    let well : Good k × HasFreshSlots t k × RestsWith k r = elim c.self.invariant [ inl e ↦ absurd (false≢true (sym c.if-self.false ∙ e)) | inr v ↦ (v.0, v.1, v.2) ] in
     let valid : IsValidNode h f = elim c.requires [ inl e ↦ absurd (false≢true (sym c.if-self.false ∙ (ap (λ (x : Graph). x.failed) c.self.view_is ∙ e))) | inr v ↦ v ] in
     added-id k r well.0 well.2 h image filed t table f (g.met.L.LanguageChildren.fits c.args.node)
     (findable-children k well.0 h image f (g.met.L.LanguageChildren.fits c.args.node) valid.children) valid.known c.add.new.store c.add.new.nodes (to_applied c.in_ok-id.id)
@@ -71,7 +71,7 @@ returns-clause-found g c =
     let image : image_of k ≡ h.image = ap (λ (x : Graph). x.image) c.self.view_is in
     let filed : rows_in r.filed ≡ h.filed = ap (λ (x : Graph). x.filed) c.self.view_is in
     let table : t ≡ h.table = ap (λ (x : Graph). x.table) c.self.view_is in
-    let well : Good k × HasFreshSlots t k × RestsWith k r = elim c.self.invariant [ inl e ↦ absurd (false≢true (sym c.if-self.false ∙ e)) | inr v ↦ v ] in
+    let well : Good k × HasFreshSlots t k × RestsWith k r = elim c.self.invariant [ inl e ↦ absurd (false≢true (sym c.if-self.false ∙ e)) | inr v ↦ (v.0, v.1, v.2) ] in
     let valid : IsValidNode h f = elim c.requires [ inl e ↦ absurd (false≢true (sym c.if-self.false ∙ (ap (λ (x : Graph). x.failed) c.self.view_is ∙ e))) | inr v ↦ v ] in
     added-found k r well.0 well.2 h image filed t table f (g.met.L.LanguageChildren.fits c.args.node)
     (findable-children k well.0 h image f (g.met.L.LanguageChildren.fits c.args.node) valid.children) valid.known c.add.new.store c.add.new.nodes (to_applied c.in_ok-id.id)
@@ -87,7 +87,7 @@ returns-clause-equal g c =
     let image : image_of k ≡ h.image = ap (λ (x : Graph). x.image) c.self.view_is in
     let filed : rows_in r.filed ≡ h.filed = ap (λ (x : Graph). x.filed) c.self.view_is in
     let table : t ≡ h.table = ap (λ (x : Graph). x.table) c.self.view_is in
-    let well : Good k × HasFreshSlots t k × RestsWith k r = elim c.self.invariant [ inl e ↦ absurd (false≢true (sym c.if-self.false ∙ e)) | inr v ↦ v ] in
+    let well : Good k × HasFreshSlots t k × RestsWith k r = elim c.self.invariant [ inl e ↦ absurd (false≢true (sym c.if-self.false ∙ e)) | inr v ↦ (v.0, v.1, v.2) ] in
     let valid : IsValidNode h f = elim c.requires [ inl e ↦ absurd (false≢true (sym c.if-self.false ∙ (ap (λ (x : Graph). x.failed) c.self.view_is ∙ e))) | inr v ↦ v ] in
     added-equal k r well.0 well.2 h image filed t table f (g.met.L.LanguageChildren.fits c.args.node)
     (findable-children k well.0 h image f (g.met.L.LanguageChildren.fits c.args.node) valid.children) valid.known c.add.new.store c.add.new.nodes (to_applied c.in_ok-id.id)
@@ -103,7 +103,7 @@ returns-clause-kept g c =
     let image : image_of k ≡ h.image = ap (λ (x : Graph). x.image) c.self.view_is in
     let filed : rows_in r.filed ≡ h.filed = ap (λ (x : Graph). x.filed) c.self.view_is in
     let table : t ≡ h.table = ap (λ (x : Graph). x.table) c.self.view_is in
-    let well : Good k × HasFreshSlots t k × RestsWith k r = elim c.self.invariant [ inl e ↦ absurd (false≢true (sym c.if-self.false ∙ e)) | inr v ↦ v ] in
+    let well : Good k × HasFreshSlots t k × RestsWith k r = elim c.self.invariant [ inl e ↦ absurd (false≢true (sym c.if-self.false ∙ e)) | inr v ↦ (v.0, v.1, v.2) ] in
     let valid : IsValidNode h f = elim c.requires [ inl e ↦ absurd (false≢true (sym c.if-self.false ∙ (ap (λ (x : Graph). x.failed) c.self.view_is ∙ e))) | inr v ↦ v ] in
     added-kept k r well.0 well.2 h image filed t table f (g.met.L.LanguageChildren.fits c.args.node)
     (findable-children k well.0 h image f (g.met.L.LanguageChildren.fits c.args.node) valid.children) valid.known c.add.new.store c.add.new.nodes (to_applied c.in_ok-id.id)
@@ -119,7 +119,7 @@ returns-clause-made g c =
     let image : image_of k ≡ h.image = ap (λ (x : Graph). x.image) c.self.view_is in
     let filed : rows_in r.filed ≡ h.filed = ap (λ (x : Graph). x.filed) c.self.view_is in
     let table : t ≡ h.table = ap (λ (x : Graph). x.table) c.self.view_is in
-    let well : Good k × HasFreshSlots t k × RestsWith k r = elim c.self.invariant [ inl e ↦ absurd (false≢true (sym c.if-self.false ∙ e)) | inr v ↦ v ] in
+    let well : Good k × HasFreshSlots t k × RestsWith k r = elim c.self.invariant [ inl e ↦ absurd (false≢true (sym c.if-self.false ∙ e)) | inr v ↦ (v.0, v.1, v.2) ] in
     let valid : IsValidNode h f = elim c.requires [ inl e ↦ absurd (false≢true (sym c.if-self.false ∙ (ap (λ (x : Graph). x.failed) c.self.view_is ∙ e))) | inr v ↦ v ] in
     added-made k r well.0 well.2 h image filed t table f (g.met.L.LanguageChildren.fits c.args.node)
     (findable-children k well.0 h image f (g.met.L.LanguageChildren.fits c.args.node) valid.children) valid.known c.add.new.store c.add.new.nodes (to_applied c.in_ok-id.id)
@@ -135,7 +135,7 @@ returns-clause-answers g c =
     let image : image_of k ≡ h.image = ap (λ (x : Graph). x.image) c.self.view_is in
     let filed : rows_in r.filed ≡ h.filed = ap (λ (x : Graph). x.filed) c.self.view_is in
     let table : t ≡ h.table = ap (λ (x : Graph). x.table) c.self.view_is in
-    let well : Good k × HasFreshSlots t k × RestsWith k r = elim c.self.invariant [ inl e ↦ absurd (false≢true (sym c.if-self.false ∙ e)) | inr v ↦ v ] in
+    let well : Good k × HasFreshSlots t k × RestsWith k r = elim c.self.invariant [ inl e ↦ absurd (false≢true (sym c.if-self.false ∙ e)) | inr v ↦ (v.0, v.1, v.2) ] in
     let valid : IsValidNode h f = elim c.requires [ inl e ↦ absurd (false≢true (sym c.if-self.false ∙ (ap (λ (x : Graph). x.failed) c.self.view_is ∙ e))) | inr v ↦ v ] in
     added-answers k r well.0 well.2 h image filed t table f (g.met.L.LanguageChildren.fits c.args.node)
     (findable-children k well.0 h image f (g.met.L.LanguageChildren.fits c.args.node) valid.children) valid.known c.add.new.store c.add.new.nodes (to_applied c.in_ok-id.id)
@@ -151,7 +151,7 @@ returns-in_err-id-clause-full g c e =
     let image : image_of k ≡ h.image = ap (λ (x : Graph). x.image) c.self.view_is in
     let filed : rows_in r.filed ≡ h.filed = ap (λ (x : Graph). x.filed) c.self.view_is in
     let table : t ≡ h.table = ap (λ (x : Graph). x.table) c.self.view_is in
-    let well : Good k × HasFreshSlots t k × RestsWith k r = elim c.self.invariant [ inl e ↦ absurd (false≢true (sym c.if-self.false ∙ e)) | inr v ↦ v ] in
+    let well : Good k × HasFreshSlots t k × RestsWith k r = elim c.self.invariant [ inl e ↦ absurd (false≢true (sym c.if-self.false ∙ e)) | inr v ↦ (v.0, v.1, v.2) ] in
     let valid : IsValidNode h f = elim c.requires [ inl e ↦ absurd (false≢true (sym c.if-self.false ∙ (ap (λ (x : Graph). x.failed) c.self.view_is ∙ e))) | inr v ↦ v ] in
     let children = findable-children k well.0 h image f (g.met.L.LanguageChildren.fits c.args.node) valid.children in
     let lacks = c.in_err-id.ensures.full (search rules) in (

@@ -10,6 +10,7 @@ use Rattle.slotted_core.specs.Good.{Good, HasFreshSlots, RestsWith, image_of}
 use Rattle.slotted_core.specs.Graph.{Graph}
 use Rattle.slotted_core.specs.Image.{AddsClasses}
 use Rattle.slotted_core.proofs.GraphTerms.{seen, term-answers, term-equal, term-filed, term-found, term-id, term-kept, term-lacks, term-nodes, term-reached, term-takes}
+use Rattle.slotted_graph.proofs.Indexes.{no-index}
 use Rattle.slotted_graph.proofs.egraph.EGraph.add_expr.Goals as goal
 
 pub add_expr-requires-clause-fresh_slots : goal.add_expr-requires-clause-fresh_slots
@@ -28,10 +29,10 @@ invariant_of-self-2 g c =
     let r = c.self.inside.nodes in
     let t = c.self.inside.table in
     let w = c.args.term.now in
-    let well : Good k × HasFreshSlots t k × RestsWith k r = elim c.self.invariant [ inl e ↦ absurd (false≢true (sym c.if-self.false ∙ e)) | inr v ↦ v ] in
+    let well : Good k × HasFreshSlots t k × RestsWith k r = elim c.self.invariant [ inl e ↦ absurd (false≢true (sym c.if-self.false ∙ e)) | inr v ↦ (v.0, v.1, v.2) ] in
     let is : seen t k r ≡ h = (λ i. record { failed = sym c.if-self.false i; table = t; image = image_of k; filed = rows_in r.filed }) ∙ c.self.view_is in
     let p = term-reached w t k r well.0 well.2 well.1 h is c.add_expr.new.table c.add_expr.new.store c.add_expr.new.nodes (to_applied c.in_ok-answer.answer) c.in_ok-answer.ensures.ok in
-    inr (p.good, p.fresh_slots, p.rests)
+    inr (p.good, p.fresh_slots, p.rests, no-index _ c.clear.new.self.indexed c.clear.ensures)
 
 pub returns-clause-id : goal.returns-clause-id
 returns-clause-id g c =
@@ -40,7 +41,7 @@ returns-clause-id g c =
     let r = c.self.inside.nodes in
     let t = c.self.inside.table in
     let w = c.args.term.now in
-    let well : Good k × HasFreshSlots t k × RestsWith k r = elim c.self.invariant [ inl e ↦ absurd (false≢true (sym c.if-self.false ∙ e)) | inr v ↦ v ] in
+    let well : Good k × HasFreshSlots t k × RestsWith k r = elim c.self.invariant [ inl e ↦ absurd (false≢true (sym c.if-self.false ∙ e)) | inr v ↦ (v.0, v.1, v.2) ] in
     let is : seen t k r ≡ h = (λ i. record { failed = sym c.if-self.false i; table = t; image = image_of k; filed = rows_in r.filed }) ∙ c.self.view_is in
     term-id w t k r well.0 well.2 well.1 h is c.add_expr.new.table c.add_expr.new.store c.add_expr.new.nodes (to_applied c.in_ok-answer.answer) c.in_ok-answer.ensures.ok
 
@@ -51,7 +52,7 @@ returns-clause-found g c =
     let r = c.self.inside.nodes in
     let t = c.self.inside.table in
     let w = c.args.term.now in
-    let well : Good k × HasFreshSlots t k × RestsWith k r = elim c.self.invariant [ inl e ↦ absurd (false≢true (sym c.if-self.false ∙ e)) | inr v ↦ v ] in
+    let well : Good k × HasFreshSlots t k × RestsWith k r = elim c.self.invariant [ inl e ↦ absurd (false≢true (sym c.if-self.false ∙ e)) | inr v ↦ (v.0, v.1, v.2) ] in
     let is : seen t k r ≡ h = (λ i. record { failed = sym c.if-self.false i; table = t; image = image_of k; filed = rows_in r.filed }) ∙ c.self.view_is in
     term-found w t k r well.0 well.2 well.1 h is c.add_expr.new.table c.add_expr.new.store c.add_expr.new.nodes (to_applied c.in_ok-answer.answer) c.in_ok-answer.ensures.ok
 
@@ -62,7 +63,7 @@ returns-clause-equal g c =
     let r = c.self.inside.nodes in
     let t = c.self.inside.table in
     let w = c.args.term.now in
-    let well : Good k × HasFreshSlots t k × RestsWith k r = elim c.self.invariant [ inl e ↦ absurd (false≢true (sym c.if-self.false ∙ e)) | inr v ↦ v ] in
+    let well : Good k × HasFreshSlots t k × RestsWith k r = elim c.self.invariant [ inl e ↦ absurd (false≢true (sym c.if-self.false ∙ e)) | inr v ↦ (v.0, v.1, v.2) ] in
     let is : seen t k r ≡ h = (λ i. record { failed = sym c.if-self.false i; table = t; image = image_of k; filed = rows_in r.filed }) ∙ c.self.view_is in
     term-equal w t k r well.0 well.2 well.1 h is c.add_expr.new.table c.add_expr.new.store c.add_expr.new.nodes (to_applied c.in_ok-answer.answer) c.in_ok-answer.ensures.ok
 
@@ -73,7 +74,7 @@ returns-clause-kept g c =
     let r = c.self.inside.nodes in
     let t = c.self.inside.table in
     let w = c.args.term.now in
-    let well : Good k × HasFreshSlots t k × RestsWith k r = elim c.self.invariant [ inl e ↦ absurd (false≢true (sym c.if-self.false ∙ e)) | inr v ↦ v ] in
+    let well : Good k × HasFreshSlots t k × RestsWith k r = elim c.self.invariant [ inl e ↦ absurd (false≢true (sym c.if-self.false ∙ e)) | inr v ↦ (v.0, v.1, v.2) ] in
     let is : seen t k r ≡ h = (λ i. record { failed = sym c.if-self.false i; table = t; image = image_of k; filed = rows_in r.filed }) ∙ c.self.view_is in
     term-kept w t k r well.0 well.2 well.1 h is c.add_expr.new.table c.add_expr.new.store c.add_expr.new.nodes (to_applied c.in_ok-answer.answer) c.in_ok-answer.ensures.ok
 
@@ -84,7 +85,7 @@ returns-clause-nodes g c =
     let r = c.self.inside.nodes in
     let t = c.self.inside.table in
     let w = c.args.term.now in
-    let well : Good k × HasFreshSlots t k × RestsWith k r = elim c.self.invariant [ inl e ↦ absurd (false≢true (sym c.if-self.false ∙ e)) | inr v ↦ v ] in
+    let well : Good k × HasFreshSlots t k × RestsWith k r = elim c.self.invariant [ inl e ↦ absurd (false≢true (sym c.if-self.false ∙ e)) | inr v ↦ (v.0, v.1, v.2) ] in
     let is : seen t k r ≡ h = (λ i. record { failed = sym c.if-self.false i; table = t; image = image_of k; filed = rows_in r.filed }) ∙ c.self.view_is in
     term-nodes w t k r well.0 well.2 well.1 h is c.add_expr.new.table c.add_expr.new.store c.add_expr.new.nodes (to_applied c.in_ok-answer.answer) c.in_ok-answer.ensures.ok
 
@@ -95,7 +96,7 @@ returns-clause-filed g c =
     let r = c.self.inside.nodes in
     let t = c.self.inside.table in
     let w = c.args.term.now in
-    let well : Good k × HasFreshSlots t k × RestsWith k r = elim c.self.invariant [ inl e ↦ absurd (false≢true (sym c.if-self.false ∙ e)) | inr v ↦ v ] in
+    let well : Good k × HasFreshSlots t k × RestsWith k r = elim c.self.invariant [ inl e ↦ absurd (false≢true (sym c.if-self.false ∙ e)) | inr v ↦ (v.0, v.1, v.2) ] in
     let is : seen t k r ≡ h = (λ i. record { failed = sym c.if-self.false i; table = t; image = image_of k; filed = rows_in r.filed }) ∙ c.self.view_is in
     term-filed w t k r well.0 well.2 well.1 h is c.add_expr.new.table c.add_expr.new.store c.add_expr.new.nodes (to_applied c.in_ok-answer.answer) c.in_ok-answer.ensures.ok
 
@@ -106,7 +107,7 @@ returns-clause-answers g c =
     let r = c.self.inside.nodes in
     let t = c.self.inside.table in
     let w = c.args.term.now in
-    let well : Good k × HasFreshSlots t k × RestsWith k r = elim c.self.invariant [ inl e ↦ absurd (false≢true (sym c.if-self.false ∙ e)) | inr v ↦ v ] in
+    let well : Good k × HasFreshSlots t k × RestsWith k r = elim c.self.invariant [ inl e ↦ absurd (false≢true (sym c.if-self.false ∙ e)) | inr v ↦ (v.0, v.1, v.2) ] in
     let is : seen t k r ≡ h = (λ i. record { failed = sym c.if-self.false i; table = t; image = image_of k; filed = rows_in r.filed }) ∙ c.self.view_is in
     term-answers w t k r well.0 well.2 well.1 h is c.add_expr.new.table c.add_expr.new.store c.add_expr.new.nodes (to_applied c.in_ok-answer.answer) c.in_ok-answer.ensures.ok
 
@@ -117,7 +118,7 @@ returns-clause-extends g c =
     let r = c.self.inside.nodes in
     let t = c.self.inside.table in
     let w = c.args.term.now in
-    let well : Good k × HasFreshSlots t k × RestsWith k r = elim c.self.invariant [ inl e ↦ absurd (false≢true (sym c.if-self.false ∙ e)) | inr v ↦ v ] in
+    let well : Good k × HasFreshSlots t k × RestsWith k r = elim c.self.invariant [ inl e ↦ absurd (false≢true (sym c.if-self.false ∙ e)) | inr v ↦ (v.0, v.1, v.2) ] in
     let is : seen t k r ≡ h = (λ i. record { failed = sym c.if-self.false i; table = t; image = image_of k; filed = rows_in r.filed }) ∙ c.self.view_is in
     subst (λ (x : Graph). Extends x.image.canonical (nodes_of c.add_expr.new.store)) is (term-reached w t k r well.0 well.2 well.1 h is c.add_expr.new.table c.add_expr.new.store c.add_expr.new.nodes (to_applied c.in_ok-answer.answer) c.in_ok-answer.ensures.ok).extends
 
@@ -128,7 +129,7 @@ returns-clause-adds g c =
     let r = c.self.inside.nodes in
     let t = c.self.inside.table in
     let w = c.args.term.now in
-    let well : Good k × HasFreshSlots t k × RestsWith k r = elim c.self.invariant [ inl e ↦ absurd (false≢true (sym c.if-self.false ∙ e)) | inr v ↦ v ] in
+    let well : Good k × HasFreshSlots t k × RestsWith k r = elim c.self.invariant [ inl e ↦ absurd (false≢true (sym c.if-self.false ∙ e)) | inr v ↦ (v.0, v.1, v.2) ] in
     let is : seen t k r ≡ h = (λ i. record { failed = sym c.if-self.false i; table = t; image = image_of k; filed = rows_in r.filed }) ∙ c.self.view_is in
     subst (λ (x : Graph). AddsClasses x.image (image_of c.add_expr.new.store)) is (term-reached w t k r well.0 well.2 well.1 h is c.add_expr.new.table c.add_expr.new.store c.add_expr.new.nodes (to_applied c.in_ok-answer.answer) c.in_ok-answer.ensures.ok).adds
 
@@ -139,7 +140,7 @@ returns-clause-takes g c =
     let r = c.self.inside.nodes in
     let t = c.self.inside.table in
     let w = c.args.term.now in
-    let well : Good k × HasFreshSlots t k × RestsWith k r = elim c.self.invariant [ inl e ↦ absurd (false≢true (sym c.if-self.false ∙ e)) | inr v ↦ v ] in
+    let well : Good k × HasFreshSlots t k × RestsWith k r = elim c.self.invariant [ inl e ↦ absurd (false≢true (sym c.if-self.false ∙ e)) | inr v ↦ (v.0, v.1, v.2) ] in
     let is : seen t k r ≡ h = (λ i. record { failed = sym c.if-self.false i; table = t; image = image_of k; filed = rows_in r.filed }) ∙ c.self.view_is in
     inr (term-takes w t k r well.0 well.2 well.1 h is c.add_expr.new.table c.add_expr.ensures.takes)
 
@@ -150,7 +151,7 @@ returns-in_err-answer-clause-takes g c =
     let r = c.self.inside.nodes in
     let t = c.self.inside.table in
     let w = c.args.term.now in
-    let well : Good k × HasFreshSlots t k × RestsWith k r = elim c.self.invariant [ inl e ↦ absurd (false≢true (sym c.if-self.false ∙ e)) | inr v ↦ v ] in
+    let well : Good k × HasFreshSlots t k × RestsWith k r = elim c.self.invariant [ inl e ↦ absurd (false≢true (sym c.if-self.false ∙ e)) | inr v ↦ (v.0, v.1, v.2) ] in
     let is : seen t k r ≡ h = (λ i. record { failed = sym c.if-self.false i; table = t; image = image_of k; filed = rows_in r.filed }) ∙ c.self.view_is in
     inr (term-takes w t k r well.0 well.2 well.1 h is c.add_expr.new.table c.add_expr.ensures.takes)
 
@@ -161,6 +162,6 @@ returns-in_err-answer-clause-full g c e =
     let r = c.self.inside.nodes in
     let t = c.self.inside.table in
     let w = c.args.term.now in
-    let well : Good k × HasFreshSlots t k × RestsWith k r = elim c.self.invariant [ inl e ↦ absurd (false≢true (sym c.if-self.false ∙ e)) | inr v ↦ v ] in
+    let well : Good k × HasFreshSlots t k × RestsWith k r = elim c.self.invariant [ inl e ↦ absurd (false≢true (sym c.if-self.false ∙ e)) | inr v ↦ (v.0, v.1, v.2) ] in
     let is : seen t k r ≡ h = (λ i. record { failed = sym c.if-self.false i; table = t; image = image_of k; filed = rows_in r.filed }) ∙ c.self.view_is in
     term-lacks w t k r well.0 well.2 well.1 h is c.add_expr.new.table (c.in_err-answer.ensures.full (search rules))

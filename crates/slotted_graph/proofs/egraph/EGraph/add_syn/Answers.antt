@@ -24,7 +24,7 @@ add_filled-requires-clause-children g c =
     let image : image_of k ≡ h.image = ap (λ (x : Graph). x.image) c.self.view_is in
     let filed : rows_in r.filed ≡ h.filed = ap (λ (x : Graph). x.filed) c.self.view_is in
     let table : t ≡ h.table = ap (λ (x : Graph). x.table) c.self.view_is in
-    let well : Good k × HasFreshSlots t k × RestsWith k r = elim c.self.invariant [ inl e ↦ absurd (false≢true (sym c.if-self.false ∙ e)) | inr v ↦ v ] in
+    let well : Good k × HasFreshSlots t k × RestsWith k r = elim c.self.invariant [ inl e ↦ absurd (false≢true (sym c.if-self.false ∙ e)) | inr v ↦ (v.0, v.1, v.2) ] in
     let valid : IsValidNode h f = elim c.requires [ inl e ↦ absurd (false≢true (sym c.if-self.false ∙ (ap (λ (x : Graph). x.failed) c.self.view_is ∙ e))) | inr v ↦ v ] in
     findable-children k well.0 h image f (g.met.L.LanguageChildren.fits c.args.node) valid.children
 
@@ -38,7 +38,7 @@ add_filled-requires-clause-known g c =
     let image : image_of k ≡ h.image = ap (λ (x : Graph). x.image) c.self.view_is in
     let filed : rows_in r.filed ≡ h.filed = ap (λ (x : Graph). x.filed) c.self.view_is in
     let table : t ≡ h.table = ap (λ (x : Graph). x.table) c.self.view_is in
-    let well : Good k × HasFreshSlots t k × RestsWith k r = elim c.self.invariant [ inl e ↦ absurd (false≢true (sym c.if-self.false ∙ e)) | inr v ↦ v ] in
+    let well : Good k × HasFreshSlots t k × RestsWith k r = elim c.self.invariant [ inl e ↦ absurd (false≢true (sym c.if-self.false ∙ e)) | inr v ↦ (v.0, v.1, v.2) ] in
     let valid : IsValidNode h f = elim c.requires [ inl e ↦ absurd (false≢true (sym c.if-self.false ∙ (ap (λ (x : Graph). x.failed) c.self.view_is ∙ e))) | inr v ↦ v ] in
     subst (λ (x : Table). AllKnown x f.names) (sym table) valid.known
 
@@ -52,7 +52,7 @@ returns-clause-valid g c =
     let image : image_of k ≡ h.image = ap (λ (x : Graph). x.image) c.self.view_is in
     let filed : rows_in r.filed ≡ h.filed = ap (λ (x : Graph). x.filed) c.self.view_is in
     let table : t ≡ h.table = ap (λ (x : Graph). x.table) c.self.view_is in
-    let well : Good k × HasFreshSlots t k × RestsWith k r = elim c.self.invariant [ inl e ↦ absurd (false≢true (sym c.if-self.false ∙ e)) | inr v ↦ v ] in
+    let well : Good k × HasFreshSlots t k × RestsWith k r = elim c.self.invariant [ inl e ↦ absurd (false≢true (sym c.if-self.false ∙ e)) | inr v ↦ (v.0, v.1, v.2) ] in
     let valid : IsValidNode h f = elim c.requires [ inl e ↦ absurd (false≢true (sym c.if-self.false ∙ (ap (λ (x : Graph). x.failed) c.self.view_is ∙ e))) | inr v ↦ v ] in
     syn-valid k r h image filed t table f c.add_filled.new.store c.add_filled.new.nodes (to_applied c.in_ok-made.made)
     (record { failed = false; table = c.add_filled.new.table; image = image_of c.add_filled.new.store; filed = rows_in c.add_filled.new.nodes.filed }) refl refl c.in_ok-made.ensures.ok
@@ -67,7 +67,7 @@ returns-clause-syn g c =
     let image : image_of k ≡ h.image = ap (λ (x : Graph). x.image) c.self.view_is in
     let filed : rows_in r.filed ≡ h.filed = ap (λ (x : Graph). x.filed) c.self.view_is in
     let table : t ≡ h.table = ap (λ (x : Graph). x.table) c.self.view_is in
-    let well : Good k × HasFreshSlots t k × RestsWith k r = elim c.self.invariant [ inl e ↦ absurd (false≢true (sym c.if-self.false ∙ e)) | inr v ↦ v ] in
+    let well : Good k × HasFreshSlots t k × RestsWith k r = elim c.self.invariant [ inl e ↦ absurd (false≢true (sym c.if-self.false ∙ e)) | inr v ↦ (v.0, v.1, v.2) ] in
     let valid : IsValidNode h f = elim c.requires [ inl e ↦ absurd (false≢true (sym c.if-self.false ∙ (ap (λ (x : Graph). x.failed) c.self.view_is ∙ e))) | inr v ↦ v ] in
     syn-adds k r h image filed t table f c.add_filled.new.store c.add_filled.new.nodes (to_applied c.in_ok-made.made)
     (record { failed = false; table = c.add_filled.new.table; image = image_of c.add_filled.new.store; filed = rows_in c.add_filled.new.nodes.filed }) refl refl c.in_ok-made.ensures.ok

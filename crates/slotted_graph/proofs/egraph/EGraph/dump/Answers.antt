@@ -26,14 +26,14 @@ append_live-requires-clause-known l c = elim c.self.invariant [
 pub invariant_of-self : goal.invariant_of-self
 invariant_of-self g c = elim c.self.invariant [
   | inl h ↦ inl h
-  | inr h ↦ inr (h.0, fresh_slots-more c.self.inside.table c.append_live.new.table c.self.inside.store c.append_live.ensures.more h.1, h.2)
+  | inr h ↦ inr (h.0, fresh_slots-more c.self.inside.table c.append_live.new.table c.self.inside.store c.append_live.ensures.more h.1, h.2, h.3)
 ]
 
 pub returns-clause-full : goal.returns-clause-full
 returns-clause-full l c out =
     let k = c.self.inside.store in
     let r = c.self.inside.nodes in
-    let inv : Good k × HasFreshSlots c.self.inside.table k × RestsWith k r = elim c.self.invariant [ inl h ↦ absurd (false≢true (sym c.if-self.false ∙ h)) | inr h ↦ h ] in
+    let inv : Good k × HasFreshSlots c.self.inside.table k × RestsWith k r = elim c.self.invariant [ inl h ↦ absurd (false≢true (sym c.if-self.false ∙ h)) | inr h ↦ (h.0, h.1, h.2) ] in
     dump-runs_out k r inv.0 inv.2 c.args.self.now (ap (λ (x : Graph). x.image) c.self.view_is) (ap (λ (x : Graph). x.filed) c.self.view_is) c.append_live.new.table
     (subst (λ (t : Table). RunsOutForClasses k r (range_with_len 0 (length k.classes)) t c.append_live.new.table) (ap (λ (x : Graph). x.table) c.self.view_is) (c.append_live.ensures.full out))
 
@@ -42,7 +42,7 @@ returns-clause-count l c =
     let k = c.self.inside.store in
     let r = c.self.inside.nodes in
     let g = c.args.self.now in
-    let inv : Good k × HasFreshSlots c.self.inside.table k × RestsWith k r = elim c.self.invariant [ inl h ↦ absurd (false≢true (sym c.if-self.false ∙ h)) | inr h ↦ h ] in
+    let inv : Good k × HasFreshSlots c.self.inside.table k × RestsWith k r = elim c.self.invariant [ inl h ↦ absurd (false≢true (sym c.if-self.false ∙ h)) | inr h ↦ (h.0, h.1, h.2) ] in
     let taken = dump-takes k r inv.0 inv.2 g (ap (λ (x : Graph). x.image) c.self.view_is) (ap (λ (x : Graph). x.filed) c.self.view_is) c.self.inside.table c.append_live.new.table c.append_live.ensures.takes in
     record {
       names = c.append_live.ensures.kept ∙ ap (λ (x : Graph). x.table.names) c.self.view_is;

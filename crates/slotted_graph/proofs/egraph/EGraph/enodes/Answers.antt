@@ -43,7 +43,7 @@ enodes-requires-clause-fresh l c =
     let i = c.args.id.0 in
     let k = c.self.inside.store in
     let image : image_of k ≡ g.image = ap (λ (x : Graph). x.image) c.self.view_is in
-    let inv : Good k × HasFreshSlots c.self.inside.table k × RestsWith k c.self.inside.nodes = elim c.self.invariant [ inl h ↦ absurd (false≢true (sym c.if-self.false ∙ h)) | inr h ↦ h ] in
+    let inv : Good k × HasFreshSlots c.self.inside.table k × RestsWith k c.self.inside.nodes = elim c.self.invariant [ inl h ↦ absurd (false≢true (sym c.if-self.false ∙ h)) | inr h ↦ (h.0, h.1, h.2) ] in
     let valid : i < length g.image.canonical = elim c.requires [ inl h ↦ absurd (false≢true (sym c.if-self.false ∙ (ap (λ (x : Graph). x.failed) c.self.view_is ∙ h))) | inr v ↦ v ] in
     let names = ap (λ (x : Applied). values x.1) c.in_ok-class.ensures.ok ∙ values-identity (used_slots (entries_of k) i) in
     λ x h.
@@ -57,7 +57,7 @@ returns-clause-each l c =
     let k = c.self.inside.store in
     let r = c.self.inside.nodes in
     let a = to_applied c.in_ok-class.class in
-    let inv : Good k × HasFreshSlots c.self.inside.table k × RestsWith k r = elim c.self.invariant [ inl h ↦ absurd (false≢true (sym c.if-self.false ∙ h)) | inr h ↦ h ] in
+    let inv : Good k × HasFreshSlots c.self.inside.table k × RestsWith k r = elim c.self.invariant [ inl h ↦ absurd (false≢true (sym c.if-self.false ∙ h)) | inr h ↦ (h.0, h.1, h.2) ] in
     IfOk-weaker c.enodes.result (λ s. AreClassNodes form k r a (class_sources k r a.0) s.keys) (λ s. HasEachNode form g c.args.id.0 s.keys)
     (λ s is. subst (λ j. HasEachNode form g j s.keys) (ap (λ (x : Applied). x.0) c.in_ok-class.ensures.ok)
     (each-node k r inv.0 inv.2 g (ap (λ (x : Graph). x.image) c.self.view_is) (ap (λ (x : Graph). x.filed) c.self.view_is) a.0 form l.met.L.LanguageChildren.fits
@@ -73,7 +73,7 @@ returns-clause-dead l c =
     let r = c.self.inside.nodes in
     let a = to_applied c.in_ok-class.class in
     let image : image_of k ≡ g.image = ap (λ (x : Graph). x.image) c.self.view_is in
-    let inv : Good k × HasFreshSlots c.self.inside.table k × RestsWith k r = elim c.self.invariant [ inl h ↦ absurd (false≢true (sym c.if-self.false ∙ h)) | inr h ↦ h ] in
+    let inv : Good k × HasFreshSlots c.self.inside.table k × RestsWith k r = elim c.self.invariant [ inl h ↦ absurd (false≢true (sym c.if-self.false ∙ h)) | inr h ↦ (h.0, h.1, h.2) ] in
     let valid : i < length g.image.canonical = elim c.requires [ inl h ↦ absurd (false≢true (sym c.if-self.false ∙ (ap (λ (x : Graph). x.failed) c.self.view_is ∙ h))) | inr v ↦ v ] in
     let same = ap (λ (x : Applied). x.0) c.in_ok-class.ensures.ok in
     IfOk-weaker c.enodes.result (λ s. AreClassNodes form k r a (class_sources k r a.0) s.keys) (λ s. IsNoneIfDead g i s.keys)
@@ -90,7 +90,7 @@ returns-clause-nodes l c =
     let r = c.self.inside.nodes in
     let a = to_applied c.in_ok-class.class in
     let image : image_of k ≡ g.image = ap (λ (x : Graph). x.image) c.self.view_is in
-    let inv : Good k × HasFreshSlots c.self.inside.table k × RestsWith k r = elim c.self.invariant [ inl h ↦ absurd (false≢true (sym c.if-self.false ∙ h)) | inr h ↦ h ] in
+    let inv : Good k × HasFreshSlots c.self.inside.table k × RestsWith k r = elim c.self.invariant [ inl h ↦ absurd (false≢true (sym c.if-self.false ∙ h)) | inr h ↦ (h.0, h.1, h.2) ] in
     let fresh : HasFreshSlots g.table k = subst (λ (x : Graph). HasFreshSlots x.table k) c.self.view_is inv.1 in
     let valid : i < length g.image.canonical = elim c.requires [ inl h ↦ absurd (false≢true (sym c.if-self.false ∙ (ap (λ (x : Graph). x.failed) c.self.view_is ∙ h))) | inr v ↦ v ] in
     let same = c.in_ok-class.ensures.ok ∙ names-are k inv.0 g image i valid in
@@ -109,7 +109,7 @@ returns-clause-names l c =
     let r = c.self.inside.nodes in
     let a = to_applied c.in_ok-class.class in
     let image : image_of k ≡ g.image = ap (λ (x : Graph). x.image) c.self.view_is in
-    let inv : Good k × HasFreshSlots c.self.inside.table k × RestsWith k r = elim c.self.invariant [ inl h ↦ absurd (false≢true (sym c.if-self.false ∙ h)) | inr h ↦ h ] in
+    let inv : Good k × HasFreshSlots c.self.inside.table k × RestsWith k r = elim c.self.invariant [ inl h ↦ absurd (false≢true (sym c.if-self.false ∙ h)) | inr h ↦ (h.0, h.1, h.2) ] in
     let valid : i < length g.image.canonical = elim c.requires [ inl h ↦ absurd (false≢true (sym c.if-self.false ∙ (ap (λ (x : Graph). x.failed) c.self.view_is ∙ h))) | inr v ↦ v ] in
     let slots = ap (λ (x : Applied). values x.1) c.in_ok-class.ensures.ok ∙ (values-identity (used_slots (entries_of k) i) ∙ slots-are k inv.0 g image i valid) in
     IfOk-weaker c.enodes.result (λ s. AreClassNodes form k r a (class_sources k r a.0) s.keys) (λ s. All (λ n. HasOwnNames g.image i (form n)) s.keys)
@@ -119,6 +119,6 @@ pub returns-clause-full : goal.returns-clause-full
 returns-clause-full l c out =
     let k = c.self.inside.store in
     let r = c.self.inside.nodes in
-    let inv : Good k × HasFreshSlots c.self.inside.table k × RestsWith k r = elim c.self.invariant [ inl h ↦ absurd (false≢true (sym c.if-self.false ∙ h)) | inr h ↦ h ] in
+    let inv : Good k × HasFreshSlots c.self.inside.table k × RestsWith k r = elim c.self.invariant [ inl h ↦ absurd (false≢true (sym c.if-self.false ∙ h)) | inr h ↦ (h.0, h.1, h.2) ] in
     large-of_class k r inv.0 inv.2 c.args.self.now (ap (λ (x : Graph). x.image) c.self.view_is) (ap (λ (x : Graph). x.filed) c.self.view_is)
     c.args.id.0 (subst (λ i. HasLargeKeyOf r (class_sources k r i)) (ap (λ (x : Applied). x.0) c.in_ok-class.ensures.ok) (c.enodes.ensures.full out))

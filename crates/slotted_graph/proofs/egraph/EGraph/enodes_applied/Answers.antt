@@ -44,7 +44,7 @@ enodes_applied-requires-clause-known l c =
 pub invariant_of-self : goal.invariant_of-self
 invariant_of-self g c = elim c.self.invariant [
   | inl h ↦ inl h
-  | inr h ↦ inr (h.0, fresh_slots-more c.self.inside.table c.enodes_applied.new.table c.self.inside.store c.enodes_applied.ensures.more h.1, h.2)
+  | inr h ↦ inr (h.0, fresh_slots-more c.self.inside.table c.enodes_applied.new.table c.self.inside.store c.enodes_applied.ensures.more h.1, h.2, h.3)
 ]
 
 pub returns-clause-each : goal.returns-clause-each
@@ -54,7 +54,7 @@ returns-clause-each l c =
     let k = c.self.inside.store in
     let r = c.self.inside.nodes in
     let a = to_applied c.args.a.now in
-    let inv : Good k × HasFreshSlots c.self.inside.table k × RestsWith k r = elim c.self.invariant [ inl h ↦ absurd (false≢true (sym c.if-self.false ∙ h)) | inr h ↦ h ] in
+    let inv : Good k × HasFreshSlots c.self.inside.table k × RestsWith k r = elim c.self.invariant [ inl h ↦ absurd (false≢true (sym c.if-self.false ∙ h)) | inr h ↦ (h.0, h.1, h.2) ] in
     IfOk-weaker c.enodes_applied.result (λ v. AreEnodes form l.L.Ord.cmp c.self.inside.table c.enodes_applied.new.table k r a v.items) (λ v. HasEachNode form g a.0 v.items)
     (λ v is. each-node k r inv.0 inv.2 g (ap (λ (x : Graph). x.image) c.self.view_is) (ap (λ (x : Graph). x.filed) c.self.view_is) a.0 form l.met.L.LanguageChildren.fits is.sources v.items is.same
     (permuted-same _ _ is.nodes.keys))
@@ -73,7 +73,7 @@ returns-clause-nodes l c =
     let k = c.self.inside.store in
     let r = c.self.inside.nodes in
     let a = to_applied c.args.a.now in
-    let inv : Good k × HasFreshSlots c.self.inside.table k × RestsWith k r = elim c.self.invariant [ inl h ↦ absurd (false≢true (sym c.if-self.false ∙ h)) | inr h ↦ h ] in
+    let inv : Good k × HasFreshSlots c.self.inside.table k × RestsWith k r = elim c.self.invariant [ inl h ↦ absurd (false≢true (sym c.if-self.false ∙ h)) | inr h ↦ (h.0, h.1, h.2) ] in
     let valid : IsValidId g a = elim c.requires [ inl h ↦ absurd (false≢true (sym c.if-self.false ∙ (ap (λ (x : Graph). x.failed) c.self.view_is ∙ h))) | inr v ↦ v ] in
     let findable : IsFindable k a = of-valid k inv.0 g (ap (λ (x : Graph). x.image) c.self.view_is) a valid in
     IfOk-weaker c.enodes_applied.result (λ v. AreEnodes form l.L.Ord.cmp c.self.inside.table c.enodes_applied.new.table k r a v.items) _
@@ -83,7 +83,7 @@ pub returns-clause-full : goal.returns-clause-full
 returns-clause-full l c out =
     let k = c.self.inside.store in
     let r = c.self.inside.nodes in
-    let inv : Good k × HasFreshSlots c.self.inside.table k × RestsWith k r = elim c.self.invariant [ inl h ↦ absurd (false≢true (sym c.if-self.false ∙ h)) | inr h ↦ h ] in
+    let inv : Good k × HasFreshSlots c.self.inside.table k × RestsWith k r = elim c.self.invariant [ inl h ↦ absurd (false≢true (sym c.if-self.false ∙ h)) | inr h ↦ (h.0, h.1, h.2) ] in
     runs-out_of k r inv.0 inv.2 c.args.self.now c.enodes_applied.new.table (ap (λ (x : Graph). x.image) c.self.view_is) (ap (λ (x : Graph). x.filed) c.self.view_is)
     c.args.a.now.id.0 (subst (λ (t : Table). RunsOutForKeys r (class_sources k r c.args.a.now.id.0) t c.enodes_applied.new.table) (ap (λ (x : Graph). x.table) c.self.view_is) (c.enodes_applied.ensures.full out))
 
@@ -95,7 +95,7 @@ returns-clause-dead l c =
     let r = c.self.inside.nodes in
     let a = to_applied c.args.a.now in
     let image : image_of k ≡ g.image = ap (λ (x : Graph). x.image) c.self.view_is in
-    let inv : Good k × HasFreshSlots c.self.inside.table k × RestsWith k r = elim c.self.invariant [ inl h ↦ absurd (false≢true (sym c.if-self.false ∙ h)) | inr h ↦ h ] in
+    let inv : Good k × HasFreshSlots c.self.inside.table k × RestsWith k r = elim c.self.invariant [ inl h ↦ absurd (false≢true (sym c.if-self.false ∙ h)) | inr h ↦ (h.0, h.1, h.2) ] in
     let valid : IsValidId g a = elim c.requires [ inl h ↦ absurd (false≢true (sym c.if-self.false ∙ (ap (λ (x : Graph). x.failed) c.self.view_is ∙ h))) | inr v ↦ v ] in
     IfOk-weaker c.enodes_applied.result (λ v. AreEnodes form l.L.Ord.cmp c.self.inside.table c.enodes_applied.new.table k r a v.items) (λ v. IsNoneIfDead g a.0 v.items)
     (λ v is dead. none-dead k r inv.0 inv.2 g image (ap (λ (x : Graph). x.filed) c.self.view_is) a.0 form (within k g.image image a.0 valid.in_range) dead is.sources v.items is.same (permuted-same _ _ is.nodes.keys))
@@ -116,7 +116,7 @@ returns-clause-count l c =
     let r = c.self.inside.nodes in
     let a = to_applied c.args.a.now in
     let u = c.enodes_applied.new.table in
-    let inv : Good k × HasFreshSlots c.self.inside.table k × RestsWith k r = elim c.self.invariant [ inl h ↦ absurd (false≢true (sym c.if-self.false ∙ h)) | inr h ↦ h ] in
+    let inv : Good k × HasFreshSlots c.self.inside.table k × RestsWith k r = elim c.self.invariant [ inl h ↦ absurd (false≢true (sym c.if-self.false ∙ h)) | inr h ↦ (h.0, h.1, h.2) ] in
     subst (λ (x : Graph). MakesAtMost (slots_for_enodes g a.0) x.table u) c.self.view_is (record {
       names = c.enodes_applied.ensures.kept;
       taken = takes-found k r inv.0 inv.2 g (ap (λ (x : Graph). x.image) c.self.view_is) (ap (λ (x : Graph). x.filed) c.self.view_is) a.0 c.self.inside.table u c.enodes_applied.ensures.takes;

@@ -23,6 +23,9 @@ find_matches-requires-clause-rests g c =
     let inv = invariant-of c.self.inside.failed c.self.inside.table c.self.inside.store c.self.inside.nodes c.if-self.false c.self.invariant in
     at-rest c.self.inside.store c.self.inside.nodes inv.0 inv.2
 
+pub find_matches-requires-clause-index : goal.find_matches-requires-clause-index
+find_matches-requires-clause-index g c = (invariant-of c.self.inside.failed c.self.inside.table c.self.inside.store c.self.inside.nodes c.if-self.false c.self.invariant).3
+
 pub find_matches-requires-clause-known : goal.find_matches-requires-clause-known
 find_matches-requires-clause-known g c =
     elim c.requires [
@@ -33,7 +36,7 @@ find_matches-requires-clause-known g c =
 pub invariant_of-self : goal.invariant_of-self
 invariant_of-self g c = elim c.self.invariant [
   | inl h ↦ inl h
-  | inr h ↦ inr (h.0, fresh_slots-more c.self.inside.table c.find_matches.new.table c.self.inside.store c.find_matches.ensures.more h.1, h.2)
+  | inr h ↦ inr (h.0, fresh_slots-more c.self.inside.table c.find_matches.new.table c.self.inside.store c.find_matches.ensures.more h.1, h.2, c.find_matches.ensures.index)
 ]
 
 pub returns-clause-finds : goal.returns-clause-finds

@@ -17,7 +17,7 @@ returns-clause-nodes l c = elim c.self.invariant [
 pub returns-clause-rests : goal.returns-clause-rests
 returns-clause-rests l c = elim c.self.invariant [
   | inl failed ↦ inl (ap (λ (x : Graph). x.failed) (sym c.self.view_is) ∙ failed)
-  | inr well ↦ has_failed c.self.inside.failed refl well
+  | inr well ↦ has_failed c.self.inside.failed refl (well.0, well.1, well.2)
 ]
   where
     has_failed : (b : Bool) → c.self.inside.failed ≡ b → Good c.self.inside.store × HasFreshSlots c.self.inside.table c.self.inside.store × RestsWith c.self.inside.store c.self.inside.nodes → IsTrue c.args.self.now.failed ⊎ IsGraph c.args.self.now

@@ -15,6 +15,6 @@ returns-clause-each l c =
     let k = c.self.inside.store in
     let r = c.self.inside.nodes in
     let costs = costs_by l.F.Cost.Ord.cmp (l.F.CostFunction.node_cost c.args.costs.now) in
-    let inv : Good k × HasFreshSlots c.self.inside.table k × RestsWith k r = elim c.self.invariant [ inl h ↦ absurd (false≢true (sym c.if-self.false ∙ h)) | inr h ↦ h ] in
+    let inv : Good k × HasFreshSlots c.self.inside.table k × RestsWith k r = elim c.self.invariant [ inl h ↦ absurd (false≢true (sym c.if-self.false ∙ h)) | inr h ↦ (h.0, h.1, h.2) ] in
     IfOk-weaker c.least_terms.result (λ t. AreLeast form k r costs t.entries.items) (λ t. HasEachLiveClass c.args.self.now t.entries.items)
     (λ t least. subst (λ (h : Graph). HasEachLiveClass h t.entries.items) c.self.view_is (seen-each form k r inv.0 inv.2 costs t.entries.items least c.self.inside.failed c.self.inside.table)) c.least_terms.ensures.ok

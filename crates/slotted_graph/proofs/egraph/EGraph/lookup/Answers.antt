@@ -26,7 +26,7 @@ look_up-requires-clause-children g c =
     let r = c.self.inside.nodes in
     let image : image_of k ≡ h.image = ap (λ (x : Graph). x.image) c.self.view_is in
     let filed : rows_in r.filed ≡ h.filed = ap (λ (x : Graph). x.filed) c.self.view_is in
-    let well : Good k × HasFreshSlots c.self.inside.table k × RestsWith k r = elim c.self.invariant [ inl e ↦ absurd (false≢true (sym c.if-self.false ∙ e)) | inr v ↦ v ] in
+    let well : Good k × HasFreshSlots c.self.inside.table k × RestsWith k r = elim c.self.invariant [ inl e ↦ absurd (false≢true (sym c.if-self.false ∙ e)) | inr v ↦ (v.0, v.1, v.2) ] in
     let valid : IsValidNode h f = elim c.requires [ inl e ↦ absurd (false≢true (sym c.if-self.false ∙ (ap (λ (x : Graph). x.failed) c.self.view_is ∙ e))) | inr v ↦ v ] in
     findable-children k well.0 h image f (g.met.L.LanguageChildren.fits c.args.node.now) valid.children
 
@@ -38,7 +38,7 @@ returns-clause-id g c =
     let r = c.self.inside.nodes in
     let image : image_of k ≡ h.image = ap (λ (x : Graph). x.image) c.self.view_is in
     let filed : rows_in r.filed ≡ h.filed = ap (λ (x : Graph). x.filed) c.self.view_is in
-    let well : Good k × HasFreshSlots c.self.inside.table k × RestsWith k r = elim c.self.invariant [ inl e ↦ absurd (false≢true (sym c.if-self.false ∙ e)) | inr v ↦ v ] in
+    let well : Good k × HasFreshSlots c.self.inside.table k × RestsWith k r = elim c.self.invariant [ inl e ↦ absurd (false≢true (sym c.if-self.false ∙ e)) | inr v ↦ (v.0, v.1, v.2) ] in
     let valid : IsValidNode h f = elim c.requires [ inl e ↦ absurd (false≢true (sym c.if-self.false ∙ (ap (λ (x : Graph). x.failed) c.self.view_is ∙ e))) | inr v ↦ v ] in
     IfOk-weaker c.look_up.result _ (λ (o : Option AppliedId). option_map to_applied o ≡ look_up h f)
     (λ o e. node-id k r well.0 well.2 h image filed f (g.met.L.LanguageChildren.fits c.args.node.now) valid o e) c.look_up.ensures.ok
@@ -51,7 +51,7 @@ returns-clause-found g c =
     let r = c.self.inside.nodes in
     let image : image_of k ≡ h.image = ap (λ (x : Graph). x.image) c.self.view_is in
     let filed : rows_in r.filed ≡ h.filed = ap (λ (x : Graph). x.filed) c.self.view_is in
-    let well : Good k × HasFreshSlots c.self.inside.table k × RestsWith k r = elim c.self.invariant [ inl e ↦ absurd (false≢true (sym c.if-self.false ∙ e)) | inr v ↦ v ] in
+    let well : Good k × HasFreshSlots c.self.inside.table k × RestsWith k r = elim c.self.invariant [ inl e ↦ absurd (false≢true (sym c.if-self.false ∙ e)) | inr v ↦ (v.0, v.1, v.2) ] in
     let valid : IsValidNode h f = elim c.requires [ inl e ↦ absurd (false≢true (sym c.if-self.false ∙ (ap (λ (x : Graph). x.failed) c.self.view_is ∙ e))) | inr v ↦ v ] in
     IfOk-weaker c.look_up.result _ (λ (o : Option AppliedId). IfSome o (λ a. IsFound h (to_applied a)))
     (λ o e. node-found k r well.0 well.2 h image filed f (g.met.L.LanguageChildren.fits c.args.node.now) valid o e) c.look_up.ensures.ok
@@ -64,7 +64,7 @@ returns-clause-equal g c =
     let r = c.self.inside.nodes in
     let image : image_of k ≡ h.image = ap (λ (x : Graph). x.image) c.self.view_is in
     let filed : rows_in r.filed ≡ h.filed = ap (λ (x : Graph). x.filed) c.self.view_is in
-    let well : Good k × HasFreshSlots c.self.inside.table k × RestsWith k r = elim c.self.invariant [ inl e ↦ absurd (false≢true (sym c.if-self.false ∙ e)) | inr v ↦ v ] in
+    let well : Good k × HasFreshSlots c.self.inside.table k × RestsWith k r = elim c.self.invariant [ inl e ↦ absurd (false≢true (sym c.if-self.false ∙ e)) | inr v ↦ (v.0, v.1, v.2) ] in
     let valid : IsValidNode h f = elim c.requires [ inl e ↦ absurd (false≢true (sym c.if-self.false ∙ (ap (λ (x : Graph). x.failed) c.self.view_is ∙ e))) | inr v ↦ v ] in
     IfOk-weaker c.look_up.result _ (λ (o : Option AppliedId). IfSome o (λ a. IsEqualToNode h.image (to_applied a) f))
     (λ o e. node-equal_to k r well.0 well.2 h image filed f (g.met.L.LanguageChildren.fits c.args.node.now) valid o e) c.look_up.ensures.ok

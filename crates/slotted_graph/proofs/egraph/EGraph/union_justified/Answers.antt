@@ -7,6 +7,7 @@ use Rattle.slotted_core.specs.Graph.{Graph}
 use Rattle.slotted_core.proofs.FiledClasses.{grown-fresh}
 use Rattle.slotted_core.proofs.ValidIds.{of-valid}
 use Rattle.slotted_graph.proofs.Measured.{never-rises}
+use Rattle.slotted_graph.proofs.Indexes.{no-index}
 use Rattle.slotted_graph.proofs.egraph.EGraph.union_justified.Goals as goal
 
 pub union-requires-clause-left : goal.union-requires-clause-left
@@ -36,6 +37,7 @@ invariant_of-self-2 g c = elim c.self.invariant [
     c.in_ok-answer.ensures.ok.good,
     grown-fresh c.self.inside.table c.self.inside.store c.union.new.store c.in_ok-answer.ensures.ok.nodes h.1,
     c.in_ok-answer.ensures.ok.rests,
+    no-index _ c.clear.new.self.indexed c.clear.ensures,
   )
 ]
 

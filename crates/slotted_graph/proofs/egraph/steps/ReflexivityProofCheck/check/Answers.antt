@@ -7,6 +7,7 @@ use Rattle.slotted_proofs.specs.Equations.{statement_of}
 use Rattle.slotted_proofs.specs.Steps.{IsReflexiveStep, by_step}
 use Rattle.slotted_proofs.specs.StepClaims.{IsOfFull}
 use Rattle.slotted_core.proofs.AcceptedSteps.{both_ok, Checked, reflexive_checked, kept_good, says_accepted, says_derivable, says_leaves}
+use Rattle.slotted_graph.proofs.Indexes.{no-index}
 use Rattle.slotted_graph.proofs.egraph.steps.ReflexivityProofCheck.check.Goals as goal
 
 pub invariant_of-graph : goal.invariant_of-graph
@@ -17,9 +18,10 @@ invariant_of-graph g c =
     let r = c.check_reflexive.result in
     let l = c.check_reflexive.new.store in
     let rows = c.graph.inside.nodes in
-    let h : Good k × HasFreshSlots t k × RestsWith k rows = elim c.graph.invariant [ inl h ↦ absurd (false≢true (sym c.if-graph.false ∙ h)) | inr h ↦ h ] in
+    let h : Good k × HasFreshSlots t k × RestsWith k rows = elim c.graph.invariant [ inl h ↦ absurd (false≢true (sym c.if-graph.false ∙ h)) | inr h ↦ (h.0, h.1, h.2) ] in
     let checked = both_ok r (λ p. IsOfFull (nodes_of k) e × IsReflexiveStep e) (EntersIn k l (by_step (statement_of e) (reflexive))) (Checked t k l e (reflexive)) (λ p f x. reflexive_checked t k l e p h.0 f x) c.check_reflexive.ensures.fits c.check_reflexive.ensures.ok in
-    inr (kept_good r t k l rows e (reflexive) h checked c.check_reflexive.ensures.err)
+    let kept = kept_good r t k l rows e (reflexive) h checked c.check_reflexive.ensures.err in
+    inr (kept.0, kept.1, kept.2, no-index _ c.clear.new.self.indexed c.clear.ensures)
 
 pub returns-clause-accepted : goal.returns-clause-accepted
 returns-clause-accepted g c =

@@ -7,6 +7,7 @@ use Rattle.slotted_proofs.specs.Equations.{statement_of}
 use Rattle.slotted_proofs.specs.Steps.{IsTransitiveStep, by_step}
 use Rattle.slotted_proofs.specs.StepClaims.{IsOfFull}
 use Rattle.slotted_core.proofs.AcceptedSteps.{both_ok, Checked, transitive_checked, transitive_refused, kept_good, says_refused, says_fits, says_accepted, says_derivable, says_leaves}
+use Rattle.slotted_graph.proofs.Indexes.{no-index}
 use Rattle.slotted_graph.proofs.egraph.steps.TransitivityProofCheck.check.Goals as goal
 
 pub invariant_of-graph : goal.invariant_of-graph
@@ -17,9 +18,10 @@ invariant_of-graph g c =
     let r = c.check_transitive.result in
     let l = c.check_transitive.new.store in
     let rows = c.graph.inside.nodes in
-    let h : Good k × HasFreshSlots t k × RestsWith k rows = elim c.graph.invariant [ inl h ↦ absurd (false≢true (sym c.if-graph.false ∙ h)) | inr h ↦ h ] in
+    let h : Good k × HasFreshSlots t k × RestsWith k rows = elim c.graph.invariant [ inl h ↦ absurd (false≢true (sym c.if-graph.false ∙ h)) | inr h ↦ (h.0, h.1, h.2) ] in
     let checked = both_ok r (λ p. IsOfFull (nodes_of k) e × IsTransitiveStep k.proofs e c.args.self.now.0 c.args.self.now.1) (EntersIn k l (by_step (statement_of e) (transitive c.args.self.now.0 c.args.self.now.1))) (Checked t k l e (transitive c.args.self.now.0 c.args.self.now.1)) (λ p f x. transitive_checked t k l e c.args.self.now.0 c.args.self.now.1 p h.0 f x) c.check_transitive.ensures.fits c.check_transitive.ensures.ok in
-    inr (kept_good r t k l rows e (transitive c.args.self.now.0 c.args.self.now.1) h checked c.check_transitive.ensures.err)
+    let kept = kept_good r t k l rows e (transitive c.args.self.now.0 c.args.self.now.1) h checked c.check_transitive.ensures.err in
+    inr (kept.0, kept.1, kept.2, no-index _ c.clear.new.self.indexed c.clear.ensures)
 
 pub returns-clause-fits : goal.returns-clause-fits
 returns-clause-fits g c =
