@@ -64,7 +64,7 @@ empty : {X : Type 0} (xs : List X) → length xs ≡ 0 → xs ≡ []
 empty [] e = refl
 empty (x ∷ xs) e = absurd (omega (arith, e))
 
-places-of_shape : (f : Form) → Fits f → place_count (theory.shape (nameless_node f)) ≡ length f.names
+pub places-of_shape : (f : Form) → Fits f → place_count (theory.shape (nameless_node f)) ≡ length f.names
 places-of_shape f fits = count-moved (theory.number_in (theory.free_names (nameless_node f).args)) (nameless_node f).args ∙ places-counted f fits
 
 -- a list in its own order

@@ -1,5 +1,5 @@
 -- What a search over what is kept and filed finds, as a search over the graph.
-use Rattle.std.proofs.Common.{◌≡◌, ◌∙◌, ◌<◌, ℕ, List, [], ◌∷◌, ◌++◌, Some, length, ap, refl, sym, subst, inl, inr}
+use Rattle.std.proofs.Common.{◌≡◌, ◌∙◌, ◌<◌, ◌+◌, ℕ, suc, arith, List, [], ◌∷◌, ◌++◌, Some, length, ap, refl, sym, subst, inl, inr}
 use Rattle.std.proofs.lemmas.Bool.{false≢true}
 use Rattle.std.specs.Prelude.{◌⊎◌, Bool, true, false, cond, slice_index_or, Contains, IsTrue, map, Result, Ok, Err, IfOk}
 use Rattle.std.proofs.lemmas.List.Elements.{Contains-append_left, Contains-append_right}
@@ -7,7 +7,14 @@ use Rattle.std.proofs.lemmas.List.{get_or_default}
 use Rattle.slotted_slots.specs.declared.error.Error.{Error}
 use Rattle.slotted_slots.specs.Table.{Table}
 use Rattle.slotted_terms.specs.Valid.{AllKnown}
+use Rattle.slotted_nodes.specs.Form.{Form, children}
+use Rattle.slotted_languages.specs.Shape.{Fits}
+use Rattle.slotted_languages.specs.NodeTerm.{nameless_node}
 use Rattle.slotted_theory.specs.Decided.{numbers_eq}
+use Rattle.slotted_theory.specs.Nameless.{DArgs, stop, place, sub, scope, lift, moved_args}
+use Rattle.slotted_theory.specs.Shape.{free_names, number_in, shape}
+use Rattle.slotted_model.specs.Cost.{child_count}
+use Rattle.slotted_model.specs.State.{Row}
 use Rattle.slotted_model.specs.Applied.{values}
 use Rattle.slotted_model.proofs.Members.{In, In-Contains, Contains-In}
 use Rattle.slotted_model_rules.specs.Conditions.{Values}
@@ -20,16 +27,21 @@ use Rattle.slotted_patterns.specs.Tree.{PatternTree}
 use Rattle.slotted_rule_patterns.specs.PatternCode.{pattern_in}
 use Rattle.slotted_match_machine.specs.Programs.{variables_of, variables_in}
 use Rattle.slotted_matching.specs.Compiled.{KnowsEach}
-use Rattle.slotted_matching.specs.Found.{AreValidFound, Finds, HaveVariables}
+use Rattle.slotted_matching.specs.Found.{AreReadings, AreValidFound, HaveVariables, IsFound, IsFoundAt, RunsOutFor, TakesFor}
+use Rattle.slotted_matching.specs.Indexed.{HasWideKey}
 use Rattle.slotted_store.specs.Kept.{Kept}
-use Rattle.slotted_filing.specs.FiledRows.{Rows, rows_in}
+use Rattle.slotted_filing.specs.FiledRows.{Rows, row_of_entry, rows_in}
+use Rattle.slotted_filing.proofs.FiledRows.{row-filed}
+use Rattle.slotted_adding.proofs.AppliedNodes.{filed-key}
+use Rattle.slotted_costs.proofs.Alike.{count-node}
 use Rattle.slotted_rebuilding.specs.Filed.{state_in}
 use Rattle.slotted_core.specs.Good.{Good, RestsWith, HasFreshSlots, image_of}
 use Rattle.slotted_core.specs.Graph.{Graph}
 use Rattle.slotted_core.specs.ValidIds.{IsValidId}
 use Rattle.slotted_core.proofs.ValidIds.{to-valid}
-use Rattle.slotted_graph.specs.Matching.{AreFoundValid, AreValidValues, FindsAll, FindsAllOf, FindsEachOf, FindsLookedUp}
-use Rattle.slotted_graph.proofs.Matching.{found-each, found-looked_up}
+use Rattle.slotted_graph.specs.Matching.{AreFoundValid, FindsAll, FindsAllAt, HasWideRow}
+use Rattle.slotted_graph.specs.States.{IsStateOf}
+use Rattle.slotted_graph.proofs.Enodes.{places-of_shape}
 
 first-there : (v : List ℕ) → Contains (v ∷ []) v
 first-there v = Contains-In (v ∷ []) v (inl refl)
@@ -73,35 +85,57 @@ valued-entry (e ∷ s) v i = by (valued-entry s v) (numbers_eq e.0 v) refl
 known-all : (g : Graph) (xs : List ℕ) → KnowsEach g.table xs → AllKnown g.table xs
 known-all g xs h = λ j d l. h (slice_index_or xs j d) (j, l, get_or_default xs j (slice_index_or xs j d) d l)
 
-module _ (h : Graph) (k : Kept) (r : Rows) (good : Good k) (rests : RestsWith k r) (fresh : HasFreshSlots h.table k) (image : image_of k ≡ h.image) (filed : rows_in r.filed ≡ h.filed)
-    (t : PatternTree) (found : List Values) where
-  pub all-of : Finds k r t found → FindsAllOf h t found
-  all-of finds p e =
-      let f = finds p e in
-      record {
-        state = state_in k r;
-        is_state = record { kept = k; rows = r; good = good; rests = rests; fresh = fresh; image = image; filed = filed; state = refl };
-        order = f.order;
-        rows = f.rows;
-        searches = f.searches;
-      }
+-- names are moved, and children stay as many
+child_count-moved : (ρ : ℕ → ℕ) (d : DArgs) → child_count (moved_args ρ d) ≡ child_count d
+child_count-moved ρ stop = refl
+child_count-moved ρ (place x rest) = child_count-moved ρ rest
+child_count-moved ρ (sub op payloads args rest) = ap suc (child_count-moved ρ rest)
+child_count-moved ρ (scope inner rest) = λ i. child_count-moved (lift ρ) inner i + child_count-moved ρ rest i
 
-  pub valid-of : AreValidFound h.table k r found → AreFoundValid h found
-  valid-of valid s c e d = let v = valid s c e d in to-valid k good h image e.1 v.0 (known-all h (values e.1.1) v.1)
+module _ (h : Graph) (k : Kept) (r : Rows) (good : Good k) (rests : RestsWith k r) (fresh : HasFreshSlots h.table k) (image : image_of k ≡ h.image) (filed : rows_in r.filed ≡ h.filed) where
+  abbrev is_state : IsStateOf h (state_in k r)
+  is_state = record { kept = k; rows = r; good = good; rests = rests; fresh = fresh; image = image; filed = filed; state = refl }
 
-  module _ (finds : Finds k r t found) (valid : AreValidFound h.table k r found) (variables : HaveVariables t found) (p : Pattern) (e : pattern_in t ≡ Some p) where
-    each-valid : (s : Values) → Contains found s → EachVariable (λ v. IsValidId h (valued s v)) p
-    each-valid s c =
+  pub found-of : (p : Pattern) (found : List Values) → IsFound k r p found → FindsAll h p found
+  found-of p found f = record { state = state_in k r; is_state = is_state; order = f.order; rows = f.rows; searches = f.searches; in_turn = f.in_turn }
+
+  pub found-at_of : (c d : ℕ) → c ≡ d → (p : Pattern) (found : List Values) → IsFoundAt k r c p found → FindsAllAt h d p found
+  found-at_of c d e p found f = record {
+    state = state_in k r;
+    is_state = is_state;
+    order = f.order;
+    rows = f.rows;
+    readings = subst (λ n. AreReadings (state_in k r) f.order p n found) e f.readings;
+  }
+
+  -- a key with too many places is that of a filed node
+  pub wide-row : HasWideKey r → HasWideRow h
+  wide-row x =
+      let f : Form = x.1 in
+      let row : Row = row_of_entry (f, (x.0, x.2.0)) in
+      let fits : Fits f = (filed-key k r rests.filed x.0 f x.2.0 x.2.1).fits in
+      let count : child_count (shape (nameless_node f)).args ≡ length (children f.tree) = child_count-moved (number_in (free_names (nameless_node f).args)) (nameless_node f).args ∙ count-node f in
+      (row, subst (λ rs. Contains rs row) filed (row-filed r.filed x.0 f x.2.0 x.2.1), omega (arith, x.3, places-of_shape f fits, count))
+
+  module _ (t : PatternTree) (found : List Values) where
+    pub valid-of : AreValidFound h.table k r found → AreFoundValid h found
+    valid-of valid s c e d = let v = valid s c e d in to-valid k good h image e.1 v.0 (known-all h (values e.1.1) v.1)
+
+    -- each variable has a valid value
+    pub each-valid : AreValidFound h.table k r found → HaveVariables t found → (p : Pattern) → pattern_in t ≡ Some p → (s : Values) → Contains found s → EachVariable (λ v. IsValidId h (valued s v)) p
+    each-valid valid variables p e s c =
         each-of (λ v. IsValidId h (valued s v)) p
         (λ v d. let w = valued-entry s v (In-Contains (map (λ e. e.0) s) v (variables s c p e v d)) in valid-of valid s c (w.0, valued s v) (Contains-In s (w.0, valued s v) w.1))
 
-    pub looked-up-of : (s : Values) → Contains found s → Rattle.slotted_graph.specs.PatternLookUps.IsLookedUpLive h s p
-    looked-up-of s c = found-looked_up h p found (all-of finds p e) s c (each-valid s c)
+    pub each-within : AreValidFound h.table k r found → HaveVariables t found → (p : Pattern) → pattern_in t ≡ Some p → (s : Values) → Contains found s → EachVariable (λ v. (valued s v).0 < length h.image.canonical) p
+    each-within valid variables p e s c = each-variable (λ v. (valued s v).0 < length h.image.canonical) (λ v. IsValidId h (valued s v)) (λ v w. w.in_range) p (each-valid valid variables p e s c)
 
-    pub each-of_found : Rattle.slotted_graph.specs.Matching.FindsEach h p found
-    each-of_found =
-        found-each h p found (all-of finds p e)
-        (λ s c. each-variable (λ v. (valued s v).0 < length h.image.canonical) (λ v. IsValidId h (valued s v)) (λ v w. w.in_range) p (each-valid s c))
+-- how many slots are taken, by what is found in a graph
+pub takes-in : (t : PatternTree) (F G : Pattern → List Values → Type 0) → ((p : Pattern) (found : List Values) → F p found → G p found) → (u v : Table) → TakesFor t F u v → TakesFor t G u v
+takes-in t F G h u v takes p e = let n = takes p e in (n.0, h p n.0 n.1, n.2)
+
+pub runs_out-in : (t : PatternTree) (F G : Pattern → List Values → Type 0) → ((p : Pattern) (found : List Values) → F p found → G p found) → (u v : Table) → RunsOutFor t F u v → RunsOutFor t G u v
+runs_out-in t F G h u v out p e = let n = out p e in (n.0, h p n.0 n.1, n.2)
 
 pub ok-with : {A : Type 0} {P Q : A → Type 0} (o : Result A Error) → IfOk o P → ((a : A) → P a → Q a) → IfOk o Q
 ok-with (Ok a) h f = f a h

@@ -1,6 +1,7 @@
 -- What patterns are looked up as in a graph.
 --     look_up_pattern g ρ σ p    the id of a pattern, where σ gives ids to its variables and ρ numbers the names outside
 --     IsLookedUpLive g s p       it is that of a live class, for the values s
+--     IsLookedUpAt g c s p       it is that of the class c
 use Rattle.std.specs.Prelude.{◌≡◌, ℕ, List, Option, Some, None, option_map, option_and_then}
 use Rattle.slotted_theory.specs.Nameless.{DArgs, stop, place, scope, extend}
 use Rattle.slotted_theory.proofs.Values.{node, child_before}
@@ -33,3 +34,8 @@ pub record IsLookedUpLive (g : Graph) (s : Values) (p : Pattern) : Type 0 where
   pub answer : Applied
   pub looked_up : look_up_pattern g (λ y. y) (valued s) p ≡ Some answer
   pub live : class_found g.image answer.0 ≡ answer.0
+
+pub record IsLookedUpAt (g : Graph) (c : ℕ) (s : Values) (p : Pattern) : Type 0 where
+  pub answer : Applied
+  pub looked_up : look_up_pattern g (λ y. y) (valued s) p ≡ Some answer
+  pub class : answer.0 ≡ c

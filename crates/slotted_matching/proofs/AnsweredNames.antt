@@ -31,7 +31,7 @@ use Rattle.slotted_matching.specs.Naming.{IsNaming, slot_in}
 use Rattle.slotted_matching.specs.Answered.{NumbersByName, StandOnce, HasName, IsNamedAnswer, HasWholeIds, HasDifferentPairs}
 
 -- one pair for each number, and for each slot
-one-pair : (f : ℕ × ℕ → ℕ) (A : List (ℕ × ℕ)) (p q : ℕ × ℕ) → AllDifferent (map f A) → Contains A p → Contains A q → f p ≡ f q → p ≡ q
+pub one-pair : (f : ℕ × ℕ → ℕ) (A : List (ℕ × ℕ)) (p q : ℕ × ℕ) → AllDifferent (map f A) → Contains A p → Contains A q → f p ≡ f q → p ≡ q
 one-pair f [] p q d a b e = absurd (Contains-nil p a)
 one-pair f (x ∷ A) p q d a b e = elim (contains_cases x A p a) [
   | inl g ↦ elim (contains_cases x A q b) [

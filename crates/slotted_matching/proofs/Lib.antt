@@ -22,4 +22,8 @@ pub mod AnsweredNames
 pub mod AnsweredInTurn
 pub mod NumberedNames
 pub mod Programs
+pub mod Readings
+pub mod PatternSlots
+pub mod NameCounts
+pub mod Needed
 pub mod Finding

@@ -13,7 +13,7 @@ use Rattle.slotted_patterns.specs.Known.{AreKnown, HasKnownNames, HaveKnownNames
 use Rattle.slotted_match_machine.specs.declared.program.Source.{Source}
 use Rattle.slotted_match_machine.specs.declared.program.Step.{Step}
 use Rattle.slotted_match_machine.specs.declared.program.Step.TheVariants.{Node, Variable}
-use Rattle.slotted_matching.specs.Compiled.{AreFewer, BeginsWith, HoldsSlots, KnowsEach, common_names, pattern_names}
+use Rattle.slotted_matching.specs.Compiled.{AreFewer, BeginsWith, HoldsSlots, HasWideNode, HaveWideNode, KnowsEach, common_names, pattern_names}
 use Rattle.slotted_matching.proofs.KeyNames.{In-drop, In-first, In-take}
 use Rattle.slotted_matching.proofs.OwnSlots.{both-first, common-append, same-outlines}
 
@@ -44,7 +44,7 @@ owns_of : Step → List ℕ
 owns_of (Node outline owns at) = owns.items
 owns_of (Variable k at) = []
 
-same-owns : (o p : ℕ) (owns us : Vec ℕ Global) (at from : Source) → Node o owns at ≡ Node p us from → owns.items ≡ us.items
+pub same-owns : (o p : ℕ) (owns us : Vec ℕ Global) (at from : Source) → Node o owns at ≡ Node p us from → owns.items ≡ us.items
 unfolding owns_of
 same-owns o p owns us at from e = ap owns_of e
 
@@ -100,6 +100,12 @@ pub names-at : {A : Type 0} (t : Table) (tree : A → PatternTree) (es : List A)
 names-at t tree [] k e l at h = absurd (omega (arith, l))
 names-at t tree (a ∷ es) zero e l at h = subst (λ x. HasKnownNames t (tree x)) (sym at) h.0
 names-at t tree (a ∷ es) (suc k) e l at h = names-at t tree es k e (omega (arith, l)) at h.1
+
+-- a wide node of a child pattern
+pub wide-at : {A : Type 0} (tree : A → PatternTree) (es : List A) (k : ℕ) (e : A) → k < length es → e ≡ get_or es k e → HasWideNode (tree e) → HaveWideNode (row_of (map tree es))
+wide-at tree [] k e l at h = absurd (omega (arith, l))
+wide-at tree (a ∷ es) zero e l at h = inl (subst (λ x. HasWideNode (tree x)) at h)
+wide-at tree (a ∷ es) (suc k) e l at h = inr (wide-at tree es k e (omega (arith, l)) at h)
 
 pub knows-none : (t : Table) (slots : List ℕ) → slots ≡ [] → KnowsEach t slots
 knows-none t slots e y c = let d = subst (λ l. Contains l y) e c in absurd (omega (arith, d.1))

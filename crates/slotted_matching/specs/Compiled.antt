@@ -5,6 +5,7 @@
 --     IsNumber seen v o         o is a number of the variable v, if it was seen
 --     Numbers seen more v k     the number k is that of v in `more`, which are the variables seen before and v if it is new
 --     Compiling, nothing        what was compiled, with the register that the next node fills
+--     HasWideNode t             a node of the pattern has too many places and children
 --     HoldsSlots steps slots    the own names of nodes in the steps are among these slots
 --     AddsSlots old new t       the slots that were added stand in the pattern t
 --     Adds S c d goals          from c to d the steps are added that find these goals
@@ -17,14 +18,14 @@ use Rattle.slotted_slots.specs.Table.{Table, is_known}
 use Rattle.slotted_nodes.specs.Form.{Form}
 use Rattle.slotted_languages.specs.Outline.{outlined_names, skeleton_form}
 use Rattle.slotted_patterns.specs.Known.{HasKnownNames}
-use Rattle.slotted_patterns.specs.Tree.{PatternTree}
+use Rattle.slotted_patterns.specs.Tree.{PatternTree, enode, pvar, substitution, PatternRow, no_more, one_more}
 use Rattle.slotted_model_rules.specs.Patterns.{Pattern, PatternArgs, pattern_node}
 use Rattle.slotted_rule_patterns.specs.PatternCode.{pattern_in, pattern_over}
 use Rattle.slotted_match_machine.specs.declared.program.Source.{Source}
 use Rattle.slotted_match_machine.specs.declared.program.Step.{Step}
 use Rattle.slotted_match_machine.specs.declared.program.Step.TheVariants.{Node}
 use Rattle.slotted_match_machine.specs.Programs.{IsProgram, IsProgramFor, placed}
-use Rattle.slotted_matching.specs.Skeletons.{IsPlaceOf}
+use Rattle.slotted_matching.specs.Skeletons.{HasManyPlaces, IsPlaceOf}
 
 abbrev pub common_names : List ℕ → List ℕ → List ℕ
 common_names xs ys = map (λ e. e.0) (filter (λ (e : ℕ × ℕ). nat_eq e.0 e.1) (zip xs ys))
@@ -47,6 +48,17 @@ Numbers seen more v k =
 
 abbrev pub Goal : Type 0
 Goal = Pattern × Source
+
+abbrev mutual
+  -- a node of the pattern has as many places and children as there are numeric slots, or more
+  pub HasWideNode : PatternTree → Type 0
+  HasWideNode (enode f row) = HasManyPlaces f ⊎ HaveWideNode row
+  HasWideNode (pvar v) = ⊥
+  HasWideNode (substitution b x t) = HasWideNode b ⊎ (HasWideNode x ⊎ HasWideNode t)
+
+  pub HaveWideNode : PatternRow → Type 0
+  HaveWideNode no_more = ⊥
+  HaveWideNode (one_more p rest) = HasWideNode p ⊎ HaveWideNode rest
 
 -- what was compiled: its steps, its variables, and the register that the next node fills
 pub record Compiling : Type 0 where

@@ -1,5 +1,5 @@
 //! Patterns as programs of the machine, with their variables by number.
-ghost use Rattle.std.specs.Prelude.{◌≡◌, ◌∷◌, ◌++◌, List, [], false, length, map, string_bytes, IsSome, IfOk, IfErr, OnOk};
+ghost use Rattle.std.specs.Prelude.{◌≡◌, ◌∷◌, ◌++◌, List, [], false, length, map, string_bytes, IsSome, IfOk, IfErr, IsErrOf, OnOk};
 ghost use Rattle.slotted_slots.specs.Error.{IsOutOfMemory, IsShortage};
 ghost use Rattle.slotted_slots.specs.Table.{Table};
 ghost use Rattle.slotted_patterns.specs.Known.{HasKnownNames};
@@ -8,8 +8,8 @@ ghost use Rattle.slotted_model_rules.specs.Patterns.{variable};
 ghost use Rattle.slotted_patterns.specs.View.{tree_of};
 ghost use Rattle.slotted_rule_patterns.specs.PatternCode.{pattern_in};
 ghost use Rattle.slotted_rule_patterns.specs.Variables.{has_substitution};
-ghost use Rattle.slotted_matching.specs.Compiled.{Adds, AddsPattern, AddsSlots, BeginsWith, HoldsSlots, KnowsEach, Compiling, Enters, nothing, IsCompiled, IsNumber, Numbers, common_names, pattern_names};
-ghost use Rattle.slotted_matching.specs.Skeletons.{HasFewPlaces};
+ghost use Rattle.slotted_matching.specs.Compiled.{Adds, AddsPattern, AddsSlots, BeginsWith, HoldsSlots, KnowsEach, Compiling, Enters, HasWideNode, nothing, IsCompiled, IsNumber, Numbers, common_names, pattern_names};
+ghost use Rattle.slotted_matching.specs.Skeletons.{HasFewPlaces, HasManyPlaces};
 
 use crate::skeletons::{Skeletons, has_many_places};
 use slotted_languages::Language;
@@ -155,6 +155,7 @@ impl Compiler {
     ) -> Result<usize, Error>
         ensures ok { IfOk result (Enters skeletons.now self.old self.new (L.form node.now) from) }
         ensures slots { OnOk result (self.new.slots ≡ self.old.slots ++ pattern_names (L.form node.now)) }
+        ensures full { IsErrOf result Error.OutOfSlots → HasManyPlaces (L.form node.now) }
         ensures err { IfErr result IsShortage }
     {
         if has_many_places(node) {
@@ -184,6 +185,7 @@ impl Compiler {
         requires { has_substitution (tree_of L.form pattern.now) ≡ false }
         ensures ok { OnOk result (AddsPattern skeletons.now self.old self.new (tree_of L.form pattern.now) from) }
         ensures slots { OnOk result (AddsSlots self.old.slots self.new.slots (tree_of L.form pattern.now)) }
+        ensures full { IsErrOf result Error.OutOfSlots → HasWideNode (tree_of L.form pattern.now) }
         ensures err { IfErr result IsShortage }
     {
         match pattern {
@@ -214,6 +216,7 @@ pub fn compile<L: Language>(
         (λ c. IsCompiled skeletons.now (tree_of L.form pattern.now) c.steps.items (map string_bytes c.variables.items)) }
     ensures slots { IfOk result (λ c. HoldsSlots c.steps.items c.slots.items) }
     ensures known { IfOk result (λ c. (t : Table) → HasKnownNames t (tree_of L.form pattern.now) → KnowsEach t c.slots.items) }
+    ensures full { IsErrOf result Error.OutOfSlots → HasWideNode (tree_of L.form pattern.now) }
     ensures err { IfErr result IsShortage }
 {
     let mut compiler = Compiler::new(alloc);

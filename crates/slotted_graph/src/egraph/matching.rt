@@ -1,28 +1,32 @@
 //! Finding patterns in the graph.
 ghost use Rattle.std.specs.Prelude.{◌≡◌, ◌⊎◌, ◌↔◌, [], List, Some, Contains, IsSome, IsTrue, IfOk, IfErr, IsErrOf, false, true};
 ghost use Rattle.slotted_slots.specs.Error.{IsShortage};
-ghost use Rattle.slotted_model_rules.specs.Patterns.{Pattern as RulePattern};
+ghost use Rattle.slotted_proofs.specs.Equations.{to_applied};
 ghost use Rattle.slotted_patterns.specs.Known.{HasKnownNames};
 ghost use Rattle.slotted_patterns.specs.View.{tree_of};
 ghost use Rattle.slotted_rule_patterns.specs.PatternCode.{pattern_in};
 ghost use Rattle.slotted_rule_patterns.specs.Variables.{has_substitution};
-ghost use Rattle.slotted_matching.specs.Found.{HaveVariables};
-ghost use Rattle.slotted_core.specs.Graph.{OnlyTakesSlots};
-ghost use Rattle.slotted_graph.specs.Matching.{AreFoundValid, FindsEachOf, FindsAllOf, FindsLookedUp};
+ghost use Rattle.slotted_matching.specs.Compiled.{HasWideNode};
+ghost use Rattle.slotted_matching.specs.Found.{HaveFreshNames, HaveVariables, RunsOutFor, TakesFor, name_count};
+ghost use Rattle.slotted_core.specs.Causes.{class_found};
+ghost use Rattle.slotted_core.specs.Graph.{MakesAtMost, OnlyTakesSlots};
+ghost use Rattle.slotted_core.specs.ValidIds.{IsValidId};
+ghost use Rattle.slotted_graph.specs.Matching.{AreFoundValid, FindsAll, FindsAllOf, FindsEachOf, FindsLookedUp, HasWideRow};
+ghost use Rattle.slotted_graph.specs.Matching.{FindsAllAt, FindsAllAtOf, FindsEachAtOf, FindsLookedUpAt};
 
 use super::EGraph;
 use slotted_languages::Language;
 use slotted_matching::Matches;
-use slotted_matching::find::find_matches;
+use slotted_matching::find::{find_matches, find_matches_at};
 use slotted_patterns::Pattern;
 use slotted_rule_patterns::pattern::{has_substitution, is_whole};
-use slotted_slots::Error;
+use slotted_slots::{AppliedId, Error};
 
 impl<L: Language, N: Drop> EGraph<L, N> {
     /// Returns what is found for a pattern at the live classes, one class after another. Each answer has an id for each variable.
     ///
     /// A name of such an id that stands for no slot of the pattern is a fresh slot, which all ids of the answer share. A pattern with a wrong number of
-    /// child patterns at some node is found nowhere.
+    /// child patterns at some node is found nowhere. The first search after a change of classes or filed nodes takes time for each filed node.
     pub fn find_matches(&mut self, pattern: &Pattern<L>) -> Result<Matches, Error>
         requires { IsTrue self.old.failed ⊎ HasKnownNames self.old.table (tree_of L.form pattern.now) }
 
@@ -36,13 +40,23 @@ impl<L: Language, N: Drop> EGraph<L, N> {
         ensures valid { IfOk result (AreFoundValid self.new) }
         ensures variables { IfOk result (HaveVariables (tree_of L.form pattern.now)) }
 
-        // Only fresh slots are made, and a refusal does not fail the graph.
+        // Each name of a value is a slot of the pattern, or a fresh one.
+        ensures fresh { IfOk result (HaveFreshNames self.old.table (tree_of L.form pattern.now)) }
+
+        // Only fresh slots are made, at most as many as the values have names, and a refusal does not fail the graph.
         ensures takes { OnlyTakesSlots self.old self.new }
+        ensures count { IfOk result (λ found. MakesAtMost (name_count found) self.old.table self.new.table) }
+        ensures needs { (self.new.table ≡ self.old.table)
+            ⊎ TakesFor (tree_of L.form pattern.now) (FindsAll self.new) self.old.table self.new.table }
         ensures stays { IsTrue self.old.failed → self.new ≡ self.old }
 
         ensures failed { IsErrOf result Error.Failed ↔ IsTrue self.old.failed }
         ensures subst { IsErrOf result Error.SubstInSearch
             ↔ ((self.old.failed ≡ false) × (has_substitution (tree_of L.form pattern.now) ≡ true)) }
+
+        // They run out where fewer are left than that, or where a filed node or one of the pattern has too many places.
+        ensures full { IsErrOf result Error.OutOfSlots → HasWideRow self.new ⊎ (HasWideNode (tree_of L.form pattern.now)
+            ⊎ RunsOutFor (tree_of L.form pattern.now) (FindsAll self.new) self.old.table self.new.table) }
         ensures only { IfErr result (λ e. (e ≡ Error.Failed) ⊎ ((e ≡ Error.SubstInSearch) ⊎ IsShortage e)) }
     {
         if self.failed {
@@ -61,6 +75,70 @@ impl<L: Language, N: Drop> EGraph<L, N> {
             &self.nodes,
             &mut self.index,
             pattern,
+        )
+    }
+
+    /// Returns what is found for a pattern at the class that an id finds. The names of the id do not matter.
+    ///
+    /// It answers as `find_matches` does at this one class.
+    pub fn find_matches_in(
+        &mut self,
+        id: &AppliedId,
+        pattern: &Pattern<L>,
+    ) -> Result<Matches, Error>
+        requires valid { IsTrue self.old.failed ⊎ IsValidId self.old (to_applied id.now) }
+        requires known { IsTrue self.old.failed ⊎ HasKnownNames self.old.table (tree_of L.form pattern.now) }
+
+        // What the matcher finds there is found: each answer makes the pattern one that is looked up as an id of the class. Where no class has dropped a
+        // slot, each substitution that is looked up so is found.
+        ensures finds { IfOk result
+            (FindsAllAtOf self.new (class_found self.new.image id.now.id.0) (tree_of L.form pattern.now)) }
+        ensures looked_up { IfOk result
+            (FindsLookedUpAt self.new (class_found self.new.image id.now.id.0) (tree_of L.form pattern.now)) }
+        ensures each { IfOk result
+            (FindsEachAtOf self.new (class_found self.new.image id.now.id.0) (tree_of L.form pattern.now)) }
+        ensures none { IfOk result (λ found. ¬ IsSome (pattern_in (tree_of L.form pattern.now)) → found ≡ []) }
+
+        ensures valid { IfOk result (AreFoundValid self.new) }
+        ensures variables { IfOk result (HaveVariables (tree_of L.form pattern.now)) }
+
+        // Each name of a value is a slot of the pattern, or a fresh one.
+        ensures fresh { IfOk result (HaveFreshNames self.old.table (tree_of L.form pattern.now)) }
+
+        // Only fresh slots are made, at most as many as the values have names, and a refusal does not fail the graph.
+        ensures takes { OnlyTakesSlots self.old self.new }
+        ensures count { IfOk result (λ found. MakesAtMost (name_count found) self.old.table self.new.table) }
+        ensures needs { (self.new.table ≡ self.old.table) ⊎ TakesFor (tree_of L.form pattern.now)
+            (FindsAllAt self.new (class_found self.new.image id.now.id.0)) self.old.table self.new.table }
+        ensures stays { IsTrue self.old.failed → self.new ≡ self.old }
+
+        ensures failed { IsErrOf result Error.Failed ↔ IsTrue self.old.failed }
+        ensures subst { IsErrOf result Error.SubstInSearch
+            ↔ ((self.old.failed ≡ false) × (has_substitution (tree_of L.form pattern.now) ≡ true)) }
+
+        // They run out where fewer are left than that, or where a filed node or one of the pattern has too many places.
+        ensures full { IsErrOf result Error.OutOfSlots → HasWideRow self.new ⊎ (HasWideNode (tree_of L.form pattern.now)
+            ⊎ RunsOutFor (tree_of L.form pattern.now)
+            (FindsAllAt self.new (class_found self.new.image id.now.id.0)) self.old.table self.new.table) }
+        ensures only { IfErr result (λ e. (e ≡ Error.Failed) ⊎ ((e ≡ Error.SubstInSearch) ⊎ IsShortage e)) }
+    {
+        if self.failed {
+            return Err(Error::Failed);
+        }
+        if has_substitution(pattern) {
+            return Err(Error::SubstInSearch);
+        }
+        if !is_whole(pattern) {
+            return Ok(Matches::none(self.alloc));
+        }
+        find_matches_at(
+            self.alloc,
+            &mut self.table,
+            &self.store,
+            &self.nodes,
+            &mut self.index,
+            pattern,
+            self.store.find_class(id.id.0),
         )
     }
 }

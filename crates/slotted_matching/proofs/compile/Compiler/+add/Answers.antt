@@ -1,9 +1,10 @@
-use Rattle.std.proofs.Common.{◌≡◌, ◌∙◌, ◌<◌, ap, sym, subst, map, arith}
+use Rattle.std.proofs.Common.{rules, inr, ◌≡◌, ◌∙◌, ◌<◌, ap, sym, subst, map, arith}
 use Rattle.slotted_nodes.specs.Form.{Form}
 use Rattle.slotted_patterns.specs.Known.{HasKnownNames}
 use Rattle.slotted_patterns.specs.Tree.{enode, row_of}
 use Rattle.slotted_rule_patterns.proofs.Rows.{tree_of-node}
-use Rattle.slotted_matching.proofs.StepSlots.{knows-node, names-at}
+use Rattle.slotted_matching.specs.Compiled.{HasWideNode}
+use Rattle.slotted_matching.proofs.StepSlots.{knows-node, names-at, wide-at}
 use Rattle.slotted_patterns.specs.View.{tree_of}
 use Rattle.slotted_rule_patterns.proofs.Sizes.{pattern_size}
 use Rattle.slotted_matching.proofs.Compiling.{adds-nothing, plain-child, smaller-child, child-added, node-added}
@@ -50,3 +51,12 @@ returns-after-loop-child-clause-slots g t c u known before =
     let parts = subst (HasKnownNames u) view known in
     c.loop-child.invariant.slots u parts.1
     (knows-node u f c.args.self.now.slots c.enter.new.self.slots (g.met.L.LanguageChildren.fits c.in-ENode.node) c.in_ok-register-in-ENode.ensures.slots parts.0 before)
+
+pub returns-in_err-add-in-ENode-clause-full : goal.returns-in_err-add-in-ENode-clause-full
+returns-in_err-add-in-ENode-clause-full g t c out =
+    let form = g.L.LanguageChildren.form in
+    let f : Form = form c.in-ENode.node in
+    let view : tree_of form c.args.pattern.now ≡ enode f (row_of (map (tree_of form) c.deref-pattern-items.result.now)) =
+    tree_of-node form c.args.pattern.now c.in-ENode.node c.in-ENode.children c.in-ENode.is ∙ ap (λ xs. enode f (row_of (map (tree_of form) xs))) (sym c.deref-pattern-items.ensures.value) in
+    subst HasWideNode (sym view)
+    (inr (wide-at (tree_of form) c.deref-pattern-items.result.now c.loop-child.child c.pattern-item.result c.loop-child-test.true c.pattern-item.is (c.in_err-add-in-ENode.ensures.full (search rules))))
