@@ -1,5 +1,7 @@
-//! What lines about patterns are answered with.
+//! What lines about patterns and rules are answered with.
 
+use crate::rule_text::read_rule;
+use crate::rules::{Rule, add_rule, apply};
 use slotted_graph::EGraph;
 use slotted_instances::pattern_subst;
 use slotted_rule_patterns::Subst;
@@ -11,6 +13,8 @@ use std::alloc::Global;
 /// Whether a line is one of these.
 pub fn is_asked(line: &str) -> bool {
     line == "counts"
+        || line == "apply"
+        || read_rule(line).is_some()
         || line.starts_with("matches ")
         || line.starts_with("match ")
         || line.starts_with("subst ")
@@ -66,8 +70,8 @@ fn counts(alloc: Global, graph: &EGraph<Small>) -> Result<String, Error> {
     Ok(format!(in alloc; "{live} {nodes} {asserted}")?)
 }
 
-/// The answer to a line about patterns.
-pub fn answer(alloc: Global, graph: &mut EGraph<Small>, line: &str) -> Result<String, Error> {
+// The answer to a line that asks of patterns.
+fn ask_of_patterns(alloc: Global, graph: &mut EGraph<Small>, line: &str) -> Result<String, Error> {
     if line == "counts" {
         return counts(alloc, graph);
     }
@@ -77,5 +81,21 @@ pub fn answer(alloc: Global, graph: &mut EGraph<Small>, line: &str) -> Result<St
     match line.strip_prefix("match ") {
         Some(text) => match_term(alloc, graph, text),
         None => instance(alloc, graph, line.strip_prefix("subst ").unwrap_or(line)),
+    }
+}
+
+/// The answer to one of these lines, over a graph and the rules of its session.
+pub fn answer(
+    alloc: Global,
+    graph: &mut EGraph<Small>,
+    rules: &mut Vec<Rule>,
+    line: &str,
+) -> Result<String, Error> {
+    if line == "apply" {
+        return apply(alloc, graph, rules);
+    }
+    match read_rule(line) {
+        Some(text) => add_rule(alloc, graph, rules, &text),
+        None => ask_of_patterns(alloc, graph, line),
     }
 }

@@ -1,15 +1,21 @@
-//! The program `slotted_rule_lines`: sessions of patterns in, answers out.
+//! The program `slotted_rule_lines`: sessions of patterns and rules in, answers out.
 //!
 //! Beside the lines that the program `slotted` answers there are these. `matches P` answers how many matches a pattern has, and `match K v: P` the term of
 //! the variable in the match of this number. `subst P` answers the canonical term of an instance of a pattern without variables. `counts` answers how many
 //! live classes, filed nodes and asserted equations there are.
 //!
+//! `rule N: L => R` makes a rule, which the session keeps. Behind it may stand ` if free $x v`, the condition that the slot does not occur in the value of the
+//! variable, or ` if not free $x v`. `apply` searches with all rules of the session and applies each once, and answers whether the graph changed.
+//!
 //! A line `---` ends a session, and the next one has a graph of its own. A line that begins with `# ` is a title. Both are written as they stand.
 #![tactic(auto)]
 
 mod asking;
+mod rule_text;
+mod rules;
 
 use asking::{answer, is_asked};
+use rules::Rule;
 use slotted_commands::answer_line;
 use slotted_graph::EGraph;
 use slotted_slots::SlotTable;
@@ -28,14 +34,15 @@ fn is_title(line: &[u8]) -> bool {
     line.starts_with(b"# ")
 }
 
-// Answers a line about patterns.
+// Answers a line about patterns or rules.
 fn ask<W: Write>(
     alloc: Global,
     graph: &mut EGraph<Small>,
+    rules: &mut Vec<Rule>,
     text: &str,
     output: &mut W,
 ) -> io::Result<()> {
-    match answer(alloc, graph, text) {
+    match answer(alloc, graph, rules, text) {
         Ok(told) => writeln!(output, "{told}"),
         Err(e) => {
             let number = e.number();
@@ -49,6 +56,7 @@ fn ask<W: Write>(
 fn answer_or_ask<W: Write>(
     alloc: Global,
     graph: &mut EGraph<Small>,
+    rules: &mut Vec<Rule>,
     line: &[u8],
     output: &mut W,
 ) -> io::Result<()> {
@@ -56,7 +64,7 @@ fn answer_or_ask<W: Write>(
         return Err(io::Error::from(ErrorKind::InvalidData));
     };
     if is_asked(text) {
-        return ask(alloc, graph, text, output);
+        return ask(alloc, graph, rules, text, output);
     }
     answer_line(alloc, graph, line, output)
 }
@@ -65,13 +73,14 @@ fn answer_or_ask<W: Write>(
 fn answer_or_repeat<W: Write>(
     alloc: Global,
     graph: &mut EGraph<Small>,
+    rules: &mut Vec<Rule>,
     line: &[u8],
     output: &mut W,
 ) -> io::Result<()> {
     if is_title(line) || is_divider(line) {
         return output.write_all(line);
     }
-    answer_or_ask(alloc, graph, line, output)
+    answer_or_ask(alloc, graph, rules, line, output)
 }
 
 // Answers lines up to the end of their session, and says whether a line `---` ended it.
@@ -81,13 +90,14 @@ fn answer_lines<R: BufRead, W: Write>(
     input: &mut R,
     output: &mut W,
 ) -> io::Result<bool> {
+    let mut rules = Vec::new(alloc);
     let mut line = Vec::new(alloc);
     for _ in 0..u64::MAX {
         line.clear();
         if input.read_until(b'\n', &mut line)? == 0 {
             return Ok(false);
         }
-        answer_or_repeat(alloc, graph, &line, output)?;
+        answer_or_repeat(alloc, graph, &mut rules, &line, output)?;
         if is_divider(&line) {
             return Ok(true);
         }

@@ -1,0 +1,53 @@
+//! Lines that write rules, as texts.
+
+/// That a slot does not occur in the value of a variable, or that it does.
+#[derive(Drop)]
+pub struct Asked<'a> {
+    pub is_free: bool,
+    pub slot: &'a str,
+    pub variable: &'a str,
+}
+
+/// The parts of a line `rule N: L => R`, which may end in ` if free $x v` or ` if not free $x v`.
+#[derive(Drop)]
+pub struct RuleText<'a> {
+    pub name: &'a str,
+    pub left: &'a str,
+    pub right: &'a str,
+    pub condition: Option<Asked<'a>>,
+}
+
+// The condition of a text behind ` if `.
+fn read_condition(text: &str) -> Option<Asked> {
+    let (is_free, asked) = match text.strip_prefix("not ") {
+        Some(rest) => (false, rest),
+        None => (true, text),
+    };
+    let (slot, variable) = asked.strip_prefix("free $")?.split_once(" ")?;
+    Some(Asked {
+        is_free,
+        slot,
+        variable,
+    })
+}
+
+// The rule of a name and of the text behind it.
+fn read_sides<'a>(name: &'a str, sides: &'a str) -> Option<RuleText<'a>> {
+    let (left, rest) = sides.split_once(" => ")?;
+    let (right, condition) = match rest.split_once(" if ") {
+        Some((right, text)) => (right, Some(read_condition(text)?)),
+        None => (rest, None),
+    };
+    Some(RuleText {
+        name,
+        left,
+        right,
+        condition,
+    })
+}
+
+/// Returns the parts of a line that writes a rule, or None if it is no such line.
+pub fn read_rule(line: &str) -> Option<RuleText> {
+    let (name, sides) = line.strip_prefix("rule ")?.split_once(": ")?;
+    read_sides(name, sides)
+}
