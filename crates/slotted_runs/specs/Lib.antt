@@ -1,0 +1,2 @@
+-- Definitions of runs.
+pub mod Hooks

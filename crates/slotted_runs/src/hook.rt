@@ -1,0 +1,71 @@
+//! Hooks, which are called in each turn of a run.
+ghost use Rattle.std.specs.Prelude.{◌≡◌, ◌⊎◌, false, None, IsTrue, IsErrAnd, IfErr, OnOk};
+ghost use Rattle.slotted_slots.specs.Error.{IsShortage};
+ghost use Rattle.slotted_graph.specs.Extension.{ExtendsTo};
+ghost use Rattle.slotted_runs.specs.Hooks.{IsHookRefusal, StopsRun};
+
+use slotted_graph::EGraph;
+use slotted_languages::Language;
+use slotted_slots::Error;
+use std::alloc::Global;
+
+/// Why a hook ends a run.
+#[derive(Drop, Debug)]
+pub enum HookStop<T> {
+    /// The run stops after this turn, for this reason.
+    Stop(T),
+    /// The turn is refused.
+    Refused(Error),
+}
+
+/// What is called in each turn of a run, after the rules were applied.
+///
+/// A hook may change the graph, which it only extends. If the graph fails in it, it answers that memory or slots were lacking.
+pub trait Hook<L: Language, N: Drop, T>: Drop {
+    ghost use Rattle.std.specs.Prelude.{ℕ, Option};
+    ghost use Rattle.slotted_core.specs.Graph.{Graph};
+    ghost use Rattle.slotted_slots.specs.declared.error.Error.{Error};
+    ghost use Rattle.slotted_slots.specs.declared.error.Error.TheVariants.{Failed};
+
+    // what a call that is handed the number of turns before leaves of the hook and of the graph, and why it stops the run, if it does
+    ghost leaves: { Self → Graph → ℕ → Self → Graph → Option T → Type 0 };
+
+    // which refusals it may answer beside shortages
+    ghost refuses: { Error → Type 0 };
+
+    /// The call after the rules of a turn. `iterations` is the number of turns before it. The graph has not failed.
+    fn call(
+        &mut self,
+        alloc: Global,
+        graph: &mut EGraph<L, N>,
+        iterations: usize,
+    ) -> Result<(), HookStop<T>>
+        requires { graph.old.failed ≡ false }
+        ensures ok { OnOk result (leaves self.old graph.old iterations self.new graph.new None) }
+        ensures stop { IfErr result (StopsRun (leaves self.old graph.old iterations self.new graph.new) refuses) }
+        ensures extends { IsTrue graph.new.failed ⊎ ExtendsTo graph.old graph.new }
+        ensures fails { IsTrue graph.new.failed → IsErrAnd result (IsHookRefusal IsShortage) };
+
+    ghost never_failed: { ¬ refuses Failed };
+}
+
+/// The hook that does nothing.
+#[derive(Drop, Debug)]
+pub struct NoHook;
+
+impl<L: Language, N: Drop, T> Hook<L, N, T> for NoHook {
+    ghost leaves = { λ h g n i k stop. (k ≡ g) × (stop ≡ None) };
+
+    ghost refuses = { λ e. ⊥ };
+
+    ghost never_failed = { λ r. r };
+
+    fn call(
+        &mut self,
+        alloc: Global,
+        graph: &mut EGraph<L, N>,
+        iterations: usize,
+    ) -> Result<(), HookStop<T>> {
+        Ok(())
+    }
+}
