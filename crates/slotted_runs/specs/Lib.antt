@@ -1,2 +1,3 @@
 -- Definitions of runs.
 pub mod Hooks
+pub mod Seen

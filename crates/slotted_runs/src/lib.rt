@@ -4,9 +4,13 @@
 pub mod clock;
 pub mod hook;
 pub mod iteration;
+pub mod limits;
 pub mod report;
+pub mod runner;
 
 pub use clock::Clock;
 pub use hook::{Hook, HookStop, NoHook};
 pub use iteration::{Iteration, IterationData};
+pub use limits::RunnerLimits;
 pub use report::{Report, RunnerResult, StopReason};
+pub use runner::Runner;

@@ -1,0 +1,2 @@
+-- Lemmas of runs.
+pub mod Handing
