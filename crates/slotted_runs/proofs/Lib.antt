@@ -1,2 +1,5 @@
 -- Lemmas of runs.
 pub mod Handing
+pub mod Beside
+pub mod Readings
+pub mod Turns

@@ -1,3 +1,5 @@
 -- Definitions of runs.
 pub mod Hooks
 pub mod Seen
+pub mod Turning
+pub mod Loops

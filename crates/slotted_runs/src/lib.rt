@@ -1,12 +1,14 @@
 //! Runs: rules are applied in turns, until a hook, a limit or saturation stops them.
 #![tactic(auto)]
 
+pub(crate) mod calling;
 pub mod clock;
 pub mod hook;
 pub mod iteration;
 pub mod limits;
 pub mod report;
 pub mod runner;
+pub(crate) mod turning;
 
 pub use clock::Clock;
 pub use hook::{Hook, HookStop, NoHook};

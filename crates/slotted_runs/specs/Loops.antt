@@ -1,0 +1,60 @@
+-- What loops of turns keep.
+--     HasCalled       the rules were applied once, and then the hook was called
+--     GivesReason     why a turn stops the run, with what the clock was read for it
+--     ReadsClock tells k l    the clock k was read, maybe more than once or not at all, and is l
+--     IsTurn          a turn, whatever was read before it
+--     GoOn            turns that go on: each run from where they lead is one from where they begin
+--     Leads           turns that go on, or of which the last one stops the run
+--     HasTaken p q    from p to q a runner took some turns
+--     HasRefused p q  from p to q it took some, and one was refused
+use Rattle.std.specs.Prelude.{◌≡◌, ℕ, ◌+◌, ◌-◌, List, length, Option, Some, None, Bool, false}
+use Rattle.slotted_theory.specs.Decided.{numbers_eq}
+use Rattle.slotted_core.specs.Graph.{Graph}
+use Rattle.slotted_graph.specs.Extension.{ExtendsTo}
+use Rattle.slotted_model_rules.specs.Runners.{Stop, Limits, Measures, Iteration, runner_stop, after_check, RunnerTurn, RunnerRuns, RunnerRefuses}
+use Rattle.slotted_runs.specs.Seen.{Parts}
+use Rattle.slotted_runs.specs.Turning.{ReadsFrom, Spoils, TellsAll, progress_of}
+
+pub record HasCalled {H T : Type 0} (applies : Graph × H → Graph × H → Type 0) (hooks : Graph × H → ℕ → Graph × H → Option T → Type 0) (s : Graph × H) (n : ℕ) (t : Graph × H) (same : Bool) (stop : Option T) : Type 0 where
+  pub applied : Graph × H
+  pub by_rules : applies s applied
+  pub by_hook : hooks applied n t stop
+  pub same_is : numbers_eq (progress_of s.0.image) (progress_of applied.0.image) ≡ same
+
+pub record GivesReason {K T : Type 0} (tells : K → ℕ → K → Type 0) (limits : Limits) (start stored nodes : ℕ) (same : Bool) (answer : Option T) (k l : K) (reason : Option (Stop T)) : Type 0 where
+  pub readings : List ℕ
+  pub told : TellsAll tells k readings l
+  pub stops : (clock : ℕ → ℕ) (n : ℕ) → ReadsFrom clock n readings → runner_stop limits answer stored nodes (clock n - start) same ≡ reason
+  pub reads : (n : ℕ) → n + length readings ≡ after_check answer n
+
+pub record ReadsClock {K : Type 0} (tells : K → ℕ → K → Type 0) (k l : K) : Type 0 where
+  pub readings : List ℕ
+  pub told : TellsAll tells k readings l
+
+module _ {H T D K : Type 0} (tells : K → ℕ → K → Type 0) (applies : Graph × H → Graph × H → Type 0) (hooks : Graph × H → ℕ → Graph × H → Option T → Type 0) (m : Measures (Graph × H) D) (limits : Limits) (start : ℕ) where
+  pub record IsTurn (stored : ℕ) (s : Graph × H) (k : K) (t : Graph × H) (l : K) (stop : Option (Stop T)) (kept : Iteration D) : Type 0 where
+    pub readings : List ℕ
+    pub told : TellsAll tells k readings l
+    pub turn : (clock : ℕ → ℕ) (n : ℕ) → ReadsFrom clock n readings → RunnerTurn applies hooks m limits clock start stored n s t stop kept (n + length readings)
+
+  pub record GoOn (clock : ℕ → ℕ) (stored : List (Iteration D)) (k : ℕ) (s : Graph × H) (more : List (Iteration D)) (next : ℕ) (t : Graph × H) : Type 0 where
+    pub runs : {all : List (Iteration D)} {last : ℕ} {h : Graph × H} {reason : Stop T} → RunnerRuns applies hooks m limits clock start more next t all last h reason → RunnerRuns applies hooks m limits clock start stored k s all last h reason
+    pub refuses : {all : List (Iteration D)} {h : Graph × H} → RunnerRefuses applies hooks Spoils m limits clock start more next t all h → RunnerRefuses applies hooks Spoils m limits clock start stored k s all h
+
+  abbrev pub Leads : (ℕ → ℕ) → List (Iteration D) → ℕ → Graph × H → List (Iteration D) → ℕ → Graph × H → Option (Stop T) → Type 0
+  Leads clock stored k s more next t None = GoOn clock stored k s more next t
+  Leads clock stored k s more next t (Some reason) = RunnerRuns applies hooks m limits clock start stored k s more next t reason
+
+  pub record HasTaken (p q : Parts D T H K) : Type 0 where
+    pub readings : List ℕ
+    pub told : TellsAll tells p.clock readings q.clock
+    pub leads : (clock : ℕ → ℕ) (n : ℕ) → ReadsFrom clock n readings → Leads clock p.iterations n (p.graph, p.hook) q.iterations (n + length readings) (q.graph, q.hook) q.stop_reason
+    pub rest : q ≡ record p { graph = q.graph; hook = q.hook; iterations = q.iterations; stop_reason = q.stop_reason; clock = q.clock }
+    pub well : q.graph.failed ≡ false
+    pub extends : ExtendsTo p.graph q.graph
+
+  pub record HasRefused (p q : Parts D T H K) : Type 0 where
+    pub readings : List ℕ
+    pub told : TellsAll tells p.clock readings q.clock
+    pub refused : (clock : ℕ → ℕ) (n : ℕ) → ReadsFrom clock n readings → RunnerRefuses applies hooks Spoils m limits clock start p.iterations n (p.graph, p.hook) q.iterations (q.graph, q.hook)
+    pub rest : q ≡ record p { graph = q.graph; hook = q.hook; iterations = q.iterations; clock = q.clock }

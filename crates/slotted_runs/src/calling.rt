@@ -1,0 +1,64 @@
+//! The rules of a turn, and the hook after them.
+ghost use Rattle.std.specs.Prelude.{◌≡◌, ◌⊎◌, false, not, All, IsTrue, IsErrAnd, IfOk, IfErr};
+ghost use Rattle.slotted_slots.specs.Error.{IsShortage};
+ghost use Rattle.slotted_graph.specs.Extension.{ExtendsTo};
+ghost use Rattle.slotted_rules.specs.Applying.{AreRefusedBy};
+ghost use Rattle.slotted_runs.specs.Loops.{HasCalled};
+ghost use Rattle.slotted_runs.specs.Turning.{Calls, RulesOnce};
+
+use crate::hook::{Hook, HookStop};
+use slotted_graph::EGraph;
+use slotted_languages::Language;
+use slotted_rules::{RewriteT, apply_rewrites};
+use slotted_slots::Error;
+use std::alloc::Global;
+
+// What the rules and the hook of a turn did.
+#[derive(Drop)]
+pub(crate) struct Called<T> {
+    // whether the rules changed the progress measure
+    pub(crate) changed: bool,
+    // why the hook stops the run, if it does
+    pub(crate) stop: Option<T>,
+}
+
+// Calls the hook. Returns why it stops the run, if it does.
+fn call_hook<L: Language, N: Drop, T: Drop, H: Hook<L, N, T>>(
+    alloc: Global,
+    graph: &mut EGraph<L, N>,
+    hook: &mut H,
+    iterations: usize,
+) -> Result<Option<T>, Error>
+    requires { graph.old.failed ≡ false }
+    ensures ok { IfOk result (λ o. H.leaves hook.old graph.old iterations hook.new graph.new o) }
+    ensures extends { IsTrue graph.new.failed ⊎ ExtendsTo graph.old graph.new }
+    ensures fails { IsTrue graph.new.failed → IsErrAnd result IsShortage }
+    ensures err { IfErr result (λ e. IsShortage e ⊎ H.refuses e) }
+{
+    match hook.call(alloc, graph, iterations) {
+        Ok(()) => Ok(None),
+        Err(HookStop::Stop(reason)) => Ok(Some(reason)),
+        Err(HookStop::Refused(refusal)) => Err(refusal),
+    }
+}
+
+// Applies the rules once, and then calls the hook.
+pub(crate) fn apply_and_call<L: Language, N: Drop, T: Drop, H: Hook<L, N, T>, Q: RewriteT<L, N>>(
+    alloc: Global,
+    graph: &mut EGraph<L, N>,
+    rules: &[Q],
+    hook: &mut H,
+    iterations: usize,
+) -> Result<Called<T>, Error>
+    requires well { graph.old.failed ≡ false }
+    requires valid { All (λ r. Q.valid r graph.old) rules.now }
+    ensures ok { IfOk result
+        (λ c. HasCalled (RulesOnce Q.searches Q.applies rules.now) (Calls H.leaves) (graph.old, hook.old) iterations (graph.new, hook.new) (not c.changed) c.stop) }
+    ensures extends { IsTrue graph.new.failed ⊎ ExtendsTo graph.old graph.new }
+    ensures fails { IsTrue graph.new.failed → IsErrAnd result IsShortage }
+    ensures err { IfErr result (λ e. IsShortage e ⊎ AreRefusedBy Q.refuses rules.now e ⊎ H.refuses e) }
+{
+    let changed = apply_rewrites(alloc, graph, rules)?;
+    let stop = call_hook(alloc, graph, hook, iterations)?;
+    Ok(Called { changed, stop })
+}
