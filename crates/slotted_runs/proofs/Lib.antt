@@ -3,3 +3,5 @@ pub mod Handing
 pub mod Beside
 pub mod Readings
 pub mod Turns
+pub mod LastTurns
+pub mod Storing

@@ -1,11 +1,16 @@
 -- Turns, and turns one after another.
-use Rattle.std.proofs.Common.{◌≡◌, ◌∙◌, ℕ, ◌+◌, ◌-◌, suc, List, [], ◌∷◌, ◌++◌, length, Option, Some, None, Bool, ap, refl, sym, subst, arith}
+use Rattle.std.proofs.Common.{◌≡◌, ◌∙◌, ℕ, ◌+◌, ◌-◌, suc, List, [], ◌∷◌, ◌++◌, length, length-append, Option, Some, None, Bool, ap, refl, sym, subst, inl, inr, arith}
+use Rattle.std.specs.Prelude.{◌≤◌, ◌<◌, ◌⊎◌, IsTrue, false}
 use Rattle.slotted_theory.specs.Decided.{numbers_eq}
 use Rattle.slotted_core.specs.Graph.{Graph}
-use Rattle.slotted_model_rules.specs.Runners.{Iteration, Limits, Stop, after_check, runner_stop}
-use Rattle.slotted_runs.specs.Loops.{GivesReason, HasCalled, IsTurn}
-use Rattle.slotted_runs.specs.Turning.{measures, progress_of}
-use Rattle.slotted_runs.proofs.Readings.{more-readings, reads-back, reads-front, tells-one, tells-then}
+use Rattle.slotted_graph.specs.Extension.{ExtendsTo}
+use Rattle.slotted_graph.proofs.Extending.{extends-itself, extends-then}
+use Rattle.slotted_model_rules.specs.Runners.{Iteration, Limits, Measures, RunnerRefuses, RunnerTurn, Stop, after_check, goes_on, refused_later, refused_now, runner_stop, stops_now}
+use Rattle.slotted_model_rules.proofs.Stopping.{runner-first}
+use Rattle.slotted_runs.specs.Loops.{GivesReason, GoOn, HasCalled, HasRefused, HasTaken, IsBegun, IsTurn, Leads, turns_left}
+use Rattle.slotted_runs.specs.Seen.{Parts}
+use Rattle.slotted_runs.specs.Turning.{IsStart, ReadsFrom, Spoils, TellsAll, measures, progress_of, reading_in}
+use Rattle.slotted_runs.proofs.Readings.{more-readings, reads-back, reads-front, reads-itself, tells-one, tells-then}
 
 abbrev record_of : {D : Type 0} → D → ℕ → ℕ → Iteration D
 record_of d nodes end = record { made = d; num_nodes = nodes; finish_time = Some end }
@@ -34,3 +39,101 @@ module _ {H T D K : Type 0} (tells : K → ℕ → K → Type 0) (applies : Grap
     where
       kept : (r : ℕ) → end ≡ r → record_of d nodes end ≡ record_of (made t.0 stored) (length t.0.filed) r
       kept r e = λ i. record_of (is i) (count i) (e i)
+
+-- the reading before the first turn
+module _ {D T H K : Type 0} (tells : K → ℕ → K → Type 0) (p : Parts D T H K) where
+  pub begun-before : (start : ℕ) → p.start ≡ Some start → IsBegun tells p p start
+  begun-before start is = record {
+    readings = [];
+    told = refl;
+    starts = λ clock r. subst (λ o. IsStart o clock start 0) (sym is) (refl, refl);
+    rest = λ i. record p { start = is i };
+  }
+
+  pub begun-now : (start : ℕ) (clock : K) → p.start ≡ None → tells p.clock start clock → IsBegun tells p (record p { start = Some start; clock = clock }) start
+  begun-now start clock is told = record {
+    readings = start ∷ [];
+    told = (clock, told, refl);
+    starts = λ reading r. subst (λ o. IsStart o reading start 1) (sym is) (sym r.0, refl);
+    rest = refl;
+  }
+
+-- one turn more
+module _ {H T D K : Type 0} (tells : K → ℕ → K → Type 0) (applies : Graph × H → Graph × H → Type 0) (hooks : Graph × H → ℕ → Graph × H → Option T → Type 0) (m : Measures (Graph × H) D) (limits : Limits) (start : ℕ) where
+  abbrev Goes : (ℕ → ℕ) → List (Iteration D) → ℕ → Graph × H → List (Iteration D) → ℕ → Graph × H → Type 0
+  Goes clock stored k s more next t = GoOn tells applies hooks m limits start clock stored k s more next t
+
+  leads-more : (clock : ℕ → ℕ) (stored more : List (Iteration D)) (k j next : ℕ) (s t u : Graph × H) (kept : Iteration D) (stop : Option (Stop T)) →
+      Goes clock stored k s more j t → RunnerTurn applies hooks m limits clock start (length more) j t u stop kept next → Leads tells applies hooks m limits start clock stored k s (more ++ kept ∷ []) next u stop
+  leads-more clock stored more k j next s t u kept (Some reason) so_far turn = so_far.runs (stops_now turn)
+  leads-more clock stored more k j next s t u kept None so_far turn = record {
+    runs = λ r. so_far.runs (goes_on turn r);
+    refuses = λ r. so_far.refuses (refused_later turn r);
+  }
+
+  abbrev Lead : (ℕ → ℕ) → Parts D T H K → ℕ → List (Iteration D) → ℕ → Graph × H → Option (Stop T) → Type 0
+  Lead clock p n more next t stop = Leads tells applies hooks m limits start clock p.iterations n (p.graph, p.hook) more next t stop
+
+  -- none yet
+  pub taken-none : (p : Parts D T H K) → p.stop_reason ≡ None → p.graph.failed ≡ false → HasTaken tells applies hooks m limits start p p
+  taken-none p on well = record {
+    readings = [];
+    told = refl;
+    leads = λ clock n r.
+        let e : n + 0 ≡ n = omega arith in
+        subst (λ next. Lead clock p n p.iterations next (p.graph, p.hook) p.stop_reason) (sym e)
+        (subst (Lead clock p n p.iterations n (p.graph, p.hook)) (sym on) (record { runs = λ run. run; refuses = λ run. run }));
+    rest = refl;
+    well = well;
+    extends = extends-itself p.graph;
+  }
+
+  -- a turn that goes on is within the limit
+  pub within : (n : ℕ) (s t : Graph × H) (k l : K) (kept : Iteration D) → IsTurn tells applies hooks m limits start n s k t l None kept → n ≤ limits.iterations
+  within n s t k l kept turn =
+      let one = turn.turn (reading_in turn.readings) 0 (reads-itself turn.readings) in
+      let first = (runner-first T limits one.answer n (m.nodes t) (reading_in turn.readings 0 - start) _).1.0 one.stops in
+      first.1
+
+  module _ (p q r : Parts D T H K) (taken : HasTaken tells applies hooks m limits start p q) (on : q.stop_reason ≡ None) where
+    went : (clock : ℕ → ℕ) (n : ℕ) → ReadsFrom clock n taken.readings → Goes clock p.iterations n (p.graph, p.hook) q.iterations (n + length taken.readings) (q.graph, q.hook)
+    went clock n reads = subst (Lead clock p n q.iterations (n + length taken.readings) (q.graph, q.hook)) on (taken.leads clock n reads)
+
+    pub taken-more : (stop : Option (Stop T)) (kept : Iteration D) → IsTurn tells applies hooks m limits start (length q.iterations) (q.graph, q.hook) q.clock (r.graph, r.hook) r.clock stop kept →
+        r ≡ record q { graph = r.graph; hook = r.hook; iterations = q.iterations ++ kept ∷ []; stop_reason = stop; clock = r.clock } → r.graph.failed ≡ false → ExtendsTo q.graph r.graph →
+        HasTaken tells applies hooks m limits start p r
+    taken-more stop kept turn is well more = record {
+      readings = taken.readings ++ turn.readings;
+      told = tells-then tells taken.readings turn.readings p.clock q.clock r.clock taken.told turn.told;
+      leads = λ clock n reads.
+          let j = n + length taken.readings in
+          let so_far = went clock n (reads-front clock n taken.readings turn.readings reads) in
+          let one = turn.turn clock j (reads-back clock n taken.readings turn.readings reads) in
+          subst (λ (x : Parts D T H K). Lead clock p n x.iterations (n + length (taken.readings ++ turn.readings)) (r.graph, r.hook) x.stop_reason) (sym is)
+          (subst (λ next. Lead clock p n (q.iterations ++ kept ∷ []) next (r.graph, r.hook) stop) (sym (more-readings n taken.readings turn.readings))
+          (leads-more clock p.iterations q.iterations n j (j + length turn.readings) (p.graph, p.hook) (q.graph, q.hook) (r.graph, r.hook) kept stop so_far one));
+      rest = λ i. record r {
+        roots = (ap (λ (x : Parts D T H K). x.roots) is ∙ ap (λ (x : Parts D T H K). x.roots) taken.rest) i;
+        limits = (ap (λ (x : Parts D T H K). x.limits) is ∙ ap (λ (x : Parts D T H K). x.limits) taken.rest) i;
+        start = (ap (λ (x : Parts D T H K). x.start) is ∙ ap (λ (x : Parts D T H K). x.start) taken.rest) i;
+      };
+      well = well;
+      extends = extends-then p.graph q.graph r.graph taken.extends more;
+    }
+
+    -- or one turn is refused
+    pub refused-more : p.stop_reason ≡ None → (readings : List ℕ) → TellsAll tells q.clock readings r.clock → IsTrue r.graph.failed ⊎ ExtendsTo q.graph r.graph →
+        r ≡ record q { graph = r.graph; hook = r.hook; clock = r.clock } → HasRefused tells applies hooks m limits start p r
+    refused-more begins readings told spoils is = record {
+      readings = taken.readings ++ readings;
+      told = tells-then tells taken.readings readings p.clock q.clock r.clock taken.told told;
+      refused = λ clock n reads.
+          subst (λ (x : Parts D T H K). RunnerRefuses applies hooks Spoils m limits clock start p.iterations n (p.graph, p.hook) x.iterations (r.graph, r.hook)) (sym is)
+          ((went clock n (reads-front clock n taken.readings readings reads)).refuses (refused_now spoils));
+      rest = λ i. record r {
+        roots = (ap (λ (x : Parts D T H K). x.roots) is ∙ ap (λ (x : Parts D T H K). x.roots) taken.rest) i;
+        limits = (ap (λ (x : Parts D T H K). x.limits) is ∙ ap (λ (x : Parts D T H K). x.limits) taken.rest) i;
+        start = (ap (λ (x : Parts D T H K). x.start) is ∙ ap (λ (x : Parts D T H K). x.start) taken.rest) i;
+        stop_reason = (ap (λ (x : Parts D T H K). x.stop_reason) is ∙ (on ∙ sym begins)) i;
+      };
+    }

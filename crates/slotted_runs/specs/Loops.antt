@@ -3,17 +3,19 @@
 --     GivesReason     why a turn stops the run, with what the clock was read for it
 --     ReadsClock tells k l    the clock k was read, maybe more than once or not at all, and is l
 --     IsTurn          a turn, whatever was read before it
+--     IsBegun         the reading before the first turn is there
+--     turns_left      the most turns that may come
 --     GoOn            turns that go on: each run from where they lead is one from where they begin
 --     Leads           turns that go on, or of which the last one stops the run
 --     HasTaken p q    from p to q a runner took some turns
 --     HasRefused p q  from p to q it took some, and one was refused
-use Rattle.std.specs.Prelude.{◌≡◌, ℕ, ◌+◌, ◌-◌, List, length, Option, Some, None, Bool, false}
+use Rattle.std.specs.Prelude.{◌≡◌, ℕ, suc, ◌+◌, ◌-◌, List, length, Option, Some, None, Bool, false}
 use Rattle.slotted_theory.specs.Decided.{numbers_eq}
 use Rattle.slotted_core.specs.Graph.{Graph}
 use Rattle.slotted_graph.specs.Extension.{ExtendsTo}
 use Rattle.slotted_model_rules.specs.Runners.{Stop, Limits, Measures, Iteration, runner_stop, after_check, RunnerTurn, RunnerRuns, RunnerRefuses}
 use Rattle.slotted_runs.specs.Seen.{Parts}
-use Rattle.slotted_runs.specs.Turning.{ReadsFrom, Spoils, TellsAll, progress_of}
+use Rattle.slotted_runs.specs.Turning.{IsStart, ReadsFrom, Spoils, TellsAll, progress_of}
 
 pub record HasCalled {H T : Type 0} (applies : Graph × H → Graph × H → Type 0) (hooks : Graph × H → ℕ → Graph × H → Option T → Type 0) (s : Graph × H) (n : ℕ) (t : Graph × H) (same : Bool) (stop : Option T) : Type 0 where
   pub applied : Graph × H
@@ -30,6 +32,17 @@ pub record GivesReason {K T : Type 0} (tells : K → ℕ → K → Type 0) (limi
 pub record ReadsClock {K : Type 0} (tells : K → ℕ → K → Type 0) (k l : K) : Type 0 where
   pub readings : List ℕ
   pub told : TellsAll tells k readings l
+
+pub record IsBegun {D T H K : Type 0} (tells : K → ℕ → K → Type 0) (p q : Parts D T H K) (start : ℕ) : Type 0 where
+  pub readings : List ℕ
+  pub told : TellsAll tells p.clock readings q.clock
+  pub starts : (clock : ℕ → ℕ) → ReadsFrom clock 0 readings → IsStart p.start clock start (length readings)
+  pub rest : q ≡ record p { start = Some start; clock = q.clock }
+
+-- how many turns may come, where so many are stored
+abbrev pub turns_left : {T : Type 0} → Option T → ℕ → ℕ → ℕ
+turns_left (Some t) limit stored = 0
+turns_left None limit stored = suc (suc limit - stored)
 
 module _ {H T D K : Type 0} (tells : K → ℕ → K → Type 0) (applies : Graph × H → Graph × H → Type 0) (hooks : Graph × H → ℕ → Graph × H → Option T → Type 0) (m : Measures (Graph × H) D) (limits : Limits) (start : ℕ) where
   pub record IsTurn (stored : ℕ) (s : Graph × H) (k : K) (t : Graph × H) (l : K) (stop : Option (Stop T)) (kept : Iteration D) : Type 0 where

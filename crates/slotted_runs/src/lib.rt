@@ -8,6 +8,7 @@ pub mod iteration;
 pub mod limits;
 pub mod report;
 pub mod runner;
+pub(crate) mod running;
 pub(crate) mod turning;
 
 pub use clock::Clock;

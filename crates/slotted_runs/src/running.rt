@@ -1,0 +1,81 @@
+//! Runners take turns until one stops them.
+ghost use Rattle.std.specs.Prelude.{◌≡◌, ◌⊎◌, false, None, All, IsTrue, IsErrAnd, IsSome, IfErr, OnErr, OnOk, map};
+ghost use Rattle.slotted_slots.specs.Error.{IsShortage};
+ghost use Rattle.slotted_model_rules.specs.Runners.{last_finish, time_between};
+ghost use Rattle.slotted_graph.specs.Extension.{ExtendsTo};
+ghost use Rattle.slotted_rules.specs.Applying.{AreRefusedBy};
+ghost use Rattle.slotted_runs.specs.Loops.{HasRefused, HasTaken, IsBegun};
+ghost use Rattle.slotted_runs.specs.Seen.{iteration_of, limits_of, parts_of, start_of};
+ghost use Rattle.slotted_runs.specs.Turning.{Calls, RulesOnce, measures};
+
+use crate::clock::Clock;
+use crate::hook::Hook;
+use crate::iteration::{Iteration, IterationData};
+use crate::runner::Runner;
+use slotted_languages::Language;
+use slotted_rules::RewriteT;
+use slotted_slots::Error;
+
+// The end of the last turn, if there is one.
+fn last_end<D>(iterations: &Vec<Iteration<D>>) -> Option<u64>
+    ensures { result ≡ last_finish (map iteration_of iterations.now.items) }
+{
+    match iterations.last() {
+        Some(iteration) => iteration.finish_time,
+        None => None,
+    }
+}
+
+impl<
+    L: Language,
+    N: Drop,
+    D: IterationData<L, N>,
+    T: Drop,
+    H: Hook<L, N, T>,
+    K: Clock,
+> Runner<L, N, D, T, H, K>
+{
+    // Returns the reading before the first turn. The clock is read where there was none.
+    fn begin(&mut self) -> u64
+        ensures { IsBegun K.tells (parts_of self.old) (parts_of self.new) result }
+    {
+        match self.limits.start {
+            Some(start) => start,
+            None => {
+                let start = self.clock.now();
+                self.limits.start = Some(start);
+                start
+            }
+        }
+    }
+
+    // The time from the start to the end of the last turn.
+    fn total_time(&self) -> u64
+        ensures { result ≡ time_between (start_of self.now.limits) (last_finish (map iteration_of self.now.iterations.items)) }
+    {
+        match (self.limits.start, last_end(&self.iterations)) {
+            (Some(start), Some(end)) => end.saturating_sub(start),
+            _ => 0,
+        }
+    }
+
+    // Takes turns, and stores them, until one stops the run.
+    fn take_turns<Q: RewriteT<L, N>>(&mut self, rules: &[Q], start: u64) -> Result<(), Error>
+        requires well { self.old.egraph.failed ≡ false }
+        requires valid { All (λ r. Q.valid r self.old.egraph) rules.now }
+        requires goes_on { self.old.stop_reason ≡ None }
+        ensures ok { OnOk result (HasTaken K.tells (RulesOnce Q.searches Q.applies rules.now) (Calls H.leaves) (measures D.made) (limits_of self.old.limits) start (parts_of self.old) (parts_of self.new)) }
+        ensures stopped { OnOk result (IsSome self.new.stop_reason) }
+        ensures refused { OnErr result (HasRefused K.tells (RulesOnce Q.searches Q.applies rules.now) (Calls H.leaves) (measures D.made) (limits_of self.old.limits) start (parts_of self.old) (parts_of self.new)) }
+        ensures extends { IsTrue self.new.egraph.failed ⊎ ExtendsTo self.old.egraph self.new.egraph }
+        ensures fails { IsTrue self.new.egraph.failed → IsErrAnd result IsShortage }
+        ensures err { IfErr result (λ e. IsShortage e ⊎ AreRefusedBy Q.refuses rules.now e ⊎ H.refuses e ⊎ D.refuses e) }
+    {
+        while self.stop_reason.is_none() {
+            let turn = self.turn(rules, start)?;
+            self.iterations.push(turn.kept)?;
+            self.stop_reason = turn.stop;
+        }
+        Ok(())
+    }
+}
