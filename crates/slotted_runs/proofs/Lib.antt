@@ -4,4 +4,5 @@ pub mod Beside
 pub mod Readings
 pub mod Turns
 pub mod LastTurns
+pub mod Stopped
 pub mod Storing

@@ -1,6 +1,6 @@
 -- What a runner is once one more turn is stored.
 use Rattle.std.proofs.Common.{◌≡◌, ◌∙◌, ℕ, suc, ◌+◌, ◌-◌, ◌≤◌, List, [], ◌∷◌, ◌++◌, length, length-append, map, Option, Some, None, Bool, true, false, Result, Ok, Err, ap, refl, sym, subst, arith}
-use Rattle.std.specs.Prelude.{OnErr, is_some, not, option_map}
+use Rattle.std.specs.Prelude.{IsSome, OnErr, OnOk, is_some, not, option_map}
 use Rattle.std.proofs.lemmas.Bool.{false≢true}
 use Rattle.std.proofs.lemmas.List.{map-append, length-map}
 use Rattle.slotted_core.specs.Graph.{Graph}
@@ -16,6 +16,18 @@ use Rattle.slotted_runs.proofs.Turns.{taken-more, within}
 pub on-err : {A E P : Type 0} (r : Result A E) → P → OnErr r P
 on-err (Ok x) p = tt
 on-err (Err e) p = p
+
+pub on-ok-two : {A E P Q R : Type 0} (r : Result A E) → OnOk r P → OnOk r Q → (P → Q → R) → OnOk r R
+on-ok-two (Ok x) p q f = f p q
+on-ok-two (Err e) p q f = tt
+
+pub some-of : {A : Type 0} (o : Option A) → IsSome o → (x : A) × (o ≡ Some x)
+some-of None is = absurd (false≢true is)
+some-of (Some x) is = (x, refl)
+
+pub none-if : {A : Type 0} (o : Option A) (y : Bool) → y ≡ is_some o → y ≡ false → o ≡ None
+none-if None y e f = refl
+none-if (Some x) y e f = absurd (false≢true (sym f ∙ e))
 
 pub none-of : {A : Type 0} (o : Option A) (y : Bool) → is_some o ≡ not y → y ≡ true → o ≡ None
 none-of None y e t = refl

@@ -2,4 +2,5 @@
 pub mod Hooks
 pub mod Seen
 pub mod Turning
+pub mod Runs
 pub mod Loops

@@ -9,13 +9,20 @@
 --     Leads           turns that go on, or of which the last one stops the run
 --     HasTaken p q    from p to q a runner took some turns
 --     HasRefused p q  from p to q it took some, and one was refused
+--     HasStopped p q  the runner has stopped, or it had before
+--     IsRefusedWithin a turn was refused, or a report
+--     IsReportOf      the report of a runner that has stopped
 use Rattle.std.specs.Prelude.{◌≡◌, ℕ, suc, ◌+◌, ◌-◌, List, length, Option, Some, None, Bool, false}
 use Rattle.slotted_theory.specs.Decided.{numbers_eq}
 use Rattle.slotted_core.specs.Graph.{Graph}
 use Rattle.slotted_graph.specs.Extension.{ExtendsTo}
-use Rattle.slotted_model_rules.specs.Runners.{Stop, Limits, Measures, Iteration, runner_stop, after_check, RunnerTurn, RunnerRuns, RunnerRefuses}
-use Rattle.slotted_runs.specs.Seen.{Parts}
-use Rattle.slotted_runs.specs.Turning.{IsStart, ReadsFrom, Spoils, TellsAll, progress_of}
+use Rattle.slotted_model_rules.specs.Runners.{Stop, Limits, Measures, Iteration, runner_stop, after_check, RunnerTurn, RunnerRuns, RunnerRefuses, runner_report}
+use Rattle.slotted_slots.specs.declared.error.Error.{Error}
+use Rattle.slotted_slots.specs.declared.error.Error.TheVariants.{OutOfMemory}
+use Rattle.slotted_runs.specs.Runs.{HasRefusedTurn, HasRun}
+use Rattle.slotted_runs.specs.declared.report.Report.{Report}
+use Rattle.slotted_runs.specs.Seen.{Parts, seen}
+use Rattle.slotted_runs.specs.Turning.{IsReportClone, IsStart, ReadsFrom, Spoils, TellsAll, progress_of}
 
 pub record HasCalled {H T : Type 0} (applies : Graph × H → Graph × H → Type 0) (hooks : Graph × H → ℕ → Graph × H → Option T → Type 0) (s : Graph × H) (n : ℕ) (t : Graph × H) (same : Bool) (stop : Option T) : Type 0 where
   pub applied : Graph × H
@@ -71,3 +78,22 @@ module _ {H T D K : Type 0} (tells : K → ℕ → K → Type 0) (applies : Grap
     pub told : TellsAll tells p.clock readings q.clock
     pub refused : (clock : ℕ → ℕ) (n : ℕ) → ReadsFrom clock n readings → RunnerRefuses applies hooks Spoils m limits clock start p.iterations n (p.graph, p.hook) q.iterations (q.graph, q.hook)
     pub rest : q ≡ record p { graph = q.graph; hook = q.hook; iterations = q.iterations; clock = q.clock }
+
+-- from p to q the runner has stopped, or it had before
+pub record HasStopped {H T D K : Type 0} (tells : K → ℕ → K → Type 0) (applies : Graph × H → Graph × H → Type 0) (hooks : Graph × H → ℕ → Graph × H → Option T → Type 0) (m : Measures (Graph × H) D) (p q : Parts D T H K) : Type 0 where
+  pub reason : Stop T
+  pub stopped : q.stop_reason ≡ Some reason
+  pub run : HasRun tells applies hooks m p q (runner_report m (seen q) reason)
+  pub well : q.graph.failed ≡ false
+  pub extends : ExtendsTo p.graph q.graph
+
+-- a turn was refused, or the runner has stopped and there was no memory for the report
+pub data IsRefusedWithin {H T D K : Type 0} (tells : K → ℕ → K → Type 0) (applies : Graph × H → Graph × H → Type 0) (hooks : Graph × H → ℕ → Graph × H → Option T → Type 0) (m : Measures (Graph × H) D) (p q : Parts D T H K) (e : Error) : Type 0 where
+  turn_refused_within : HasRefusedTurn tells applies hooks m p q → IsRefusedWithin tells applies hooks m p q e
+  report_refused_within : HasStopped tells applies hooks m p q → e ≡ OutOfMemory → IsRefusedWithin tells applies hooks m p q e
+
+-- the report of a runner that has stopped
+pub record IsReportOf {H T D K : Type 0} (is_clone : T → T → Type 0) (m : Measures (Graph × H) D) (p : Parts D T H K) (r : Report T) : Type 0 where
+  pub reason : Stop T
+  pub stopped : p.stop_reason ≡ Some reason
+  pub cloned : IsReportClone is_clone (runner_report m (seen p) reason) r

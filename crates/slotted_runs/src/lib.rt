@@ -3,10 +3,13 @@
 
 pub(crate) mod calling;
 pub mod clock;
+pub(crate) mod failing;
 pub mod hook;
 pub mod iteration;
 pub mod limits;
 pub mod report;
+pub(crate) mod reporting;
+pub(crate) mod run;
 pub mod runner;
 pub(crate) mod running;
 pub(crate) mod turning;

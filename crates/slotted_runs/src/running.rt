@@ -3,8 +3,8 @@ ghost use Rattle.std.specs.Prelude.{◌≡◌, ◌⊎◌, false, None, All, IsTr
 ghost use Rattle.slotted_slots.specs.Error.{IsShortage};
 ghost use Rattle.slotted_model_rules.specs.Runners.{last_finish, time_between};
 ghost use Rattle.slotted_graph.specs.Extension.{ExtendsTo};
-ghost use Rattle.slotted_rules.specs.Applying.{AreRefusedBy};
-ghost use Rattle.slotted_runs.specs.Loops.{HasRefused, HasTaken, IsBegun};
+ghost use Rattle.slotted_runs.specs.Loops.{HasRefused, HasStopped, HasTaken, IsBegun};
+ghost use Rattle.slotted_runs.specs.Runs.{HasRefusedTurn, MayRefuse};
 ghost use Rattle.slotted_runs.specs.Seen.{iteration_of, limits_of, parts_of, start_of};
 ghost use Rattle.slotted_runs.specs.Turning.{Calls, RulesOnce, measures};
 
@@ -50,7 +50,7 @@ impl<
     }
 
     // The time from the start to the end of the last turn.
-    fn total_time(&self) -> u64
+    pub(crate) fn total_time(&self) -> u64
         ensures { result ≡ time_between (start_of self.now.limits) (last_finish (map iteration_of self.now.iterations.items)) }
     {
         match (self.limits.start, last_end(&self.iterations)) {
@@ -69,7 +69,7 @@ impl<
         ensures refused { OnErr result (HasRefused K.tells (RulesOnce Q.searches Q.applies rules.now) (Calls H.leaves) (measures D.made) (limits_of self.old.limits) start (parts_of self.old) (parts_of self.new)) }
         ensures extends { IsTrue self.new.egraph.failed ⊎ ExtendsTo self.old.egraph self.new.egraph }
         ensures fails { IsTrue self.new.egraph.failed → IsErrAnd result IsShortage }
-        ensures err { IfErr result (λ e. IsShortage e ⊎ AreRefusedBy Q.refuses rules.now e ⊎ H.refuses e ⊎ D.refuses e) }
+        ensures err { IfErr result (λ e. IsShortage e ⊎ MayRefuse Q.refuses rules.now H.refuses D.refuses e) }
     {
         while self.stop_reason.is_none() {
             let turn = self.turn(rules, start)?;
@@ -77,5 +77,23 @@ impl<
             self.stop_reason = turn.stop;
         }
         Ok(())
+    }
+
+    // Takes turns until one stops the run, where none has.
+    pub(crate) fn stop<Q: RewriteT<L, N>>(&mut self, rules: &[Q]) -> Result<(), Error>
+        requires well { self.old.egraph.failed ≡ false }
+        requires valid { All (λ r. Q.valid r self.old.egraph) rules.now }
+        ensures ok { OnOk result (HasStopped K.tells (RulesOnce Q.searches Q.applies rules.now) (Calls H.leaves) (measures D.made) (parts_of self.old) (parts_of self.new)) }
+        ensures again { IsSome self.old.stop_reason → self.new ≡ self.old }
+        ensures refused { OnErr result (HasRefusedTurn K.tells (RulesOnce Q.searches Q.applies rules.now) (Calls H.leaves) (measures D.made) (parts_of self.old) (parts_of self.new)) }
+        ensures extends { IsTrue self.new.egraph.failed ⊎ ExtendsTo self.old.egraph self.new.egraph }
+        ensures fails { IsTrue self.new.egraph.failed → IsErrAnd result IsShortage }
+        ensures err { IfErr result (λ e. IsShortage e ⊎ MayRefuse Q.refuses rules.now H.refuses D.refuses e) }
+    {
+        if self.stop_reason.is_some() {
+            return Ok(());
+        }
+        let start = self.begin();
+        self.take_turns(rules, start)
     }
 }

@@ -3,8 +3,8 @@ ghost use Rattle.std.specs.Prelude.{◌≡◌, ◌⊎◌, false, not, length, op
 ghost use Rattle.slotted_slots.specs.Error.{IsShortage};
 ghost use Rattle.slotted_model_rules.specs.Runners.{runner_stop};
 ghost use Rattle.slotted_graph.specs.Extension.{ExtendsTo};
-ghost use Rattle.slotted_rules.specs.Applying.{AreRefusedBy};
 ghost use Rattle.slotted_runs.specs.Loops.{GivesReason, IsTurn, ReadsClock};
+ghost use Rattle.slotted_runs.specs.Runs.{MayRefuse};
 ghost use Rattle.slotted_runs.specs.Seen.{iteration_of, limits_of, parts_of, stop_of};
 ghost use Rattle.slotted_runs.specs.Turning.{Calls, RulesOnce, measures};
 
@@ -92,7 +92,7 @@ impl<L: Language, N: Drop, D: IterationData<L, N>, T: Drop, H: Hook<L, N, T>, K:
         ensures clock { OnErr result (ReadsClock K.tells self.old.clock self.new.clock) }
         ensures extends { IsTrue self.new.egraph.failed ⊎ ExtendsTo self.old.egraph self.new.egraph }
         ensures fails { IsTrue self.new.egraph.failed → IsErrAnd result IsShortage }
-        ensures err { IfErr result (λ e. IsShortage e ⊎ AreRefusedBy Q.refuses rules.now e ⊎ H.refuses e ⊎ D.refuses e) }
+        ensures err { IfErr result (λ e. IsShortage e ⊎ MayRefuse Q.refuses rules.now H.refuses D.refuses e) }
     {
         let stored = self.iterations.len();
         let called = apply_and_call(self.alloc, &mut self.egraph, rules, &mut self.hook, stored)?;

@@ -1,0 +1,22 @@
+//! Structural writes of this crate fail the graph where memory or slots were lacking.
+ghost use Rattle.std.specs.Prelude.{◌≡◌, true, IsErrAnd};
+ghost use Rattle.slotted_slots.specs.Error.{IsShortage};
+
+use slotted_graph::EGraph;
+use slotted_languages::Language;
+use slotted_slots::Error;
+
+// Hands an outcome on, and fails the graph if the outcome is a shortage.
+pub(crate) fn failing<L: Language, N: Drop, T>(
+    graph: &mut EGraph<L, N>,
+    outcome: Result<T, Error>,
+) -> Result<T, Error>
+    ensures same { result ≡ outcome }
+    ensures short { IsErrAnd outcome IsShortage → graph.new ≡ record graph.old { failed = true } }
+    ensures other { ¬ IsErrAnd outcome IsShortage → graph.new ≡ graph.old }
+{
+    if let Err(Error::OutOfMemory | Error::OutOfSlots) = &outcome {
+        graph.fail();
+    }
+    outcome
+}

@@ -1,0 +1,43 @@
+//! Runs of runners.
+ghost use Rattle.std.specs.Prelude.{◌≡◌, ◌↔◌, ◌⊎◌, false, All, IsTrue, IsErrAnd, IsErrOf, IsSome, IfOk, IfErr, OnOk};
+ghost use Rattle.slotted_slots.specs.Error.{IsShortage};
+ghost use Rattle.slotted_graph.specs.Extension.{ExtendsTo};
+ghost use Rattle.slotted_runs.specs.Loops.{IsRefusedWithin};
+ghost use Rattle.slotted_runs.specs.Runs.{HasReported, IsRefused, MayRefuse};
+ghost use Rattle.slotted_runs.specs.Seen.{parts_of};
+ghost use Rattle.slotted_runs.specs.Turning.{Calls, RulesOnce, measures};
+
+use crate::clock::Clock;
+use crate::failing::failing;
+use crate::hook::Hook;
+use crate::iteration::IterationData;
+use crate::report::Report;
+use crate::runner::Runner;
+use slotted_languages::Language;
+use slotted_rules::RewriteT;
+use slotted_slots::Error;
+
+impl<
+    L: Language,
+    N: Drop,
+    D: IterationData<L, N>,
+    T: Clone,
+    H: Hook<L, N, T>,
+    K: Clock,
+> Runner<L, N, D, T, H, K>
+{
+    // Takes turns until one stops the run, and reports.
+    fn answer<Q: RewriteT<L, N>>(&mut self, rules: &[Q]) -> Result<Report<T>, Error>
+        requires well { self.old.egraph.failed ≡ false }
+        requires valid { All (λ r. Q.valid r self.old.egraph) rules.now }
+        ensures ok { IfOk result (HasReported K.tells (RulesOnce Q.searches Q.applies rules.now) (Calls H.leaves) (measures D.made) T.is_clone (parts_of self.old) (parts_of self.new)) }
+        ensures again { IsSome self.old.stop_reason → self.new ≡ self.old }
+        ensures refused { IfErr result (IsRefusedWithin K.tells (RulesOnce Q.searches Q.applies rules.now) (Calls H.leaves) (measures D.made) (parts_of self.old) (parts_of self.new)) }
+        ensures extends { IsTrue self.new.egraph.failed ⊎ ExtendsTo self.old.egraph self.new.egraph }
+        ensures fails { IsTrue self.new.egraph.failed → IsErrAnd result IsShortage }
+        ensures err { IfErr result (λ e. IsShortage e ⊎ MayRefuse Q.refuses rules.now H.refuses D.refuses e) }
+    {
+        self.stop(rules)?;
+        self.report()
+    }
+}
