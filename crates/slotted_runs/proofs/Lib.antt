@@ -5,4 +5,5 @@ pub mod Readings
 pub mod Turns
 pub mod LastTurns
 pub mod Stopped
+pub mod Refusing
 pub mod Storing
