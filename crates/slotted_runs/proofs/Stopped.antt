@@ -65,7 +65,7 @@ module _ {H T D K : Type 0} (tells : K → ℕ → K → Type 0) (applies : Grap
         let back = subst (λ n. ReadsFrom (reading_in all) n taken.readings) zero (reads-back (reading_in all) 0 begun.readings taken.readings read) in
         let last = length begun.readings + length taken.readings in
         let led = subst (Leads tells applies hooks m b.limits start (reading_in all) b.iterations (length begun.readings) (b.graph, b.hook) q.iterations last (q.graph, q.hook)) stopped
-                (taken.leads (reading_in all) (length begun.readings) back) in
+        (taken.leads (reading_in all) (length begun.readings) back) in
         let runs = subst (λ (x : Parts D T H K). RunnerRuns applies hooks m x.limits (reading_in all) start x.iterations (length begun.readings) (x.graph, x.hook) q.iterations last (q.graph, q.hook) reason) begun.rest led in
         let total : last ≡ length all = sym (ap (λ n. n + length taken.readings) zero) ∙ (sym (more-readings 0 begun.readings taken.readings) ∙ omega arith) in
         record {

@@ -55,7 +55,7 @@ module _ {H T D K : Type 0} (tells : K → ℕ → K → Type 0) (applies : Grap
       let limits : q.limits ≡ p.limits = ap (λ (x : Parts D T H K). x.limits) taken.rest in
       let count : length stored ≡ length q.iterations = sym (length-map stored iteration_of) ∙ ap length (sym those) in
       let all : map iteration_of ys ≡ q.iterations ++ iteration_of kept ∷ [] =
-          ap (map iteration_of) items ∙ (map-append iteration_of xs (kept ∷ []) ∙ ap (λ is. is ++ iteration_of kept ∷ []) (sym these ∙ ap (λ (x : Parts D T H K). x.iterations) rest)) in
+      ap (map iteration_of) items ∙ (map-append iteration_of xs (kept ∷ []) ∙ ap (λ is. is ++ iteration_of kept ∷ []) (sym these ∙ ap (λ (x : Parts D T H K). x.iterations) rest)) in
       taken-more tells applies hooks m p.limits start p q (record t { iterations = map iteration_of ys; stop_reason = option_map stop_of stop }) taken on (option_map stop_of stop) (iteration_of kept)
       (subst (λ n. IsTurn tells applies hooks m p.limits start n (q.graph, q.hook) q.clock (t.graph, t.hook) t.clock (option_map stop_of stop) (iteration_of kept)) count
       (subst (λ l. IsTurn tells applies hooks m l start (length stored) (q.graph, q.hook) q.clock (t.graph, t.hook) t.clock (option_map stop_of stop) (iteration_of kept)) limits turn))

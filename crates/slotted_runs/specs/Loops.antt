@@ -5,6 +5,7 @@
 --     IsTurn          a turn, whatever was read before it
 --     IsBegun         the reading before the first turn is there
 --     turns_left      the most turns that may come
+--     HasTurned p q   from p to q a runner takes a turn
 --     GoOn            turns that go on: each run from where they lead is one from where they begin
 --     Leads           turns that go on, or of which the last one stops the run
 --     HasTaken p q    from p to q a runner took some turns
@@ -12,7 +13,7 @@
 --     HasStopped p q  the runner has stopped, or it had before
 --     IsRefusedWithin a turn was refused, or a report
 --     IsReportOf      the report of a runner that has stopped
-use Rattle.std.specs.Prelude.{◌≡◌, ℕ, suc, ◌+◌, ◌-◌, List, length, Option, Some, None, Bool, false}
+use Rattle.std.specs.Prelude.{◌≡◌, ℕ, suc, ◌+◌, ◌-◌, List, length, Option, Some, None, Bool, false, option_map}
 use Rattle.slotted_theory.specs.Decided.{numbers_eq}
 use Rattle.slotted_core.specs.Graph.{Graph}
 use Rattle.slotted_graph.specs.Extension.{ExtendsTo}
@@ -21,7 +22,8 @@ use Rattle.slotted_slots.specs.declared.error.Error.{Error}
 use Rattle.slotted_slots.specs.declared.error.Error.TheVariants.{OutOfMemory}
 use Rattle.slotted_runs.specs.Runs.{HasRefusedTurn, HasRun}
 use Rattle.slotted_runs.specs.declared.report.Report.{Report}
-use Rattle.slotted_runs.specs.Seen.{Parts, seen}
+use Rattle.slotted_runs.specs.Seen.{Parts, iteration_of, seen, stop_of}
+use Rattle.slotted_runs.specs.declared.turning.Turn.{Turn}
 use Rattle.slotted_runs.specs.Turning.{IsReportClone, IsStart, ReadsFrom, Spoils, TellsAll, progress_of}
 
 pub record HasCalled {H T : Type 0} (applies : Graph × H → Graph × H → Type 0) (hooks : Graph × H → ℕ → Graph × H → Option T → Type 0) (s : Graph × H) (n : ℕ) (t : Graph × H) (same : Bool) (stop : Option T) : Type 0 where
@@ -78,6 +80,11 @@ module _ {H T D K : Type 0} (tells : K → ℕ → K → Type 0) (applies : Grap
     pub told : TellsAll tells p.clock readings q.clock
     pub refused : (clock : ℕ → ℕ) (n : ℕ) → ReadsFrom clock n readings → RunnerRefuses applies hooks Spoils m limits clock start p.iterations n (p.graph, p.hook) q.iterations (q.graph, q.hook)
     pub rest : q ≡ record p { graph = q.graph; hook = q.hook; iterations = q.iterations; clock = q.clock }
+
+-- from p to q the runner takes a turn, where so many turns are stored
+abbrev pub HasTurned : {H T D K : Type 0} → (K → ℕ → K → Type 0) → (Graph × H → Graph × H → Type 0) → (Graph × H → ℕ → Graph × H → Option T → Type 0) → Measures (Graph × H) D → ℕ → ℕ → Parts D T H K → Parts D T H K → Turn D T → Type 0
+HasTurned tells applies hooks m start stored p q turn =
+    IsTurn tells applies hooks m p.limits start stored (p.graph, p.hook) p.clock (q.graph, q.hook) q.clock (option_map stop_of turn.stop) (iteration_of turn.kept)
 
 -- from p to q the runner has stopped, or it had before
 pub record HasStopped {H T D K : Type 0} (tells : K → ℕ → K → Type 0) (applies : Graph × H → Graph × H → Type 0) (hooks : Graph × H → ℕ → Graph × H → Option T → Type 0) (m : Measures (Graph × H) D) (p q : Parts D T H K) : Type 0 where

@@ -53,7 +53,8 @@ pub(crate) fn apply_and_call<L: Language, N: Drop, T: Drop, H: Hook<L, N, T>, Q:
     requires well { graph.old.failed ≡ false }
     requires valid { All (λ r. Q.valid r graph.old) rules.now }
     ensures ok { IfOk result
-        (λ c. HasCalled (RulesOnce Q.searches Q.applies rules.now) (Calls H.leaves) (graph.old, hook.old) iterations (graph.new, hook.new) (not c.changed) c.stop) }
+        (λ c. HasCalled (RulesOnce Q.searches Q.applies rules.now) (Calls H.leaves)
+        (graph.old, hook.old) iterations (graph.new, hook.new) (not c.changed) c.stop) }
     ensures extends { IsTrue graph.new.failed ⊎ ExtendsTo graph.old graph.new }
     ensures fails { IsTrue graph.new.failed → IsErrAnd result IsShortage }
     ensures err { IfErr result (λ e. IsShortage e ⊎ AreRefusedBy Q.refuses rules.now e ⊎ H.refuses e) }

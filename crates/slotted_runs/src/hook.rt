@@ -42,7 +42,8 @@ pub trait Hook<L: Language, N: Drop, T>: Drop {
     ) -> Result<(), HookStop<T>>
         requires { graph.old.failed ≡ false }
         ensures ok { OnOk result (leaves self.old graph.old iterations self.new graph.new None) }
-        ensures stop { IfErr result (StopsRun (leaves self.old graph.old iterations self.new graph.new) refuses) }
+        ensures stop { IfErr result
+            (StopsRun (leaves self.old graph.old iterations self.new graph.new) refuses) }
         ensures extends { IsTrue graph.new.failed ⊎ ExtendsTo graph.old graph.new }
         ensures fails { IsTrue graph.new.failed → IsErrAnd result (IsHookRefusal IsShortage) };
 

@@ -13,15 +13,14 @@ use crate::runner::Runner;
 use slotted_languages::Language;
 use slotted_slots::Error;
 
-impl<
-    L: Language,
-    N: Drop,
-    D: IterationData<L, N>,
-    T: Clone,
-    H: Hook<L, N, T>,
-    K: Clock,
-> Runner<L, N, D, T, H, K>
-{
+impl<L: Language, N: Drop, D: IterationData<L, N>, T: Clone, H: Hook<L, N, T>, K: Clock> Runner<
+    L,
+    N,
+    D,
+    T,
+    H,
+    K,
+> {
     // The report, with a clone of the reason.
     pub(crate) fn report(&self) -> Result<Report<T>, Error>
         requires well { self.now.egraph.failed ≡ false }

@@ -17,22 +17,25 @@ use slotted_languages::Language;
 use slotted_rules::RewriteT;
 use slotted_slots::Error;
 
-impl<
-    L: Language,
-    N: Drop,
-    D: IterationData<L, N>,
-    T: Clone,
-    H: Hook<L, N, T>,
-    K: Clock,
-> Runner<L, N, D, T, H, K>
-{
+impl<L: Language, N: Drop, D: IterationData<L, N>, T: Clone, H: Hook<L, N, T>, K: Clock> Runner<
+    L,
+    N,
+    D,
+    T,
+    H,
+    K,
+> {
     // Takes turns until one stops the run, and reports.
     fn answer<Q: RewriteT<L, N>>(&mut self, rules: &[Q]) -> Result<Report<T>, Error>
         requires well { self.old.egraph.failed ≡ false }
         requires valid { All (λ r. Q.valid r self.old.egraph) rules.now }
-        ensures ok { IfOk result (HasReported K.tells (RulesOnce Q.searches Q.applies rules.now) (Calls H.leaves) (measures D.made) T.is_clone (parts_of self.old) (parts_of self.new)) }
+        ensures ok { IfOk result
+            (HasReported K.tells (RulesOnce Q.searches Q.applies rules.now) (Calls H.leaves) (measures D.made)
+            T.is_clone (parts_of self.old) (parts_of self.new)) }
         ensures again { IsSome self.old.stop_reason → self.new ≡ self.old }
-        ensures refused { IfErr result (IsRefusedWithin K.tells (RulesOnce Q.searches Q.applies rules.now) (Calls H.leaves) (measures D.made) (parts_of self.old) (parts_of self.new)) }
+        ensures refused { IfErr result
+            (IsRefusedWithin K.tells (RulesOnce Q.searches Q.applies rules.now) (Calls H.leaves) (measures D.made)
+            (parts_of self.old) (parts_of self.new)) }
         ensures extends { IsTrue self.new.egraph.failed ⊎ ExtendsTo self.old.egraph self.new.egraph }
         ensures fails { IsTrue self.new.egraph.failed → IsErrAnd result IsShortage }
         ensures err { IfErr result (λ e. IsShortage e ⊎ MayRefuse Q.refuses rules.now H.refuses D.refuses e) }
@@ -43,21 +46,27 @@ impl<
 
     /// Takes turns until one stops the run, and reports. A runner that has stopped reports again, and nothing changes.
     ///
-    /// A turn applies the rules once, calls the hook, and stops the run for the first of these causes that holds: the hook's own, more
-    /// stored turns than the limit, more filed nodes, more time, and saturation, where the rules left the progress measure as it was.
-    /// What a refused turn did to the graph stays, but it is not stored.
+    /// A turn applies the rules once, calls the hook, and stops the run for the first of these causes that holds: the hook's
+    /// own, more stored turns than the limit, more filed nodes, more time, and saturation, where the rules left the progress
+    /// measure as it was. What a refused turn did to the graph stays, but the turn is not stored.
     pub fn run<Q: RewriteT<L, N>>(&mut self, rules: &[Q]) -> Result<Report<T>, Error>
         requires { IsTrue self.old.egraph.failed ⊎ All (λ r. Q.valid r self.old.egraph) rules.now }
-        ensures ok { IfOk result (HasReported K.tells (RulesOnce Q.searches Q.applies rules.now) (Calls H.leaves) (measures D.made) T.is_clone (parts_of self.old) (parts_of self.new)) }
+        ensures ok { IfOk result
+            (HasReported K.tells (RulesOnce Q.searches Q.applies rules.now) (Calls H.leaves) (measures D.made)
+            T.is_clone (parts_of self.old) (parts_of self.new)) }
         ensures again { IsSome self.old.stop_reason → OnOk result (self.new ≡ self.old) }
-        ensures refused { IfErr result (λ e. IsTrue self.old.egraph.failed ⊎ IsRefused K.tells (RulesOnce Q.searches Q.applies rules.now) (Calls H.leaves) (measures D.made) (parts_of self.old) (parts_of self.new) e) }
+        ensures refused { IfErr result (λ e. IsTrue self.old.egraph.failed
+            ⊎ IsRefused K.tells (RulesOnce Q.searches Q.applies rules.now) (Calls H.leaves) (measures D.made)
+            (parts_of self.old) (parts_of self.new) e) }
 
         // What was there stays, also where a turn is refused.
         ensures extends { IsTrue self.new.egraph.failed ⊎ ExtendsTo self.old.egraph self.new.egraph }
         ensures stays { IsTrue self.old.egraph.failed → self.new ≡ self.old }
         ensures failed { IsErrOf result Error.Failed ↔ IsTrue self.old.egraph.failed }
-        ensures fails { IsTrue self.new.egraph.failed ↔ IsErrAnd result (λ e. (e ≡ Error.Failed) ⊎ IsShortage e) }
-        ensures err { IfErr result (λ e. (e ≡ Error.Failed) ⊎ IsShortage e ⊎ MayRefuse Q.refuses rules.now H.refuses D.refuses e) }
+        ensures fails { IsTrue self.new.egraph.failed
+            ↔ IsErrAnd result (λ e. (e ≡ Error.Failed) ⊎ IsShortage e) }
+        ensures err { IfErr result
+            (λ e. (e ≡ Error.Failed) ⊎ IsShortage e ⊎ MayRefuse Q.refuses rules.now H.refuses D.refuses e) }
     {
         if self.egraph.is_failed() {
             return Err(Error::Failed);

@@ -132,7 +132,8 @@ impl<L: Language, N: Drop, D: IterationData<L, N>, T: Drop, H: Hook<L, N, T>, K:
 
     /// Sets the number of filed nodes past which the runner stops.
     pub fn with_node_limit(mut self, node_limit: usize) -> Self
-        ensures { let p = parts_of self in parts_of result ≡ record p { limits = record p.limits { nodes = node_limit } } }
+        ensures { let p = parts_of self in parts_of result
+            ≡ record p { limits = record p.limits { nodes = node_limit } } }
     {
         self.limits.nodes = node_limit;
         self
@@ -140,7 +141,8 @@ impl<L: Language, N: Drop, D: IterationData<L, N>, T: Drop, H: Hook<L, N, T>, K:
 
     /// Sets the number of stored turns past which the runner stops.
     pub fn with_iter_limit(mut self, iter_limit: usize) -> Self
-        ensures { let p = parts_of self in parts_of result ≡ record p { limits = record p.limits { iterations = iter_limit } } }
+        ensures { let p = parts_of self in parts_of result
+            ≡ record p { limits = record p.limits { iterations = iter_limit } } }
     {
         self.limits.iterations = iter_limit;
         self
@@ -148,7 +150,8 @@ impl<L: Language, N: Drop, D: IterationData<L, N>, T: Drop, H: Hook<L, N, T>, K:
 
     /// Sets the time past which the runner stops, in nanoseconds.
     pub fn with_time_limit(mut self, nanoseconds: u64) -> Self
-        ensures { let p = parts_of self in parts_of result ≡ record p { limits = record p.limits { time = nanoseconds } } }
+        ensures { let p = parts_of self in parts_of result
+            ≡ record p { limits = record p.limits { time = nanoseconds } } }
     {
         self.limits.time = nanoseconds;
         self

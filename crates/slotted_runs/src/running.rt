@@ -26,15 +26,14 @@ fn last_end<D>(iterations: &Vec<Iteration<D>>) -> Option<u64>
     }
 }
 
-impl<
-    L: Language,
-    N: Drop,
-    D: IterationData<L, N>,
-    T: Drop,
-    H: Hook<L, N, T>,
-    K: Clock,
-> Runner<L, N, D, T, H, K>
-{
+impl<L: Language, N: Drop, D: IterationData<L, N>, T: Drop, H: Hook<L, N, T>, K: Clock> Runner<
+    L,
+    N,
+    D,
+    T,
+    H,
+    K,
+> {
     // Returns the reading before the first turn. The clock is read where there was none.
     fn begin(&mut self) -> u64
         ensures { IsBegun K.tells (parts_of self.old) (parts_of self.new) result }
@@ -51,7 +50,8 @@ impl<
 
     // The time from the start to the end of the last turn.
     pub(crate) fn total_time(&self) -> u64
-        ensures { result ≡ time_between (start_of self.now.limits) (last_finish (map iteration_of self.now.iterations.items)) }
+        ensures { result
+            ≡ time_between (start_of self.now.limits) (last_finish (map iteration_of self.now.iterations.items)) }
     {
         match (self.limits.start, last_end(&self.iterations)) {
             (Some(start), Some(end)) => end.saturating_sub(start),
@@ -64,9 +64,13 @@ impl<
         requires well { self.old.egraph.failed ≡ false }
         requires valid { All (λ r. Q.valid r self.old.egraph) rules.now }
         requires goes_on { self.old.stop_reason ≡ None }
-        ensures ok { OnOk result (HasTaken K.tells (RulesOnce Q.searches Q.applies rules.now) (Calls H.leaves) (measures D.made) (limits_of self.old.limits) start (parts_of self.old) (parts_of self.new)) }
+        ensures ok { OnOk result
+            (HasTaken K.tells (RulesOnce Q.searches Q.applies rules.now) (Calls H.leaves) (measures D.made)
+            (limits_of self.old.limits) start (parts_of self.old) (parts_of self.new)) }
         ensures stopped { OnOk result (IsSome self.new.stop_reason) }
-        ensures refused { OnErr result (HasRefused K.tells (RulesOnce Q.searches Q.applies rules.now) (Calls H.leaves) (measures D.made) (limits_of self.old.limits) start (parts_of self.old) (parts_of self.new)) }
+        ensures refused { OnErr result
+            (HasRefused K.tells (RulesOnce Q.searches Q.applies rules.now) (Calls H.leaves) (measures D.made)
+            (limits_of self.old.limits) start (parts_of self.old) (parts_of self.new)) }
         ensures extends { IsTrue self.new.egraph.failed ⊎ ExtendsTo self.old.egraph self.new.egraph }
         ensures fails { IsTrue self.new.egraph.failed → IsErrAnd result IsShortage }
         ensures err { IfErr result (λ e. IsShortage e ⊎ MayRefuse Q.refuses rules.now H.refuses D.refuses e) }
@@ -83,9 +87,13 @@ impl<
     pub(crate) fn stop<Q: RewriteT<L, N>>(&mut self, rules: &[Q]) -> Result<(), Error>
         requires well { self.old.egraph.failed ≡ false }
         requires valid { All (λ r. Q.valid r self.old.egraph) rules.now }
-        ensures ok { OnOk result (HasStopped K.tells (RulesOnce Q.searches Q.applies rules.now) (Calls H.leaves) (measures D.made) (parts_of self.old) (parts_of self.new)) }
+        ensures ok { OnOk result
+            (HasStopped K.tells (RulesOnce Q.searches Q.applies rules.now) (Calls H.leaves) (measures D.made)
+            (parts_of self.old) (parts_of self.new)) }
         ensures again { IsSome self.old.stop_reason → self.new ≡ self.old }
-        ensures refused { OnErr result (HasRefusedTurn K.tells (RulesOnce Q.searches Q.applies rules.now) (Calls H.leaves) (measures D.made) (parts_of self.old) (parts_of self.new)) }
+        ensures refused { OnErr result
+            (HasRefusedTurn K.tells (RulesOnce Q.searches Q.applies rules.now) (Calls H.leaves) (measures D.made)
+            (parts_of self.old) (parts_of self.new)) }
         ensures extends { IsTrue self.new.egraph.failed ⊎ ExtendsTo self.old.egraph self.new.egraph }
         ensures fails { IsTrue self.new.egraph.failed → IsErrAnd result IsShortage }
         ensures err { IfErr result (λ e. IsShortage e ⊎ MayRefuse Q.refuses rules.now H.refuses D.refuses e) }

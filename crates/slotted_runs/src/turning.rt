@@ -3,7 +3,7 @@ ghost use Rattle.std.specs.Prelude.{◌≡◌, ◌⊎◌, false, not, length, op
 ghost use Rattle.slotted_slots.specs.Error.{IsShortage};
 ghost use Rattle.slotted_model_rules.specs.Runners.{runner_stop};
 ghost use Rattle.slotted_graph.specs.Extension.{ExtendsTo};
-ghost use Rattle.slotted_runs.specs.Loops.{GivesReason, IsTurn, ReadsClock};
+ghost use Rattle.slotted_runs.specs.Loops.{GivesReason, HasTurned, ReadsClock};
 ghost use Rattle.slotted_runs.specs.Runs.{MayRefuse};
 ghost use Rattle.slotted_runs.specs.Seen.{iteration_of, limits_of, parts_of, stop_of};
 ghost use Rattle.slotted_runs.specs.Turning.{Calls, RulesOnce, measures};
@@ -59,7 +59,8 @@ fn reason<T, K: Clock>(
     nodes: usize,
     changed: bool,
 ) -> Option<StopReason<T>>
-    ensures { GivesReason K.tells (limits_of limits.now) start stored nodes (not changed) stop clock.old clock.new (option_map stop_of result) }
+    ensures { GivesReason K.tells (limits_of limits.now) start stored nodes (not changed) stop
+        clock.old clock.new (option_map stop_of result) }
 {
     match stop {
         Some(reason) => Some(StopReason::Other(reason)),
@@ -87,8 +88,10 @@ impl<L: Language, N: Drop, D: IterationData<L, N>, T: Drop, H: Hook<L, N, T>, K:
         requires well { self.old.egraph.failed ≡ false }
         requires valid { All (λ r. Q.valid r self.old.egraph) rules.now }
         ensures ok { IfOk result
-            (λ t. IsTurn K.tells (RulesOnce Q.searches Q.applies rules.now) (Calls H.leaves) (measures D.made) (limits_of self.old.limits) start (length self.old.iterations.items) (self.old.egraph, self.old.hook) self.old.clock (self.new.egraph, self.new.hook) self.new.clock (option_map stop_of t.stop) (iteration_of t.kept)) }
-        ensures rest { let q = parts_of self.new in q ≡ record (parts_of self.old) { graph = q.graph; hook = q.hook; clock = q.clock } }
+            (HasTurned K.tells (RulesOnce Q.searches Q.applies rules.now) (Calls H.leaves) (measures D.made)
+            start (length self.old.iterations.items) (parts_of self.old) (parts_of self.new)) }
+        ensures rest { let q = parts_of self.new in q
+            ≡ record (parts_of self.old) { graph = q.graph; hook = q.hook; clock = q.clock } }
         ensures clock { OnErr result (ReadsClock K.tells self.old.clock self.new.clock) }
         ensures extends { IsTrue self.new.egraph.failed ⊎ ExtendsTo self.old.egraph self.new.egraph }
         ensures fails { IsTrue self.new.egraph.failed → IsErrAnd result IsShortage }

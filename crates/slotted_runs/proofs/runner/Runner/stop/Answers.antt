@@ -19,15 +19,15 @@ pub returns-clause-ok : goal.returns-clause-ok
 returns-clause-ok g c =
     on-ok-two c.take_turns.result c.take_turns.ensures.ok c.take_turns.ensures.stopped
     (λ taken some.
-        let has = some-of c.take_turns.new.self.stop_reason some in
-        stopped-now g.K.Clock.tells (RulesOnce g.Q.RewriteT.searches g.Q.RewriteT.applies c.args.rules.now) (Calls g.H.Hook.leaves) (measures g.D.IterationData.made)
-        (parts_of c.args.self.now) (parts_of c.begin-start.new.self) (parts_of c.take_turns.new.self) c.begin-start.result c.begin-start.ensures
-        (ap (option_map stop_of) (none-if c.args.self.now.stop_reason c.is_some.result c.is_some.ensures c.if-is_some.false)) taken (stop_of has.0) (ap (option_map stop_of) has.1))
+    let has = some-of c.take_turns.new.self.stop_reason some in
+    stopped-now g.K.Clock.tells (RulesOnce g.Q.RewriteT.searches g.Q.RewriteT.applies c.args.rules.now) (Calls g.H.Hook.leaves) (measures g.D.IterationData.made)
+    (parts_of c.args.self.now) (parts_of c.begin-start.new.self) (parts_of c.take_turns.new.self) c.begin-start.result c.begin-start.ensures
+    (ap (option_map stop_of) (none-if c.args.self.now.stop_reason c.is_some.result c.is_some.ensures c.if-is_some.false)) taken (stop_of has.0) (ap (option_map stop_of) has.1))
 
 pub returns-clause-refused : goal.returns-clause-refused
 returns-clause-refused g c =
     on_err_weaker c.take_turns.result
     (λ refused. refused-now g.K.Clock.tells (RulesOnce g.Q.RewriteT.searches g.Q.RewriteT.applies c.args.rules.now) (Calls g.H.Hook.leaves) (measures g.D.IterationData.made)
-        (parts_of c.args.self.now) (parts_of c.begin-start.new.self) (parts_of c.take_turns.new.self) c.begin-start.result c.begin-start.ensures
-        (ap (option_map stop_of) (none-if c.args.self.now.stop_reason c.is_some.result c.is_some.ensures c.if-is_some.false)) refused)
+    (parts_of c.args.self.now) (parts_of c.begin-start.new.self) (parts_of c.take_turns.new.self) c.begin-start.result c.begin-start.ensures
+    (ap (option_map stop_of) (none-if c.args.self.now.stop_reason c.is_some.result c.is_some.ensures c.if-is_some.false)) refused)
     c.take_turns.ensures.refused
