@@ -5,5 +5,7 @@ pub mod Readings
 pub mod Turns
 pub mod LastTurns
 pub mod Stopped
+pub mod EqsatTurns
+pub mod EqsatReports
 pub mod Refusing
 pub mod Storing

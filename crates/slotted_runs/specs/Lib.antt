@@ -4,3 +4,4 @@ pub mod Seen
 pub mod Turning
 pub mod Runs
 pub mod Loops
+pub mod Eqsat

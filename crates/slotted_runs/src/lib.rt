@@ -4,6 +4,7 @@
 pub(crate) mod calling;
 pub mod clock;
 pub(crate) mod failing;
+pub mod eqsat;
 pub mod hook;
 pub mod iteration;
 pub mod limits;
@@ -15,6 +16,7 @@ pub(crate) mod running;
 pub(crate) mod turning;
 
 pub use clock::Clock;
+pub use eqsat::run_eqsat;
 pub use hook::{Hook, HookStop, NoHook};
 pub use iteration::{Iteration, IterationData};
 pub use limits::RunnerLimits;

@@ -1,0 +1,89 @@
+-- What `run_eqsat` answers and leaves.
+--     report_of r        the report as the model has it
+--     EqsatRefuses       turns that go on, and one that is refused, after so many
+--     HasEqsatReported   it has run, and r is the report
+--     HasRefusedEqsat    a turn was refused
+--     GivesEqsatReason   why a turn stops the run, with what the clock was read for it
+--     IsEqsatTurn        a turn, whatever was read before it
+--     EqsatGoOn          turns that go on: each run from where they lead is one from where they begin
+--     HasCounted         so many turns were counted
+--     HasEnded           the run has ended
+--     HasBroken          a turn was refused, whatever was read before
+use Rattle.std.specs.Prelude.{◌≡◌, ◌⊎◌, ℕ, suc, ◌+◌, ◌-◌, ◌≤◌, List, length, Option, Some, None, Bool, IsTrue, false}
+use Rattle.slotted_core.specs.Graph.{Graph}
+use Rattle.slotted_graph.specs.Extension.{ExtendsTo}
+use Rattle.slotted_model_rules.specs.Runners.{EqsatAnswers, EqsatRuns, EqsatTurn, Measures, Stop, after_time, eqsat_stop}
+use Rattle.slotted_model_rules.specs.Runners as model
+use Rattle.slotted_runs.specs.declared.report.Report.{Report}
+use Rattle.slotted_runs.specs.Seen.{stop_of}
+use Rattle.slotted_runs.specs.Turning.{ReadsFrom, Spoils, TellsAll, measures, progress_of, reading_in}
+
+abbrev pub report_of : {T : Type 0} → Report T → model.Report T
+report_of r = record {
+  iterations = r.iterations;
+  stop_reason = stop_of r.stop_reason;
+  egraph_nodes = r.egraph_nodes;
+  egraph_classes = r.egraph_classes;
+  total_time = r.total_time;
+}
+
+abbrev pub counts_of : {H : Type 0} → Measures (Graph × H) (Unit {0})
+counts_of = measures (λ g n. tt)
+
+pub record GivesEqsatReason {K T : Type 0} (tells : K → ℕ → K → Type 0) (iterations seconds start counted : ℕ) (same : Bool) (answer : Option T) (k l : K) (reason : Option (Stop T)) : Type 0 where
+  pub readings : List ℕ
+  pub told : TellsAll tells k readings l
+  pub stops : (clock : ℕ → ℕ) (n : ℕ) → ReadsFrom clock n readings → eqsat_stop iterations seconds answer same counted (clock n - start) ≡ reason
+  pub reads : (n : ℕ) → n + length readings ≡ after_time iterations answer same counted n
+
+module _ {H T K : Type 0} (tells : K → ℕ → K → Type 0) (applies : Graph × H → Graph × H → Type 0) (hooks : Graph × H → ℕ → Graph × H → Option T → Type 0) (iterations seconds : ℕ) where
+  abbrev Turn : (ℕ → ℕ) → ℕ → ℕ → ℕ → Graph × H → Graph × H → Option (Stop T) → ℕ → Type 0
+  Turn clock start counted k s t stop next = EqsatTurn applies hooks (λ u. progress_of u.0.image) iterations seconds clock start counted k s t stop next
+
+  abbrev Runs : (ℕ → ℕ) → ℕ → ℕ → ℕ → Graph × H → ℕ → ℕ → Graph × H → Stop T → Type 0
+  Runs clock start counted k s total last t reason = EqsatRuns applies hooks (λ u. progress_of u.0.image) iterations seconds clock start counted k s total last t reason
+
+  pub data EqsatRefuses (clock : ℕ → ℕ) (start : ℕ) : ℕ → ℕ → Graph × H → ℕ → Graph × H → Type 0 where
+    eqsat_refused_now : {counted k : ℕ} {s t : Graph × H} → Spoils s counted t → EqsatRefuses clock start counted k s counted t
+    eqsat_refused_later : {counted k next total : ℕ} {s t u : Graph × H} → Turn clock start counted k s t None next → EqsatRefuses clock start (suc counted) next t total u → EqsatRefuses clock start counted k s total u
+
+  -- the clock is read as often as the report says
+  pub record HasEqsatReported (s : Graph × H) (k : K) (t : Graph × H) (l : K) (r : Report T) : Type 0 where
+    pub readings : List ℕ
+    pub by_clock : TellsAll tells k readings l
+    pub by_turns : EqsatAnswers applies hooks counts_of iterations seconds (reading_in readings) 0 s t (report_of r)
+    pub count : length readings ≡ suc by_turns.last
+
+  pub record HasRefusedEqsat (s : Graph × H) (k : K) (t : Graph × H) (l : K) : Type 0 where
+    pub readings : List ℕ
+    pub by_clock : TellsAll tells k readings l
+    pub total : ℕ
+    pub by_turns : EqsatRefuses (reading_in readings) (reading_in readings 0) 0 1 s total t
+
+  pub record IsEqsatTurn (start counted : ℕ) (s : Graph × H) (k : K) (t : Graph × H) (l : K) (stop : Option (Stop T)) : Type 0 where
+    pub readings : List ℕ
+    pub told : TellsAll tells k readings l
+    pub turn : (clock : ℕ → ℕ) (n : ℕ) → ReadsFrom clock n readings → Turn clock start counted n s t stop (n + length readings)
+
+  pub record EqsatGoOn (clock : ℕ → ℕ) (start k : ℕ) (s : Graph × H) (counted next : ℕ) (t : Graph × H) : Type 0 where
+    pub runs : {total last : ℕ} {u : Graph × H} {reason : Stop T} → Runs clock start counted next t total last u reason → Runs clock start 0 k s total last u reason
+    pub refuses : {total : ℕ} {u : Graph × H} → EqsatRefuses clock start counted next t total u → EqsatRefuses clock start 0 k s total u
+
+  pub record HasCounted (start : ℕ) (s : Graph × H) (k : K) (counted : ℕ) (t : Graph × H) (l : K) : Type 0 where
+    pub readings : List ℕ
+    pub told : TellsAll tells k readings l
+    pub leads : (clock : ℕ → ℕ) (n : ℕ) → ReadsFrom clock n readings → EqsatGoOn clock start n s counted (n + length readings) t
+    pub well : t.0.failed ≡ false
+    pub extends : ExtendsTo s.0 t.0
+    pub fits : counted ≤ iterations
+
+  pub record HasEnded (start : ℕ) (s : Graph × H) (k : K) (t : Graph × H) (l : K) (total : ℕ) (reason : Stop T) : Type 0 where
+    pub readings : List ℕ
+    pub told : TellsAll tells k readings l
+    pub ends : (clock : ℕ → ℕ) (n : ℕ) → ReadsFrom clock n readings → Runs clock start 0 n s total (n + length readings) t reason
+
+  pub record HasBroken (start : ℕ) (s : Graph × H) (k : K) (t : Graph × H) (l : K) : Type 0 where
+    pub readings : List ℕ
+    pub told : TellsAll tells k readings l
+    pub total : ℕ
+    pub breaks : (clock : ℕ → ℕ) (n : ℕ) → ReadsFrom clock n readings → EqsatRefuses clock start 0 n s total t
