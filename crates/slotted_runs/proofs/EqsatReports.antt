@@ -1,13 +1,10 @@
 -- Reports of runs without a runner, and what is left where a turn is refused.
-use Rattle.std.proofs.Common.{◌≡◌, ◌∙◌, ℕ, suc, ◌+◌, ◌-◌, List, [], ◌∷◌, ◌++◌, length, length-append, Option, Bool, true, Result, Err, ap, refl, sym, subst, inl, inr, arith}
-use Rattle.std.specs.Prelude.{◌⊎◌, IsErrAnd, IsTrue}
+use Rattle.std.proofs.Common.{◌≡◌, ◌∙◌, ℕ, suc, ◌+◌, ◌-◌, [], ◌∷◌, ◌++◌, length, length-append, Option, Result, ap, sym, subst, inl, inr, arith}
+use Rattle.std.specs.Prelude.{IsTrue}
 use Rattle.slotted_slots.specs.declared.error.Error.{Error}
-use Rattle.slotted_slots.specs.Error.{IsShortage}
 use Rattle.slotted_core.specs.Graph.{Graph}
 use Rattle.slotted_core.specs.Reports.{live_classes}
 use Rattle.slotted_model_rules.specs.Runners.{EqsatRuns}
-use Rattle.slotted_model_rules.specs.Runners as model
-use Rattle.slotted_runs.specs.declared.report.Report.{Report}
 use Rattle.slotted_runs.specs.declared.report.StopReason.{StopReason}
 use Rattle.slotted_runs.specs.Eqsat.{EqsatRefuses, HasBroken, HasEnded, HasEqsatReported, HasRefusedEqsat, eqsat_refused_later, eqsat_refused_now}
 use Rattle.slotted_runs.specs.Seen.{stop_of}

@@ -1,15 +1,15 @@
 -- Turns without a runner, one after another.
-use Rattle.std.proofs.Common.{◌≡◌, ◌∙◌, ℕ, suc, ◌+◌, ◌-◌, ◌*◌, ◌/◌, ◌<◌, ◌≤◌, List, [], ◌∷◌, ◌++◌, length, Option, Some, None, Bool, true, false, ap, refl, sym, subst, inl, inr, arith}
-use Rattle.std.specs.Prelude.{◌⊎◌, IsTrue, cond, not}
+use Rattle.std.proofs.Common.{◌≡◌, ◌∙◌, ℕ, suc, ◌+◌, ◌-◌, ◌*◌, ◌/◌, ◌<◌, ◌≤◌, [], ◌∷◌, ◌++◌, length, Option, Some, None, Bool, false, ap, refl, sym, subst, arith}
+use Rattle.std.specs.Prelude.{◌⊎◌, IsTrue, cond}
 use Rattle.std.proofs.lemmas.Bool.{lt-ltb}
 use Rattle.slotted_core.specs.Graph.{Graph}
 use Rattle.slotted_graph.specs.Extension.{ExtendsTo}
 use Rattle.slotted_graph.proofs.Extending.{extends-itself, extends-then}
-use Rattle.slotted_model_rules.specs.Runners.{EqsatRuns, EqsatTurn, Stop, after_time, eqsat_goes_on, eqsat_stop, eqsat_stops, second, time_limit}
+use Rattle.slotted_model_rules.specs.Runners.{EqsatRuns, Stop, after_time, eqsat_goes_on, eqsat_stop, eqsat_stops, second, time_limit}
 use Rattle.slotted_model_rules.proofs.Stopping.{eqsat-first}
-use Rattle.slotted_runs.specs.Eqsat.{EqsatGoOn, EqsatRefuses, GivesEqsatReason, HasBroken, HasCounted, HasEnded, IsEqsatTurn, eqsat_refused_later, eqsat_refused_now}
+use Rattle.slotted_runs.specs.Eqsat.{EqsatGoOn, GivesEqsatReason, HasBroken, HasCounted, HasEnded, IsEqsatTurn, eqsat_refused_later, eqsat_refused_now}
 use Rattle.slotted_runs.specs.Loops.{HasCalled}
-use Rattle.slotted_runs.specs.Turning.{ReadsFrom, TellsAll, progress_of, reading_in}
+use Rattle.slotted_runs.specs.Turning.{TellsAll, progress_of, reading_in}
 use Rattle.slotted_runs.proofs.Readings.{more-readings, reads-back, reads-front, reads-itself, tells-then}
 
 -- the clock is read for the limit of time, which is passed or not
@@ -75,19 +75,22 @@ module _ {H T K : Type 0} (tells : K → ℕ → K → Type 0) (applies : Graph 
     -- one more
     pub counted-more : (u : Graph × H) (m : K) → IsEqsatTurn tells applies hooks iterations seconds start counted t l u m None → u.0.failed ≡ false → ExtendsTo t.0 u.0 →
         (counted < iterations) × HasCounted tells applies hooks iterations seconds start s k (suc counted) u m
-    counted-more u m turn well more = (within, record {
-      readings = so_far.readings ++ turn.readings;
-      told = tells-then tells so_far.readings turn.readings k l m so_far.told turn.told;
-      leads = λ clock n reads.
-          let j = n + length so_far.readings in
-          let led = so_far.leads clock n (reads-front clock n so_far.readings turn.readings reads) in
-          let one = turn.turn clock j (reads-back clock n so_far.readings turn.readings reads) in
-          subst (λ next. EqsatGoOn tells applies hooks iterations seconds clock start n s (suc counted) next u) (sym (more-readings n so_far.readings turn.readings))
-          (record { runs = λ run. led.runs (eqsat_goes_on one run); refuses = λ run. led.refuses (eqsat_refused_later one run) });
-      well = well;
-      extends = extends-then s.0 t.0 u.0 so_far.extends more;
-      fits = omega (arith, within);
-    })
+    counted-more u m turn well more = (
+      within,
+      record {
+        readings = so_far.readings ++ turn.readings;
+        told = tells-then tells so_far.readings turn.readings k l m so_far.told turn.told;
+        leads = λ clock n reads.
+            let j = n + length so_far.readings in
+            let led = so_far.leads clock n (reads-front clock n so_far.readings turn.readings reads) in
+            let one = turn.turn clock j (reads-back clock n so_far.readings turn.readings reads) in
+            subst (λ next. EqsatGoOn tells applies hooks iterations seconds clock start n s (suc counted) next u) (sym (more-readings n so_far.readings turn.readings))
+            (record { runs = λ run. led.runs (eqsat_goes_on one run); refuses = λ run. led.refuses (eqsat_refused_later one run) });
+        well = well;
+        extends = extends-then s.0 t.0 u.0 so_far.extends more;
+        fits = omega (arith, within);
+      },
+    )
       where
         within : counted < iterations
         within =

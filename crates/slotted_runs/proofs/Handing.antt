@@ -1,5 +1,5 @@
 -- Refusals that are handed on.
-use Rattle.std.proofs.Common.{◌≡◌, ◌∙◌, ◌↔◌, Result, Ok, Err, IfErr, IsErrOf, ap, refl, sym, subst}
+use Rattle.std.proofs.Common.{◌≡◌, ◌∙◌, ◌↔◌, Result, Err, IfErr, IsErrOf, ap, sym, subst}
 use Rattle.std.specs.Prelude.{IsErrAnd}
 use Rattle.slotted_slots.specs.declared.error.Error.{Error}
 use Rattle.slotted_languages.proofs.HandedOn.{error_or, handed_on}

@@ -1,5 +1,5 @@
 -- The last turn that is stored.
-use Rattle.std.proofs.Common.{◌≡◌, ◌∙◌, ℕ, suc, ◌-◌, List, [], ◌∷◌, length, map, Option, Some, None, ap, refl, sym, subst, arith}
+use Rattle.std.proofs.Common.{◌≡◌, suc, ◌-◌, List, [], ◌∷◌, length, map, Some, ap, sym, subst, arith}
 use Rattle.std.specs.Prelude.{slice_get}
 use Rattle.slotted_model.proofs.Options.{None-Some, Some-same}
 use Rattle.slotted_model_rules.specs.Runners.{last_finish}

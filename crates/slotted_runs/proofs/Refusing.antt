@@ -1,13 +1,12 @@
 -- Refusals of runs, once the graph has failed where memory or slots were lacking.
-use Rattle.std.proofs.Common.{◌≡◌, ◌∙◌, ℕ, List, [], ◌∷◌, ◌++◌, length, Option, Some, None, Bool, true, Result, Ok, Err, IfErr, IfOk, ap, refl, sym, subst, inl, inr, arith}
-use Rattle.std.specs.Prelude.{◌⊎◌, ◌↔◌, IsErrAnd, IsErrOf, IsTrue, OnOk}
+use Rattle.std.proofs.Common.{◌≡◌, ◌∙◌, ℕ, List, Option, true, Result, Ok, Err, IfErr, ap, refl, sym, subst, inl, inr, arith}
+use Rattle.std.specs.Prelude.{◌⊎◌, IsErrAnd, IsTrue}
 use Rattle.slotted_slots.specs.declared.error.Error.{Error}
-use Rattle.slotted_slots.specs.declared.error.Error.TheVariants.{Failed, OutOfMemory, OutOfSlots}
+use Rattle.slotted_slots.specs.declared.error.Error.TheVariants.{OutOfMemory, OutOfSlots}
 use Rattle.slotted_slots.specs.Error.{IsShortage, number_of}
 use Rattle.slotted_core.specs.Graph.{Graph}
-use Rattle.slotted_graph.specs.Extension.{ExtendsTo}
 use Rattle.slotted_model.proofs.Options.{Some-same}
-use Rattle.slotted_model_rules.specs.Runners.{Iteration, Limits, Measures, RunnerRefuses, Stop, refused_later, refused_now, runner_report}
+use Rattle.slotted_model_rules.specs.Runners.{Iteration, Limits, Measures, RunnerRefuses, refused_later, refused_now, runner_report}
 use Rattle.slotted_runs.specs.declared.report.Report.{Report}
 use Rattle.slotted_runs.specs.Loops.{HasStopped, IsRefusedWithin, IsReportOf, report_refused_within, turn_refused_within}
 use Rattle.slotted_runs.specs.Runs.{HasRefusedTurn, HasReported, IsRefused, report_refused, turn_refused}

@@ -1,17 +1,16 @@
 -- Runners that have stopped, or that a turn was refused to.
-use Rattle.std.proofs.Common.{◌≡◌, ◌∙◌, ℕ, suc, ◌+◌, ◌*◌, List, [], ◌∷◌, ◌++◌, length, Option, Some, None, Bool, ap, refl, sym, subst, arith}
+use Rattle.std.proofs.Common.{◌≡◌, ◌∙◌, ℕ, ◌+◌, ◌*◌, [], ◌++◌, length, Option, Some, None, ap, refl, sym, subst, arith}
 use Rattle.std.specs.Prelude.{false}
-use Rattle.std.proofs.lemmas.List.{append-nil}
 use Rattle.slotted_core.specs.Graph.{Graph}
 use Rattle.slotted_graph.specs.Extension.{ExtendsTo}
 use Rattle.slotted_graph.proofs.Extending.{extends-itself}
-use Rattle.slotted_model_rules.specs.Runners.{Iteration, Measures, Runner, RunnerAnswers, RunnerRefuses, RunnerRuns, Stop, again, runner_report, starts, takes_up}
+use Rattle.slotted_model_rules.specs.Runners.{Measures, Runner, RunnerAnswers, RunnerRefuses, RunnerRuns, Stop, again, runner_report, starts, takes_up}
 use Rattle.slotted_model_rules.specs.RunnerClaims.{unread}
 use Rattle.slotted_model_rules.proofs.Turns.{read-twice}
 use Rattle.slotted_runs.specs.Loops.{HasRefused, HasStopped, HasTaken, IsBegun, Leads}
-use Rattle.slotted_runs.specs.Runs.{CountsReadings, HasRefusedTurn, HasRun}
+use Rattle.slotted_runs.specs.Runs.{CountsReadings, HasRefusedTurn}
 use Rattle.slotted_runs.specs.Seen.{Parts, seen}
-use Rattle.slotted_runs.specs.Turning.{IsStart, ReadsFrom, Spoils, TellsAll, reading_in}
+use Rattle.slotted_runs.specs.Turning.{IsStart, ReadsFrom, Spoils, reading_in}
 use Rattle.slotted_runs.proofs.Readings.{more-readings, reads-back, reads-front, reads-itself, tells-then}
 
 abbrev record_of : {D T H K : Type 0} → Parts D T H K → ℕ → Stop T → Runner (Graph × H) T D

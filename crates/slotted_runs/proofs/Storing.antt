@@ -6,7 +6,6 @@ use Rattle.std.proofs.lemmas.List.{map-append, length-map}
 use Rattle.slotted_core.specs.Graph.{Graph}
 use Rattle.slotted_graph.specs.Extension.{ExtendsTo}
 use Rattle.slotted_model_rules.specs.Runners.{Limits, Measures}
-use Rattle.slotted_model_rules.specs.Runners as model
 use Rattle.slotted_runs.specs.declared.iteration.Iteration.{Iteration}
 use Rattle.slotted_runs.specs.declared.report.StopReason.{StopReason}
 use Rattle.slotted_runs.specs.Loops.{HasTaken, IsTurn, turns_left}

@@ -1,15 +1,14 @@
 -- Turns, and turns one after another.
-use Rattle.std.proofs.Common.{◌≡◌, ◌∙◌, ℕ, ◌+◌, ◌-◌, suc, List, [], ◌∷◌, ◌++◌, length, length-append, Option, Some, None, Bool, ap, refl, sym, subst, inl, inr, arith}
-use Rattle.std.specs.Prelude.{◌≤◌, ◌<◌, ◌⊎◌, IsTrue, false}
-use Rattle.slotted_theory.specs.Decided.{numbers_eq}
+use Rattle.std.proofs.Common.{◌≡◌, ◌∙◌, ℕ, ◌+◌, ◌-◌, List, [], ◌∷◌, ◌++◌, length, Option, Some, None, Bool, ap, refl, sym, subst, arith}
+use Rattle.std.specs.Prelude.{◌≤◌, ◌⊎◌, IsTrue, false}
 use Rattle.slotted_core.specs.Graph.{Graph}
 use Rattle.slotted_graph.specs.Extension.{ExtendsTo}
 use Rattle.slotted_graph.proofs.Extending.{extends-itself, extends-then}
 use Rattle.slotted_model_rules.specs.Runners.{Iteration, Limits, Measures, RunnerRefuses, RunnerTurn, Stop, after_check, goes_on, refused_later, refused_now, runner_stop, stops_now}
 use Rattle.slotted_model_rules.proofs.Stopping.{runner-first}
-use Rattle.slotted_runs.specs.Loops.{GivesReason, GoOn, HasCalled, HasRefused, HasTaken, IsBegun, IsTurn, Leads, turns_left}
+use Rattle.slotted_runs.specs.Loops.{GivesReason, GoOn, HasCalled, HasRefused, HasTaken, IsBegun, IsTurn, Leads}
 use Rattle.slotted_runs.specs.Seen.{Parts}
-use Rattle.slotted_runs.specs.Turning.{IsStart, ReadsFrom, Spoils, TellsAll, measures, progress_of, reading_in}
+use Rattle.slotted_runs.specs.Turning.{IsStart, ReadsFrom, Spoils, TellsAll, measures, reading_in}
 use Rattle.slotted_runs.proofs.Readings.{more-readings, reads-back, reads-front, reads-itself, tells-one, tells-then}
 
 abbrev record_of : {D : Type 0} → D → ℕ → ℕ → Iteration D

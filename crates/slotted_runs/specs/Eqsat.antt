@@ -9,7 +9,7 @@
 --     HasCounted         so many turns were counted
 --     HasEnded           the run has ended
 --     HasBroken          a turn was refused, whatever was read before
-use Rattle.std.specs.Prelude.{◌≡◌, ◌⊎◌, ℕ, suc, ◌+◌, ◌-◌, ◌≤◌, List, length, Option, Some, None, Bool, IsTrue, false}
+use Rattle.std.specs.Prelude.{◌≡◌, ℕ, suc, ◌+◌, ◌-◌, ◌≤◌, List, length, Option, None, Bool, false}
 use Rattle.slotted_core.specs.Graph.{Graph}
 use Rattle.slotted_graph.specs.Extension.{ExtendsTo}
 use Rattle.slotted_model_rules.specs.Runners.{EqsatAnswers, EqsatRuns, EqsatTurn, Measures, Stop, after_time, eqsat_stop}

@@ -10,7 +10,7 @@
 --     IsStart begun clock start k        a run starts with the first reading, or it was begun with an earlier one. The reading k is next
 --     IsStopClone is_clone r s           the reason s is a clone of the reason r
 --     IsReportClone is_clone r s         the report s is that of the model, r, with a clone of its reason
-use Rattle.std.specs.Prelude.{◌≡◌, ◌⊎◌, ℕ, suc, List, [], ◌∷◌, length, Option, Some, None, Bool, IsTrue, slice_index_or}
+use Rattle.std.specs.Prelude.{◌≡◌, ◌⊎◌, ℕ, suc, List, [], ◌∷◌, length, Option, Some, None, IsTrue, slice_index_or}
 use Rattle.slotted_nodes.specs.Form.{counted}
 use Rattle.slotted_core.specs.Graph.{Graph}
 use Rattle.slotted_core.specs.Image.{Image}

@@ -3,8 +3,8 @@
 
 pub(crate) mod calling;
 pub mod clock;
-pub(crate) mod failing;
 pub mod eqsat;
+pub(crate) mod failing;
 pub mod hook;
 pub mod iteration;
 pub mod limits;

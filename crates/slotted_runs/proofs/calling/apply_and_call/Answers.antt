@@ -1,5 +1,5 @@
 -- The hook is called in the graph that the rules leave.
-use Rattle.std.proofs.Common.{◌≡◌, false, inl, inr, sym}
+use Rattle.std.proofs.Common.{◌≡◌, false, inl, inr}
 use Rattle.slotted_graph.specs.Extension.{ExtendsTo}
 use Rattle.slotted_graph.proofs.Extending.{extends-then}
 use Rattle.slotted_rules.proofs.AppliedRules.{not-failed-so, ok-well}

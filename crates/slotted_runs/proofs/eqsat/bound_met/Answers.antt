@@ -1,5 +1,5 @@
 -- The clock is read where neither saturation nor the limit of turns stops the run.
-use Rattle.std.proofs.Common.{◌≡◌, ℕ, ◌+◌, ◌-◌, ◌*◌, ◌/◌, ◌<◌, ◌≤◌, suc, [], ◌∷◌, length, None, false, ap, refl, sym, subst, arith}
+use Rattle.std.proofs.Common.{ap}
 use Rattle.std.specs.Prelude.{not}
 use Rattle.slotted_runs.proofs.EqsatTurns.{late, early}
 use Rattle.slotted_runs.proofs.eqsat.bound_met.Goals as goal

@@ -1,5 +1,5 @@
 -- The report of the turns, between a first reading and a last one.
-use Rattle.std.proofs.Common.{◌≡◌, ◌∙◌, ◌⊎◌, false, Result, Ok, Err, IfOk, ap, refl, sym, subst, inl, inr}
+use Rattle.std.proofs.Common.{◌≡◌, ◌∙◌, false, Result, Ok, Err, IfOk, ap, sym, subst, inr}
 use Rattle.std.specs.Prelude.{IsErrAnd, OnErr}
 use Rattle.slotted_slots.specs.declared.error.Error.{Error}
 use Rattle.slotted_slots.specs.Error.{IsShortage}

@@ -1,5 +1,5 @@
 -- The clock is read once, where the hook does not stop the run.
-use Rattle.std.proofs.Common.{◌≡◌, ◌∙◌, ℕ, ◌+◌, ◌-◌, suc, [], ◌∷◌, length, Option, None, ap, refl, sym, arith}
+use Rattle.std.proofs.Common.{◌≡◌, ◌∙◌, ◌+◌, ◌-◌, suc, [], ◌∷◌, length, None, ap, refl, sym, arith}
 use Rattle.std.specs.Prelude.{not}
 use Rattle.slotted_model_rules.specs.Runners.{after_check, runner_stop}
 use Rattle.slotted_runs.specs.Seen.{limits_of}

@@ -1,5 +1,5 @@
 -- What is refused fails the graph where memory or slots were lacking.
-use Rattle.std.proofs.Common.{◌≡◌, ◌⊎◌, inr}
+use Rattle.std.proofs.Common.{◌⊎◌, inr}
 use Rattle.std.specs.Prelude.{IsTrue}
 use Rattle.slotted_runs.specs.Runs.{IsRefused}
 use Rattle.slotted_runs.specs.Seen.{parts_of}

@@ -1,8 +1,7 @@
 -- The runner had stopped, or it begins and takes turns.
-use Rattle.std.proofs.Common.{◌≡◌, ◌∙◌, Option, Some, None, ap, sym, subst}
-use Rattle.std.specs.Prelude.{IsSome, is_some, option_map}
+use Rattle.std.proofs.Common.{◌∙◌, ap, sym}
+use Rattle.std.specs.Prelude.{option_map}
 use Rattle.std.proofs.lemmas.Result.{on_err_weaker}
-use Rattle.slotted_runs.specs.Loops.{HasTaken}
 use Rattle.slotted_runs.specs.Seen.{parts_of, stop_of}
 use Rattle.slotted_runs.specs.Turning.{Calls, RulesOnce, measures}
 use Rattle.slotted_runs.proofs.Stopped.{refused-now, stopped-before, stopped-now}

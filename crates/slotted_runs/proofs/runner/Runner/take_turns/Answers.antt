@@ -1,13 +1,10 @@
 -- Each turn goes on from where the ones before it led.
-use Rattle.std.proofs.Common.{◌≡◌, ◌∙◌, ◌++◌, [], ◌∷◌, length, length-append, map, ◌+◌, Option, Some, None, Bool, true, false, Ok, Err, refl, sym, ap, subst, inl, inr, arith}
-use Rattle.std.specs.Prelude.{IsTrue, OnErr, Result, ◌⊎◌, is_some, is_ok, not, option_map, if◌then◌else◌}
-use Rattle.std.proofs.lemmas.Bool.{false≢true}
-use Rattle.std.proofs.lemmas.List.{map-append}
+use Rattle.std.proofs.Common.{◌≡◌, ◌∙◌, map, false, refl, ap, inl, inr}
+use Rattle.std.specs.Prelude.{option_map}
 use Rattle.slotted_graph.specs.Extension.{ExtendsTo}
 use Rattle.slotted_graph.proofs.Extending.{extends-then}
 use Rattle.slotted_rules.proofs.AppliedRules.{not-failed-so, ok-well}
-use Rattle.slotted_runs.specs.Loops.{turns_left}
-use Rattle.slotted_runs.specs.Seen.{Parts, iteration_of, limits_of, parts_of, stop_of}
+use Rattle.slotted_runs.specs.Seen.{iteration_of, limits_of, parts_of, stop_of}
 use Rattle.slotted_runs.specs.Turning.{Calls, RulesOnce, measures}
 use Rattle.slotted_runs.proofs.Turns.{refused-more, taken-none}
 use Rattle.slotted_runs.proofs.Storing.{fewer-left, none-of, on-err, taken-stored}

@@ -1,8 +1,8 @@
 -- The rules, the hook, why it stops, and the reading at its end.
-use Rattle.std.proofs.Common.{◌≡◌, ◌∙◌, length, Some, subst, sym}
+use Rattle.std.proofs.Common.{◌∙◌, Some, subst}
 use Rattle.std.specs.Prelude.{not, option_map}
 use Rattle.slotted_runs.specs.Loops.{IsTurn}
-use Rattle.slotted_runs.specs.Seen.{iteration_of, limits_of, stop_of}
+use Rattle.slotted_runs.specs.Seen.{limits_of, stop_of}
 use Rattle.slotted_runs.specs.Turning.{Calls, RulesOnce, measures}
 use Rattle.slotted_runs.proofs.Turns.{turn-of}
 use Rattle.slotted_runs.proofs.runner.Runner.turn.Goals as goal
