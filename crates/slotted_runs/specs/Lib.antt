@@ -5,3 +5,4 @@ pub mod Turning
 pub mod Runs
 pub mod Loops
 pub mod Eqsat
+pub mod Machine

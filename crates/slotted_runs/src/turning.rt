@@ -50,7 +50,7 @@ fn limit_met<T>(
 }
 
 // Why a turn stops the run, if it does: by its hook, or else by a limit or saturation, for which the clock is read.
-fn reason<T, K: Clock>(
+fn reason<T: Drop, K: Clock>(
     stop: Option<T>,
     clock: &mut K,
     limits: &RunnerLimits,
