@@ -3,6 +3,7 @@
 --     ids and classes: Applied, Classes, Growth, Ids     the graph: Graph, ValidIds, LookUp, Adding, AddingTerms, Reports, Affected, Image, Nodes, Checks,
 --     Leaves, Causes, Syn, FiledNodes, Measure     extraction: Costs, Laws, Terms, LeastTerms
 --     patterns: Known, PatternCode, Variables, Values     rules: Extension, Matching, Methods, Uniting, Rewriting, Written, Applying, EqualInstances
+--     runs: Seen, Turning, Runs, Eqsat
 pub use Rattle.slotted_theory.specs.Term
 pub use Rattle.slotted_theory.specs.Nameless
 pub use Rattle.slotted_theory.specs.Derives
@@ -59,6 +60,11 @@ pub use Rattle.slotted_rules.specs.Rewriting
 pub use Rattle.slotted_rules.specs.Written
 pub use Rattle.slotted_rules.specs.Applying
 pub use Rattle.slotted_rules.specs.EqualInstances
+-- of runs
+pub use Rattle.slotted_runs.specs.Seen
+pub use Rattle.slotted_runs.specs.Turning
+pub use Rattle.slotted_runs.specs.Runs
+pub use Rattle.slotted_runs.specs.Eqsat
 -- what a caller of its own says
 pub mod Filed
 pub mod AppliedRules
