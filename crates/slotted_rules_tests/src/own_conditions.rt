@@ -1,0 +1,50 @@
+//! Conditions of a caller's own, whose answers depend on the graph.
+
+use slotted_graph::EGraph;
+use slotted_languages::Language;
+use slotted_rule_patterns::Subst;
+use slotted_rules::Cond;
+use slotted_slots::Error;
+use std::alloc::Global;
+
+/// Holds as long as nothing was asserted.
+#[derive(Drop)]
+pub struct FirstOnly;
+
+impl<L: Language, N: Drop> Cond<L, N> for FirstOnly {
+    ghost use Rattle.std.specs.Prelude.{◌==◌, length};
+    ghost use Rattle.slotted_proofs.specs.Entries.{explicit_numbers};
+
+    ghost yes = { λ c s g. length (explicit_numbers g.image.entries) == 0 };
+
+    ghost refuses = { λ c s g e. ⊥ };
+
+    ghost never_failed = { λ c s g r. r };
+
+    fn holds(&self, alloc: Global, s: &Subst, graph: &EGraph<L, N>) -> Result<bool, Error> {
+        Ok(graph.asserted().len() == 0)
+    }
+}
+
+/// Refuses once something was asserted.
+#[derive(Drop)]
+pub struct RefusesLater;
+
+impl<L: Language, N: Drop> Cond<L, N> for RefusesLater {
+    ghost use Rattle.std.specs.Prelude.{true};
+    ghost use Rattle.slotted_rules.specs.Rewriting.{IsNotATerm};
+
+    ghost yes = { λ c s g. true };
+
+    ghost refuses = { λ c s g e. IsNotATerm e };
+
+    ghost never_failed = { λ c s g r. r };
+
+    fn holds(&self, alloc: Global, s: &Subst, graph: &EGraph<L, N>) -> Result<bool, Error> {
+        if graph.asserted().len() == 0 {
+            Ok(true)
+        } else {
+            Err(Error::NotATerm)
+        }
+    }
+}

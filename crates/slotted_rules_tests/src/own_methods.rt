@@ -1,0 +1,29 @@
+//! A method of substitution of a caller's own.
+
+use slotted_graph::EGraph;
+use slotted_instances::OwnSubst;
+use slotted_languages::Language;
+use slotted_slots::{AppliedId, Error};
+use std::alloc::Global;
+
+/// Answers the body as it is, and asserts that the part is equal to the value.
+#[derive(Drop)]
+pub struct Asserting;
+
+impl<L: Language, N: Drop> OwnSubst<L, N> for Asserting {
+    ghost refuses = { λ e. ⊥ };
+
+    ghost never_failed = { λ r. r };
+
+    fn subst(
+        &mut self,
+        alloc: Global,
+        b: AppliedId,
+        x: AppliedId,
+        t: AppliedId,
+        graph: &mut EGraph<L, N>,
+    ) -> Result<AppliedId, Error> {
+        graph.union(&x, &t)?;
+        Ok(b)
+    }
+}
