@@ -31,23 +31,26 @@ fn read(alloc: Global, graph: &mut EGraph<Small>, text: &RuleText) -> Result<Rul
     Rewrite::from_patterns(alloc, text.name, left, right, condition)
 }
 
-/// Adds the rule of the texts to those of the session.
+/// Adds the rule of the texts to those of the session. The memory of the answer is taken first.
 pub fn add_rule(
     alloc: Global,
     graph: &mut EGraph<Small>,
     rules: &mut Vec<Rule>,
     text: &RuleText,
 ) -> Result<String, Error> {
+    let told = String::from_str(alloc, "ok")?;
     let rule = read(alloc, graph, text)?;
     rules.push(rule)?;
-    Ok(String::from_str(alloc, "ok")?)
+    Ok(told)
 }
 
-/// Applies all rules once, and answers whether the graph changed.
+/// Applies all rules once, and answers whether the graph changed. The memory of the answer is taken first.
 pub fn apply(alloc: Global, graph: &mut EGraph<Small>, rules: &[Rule]) -> Result<String, Error> {
     if !are_valid(graph, rules) {
         return Err(Error::Failed);
     }
+    let mut told = String::with_capacity(alloc, 8)?;
     let changed = apply_rewrites(alloc, graph, rules)?;
-    Ok(format!(in alloc; "{changed}")?)
+    told.push_str(if changed { "true" } else { "false" })?;
+    Ok(told)
 }
