@@ -3,6 +3,7 @@
 --     IsRefusedRule left right e           why no rule is made of two patterns
 --     CanBeSearched t r                    the table knows the names of both patterns, nothing is replaced on the left, and no variable stands on the
 --                                          right alone
+--     PassesTests form g r                 it does over a graph that has not failed, and no node of the patterns has 2^30 places
 --     AreRead t v left right r             the patterns are what two texts read as, one after the other, from the table t to v
 --     AreRefused t v left right e          one of the texts is refused, or no rule is made of what they read as
 use Rattle.std.specs.Prelude.{◌≡◌, ◌⊎◌, ℕ, List, Option, Some, None, Result, Ok, Err, true, false, string_bytes}
@@ -18,6 +19,8 @@ use Rattle.slotted_patterns.specs.Parsed.{TextReadsPattern}
 use Rattle.slotted_patterns.specs.Tree.{PatternTree}
 use Rattle.slotted_patterns.specs.View.{tree_of}
 use Rattle.slotted_rule_patterns.specs.Variables.{first_lacking, has_substitution}
+use Rattle.slotted_core.specs.Graph.{Graph}
+use Rattle.slotted_graph.specs.KnownPatterns.{HasSmallNodes}
 use Rattle.slotted_rules.specs.Asking.{IsMissing}
 use Rattle.slotted_rules.specs.declared.rewrite.Rewrite.{Rewrite}
 
@@ -39,6 +42,12 @@ pub record CanBeSearched {L C : Type 0} (form : L → Form) (t : Table) (r : Rew
   pub right_known : HasKnownNames t (tree_of form r.right)
   pub none_replaced : has_substitution (tree_of form r.left) ≡ false
   pub none_lacking : first_lacking (tree_of form r.right) (tree_of form r.left) ≡ None
+
+pub record PassesTests {L C : Type 0} (form : L → Form) (g : Graph) (r : Rewrite L C) : Type 0 where
+  pub well : g.failed ≡ false
+  pub searched : CanBeSearched form g.table r
+  pub left_small : HasSmallNodes (tree_of form r.left)
+  pub right_small : HasSmallNodes (tree_of form r.right)
 
 -- the pattern is what the text reads as
 abbrev pub ReadsAs : {L : Type 0} → (L → Form) → (List Element → Option Form) → Table → Table → List ℕ → Result (Pattern L) Error → Type 0

@@ -15,7 +15,8 @@ use std::collections::VecDeque;
 
 /// Whether each rule can be handed to calls on this graph. It takes no memory.
 pub fn are_valid<L: Language, N: Drop, R: RewriteT<L, N>>(graph: &EGraph<L, N>, rules: &[R]) -> bool
-    ensures { IsTrue result → IsTrue graph.now.failed ⊎ All (λ r. R.valid r graph.now) rules.now }
+    ensures valid { IsTrue result → IsTrue graph.now.failed ⊎ All (λ r. R.valid r graph.now) rules.now }
+    ensures exact { All (λ r. R.passes r graph.now) rules.now → IsTrue result }
 {
     for rule in rules {
         if !rule.is_valid(graph) {

@@ -23,6 +23,9 @@ pub trait RewriteT<L: Language, N: Drop>: Drop {
     // the rule can be handed to calls on this graph
     ghost valid: { Self → Graph → Type 0 };
 
+    // `is_valid` answers yes of such a rule
+    ghost passes: { Self → Graph → Type 0 };
+
     // what a search finds, from one graph to the other
     ghost searches: { Self → Graph → Self.Found → Graph → Type 0 };
 
@@ -36,7 +39,8 @@ pub trait RewriteT<L: Language, N: Drop>: Drop {
 
     /// Whether the rule can be handed to calls on this graph, for which its slots have to be known. It takes no memory.
     fn is_valid(&self, graph: &EGraph<L, N>) -> bool
-        ensures { IsTrue result → (graph.now.failed ≡ false) × valid self.now graph.now };
+        ensures valid { IsTrue result → (graph.now.failed ≡ false) × valid self.now graph.now }
+        ensures exact { passes self.now graph.now → IsTrue result };
 
     /// What the rule finds in the graph.
     fn search(&self, alloc: Global, graph: &mut EGraph<L, N>) -> Result<Self::Found, Error>

@@ -13,7 +13,7 @@ ghost use Rattle.slotted_instances.specs.Refusals.{HavePassed};
 ghost use Rattle.slotted_instances.specs.Uniting.{UnitesInstances};
 ghost use Rattle.slotted_rules.specs.Rewriting.{AppliesOne, AreFromRule, CanBeApplied, IsNotATerm, IsRefusedRewrite};
 ghost use Rattle.slotted_rules.specs.Rewriting.{IsSearched, LeavesApplied};
-ghost use Rattle.slotted_rules.specs.Written.{CanBeSearched};
+ghost use Rattle.slotted_rules.specs.Written.{CanBeSearched, PassesTests};
 
 use crate::condition::Cond;
 use crate::failing::failing;
@@ -133,6 +133,8 @@ impl<L: Language, N: Drop, C: Cond<L, N>> RewriteT<L, N> for Rewrite<L, C> {
     type Found = Matches;
 
     ghost valid = { λ r g. CanBeSearched L.form g.table r };
+
+    ghost passes = { λ r g. PassesTests L.form g r };
 
     ghost searches = { λ r g found h. IsSearched (tree_of L.form r.left) g found h };
 

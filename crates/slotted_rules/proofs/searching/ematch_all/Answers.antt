@@ -12,11 +12,11 @@ returns-clause-found g c =
     let f = c.in_ok-found.ensures in
     ok-with c.substitutions.result c.substitutions.ensures.ok
     (λ all same. subst (λ (l : List Values). IsSearched t c.args.graph.now l c.find_matches.new.self) (sym same) (record {
-        takes = c.find_matches.ensures.takes;
-        finds = f.finds;
-        looked_up = f.looked_up;
-        each = f.each;
-        none = f.none;
-        valid = f.valid;
-        variables = f.variables;
+      takes = c.find_matches.ensures.takes;
+      finds = f.finds;
+      looked_up = f.looked_up;
+      each = f.each;
+      none = f.none;
+      valid = f.valid;
+      variables = f.variables;
     }))
