@@ -15,7 +15,7 @@ pub struct Union {
 }
 
 impl<L: Language, N: Drop> RewriteT<L, N> for Union {
-    ghost use Rattle.std.specs.Prelude.{Bool};
+    ghost use Rattle.std.specs.Prelude.{Bool, false};
     ghost use Rattle.slotted_proofs.specs.Equations.{to_applied};
     ghost use Rattle.slotted_graph.specs.ValidIds.{IsValidId};
     ghost use Rattle.slotted_graph.specs.Image.{IsUnion};
@@ -23,6 +23,8 @@ impl<L: Language, N: Drop> RewriteT<L, N> for Union {
     type Found = ();
 
     ghost valid = { λ r g. IsValidId g (to_applied r.left) × IsValidId g (to_applied r.right) };
+
+    ghost passes = { λ r g. (g.failed ≡ false) × IsValidId g (to_applied r.left) × IsValidId g (to_applied r.right) };
 
     ghost searches = { λ r g f h. h ≡ g };
 
