@@ -14,7 +14,7 @@ use Rattle.slotted_slots.specs.declared.types.AppliedId.{AppliedId}
 use Rattle.slotted_theory.specs.Term.{Term}
 use Rattle.slotted_model.specs.Growth.{Extends}
 use Rattle.slotted_proofs.specs.Equations.{to_applied}
-use Rattle.slotted_core.specs.AddingTerms.{AddsNodes, FilesOnlyLookedUp, IsEqualToTerm}
+use Rattle.slotted_core.specs.AddingTerms.{AddsNodes, FilesOnlyLookedUp, IsEqualToTerm, TakesForTerm}
 use Rattle.slotted_core.specs.Adding.{term_nodes}
 use Rattle.slotted_core.specs.Graph.{Graph}
 use Rattle.slotted_core.specs.Image.{AddsClasses, no_classes}
@@ -107,6 +107,7 @@ pub record IsAdded (t : Term) (g h : Graph) (root : AppliedId) : Type 0 where
   pub extends : Extends g.image.canonical h.image.canonical
   pub adds : AddsClasses g.image h.image
   pub more : KnowsMore g.table h.table
+  pub takes : TakesForTerm t g h.table
 
 -- the id of a term is appended
 pub record AddsId (t : Term) (g h : Graph) (old new : List AppliedId) : Type 0 where
