@@ -1,0 +1,128 @@
+//! Why runs stop, how many turns they take, and what they report.
+use crate::counting::Counting;
+use crate::doubles::{Enough, Times};
+use slotted_graph::EGraph;
+use slotted_runs::{Hook, NoHook, Report, Runner, StopReason, run_eqsat};
+use slotted_slots::{Error, SlotTable};
+use slotted_small::Small;
+use std::alloc::Global;
+use std::collections::VecDeque;
+use std::process::Abort;
+
+pub(crate) type Counted<H> = Runner<Small, (), (), String, H, Times>;
+
+// A clock that stands still.
+fn still(alloc: Global) -> Times {
+    Times {
+        left: VecDeque::new(alloc),
+    }
+}
+
+fn runner(alloc: Global) -> Result<Counted<NoHook>, Error> {
+    Runner::new(alloc, SlotTable::new(alloc), (), still(alloc))
+}
+
+// What a runner reports under one rule that adds a node in each turn, up to so many.
+pub(crate) fn counted<H: Hook<Small, (), String>>(
+    runner: &mut Counted<H>,
+    most: u32,
+) -> Result<Report, Error> {
+    runner.run(&[Counting { most }])
+}
+
+// The same of a run without a runner, from the empty graph, with limits of turns and of seconds.
+pub(crate) fn counted_at_once(
+    alloc: Global,
+    most: u32,
+    iterations: usize,
+    seconds: u64,
+    clock: &mut Times,
+) -> Result<Report, Error> {
+    let mut graph: EGraph<Small> = EGraph::new(alloc, SlotTable::new(alloc), ())?;
+    let rules = [Counting { most }];
+    run_eqsat(
+        alloc,
+        &mut graph,
+        &rules,
+        iterations,
+        seconds,
+        &mut NoHook,
+        clock,
+    )
+}
+
+// The first letter of the reason, or of the hook's own.
+fn letter(report: &Report) -> u8 {
+    match &report.stop_reason {
+        StopReason::Saturated => b'S',
+        StopReason::IterationLimit => b'I',
+        StopReason::TimeLimit => b'T',
+        StopReason::NodeLimit => b'N',
+        StopReason::Other(reason) => reason.as_bytes().first().copied().unwrap_or(0),
+    }
+}
+
+fn assert_reports(rt: &impl Abort, report: &Report, iterations: usize, reason: u8, nodes: usize) {
+    assert!(rt; report.iterations == iterations);
+    assert!(rt; letter(report) == reason);
+    assert!(rt; report.egraph_nodes == nodes);
+    assert!(rt; report.egraph_classes == nodes);
+}
+
+#[test]
+fn an_empty_graph_is_saturated(rt: HostRuntime) -> Result<(), Error> {
+    let mut runner = runner(rt.alloc())?;
+    let report = counted(&mut runner, 0)?;
+    assert_reports(&rt, &report, 1, b'S', 0);
+    Ok(())
+}
+
+#[test]
+fn an_empty_graph_is_saturated_at_once(rt: HostRuntime) -> Result<(), Error> {
+    let alloc = rt.alloc();
+    let report = counted_at_once(alloc, 0, 5, 60, &mut still(alloc))?;
+    assert_reports(&rt, &report, 0, b'S', 0);
+    Ok(())
+}
+
+#[test]
+fn a_run_ends_past_its_limit_of_turns(rt: HostRuntime) -> Result<(), Error> {
+    let mut runner = runner(rt.alloc())?.with_iter_limit(3);
+    let report = counted(&mut runner, 100)?;
+    assert_reports(&rt, &report, 5, b'I', 5);
+    let again = counted(&mut runner, 100)?;
+    assert_reports(&rt, &again, 5, b'I', 5);
+    Ok(())
+}
+
+#[test]
+fn a_run_ends_past_its_limit_of_nodes(rt: HostRuntime) -> Result<(), Error> {
+    let mut runner = runner(rt.alloc())?.with_node_limit(9);
+    let report = counted(&mut runner, 100)?;
+    assert_reports(&rt, &report, 10, b'N', 10);
+    Ok(())
+}
+
+#[test]
+fn a_run_ends_where_no_rule_changes_the_graph(rt: HostRuntime) -> Result<(), Error> {
+    let mut runner = runner(rt.alloc())?;
+    let report = counted(&mut runner, 4)?;
+    assert_reports(&rt, &report, 5, b'S', 4);
+    Ok(())
+}
+
+#[test]
+fn a_hook_stops_a_run(rt: HostRuntime) -> Result<(), Error> {
+    let mut runner = runner(rt.alloc())?.with_hook(Enough { at: 2 });
+    let report = counted(&mut runner, 100)?;
+    assert_reports(&rt, &report, 3, b'e', 3);
+    Ok(())
+}
+
+#[test]
+fn a_limit_of_turns_is_met_when_reached(rt: HostRuntime) -> Result<(), Error> {
+    let alloc = rt.alloc();
+    let report = counted_at_once(alloc, 100, 3, 60, &mut still(alloc))?;
+    assert_reports(&rt, &report, 3, b'I', 4);
+    Ok(())
+}
