@@ -1,5 +1,5 @@
 //! A rule that adds a node in each turn.
-ghost use Rattle.std.specs.Prelude.{◌≡◌, ⊤};
+ghost use Rattle.std.specs.Prelude.{◌≡◌, ⊤, false};
 ghost use Rattle.slotted_graph.specs.Extension.{ExtendsTo};
 
 use slotted_graph::EGraph;
