@@ -1,8 +1,8 @@
 -- What a written rule leaves for one answer after another.
-use Rattle.std.proofs.Common.{◌≡◌, ◌∙◌, ◌<◌, ◌≤◌, ◌+◌, ℕ, List, [], length, ap, sym, subst, inl, inr, arith, refl, length-append}
+use Rattle.std.proofs.Common.{◌≡◌, ◌∙◌, ◌<◌, ◌≤◌, ◌+◌, ℕ, List, [], ◌∷◌, ◌++◌, length, take, take_all, ap, sym, subst, inl, inr, arith, refl, length-append}
 use Rattle.std.specs.Prelude.{◌⊎◌, Bool, true, Contains, Option, Some, None, IsErrAnd, IsSome, IsTrue, Result, Ok, Err, slice_index_or}
 use Rattle.std.proofs.lemmas.Bool.{cases_eq, cases_lt, false≢true}
-use Rattle.std.proofs.lemmas.List.{get_or_append_left, get_or_default}
+use Rattle.std.proofs.lemmas.List.{get_or_append_left, get_or_default, take_more}
 use Rattle.std.proofs.lemmas.List.Elements.{Contains-get_or}
 use Rattle.slotted_terms.specs.Valid.{AllKnown}
 use Rattle.slotted_theory.specs.Nameless.{DTerm}
@@ -27,7 +27,7 @@ use Rattle.slotted_instances.specs.Uniting.{UnitesInstances}
 use Rattle.slotted_instances.proofs.InstanceEquations.{stored-length, united-equation, united-pairs, united-representatives}
 use Rattle.slotted_instances.proofs.Putting.{representatives-longer}
 use Rattle.slotted_rules.specs.Loops.{HasAppliedSome}
-use Rattle.slotted_rules.specs.Rewriting.{AppliesOne, AreFromRule, ComesFromRule, HasEntryFor, HasEquationFor, IsEquationFor, IsSettled, LeavesApplied, asserts, passes_over}
+use Rattle.slotted_rules.specs.Rewriting.{AppliesEach, AppliesOne, AreFromRule, ComesFromRule, HasEntryFor, HasEquationFor, IsEquationFor, IsSettled, LeavesApplied, asserts, next_answer, no_answer, passes_over}
 
 -- what is known is known later
 known-later : (g h : Graph) → ExtendsTo g h → (given : List ℕ) → AllKnown g.table given → AllKnown h.table given
@@ -147,6 +147,10 @@ module _ (holds : Values → Graph → Bool) (p q : PatternTree) (name : List �
           text = (first.only n past lt new).1;
         }
 
+each-more : {holds : Values → Graph → Bool} {p q : PatternTree} {name : List ℕ} {found : List Values} {s : Values} {g f h : Graph} → AppliesEach holds p q name found g f → AppliesOne holds p q name s f h → AppliesEach holds p q name (found ++ s ∷ []) g h
+each-more no_answer one = next_answer one no_answer
+each-more (next_answer first more) one = next_answer first (each-more more one)
+
 module _ (holds : Values → Graph → Bool) (p q : PatternTree) (name : List ℕ) (found : List Values) (i : ℕ) (l : i < length found) (g f : Graph) (so_far : HasAppliedSome holds p q name found i g f) where
   abbrev answer : Values
   answer = slice_index_or found i []
@@ -166,6 +170,9 @@ module _ (holds : Values → Graph → Bool) (p q : PatternTree) (name : List �
     | inr after ↦ comes-wider g f h h so_far.extends (extends-itself h) holds p q name found n lt (omega (arith, lt, stored-length h is)) (later n after lt new)
   ]
 
+  in-turn : (h : Graph) → AppliesOne holds p q name answer f h → AppliesEach holds p q name (take (i + 1) found) g h
+  in-turn h one = subst (λ (xs : List Values). AppliesEach holds p q name xs g h) (sym (take_more found i [] l)) (each-more so_far.in_turn one)
+
   pub one-applied : (h : Graph) → AppliesOne holds p q name answer f h → HasAppliedSome holds p q name found (i + 1) g h
   one-applied h (passes_over none same) =
       subst (HasAppliedSome holds p q name found (i + 1) g) (sym same) (record {
@@ -173,12 +180,14 @@ module _ (holds : Values → Graph → Bool) (p q : PatternTree) (name : List �
         extends = so_far.extends;
         settled = earlier-settled f (extends-itself f) (inr (f, record { graph = so_far.graph; after = so_far.extends; before = extends-itself f }, none));
         origin = so_far.origin;
+        in_turn = subst (λ (x : Graph). AppliesEach holds p q name (take (i + 1) found) g x) same (in-turn h (passes_over none same));
       })
   one-applied h (asserts held passed y u) = record {
     graph = u.graph;
     extends = extends-then g f h so_far.extends u.extends;
     settled = earlier-settled h u.extends (settled-wider g f h h so_far.extends (extends-itself h) p q answer holds (inl (united-has holds p q name answer f h y u)));
     origin = both-origins h u.graph u.extends (united-comes holds p q name answer f h y u found (Contains-get_or found i [] l) held so_far.graph passed);
+    in_turn = in-turn h (asserts held passed y u);
   }
 
 -- before the first answer nothing is new
@@ -188,6 +197,7 @@ none-applied holds p q name found g is = record {
   extends = extends-itself g;
   settled = λ j l. absurd (omega (arith, l));
   origin = λ n past lt new. absurd (omega (arith, past, lt));
+  in_turn = no_answer;
 }
 
 -- and after the last one each is settled
@@ -197,6 +207,7 @@ all-applied holds p q name found i g h le a = record {
   extends = a.extends;
   settled = λ s c. subst (IsSettled holds p q g h) (get_or_default found c.0 [] s c.1 ∙ c.2) (a.settled c.0 (omega (arith, c.1, le)));
   origin = a.origin;
+  in_turn = subst (λ (xs : List Values). AppliesEach holds p q name xs g h) (take_all i found le) a.in_turn;
 }
 
 numbered : (e : Error) → IsShortage e → (number_of e ≡ 1) ⊎ (number_of e ≡ 2)

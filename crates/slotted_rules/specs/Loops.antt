@@ -2,11 +2,11 @@
 --     HasSearched    some rules were searched, one after another, and what they found can be applied
 --     HasApplied     the rules `before` were applied to the first of what was found, and the rules `after` can be to what is left
 --     HasAppliedSome    one rule was applied to so many of its answers
-use Rattle.std.specs.Prelude.{◌≡◌, ◌++◌, ◌<◌, ℕ, List, [], Bool, false, slice_index_or}
+use Rattle.std.specs.Prelude.{◌≡◌, ◌++◌, ◌<◌, ℕ, List, [], Bool, false, slice_index_or, take}
 use Rattle.slotted_model_rules.specs.Conditions.{Values}
 use Rattle.slotted_patterns.specs.Tree.{PatternTree}
 use Rattle.slotted_graph.specs.States.{IsGraph}
-use Rattle.slotted_rules.specs.Rewriting.{AreFromRule, IsSettled}
+use Rattle.slotted_rules.specs.Rewriting.{AppliesEach, AreFromRule, IsSettled}
 use Rattle.slotted_model_rules.specs.Runners.{AppliesAll, SearchesAll}
 use Rattle.slotted_core.specs.Graph.{Graph}
 use Rattle.slotted_graph.specs.Extension.{ExtendsTo}
@@ -32,3 +32,4 @@ pub record HasAppliedSome (holds : Values → Graph → Bool) (p q : PatternTree
   pub extends : ExtendsTo g h
   pub settled : (j : ℕ) → j < i → IsSettled holds p q g h (slice_index_or found j [])
   pub origin : AreFromRule holds p q name found g h
+  pub in_turn : AppliesEach holds p q name (take i found) g h

@@ -8,8 +8,9 @@
 --     AreFromRule ..                   so is each explicit entry that g has not
 --     LeavesApplied ..                 what an apply leaves
 --     AppliesOne holds p q name s g h    what it leaves for one answer
+--     AppliesEach holds p q name found g h    and for one after another
 --     IsRefusedRewrite ..              why an apply is refused
-use Rattle.std.specs.Prelude.{◌≡◌, ◌⊎◌, ◌<◌, ◌≤◌, ℕ, List, [], length, Contains, Bool, true, false, Some, None, IsSome}
+use Rattle.std.specs.Prelude.{◌≡◌, ◌⊎◌, ◌<◌, ◌≤◌, ℕ, List, [], ◌∷◌, length, Contains, Bool, true, false, Some, None, IsSome}
 use Rattle.slotted_slots.specs.declared.error.Error.{Error}
 use Rattle.slotted_slots.specs.declared.error.Error.TheVariants.{NotATerm}
 use Rattle.slotted_theory.specs.Nameless.{DTerm}
@@ -83,16 +84,23 @@ abbrev pub AreFromRule : (Values → Graph → Bool) → PatternTree → Pattern
 AreFromRule holds p q name found g h = (n : ℕ) → length g.image.entries ≤ n → n < length h.image.entries → step_at h.image.entries n ≡ explicit →
     ComesFromRule holds p q name found g h n
 
+-- the condition is asked in the graph as it is
+pub data AppliesOne (holds : Values → Graph → Bool) (p q : PatternTree) (name : List ℕ) (s : Values) (g h : Graph) : Type 0 where
+  passes_over : holds s g ≡ false → h ≡ g → AppliesOne holds p q name s g h
+  asserts : holds s g ≡ true → HavePassed s p q → (y : Bool) → UnitesInstances g h s p q (Some name) y → AppliesOne holds p q name s g h
+
+-- the answers in order, each in the graph that the ones before it left
+pub data AppliesEach (holds : Values → Graph → Bool) (p q : PatternTree) (name : List ℕ) : List Values → Graph → Graph → Type 0 where
+  no_answer : {g : Graph} → AppliesEach holds p q name [] g g
+  next_answer : {s : Values} {found : List Values} {g f h : Graph} → AppliesOne holds p q name s g f → AppliesEach holds p q name found f h →
+      AppliesEach holds p q name (s ∷ found) g h
+
 pub record LeavesApplied (holds : Values → Graph → Bool) (p q : PatternTree) (name : List ℕ) (found : List Values) (g h : Graph) : Type 0 where
   pub graph : IsGraph h
   pub extends : ExtendsTo g h
   pub settled : (s : Values) → Contains found s → IsSettled holds p q g h s
   pub origin : AreFromRule holds p q name found g h
-
--- the condition is asked in the graph as it is
-pub data AppliesOne (holds : Values → Graph → Bool) (p q : PatternTree) (name : List ℕ) (s : Values) (g h : Graph) : Type 0 where
-  passes_over : holds s g ≡ false → h ≡ g → AppliesOne holds p q name s g h
-  asserts : holds s g ≡ true → HavePassed s p q → (y : Bool) → UnitesInstances g h s p q (Some name) y → AppliesOne holds p q name s g h
+  pub in_turn : AppliesEach holds p q name found g h
 
 abbrev pub IsNotATerm : Error → Type 0
 IsNotATerm NotATerm = Unit {0}

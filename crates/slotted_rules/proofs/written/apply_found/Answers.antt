@@ -6,7 +6,7 @@ use Rattle.slotted_patterns.specs.View.{tree_of}
 use Rattle.slotted_core.specs.Graph.{Graph}
 use Rattle.slotted_rules.specs.Rewriting.{AreFromRule}
 use Rattle.slotted_rules.specs.WrittenLaws.{apply-later, valid-later}
-use Rattle.slotted_rules.proofs.Settling.{all-applied, one-applied}
+use Rattle.slotted_rules.proofs.Settling.{all-applied, none-applied, one-applied}
 use Rattle.slotted_rules.proofs.written.apply_found.Goals as goal
 
 pub apply_answer-requires-clause-rule : goal.apply_answer-requires-clause-rule
@@ -15,6 +15,11 @@ apply_answer-requires-clause-rule g c = valid-later g.L.LanguageChildren.form c.
 pub apply_answer-requires-clause-found : goal.apply_answer-requires-clause-found
 apply_answer-requires-clause-found g c =
     apply-later (tree_of g.L.LanguageChildren.form c.args.rule.now.left) c.args.found.now c.args.graph.now c.loop-answer.graph c.loop-answer.invariant.extends c.requires.found
+
+pub loop-answer-init : goal.loop-answer-init
+loop-answer-init g c =
+    let form = g.L.LanguageChildren.form in
+    none-applied (g.C.Cond.yes c.args.rule.now.condition) (tree_of form c.args.rule.now.left) (tree_of form c.args.rule.now.right) (string_bytes c.args.rule.now.name) c.args.found.now c.args.graph.now c.requires.graph
 
 pub returns-in_err-apply_answer-clause-origin : goal.returns-in_err-apply_answer-clause-origin
 returns-in_err-apply_answer-clause-origin g c =
