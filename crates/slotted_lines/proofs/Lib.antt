@@ -1,0 +1,6 @@
+-- How a line of a session is read, and what its answer says.
+pub mod Lines
+pub mod Knowing
+pub mod Reading
+pub mod Telling
+pub mod Running

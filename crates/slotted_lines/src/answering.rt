@@ -1,0 +1,53 @@
+//! What a line does to a session.
+ghost use Rattle.std.specs.Prelude.{◌≡◌};
+ghost use Rattle.slotted_lines.specs.AnsweredIn.{AnsweredIn, told_of_rule, told_of_run};
+ghost use Rattle.slotted_lines.specs.Requests.{session_command_of};
+ghost use Rattle.slotted_lines.specs.States.{AreSearchable, state_of};
+
+use crate::request::Request;
+use crate::rules::add_rule;
+use crate::runs::run_rules;
+use crate::session::Session;
+use crate::told::Told;
+use slotted_commands::Answer;
+use slotted_commands::session::answer;
+use slotted_runs::Report;
+use slotted_slots::Error;
+use slotted_terms::expr::printing::Printable;
+use std::alloc::Global;
+use std::convert::Infallible;
+
+/// The answer to one line, which holds no line feed, over a session.
+pub fn answer_in<L: Printable>(alloc: Global, session: &mut Session<L>, line: &str) -> Told
+    requires { AreSearchable L.form (state_of session.old) }
+    ensures answers { AnsweredIn L.read L.written L.form (state_of session.old) (state_of session.new)
+        (session_command_of line.now) result }
+    ensures valid { AreSearchable L.form (state_of session.new) }
+{
+    match Request::read(line) {
+        Request::Rule(name, left, right) => tell_rule(add_rule(alloc, session, name, left, right)),
+        Request::Run(limit) => tell_run(run_rules(alloc, session, limit)),
+        Request::Plain(line) => Told::Plain(answer(alloc, &mut session.graph, line)),
+        Request::Unknown => Told::Plain(Answer::NoCommand),
+    }
+}
+
+// The answer to a rule.
+fn tell_rule(outcome: Result<(), Error>) -> Told
+    ensures { result ≡ told_of_rule outcome }
+{
+    match outcome {
+        Ok(()) => Told::Plain(Answer::Done),
+        Err(error) => Told::Plain(Answer::Refused(error)),
+    }
+}
+
+// The answer to a run.
+fn tell_run(outcome: Result<Report<Infallible>, Error>) -> Told
+    ensures { result ≡ told_of_run outcome }
+{
+    match outcome {
+        Ok(report) => Told::Ran(report.iterations, report.stop_reason, report.egraph_nodes),
+        Err(error) => Told::Plain(Answer::Refused(error)),
+    }
+}

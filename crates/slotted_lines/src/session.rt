@@ -1,0 +1,31 @@
+//! A graph, with rules for it.
+ghost use Rattle.std.specs.Prelude.{◌≡◌, IsOk, IfOk};
+ghost use Rattle.slotted_lines.specs.States.{empty_state, state_of};
+
+use slotted_graph::EGraph;
+use slotted_languages::Language;
+use slotted_rules::{Always, Rewrite};
+use slotted_slots::{Error, SlotTable};
+use std::alloc::Global;
+
+/// A graph, and the rules of the lines so far, in order.
+#[derive(Drop)]
+pub struct Session<L: Language> {
+    /// The graph.
+    pub graph: EGraph<L>,
+    /// The rules.
+    pub rules: Vec<Rewrite<L, Always>>,
+}
+
+impl<L: Language> Session<L> {
+    /// Returns the session over a graph without classes, without rules. It takes no memory.
+    pub fn new(alloc: Global) -> Result<Self, Error>
+        ensures answers { IsOk result }
+        ensures empty { IfOk result (λ s. state_of s ≡ empty_state) }
+    {
+        Ok(Session {
+            graph: EGraph::new(alloc, SlotTable::new(alloc), ())?,
+            rules: Vec::new(alloc),
+        })
+    }
+}
