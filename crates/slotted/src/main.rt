@@ -3,18 +3,18 @@
 
 ghost use Rattle.std.specs.Prelude.{◌≡◌, IfOk, IfErr, IfSome, OnSome, OnOk};
 ghost use Rattle.std.specs.Io.KnownBytes.{Appends, IsAtEnd};
-ghost use Rattle.slotted_small.specs.Small.{small_read};
+ghost use Rattle.slotted_small.specs.Small.{small_form, small_read};
 ghost use Rattle.slotted_small.specs.SmallWritten.{small_written};
-ghost use Rattle.slotted_commands.specs.Streams.{SessionWrites};
+ghost use Rattle.slotted_lines.specs.Streams.{SessionWrites};
 
-use slotted_commands::answer_last_session;
+use slotted_lines::answer_last_session;
 use slotted_small::Small;
 use std::alloc::Global;
 use std::io;
 use std::io::{BufRead, BufReader, BufWriter, Write};
 use std::process::ExitCode;
 
-/// Answers each line of `input` on `output` over one graph of the written language, up to the end of the input. Each
+/// Answers each line of `input` on `output` over one graph of the written language and its rules, up to the end of the input. Each
 /// answer is written out before the next line is read. The first read or write that fails ends it, and so do bytes that
 /// are not UTF-8 and want of memory for a line; what was answered before stands.
 pub fn answer_lines<R: BufRead, W: Write>(
@@ -22,7 +22,7 @@ pub fn answer_lines<R: BufRead, W: Write>(
     input: &mut R,
     output: &mut W,
 ) -> io::Result<()>
-    ensures answers { OnOk result (IfSome (R.remaining input.old) (λ bytes. SessionWrites small_read small_written bytes
+    ensures answers { OnOk result (IfSome (R.remaining input.old) (λ bytes. SessionWrites small_read small_written small_form bytes
         (Appends (W.contents output.old) (W.contents output.new)))) }
     ensures end { OnOk result (OnSome (R.remaining input.old) (IsAtEnd (R.remaining input.new))) }
 {

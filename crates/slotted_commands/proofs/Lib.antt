@@ -4,4 +4,3 @@ pub mod Steps
 pub mod Comparing
 pub mod Explaining
 pub mod Extracting
-pub mod Reading

@@ -4,4 +4,3 @@ pub mod Asked
 pub mod Explained
 pub mod Extracted
 pub mod Sessions
-pub mod Streams

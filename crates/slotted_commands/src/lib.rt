@@ -1,4 +1,4 @@
-//! The commands of the program, over any language: a line is answered over a graph, and the lines of a reader on a writer.
+//! The commands of the program that ask a graph, over any language: a line is answered over it.
 #![tactic(auto)]
 
 mod answer;
@@ -6,8 +6,6 @@ mod command;
 mod explanation;
 mod extraction;
 pub mod session;
-mod stream;
 
 pub use answer::Answer;
 pub use command::Command;
-pub use stream::{answer_last_session, answer_line, answer_session};

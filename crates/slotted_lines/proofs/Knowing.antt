@@ -2,7 +2,7 @@
 use Rattle.std.proofs.Common.{◌≡◌, ◌++◌, ℕ, List, [], ◌∷◌, subst, sym, inl, inr, zero, suc, arith}
 use Rattle.std.specs.Prelude.{All, Bool, IsTrue, Option, true, false}
 use Rattle.std.proofs.lemmas.Bool.{false≢true}
-use Rattle.std.proofs.lemmas.List.Elements.{All-append, All-weaker}
+use Rattle.std.proofs.lemmas.List.Elements.{All-append, All-nil, All-weaker}
 use Rattle.slotted_theory.specs.Term.{Term}
 use Rattle.slotted_slots.specs.declared.error.Error.{Error}
 use Rattle.slotted_slots.specs.Syntax.{Element}
@@ -23,7 +23,7 @@ use Rattle.slotted_commands.specs.Sessions.{unknown, has_failed, refused, ran_ou
 use Rattle.slotted_rules.specs.Written.{CanBeSearched}
 use Rattle.slotted_rules.specs.declared.condition.Always.{Always}
 use Rattle.slotted_rules.specs.declared.rewrite.Rewrite.{Rewrite}
-use Rattle.slotted_lines.specs.States.{AreSearchable}
+use Rattle.slotted_lines.specs.States.{AreSearchable, SessionState, empty_graph, empty_state}
 
 same_table : (t u : Table) → u ≡ t → KnowsMore t u
 same_table t u e = subst (KnowsMore t) (sym e) (λ s k. k)
@@ -124,3 +124,7 @@ kept-rules form g h rules more fails (inr all) = inr (rules-later form g.table h
 pub one_more-rule : {L : Type 0} (form : L → Form) (h : Graph) (rules : List (Rewrite L Always)) (r : Rewrite L Always) → AreSearchable form (record { graph = h; rules = rules }) → CanBeSearched form h.table r → AreSearchable form (record { graph = h; rules = rules ++ r ∷ [] })
 one_more-rule form h rules r (inl f) one = inl f
 one_more-rule form h rules r (inr all) one = inr (All-append (CanBeSearched form h.table) rules (r ∷ []) all (All-one (CanBeSearched form h.table) r one))
+
+-- without rules there is nothing to be searched
+pub empty-searched : {L : Type 0} (form : L → Form) (s : SessionState L) → s ≡ empty_state → AreSearchable form s
+empty-searched form s e = subst (AreSearchable form) (sym e) (inr (All-nil (CanBeSearched form empty_graph.table)))

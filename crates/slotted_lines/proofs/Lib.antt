@@ -1,6 +1,7 @@
 -- How a line of a session is read, and what its answer says.
 pub mod Lines
 pub mod Knowing
-pub mod Reading
+pub mod ReadTexts
 pub mod Telling
 pub mod Running
+pub mod Reading

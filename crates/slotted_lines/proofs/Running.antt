@@ -25,7 +25,7 @@ use Rattle.slotted_lines.specs.RunsOver.{HasRefusedRules, RunnerState, TellsZero
 use Rattle.slotted_lines.specs.States.{AreSearchable}
 use Rattle.slotted_lines.specs.declared.still.StillClock.{StillClock}
 use Rattle.slotted_lines.proofs.Knowing.{kept-rules}
-use Rattle.slotted_lines.proofs.Reading.{unfailed}
+use Rattle.slotted_lines.proofs.ReadTexts.{unfailed}
 
 same-stop : (is_clone : Infallible → Infallible → Type 0) (a b : Stop Infallible) → IsStopClone is_clone a b → b ≡ a
 same-stop is_clone saturated b e = e

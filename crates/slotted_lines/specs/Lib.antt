@@ -5,3 +5,4 @@ pub mod Asked
 pub mod Texts
 pub mod RunsOver
 pub mod AnsweredIn
+pub mod Streams

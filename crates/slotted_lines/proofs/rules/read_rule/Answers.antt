@@ -9,7 +9,7 @@ use Rattle.slotted_rule_patterns.specs.Variables.{first_lacking, has_substitutio
 use Rattle.slotted_rules.specs.Written.{CanBeSearched, IsRule, IsRefusedRule, ReadsAs, right_refused, rule_refused}
 use Rattle.slotted_graph.proofs.KnownPatterns.{pattern-later}
 use Rattle.slotted_lines.specs.AnsweredIn.{IsRuleRead, IsRuleRefused, texts_refused}
-use Rattle.slotted_lines.proofs.Reading.{reads-then, unfailed}
+use Rattle.slotted_lines.proofs.ReadTexts.{reads-then, unfailed}
 use Rattle.slotted_lines.proofs.rules.read_rule.Goals as goal
 
 three_ok : {A E : Type 0} (r : Result A E) (P Q R S : A → Type 0) → ((x : A) → P x → Q x → R x → S x) → IfOk r P → IfOk r Q → IfOk r R → IfOk r S

@@ -3,17 +3,17 @@ ghost use Rattle.std.specs.Prelude.{◌≡◌, ℕ, List, IfSome, OnSome, IsErr,
 ghost use Rattle.std.specs.Str.{IsUtf8};
 ghost use Rattle.std.specs.Io.BufRead.{strip_last};
 ghost use Rattle.std.specs.Io.KnownBytes.{Appends, IsAtEnd, Keeps};
-ghost use Rattle.slotted_commands.specs.Streams.{LineLeaves, LineWrites, SessionWrites, WritesFrom};
+ghost use Rattle.slotted_lines.specs.States.{AreSearchable, state_of};
+ghost use Rattle.slotted_lines.specs.Streams.{LineLeaves, LineWrites, SessionWrites, WritesFrom};
 
-use crate::session::answer;
-use slotted_explain::EGraph;
-use slotted_slots::SlotTable;
+use crate::answering::answer_in;
+use crate::session::Session;
 use slotted_terms::expr::printing::Printable;
 use std::alloc::Global;
 use std::io::{BufRead, ErrorKind, Write};
 use std::{io, mem};
 
-/// Answers each line of `input` on `output`, from a graph without classes on, up to the end of the input. Each answer is
+/// Answers each line of `input` on `output`, from a graph without classes and no rules on, up to the end of the input. Each answer is
 /// written out before the next line is read. The first read or write that fails ends it, and so do bytes that are not
 /// UTF-8 and want of memory for a line; what was answered before stands.
 pub fn answer_session<L: Printable, R: BufRead, W: Write>(
@@ -21,44 +21,45 @@ pub fn answer_session<L: Printable, R: BufRead, W: Write>(
     input: &mut R,
     output: &mut W,
 ) -> io::Result<()>
-    ensures answers { OnOk result (IfSome (R.remaining input.old) (λ bytes. SessionWrites L.read L.written bytes
+    ensures answers { OnOk result (IfSome (R.remaining input.old) (λ bytes. SessionWrites L.read L.written L.form bytes
         (Appends (W.contents output.old) (W.contents output.new)))) }
     ensures end { OnOk result (OnSome (R.remaining input.old) (IsAtEnd (R.remaining input.new))) }
 {
-    match EGraph::<L>::new(alloc, SlotTable::new(alloc), ()) {
-        Ok(mut graph) => answer_each(alloc, &mut graph, input, output),
+    match Session::<L>::new(alloc) {
+        Ok(mut session) => answer_each(alloc, &mut session, input, output),
         Err(_) => Err(io::Error::from(ErrorKind::OutOfMemory)),
     }
 }
 
-/// The same for a process that ends with it: the graph is not taken apart, and its memory goes with the process.
+/// The same for a process that ends with it: the session is not taken apart, and its memory goes with the process.
 pub fn answer_last_session<L: Printable, R: BufRead, W: Write>(
     alloc: Global,
     input: &mut R,
     output: &mut W,
 ) -> io::Result<()>
-    ensures answers { OnOk result (IfSome (R.remaining input.old) (λ bytes. SessionWrites L.read L.written bytes
+    ensures answers { OnOk result (IfSome (R.remaining input.old) (λ bytes. SessionWrites L.read L.written L.form bytes
         (Appends (W.contents output.old) (W.contents output.new)))) }
     ensures end { OnOk result (OnSome (R.remaining input.old) (IsAtEnd (R.remaining input.new))) }
 {
-    match EGraph::<L>::new(alloc, SlotTable::new(alloc), ()) {
-        Ok(mut graph) => {
-            let outcome = answer_each(alloc, &mut graph, input, output);
-            mem::forget(graph);
+    match Session::<L>::new(alloc) {
+        Ok(mut session) => {
+            let outcome = answer_each(alloc, &mut session, input, output);
+            mem::forget(session);
             outcome
         }
         Err(_) => Err(io::Error::from(ErrorKind::OutOfMemory)),
     }
 }
 
-// Answers each line over a graph.
+// Answers each line over a session.
 fn answer_each<L: Printable, R: BufRead, W: Write>(
     alloc: Global,
-    graph: &mut EGraph<L>,
+    session: &mut Session<L>,
     input: &mut R,
     output: &mut W,
 ) -> io::Result<()>
-    ensures answers { OnOk result (IfSome (R.remaining input.old) (λ bytes. WritesFrom L.read L.written graph.old bytes
+    requires { AreSearchable L.form (state_of session.old) }
+    ensures answers { OnOk result (IfSome (R.remaining input.old) (λ bytes. WritesFrom L.read L.written L.form (state_of session.old) bytes
         (Appends (W.contents output.old) (W.contents output.new)))) }
     ensures end { OnOk result (OnSome (R.remaining input.old) (IsAtEnd (R.remaining input.new))) }
 {
@@ -68,7 +69,7 @@ fn answer_each<L: Printable, R: BufRead, W: Write>(
         if input.read_until(b'\n', &mut line)? == 0 {
             return Ok(());
         }
-        answer_line(alloc, graph, &line, output)?;
+        answer_line(alloc, session, &line, output)?;
     }
     Err(io::Error::from(ErrorKind::FileTooLarge))
 }
@@ -77,16 +78,18 @@ fn answer_each<L: Printable, R: BufRead, W: Write>(
 /// the line was asked all the same.
 pub fn answer_line<L: Printable, W: Write>(
     alloc: Global,
-    graph: &mut EGraph<L>,
+    session: &mut Session<L>,
     line: &[u8],
     output: &mut W,
 ) -> io::Result<()>
+    requires { AreSearchable L.form (state_of session.old) }
+    ensures valid { AreSearchable L.form (state_of session.new) }
     ensures answers { OnOk result
-        ((bs : List ℕ) × LineWrites L.read L.written graph.old (strip_last 10 line.now) bs graph.new
+        ((bs : List ℕ) × LineWrites L.read L.written L.form (state_of session.old) (strip_last 10 line.now) bs (state_of session.new)
         × Appends (W.contents output.old) (W.contents output.new) bs) }
     ensures leaves { IsUtf8 (strip_last 10 line.now)
-        → LineLeaves L.read L.written graph.old (strip_last 10 line.now) graph.new }
-    ensures not_text { ¬ (IsUtf8 (strip_last 10 line.now)) → IsErr result × (graph.new ≡ graph.old)
+        → LineLeaves L.read L.written L.form (state_of session.old) (strip_last 10 line.now) (state_of session.new) }
+    ensures not_text { ¬ (IsUtf8 (strip_last 10 line.now)) → IsErr result × (session.new ≡ session.old)
         × Keeps (W.contents output.old) (W.contents output.new) }
 {
     let Ok(text) = str::from_utf8(without_line_feed(line)) else {
@@ -95,8 +98,8 @@ pub fn answer_line<L: Printable, W: Write>(
     if text.is_empty() {
         return Ok(());
     }
-    let answer = answer(alloc, graph, text);
-    writeln!(output, "{answer}")?;
+    let told = answer_in(alloc, session, text);
+    writeln!(output, "{told}")?;
     output.flush()
 }
 
