@@ -1,5 +1,5 @@
 //! Readers and writers that fail, and writers that wait.
-use slotted_commands::answer_session;
+use slotted_lines::answer_session;
 use slotted_small::Small;
 use std::alloc::Global;
 use std::io;

@@ -1,10 +1,10 @@
 //! A graph, with rules for it.
-ghost use Rattle.std.specs.Prelude.{◌≡◌, IsOk, IfOk};
-ghost use Rattle.slotted_lines.specs.States.{empty_state, state_of};
+ghost use Rattle.std.specs.Prelude.{◌≡◌, IsOk, IfOk, IsTrue};
+ghost use Rattle.slotted_lines.specs.States.{AreSearchable, empty_state, state_of};
 
 use slotted_graph::EGraph;
 use slotted_languages::Language;
-use slotted_rules::{Always, Rewrite};
+use slotted_rules::{Always, Rewrite, are_valid};
 use slotted_slots::{Error, SlotTable};
 use std::alloc::Global;
 
@@ -27,5 +27,14 @@ impl<L: Language> Session<L> {
             graph: EGraph::new(alloc, SlotTable::new(alloc), ())?,
             rules: Vec::new(alloc),
         })
+    }
+
+    /// Whether the rules can be handed to runs over the graph. It takes no memory.
+    ///
+    /// Lines keep this. Whoever changes the graph or the rules beside them can ask for it.
+    pub fn is_searchable(&self) -> bool
+        ensures { IsTrue result → AreSearchable L.form (state_of self.now) }
+    {
+        self.graph.is_failed() || are_valid(&self.graph, &self.rules)
     }
 }

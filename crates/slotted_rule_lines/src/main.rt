@@ -16,7 +16,7 @@ mod rules;
 
 use asking::{answer, is_asked};
 use rules::Rule;
-use slotted_commands::answer_line;
+use slotted_commands::session;
 use slotted_graph::EGraph;
 use slotted_slots::SlotTable;
 use slotted_small::Small;
@@ -52,6 +52,20 @@ fn ask<W: Write>(
     }
 }
 
+// Answers a line of the program that asks the graph. An empty one has no answer.
+fn answer_plainly<W: Write>(
+    alloc: Global,
+    graph: &mut EGraph<Small>,
+    text: &str,
+    output: &mut W,
+) -> io::Result<()> {
+    if text.is_empty() {
+        return Ok(());
+    }
+    let told = session::answer(alloc, graph, text);
+    writeln!(output, "{told}")
+}
+
 // Answers a line over a graph.
 fn answer_or_ask<W: Write>(
     alloc: Global,
@@ -66,7 +80,7 @@ fn answer_or_ask<W: Write>(
     if is_asked(text) {
         return ask(alloc, graph, rules, text, output);
     }
-    answer_line(alloc, graph, line, output)
+    answer_plainly(alloc, graph, text, output)
 }
 
 // Answers a line, or writes it as it stands.

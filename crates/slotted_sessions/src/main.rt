@@ -1,6 +1,6 @@
 //! The program `slotted_sessions`: sessions in, answers out.
 //!
-//! A line `---` ends a session, and the next one has a graph of its own. A line that begins with `# ` is a title. Both are
+//! A line `---` ends a session, and the next one has a graph and rules of its own. A line that begins with `# ` is a title. Both are
 //! written as they stand. A line that begins with `? ` is a question of `slotted_rows`, and each other line is answered as by the program
 //! `slotted`.
 #![tactic(auto)]
@@ -10,8 +10,8 @@ ghost use Rattle.std.specs.List.{starts_with};
 ghost use Rattle.std.specs.Io.BufRead.{strip_last};
 ghost use Rattle.std.specs.Io.KnownBytes.{Appends};
 
-use slotted_commands::answer_line;
 use slotted_graph::EGraph;
+use slotted_lines::{Session, answer_line};
 use slotted_proofs::ProvenEq;
 use slotted_rows::rows::answer_of_either;
 use slotted_slots::SlotTable;
@@ -56,10 +56,23 @@ fn ask<L: Printable, W: Write>(
     }
 }
 
-// Answers a line over a graph, or asks its question.
+// Answers a line over a session. A question that changed the graph has left it fit for the rules.
+fn answer_if_searchable<L: Printable, W: Write>(
+    alloc: Global,
+    session: &mut Session<L>,
+    line: &[u8],
+    output: &mut W,
+) -> io::Result<()> {
+    if !session.is_searchable() {
+        return Err(io::Error::from(ErrorKind::InvalidData));
+    }
+    answer_line(alloc, session, line, output)
+}
+
+// Answers a line over a session, or asks its question.
 fn answer_or_ask<L: Printable, W: Write>(
     alloc: Global,
-    graph: &mut EGraph<L>,
+    session: &mut Session<L>,
     other: &mut EGraph<L>,
     known: &mut Vec<ProvenEq>,
     line: &[u8],
@@ -68,37 +81,37 @@ fn answer_or_ask<L: Printable, W: Write>(
     match line.strip_prefix(b"? ") {
         Some(question) => {
             let question = question.strip_suffix(b"\n").unwrap_or(question);
-            ask(alloc, graph, other, known, question, output)
+            ask(alloc, &mut session.graph, other, known, question, output)
         }
-        None => answer_line(alloc, graph, line, output),
+        None => answer_if_searchable(alloc, session, line, output),
     }
 }
 
-// Answers a line over a graph, or writes it as it stands.
+// Answers a line over a session, or writes it as it stands.
 fn answer_or_repeat<L: Printable, W: Write>(
     alloc: Global,
-    graph: &mut EGraph<L>,
+    session: &mut Session<L>,
     other: &mut EGraph<L>,
     known: &mut Vec<ProvenEq>,
     line: &[u8],
     output: &mut W,
 ) -> io::Result<()>
-    ensures title { IsTrue (starts_with nat_eq line.now (codes "# ")) → (graph.new ≡ graph.old)
+    ensures title { IsTrue (starts_with nat_eq line.now (codes "# ")) → (session.new ≡ session.old)
         × OnOk result (Appends (W.contents output.old) (W.contents output.new) line.now) }
-    ensures divider { strip_last 10 line.now ≡ codes "---" → (graph.new ≡ graph.old)
+    ensures divider { strip_last 10 line.now ≡ codes "---" → (session.new ≡ session.old)
         × OnOk result (Appends (W.contents output.old) (W.contents output.new) line.now) }
 {
     if is_title(line) || is_divider(line) {
         output.write_all(line)
     } else {
-        answer_or_ask(alloc, graph, other, known, line, output)
+        answer_or_ask(alloc, session, other, known, line, output)
     }
 }
 
-// Answers lines over a graph up to the end of their session, and says whether a line `---` ended it.
+// Answers lines over a session up to the end of their session, and says whether a line `---` ended it.
 fn answer_lines<L: Printable, R: BufRead, W: Write>(
     alloc: Global,
-    graph: &mut EGraph<L>,
+    session: &mut Session<L>,
     other: &mut EGraph<L>,
     known: &mut Vec<ProvenEq>,
     input: &mut R,
@@ -110,7 +123,7 @@ fn answer_lines<L: Printable, R: BufRead, W: Write>(
         if input.read_until(b'\n', &mut line)? == 0 {
             return Ok(false);
         }
-        answer_or_repeat(alloc, graph, other, known, &line, output)?;
+        answer_or_repeat(alloc, session, other, known, &line, output)?;
         if is_divider(&line) {
             return Ok(true);
         }
@@ -118,27 +131,27 @@ fn answer_lines<L: Printable, R: BufRead, W: Write>(
     Err(io::Error::from(ErrorKind::FileTooLarge))
 }
 
-// Answers a session over a graph beside another one, which its questions may ask.
+// Answers a session beside another graph, which its questions may ask.
 fn answer_beside<L: Printable, R: BufRead, W: Write>(
     alloc: Global,
-    graph: &mut EGraph<L>,
+    session: &mut Session<L>,
     other: &mut EGraph<L>,
     input: &mut R,
     output: &mut W,
 ) -> io::Result<bool> {
     let mut known = Vec::new(alloc);
-    answer_lines(alloc, graph, other, &mut known, input, output)
+    answer_lines(alloc, session, other, &mut known, input, output)
 }
 
-// Answers a session over a graph beside a new one.
+// Answers a session beside a new graph.
 fn answer_over<L: Printable, R: BufRead, W: Write>(
     alloc: Global,
-    graph: &mut EGraph<L>,
+    session: &mut Session<L>,
     input: &mut R,
     output: &mut W,
 ) -> io::Result<bool> {
     match EGraph::<L>::new(alloc, SlotTable::new(alloc), ()) {
-        Ok(mut other) => answer_beside(alloc, graph, &mut other, input, output),
+        Ok(mut other) => answer_beside(alloc, session, &mut other, input, output),
         Err(_) => Err(io::Error::from(ErrorKind::OutOfMemory)),
     }
 }
@@ -149,8 +162,8 @@ fn answer_next<L: Printable, R: BufRead, W: Write>(
     input: &mut R,
     output: &mut W,
 ) -> io::Result<bool> {
-    match EGraph::<L>::new(alloc, SlotTable::new(alloc), ()) {
-        Ok(mut graph) => answer_over(alloc, &mut graph, input, output),
+    match Session::<L>::new(alloc) {
+        Ok(mut session) => answer_over(alloc, &mut session, input, output),
         Err(_) => Err(io::Error::from(ErrorKind::OutOfMemory)),
     }
 }

@@ -16,8 +16,10 @@ returns-then-branch-eq0-clause-end g c =
 pub loop-preserved : goal.loop-preserved
 loop-preserved g c =
     let e = c.in_ok-read_until.ensures in
-    let answers = c.in_ok-answer_line.ensures.answers in
-    (so_far_steps g.L.LanguageChildren.read g.L.Printable.written g.L.LanguageChildren.form (state_of c.args.session.now) (state_of c.loop.session) (state_of c.answer_line.new.session) (g.R.Read.remaining c.args.input.now) (g.R.Read.remaining c.loop.input) (g.R.Read.remaining c.read_until.new.self)
-    (g.W.Write.contents c.args.output.now) (g.W.Write.contents c.loop.output) (g.W.Write.contents c.answer_line.new.output) c.deref.result.now answers.0
-    c.loop.invariant.0 (only_line (g.R.Read.remaining c.loop.input) c.clear.new.self.items c.read_until.new.buf.items c.deref.result.now e.bytes c.clear.ensures.items c.deref.ensures.value)
-    e.rest (omega (arith, c.deref.ensures.len, e.ok, c.clear.ensures.len, c.if-branch-eq0.false)) answers.1 answers.2, c.in_ok-answer_line.ensures.valid)
+    let answers = c.in_ok-answer_line.ensures.answers in (
+      so_far_steps g.L.LanguageChildren.read g.L.Printable.written g.L.LanguageChildren.form (state_of c.args.session.now) (state_of c.loop.session) (state_of c.answer_line.new.session) (g.R.Read.remaining c.args.input.now) (g.R.Read.remaining c.loop.input) (g.R.Read.remaining c.read_until.new.self)
+          (g.W.Write.contents c.args.output.now) (g.W.Write.contents c.loop.output) (g.W.Write.contents c.answer_line.new.output) c.deref.result.now answers.0
+          c.loop.invariant.0 (only_line (g.R.Read.remaining c.loop.input) c.clear.new.self.items c.read_until.new.buf.items c.deref.result.now e.bytes c.clear.ensures.items c.deref.ensures.value)
+          e.rest (omega (arith, c.deref.ensures.len, e.ok, c.clear.ensures.len, c.if-branch-eq0.false)) answers.1 answers.2,
+      c.in_ok-answer_line.ensures.valid,
+    )

@@ -1,6 +1,6 @@
 use Rattle.std.proofs.Common.{[], sym, ◌∙◌, subst}
 use Rattle.std.specs.Io.BufRead.{strip_last}
-use Rattle.slotted_lines.specs.Streams.{LineLeaves, LineWrites, empty_line}
+use Rattle.slotted_lines.specs.Streams.{LineWrites, empty_line}
 use Rattle.slotted_lines.specs.States.{state_of}
 use Rattle.slotted_lines.proofs.Reading.{Appends-nothing, is_empty, line_answered, line_left, on_ok}
 use Rattle.slotted_lines.proofs.stream.answer_line.Goals as goal
