@@ -29,11 +29,13 @@ impl<L: Language> Session<L> {
         })
     }
 
-    /// Whether the rules can be handed to runs over the graph. It takes no memory.
+    /// Returns whether the rules can be handed to runs over the graph. It takes no memory.
     ///
     /// Lines keep this. Whoever changes the graph or the rules beside them can ask for it.
     pub fn is_searchable(&self) -> bool
-        ensures { IsTrue result → AreSearchable L.form (state_of self.now) }
+        ensures searchable { IsTrue result → AreSearchable L.form (state_of self.now) }
+        ensures failed { IsTrue self.now.graph.failed → IsTrue result }
+        ensures exact { All (PassesTests L.form self.now.graph) self.now.rules.items → IsTrue result }
     {
         self.graph.is_failed() || are_valid(&self.graph, &self.rules)
     }

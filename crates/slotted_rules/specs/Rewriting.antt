@@ -1,5 +1,6 @@
 -- What a written rule finds, and what its apply leaves. A condition is given by its answers, and a rule by the trees of both sides and its name.
 --     IsSearched t g found h           from g to h these answers are what a search for the pattern t finds
+--     LacksSlots t g h                 why slots run out in such a search
 --     CanBeApplied t found g           each answer has valid values of g, one for each variable of t
 --     IsEquationFor g h p q s e        e is the equation of instances of p and q under s, whatever names are given that g knew
 --     HasEquationFor g h p q s         an entry of h is such an equation
@@ -22,18 +23,19 @@ use Rattle.slotted_model_rules.specs.Conditions.{Values}
 use Rattle.slotted_model_rules.specs.Rules.{IsEquationOfInstances, Rule}
 use Rattle.slotted_rule_patterns.specs.PatternCode.{pattern_in}
 use Rattle.slotted_rule_patterns.specs.Variables.{first_missing}
-use Rattle.slotted_matching.specs.Found.{HaveVariables}
-use Rattle.slotted_core.specs.Graph.{Graph, OnlyTakesSlots}
+use Rattle.slotted_matching.specs.Found.{HaveFreshNames, HaveVariables, RunsOutFor, name_count}
+use Rattle.slotted_matching.specs.Compiled.{HasWideNode}
+use Rattle.slotted_core.specs.Graph.{Graph, MakesAtMost, OnlyTakesSlots}
 use Rattle.slotted_graph.specs.declared.method.SubstMethod.{SubstMethod}
 use Rattle.slotted_graph.specs.Extension.{ExtendsTo, IsBetween}
-use Rattle.slotted_graph.specs.Matching.{AreFoundValid, FindsAllOf, FindsEachOf, FindsLookedUp}
+use Rattle.slotted_graph.specs.Matching.{AreFoundValid, FindsAll, FindsAllOf, FindsEachOf, FindsLookedUp, HasWideRow}
 use Rattle.slotted_graph.specs.States.{IsGraph}
 use Rattle.slotted_instances.specs.Methods.{AreRepresentatives, method_of, represented}
 use Rattle.slotted_instances.specs.Refusals.{HavePassed}
 use Rattle.slotted_instances.specs.Uniting.{UnitesInstances}
 
 -- all that the matcher finds over the filed nodes is found; each answer makes the pattern one that is looked up; and where no class has dropped a slot,
--- each substitution that is looked up is found
+-- each substitution that is looked up is found. Names are those of the pattern, or fresh ones, of which no more are made than answers have names
 pub record IsSearched (t : PatternTree) (g : Graph) (found : List Values) (h : Graph) : Type 0 where
   pub takes : OnlyTakesSlots g h
   pub finds : FindsAllOf h t found
@@ -42,6 +44,12 @@ pub record IsSearched (t : PatternTree) (g : Graph) (found : List Values) (h : G
   pub none : ¬ IsSome (pattern_in t) → found ≡ []
   pub valid : AreFoundValid h found
   pub variables : HaveVariables t found
+  pub fresh : HaveFreshNames g.table t found
+  pub count : MakesAtMost (name_count found) g.table h.table
+
+-- fewer slots were left than what can be found has names, or a filed node or one of the pattern has too many places
+abbrev pub LacksSlots : PatternTree → Graph → Graph → Type 0
+LacksSlots t g h = HasWideRow h ⊎ (HasWideNode t ⊎ RunsOutFor t (FindsAll h) g.table h.table)
 
 pub record CanBeApplied (t : PatternTree) (found : List Values) (g : Graph) : Type 0 where
   pub valid : AreFoundValid g found

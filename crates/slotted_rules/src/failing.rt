@@ -1,4 +1,4 @@
-//! Structural writes of this crate fail the graph where memory or slots were lacking.
+//! Structural writes that are made of others fail the graph if memory or slots ran out.
 ghost use Rattle.std.specs.Prelude.{◌≡◌, true, IsErrAnd};
 ghost use Rattle.slotted_slots.specs.Error.{IsShortage};
 
@@ -6,8 +6,8 @@ use slotted_graph::EGraph;
 use slotted_languages::Language;
 use slotted_slots::Error;
 
-// Hands an outcome on, and fails the graph if the outcome is a shortage.
-pub(crate) fn failing<L: Language, N: Drop, T>(
+/// Returns the outcome as it is, and fails the graph if it is a shortage.
+pub fn failing<L: Language, N: Drop, T>(
     graph: &mut EGraph<L, N>,
     outcome: Result<T, Error>,
 ) -> Result<T, Error>

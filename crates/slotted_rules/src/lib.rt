@@ -5,7 +5,7 @@ pub mod applying;
 pub mod asking;
 pub mod condition;
 pub mod condition_tree;
-pub(crate) mod failing;
+pub mod failing;
 pub mod macros;
 pub mod rewrite;
 pub mod rule;

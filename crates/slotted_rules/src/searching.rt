@@ -6,7 +6,9 @@ ghost use Rattle.slotted_patterns.specs.View.{tree_of};
 ghost use Rattle.slotted_rule_patterns.specs.Values.{values_of};
 ghost use Rattle.slotted_rule_patterns.specs.Variables.{has_substitution};
 ghost use Rattle.slotted_core.specs.Graph.{OnlyTakesSlots};
-ghost use Rattle.slotted_rules.specs.Rewriting.{IsSearched};
+ghost use Rattle.slotted_matching.specs.Found.{TakesFor};
+ghost use Rattle.slotted_graph.specs.Matching.{FindsAll};
+ghost use Rattle.slotted_rules.specs.Rewriting.{IsSearched, LacksSlots};
 
 use slotted_graph::EGraph;
 use slotted_languages::Language;
@@ -39,13 +41,16 @@ pub fn ematch_all<L: Language, N: Drop>(
     ensures found { IfOk result (λ all.
         IsSearched (tree_of L.form pattern.now) graph.old (map values_of all.items) graph.new) }
 
-    // Only fresh slots are made, and a refusal does not fail the graph.
+    // Only fresh slots are made, at most as many as what can be found has names, and a refusal does not fail the graph.
     ensures takes { OnlyTakesSlots graph.old graph.new }
+    ensures needs { (graph.new.table ≡ graph.old.table)
+        ⊎ TakesFor (tree_of L.form pattern.now) (FindsAll graph.new) graph.old.table graph.new.table }
     ensures stays { IsTrue graph.old.failed → graph.new ≡ graph.old }
 
     ensures failed { IsErrOf result Error.Failed ↔ IsTrue graph.old.failed }
     ensures subst { IsErrOf result Error.SubstInSearch
         ↔ ((graph.old.failed ≡ false) × (has_substitution (tree_of L.form pattern.now) ≡ true)) }
+    ensures full { IsErrOf result Error.OutOfSlots → LacksSlots (tree_of L.form pattern.now) graph.old graph.new }
     ensures only { IfErr result (λ e. (e ≡ Error.Failed) ⊎ ((e ≡ Error.SubstInSearch) ⊎ IsShortage e)) }
 {
     let found = graph.find_matches(pattern)?;

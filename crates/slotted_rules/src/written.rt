@@ -12,7 +12,8 @@ ghost use Rattle.slotted_graph.specs.States.{IsGraph};
 ghost use Rattle.slotted_instances.specs.Refusals.{HavePassed};
 ghost use Rattle.slotted_instances.specs.Uniting.{UnitesInstances};
 ghost use Rattle.slotted_rules.specs.Rewriting.{AppliesOne, AreFromRule, CanBeApplied, IsNotATerm, IsRefusedRewrite};
-ghost use Rattle.slotted_rules.specs.Rewriting.{IsSearched, LeavesApplied};
+ghost use Rattle.slotted_rules.specs.Rewriting.{IsSearched, LacksSlots, LeavesApplied};
+ghost use Rattle.slotted_core.specs.Graph.{OnlyTakesSlots};
 ghost use Rattle.slotted_rules.specs.Written.{CanBeSearched, PassesTests};
 
 use crate::condition::Cond;
@@ -152,7 +153,8 @@ impl<L: Language, N: Drop, C: Cond<L, N>> RewriteT<L, N> for Rewrite<L, C> {
 
     ghost never_failed = { λ r. refused-other (C.refuses r.condition) (λ s g. C.never_failed r.condition s g) (tree_of L.form r.right) };
 
-    /// Whether the graph's table knows the names of both sides, nothing is replaced on the left, and no variable stands on the right alone.
+    /// Returns whether the graph's table knows the names of both sides, nothing is replaced on the left, and no variable stands on the right alone. A
+    /// rule with a node of 2^30 places or more is not valid.
     fn is_valid(&self, graph: &EGraph<L, N>) -> bool {
         graph.is_valid_pattern(&self.left)
             && graph.is_valid_pattern(&self.right)
@@ -160,8 +162,22 @@ impl<L: Language, N: Drop, C: Cond<L, N>> RewriteT<L, N> for Rewrite<L, C> {
             && first_lacking(&self.right, &self.left).is_none()
     }
 
-    /// What `find_matches` finds for the left side.
-    fn search(&self, alloc: Global, graph: &mut EGraph<L, N>) -> Result<Matches, Error> {
+    /// Returns what `find_matches` finds for the left side.
+    fn search(&self, alloc: Global, graph: &mut EGraph<L, N>) -> Result<Matches, Error>
+        requires { IsTrue graph.old.failed ⊎ CanBeSearched L.form graph.old.table self.now }
+        ensures ok { IfOk result (λ found. IsSearched (tree_of L.form self.now.left) graph.old found graph.new) }
+
+        // A refusal does not fail the graph. Slots run out as they do in `find_matches`.
+        ensures takes { OnlyTakesSlots graph.old graph.new }
+        ensures full { IsErrOf result Error.OutOfSlots → LacksSlots (tree_of L.form self.now.left) graph.old graph.new }
+
+        ensures extends { IsTrue graph.new.failed ⊎ ExtendsTo graph.old graph.new }
+        ensures stays { IsTrue graph.old.failed → graph.new ≡ graph.old }
+        ensures failed { IsErrOf result Error.Failed ↔ IsTrue graph.old.failed }
+        ensures fails { IsTrue graph.new.failed → IsErrAnd result (λ e. (e ≡ Error.Failed) ⊎ IsShortage e) }
+        ensures err { IfErr result (λ e. (e ≡ Error.Failed) ⊎ IsShortage e
+            ⊎ IsRefusedRewrite (C.refuses self.now.condition) (tree_of L.form self.now.right) e) }
+    {
         graph.find_matches(&self.left)
     }
 

@@ -13,12 +13,12 @@ ghost use Rattle.slotted_runs.specs.Turning.{Calls, RulesOnce};
 
 use crate::calling::apply_and_call;
 use crate::clock::Clock;
-use crate::failing::failing;
 use crate::hook::Hook;
 use crate::report::{Report, StopReason};
 use slotted_graph::EGraph;
 use slotted_languages::Language;
 use slotted_rules::RewriteT;
+use slotted_rules::failing::failing;
 use slotted_slots::Error;
 use std::alloc::Global;
 

@@ -4,7 +4,6 @@
 pub(crate) mod calling;
 pub mod clock;
 pub mod eqsat;
-pub(crate) mod failing;
 pub mod hook;
 pub mod iteration;
 pub mod limits;

@@ -8,13 +8,13 @@ ghost use Rattle.slotted_runs.specs.Seen.{parts_of};
 ghost use Rattle.slotted_runs.specs.Turning.{Calls, RulesOnce, measures};
 
 use crate::clock::Clock;
-use crate::failing::failing;
 use crate::hook::Hook;
 use crate::iteration::IterationData;
 use crate::report::Report;
 use crate::runner::Runner;
 use slotted_languages::Language;
 use slotted_rules::RewriteT;
+use slotted_rules::failing::failing;
 use slotted_slots::Error;
 
 impl<L: Language, N: Drop, D: IterationData<L, N>, T: Clone, H: Hook<L, N, T>, K: Clock> Runner<

@@ -19,4 +19,6 @@ returns-clause-found g c =
       none = f.none;
       valid = f.valid;
       variables = f.variables;
+      fresh = f.fresh;
+      count = f.count;
     }))
