@@ -1,5 +1,6 @@
 //! A graph, with rules for it.
-ghost use Rattle.std.specs.Prelude.{◌≡◌, IsOk, IfOk, IsTrue};
+ghost use Rattle.std.specs.Prelude.{◌≡◌, All, IsOk, IfOk, IsTrue};
+ghost use Rattle.slotted_rules.specs.Written.{PassesTests};
 ghost use Rattle.slotted_lines.specs.States.{AreSearchable, empty_state, state_of};
 
 use slotted_graph::EGraph;

@@ -1,6 +1,8 @@
 -- Lemmas of rules.
 pub mod AppliedRules
+pub mod Counted
 pub mod Progress
 pub mod Settling
+pub mod LeftGraphs
 pub mod UnitedAnswers
 pub mod EqualInstances

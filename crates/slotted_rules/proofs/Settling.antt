@@ -1,14 +1,13 @@
 -- What a written rule leaves for one answer after another.
 use Rattle.std.proofs.Common.{◌≡◌, ◌∙◌, ◌<◌, ◌≤◌, ◌+◌, ℕ, List, [], ◌∷◌, ◌++◌, length, take, take_all, ap, sym, subst, inl, inr, arith, refl, length-append}
-use Rattle.std.specs.Prelude.{◌⊎◌, Bool, true, Contains, Option, Some, None, IsErrAnd, IsSome, IsTrue, Result, Ok, Err, slice_index_or}
+use Rattle.std.specs.Prelude.{Bool, true, false, Contains, Option, Some, None, IfOk, IsSome, OnOk, Result, Ok, Err, slice_index_or}
 use Rattle.std.proofs.lemmas.Bool.{cases_eq, cases_lt, false≢true}
 use Rattle.std.proofs.lemmas.List.{get_or_append_left, get_or_default, take_more}
 use Rattle.std.proofs.lemmas.List.Elements.{Contains-get_or}
 use Rattle.slotted_terms.specs.Valid.{AllKnown}
 use Rattle.slotted_theory.specs.Nameless.{DTerm}
-use Rattle.slotted_slots.specs.Error.{IsShortage, number_of}
+use Rattle.std.specs.Int.{from_bool}
 use Rattle.slotted_slots.specs.declared.error.Error.{Error}
-use Rattle.slotted_slots.specs.declared.error.Error.TheVariants.{OutOfMemory, OutOfSlots, Failed, Parse, NotATerm, SubstInSearch, MissingVariable, NotEqual, BadStep, UnknownClass, NumberTooLarge}
 use Rattle.slotted_patterns.specs.Tree.{PatternTree}
 use Rattle.slotted_model.specs.Growth.{Extends}
 use Rattle.slotted_model.specs.ProofList.{Equation, ProofEntry, equation_at, explicit, step_at}
@@ -27,7 +26,7 @@ use Rattle.slotted_instances.specs.Uniting.{UnitesInstances}
 use Rattle.slotted_instances.proofs.InstanceEquations.{stored-length, united-equation, united-pairs, united-representatives}
 use Rattle.slotted_instances.proofs.Putting.{representatives-longer}
 use Rattle.slotted_rules.specs.Loops.{HasAppliedSome}
-use Rattle.slotted_rules.specs.Rewriting.{AppliesEach, AppliesOne, AreFromRule, ComesFromRule, HasEntryFor, HasEquationFor, IsEquationFor, IsSettled, LeavesApplied, asserts, next_answer, no_answer, passes_over}
+use Rattle.slotted_rules.specs.Rewriting.{AppliesEach, AppliesOne, AreFromRule, ComesFromRule, HasEntryFor, HasEquationFor, IsEquationFor, IsSettled, LeavesUnited, asserts, next_answer, no_answer, passes_over}
 
 -- what is known is known later
 known-later : (g h : Graph) → ExtendsTo g h → (given : List ℕ) → AllKnown g.table given → AllKnown h.table given
@@ -147,11 +146,18 @@ module _ (holds : Values → Graph → Bool) (p q : PatternTree) (name : List �
           text = (first.only n past lt new).1;
         }
 
-each-more : {holds : Values → Graph → Bool} {p q : PatternTree} {name : List ℕ} {found : List Values} {s : Values} {g f h : Graph} → AppliesEach holds p q name found g f → AppliesOne holds p q name s f h → AppliesEach holds p q name (found ++ s ∷ []) g h
-each-more no_answer one = next_answer one no_answer
-each-more (next_answer first more) one = next_answer first (each-more more one)
+one-at-most : (y : Bool) → from_bool y ≤ 1
+one-at-most true = omega arith
+one-at-most false = omega arith
 
-module _ (holds : Values → Graph → Bool) (p q : PatternTree) (name : List ℕ) (found : List Values) (i : ℕ) (l : i < length found) (g f : Graph) (so_far : HasAppliedSome holds p q name found i g f) where
+each-more : {holds : Values → Graph → Bool} {p q : PatternTree} {name : List ℕ} {found : List Values} {s : Values} {y : Bool} {n : ℕ} {g f h : Graph} → AppliesEach holds p q name found n g f → AppliesOne holds p q name s f h y →
+    AppliesEach holds p q name (found ++ s ∷ []) (n + from_bool y) g h
+each-more {holds} {p} {q} {name} {found} {s} {y} {n} {g} {f} {h} no_answer one = subst (λ (k : ℕ). AppliesEach holds p q name (s ∷ []) k g h) (omega arith) (next_answer one no_answer)
+each-more {holds} {p} {q} {name} {found} {s} {y} {n} {g} {f} {h} (next_answer {s = t} {found = more} {y = z} {n = m} first later) one =
+    let all : AppliesEach holds p q name (t ∷ more ++ s ∷ []) (from_bool z + (m + from_bool y)) g h = next_answer first (each-more later one) in
+    subst (λ (k : ℕ). AppliesEach holds p q name (t ∷ more ++ s ∷ []) k g h) (omega arith) all
+
+module _ (holds : Values → Graph → Bool) (p q : PatternTree) (name : List ℕ) (found : List Values) (i n : ℕ) (l : i < length found) (g f : Graph) (so_far : HasAppliedSome holds p q name found i n g f) where
   abbrev answer : Values
   answer = slice_index_or found i []
 
@@ -170,84 +176,58 @@ module _ (holds : Values → Graph → Bool) (p q : PatternTree) (name : List �
     | inr after ↦ comes-wider g f h h so_far.extends (extends-itself h) holds p q name found n lt (omega (arith, lt, stored-length h is)) (later n after lt new)
   ]
 
-  in-turn : (h : Graph) → AppliesOne holds p q name answer f h → AppliesEach holds p q name (take (i + 1) found) g h
-  in-turn h one = subst (λ (xs : List Values). AppliesEach holds p q name xs g h) (sym (take_more found i [] l)) (each-more so_far.in_turn one)
+  in-turn : (h : Graph) (y : Bool) → AppliesOne holds p q name answer f h y → AppliesEach holds p q name (take (i + 1) found) (n + from_bool y) g h
+  in-turn h y one = subst (λ (xs : List Values). AppliesEach holds p q name xs (n + from_bool y) g h) (sym (take_more found i [] l)) (each-more so_far.in_turn one)
 
-  pub one-applied : (h : Graph) → AppliesOne holds p q name answer f h → HasAppliedSome holds p q name found (i + 1) g h
-  one-applied h (passes_over none same) =
-      subst (HasAppliedSome holds p q name found (i + 1) g) (sym same) (record {
+  next-within : (y : Bool) → n + from_bool y ≤ i + 1
+  next-within y = omega (arith, so_far.within, one-at-most y)
+
+  pub one-applied : (h : Graph) (y : Bool) → AppliesOne holds p q name answer f h y → HasAppliedSome holds p q name found (i + 1) (n + from_bool y) g h
+  one-applied h y (passes_over none same unsaid) =
+      subst (HasAppliedSome holds p q name found (i + 1) (n + from_bool y) g) (sym same) (record {
         graph = so_far.graph;
         extends = so_far.extends;
         settled = earlier-settled f (extends-itself f) (inr (f, record { graph = so_far.graph; after = so_far.extends; before = extends-itself f }, none));
         origin = so_far.origin;
-        in_turn = subst (λ (x : Graph). AppliesEach holds p q name (take (i + 1) found) g x) same (in-turn h (passes_over none same));
+        within = next-within y;
+        in_turn = subst (λ (x : Graph). AppliesEach holds p q name (take (i + 1) found) (n + from_bool y) g x) same (in-turn h y (passes_over none same unsaid));
       })
-  one-applied h (asserts held passed y u) = record {
+  one-applied h y (asserts held passed u) = record {
     graph = u.graph;
     extends = extends-then g f h so_far.extends u.extends;
     settled = earlier-settled h u.extends (settled-wider g f h h so_far.extends (extends-itself h) p q answer holds (inl (united-has holds p q name answer f h y u)));
     origin = both-origins h u.graph u.extends (united-comes holds p q name answer f h y u found (Contains-get_or found i [] l) held so_far.graph passed);
-    in_turn = in-turn h (asserts held passed y u);
+    within = next-within y;
+    in_turn = in-turn h y (asserts held passed u);
   }
 
+-- one answer whose instances were united
+pub if-asserted : (holds : Values → Graph → Bool) (p q : PatternTree) (name : List ℕ) (s : Values) (g h : Graph) (r : Result Bool Error) → holds s g ≡ true → OnOk r (HavePassed s p q) → IfOk r (UnitesInstances g h s p q (Some name)) →
+    IfOk r (AppliesOne holds p q name s g h)
+if-asserted holds p q name s g h (Ok y) held passed u = asserts held passed u
+if-asserted holds p q name s g h (Err e) held passed u = tt
+
 -- before the first answer nothing is new
-pub none-applied : (holds : Values → Graph → Bool) (p q : PatternTree) (name : List ℕ) (found : List Values) (g : Graph) → IsGraph g → HasAppliedSome holds p q name found 0 g g
+pub none-applied : (holds : Values → Graph → Bool) (p q : PatternTree) (name : List ℕ) (found : List Values) (g : Graph) → IsGraph g → HasAppliedSome holds p q name found 0 0 g g
 none-applied holds p q name found g is = record {
   graph = is;
   extends = extends-itself g;
   settled = λ j l. absurd (omega (arith, l));
   origin = λ n past lt new. absurd (omega (arith, past, lt));
+  within = omega arith;
   in_turn = no_answer;
 }
 
 -- and after the last one each is settled
-pub all-applied : (holds : Values → Graph → Bool) (p q : PatternTree) (name : List ℕ) (found : List Values) (i : ℕ) (g h : Graph) → length found ≤ i → HasAppliedSome holds p q name found i g h → LeavesApplied holds p q name found g h
-all-applied holds p q name found i g h le a = record {
-  graph = a.graph;
-  extends = a.extends;
-  settled = λ s c. subst (IsSettled holds p q g h) (get_or_default found c.0 [] s c.1 ∙ c.2) (a.settled c.0 (omega (arith, c.1, le)));
-  origin = a.origin;
-  in_turn = subst (λ (xs : List Values). AppliesEach holds p q name xs g h) (take_all i found le) a.in_turn;
-}
-
-numbered : (e : Error) → IsShortage e → (number_of e ≡ 1) ⊎ (number_of e ≡ 2)
-numbered e (inl m) = inl (ap number_of m)
-numbered e (inr m) = inr (ap number_of m)
-
-far : (e : Error) → 3 ≤ number_of e → ¬ IsShortage e
-far e l s = elim (numbered e s) [
-  | inl m ↦ omega (arith, l, m)
-  | inr m ↦ omega (arith, l, m)
-]
-
--- a refusal is a shortage, or it is none
-short_or : (e : Error) → IsShortage e ⊎ (¬ IsShortage e)
-short_or OutOfMemory = inl (inl refl)
-short_or OutOfSlots = inl (inr refl)
-short_or Failed = inr (far Failed (omega arith))
-short_or (Parse x) = inr (far (Parse x) (omega arith))
-short_or NotATerm = inr (far NotATerm (omega arith))
-short_or SubstInSearch = inr (far SubstInSearch (omega arith))
-short_or (MissingVariable v) = inr (far (MissingVariable v) (omega arith))
-short_or NotEqual = inr (far NotEqual (omega arith))
-short_or BadStep = inr (far BadStep (omega arith))
-short_or UnknownClass = inr (far UnknownClass (omega arith))
-short_or NumberTooLarge = inr (far NumberTooLarge (omega arith))
-
--- what comes from a rule still does where a shortage fails the graph, or nothing is done
-pub left-origin : {A : Type 0} (holds : Values → Graph → Bool) (p q : PatternTree) (name : List ℕ) (found : List Values) (g h i : Graph) (r : Result A Error) → IsTrue h.failed ⊎ AreFromRule holds p q name found g h →
-    (IsErrAnd r IsShortage → i ≡ record h { failed = true }) → (¬ IsErrAnd r IsShortage → i ≡ h) → IsTrue i.failed ⊎ AreFromRule holds p q name found g i
-left-origin holds p q name found g h i (Ok a) from short other = by from (other (λ s. s))
-  where
-    by : IsTrue h.failed ⊎ AreFromRule holds p q name found g h → i ≡ h → IsTrue i.failed ⊎ AreFromRule holds p q name found g i
-    by (inl failed) e = inl (ap (λ (x : Graph). x.failed) e ∙ failed)
-    by (inr f) e = inr (subst (AreFromRule holds p q name found g) (sym e) f)
-left-origin holds p q name found g h i (Err e) from short other = by (short_or e)
-  where
-    stays : i ≡ h → IsTrue h.failed ⊎ AreFromRule holds p q name found g h → IsTrue i.failed ⊎ AreFromRule holds p q name found g i
-    stays e (inl failed) = inl (ap (λ (x : Graph). x.failed) e ∙ failed)
-    stays e (inr f) = inr (subst (AreFromRule holds p q name found g) (sym e) f)
-
-    by : IsShortage e ⊎ (¬ IsShortage e) → IsTrue i.failed ⊎ AreFromRule holds p q name found g i
-    by (inl s) = inl (ap (λ (x : Graph). x.failed) (short s))
-    by (inr n) = stays (other n) from
+pub all-applied : (holds : Values → Graph → Bool) (p q : PatternTree) (name : List ℕ) (found : List Values) (i n : ℕ) (g h : Graph) → length found ≤ i → HasAppliedSome holds p q name found i n g h → LeavesUnited holds p q name found g h n
+all-applied holds p q name found i n g h le a = (
+  record {
+    graph = a.graph;
+    extends = a.extends;
+    settled = λ s c. subst (IsSettled holds p q g h) (get_or_default found c.0 [] s c.1 ∙ c.2) (a.settled c.0 (omega (arith, c.1, le)));
+    origin = a.origin;
+    united = n;
+    in_turn = subst (λ (xs : List Values). AppliesEach holds p q name xs n g h) (take_all i found le) a.in_turn;
+  },
+  refl,
+)

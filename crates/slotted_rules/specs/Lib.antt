@@ -6,4 +6,5 @@ pub mod Rewriting
 pub mod WrittenLaws
 pub mod Loops
 pub mod Written
+pub mod Counting
 pub mod EqualInstances

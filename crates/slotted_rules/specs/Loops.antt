@@ -2,7 +2,8 @@
 --     HasSearched    some rules were searched, one after another, and what they found can be applied
 --     HasApplied     the rules `before` were applied to the first of what was found, and the rules `after` can be to what is left
 --     HasAppliedSome    one rule was applied to so many of its answers
-use Rattle.std.specs.Prelude.{◌≡◌, ◌++◌, ◌<◌, ℕ, List, [], Bool, false, slice_index_or, take}
+--     HasDone        as `HasApplied`, and what each apply did
+use Rattle.std.specs.Prelude.{◌≡◌, ◌++◌, ◌<◌, ◌≤◌, ℕ, List, [], Bool, false, map, slice_index_or, take}
 use Rattle.slotted_model_rules.specs.Conditions.{Values}
 use Rattle.slotted_patterns.specs.Tree.{PatternTree}
 use Rattle.slotted_graph.specs.States.{IsGraph}
@@ -26,10 +27,19 @@ pub record HasApplied {R F : Type 0} (applies : R → F → Graph → Graph → 
   pub applied : AppliesAll applies before done g h
   pub can_apply : CanApplyAll can after left h
 
--- the first i answers are settled, and each new explicit entry comes from the rule
-pub record HasAppliedSome (holds : Values → Graph → Bool) (p q : PatternTree) (name : List ℕ) (found : List Values) (i : ℕ) (g h : Graph) : Type 0 where
+-- the first i answers are settled, n of them united what was not found equal, and each new explicit entry comes from the rule
+pub record HasAppliedSome (holds : Values → Graph → Bool) (p q : PatternTree) (name : List ℕ) (found : List Values) (i n : ℕ) (g h : Graph) : Type 0 where
   pub graph : IsGraph h
   pub extends : ExtendsTo g h
   pub settled : (j : ℕ) → j < i → IsSettled holds p q g h (slice_index_or found j [])
   pub origin : AreFromRule holds p q name found g h
-  pub in_turn : AppliesEach holds p q name (take i found) g h
+  pub within : n ≤ i
+  pub in_turn : AppliesEach holds p q name (take i found) n g h
+
+-- as `HasApplied`, where an apply says more of what it did: what was found is the key of that
+pub record HasDone {R F K : Type 0} (key : K → F) (applies : R → K → Graph → Graph → Type 0) (can : R → F → Graph → Type 0) (before after : List R) (founds left : List F) (done : List K) (g h : Graph) : Type 0 where
+  pub well : h.failed ≡ false
+  pub extends : ExtendsTo g h
+  pub whole : founds ≡ map key done ++ left
+  pub applied : AppliesAll applies before done g h
+  pub can_apply : CanApplyAll can after left h

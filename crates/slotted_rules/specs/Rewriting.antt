@@ -8,10 +8,12 @@
 --     ComesFromRule ..                 an entry of h is such an equation, of an answer for which the condition is yes in a graph between, with the rule's name
 --     AreFromRule ..                   so is each explicit entry that g has not
 --     LeavesApplied ..                 what an apply leaves
---     AppliesOne holds p q name s g h    what it leaves for one answer
---     AppliesEach holds p q name found g h    and for one after another
+--     AppliesOne holds p q name s g h y    what it leaves for one answer, and whether that united what was not found equal
+--     AppliesEach holds p q name found n g h    and for one after another, of which n did
+--     LeavesUnited .. n                what an apply leaves, in which n answers did
 --     IsRefusedRewrite ..              why an apply is refused
-use Rattle.std.specs.Prelude.{◌≡◌, ◌⊎◌, ◌<◌, ◌≤◌, ℕ, List, [], ◌∷◌, length, Contains, Bool, true, false, Some, None, IsSome}
+use Rattle.std.specs.Prelude.{◌≡◌, ◌⊎◌, ◌<◌, ◌≤◌, ◌+◌, ℕ, List, [], ◌∷◌, length, Contains, Bool, true, false, Some, None, IsSome}
+use Rattle.std.specs.Int.{from_bool}
 use Rattle.slotted_slots.specs.declared.error.Error.{Error}
 use Rattle.slotted_slots.specs.declared.error.Error.TheVariants.{NotATerm}
 use Rattle.slotted_theory.specs.Nameless.{DTerm}
@@ -92,23 +94,28 @@ abbrev pub AreFromRule : (Values → Graph → Bool) → PatternTree → Pattern
 AreFromRule holds p q name found g h = (n : ℕ) → length g.image.entries ≤ n → n < length h.image.entries → step_at h.image.entries n ≡ explicit →
     ComesFromRule holds p q name found g h n
 
--- the condition is asked in the graph as it is
-pub data AppliesOne (holds : Values → Graph → Bool) (p q : PatternTree) (name : List ℕ) (s : Values) (g h : Graph) : Type 0 where
-  passes_over : holds s g ≡ false → h ≡ g → AppliesOne holds p q name s g h
-  asserts : holds s g ≡ true → HavePassed s p q → (y : Bool) → UnitesInstances g h s p q (Some name) y → AppliesOne holds p q name s g h
+-- the condition is asked in the graph as it is; y says that a union was made, and that its sides were not found equal before
+pub data AppliesOne (holds : Values → Graph → Bool) (p q : PatternTree) (name : List ℕ) (s : Values) (g h : Graph) (y : Bool) : Type 0 where
+  passes_over : holds s g ≡ false → h ≡ g → y ≡ false → AppliesOne holds p q name s g h y
+  asserts : holds s g ≡ true → HavePassed s p q → UnitesInstances g h s p q (Some name) y → AppliesOne holds p q name s g h y
 
--- the answers in order, each in the graph that the ones before it left
-pub data AppliesEach (holds : Values → Graph → Bool) (p q : PatternTree) (name : List ℕ) : List Values → Graph → Graph → Type 0 where
-  no_answer : {g : Graph} → AppliesEach holds p q name [] g g
-  next_answer : {s : Values} {found : List Values} {g f h : Graph} → AppliesOne holds p q name s g f → AppliesEach holds p q name found f h →
-      AppliesEach holds p q name (s ∷ found) g h
+-- the answers in order, each in the graph that the ones before it left, and for how many of them y was said
+pub data AppliesEach (holds : Values → Graph → Bool) (p q : PatternTree) (name : List ℕ) : List Values → ℕ → Graph → Graph → Type 0 where
+  no_answer : {g : Graph} → AppliesEach holds p q name [] 0 g g
+  next_answer : {s : Values} {found : List Values} {y : Bool} {n : ℕ} {g f h : Graph} → AppliesOne holds p q name s g f y →
+      AppliesEach holds p q name found n f h → AppliesEach holds p q name (s ∷ found) (from_bool y + n) g h
 
 pub record LeavesApplied (holds : Values → Graph → Bool) (p q : PatternTree) (name : List ℕ) (found : List Values) (g h : Graph) : Type 0 where
   pub graph : IsGraph h
   pub extends : ExtendsTo g h
   pub settled : (s : Values) → Contains found s → IsSettled holds p q g h s
   pub origin : AreFromRule holds p q name found g h
-  pub in_turn : AppliesEach holds p q name found g h
+  pub united : ℕ
+  pub in_turn : AppliesEach holds p q name found united g h
+
+-- so many of the answers united what was not found equal before
+abbrev pub LeavesUnited : (Values → Graph → Bool) → PatternTree → PatternTree → List ℕ → List Values → Graph → Graph → ℕ → Type 0
+LeavesUnited holds p q name found g h n = (l : LeavesApplied holds p q name found g h) × (l.united ≡ n)
 
 abbrev pub IsNotATerm : Error → Type 0
 IsNotATerm NotATerm = Unit {0}

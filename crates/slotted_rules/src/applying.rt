@@ -27,7 +27,7 @@ pub fn are_valid<L: Language, N: Drop, R: RewriteT<L, N>>(graph: &EGraph<L, N>, 
 }
 
 // What each rule found, in order.
-fn search_all<L: Language, N: Drop, R: RewriteT<L, N>>(
+pub(crate) fn search_all<L: Language, N: Drop, R: RewriteT<L, N>>(
     alloc: Global,
     graph: &mut EGraph<L, N>,
     rules: &[R],

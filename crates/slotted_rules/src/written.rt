@@ -12,7 +12,7 @@ ghost use Rattle.slotted_graph.specs.States.{IsGraph};
 ghost use Rattle.slotted_instances.specs.Refusals.{HavePassed};
 ghost use Rattle.slotted_instances.specs.Uniting.{UnitesInstances};
 ghost use Rattle.slotted_rules.specs.Rewriting.{AppliesOne, AreFromRule, CanBeApplied, IsNotATerm, IsRefusedRewrite};
-ghost use Rattle.slotted_rules.specs.Rewriting.{IsSearched, LacksSlots, LeavesApplied};
+ghost use Rattle.slotted_rules.specs.Rewriting.{IsSearched, LacksSlots, LeavesApplied, LeavesUnited};
 ghost use Rattle.slotted_core.specs.Graph.{OnlyTakesSlots};
 ghost use Rattle.slotted_rules.specs.Written.{CanBeSearched, PassesTests};
 
@@ -54,19 +54,19 @@ fn unite<L: Language, N: Drop, C: Drop>(
     union_instantiations(alloc, graph, &rule.left, &rule.right, subst, Some(name))
 }
 
-// The same, if the condition holds.
+// The same, if the condition holds. Returns whether both sides were not found equal before.
 fn apply_to<L: Language, N: Drop, C: Cond<L, N>>(
     alloc: Global,
     graph: &mut EGraph<L, N>,
     rule: &Rewrite<L, C>,
     subst: &Subst,
-) -> Result<(), Error>
+) -> Result<bool, Error>
     requires graph { IsGraph graph.old }
     requires rule { CanBeSearched L.form graph.old.table rule.now }
     requires valid { AreValidValues graph.old (values_of subst.now) }
     requires whole { IsSome (pattern_in (tree_of L.form rule.now.left)) }
     requires values { first_missing (tree_of L.form rule.now.left) (values_of subst.now) ≡ None }
-    ensures applies { OnOk result (AppliesOne (C.yes rule.now.condition) (tree_of L.form rule.now.left)
+    ensures applies { IfOk result (AppliesOne (C.yes rule.now.condition) (tree_of L.form rule.now.left)
         (tree_of L.form rule.now.right) (string_bytes rule.now.name) (values_of subst.now) graph.old graph.new) }
     ensures unchanged { IsErr result → IsTrue graph.new.failed ⊎ (graph.new ≡ graph.old) }
     ensures fails { IsTrue graph.new.failed → IsErrAnd result IsShortage }
@@ -74,10 +74,9 @@ fn apply_to<L: Language, N: Drop, C: Cond<L, N>>(
         ⊎ IsRefusedRewrite (C.refuses rule.now.condition) (tree_of L.form rule.now.right) e) }
 {
     if !rule.condition.holds(alloc, subst, graph)? {
-        return Ok(());
+        return Ok(false);
     }
-    unite(alloc, graph, rule, subst)?;
-    Ok(())
+    unite(alloc, graph, rule, subst)
 }
 
 // The same for one of the answers.
@@ -87,12 +86,12 @@ fn apply_answer<L: Language, N: Drop, C: Cond<L, N>>(
     rule: &Rewrite<L, C>,
     found: &Matches,
     answer: usize,
-) -> Result<(), Error>
+) -> Result<bool, Error>
     requires graph { IsGraph graph.old }
     requires rule { CanBeSearched L.form graph.old.table rule.now }
     requires found { CanBeApplied (tree_of L.form rule.now.left) found.now graph.old }
     requires answer { answer < length found.now }
-    ensures applies { OnOk result (AppliesOne (C.yes rule.now.condition) (tree_of L.form rule.now.left)
+    ensures applies { IfOk result (AppliesOne (C.yes rule.now.condition) (tree_of L.form rule.now.left)
         (tree_of L.form rule.now.right) (string_bytes rule.now.name) (slice_index_or found.now answer []) graph.old graph.new) }
     ensures unchanged { IsErr result → IsTrue graph.new.failed ⊎ (graph.new ≡ graph.old) }
     ensures fails { IsTrue graph.new.failed → IsErrAnd result IsShortage }
@@ -103,17 +102,17 @@ fn apply_answer<L: Language, N: Drop, C: Cond<L, N>>(
     apply_to(alloc, graph, rule, &subst)
 }
 
-// The same for each answer, one after another.
+// The same for each answer, one after another. Returns for how many of them both sides were not found equal before.
 fn apply_found<L: Language, N: Drop, C: Cond<L, N>>(
     alloc: Global,
     graph: &mut EGraph<L, N>,
     rule: &Rewrite<L, C>,
     found: &Matches,
-) -> Result<(), Error>
+) -> Result<usize, Error>
     requires graph { IsGraph graph.old }
     requires rule { CanBeSearched L.form graph.old.table rule.now }
     requires found { CanBeApplied (tree_of L.form rule.now.left) found.now graph.old }
-    ensures applied { OnOk result (LeavesApplied (C.yes rule.now.condition) (tree_of L.form rule.now.left)
+    ensures applied { IfOk result (LeavesUnited (C.yes rule.now.condition) (tree_of L.form rule.now.left)
         (tree_of L.form rule.now.right) (string_bytes rule.now.name) found.now graph.old graph.new) }
     ensures extends { IsTrue graph.new.failed ⊎ ExtendsTo graph.old graph.new }
     ensures origin { IsTrue graph.new.failed ⊎ AreFromRule (C.yes rule.now.condition) (tree_of L.form rule.now.left)
@@ -122,10 +121,41 @@ fn apply_found<L: Language, N: Drop, C: Cond<L, N>>(
     ensures err { IfErr result (λ e. IsShortage e
         ⊎ IsRefusedRewrite (C.refuses rule.now.condition) (tree_of L.form rule.now.right) e) }
 {
+    let mut united = 0;
     for answer in 0..found.len() {
-        apply_answer(alloc, graph, rule, found, answer)?;
+        united += usize::from(apply_answer(alloc, graph, rule, found, answer)?);
     }
-    Ok(())
+    Ok(united)
+}
+
+/// Unites the instances of both sides for each match for which the condition holds just then, as `apply` of the rule does. Returns for how many
+/// matches the instances were not found equal before.
+///
+/// What was applied before a refusal stays.
+pub fn apply_matches<L: Language, N: Drop, C: Cond<L, N>>(
+    alloc: Global,
+    graph: &mut EGraph<L, N>,
+    rule: &Rewrite<L, C>,
+    found: &Matches,
+) -> Result<usize, Error>
+    requires valid { IsTrue graph.old.failed ⊎ CanBeSearched L.form graph.old.table rule.now }
+    requires found { IsTrue graph.old.failed ⊎ CanBeApplied (tree_of L.form rule.now.left) found.now graph.old }
+    ensures ok { IfOk result (LeavesUnited (C.yes rule.now.condition) (tree_of L.form rule.now.left)
+        (tree_of L.form rule.now.right) (string_bytes rule.now.name) found.now graph.old graph.new) }
+    ensures origin { IsTrue graph.new.failed ⊎ AreFromRule (C.yes rule.now.condition) (tree_of L.form rule.now.left)
+        (tree_of L.form rule.now.right) (string_bytes rule.now.name) found.now graph.old graph.new }
+    ensures extends { IsTrue graph.new.failed ⊎ ExtendsTo graph.old graph.new }
+    ensures stays { IsTrue graph.old.failed → graph.new ≡ graph.old }
+    ensures failed { IsErrOf result Error.Failed ↔ IsTrue graph.old.failed }
+    ensures fails { IsTrue graph.new.failed ↔ IsErrAnd result (λ e. (e ≡ Error.Failed) ⊎ IsShortage e) }
+    ensures err { IfErr result (λ e. (e ≡ Error.Failed) ⊎ IsShortage e
+        ⊎ IsRefusedRewrite (C.refuses rule.now.condition) (tree_of L.form rule.now.right) e) }
+{
+    if graph.is_failed() {
+        return Err(Error::Failed);
+    }
+    let applied = apply_found(alloc, graph, rule, found);
+    failing(graph, applied)
 }
 
 impl<L: Language, N: Drop, C: Cond<L, N>> RewriteT<L, N> for Rewrite<L, C> {
@@ -198,10 +228,7 @@ impl<L: Language, N: Drop, C: Cond<L, N>> RewriteT<L, N> for Rewrite<L, C> {
         ensures err { IfErr result (λ e. (e ≡ Error.Failed) ⊎ IsShortage e
             ⊎ IsRefusedRewrite (C.refuses self.now.condition) (tree_of L.form self.now.right) e) }
     {
-        if graph.is_failed() {
-            return Err(Error::Failed);
-        }
-        let applied = apply_found(alloc, graph, self, &found);
-        failing(graph, applied)
+        apply_matches(alloc, graph, self, &found)?;
+        Ok(())
     }
 }

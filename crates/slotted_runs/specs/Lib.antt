@@ -6,3 +6,4 @@ pub mod Runs
 pub mod Loops
 pub mod Eqsat
 pub mod Machine
+pub mod Counted

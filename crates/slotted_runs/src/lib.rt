@@ -3,6 +3,7 @@
 
 pub(crate) mod calling;
 pub mod clock;
+pub mod counted;
 pub mod eqsat;
 pub mod hook;
 pub mod iteration;
@@ -16,6 +17,7 @@ pub(crate) mod running;
 pub(crate) mod turning;
 
 pub use clock::Clock;
+pub use counted::run_counted;
 pub use eqsat::run_eqsat;
 pub use hook::{Hook, HookStop, NoHook};
 pub use iteration::{Iteration, IterationData};

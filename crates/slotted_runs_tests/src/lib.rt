@@ -2,6 +2,8 @@
 #![tactic(auto)]
 
 #[cfg(test)]
+mod backoff;
+#[cfg(test)]
 mod counting;
 #[cfg(test)]
 mod doubles;

@@ -1,9 +1,10 @@
 -- Each answer is applied in the graph that the ones before it left.
-use Rattle.std.proofs.Common.{refl, subst, sym, inl, inr, arith}
+use Rattle.std.proofs.Common.{ℕ, ◌+◌, refl, subst, sym, inl, inr, arith}
 use Rattle.std.specs.Prelude.{string_bytes}
 use Rattle.slotted_patterns.specs.Tree.{PatternTree}
 use Rattle.slotted_patterns.specs.View.{tree_of}
 use Rattle.slotted_core.specs.Graph.{Graph}
+use Rattle.slotted_rules.specs.Loops.{HasAppliedSome}
 use Rattle.slotted_rules.specs.Rewriting.{AreFromRule}
 use Rattle.slotted_rules.specs.WrittenLaws.{apply-later, valid-later}
 use Rattle.slotted_rules.proofs.Settling.{all-applied, none-applied, one-applied}
@@ -34,11 +35,14 @@ returns-in_err-apply_answer-clause-origin g c =
 pub loop-answer-preserved : goal.loop-answer-preserved
 loop-answer-preserved g c =
     let form = g.L.LanguageChildren.form in
-    one-applied (g.C.Cond.yes c.args.rule.now.condition) (tree_of form c.args.rule.now.left) (tree_of form c.args.rule.now.right) (string_bytes c.args.rule.now.name) c.args.found.now
-    c.loop-answer.answer (omega (arith, c.loop-answer-test.true, c.len-answer-end.ensures)) c.args.graph.now c.loop-answer.graph c.loop-answer.invariant c.apply_answer.new.graph c.in_ok-apply_answer.ensures.applies
+    let p : PatternTree = tree_of form c.args.rule.now.left in
+    let q : PatternTree = tree_of form c.args.rule.now.right in
+    subst (λ (n : ℕ). HasAppliedSome (g.C.Cond.yes c.args.rule.now.condition) p q (string_bytes c.args.rule.now.name) c.args.found.now (c.loop-answer.answer + 1) (c.loop-answer.united + n) c.args.graph.now c.apply_answer.new.graph) (sym c.from.ensures)
+    (one-applied (g.C.Cond.yes c.args.rule.now.condition) p q (string_bytes c.args.rule.now.name) c.args.found.now
+    c.loop-answer.answer c.loop-answer.united (omega (arith, c.loop-answer-test.true, c.len-answer-end.ensures)) c.args.graph.now c.loop-answer.graph c.loop-answer.invariant c.apply_answer.new.graph c.in_ok-apply_answer.field-0 c.in_ok-apply_answer.ensures.applies)
 
 pub returns-clause-applied : goal.returns-clause-applied
 returns-clause-applied g c =
     let form = g.L.LanguageChildren.form in
     all-applied (g.C.Cond.yes c.args.rule.now.condition) (tree_of form c.args.rule.now.left) (tree_of form c.args.rule.now.right) (string_bytes c.args.rule.now.name) c.args.found.now
-    c.loop-answer.answer c.args.graph.now c.loop-answer.graph (omega (arith, c.loop-answer-test.false, c.len-answer-end.ensures)) c.loop-answer.invariant
+    c.loop-answer.answer c.loop-answer.united c.args.graph.now c.loop-answer.graph (omega (arith, c.loop-answer-test.false, c.len-answer-end.ensures)) c.loop-answer.invariant

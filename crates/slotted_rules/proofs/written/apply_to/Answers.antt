@@ -1,6 +1,15 @@
 use Rattle.std.proofs.Common.{◌∙◌, sym}
-use Rattle.slotted_rules.specs.Rewriting.{asserts}
+use Rattle.slotted_patterns.specs.Tree.{PatternTree}
+use Rattle.slotted_patterns.specs.View.{tree_of}
+use Rattle.slotted_rule_patterns.specs.Values.{values_of}
+use Rattle.std.specs.Prelude.{string_bytes}
+use Rattle.slotted_rules.proofs.Settling.{if-asserted}
 use Rattle.slotted_rules.proofs.written.apply_to.Goals as goal
 
 pub returns-clause-applies : goal.returns-clause-applies
-returns-clause-applies g c = asserts (sym c.in_ok-holds.ensures.ok ∙ c.if-not-branch.false) c.in_ok-unite.ensures.tested c.in_ok-unite.field-0 c.in_ok-unite.ensures.unites
+returns-clause-applies g c =
+    let form = g.L.LanguageChildren.form in
+    let p : PatternTree = tree_of form c.args.rule.now.left in
+    let q : PatternTree = tree_of form c.args.rule.now.right in
+    if-asserted (g.C.Cond.yes c.args.rule.now.condition) p q (string_bytes c.args.rule.now.name) (values_of c.args.subst.now) c.args.graph.now c.unite.new.graph c.unite.result
+    (◌∙◌ {a = g.C.Cond.yes c.args.rule.now.condition (values_of c.args.subst.now) c.args.graph.now} (sym c.in_ok-holds.ensures.ok) c.if-not-branch.false) c.unite.ensures.tested c.unite.ensures.unites

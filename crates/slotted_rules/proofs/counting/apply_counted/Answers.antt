@@ -1,0 +1,33 @@
+-- Once the graph has failed if memory or slots ran out.
+use Rattle.std.proofs.Common.{◌∙◌, ◌↔◌, sym}
+use Rattle.std.specs.Prelude.{IsTrue}
+use Rattle.slotted_patterns.specs.View.{tree_of}
+use Rattle.slotted_graph.specs.Extension.{ExtendsTo}
+use Rattle.slotted_rules.specs.Applying.{AreRefusedBy, HasProgressed}
+use Rattle.slotted_rules.specs.Counting.{RefusesRule}
+use Rattle.slotted_rules.specs.WrittenLaws.{refused-other}
+use Rattle.slotted_rules.proofs.LeftGraphs.{left-failed, left-fails, left-ok, left-so}
+use Rattle.slotted_rules.proofs.counting.apply_counted.Goals as goal
+
+pub returns-clause-changed : goal.returns-clause-changed
+returns-clause-changed g c =
+    left-ok c.args.graph.now c.count_turn-turn.new.graph c.failing.new.graph c.count_turn-turn.result c.failing.result c.failing.ensures.same c.failing.ensures.short c.failing.ensures.other
+    (λ t h. IsTrue t.changed ↔ HasProgressed c.args.graph.now.image h.image) c.count_turn-turn.ensures.changed
+
+pub returns-clause-extends : goal.returns-clause-extends
+returns-clause-extends g c =
+    left-so (ExtendsTo c.args.graph.now) c.count_turn-turn.new.graph c.failing.new.graph c.count_turn-turn.result c.count_turn-turn.ensures.extends c.failing.ensures.short c.failing.ensures.other
+
+pub returns-clause-failed : goal.returns-clause-failed
+returns-clause-failed g c =
+    let form = g.L.LanguageChildren.form in
+    left-failed c.args.graph.now c.count_turn-turn.new.graph c.failing.new.graph c.count_turn-turn.result c.failing.result c.failing.ensures.same c.failing.ensures.short c.failing.ensures.other
+    (AreRefusedBy (RefusesRule form g.C.Cond.refuses) c.args.rules.now) (λ r. refused-other (g.C.Cond.refuses r.0.condition) (λ s x. g.met.C.Cond.never_failed r.0.condition s x) (tree_of form r.0.right) r.2)
+    (sym c.is_failed.ensures.failed ∙ c.if-is_failed.false) c.count_turn-turn.ensures.err
+
+pub returns-clause-fails : goal.returns-clause-fails
+returns-clause-fails g c =
+    let form = g.L.LanguageChildren.form in
+    left-fails c.args.graph.now c.count_turn-turn.new.graph c.failing.new.graph c.count_turn-turn.result c.failing.result c.failing.ensures.same c.failing.ensures.short c.failing.ensures.other
+    (AreRefusedBy (RefusesRule form g.C.Cond.refuses) c.args.rules.now) (λ r. refused-other (g.C.Cond.refuses r.0.condition) (λ s x. g.met.C.Cond.never_failed r.0.condition s x) (tree_of form r.0.right) r.2)
+    c.count_turn-turn.ensures.fails c.count_turn-turn.ensures.err

@@ -1,0 +1,15 @@
+-- The graph's measure before and after.
+use Rattle.std.proofs.Common.{◌≡◌, false}
+use Rattle.slotted_rules.proofs.AppliedRules.{not-failed-so, ok-well}
+use Rattle.slotted_rules.proofs.Progress.{progressed, same_measure}
+use Rattle.slotted_rules.proofs.counting.count_turn.Goals as goal
+
+pub returns-clause-changed : goal.returns-clause-changed
+unfolding same_measure
+returns-clause-changed g c =
+    let a = c.search_and_count.new.graph in
+    let well : a.failed ≡ false = ok-well _ a.failed c.search_and_count.result c.in_ok-counts.counts c.in_ok-counts.was c.search_and_count.ensures.fails in
+    progressed c.args.graph.now.image a.image c.progress-before.result c.progress.result
+    (not-failed-so c.args.graph.now.failed c.requires.well c.progress-before.ensures.measure)
+    (not-failed-so a.failed well c.progress.ensures.measure)
+    c.ne.result c.ne.ensures

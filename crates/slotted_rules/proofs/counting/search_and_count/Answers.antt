@@ -1,0 +1,50 @@
+use Rattle.std.proofs.Common.{◌≡◌, Result, Ok, IfErr, sym, subst, inl, inr}
+use Rattle.std.specs.Prelude.{◌⊎◌, IsErrAnd, IsTrue}
+use Rattle.slotted_slots.specs.declared.error.Error.{Error}
+use Rattle.slotted_slots.specs.Error.{IsShortage}
+use Rattle.slotted_languages.proofs.HandedOn.{handed_err}
+use Rattle.slotted_model_rules.specs.Runners.{SearchesAll}
+use Rattle.slotted_core.specs.Graph.{Graph}
+use Rattle.slotted_graph.specs.Extension.{ExtendsTo}
+use Rattle.slotted_graph.proofs.Extending.{extends-then}
+use Rattle.slotted_rules.specs.Applying.{AreRefusedBy}
+use Rattle.slotted_rules.specs.Counting.{RefusesRule, SearchesRule}
+use Rattle.slotted_rules.specs.WrittenLaws.{valid-later}
+use Rattle.slotted_rules.proofs.AppliedRules.{not-failed-so, ok-well}
+use Rattle.slotted_rules.proofs.counting.search_and_count.Goals as goal
+
+pub returns-in_err-found-clause-err : goal.returns-in_err-found-clause-err
+returns-in_err-found-clause-err g c =
+    let refuses = RefusesRule g.L.LanguageChildren.form g.C.Cond.refuses in
+    handed_err c.from_residual.result c.in_err-found.field-0.0 c.from_residual.ensures.1 (λ x. IsShortage x ⊎ AreRefusedBy refuses c.args.rules.now x)
+    (subst (λ (r : Result _ Error). IfErr r (λ x. IsShortage x ⊎ AreRefusedBy refuses c.args.rules.now x)) c.in_err-found.was c.search_all.ensures.err)
+
+-- a search without a refusal extends the graph
+searched : {A : Type 0} (g f : Graph) (r : Result A Error) (x : A) → r ≡ Ok x → (IsTrue f.failed → IsErrAnd r IsShortage) → IsTrue f.failed ⊎ ExtendsTo g f → ExtendsTo g f
+searched g f r x is fails extends = not-failed-so f.failed (ok-well IsShortage f.failed r x is fails) extends
+
+pub count_all-requires-clause-valid : goal.count_all-requires-clause-valid
+count_all-requires-clause-valid g c k d l = valid-later g.L.LanguageChildren.form c.args.graph.now c.search_all.new.graph _ (searched c.args.graph.now c.search_all.new.graph c.search_all.result c.in_ok-found.found c.in_ok-found.was c.search_all.ensures.fails c.search_all.ensures.extends) (c.requires.valid k d l)
+
+pub returns-in_err-count_all-clause-extends : goal.returns-in_err-count_all-clause-extends
+returns-in_err-count_all-clause-extends g c = elim c.count_all.ensures.extends [
+  | inl failed ↦ inl failed
+  | inr more ↦ inr (extends-then c.args.graph.now c.search_all.new.graph c.count_all.new.graph (searched c.args.graph.now c.search_all.new.graph c.search_all.result c.in_ok-found.found c.in_ok-found.was c.search_all.ensures.fails c.search_all.ensures.extends) more)
+]
+
+pub returns-clause-extends : goal.returns-clause-extends
+returns-clause-extends g c = elim c.count_all.ensures.extends [
+  | inl failed ↦ inl failed
+  | inr more ↦ inr (extends-then c.args.graph.now c.search_all.new.graph c.count_all.new.graph (searched c.args.graph.now c.search_all.new.graph c.search_all.result c.in_ok-found.found c.in_ok-found.was c.search_all.ensures.fails c.search_all.ensures.extends) more)
+]
+
+pub returns-clause-counts : goal.returns-clause-counts
+returns-clause-counts g c =
+    let a = c.in_ok-count_all.ensures.ok in
+    record {
+      searched = c.search_all.new.graph;
+      each = a.0;
+      by_searches = subst (λ founds. SearchesAll (SearchesRule g.L.LanguageChildren.form) c.args.rules.now c.args.graph.now founds c.search_all.new.graph) (sym a.1) c.in_ok-found.ensures.ok;
+      by_applies = a.2;
+      told = a.3;
+    }

@@ -1,0 +1,2 @@
+-- What is said of the rules of the tests.
+pub mod Resting
