@@ -3,13 +3,19 @@ use Rattle.std.proofs.Common.{◌≡◌, ◌∙◌, ◌<◌, ◌≤◌, ◌+◌,
 use Rattle.std.specs.Prelude.{get_or}
 use Rattle.std.proofs.lemmas.List.{append-nil, drop_all, map-append, take_more}
 use Rattle.std.proofs.Math.Seq.{drop-cons}
+use Rattle.slotted_slots.specs.declared.error.Error.{Error}
+use Rattle.slotted_slots.specs.declared.error.Error.TheVariants.{Failed}
+use Rattle.slotted_nodes.specs.Form.{Form}
+use Rattle.slotted_patterns.specs.View.{tree_of}
 use Rattle.slotted_model_rules.specs.Runners.{AppliesAll, none_applied}
 use Rattle.slotted_core.specs.Graph.{Graph}
 use Rattle.slotted_graph.specs.Extension.{ExtendsTo}
 use Rattle.slotted_graph.proofs.Extending.{extends-itself, extends-then}
 use Rattle.slotted_model_rules.specs.Conditions.{Values}
-use Rattle.slotted_rules.specs.Applying.{CanApplyAll}
-use Rattle.slotted_rules.specs.Counting.{counts_in}
+use Rattle.slotted_rules.specs.Applying.{AreRefusedBy, CanApplyAll}
+use Rattle.slotted_rules.specs.Counting.{RefusesRule, counts_in}
+use Rattle.slotted_rules.specs.WrittenLaws.{refused-other}
+use Rattle.slotted_rules.specs.declared.rewrite.Rewrite.{Rewrite}
 use Rattle.slotted_rules.specs.declared.counting.RuleCounts.{RuleCounts}
 use Rattle.slotted_rules.specs.Loops.{HasDone}
 use Rattle.slotted_rules.proofs.AppliedRules.{applies-more, can-stays}
@@ -67,3 +73,7 @@ pub counts-more : (counts new : List RuleCounts) (done : List (List Values × �
 counts-more counts new done k x so_far found united is =
     let one : x ≡ record { found = length k.0; united = k.1 } = λ j. record { found = found j; united = united j } in
     is ∙ ((λ j. so_far j ++ one j ∷ []) ∙ sym (map-append (λ (p : List Values × ℕ). record { found = length p.0; united = p.1 }) done (k ∷ [])))
+
+-- no rule is refused as over a failed graph
+pub no-rule_fails : {L C : Type 0} (form : L → Form) (refuses : C → Values → Graph → Error → Type 0) → ((c : C) (s : Values) (g : Graph) → ¬ refuses c s g Failed) → (rules : List (Rewrite L C)) → ¬ AreRefusedBy (RefusesRule form refuses) rules Failed
+no-rule_fails form refuses never rules r = refused-other (refuses r.0.condition) (never r.0.condition) (tree_of form r.0.right) r.2

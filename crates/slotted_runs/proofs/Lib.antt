@@ -3,6 +3,7 @@ pub mod Handing
 pub mod Beside
 pub mod Readings
 pub mod Turns
+pub mod CountedTurns
 pub mod LastTurns
 pub mod Stopped
 pub mod EqsatTurns

@@ -1,11 +1,10 @@
 -- Once the graph has failed if memory or slots ran out.
 use Rattle.std.proofs.Common.{◌∙◌, ◌↔◌, sym}
 use Rattle.std.specs.Prelude.{IsTrue}
-use Rattle.slotted_patterns.specs.View.{tree_of}
 use Rattle.slotted_graph.specs.Extension.{ExtendsTo}
 use Rattle.slotted_rules.specs.Applying.{AreRefusedBy, HasProgressed}
 use Rattle.slotted_rules.specs.Counting.{RefusesRule}
-use Rattle.slotted_rules.specs.WrittenLaws.{refused-other}
+use Rattle.slotted_rules.proofs.Counted.{no-rule_fails}
 use Rattle.slotted_rules.proofs.LeftGraphs.{left-failed, left-fails, left-ok, left-so}
 use Rattle.slotted_rules.proofs.counting.apply_counted.Goals as goal
 
@@ -22,12 +21,12 @@ pub returns-clause-failed : goal.returns-clause-failed
 returns-clause-failed g c =
     let form = g.L.LanguageChildren.form in
     left-failed c.args.graph.now c.count_turn-turn.new.graph c.failing.new.graph c.count_turn-turn.result c.failing.result c.failing.ensures.same c.failing.ensures.short c.failing.ensures.other
-    (AreRefusedBy (RefusesRule form g.C.Cond.refuses) c.args.rules.now) (λ r. refused-other (g.C.Cond.refuses r.0.condition) (λ s x. g.met.C.Cond.never_failed r.0.condition s x) (tree_of form r.0.right) r.2)
+    (AreRefusedBy (RefusesRule form g.C.Cond.refuses) c.args.rules.now) (no-rule_fails form g.C.Cond.refuses (λ k s x. g.met.C.Cond.never_failed k s x) c.args.rules.now)
     (sym c.is_failed.ensures.failed ∙ c.if-is_failed.false) c.count_turn-turn.ensures.err
 
 pub returns-clause-fails : goal.returns-clause-fails
 returns-clause-fails g c =
     let form = g.L.LanguageChildren.form in
     left-fails c.args.graph.now c.count_turn-turn.new.graph c.failing.new.graph c.count_turn-turn.result c.failing.result c.failing.ensures.same c.failing.ensures.short c.failing.ensures.other
-    (AreRefusedBy (RefusesRule form g.C.Cond.refuses) c.args.rules.now) (λ r. refused-other (g.C.Cond.refuses r.0.condition) (λ s x. g.met.C.Cond.never_failed r.0.condition s x) (tree_of form r.0.right) r.2)
+    (AreRefusedBy (RefusesRule form g.C.Cond.refuses) c.args.rules.now) (no-rule_fails form g.C.Cond.refuses (λ k s x. g.met.C.Cond.never_failed k s x) c.args.rules.now)
     c.count_turn-turn.ensures.fails c.count_turn-turn.ensures.err

@@ -4,13 +4,13 @@ use Rattle.slotted_graph.specs.Extension.{ExtendsTo}
 use Rattle.slotted_runs.specs.Counted.{GoesOn}
 use Rattle.slotted_runs.proofs.counted.take_counted.Given as goal
 
-abbrev pub invariant-loop : goal.invariant-loop
-invariant-loop g l = record {
+abbrev pub invariant-loop-alloc : goal.invariant-loop-alloc
+invariant-loop-alloc g l = record {
   well : l.graph.failed ≡ false;
   extends : ExtendsTo l.fn.graph l.graph;
   within : length l.turns.items ≤ l.turn_limit;
   turns : GoesOn g.L.LanguageChildren.form g.C.Cond.yes l.rules l.fn.graph l.turns.items l.graph;
 }
 
-abbrev pub measure-loop : goal.measure-loop
-measure-loop g l = l.turn_limit - length l.turns.items
+abbrev pub decreases-loop-alloc : goal.decreases-loop-alloc
+decreases-loop-alloc g l = l.turn_limit - length l.turns.items
