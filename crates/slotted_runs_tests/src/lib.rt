@@ -6,6 +6,8 @@ mod backoff;
 #[cfg(test)]
 mod counting;
 #[cfg(test)]
+mod counts;
+#[cfg(test)]
 mod doubles;
 #[cfg(test)]
 mod limits;
