@@ -68,3 +68,4 @@ pub use Rattle.slotted_runs.specs.Eqsat
 -- what a caller of its own says
 pub mod Filed
 pub mod AppliedRules
+pub mod Simplified

@@ -1,13 +1,17 @@
-//! First callers: texts are added, united and asked, a canonical term is added again, a node is looked up and asked, and rules are applied.
+//! First callers: texts are added, united and asked, a canonical term is added again, a node is looked up and asked, rules are applied, and a term is
+//! simplified by rules.
 ghost use Rattle.std.specs.Prelude.{◌↔◌, ◌⊎◌, All, IsTrue, IfOk, OnOk};
 ghost use Rattle.slotted_egraphs.specs.AppliedRules.{HasAppliedEach};
 ghost use Rattle.slotted_egraphs.specs.Filed.{IsFiledAs, SaysNodeEqual};
+ghost use Rattle.slotted_egraphs.specs.Simplified.{IsSimplified};
 ghost use Rattle.slotted_egraphs.specs.ValidIds.{IsValidId, IsValidNode};
 ghost use Rattle.slotted_egraphs.specs.Image.{AreClosed};
 ghost use Rattle.slotted_egraphs.specs.Nodes.{to_applied};
+ghost use Rattle.slotted_egraphs.specs.Valid.{IsValidTerm};
 ghost use Rattle.slotted_egraphs.specs.Written.{CanBeSearched};
 
-use crate::{Always, AppliedId, EGraph, Error, Language, Rewrite, apply_rewrites};
+use crate::{Always, AppliedId, EGraph, Error, Language, ProvenEq, RecExpr, Rewrite};
+use crate::{apply_rewrites, ast_size_extract, run_counted};
 use std::alloc::Global;
 
 /// Adds the terms of two texts, unites them and asks whether they are equal. Where there is an answer it is yes, or a symmetry that
@@ -67,4 +71,24 @@ pub fn apply_once<L: Language>(
     // It is asked for what each graph keeps that has not failed.
     let _ = graph.is_failed();
     answer
+}
+
+/// Adds a term, applies rules until they change nothing or so many turns were taken, and extracts a term of the fewest nodes. Returns that term, with the
+/// proof that both are equal.
+pub fn simplify<L: Language>(
+    alloc: Global,
+    graph: &mut EGraph<L>,
+    rules: &[Rewrite<L, Always>],
+    term: &RecExpr<L>,
+    turn_limit: usize,
+) -> Result<(RecExpr<L>, ProvenEq), Error>
+    requires rules { All (CanBeSearched L.form graph.old.table) rules.now }
+    requires term { IsValidTerm graph.old.table term.now }
+    ensures { IfOk result (λ r. IsSimplified graph.new term.now r.0 r.1) }
+{
+    let id = graph.add_expr(term)?;
+    run_counted(alloc, graph, rules, turn_limit)?;
+    let best = ast_size_extract(alloc, &id, graph)?;
+    let proof = graph.explain_equivalence(term, &best)?;
+    Ok((best, proof))
 }
