@@ -7,6 +7,7 @@ pub mod Counting
 pub mod UserLists
 pub mod Rows
 pub mod Telling
+pub mod Ties
 pub mod Entering
 pub mod Starting
 pub mod Turns

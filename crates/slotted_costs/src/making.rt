@@ -1,7 +1,7 @@
 //! The making of a table: the cheapest row that can enter does, until none can.
 ghost use Rattle.std.specs.Prelude.{◌≡◌, ◌<◌, ◌≤◌, ℕ, All, length, true, false, slice_index_or, None, IfOk, IfErr, OnOk};
 ghost use Rattle.slotted_slots.specs.Error.{IsOutOfMemory};
-ghost use Rattle.slotted_model.specs.Extraction.{Fits};
+ghost use Rattle.slotted_model.specs.Extraction.{Fits, HasTiesBroken};
 ghost use Rattle.slotted_model.specs.Find.{find_class};
 ghost use Rattle.slotted_model.specs.Rest.{AtRest};
 ghost use Rattle.slotted_store.specs.Finding.{HasFinds};
@@ -12,7 +12,7 @@ ghost use Rattle.slotted_costs.specs.Entries.{IsFiledAs, entry_in, table_of};
 ghost use Rattle.slotted_costs.specs.Counts.{times, AreKeysOf, AreUsers};
 ghost use Rattle.slotted_costs.specs.Making.{table_state, work_left, IsDone, IsEntryFor};
 ghost use Rattle.slotted_costs.specs.Making.{IsMadeSoFar, IsTurnOf, TellsRow, TellsRows};
-ghost use Rattle.slotted_costs.specs.Least.{IsLeastTable};
+ghost use Rattle.slotted_costs.specs.Least.{IsLeastTable, comes_first};
 
 use crate::candidate::Candidate;
 use crate::cost::CostFunction;
@@ -30,20 +30,20 @@ use std::collections::BinaryHeap;
 
 // The table so far, the rows that wait for their turn, and for each row how many of its children have no cost.
 #[derive(Drop)]
-pub(crate) struct Making<L, C: Ord> {
+pub(crate) struct Making<'a, L: Ord, C: Ord> {
     pub table: CostTable<L, C>,
-    pub queue: BinaryHeap<Candidate<C>>,
+    pub queue: BinaryHeap<Candidate<'a, L, C>>,
     pub lacking: Vec<usize>,
 }
 
 // No class has a cost, and the rows without children wait.
-fn start<L: Language, F: CostFunction<L>>(
+fn start<'a, L: Language, F: CostFunction<L>>(
     store: &Store<L>,
-    nodes: &Hashcons<L>,
+    nodes: &'a Hashcons<L>,
     alloc: Global,
     costs: &F,
-) -> Result<Making<L, F::Cost>, Error>
-    ensures ok { IfOk result (λ m. IsMadeSoFar L.form F.Cost.cmp (F.node_cost costs.now) store.now nodes.now m) }
+) -> Result<Making<'a, L, F::Cost>, Error>
+    ensures ok { IfOk result (λ m. IsMadeSoFar L.form L.cmp F.Cost.cmp (F.node_cost costs.now) store.now nodes.now m) }
     ensures keys { OnOk result (AreKeysOf L.form nodes.now.filed) }
     ensures err { IfErr result (MayRefuse F.refuses) }
 {
@@ -61,16 +61,16 @@ fn start<L: Language, F: CostFunction<L>>(
 }
 
 // A child of a row has a cost from now on: the row waits for its turn if no child lacks one.
-fn tell<L: Language, F: CostFunction<L>>(
-    making: &mut Making<L, F::Cost>,
-    nodes: &Hashcons<L>,
+fn tell<'a, L: Language, F: CostFunction<L>>(
+    making: &mut Making<'a, L, F::Cost>,
+    nodes: &'a Hashcons<L>,
     alloc: Global,
     costs: &F,
     source: usize,
 ) -> Result<(), Error>
     requires { 0 < slice_index_or making.old.lacking.items source 0 }
     ensures ok { OnOk result
-        (TellsRow L.form F.Cost.cmp (F.node_cost costs.now) nodes.now.filed source making.old making.new) }
+        (TellsRow L.form L.cmp F.Cost.cmp (F.node_cost costs.now) nodes.now.filed source making.old making.new) }
     ensures err { IfErr result (MayRefuse F.refuses) }
 {
     let left = making.lacking[source] - 1;
@@ -89,16 +89,16 @@ fn tell<L: Language, F: CostFunction<L>>(
 }
 
 // The same of each of these rows.
-fn tell_all<L: Language, F: CostFunction<L>>(
-    making: &mut Making<L, F::Cost>,
-    nodes: &Hashcons<L>,
+fn tell_all<'a, L: Language, F: CostFunction<L>>(
+    making: &mut Making<'a, L, F::Cost>,
+    nodes: &'a Hashcons<L>,
     alloc: Global,
     costs: &F,
     sources: &[u32],
 ) -> Result<(), Error>
     requires { (s : ℕ) → times s sources.now ≤ slice_index_or making.old.lacking.items s 0 }
     ensures ok { OnOk result
-        (TellsRows L.form F.Cost.cmp (F.node_cost costs.now) nodes.now.filed sources.now making.old making.new) }
+        (TellsRows L.form L.cmp F.Cost.cmp (F.node_cost costs.now) nodes.now.filed sources.now making.old making.new) }
     ensures err { IfErr result (MayRefuse F.refuses) }
 {
     for source in sources {
@@ -112,10 +112,10 @@ fn entry_for<L: Language, C: Ord + Drop>(
     nodes: &Hashcons<L>,
     alloc: Global,
     class: usize,
-    next: Candidate<C>,
+    next: Candidate<L, C>,
 ) -> Result<CostEntry<L, C>, Error>
     requires { IsFiled nodes.now.filed next.source.0 }
-    ensures ok { IfOk result (λ e. IsEntryFor L.form nodes.now.filed class next e) }
+    ensures ok { IfOk result (λ e. IsEntryFor L.form nodes.now.filed class next.entry e) }
     ensures err { IfErr result IsOutOfMemory }
 {
     let Reverse(source) = next.source;
@@ -135,22 +135,22 @@ fn entry_for<L: Language, C: Ord + Drop>(
 }
 
 // A class without a cost gets that of the row whose turn it is, and the rows over it are told.
-fn take_turn<L: Language, F: CostFunction<L>>(
-    making: &mut Making<L, F::Cost>,
+fn take_turn<'a, L: Language, F: CostFunction<L>>(
+    making: &mut Making<'a, L, F::Cost>,
     store: &Store<L>,
-    nodes: &Hashcons<L>,
+    nodes: &'a Hashcons<L>,
     users: &Usages,
     alloc: Global,
     costs: &F,
     class: usize,
-    next: Candidate<F::Cost>,
+    next: Candidate<'a, L, F::Cost>,
 ) -> Result<(), Error>
-    requires turn { IsTurnOf L.form F.Cost.cmp (F.node_cost costs.now) store.now nodes.now making.old next }
+    requires turn { IsTurnOf L.form L.cmp F.Cost.cmp (F.node_cost costs.now) store.now nodes.now making.old next }
     requires users { AreUsers nodes.now.filed users.now }
     requires class { class ≡ find_class (entries_of store.now) next.source.0 }
     requires within { class < length nodes.now.filed }
     requires new_class { entry_in (table_of L.form making.old.table.entries.items) class ≡ None }
-    ensures ok { OnOk result (IsMadeSoFar L.form F.Cost.cmp (F.node_cost costs.now) store.now nodes.now making.new) }
+    ensures ok { OnOk result (IsMadeSoFar L.form L.cmp F.Cost.cmp (F.node_cost costs.now) store.now nodes.now making.new) }
     ensures work { OnOk result (work_left making.new ≤ work_left making.old) }
     ensures err { IfErr result (MayRefuse F.refuses) }
 {
@@ -160,10 +160,10 @@ fn take_turn<L: Language, F: CostFunction<L>>(
 }
 
 // The row whose turn it is enters, or is passed over where its class has a cost. Answers whether there was one.
-fn step<L: Language, F: CostFunction<L>>(
-    making: &mut Making<L, F::Cost>,
+fn step<'a, L: Language, F: CostFunction<L>>(
+    making: &mut Making<'a, L, F::Cost>,
     store: &Store<L>,
-    nodes: &Hashcons<L>,
+    nodes: &'a Hashcons<L>,
     users: &Usages,
     alloc: Global,
     costs: &F,
@@ -171,8 +171,8 @@ fn step<L: Language, F: CostFunction<L>>(
     requires good { HasFinds store.now }
     requires count { length nodes.now.filed ≡ length store.now.classes }
     requires users { AreUsers nodes.now.filed users.now }
-    requires made { IsMadeSoFar L.form F.Cost.cmp (F.node_cost costs.now) store.now nodes.now making.old }
-    ensures ok { OnOk result (IsMadeSoFar L.form F.Cost.cmp (F.node_cost costs.now) store.now nodes.now making.new) }
+    requires made { IsMadeSoFar L.form L.cmp F.Cost.cmp (F.node_cost costs.now) store.now nodes.now making.old }
+    ensures ok { OnOk result (IsMadeSoFar L.form L.cmp F.Cost.cmp (F.node_cost costs.now) store.now nodes.now making.new) }
     ensures more { IfOk result (λ more. more ≡ true → work_left making.new < work_left making.old) }
     ensures end { IfOk result
         (λ more. more ≡ false → IsDone L.form F.Cost.cmp (F.node_cost costs.now) store.now nodes.now making.new) }
@@ -205,6 +205,9 @@ pub fn make_table<L: Language, F: CostFunction<L>>(
     ensures fits { AtRest (table_state store.now nodes.now)
         → IfOk result (λ t. Fits F.Cost (table_state store.now nodes.now)
         (costs_by F.Cost.cmp (F.node_cost costs.now)) (table_of L.form t.entries.items)) }
+    ensures ties { IfOk result (λ t. HasTiesBroken (table_state store.now nodes.now)
+        (costs_by F.Cost.cmp (F.node_cost costs.now)) (comes_first L.form L.cmp nodes.now.filed)
+        (table_of L.form t.entries.items)) }
     ensures filed { IfOk result (λ t. All (IsFiledAs L.form nodes.now.filed) t.entries.items) }
     ensures err { IfErr result (MayRefuse F.refuses) }
 {

@@ -1,12 +1,13 @@
 // What rows cost by the costs of their children.
-ghost use Rattle.std.specs.Prelude.{◌≡◌, map, option_map, IfOk, IfErr, OnOk};
+ghost use Rattle.std.specs.Prelude.{◌≡◌, ◌↔◌, All, None, true, map, option_map, IsTrue, IfOk, IfErr, IfSome, IfNone, OnOk};
+ghost use Rattle.std.specs.Ordering.{is_lt};
 ghost use Rattle.std.specs.BinaryHeap.{heap_items, KeepsHeap};
 ghost use Rattle.slotted_slots.specs.Error.{IsOutOfMemory};
 ghost use Rattle.slotted_model.specs.Extraction.{costs_in};
 ghost use Rattle.slotted_filing.specs.FiledRows.{key_children};
 ghost use Rattle.slotted_costs.specs.Costs.{costs_by, MayRefuse};
 ghost use Rattle.slotted_costs.specs.Entries.{table_of};
-ghost use Rattle.slotted_costs.specs.Prices.{candidate_cmp, filed_cost, Pushes};
+ghost use Rattle.slotted_costs.specs.Prices.{candidate_cmp, filed_cost, IsCandidateFor, Pushes};
 
 use crate::candidate::Candidate;
 use crate::cost::CostFunction;
@@ -54,48 +55,60 @@ fn child_costs<L: Language, F: CostFunction<L>>(
     class_costs(table, costs, alloc, &ids)
 }
 
-// What the filed node of a source costs, if there is one all of whose children have a cost.
-pub fn price<L: Language, F: CostFunction<L>>(
-    nodes: &Hashcons<L>,
+// Whether each of these costs is less than this one.
+fn are_less<C: Ord>(each: &[C], cost: &C) -> bool
+    ensures { IsTrue result ↔ All (λ x. is_lt (C.cmp x cost.now) ≡ true) each.now }
+{
+    each.iter().all(|x| x < cost)
+}
+
+// The filed node of a source as a candidate, if there is one all of whose children have a cost.
+fn candidate<'a, L: Language, F: CostFunction<L>>(
+    nodes: &'a Hashcons<L>,
     table: &CostTable<L, F::Cost>,
     costs: &F,
     alloc: Global,
     source: usize,
-) -> Result<Option<F::Cost>, Error>
-    ensures ok { IfOk result (λ o. o ≡ filed_cost (costs_by F.Cost.cmp (F.node_cost costs.now))
-        (table_of L.form table.now.entries.items) nodes.now.filed source) }
+) -> Result<Option<Candidate<'a, L, F::Cost>>, Error>
+    ensures some { IfOk result (λ o. IfSome o (IsCandidateFor L.form (costs_by F.Cost.cmp (F.node_cost costs.now))
+        (table_of L.form table.now.entries.items) nodes.now.filed source)) }
+    ensures none { IfOk result (λ o. IfNone o (filed_cost (costs_by F.Cost.cmp (F.node_cost costs.now))
+        (table_of L.form table.now.entries.items) nodes.now.filed source ≡ None)) }
     ensures err { IfErr result (MayRefuse F.refuses) }
 {
-    let Some((node, _)) = nodes.node(source) else {
+    let Some((key, _)) = nodes.node(source) else {
         return Ok(None);
     };
-    let Some(each) = child_costs(table, costs, alloc, node)? else {
+    let Some(each) = child_costs(table, costs, alloc, key)? else {
         return Ok(None);
     };
-    Ok(Some(costs.cost(alloc, node, &each)?))
+    let cost = costs.cost(alloc, key, &each)?;
+    let over_cheaper = are_less(&each, &cost);
+    Ok(Some(Candidate {
+        cost: Reverse(cost),
+        over_cheaper,
+        key: Reverse(key),
+        source: Reverse(source),
+    }))
 }
 
 // The filed node of a source waits for its turn, if all of its children have a cost.
-pub fn push_row<L: Language, F: CostFunction<L>>(
-    nodes: &Hashcons<L>,
+pub fn push_row<'a, L: Language, F: CostFunction<L>>(
+    nodes: &'a Hashcons<L>,
     table: &CostTable<L, F::Cost>,
     costs: &F,
     alloc: Global,
     source: usize,
-    queue: &mut BinaryHeap<Candidate<F::Cost>>,
+    queue: &mut BinaryHeap<Candidate<'a, L, F::Cost>>,
 ) -> Result<(), Error>
-    ensures ok { OnOk result (Pushes source
-        (filed_cost (costs_by F.Cost.cmp (F.node_cost costs.now)) (table_of L.form table.now.entries.items)
-        nodes.now.filed source)
-        (heap_items queue.old) (heap_items queue.new)) }
-    ensures heap { OnOk result (KeepsHeap (candidate_cmp F.Cost.cmp) (heap_items queue.old) (heap_items queue.new)) }
+    ensures ok { OnOk result (Pushes L.form (costs_by F.Cost.cmp (F.node_cost costs.now))
+        (table_of L.form table.now.entries.items) nodes.now.filed source (heap_items queue.old) (heap_items queue.new)) }
+    ensures heap { OnOk result
+        (KeepsHeap (candidate_cmp L.cmp F.Cost.cmp) (heap_items queue.old) (heap_items queue.new)) }
     ensures err { IfErr result (MayRefuse F.refuses) }
 {
-    if let Some(cost) = price(nodes, table, costs, alloc, source)? {
-        queue.push(Candidate {
-            cost: Reverse(cost),
-            source: Reverse(source),
-        })?;
+    if let Some(next) = candidate(nodes, table, costs, alloc, source)? {
+        queue.push(next)?;
     }
     Ok(())
 }

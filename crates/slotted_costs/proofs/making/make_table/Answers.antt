@@ -20,3 +20,6 @@ returns-clause-fits g c rest =
     let t = returns-clause-ok g c in
     finished-fits (table_state c.args.store.now c.args.nodes.now) (costs_by g.F.Cost.Ord.cmp (g.F.CostFunction.node_cost c.args.costs.now))
     (table_of g.L.LanguageChildren.form c.step.new.making.table.entries.items) rest t.lawful t.least_first t.finished
+
+pub returns-clause-ties : goal.returns-clause-ties
+returns-clause-ties g c = c.in_ok-step.ensures.ok.making.ties
