@@ -71,7 +71,7 @@ module _ {L C : Type 0} (form : L → Form) (k : Kept) (r : Rows) (well : IsWell
               below-some e.rank (entry_at v d) h.entry (ap (entry_at v) (sym b.0.class) ∙ h.there) (omega (arith, b.1, p.term.rank, h.term.rank)),
         )
 
-    is-entry : (c : ℕ) (e : TermEntry L C) → entry_at v c ≡ Some e → IsEntryOf form k r (table_of form es) c e
+    pub is-entry : (c : ℕ) (e : TermEntry L C) → entry_at v c ≡ Some e → IsEntryOf form k r (table_of form es) c e
     is-entry c e at =
         let p : IsPlaced k es 0 c e = placed.from c e at in
         let key : p.entry.node ≡ e.node = sym p.term.node in
@@ -84,7 +84,7 @@ module _ {L C : Type 0} (form : L → Form) (k : Kept) (r : Rows) (well : IsWell
           entered = subst (Contains (table_of form es)) (λ i. record { class = p.class i; cost = sym p.term.cost i; row = row_of_entry (form (key i), (p.entry.source, p.entry.names)) }) (entry-there form es [] p.place p.entry p.there);
         }
 
-    same-cost : (c : ℕ) → cost_in (table_of form es) c ≡ option_map (λ (e : TermEntry L C). e.cost) (entry_at v c)
+    pub same-cost : (c : ℕ) → cost_in (table_of form es) c ≡ option_map (λ (e : TermEntry L C). e.cost) (entry_at v c)
     same-cost c = by_case (entry_at v c) refl
       where
         by_case : (o : Option (TermEntry L C)) → entry_at v c ≡ o → cost_in (table_of form es) c ≡ option_map (λ (e : TermEntry L C). e.cost) o

@@ -11,4 +11,5 @@ pub mod RowsOfNodes
 pub mod MadeTerms
 pub mod ExtractedTerms
 pub mod LeastTables
+pub mod ChosenNodes
 pub mod EntryForms

@@ -1,5 +1,5 @@
 -- Names of an id that are handed on, nodes whose binders are refreshed, and the slots that both take.
-use Rattle.std.proofs.Common.{◌≡◌, ◌<◌, ◌≤◌, ◌+◌, ◌*◌, ◌∙◌, ℕ, List, [], ◌++◌, length, ap, refl, sym, subst, inl, inr, arith}
+use Rattle.std.proofs.Common.{◌≡◌, ◌<◌, ◌≤◌, ◌+◌, ◌*◌, ◌∙◌, ℕ, List, [], ◌++◌, length, ap, refl, sym, inl, inr, arith}
 use Rattle.std.specs.Prelude.{IsTrue}
 use Rattle.std.proofs.lemmas.List.Elements.{All-append, All-nil}
 use Rattle.slotted_theory.specs.Nameless.{DArgs, DTerm, lift, moved_args, place, scope, stop, sub}

@@ -2,4 +2,5 @@
 pub mod Terms
 pub mod Placing
 pub mod Least
+pub mod Chosen
 pub mod Frames

@@ -3,7 +3,11 @@ ghost use Rattle.std.specs.Prelude.{◌≡◌, ◌<◌, ℕ, All, length, option
 ghost use Rattle.slotted_slots.specs.Error.{IsOutOfMemory};
 ghost use Rattle.slotted_costs.specs.Costs.{costs_by, MayRefuse};
 ghost use Rattle.slotted_core.specs.Good.{Good, RestsWith};
+ghost use Rattle.slotted_model.specs.Find.{find_class};
 ghost use Rattle.slotted_store.specs.Finding.{HasFinds};
+ghost use Rattle.slotted_store.specs.Kept.{entries_of};
+ghost use Rattle.slotted_filing.specs.FiledRows.{rows_in};
+ghost use Rattle.slotted_extraction.specs.Chosen.{AreChosen};
 ghost use Rattle.slotted_extraction.specs.Terms.{IsOrdered, entry_at};
 ghost use Rattle.slotted_extraction.specs.Least.{AreLeast};
 ghost use Rattle.slotted_extraction.specs.Placing.{ArePlaced, ClassesDiffer, IsTermFor, IsWithin};
@@ -109,6 +113,11 @@ pub fn least_terms<L: Language, F: CostFunction<L>>(
     requires rests { RestsWith store.now nodes.now }
     ensures ok { IfOk result (λ t. AreLeast L.form store.now nodes.now
         (costs_by F.Cost.cmp (F.node_cost costs.now)) t.entries.items) }
+
+    // Where several nodes of a class cost the least, the entry has the one that the order of the language says.
+    ensures chosen { IfOk result (λ t. AreChosen L.form L.cmp (costs_by F.Cost.cmp (F.node_cost costs.now))
+        (find_class (entries_of store.now)) (rows_in nodes.now.filed) t.entries.items) }
+
     ensures err { IfErr result (MayRefuse F.refuses) }
 {
     let table = make_table(store, nodes, alloc, costs)?;
