@@ -1,7 +1,9 @@
 -- What a valid id finds has an entry, in the graph of which the entries are.
 use Rattle.std.proofs.Common.{◌≡◌, ◌∙◌, List, Option, Some, Result, Ok, Err, false, ap, sym, inl, inr}
-use Rattle.std.specs.Prelude.{◌⊎◌, IfErr, IsErrOf, IsTrue}
+use Rattle.std.specs.Prelude.{◌⊎◌, IfErr, IfOk, IsErrOf, IsTrue}
 use Rattle.std.proofs.lemmas.Bool.{false≢true}
+use Rattle.std.specs.declared.cmp.Ordering.{Ordering}
+use Rattle.slotted_theory.specs.Term.{Term}
 use Rattle.slotted_slots.specs.Error.{IsShortage}
 use Rattle.slotted_slots.specs.declared.error.Error.{Error}
 use Rattle.slotted_slots.specs.declared.error.Error.TheVariants.{Failed, UnknownClass}
@@ -21,7 +23,7 @@ use Rattle.slotted_graph.proofs.Images.{class_found-is}
 use Rattle.slotted_graph.proofs.ValidIds.{findable-within, of-valid}
 use Rattle.slotted_graph.specs.Terms.{entry_at}
 use Rattle.slotted_graph.specs.LeastTerms.{TermEntry}
-use Rattle.slotted_graph.specs.LeastTerms.{AreLeastOf, LacksEntry}
+use Rattle.slotted_graph.specs.LeastTerms.{AreChosenOf, AreLeastOf, IsExtracted, IsLeastTerm, IsMadeOf, IsOfChosen, LacksEntry}
 
 module _ {L C : Type 0} (form : L → Form) (g : Graph) (costs : CostFunction C) (es : List (Option (TermEntry L C))) (of : AreLeastOf form g costs es) (a : Applied) (valid : IsValidId g a) where
   pub found-entry : (e : TermEntry L C) × (entry_at es (class_found g.image a.0) ≡ Some e)
@@ -39,6 +41,12 @@ module _ {L C : Type 0} (form : L → Form) (g : Graph) (costs : CostFunction C)
 
   pub lacks-none : ¬ LacksEntry g es a
   lacks-none none = None-Some found-entry.0 (sym none ∙ found-entry.1)
+
+-- what is made of entries of least cost, each of which is of the chosen node, is so
+module _ {L C : Type 0} (form : L → Form) (order : L → L → Ordering) (g : Graph) (costs : CostFunction C) (es : List (Option (TermEntry L C))) (of : AreLeastOf form g costs es) (chosen : AreChosenOf form order g costs es) (a : Applied) where
+  pub least-chosen : (r : Result Term Error) → IfOk r (IsExtracted form g es a) → IfOk r (IsMadeOf form g es a) → IfOk r (λ t. IsLeastTerm g costs a t × IsOfChosen form order g costs a t)
+  least-chosen (Ok t) e m = ((e costs of).0, record { entries = es; least = of; chosen = chosen; made = m })
+  least-chosen (Err x) e m = tt
 
 -- what is never refused with `UnknownClass`
 pub without-unknown : {A : Type 0} (Q : Error → Type 0) (r : Result A Error) → ((e : Error) → IsShortage e → Q e) → IfErr r (λ e. (e ≡ Failed) ⊎ ((e ≡ UnknownClass) ⊎ IsShortage e)) → ¬ IsErrOf r UnknownClass →

@@ -10,9 +10,9 @@ ghost use Rattle.slotted_proofs.specs.Equations.{to_applied};
 ghost use Rattle.slotted_graph.specs.Graph.{OnlyTakesSlots};
 ghost use Rattle.slotted_graph.specs.ValidIds.{IsValidId};
 ghost use Rattle.slotted_graph.specs.Terms.{IsFreshTerm, entry_at};
-ghost use Rattle.slotted_graph.specs.LeastTerms.{AreLeastOf, HasEachLiveClass, IsExtracted, IsLeastTerm, LacksEntry};
-ghost use Rattle.slotted_graph.specs.LeastTerms.{MakesForExtracted, MakesForLeast, RunsOutForExtracted};
-ghost use Rattle.slotted_graph.specs.LeastTerms.{RunsOutForLeast};
+ghost use Rattle.slotted_graph.specs.LeastTerms.{AreChosenOf, AreLeastOf, HasEachLiveClass, IsExtracted, IsLeastTerm};
+ghost use Rattle.slotted_graph.specs.LeastTerms.{IsMadeOf, IsOfChosen, LacksEntry, MakesForExtracted, MakesForLeast};
+ghost use Rattle.slotted_graph.specs.LeastTerms.{RunsOutForExtracted, RunsOutForLeast};
 
 use slotted_costs::{AstSize, CostFunction};
 use slotted_graph::{EGraph, LeastTerms};
@@ -21,7 +21,8 @@ use slotted_slots::{AppliedId, Error};
 use slotted_terms::expr::RecExpr;
 use std::alloc::Global;
 
-/// For each class of a graph its least cost, and a node that has it. It speaks of the graph as it was when it was made.
+/// For each class of a graph its least cost, and a node that has it: of several ones the one with the least shape by `Ord`, of those whose
+/// children all cost less, if there are any. It speaks of the graph as it was when it was made.
 #[derive(Drop)]
 pub struct Extractor<L: Language, CF: CostFunction<L>> {
     pub costs: CF,
@@ -36,6 +37,11 @@ impl<L: Language, CF: CostFunction<L>> Extractor<L, CF> {
         ensures least { IfOk result (λ x. AreLeastOf L.form eg.old
             (costs_by CF.Cost.cmp (CF.node_cost costs)) x.terms.entries.items) }
         ensures each { IfOk result (λ x. HasEachLiveClass eg.old x.terms.entries.items) }
+
+        // Of several filed nodes that cost the least, over children that all cost less, it is the first by the order of the language.
+        ensures chosen { IfOk result (λ x. AreChosenOf L.form L.cmp eg.old
+            (costs_by CF.Cost.cmp (CF.node_cost costs)) x.terms.entries.items) }
+
         ensures same { eg.new ≡ eg.old }
         ensures failed { IsErrOf result Error.Failed ↔ IsTrue eg.old.failed }
         ensures only { IfErr result (λ e. (e ≡ Error.Failed) ⊎ MayRefuse CF.refuses e) }
@@ -58,6 +64,10 @@ impl<L: Language, CF: CostFunction<L>> Extractor<L, CF> {
     ) -> Result<RecExpr<L>, Error>
         requires { IsTrue eg.old.failed ⊎ IsValidId eg.old (to_applied i.now) }
         ensures least { IfOk result (IsExtracted L.form eg.old self.now.terms.entries.items (to_applied i.now)) }
+
+        // At each class the term has the operator, the payloads and the children of the node that the extractor has.
+        ensures made { IfOk result (IsMadeOf L.form eg.old self.now.terms.entries.items (to_applied i.now)) }
+
         ensures valid { IfOk result (λ t. IsValidTerm eg.new.table t) }
 
         // Each name that stands in the term is one of the id's, or was unknown, and so was each binder.
@@ -102,7 +112,8 @@ pub fn extract<L: Language, N: Drop, CF: CostFunction<L> + Default>(
 ) -> Result<RecExpr<L>, Error>
     requires { IsTrue eg.old.failed ⊎ IsValidId eg.old (to_applied i.now) }
     ensures least { IfOk result (λ t. (k : CF) × CF.is_default k
-        × IsLeastTerm eg.old (costs_by CF.Cost.cmp (CF.node_cost k)) (to_applied i.now) t) }
+        × IsLeastTerm eg.old (costs_by CF.Cost.cmp (CF.node_cost k)) (to_applied i.now) t
+        × IsOfChosen L.form L.cmp eg.old (costs_by CF.Cost.cmp (CF.node_cost k)) (to_applied i.now) t) }
     ensures valid { IfOk result (λ t. IsValidTerm eg.new.table t) }
     ensures fresh { IfOk result (IsFreshTerm eg.old.table (values i.now.m)) }
     ensures takes { OnlyTakesSlots eg.old eg.new }
@@ -126,6 +137,7 @@ pub fn ast_size_extract<L: Language, N: Drop>(
 ) -> Result<RecExpr<L>, Error>
     requires { IsTrue eg.old.failed ⊎ IsValidId eg.old (to_applied i.now) }
     ensures least { IfOk result (IsLeastTerm eg.old (costs_by nat_cmp size_cost) (to_applied i.now)) }
+    ensures chosen { IfOk result (IsOfChosen L.form L.cmp eg.old (costs_by nat_cmp size_cost) (to_applied i.now)) }
     ensures valid { IfOk result (λ t. IsValidTerm eg.new.table t) }
     ensures fresh { IfOk result (IsFreshTerm eg.old.table (values i.now.m)) }
     ensures takes { OnlyTakesSlots eg.old eg.new }

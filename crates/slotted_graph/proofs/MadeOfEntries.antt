@@ -1,5 +1,6 @@
 -- What is made of entries of least cost, as callers of the graph see it.
-use Rattle.std.proofs.Common.{◌≡◌, ◌<◌, ◌∙◌, List, [], Option, Some, Bool, length, ap, refl, sym, subst, arith}
+use Rattle.std.proofs.Common.{◌≡◌, ◌<◌, ◌∙◌, ℕ, List, [], Option, Some, Bool, length, ap, refl, sym, subst, arith}
+use Rattle.std.specs.declared.cmp.Ordering.{Ordering}
 use Rattle.slotted_theory.specs.Nameless.{nameless}
 use Rattle.slotted_theory.specs.Term.{Term}
 use Rattle.slotted_slots.specs.Table.{Table}
@@ -9,7 +10,7 @@ use Rattle.slotted_model.specs.Classes.{IsFull}
 use Rattle.slotted_model.specs.Cost.{CostFunction}
 use Rattle.slotted_model.specs.Find.{IsLive, find, find_class}
 use Rattle.slotted_model.specs.Rest.{AtRest}
-use Rattle.slotted_model.specs.State.{State, look_up_tree}
+use Rattle.slotted_model.specs.State.{Row, State, look_up_tree}
 use Rattle.slotted_model.proofs.NormalIds.{found-again, found-valid}
 use Rattle.slotted_model.proofs.Finding.{found-live, leads}
 use Rattle.slotted_model.proofs.Options.{option_map-some}
@@ -30,11 +31,12 @@ use Rattle.slotted_core.proofs.Images.{class_found-is, found_id-is}
 use Rattle.slotted_core.proofs.LookUps.{tree-is}
 use Rattle.slotted_core.proofs.Resting.{at-rest}
 use Rattle.slotted_core.proofs.ValidIds.{fills-filling, findable-within, of-valid}
+use Rattle.slotted_extraction.specs.Chosen.{AreChosen, IsChoice}
 use Rattle.slotted_extraction.specs.Least.{AreLeast}
 use Rattle.slotted_extraction.specs.Terms.{IsMade, entry_at}
 use Rattle.slotted_extraction.specs.declared.entry.TermEntry.{TermEntry}
 use Rattle.slotted_extraction.proofs.ExtractedTerms.{made-cost, made-equal, made-least, made-least_equal, made-least_term, made-looked_up}
-use Rattle.slotted_graph.specs.LeastTerms.{CostsAsEntered, HasEachLiveClass, IsEqualTo, IsExtracted, IsFullBeside, IsLeastTerm}
+use Rattle.slotted_graph.specs.LeastTerms.{AreChosenOf, CostsAsEntered, HasEachLiveClass, IsEqualTo, IsExtracted, IsFullBeside, IsLeastTerm}
 
 module _ {L C : Type 0} (form : L → Form) (k : Kept) (r : Rows) (good : Good k) (rests : RestsWith k r) (costs : CostFunction C) (es : List (Option (TermEntry L C)))
     (least : AreLeast form k r costs es) (failed : Bool) (table : Table) where
@@ -112,3 +114,22 @@ made-extracted form l g same es a valid_in valid t made costs of =
       subst (λ h. IsLeastTerm h costs a t) to (seen-least form k r of.good of.rests costs es of.least g.failed g.table a fa t here),
       subst (λ (h : Graph). CostsAsEntered costs es (class_found h.image a.0) t) to (seen-cost form k r of.good of.rests costs es of.least g.failed g.table a fa t here),
     )
+
+module _ {L C : Type 0} (form : L → Form) (order : L → L → Ordering) (k : Kept) (r : Rows) (good : Good k) (rests : RestsWith k r) (costs : CostFunction C) (es : List (Option (TermEntry L C))) where
+  -- the choices that callers see are those of what is kept and filed
+  seen-choice : (c : ℕ) (x : C) (q : Row) → IsChoice costs (class_found (image_of k)) (rows_in r.filed) es c x q → IsChoice costs (find_class (entries_of k)) (rows_in r.filed) es c x q
+  seen-choice c x q h =
+      let row = (at-rest k r good rests).sane.filed.each q h.filed in
+      let within : q.source < length k.classes = let n : length (nodes_of k) ≡ length k.classes = length-nodes_of k in let m : q.source < length (nodes_of k) = row.in_range in omega arith in
+      record {
+        filed = h.filed;
+        class = sym (class_found-is k q.source within) ∙ h.class;
+        each = h.each;
+        costs_are = h.costs_are;
+        least = h.least;
+        cheaper = h.cheaper;
+      }
+
+  pub seen-chosen : AreChosen form order costs (find_class (entries_of k)) (rows_in r.filed) es → (failed : Bool) (table : Table) →
+      AreChosenOf form order (record { failed = failed; table = table; image = image_of k; filed = rows_in r.filed }) costs es
+  seen-chosen chosen failed table c e at q h = chosen c e at q (seen-choice c e.cost q h)

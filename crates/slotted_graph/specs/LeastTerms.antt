@@ -1,5 +1,7 @@
 -- Terms of least cost, for callers of a graph.
 --     AreLeastOf form g costs es      the entries are of least cost in the graph: what is extracted by them costs least
+--     AreChosenOf form order g costs es   where filed nodes of a class cost the least over children that all cost less, its entry is of the first of them by the order of the language
+--     IsOfChosen form order g costs a t   the term is made of the nodes of such entries: each has the operator, the payloads and the children of its class's entry
 --     HasEachLiveClass g es           each live class has an entry
 --     IsEqualTo g a t                 the term is equal to what the id stands for, whatever names are filled in for those that it lacks
 --     IsLeastTerm g costs a t         the term is looked up as what the id finds, is equal to it, and no other that is costs less
@@ -8,6 +10,7 @@
 --     RunsOutForExtracted form es a g h   fewer were left, or the key of an entry has too many places to be numbered
 --     MakesForLeast, RunsOutForLeast      the same for some entries of least cost
 use Rattle.std.specs.Prelude.{◌≡◌, ◌<◌, ℕ, List, Option, None, Some, length}
+use Rattle.std.specs.declared.cmp.Ordering.{Ordering}
 use Rattle.slotted_theory.specs.Derives.{Equal}
 use Rattle.slotted_theory.specs.Nameless.{DTerm, nameless}
 use Rattle.slotted_theory.specs.Term.{Term}
@@ -26,8 +29,9 @@ use Rattle.slotted_core.specs.Graph.{Graph, MakesAtMost}
 use Rattle.slotted_core.specs.Image.{asserted_in, found_id}
 use Rattle.slotted_core.specs.LookUp.{look_up_term}
 use Rattle.slotted_core.specs.ValidIds.{Fills}
+use Rattle.slotted_extraction.specs.Chosen.{AreChosen}
 use Rattle.slotted_extraction.specs.Least.{AreLeast}
-use Rattle.slotted_extraction.specs.Terms.{RunsOutWith, entry_at, slots_for}
+use Rattle.slotted_extraction.specs.Terms.{IsMade, RunsOutWith, entry_at, slots_for}
 pub use Rattle.slotted_extraction.specs.declared.entry.TermEntry.{TermEntry}
 
 pub record AreLeastOf {L C : Type 0} (form : L → Form) (g : Graph) (costs : CostFunction C) (es : List (Option (TermEntry L C))) : Type 0 where
@@ -38,6 +42,19 @@ pub record AreLeastOf {L C : Type 0} (form : L → Form) (g : Graph) (costs : Co
   pub image : image_of kept ≡ g.image
   pub filed : rows_in rows.filed ≡ g.filed
   pub least : AreLeast form kept rows costs es
+
+abbrev pub AreChosenOf : {L C : Type 0} → (L → Form) → (L → L → Ordering) → Graph → CostFunction C → List (Option (TermEntry L C)) → Type 0
+AreChosenOf form order g costs es = AreChosen form order costs (class_found g.image) g.filed es
+
+-- whatever became of the graph since, the term is made of the entries, from that of the class that the id finds on
+abbrev pub IsMadeOf : {L C : Type 0} → (L → Form) → Graph → List (Option (TermEntry L C)) → Applied → Term → Type 0
+IsMadeOf form g es a t = IsMade form es (found_id g.image a) t
+
+pub record IsOfChosen {L C : Type 0} (form : L → Form) (order : L → L → Ordering) (g : Graph) (costs : CostFunction C) (a : Applied) (t : Term) : Type 0 where
+  pub entries : List (Option (TermEntry L C))
+  pub least : AreLeastOf form g costs entries
+  pub chosen : AreChosenOf form order g costs entries
+  pub made : IsMadeOf form g entries a t
 
 -- a class that finds itself
 abbrev pub IsLiveIn : Graph → ℕ → Type 0

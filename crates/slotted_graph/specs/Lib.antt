@@ -23,4 +23,5 @@ pub use Rattle.slotted_core.specs.Leaves
 pub use Rattle.slotted_core.specs.Explaining
 pub use Rattle.slotted_core.specs.Syn
 pub use Rattle.slotted_extraction.specs.Terms
+pub use Rattle.slotted_extraction.specs.Chosen
 pub mod KnownPatterns

@@ -8,7 +8,8 @@ ghost use Rattle.slotted_proofs.specs.Equations.{to_applied};
 ghost use Rattle.slotted_core.specs.Graph.{OnlyTakesSlots};
 ghost use Rattle.slotted_core.specs.ValidIds.{IsValidId};
 ghost use Rattle.slotted_extraction.specs.Terms.{IsFreshTerm};
-ghost use Rattle.slotted_graph.specs.LeastTerms.{AreLeastOf, HasEachLiveClass, IsExtracted, LacksEntry, MakesForExtracted, RunsOutForExtracted};
+ghost use Rattle.slotted_graph.specs.LeastTerms.{AreChosenOf, AreLeastOf, HasEachLiveClass, IsExtracted, IsMadeOf};
+ghost use Rattle.slotted_graph.specs.LeastTerms.{LacksEntry, MakesForExtracted, RunsOutForExtracted};
 
 use super::EGraph;
 use slotted_costs::CostFunction;
@@ -26,6 +27,11 @@ impl<L: Language, N: Drop> EGraph<L, N> {
         ensures least { IfOk result (λ t. AreLeastOf L.form self.now
             (costs_by F.Cost.cmp (F.node_cost costs.now)) t.entries.items) }
         ensures each { IfOk result (λ t. HasEachLiveClass self.now t.entries.items) }
+
+        // Of several filed nodes that cost the least, over children that all cost less, it is the first by the order of the language.
+        ensures chosen { IfOk result (λ t. AreChosenOf L.form L.cmp self.now
+            (costs_by F.Cost.cmp (F.node_cost costs.now)) t.entries.items) }
+
         ensures failed { IsErrOf result Error.Failed ↔ IsTrue self.now.failed }
         ensures only { IfErr result (λ e. (e ≡ Error.Failed) ⊎ MayRefuse F.refuses e) }
     {
@@ -44,6 +50,7 @@ impl<L: Language, N: Drop> EGraph<L, N> {
     ) -> Result<RecExpr<L>, Error>
         requires { IsTrue self.old.failed ⊎ IsValidId self.old (to_applied a.now) }
         ensures least { IfOk result (IsExtracted L.form self.old terms.now.entries.items (to_applied a.now)) }
+        ensures made { IfOk result (IsMadeOf L.form self.old terms.now.entries.items (to_applied a.now)) }
         ensures valid { IfOk result (λ t. IsValidTerm self.new.table t) }
 
         // Each name that stands in the term is one of the id's, or was unknown, and so was each binder.

@@ -1,12 +1,13 @@
 -- Each class that is found has an entry.
 use Rattle.std.proofs.Common.{◌≡◌, ◌∙◌, ap, sym, subst, false, inl, inr}
-use Rattle.std.specs.Prelude.{◌⊎◌}
+use Rattle.std.specs.Prelude.{◌⊎◌, IfOk}
+use Rattle.std.proofs.lemmas.Result.{IfOk-weaker}
 use Rattle.slotted_slots.specs.Error.{IsShortage}
 use Rattle.slotted_costs.specs.Costs.{costs_by, MayRefuse}
 use Rattle.slotted_proofs.specs.Equations.{to_applied}
 use Rattle.slotted_graph.specs.Graph.{Graph}
-use Rattle.slotted_graph.specs.LeastTerms.{LacksEntry, MakesForExtracted, RunsOutForExtracted}
-use Rattle.slotted_extract.proofs.FoundEntries.{lacks-none, valid-unless, without-unknown}
+use Rattle.slotted_graph.specs.LeastTerms.{IsExtracted, IsLeastTerm, IsMadeOf, IsOfChosen, LacksEntry, MakesForExtracted, RunsOutForExtracted}
+use Rattle.slotted_extract.proofs.FoundEntries.{lacks-none, least-chosen, valid-unless, without-unknown}
 use Rattle.slotted_extract.proofs.extractor.extract.Goals as goal
 
 pub returns-clause-only : goal.returns-clause-only
@@ -50,3 +51,15 @@ returns-clause-full g c e =
         runs_out = subst (λ (x : Graph). RunsOutForExtracted form es a x c.extract.new.eg) c.in_ok-extractor.ensures.same (c.extract.ensures.full e);
       },
     )
+
+pub returns-clause-least : goal.returns-clause-least
+returns-clause-least g c =
+    let form = g.L.LanguageChildren.form in
+    let eg = c.args.eg.now in
+    let a = to_applied c.args.i.now in
+    let costs = costs_by g.CF.Cost.Ord.cmp (g.CF.CostFunction.node_cost c.default.result) in
+    let es = c.in_ok-extractor.extractor.terms.entries.items in
+    let same = c.in_ok-extractor.ensures.same in
+    IfOk-weaker c.extract.result (λ t. IsLeastTerm eg costs a t × IsOfChosen form g.L.Ord.cmp eg costs a t) _ (λ t h. (c.default.result, c.default.ensures, h))
+    (least-chosen form g.L.Ord.cmp eg costs es c.in_ok-extractor.ensures.least c.in_ok-extractor.ensures.chosen a c.extract.result
+    (subst (λ (x : Graph). IfOk c.extract.result (IsExtracted form x es a)) same c.extract.ensures.least) (subst (λ (x : Graph). IfOk c.extract.result (IsMadeOf form x es a)) same c.extract.ensures.made))

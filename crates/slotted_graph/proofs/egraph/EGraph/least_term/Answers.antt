@@ -10,10 +10,10 @@ use Rattle.slotted_store.specs.Kept.{entries_of}
 use Rattle.slotted_core.specs.Causes.{class_found}
 use Rattle.slotted_core.specs.Good.{Good, image_of}
 use Rattle.slotted_core.specs.Graph.{Graph, MakesAtMost}
-use Rattle.slotted_core.specs.Image.{Image}
+use Rattle.slotted_core.specs.Image.{Image, found_id}
 use Rattle.slotted_core.specs.ValidIds.{IsValidId}
 use Rattle.slotted_core.proofs.FreshSlots.{fresh_slots-more}
-use Rattle.slotted_core.proofs.Images.{class_found-is}
+use Rattle.slotted_core.proofs.Images.{class_found-is, found_id-is}
 use Rattle.slotted_core.proofs.ValidIds.{findable-within, of-valid}
 use Rattle.slotted_extraction.specs.Terms.{IsFreshTerm, IsMade, RunsOutWith, entry_at, slots_for}
 use Rattle.slotted_graph.specs.LeastTerms.{IsExtracted}
@@ -47,6 +47,20 @@ returns-clause-least l c =
     let valid : IsValidId g a = elim c.requires [ inl h ↦ absurd (false≢true (sym c.if-self.false ∙ (ap (λ (x : Graph). x.failed) c.self.view_is ∙ h))) | inr v ↦ v ] in
     let findable : IsFindable k a = of-valid k good g image a valid in
     IfOk-weaker c.extract.result (IsMade form es (find (entries_of k) a)) (IsExtracted form g es a) (λ t made. made-extracted form k g image es a findable valid t made) c.extract.ensures.made
+
+pub returns-clause-made : goal.returns-clause-made
+returns-clause-made l c =
+    let form = l.L.LanguageChildren.form in
+    let g = c.args.self.now in
+    let k = c.self.inside.store in
+    let a = to_applied c.args.a.now in
+    let es = c.args.terms.now.entries.items in
+    let image : image_of k ≡ g.image = ap (λ (x : Graph). x.image) c.self.view_is in
+    let good : Good k = elim c.self.invariant [ inl h ↦ absurd (false≢true (sym c.if-self.false ∙ h)) | inr h ↦ h.0 ] in
+    let valid : IsValidId g a = elim c.requires [ inl h ↦ absurd (false≢true (sym c.if-self.false ∙ (ap (λ (x : Graph). x.failed) c.self.view_is ∙ h))) | inr v ↦ v ] in
+    let findable : IsFindable k a = of-valid k good g image a valid in
+    let found : find (entries_of k) a ≡ found_id g.image a = sym (found_id-is k a (findable-within k a findable)) ∙ ap (λ (i : Image). found_id i a) image in
+    subst (λ b. IfOk c.extract.result (IsMade form es b)) found c.extract.ensures.made
 
 pub returns-clause-unknown : goal.returns-clause-unknown
 returns-clause-unknown l c =
