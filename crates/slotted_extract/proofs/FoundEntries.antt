@@ -3,7 +3,6 @@ use Rattle.std.proofs.Common.{◌≡◌, ◌∙◌, List, Option, Some, Result, 
 use Rattle.std.specs.Prelude.{◌⊎◌, IfErr, IfOk, IsErrOf, IsTrue}
 use Rattle.std.proofs.lemmas.Bool.{false≢true}
 use Rattle.std.specs.declared.cmp.Ordering.{Ordering}
-use Rattle.slotted_theory.specs.Term.{Term}
 use Rattle.slotted_slots.specs.Error.{IsShortage}
 use Rattle.slotted_slots.specs.declared.error.Error.{Error}
 use Rattle.slotted_slots.specs.declared.error.Error.TheVariants.{Failed, UnknownClass}
@@ -44,7 +43,7 @@ module _ {L C : Type 0} (form : L → Form) (g : Graph) (costs : CostFunction C)
 
 -- what is made of entries of least cost, each of which is of the chosen node, is so
 module _ {L C : Type 0} (form : L → Form) (order : L → L → Ordering) (g : Graph) (costs : CostFunction C) (es : List (Option (TermEntry L C))) (of : AreLeastOf form g costs es) (chosen : AreChosenOf form order g costs es) (a : Applied) where
-  pub least-chosen : (r : Result Term Error) → IfOk r (IsExtracted form g es a) → IfOk r (IsMadeOf form g es a) → IfOk r (λ t. IsLeastTerm g costs a t × IsOfChosen form order g costs a t)
+  pub least-chosen : (r : Result _ Error) → IfOk r (IsExtracted form g es a) → IfOk r (IsMadeOf form g es a) → IfOk r (λ t. IsLeastTerm g costs a t × IsOfChosen form order g costs a t)
   least-chosen (Ok t) e m = ((e costs of).0, record { entries = es; least = of; chosen = chosen; made = m })
   least-chosen (Err x) e m = tt
 

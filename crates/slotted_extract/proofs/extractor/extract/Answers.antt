@@ -60,6 +60,6 @@ returns-clause-least g c =
     let costs = costs_by g.CF.Cost.Ord.cmp (g.CF.CostFunction.node_cost c.default.result) in
     let es = c.in_ok-extractor.extractor.terms.entries.items in
     let same = c.in_ok-extractor.ensures.same in
-    IfOk-weaker c.extract.result (λ t. IsLeastTerm eg costs a t × IsOfChosen form g.L.Ord.cmp eg costs a t) _ (λ t h. (c.default.result, c.default.ensures, h))
+    IfOk-weaker c.extract.result (λ t. IsLeastTerm eg costs a t × IsOfChosen form g.L.Ord.cmp eg costs a t) _ (λ t h. (c.default.result, c.default.ensures, h.0, h.1))
     (least-chosen form g.L.Ord.cmp eg costs es c.in_ok-extractor.ensures.least c.in_ok-extractor.ensures.chosen a c.extract.result
     (subst (λ (x : Graph). IfOk c.extract.result (IsExtracted form x es a)) same c.extract.ensures.least) (subst (λ (x : Graph). IfOk c.extract.result (IsMadeOf form x es a)) same c.extract.ensures.made))
