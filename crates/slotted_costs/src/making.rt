@@ -51,7 +51,9 @@ fn start<'a, L: Language, F: CostFunction<L>>(
     let lacking = child_counts(nodes, alloc)?;
     let mut queue = BinaryHeap::new(alloc);
     for source in 0..nodes.class_count() {
-        push_row(nodes, &table, costs, alloc, source, &mut queue)?;
+        if lacking[source] == 0 {
+            push_row(nodes, &table, costs, alloc, source, &mut queue)?;
+        }
     }
     Ok(Making {
         table,
