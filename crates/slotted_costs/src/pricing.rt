@@ -14,31 +14,10 @@ use crate::cost::CostFunction;
 use crate::table::CostTable;
 use slotted_filing::Hashcons;
 use slotted_languages::Language;
-use slotted_slots::{Error, Id};
+use slotted_slots::Error;
 use std::alloc::Global;
 use std::cmp::Reverse;
 use std::collections::BinaryHeap;
-
-// The costs of these classes, if all of them have one.
-fn class_costs<L: Language, F: CostFunction<L>>(
-    table: &CostTable<L, F::Cost>,
-    costs: &F,
-    alloc: Global,
-    classes: &[Id],
-) -> Result<Option<Vec<F::Cost>>, Error>
-    ensures ok { IfOk result (λ o. option_map (λ v. v.items) o
-        ≡ costs_in (table_of L.form table.now.entries.items) (map (λ i. i.0) classes.now)) }
-    ensures err { IfErr result IsOutOfMemory }
-{
-    let mut each = Vec::new(alloc);
-    for id in classes {
-        match table.get(id.0) {
-            Some(entry) => each.push(costs.copy(alloc, &entry.cost)?)?,
-            None => return Ok(None),
-        }
-    }
-    Ok(Some(each))
-}
 
 // The costs of the children of a node, if all of them have one.
 fn child_costs<L: Language, F: CostFunction<L>>(
@@ -51,8 +30,14 @@ fn child_costs<L: Language, F: CostFunction<L>>(
         ≡ costs_in (table_of L.form table.now.entries.items) (key_children (L.form node.now))) }
     ensures err { IfErr result IsOutOfMemory }
 {
-    let ids = node.ids(alloc)?;
-    class_costs(table, costs, alloc, &ids)
+    let mut each = Vec::new(alloc);
+    for k in 0..node.applied_id_count() {
+        match table.get(node.applied_id(k).id.0) {
+            Some(entry) => each.push(costs.copy(alloc, &entry.cost)?)?,
+            None => return Ok(None),
+        }
+    }
+    Ok(Some(each))
 }
 
 // Whether each of these costs is less than this one.
