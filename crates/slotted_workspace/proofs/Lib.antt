@@ -1,0 +1,10 @@
+-- What a workspace keeps, and what its calls say of the terms that handles stand for.
+pub mod Places
+pub mod Staying
+pub mod Saying
+pub mod Readings
+pub mod Rules
+pub mod Explanations
+pub mod Extractions
+pub mod Runs
+pub mod Methods

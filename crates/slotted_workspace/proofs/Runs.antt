@@ -1,0 +1,50 @@
+-- What a run over a graph says of the graph before and after.
+use Rattle.std.proofs.Common.{◌≡◌, ◌⊎◌, ◌↔◌, ◌∙◌, ℕ, List, Result, Ok, Err, IfOk, IsErrOf, ap, refl, sym, inl, inr}
+use Rattle.std.specs.Prelude.{Bool, true, false, IsErrAnd, IsTrue, OnErr, String}
+use Rattle.std.specs.declared.alloc.Global.{Global}
+use Rattle.std.proofs.lemmas.Bool.{false≢true}
+use Rattle.slotted_slots.specs.declared.error.Error.{Error}
+use Rattle.slotted_slots.specs.declared.error.Error.TheVariants.{Failed}
+use Rattle.slotted_slots.specs.Error.{IsShortage}
+use Rattle.slotted_nodes.specs.Form.{Form}
+use Rattle.slotted_languages.proofs.HandedOn.{error_or}
+use Rattle.slotted_core.specs.Graph.{Graph}
+use Rattle.slotted_graph.specs.Extension.{ExtendsTo}
+use Rattle.slotted_rules.specs.declared.condition_tree.CondTree.{CondTree}
+use Rattle.slotted_rules.specs.declared.rewrite.Rewrite.{Rewrite}
+use Rattle.slotted_runs.specs.Eqsat.{HasEqsatReported, HasRefusedEqsat}
+use Rattle.slotted_runs.specs.Turning.{Calls, RulesOnce}
+use Rattle.slotted_runs.specs.declared.report.Report.{Report}
+use Rattle.slotted_commands.proofs.Steps.{not_true, sound_graph}
+use Rattle.slotted_workspace.specs.Runs.{RunAnswers, RunRefused, TellsZero, applies_by, endless, leaves_by, searches_by}
+use Rattle.slotted_workspace.specs.declared.running.NoClock.{NoClock}
+use Rattle.slotted_workspace.specs.declared.running.NodeLimit.{NodeLimit}
+
+module _ {L : Type 0} (form : L → Form) (rules : List (Rewrite L CondTree)) (turns : ℕ) (hook last : NodeLimit) (clock later : NoClock) (g h : Graph) (extends : IsTrue h.failed ⊎ ExtendsTo g h) (stays : IsTrue g.failed → h ≡ g) where
+  abbrev Reported : Report (String Global) → Type 0
+  Reported r = HasEqsatReported TellsZero (RulesOnce (searches_by form) (applies_by form) rules) (Calls leaves_by) turns endless (g, hook) clock (h, last) later r
+
+  abbrev Broken : Type 0
+  Broken = HasRefusedEqsat TellsZero (RulesOnce (searches_by form) (applies_by form) rules) (Calls leaves_by) turns endless (g, hook) clock (h, last) later
+
+  pub run-answers : (o : Result (Report (String Global)) Error) → IfOk o Reported → OnErr o (IsTrue g.failed ⊎ Broken) → IsErrOf o Failed ↔ IsTrue g.failed → IsTrue h.failed ↔ IsErrAnd o (λ e. (e ≡ Failed) ⊎ IsShortage e) → RunAnswers form rules turns hook.nodes g h o
+  run-answers (Ok r) ok refused failed fails = record {
+    well = sound_graph g.failed (Ok r) r refl failed.1;
+    sound = not_true h.failed (λ f. fails.0 f);
+    extends = elim extends [ inl f ↦ absurd (fails.0 f) | inr e ↦ e ];
+    hook = hook;
+    limit = refl;
+    last = last;
+    clock = clock;
+    later = later;
+    reported = ok;
+  }
+  run-answers (Err e) ok refused failed fails = by g.failed refl
+    where
+      broken : g.failed ≡ false → IsTrue g.failed ⊎ Broken → Broken
+      broken well (inl f) = absurd (false≢true (sym well ∙ f))
+      broken well (inr b) = b
+
+      by : (b : Bool) → g.failed ≡ b → RunRefused form rules turns hook.nodes g h e
+      by true f = inl (f, stays f, ap (error_or Failed) (failed.1 f))
+      by false well = inr (record { well = well; extends = extends; hook = hook; limit = refl; last = last; clock = clock; later = later; refused = broken well refused })

@@ -1,0 +1,182 @@
+-- What calls of a workspace answer, told by the terms that handles stand for.
+--     OfBoth s a b P             P holds of the terms of the handles a and b
+--     FollowsIn g t u            the terms t and u are derivable from any named equations that are the asserted list
+--     Compares g t u y           what `eq` answers of two terms
+--     UnitesTerms g h t u text y a union of two terms, with this text, leads from g to h
+--     UnionRefused g h e         it was refused so
+--     AddsKept, AddRefused       a text was read, and its term was added, or this was refused
+--     ExplainsTerms, ExplainRefused     a printed proof that two terms are equal, or a refusal
+--     ExtractsTerm, ExtractRefused      a printed term of least cost, or a refusal
+--     ReadsRule, RuleRefused     a rule of two texts, or a refusal
+--     ChangesGraph s v           from s to v the graph alone changes
+--     AddsTerm, KeepsRule        the same of a workspace, which keeps the term, or the rule
+--     Refuses, RefusesOne, RefusesBoth    a handle is unknown, and nothing changes; or the graph refused so, and it alone changed
+use Rattle.std.specs.Prelude.{◌≡◌, ◌⊎◌, ◌↔◌, ℕ, List, [], ◌∷◌, ◌++◌, length, map, Bool, false, Option, None, Some, IsTrue, String, string_bytes}
+use Rattle.std.specs.declared.alloc.Global.{Global}
+use Rattle.slotted_slots.specs.declared.error.Error.{Error}
+use Rattle.slotted_slots.specs.declared.error.Error.TheVariants.{OutOfMemory, OutOfSlots, Failed}
+use Rattle.slotted_slots.specs.Error.{IsShortage}
+use Rattle.slotted_slots.specs.Naming.{IsNamingRefusal}
+use Rattle.slotted_slots.specs.Syntax.{Element}
+use Rattle.slotted_theory.specs.Term.{Term}
+use Rattle.slotted_theory.specs.Derives.{Derives, nameless_pair}
+use Rattle.slotted_nodes.specs.Form.{Form}
+use Rattle.slotted_terms.specs.Shown.{term_text}
+use Rattle.slotted_terms.specs.Valid.{IsValidTerm}
+use Rattle.slotted_model.specs.Applied.{Applied}
+use Rattle.slotted_model.specs.Cost.{AtMost}
+use Rattle.slotted_costs.specs.Costs.{cost_of_term}
+use Rattle.slotted_core.specs.Affected.{AreAffected}
+use Rattle.slotted_core.specs.Causes.{HasLargeClassIn}
+use Rattle.slotted_core.specs.Explaining.{HasIds, KeepsClasses}
+use Rattle.slotted_core.specs.Graph.{Graph, OnlyReads, OnlyTakesSlots, id_of_term}
+use Rattle.slotted_core.specs.Image.{Image, FoundAlike, IsUnion, RecordsFilled, asserted_in}
+use Rattle.slotted_graph.specs.Extension.{ExtendsTo}
+use Rattle.slotted_graph.specs.LeastTerms.{IsLeastTerm, MakesForLeast, RunsOutForLeast}
+use Rattle.slotted_explain.specs.Printed.{IsProofText}
+use Rattle.slotted_rules.specs.Written.{AreRead, AreRefused}
+use Rattle.slotted_rules.specs.declared.condition_tree.CondTree.{CondTree}
+use Rattle.slotted_rules.specs.declared.rewrite.Rewrite.{Rewrite}
+use Rattle.slotted_commands.specs.Explained.{ExplanationAnswers, Proves}
+use Rattle.slotted_commands.specs.declared.answer.Answer.TheVariants.{Refused}
+use Rattle.slotted_commands.specs.Extracted.{sizes}
+use Rattle.slotted_commands.specs.Sessions.{GainsSyn, IsRefused, RunsOut, WritesTerm, canonically}
+use Rattle.slotted_workspace.specs.Spaces.{Space, rule_of, term_at}
+use Rattle.slotted_workspace.specs.declared.error.WorkspaceError.{WorkspaceError}
+use Rattle.slotted_workspace.specs.declared.error.WorkspaceError.TheVariants.{UnknownHandle}
+use Rattle.slotted_workspace.specs.declared.error.WorkspaceError.TheVariants as refused
+use Rattle.slotted_workspace.specs.declared.handle.Handle.{Handle}
+
+abbrev pub OfBoth : Space → Handle → Handle → (Term → Term → Type 0) → Type 0
+OfBoth s a b P = (t u : Term) × (term_at s a ≡ Some t) × (term_at s b ≡ Some u) × P t u
+
+abbrev pub OfOne : Space → Handle → (Term → Type 0) → Type 0
+OfOne s a P = (t : Term) × (term_at s a ≡ Some t) × P t
+
+abbrev pub ChangesGraph : Space → Space → Type 0
+ChangesGraph s v = v ≡ record s { graph = v.graph }
+
+abbrev pub RefusesBoth : Space → Space → Handle → Handle → (Term → Term → Error → Type 0) → WorkspaceError → Type 0
+RefusesBoth s v a b P UnknownHandle = ((term_at s a ≡ None) ⊎ (term_at s b ≡ None)) × (v ≡ s)
+RefusesBoth s v a b P (refused.Graph e) = OfBoth s a b (λ t u. P t u e) × ChangesGraph s v
+
+abbrev pub RefusesOne : Space → Space → Handle → (Term → Error → Type 0) → WorkspaceError → Type 0
+RefusesOne s v a P UnknownHandle = (term_at s a ≡ None) × (v ≡ s)
+RefusesOne s v a P (refused.Graph e) = OfOne s a (λ t. P t e) × ChangesGraph s v
+
+abbrev pub Refuses : Space → Space → (Error → Type 0) → WorkspaceError → Type 0
+Refuses s v P UnknownHandle = ⊥
+Refuses s v P (refused.Graph e) = P e × ChangesGraph s v
+
+-- it says so of the graph alone, which had failed before, and stays so
+abbrev pub HadFailed : Graph → Graph → Error → Type 0
+HadFailed g h e = IsTrue g.failed × (h ≡ g) × (e ≡ Failed)
+
+-- a slot was refused, and nothing changes
+abbrev pub NamingRefused : Graph → Graph → Error → Type 0
+NamingRefused g h e = HadFailed g h e ⊎ ((g.failed ≡ false) × (h ≡ g) × IsNamingRefusal e)
+
+abbrev pub FollowsIn : Image → Term → Term → Type 0
+FollowsIn g t u = (E : List (Term × Term)) → map nameless_pair E ≡ asserted_in g → Derives E t u
+
+-- a yes is right, and so is a no, unless open symmetries affect both terms
+pub record Compares (g : Graph) (t u : Term) (y : Bool) : Type 0 where
+  pub well : g.failed ≡ false
+  pub left : Applied
+  pub right : Applied
+  pub ids : HasIds g.image t u left right
+  pub found : IsTrue y ↔ FoundAlike g.image left right
+  pub sound : IsTrue y → FollowsIn g.image t u
+  pub complete : (E : List (Term × Term)) → map nameless_pair E ≡ asserted_in g.image → Derives E t u → IsTrue y ⊎ AreAffected g.image left right
+
+-- from then on the terms are equal by what is asserted
+pub record UnitesTerms (g h : Graph) (t u : Term) (text : Option (List ℕ)) (y : Bool) : Type 0 where
+  pub well : h.failed ≡ false
+  pub left : Applied
+  pub right : Applied
+  pub ids : HasIds g.image t u left right
+  pub union : IsUnion g.image h.image left right y
+  pub records : RecordsFilled g.image h.image left right text
+  pub follows : FollowsIn h.image t u
+  pub extends : ExtendsTo g h
+  pub table : h.table ≡ g.table
+
+-- memory ran out before the union, or it ran out in it
+pub data UnionRefused (g h : Graph) (e : Error) : Type 0 where
+  had_failed : HadFailed g h e → UnionRefused g h e
+  no_text : h ≡ g → e ≡ OutOfMemory → UnionRefused g h e
+  union_ran_out : g.failed ≡ false → IsTrue h.failed → IsShortage e → (e ≡ OutOfSlots → HasLargeClassIn g.image) → UnionRefused g h e
+
+pub record AddsKept (read : List Element → Option Form) (g h : Graph) (text : List ℕ) (t : Term) (id : Applied) : Type 0 where
+  pub well : g.failed ≡ false
+  pub between : Graph
+  pub writes : WritesTerm read g text t between
+  pub gains : GainsSyn between t id h
+
+-- its handle is the next one, and stands for the term from now on
+pub record AddsTerm (read : List Element → Option Form) (s v : Space) (text : List ℕ) (h : Handle) : Type 0 where
+  pub term : Term
+  pub id : Applied
+  pub adds : AddsKept read s.graph v.graph text term id
+  pub handle : h ≡ record { workspace = s.number; index = length s.terms }
+  pub stands : term_at v h ≡ Some term
+  pub rest : v ≡ record s { graph = v.graph; terms = s.terms ++ term ∷ [] }
+
+-- the text was refused, or its term, or the term was added and there was no memory to keep it
+pub data AddRefused (read : List Element → Option Form) (g h : Graph) (text : List ℕ) (e : Error) : Type 0 where
+  had_failed : HadFailed g h e → AddRefused read g h text e
+  text_refused : g.failed ≡ false → IsRefused read g text e h → AddRefused read g h text e
+  term_refused : (t : Term) (between : Graph) → g.failed ≡ false → WritesTerm read g text t between → RunsOut canonically between t e h → AddRefused read g h text e
+  not_kept : (t : Term) (id : Applied) → AddsKept read g h text t id → e ≡ OutOfMemory → AddRefused read g h text e
+
+-- entries of the proof list are all that is new, and the text is that of a proof of one that has the equation of both terms
+pub record ExplainsTerms (written : Term → List Element) (g h : Graph) (t u : Term) (text : String Global) : Type 0 where
+  pub number : ℕ
+  pub between : Graph
+  pub proves : Proves g t u number between
+  pub keeps : KeepsClasses g between
+  pub printed : IsProofText written between h number (string_bytes text)
+  pub takes : OnlyTakesSlots between h
+  pub follows : FollowsIn h.image t u
+
+-- the graph had failed, or it was refused as the command of the line program is
+abbrev pub ExplainRefused : (Term → List Element) → Graph → Graph → Term → Term → Error → Type 0
+ExplainRefused written g h t u e = HadFailed g h e ⊎ ((g.failed ≡ false) × ExplanationAnswers written g t u h (Refused e))
+
+-- the text is that of a term of the fewest nodes, which follows from what is asserted, and has no more nodes than the term itself
+pub record ExtractsTerm {L : Type 0} (form : L → Form) (written : Term → List Element) (g h : Graph) (t : Term) (cost : ℕ) (text : String Global) : Type 0 where
+  pub well : g.failed ≡ false
+  pub id : Applied
+  pub is_id : id_of_term g t ≡ Some id
+  pub term : Term
+  pub least : IsLeastTerm g sizes id term
+  pub size : cost ≡ cost_of_term sizes term
+  pub no_larger : AtMost sizes cost (cost_of_term sizes t)
+  pub follows : FollowsIn g.image t term
+  pub known : IsValidTerm h.table term
+  pub bytes : string_bytes text ≡ term_text written h.table term
+  pub takes : OnlyTakesSlots g h
+  pub count : (h ≡ g) ⊎ MakesForLeast form sizes id g h
+
+pub data ExtractRefused {L : Type 0} (form : L → Form) (g h : Graph) (t : Term) (e : Error) : Type 0 where
+  had_failed : HadFailed g h e → ExtractRefused form g h t e
+  extraction_ran_out : (id : Applied) → g.failed ≡ false → id_of_term g t ≡ Some id → IsShortage e → (e ≡ OutOfSlots → RunsOutForLeast form sizes id g h) → OnlyTakesSlots g h → ExtractRefused form g h t e
+
+pub record ReadsRule {L : Type 0} (form : L → Form) (read : List Element → Option Form) (g h : Graph) (name left right : List ℕ) (condition : CondTree) (r : Rewrite L CondTree) : Type 0 where
+  pub well : g.failed ≡ false
+  pub named : string_bytes r.name ≡ name
+  pub conditioned : r.condition ≡ condition
+  pub are : AreRead form read g.table h.table left right r
+  pub only : OnlyReads g h
+
+-- it comes last
+pub record KeepsRule {L : Type 0} (form : L → Form) (read : List Element → Option Form) (s v : Space) (name left right : List ℕ) (condition : CondTree) : Type 0 where
+  pub rule : Rewrite L CondTree
+  pub reads : ReadsRule form read s.graph v.graph name left right condition rule
+  pub rest : v ≡ record s { graph = v.graph; rules = s.rules ++ rule_of form rule ∷ [] }
+
+-- a text was refused, or a rule of both, or there was no memory to keep it
+pub data RuleRefused {L : Type 0} (form : L → Form) (read : List Element → Option Form) (g h : Graph) (left right : List ℕ) (e : Error) : Type 0 where
+  had_failed : HadFailed g h e → RuleRefused form read g h left right e
+  texts_refused : g.failed ≡ false → AreRefused form read g.table h.table left right e → OnlyReads g h → RuleRefused form read g h left right e
+  not_kept : g.failed ≡ false → OnlyReads g h → e ≡ OutOfMemory → RuleRefused form read g h left right e

@@ -1,0 +1,5 @@
+pub mod PatternCode
+pub mod Spaces
+pub mod Keeping
+pub mod Asked
+pub mod Runs

@@ -1,0 +1,51 @@
+-- What contracts see of a workspace.
+--     WrittenRule        a rule: its name, the trees of both sides, and its condition
+--     rule_of form r     what the rule r is
+--     Space              its number, its graph, its terms in the order in which they were added, and its rules
+--     empty_space n      a workspace with the number n, in which nothing was done
+--     term_at s h        the term that the handle h stands for, if it is one of this workspace
+use Rattle.std.specs.Prelude.{ℕ, List, [], Option, None, false, if◌then◌else◌, nat_eq, refl, slice_get, string_bytes}
+use Rattle.std.specs.Coded.{Coded, code_by, coded×, coded_ℕ, coded_list}
+use Rattle.slotted_slots.specs.Table.{empty_table}
+use Rattle.slotted_theory.specs.Term.{Term, term_code}
+use Rattle.slotted_nodes.specs.Form.{Form}
+use Rattle.slotted_patterns.specs.Tree.{PatternTree}
+use Rattle.slotted_patterns.specs.View.{tree_of}
+use Rattle.slotted_core.specs.Graph.{Graph, graph_code}
+use Rattle.slotted_core.specs.Image.{no_classes}
+use Rattle.slotted_rules.specs.declared.condition_tree.CondTree.{CondTree}
+use Rattle.slotted_rules.specs.contracts.condition_tree.CondTree as condition
+use Rattle.slotted_rules.specs.declared.rewrite.Rewrite.{Rewrite}
+use Rattle.slotted_workspace.specs.PatternCode.{pattern_code}
+use Rattle.slotted_workspace.specs.declared.handle.Handle.{Handle}
+
+pub record WrittenRule : Type 0 where
+  pub name : List ℕ
+  pub left : PatternTree
+  pub right : PatternTree
+  pub condition : CondTree
+
+abbrev pub rule_code : Coded WrittenRule
+rule_code =
+    code_by (List ℕ × (PatternTree × (PatternTree × CondTree))) (coded× (coded_list coded_ℕ) (coded× pattern_code (coded× pattern_code condition.the_row.coded))) (λ r. (r.name, (r.left, (r.right, r.condition))))
+    (λ p. record { name = p.0; left = p.1.0; right = p.1.1.0; condition = p.1.1.1 }) (λ _. refl)
+
+abbrev pub rule_of : {L : Type 0} → (L → Form) → Rewrite L CondTree → WrittenRule
+rule_of form r = record { name = string_bytes r.name; left = tree_of form r.left; right = tree_of form r.right; condition = r.condition }
+
+pub record Space : Type 0 where
+  pub number : ℕ
+  pub graph : Graph
+  pub terms : List Term
+  pub rules : List WrittenRule
+
+abbrev pub space_code : Coded Space
+space_code =
+    code_by (ℕ × (Graph × (List Term × List WrittenRule))) (coded× coded_ℕ (coded× graph_code (coded× (coded_list term_code) (coded_list rule_code)))) (λ s. (s.number, (s.graph, (s.terms, s.rules))))
+    (λ p. record { number = p.0; graph = p.1.0; terms = p.1.1.0; rules = p.1.1.1 }) (λ _. refl)
+
+abbrev pub empty_space : ℕ → Space
+empty_space number = record { number = number; graph = record { failed = false; table = empty_table; image = no_classes; filed = [] }; terms = []; rules = [] }
+
+abbrev pub term_at : Space → Handle → Option Term
+term_at s h = if nat_eq h.workspace s.number then slice_get s.terms h.index else None

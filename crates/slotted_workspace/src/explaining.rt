@@ -1,0 +1,32 @@
+//! Proofs of two terms as texts.
+ghost use Rattle.std.specs.Prelude.{◌≡◌, ◌⊎◌, IfOk, IfErr, IsTrue};
+ghost use Rattle.slotted_graph.specs.Extension.{ExtendsTo};
+ghost use Rattle.slotted_workspace.specs.Asked.{ExplainsTerms, ExplainRefused};
+ghost use Rattle.slotted_workspace.specs.Keeping.{IsKept};
+
+use crate::kept::Kept;
+use slotted_explain::{EGraph, Explanation};
+use slotted_slots::Error;
+use slotted_terms::expr::printing::Printable;
+use std::alloc::Global;
+
+/// The lines of a proof that two kept terms are equal.
+pub(crate) fn explanation<L: Printable>(
+    alloc: Global,
+    graph: &mut EGraph<L>,
+    left: &Kept<L>,
+    right: &Kept<L>,
+) -> Result<String, Error>
+    requires left { IsTrue graph.old.failed ⊎ IsKept graph.old left.now }
+    requires right { IsTrue graph.old.failed ⊎ IsKept graph.old right.now }
+    ensures ok { IfOk result (ExplainsTerms L.written graph.old graph.new left.now.term right.now.term) }
+    ensures err { IfErr result
+        (ExplainRefused L.written graph.old graph.new left.now.term right.now.term) }
+    ensures extends { IsTrue graph.new.failed ⊎ ExtendsTo graph.old graph.new }
+    ensures stays { IsTrue graph.old.failed → graph.new ≡ graph.old }
+{
+    let proof = graph.explain_equivalence(&left.term, &right.term)?;
+    // It is asked for what each graph keeps that has not failed.
+    let _ = graph.is_failed();
+    proof.to_string(alloc, graph)
+}

@@ -1,0 +1,20 @@
+//! A workspace: a graph with its rules and its terms, whose calls need no proof of their caller.
+//!
+//! Terms are named by handles. A handle that is none of the workspace's is refused, and so no call has a condition.
+#![tactic(auto)]
+
+pub mod error;
+pub(crate) mod explaining;
+pub(crate) mod extracting;
+pub mod handle;
+pub(crate) mod kept;
+pub(crate) mod reading;
+pub(crate) mod running;
+pub(crate) mod uniting;
+pub mod workspace;
+
+pub use error::WorkspaceError;
+pub use extracting::Extracted;
+pub use handle::Handle;
+pub use running::Limits;
+pub use workspace::{SymmetryCount, Workspace};

@@ -1,0 +1,246 @@
+//! The workspace.
+ghost use Rattle.std.specs.Prelude.{◌≡◌, ◌⊎◌, ◌++◌, [], ◌∷◌, None, Some, length, IsOk, IfOk, IfErr, IsTrue, OnOk};
+ghost use Rattle.slotted_core.specs.Image.{CountsOpen};
+ghost use Rattle.slotted_core.specs.Graph.{OnlyReads};
+ghost use Rattle.slotted_workspace.specs.Asked.{AddsKept, AddRefused, ChangesGraph, Compares, ExplainsTerms};
+ghost use Rattle.slotted_workspace.specs.Asked.{ExplainRefused, ExtractsTerm, ExtractRefused, HadFailed};
+ghost use Rattle.slotted_workspace.specs.Asked.{OfBoth, OfOne, Refuses, RefusesBoth, RefusesOne, UnitesTerms};
+ghost use Rattle.slotted_slots.specs.Table.{gives, named_of};
+ghost use Rattle.slotted_workspace.specs.Asked.{NamingRefused, UnionRefused, AddsTerm, KeepsRule, RuleRefused};
+ghost use Rattle.slotted_workspace.specs.Runs.{HasRun, OfRules, RunRefused};
+ghost use Rattle.slotted_workspace.specs.Spaces.{empty_space, term_at};
+
+use crate::error::WorkspaceError;
+use crate::explaining::explanation;
+use crate::extracting::{Extracted, smallest};
+use crate::handle::Handle;
+use crate::kept::{Kept, both_at, kept_at};
+use crate::reading::{read_rule, read_term};
+use crate::running::{Limits, run_rules};
+use crate::uniting::{unite, unite_because};
+use slotted_explain::EGraph;
+use slotted_languages::Language;
+use slotted_rules::{CondTree, Rewrite};
+use slotted_runs::Report;
+use slotted_slots::{Slot, SlotTable};
+use slotted_terms::expr::RecExpr;
+use slotted_terms::expr::printing::Printable;
+use std::alloc::Global;
+use std::marker::Model;
+
+/// A graph, its rules, and the terms that were added, each named by a handle.
+///
+/// No call has a condition: a handle of a workspace with another number, or one that is too large, is refused, and nothing changes. Give
+/// workspaces that live beside each other different numbers: a handle of one with the same number stands for this one's own term.
+#[derive(Drop)]
+pub struct Workspace<L: Language> {
+    number: u64,
+    graph: EGraph<L>,
+    kept: Vec<Kept<L>>,
+    rules: Vec<Rewrite<L, CondTree>>,
+    alloc: Global,
+}
+
+impl<L: Language> Model for Workspace<L> {
+    ghost use Rattle.std.specs.Prelude.{map};
+    ghost use Rattle.slotted_workspace.specs.Spaces.{Space, space_code, rule_of};
+    ghost use Rattle.slotted_workspace.specs.Keeping.{IsSane, terms_of};
+
+    ghost Value = { Space };
+
+    ghost coded = { space_code };
+
+    ghost view = { λ w. record { number = w.number; graph = w.graph; terms = terms_of w.kept.items; rules = map (rule_of L.form) w.rules.items } };
+
+    ghost invariant = { λ w. IsSane L.form w.graph w.kept.items w.rules.items };
+}
+
+/// How many symmetries the unions of a workspace met, and how many of them are open.
+#[derive(Clone, Copy, Debug, PartialEq, Eq)]
+pub struct SymmetryCount {
+    pub met: usize,
+    pub open: usize,
+}
+
+impl<L: Language> Workspace<L> {
+    /// Returns the workspace with the number 0, without terms and rules. It takes no memory.
+    pub fn new(alloc: Global) -> Result<Self, WorkspaceError>
+        ensures answers { IsOk result }
+        ensures empty { IfOk result (λ w. w ≡ empty_space 0) }
+    {
+        Self::with_number(alloc, 0)
+    }
+
+    /// Returns a workspace with a number, by which its handles are told from those of others. It takes no memory.
+    pub fn with_number(alloc: Global, number: u64) -> Result<Self, WorkspaceError>
+        ensures answers { IsOk result }
+        ensures empty { IfOk result (λ w. w ≡ empty_space number) }
+    {
+        let graph = EGraph::new(alloc, SlotTable::new(alloc), ())?;
+        Ok(Workspace {
+            number,
+            graph,
+            kept: Vec::new(alloc),
+            rules: Vec::new(alloc),
+            alloc,
+        })
+    }
+
+    /// The graph.
+    pub fn graph(&self) -> &EGraph<L>
+        ensures { result.now ≡ self.now.graph }
+    {
+        &self.graph
+    }
+
+    /// The term that a handle stands for.
+    pub fn term_of(&self, handle: Handle) -> Result<&RecExpr<L>, WorkspaceError>
+        ensures ok { IfOk result (λ t. term_at self.now handle ≡ Some t.now) }
+        ensures err { IfErr result (RefusesOne self.now self.now handle (λ _ _. ⊥)) }
+    {
+        let kept = kept_at(&self.kept, self.number, handle)?;
+        Ok(&kept.term)
+    }
+
+    /// Adds the term of a text, and returns its handle.
+    pub fn add(&mut self, text: &str) -> Result<Handle, WorkspaceError>
+        ensures ok { IfOk result (AddsTerm L.read self.old self.new text.now) }
+        ensures err { IfErr result
+            (Refuses self.old self.new (AddRefused L.read self.old.graph self.new.graph text.now)) }
+    {
+        let index = self.kept.len();
+        let kept = read_term(&mut self.graph, text)?;
+        self.kept.push(kept)?;
+        Ok(Handle {
+            workspace: self.number,
+            index,
+        })
+    }
+
+    /// Whether two terms are equal by what was asserted. A yes is right, and so is a no, unless open symmetries affect both terms.
+    pub fn eq(&self, a: Handle, b: Handle) -> Result<bool, WorkspaceError>
+        ensures ok { IfOk result (λ y. OfBoth self.now a b (λ t u. Compares self.now.graph t u y)) }
+        ensures err { IfErr result
+            (RefusesBoth self.now self.now a b (λ _ _. HadFailed self.now.graph self.now.graph)) }
+    {
+        let (left, right) = both_at(&self.kept, self.number, a, b)?;
+        Ok(self.graph.eq(&left.id, &right.id)?)
+    }
+
+    /// Asserts that two terms are equal. True if they were not found equal.
+    pub fn union(&mut self, a: Handle, b: Handle) -> Result<bool, WorkspaceError>
+        ensures ok { IfOk result (λ y. OfBoth self.old a b
+            (λ t u. UnitesTerms self.old.graph self.new.graph t u None y)) }
+        ensures rest { OnOk result (ChangesGraph self.old self.new) }
+        ensures err { IfErr result (RefusesBoth self.old self.new a b
+            (λ _ _. UnionRefused self.old.graph self.new.graph)) }
+    {
+        let (left, right) = both_at(&self.kept, self.number, a, b)?;
+        Ok(unite(&mut self.graph, left, right, None)?)
+    }
+
+    /// The same, with a text that says why.
+    pub fn union_because(
+        &mut self,
+        a: Handle,
+        b: Handle,
+        text: &str,
+    ) -> Result<bool, WorkspaceError>
+        ensures ok { IfOk result (λ y. OfBoth self.old a b
+            (λ t u. UnitesTerms self.old.graph self.new.graph t u (Some text.now) y)) }
+        ensures rest { OnOk result (ChangesGraph self.old self.new) }
+        ensures err { IfErr result (RefusesBoth self.old self.new a b
+            (λ _ _. UnionRefused self.old.graph self.new.graph)) }
+    {
+        let (left, right) = both_at(&self.kept, self.number, a, b)?;
+        Ok(unite_because(self.alloc, &mut self.graph, left, right, text)?)
+    }
+
+    /// Keeps the rule of a name and two texts: where the left side is found, the right side becomes equal to it.
+    pub fn rule(&mut self, name: &str, left: &str, right: &str) -> Result<(), WorkspaceError>
+        ensures ok { OnOk result
+            (KeepsRule L.form L.read self.old self.new name.now left.now right.now CondTree.Always) }
+        ensures err { IfErr result (Refuses self.old self.new
+            (RuleRefused L.form L.read self.old.graph self.new.graph left.now right.now)) }
+    {
+        self.rule_if(name, left, right, CondTree::Always)
+    }
+
+    /// The same of a rule with a condition.
+    pub fn rule_if(
+        &mut self,
+        name: &str,
+        left: &str,
+        right: &str,
+        condition: CondTree,
+    ) -> Result<(), WorkspaceError>
+        ensures ok { OnOk result
+            (KeepsRule L.form L.read self.old self.new name.now left.now right.now condition) }
+        ensures err { IfErr result (Refuses self.old self.new
+            (RuleRefused L.form L.read self.old.graph self.new.graph left.now right.now)) }
+    {
+        let rule = read_rule(self.alloc, &mut self.graph, name, left, right, condition)?;
+        self.rules.push(rule)?;
+        Ok(())
+    }
+
+    /// The slot of the text after a `$`, for conditions of rules.
+    pub fn slot(&mut self, text: &str) -> Result<Slot, WorkspaceError>
+        ensures ok { IfOk result
+            (λ slot. named_of self.old.graph.table text.now ≡ gives slot self.new.graph.table) }
+        ensures rest { OnOk result (ChangesGraph self.old self.new × OnlyReads self.old.graph self.new.graph) }
+        ensures err { IfErr result (Refuses self.old self.new (NamingRefused self.old.graph self.new.graph)) }
+    {
+        Ok(self.graph.named_slot(text)?)
+    }
+
+    /// Runs all rules, in turns, until none changes the graph or a limit is passed.
+    pub fn run(&mut self, limits: Limits) -> Result<Report, WorkspaceError>
+        ensures ok { IfOk result (λ r. OfRules L.form self.old
+            (λ rules. HasRun L.form rules limits.turns limits.nodes self.old.graph self.new.graph r)) }
+        ensures rest { OnOk result (ChangesGraph self.old self.new) }
+        ensures err { IfErr result (Refuses self.old self.new (λ e. OfRules L.form self.old
+            (λ rules. RunRefused L.form rules limits.turns limits.nodes self.old.graph self.new.graph e))) }
+    {
+        Ok(run_rules(self.alloc, &mut self.graph, &self.rules, limits)?)
+    }
+
+    /// How many symmetries unions met, and how many of them are open.
+    pub fn symmetries(&self) -> Result<SymmetryCount, WorkspaceError>
+        ensures met { IfOk result (λ n. n.met ≡ length self.now.graph.image.symmetries) }
+        ensures open { IfOk result
+            (λ n. CountsOpen self.now.graph.image self.now.graph.image.symmetries n.open) }
+        ensures err { IfErr result
+            (Refuses self.now self.now (HadFailed self.now.graph self.now.graph)) }
+    {
+        let open = self.graph.open_symmetries()?;
+        let met = self.graph.symmetries_met().len();
+        Ok(SymmetryCount { met, open })
+    }
+}
+
+impl<L: Printable> Workspace<L> {
+    /// The proof that two terms are equal, by lines, each ended by a line feed. The last one says so of them.
+    pub fn explain(&mut self, a: Handle, b: Handle) -> Result<String, WorkspaceError>
+        ensures ok { IfOk result (λ text. OfBoth self.old a b
+            (λ t u. ExplainsTerms L.written self.old.graph self.new.graph t u text)) }
+        ensures rest { OnOk result (ChangesGraph self.old self.new) }
+        ensures err { IfErr result (RefusesBoth self.old self.new a b
+            (ExplainRefused L.written self.old.graph self.new.graph)) }
+    {
+        let (left, right) = both_at(&self.kept, self.number, a, b)?;
+        Ok(explanation(self.alloc, &mut self.graph, left, right)?)
+    }
+
+    /// A term of the fewest nodes that is equal to the handle's, and how many it has.
+    pub fn extract(&mut self, a: Handle) -> Result<Extracted, WorkspaceError>
+        ensures ok { IfOk result (λ x. OfOne self.old a
+            (λ t. ExtractsTerm L.form L.written self.old.graph self.new.graph t x.cost x.text)) }
+        ensures rest { OnOk result (ChangesGraph self.old self.new) }
+        ensures err { IfErr result (RefusesOne self.old self.new a
+            (ExtractRefused L.form self.old.graph self.new.graph)) }
+    {
+        let kept = kept_at(&self.kept, self.number, a)?;
+        Ok(smallest(self.alloc, &mut self.graph, kept)?)
+    }
+}
