@@ -2,8 +2,8 @@
 --     terms: Term, Nameless, Derives, Valid          slots: Table, Error, Maps
 --     ids and classes: Applied, Classes, Growth, Ids     the graph: Graph, ValidIds, LookUp, Adding, AddingTerms, Reports, Affected, Image, Nodes, Checks,
 --     Leaves, Causes, Syn, FiledNodes, Measure     extraction: Costs, Laws, Terms, LeastTerms
---     patterns: Known, PatternCode, Variables, Values     rules: Extension, Matching, Methods, Uniting, Rewriting, Written, Applying, EqualInstances
---     runs: Seen, Turning, Runs, Eqsat
+--     patterns: Known, PatternCode, Variables, Values     rules: Extension, Matching, Methods, Uniting, Rewriting, Written, Applying, EqualInstances,
+--     Counting, RuleOrigins     runs: Seen, Turning, Runs, Eqsat, Counted, RunOrigins
 pub use Rattle.slotted_theory.specs.Term
 pub use Rattle.slotted_theory.specs.Nameless
 pub use Rattle.slotted_theory.specs.Derives
@@ -60,11 +60,15 @@ pub use Rattle.slotted_rules.specs.Rewriting
 pub use Rattle.slotted_rules.specs.Written
 pub use Rattle.slotted_rules.specs.Applying
 pub use Rattle.slotted_rules.specs.EqualInstances
+pub use Rattle.slotted_rules.specs.Counting
+pub use Rattle.slotted_rules.specs.RuleOrigins
 -- of runs
 pub use Rattle.slotted_runs.specs.Seen
 pub use Rattle.slotted_runs.specs.Turning
 pub use Rattle.slotted_runs.specs.Runs
 pub use Rattle.slotted_runs.specs.Eqsat
+pub use Rattle.slotted_runs.specs.Counted
+pub use Rattle.slotted_runs.specs.RunOrigins
 -- what a caller of its own says
 pub mod Filed
 pub mod AppliedRules

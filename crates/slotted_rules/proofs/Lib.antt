@@ -6,3 +6,4 @@ pub mod Settling
 pub mod LeftGraphs
 pub mod UnitedAnswers
 pub mod EqualInstances
+pub mod RuleOrigins

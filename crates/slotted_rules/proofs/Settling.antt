@@ -32,10 +32,10 @@ use Rattle.slotted_rules.specs.Rewriting.{AppliesEach, AppliesOne, AreFromRule, 
 known-later : (g h : Graph) → ExtendsTo g h → (given : List ℕ) → AllKnown g.table given → AllKnown h.table given
 known-later g h e given known = λ k d l. e.more _ (known k d l)
 
-begins-within : {A : Type 0} (xs ys : List A) → Begins xs ys → (n : ℕ) → n < length xs → n < length ys
+pub begins-within : {A : Type 0} (xs ys : List A) → Begins xs ys → (n : ℕ) → n < length xs → n < length ys
 begins-within xs ys b n l = omega (arith, l, ap length b.1, length-append xs b.0)
 
-begins-at : {A : Type 0} (xs ys : List A) (d : A) → Begins xs ys → (n : ℕ) → n < length xs → slice_index_or ys n d ≡ slice_index_or xs n d
+pub begins-at : {A : Type 0} (xs ys : List A) (d : A) → Begins xs ys → (n : ℕ) → n < length xs → slice_index_or ys n d ≡ slice_index_or xs n d
 begins-at xs ys d b n l = ap (λ zs. slice_index_or zs n d) b.1 ∙ get_or_append_left xs b.0 d n l
 
 equation-begins : (xs ys : List ProofEntry) → Begins xs ys → (n : ℕ) → n < length xs → equation_at ys n ≡ equation_at xs n
@@ -87,7 +87,7 @@ module _ (g f h i : Graph) (before : ExtendsTo g f) (after : ExtendsTo h i) (p q
   }
 
 module _ (g f h i : Graph) (before : ExtendsTo g f) (after : ExtendsTo h i) (holds : Values → Graph → Bool) (p q : PatternTree) (name : List ℕ) (found : List Values) where
-  comes-wider : (n : ℕ) → n < length h.image.entries → n < length h.image.stored → ComesFromRule holds p q name found f h n → ComesFromRule holds p q name found g i n
+  pub comes-wider : (n : ℕ) → n < length h.image.entries → n < length h.image.stored → ComesFromRule holds p q name found f h n → ComesFromRule holds p q name found g i n
   comes-wider n l k c = record {
     answer = c.answer;
     is_found = c.is_found;

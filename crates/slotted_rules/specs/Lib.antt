@@ -7,4 +7,5 @@ pub mod WrittenLaws
 pub mod Loops
 pub mod Written
 pub mod Counting
+pub mod RuleOrigins
 pub mod EqualInstances

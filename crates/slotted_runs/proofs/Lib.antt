@@ -4,6 +4,7 @@ pub mod Beside
 pub mod Readings
 pub mod Turns
 pub mod CountedTurns
+pub mod RunOrigins
 pub mod LastTurns
 pub mod Stopped
 pub mod EqsatTurns

@@ -7,3 +7,4 @@ pub mod Loops
 pub mod Eqsat
 pub mod Machine
 pub mod Counted
+pub mod RunOrigins

@@ -1,0 +1,26 @@
+-- Where the equations that rules assert come from.
+--     ComesFromRules form holds rules g h n    the entry n of h is an equation of instances of both sides of one of the rules, under an answer of its search
+--                                              whose condition was yes in a graph between g and h, and has the rule's name
+--     AreFromRules form holds rules g h        so is each explicit entry that g has not
+use Rattle.std.specs.Prelude.{◌≡◌, ◌<◌, ◌≤◌, ℕ, List, length, Contains, Bool, string_bytes}
+use Rattle.slotted_nodes.specs.Form.{Form}
+use Rattle.slotted_patterns.specs.View.{tree_of}
+use Rattle.slotted_model.specs.ProofList.{explicit, step_at}
+use Rattle.slotted_model_rules.specs.Conditions.{Values}
+use Rattle.slotted_core.specs.Graph.{Graph}
+use Rattle.slotted_graph.specs.Extension.{ExtendsTo}
+use Rattle.slotted_rules.specs.declared.rewrite.Rewrite.{Rewrite}
+use Rattle.slotted_rules.specs.Rewriting.{ComesFromRule, IsSearched}
+
+pub record ComesFromRules {L C : Type 0} (form : L → Form) (holds : C → Values → Graph → Bool) (rules : List (Rewrite L C)) (g h : Graph) (n : ℕ) : Type 0 where
+  pub rule : Rewrite L C
+  pub is_one : Contains rules rule
+  pub before : Graph
+  pub after : Graph
+  pub found : List Values
+  pub start : ExtendsTo g before
+  pub searched : IsSearched (tree_of form rule.left) before found after
+  pub comes : ComesFromRule (holds rule.condition) (tree_of form rule.left) (tree_of form rule.right) (string_bytes rule.name) found g h n
+
+abbrev pub AreFromRules : {L C : Type 0} → (L → Form) → (C → Values → Graph → Bool) → List (Rewrite L C) → Graph → Graph → Type 0
+AreFromRules form holds rules g h = (n : ℕ) → length g.image.entries ≤ n → n < length h.image.entries → step_at h.image.entries n ≡ explicit → ComesFromRules form holds rules g h n
