@@ -1,0 +1,75 @@
+//! The program `slotted_dot`: lines of the program `slotted` in, and out a picture of the graph that they leave, in the DOT language.
+#![tactic(auto)]
+
+ghost use Rattle.slotted_lines.specs.States.{AreSearchable, state_of};
+
+use slotted_lines::{Session, answer_line};
+use slotted_pictures::graph_to_dot;
+use slotted_slots::Error;
+use slotted_small::Small;
+use slotted_terms::expr::printing::Printable;
+use std::alloc::Global;
+use std::io;
+use std::io::{BufRead, BufReader, BufWriter, ErrorKind, Write};
+use std::process::ExitCode;
+
+// Answers each line over a session. The answers are written nowhere.
+fn read_lines<L: Printable, R: BufRead>(
+    alloc: Global,
+    session: &mut Session<L>,
+    input: &mut R,
+) -> io::Result<()>
+    requires { AreSearchable L.form (state_of session.old) }
+{
+    let mut unread = io::sink();
+    let mut line = Vec::new(alloc);
+    for _ in 0..u64::MAX {
+        line.clear();
+        if input.read_until(b'\n', &mut line)? == 0 {
+            return Ok(());
+        }
+        answer_line(alloc, session, &line, &mut unread)?;
+    }
+    Err(io::Error::from(ErrorKind::FileTooLarge))
+}
+
+// The picture of a graph, or the name of the refusal.
+fn picture<L: Printable>(alloc: Global, session: &mut Session<L>) -> Result<String, Error> {
+    let mut text = String::new(alloc);
+    graph_to_dot(alloc, &mut session.graph, &mut text)?;
+    Ok(text)
+}
+
+/// Draws the graph that the lines of `input` leave. A graph that has failed is a line with the name of the refusal.
+pub fn draw_lines<R: BufRead, W: Write>(
+    alloc: Global,
+    input: &mut R,
+    output: &mut W,
+) -> io::Result<()> {
+    let Ok(mut session) = Session::<Small>::new(alloc) else {
+        return Err(io::Error::from(ErrorKind::OutOfMemory));
+    };
+    read_lines(alloc, &mut session, input)?;
+    match picture(alloc, &mut session) {
+        Ok(text) => output.write_all(text.as_bytes())?,
+        Err(error) => {
+            let name = error.name();
+            writeln!(output, "{name}")?;
+        }
+    }
+    output.flush()
+}
+
+fn draw_streams(rt: &HostRuntime) -> io::Result<()> {
+    let alloc = rt.alloc();
+    let mut input = BufReader::new(alloc, rt.reader())?;
+    let mut output = BufWriter::new(alloc, io::writer(rt))?;
+    draw_lines(alloc, &mut input, &mut output)
+}
+
+fn main(rt: HostRuntime) -> ExitCode {
+    match draw_streams(&rt) {
+        Ok(()) => ExitCode::SUCCESS,
+        Err(_) => ExitCode::FAILURE,
+    }
+}

@@ -1,0 +1,3 @@
+-- Lemmas of pictures.
+pub mod Sums
+pub mod Taken

@@ -1,0 +1,251 @@
+//! Graphs as pictures.
+ghost use Rattle.std.specs.Prelude.{◌≡◌, ◌<◌, ◌⊎◌, ◌↔◌, false, length, string_bytes, IsTrue, IfErr, IsErrOf, OnErr, OnOk};
+ghost use Rattle.slotted_slots.specs.Error.{IsOutOfMemory, IsShortage};
+ghost use Rattle.slotted_core.specs.Graph.{MakesAtMost, OnlyTakesSlots};
+ghost use Rattle.slotted_graph.specs.FiledNodes.{CanRunOutForDump, CanRunOutForEnodes, IsAppended, slots_for_dump, slots_for_enodes};
+
+use crate::quoting::{push_quoted, push_slot};
+use slotted_graph::EGraph;
+use slotted_languages::Language;
+use slotted_slots::{AppliedId, Error, Id, Slot, SlotTable, SmallHashSet, SyntaxElem};
+use std::alloc::Global;
+use std::fmt::Write;
+
+// Appends what a place of an e-node shows: a word, a slot, or a port for a child.
+fn push_field(
+    alloc: Global,
+    out: &mut String,
+    table: &SlotTable,
+    element: &SyntaxElem,
+    place: usize,
+) -> Result<(), Error>
+    ensures { IfErr result IsOutOfMemory }
+{
+    match element {
+        SyntaxElem::String(word) => push_quoted(out, word),
+        SyntaxElem::Slot(slot) => push_slot(alloc, out, table, *slot),
+        SyntaxElem::AppliedId(_) => {
+            write!(out, "<c{place}>")?;
+            Ok(())
+        }
+    }
+}
+
+// Appends an e-node: a record with a field for each place.
+fn push_node<L: Language>(
+    alloc: Global,
+    out: &mut String,
+    table: &SlotTable,
+    class: usize,
+    index: usize,
+    node: &L,
+) -> Result<(), Error>
+    ensures { IfErr result IsOutOfMemory }
+{
+    write!(out, "    n{class}_{index} [label=\"")?;
+    let elements = node.to_syntax(alloc)?;
+    for place in 0..elements.len() {
+        if place > 0 {
+            out.push('|')?;
+        }
+        push_field(alloc, out, table, &elements[place], place)?;
+    }
+    out.push_str("\"];\n")?;
+    Ok(())
+}
+
+// Appends the names of a class's slots.
+fn push_slots(
+    alloc: Global,
+    out: &mut String,
+    table: &SlotTable,
+    slots: &SmallHashSet<Slot>,
+) -> Result<(), Error>
+    ensures { IfErr result IsOutOfMemory }
+{
+    for slot in slots.as_slice() {
+        out.push_str("\\ ")?;
+        push_slot(alloc, out, table, *slot)?;
+    }
+    Ok(())
+}
+
+// Appends the cluster of a class: its slots, and its e-nodes.
+fn push_cluster<L: Language>(
+    alloc: Global,
+    out: &mut String,
+    table: &SlotTable,
+    class: usize,
+    slots: &SmallHashSet<Slot>,
+    nodes: &[L],
+) -> Result<(), Error>
+    ensures { IfErr result IsOutOfMemory }
+{
+    write!(out, "  subgraph cluster_{class} {{\n    label=\"id{class}")?;
+    push_slots(alloc, out, table, slots)?;
+    out.push_str("\";\n")?;
+    for index in 0..nodes.len() {
+        push_node(alloc, out, table, class, index, &nodes[index])?;
+    }
+    out.push_str("  }\n")?;
+    Ok(())
+}
+
+// Appends which slot of the child's class has which name.
+fn push_map(
+    alloc: Global,
+    out: &mut String,
+    table: &SlotTable,
+    child: &AppliedId,
+) -> Result<(), Error>
+    ensures { IfErr result IsOutOfMemory }
+{
+    for (slot, name) in child.m.iter() {
+        out.push_str("\\ ")?;
+        push_slot(alloc, out, table, slot)?;
+        out.push('=')?;
+        push_slot(alloc, out, table, name)?;
+    }
+    Ok(())
+}
+
+// Appends an edge to the class of a child, with its map.
+fn push_edge(
+    alloc: Global,
+    out: &mut String,
+    table: &SlotTable,
+    child: &AppliedId,
+) -> Result<(), Error>
+    ensures { IfErr result IsOutOfMemory }
+{
+    let class = child.id.0;
+    write!(out, " -> n{class}_0 [lhead=cluster_{class}, label=\"")?;
+    push_map(alloc, out, table, child)?;
+    out.push_str("\"];\n")?;
+    Ok(())
+}
+
+// Appends the edges of an e-node.
+fn push_node_edges<L: Language>(
+    alloc: Global,
+    out: &mut String,
+    table: &SlotTable,
+    class: usize,
+    index: usize,
+    node: &L,
+) -> Result<(), Error>
+    ensures { IfErr result IsOutOfMemory }
+{
+    let elements = node.to_syntax(alloc)?;
+    for place in 0..elements.len() {
+        if let SyntaxElem::AppliedId(child) = &elements[place] {
+            write!(out, "  n{class}_{index}:c{place}")?;
+            push_edge(alloc, out, table, child)?;
+        }
+    }
+    Ok(())
+}
+
+// Appends the edges of e-nodes.
+fn push_edges<L: Language>(
+    alloc: Global,
+    out: &mut String,
+    table: &SlotTable,
+    class: usize,
+    nodes: &[L],
+) -> Result<(), Error>
+    ensures { IfErr result IsOutOfMemory }
+{
+    for index in 0..nodes.len() {
+        push_node_edges(alloc, out, table, class, index, &nodes[index])?;
+    }
+    Ok(())
+}
+
+// The e-nodes of a class, over its own slots.
+fn own_nodes<L: Language, N: Drop>(graph: &mut EGraph<L, N>, id: Id) -> Result<Vec<L>, Error>
+    requires well { graph.old.failed ≡ false }
+    requires within { id.0 < length graph.old.image.canonical }
+    ensures takes { OnlyTakesSlots graph.old graph.new }
+    ensures count { MakesAtMost (slots_for_enodes graph.old id.0) graph.old.table graph.new.table }
+    ensures full { IsErrOf result Error.OutOfSlots → CanRunOutForEnodes graph.old id.0 graph.new.table }
+    ensures err { IfErr result IsShortage }
+{
+    let a = graph.mk_identity_applied_id(id)?;
+    graph.enodes_applied(&a)
+}
+
+// Appends the cluster of a class, and its edges.
+fn push_class<L: Language, N: Drop>(
+    alloc: Global,
+    out: &mut String,
+    graph: &mut EGraph<L, N>,
+    id: Id,
+) -> Result<(), Error>
+    requires well { graph.old.failed ≡ false }
+    requires within { id.0 < length graph.old.image.canonical }
+    ensures takes { OnlyTakesSlots graph.old graph.new }
+    ensures count { MakesAtMost (slots_for_enodes graph.old id.0) graph.old.table graph.new.table }
+    ensures full { IsErrOf result Error.OutOfSlots → CanRunOutForEnodes graph.old id.0 graph.new.table }
+    ensures err { IfErr result IsShortage }
+{
+    let slots = graph.slots(id)?;
+    let nodes = own_nodes(graph, id)?;
+    push_cluster(alloc, out, graph.table(), id.0, &slots, &nodes)?;
+    push_edges(alloc, out, graph.table(), id.0, &nodes)?;
+    Ok(())
+}
+
+// Appends each live class.
+fn push_classes<L: Language, N: Drop>(
+    alloc: Global,
+    out: &mut String,
+    graph: &mut EGraph<L, N>,
+) -> Result<(), Error>
+    requires well { graph.old.failed ≡ false }
+    ensures takes { OnlyTakesSlots graph.old graph.new }
+    ensures count { MakesAtMost (slots_for_dump graph.old) graph.old.table graph.new.table }
+    ensures full { IsErrOf result Error.OutOfSlots → CanRunOutForDump graph.old graph.new.table }
+    ensures err { IfErr result IsShortage }
+{
+    for class in 0..graph.progress().number_of_classes {
+        let id = Id(class);
+        if graph.is_alive(id) {
+            push_class(alloc, out, graph, id)?;
+        }
+    }
+    Ok(())
+}
+
+/// Appends a picture of the graph, as text in the DOT language: a cluster for each live class with its slots, a record for each e-node, and an edge for
+/// each child to the child's class, labelled by the slots of that class and their names.
+///
+/// `dot -Tsvg` draws it. Edges end at clusters, for which the layout `dot` is needed.
+pub fn graph_to_dot<L: Language, N: Drop>(
+    alloc: Global,
+    graph: &mut EGraph<L, N>,
+    out: &mut String,
+) -> Result<(), Error>
+    // What stood in the text stays before the picture. The text stays as it is if the call is refused.
+    ensures appends { OnOk result (IsAppended (string_bytes out.old) (string_bytes out.new)) }
+    ensures unchanged { OnErr result (string_bytes out.new ≡ string_bytes out.old) }
+
+    // Only fresh slots are made, two at most for each place of all filed nodes, and a refusal does not fail the graph.
+    ensures takes { OnlyTakesSlots graph.old graph.new }
+    ensures count { MakesAtMost (slots_for_dump graph.old) graph.old.table graph.new.table }
+    ensures stays { IsTrue graph.old.failed → graph.new ≡ graph.old }
+
+    ensures failed { IsErrOf result Error.Failed ↔ IsTrue graph.old.failed }
+    ensures full { IsErrOf result Error.OutOfSlots → CanRunOutForDump graph.old graph.new.table }
+    ensures only { IfErr result (λ e. (e ≡ Error.Failed) ⊎ IsShortage e) }
+{
+    if graph.is_failed() {
+        return Err(Error::Failed);
+    }
+    let mut text = String::new(alloc);
+    text.push_str("digraph egraph {\n  compound=true;\n  node [shape=record];\n")?;
+    push_classes(alloc, &mut text, graph)?;
+    text.push_str("}\n")?;
+    out.push_str(&text)?;
+    Ok(())
+}
