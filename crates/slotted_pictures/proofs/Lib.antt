@@ -1,3 +1,2 @@
 -- Lemmas of pictures.
-pub mod Sums
 pub mod Taken

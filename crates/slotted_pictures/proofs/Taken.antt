@@ -6,7 +6,7 @@ use Rattle.slotted_slots.specs.Table.{Table}
 use Rattle.slotted_core.specs.Graph.{Graph, MakesAtMost, OnlyTakesSlots, RunsOut}
 use Rattle.slotted_core.proofs.CallerLemmas.{takes_twice}
 use Rattle.slotted_graph.specs.FiledNodes.{CanRunOutForDump, CanRunOutForEnodes, HasLargeRow, HasLargeRowOf, slots_for_dump, slots_for_enodes}
-use Rattle.slotted_pictures.proofs.Sums.{range-next, range-within}
+use Rattle.slotted_reports.proofs.ClassesInTurn.{range-next, range-within}
 use Rattle.slotted_reports.proofs.FreshNodes.{runs_out-after}
 
 -- a graph that only took slots has the same e-nodes

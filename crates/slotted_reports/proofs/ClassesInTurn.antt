@@ -13,7 +13,7 @@ use Rattle.slotted_reports.proofs.FreshNodes.{runs_out-after, sum-range}
 pub knows-more : (t u : Table) (k : Kept) → KnowsMore t u → KnowsClassSlots t k → KnowsClassSlots u k
 knows-more t u k more known i within j d l = more _ (known i within j d l)
 
-range-next : (f : ℕ → ℕ) (c : ℕ) → sum_by f (range_with_len 0 (c + 1)) ≡ sum_by f (range_with_len 0 c) + f c
+pub range-next : (f : ℕ → ℕ) (c : ℕ) → sum_by f (range_with_len 0 (c + 1)) ≡ sum_by f (range_with_len 0 c) + f c
 range-next f c =
     let one : c + 1 ≡ suc c = omega arith in
     let here : 0 + c ≡ c = omega arith in
@@ -23,7 +23,7 @@ pub takes-next : (k : Kept) (r : Rows) (s t u : Table) (c : ℕ) → TakesForCla
 takes-next k r s t u c so_far here = omega (arith, so_far, here, range-next (slots_of_class k r) c)
 
 -- some of the classes take no more than all
-range-within : (f : ℕ → ℕ) (c n : ℕ) → c ≤ n → sum_by f (range_with_len 0 c) ≤ sum_by f (range_with_len 0 n)
+pub range-within : (f : ℕ → ℕ) (c n : ℕ) → c ≤ n → sum_by f (range_with_len 0 c) ≤ sum_by f (range_with_len 0 n)
 range-within f c zero le = omega (arith, ap (λ m. sum_by f (range_with_len 0 m)) (none c le))
   where
     none : (c : ℕ) → c ≤ 0 → c ≡ 0
