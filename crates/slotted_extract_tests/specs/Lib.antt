@@ -1,2 +1,3 @@
--- A cost function that is not the size.
+-- Cost functions that are not the size.
 pub mod DearProducts
+pub mod LightLambdas

@@ -1,6 +1,7 @@
 //! Tables of what is given out after unions, and of what it costs.
 use crate::dear_products::DearProducts;
 use crate::extracted::check;
+use crate::light_lambdas::LightLambdas;
 use slotted_costs::AstSize;
 use slotted_slots::Error;
 use slotted_small::Small;
@@ -55,4 +56,29 @@ given cost: (app a a) => 1";
 #[test]
 fn terms_of_least_size_are_given(rt: HostRuntime) -> Result<(), Error> {
     check::<Small, AstSize>(&rt, rt.alloc(), "(app a a) == b", SHORT)
+}
+
+// A sum comes before a product.
+const SUM: &str = "least: (mul x 2) => (add x x)
+by default: (mul x 2) => (add x x)
+by size: (mul x 2) => (add x x)
+given cost: (mul x 2) => 3
+written cost: (mul x 2) => 3";
+
+#[test]
+fn of_terms_that_cost_the_same_the_first_is_given(rt: HostRuntime) -> Result<(), Error> {
+    check::<Small, AstSize>(&rt, rt.alloc(), "(mul x 2) == (add x x)", SUM)?;
+    check::<Small, AstSize>(&rt, rt.alloc(), "(add x x) == (mul x 2)", SUM)
+}
+
+// A lambda comes before a word, but its body costs as much as it does.
+const WORD: &str = "least: (lam $x a) => c
+by default: (lam $x a) => c
+given cost: (lam $x a) => 1
+written cost: (lam $x a) => 1";
+
+#[test]
+fn nodes_over_cheaper_children_come_first(rt: HostRuntime) -> Result<(), Error> {
+    check::<Small, LightLambdas>(&rt, rt.alloc(), "(lam $x a) == c", WORD)?;
+    check::<Small, LightLambdas>(&rt, rt.alloc(), "c == (lam $x a)", WORD)
 }

@@ -1,4 +1,4 @@
-//! Tests of extraction, as tables of text, and with a cost function that is not the size. They stand in a crate of their own, which is checked
+//! Tests of extraction, as tables of text, and with cost functions that are not the size. They stand in a crate of their own, which is checked
 //! beside the other tests of the graph.
 #![tactic(auto)]
 
@@ -10,3 +10,5 @@ mod deep;
 mod extracted;
 #[cfg(test)]
 mod extracts;
+#[cfg(test)]
+mod light_lambdas;

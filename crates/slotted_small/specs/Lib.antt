@@ -4,3 +4,4 @@ pub mod SmallSame
 pub mod SmallRead
 pub mod SmallBack
 pub mod SmallWritten
+pub mod SmallOrder
