@@ -86,14 +86,14 @@ impl<L: Language> Workspace<L> {
         })
     }
 
-    /// The graph.
+    /// Returns the graph.
     pub fn graph(&self) -> &EGraph<L>
         ensures { result.now ≡ self.now.graph }
     {
         &self.graph
     }
 
-    /// The term that a handle stands for.
+    /// Returns the term that a handle stands for.
     pub fn term_of(&self, handle: Handle) -> Result<&RecExpr<L>, WorkspaceError>
         ensures ok { IfOk result (λ t. term_at self.now handle ≡ Some t.now) }
         ensures err { IfErr result (RefusesOne self.now self.now handle (λ _ _. ⊥)) }
@@ -117,7 +117,7 @@ impl<L: Language> Workspace<L> {
         })
     }
 
-    /// Whether two terms are equal by what was asserted. A yes is right, and so is a no, unless open symmetries affect both terms.
+    /// Returns whether two terms are equal by what was asserted. A yes is right, and so is a no, unless open symmetries affect both terms.
     pub fn eq(&self, a: Handle, b: Handle) -> Result<bool, WorkspaceError>
         ensures ok { IfOk result (λ y. OfBoth self.now a b (λ t u. Compares self.now.graph t u y)) }
         ensures err { IfErr result
@@ -127,7 +127,7 @@ impl<L: Language> Workspace<L> {
         Ok(self.graph.eq(&left.id, &right.id)?)
     }
 
-    /// Asserts that two terms are equal. True if they were not found equal.
+    /// Asserts that two terms are equal. Returns true if they were not found equal before.
     pub fn union(&mut self, a: Handle, b: Handle) -> Result<bool, WorkspaceError>
         ensures ok { IfOk result (λ y. OfBoth self.old a b
             (λ t u. UnitesTerms self.old.graph self.new.graph t u None y)) }
@@ -139,7 +139,7 @@ impl<L: Language> Workspace<L> {
         Ok(unite(&mut self.graph, left, right, None)?)
     }
 
-    /// The same, with a text that says why.
+    /// Asserts that two terms are equal, with a text that says why. Proofs cite the text.
     pub fn union_because(
         &mut self,
         a: Handle,
@@ -156,7 +156,7 @@ impl<L: Language> Workspace<L> {
         Ok(unite_because(self.alloc, &mut self.graph, left, right, text)?)
     }
 
-    /// Keeps the rule of a name and two texts: where the left side is found, the right side becomes equal to it.
+    /// Keeps the rule of a name and two texts. A run makes the right side equal to the left side wherever the left side is found.
     pub fn rule(&mut self, name: &str, left: &str, right: &str) -> Result<(), WorkspaceError>
         ensures ok { OnOk result
             (KeepsRule L.form L.read self.old self.new name.now left.now right.now CondTree.Always) }
@@ -166,7 +166,7 @@ impl<L: Language> Workspace<L> {
         self.rule_if(name, left, right, CondTree::Always)
     }
 
-    /// The same of a rule with a condition.
+    /// Keeps a rule with a condition, which is asked for each match.
     pub fn rule_if(
         &mut self,
         name: &str,
@@ -184,7 +184,7 @@ impl<L: Language> Workspace<L> {
         Ok(())
     }
 
-    /// The slot of the text after a `$`, for conditions of rules.
+    /// Returns the slot of the text after a `$`, for conditions of rules.
     pub fn slot(&mut self, text: &str) -> Result<Slot, WorkspaceError>
         ensures ok { IfOk result
             (λ slot. named_of self.old.graph.table text.now ≡ gives slot self.new.graph.table) }
@@ -194,7 +194,7 @@ impl<L: Language> Workspace<L> {
         Ok(self.graph.named_slot(text)?)
     }
 
-    /// Runs all rules, in turns, until none changes the graph or a limit is passed.
+    /// Runs all rules, in turns, until none changes the graph or a limit is passed. The report names a passed limit of e-nodes as `Other`.
     pub fn run(&mut self, limits: Limits) -> Result<Report, WorkspaceError>
         ensures ok { IfOk result (λ r. OfRules L.form self.old
             (λ rules. HasRun L.form rules limits.turns limits.nodes self.old.graph self.new.graph r)) }
@@ -205,7 +205,7 @@ impl<L: Language> Workspace<L> {
         Ok(run_rules(self.alloc, &mut self.graph, &self.rules, limits)?)
     }
 
-    /// How many symmetries unions met, and how many of them are open.
+    /// Returns how many symmetries unions met, and how many of them are open.
     pub fn symmetries(&self) -> Result<SymmetryCount, WorkspaceError>
         ensures met { IfOk result (λ n. n.met ≡ length self.now.graph.image.symmetries) }
         ensures open { IfOk result
@@ -220,7 +220,7 @@ impl<L: Language> Workspace<L> {
 }
 
 impl<L: Printable> Workspace<L> {
-    /// The proof that two terms are equal, by lines, each ended by a line feed. The last one says so of them.
+    /// Returns the proof that two terms are equal, by lines, each ended by a line feed. The last line is the equation of both.
     pub fn explain(&mut self, a: Handle, b: Handle) -> Result<String, WorkspaceError>
         ensures ok { IfOk result (λ text. OfBoth self.old a b
             (λ t u. ExplainsTerms L.written self.old.graph self.new.graph t u text)) }
@@ -232,7 +232,7 @@ impl<L: Printable> Workspace<L> {
         Ok(explanation(self.alloc, &mut self.graph, left, right)?)
     }
 
-    /// A term of the fewest nodes that is equal to the handle's, and how many it has.
+    /// Returns a term of the fewest nodes that is equal to the handle's, and how many nodes it has.
     pub fn extract(&mut self, a: Handle) -> Result<Extracted, WorkspaceError>
         ensures ok { IfOk result (λ x. OfOne self.old a
             (λ t. ExtractsTerm L.form L.written self.old.graph self.new.graph t x.cost x.text)) }

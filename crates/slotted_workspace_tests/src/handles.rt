@@ -2,58 +2,41 @@
 use slotted_small::Small;
 use slotted_workspace::{Handle, Workspace, WorkspaceError};
 
-#[test]
-fn handles_count_the_terms(rt: HostRuntime) -> Result<(), WorkspaceError> {
-    let mut workspace: Workspace<Small> = Workspace::with_number(rt.alloc(), 7)?;
-    let first = workspace.add("(app a b)")?;
-    let second = workspace.add("(app a b)")?;
-    assert!(&rt;
-        first
-            == Handle {
-                workspace: 7,
-                index: 0
-            }
-    );
-    assert!(&rt;
-        second
-            == Handle {
-                workspace: 7,
-                index: 1
-            }
-    );
-    Ok(())
+// Whether a handle was refused.
+fn is_unknown<T: Drop>(outcome: Result<T, WorkspaceError>) -> bool {
+    matches!(outcome, Err(WorkspaceError::UnknownHandle))
 }
 
-#[test]
-fn foreign_handles_are_refused(rt: HostRuntime) -> Result<(), WorkspaceError> {
-    let mut workspace: Workspace<Small> = Workspace::with_number(rt.alloc(), 7)?;
-    let own = workspace.add("a")?;
+// Handles count the terms, and those of other workspaces are refused.
+fn are_told_apart(workspace: &mut Workspace<Small>) -> Result<bool, WorkspaceError> {
+    let first = workspace.add("(app a b)")?;
+    let second = workspace.add("(app a b)")?;
+    let counted = first.index == 0
+        && second
+            == Handle {
+                workspace: 7,
+                index: 1,
+            };
     let foreign = Handle {
         workspace: 8,
         index: 0,
     };
     let large = Handle {
         workspace: 7,
-        index: 1,
+        index: 2,
     };
-    assert!(&rt;
-        matches!(
-            workspace.eq(own, foreign),
-            Err(WorkspaceError::UnknownHandle)
-        )
-    );
-    assert!(&rt; matches!(workspace.eq(large, own), Err(WorkspaceError::UnknownHandle)));
-    assert!(&rt;
-        matches!(
-            workspace.union(own, large),
-            Err(WorkspaceError::UnknownHandle)
-        )
-    );
-    assert!(&rt;
-        matches!(
-            workspace.extract(foreign),
-            Err(WorkspaceError::UnknownHandle)
-        )
-    );
+    Ok(
+        counted
+            && workspace.eq(first, second)?
+            && is_unknown(workspace.eq(first, foreign))
+            && is_unknown(workspace.union(large, first))
+            && is_unknown(workspace.extract(foreign)),
+    )
+}
+
+#[test]
+fn handles(rt: HostRuntime) -> Result<(), WorkspaceError> {
+    let mut workspace: Workspace<Small> = Workspace::with_number(rt.alloc(), 7)?;
+    assert!(&rt; are_told_apart(&mut workspace)?);
     Ok(())
 }

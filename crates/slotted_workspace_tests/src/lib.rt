@@ -1,9 +1,5 @@
-//! Tests of workspaces: what handles stand for, and answers that were worked out by hand.
+//! Tests of workspaces. Each test has one workspace, which its parts borrow.
 #![tactic(auto)]
 
 #[cfg(test)]
-mod answers;
-#[cfg(test)]
 mod handles;
-#[cfg(test)]
-mod rules;
