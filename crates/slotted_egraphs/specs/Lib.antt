@@ -1,7 +1,7 @@
 -- The words of the clauses that callers meet, handed on from the crates that define them.
 --     terms: Term, Nameless, Derives, Valid          slots: Table, Error, Maps
 --     ids and classes: Applied, Classes, Growth, Ids     the graph: Graph, ValidIds, LookUp, Adding, AddingTerms, Reports, Affected, Image, Nodes, Checks,
---     Leaves, Causes, Syn, FiledNodes, Measure     extraction: Costs, Laws, Terms, LeastTerms
+--     Leaves, Causes, Syn, FiledNodes, Measure     extraction: Costs, Laws, Terms, LeastTerms, Chosen
 --     patterns: Known, PatternCode, Variables, Values     rules: Extension, Matching, Methods, Uniting, Rewriting, Written, Applying, EqualInstances,
 --     Counting, RuleOrigins     runs: Seen, Turning, Runs, Eqsat, Counted, RunOrigins
 pub use Rattle.slotted_theory.specs.Term
@@ -38,6 +38,7 @@ pub use Rattle.slotted_costs.specs.Costs
 pub use Rattle.slotted_costs.specs.Laws
 pub use Rattle.slotted_explain.specs.Terms
 pub use Rattle.slotted_explain.specs.LeastTerms
+pub use Rattle.slotted_explain.specs.Chosen
 pub use Rattle.slotted_explain.specs.FiledNodes
 pub use Rattle.slotted_explain.specs.Measure
 -- of patterns and rules

@@ -21,8 +21,10 @@ use slotted_slots::{AppliedId, Error};
 use slotted_terms::expr::RecExpr;
 use std::alloc::Global;
 
-/// For each class of a graph its least cost, and a node that has it: of several ones the one with the least shape by `Ord`, of those whose
-/// children all cost less, if there are any. It speaks of the graph as it was when it was made.
+/// For each class of a graph its least cost, and a node that has it. It speaks of the graph as it was when it was made.
+///
+/// Of several such nodes over children that all cost less it has the one whose shape is least by `Ord`. If there are only nodes over a
+/// child that costs as much, which of them it has is open.
 #[derive(Drop)]
 pub struct Extractor<L: Language, CF: CostFunction<L>> {
     pub costs: CF,
