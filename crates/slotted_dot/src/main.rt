@@ -9,9 +9,9 @@ use slotted_slots::Error;
 use slotted_small::Small;
 use slotted_terms::expr::printing::Printable;
 use std::alloc::Global;
-use std::io;
 use std::io::{BufRead, BufReader, BufWriter, ErrorKind, Write};
 use std::process::ExitCode;
+use std::{io, mem};
 
 // Answers each line over a session. The answers are written nowhere.
 fn read_lines<L: Printable, R: BufRead>(
@@ -40,31 +40,46 @@ fn picture<L: Printable>(alloc: Global, session: &mut Session<L>) -> Result<Stri
     Ok(text)
 }
 
+// Writes the picture of the graph that the lines leave, or a line with the name of the refusal.
+fn draw_session<L: Printable, R: BufRead, W: Write>(
+    alloc: Global,
+    session: &mut Session<L>,
+    input: &mut R,
+    output: &mut W,
+) -> io::Result<()>
+    requires { AreSearchable L.form (state_of session.old) }
+{
+    read_lines(alloc, session, input)?;
+    match picture(alloc, session) {
+        Ok(text) => output.write_all(text.as_bytes())?,
+        Err(error) => writeln!(output, "{}", error.name())?,
+    }
+    output.flush()
+}
+
 /// Draws the graph that the lines of `input` leave. A graph that has failed is a line with the name of the refusal.
-pub fn draw_lines<R: BufRead, W: Write>(
+///
+/// The session is not taken apart, and its memory goes with the process.
+pub fn draw_lines<L: Printable, R: BufRead, W: Write>(
     alloc: Global,
     input: &mut R,
     output: &mut W,
 ) -> io::Result<()> {
-    let Ok(mut session) = Session::<Small>::new(alloc) else {
-        return Err(io::Error::from(ErrorKind::OutOfMemory));
-    };
-    read_lines(alloc, &mut session, input)?;
-    match picture(alloc, &mut session) {
-        Ok(text) => output.write_all(text.as_bytes())?,
-        Err(error) => {
-            let name = error.name();
-            writeln!(output, "{name}")?;
+    match Session::<L>::new(alloc) {
+        Ok(mut session) => {
+            let outcome = draw_session(alloc, &mut session, input, output);
+            mem::forget(session);
+            outcome
         }
+        Err(_) => Err(io::Error::from(ErrorKind::OutOfMemory)),
     }
-    output.flush()
 }
 
 fn draw_streams(rt: &HostRuntime) -> io::Result<()> {
     let alloc = rt.alloc();
     let mut input = BufReader::new(alloc, rt.reader())?;
     let mut output = BufWriter::new(alloc, io::writer(rt))?;
-    draw_lines(alloc, &mut input, &mut output)
+    draw_lines::<Small, _, _>(alloc, &mut input, &mut output)
 }
 
 fn main(rt: HostRuntime) -> ExitCode {
