@@ -3,14 +3,18 @@ use crate::backoff::Backoff;
 use slotted_graph::EGraph;
 use slotted_rules::{Always, Rewrite, RewriteT, TurnCounts, apply_rewrites, are_valid};
 use slotted_runs::run_counted;
-use slotted_slots::{Error, SlotTable};
+use slotted_slots::{AppliedId, Error, SlotTable};
 use slotted_small::Small;
 use std::alloc::Global;
 use std::process::Abort;
 
+fn added(graph: &mut EGraph<Small>, text: &str) -> Result<AppliedId, Error> {
+    let term = graph.parse_expr(text)?;
+    graph.add_expr(&term)
+}
+
 fn add(rt: &impl Abort, graph: &mut EGraph<Small>, text: &str) {
-    let term = graph.parse_expr(text).expect(rt, "it is a term");
-    let _ = graph.add_expr(&term).expect(rt, "it can be added");
+    let _ = added(graph, text).expect(rt, "it can be added");
 }
 
 fn rule(
