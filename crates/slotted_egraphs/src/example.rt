@@ -10,8 +10,10 @@ ghost use Rattle.slotted_egraphs.specs.Nodes.{to_applied};
 ghost use Rattle.slotted_egraphs.specs.Valid.{IsValidTerm};
 ghost use Rattle.slotted_egraphs.specs.Written.{CanBeSearched};
 
-use crate::{Always, AppliedId, EGraph, Error, Language, ProvenEq, RecExpr, Rewrite};
-use crate::{apply_rewrites, ast_size_extract, run_counted};
+use crate::{
+    Always, AppliedId, EGraph, Error, Language, ProvenEq, RecExpr, Rewrite, apply_rewrites,
+    ast_size_extract, run_counted,
+};
 use std::alloc::Global;
 
 /// Adds the terms of two texts, unites them and asks whether they are equal. Where there is an answer it is yes, or a symmetry that

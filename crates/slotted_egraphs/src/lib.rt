@@ -21,8 +21,9 @@ pub use slotted_proofs::{
 };
 pub use slotted_rule_patterns::Subst;
 pub use slotted_rules::{
-    Always, And, Cond, CondTree, Not, Or, Rewrite, RewriteT, RuleCounts, SlotFreeIn, TurnCounts, and,
-    apply_counted, apply_matches, apply_rewrites, are_valid, ematch_all, not, or, slot_free_in,
+    Always, And, Cond, CondTree, Not, Or, Rewrite, RewriteT, RuleCounts, SlotFreeIn, TurnCounts,
+    and, apply_counted, apply_matches, apply_rewrites, are_valid, ematch_all, not, or,
+    slot_free_in,
 };
 pub use slotted_runs::{
     Clock, Hook, HookStop, Iteration, IterationData, MachineClock, NoHook, Report, Runner,

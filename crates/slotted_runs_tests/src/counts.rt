@@ -76,7 +76,14 @@ fn turns_end_at_the_limit(rt: HostRuntime) -> Result<(), Error> {
     let alloc = rt.alloc();
     let mut graph = EGraph::<Small>::new(alloc, SlotTable::new(alloc), ())?;
     add(&rt, &mut graph, "(app s a)");
-    let turns = counted(&rt, alloc, &mut graph, "(app s ?a)", "(app s (app s ?a))", 1);
+    let turns = counted(
+        &rt,
+        alloc,
+        &mut graph,
+        "(app s ?a)",
+        "(app s (app s ?a))",
+        1,
+    );
     assert!(rt; turns.len() == 1);
     assert_turn(&rt, &turns, 0, true, 1, 1);
     Ok(())
