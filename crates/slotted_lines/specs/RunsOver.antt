@@ -19,7 +19,7 @@ use Rattle.slotted_graph.specs.Extension.{ExtendsTo}
 use Rattle.slotted_model_rules.specs.Conditions.{Values}
 use Rattle.slotted_model_rules.specs.Runners.{usual_limits}
 use Rattle.slotted_model_rules.specs.Runners as model
-use Rattle.slotted_rules.specs.Rewriting.{IsRefusedRewrite, IsSearched, LeavesApplied}
+use Rattle.slotted_rules.specs.Counting.{AppliesRule, RefusesRule, SearchesRule}
 use Rattle.slotted_rules.specs.declared.condition.Always.{Always}
 use Rattle.slotted_rules.specs.declared.rewrite.Rewrite.{Rewrite}
 use Rattle.slotted_runs.specs.Runs.{HasRun, IsRefused, MayRefuse}
@@ -36,13 +36,13 @@ abbrev pub RunnerState : Type 0
 RunnerState = Parts ⊤ Infallible NoHook StillClock
 
 abbrev pub searches_by : {L : Type 0} → (L → Form) → Rewrite L Always → Graph → List Values → Graph → Type 0
-searches_by form r g found h = IsSearched (tree_of form r.left) g found h
+searches_by form = SearchesRule form
 
 abbrev pub applies_by : {L : Type 0} → (L → Form) → Rewrite L Always → List Values → Graph → Graph → Type 0
-applies_by form r found g h = LeavesApplied (λ _ _. true) (tree_of form r.left) (tree_of form r.right) (string_bytes r.name) found g h
+applies_by form = AppliesRule form (λ _ _ _. true)
 
 abbrev pub refuses_by : {L : Type 0} → (L → Form) → Rewrite L Always → Error → Type 0
-refuses_by form r e = IsRefusedRewrite (λ _ _ _. ⊥) (tree_of form r.right) e
+refuses_by form = RefusesRule form (λ _ _ _ _. ⊥)
 
 -- a hook that does nothing
 abbrev pub leaves_all : NoHook → Graph → ℕ → NoHook → Graph → Option Infallible → Type 0

@@ -109,17 +109,22 @@ fn push_map(
     Ok(())
 }
 
-// Appends an edge to the class of a child, with its map.
+// Appends an edge to the class of a child, with its map. It ends at the cluster of the class, unless it comes from inside.
 fn push_edge(
     alloc: Global,
     out: &mut String,
     table: &SlotTable,
+    from: usize,
     child: &AppliedId,
 ) -> Result<(), Error>
     ensures { IfErr result IsOutOfMemory }
 {
     let class = child.id.0;
-    write!(out, " -> n{class}_0 [lhead=cluster_{class}, label=\"")?;
+    write!(out, " -> n{class}_0 [")?;
+    if class != from {
+        write!(out, "lhead=cluster_{class}, ")?;
+    }
+    out.push_str("label=\"")?;
     push_map(alloc, out, table, child)?;
     out.push_str("\"];\n")?;
     Ok(())
@@ -140,7 +145,7 @@ fn push_node_edges<L: Language>(
     for place in 0..elements.len() {
         if let SyntaxElem::AppliedId(child) = &elements[place] {
             write!(out, "  n{class}_{index}:c{place}")?;
-            push_edge(alloc, out, table, child)?;
+            push_edge(alloc, out, table, class, child)?;
         }
     }
     Ok(())

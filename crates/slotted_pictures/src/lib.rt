@@ -2,8 +2,8 @@
 #![tactic(auto)]
 
 pub mod graphs;
-pub mod proofs_drawn;
+pub mod proof_trees;
 pub(crate) mod quoting;
 
 pub use graphs::graph_to_dot;
-pub use proofs_drawn::proof_to_dot;
+pub use proof_trees::proof_to_dot;

@@ -1,6 +1,6 @@
 -- Where rules without conditions were applied, instances of both sides are equal by what is asserted, for each match.
 use Rattle.std.proofs.Common.{◌≡◌, ◌∙◌, List, sym, subst, inl, inr}
-use Rattle.std.specs.Prelude.{◌<◌, ℕ, Bool, true, length, Contains, string_bytes}
+use Rattle.std.specs.Prelude.{◌<◌, ℕ, Bool, true, length, Contains}
 use Rattle.std.proofs.lemmas.Bool.{false≢true}
 use Rattle.slotted_nodes.specs.Form.{Form}
 use Rattle.slotted_theory.specs.Nameless.{DTerm}
@@ -20,8 +20,10 @@ use Rattle.slotted_graph.specs.States.{IsGraph}
 use Rattle.slotted_graph.proofs.Extending.{extends-itself, extends-takes, extends-then}
 use Rattle.slotted_instances.specs.Methods.{method_of, represented}
 use Rattle.slotted_rules.specs.declared.rewrite.Rewrite.{Rewrite}
+use Rattle.slotted_rules.specs.Counting.{AppliesRule, SearchesRule}
 use Rattle.slotted_rules.specs.EqualInstances.{HasAppliedMatches, HasEqualIds, HaveEqualInstances}
-use Rattle.slotted_rules.specs.Rewriting.{HasEntryFor, HasEquationFor, IsSearched, IsSettled, LeavesApplied}
+use Rattle.slotted_rules.specs.Rewriting.{HasEntryFor, HasEquationFor, IsSearched, IsSettled}
+use Rattle.slotted_rules.proofs.RuleOrigins.{applies-extend, searches-extend}
 use Rattle.slotted_rules.proofs.Settling.{settled-wider}
 
 module _ (h : Graph) (is : IsGraph h) where
@@ -54,11 +56,8 @@ module _ (h : Graph) (is : IsGraph h) where
 
 -- rules without conditions, one after another
 module _ {L C : Type 0} (form : L → Form) (holds : C → Values → Graph → Bool) (always : (c : C) (s : Values) (g : Graph) → holds c s g ≡ true) where
-  abbrev searches : Rewrite L C → Graph → List Values → Graph → Type 0
-  searches r g found h = IsSearched (tree_of form r.left) g found h
-
   abbrev applies : Rewrite L C → List Values → Graph → Graph → Type 0
-  applies r found g h = LeavesApplied (holds r.condition) (tree_of form r.left) (tree_of form r.right) (string_bytes r.name) found g h
+  applies = AppliesRule form holds
 
   -- the search of a rule, and that each of its answers is settled from g to h
   abbrev SearchedAndSettled : Graph → Graph → Rewrite L C → Type 0
@@ -70,33 +69,25 @@ module _ {L C : Type 0} (form : L → Form) (holds : C → Values → Graph → 
   settled-has c p q g h s (inl e) = e
   settled-has c p q g h s (inr m) = absurd (false≢true (sym m.2 ∙ always c s m.0))
 
-  searches-extend : {rules : List (Rewrite L C)} {g h : Graph} {founds : List (List Values)} → SearchesAll searches rules g founds h → ExtendsTo g h
-  searches-extend none_searched = extends-itself _
-  searches-extend (one_searched first more) = extends-then _ _ _ (extends-takes _ _ first.takes) (searches-extend more)
-
-  applies-extend : {rules : List (Rewrite L C)} {founds : List (List Values)} {g h : Graph} → AppliesAll applies rules founds g h → ExtendsTo g h
-  applies-extend none_applied = extends-itself _
-  applies-extend (one_applied first more) = extends-then _ _ _ first.extends (applies-extend more)
-
-  one-settled : (rule : Rewrite L C) (found : List Values) (g e f j k h : Graph) → ExtendsTo g e → ExtendsTo g j → searches rule e found f → applies rule found j k → ExtendsTo k h → SearchedAndSettled g h rule
+  one-settled : (rule : Rewrite L C) (found : List Values) (g e f j k h : Graph) → ExtendsTo g e → ExtendsTo g j → SearchesRule form rule e found f → applies rule found j k → ExtendsTo k h → SearchedAndSettled g h rule
   one-settled rule found g e f j k h start end first now later =
       let p = tree_of form rule.left in
       let q = tree_of form rule.right in
       (e, f, found, start, first, λ s c. settled-has rule.condition p q g h s (settled-wider g j k h end later p q s (holds rule.condition) (now.settled s c)))
 
   -- searches from e on, and applies from j on, both later than g
-  each-settled : {rules : List (Rewrite L C)} {e i j h : Graph} {founds : List (List Values)} (g : Graph) → ExtendsTo g e → ExtendsTo g j → SearchesAll searches rules e founds i → AppliesAll applies rules founds j h →
+  each-settled : {rules : List (Rewrite L C)} {e i j h : Graph} {founds : List (List Values)} (g : Graph) → ExtendsTo g e → ExtendsTo g j → SearchesAll (SearchesRule form) rules e founds i → AppliesAll applies rules founds j h →
       (r : Rewrite L C) → In r rules → SearchedAndSettled g h r
   each-settled g start end none_searched none_applied r among = absurd among
   each-settled g start end (one_searched {rule = rule} {found = found} first more) (one_applied now later) r among = elim among [
-    | inl is ↦ subst (SearchedAndSettled g _) (sym is) (one-settled rule found g _ _ _ _ _ start end first now (applies-extend later))
+    | inl is ↦ subst (SearchedAndSettled g _) (sym is) (one-settled rule found g _ _ _ _ _ start end first now (applies-extend form holds later))
     | inr rest ↦ each-settled g (extends-then g _ _ start (extends-takes _ _ first.takes)) (extends-then g _ _ end now.extends) more later r rest
   ]
 
   -- for each match of each rule the instances of both sides are equal
-  pub rules-applied : (rules : List (Rewrite L C)) (g h : Graph) → IsGraph h → AppliesRules searches applies rules g h → (r : Rewrite L C) → Contains rules r → HasAppliedMatches g h (tree_of form r.left) (tree_of form r.right)
+  pub rules-applied : (rules : List (Rewrite L C)) (g h : Graph) → IsGraph h → AppliesRules (SearchesRule form) applies rules g h → (r : Rewrite L C) → Contains rules r → HasAppliedMatches g h (tree_of form r.left) (tree_of form r.right)
   rules-applied rules g h is a r c =
-      let e = each-settled g (extends-itself g) (searches-extend a.by_searches) a.by_searches a.by_applies r (In-Contains rules r c) in
+      let e = each-settled g (extends-itself g) (searches-extend form holds a.by_searches) a.by_searches a.by_applies r (In-Contains rules r c) in
       record {
         before = e.0;
         after = e.1;

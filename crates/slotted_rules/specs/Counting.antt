@@ -1,5 +1,8 @@
--- What written rules do when they are applied once, counted. A rule's condition is given by its answers.
+-- What written rules find and do, and the same counted when they are applied once. A rule's condition is given by its answers.
 --     SearchesRule form r g found h        a search with the rule r finds these answers
+--     CanApplyRule form r found g          they can be applied
+--     AppliesRule form holds r found g h   an apply of r to them leaves h
+--     RefusesRule form refuses r e         why r is refused
 --     UnitesRule form holds r k g h        an apply of r to the answers k.0 unites k.1 times what was not found equal before
 --     counts_in ks                         what is told of each rule
 --     CountsRules form holds rules g counts h      all rules are searched, then each is applied, and this is told of them
@@ -12,13 +15,16 @@ use Rattle.slotted_model_rules.specs.Runners.{AppliesAll, SearchesAll}
 use Rattle.slotted_core.specs.Graph.{Graph}
 use Rattle.slotted_rules.specs.declared.counting.RuleCounts.{RuleCounts}
 use Rattle.slotted_rules.specs.declared.rewrite.Rewrite.{Rewrite}
-use Rattle.slotted_rules.specs.Rewriting.{CanBeApplied, IsRefusedRewrite, IsSearched, LeavesUnited}
+use Rattle.slotted_rules.specs.Rewriting.{CanBeApplied, IsRefusedRewrite, IsSearched, LeavesApplied, LeavesUnited}
 
 abbrev pub SearchesRule : {L C : Type 0} → (L → Form) → Rewrite L C → Graph → List Values → Graph → Type 0
 SearchesRule form r g found h = IsSearched (tree_of form r.left) g found h
 
 abbrev pub CanApplyRule : {L C : Type 0} → (L → Form) → Rewrite L C → List Values → Graph → Type 0
 CanApplyRule form r found g = CanBeApplied (tree_of form r.left) found g
+
+abbrev pub AppliesRule : {L C : Type 0} → (L → Form) → (C → Values → Graph → Bool) → Rewrite L C → List Values → Graph → Graph → Type 0
+AppliesRule form holds r found g h = LeavesApplied (holds r.condition) (tree_of form r.left) (tree_of form r.right) (string_bytes r.name) found g h
 
 abbrev pub UnitesRule : {L C : Type 0} → (L → Form) → (C → Values → Graph → Bool) → Rewrite L C → List Values × ℕ → Graph → Graph → Type 0
 UnitesRule form holds r k g h = LeavesUnited (holds r.condition) (tree_of form r.left) (tree_of form r.right) (string_bytes r.name) k.0 g h k.1

@@ -131,8 +131,8 @@ fn count_turn<L: Language, N: Drop, C: Cond<L, N>>(
 
 /// Searches with all rules, then applies each in order to what its search found, as `apply_rewrites` does. Returns what each rule found and changed.
 ///
-/// A match counts as united if the instances of both sides were not found equal just before. An instance that is added, but was not there before, may
-/// change the graph beside that. What was applied before a refusal stays.
+/// A match counts as united if the instances of both sides were not found equal just before. E-nodes that an instance adds are not counted. What was
+/// applied before a refusal stays.
 pub fn apply_counted<L: Language, N: Drop, C: Cond<L, N>>(
     alloc: Global,
     graph: &mut EGraph<L, N>,

@@ -12,8 +12,9 @@ use Rattle.slotted_core.specs.Graph.{Graph}
 use Rattle.slotted_graph.specs.Extension.{ExtendsTo}
 use Rattle.slotted_graph.proofs.Extending.{extends-itself, extends-then}
 use Rattle.slotted_rules.specs.declared.rewrite.Rewrite.{Rewrite}
+use Rattle.slotted_rules.specs.Counting.{AppliesRule, SearchesRule}
 use Rattle.slotted_rules.specs.RuleOrigins.{AreFromRules, ComesFromRules}
-use Rattle.slotted_rules.proofs.RuleOrigins.{Came, applies, came-wider, rules-came, rules-extend, searches}
+use Rattle.slotted_rules.proofs.RuleOrigins.{Came, came-wider, rules-came, rules-extend}
 use Rattle.slotted_rules.proofs.Settling.{begins-at}
 use Rattle.slotted_runs.specs.RunOrigins.{ComesFromHook, HaveOrigins}
 use Rattle.slotted_runs.specs.Turning.{Calls, RulesOnce, applies_in, searches_in}
@@ -34,7 +35,7 @@ module _ {Q F H : Type 0} (searches : Q → Graph → F → Graph → Type 0) (a
 module _ {L C H T : Type 0} (form : L → Form) (holds : C → Values → Graph → Bool) (rules : List (Rewrite L C)) (leaves : H → Graph → ℕ → H → Graph → Option T → Type 0)
     (extends : (k l : H) (g h : Graph) (n : ℕ) (stop : Option T) → leaves k g n l h stop → ExtendsTo g h) where
   abbrev rules_once : Graph × H → Graph × H → Type 0
-  rules_once = RulesOnce (searches form holds) (applies form holds) rules
+  rules_once = RulesOnce (SearchesRule form) (AppliesRule form holds) rules
 
   abbrev From : Graph → Graph → ℕ → Type 0
   From g h n = Came form holds rules g h n ⊎ ComesFromHook leaves g h n
@@ -64,7 +65,7 @@ module _ {L C H T : Type 0} (form : L → Form) (holds : C → Values → Graph 
   -- the rules once and then the hook, from s over the graph m to h
   module _ (s m t : Graph × H) (turns : ℕ) (stop : Option T) (by_rules : rules_once s m) (by_hook : Calls leaves m turns t stop) where
     rules_extend : ExtendsTo s.0 m.0
-    rules_extend = rules-extend form holds rules s.0 m.0 (graphs-once (searches form holds) (applies form holds) rules s m by_rules)
+    rules_extend = rules-extend form holds rules s.0 m.0 (graphs-once (SearchesRule form) (AppliesRule form holds) rules s m by_rules)
 
     hook_extends : ExtendsTo m.0 t.0
     hook_extends = extends m.1 t.1 m.0 t.0 turns stop by_hook
@@ -75,7 +76,7 @@ module _ {L C H T : Type 0} (form : L → Form) (holds : C → Values → Graph 
     pub turn-from : (n : ℕ) → length s.0.image.entries ≤ n → n < length t.0.image.entries → step_at t.0.image.entries n ≡ explicit → From s.0 t.0 n
     turn-from n past lt new = elim (cases_lt n (length m.0.image.entries)) [
       | inl before ↦
-          let came = rules-came form holds rules s.0 m.0 (graphs-once (searches form holds) (applies form holds) rules s m by_rules) n past before (step-before m.0 t.0 hook_extends n before new) in
+          let came = rules-came form holds rules s.0 m.0 (graphs-once (SearchesRule form) (AppliesRule form holds) rules s m by_rules) n past before (step-before m.0 t.0 hook_extends n before new) in
           inl (came-wider form holds rules s.0 s.0 m.0 t.0 (extends-itself s.0) hook_extends n before came)
       | inr after ↦ inr (record {
         before = m.0;

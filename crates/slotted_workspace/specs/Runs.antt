@@ -14,7 +14,7 @@ use Rattle.slotted_patterns.specs.View.{tree_of}
 use Rattle.slotted_core.specs.Graph.{Graph}
 use Rattle.slotted_graph.specs.Extension.{ExtendsTo}
 use Rattle.slotted_model_rules.specs.Conditions.{Values}
-use Rattle.slotted_rules.specs.Rewriting.{IsSearched, LeavesApplied}
+use Rattle.slotted_rules.specs.Counting.{AppliesRule, SearchesRule}
 use Rattle.slotted_rules.specs.TreeAnswers.{tree_yes}
 use Rattle.slotted_rules.specs.declared.condition_tree.CondTree.{CondTree}
 use Rattle.slotted_rules.specs.declared.rewrite.Rewrite.{Rewrite}
@@ -34,10 +34,10 @@ StopsPast n g h None = (h ≡ g) × (length g.filed ≤ n)
 StopsPast n g h (Some text) = (h ≡ g) × (n < length g.filed) × (string_bytes text ≡ codes "NodeLimit")
 
 abbrev pub searches_by : {L : Type 0} → (L → Form) → Rewrite L CondTree → Graph → List Values → Graph → Type 0
-searches_by form r g found h = IsSearched (tree_of form r.left) g found h
+searches_by form = SearchesRule form
 
 abbrev pub applies_by : {L : Type 0} → (L → Form) → Rewrite L CondTree → List Values → Graph → Graph → Type 0
-applies_by form r found g h = LeavesApplied (λ s _. tree_yes r.condition s) (tree_of form r.left) (tree_of form r.right) (string_bytes r.name) found g h
+applies_by form = AppliesRule form (λ c s _. tree_yes c s)
 
 abbrev pub leaves_by : NodeLimit → Graph → ℕ → NodeLimit → Graph → Option (String Global) → Type 0
 leaves_by h g n i k stop = StopsPast h.nodes g k stop × (i ≡ h)
