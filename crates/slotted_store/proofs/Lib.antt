@@ -9,4 +9,6 @@ pub mod DistinctValues
 pub mod RowsByForm
 pub mod Writes
 mod DeadClasses
+mod Sizes
+mod CountedClasses
 pub mod Chasing

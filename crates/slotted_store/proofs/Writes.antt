@@ -61,13 +61,16 @@ module _ (k : Kept) (i : ℕ) (x : Entry) where
   pub written-form : (j : ℕ) → (slice_index_or written j (no_form, no_entry)).0 ≡ node_at k j
   written-form j = form-set k.classes i j x (no_form, no_entry)
 
+-- the entry of a class that is read
+pub read_entry : {C : Type 0} (f : C → ClassEntry) (cs : List C) (i : ℕ) (old d : C) → i < length cs → old ≡ get_or cs i d → slice_index_or (map f cs) i (no_form, no_entry) ≡ f old
+read_entry f cs i old d h e =
+    let l : i < length (map f cs) = let m : length (map f cs) ≡ length cs = length-mapped f cs in omega arith in
+    any_default (map f cs) i (no_form, no_entry) (f d) l ∙ (at-mapped f cs i d ∙ ap f (sym e))
+
 -- a write of one class, seen as entries
 pub set_entry : {C : Type 0} (f : C → ClassEntry) (cs : List C) (i : ℕ) (old new d : C) (x : Entry) → i < length cs → old ≡ get_or cs i d → f new ≡ ((f old).0, x) → map f (set cs i new) ≡ set (map f cs) i ((slice_index_or (map f cs) i (no_form, no_entry)).0, x)
 set_entry f cs i old new d x h e n =
-    let l : i < length (map f cs) = let m : length (map f cs) ≡ length cs = length-mapped f cs in omega arith in
-    let at : slice_index_or (map f cs) i (no_form, no_entry) ≡ f old =
-    any_default (map f cs) i (no_form, no_entry) (f d) l ∙ (at-mapped f cs i d ∙ ap f (sym e)) in
-    map-set f cs i new ∙ ap (set (map f cs) i) (n ∙ ap (λ (y : ClassEntry). (y.0, x)) (sym at))
+    map-set f cs i new ∙ ap (set (map f cs) i) (n ∙ ap (λ (y : ClassEntry). (y.0, x)) (sym (read_entry f cs i old d h e)))
 
 -- a write of one class that no entry shows
 pub set_alike : {C : Type 0} (f : C → ClassEntry) (cs : List C) (i : ℕ) (old new d : C) → old ≡ get_or cs i d → f new ≡ f old → map f (set cs i new) ≡ map f cs

@@ -1,12 +1,13 @@
 -- What the classes of a graph are kept as: each class with its canonical node and its find entry, the filed nodes by shape, the listed
--- symmetries, the proof list, and the number of links.
+-- symmetries, the proof list, the number of links, the classes that died, and what rebuilds did.
 --     Kept           the lists
 --     nodes_of k     the canonical nodes without bound names
 --     entries_of k   the find entries
+--     size_of k      the live classes and their slots
 --     proofs_of k    the proof list
 --     found rs f     what is filed for a shape
 --     with_..        what each write leaves
-use Rattle.std.specs.Prelude.{◌≡◌, ℕ, suc, ◌+◌, ◌≤◌, List, [], ◌∷◌, ◌++◌, length, map, set, Bool, true, false, Option, Some, None, String, option_map, string_bytes, cond, nat_eq, slice_index_or, refl}
+use Rattle.std.specs.Prelude.{◌≡◌, ℕ, suc, ◌+◌, ◌^◌, ◌≤◌, ◌<◌, ◌↔◌, Contains, List, [], ◌∷◌, ◌++◌, length, map, set, Bool, true, false, Option, Some, None, String, option_map, string_bytes, cond, nat_eq, slice_index_or, refl}
 use Rattle.std.specs.Coded.{Coded, code_by, coded×, coded_ℕ, coded_bool, coded_list}
 use Rattle.slotted_slots.specs.declared.types.AppliedId.{AppliedId}
 use Rattle.slotted_slots.specs.Table.{slot_limit}
@@ -15,13 +16,15 @@ use Rattle.slotted_nodes.specs.Form.{Form, leaf}
 use Rattle.slotted_languages.specs.NodeTerm.{nameless_node}
 use Rattle.slotted_languages.specs.Shape.{shape}
 use Rattle.slotted_model.specs.Applied.{Applied, keys}
-use Rattle.slotted_model.specs.Find.{Entry}
+use Rattle.slotted_model.specs.Find.{Entry, IsLive, entry_at}
+use Rattle.slotted_model.specs.Rest.{entry_size, size_from}
 use Rattle.slotted_model.specs.ProofList.{ProofEntry, Step}
 use Rattle.slotted_proofs.specs.Entries.{Proven, Enters, reflexive_entry, asserted_entry}
 use Rattle.slotted_proofs.specs.Entries as list
 use Rattle.slotted_proofs.specs.declared.equation.Equation.{Equation as Sides}
 use Rattle.slotted_proofs.specs.Equations.{to_applied, statement_of}
 use Rattle.slotted_proofs.specs.Steps.{by_step}
+use Rattle.slotted_store.specs.Counts.{Counts, counts_code, no_counts}
 use Rattle.slotted_store.specs.EntryCode.{entry_code, pairs_code, proven_code}
 use Rattle.slotted_store.specs.FormCode.{form_code, form_is}
 use Rattle.slotted_store.specs.Names.{between, with_put}
@@ -49,6 +52,10 @@ pub record Kept : Type 0 where
   pub dropped : Bool
   pub proofs : List Proven
   pub moment : ℕ
+  -- the classes that died, in order
+  pub deaths : List ℕ
+  -- what rebuilds did
+  pub counts : Counts
 
 -- how they are told apart
 abbrev id_code : Coded Applied
@@ -59,13 +66,13 @@ symmetry_code = coded× (coded× id_code id_code) coded_ℕ
 
 abbrev pub kept_code : Coded Kept
 kept_code =
-    code_by (List ClassEntry × (List RowEntry × (List SymmetryEntry × (Bool × (List Proven × ℕ)))))
-    (coded× (coded_list (coded× form_code entry_code)) (coded× (coded_list (coded× form_code (coded× coded_ℕ pairs_code))) (coded× (coded_list symmetry_code) (coded× coded_bool (coded× (coded_list proven_code) coded_ℕ)))))
-    (λ k. (k.classes, (k.rows, (k.symmetries, (k.dropped, (k.proofs, k.moment))))))
-    (λ p. record { classes = p.0; rows = p.1.0; symmetries = p.1.1.0; dropped = p.1.1.1.0; proofs = p.1.1.1.1.0; moment = p.1.1.1.1.1 }) (λ _. refl)
+    code_by (List ClassEntry × (List RowEntry × (List SymmetryEntry × (Bool × (List Proven × (ℕ × (List ℕ × Counts)))))))
+    (coded× (coded_list (coded× form_code entry_code)) (coded× (coded_list (coded× form_code (coded× coded_ℕ pairs_code))) (coded× (coded_list symmetry_code) (coded× coded_bool (coded× (coded_list proven_code) (coded× coded_ℕ (coded× (coded_list coded_ℕ) counts_code)))))))
+    (λ k. (k.classes, (k.rows, (k.symmetries, (k.dropped, (k.proofs, (k.moment, (k.deaths, k.counts))))))))
+    (λ p. record { classes = p.0; rows = p.1.0; symmetries = p.1.1.0; dropped = p.1.1.1.0; proofs = p.1.1.1.1.0; moment = p.1.1.1.1.1.0; deaths = p.1.1.1.1.1.1.0; counts = p.1.1.1.1.1.1.1 }) (λ _. refl)
 
 abbrev pub nothing : Kept
-nothing = record { classes = []; rows = []; symmetries = []; dropped = false; proofs = []; moment = 0 }
+nothing = record { classes = []; rows = []; symmetries = []; dropped = false; proofs = []; moment = 0; deaths = []; counts = no_counts }
 
 abbrev pub no_form : Form
 no_form = record { operator = 0; payloads = []; tree = leaf; names = [] }
@@ -91,6 +98,26 @@ abbrev pub dead_from : ℕ → List ClassEntry → ℕ
 dead_from n [] = 0
 dead_from n (c ∷ cs) = dead_at n c + dead_from (suc n) cs
 
+-- the find entries of classes
+abbrev pub entries_in : List ClassEntry → List Entry
+entries_in = map (λ c. c.1)
+
+-- these are the classes that lead to another class
+abbrev pub ListsDead : List ℕ → List Entry → Type 0
+ListsDead deaths found = (i : ℕ) → Contains deaths i ↔ ((i < length found) × (¬ IsLive found i))
+
+-- each class has few slots
+abbrev pub AreNarrow : List Entry → Type 0
+AreNarrow found = (i : ℕ) → i < length found → entry_size i (entry_at found i) ≤ 2 ^ 64
+
+-- what is counted beside the classes: there were no more links than classes that lead to another one, the size is that of the live classes,
+-- and those that died are listed
+pub record IsCounted (moment size : ℕ) (deaths : List ℕ) (classes : List ClassEntry) : Type 0 where
+  pub links : moment ≤ dead_from 0 classes
+  pub sized : size ≡ size_from 0 (entries_in classes)
+  pub narrow : AreNarrow (entries_in classes)
+  pub dead : ListsDead deaths (entries_in classes)
+
 -- the slots of the class that a row files, one for each number of the shape
 abbrev pub names_at : Kept → ℕ → List (ℕ × ℕ)
 names_at k i = (slice_index_or k.rows i (no_form, (0, []))).1.1
@@ -102,6 +129,10 @@ nodes_of k = map (λ c. nameless_node c.0) k.classes
 -- the find entries
 abbrev pub entries_of : Kept → List Entry
 entries_of k = map (λ c. c.1) k.classes
+
+-- how many live classes and slots of them there are
+abbrev pub size_of : Kept → ℕ
+size_of k = size_from 0 (entries_of k)
 
 -- the proof list
 abbrev pub proofs_of : Kept → List ProofEntry
@@ -121,6 +152,8 @@ with_filed k f r c = record {
   dropped = k.dropped;
   proofs = k.proofs;
   moment = k.moment;
+  deaths = k.deaths;
+  counts = k.counts;
 }
 
 -- another proof list
@@ -132,6 +165,8 @@ with_proofs k ps = record {
   dropped = k.dropped;
   proofs = ps;
   moment = k.moment;
+  deaths = k.deaths;
+  counts = k.counts;
 }
 
 -- a class for a shape with the slots of m for its numbers, which leads to itself by the proof p
@@ -154,6 +189,8 @@ with_linked k i c m p = record {
   dropped = k.dropped;
   proofs = k.proofs;
   moment = suc k.moment;
+  deaths = k.deaths ++ i ∷ [];
+  counts = k.counts;
 }
 
 -- the live class i keeps the slots of these pairs alone, by the proof p
@@ -165,6 +202,8 @@ with_fewer k i m p = record {
   dropped = true;
   proofs = k.proofs;
   moment = k.moment;
+  deaths = k.deaths;
+  counts = k.counts;
 }
 
 -- one more symmetry is listed
@@ -176,6 +215,8 @@ with_listed k y = record {
   dropped = k.dropped;
   proofs = k.proofs;
   moment = k.moment;
+  deaths = k.deaths;
+  counts = k.counts;
 }
 
 -- all symmetries are known to be aligned
@@ -187,6 +228,21 @@ with_settled k = record {
   dropped = false;
   proofs = k.proofs;
   moment = k.moment;
+  deaths = k.deaths;
+  counts = k.counts;
+}
+
+-- other counts
+abbrev pub with_counts : Kept → Counts → Kept
+with_counts k c = record {
+  classes = k.classes;
+  rows = k.rows;
+  symmetries = k.symmetries;
+  dropped = k.dropped;
+  proofs = k.proofs;
+  moment = k.moment;
+  deaths = k.deaths;
+  counts = c;
 }
 
 -- the statement of x stands at p in the proof list, and nothing else changed

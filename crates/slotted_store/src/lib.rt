@@ -2,8 +2,10 @@
 //! the crates above do, and keep the graph sound.
 #![tactic(auto)]
 
+pub mod counts;
 pub mod finding;
 pub mod names;
 pub mod store;
 
+pub use counts::RebuildCount;
 pub use store::{Row, Store, Symmetry};

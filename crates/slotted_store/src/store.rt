@@ -1,6 +1,6 @@
 //! The lists of a graph: its classes, the filed nodes by shape, the listed symmetries and the proved equations, each write by itself.
 ghost use Rattle.std.specs.Prelude.{◌≡◌, ◌≢◌, ◌+◌, ◌≤◌, ◌<◌, length, map, IfOk, IfErr, OnOk, OnErr, IsErrOf, None, All, ◌⊎◌};
-ghost use Rattle.std.specs.Prelude.{option_map, ◌↔◌};
+ghost use Rattle.std.specs.Prelude.{option_map, ◌↔◌, suc, ◌^◌};
 ghost use Rattle.slotted_theory.specs.FiniteMaps.{IsInjectiveMap};
 ghost use Rattle.slotted_slots.specs.Error.{IsOutOfMemory, IsShortage};
 ghost use Rattle.slotted_slots.specs.Table.{slot_limit};
@@ -13,8 +13,11 @@ ghost use Rattle.slotted_proofs.specs.Steps.{IsReflexiveStep, IsSymmetricStep, I
 ghost use Rattle.slotted_proofs.specs.Steps.{HasInjectiveSides, IsLarge, IsRefusal};
 ghost use Rattle.slotted_store.specs.Kept.{MakesClass, EntersIn, EntersAsserted, EntersBy, HasManySlots, text_bytes};
 ghost use Rattle.slotted_store.specs.Kept.{nothing, node_at, find_at, names_at, entries_of, proofs_of, found, symmetry_entry};
+ghost use Rattle.slotted_store.specs.Counts.{last_count, noted};
+ghost use Rattle.slotted_store.specs.Kept.{ListsDead, size_of, with_counts};
 ghost use Rattle.slotted_store.specs.Kept.{with_class, with_linked, with_fewer, with_listed, with_settled};
 
+use crate::counts::RebuildCount;
 use crate::names::{map_between, put_at_places};
 use indexmap::IndexMap;
 use slotted_languages::Language;
@@ -50,7 +53,8 @@ pub struct Symmetry {
 }
 
 /// The classes by their ids, the filed nodes by their shapes, the symmetries in the order in which they were met, whether a slot was
-/// dropped since all of them were found aligned, the proved equations, and the number of links.
+/// dropped since all of them were found aligned, the proved equations, and the number of links. Beside them the classes that died, in order,
+/// how many live classes and slots of them there are, and what rebuilds did.
 #[derive(Drop)]
 pub struct Store<L: Language> {
     classes: Vec<Class<L>>,
@@ -59,11 +63,17 @@ pub struct Store<L: Language> {
     dropped: bool,
     proofs: ProofList,
     moment: usize,
+    deaths: Vec<usize>,
+    size: u128,
+    count: RebuildCount,
+    total_turns: u64,
+    total_bound: u128,
 }
 
 impl<L: Language> Model for Store<L> {
-    ghost use Rattle.std.specs.Prelude.{map, ◌≤◌};
-    ghost use Rattle.slotted_store.specs.Kept.{Kept, class_entry, dead_from, row_entry, symmetry_entry, kept_code};
+    ghost use Rattle.std.specs.Prelude.{map};
+    ghost use Rattle.slotted_store.specs.Kept.{Kept, IsCounted, class_entry, row_entry, symmetry_entry, kept_code};
+    ghost use Rattle.slotted_store.specs.Counts.{counts_of};
 
     ghost Value = { Kept };
 
@@ -76,10 +86,19 @@ impl<L: Language> Model for Store<L> {
       dropped = c.dropped;
       proofs = c.proofs;
       moment = c.moment;
+      deaths = c.deaths.items;
+      counts = counts_of c.count c.total_turns c.total_bound;
     } };
 
-    // There are no more links than classes that lead to another one.
-    ghost invariant = { λ c. c.moment ≤ dead_from 0 (map (class_entry L.form) c.classes.items) };
+    ghost invariant = { λ c. IsCounted c.moment c.size c.deaths.items (map (class_entry L.form) c.classes.items) };
+}
+
+// What a live class counts for: itself, and each of its slots.
+fn map_size(slots: &SlotMap) -> u128
+    ensures value { result ≡ suc (length slots.now) }
+    ensures bound { result ≤ 2 ^ 64 }
+{
+    slots.len() as u128 + 1
 }
 
 impl<L: Language> Store<L> {
@@ -94,6 +113,16 @@ impl<L: Language> Store<L> {
             dropped: false,
             proofs: ProofList::new(alloc),
             moment: 0,
+            deaths: Vec::new(alloc),
+            size: 0,
+            count: RebuildCount {
+                nodes: 0,
+                size_before: 0,
+                size_after: 0,
+                turns: 0,
+            },
+            total_turns: 0,
+            total_bound: 0,
         }
     }
 
@@ -178,12 +207,15 @@ impl<L: Language> Store<L> {
 
     // A class, and the row that files its node.
     fn file(&mut self, shape: L, row: Row, class: Class<L>) -> Result<(), Error>
-        requires { found self.old.rows (L.form shape) ≡ None }
+        requires absent { found self.old.rows (L.form shape) ≡ None }
+        requires live { class.find.id.0 ≡ length self.old.classes }
         ensures ok { OnOk result (self.new ≡ with_class L.form self.old shape row class) }
         ensures err { IfErr result IsOutOfMemory }
     {
+        let more = map_size(&class.find.m);
         self.rows.insert(shape, row)?;
         self.classes.push(class)?;
+        self.size += more;
         Ok(())
     }
 
@@ -227,18 +259,68 @@ impl<L: Language> Store<L> {
     }
 
     /// A class dies, and leads to another one with a slot of its own for each slot of that, by this proof.
-    pub fn set_link(&mut self, dead: usize, find: AppliedId, proof: ProvenEq)
+    pub fn set_link(&mut self, dead: usize, find: AppliedId, proof: ProvenEq) -> Result<(), Error>
         requires within { dead < length self.old.classes }
         requires live { IsLive (entries_of self.old) dead }
         requires different { find.id.0 ≢ dead }
-        ensures { self.new ≡ with_linked self.old dead find.id.0 find.m proof }
+        ensures ok { OnOk result (self.new ≡ with_linked self.old dead find.id.0 find.m proof) }
+        ensures err { IfErr result IsOutOfMemory }
     {
+        self.deaths.push(dead)?;
         let moment = self.moment;
         let class = &mut self.classes[dead];
+        let less = map_size(&class.find.m);
         class.find = find;
         class.proof = proof;
         class.died = moment;
         self.moment = moment + 1;
+        self.size -= less;
+        Ok(())
+    }
+
+    /// The classes that died, in order.
+    pub fn deaths(&self) -> &[usize]
+        ensures list { result.now ≡ self.now.deaths }
+        ensures just { ListsDead self.now.deaths (entries_of self.now) }
+    {
+        &self.deaths
+    }
+
+    /// How many live classes and slots of them there are.
+    pub fn size(&self) -> u128
+        ensures { result ≡ size_of self.now }
+    {
+        self.size
+    }
+
+    /// Notes what a rebuild did: how many filed nodes and which size it found, and how many turns it took. It left the size that is now.
+    pub fn note(&mut self, nodes: usize, size_before: u128, turns: u64)
+        ensures { self.new ≡ with_counts self.old (noted self.old.counts nodes size_before (size_of self.old) turns) }
+    {
+        let fall = size_before.saturating_sub(self.size);
+        let bound = (nodes as u128).saturating_mul(fall.saturating_add(1));
+        self.count = RebuildCount {
+            nodes,
+            size_before,
+            size_after: self.size,
+            turns,
+        };
+        self.total_turns = self.total_turns.saturating_add(turns);
+        self.total_bound = self.total_bound.saturating_add(bound);
+    }
+
+    /// What the last rebuild did.
+    pub fn last_rebuild(&self) -> RebuildCount
+        ensures { result ≡ last_count self.now.counts }
+    {
+        self.count
+    }
+
+    /// How many turns all rebuilds took, and how many their bounds allow. A sum that would be too large ends at the largest number.
+    pub fn rebuild_totals(&self) -> (u64, u128)
+        ensures { result ≡ (self.now.counts.total_turns, self.now.counts.total_bound) }
+    {
+        (self.total_turns, self.total_bound)
     }
 
     /// The proved equations.
@@ -300,7 +382,9 @@ impl<L: Language> Store<L> {
         requires live { IsLive (entries_of self.old) live }
         ensures { self.new ≡ with_fewer self.old live slots proof }
     {
+        let more = map_size(&slots);
         let class = &mut self.classes[live];
+        let less = map_size(&class.find.m);
         class.find = AppliedId {
             id: Id(live),
             m: slots,
@@ -308,6 +392,7 @@ impl<L: Language> Store<L> {
         class.proof = proof;
         class.died = 0;
         self.dropped = true;
+        self.size = self.size - less + more;
     }
 
     /// A symmetry is listed.

@@ -1,5 +1,6 @@
-use Rattle.std.proofs.Common.{◌≡◌, ◌∙◌, ap, map, refl, arith}
-use Rattle.slotted_store.specs.Kept.{Kept, ClassEntry, dead_from, symmetry_entry}
+use Rattle.std.proofs.Common.{◌∙◌, map, refl, subst, sym}
+use Rattle.slotted_store.specs.Counts.{counts_of}
+use Rattle.slotted_store.specs.Kept.{ClassEntry, IsCounted, symmetry_entry}
 use Rattle.slotted_store.proofs.Writes.{set_alike}
 use Rattle.slotted_store.specs.declared.store.Class.{Class}
 use Rattle.slotted_store.proofs.store.Store.set_last_proof.Goals as goal
@@ -10,7 +11,8 @@ invariant_of-self g c =
     let entry : Class g.row.L.Denot → ClassEntry = λ k. (form k.node, record { class = k.find.id.0; pairs = k.find.m; proof = k.proof; died = k.died }) in
     let old = c.index_mut.result.now in
     let new : Class g.row.L.Denot = record { node = old.node; find = old.find; proof = old.proof; died = old.died; last_proof = c.args.p } in
-    omega (arith, c.self.invariant, ap (dead_from 0) (set_alike entry c.self.inside.classes.items c.args.id old new _ c.index_mut.ensures.value refl))
+    let same = set_alike entry c.self.inside.classes.items c.args.id old new _ c.index_mut.ensures.value refl in
+    subst (IsCounted c.self.inside.moment c.self.inside.size c.self.inside.deaths.items) (sym same) c.self.invariant
 
 pub returns : goal.returns
 returns g c =
@@ -19,5 +21,5 @@ returns g c =
     let old = c.index_mut.result.now in
     let new : Class g.row.L.Denot = record { node = old.node; find = old.find; proof = old.proof; died = old.died; last_proof = c.args.p } in
     let classes = set_alike entry c.self.inside.classes.items c.args.id old new _ c.index_mut.ensures.value refl in
-    (λ i. record { classes = classes i; rows = map (λ e. (form e.0, (e.1.source.0, e.1.names))) c.self.inside.rows.entries; symmetries = map symmetry_entry c.self.inside.symmetries.items; dropped = c.self.inside.dropped; proofs = c.self.inside.proofs; moment = c.self.inside.moment })
+    (λ i. record { classes = classes i; rows = map (λ e. (form e.0, (e.1.source.0, e.1.names))) c.self.inside.rows.entries; symmetries = map symmetry_entry c.self.inside.symmetries.items; dropped = c.self.inside.dropped; proofs = c.self.inside.proofs; moment = c.self.inside.moment; deaths = c.self.inside.deaths.items; counts = counts_of c.self.inside.count c.self.inside.total_turns c.self.inside.total_bound })
     ∙ c.self.view_is
