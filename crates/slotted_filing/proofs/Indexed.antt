@@ -1,12 +1,14 @@
 -- Rows by place and the places of classes, as nodes are filed and taken out.
 use Rattle.std.proofs.Common.{◌≡◌, ℕ, zero, suc, ◌<◌, ◌-◌, List, [], ◌∷◌, ◌++◌, length, Option, Some, None, map, sym, ◌∙◌, ap, refl, subst, inl, inr, arith}
-use Rattle.std.specs.Prelude.{◌≢◌, option_map, slice_get, slice_index_or, set, swap_remove}
+use Rattle.std.specs.List.{count_by}
+use Rattle.std.specs.Prelude.{◌≢◌, is_some, option_map, slice_get, slice_index_or, set, swap_remove}
 use Rattle.std.proofs.Math.ListN as seq
 use Rattle.std.proofs.lemmas.Bool.{cases_eq}
-use Rattle.std.proofs.lemmas.List.{get_or-set_same, get_or-set_other, length-map, length-set}
+use Rattle.std.proofs.lemmas.List.{get_or-set_same, get_or-set_other, length-append, length-map, length-set}
 use Rattle.std.proofs.lemmas.Option.{slice_get_within}
 use Rattle.slotted_nodes.specs.Form.{Form}
 use Rattle.slotted_filing.specs.Filed.{Filing, FiledRow, HasKey, IsNewKey, IsNewToOthers, HasKeysOnce, IsIndexed, filed_at, filed_of, place_of}
+use Rattle.slotted_filing.proofs.CountedPlaces.{length-swapped, taken-added, taken-freed, taken-mapped, taken-moved, taken-put}
 use Rattle.slotted_filing.proofs.Places.{same-places, at-append_left, at-append_end, at-append_cases, swapped-other, swapped-cases}
 
 -- the class of a row that stands somewhere
@@ -82,6 +84,7 @@ indexed-added rows places h = record {
   rows_at = λ i p e. h.rows_at i p (sym (place-added places i) ∙ e);
   sources = λ p r e. place-added places r.1.0 ∙ h.sources p r e;
   keys = h.keys;
+  count = h.count ∙ sym (taken-added places);
 }
 
 -- a class with a place is one of those that have one
@@ -144,6 +147,7 @@ module _ (rows : List FiledRow) (places : List (Option ℕ)) (c : ℕ) (f : Form
         | inr l ↦ k.0 ∙ sym l.0
       ]
     ];
+    count = omega (arith, length-append rows (row ∷ []), taken-put places c (length rows) within free, h.count);
   }
 
   filed-more : (i : ℕ) → i ≢ c → filed_of (filed_in more now) i ≡ filed_of (filed_in rows places) i
@@ -209,6 +213,9 @@ module _ (rows : List FiledRow) (places : List (Option ℕ)) (c p : ℕ) (d : Fi
         ]
       ]
 
+  count-fewer : length fewer ≡ count_by is_some without
+  count-fewer = omega (arith, length-swapped rows p d within, taken-freed places c p (place-within places c p at) at, h.count)
+
   -- the node was the last one
   module _ (end : p ≡ length rows - 1) where
     stays : (i q : ℕ) → i ≢ c → place_of places i ≡ Some q → (q < length rows - 1) × (q ≢ p)
@@ -229,6 +236,7 @@ module _ (rows : List FiledRow) (places : List (Option ℕ)) (c p : ℕ) (d : Fi
         | inr m ↦ let w = x.0 in let z = m.0 in absurd (omega (arith, w, z, end))
       ];
       keys = keys-fewer;
+      count = count-fewer;
     }
 
     pub view-last : filed_in fewer without ≡ set (filed_in rows places) c None
@@ -295,6 +303,7 @@ module _ (rows : List FiledRow) (places : List (Option ℕ)) (c p : ℕ) (d : Fi
             ap (λ (y : FiledRow). place_of after y.1.0) same ∙ after-same ∙ ap Some (sym m.0)
       ];
       keys = keys-fewer;
+      count = omega (arith, count-fewer, taken-moved without mover.1.0 (length rows - 1) p mover-within (without-other mover.1.0 not-taken ∙ at-last));
     }
 
     view-mover : filed_at fewer (place_of after mover.1.0) ≡ filed_at rows (place_of places mover.1.0)
@@ -318,3 +327,8 @@ module _ (rows : List FiledRow) (places : List (Option ℕ)) (c p : ℕ) (d : Fi
               (filed-at fewer after c ∙ ap (filed_at fewer) (after-other c (λ e. not-taken (sym e)) ∙ without-same) ∙ sym (get_or-set_same (filed_in rows places) c None None (subst (λ n. c < n) (sym (length-map places (filed_at rows))) (place-within places c p at))))
           | inr n ↦ filed-at fewer after i ∙ view-other i n ∙ sym (filed-at rows places i) ∙ sym (get_or-set_other (filed_in rows places) c i None None n)
         ])
+
+-- the filed nodes are as many as the rows
+pub filed-count : (rows : List FiledRow) (places : List (Option ℕ)) → IsIndexed rows places → count_by is_some (filed_in rows places) ≡ length rows
+filed-count rows places h =
+    taken-mapped (filed_at rows) places refl (λ i p e. let r = h.rows_at i p e in ((r.0.0, r.0.1.1), ap (option_map (λ (q : FiledRow). (q.0, q.1.1))) r.1)) ∙ sym h.count

@@ -1,6 +1,6 @@
 -- Keys of classes, joined with the slots for their numbers.
-use Rattle.std.proofs.Common.{◌≡◌, ℕ, zero, suc, ◌<◌, ◌≤◌, List, [], ◌∷◌, ◌++◌, length, Option, Some, None, sym, ◌∙◌, ap, refl, subst, arith}
-use Rattle.std.specs.Prelude.{IfSome, IfNone, option_map, set, slice_index_or}
+use Rattle.std.proofs.Common.{◌≡◌, ℕ, zero, suc, ◌<◌, ◌≤◌, List, [], ◌∷◌, ◌++◌, length, Option, Some, None, sym, ◌∙◌, ap, refl, arith}
+use Rattle.std.specs.Prelude.{IfSome, IfNone, set, slice_index_or}
 use Rattle.slotted_nodes.specs.Form.{Form}
 use Rattle.slotted_filing.specs.Filed.{Filing, HasKey, IsNewKey, HasKeysOnce, filed_of, with_names, joined}
 

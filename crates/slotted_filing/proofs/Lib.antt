@@ -1,5 +1,6 @@
 pub mod Flags
 pub mod Places
+pub mod CountedPlaces
 pub mod Indexed
 pub mod KeyedRows
 pub mod JoinedNames

@@ -284,7 +284,19 @@ module _ (v : List (Option Filing)) (us : List (List ℕ)) (w : Waiting) (fit : 
       ];
     }
 
-  -- the first that waited waits no more, and nothing is filed of it
+  -- the first that waited waits no more
+
+  pub fit-left : (i : ℕ) (u : Waiting) → w.queue ≡ i ∷ u.queue → u.count ≡ w.count → FitTogether v us u
+  fit-left i u q n = record {
+    lists = fit.lists;
+    flags = let a = fit.flags in omega (arith, a, n);
+    once = let d : AllDifferent (i ∷ u.queue) = subst AllDifferent q fit.once in d.1;
+    filed = λ j h. fit.filed j (subst (λ l. Contains l j) (sym q) (contains_tail i u.queue j h));
+    children = fit.children;
+    over = fit.over;
+  }
+
+  -- nor is anything filed of it
 
   pub fit-taken : (i : ℕ) (u : Waiting) → w.queue ≡ i ∷ u.queue → u.count ≡ w.count → FitTogether (set v i None) us u
   fit-taken i u q n = record {

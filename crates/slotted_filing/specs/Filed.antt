@@ -3,7 +3,8 @@
 --     filed_of v i       what is filed of the class i
 --     HasKey v i f       the node that is filed of the class i has the key f
 --     IsIndexed rs ps    rows by place and the place of each class fit together
-use Rattle.std.specs.Prelude.{◌≡◌, ◌≢◌, ℕ, List, [], ◌∷◌, Bool, false, length, Option, Some, None, option_map, slice_get, slice_index_or, map}
+use Rattle.std.specs.Prelude.{◌≡◌, ◌≢◌, ℕ, List, [], ◌∷◌, Bool, false, length, Option, Some, None, option_map, slice_get, slice_index_or, map, is_some}
+use Rattle.std.specs.List.{count_by}
 use Rattle.std.specs.Coded.{Coded, coded×, coded_ℕ, coded_list, coded_option}
 use Rattle.indexmap.specs.IndexMap.{IndexMap}
 use Rattle.slotted_nodes.specs.Form.{Form, leaf}
@@ -58,11 +59,13 @@ filed_at rows (Some p) = option_map (λ (r : FiledRow). (r.0, r.1.1)) (slice_get
 abbrev pub place_of : List (Option ℕ) → ℕ → Option ℕ
 place_of places i = slice_index_or places i None
 
--- a class with a place has its row there, each row stands at the place of its class, and no key stands twice
+-- a class with a place has its row there, each row stands at the place of its class, no key stands twice, and there are as many rows as
+-- classes with a place
 pub record IsIndexed (rows : List FiledRow) (places : List (Option ℕ)) : Type 0 where
   pub rows_at : (i p : ℕ) → place_of places i ≡ Some p → (r : FiledRow) × (slice_get rows p ≡ Some r) × (r.1.0 ≡ i)
   pub sources : (p : ℕ) (r : FiledRow) → slice_get rows p ≡ Some r → place_of places r.1.0 ≡ Some p
   pub keys : (p q : ℕ) (r s : FiledRow) → slice_get rows p ≡ Some r → slice_get rows q ≡ Some s → r.0 ≡ s.0 → p ≡ q
+  pub count : length rows ≡ count_by is_some places
 
 -- a map is empty where its flag is down
 pub record HasNamesFlags (flags : List Bool) (names : List (List (ℕ × ℕ))) : Type 0 where

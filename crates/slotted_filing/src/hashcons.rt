@@ -5,7 +5,7 @@ ghost use Rattle.slotted_slots.specs.Error.{IsOutOfMemory};
 ghost use Rattle.slotted_model.specs.Correspondence.{AllDifferent};
 ghost use Rattle.slotted_model.specs.State.{HasTouched};
 ghost use Rattle.slotted_filing.specs.Filed.{filed_of, HasKey, IsNewKey, IsNewToOthers, HasKeysOnce};
-ghost use Rattle.slotted_filing.specs.FiledRows.{no_rows, with_class, with_filed, rows_state, key_children};
+ghost use Rattle.slotted_filing.specs.FiledRows.{no_rows, rows_in, with_class, with_filed, rows_state, key_children};
 ghost use Rattle.slotted_filing.specs.FiledRows.{IsFiled, HasChildrenBelow, QueuesUp, TakesTurn, WaitsOn};
 ghost use Rattle.slotted_filing.specs.Over.{HasChild, WaitsMore, WaitOver, AreUsedMore, UsesEach, UsesFiled};
 ghost use Rattle.slotted_filing.specs.Waiting.{Pops};
@@ -59,6 +59,13 @@ impl<L: Language> Hashcons<L> {
         ensures { result ≡ length self.now.filed }
     {
         self.nodes.class_count()
+    }
+
+    /// The number of filed nodes. It takes no memory, and the same time however many they are.
+    pub fn len(&self) -> usize
+        ensures { result ≡ length (rows_in self.now.filed) }
+    {
+        self.nodes.len()
     }
 
     /// One class more, of which nothing is filed.
@@ -177,6 +184,14 @@ impl<L: Language> Hashcons<L> {
         end_turn(&mut self.waiting, class);
         self.nodes.refile(class, key, names)?;
         Ok(())
+    }
+
+    /// The class whose turn it is waits no more, and has filed what it had.
+    pub fn leave(&mut self, class: usize)
+        requires { slice_get self.old.waiting 0 ≡ Some class }
+        ensures { TakesTurn self.old self.new class (filed_of self.old.filed class) }
+    {
+        end_turn(&mut self.waiting, class);
     }
 
     /// The class whose turn it is has nothing filed from now on, and waits no more. Its node has to be uncounted before.

@@ -1,6 +1,7 @@
 //! The filed nodes, by their keys and by the classes that they come from.
 ghost use Rattle.std.specs.Prelude.{◌≡◌, ◌<◌, ◌++◌, ◌∷◌, [], length, None, Some, set, option_map};
-ghost use Rattle.std.specs.Prelude.{IfSome, IfNone, IfErr, OnOk, OnErr};
+ghost use Rattle.std.specs.List.{count_by};
+ghost use Rattle.std.specs.Prelude.{is_some, IfSome, IfNone, IfErr, OnOk, OnErr};
 ghost use Rattle.slotted_slots.specs.Error.{IsOutOfMemory};
 ghost use Rattle.slotted_filing.specs.Filed.{filed_of, HasKey, IsNewKey, IsNewToOthers, HasKeysOnce};
 
@@ -48,6 +49,13 @@ impl<L: Language> NodeIndex<L> {
         ensures { result ≡ length self.now }
     {
         self.keys.class_count()
+    }
+
+    /// The number of filed nodes.
+    pub fn len(&self) -> usize
+        ensures { result ≡ count_by is_some self.now }
+    {
+        self.keys.len()
     }
 
     /// One class more, of which nothing is filed.

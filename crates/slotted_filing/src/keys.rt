@@ -1,6 +1,7 @@
 //! The keys that are filed, and the classes that they are filed of.
 ghost use Rattle.std.specs.Prelude.{◌≡◌, ◌<◌, ◌++◌, ◌∷◌, [], length, None, Some, set, option_map, slice_get};
-ghost use Rattle.std.specs.Prelude.{swap_remove, IfSome, IfNone, IfOk, IfErr, OnOk, OnErr};
+ghost use Rattle.std.specs.List.{count_by};
+ghost use Rattle.std.specs.Prelude.{is_some, swap_remove, IfSome, IfNone, IfOk, IfErr, OnOk, OnErr};
 ghost use Rattle.slotted_slots.specs.Error.{IsOutOfMemory};
 ghost use Rattle.slotted_filing.specs.Filed.{FiledRow, filed_of, rows_of, HasKey, IsNewKey, HasKeysOnce};
 
@@ -45,6 +46,13 @@ impl<L: Language> KeyIndex<L> {
         ensures { result ≡ length self.now }
     {
         self.places.len()
+    }
+
+    /// The number of filed keys.
+    pub fn len(&self) -> usize
+        ensures { result ≡ count_by is_some self.now }
+    {
+        self.nodes.len()
     }
 
     /// One class more, of which nothing is filed.

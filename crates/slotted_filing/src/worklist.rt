@@ -1,5 +1,5 @@
 //! Classes that wait, in the order in which they came, each once.
-ghost use Rattle.std.specs.Prelude.{◌≡◌, ◌<◌, ◌↔◌, [], IsTrue, IfSome, IfNone, IfErr, OnOk, OnErr, Contains, slice_get};
+ghost use Rattle.std.specs.Prelude.{◌≡◌, ◌<◌, ◌↔◌, [], length, IsTrue, IfSome, IfNone, IfErr, OnOk, OnErr, Contains, slice_get};
 ghost use Rattle.slotted_model.specs.Correspondence.{AllDifferent};
 ghost use Rattle.slotted_slots.specs.Error.{IsOutOfMemory};
 ghost use Rattle.slotted_filing.specs.Waiting.{nobody, with_one_more, Pushes, Pops};
@@ -73,6 +73,20 @@ impl Worklist {
         ensures once { AllDifferent self.now.queue }
     {
         self.queue.front().copied()
+    }
+
+    /// The class at a place among those that wait.
+    pub fn get(&self, k: usize) -> Option<usize>
+        ensures { result ≡ slice_get self.now.queue k }
+    {
+        self.queue.get(k).copied()
+    }
+
+    /// How many classes wait.
+    pub fn len(&self) -> usize
+        ensures { result ≡ length self.now.queue }
+    {
+        self.queue.len()
     }
 
     /// A class waits from now on: at the end, if it did not wait.
