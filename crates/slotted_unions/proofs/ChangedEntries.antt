@@ -1,5 +1,5 @@
 -- What a new find entry of one class leaves of what is kept, and so a link, and a drop of slots.
-use Rattle.std.proofs.Common.{◌≡◌, ◌≢◌, ℕ, suc, ◌<◌, [], length, set, sym, ◌∙◌, refl, subst, inl, arith}
+use Rattle.std.proofs.Common.{◌≡◌, ◌≢◌, ℕ, suc, ◌<◌, List, [], ◌∷◌, ◌++◌, length, set, sym, ◌∙◌, refl, subst, inl, arith}
 use Rattle.std.specs.Prelude.{Contains, Bool, false, map}
 use Rattle.std.proofs.lemmas.List.{append-nil}
 use Rattle.slotted_model.specs.Applied.{Applied}
@@ -32,7 +32,7 @@ untouched k c = record {
 }
 
 -- the class i gets the entry x
-module _ (k : Kept) (good : Stored k) (i : ℕ) (x : Entry) (dropped : Bool) (moment : ℕ) where
+module _ (k : Kept) (good : Stored k) (i : ℕ) (x : Entry) (dropped : Bool) (moment : ℕ) (deaths : List ℕ) where
   abbrev pub changed : Kept
   changed = record {
     classes = written k i x;
@@ -41,6 +41,8 @@ module _ (k : Kept) (good : Stored k) (i : ℕ) (x : Entry) (dropped : Bool) (mo
     dropped = dropped;
     proofs = k.proofs;
     moment = moment;
+    deaths = deaths;
+    counts = k.counts;
   }
 
   abbrev pub changed_state : State
@@ -56,8 +58,8 @@ module _ (k : Kept) (good : Stored k) (i : ℕ) (x : Entry) (dropped : Bool) (mo
     symmetries = map symmetry_of_entry k.symmetries;
   }
 
-  pub changed-grows : Grows k changed
-  changed-grows = record {
+  pub changed-grows : (gone : List ℕ) → deaths ≡ k.deaths ++ gone → Grows k changed
+  changed-grows gone died = record {
     nodes = written-nodes k i x;
     forms = written-form k i x;
     rows = refl;
@@ -65,6 +67,9 @@ module _ (k : Kept) (good : Stored k) (i : ℕ) (x : Entry) (dropped : Bool) (mo
     proofs = sym (append-nil k.proofs);
     listed = [];
     symmetries = sym (append-nil k.symmetries);
+    gone = gone;
+    deaths = died;
+    counts = refl;
   }
 
   pub changed-stored : Sane changed_state → GoesOn (state_of k) changed_state → IsLater changed_state.found moment →
@@ -115,15 +120,15 @@ module _ (k : Kept) (good : Stored k) (q : ℕ) (within : q < length k.proofs) (
 
     link-left : HasLinked k (with_linked k e.left e.right x.pairs q) e q
     link-left = record {
-      state = changed-state k good e.left x k.dropped (suc k.moment);
-      stored = changed-stored k good e.left x k.dropped (suc k.moment)
+      state = changed-state k good e.left x k.dropped (suc k.moment) (k.deaths ++ e.left ∷ []);
+      stored = changed-stored k good e.left x k.dropped (suc k.moment) (k.deaths ++ e.left ∷ [])
           (link-sane g good.sane e q k.moment can good.later at.0 at.1 [] (untouched k e.left))
           (link-goes_on g good.sane e q k.moment can good.later at.0 at.1 [] (untouched k e.left))
           (link-later g.nodes g.found good.sane.sound.linked e q k.moment can good.later)
           (λ d y c.
           link-aligned g good.sane e q k.moment can good.later at.0 at.1 [] (untouched k e.left) all.left live.right
           y (good.sane.each_listed y c) (good.settled d y c));
-      grows = changed-grows k good e.left x k.dropped (suc k.moment);
+      grows = changed-grows k good e.left x k.dropped (suc k.moment) (k.deaths ++ e.left ∷ []) (e.left ∷ []) refl;
     }
 
     -- by the code's words

@@ -142,6 +142,9 @@ module _ (k l : Kept) (only : OnlyProves k l) where
     proofs = only.grows;
     listed = [];
     symmetries = sym (append-nil k.symmetries);
+    gone = [];
+    deaths = sym (append-nil k.deaths);
+    counts = refl;
   })
 
   -- what stood stands

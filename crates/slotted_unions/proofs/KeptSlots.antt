@@ -1,5 +1,6 @@
 -- A live class drops the slots that have no partner in an entry, by the entry there and back.
 use Rattle.std.proofs.Common.{◌≡◌, ℕ, ◌<◌, List, [], ◌++◌, length, sym, ◌∙◌, ap, refl, subst, inl, append_assoc}
+use Rattle.std.proofs.lemmas.List.{append-nil}
 use Rattle.std.proofs.lemmas.Bool.{false≢true}
 use Rattle.std.specs.Map.{keys_of}
 use Rattle.std.specs.Prelude.{true}
@@ -13,10 +14,10 @@ use Rattle.slotted_model.proofs.Dropping.{kept-composite, kept-can_drop, drop-la
 use Rattle.slotted_model.proofs.Events.{drop-sane, drop-goes_on}
 use Rattle.slotted_proofs.specs.Entries.{statement_at, turned_entry, composite_entry}
 use Rattle.slotted_proofs.specs.Equations.{Meets}
-use Rattle.slotted_store.specs.Kept.{Kept, nodes_of, entries_of, EntersIn, HasManySlots, with_fewer}
+use Rattle.slotted_store.specs.Kept.{Kept, nodes_of, entries_of, EntersIn, HasManySlots, with_counts, with_fewer}
 use Rattle.slotted_unions.specs.Proving.{OnlyProves, Proves, HasLargeSide}
 use Rattle.slotted_unions.specs.StateOf.{state_of}
-use Rattle.slotted_unions.specs.Stored.{Stored, Grows}
+use Rattle.slotted_unions.specs.Stored.{Stored, Grows, GrowsUncounted}
 use Rattle.slotted_unions.specs.Uniting.{IsOfLive, IsLackedBy, HasDropped, equation_in}
 use Rattle.slotted_unions.proofs.EnteredProofs.{stored-over, stored-meet, only-stands, only-says, only-grows}
 use Rattle.slotted_unions.proofs.EnteredProofs.{turned-only, then-chained, then-large, proves-stands}
@@ -34,7 +35,18 @@ grows-then k l m a b = record {
   proofs = b.proofs ∙ (ap (λ ps. ps ++ b.more) a.proofs ∙ append_assoc k.proofs a.more b.more);
   listed = a.listed ++ b.listed;
   symmetries = b.symmetries ∙ (ap (λ ys. ys ++ b.listed) a.symmetries ∙ append_assoc k.symmetries a.listed b.listed);
+  gone = a.gone ++ b.gone;
+  deaths = b.deaths ∙ (ap (λ is. is ++ b.gone) a.deaths ∙ append_assoc k.deaths a.gone b.gone);
+  counts = b.counts ∙ a.counts;
 }
+
+-- the same where rebuilds were noted after the first
+pub uncounted-then : (k l m : Kept) → Grows k l → GrowsUncounted l m → GrowsUncounted k m
+uncounted-then k l m a b = subst (λ c. Grows k (with_counts m c)) a.counts (grows-then k l (with_counts m l.counts) a b)
+
+-- nothing has to be noted
+pub grows-uncounted : (k l : Kept) → Grows k l → GrowsUncounted k l
+grows-uncounted k l a = subst (λ c. Grows k (with_counts l c)) a.counts a
 
 module _ (k : Kept) (good : Stored k) (q : ℕ) (within : q < length k.proofs) (live : IsOfLive k (equation_in k q)) where
   abbrev e : Equation
@@ -103,13 +115,13 @@ module _ (k : Kept) (good : Stored k) (q : ℕ) (within : q < length k.proofs) (
         stands = at;
         slot = s;
         lacks = lacks;
-        state = changed-state m only.stored e.left x true m.moment;
-        stored = changed-stored m only.stored e.left x true m.moment
+        state = changed-state m only.stored e.left x true m.moment m.deaths;
+        stored = changed-stored m only.stored e.left x true m.moment m.deaths
             (drop-sane h only.stored.sane e.left (keys_of e.pairs) r can at.0 at.1 [] (untouched m e.left))
             (drop-goes_on h only.stored.sane e.left (keys_of e.pairs) r can at.0 at.1 [] (untouched m e.left))
             (drop-later h.nodes h.found only.stored.sane.sound.linked e.left (keys_of e.pairs) r can m.moment only.stored.later)
             (λ d. absurd (false≢true (sym d)));
-        grows = grows-then k m (with_fewer m e.left x.pairs r) (only-grows k m only) (changed-grows m only.stored e.left x true m.moment);
+        grows = grows-then k m (with_fewer m e.left x.pairs r) (only-grows k m only) (changed-grows m only.stored e.left x true m.moment m.deaths [] (sym (append-nil m.deaths)));
       }
 
       -- by the code's words

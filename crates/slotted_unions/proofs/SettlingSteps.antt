@@ -30,6 +30,9 @@ settled-grows k l e = subst (Grows k) (sym e) (record {
   proofs = sym (append-nil k.proofs);
   listed = [];
   symmetries = sym (append-nil k.symmetries);
+  gone = [];
+  deaths = sym (append-nil k.deaths);
+  counts = refl;
 })
 
 -- where each symmetry is found aligned, that may be noted

@@ -41,6 +41,5 @@ pub fn link<L: Language>(store: &mut Store<L>, alloc: Global, q: ProvenEq) -> Re
 {
     let dead = store.proofs().equ(q).l.id.0;
     let heir = heir(store, alloc, q)?;
-    store.set_link(dead, heir, q);
-    Ok(())
+    store.set_link(dead, heir, q)
 }

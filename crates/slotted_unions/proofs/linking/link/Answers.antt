@@ -1,4 +1,5 @@
 use Rattle.std.proofs.Common.{◌∙◌, ap, subst, sym}
+use Rattle.std.proofs.lemmas.Result.{on_ok_weaker}
 use Rattle.slotted_model.specs.Applied.{Applied}
 use Rattle.slotted_model.specs.Find.{IsLive}
 use Rattle.slotted_proofs.specs.Equations.{to_applied}
@@ -26,6 +27,6 @@ set_link-requires-clause-different g c =
 pub returns-clause-ok : goal.returns-clause-ok
 returns-clause-ok g c =
     let r = c.requires in
-    linked-left c.args.store.now r.good c.args.q r.within r.live r.different r.pairs_all
+    on_ok_weaker c.set_link.result (λ is. linked-left c.args.store.now r.good c.args.q r.within r.live r.different r.pairs_all
     c.equ.result.now.l.id.0 (entry-left c.args.store.now c.proofs.result.now c.args.q c.equ.result.now c.proofs.ensures c.equ.ensures)
-    (to_applied c.in_ok-heir.heir) c.in_ok-heir.ensures.ok c.set_link.new.self c.set_link.ensures
+    (to_applied c.in_ok-heir.heir) c.in_ok-heir.ensures.ok c.set_link.new.self is) c.set_link.ensures.ok
