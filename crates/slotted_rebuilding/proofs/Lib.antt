@@ -13,4 +13,5 @@ pub mod SettledRows
 pub mod Collisions
 pub mod NewRows
 pub mod NewestClasses
+pub mod CountedRebuilds
 pub mod RebuiltGraphs

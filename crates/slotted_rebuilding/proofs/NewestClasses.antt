@@ -16,7 +16,7 @@ use Rattle.slotted_model.specs.Rest.{Sane}
 use Rattle.slotted_model.specs.State.{Row, State, sources, normal_node}
 use Rattle.slotted_model.proofs.QuietTurns.{quiet-run}
 use Rattle.slotted_model.proofs.Rows.{source-in}
-use Rattle.slotted_store.specs.Kept.{Kept, nodes_of, proofs_of}
+use Rattle.slotted_store.specs.Kept.{Kept, nodes_of, proofs_of, size_of}
 use Rattle.slotted_store.proofs.KeptLists.{length-nodes_of}
 use Rattle.slotted_filing.specs.Filed.{Filing, IsNewKey, filed_of}
 use Rattle.slotted_filing.specs.FiledRows.{IsFiled, QueuesUp, Rows, row_of_entry, rows_in, with_class, with_filed}
@@ -26,11 +26,13 @@ use Rattle.slotted_filing.specs.FoundNodes.{HasNoMorePlaces, IsFoundNode, finds_
 use Rattle.slotted_unions.specs.Proving.{OnlyProves}
 use Rattle.slotted_unions.specs.StateOf.{state_with}
 use Rattle.slotted_unions.proofs.EnteredProofs.{only-grows, only-state, nothing-proved}
-use Rattle.slotted_unions.proofs.KeptSlots.{grows-then}
+use Rattle.slotted_unions.proofs.KeptSlots.{grows-then, uncounted-then}
+use Rattle.slotted_rebuilding.specs.Counted.{CountsFit, CountsGo, TotalsFit}
 use Rattle.slotted_rebuilding.specs.Filed.{state_in, IsKeyed, IsWellFiled, UnitesFiled}
 use Rattle.slotted_rebuilding.specs.NewClasses.{BeginsAdding, FilesNewest, HasNewest, IsUnfiled}
 use Rattle.slotted_rebuilding.specs.Turns.{ProvesCongruence, Rebuilds, SharesKey}
 use Rattle.slotted_rebuilding.proofs.Collisions.{found-shape, has-key}
+use Rattle.slotted_rebuilding.proofs.CountedRebuilds.{rebuild-fits}
 use Rattle.slotted_rebuilding.proofs.EnteredCongruences.{congruence-in, proved-well, stands-within}
 use Rattle.slotted_rebuilding.proofs.FiledStates.{united-well}
 use Rattle.slotted_rebuilding.proofs.NarrowedNodes.{filed-places}
@@ -70,7 +72,8 @@ files-newest k r s l q n t turns is begun rebuilt = record {
   filed = rebuilt.filed;
   quiet = rebuilt.nothing_left.0;
   settled = rebuilt.settled;
-  grows = grows-then k l n begun.grows rebuilt.grows;
+  grows = uncounted-then k l n begun.grows rebuilt.grows;
+  counts = subst (λ c. TotalsFit c → CountsGo c n.counts × CountsFit n.counts (size_of n)) begun.grows.counts (rebuild-fits l q n turns rebuilt.notes);
 }
 
 -- a class is made, where what is done for it does not say which state was before

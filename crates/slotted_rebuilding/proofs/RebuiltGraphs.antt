@@ -1,14 +1,17 @@
 -- A rebuild, turn by turn.
-use Rattle.std.proofs.Common.{◌≡◌, ◌<◌, ◌≤◌, ◌+◌, ℕ, List, [], ◌∷◌, subst, refl, arith}
+use Rattle.std.proofs.Common.{◌≡◌, ◌<◌, ◌≤◌, ◌+◌, ℕ, List, [], ◌∷◌, length, ap, sym, subst, refl, arith}
 use Rattle.std.specs.Prelude.{None, slice_get}
 use Rattle.std.proofs.lemmas.Option.{none-some}
 use Rattle.slotted_model.specs.Rebuild.{Runs}
-use Rattle.slotted_store.specs.Kept.{Kept}
-use Rattle.slotted_filing.specs.FiledRows.{Rows}
-use Rattle.slotted_unions.proofs.KeptSlots.{grows-then}
-use Rattle.slotted_rebuilding.specs.Filed.{state_in, SettlesFiled}
-use Rattle.slotted_rebuilding.specs.Turns.{Rebuilds, RebuildsSoFar, TakesTurns}
+use Rattle.slotted_store.specs.Counts.{Counts, noted}
+use Rattle.slotted_store.specs.Kept.{Kept, size_of, with_counts}
+use Rattle.slotted_unions.specs.Stored.{Stored}
+use Rattle.slotted_filing.specs.FiledRows.{Rows, rows_in}
+use Rattle.slotted_unions.proofs.KeptSlots.{grows-then, grows-uncounted}
+use Rattle.slotted_rebuilding.specs.Filed.{state_in, IsWellFiled, SettlesFiled}
+use Rattle.slotted_rebuilding.specs.Turns.{Rebuilds, RebuildsAll, RebuildsSoFar, TakesTurns}
 use Rattle.slotted_rebuilding.specs.Work.{work}
+use Rattle.slotted_rebuilding.proofs.CountedRebuilds.{run-counted}
 use Rattle.slotted_rebuilding.proofs.Runs.{runs-join, runs-work, runs-work_less}
 
 -- before the first turn
@@ -44,13 +47,50 @@ no-first [] e = refl
 no-first (x ∷ w) e = absurd (none-some x e)
 
 -- where no class waits, nothing is left to do
-pub nothing-left : (k : Kept) (r : Rows) (l : Kept) (q : Rows) (counted : ℕ) → RebuildsSoFar k r l q counted → None ≡ slice_get q.waiting 0 → Rebuilds k r l q counted
-nothing-left k r l q counted s e = record {
-  turns = s.turns;
-  at_least = s.at_least;
-  runs = s.runs;
-  filed = s.filed;
-  grows = s.grows;
-  nothing_left = (no-first q.waiting e, λ y c. s.filed.stored.settled s.settled y c);
-  settled = s.settled;
+pub nothing-left : (k : Kept) (r : Rows) (l : Kept) (q : Rows) (counted : ℕ) → RebuildsSoFar k r l q counted → None ≡ slice_get q.waiting 0 → RebuildsAll k r l q counted
+nothing-left k r l q counted s e = record { so_far = s; nothing_left = (no-first q.waiting e, λ y c. s.filed.stored.settled s.settled y c) }
+
+-- what is noted changes nothing else
+
+noted-stored : (k : Kept) (c : Counts) → Stored k → Stored (with_counts k c)
+noted-stored k c stored = record {
+  sane = stored.sane;
+  proved = stored.proved;
+  later = stored.later;
+  sides = λ y h. let s = stored.sides y h in record { left = s.left; right = s.right; class = s.class; slots = s.slots; left_known = s.left_known; right_known = s.right_known };
+  once = stored.once;
+  settled = stored.settled;
 }
+
+pub noted-filed : (k : Kept) (r : Rows) (c : Counts) → IsWellFiled k r → IsWellFiled (with_counts k c) r
+noted-filed k r c well = record {
+  stored = noted-stored k c well.stored;
+  canonical = well.canonical;
+  fits = well.fits;
+  count = well.count;
+  sane = well.sane;
+  keyed = well.keyed;
+  places = well.places;
+}
+
+-- all of this is noted
+pub all-noted : (k : Kept) (r : Rows) (l : Kept) (q : Rows) (counted : ℕ) → IsWellFiled k r → RebuildsAll k r l q counted → (m : Kept) →
+    m ≡ with_counts l (noted l.counts (length (rows_in r.filed)) (size_of k) (size_of l) counted) → Rebuilds k r m q counted
+all-noted k r l q counted well all m is =
+    let so_far = all.so_far in
+    let c : Counts = noted l.counts (length (rows_in r.filed)) (size_of k) (size_of l) counted in
+    let few = run-counted (state_in k r) (state_in l q) so_far.turns counted well.sane so_far.runs so_far.at_least in
+    subst (λ (z : Kept). Rebuilds k r z q counted) (sym is) (record {
+      turns = so_far.turns;
+      at_least = so_far.at_least;
+      runs = so_far.runs;
+      filed = noted-filed l q c so_far.filed;
+      grows = grows-uncounted k l so_far.grows;
+      nothing_left = all.nothing_left;
+      settled = so_far.settled;
+      notes = record {
+        counts = ap (λ (d : Counts). noted d (length (rows_in r.filed)) (size_of k) (size_of l) counted) so_far.grows.counts;
+        bounded = few.0;
+        falls = few.1;
+      };
+    })

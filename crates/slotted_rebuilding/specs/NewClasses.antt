@@ -10,11 +10,12 @@ use Rattle.slotted_model.specs.Rebuild.{HasNothingLeft, Runs}
 use Rattle.slotted_model.specs.Rest.{Sane}
 use Rattle.slotted_model.specs.State.{State}
 use Rattle.slotted_languages.specs.Shape.{Fits}
-use Rattle.slotted_store.specs.Kept.{Kept, node_at, rows_from}
+use Rattle.slotted_store.specs.Kept.{Kept, node_at, rows_from, size_of}
 use Rattle.slotted_filing.specs.Filed.{Filing, filed_of}
 use Rattle.slotted_filing.specs.FiledRows.{Rows, with_class}
 use Rattle.slotted_filing.specs.FoundNodes.{HasNoMorePlaces}
-use Rattle.slotted_unions.specs.Stored.{Stored, Grows}
+use Rattle.slotted_unions.specs.Stored.{Stored, Grows, GrowsUncounted}
+use Rattle.slotted_rebuilding.specs.Counted.{CountsFit, CountsGo, TotalsFit}
 use Rattle.slotted_rebuilding.specs.Filed.{state_in, IsKeyed, IsWellFiled}
 
 -- one class was made since the rest of r: it is not filed yet, nothing waits, and the state is sane
@@ -51,4 +52,6 @@ pub record FilesNewest (k : Kept) (r : Rows) (l : Kept) (q : Rows) : Type 0 wher
   pub filed : IsWellFiled l q
   pub quiet : q.waiting ≡ []
   pub settled : l.dropped ≡ false
-  pub grows : Grows k l
+  pub grows : GrowsUncounted k l
+  -- what was noted goes on, and fits
+  pub counts : TotalsFit k.counts → CountsGo k.counts l.counts × CountsFit l.counts (size_of l)

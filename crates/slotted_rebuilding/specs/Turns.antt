@@ -7,7 +7,8 @@
 --     NarrowsTo            so often that the node has each slot of the class
 --     TakesTurns           turns lead from one to the other
 --     RebuildsSoFar        turns and acts, at least as many turns as are counted
---     Rebuilds             the same, until nothing is left to do
+--     RebuildsAll          the same, until nothing is left to do
+--     Rebuilds             so it is, and it is noted
 use Rattle.std.specs.Prelude.{◌≡◌, ℕ, ◌<◌, ◌≤◌, List, Contains, Some, false, slice_get}
 use Rattle.slotted_model.specs.Find.{used_slots}
 use Rattle.slotted_model.specs.Ascending.{names}
@@ -22,7 +23,8 @@ use Rattle.slotted_store.specs.Kept.{Kept}
 use Rattle.slotted_filing.specs.FiledRows.{Rows, WaitsOn}
 use Rattle.slotted_unions.specs.Proving.{OnlyProves}
 use Rattle.slotted_unions.specs.StateOf.{state_of}
-use Rattle.slotted_unions.specs.Stored.{Grows}
+use Rattle.slotted_unions.specs.Stored.{Grows, GrowsUncounted}
+use Rattle.slotted_rebuilding.specs.Counted.{NotesRebuild}
 use Rattle.slotted_rebuilding.specs.Filed.{state_in, IsWellFiled}
 
 -- the class is the first one that waits
@@ -80,12 +82,19 @@ pub record RebuildsSoFar (k : Kept) (r : Rows) (l : Kept) (q : Rows) (counted : 
   pub grows : Grows k l
   pub settled : l.dropped ≡ false
 
--- turns, at least as many as are counted, and acts lead from one to the other, where nothing is left to do, and whose symmetries are all known to be aligned
+-- the same where nothing is left to do
+pub record RebuildsAll (k : Kept) (r : Rows) (l : Kept) (q : Rows) (counted : ℕ) : Type 0 where
+  pub so_far : RebuildsSoFar k r l q counted
+  pub nothing_left : HasNothingLeft (state_in l q)
+
+-- turns, at least as many as are counted, and acts lead from one to the other, where nothing is left to do, whose symmetries are all known to be aligned,
+-- and which notes as many turns
 pub record Rebuilds (k : Kept) (r : Rows) (l : Kept) (q : Rows) (counted : ℕ) : Type 0 where
   pub turns : ℕ
   pub at_least : counted ≤ turns
   pub runs : Runs (state_in k r) turns (state_in l q)
   pub filed : IsWellFiled l q
-  pub grows : Grows k l
+  pub grows : GrowsUncounted k l
   pub nothing_left : HasNothingLeft (state_in l q)
   pub settled : l.dropped ≡ false
+  pub notes : NotesRebuild k r l counted

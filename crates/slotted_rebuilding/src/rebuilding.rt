@@ -3,7 +3,7 @@ ghost use Rattle.std.specs.Prelude.{IfOk, IfErr, IsErrOf};
 ghost use Rattle.slotted_slots.specs.Error.{IsShortage};
 ghost use Rattle.slotted_rebuilding.specs.Causes.{HasLargeClass};
 ghost use Rattle.slotted_rebuilding.specs.Filed.{IsWellFiled};
-ghost use Rattle.slotted_rebuilding.specs.Turns.{Rebuilds};
+ghost use Rattle.slotted_rebuilding.specs.Turns.{Rebuilds, RebuildsAll};
 
 use crate::settling::settle_all;
 use crate::turning::take_turn;
@@ -13,24 +13,43 @@ use slotted_slots::Error;
 use slotted_store::Store;
 use std::alloc::Global;
 
-/// Equal nodes stand for one class from now on, up to listed symmetries: each class that waits takes its turn, and symmetries that are not
-/// aligned are acted on. The answer counts the classes that took their turn.
-pub fn rebuild<L: Language>(
+// Each class that waits takes its turn, and symmetries that are not aligned are acted on, until nothing is left to do. The answer counts the
+// classes that took their turn.
+fn take_turns<L: Language>(
     store: &mut Store<L>,
     nodes: &mut Hashcons<L>,
     alloc: Global,
-) -> Result<usize, Error>
+) -> Result<u64, Error>
     requires good { IsWellFiled store.old nodes.old }
-    ensures ok { IfOk result (Rebuilds store.old nodes.old store.new nodes.new) }
+    ensures ok { IfOk result (RebuildsAll store.old nodes.old store.new nodes.new) }
     ensures full { IsErrOf result Error.OutOfSlots → HasLargeClass store.old }
     ensures err { IfErr result IsShortage }
 {
-    let mut turns: usize = 0;
+    let mut turns: u64 = 0;
     settle_all(store, nodes, alloc)?;
     while let Some(class) = nodes.front() {
         take_turn(store, nodes, alloc, class)?;
         settle_all(store, nodes, alloc)?;
         turns = turns.saturating_add(1);
     }
+    Ok(turns)
+}
+
+/// Equal nodes stand for one class from now on, up to listed symmetries: each class that waits takes its turn, and symmetries that are not
+/// aligned are acted on. The answer counts the classes that took their turn, and it is noted.
+pub fn rebuild<L: Language>(
+    store: &mut Store<L>,
+    nodes: &mut Hashcons<L>,
+    alloc: Global,
+) -> Result<u64, Error>
+    requires good { IsWellFiled store.old nodes.old }
+    ensures ok { IfOk result (Rebuilds store.old nodes.old store.new nodes.new) }
+    ensures full { IsErrOf result Error.OutOfSlots → HasLargeClass store.old }
+    ensures err { IfErr result IsShortage }
+{
+    let filed = nodes.len();
+    let size = store.size();
+    let turns = take_turns(store, nodes, alloc)?;
+    store.note(filed, size, turns);
     Ok(turns)
 }

@@ -1,7 +1,7 @@
 use Rattle.slotted_rebuilding.specs.Filed.{state_in}
 use Rattle.slotted_rebuilding.specs.Turns.{RebuildsSoFar}
 use Rattle.slotted_rebuilding.specs.Work.{work}
-use Rattle.slotted_rebuilding.proofs.rebuilding.rebuild.Given as goal
+use Rattle.slotted_rebuilding.proofs.rebuilding.take_turns.Given as goal
 
 abbrev pub invariant-loop-class : goal.invariant-loop-class
 invariant-loop-class g l = RebuildsSoFar l.fn.store l.fn.nodes l.store l.nodes l.turns
