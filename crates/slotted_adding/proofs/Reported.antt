@@ -1,11 +1,10 @@
 -- What reports list.
-use Rattle.std.proofs.Common.{◌≡◌, ◌+◌, ◌∙◌, ℕ, suc, List, [], ◌∷◌, ◌++◌, true, false, length, map, cond, refl, ap, sym, inl, inr, arith}
-use Rattle.std.specs.Prelude.{Bool, Option, Some, None, is_some}
-use Rattle.std.specs.List.{count_by, filter, range_with_len}
+use Rattle.std.proofs.Common.{◌≡◌, ◌+◌, ◌∙◌, ℕ, List, [], ◌∷◌, ◌++◌, true, false, map, cond, refl, ap, sym, inl, inr, arith}
+use Rattle.std.specs.Prelude.{Bool}
+use Rattle.std.specs.List.{filter, range_with_len}
 use Rattle.std.specs.Ordering.{nat_cmp}
 use Rattle.std.proofs.lemmas.Bool.{false≢true}
-use Rattle.std.proofs.lemmas.List.{append-nil, length-append}
-use Rattle.std.proofs.lemmas.List.Sums.{sum_by-cons}
+use Rattle.std.proofs.lemmas.List.{append-nil}
 use Rattle.std.proofs.lemmas.List.FromFn.{filter_of_map_range_with_len_more}
 use Rattle.slotted_slots.specs.Maps.{is_among}
 use Rattle.slotted_slots.specs.Sets.{set_of}
@@ -15,8 +14,6 @@ use Rattle.slotted_model.specs.Ascending.{ascending}
 use Rattle.slotted_model.proofs.Members.{In}
 use Rattle.slotted_model.proofs.Sets.{IsAscending-ascending, In-ascending, In-of_ascending, same_members}
 use Rattle.slotted_proofs.proofs.Bridges.{ascends}
-use Rattle.slotted_filing.specs.Filed.{Filing}
-use Rattle.slotted_filing.specs.FiledRows.{row_at, rows_from, rows_in}
 
 -- the set of some numbers is the numbers, ascending
 
@@ -58,17 +55,3 @@ pub next-fails : (test : ℕ → Bool) (n : ℕ) → test n ≡ false → filter
 next-fails test n e =
     sym (append-nil (filter test (range_with_len 0 n)))
     ∙ (ap (λ b. filter test (range_with_len 0 n) ++ cond b (n ∷ []) []) (sym e) ∙ sym (next-number test n))
-
--- there is a row for each class of which something is filed
-
-length-row : (i : ℕ) (x : Option Filing) → length (row_at i x) ≡ cond (is_some x) 1 0
-length-row i None = refl
-length-row i (Some e) = refl
-
-length-rows : (i : ℕ) (v : List (Option Filing)) → length (rows_from i v) ≡ count_by is_some v
-length-rows i [] = refl
-length-rows i (x ∷ v) =
-    omega (arith, length-append (rows_from (suc i) v) (row_at i x), length-rows (suc i) v, length-row i x, sum_by-cons (λ (y : Option Filing). cond (is_some y) 1 0) x v)
-
-pub rows-counted : (v : List (Option Filing)) → count_by is_some v ≡ length (rows_in v)
-rows-counted v = sym (length-rows 0 v)
