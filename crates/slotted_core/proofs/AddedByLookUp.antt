@@ -31,6 +31,7 @@ use Rattle.slotted_rebuilding.specs.Filed.{state_in}
 use Rattle.slotted_core.specs.Good.{Good, RestsWith, HasFreshSlots, AddsFilled, AddsFound, KeepsAnswers, MakesClassOf}
 use Rattle.slotted_core.specs.Graph.{HasNewClass, IsFreshBetween}
 use Rattle.slotted_core.proofs.FiledClasses.{same-goes_on, adds-none}
+use Rattle.slotted_core.proofs.KeptNotes.{notes-none}
 use Rattle.slotted_core.proofs.GoodFinds.{full-findable}
 use Rattle.slotted_core.proofs.NodeAddition.{full_children}
 use Rattle.slotted_core.proofs.Resting.{at-rest}
@@ -60,6 +61,7 @@ module _ (k : Kept) (r : Rows) (good : Good k) (rests : RestsWith k r) where
     extends = Extends-same (nodes_of k);
     goes_on = same-goes_on k r good rests;
     adds = adds-none k r good rests;
+    notes = notes-none k;
     keeps = keeps-none;
     found = sym e;
     kept = λ s. (refl, refl, refl);
@@ -158,6 +160,7 @@ module _ (k : Kept) (r : Rows) (good : Good k) (rests : RestsWith k r) where
       extends = adds.adds.extends;
       goes_on = adds.adds.goes_on;
       adds = adds.adds.adds;
+      notes = adds.adds.notes;
       keeps = record { finds = kept.finds; nodes = kept.nodes; trees = kept.trees };
       found = sym is;
       kept = λ s. absurd (false≢true (sym (ap is_some none) ∙ s));

@@ -32,7 +32,7 @@ use Rattle.slotted_store.proofs.ChildIds.{Each, Each-append}
 use Rattle.slotted_filing.specs.FiledRows.{Rows}
 use Rattle.slotted_rebuilding.specs.Filed.{state_in}
 use Rattle.slotted_core.specs.Adding.{IsOfTerm, args_nodes, term_nodes}
-use Rattle.slotted_core.specs.Good.{AddsNodeIn, AddsNodesIn, Good, HasFreshSlots, KeepsAnswers, RestsWith, image_of, none_added, one_added}
+use Rattle.slotted_core.specs.Good.{AddsNodeIn, AddsNodesIn, Good, HasFreshSlots, KeepsAnswers, KeepsNotes, RestsWith, image_of, none_added, one_added}
 use Rattle.slotted_core.specs.Image.{AddsClasses}
 use Rattle.slotted_core.specs.Nodes.{ids_in, child_ids}
 use Rattle.slotted_core.specs.Places.{args_places, term_places}
@@ -40,6 +40,7 @@ use Rattle.slotted_core.specs.Subterms.{IsSubterm, IsTopIn}
 use Rattle.slotted_core.proofs.AddedByLookUp.{keeps-none}
 use Rattle.slotted_core.proofs.ContinuedFinds.{finds-on}
 use Rattle.slotted_core.proofs.FiledClasses.{adds-none, same-goes_on}
+use Rattle.slotted_core.proofs.KeptNotes.{notes-none, notes-then}
 use Rattle.slotted_core.proofs.Images.{adds-then}
 use Rattle.slotted_core.proofs.Layers.{Each-parts, child_smaller, each_at, length-parts, whole_count, whole_each}
 use Rattle.slotted_core.proofs.LookedUpParts.{look-names}
@@ -54,6 +55,7 @@ pub record Reached (t : Table) (k : Kept) (r : Rows) (u : Table) (l : Kept) (q :
   pub extends : Extends (nodes_of k) (nodes_of l)
   pub goes_on : GoesOn (state_in k r) (state_in l q)
   pub adds : AddsClasses (image_of k) (image_of l)
+  pub notes : KeepsNotes k l
   pub keeps : KeepsAnswers k r l q
 
 module _ (w : Term) (t : Table) (k : Kept) (r : Rows) (good : Good k) (rests : RestsWith k r) (fresh : HasFreshSlots t k) where
@@ -66,6 +68,7 @@ module _ (w : Term) (t : Table) (k : Kept) (r : Rows) (good : Good k) (rests : R
     extends = Extends-same (nodes_of k);
     goes_on = same-goes_on k r good rests;
     adds = adds-none k r good rests;
+    notes = notes-none k;
     keeps = keeps-none k r good rests;
   }
 
@@ -81,6 +84,7 @@ module _ (w : Term) (t : Table) (k : Kept) (r : Rows) (good : Good k) (rests : R
         extends = Extends-then (nodes_of k) (nodes_of l) (nodes_of m) p.extends one.extends;
         goes_on = on;
         adds = adds-then (image_of k) (image_of l) (image_of m) p.extends p.adds one.adds (finds-on k r good m s on);
+        notes = notes-then k l m p.notes one.notes;
         keeps = record {
           finds = λ a h. one.keeps.finds a (p.goes_on.finds a h).0 ∙ p.keeps.finds a h;
           nodes = λ d c a e. one.keeps.nodes d (EachChild-map (IsFindable k) (IsFindable l) (λ x h. (p.goes_on.finds x h).0) d.args c) a (p.keeps.nodes d c a e);

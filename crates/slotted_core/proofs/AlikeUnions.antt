@@ -16,6 +16,8 @@ use Rattle.slotted_unions.specs.Uniting.{SaysNothing}
 use Rattle.slotted_unions.proofs.AlikeSides.{alike-identity}
 use Rattle.slotted_rebuilding.specs.Filed.{IsWellFiled, UnitesFiled}
 use Rattle.slotted_rebuilding.specs.Turns.{Rebuilds}
+use Rattle.slotted_rebuilding.proofs.RebuiltGraphs.{all-noted}
+use Rattle.slotted_core.specs.Good.{with_rest_noted}
 use Rattle.slotted_core.proofs.Asserting.{IsAsserted}
 
 itself : (m : Kept) → Grows m m
@@ -27,6 +29,9 @@ itself m = record {
   proofs = sym (append-nil m.proofs);
   listed = [];
   symmetries = sym (append-nil m.symmetries);
+  gone = [];
+  deaths = sym (append-nil m.deaths);
+  counts = refl;
 }
 
 module _ (k m : Kept) (x : Proven) (a b : Applied) (p : ℕ) (said : IsAsserted k m x a b p) where
@@ -46,13 +51,9 @@ module _ (k m : Kept) (x : Proven) (a b : Applied) (p : ℕ) (said : IsAsserted 
       waits = record { same = refl; more = []; waits = sym (append-nil r.waiting) };
     }
 
-  pub alike-rebuilds : (r : Rows) → IsWellFiled m r → r.waiting ≡ [] → Rebuilds m r m r 0
-  alike-rebuilds r filed quiet = record {
-    turns = 0;
-    at_least = omega arith;
-    runs = starts;
-    filed = filed;
-    grows = itself m;
-    nothing_left = (quiet, said.stored.settled said.settled);
-    settled = said.settled;
-  }
+  pub alike-rebuilds : (r : Rows) → IsWellFiled m r → r.waiting ≡ [] → (z : Kept) → z ≡ with_rest_noted m r → Rebuilds m r z r 0
+  alike-rebuilds r filed quiet z is =
+      all-noted m r m r 0 filed (record {
+        so_far = record { turns = 0; at_least = omega arith; runs = starts; filed = filed; grows = itself m; settled = said.settled };
+        nothing_left = (quiet, said.stored.settled said.settled);
+      }) z is

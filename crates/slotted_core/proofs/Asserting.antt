@@ -125,6 +125,9 @@ module _ (k : Kept) (good : Good k) (a b : Applied) (fa : IsFull (nodes_of k) a)
       proofs = (entered-more k.proofs e.proofs x p e.enters).1;
       listed = [];
       symmetries = sym (append-nil k.symmetries);
+      gone = [];
+      deaths = sym (append-nil k.deaths);
+      counts = refl;
     };
     found = refl;
     stands = ((entered_stands k.proofs e.proofs x p e.enters).0, (entered_stands k.proofs e.proofs x p e.enters).1);

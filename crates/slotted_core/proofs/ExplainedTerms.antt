@@ -22,17 +22,19 @@ use Rattle.slotted_store.proofs.KeptLists.{equation_at-of, length-nodes_of, leng
 use Rattle.slotted_filing.specs.FiledRows.{Rows, rows_in}
 use Rattle.slotted_unions.specs.Proving as unions
 use Rattle.slotted_unions.specs.Proving.{OnlyProves, ProvesEqual}
+use Rattle.slotted_unions.proofs.KeptSlots.{grows-uncounted}
 use Rattle.slotted_unions.proofs.EnteredProofs.{only-nodes, only-proofs, only-state, only-grows}
 use Rattle.slotted_rebuilding.specs.Filed.{state_in}
 use Rattle.slotted_core.specs.Causes.{CanRunOutForTerm, IsUnknownTerm}
 use Rattle.slotted_core.specs.Explaining.{AddsTerms, HasIds, ExplainsTerms, IsIdOfEither, ProvesIfAlike, RunsOutForTerms, no_slots, large_left, large_right, large_graph, wide_left, wide_right, large_class}
-use Rattle.slotted_core.specs.Good.{Good, RestsWith, AddsTerm, image_of}
+use Rattle.slotted_core.specs.Good.{Good, KeepsNotes, RestsWith, AddsTerm, image_of}
 use Rattle.slotted_core.specs.Graph.{MakesAtMost}
 use Rattle.slotted_core.specs.Image.{AddsClasses, FoundAlike, IsIdOfSubterm, NewClassesAre}
 use Rattle.slotted_core.specs.Places.{term_slots}
 use Rattle.slotted_core.proofs.ContinuedFinds.{finds-on, alike-on, adds-classes}
 use Rattle.slotted_core.proofs.FiledClasses.{grown-good, grown-fresh}
 use Rattle.slotted_core.proofs.Images.{adds-then, found_id-is}
+use Rattle.slotted_core.proofs.KeptNotes.{notes-proving, notes-then}
 use Rattle.slotted_core.proofs.Resting.{proved-rests}
 use Rattle.slotted_core.proofs.Tables.{runs_out-more, runs_out-then}
 use Rattle.slotted_core.proofs.Unions.{large-class_of}
@@ -40,7 +42,7 @@ use Rattle.slotted_core.proofs.Unions.{large-class_of}
 -- entries that assert nothing keep a graph good, and add no class
 module _ (k : Kept) (r : Rows) (good : Good k) (rests : RestsWith k r) (l : Kept) (only : OnlyProves k l) where
   proving-good : Good l
-  proving-good = grown-good k l good (only-grows k l only) only.stored (subst (λ (z : Kept). z.dropped ≡ false) (sym only.kept) good.settled)
+  proving-good = grown-good k l good (grows-uncounted k l (only-grows k l only)) only.stored (subst (λ (z : Kept). z.dropped ≡ false) (sym only.kept) good.settled)
 
   proving-on : GoesOn (state_in k r) (state_in l r)
   proving-on =
@@ -68,6 +70,9 @@ module _ (k : Kept) (r : Rows) (good : Good k) (m : Kept) (s : Rows) (n : Kept) 
     extends = Extends-then (nodes_of k) (nodes_of m) (nodes_of n) first.extends second.extends;
     adds = adds-then (image_of k) (image_of m) (image_of n) first.extends first.adds second.adds (finds-on k r good n q both-on);
   }
+
+  both-notes : KeepsNotes k n
+  both-notes = notes-then k m n first.notes second.notes
 
   both-ids : HasIds (image_of n) left right a b
   both-ids = record {
@@ -108,6 +113,7 @@ module _ (k : Kept) (r : Rows) (good : Good k) (m : Kept) (s : Rows) (n : Kept) 
     rests = second.rests;
     fresh_slots = second.fresh_slots;
     adds = both-added;
+    notes = both-notes;
     filed = both-filed;
     kept = λ x y. let all = both-kept x y in (ap nodes_of all.0, ap (λ (z : Kept). (image_of z).found) all.0, ap (λ (z : Kept). (image_of z).symmetries) all.0, all.1, all.2);
     answers = record { left = a; right = b; ids = both-ids; apart = λ f. apart (says-alike.1 f) };
@@ -128,6 +134,7 @@ module _ (k : Kept) (r : Rows) (good : Good k) (m : Kept) (s : Rows) (n : Kept) 
           extends = Extends-then (nodes_of k) (nodes_of n) (nodes_of l) both-added.extends x;
           adds = adds-then (image_of k) (image_of n) (image_of l) both-added.extends both-added.adds (proving-adds n q second.good second.rests l proves.only) (finds-on k r good l q on);
         };
+        notes = notes-then k n l both-notes (notes-proving n l proves.only);
         filed = subst (λ ns. NewClassesAre (nodes_of k) ns (IsIdOfEither ns left right)) (sym same) both-filed;
         kept = λ x y.
             let all = both-kept x y in (

@@ -20,7 +20,7 @@ use Rattle.slotted_model.proofs.GoingOn.{goes_on-same}
 use Rattle.slotted_model.proofs.Growing.{node-old}
 use Rattle.slotted_model.proofs.Theory.{moved-id}
 use Rattle.slotted_proofs.specs.Entries.{Proven}
-use Rattle.slotted_store.specs.Kept.{Kept, SymmetryEntry, node_at, nodes_of}
+use Rattle.slotted_store.specs.Kept.{Kept, SymmetryEntry, node_at, nodes_of, size_of, with_counts}
 use Rattle.slotted_store.specs.Names.{HasNumberedBinders}
 use Rattle.slotted_store.proofs.KeptLists.{length-nodes_of}
 use Rattle.slotted_filing.specs.Filed.{Filing, filed_of}
@@ -29,9 +29,10 @@ use Rattle.slotted_filing.proofs.FiledRows.{row-filed}
 use Rattle.slotted_filing.specs.FoundNodes.{HasNoMorePlaces}
 use Rattle.slotted_filing.proofs.CanonicalChildren.{node-is}
 use Rattle.slotted_filing.proofs.KeyedNodes.{same-places}
-use Rattle.slotted_unions.specs.Stored.{Stored, Grows}
+use Rattle.slotted_unions.specs.Stored.{Stored, GrowsUncounted}
 use Rattle.slotted_unions.proofs.GrownRows.{grown-count, grown-rows}
 use Rattle.slotted_rebuilding.specs.Causes.{HasLargeClass}
+use Rattle.slotted_rebuilding.specs.Counted.{CountsFit, CountsGo, TotalsFit}
 use Rattle.slotted_rebuilding.specs.Filed.{state_in}
 use Rattle.slotted_rebuilding.specs.NewClasses.{IsUnfiled, FilesNewest}
 use Rattle.slotted_rebuilding.proofs.FiledStates.{fits-grown}
@@ -40,15 +41,16 @@ use Rattle.slotted_core.specs.Good.{Good, RestsWith, HasFreshSlots, MakesOne, Ma
 use Rattle.slotted_core.specs.Graph.{HasNewClass}
 use Rattle.slotted_core.specs.Image.{AddsClasses, NewClassesAre, IsIdOfNode}
 use Rattle.slotted_core.proofs.ContinuedFinds.{adds-classes}
+use Rattle.slotted_core.proofs.KeptNotes.{notes-none}
 use Rattle.slotted_core.proofs.Options.{none-where}
 use Rattle.slotted_core.proofs.Resting.{at-rest}
 
 -- what stands in the classes stays
-pub grown-good : (k l : Kept) → Good k → Grows k l → Stored l → l.dropped ≡ false → Good l
+pub grown-good : (k l : Kept) → Good k → GrowsUncounted k l → Stored l → l.dropped ≡ false → Good l
 grown-good k l good grows stored settled = record {
-  rows = grown-rows k l grows good.rows;
-  fits = fits-grown k l grows good.fits;
-  numbered = λ i h. subst HasNumberedBinders (sym (grows.forms i)) (good.numbered i (subst (λ n. i < n) (grown-count k l grows) h));
+  rows = grown-rows k (with_counts l k.counts) grows good.rows;
+  fits = fits-grown k (with_counts l k.counts) grows good.fits;
+  numbered = λ i h. subst HasNumberedBinders (sym (grows.forms i)) (good.numbered i (subst (λ n. i < n) (grown-count k (with_counts l k.counts) grows) h));
   stored = stored;
   settled = settled;
 }
@@ -80,6 +82,7 @@ module _ (k : Kept) (r : Rows) (good : Good k) (rests : RestsWith k r) where
     extends = m.extends;
     goes_on = same-goes_on;
     adds = adds-none;
+    notes = notes-none k;
     found = m.found;
     filed = m.filed;
     kept = λ s. (refl, refl, (m.kept s).1);
@@ -158,6 +161,11 @@ module _ (k : Kept) (r : Rows) (good : Good k) (rests : RestsWith k r) where
         adds = adds-classes k r good l q added.goes_on (make.more ++ files.grows.more)
             (files.grows.proofs ∙ (ap (λ (x : List Proven). x ++ files.grows.more) make.proofs ∙ append_assoc k.proofs make.more files.grows.more))
             files.grows.listed (files.grows.symmetries ∙ ap (λ (x : List SymmetryEntry). x ++ files.grows.listed) make.symmetries) added.same_asserted;
+        notes = record {
+          gone = files.grows.gone;
+          deaths = files.grows.deaths ∙ ap (λ is. is ++ files.grows.gone) make.deaths;
+          counts = λ fit. subst (λ c. CountsGo c l.counts × CountsFit l.counts (size_of l)) make.counts (files.counts (subst TotalsFit (sym make.counts) fit.totals));
+        };
         found = subst (λ (ns : List DTerm). id_of_node ns (nameless_node f) ≡ Some a) (sym same) make.found;
         filed = subst (λ (ns : List DTerm). NewClassesAre (nodes_of k) ns (IsIdOfNode ns (nameless_node f))) (sym same) make.filed;
         kept = λ s. absurd (more-than (ap (λ (x : Kept). length x.classes) (make.kept s).0));

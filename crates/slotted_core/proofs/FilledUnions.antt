@@ -11,7 +11,7 @@ use Rattle.slotted_model.proofs.FillingEquations.{filled-equation}
 use Rattle.slotted_model.proofs.NormalIds.{filling-found, full-is_valid}
 use Rattle.slotted_proofs.specs.Entries.{asserted_entry}
 use Rattle.slotted_store.specs.Finding.{IsFindable}
-use Rattle.slotted_store.specs.Kept.{Kept, nodes_of, entries_of, EntersIn}
+use Rattle.slotted_store.specs.Kept.{Kept, nodes_of, entries_of, EntersIn, with_counts}
 use Rattle.slotted_store.proofs.KeptLists.{length-nodes_of}
 use Rattle.slotted_filing.specs.FiledRows.{Rows}
 use Rattle.slotted_unions.specs.Proving.{HasLargeSide}
@@ -22,7 +22,7 @@ use Rattle.slotted_rebuilding.specs.Filed.{IsWellFiled, UnitesFiled}
 use Rattle.slotted_rebuilding.specs.Turns.{Rebuilds}
 use Rattle.slotted_rebuilding.proofs.LargeClasses.{large-grown, large-of}
 use Rattle.slotted_core.specs.Causes.{HasLargeClassIn}
-use Rattle.slotted_core.specs.Good.{Good, RestsWith, Unites, image_of}
+use Rattle.slotted_core.specs.Good.{Good, RestsWith, Unites, image_of, with_rest_noted}
 use Rattle.slotted_core.specs.Image.{Image, Asserts, AreTogether, FillApart, FoundAlike, HasNoOpenSymmetry, Records, SameNames, found_id}
 use Rattle.slotted_core.specs.Sides.{EntersFilled}
 use Rattle.slotted_core.proofs.AlikeUnions.{alike-unites, alike-rebuilds}
@@ -133,11 +133,12 @@ module _ (k : Kept) (good : Good k) (a b : Applied) (va : IsFindable k a) (vb : 
     same-equation left right f = one-equation (nodes_of k) slots slots a b va vb c d left right fills_left fills_right f.left_fills f.right_fills
 
     pub unites-filled : (alike : Bool) → (IsTrue alike ↔ (find (entries_of k) a ≡ find (entries_of k) b)) →
-        (IsTrue alike → ((image_of l).found ≡ (image_of k).found) × ((image_of l).symmetries ≡ (image_of k).symmetries)) → Unites k l q a b text (not alike)
+        (IsTrue alike → ((image_of l).found ≡ (image_of k).found) × ((image_of l).symmetries ≡ (image_of k).symmetries)) → Unites k r l q a b text (not alike)
     unites-filled alike h same = record {
       good = full.good;
       rests = full.rests;
       nodes = full.nodes;
+      goes_on = full.goes_on;
       union = record {
         answer = not-iff alike (FoundAlike (image_of k) a b) (
           λ t. found-old a va ∙ (h.0 t ∙ sym (found-old b vb)),
@@ -156,6 +157,8 @@ module _ (k : Kept) (good : Good k) (a b : Applied) (va : IsFindable k a) (vb : 
         unchanged = of_negation alike _ same;
       };
       counts = full.counts;
+      notes = full.notes;
+      last = full.last;
       records = record {
         each = λ left right f.
             subst (Records (image_of k) (image_of l)) (one-entry (nodes_of k) c d left right fills_left.full fills_right.full f.left_fills.full f.right_fills.full (same-equation left right f) text) full.records;
@@ -163,12 +166,13 @@ module _ (k : Kept) (good : Good k) (a b : Applied) (va : IsFindable k a) (vb : 
     }
 
   -- where both find alike, the equation is all that is new
-  pub stays-filled : (r : Rows) → RestsWith k r → find (entries_of k) a ≡ find (entries_of k) b → Unites k m r a b text false
-  stays-filled r rests alike =
+  pub stays-filled : (r : Rows) → RestsWith k r → find (entries_of k) a ≡ find (entries_of k) b → (z : Kept) → z ≡ with_rest_noted m r → Unites k r z r a b text false
+  stays-filled r rests alike z is =
       let linked : Linked (nodes_of k) (entries_of k) = good.stored.sane.sound.linked in
       let filled : find (entries_of k) c ≡ find (entries_of k) d =
       sym (filling-found (nodes_of k) (entries_of k) linked (values b.1) a c va fills_left)
       ∙ (alike ∙ filling-found (nodes_of k) (entries_of k) linked (values c.1) b d vb fills_right) in
       unites-filled r rests m r (alike-unites k m (asserted_entry c d text) c d p said fills_left.full fills_right.full filled r)
-      m r 0 (alike-rebuilds k m (asserted_entry c d text) c d p said r (filled-filed r rests.filed) rests.quiet)
-      true (λ _. alike, λ _. refl) (λ _. subst (λ (z : Kept). ((image_of z).found ≡ (image_of k).found) × ((image_of z).symmetries ≡ (image_of k).symmetries)) (sym entered_full.kept) (refl, refl))
+      z r 0 (alike-rebuilds k m (asserted_entry c d text) c d p said r (filled-filed r rests.filed) rests.quiet z is)
+      true (λ _. alike, λ _. refl) (λ _. subst (λ (y : Kept). ((image_of y).found ≡ (image_of k).found) × ((image_of y).symmetries ≡ (image_of k).symmetries)) (sym (is ∙ ap (λ (y : Kept). with_counts y (with_rest_noted m r).counts) entered_full.kept))
+      (refl, refl))

@@ -17,6 +17,7 @@ pub mod EntryTexts
 pub mod Asserting
 pub mod Symmetries
 pub mod LiveSizes
+pub mod KeptNotes
 pub mod LackingNames
 pub mod UnitedClasses
 pub mod Unions

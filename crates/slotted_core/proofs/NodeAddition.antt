@@ -125,6 +125,8 @@ makes_none t k good over f hf r e =
       more = [];
       proofs = sym (append-nil k.proofs);
       symmetries = refl;
+      deaths = refl;
+      counts = refl;
       found = p;
       filed = λ i past within. absurd (omega (arith, past, within));
       kept = λ s. (refl, refl);
@@ -374,6 +376,8 @@ module _ (t u : Table) (k : Kept) (good : Good k) (over : HasFreshSlots t k) (f 
     more = own_entry ∷ [];
     proofs = stands_last.1;
     symmetries = refl;
+    deaths = refl;
+    counts = refl;
     found = found_more;
     filed = λ i past within. ((n, between slots (shape f).1), last i past within, found_more);
     kept = λ s. absurd (false≢true (sym (ap is_some none_before) ∙ s));

@@ -27,7 +27,7 @@ use Rattle.slotted_filing.specs.FiledRows.{Rows}
 use Rattle.slotted_congruence.specs.Named.{node_size}
 use Rattle.slotted_rebuilding.specs.Filed.{state_in}
 use Rattle.slotted_core.specs.Causes.{HasLargeClassIn, HasLargeClassOrNode, HasLargeClassOrTerm, IsUnknownNode, IsUnknownTerm}
-use Rattle.slotted_core.specs.Good.{image_of, Good, RestsWith, HasFreshSlots, Adds, AddsTerm}
+use Rattle.slotted_core.specs.Good.{image_of, Good, RestsWith, HasFreshSlots, Adds, AddsTerm, KeepsNotes}
 use Rattle.slotted_core.specs.Nodes.{child_ids}
 use Rattle.slotted_core.specs.Places.{args_places, term_places}
 use Rattle.slotted_core.specs.Subterms.{IsSubterm}
@@ -35,6 +35,7 @@ use Rattle.slotted_core.proofs.NodeAddition.{full_children}
 use Rattle.slotted_core.proofs.Options.{none-where}
 use Rattle.slotted_core.proofs.ContinuedFinds.{finds-on}
 use Rattle.slotted_core.proofs.FiledClasses.{adds-none, same-goes_on}
+use Rattle.slotted_core.proofs.KeptNotes.{notes-none, notes-then}
 use Rattle.slotted_core.proofs.Images.{adds-then}
 use Rattle.slotted_store.proofs.ChildIds.{length-ids, zip-keys_values}
 use Rattle.slotted_core.proofs.KnownNames.{answer_full, answer_term}
@@ -54,6 +55,7 @@ pub record IsPart (o : Table) (k : Kept) (r : Rows) (t : Table) (l : Kept) (q : 
   pub extends : Extends (nodes_of k) (nodes_of l)
   pub goes_on : GoesOn (state_in k r) (state_in l q)
   pub adds : AddsClasses (image_of k) (image_of l)
+  pub notes : KeepsNotes k l
   pub operator : h.operator ≡ f.operator
   pub payloads : h.payloads ≡ f.payloads
   pub count : length (children h.tree) ≡ length (children f.tree)
@@ -71,6 +73,7 @@ part_start k r t good rests fresh f us = record {
   extends = Extends-same (nodes_of k);
   goes_on = same-goes_on k r good rests;
   adds = adds-none k r good rests;
+  notes = notes-none k;
   operator = refl;
   payloads = refl;
   count = refl;
@@ -109,6 +112,7 @@ part_step k r start o t v l before m after f h us nu i a u fits p lt at add =
       extends = Extends-then (nodes_of k) (nodes_of l) (nodes_of m) p.extends add.extends;
       goes_on = on;
       adds = adds-then (image_of k) (image_of l) (image_of m) p.extends p.adds add.adds (finds-on k r start m after on);
+      notes = notes-then k l m p.notes add.notes;
       operator = p.operator;
       payloads = p.payloads;
       count = o ∙ p.count;
@@ -211,6 +215,7 @@ part_end k r start o t v l before m after f h us a fits p n add = record {
   extends = Extends-then (nodes_of k) (nodes_of l) (nodes_of m) p.extends add.extends;
   goes_on = on;
   adds = adds-then (image_of k) (image_of l) (image_of m) p.extends p.adds add.adds (finds-on k r start m after on);
+  notes = notes-then k l m p.notes add.notes;
   full = full;
   term = stands;
   filed = files-then (nodes_of k) (nodes_of l) (nodes_of m) (form.term_of f us) add.extends p.filed

@@ -12,25 +12,29 @@ use Rattle.slotted_model.specs.Find.{find_class, find}
 use Rattle.slotted_model.specs.ProofList.{Equation, equation_at, equation_of}
 use Rattle.slotted_model.specs.Rebuild.{IsRebuilt}
 use Rattle.slotted_model.specs.Rest as model
-use Rattle.slotted_model.specs.Rest.{FoundTogether, id_names, size}
+use Rattle.slotted_model.specs.Rest.{FoundTogether, id_names, size, size_from}
 use Rattle.slotted_model.proofs.Asserting as laws
 use Rattle.slotted_model.proofs.EndsGrow.{assertion-exact}
 use Rattle.slotted_model.proofs.NormalIds.{Contains-ascending, Contains-of_ascending, full-is_valid}
 use Rattle.slotted_model.proofs.Turning.{run}
 use Rattle.slotted_model.proofs.Unions.{unites}
+use Rattle.slotted_model.proofs.AfterUnions.{united-no_larger}
 use Rattle.slotted_proofs.specs.Entries.{Proven, entry_of, nothing_proven, statement_at, asserted_entry}
-use Rattle.slotted_store.specs.Kept.{Kept, nodes_of, entries_of, proofs_of, EntersIn}
+use Rattle.slotted_store.specs.Counts.{Counts}
+use Rattle.slotted_store.specs.Kept.{Kept, nodes_of, entries_of, proofs_of, size_of, EntersIn}
 use Rattle.slotted_store.proofs.KeptLists.{equation_at-of, length-nodes_of, length-proofs_of}
 use Rattle.slotted_store.proofs.NameMaps.{length-keys}
-use Rattle.slotted_filing.specs.FiledRows.{Rows}
+use Rattle.slotted_filing.specs.FiledRows.{Rows, rows_in}
 use Rattle.slotted_unions.specs.Proving as unions
 use Rattle.slotted_unions.specs.StateOf.{state_of}
-use Rattle.slotted_unions.specs.Stored.{Grows}
-use Rattle.slotted_unions.proofs.KeptSlots.{grows-then}
+use Rattle.slotted_unions.specs.Stored.{GrowsUncounted}
+use Rattle.slotted_unions.proofs.KeptSlots.{uncounted-then}
+use Rattle.slotted_rebuilding.specs.Counted.{CountsFit, CountsGo, TotalsFit}
 use Rattle.slotted_rebuilding.specs.Filed.{state_in, IsWellFiled, UnitesFiled}
 use Rattle.slotted_rebuilding.specs.Turns.{Rebuilds}
+use Rattle.slotted_rebuilding.proofs.CountedRebuilds.{rebuild-fits}
 use Rattle.slotted_core.specs.Causes.{HasLargeClassIn, HasLargeClassOf, class_found}
-use Rattle.slotted_core.specs.Good.{Good, NeverMore, RestsWith, image_of}
+use Rattle.slotted_core.specs.Good.{Good, KeepsNotes, NeverMore, NotesLast, RestsWith, image_of}
 use Rattle.slotted_core.specs.Image.{Asserts, AreTogether, Continues, FoundAlike, Records, SameNames, asserted_in, found_id, live_size}
 use Rattle.slotted_core.proofs.Asserting.{IsAsserted, is_asserted, asserted-filed, asserts-by}
 use Rattle.slotted_core.proofs.ContinuedFinds.{finds-new, finds-on, alike-on}
@@ -69,6 +73,8 @@ pub record UnitesFull (k : Kept) (r : Rows) (l : Kept) (q : Rows) (x : Proven) (
   pub continues : Continues (image_of k) (image_of l)
   pub size : live_size (image_of l) ≤ live_size (image_of k)
   pub counts : NeverMore k l
+  pub notes : KeepsNotes k l
+  pub last : NotesLast k r l
   pub records : Records (image_of k) (image_of l) x
 
 module _ (k : Kept) (r : Rows) (good : Good k) (rests : RestsWith k r) (a b : Applied) (fa : IsFull (nodes_of k) a) (fb : IsFull (nodes_of k) b) (text : Option (List ℕ))
@@ -98,11 +104,32 @@ module _ (k : Kept) (r : Rows) (good : Good k) (rests : RestsWith k r) (a b : Ap
   exact : IsExactAssertion (state_in k r) a b (state_in l q)
   exact = assertion-exact (state_in k r) (at-rest k r good rests) a b fa fb (state_in l q) asserts
 
-  grows-after : Grows m l
-  grows-after = grows-then m n l u.by.grows rebuilds.grows
+  grows-after : GrowsUncounted m l
+  grows-after = uncounted-then m n l u.by.grows rebuilds.grows
 
-  grows : Grows k l
-  grows = grows-then k m l said.grows grows-after
+  grows : GrowsUncounted k l
+  grows = uncounted-then k m l said.grows grows-after
+
+  -- nothing was noted before the rebuild
+  unnoted : n.counts ≡ k.counts
+  unnoted = u.by.grows.counts ∙ said.grows.counts
+
+  united-notes : KeepsNotes k l
+  united-notes = record {
+    gone = grows.gone;
+    deaths = grows.deaths;
+    counts = λ fit. subst (λ c. CountsGo c l.counts × CountsFit l.counts (size_of l)) unnoted (rebuild-fits n s l counted rebuilds.notes (subst TotalsFit (sym unnoted) fit.totals));
+  }
+
+  united-last : NotesLast k r l
+  united-last =
+      let is = rebuilds.notes.counts in
+      let fewer : size_of n ≤ size_of m = united-no_larger p (state_in m r) (state_in n s) united in
+      record {
+        nodes = omega (arith, ap (λ (c : Counts). c.nodes) is, ap (λ v. length (rows_in v)) u.waits.same);
+        before = omega (arith, ap (λ (c : Counts). c.size_before) is, fewer, ap (size_from 0) said.found);
+        after = ap (λ (c : Counts). c.size_after) is;
+      }
 
   united-good : Good l
   united-good = grown-good k l good grows rebuilds.filed.stored rebuilds.settled
@@ -181,6 +208,8 @@ module _ (k : Kept) (r : Rows) (good : Good k) (rests : RestsWith k r) (a b : Ap
     continues = united-continues;
     size = united-size;
     counts = record { live = exact.lives; slots = exact.slots };
+    notes = united-notes;
+    last = united-last;
     records = records-more (image_of k) (image_of m) (image_of l) x said.records grows-after.more grows-after.proofs;
   }
 

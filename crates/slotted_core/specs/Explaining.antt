@@ -21,7 +21,7 @@ use Rattle.slotted_store.specs.Kept.{Kept, entries_of, nodes_of}
 use Rattle.slotted_unions.specs.Proving.{ProvesEqual}
 use Rattle.slotted_filing.specs.FiledRows.{Rows}
 use Rattle.slotted_core.specs.Causes.{HasLargeClassIn, HasLargeClassOf}
-use Rattle.slotted_core.specs.Good.{Good, RestsWith, HasFreshSlots, image_of}
+use Rattle.slotted_core.specs.Good.{Good, KeepsNotes, RestsWith, HasFreshSlots, image_of}
 use Rattle.slotted_core.specs.Graph.{Graph, RunsOut, id_of_term}
 use Rattle.slotted_core.specs.Image.{Image, AddsClasses, FoundAlike, IsIdOfSubterm, NewClassesAre}
 use Rattle.slotted_core.specs.Places.{term_places, term_slots}
@@ -82,6 +82,7 @@ pub record ExplainsTerms (old new : Table) (k : Kept) (r : Rows) (l : Kept) (q :
   pub rests : RestsWith l q
   pub fresh_slots : HasFreshSlots new l
   pub adds : AddsTerms (image_of k) (image_of l)
+  pub notes : KeepsNotes k l
   pub filed : NewClassesAre (nodes_of k) (nodes_of l) (IsIdOfEither (nodes_of l) t u)
   pub kept : IsSome (id_of (nodes_of k) (nameless t)) → IsSome (id_of (nodes_of k) (nameless u)) → (nodes_of l ≡ nodes_of k) ×
       ((image_of l).found ≡ (image_of k).found) × ((image_of l).symmetries ≡ (image_of k).symmetries) × (q ≡ r) × (new ≡ old)

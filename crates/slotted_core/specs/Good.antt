@@ -2,6 +2,7 @@
 --     image_of k     what contracts see of what is kept
 --     Good k         what holds of what is kept of each graph that has not failed
 --     RestsWith k r  all is at rest, with what is filed
+--     KeepsNotes k l what died stays listed, and what rebuilds noted goes on
 --     Makes          what holds once a node has a class, before this is filed
 --     Adds, AddsTerm, AddsFilled, AddsFound, Unites     what a call leaves
 use Rattle.std.specs.Prelude.{◌≡◌, ◌⊎◌, ℕ, suc, ◌<◌, ◌≤◌, All, List, [], ◌∷◌, ◌++◌, length, Bool, false, Option, Some, None, Contains, IsSome}
@@ -28,12 +29,14 @@ use Rattle.slotted_model.specs.Normal.{normal}
 use Rattle.slotted_model.specs.State.{Row, State, look_up_node, look_up_tree}
 use Rattle.slotted_proofs.specs.Entries.{Proven}
 use Rattle.slotted_proofs.specs.Equations.{to_applied}
+use Rattle.slotted_store.specs.Counts.{noted}
 use Rattle.slotted_store.specs.Finding.{IsFindable}
-use Rattle.slotted_store.specs.Kept.{Kept, node_at, nodes_of, entries_of, proofs_of, rows_from}
+use Rattle.slotted_store.specs.Kept.{Kept, node_at, nodes_of, entries_of, proofs_of, rows_from, size_of, with_counts}
 use Rattle.slotted_store.specs.Names.{HasNumberedBinders}
-use Rattle.slotted_filing.specs.FiledRows.{Rows}
+use Rattle.slotted_filing.specs.FiledRows.{Rows, rows_in}
 use Rattle.slotted_unions.specs.StateOf.{state_with}
 use Rattle.slotted_unions.specs.Stored.{Stored}
+use Rattle.slotted_rebuilding.specs.Counted.{CountsOn}
 use Rattle.slotted_rebuilding.specs.Filed.{state_in, IsWellFiled}
 use Rattle.slotted_core.specs.Adding.{HasChildrenFilled, HasLargeClassOrFilled, children_lack, IsOfTerm, MakesFilledClass, RunsOutForFilled, slots_needed, term_nodes}
 use Rattle.slotted_core.specs.Causes.{HasLargeClassIn, HasLargeClassOrNode, HasLargeClassOrTerm}
@@ -88,6 +91,12 @@ pub record RestsWith (k : Kept) (r : Rows) : Type 0 where
   pub represents : Represents (state_in k r)
   pub quiet : r.waiting ≡ []
 
+-- the classes that died are still listed, and perhaps more, and what rebuilds noted goes on
+pub record KeepsNotes (k l : Kept) : Type 0 where
+  pub gone : List ℕ
+  pub deaths : l.deaths ≡ k.deaths ++ gone
+  pub counts : CountsOn k l
+
 -- there is one class more, for a new node with the shape of f, whichever nodes are filed and whatever waits
 pub record MakesOne (k l : Kept) (f : Form) : Type 0 where
   pub node : DTerm
@@ -104,6 +113,8 @@ pub record Makes (old new : Table) (k l : Kept) (f : Form) (a : Applied) : Type 
   pub more : List Proven
   pub proofs : l.proofs ≡ k.proofs ++ more
   pub symmetries : l.symmetries ≡ k.symmetries
+  pub deaths : l.deaths ≡ k.deaths
+  pub counts : l.counts ≡ k.counts
   pub found : id_of_node (nodes_of l) (nameless_node f) ≡ Some a
   pub filed : NewClassesAre (nodes_of k) (nodes_of l) (IsIdOfNode (nodes_of l) (nameless_node f))
   pub kept : IsSome (id_of_node (nodes_of k) (nameless_node f)) → (l ≡ k) × (new ≡ old)
@@ -126,6 +137,7 @@ pub record Adds (old new : Table) (k : Kept) (r : Rows) (l : Kept) (q : Rows) (f
   pub extends : Extends (nodes_of k) (nodes_of l)
   pub goes_on : GoesOn (state_in k r) (state_in l q)
   pub adds : AddsClasses (image_of k) (image_of l)
+  pub notes : KeepsNotes k l
   pub found : id_of_node (nodes_of l) (nameless_node f) ≡ Some a
   pub filed : NewClassesAre (nodes_of k) (nodes_of l) (IsIdOfNode (nodes_of l) (nameless_node f))
   pub kept : IsSome (id_of_node (nodes_of k) (nameless_node f)) → (l ≡ k) × (q ≡ r) × (new ≡ old)
@@ -163,6 +175,7 @@ pub record AddsFound (old new : Table) (k : Kept) (r : Rows) (l : Kept) (q : Row
   pub extends : Extends (nodes_of k) (nodes_of l)
   pub goes_on : GoesOn (state_in k r) (state_in l q)
   pub adds : AddsClasses (image_of k) (image_of l)
+  pub notes : KeepsNotes k l
   pub keeps : KeepsAnswers k r l q
   pub found : look_up_node (state_in l q) (nameless_node f) ≡ Some a
   pub kept : IsSome (look_up_node (state_in k r) (nameless_node f)) → (l ≡ k) × (q ≡ r) × (new ≡ old)
@@ -182,6 +195,7 @@ pub record AddsTerm (old new : Table) (k : Kept) (r : Rows) (l : Kept) (q : Rows
   pub extends : Extends (nodes_of k) (nodes_of l)
   pub goes_on : GoesOn (state_in k r) (state_in l q)
   pub adds : AddsClasses (image_of k) (image_of l)
+  pub notes : KeepsNotes k l
   pub full : IsFull (nodes_of l) a
   pub term : term_of (nodes_of l) a ≡ nameless t
   pub filed : NewClassesAre (nodes_of k) (nodes_of l) (IsIdOfSubterm (nodes_of l) t)
@@ -259,15 +273,28 @@ pub record NeverMore (k l : Kept) : Type 0 where
   pub live : lives_from 0 (entries_of l) ≤ lives_from 0 (entries_of k)
   pub slots : lives_from 0 (entries_of l) ≡ lives_from 0 (entries_of k) → slots_from 0 (entries_of l) ≤ slots_from 0 (entries_of k)
 
+-- a rebuild is noted that found nothing to do
+abbrev pub with_rest_noted : Kept → Rows → Kept
+with_rest_noted k r = with_counts k (noted k.counts (length (rows_in r.filed)) (size_of k) (size_of k) 0)
+
+-- the last rebuild that was noted found no more filed nodes and no greater size than there were, and left the size that is now
+pub record NotesLast (k : Kept) (r : Rows) (l : Kept) : Type 0 where
+  pub nodes : l.counts.nodes ≤ length (rows_in r.filed)
+  pub before : l.counts.size_before ≤ size_of k
+  pub after : l.counts.size_after ≡ size_of l
+
 -- what a union of a and b answers, and what it leaves, where the text says why
-pub record Unites (k l : Kept) (q : Rows) (a b : Applied) (text : Option (List ℕ)) (y : Bool) : Type 0 where
+pub record Unites (k : Kept) (r : Rows) (l : Kept) (q : Rows) (a b : Applied) (text : Option (List ℕ)) (y : Bool) : Type 0 where
   pub good : Good l
   pub rests : RestsWith l q
   pub nodes : nodes_of l ≡ nodes_of k
+  pub goes_on : GoesOn (state_in k r) (state_in l q)
   pub union : IsUnion (image_of k) (image_of l) a b y
   pub counts : NeverMore k l
   pub records : RecordsFilled (image_of k) (image_of l) a b text
+  pub notes : KeepsNotes k l
+  pub last : NotesLast k r l
 
 -- the same of two ids of the code
-abbrev pub UnitesSides : Kept → Kept → Rows → AppliedId → AppliedId → Option (List ℕ) → Bool → Type 0
-UnitesSides k l q a b text y = Unites k l q (to_applied a) (to_applied b) text y
+abbrev pub UnitesSides : Kept → Rows → Kept → Rows → AppliedId → AppliedId → Option (List ℕ) → Bool → Type 0
+UnitesSides k r l q a b text y = Unites k r l q (to_applied a) (to_applied b) text y

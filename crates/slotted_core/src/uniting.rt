@@ -5,7 +5,7 @@ ghost use Rattle.slotted_proofs.specs.Equations.{to_applied};
 ghost use Rattle.slotted_store.specs.Finding.{IsFindable};
 ghost use Rattle.slotted_store.specs.Kept.{text_bytes};
 ghost use Rattle.slotted_core.specs.Causes.{HasLargeClassIn};
-ghost use Rattle.slotted_core.specs.Good.{Good, RestsWith, UnitesSides, image_of};
+ghost use Rattle.slotted_core.specs.Good.{Good, RestsWith, UnitesSides, image_of, with_rest_noted};
 ghost use Rattle.slotted_core.specs.Image.{CountsOpen};
 
 use crate::sides::assert_sides;
@@ -31,7 +31,7 @@ pub fn union<L: Language>(
     requires rests { RestsWith store.old nodes.old }
     requires left { IsFindable store.old (to_applied l.now) }
     requires right { IsFindable store.old (to_applied r.now) }
-    ensures ok { IfOk result (UnitesSides store.old store.new nodes.new l.now r.now (text_bytes text)) }
+    ensures ok { IfOk result (UnitesSides store.old nodes.old store.new nodes.new l.now r.now (text_bytes text)) }
     ensures same { IfOk result (λ y. y ≡ false → nodes.new ≡ nodes.old) }
     ensures full { IsErrOf result Error.OutOfSlots → HasLargeClassIn (image_of store.old) }
     ensures err { IfErr result IsShortage }
@@ -39,11 +39,20 @@ pub fn union<L: Language>(
     let found_alike = store.eq(l, r);
     let p = assert_sides(store, alloc, l, r, text)?;
     if found_alike {
+        note_rest(store, nodes);
         return Ok(false);
     }
     unite(store, nodes, alloc, p)?;
     rebuild(store, nodes, alloc)?;
     Ok(true)
+}
+
+// There was nothing to rebuild, which is noted.
+fn note_rest<L: Language>(store: &mut Store<L>, nodes: &Hashcons<L>)
+    ensures { store.new ≡ with_rest_noted store.old nodes.now }
+{
+    let size = store.size();
+    store.note(nodes.len(), size, 0);
 }
 
 /// How many of the listed symmetries are open. It takes no memory.

@@ -42,7 +42,7 @@ rebuild-requires g c =
 pub returns-then-found_alike-clause-ok : goal.returns-then-found_alike-clause-ok
 returns-then-found_alike-clause-ok g c =
     stays-filled c.args.store.now c.requires.good (to_applied c.args.l.now) (to_applied c.args.r.now) c.requires.left c.requires.right (text_bytes c.args.text) c.assert_sides.new.store c.in_ok-p.p c.in_ok-p.ensures.ok
-    c.args.nodes.now c.requires.rests (c.eq-found_alike.ensures.0 c.if-found_alike.true)
+    c.args.nodes.now c.requires.rests (c.eq-found_alike.ensures.0 c.if-found_alike.true) c.note_rest.new.store c.note_rest.ensures
 
 pub returns-clause-ok : goal.returns-clause-ok
 returns-clause-ok g c =
