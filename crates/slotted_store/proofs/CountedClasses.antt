@@ -2,7 +2,8 @@
 use Rattle.std.proofs.Common.{◌≡◌, ◌≢◌, ◌<◌, ◌≤◌, ◌+◌, ◌-◌, ◌*◌, ◌^◌, ℕ, zero, suc, List, [], ◌∷◌, ◌++◌, length, set, ap, sym, refl, ◌∙◌, subst, arith, inl, inr}
 use Rattle.std.specs.Prelude.{Contains}
 use Rattle.std.proofs.lemmas.Bool.{cases_eq}
-use Rattle.std.proofs.lemmas.List.{map-append}
+use Rattle.std.proofs.Math.Seq.{get_or-append_seam}
+use Rattle.std.proofs.lemmas.List.{get_or-set_same, get_or-set_other, get_or_append_left, length-append, length-set, map-append}
 use Rattle.std.proofs.lemmas.List.Elements.{Contains-append_left, Contains-append_right, Contains-append_cases}
 use Rattle.slotted_model.specs.Find.{Entry, IsLive, entry_at}
 use Rattle.slotted_model.specs.Rest.{entry_size, size_from}
@@ -12,37 +13,22 @@ use Rattle.slotted_store.proofs.KeptLists.{entry_at-of, length-entries_of, lengt
 use Rattle.slotted_store.proofs.Sizes.{entry_size-live, entry_size-dead, size-set, size-within, size-more, size-few}
 use Rattle.slotted_store.proofs.Writes.{written, written-entries}
 
--- lists with another member, and with one more
+-- what stands in lists of entries with another member, and with one more
+
+abbrev none : Entry
+none = record { class = 0; pairs = []; proof = 0; died = 0 }
 
 at_set : (es : List Entry) (i : ℕ) (x : Entry) → i < length es → entry_at (set es i x) i ≡ x
-at_set [] i x l = absurd (omega arith)
-at_set (e ∷ es) zero x l = refl
-at_set (e ∷ es) (suc i) x l = at_set es i x (omega arith)
+at_set es i x l = get_or-set_same es i x none l
 
 beside_set : (es : List Entry) (i j : ℕ) (x : Entry) → j ≢ i → entry_at (set es i x) j ≡ entry_at es j
-beside_set [] i j x n = refl
-beside_set (e ∷ es) zero zero x n = absurd (n refl)
-beside_set (e ∷ es) zero (suc j) x n = refl
-beside_set (e ∷ es) (suc i) zero x n = refl
-beside_set (e ∷ es) (suc i) (suc j) x n = beside_set es i j x (λ e. n (ap suc e))
-
-length_set : (es : List Entry) (i : ℕ) (x : Entry) → length (set es i x) ≡ length es
-length_set [] i x = refl
-length_set (e ∷ es) zero x = refl
-length_set (e ∷ es) (suc i) x = ap suc (length_set es i x)
+beside_set es i j x n = get_or-set_other es i j x none n
 
 at_older : (es : List Entry) (j : ℕ) (x : Entry) → j < length es → entry_at (es ++ x ∷ []) j ≡ entry_at es j
-at_older [] j x l = absurd (omega arith)
-at_older (e ∷ es) zero x l = refl
-at_older (e ∷ es) (suc j) x l = at_older es j x (omega arith)
+at_older es j x l = get_or_append_left es (x ∷ []) none j l
 
 at_last : (es : List Entry) (x : Entry) → entry_at (es ++ x ∷ []) (length es) ≡ x
-at_last [] x = refl
-at_last (e ∷ es) x = at_last es x
-
-length_more : (es : List Entry) (x : Entry) → length (es ++ x ∷ []) ≡ suc (length es)
-length_more [] x = refl
-length_more (e ∷ es) x = ap suc (length_more es x)
+at_last es x = get_or-append_seam es x [] none
 
 -- each has few slots, and the next one too
 narrow-set : (es : List Entry) (i : ℕ) (x : Entry) → i < length es → entry_size i x ≤ 2 ^ 64 → AreNarrow es → AreNarrow (set es i x)
@@ -50,7 +36,7 @@ narrow-set es i x l few narrow j h = elim (cases_eq j i) [
   | inl e ↦
       let is : entry_at (set es i x) j ≡ x = subst (λ k. entry_at (set es i x) k ≡ x) (sym e) (at_set es i x l) in
       subst (λ y. entry_size j y ≤ 2 ^ 64) (sym is) (subst (λ k. entry_size k x ≤ 2 ^ 64) (sym e) few)
-  | inr n ↦ subst (λ y. entry_size j y ≤ 2 ^ 64) (sym (beside_set es i j x n)) (narrow j (omega (arith, h, length_set es i x)))
+  | inr n ↦ subst (λ y. entry_size j y ≤ 2 ^ 64) (sym (beside_set es i j x n)) (narrow j (omega (arith, h, length-set es i x)))
 ]
 
 narrow-more : (es : List Entry) (x : Entry) → entry_size (length es) x ≤ 2 ^ 64 → AreNarrow es → AreNarrow (es ++ x ∷ [])
@@ -59,7 +45,7 @@ narrow-more es x few narrow j h = elim (cases_eq j (length es)) [
       let is : entry_at (es ++ x ∷ []) j ≡ x = subst (λ k. entry_at (es ++ x ∷ []) k ≡ x) (sym e) (at_last es x) in
       subst (λ y. entry_size j y ≤ 2 ^ 64) (sym is) (subst (λ k. entry_size k x ≤ 2 ^ 64) (sym e) few)
   | inr n ↦
-      let l : j < length es = omega (arith, h, n, length_more es x) in
+      let l : j < length es = omega (arith, h, n, length-append es (x ∷ [])) in
       subst (λ y. entry_size j y ≤ 2 ^ 64) (sym (at_older es j x l)) (narrow j l)
 ]
 
@@ -90,14 +76,14 @@ dead-link es ds i x l live led lists j = (
     | inl old ↦
         let d = (lists j).0 old in
         let n : j ≢ i = λ e. d.1 (subst (IsLive es) (sym e) live) in
-        (omega (arith, d.0, length_set es i x), λ y. d.1 (live-beside es i j x n y))
+        (omega (arith, d.0, length-set es i x), λ y. d.1 (live-beside es i j x n y))
     | inr new ↦
         let e : j ≡ i = the_one i j new in
-        (omega (arith, e, l, length_set es i x), λ y. led (sym (subst (λ (z : Entry). i ≡ z.class) (at_set es i x l) (sym (subst (IsLive (set es i x)) e y)))))
+        (omega (arith, e, l, length-set es i x), λ y. led (sym (subst (λ (z : Entry). i ≡ z.class) (at_set es i x l) (sym (subst (IsLive (set es i x)) e y)))))
   ],
   λ d. elim (cases_eq j i) [
     | inl e ↦ subst (Contains (ds ++ i ∷ [])) (sym e) (Contains-append_right ds (i ∷ []) i (one-there i))
-    | inr n ↦ Contains-append_left ds (i ∷ []) j ((lists j).1 (omega (arith, d.0, length_set es i x), λ y. d.1 (live-beside_back es i j x n y)))
+    | inr n ↦ Contains-append_left ds (i ∷ []) j ((lists j).1 (omega (arith, d.0, length-set es i x), λ y. d.1 (live-beside_back es i j x n y)))
   ],
 )
 
@@ -106,20 +92,20 @@ dead-same es ds i x l live lives lists j = (
   λ c.
       let d = (lists j).0 c in
       let n : j ≢ i = λ e. d.1 (subst (IsLive es) (sym e) live) in
-      (omega (arith, d.0, length_set es i x), λ y. d.1 (live-beside es i j x n y)),
+      (omega (arith, d.0, length-set es i x), λ y. d.1 (live-beside es i j x n y)),
   λ d.
       let n : j ≢ i = λ e. d.1 (subst (IsLive (set es i x)) (sym e) (subst (λ (z : Entry). z.class ≡ i) (sym (at_set es i x l)) lives)) in
-      (lists j).1 (omega (arith, d.0, length_set es i x), λ y. d.1 (live-beside_back es i j x n y)),
+      (lists j).1 (omega (arith, d.0, length-set es i x), λ y. d.1 (live-beside_back es i j x n y)),
 )
 
 dead-new : (es : List Entry) (ds : List ℕ) (x : Entry) → x.class ≡ length es → ListsDead ds es → ListsDead ds (es ++ x ∷ [])
 dead-new es ds x lives lists j = (
   λ c.
       let d = (lists j).0 c in
-      (omega (arith, d.0, length_more es x), λ y. d.1 (subst (λ (z : Entry). z.class ≡ j) (at_older es j x d.0) y)),
+      (omega (arith, d.0, length-append es (x ∷ [])), λ y. d.1 (subst (λ (z : Entry). z.class ≡ j) (at_older es j x d.0) y)),
   λ d.
       let n : j ≢ length es = λ e. d.1 (subst (IsLive (es ++ x ∷ [])) (sym e) (subst (λ (z : Entry). z.class ≡ length es) (sym (at_last es x)) lives)) in
-      let l : j < length es = omega (arith, d.0, n, length_more es x) in
+      let l : j < length es = omega (arith, d.0, n, length-append es (x ∷ [])) in
       (lists j).1 (l, λ y. d.1 (subst (λ (z : Entry). z.class ≡ j) (sym (at_older es j x l)) y)),
 )
 
