@@ -10,9 +10,9 @@ use Rattle.slotted_theory.specs.Nameless.{DTerm}
 use Rattle.slotted_nodes.specs.Form.{Form}
 use Rattle.slotted_languages.specs.NodeTerm.{nameless_node}
 use Rattle.slotted_model.specs.Cost.{AtMost, child_count}
-use Rattle.slotted_costs.specs.Costs.{costs_by, HasCostsFor}
+use Rattle.slotted_costs.specs.Costs.{costs_by, HasValuesFor}
 use Rattle.slotted_costs.specs.Laws.{IsOfLanguage, NeverFalls, CoversChildren, CostLaws}
-use Rattle.slotted_costs.proofs.Alike.{bare-shape, count-alike}
+use Rattle.slotted_bare_nodes.proofs.Alike.{bare-shape, count-alike}
 
 not-greater : (r : Ordering) → is_le r ≡ true → is_gt r ≡ false
 not-greater Less h = refl
@@ -30,7 +30,7 @@ either Equal = inl refl
 either Greater = inr refl
 
 module _ {L C : Type 0} (form : L → Form) (cmp : C → C → Ordering) (order : IsTotalOrder cmp) (weight : DTerm → List C → C) where
-  counted : (d : DTerm) (xs : List C) (p : IsOfLanguage form d) → length xs ≡ child_count d.args → HasCostsFor (form p.0) xs
+  counted : (d : DTerm) (xs : List C) (p : IsOfLanguage form d) → length xs ≡ child_count d.args → HasValuesFor (form p.0) xs
   counted d xs p n = n ∙ count-alike d (form p.0) p.1
 
   pub cost-laws : NeverFalls form (costs_by cmp weight) → CoversChildren form (costs_by cmp weight) → CostLaws form (costs_by cmp weight)

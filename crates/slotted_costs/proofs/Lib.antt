@@ -1,4 +1,3 @@
-pub mod Alike
 pub mod TermCosts
 pub mod Lawful
 pub mod Within

@@ -17,7 +17,7 @@ use Rattle.slotted_languages.specs.NodeTerm.{node_args}
 use Rattle.slotted_model.specs.Cost.{CostFunction, null_children, child_costs, tree_cost}
 use Rattle.slotted_terms.specs.Valid.{IsWhole}
 use Rattle.slotted_costs.specs.Costs.{bare, bare_node, costs_by, cost_of_term}
-use Rattle.slotted_costs.proofs.Alike.{bare-moved}
+use Rattle.slotted_bare_nodes.proofs.Alike.{bare-moved}
 
 -- each of the terms has the right number of children at each node
 abbrev AreWhole : List Term → Type 0

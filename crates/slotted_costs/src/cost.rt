@@ -5,7 +5,7 @@ ghost use Rattle.slotted_slots.specs.Error.{IsOutOfMemory};
 ghost use Rattle.slotted_slots.specs.declared.error.Error.{Error};
 ghost use Rattle.slotted_slots.specs.declared.error.Error.TheVariants.{Failed};
 ghost use Rattle.slotted_terms.specs.Valid.{IsWhole};
-ghost use Rattle.slotted_costs.specs.Costs.{HasCostsFor, bare_node, costs_by, cost_of_term, MayRefuse};
+ghost use Rattle.slotted_costs.specs.Costs.{HasValuesFor, bare_node, costs_by, cost_of_term, MayRefuse};
 ghost use Rattle.slotted_costs.specs.Laws.{NeverFalls, CoversChildren, CostLaws};
 
 use slotted_languages::language::Language;
@@ -35,7 +35,7 @@ pub trait CostFunction<L: Language>: Drop {
 
     /// The cost of a node whose children have these costs, from the left.
     fn cost(&self, alloc: Global, node: &L, child: &[Self::Cost]) -> Result<Self::Cost, Error>
-        requires { HasCostsFor (L.form node.now) child.now }
+        requires { HasValuesFor (L.form node.now) child.now }
         ensures ok { IfOk result (λ c. c ≡ node_cost self.now (bare_node (L.form node.now)) child.now) }
         ensures err { IfErr result refuses };
 

@@ -33,7 +33,7 @@ use Rattle.slotted_store.specs.Kept.{Kept}
 use Rattle.slotted_filing.specs.FiledRows.{Rows, row_of_entry, rows_in}
 use Rattle.slotted_filing.proofs.FiledRows.{row-filed}
 use Rattle.slotted_adding.proofs.AppliedNodes.{filed-key}
-use Rattle.slotted_costs.proofs.Alike.{count-node}
+use Rattle.slotted_bare_nodes.proofs.Alike.{count-node}
 use Rattle.slotted_rebuilding.specs.Filed.{state_in}
 use Rattle.slotted_core.specs.Good.{Good, RestsWith, HasFreshSlots, image_of}
 use Rattle.slotted_core.specs.Graph.{Graph}

@@ -1,0 +1,35 @@
+-- What edits are over: terms in which no child is missing, with numeric slots and those of the class.
+--     EachName P a     P holds of each name in the arguments, those of binders too
+--     IsTermOver xs t  a term with the right number of children at each node, whose names are numeric or among xs
+--     IsOver xs e      so is each term of the edit
+--     AsksNothing ask  nothing may be asked
+use Rattle.std.specs.Prelude.{◌≡◌, ◌⊎◌, ℕ, List, Contains}
+use Rattle.slotted_slots.specs.Table.{numeric_slot}
+use Rattle.slotted_theory.specs.Term.{Args, done, name, child, bind, Term}
+use Rattle.slotted_terms.specs.Valid.{IsWhole}
+use Rattle.slotted_analyses.specs.declared.edit.Edit.{Edit}
+use Rattle.slotted_analyses.specs.declared.edit.Edit.TheVariants.{Add, Equal, Equate}
+
+-- P holds of each name, those of binders too
+abbrev pub EachName : (ℕ → Type 0) → Args → Type 0
+EachName P done = Unit {0}
+EachName P (name x rest) = P x × EachName P rest
+EachName P (child op payloads args rest) = EachName P args × EachName P rest
+EachName P (bind x inner rest) = P x × EachName P inner × EachName P rest
+
+-- the slot is numeric, or one of these
+abbrev pub IsNumericOrAmong : List ℕ → ℕ → Type 0
+IsNumericOrAmong xs x = ((n : ℕ) × (x ≡ numeric_slot n)) ⊎ Contains xs x
+
+pub record IsTermOver (xs : List ℕ) (t : Term) : Type 0 where
+  pub whole : IsWhole t.args
+  pub names : EachName (IsNumericOrAmong xs) t.args
+
+abbrev pub IsOver : {L : Type 0} → List ℕ → Edit L → Type 0
+IsOver xs (Add t) = IsTermOver xs t
+IsOver xs (Equal t) = IsTermOver xs t
+IsOver xs (Equate t u) = IsTermOver xs t × IsTermOver xs u
+
+-- nothing may be asked
+abbrev pub AsksNothing : {L D : Type 0} → (D → List ℕ → Edit L → Type 0) → Type 0
+AsksNothing {L} {D} ask = (x : D) (slots : List ℕ) (e : Edit L) → ¬ ask x slots e

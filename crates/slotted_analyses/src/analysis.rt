@@ -1,0 +1,118 @@
+//! Data for each class.
+ghost use Rattle.std.specs.Prelude.{◌≡◌, ℕ, List, All, IfOk, IfErr, IsTrue};
+ghost use Rattle.slotted_slots.specs.Error.{IsOutOfMemory, IsShortage};
+ghost use Rattle.slotted_slots.specs.declared.error.Error.{Error};
+ghost use Rattle.slotted_bare_nodes.specs.BareNodes.{HasValuesFor, bare_node};
+ghost use Rattle.slotted_analyses.specs.Meaning.{IsMergeOf, Meaning, by_bare_nodes};
+ghost use Rattle.slotted_analyses.specs.Edits.{IsOver};
+ghost use Rattle.slotted_model_analyses.specs.Analysis.{IsMerge, MakesAlike};
+
+use crate::edit::Edit;
+use slotted_languages::Language;
+use slotted_slots::{Error, Slot};
+use std::alloc::Global;
+
+/// Data for the classes of a graph, and edits that are asked for it.
+///
+/// What a node makes is merged into the data of its class. Merging is commutative, associative and idempotent, and a merge that
+/// changes data lowers its height: so the data of a class changes no more often than its height says. Of a node `make` may read
+/// the operator, the payloads, and which of its places have one name: what it makes is a function of what is left of the node
+/// without its names and its children, and of the data of its children.
+pub trait Analysis<L: Language>: Drop {
+    ghost use Rattle.slotted_analyses.specs.declared.edit.Edit.{Edit};
+
+    type Data: Eq + Clone + Drop;
+
+    // What a node makes, of what is left of it without its names and its children, where the operator is one more than the node's,
+    // and of the data of its children from the left; the merge of two data; and the height of data.
+    ghost meaning: { Self → Meaning Self.Data };
+
+    // What may be asked for a class, by its data and its slots.
+    ghost may_ask: { Self → Self.Data → List ℕ → Edit L → Type 0 } = { λ _ _ _ _. ⊥ };
+
+    // What a call may refuse with.
+    ghost refuses: { Error → Type 0 };
+
+    /// Data that equals this one.
+    fn copy(&self, alloc: Global, data: &Self::Data) -> Result<Self::Data, Error>
+        ensures ok { IfOk result (λ d. d ≡ «data».now) }
+        ensures err { IfErr result IsOutOfMemory };
+
+    /// What a node makes, whose children have these data, from the left.
+    fn make(&self, alloc: Global, node: &L, child: &[Self::Data]) -> Result<Self::Data, Error>
+        requires { HasValuesFor (L.form node.now) child.now }
+        ensures ok { IfOk result (λ d. d ≡ (meaning self.now).make (bare_node (L.form node.now)) child.now) }
+        ensures err { IfErr result refuses };
+
+    /// What both data come to.
+    fn merge(&self, alloc: Global, l: &Self::Data, r: &Self::Data) -> Result<Self::Data, Error>
+        ensures ok { IfOk result (λ d. d ≡ (meaning self.now).merge l.now r.now) }
+        ensures err { IfErr result refuses };
+
+    /// How often this data can still change, at most.
+    fn height(&self, data: &Self::Data) -> u32
+        ensures { result ≡ (meaning self.now).height «data».now };
+
+    /// What is to be done for a class with this data and these slots, from the first edit to the last.
+    fn modify(
+        &self,
+        alloc: Global,
+        data: &Self::Data,
+        slots: &[Slot],
+    ) -> Result<Vec<Edit<L>>, Error>
+        ensures ok { IfOk result (λ v. All (may_ask self.now «data».now slots.now) v.items) }
+        ensures over { IfOk result (λ v. All (IsOver slots.now) v.items) }
+        ensures err { IfErr result refuses }
+    {
+        Ok(Vec::new(alloc))
+    }
+
+    // The merge is commutative, associative and idempotent, and lowers the height of what it changes.
+    ghost is_merge: { (n : Self) → IsMergeOf (meaning n) };
+
+    // Data that is told to be equal is the same.
+    ghost equal_is_same: { (x y : Self.Data) → IsTrue (Self.Data.eq x y) → x ≡ y };
+
+    // An analysis refuses for want of memory or of slots alone.
+    ghost only_shortages: { (e : Error) → refuses e → IsShortage e };
+}
+
+/// The merge of each analysis is one over which data is carried, and alike nodes make alike data.
+pub fn analyses_merge<L: Language, N: Analysis<L>>()
+    ensures merge { (n : N) → IsMerge N.Data (by_bare_nodes (N.meaning n)) }
+    ensures alike { (n : N) → MakesAlike (λ _. Unit {0}) N.Data (by_bare_nodes (N.meaning n)) }
+{}
+
+/// Nothing is kept, and nothing asked.
+impl<L: Language> Analysis<L> for () {
+    ghost use Rattle.std.specs.Prelude.{refl};
+    ghost use Rattle.slotted_analyses.specs.Meaning.{no_data, no_data_merges};
+
+    type Data = ();
+
+    ghost meaning = { λ _. no_data };
+
+    ghost refuses = { λ _. ⊥ };
+
+    ghost is_merge = { λ _. no_data_merges };
+
+    ghost equal_is_same = { λ _ _ _. refl };
+
+    ghost only_shortages = { λ _ h. absurd h };
+
+    fn copy(&self, alloc: Global, data: &()) -> Result<(), Error> {
+        Ok(())
+    }
+
+    fn make(&self, alloc: Global, node: &L, child: &[()]) -> Result<(), Error> {
+        Ok(())
+    }
+
+    fn merge(&self, alloc: Global, l: &(), r: &()) -> Result<(), Error> {
+        Ok(())
+    }
+
+    fn height(&self, data: &()) -> u32 {
+        0
+    }
+}
