@@ -2,6 +2,7 @@
 use Rattle.std.proofs.Common.{◌≡◌, ◌≢◌, ℕ, ◌<◌, List, [], ◌∷◌, length, sym, ◌∙◌, ap, refl, subst, inl, inr, arith, ◌↔◌}
 use Rattle.std.specs.Prelude.{slice_index_or, map, Bool, Result, Ok, Err, IfOk, OnErr, IsErrOf}
 use Rattle.std.proofs.lemmas.List.{map-append}
+use base.Stored.{Gv}
 use Rattle.slotted_slots.specs.declared.error.Error.{Error}
 use Rattle.slotted_slots.specs.declared.error.Error.TheVariants.{BadStep}
 use Rattle.slotted_slots.specs.Table.{Table}
@@ -34,7 +35,7 @@ use Rattle.slotted_core.specs.Image.{AreDerivable}
 use Rattle.slotted_core.specs.Leaves.{FollowsFromLeaves}
 use Rattle.slotted_store.specs.Kept.{Kept, nodes_of, proofs_of, with_proofs, EntersIn}
 use Rattle.slotted_filing.specs.FiledRows.{Rows, rows_in}
-use Rattle.slotted_core.specs.Good.{image_of, Good, RestsWith, HasFreshSlots}
+use Rattle.slotted_core.specs.Good.{graph_of, image_of, Good, RestsWith, HasFreshSlots}
 use Rattle.slotted_unions.proofs.JoinedIds.{own_map, written_sides}
 use Rattle.slotted_core.proofs.GoodFinds.{entering-good}
 use Rattle.slotted_core.proofs.Resting.{entered-rests}
@@ -153,7 +154,7 @@ pub record Checked (t : Table) (k l : Kept) (e : Sides) (s : Step) (p : ℕ) : T
   pub rests : (r : Rows) → RestsWith k r → RestsWith l r
   pub fresh_slots : HasFreshSlots t k → HasFreshSlots t l
   pub fits : Fits (image_of k) e s
-  pub accepts : (b : Bool) (f : List Row) → Accepts (record { failed = b; table = t; image = image_of k; filed = f }) (record { failed = b; table = t; image = image_of l; filed = f }) (entry_by e s) p
+  pub accepts : (b : Bool) (f : List Row) (y : Gv) → Accepts (graph_of b t k f y) (graph_of b t l f y) (entry_by e s) p
   pub derivable : AreDerivable (image_of k) (to_applied e.l) (to_applied e.r)
   pub leaves : FollowsFromLeaves (image_of l) p (to_applied e.l) (to_applied e.r)
 
@@ -186,21 +187,23 @@ module _ (t : Table) (k : Kept) (good : Good k) (e : Sides) (of : IsOfFull (node
       let rs : (statement_at k.proofs q).right_slots ≡ keys e.r.m = c.right ∙ (ap (λ (y : Equation). canonical_slots nodes y.right) d ∙ sym of.right.slots) in
       λ i. record { left_slots = ls i; right_slots = rs i; equation = d i }
 
-  after-accepts : (b : Bool) (f : List Row) → Accepts (record { failed = b; table = t; image = image_of k; filed = f }) (record { failed = b; table = t; image = image_of after; filed = f }) (entry_by e s) p
-  after-accepts b f = record {
+  after-accepts : (b : Bool) (f : List Row) (y : Gv) → Accepts (graph_of b t k f y) (graph_of b t after f y) (entry_by e s) p
+  after-accepts b f y = record {
     in_range = after-in_range;
     stands = after-stands;
     grows = let n : length (proofs_of k) ≡ length k.proofs = length-proofs_of k in elim enters.enters.grows [
       | inl h ↦ inl (
         (let d : p < length k.proofs = h.0.in_range in omega arith),
-        λ i. record { failed = b; table = t; image = image_of (with_proofs k (h.1 i)); filed = f },
+        λ i. graph_of b t (with_proofs k (h.1 i)) f y,
       )
       | inr h ↦ inr (
         (λ z.
             let d : z.0 < length k.proofs = let y : z.0 < length (proofs_of k) = z.1 in omega arith in
             h.0 z.0 (record { in_range = d; statement = one_statement z.0 d (sym (equation_at-of k.proofs z.0) ∙ z.2) })),
         (let d : p ≡ length k.proofs = h.1 in omega arith),
-        λ i. record { failed = b; table = t; image = record { canonical = nodes; found = (image_of k).found; entries = (ap (map entry_of) h.2 ∙ map-append entry_of k.proofs (x ∷ [])) i; stored = h.2 i; symmetries = k.symmetries }; filed = f },
+        λ i. record (graph_of b t k f y) {
+          image = record { canonical = nodes; found = (image_of k).found; entries = (ap (map entry_of) h.2 ∙ map-append entry_of k.proofs (x ∷ [])) i; stored = h.2 i; symmetries = k.symmetries; counts = k.counts };
+        },
       )
     ];
   }
@@ -274,10 +277,10 @@ pub kept_good : (r : Result ℕ Error) (t : Table) (k l : Kept) (rows : Rows) (e
 kept_good (Ok p) t k l rows e s h c o = (c.good, c.fresh_slots h.1, c.rests rows h.2)
 kept_good (Err x) t k l rows e s h c o = subst (λ (m : Kept). Good m × HasFreshSlots t m × RestsWith m rows) (sym o) h
 
-module _ (r : Result ℕ Error) (b : Bool) (t : Table) (rows : Rows) (k l : Kept) (e : Sides) (s : Step) (g : Graph) (view : record { failed = b; table = t; image = image_of k; filed = rows_in rows.filed } ≡ g) where
+module _ (r : Result ℕ Error) (b : Bool) (t : Table) (rows : Rows) (k l : Kept) (e : Sides) (s : Step) (y : Gv) (g : Graph) (view : graph_of b t k (rows_in rows.filed) y ≡ g) where
   -- the graph that is left
   abbrev left : Graph
-  left = record { failed = b; table = t; image = image_of l; filed = rows_in rows.filed }
+  left = graph_of b t l (rows_in rows.filed) y
 
   pub says_refused : (IsErrOf r BadStep → ¬ Fits (image_of k) e s) → IsErrOf r BadStep → ¬ Fits g.image e s
   says_refused n h = subst (λ (x : Graph). ¬ Fits x.image e s) view (n h)
@@ -287,7 +290,7 @@ module _ (r : Result ℕ Error) (b : Bool) (t : Table) (rows : Rows) (k l : Kept
     says_fits = if_ok_then r (Checked t k l e s) (λ _. Fits g.image e s) (λ p h. subst (λ (x : Graph). Fits x.image e s) view h.fits) c
 
     pub says_accepted : IfOk r (Accepts g left (entry_by e s))
-    says_accepted = if_ok_then r (Checked t k l e s) (Accepts g left (entry_by e s)) (λ p h. subst (λ (x : Graph). Accepts x left (entry_by e s) p) view (h.accepts b (rows_in rows.filed))) c
+    says_accepted = if_ok_then r (Checked t k l e s) (Accepts g left (entry_by e s)) (λ p h. subst (λ (x : Graph). Accepts x left (entry_by e s) p) view (h.accepts b (rows_in rows.filed) y)) c
 
     pub says_derivable : IfOk r (λ _. AreDerivable g.image (to_applied e.l) (to_applied e.r))
     says_derivable = if_ok_then r (Checked t k l e s) (λ _. AreDerivable g.image (to_applied e.l) (to_applied e.r)) (λ p h. subst (λ (x : Graph). AreDerivable x.image (to_applied e.l) (to_applied e.r)) view h.derivable) c

@@ -52,13 +52,14 @@ module _ (k : Kept) (r : Rows) (good : Good k) (rests : RestsWith k r) (g : Grap
   pub added-equal : IsEqualToNode h.image a f
   added-equal = graph-equal l q added.good added.rests h image_h filed_h f fits children-after known-after a added-id
 
-  pub added-kept : IsSome (look_up g f) → IsOneGraph g h
-  added-kept s =
+  pub added-kept : h.part ≡ g.part → IsSome (look_up g f) → IsOneGraph g h
+  added-kept part s =
       let same = added.kept (subst (λ (o : Option Applied). IsSome o) looked-before s) in
       record {
         table = same.2 ∙ table;
         image = sym image_h ∙ (ap image_of same.0 ∙ image);
         filed = sym filed_h ∙ (ap (λ (x : Rows). rows_in x.filed) same.1 ∙ filed);
+        part = part;
       }
 
   pub added-made : MakesClassFor g h f a
@@ -73,7 +74,8 @@ module _ (k : Kept) (r : Rows) (good : Good k) (rests : RestsWith k r) (g : Grap
 
 -- by canonical nodes
 module _ (k : Kept) (r : Rows) (g : Graph) (image : image_of k ≡ g.image) (filed : rows_in r.filed ≡ g.filed) (t : Table) (table : t ≡ g.table) (f : Form)
-    (l : Kept) (q : Rows) (a : Applied) (h : Graph) (image_h : image_of l ≡ h.image) (filed_h : rows_in q.filed ≡ h.filed) (added : AddsFilled t h.table k r l q f a) where
+    (l : Kept) (q : Rows) (a : Applied) (h : Graph) (image_h : image_of l ≡ h.image) (filed_h : rows_in q.filed ≡ h.filed) (added : AddsFilled t h.table k r l q f a)
+    (part : h.part ≡ g.part) where
   pub syn-valid : IsFullId h a
   syn-valid = record {
     full = subst (λ (x : Image). IsFull x.canonical a) image_h (answer_full (nodes_of l) added.filled a added.adds.found);
@@ -81,7 +83,7 @@ module _ (k : Kept) (r : Rows) (g : Graph) (image : image_of k ≡ g.image) (fil
   }
 
   abbrev AddsSynOf : Table → Image → Image → Type 0
-  AddsSynOf x i j = AddsSyn (record { failed = g.failed; table = x; image = i; filed = g.filed }) (record { failed = h.failed; table = h.table; image = j; filed = h.filed }) f a
+  AddsSynOf x i j = AddsSyn (record g { table = x; image = i }) (record h { image = j }) f a
 
   pub syn-adds : AddsSyn g h f a
   syn-adds = subst (λ x. AddsSynOf x g.image h.image) table (subst (λ i. AddsSynOf t i h.image) image (subst (AddsSynOf t (image_of k)) image_h (record {
@@ -95,6 +97,7 @@ module _ (k : Kept) (r : Rows) (g : Graph) (image : image_of k ≡ g.image) (fil
           ap image_of same.0,
           sym filed_h ∙ (ap (λ (x : Rows). rows_in x.filed) same.1 ∙ filed),
           subst (MakesAtMost (children_lack (image_of k) f) t) (sym same.2) added.filling,
+          part,
         );
     made = λ none. let m : HasNewClass added.between h.table (nodes_of k) (nodes_of l) (nameless_node added.filled) = added.adds.made none in
         record { node = m.node; class = m.class; same_shape = m.same_shape; fresh = λ s c. fresh-later t added.between h.table s added.no_more (m.fresh s c) };

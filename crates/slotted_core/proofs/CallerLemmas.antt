@@ -143,6 +143,7 @@ pub reads_twice : (f g h : Graph) → OnlyReads f g → OnlyReads g h → OnlyRe
 reads_twice f g h one two = record {
   image = two.image ∙ one.image;
   filed = two.filed ∙ one.filed;
+  part = two.part ∙ one.part;
   failed = two.failed ∙ one.failed;
   more = λ s k. two.more s (one.more s k);
 }

@@ -13,6 +13,7 @@ use Rattle.slotted_store.specs.Kept.{Kept, SymmetryEntry, nodes_of, entries_of, 
 use Rattle.slotted_store.proofs.KeptLists.{length-nodes_of}
 use Rattle.slotted_filing.specs.FiledRows.{Rows}
 use Rattle.slotted_rebuilding.specs.Filed.{state_in}
+use Rattle.slotted_rebuilding.specs.Counted.{CountsGo}
 use Rattle.slotted_core.specs.Good.{Good, image_of}
 use Rattle.slotted_core.specs.Image.{AddsClasses, FoundAlike, found_id}
 use Rattle.slotted_core.proofs.Images.{found_id-is}
@@ -44,8 +45,8 @@ module _ (k : Kept) (r : Rows) (good : Good k) (l : Kept) (q : Rows) (goes_on : 
 
   -- nothing more is asserted
   pub adds-classes : (more : List Proven) → l.proofs ≡ k.proofs ++ more → (listed : List SymmetryEntry) → l.symmetries ≡ k.symmetries ++ listed →
-      asserted (nodes_of l) (proofs_of l) ≡ asserted (nodes_of k) (proofs_of k) → AddsClasses (image_of k) (image_of l)
-  adds-classes more grows listed lists same = record {
+      asserted (nodes_of l) (proofs_of l) ≡ asserted (nodes_of k) (proofs_of k) → CountsGo k.counts l.counts → AddsClasses (image_of k) (image_of l)
+  adds-classes more grows listed lists same counts = record {
     more = map entry_of more;
     entries = ap (map entry_of) grows ∙ map-append entry_of k.proofs more;
     more_stored = more;
@@ -55,4 +56,5 @@ module _ (k : Kept) (r : Rows) (good : Good k) (l : Kept) (q : Rows) (goes_on : 
     symmetries = lists;
     finds = finds-on;
     alike = alike-on;
+    counts = counts;
   }

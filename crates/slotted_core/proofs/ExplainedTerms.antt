@@ -25,6 +25,8 @@ use Rattle.slotted_unions.specs.Proving.{OnlyProves, ProvesEqual}
 use Rattle.slotted_unions.proofs.KeptSlots.{grows-uncounted}
 use Rattle.slotted_unions.proofs.EnteredProofs.{only-nodes, only-proofs, only-state, only-grows}
 use Rattle.slotted_rebuilding.specs.Filed.{state_in}
+use Rattle.slotted_rebuilding.specs.Counted.{CountsGo}
+use Rattle.slotted_rebuilding.proofs.CountedRebuilds.{counts-same}
 use Rattle.slotted_core.specs.Causes.{CanRunOutForTerm, IsUnknownTerm}
 use Rattle.slotted_core.specs.Explaining.{AddsTerms, HasIds, ExplainsTerms, IsIdOfEither, ProvesIfAlike, RunsOutForTerms, no_slots, large_left, large_right, large_graph, wide_left, wide_right, large_class}
 use Rattle.slotted_core.specs.Good.{Good, KeepsNotes, RestsWith, AddsTerm, image_of}
@@ -53,6 +55,7 @@ module _ (k : Kept) (r : Rows) (good : Good k) (rests : RestsWith k r) (l : Kept
   proving-adds =
       adds-classes k r good l r proving-on only.more (only-proofs k l only) [] (ap (λ (z : Kept). z.symmetries) only.kept ∙ sym (append-nil k.symmetries))
       (ap (λ ns. asserted ns (proofs_of l)) (only-nodes k l only) ∙ only.asserts_nothing.asserts_nothing)
+      (subst (CountsGo k.counts) (sym (ap (λ (z : Kept). z.counts) only.kept)) (counts-same k.counts))
 
   proving-alike : (a b : Applied) → IsFull (nodes_of k) a → IsFull (nodes_of k) b → FoundAlike (image_of k) a b → FoundAlike (image_of l) a b
   proving-alike = alike-on k r good l r proving-on
@@ -115,7 +118,7 @@ module _ (k : Kept) (r : Rows) (good : Good k) (m : Kept) (s : Rows) (n : Kept) 
     adds = both-added;
     notes = both-notes;
     filed = both-filed;
-    kept = λ x y. let all = both-kept x y in (ap nodes_of all.0, ap (λ (z : Kept). (image_of z).found) all.0, ap (λ (z : Kept). (image_of z).symmetries) all.0, all.1, all.2);
+    kept = λ x y. let all = both-kept x y in (ap nodes_of all.0, ap (λ (z : Kept). (image_of z).found) all.0, ap (λ (z : Kept). (image_of z).symmetries) all.0, all.1, all.2, ap (λ (z : Kept). z.counts) all.0);
     answers = record { left = a; right = b; ids = both-ids; apart = λ f. apart (says-alike.1 f) };
   }
 
@@ -143,6 +146,7 @@ module _ (k : Kept) (r : Rows) (good : Good k) (m : Kept) (s : Rows) (n : Kept) 
               ap (λ (z : Kept). (image_of z).symmetries) (proves.only.kept ∙ ap (λ (z : Kept). with_proofs z proves.only.proofs) all.0),
               all.1,
               all.2,
+              ap (λ (z : Kept). z.counts) (proves.only.kept ∙ ap (λ (z : Kept). with_proofs z proves.only.proofs) all.0),
             );
         answers = record {
           left = a;

@@ -32,7 +32,8 @@ use Rattle.slotted_filing.proofs.KeyedNodes.{same-places}
 use Rattle.slotted_unions.specs.Stored.{Stored, GrowsUncounted}
 use Rattle.slotted_unions.proofs.GrownRows.{grown-count, grown-rows}
 use Rattle.slotted_rebuilding.specs.Causes.{HasLargeClass}
-use Rattle.slotted_rebuilding.specs.Counted.{CountsFit, CountsGo, TotalsFit}
+use Rattle.slotted_rebuilding.specs.Counted.{CountsFit, CountsGo, CountsOn, TotalsFit}
+use Rattle.slotted_rebuilding.proofs.CountedRebuilds.{counts-same}
 use Rattle.slotted_rebuilding.specs.Filed.{state_in}
 use Rattle.slotted_rebuilding.specs.NewClasses.{IsUnfiled, FilesNewest}
 use Rattle.slotted_rebuilding.proofs.FiledStates.{fits-grown}
@@ -71,7 +72,7 @@ module _ (k : Kept) (r : Rows) (good : Good k) (rests : RestsWith k r) where
   same-goes_on = goes_on-same (state_in k r) good.stored.sane.sound.linked
 
   pub adds-none : AddsClasses (image_of k) (image_of k)
-  adds-none = adds-classes k r good k r same-goes_on [] (sym (append-nil k.proofs)) [] (sym (append-nil k.symmetries)) refl
+  adds-none = adds-classes k r good k r same-goes_on [] (sym (append-nil k.proofs)) [] (sym (append-nil k.symmetries)) refl (counts-same k.counts)
 
   -- the node had a class
   pub adds-known : (t u : Table) (f : Form) (a : Applied) → Makes t u k k f a → Adds t u k r k r f a
@@ -150,22 +151,21 @@ module _ (k : Kept) (r : Rows) (good : Good k) (rests : RestsWith k r) where
       abbrev same : nodes_of l ≡ nodes_of m
       same = files.grows.nodes
 
+      noted : m.counts ≡ k.counts → CountsOn k l
+      noted same fit = subst (λ c. CountsGo c l.counts × CountsFit l.counts (size_of l)) same (files.counts (subst TotalsFit (sym same) fit.totals))
+
       -- and is filed
       pub adds-filed : (t u : Table) (a : Applied) → Makes t u k m f a → Adds t u k r l q f a
       adds-filed t u a make = record {
         good = grown-good m l good-m files.grows files.filed.stored files.settled;
-        rests = record { filed = files.filed; represents = added.rest.represents; quiet = added.rest.nothing_waits };
+        rests = record { filed = files.filed; represents = added.rest.represents; quiet = added.rest.nothing_waits; noted = (noted make.counts rests.noted).1 };
         fresh_slots = grown-fresh u m l same make.fresh_slots;
         extends = subst (Extends (nodes_of k)) (sym same) make.extends;
         goes_on = added.goes_on;
         adds = adds-classes k r good l q added.goes_on (make.more ++ files.grows.more)
             (files.grows.proofs ∙ (ap (λ (x : List Proven). x ++ files.grows.more) make.proofs ∙ append_assoc k.proofs make.more files.grows.more))
-            files.grows.listed (files.grows.symmetries ∙ ap (λ (x : List SymmetryEntry). x ++ files.grows.listed) make.symmetries) added.same_asserted;
-        notes = record {
-          gone = files.grows.gone;
-          deaths = files.grows.deaths ∙ ap (λ is. is ++ files.grows.gone) make.deaths;
-          counts = λ fit. subst (λ c. CountsGo c l.counts × CountsFit l.counts (size_of l)) make.counts (files.counts (subst TotalsFit (sym make.counts) fit.totals));
-        };
+            files.grows.listed (files.grows.symmetries ∙ ap (λ (x : List SymmetryEntry). x ++ files.grows.listed) make.symmetries) added.same_asserted (noted make.counts rests.noted).0;
+        notes = record { gone = files.grows.gone; deaths = files.grows.deaths ∙ ap (λ is. is ++ files.grows.gone) make.deaths; counts = noted make.counts };
         found = subst (λ (ns : List DTerm). id_of_node ns (nameless_node f) ≡ Some a) (sym same) make.found;
         filed = subst (λ (ns : List DTerm). NewClassesAre (nodes_of k) ns (IsIdOfNode ns (nameless_node f))) (sym same) make.filed;
         kept = λ s. absurd (more-than (ap (λ (x : Kept). length x.classes) (make.kept s).0));

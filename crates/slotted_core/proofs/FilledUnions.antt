@@ -154,6 +154,7 @@ module _ (k : Kept) (good : Good k) (a b : Applied) (va : IsFindable k a) (vb : 
         canonical = full.nodes;
         continues = full.continues;
         size = full.size;
+        counts = full.counts_go;
         unchanged = of_negation alike _ same;
       };
       counts = full.counts;

@@ -17,9 +17,10 @@ use Rattle.slotted_filing.specs.FiledRows.{Rows, rows_in}
 use Rattle.slotted_rebuilding.specs.Filed.{state_in}
 use Rattle.slotted_core.specs.Adding.{term_nodes}
 use Rattle.slotted_core.specs.AddingTerms.{AddsNode, AddsNodes, FilesOnlyLookedUp, IsEqualToTerm, IsOver, LacksForTerm, TakesForTerm, none_added, one_added}
-use Rattle.slotted_core.specs.Good.{AddsFoundTerm, AddsNodeIn, AddsNodesIn, Good, HasFreshSlots, IsFoundIn, LacksForTermIn, RestsWith, TakesForTermIn, image_of}
+use Rattle.slotted_core.specs.Good.{graph_of, AddsFoundTerm, AddsNodeIn, AddsNodesIn, Good, HasFreshSlots, IsFoundIn, LacksForTermIn, RestsWith, TakesForTermIn, image_of}
 use Rattle.slotted_core.specs.Good as kept
 use Rattle.slotted_core.specs.Graph.{Graph}
+use base.Stored.{Gv}
 use Rattle.slotted_core.specs.LookUp.{IsOneGraph, KeepsLookUps, look_up, look_up_nameless, look_up_term}
 use Rattle.slotted_core.specs.Nodes.{child_ids}
 use Rattle.slotted_core.specs.Reports.{IsFound}
@@ -31,44 +32,44 @@ use Rattle.slotted_core.proofs.LookUps.{looked_up-is, tree-is}
 use Rattle.slotted_core.proofs.LookedUp.{keeps-look_ups, tree-found}
 use Rattle.slotted_core.proofs.Resting.{at-rest}
 
--- the graph that is told by what is kept
-abbrev pub seen : Table → Kept → Rows → Graph
-seen t k r = record { failed = false; table = t; image = image_of k; filed = rows_in r.filed }
+-- the graph that is told by what is kept, and by what its analysis keeps
+abbrev pub seen : Gv → Table → Kept → Rows → Graph
+seen y t k r = graph_of false t k (rows_in r.filed) y
 
 -- ids that find, as contracts see them
-ids-over : (t : Table) (k : Kept) (r : Rows) → Good k → (f : Form) → All (IsFoundIn t k) (child_ids f) → AllKnown t f.names → IsOver (seen t k r) f
-ids-over t k r good f all known = record { known = known; children = λ j d l. to-valid k good (seen t k r) refl _ (all j d l).0 (all j d l).1 }
+ids-over : (y : Gv) (t : Table) (k : Kept) (r : Rows) → Good k → (f : Form) → All (IsFoundIn t k) (child_ids f) → AllKnown t f.names → IsOver (seen y t k r) f
+ids-over y t k r good f all known = record { known = known; children = λ j d l. to-valid k good (seen y t k r) refl _ (all j d l).0 (all j d l).1 }
 
-over-children : (t : Table) (k : Kept) (r : Rows) → Good k → (f : Form) → Fits f → All (IsFoundIn t k) (child_ids f) → AllKnown t f.names → EachChild (IsFindable k) (nameless_node f).args
-over-children t k r good f fits all known = findable-children k good (seen t k r) refl f fits (ids-over t k r good f all known).children
+over-children : (y : Gv) (t : Table) (k : Kept) (r : Rows) → Good k → (f : Form) → Fits f → All (IsFoundIn t k) (child_ids f) → AllKnown t f.names → EachChild (IsFindable k) (nameless_node f).args
+over-children y t k r good f fits all known = findable-children k good (seen y t k r) refl f fits (ids-over y t k r good f all known).children
 
 -- the node at the top of a subterm, as contracts see it
-abbrev graph-top : (t : Table) (k : Kept) (r : Rows) → Good k → RestsWith k r → (w : Term) (f : Form) → IsTopIn (look_up_node (state_in k r)) w f → IsTopIn (look_up_nameless (seen t k r)) w f
-graph-top t k r good rests w f o = record {
+abbrev graph-top : (y : Gv) (t : Table) (k : Kept) (r : Rows) → Good k → RestsWith k r → (w : Term) (f : Form) → IsTopIn (look_up_node (state_in k r)) w f → IsTopIn (look_up_nameless (seen y t k r)) w f
+graph-top y t k r good rests w f o = record {
   subterm = o.subterm;
   stands = o.stands;
   top = record {
     parts = o.top.parts;
     whole = o.top.whole;
     count = o.top.count;
-    each = λ i a c l. tree-is k r good rests (seen t k r) refl refl (nameless (slice_index_or o.top.parts i c)) ∙ o.top.each i a c l;
+    each = λ i a c l. tree-is k r good rests (seen y t k r) refl refl (nameless (slice_index_or o.top.parts i c)) ∙ o.top.each i a c l;
   };
 }
 
-module _ (w : Term) (t : Table) (k : Kept) (r : Rows) (good : Good k) (rests : RestsWith k r) (fresh : HasFreshSlots t k) where
-  graph-node : (u v : Table) (l m : Kept) (q s : Rows) → Reached t k r u l q → AddsNodeIn w u l q v m s → AddsNode w (seen u l q) (seen v m s)
+module _ (y : Gv) (w : Term) (t : Table) (k : Kept) (r : Rows) (good : Good k) (rests : RestsWith k r) (fresh : HasFreshSlots t k) where
+  graph-node : (u v : Table) (l m : Kept) (q s : Rows) → Reached t k r u l q → AddsNodeIn w u l q v m s → AddsNode w (seen y u l q) (seen y v m s)
   graph-node u v l m q s p step =
-      let g : Graph = seen u l q in
-      let h : Graph = seen v m s in
-      let c = over-children u l q p.good step.node step.fits step.children step.known in
+      let g : Graph = seen y u l q in
+      let h : Graph = seen y v m s in
+      let c = over-children y u l q p.good step.node step.fits step.children step.known in
       record {
         node = step.node;
-        over = ids-over u l q p.good step.node step.children step.known;
+        over = ids-over y u l q p.good step.node step.children step.known;
         small = step.small;
-        top = graph-top u l q p.good p.rests w step.node step.top;
+        top = graph-top y u l q p.good p.rests w step.node step.top;
         answer = step.answer;
         id = added-id l q p.good p.rests g refl refl u refl step.node step.fits c step.known m s step.answer h refl refl step.more step.added;
-        kept = added-kept l q p.good p.rests g refl refl u refl step.node step.fits c step.known m s step.answer h refl refl step.more step.added;
+        kept = added-kept l q p.good p.rests g refl refl u refl step.node step.fits c step.known m s step.answer h refl refl step.more step.added refl;
         made = added-made l q p.good p.rests g refl refl u refl step.node step.fits c step.known m s step.answer h refl refl step.more step.added;
         answers = added-answers l q p.good p.rests g refl refl u refl step.node step.fits c step.known m s step.answer h refl refl step.more step.added;
         extends = step.added.extends;
@@ -77,39 +78,39 @@ module _ (w : Term) (t : Table) (k : Kept) (r : Rows) (good : Good k) (rests : R
         makes = step.makes;
       }
 
-  graph-nodes : (n : ℕ) (u : Table) (l : Kept) (q : Rows) → AddsNodesIn w t k r n u l q → AddsNodes w (seen t k r) n (seen u l q)
+  graph-nodes : (n : ℕ) (u : Table) (l : Kept) (q : Rows) → AddsNodesIn w t k r n u l q → AddsNodes w (seen y t k r) n (seen y u l q)
   graph-nodes _ _ _ _ kept.none_added = none_added
   graph-nodes _ _ _ _ (kept.one_added {n} {u} {v} {l} {m} {q} {s} before step) =
       one_added (graph-nodes n u l q before) (graph-node u v l m q s (reached w t k r good rests fresh n u l q before) step)
 
-  graph-takes : (v : Table) → TakesForTermIn w t k r v → TakesForTerm w (seen t k r) v
+  graph-takes : (v : Table) → TakesForTermIn w t k r v → TakesForTerm w (seen y t k r) v
   graph-takes v takes =
       let p = reached w t k r good rests fresh takes.count takes.between takes.kept takes.rows takes.nodes in
       record {
         count = takes.count;
         few = takes.few;
-        reached = seen takes.between takes.kept takes.rows;
+        reached = seen y takes.between takes.kept takes.rows;
         nodes = graph-nodes takes.count takes.between takes.kept takes.rows takes.nodes;
         last = elim takes.last [
           | inl e ↦ inl e
-          | inr y ↦ inr (y.0, ids-over takes.between takes.kept takes.rows p.good y.0 y.1 y.2, y.4, y.5, graph-top takes.between takes.kept takes.rows p.good p.rests w y.0 y.6)
+          | inr last ↦ inr (last.0, ids-over y takes.between takes.kept takes.rows p.good last.0 last.1 last.2, last.4, last.5, graph-top y takes.between takes.kept takes.rows p.good p.rests w last.0 last.6)
         ];
       }
 
-  graph-lacks : (v : Table) → LacksForTermIn w t k r v → LacksForTerm w (seen t k r) v
+  graph-lacks : (v : Table) → LacksForTermIn w t k r v → LacksForTerm w (seen y t k r) v
   graph-lacks v lacks =
       let p = reached w t k r good rests fresh lacks.count lacks.between lacks.kept lacks.rows lacks.nodes in
-      let there : Graph = seen lacks.between lacks.kept lacks.rows in
-      let children = over-children lacks.between lacks.kept lacks.rows p.good lacks.node lacks.fits lacks.children lacks.known in
+      let there : Graph = seen y lacks.between lacks.kept lacks.rows in
+      let children = over-children y lacks.between lacks.kept lacks.rows p.good lacks.node lacks.fits lacks.children lacks.known in
       let is_node : look_up there lacks.node ≡ look_up_node (state_in lacks.kept lacks.rows) (nameless_node lacks.node) =
       looked_up-is lacks.kept lacks.rows p.good p.rests there refl refl (nameless_node lacks.node) children in
       record {
         count = lacks.count;
         few = lacks.few;
-        reached = seen lacks.between lacks.kept lacks.rows;
+        reached = seen y lacks.between lacks.kept lacks.rows;
         nodes = graph-nodes lacks.count lacks.between lacks.kept lacks.rows lacks.nodes;
         node = lacks.node;
-        over = ids-over lacks.between lacks.kept lacks.rows p.good lacks.node lacks.children lacks.known;
+        over = ids-over y lacks.between lacks.kept lacks.rows p.good lacks.node lacks.children lacks.known;
         fits = lacks.fits;
         small = lacks.small;
         cause = lacks.cause.0;
@@ -117,12 +118,12 @@ module _ (w : Term) (t : Table) (k : Kept) (r : Rows) (good : Good k) (rests : R
           | inl none ↦ inl (is_node ∙ none)
           | inr large ↦ inr large
         ];
-        top = graph-top lacks.between lacks.kept lacks.rows p.good p.rests w lacks.node lacks.top;
+        top = graph-top y lacks.between lacks.kept lacks.rows p.good p.rests w lacks.node lacks.top;
         same = tree-is lacks.kept lacks.rows p.good p.rests there refl refl (nameless lacks.top.subterm) ∙ (lacks.same ∙ sym is_node);
       }
 
   -- the graph before
-  module _ (g : Graph) (is : seen t k r ≡ g) where
+  module _ (g : Graph) (is : seen y t k r ≡ g) where
     pub term-takes : (v : Table) → TakesForTermIn w t k r v → TakesForTerm w g v
     term-takes v takes = subst (λ (x : Graph). TakesForTerm w x v) is (graph-takes v takes)
 
@@ -131,7 +132,7 @@ module _ (w : Term) (t : Table) (k : Kept) (r : Rows) (good : Good k) (rests : R
 
     module _ (u : Table) (l : Kept) (q : Rows) (a : Applied) (add : AddsFoundTerm t k r u l q w a) where
       abbrev h : Graph
-      h = seen u l q
+      h = seen y u l q
 
       pub term-reached : Reached t k r u l q
       term-reached = reached w t k r good rests fresh (term_nodes w) u l q add.nodes
@@ -150,15 +151,15 @@ module _ (w : Term) (t : Table) (k : Kept) (r : Rows) (good : Good k) (rests : R
 
       pub term-kept : IsSome (look_up_term g w) → IsOneGraph g h
       term-kept some =
-          let before : look_up_term (seen t k r) w ≡ look_up_tree (state_in k r) (nameless w) = tree-is k r good rests (seen t k r) refl refl (nameless w) in
+          let before : look_up_term (seen y t k r) w ≡ look_up_tree (state_in k r) (nameless w) = tree-is k r good rests (seen y t k r) refl refl (nameless w) in
           let same = add.kept (subst (λ (o : Option Applied). IsSome o) (ap (λ (x : Graph). look_up_term x w) (sym is) ∙ before) some) in
-          subst (λ (x : Graph). IsOneGraph x h) is (record { table = same.2; image = ap image_of same.0; filed = ap (λ (x : Rows). rows_in x.filed) same.1 })
+          subst (λ (x : Graph). IsOneGraph x h) is (record { table = same.2; image = ap image_of same.0; filed = ap (λ (x : Rows). rows_in x.filed) same.1; part = refl })
 
       pub term-answers : KeepsLookUps g h
       term-answers = subst (λ (x : Graph). KeepsLookUps x h) is
-          (keeps-look_ups k r good rests (seen t k r) refl refl l q term-reached.good term-reached.rests h refl refl term-reached.goes_on term-reached.keeps)
+          (keeps-look_ups k r good rests (seen y t k r) refl refl l q term-reached.good term-reached.rests h refl refl term-reached.goes_on term-reached.keeps)
 
       pub term-filed : FilesOnlyLookedUp g h w
       term-filed = subst (λ (x : Graph). FilesOnlyLookedUp x h w) is (λ i past within.
-          let y = add.filed i past within in
-          (y.0, y.1, record { subterm = y.2; stands = y.3; found = tree-is l q term-reached.good term-reached.rests h refl refl (nameless y.2) ∙ y.4 }))
+          let new = add.filed i past within in
+          (new.0, new.1, record { subterm = new.2; stands = new.3; found = tree-is l q term-reached.good term-reached.rests h refl refl (nameless new.2) ∙ new.4 }))

@@ -8,6 +8,7 @@ use Rattle.slotted_model.specs.Find.{Entry, find_class, find_map, find}
 use Rattle.slotted_model.specs.Growth.{Extends}
 use Rattle.slotted_model.specs.ProofList.{ProofEntry}
 use Rattle.slotted_proofs.specs.Entries.{Proven}
+use Rattle.slotted_rebuilding.proofs.CountedRebuilds.{counts-then}
 use Rattle.slotted_core.specs.Causes.{class_found}
 use Rattle.slotted_core.specs.Image.{Image, AddsClasses, found_id}
 use Rattle.slotted_store.specs.Kept.{Kept, SymmetryEntry, entries_of}
@@ -27,6 +28,7 @@ adds-then g h i x p q finds = record {
   symmetries = q.symmetries ∙ (ap (λ (l : List SymmetryEntry). l ++ q.listed) p.symmetries ∙ append_assoc g.symmetries p.listed q.listed);
   finds = finds;
   alike = λ a b fa fb e. q.alike a b (x.full a fa) (x.full b fb) (p.alike a b fa fb e);
+  counts = counts-then g.counts h.counts i.counts p.counts q.counts;
 }
 
 -- what a class finds

@@ -55,4 +55,5 @@ pub mod LookedUpTerms
 pub mod GraphTerms
 pub mod YesesStay
 pub mod LookedUpClasses
+pub mod RepresentedTerms
 pub mod RefreshedNodes

@@ -73,7 +73,7 @@ module _ (k : Kept) (r : Rows) (good : Good k) (rests : RestsWith k r) (g : Grap
 
   -- the graph as it is told by what is kept
   abbrev seen : Graph
-  seen = record { failed = g.failed; table = g.table; image = image_of k; filed = rows_in r.filed }
+  seen = record g { image = image_of k; filed = rows_in r.filed }
 
   found_args-are : (d : DArgs) → EachChild (IsFindable k) d → words.found_args (image_of k) d ≡ normal_args (entries_of k) d
   found_args-are stop v = refl
@@ -106,7 +106,7 @@ module _ (k : Kept) (r : Rows) (good : Good k) (rests : RestsWith k r) (g : Grap
   -- a node over ids that find
   pub looked_up-is : (d : DTerm) → EachChild (IsFindable k) d.args → words.look_up_nameless g d ≡ look_up_node state d
   looked_up-is d v =
-      let e : words.look_up_nameless seen d ≡ words.look_up_nameless g d = λ i. words.look_up_nameless (record { failed = g.failed; table = g.table; image = image i; filed = filed i }) d in
+      let e : words.look_up_nameless seen d ≡ words.look_up_nameless g d = λ i. words.look_up_nameless (record g { image = image i; filed = filed i }) d in
       sym e ∙ node-is d v
 
   -- the answer finds

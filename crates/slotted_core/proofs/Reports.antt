@@ -115,7 +115,7 @@ module _ (k : Kept) (good : Good k) where
   module _ (g : Graph) (image : image_of k ≡ g.image) where
     -- in a graph with this image
     abbrev over : Image → Graph
-    over i = record { failed = g.failed; table = g.table; image = i; filed = g.filed }
+    over i = record g { image = i }
 
     pub slots-are : (i : ℕ) → i < length g.image.canonical → used_slots found i ≡ slots_used g.image i
     slots-are i l = used-are i (within k g.image image i l) ∙ ap (λ (x : Image). slots_used x i) image

@@ -5,10 +5,11 @@ use Rattle.slotted_model.specs.ProofList.{explicit}
 use Rattle.slotted_model.proofs.Quiet.{proofs-quiet}
 use Rattle.slotted_proofs.specs.Entries.{Proven}
 use Rattle.slotted_proofs.specs.Proving.{IsProvable}
-use Rattle.slotted_store.specs.Kept.{Kept, nodes_of, proofs_of, EntersIn}
+use Rattle.slotted_store.specs.Kept.{Kept, nodes_of, proofs_of, size_of, EntersIn}
 use Rattle.slotted_filing.specs.FiledRows.{Rows, rows_in}
 use Rattle.slotted_unions.specs.Proving.{OnlyProves}
 use Rattle.slotted_unions.proofs.EnteredProofs.{only-state, entering-proves}
+use Rattle.slotted_rebuilding.specs.Counted.{CountsFit}
 use Rattle.slotted_rebuilding.specs.Filed.{state_in}
 use Rattle.slotted_rebuilding.proofs.EnteredCongruences.{proved-well}
 use Rattle.slotted_core.specs.Good.{Good, RestsWith}
@@ -27,6 +28,7 @@ proved-rests k l r good rests only = record {
   filed = proved-well k l r only rests.filed;
   represents = subst Represents (sym (only-state k l only (rows_in r.filed) r.waiting)) (proofs-quiet (state_in k r) (at-rest k r good rests) (proofs_of l) only.asserts_nothing).rest.represents;
   quiet = rests.quiet;
+  noted = subst (λ (z : Kept). CountsFit z.counts (size_of z)) (sym only.kept) rests.noted;
 }
 
 -- one of them

@@ -73,6 +73,7 @@ pub record UnitesFull (k : Kept) (r : Rows) (l : Kept) (q : Rows) (x : Proven) (
   pub continues : Continues (image_of k) (image_of l)
   pub size : live_size (image_of l) ≤ live_size (image_of k)
   pub counts : NeverMore k l
+  pub counts_go : CountsGo k.counts l.counts
   pub notes : KeepsNotes k l
   pub last : NotesLast k r l
   pub records : Records (image_of k) (image_of l) x
@@ -135,7 +136,7 @@ module _ (k : Kept) (r : Rows) (good : Good k) (rests : RestsWith k r) (a b : Ap
   united-good = grown-good k l good grows rebuilds.filed.stored rebuilds.settled
 
   united-rests : RestsWith l q
-  united-rests = record { filed = rebuilds.filed; represents = asserted.rest.represents; quiet = asserted.rest.nothing_waits }
+  united-rests = record { filed = rebuilds.filed; represents = asserted.rest.represents; quiet = asserted.rest.nothing_waits; noted = (united-notes.counts rests.noted).1 }
 
   abbrev new : (c : Applied) → IsFull (nodes_of k) c → found_id (image_of l) c ≡ find (entries_of l) c
   new = finds-new k r good l q asserted.goes_on
@@ -208,6 +209,7 @@ module _ (k : Kept) (r : Rows) (good : Good k) (rests : RestsWith k r) (a b : Ap
     continues = united-continues;
     size = united-size;
     counts = record { live = exact.lives; slots = exact.slots };
+    counts_go = (united-notes.counts rests.noted).0;
     notes = united-notes;
     last = united-last;
     records = records-more (image_of k) (image_of m) (image_of l) x said.records grows-after.more grows-after.proofs;

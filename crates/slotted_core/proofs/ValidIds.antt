@@ -49,7 +49,7 @@ module _ (k : Kept) (good : Good k) (g : Graph) (image : image_of k ≡ g.image)
 
   -- in a graph with this image
   abbrev Findable : Image → Type 0
-  Findable i = IsValidId (record { failed = g.failed; table = g.table; image = i; filed = g.filed }) a
+  Findable i = IsValidId (record g { image = i }) a
 
   -- the slots that the class has left
   left-are : a.0 < length (nodes_of k) → slots_left (image_of k) a.0 ≡ values_of (find_map found a.0)

@@ -89,7 +89,7 @@ pub record AddsSyn (g h : Graph) (f : Form) (a : Applied) : Type 0 where
   pub found : id_of_node h.image.canonical node ≡ Some a
   pub term : term_of h.image.canonical a ≡ layer_of h.image.canonical node
   pub kept : IsSome (id_of_node g.image.canonical node) → (h.image ≡ g.image) × (h.filed ≡ g.filed) ×
-      MakesAtMost (children_lack g.image f) g.table h.table
+      MakesAtMost (children_lack g.image f) g.table h.table × (h.part ≡ g.part)
   pub made : id_of_node g.image.canonical node ≡ None → HasNewClass g.table h.table g.image.canonical h.image.canonical node
   pub filed : NewClassesAre g.image.canonical h.image.canonical (IsIdOfNode h.image.canonical node)
 

@@ -4,15 +4,18 @@
 --     AreAffected g a b     a and b both find affected classes
 --     IsYesIfEqual          an answer to `eq` is yes if names can be filled in so that the terms are equal, or both ids are affected
 --     IsYesIfDerivable      so it is if they are derivable
-use Rattle.std.specs.Prelude.{◌≡◌, ◌⊎◌, ℕ, ◌<◌, List, length, map, Contains, Bool, IsTrue}
+--     AreRepresented g      the canonical term of each id whose class is not affected is looked up as what the id finds
+use Rattle.std.specs.Prelude.{◌≡◌, ◌⊎◌, ℕ, ◌<◌, List, length, map, Contains, Bool, IsTrue, Some}
 use Rattle.slotted_theory.specs.Term.{Term}
 use Rattle.slotted_theory.specs.Nameless.{nameless}
 use Rattle.slotted_theory.specs.Derives.{Derives, Equal, nameless_pair}
 use Rattle.slotted_model.specs.Applied.{Applied}
-use Rattle.slotted_model.specs.Classes.{canonical_node, term_of}
+use Rattle.slotted_model.specs.Classes.{canonical_node, term_of, IsFull}
 use Rattle.slotted_core.specs.Causes.{HasChildOf, class_found}
 use Rattle.slotted_core.specs.ValidIds.{Fills}
-use Rattle.slotted_core.specs.Image.{Image, SymmetryEntry, asserted_in, FoundAlike}
+use Rattle.slotted_core.specs.Graph.{Graph}
+use Rattle.slotted_core.specs.Image.{Image, SymmetryEntry, asserted_in, found_id, FoundAlike}
+use Rattle.slotted_core.specs.LookUp.{look_up_term}
 
 -- the least set of live classes that has the class of each open symmetry, and that of each canonical node with a child of a class of the set
 pub data IsAffected (g : Image) : ℕ → Type 0 where
@@ -37,3 +40,9 @@ IsYesIfDerivable g a b y =
     (left right : Applied) → Fills g a left → Fills g b right →
     (E : List (Term × Term)) (t u : Term) → map nameless_pair E ≡ asserted_in g →
     nameless t ≡ term_of g.canonical left → nameless u ≡ term_of g.canonical right → Derives E t u → IsTrue y ⊎ AreAffected g a b
+
+-- each id with names for all slots of its class represents its canonical term, unless its class is affected
+abbrev pub AreRepresented : Graph → Type 0
+AreRepresented g =
+    (a : Applied) → IsFull g.image.canonical a → ¬ IsAffected g.image (class_found g.image a.0) →
+    (t : Term) → nameless t ≡ term_of g.image.canonical a → look_up_term g t ≡ Some (found_id g.image a)

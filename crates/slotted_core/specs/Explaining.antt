@@ -50,6 +50,8 @@ pub record KeepsClasses (g h : Graph) : Type 0 where
   pub found : h.image.found ≡ g.image.found
   pub symmetries : h.image.symmetries ≡ g.image.symmetries
   pub filed : h.filed ≡ g.filed
+  pub counts : h.image.counts ≡ g.image.counts
+  pub part : h.part ≡ g.part
 
 -- where both terms have ids, entries of the proof list are all that is new
 abbrev pub KeepsKnown : Graph → Graph → Term → Term → Type 0
@@ -85,7 +87,8 @@ pub record ExplainsTerms (old new : Table) (k : Kept) (r : Rows) (l : Kept) (q :
   pub notes : KeepsNotes k l
   pub filed : NewClassesAre (nodes_of k) (nodes_of l) (IsIdOfEither (nodes_of l) t u)
   pub kept : IsSome (id_of (nodes_of k) (nameless t)) → IsSome (id_of (nodes_of k) (nameless u)) → (nodes_of l ≡ nodes_of k) ×
-      ((image_of l).found ≡ (image_of k).found) × ((image_of l).symmetries ≡ (image_of k).symmetries) × (q ≡ r) × (new ≡ old)
+      ((image_of l).found ≡ (image_of k).found) × ((image_of l).symmetries ≡ (image_of k).symmetries) × (q ≡ r) × (new ≡ old) ×
+      (l.counts ≡ k.counts)
   pub answers : Answers (image_of l) t u answer
 
 -- one of the terms has no id

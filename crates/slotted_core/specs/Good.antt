@@ -6,6 +6,7 @@
 --     Makes          what holds once a node has a class, before this is filed
 --     Adds, AddsTerm, AddsFilled, AddsFound, Unites     what a call leaves
 use Rattle.std.specs.Prelude.{◌≡◌, ◌⊎◌, ℕ, suc, ◌<◌, ◌≤◌, All, List, [], ◌∷◌, ◌++◌, length, Bool, false, Option, Some, None, Contains, IsSome}
+use base.Stored.{Gv}
 use Rattle.slotted_slots.specs.declared.types.AppliedId.{AppliedId}
 use Rattle.slotted_slots.specs.Table.{KnowsMore, Table, empty_table}
 use Rattle.slotted_theory.specs.Term.{Term}
@@ -36,11 +37,11 @@ use Rattle.slotted_store.specs.Names.{HasNumberedBinders}
 use Rattle.slotted_filing.specs.FiledRows.{Rows, rows_in}
 use Rattle.slotted_unions.specs.StateOf.{state_with}
 use Rattle.slotted_unions.specs.Stored.{Stored}
-use Rattle.slotted_rebuilding.specs.Counted.{CountsOn}
+use Rattle.slotted_rebuilding.specs.Counted.{CountsFit, CountsOn}
 use Rattle.slotted_rebuilding.specs.Filed.{state_in, IsWellFiled}
 use Rattle.slotted_core.specs.Adding.{HasChildrenFilled, HasLargeClassOrFilled, children_lack, IsOfTerm, MakesFilledClass, RunsOutForFilled, slots_needed, term_nodes}
 use Rattle.slotted_core.specs.Causes.{HasLargeClassIn, HasLargeClassOrNode, HasLargeClassOrTerm}
-use Rattle.slotted_core.specs.Graph.{IsFreshBetween, HasNewClass, MakesAtMost}
+use Rattle.slotted_core.specs.Graph.{Graph, IsFreshBetween, HasNewClass, MakesAtMost}
 use Rattle.slotted_core.specs.Image.{Image, AddsClasses, NewClassesAre, IsIdOfNode, IsIdOfSubterm, IsUnion, RecordsFilled}
 use Rattle.slotted_core.specs.Nodes.{child_ids}
 use Rattle.slotted_core.specs.Subterms.{IsSubterm, IsTopIn}
@@ -58,7 +59,12 @@ image_of k = record {
   entries = proofs_of k;
   stored = k.proofs;
   symmetries = k.symmetries;
+  counts = k.counts;
 }
+
+-- what contracts see of a graph in which this is kept, with these filed nodes, by what its analysis keeps
+abbrev pub graph_of : Bool → Table → Kept → List Row → Gv → Graph
+graph_of b t k rows part = record { failed = b; table = t; image = image_of k; filed = rows; part = part }
 
 -- the id has a known slot for each slot of its class
 abbrev pub IsFullOver : Table → Kept → AppliedId → Type 0
@@ -85,11 +91,12 @@ abbrev pub HasFreshSlots : Table → Kept → Type 0
 HasFreshSlots t k = (i s : ℕ) → i < length k.classes → Contains (canonical_slots (nodes_of k) i) s → IsFreshBetween empty_table t s
 
 -- all is at rest with what is filed: the filed nodes fit what is kept, each class is linked to one of them, the sides of each asserted
--- equation are equal up to listed symmetries, and nothing waits
+-- equation are equal up to listed symmetries, nothing waits, and what rebuilds noted is within its bounds
 pub record RestsWith (k : Kept) (r : Rows) : Type 0 where
   pub filed : IsWellFiled k r
   pub represents : Represents (state_in k r)
   pub quiet : r.waiting ≡ []
+  pub noted : CountsFit k.counts (size_of k)
 
 -- the classes that died are still listed, and perhaps more, and what rebuilds noted goes on
 pub record KeepsNotes (k l : Kept) : Type 0 where

@@ -1,11 +1,14 @@
--- What contracts see of a graph: whether it failed, its table of slots, its classes, finds and proofs as lists, and its filed nodes.
+-- What contracts see of a graph: whether it failed, its table of slots, its classes, finds and proofs as lists, its filed nodes, and
+-- what its analysis keeps.
+--     empty_graph t                      the graph without classes
 --     IsFullId g a                       an id with names for all slots of its class
 --     id_of_term g t                     the id that the term has by canonical nodes
 --     MakesAtMost n t u                  from t to u the table makes at most n fresh slots
 --     RunsOut n t u                      n more were not to be had
 --     HasNewClass                        there is one class more, for a node
-use Rattle.std.specs.Prelude.{◌≡◌, ◌⊎◌, ℕ, ◌<◌, ◌≤◌, Bool, List, [], ◌∷◌, ◌++◌, length, Contains, Option}
+use Rattle.std.specs.Prelude.{◌≡◌, ◌⊎◌, ℕ, ◌<◌, ◌≤◌, Bool, false, List, [], ◌∷◌, ◌++◌, length, Contains, Option}
 use Rattle.std.specs.Coded.{Coded, code_by, coded×, coded_bool, coded_ℕ, coded_list}
+use base.Stored.{Gv, gnil}
 use Rattle.std.specs.Prelude.{refl}
 use Rattle.slotted_theory.specs.Term.{Term}
 use Rattle.slotted_theory.specs.Nameless.{DTerm, nameless}
@@ -20,7 +23,7 @@ use Rattle.slotted_model.specs.Ids.{id_of}
 use Rattle.slotted_model.specs.State.{Row}
 pub use Rattle.slotted_adding.specs.Filling.{MakesAtMost, RunsOut}
 use Rattle.slotted_proofs.specs.Equations.{to_applied}
-use Rattle.slotted_core.specs.Image.{Image, NewClassesAre, IsIdOfSubterm, RecordsFilled, image_code}
+use Rattle.slotted_core.specs.Image.{Image, no_classes, NewClassesAre, IsIdOfSubterm, RecordsFilled, image_code}
 use Rattle.slotted_core.specs.Places.{term_places, term_slots}
 use Rattle.slotted_core.specs.TermCode.{nameless_code}
 use Rattle.slotted_store.specs.EntryCode.{pairs_code}
@@ -32,6 +35,8 @@ pub record Graph : Type 0 where
   pub table : Table
   pub image : Image
   pub filed : List Row
+  -- what the analysis keeps of the classes, by its code, which tells all of it apart: so graphs over any analysis have values of one type
+  pub part : Gv
 
 abbrev table_code : Coded Table
 table_code = code_by (ℕ × List (List ℕ)) (coded× coded_ℕ (coded_list (coded_list coded_ℕ))) (λ t. (t.fresh, t.names)) (λ p. record { fresh = p.0; names = p.1 }) (λ _. refl)
@@ -40,16 +45,29 @@ abbrev row_code : Coded Row
 row_code =
     code_by (DTerm × (ℕ × List (ℕ × ℕ))) (coded× nameless_code (coded× coded_ℕ pairs_code)) (λ r. (r.shape, (r.source, r.slots))) (λ p. record { shape = p.0; source = p.1.0; slots = p.1.1 }) (λ _. refl)
 
+abbrev part_code : Coded Gv
+part_code = record { code = λ x. x; inj = λ _ _ e. e }
+
 -- how graphs are told apart
 abbrev pub graph_code : Coded Graph
 graph_code =
-    code_by (Bool × (Table × (Image × List Row))) (coded× coded_bool (coded× table_code (coded× image_code (coded_list row_code)))) (λ g. (g.failed, (g.table, (g.image, g.filed))))
-    (λ p. record { failed = p.0; table = p.1.0; image = p.1.1.0; filed = p.1.1.1 }) (λ _. refl)
+    code_by (Bool × (Table × (Image × (List Row × Gv)))) (coded× coded_bool (coded× table_code (coded× image_code (coded× (coded_list row_code) part_code))))
+    (λ g. (g.failed, (g.table, (g.image, (g.filed, g.part)))))
+    (λ p. record { failed = p.0; table = p.1.0; image = p.1.1.0; filed = p.1.1.1.0; part = p.1.1.1.1 }) (λ _. refl)
+
+-- the graph without classes, over this table
+abbrev pub empty_graph : Table → Graph
+empty_graph t = record { failed = false; table = t; image = no_classes; filed = []; part = gnil }
+
+-- the totals over all rebuilds: of turns, and of their bounds
+abbrev pub totals_of : Graph → ℕ × ℕ
+totals_of g = (g.image.counts.total_turns, g.image.counts.total_bound)
 
 -- from g to h the table of slots alone changes, and it keeps what it knew
 pub record OnlyReads (g h : Graph) : Type 0 where
   pub image : h.image ≡ g.image
   pub filed : h.filed ≡ g.filed
+  pub part : h.part ≡ g.part
   pub failed : h.failed ≡ g.failed
   pub more : KnowsMore g.table h.table
 

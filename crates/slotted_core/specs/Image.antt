@@ -36,28 +36,32 @@ use Rattle.slotted_core.specs.TermCode.{nameless_code}
 use Rattle.slotted_proofs.specs.Entries.{Proven, proven_at, asserted_entry}
 pub use Rattle.slotted_store.specs.Kept.{text_bytes, SymmetryEntry, symmetry_entry}
 use Rattle.slotted_store.specs.Kept.{symmetry_code}
+use Rattle.slotted_store.specs.Counts.{Counts, counts_code, no_counts}
+use Rattle.slotted_rebuilding.specs.Counted.{CountsGo}
 use Rattle.slotted_store.specs.EntryCode.{pairs_code, proof_entry_code, proven_code}
 
 -- the canonical node of each class, in the order of the class ids; for each class the live class that it finds, with its own slot
--- for each slot of that; the proof list, as the model has it and with the slots and the texts of its entries; and the listed symmetries,
--- each by its two sides and the number of its proof
+-- for each slot of that; the proof list, as the model has it and with the slots and the texts of its entries; the listed symmetries, each by its
+-- two sides and the number of its proof; and what rebuilds did
 pub record Image : Type 0 where
   pub canonical : List DTerm
   pub found : List Applied
   pub entries : List ProofEntry
   pub stored : List Proven
   pub symmetries : List SymmetryEntry
+  -- what rebuilds did
+  pub counts : Counts
 
 abbrev pub image_code : Coded Image
 image_code =
-    code_by (List DTerm × (List Applied × (List ProofEntry × (List Proven × List SymmetryEntry))))
-    (coded× (coded_list nameless_code) (coded× (coded_list (coded× coded_ℕ pairs_code)) (coded× (coded_list proof_entry_code) (coded× (coded_list proven_code) (coded_list symmetry_code)))))
-    (λ g. (g.canonical, (g.found, (g.entries, (g.stored, g.symmetries)))))
-    (λ p. record { canonical = p.0; found = p.1.0; entries = p.1.1.0; stored = p.1.1.1.0; symmetries = p.1.1.1.1 }) (λ _. refl)
+    code_by (List DTerm × (List Applied × (List ProofEntry × (List Proven × (List SymmetryEntry × Counts)))))
+    (coded× (coded_list nameless_code) (coded× (coded_list (coded× coded_ℕ pairs_code)) (coded× (coded_list proof_entry_code) (coded× (coded_list proven_code) (coded× (coded_list symmetry_code) counts_code)))))
+    (λ g. (g.canonical, (g.found, (g.entries, (g.stored, (g.symmetries, g.counts))))))
+    (λ p. record { canonical = p.0; found = p.1.0; entries = p.1.1.0; stored = p.1.1.1.0; symmetries = p.1.1.1.1.0; counts = p.1.1.1.1.1 }) (λ _. refl)
 
 -- the image without classes
 abbrev pub no_classes : Image
-no_classes = record { canonical = []; found = []; entries = []; stored = []; symmetries = [] }
+no_classes = record { canonical = []; found = []; entries = []; stored = []; symmetries = []; counts = no_counts }
 
 -- what an applied id finds: the found class with the id's names at the slots that it stands for
 abbrev pub found_id : Image → Applied → Applied
@@ -92,7 +96,8 @@ abbrev pub StandsIn : Image → Equation → Type 0
 StandsIn g e = (p : ℕ) × (p < length g.entries) × (equation_at g.entries p ≡ e)
 
 -- classes are added, and equal nodes stand for one class again: the proof list grows at its end, so that each entry stays with its slots and
--- its text, nothing is asserted, listed symmetries stay, finds go on from what was found, and ids that find alike still do
+-- its text, nothing is asserted, listed symmetries stay, finds go on from what was found, ids that find alike still do, and the totals over all
+-- rebuilds rise within their bound
 pub record AddsClasses (g h : Image) : Type 0 where
   pub more : List ProofEntry
   pub entries : h.entries ≡ g.entries ++ more
@@ -103,6 +108,7 @@ pub record AddsClasses (g h : Image) : Type 0 where
   pub symmetries : h.symmetries ≡ g.symmetries ++ listed
   pub finds : (a : Applied) → IsFull g.canonical a → found_id h a ≡ found_id h (found_id g a)
   pub alike : (a b : Applied) → IsFull g.canonical a → IsFull g.canonical b → FoundAlike g a b → FoundAlike h a b
+  pub counts : CountsGo g.counts h.counts
 
 -- each class of the newer canonical nodes that the older ones do not have is that of an id of which P holds
 abbrev pub NewClassesAre : List DTerm → List DTerm → (Applied → Type 0) → Type 0
@@ -205,6 +211,7 @@ pub record IsUnion (g h : Image) (a b : Applied) (y : Bool) : Type 0 where
   pub canonical : h.canonical ≡ g.canonical
   pub continues : Continues g h
   pub size : live_size h ≤ live_size g
+  pub counts : CountsGo g.counts h.counts
   pub unchanged : y ≡ false → (h.found ≡ g.found) × (h.symmetries ≡ g.symmetries)
 
 -- what holds of a listed symmetry: its sides are one class with the same slots and the same names in another order, and an entry says just

@@ -7,7 +7,7 @@
 --     RunsOutForUnknown   slots ran out for a node that was not looked up
 --     MakesClassFor       there is one class more where the node was not looked up
 --     AreLookedUp g       the node of each class is looked up
---     IsOneGraph g h      the graphs have one table, one image and the same filed nodes
+--     IsOneGraph g h      the graphs are one, but for whether they failed
 --     KeepsLookUps g h    ids find what they found, and what was looked up is looked up as before
 use Rattle.std.specs.Prelude.{◌≡◌, Option, None, Some, option_map}
 use Rattle.slotted_theory.specs.Nameless.{DArgs, DTerm, stop, place, sub, scope, nameless}
@@ -68,6 +68,7 @@ pub record IsOneGraph (g h : Graph) : Type 0 where
   pub table : h.table ≡ g.table
   pub image : h.image ≡ g.image
   pub filed : h.filed ≡ g.filed
+  pub part : h.part ≡ g.part
 
 abbrev pub RunsOutForUnknown : Graph → Graph → Form → Type 0
 RunsOutForUnknown g h f = (look_up g f ≡ None) × RunsOutForFilled g.image f g.table h.table

@@ -60,6 +60,7 @@ pub trait Explanation {
 
         // Only fresh slots are made, no more than the sides of the lines have binders, and a refusal does not fail the graph.
         ensures takes { OnlyTakesSlots graph.old graph.new }
+        ensures stays { IsTrue graph.old.failed → graph.new ≡ graph.old }
         ensures count { MakesForProof graph.old graph.new (number self) }
 
         ensures failed { IsErrOf result Error.Failed ↔ IsTrue graph.old.failed }
@@ -82,6 +83,7 @@ pub trait Explanation {
         // Only fresh slots are made, no more than the terms have binders that are made for the chain, and a refusal does not fail
         // the graph.
         ensures takes { OnlyTakesSlots graph.old graph.new }
+        ensures stays { IsTrue graph.old.failed → graph.new ≡ graph.old }
         ensures count { MakesForChain graph.old graph.new (number self) }
 
         ensures failed { IsErrOf result Error.Failed ↔ IsTrue graph.old.failed }

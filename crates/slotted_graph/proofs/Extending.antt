@@ -11,6 +11,8 @@ use Rattle.slotted_model.proofs.Growing.{Extends-same, Extends-then}
 use Rattle.slotted_proofs.specs.Equations.{to_applied}
 use Rattle.slotted_core.specs.Graph.{Graph, IsFullId, OnlyReads, OnlyTakesSlots, RecordsUnion}
 use Rattle.slotted_core.specs.Image.{AddsClasses, FillApart, FoundAlike, Image, IsUnion, asserted_in}
+use Rattle.slotted_rebuilding.specs.Counted.{CountsGo}
+use Rattle.slotted_rebuilding.proofs.CountedRebuilds.{counts-same, counts-then}
 use Rattle.slotted_core.proofs.CallerLemmas.{id_later, valid_later, valid_read, valid_united}
 use Rattle.slotted_core.proofs.YesesStay.{alike_later, alike_united}
 use Rattle.slotted_graph.specs.Extension.{Begins, ExtendsTo, IsBetween}
@@ -34,6 +36,7 @@ extends-itself g = record {
   stored = begins-itself g.image.stored;
   asserted = begins-itself (asserted_in g.image);
   symmetries = begins-itself g.image.symmetries;
+  counts = counts-same g.image.counts;
 }
 
 pub extends-then : (f g h : Graph) → ExtendsTo f g → ExtendsTo g h → ExtendsTo f h
@@ -46,6 +49,7 @@ extends-then f g h d e = record {
   stored = begins-then _ _ _ d.stored e.stored;
   asserted = begins-then _ _ _ d.asserted e.asserted;
   symmetries = begins-then _ _ _ d.symmetries e.symmetries;
+  counts = counts-then f.image.counts g.image.counts h.image.counts d.counts e.counts;
 }
 
 pub extends-read : (g h : Graph) → OnlyReads g h → ExtendsTo g h
@@ -58,6 +62,7 @@ extends-read g h reads = record {
   stored = begins-same _ _ (ap (λ (x : Image). x.stored) reads.image);
   asserted = begins-same _ _ (ap asserted_in reads.image);
   symmetries = begins-same _ _ (ap (λ (x : Image). x.symmetries) reads.image);
+  counts = subst (λ (x : Image). CountsGo g.image.counts x.counts) (sym reads.image) (counts-same g.image.counts);
 }
 
 pub extends-takes : (g h : Graph) → OnlyTakesSlots g h → ExtendsTo g h
@@ -74,6 +79,7 @@ extends-added g h extends adds more = record {
   stored = (adds.more_stored, adds.stored);
   asserted = begins-same _ _ adds.asserted;
   symmetries = (adds.listed, adds.symmetries);
+  counts = adds.counts;
 }
 
 -- where two ids are united
@@ -93,6 +99,7 @@ extends-united g h a b text y u recorded table =
       stored = (entered.more, entered.stored);
       asserted = elim asserted.asserted [ inl same ↦ begins-same _ _ same.1 | inr more ↦ (_, more.1) ];
       symmetries = (u.continues.listed, u.continues.symmetries);
+      counts = u.counts;
     }
 
 -- full ids stay full

@@ -7,6 +7,8 @@ pub mod Extending
 pub mod PatternLookUps
 pub mod Matching
 pub mod Finds
+pub mod Insides
+pub mod CountedGraphs
 pub mod KnownPatterns
 pub mod FoundValues
 pub mod Indexes

@@ -39,13 +39,13 @@ use Rattle.slotted_extraction.proofs.ExtractedTerms.{made-cost, made-equal, made
 use Rattle.slotted_graph.specs.LeastTerms.{AreChosenOf, CostsAsEntered, HasEachLiveClass, IsEqualTo, IsExtracted, IsFullBeside, IsLeastTerm}
 
 module _ {L C : Type 0} (form : L → Form) (k : Kept) (r : Rows) (good : Good k) (rests : RestsWith k r) (costs : CostFunction C) (es : List (Option (TermEntry L C)))
-    (least : AreLeast form k r costs es) (failed : Bool) (table : Table) where
+    (least : AreLeast form k r costs es) (w : Graph) where
   abbrev g : State
   g = state_in k r
 
   -- the graph that callers see
   abbrev seen : Graph
-  seen = record { failed = failed; table = table; image = image_of k; filed = rows_in r.filed }
+  seen = record w { image = image_of k; filed = rows_in r.filed }
 
   rest : AtRest g
   rest = at-rest k r good rests
@@ -110,9 +110,9 @@ made-extracted form l g same es a valid_in valid t made costs of =
     let found : find (entries_of l) a ≡ find (entries_of k) a =
     sym (found_id-is l a (findable-within l a valid_in)) ∙ (ap (λ (i : Image). found_id i a) (same ∙ sym of.image) ∙ found_id-is k a (findable-within k a fa)) in
     let here : IsMade form es (find (entries_of k) a) t = subst (λ b. IsMade form es b t) found made in
-    let to : seen form k r of.good of.rests costs es of.least g.failed g.table ≡ g = λ i. record { failed = g.failed; table = g.table; image = of.image i; filed = of.filed i } in (
-      subst (λ h. IsLeastTerm h costs a t) to (seen-least form k r of.good of.rests costs es of.least g.failed g.table a fa t here),
-      subst (λ (h : Graph). CostsAsEntered costs es (class_found h.image a.0) t) to (seen-cost form k r of.good of.rests costs es of.least g.failed g.table a fa t here),
+    let to : seen form k r of.good of.rests costs es of.least g ≡ g = λ i. record g { image = of.image i; filed = of.filed i } in (
+      subst (λ h. IsLeastTerm h costs a t) to (seen-least form k r of.good of.rests costs es of.least g a fa t here),
+      subst (λ (h : Graph). CostsAsEntered costs es (class_found h.image a.0) t) to (seen-cost form k r of.good of.rests costs es of.least g a fa t here),
     )
 
 module _ {L C : Type 0} (form : L → Form) (order : L → L → Ordering) (k : Kept) (r : Rows) (good : Good k) (rests : RestsWith k r) (costs : CostFunction C) (es : List (Option (TermEntry L C))) where
@@ -130,6 +130,6 @@ module _ {L C : Type 0} (form : L → Form) (order : L → L → Ordering) (k : 
         cheaper = h.cheaper;
       }
 
-  pub seen-chosen : AreChosen form order costs (find_class (entries_of k)) (rows_in r.filed) es → (failed : Bool) (table : Table) →
-      AreChosenOf form order (record { failed = failed; table = table; image = image_of k; filed = rows_in r.filed }) costs es
-  seen-chosen chosen failed table c e at q h = chosen c e at q (seen-choice c e.cost q h)
+  pub seen-chosen : AreChosen form order costs (find_class (entries_of k)) (rows_in r.filed) es → (w : Graph) →
+      AreChosenOf form order (record w { image = image_of k; filed = rows_in r.filed }) costs es
+  seen-chosen chosen w c e at q h = chosen c e at q (seen-choice c e.cost q h)

@@ -9,12 +9,14 @@ use Rattle.slotted_model.specs.Growth.{Extends}
 use Rattle.slotted_core.specs.Graph.{Graph}
 use Rattle.slotted_core.specs.Image.{FoundAlike, asserted_in}
 use Rattle.slotted_core.specs.ValidIds.{IsValidId}
+use Rattle.slotted_rebuilding.specs.Counted.{CountsGo}
 use Rattle.slotted_graph.specs.States.{IsGraph}
 
 abbrev pub Begins : {A : Type 0} → List A → List A → Type 0
 Begins {A} xs ys = (more : List A) × (ys ≡ xs ++ more)
 
--- known slots and canonical nodes stay, and so does what is valid and what finds alike; the proof list, what is asserted, and the listed symmetries grow at their ends
+-- known slots and canonical nodes stay, and so does what is valid and what finds alike; the proof list, what is asserted, and the listed symmetries
+-- grow at their ends; the totals over all rebuilds rise, that of turns by no more than that of bounds
 pub record ExtendsTo (g h : Graph) : Type 0 where
   pub more : KnowsMore g.table h.table
   pub canonical : Extends g.image.canonical h.image.canonical
@@ -24,6 +26,7 @@ pub record ExtendsTo (g h : Graph) : Type 0 where
   pub stored : Begins g.image.stored h.image.stored
   pub asserted : Begins (asserted_in g.image) (asserted_in h.image)
   pub symmetries : Begins g.image.symmetries h.image.symmetries
+  pub counts : CountsGo g.image.counts h.image.counts
 
 pub record IsBetween (g h m : Graph) : Type 0 where
   pub graph : IsGraph m

@@ -3,6 +3,7 @@ pub mod Measure
 pub mod FiledNodes
 pub mod LeastTerms
 pub mod States
+pub mod Counted
 pub mod PatternLookUps
 pub mod Matching
 pub mod Extension

@@ -9,15 +9,16 @@ ghost use Rattle.slotted_model.specs.Classes.{Canonical, term_of};
 ghost use Rattle.slotted_model.specs.ProofList.{Proved};
 ghost use Rattle.slotted_proofs.specs.Entries.{explicit_numbers};
 ghost use Rattle.slotted_terms.specs.Valid.{IsValidTerm};
+ghost use Rattle.slotted_graph.specs.Counted.{CountsUnion};
 ghost use Rattle.slotted_graph.specs.Measure.{NeverRises};
 ghost use Rattle.slotted_graph.specs.States.{IsGraph};
 ghost use Rattle.slotted_core.specs.Image.{no_classes, FoundAlike, SaysEqual, SaysDerivable, SaysTerms};
 ghost use Rattle.slotted_core.specs.Image.{AddsClasses, IsUnion, AreSymmetries, AreListedOnce, CountsOpen};
 ghost use Rattle.slotted_store.specs.Kept.{text_bytes, symmetry_entry};
-ghost use Rattle.slotted_core.specs.Affected.{IsYesIfDerivable, IsYesIfEqual};
+ghost use Rattle.slotted_core.specs.Affected.{AreRepresented, IsYesIfDerivable, IsYesIfEqual};
 ghost use Rattle.slotted_core.specs.ValidIds.{IsValidId, IsValidNode, SaysFillingsEqual, LackNothing, HaveValidSides};
 ghost use Rattle.slotted_core.specs.Causes.{HasLargeClassIn};
-ghost use Rattle.slotted_core.specs.Graph.{IsFullId, OnlyReads, RecordsUnion};
+ghost use Rattle.slotted_core.specs.Graph.{IsFullId, OnlyReads, RecordsUnion, empty_graph};
 ghost use Rattle.slotted_core.specs.LookUp.{AreLookedUp};
 ghost use Rattle.slotted_proofs.specs.Equations.{to_applied};
 ghost use Rattle.slotted_core.specs.Reads.{AnswersTerm, NodesAreRead};
@@ -42,6 +43,7 @@ use std::marker::Model;
 mod adding;
 mod building;
 mod canonical;
+mod counts;
 mod dump;
 mod explanations;
 mod extraction;
@@ -74,7 +76,8 @@ pub struct EGraph<L: Language, N = ()> {
 impl<L: Language, N> Model for EGraph<L, N> {
     ghost use Rattle.std.specs.Prelude.{IfSome, IsTrue, ◌⊎◌};
     ghost use Rattle.slotted_core.specs.Graph.{Graph, graph_code};
-    ghost use Rattle.slotted_core.specs.Good.{Good, RestsWith, HasFreshSlots, image_of};
+    ghost use base.Stored.{gnil};
+    ghost use Rattle.slotted_core.specs.Good.{Good, RestsWith, HasFreshSlots, graph_of};
     ghost use Rattle.slotted_filing.specs.FiledRows.{rows_in};
     ghost use Rattle.slotted_matching.specs.Indexed.{IsIndexed};
 
@@ -82,7 +85,7 @@ impl<L: Language, N> Model for EGraph<L, N> {
 
     ghost coded = { graph_code };
 
-    ghost view = { λ s. record { failed = s.failed; table = s.table; image = image_of s.store; filed = rows_in s.nodes.filed } };
+    ghost view = { λ s. graph_of s.failed s.table s.store (rows_in s.nodes.filed) gnil };
 
     ghost invariant = { λ s. IsTrue s.failed ⊎ (Good s.store × HasFreshSlots s.table s.store × RestsWith s.store s.nodes
         × IfSome s.index.indexed (λ x. IsIndexed s.store s.nodes x.skeletons x.index)) };
@@ -96,6 +99,7 @@ impl<L: Language, N: Drop> EGraph<L, N> {
         ensures table { IfOk result (λ g. g.table ≡ table) }
         ensures image { IfOk result (λ g. g.image ≡ no_classes) }
         ensures filed { IfOk result (λ g. g.filed ≡ []) }
+        ensures empty { IfOk result (λ g. g ≡ empty_graph table) }
     {
         Self::with_subst_method(alloc, table, analysis, SubstMethod::SynExpr)
     }
@@ -112,6 +116,7 @@ impl<L: Language, N: Drop> EGraph<L, N> {
         ensures table { IfOk result (λ g. g.table ≡ table) }
         ensures image { IfOk result (λ g. g.image ≡ no_classes) }
         ensures filed { IfOk result (λ g. g.filed ≡ []) }
+        ensures empty { IfOk result (λ g. g ≡ empty_graph table) }
     {
         Ok(EGraph {
             failed: false,
@@ -162,6 +167,9 @@ impl<L: Language, N: Drop> EGraph<L, N> {
 
         // And the node of each class is looked up, as an id that is found together with the class.
         ensures nodes { IsTrue self.now.failed ⊎ AreLookedUp self.now }
+
+        // An id whose class no open symmetry affects represents its canonical term.
+        ensures terms { IsTrue self.now.failed ⊎ AreRepresented self.now }
 
         // And it has a state of the model that is at rest.
         ensures rests { IsTrue self.now.failed ⊎ IsGraph self.now }
@@ -274,6 +282,9 @@ impl<L: Language, N: Drop> EGraph<L, N> {
         // No node is filed anew where it answers false. No class is made, no more live, and where as many live, they have no more slots.
         ensures filed { IfOk result (λ y. y ≡ false → self.new.filed ≡ self.old.filed) }
         ensures counts { OnOk result (NeverRises self.old.image self.new.image) }
+
+        // The rebuild found no more e-nodes than were filed, and no greater size than the graph had.
+        ensures counted { OnOk result (CountsUnion self.old self.new) }
         ensures table { self.new.table ≡ self.old.table }
 
         ensures stays { IsTrue self.old.failed → self.new ≡ self.old }
@@ -304,6 +315,9 @@ impl<L: Language, N: Drop> EGraph<L, N> {
         // No node is filed anew where it answers false. No class is made, no more live, and where as many live, they have no more slots.
         ensures filed { IfOk result (λ y. y ≡ false → self.new.filed ≡ self.old.filed) }
         ensures counts { OnOk result (NeverRises self.old.image self.new.image) }
+
+        // The rebuild found no more e-nodes than were filed, and no greater size than the graph had.
+        ensures counted { OnOk result (CountsUnion self.old self.new) }
         ensures table { self.new.table ≡ self.old.table }
 
         ensures stays { IsTrue self.old.failed → self.new ≡ self.old }

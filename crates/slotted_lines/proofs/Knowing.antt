@@ -23,7 +23,7 @@ use Rattle.slotted_commands.specs.Sessions.{unknown, has_failed, refused, ran_ou
 use Rattle.slotted_rules.specs.Written.{CanBeSearched}
 use Rattle.slotted_rules.specs.declared.condition.Always.{Always}
 use Rattle.slotted_rules.specs.declared.rewrite.Rewrite.{Rewrite}
-use Rattle.slotted_lines.specs.States.{AreSearchable, SessionState, empty_graph, empty_state}
+use Rattle.slotted_lines.specs.States.{AreSearchable, SessionState, empty_state}
 
 same_table : (t u : Table) → u ≡ t → KnowsMore t u
 same_table t u e = subst (KnowsMore t) (sym e) (λ s k. k)
@@ -127,4 +127,4 @@ one_more-rule form h rules r (inr all) one = inr (All-append (CanBeSearched form
 
 -- without rules there is nothing to be searched
 pub empty-searched : {L : Type 0} (form : L → Form) (s : SessionState L) → s ≡ empty_state → AreSearchable form s
-empty-searched form s e = subst (AreSearchable form) (sym e) (inr (All-nil (CanBeSearched form empty_graph.table)))
+empty-searched form s e = subst (AreSearchable form) (sym e) (inr (All-nil (CanBeSearched form empty_table)))

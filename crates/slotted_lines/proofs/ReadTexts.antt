@@ -6,9 +6,6 @@ use Rattle.slotted_slots.specs.declared.error.Error.{Error}
 use Rattle.slotted_slots.specs.declared.error.Error.TheVariants.{Failed}
 use Rattle.slotted_core.specs.Graph.{Graph, OnlyReads}
 
-pub reads-then : (g h k : Graph) → OnlyReads g h → OnlyReads h k → OnlyReads g k
-reads-then g h k p q = record { image = q.image ∙ p.image; filed = q.filed ∙ p.filed; failed = q.failed ∙ p.failed; more = λ s known. q.more s (p.more s known) }
-
 -- what is answered over a graph says that it has not failed
 pub unfailed : {A : Type 0} (x : A) (b : Bool) → (IsErrOf {T = A} {E = Error} (Ok x) Failed ↔ IsTrue b) → b ≡ false
 unfailed x b h = false_from_ne_true b (λ f. false≢true (sym (ap is_ok (h.1 f))))

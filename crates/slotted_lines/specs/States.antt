@@ -6,8 +6,7 @@
 use Rattle.std.specs.Prelude.{◌⊎◌, List, [], All, IsTrue, false}
 use Rattle.slotted_slots.specs.Table.{empty_table}
 use Rattle.slotted_nodes.specs.Form.{Form}
-use Rattle.slotted_core.specs.Graph.{Graph}
-use Rattle.slotted_core.specs.Image.{no_classes}
+use Rattle.slotted_core.specs.Graph.{Graph, empty_graph}
 use Rattle.slotted_rules.specs.Written.{CanBeSearched}
 use Rattle.slotted_rules.specs.declared.condition.Always.{Always}
 use Rattle.slotted_rules.specs.declared.rewrite.Rewrite.{Rewrite}
@@ -20,12 +19,8 @@ pub record SessionState (L : Type 0) : Type 0 where
 abbrev pub state_of : {L : Type 0} → Session L → SessionState L
 state_of s = record { graph = s.graph; rules = s.rules.items }
 
--- the graph without classes, over an empty table
-abbrev pub empty_graph : Graph
-empty_graph = record { failed = false; table = empty_table; image = no_classes; filed = [] }
-
 abbrev pub empty_state : {L : Type 0} → SessionState L
-empty_state = record { graph = empty_graph; rules = [] }
+empty_state = record { graph = empty_graph empty_table; rules = [] }
 
 abbrev pub AreSearchable : {L : Type 0} → (L → Form) → SessionState L → Type 0
 AreSearchable form s = IsTrue s.graph.failed ⊎ All (CanBeSearched form s.graph.table) s.rules

@@ -26,7 +26,7 @@ pub record HasTaken (g : Graph) (c : ℕ) (h : Graph) : Type 0 where
 
 pub none-taken : (g : Graph) → HasTaken g 0 g
 none-taken g = record {
-  takes = record { reads = record { image = refl; filed = refl; failed = refl; more = λ s k. k }; names = refl };
+  takes = record { reads = record { image = refl; filed = refl; part = refl; failed = refl; more = λ s k. k }; names = refl };
   count = record { names = refl; taken = omega arith };
 }
 

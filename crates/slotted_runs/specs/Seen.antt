@@ -16,8 +16,8 @@ use Rattle.slotted_model.specs.Growth.{Extends}
 use Rattle.slotted_proofs.specs.Equations.{to_applied}
 use Rattle.slotted_core.specs.AddingTerms.{AddsNodes, FilesOnlyLookedUp, IsEqualToTerm, TakesForTerm}
 use Rattle.slotted_core.specs.Adding.{term_nodes}
-use Rattle.slotted_core.specs.Graph.{Graph}
-use Rattle.slotted_core.specs.Image.{AddsClasses, no_classes}
+use Rattle.slotted_core.specs.Graph.{Graph, empty_graph}
+use Rattle.slotted_core.specs.Image.{AddsClasses}
 use Rattle.slotted_core.specs.LookUp.{IsOneGraph, KeepsLookUps, look_up_term}
 use Rattle.slotted_core.specs.Reports.{IsFound}
 use Rattle.slotted_model_rules.specs.Runners.{Stop, saturated, iteration_limit, time_limit, node_limit, other, Limits, usual_limits, Iteration}
@@ -72,7 +72,7 @@ seen p = record { graph = (p.graph, p.hook); stored = p.iterations; start = p.st
 
 abbrev pub new_parts : {D T H K : Type 0} → Table → K → H → Parts D T H K
 new_parts table clock hook = record {
-  graph = record { failed = false; table = table; image = no_classes; filed = [] };
+  graph = empty_graph table;
   iterations = [];
   roots = [];
   stop_reason = None;

@@ -9,7 +9,8 @@ use Rattle.slotted_rule_patterns.specs.Variables.{first_lacking, has_substitutio
 use Rattle.slotted_rules.specs.Written.{CanBeSearched, IsRule, IsRefusedRule, ReadsAs, right_refused, rule_refused}
 use Rattle.slotted_graph.proofs.KnownPatterns.{pattern-later}
 use Rattle.slotted_lines.specs.AnsweredIn.{IsRuleRead, IsRuleRefused, texts_refused}
-use Rattle.slotted_lines.proofs.ReadTexts.{reads-then, unfailed}
+use Rattle.slotted_graph.proofs.CallerLemmas.{reads_twice}
+use Rattle.slotted_lines.proofs.ReadTexts.{unfailed}
 use Rattle.slotted_lines.proofs.rules.read_rule.Goals as goal
 
 three_ok : {A E : Type 0} (r : Result A E) (P Q R S : A → Type 0) → ((x : A) → P x → Q x → R x → S x) → IfOk r P → IfOk r Q → IfOk r R → IfOk r S
@@ -28,7 +29,7 @@ returns-in_err-made-clause-err g c =
     let well = unfailed p t.failed c.in_ok-searched.ensures.failed in
     let still = c.in_ok-searched.ensures.reads.failed ∙ well in
     handed_err c.from_residual-in_err-made.result e c.from_residual-in_err-made.ensures.1 (IsRuleRefused form read t v c.args.left.now c.args.right.now)
-    (texts_refused well (right_refused u.table p (c.in_ok-searched.ensures.answer well) (c.in_err-made.ensures.answer still)) (reads-then t u v c.in_ok-searched.ensures.reads c.in_err-made.ensures.reads))
+    (texts_refused well (right_refused u.table p (c.in_ok-searched.ensures.answer well) (c.in_err-made.ensures.answer still)) (reads_twice t u v c.in_ok-searched.ensures.reads c.in_err-made.ensures.reads))
 
 pub returns-clause-ok : goal.returns-clause-ok
 returns-clause-ok g c =
@@ -49,7 +50,7 @@ returns-clause-ok g c =
         left_read = subst (λ x. ReadsAs form read t.table u.table c.args.left.now (Ok x)) (sym is.left_is) (c.in_ok-searched.ensures.answer well);
         right_read = subst (λ x. ReadsAs form read u.table v.table c.args.right.now (Ok x)) (sym is.right_is) (c.in_ok-made.ensures.answer still);
       };
-      only = reads-then t u v c.in_ok-searched.ensures.reads c.in_ok-made.ensures.reads;
+      only = reads_twice t u v c.in_ok-searched.ensures.reads c.in_ok-made.ensures.reads;
     }) c.from_patterns.ensures.rule
 
 pub returns-clause-searched : goal.returns-clause-searched
@@ -79,4 +80,4 @@ returns-clause-err g c =
     let well = unfailed p t.failed c.in_ok-searched.ensures.failed in
     let still = c.in_ok-searched.ensures.reads.failed ∙ well in
     IfErr-weaker c.from_patterns.result (IsRefusedRule (tree_of form p) (tree_of form q)) (IsRuleRefused form g.L.LanguageChildren.read t v c.args.left.now c.args.right.now)
-    (λ e r. texts_refused well (rule_refused u.table p q (c.in_ok-searched.ensures.answer well) (c.in_ok-made.ensures.answer still) r) (reads-then t u v c.in_ok-searched.ensures.reads c.in_ok-made.ensures.reads)) c.from_patterns.ensures.err
+    (λ e r. texts_refused well (rule_refused u.table p q (c.in_ok-searched.ensures.answer well) (c.in_ok-made.ensures.answer still) r) (reads_twice t u v c.in_ok-searched.ensures.reads c.in_ok-made.ensures.reads)) c.from_patterns.ensures.err

@@ -1,17 +1,19 @@
-use Rattle.std.proofs.Common.{◌≡◌, ◌∙◌, false, ap, arith, refl, rules, sym, subst, inl, inr}
+use base.Stored.{gnil}
+use Rattle.std.proofs.Common.{◌∙◌, false, ap, arith, refl, rules, sym, subst, inl, inr}
 use Rattle.std.proofs.lemmas.Bool.{false≢true}
 use Rattle.slotted_slots.specs.Table.{Table}
 use Rattle.slotted_proofs.specs.Equations.{to_applied}
 use Rattle.slotted_filing.specs.FiledRows.{rows_in}
 use Rattle.slotted_terms.specs.Valid.{AllKnown}
 use Rattle.slotted_core.specs.ValidIds.{IsValidNode}
-use Rattle.slotted_core.specs.Good.{Good, HasFreshSlots, RestsWith, image_of}
+use Rattle.slotted_core.specs.Good.{graph_of}
 use Rattle.slotted_core.specs.Graph.{Graph}
 use Rattle.slotted_languages.specs.NodeTerm.{nameless_node}
 use Rattle.slotted_core.specs.Adding.{RunsOutForFilled}
 use Rattle.slotted_core.proofs.LookUps.{looked_up-is}
 use Rattle.slotted_core.proofs.ValidIds.{findable-children}
 use Rattle.slotted_core.proofs.AddedNodes.{added-answers, added-equal, added-found, added-id, added-kept, added-made}
+use Rattle.slotted_graph.proofs.Insides.{inside-of, given}
 use Rattle.slotted_graph.proofs.egraph.EGraph.add.Goals as goal
 
 pub add-requires-clause-fresh_slots : goal.add-requires-clause-fresh_slots
@@ -24,12 +26,9 @@ add-requires-clause-children g c =
     let k = c.self.inside.store in
     let r = c.self.inside.nodes in
     let t = c.self.inside.table in
-    let image : image_of k ≡ h.image = ap (λ (x : Graph). x.image) c.self.view_is in
-    let filed : rows_in r.filed ≡ h.filed = ap (λ (x : Graph). x.filed) c.self.view_is in
-    let table : t ≡ h.table = ap (λ (x : Graph). x.table) c.self.view_is in
-    let well : Good k × HasFreshSlots t k × RestsWith k r = elim c.self.invariant [ inl e ↦ absurd (false≢true (sym c.if-self.false ∙ e)) | inr v ↦ (v.0, v.1, v.2) ] in
-    let valid : IsValidNode h f = elim c.requires [ inl e ↦ absurd (false≢true (sym c.if-self.false ∙ (ap (λ (x : Graph). x.failed) c.self.view_is ∙ e))) | inr v ↦ v ] in
-    findable-children k well.0 h image f (g.met.L.LanguageChildren.fits c.args.node) valid.children
+    let inside = inside-of t k r c.self.view_is c.if-self.false c.self.invariant in
+    let valid : IsValidNode h f = given inside.failed c.requires in
+    findable-children k inside.good h inside.image f (g.met.L.LanguageChildren.fits c.args.node) valid.children
 
 pub add-requires-clause-known : goal.add-requires-clause-known
 add-requires-clause-known g c =
@@ -38,12 +37,9 @@ add-requires-clause-known g c =
     let k = c.self.inside.store in
     let r = c.self.inside.nodes in
     let t = c.self.inside.table in
-    let image : image_of k ≡ h.image = ap (λ (x : Graph). x.image) c.self.view_is in
-    let filed : rows_in r.filed ≡ h.filed = ap (λ (x : Graph). x.filed) c.self.view_is in
-    let table : t ≡ h.table = ap (λ (x : Graph). x.table) c.self.view_is in
-    let well : Good k × HasFreshSlots t k × RestsWith k r = elim c.self.invariant [ inl e ↦ absurd (false≢true (sym c.if-self.false ∙ e)) | inr v ↦ (v.0, v.1, v.2) ] in
-    let valid : IsValidNode h f = elim c.requires [ inl e ↦ absurd (false≢true (sym c.if-self.false ∙ (ap (λ (x : Graph). x.failed) c.self.view_is ∙ e))) | inr v ↦ v ] in
-    subst (λ (x : Table). AllKnown x f.names) (sym table) valid.known
+    let inside = inside-of t k r c.self.view_is c.if-self.false c.self.invariant in
+    let valid : IsValidNode h f = given inside.failed c.requires in
+    subst (λ (x : Table). AllKnown x f.names) (sym inside.table) valid.known
 
 pub returns-clause-id : goal.returns-clause-id
 returns-clause-id g c =
@@ -52,14 +48,11 @@ returns-clause-id g c =
     let k = c.self.inside.store in
     let r = c.self.inside.nodes in
     let t = c.self.inside.table in
-    let image : image_of k ≡ h.image = ap (λ (x : Graph). x.image) c.self.view_is in
-    let filed : rows_in r.filed ≡ h.filed = ap (λ (x : Graph). x.filed) c.self.view_is in
-    let table : t ≡ h.table = ap (λ (x : Graph). x.table) c.self.view_is in
-    let well : Good k × HasFreshSlots t k × RestsWith k r = elim c.self.invariant [ inl e ↦ absurd (false≢true (sym c.if-self.false ∙ e)) | inr v ↦ (v.0, v.1, v.2) ] in
-    let valid : IsValidNode h f = elim c.requires [ inl e ↦ absurd (false≢true (sym c.if-self.false ∙ (ap (λ (x : Graph). x.failed) c.self.view_is ∙ e))) | inr v ↦ v ] in
-    added-id k r well.0 well.2 h image filed t table f (g.met.L.LanguageChildren.fits c.args.node)
-    (findable-children k well.0 h image f (g.met.L.LanguageChildren.fits c.args.node) valid.children) valid.known c.add.new.store c.add.new.nodes (to_applied c.in_ok-id.id)
-    (record { failed = false; table = c.add.new.table; image = image_of c.add.new.store; filed = rows_in c.add.new.nodes.filed }) refl refl c.add.ensures.more c.in_ok-id.ensures.ok
+    let inside = inside-of t k r c.self.view_is c.if-self.false c.self.invariant in
+    let valid : IsValidNode h f = given inside.failed c.requires in
+    added-id k r inside.good inside.rests h inside.image inside.filed t inside.table f (g.met.L.LanguageChildren.fits c.args.node)
+    (findable-children k inside.good h inside.image f (g.met.L.LanguageChildren.fits c.args.node) valid.children) valid.known c.add.new.store c.add.new.nodes (to_applied c.in_ok-id.id)
+    (graph_of false c.add.new.table c.add.new.store (rows_in c.add.new.nodes.filed) gnil) refl refl c.add.ensures.more c.in_ok-id.ensures.ok
 
 pub returns-clause-found : goal.returns-clause-found
 returns-clause-found g c =
@@ -68,14 +61,11 @@ returns-clause-found g c =
     let k = c.self.inside.store in
     let r = c.self.inside.nodes in
     let t = c.self.inside.table in
-    let image : image_of k ≡ h.image = ap (λ (x : Graph). x.image) c.self.view_is in
-    let filed : rows_in r.filed ≡ h.filed = ap (λ (x : Graph). x.filed) c.self.view_is in
-    let table : t ≡ h.table = ap (λ (x : Graph). x.table) c.self.view_is in
-    let well : Good k × HasFreshSlots t k × RestsWith k r = elim c.self.invariant [ inl e ↦ absurd (false≢true (sym c.if-self.false ∙ e)) | inr v ↦ (v.0, v.1, v.2) ] in
-    let valid : IsValidNode h f = elim c.requires [ inl e ↦ absurd (false≢true (sym c.if-self.false ∙ (ap (λ (x : Graph). x.failed) c.self.view_is ∙ e))) | inr v ↦ v ] in
-    added-found k r well.0 well.2 h image filed t table f (g.met.L.LanguageChildren.fits c.args.node)
-    (findable-children k well.0 h image f (g.met.L.LanguageChildren.fits c.args.node) valid.children) valid.known c.add.new.store c.add.new.nodes (to_applied c.in_ok-id.id)
-    (record { failed = false; table = c.add.new.table; image = image_of c.add.new.store; filed = rows_in c.add.new.nodes.filed }) refl refl c.add.ensures.more c.in_ok-id.ensures.ok
+    let inside = inside-of t k r c.self.view_is c.if-self.false c.self.invariant in
+    let valid : IsValidNode h f = given inside.failed c.requires in
+    added-found k r inside.good inside.rests h inside.image inside.filed t inside.table f (g.met.L.LanguageChildren.fits c.args.node)
+    (findable-children k inside.good h inside.image f (g.met.L.LanguageChildren.fits c.args.node) valid.children) valid.known c.add.new.store c.add.new.nodes (to_applied c.in_ok-id.id)
+    (graph_of false c.add.new.table c.add.new.store (rows_in c.add.new.nodes.filed) gnil) refl refl c.add.ensures.more c.in_ok-id.ensures.ok
 
 pub returns-clause-equal : goal.returns-clause-equal
 returns-clause-equal g c =
@@ -84,14 +74,11 @@ returns-clause-equal g c =
     let k = c.self.inside.store in
     let r = c.self.inside.nodes in
     let t = c.self.inside.table in
-    let image : image_of k ≡ h.image = ap (λ (x : Graph). x.image) c.self.view_is in
-    let filed : rows_in r.filed ≡ h.filed = ap (λ (x : Graph). x.filed) c.self.view_is in
-    let table : t ≡ h.table = ap (λ (x : Graph). x.table) c.self.view_is in
-    let well : Good k × HasFreshSlots t k × RestsWith k r = elim c.self.invariant [ inl e ↦ absurd (false≢true (sym c.if-self.false ∙ e)) | inr v ↦ (v.0, v.1, v.2) ] in
-    let valid : IsValidNode h f = elim c.requires [ inl e ↦ absurd (false≢true (sym c.if-self.false ∙ (ap (λ (x : Graph). x.failed) c.self.view_is ∙ e))) | inr v ↦ v ] in
-    added-equal k r well.0 well.2 h image filed t table f (g.met.L.LanguageChildren.fits c.args.node)
-    (findable-children k well.0 h image f (g.met.L.LanguageChildren.fits c.args.node) valid.children) valid.known c.add.new.store c.add.new.nodes (to_applied c.in_ok-id.id)
-    (record { failed = false; table = c.add.new.table; image = image_of c.add.new.store; filed = rows_in c.add.new.nodes.filed }) refl refl c.add.ensures.more c.in_ok-id.ensures.ok
+    let inside = inside-of t k r c.self.view_is c.if-self.false c.self.invariant in
+    let valid : IsValidNode h f = given inside.failed c.requires in
+    added-equal k r inside.good inside.rests h inside.image inside.filed t inside.table f (g.met.L.LanguageChildren.fits c.args.node)
+    (findable-children k inside.good h inside.image f (g.met.L.LanguageChildren.fits c.args.node) valid.children) valid.known c.add.new.store c.add.new.nodes (to_applied c.in_ok-id.id)
+    (graph_of false c.add.new.table c.add.new.store (rows_in c.add.new.nodes.filed) gnil) refl refl c.add.ensures.more c.in_ok-id.ensures.ok
 
 pub returns-clause-kept : goal.returns-clause-kept
 returns-clause-kept g c =
@@ -100,14 +87,11 @@ returns-clause-kept g c =
     let k = c.self.inside.store in
     let r = c.self.inside.nodes in
     let t = c.self.inside.table in
-    let image : image_of k ≡ h.image = ap (λ (x : Graph). x.image) c.self.view_is in
-    let filed : rows_in r.filed ≡ h.filed = ap (λ (x : Graph). x.filed) c.self.view_is in
-    let table : t ≡ h.table = ap (λ (x : Graph). x.table) c.self.view_is in
-    let well : Good k × HasFreshSlots t k × RestsWith k r = elim c.self.invariant [ inl e ↦ absurd (false≢true (sym c.if-self.false ∙ e)) | inr v ↦ (v.0, v.1, v.2) ] in
-    let valid : IsValidNode h f = elim c.requires [ inl e ↦ absurd (false≢true (sym c.if-self.false ∙ (ap (λ (x : Graph). x.failed) c.self.view_is ∙ e))) | inr v ↦ v ] in
-    added-kept k r well.0 well.2 h image filed t table f (g.met.L.LanguageChildren.fits c.args.node)
-    (findable-children k well.0 h image f (g.met.L.LanguageChildren.fits c.args.node) valid.children) valid.known c.add.new.store c.add.new.nodes (to_applied c.in_ok-id.id)
-    (record { failed = false; table = c.add.new.table; image = image_of c.add.new.store; filed = rows_in c.add.new.nodes.filed }) refl refl c.add.ensures.more c.in_ok-id.ensures.ok
+    let inside = inside-of t k r c.self.view_is c.if-self.false c.self.invariant in
+    let valid : IsValidNode h f = given inside.failed c.requires in
+    added-kept k r inside.good inside.rests h inside.image inside.filed t inside.table f (g.met.L.LanguageChildren.fits c.args.node)
+    (findable-children k inside.good h inside.image f (g.met.L.LanguageChildren.fits c.args.node) valid.children) valid.known c.add.new.store c.add.new.nodes (to_applied c.in_ok-id.id)
+    (graph_of false c.add.new.table c.add.new.store (rows_in c.add.new.nodes.filed) gnil) refl refl c.add.ensures.more c.in_ok-id.ensures.ok (ap (λ (x : Graph). x.part) c.self.view_is)
 
 pub returns-clause-made : goal.returns-clause-made
 returns-clause-made g c =
@@ -116,14 +100,11 @@ returns-clause-made g c =
     let k = c.self.inside.store in
     let r = c.self.inside.nodes in
     let t = c.self.inside.table in
-    let image : image_of k ≡ h.image = ap (λ (x : Graph). x.image) c.self.view_is in
-    let filed : rows_in r.filed ≡ h.filed = ap (λ (x : Graph). x.filed) c.self.view_is in
-    let table : t ≡ h.table = ap (λ (x : Graph). x.table) c.self.view_is in
-    let well : Good k × HasFreshSlots t k × RestsWith k r = elim c.self.invariant [ inl e ↦ absurd (false≢true (sym c.if-self.false ∙ e)) | inr v ↦ (v.0, v.1, v.2) ] in
-    let valid : IsValidNode h f = elim c.requires [ inl e ↦ absurd (false≢true (sym c.if-self.false ∙ (ap (λ (x : Graph). x.failed) c.self.view_is ∙ e))) | inr v ↦ v ] in
-    added-made k r well.0 well.2 h image filed t table f (g.met.L.LanguageChildren.fits c.args.node)
-    (findable-children k well.0 h image f (g.met.L.LanguageChildren.fits c.args.node) valid.children) valid.known c.add.new.store c.add.new.nodes (to_applied c.in_ok-id.id)
-    (record { failed = false; table = c.add.new.table; image = image_of c.add.new.store; filed = rows_in c.add.new.nodes.filed }) refl refl c.add.ensures.more c.in_ok-id.ensures.ok
+    let inside = inside-of t k r c.self.view_is c.if-self.false c.self.invariant in
+    let valid : IsValidNode h f = given inside.failed c.requires in
+    added-made k r inside.good inside.rests h inside.image inside.filed t inside.table f (g.met.L.LanguageChildren.fits c.args.node)
+    (findable-children k inside.good h inside.image f (g.met.L.LanguageChildren.fits c.args.node) valid.children) valid.known c.add.new.store c.add.new.nodes (to_applied c.in_ok-id.id)
+    (graph_of false c.add.new.table c.add.new.store (rows_in c.add.new.nodes.filed) gnil) refl refl c.add.ensures.more c.in_ok-id.ensures.ok
 
 pub returns-clause-answers : goal.returns-clause-answers
 returns-clause-answers g c =
@@ -132,14 +113,11 @@ returns-clause-answers g c =
     let k = c.self.inside.store in
     let r = c.self.inside.nodes in
     let t = c.self.inside.table in
-    let image : image_of k ≡ h.image = ap (λ (x : Graph). x.image) c.self.view_is in
-    let filed : rows_in r.filed ≡ h.filed = ap (λ (x : Graph). x.filed) c.self.view_is in
-    let table : t ≡ h.table = ap (λ (x : Graph). x.table) c.self.view_is in
-    let well : Good k × HasFreshSlots t k × RestsWith k r = elim c.self.invariant [ inl e ↦ absurd (false≢true (sym c.if-self.false ∙ e)) | inr v ↦ (v.0, v.1, v.2) ] in
-    let valid : IsValidNode h f = elim c.requires [ inl e ↦ absurd (false≢true (sym c.if-self.false ∙ (ap (λ (x : Graph). x.failed) c.self.view_is ∙ e))) | inr v ↦ v ] in
-    added-answers k r well.0 well.2 h image filed t table f (g.met.L.LanguageChildren.fits c.args.node)
-    (findable-children k well.0 h image f (g.met.L.LanguageChildren.fits c.args.node) valid.children) valid.known c.add.new.store c.add.new.nodes (to_applied c.in_ok-id.id)
-    (record { failed = false; table = c.add.new.table; image = image_of c.add.new.store; filed = rows_in c.add.new.nodes.filed }) refl refl c.add.ensures.more c.in_ok-id.ensures.ok
+    let inside = inside-of t k r c.self.view_is c.if-self.false c.self.invariant in
+    let valid : IsValidNode h f = given inside.failed c.requires in
+    added-answers k r inside.good inside.rests h inside.image inside.filed t inside.table f (g.met.L.LanguageChildren.fits c.args.node)
+    (findable-children k inside.good h inside.image f (g.met.L.LanguageChildren.fits c.args.node) valid.children) valid.known c.add.new.store c.add.new.nodes (to_applied c.in_ok-id.id)
+    (graph_of false c.add.new.table c.add.new.store (rows_in c.add.new.nodes.filed) gnil) refl refl c.add.ensures.more c.in_ok-id.ensures.ok
 
 pub returns-in_err-id-clause-full : goal.returns-in_err-id-clause-full
 returns-in_err-id-clause-full g c e =
@@ -148,15 +126,12 @@ returns-in_err-id-clause-full g c e =
     let k = c.self.inside.store in
     let r = c.self.inside.nodes in
     let t = c.self.inside.table in
-    let image : image_of k ≡ h.image = ap (λ (x : Graph). x.image) c.self.view_is in
-    let filed : rows_in r.filed ≡ h.filed = ap (λ (x : Graph). x.filed) c.self.view_is in
-    let table : t ≡ h.table = ap (λ (x : Graph). x.table) c.self.view_is in
-    let well : Good k × HasFreshSlots t k × RestsWith k r = elim c.self.invariant [ inl e ↦ absurd (false≢true (sym c.if-self.false ∙ e)) | inr v ↦ (v.0, v.1, v.2) ] in
-    let valid : IsValidNode h f = elim c.requires [ inl e ↦ absurd (false≢true (sym c.if-self.false ∙ (ap (λ (x : Graph). x.failed) c.self.view_is ∙ e))) | inr v ↦ v ] in
-    let children = findable-children k well.0 h image f (g.met.L.LanguageChildren.fits c.args.node) valid.children in
+    let inside = inside-of t k r c.self.view_is c.if-self.false c.self.invariant in
+    let valid : IsValidNode h f = given inside.failed c.requires in
+    let children = findable-children k inside.good h inside.image f (g.met.L.LanguageChildren.fits c.args.node) valid.children in
     let lacks = c.in_err-id.ensures.full (search rules) in (
       elim lacks.1 [
-        | inl none ↦ looked_up-is k r well.0 well.2 h image filed (nameless_node f) children ∙ none
+        | inl none ↦ looked_up-is k r inside.good inside.rests h inside.image inside.filed (nameless_node f) children ∙ none
         | inr large ↦ absurd (omega (arith, valid.few, large))
       ],
       subst (λ (x : Graph). RunsOutForFilled x.image f x.table c.add.new.table) c.self.view_is lacks.0,

@@ -14,15 +14,16 @@ use Rattle.slotted_store.specs.Kept.{nodes_of}
 use Rattle.slotted_proofs.specs.Equations.{to_applied}
 use Rattle.slotted_theory.specs.Nameless.{nameless}
 use Rattle.slotted_core.proofs.KnownNames.{term_known}
+use Rattle.slotted_graph.proofs.Insides.{inside-of}
 use Rattle.slotted_graph.proofs.egraph.EGraph.add_syn_expr.Goals as goal
 
 pub returns-clause-valid : goal.returns-clause-valid
 returns-clause-valid g c =
+    let inside = inside-of c.self.inside.table c.self.inside.store c.self.inside.nodes c.self.view_is c.if-self.false c.self.invariant in
     let adds = c.in_ok-answer.ensures.ok in
-    let table : c.self.inside.table ≡ c.args.self.now.table = ap (λ (x : Graph). x.table) c.self.view_is in
     let valid : IsValidTerm c.self.inside.table c.args.term.now = elim c.requires [
       | inl h ↦ absurd (false≢true (sym c.if-self.false ∙ (ap (λ (x : Graph). x.failed) c.self.view_is ∙ h)))
-      | inr v ↦ subst (λ (t : Table). IsValidTerm t c.args.term.now) (sym table) v
+      | inr v ↦ subst (λ (t : Table). IsValidTerm t c.args.term.now) (sym inside.table) v
     ] in
     record {
       full = adds.full;
@@ -60,6 +61,7 @@ returns-clause-kept g c some =
       table = same.2 ∙ table;
       image = ap image_of same.0 ∙ image;
       filed = ap (λ (x : Rows). rows_in x.filed) same.1 ∙ filed;
+      part = ap (λ (x : Graph). x.part) c.self.view_is;
     }
 
 pub returns-in_err-answer-clause-unknown : goal.returns-in_err-answer-clause-unknown

@@ -3,12 +3,12 @@ use Rattle.std.specs.List.{range_with_len}
 use Rattle.std.proofs.lemmas.Bool.{false≢true}
 use Rattle.slotted_slots.specs.Table.{Table}
 use Rattle.slotted_reports.specs.Nodes.{RunsOutForClasses}
-use Rattle.slotted_core.specs.Good.{Good, HasFreshSlots, RestsWith}
 use Rattle.slotted_core.specs.Graph.{Graph}
 use Rattle.slotted_core.proofs.FreshSlots.{fresh_slots-more}
 use Rattle.slotted_core.proofs.Reports.{used-known}
 use Rattle.slotted_graph.specs.FiledNodes.{slots_for_dump}
 use Rattle.slotted_graph.proofs.Enodes.{dump-runs_out, dump-takes}
+use Rattle.slotted_graph.proofs.Insides.{inside-of}
 use Rattle.slotted_graph.proofs.egraph.EGraph.dump.Goals as goal
 
 pub append_live-requires-clause-good : goal.append_live-requires-clause-good
@@ -33,18 +33,18 @@ pub returns-clause-full : goal.returns-clause-full
 returns-clause-full l c out =
     let k = c.self.inside.store in
     let r = c.self.inside.nodes in
-    let inv : Good k × HasFreshSlots c.self.inside.table k × RestsWith k r = elim c.self.invariant [ inl h ↦ absurd (false≢true (sym c.if-self.false ∙ h)) | inr h ↦ (h.0, h.1, h.2) ] in
-    dump-runs_out k r inv.0 inv.2 c.args.self.now (ap (λ (x : Graph). x.image) c.self.view_is) (ap (λ (x : Graph). x.filed) c.self.view_is) c.append_live.new.table
-    (subst (λ (t : Table). RunsOutForClasses k r (range_with_len 0 (length k.classes)) t c.append_live.new.table) (ap (λ (x : Graph). x.table) c.self.view_is) (c.append_live.ensures.full out))
+    let inside = inside-of c.self.inside.table k r c.self.view_is c.if-self.false c.self.invariant in
+    dump-runs_out k r inside.good inside.rests c.args.self.now inside.image inside.filed c.append_live.new.table
+    (subst (λ (t : Table). RunsOutForClasses k r (range_with_len 0 (length k.classes)) t c.append_live.new.table) inside.table (c.append_live.ensures.full out))
 
 pub returns-clause-count : goal.returns-clause-count
 returns-clause-count l c =
     let k = c.self.inside.store in
     let r = c.self.inside.nodes in
+    let inside = inside-of c.self.inside.table k r c.self.view_is c.if-self.false c.self.invariant in
     let g = c.args.self.now in
-    let inv : Good k × HasFreshSlots c.self.inside.table k × RestsWith k r = elim c.self.invariant [ inl h ↦ absurd (false≢true (sym c.if-self.false ∙ h)) | inr h ↦ (h.0, h.1, h.2) ] in
-    let taken = dump-takes k r inv.0 inv.2 g (ap (λ (x : Graph). x.image) c.self.view_is) (ap (λ (x : Graph). x.filed) c.self.view_is) c.self.inside.table c.append_live.new.table c.append_live.ensures.takes in
+    let taken = dump-takes k r inside.good inside.rests g inside.image inside.filed c.self.inside.table c.append_live.new.table c.append_live.ensures.takes in
     record {
       names = c.append_live.ensures.kept ∙ ap (λ (x : Graph). x.table.names) c.self.view_is;
-      taken = subst (λ (t : Table). c.append_live.new.table.fresh ≤ t.fresh + slots_for_dump g) (ap (λ (x : Graph). x.table) c.self.view_is) taken;
+      taken = subst (λ (t : Table). c.append_live.new.table.fresh ≤ t.fresh + slots_for_dump g) inside.table taken;
     }

@@ -1,4 +1,4 @@
-use Rattle.std.proofs.Common.{◌≡◌, ◌∙◌, ap, refl, sym, subst, inl, inr}
+use Rattle.std.proofs.Common.{◌∙◌, refl, sym, subst, inl, inr}
 use Rattle.std.specs.Prelude.{All}
 use Rattle.std.proofs.lemmas.Bool.{false≢true}
 use Rattle.std.proofs.lemmas.Result.{IfOk-weaker}
@@ -9,7 +9,6 @@ use Rattle.slotted_proofs.specs.Equations.{to_applied}
 use Rattle.slotted_store.specs.Finding.{IsFindable}
 use Rattle.slotted_adding.specs.Reports.{class_sources}
 use Rattle.slotted_reports.specs.Nodes.{AreEnodes, HasFreshNames, RunsOutForKeys}
-use Rattle.slotted_core.specs.Good.{Good, HasFreshSlots, RestsWith, image_of}
 use Rattle.slotted_core.specs.Graph.{Graph, MakesAtMost}
 use Rattle.slotted_core.specs.ValidIds.{IsValidId}
 use Rattle.slotted_core.proofs.FreshSlots.{fresh_slots-more}
@@ -17,6 +16,7 @@ use Rattle.slotted_core.proofs.Reports.{within}
 use Rattle.slotted_core.proofs.ValidIds.{of-valid}
 use Rattle.slotted_graph.specs.FiledNodes.{AscendByShape, HasEachNode, IsNoneIfDead, slots_for_enodes}
 use Rattle.slotted_graph.proofs.Enodes.{each-node, enodes, none-dead, permuted-same, runs-out_of, takes-found}
+use Rattle.slotted_graph.proofs.Insides.{inside-of, given}
 use Rattle.slotted_graph.proofs.egraph.EGraph.enodes_applied.Goals as goal
 
 pub enodes_applied-requires-clause-good : goal.enodes_applied-requires-clause-good
@@ -29,17 +29,17 @@ pub enodes_applied-requires-clause-findable : goal.enodes_applied-requires-claus
 enodes_applied-requires-clause-findable l c =
     let g = c.args.self.now in
     let k = c.self.inside.store in
-    let image : image_of k ≡ g.image = ap (λ (x : Graph). x.image) c.self.view_is in
-    let good : Good k = elim c.self.invariant [ inl h ↦ absurd (false≢true (sym c.if-self.false ∙ h)) | inr h ↦ h.0 ] in
-    let valid : IsValidId g (to_applied c.args.a.now) = elim c.requires [ inl h ↦ absurd (false≢true (sym c.if-self.false ∙ (ap (λ (x : Graph). x.failed) c.self.view_is ∙ h))) | inr v ↦ v ] in
-    of-valid k good g image (to_applied c.args.a.now) valid
+    let inside = inside-of c.self.inside.table k c.self.inside.nodes c.self.view_is c.if-self.false c.self.invariant in
+    let valid : IsValidId g (to_applied c.args.a.now) = given inside.failed c.requires in
+    of-valid k inside.good g inside.image (to_applied c.args.a.now) valid
 
 pub enodes_applied-requires-clause-known : goal.enodes_applied-requires-clause-known
 enodes_applied-requires-clause-known l c =
+    let inside = inside-of c.self.inside.table c.self.inside.store c.self.inside.nodes c.self.view_is c.if-self.false c.self.invariant in
     let g = c.args.self.now in
     let a = to_applied c.args.a.now in
-    let valid : IsValidId g a = elim c.requires [ inl h ↦ absurd (false≢true (sym c.if-self.false ∙ (ap (λ (x : Graph). x.failed) c.self.view_is ∙ h))) | inr v ↦ v ] in
-    subst (λ (t : Table). AllKnown t (values a.1)) (sym (ap (λ (x : Graph). x.table) c.self.view_is)) valid.known
+    let valid : IsValidId g a = given inside.failed c.requires in
+    subst (λ (t : Table). AllKnown t (values a.1)) (sym inside.table) valid.known
 
 pub invariant_of-self : goal.invariant_of-self
 invariant_of-self g c = elim c.self.invariant [
@@ -53,10 +53,10 @@ returns-clause-each l c =
     let g = c.args.self.now in
     let k = c.self.inside.store in
     let r = c.self.inside.nodes in
+    let inside = inside-of c.self.inside.table k r c.self.view_is c.if-self.false c.self.invariant in
     let a = to_applied c.args.a.now in
-    let inv : Good k × HasFreshSlots c.self.inside.table k × RestsWith k r = elim c.self.invariant [ inl h ↦ absurd (false≢true (sym c.if-self.false ∙ h)) | inr h ↦ (h.0, h.1, h.2) ] in
     IfOk-weaker c.enodes_applied.result (λ v. AreEnodes form l.L.Ord.cmp c.self.inside.table c.enodes_applied.new.table k r a v.items) (λ v. HasEachNode form g a.0 v.items)
-    (λ v is. each-node k r inv.0 inv.2 g (ap (λ (x : Graph). x.image) c.self.view_is) (ap (λ (x : Graph). x.filed) c.self.view_is) a.0 form l.met.L.LanguageChildren.fits is.sources v.items is.same
+    (λ v is. each-node k r inside.good inside.rests g inside.image inside.filed a.0 form l.met.L.LanguageChildren.fits is.sources v.items is.same
     (permuted-same _ _ is.nodes.keys))
     c.enodes_applied.ensures.ok
 
@@ -72,20 +72,20 @@ returns-clause-nodes l c =
     let g = c.args.self.now in
     let k = c.self.inside.store in
     let r = c.self.inside.nodes in
+    let inside = inside-of c.self.inside.table k r c.self.view_is c.if-self.false c.self.invariant in
     let a = to_applied c.args.a.now in
-    let inv : Good k × HasFreshSlots c.self.inside.table k × RestsWith k r = elim c.self.invariant [ inl h ↦ absurd (false≢true (sym c.if-self.false ∙ h)) | inr h ↦ (h.0, h.1, h.2) ] in
-    let valid : IsValidId g a = elim c.requires [ inl h ↦ absurd (false≢true (sym c.if-self.false ∙ (ap (λ (x : Graph). x.failed) c.self.view_is ∙ h))) | inr v ↦ v ] in
-    let findable : IsFindable k a = of-valid k inv.0 g (ap (λ (x : Graph). x.image) c.self.view_is) a valid in
+    let valid : IsValidId g a = given inside.failed c.requires in
+    let findable : IsFindable k a = of-valid k inside.good g inside.image a valid in
     IfOk-weaker c.enodes_applied.result (λ v. AreEnodes form l.L.Ord.cmp c.self.inside.table c.enodes_applied.new.table k r a v.items) _
-    (λ v is. enodes k r inv.0 inv.2 _ refl refl a findable form l.met.L.LanguageChildren.fits v.items c.self.inside.table is.nodes.each) c.enodes_applied.ensures.ok
+    (λ v is. enodes k r inside.good inside.rests _ refl refl a findable form l.met.L.LanguageChildren.fits v.items c.self.inside.table is.nodes.each) c.enodes_applied.ensures.ok
 
 pub returns-clause-full : goal.returns-clause-full
 returns-clause-full l c out =
     let k = c.self.inside.store in
     let r = c.self.inside.nodes in
-    let inv : Good k × HasFreshSlots c.self.inside.table k × RestsWith k r = elim c.self.invariant [ inl h ↦ absurd (false≢true (sym c.if-self.false ∙ h)) | inr h ↦ (h.0, h.1, h.2) ] in
-    runs-out_of k r inv.0 inv.2 c.args.self.now c.enodes_applied.new.table (ap (λ (x : Graph). x.image) c.self.view_is) (ap (λ (x : Graph). x.filed) c.self.view_is)
-    c.args.a.now.id.0 (subst (λ (t : Table). RunsOutForKeys r (class_sources k r c.args.a.now.id.0) t c.enodes_applied.new.table) (ap (λ (x : Graph). x.table) c.self.view_is) (c.enodes_applied.ensures.full out))
+    let inside = inside-of c.self.inside.table k r c.self.view_is c.if-self.false c.self.invariant in
+    runs-out_of k r inside.good inside.rests c.args.self.now c.enodes_applied.new.table inside.image inside.filed
+    c.args.a.now.id.0 (subst (λ (t : Table). RunsOutForKeys r (class_sources k r c.args.a.now.id.0) t c.enodes_applied.new.table) inside.table (c.enodes_applied.ensures.full out))
 
 pub returns-clause-dead : goal.returns-clause-dead
 returns-clause-dead l c =
@@ -93,12 +93,11 @@ returns-clause-dead l c =
     let g = c.args.self.now in
     let k = c.self.inside.store in
     let r = c.self.inside.nodes in
+    let inside = inside-of c.self.inside.table k r c.self.view_is c.if-self.false c.self.invariant in
     let a = to_applied c.args.a.now in
-    let image : image_of k ≡ g.image = ap (λ (x : Graph). x.image) c.self.view_is in
-    let inv : Good k × HasFreshSlots c.self.inside.table k × RestsWith k r = elim c.self.invariant [ inl h ↦ absurd (false≢true (sym c.if-self.false ∙ h)) | inr h ↦ (h.0, h.1, h.2) ] in
-    let valid : IsValidId g a = elim c.requires [ inl h ↦ absurd (false≢true (sym c.if-self.false ∙ (ap (λ (x : Graph). x.failed) c.self.view_is ∙ h))) | inr v ↦ v ] in
+    let valid : IsValidId g a = given inside.failed c.requires in
     IfOk-weaker c.enodes_applied.result (λ v. AreEnodes form l.L.Ord.cmp c.self.inside.table c.enodes_applied.new.table k r a v.items) (λ v. IsNoneIfDead g a.0 v.items)
-    (λ v is dead. none-dead k r inv.0 inv.2 g image (ap (λ (x : Graph). x.filed) c.self.view_is) a.0 form (within k g.image image a.0 valid.in_range) dead is.sources v.items is.same (permuted-same _ _ is.nodes.keys))
+    (λ v is dead. none-dead k r inside.good inside.rests g inside.image inside.filed a.0 form (within k g.image inside.image a.0 valid.in_range) dead is.sources v.items is.same (permuted-same _ _ is.nodes.keys))
     c.enodes_applied.ensures.ok
 
 pub returns-clause-fresh : goal.returns-clause-fresh
@@ -114,10 +113,10 @@ returns-clause-count l c =
     let g = c.args.self.now in
     let k = c.self.inside.store in
     let r = c.self.inside.nodes in
+    let inside = inside-of c.self.inside.table k r c.self.view_is c.if-self.false c.self.invariant in
     let a = to_applied c.args.a.now in
     let u = c.enodes_applied.new.table in
-    let inv : Good k × HasFreshSlots c.self.inside.table k × RestsWith k r = elim c.self.invariant [ inl h ↦ absurd (false≢true (sym c.if-self.false ∙ h)) | inr h ↦ (h.0, h.1, h.2) ] in
     subst (λ (x : Graph). MakesAtMost (slots_for_enodes g a.0) x.table u) c.self.view_is (record {
       names = c.enodes_applied.ensures.kept;
-      taken = takes-found k r inv.0 inv.2 g (ap (λ (x : Graph). x.image) c.self.view_is) (ap (λ (x : Graph). x.filed) c.self.view_is) a.0 c.self.inside.table u c.enodes_applied.ensures.takes;
+      taken = takes-found k r inside.good inside.rests g inside.image inside.filed a.0 c.self.inside.table u c.enodes_applied.ensures.takes;
     })

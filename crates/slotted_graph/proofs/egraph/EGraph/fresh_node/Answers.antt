@@ -1,5 +1,5 @@
 -- What is answered over what is kept, told of the graph.
-use Rattle.std.proofs.Common.{◌≡◌, ◌∙◌, ◌*◌, ap, refl, subst, sym, inl, inr}
+use Rattle.std.proofs.Common.{◌∙◌, ◌*◌, ap, refl, subst, sym, inl, inr}
 use Rattle.std.proofs.lemmas.Bool.{false≢true}
 use Rattle.std.proofs.lemmas.Result.{IfOk-weaker}
 use Rattle.slotted_slots.specs.Table.{Table}
@@ -14,6 +14,7 @@ use Rattle.slotted_core.specs.Image.{Image}
 use Rattle.slotted_core.specs.Syn.{FreshNodeRunsOut, HasUnknownBinders, node_binders}
 use Rattle.slotted_core.proofs.ValidIds.{node-children_valid}
 use Rattle.slotted_core.proofs.FreshSlots.{fresh_slots-more}
+use Rattle.slotted_graph.proofs.Insides.{inside-of}
 use Rattle.slotted_graph.proofs.egraph.EGraph.fresh_node.Goals as goal
 
 pub fresh_node-requires-clause-fresh_slots : goal.fresh_node-requires-clause-fresh_slots
@@ -21,13 +22,12 @@ fresh_node-requires-clause-fresh_slots g c = elim c.self.invariant [ inl e ↦ a
 
 pub fresh_node-requires-clause-full : goal.fresh_node-requires-clause-full
 fresh_node-requires-clause-full g c =
+    let inside = inside-of c.self.inside.table c.self.inside.store c.self.inside.nodes c.self.view_is c.if-self.false c.self.invariant in
     let core = c.self.inside.store in
     let a = to_applied c.args.a.now in
-    let image : image_of core ≡ c.args.self.now.image = ap (λ (x : Graph). x.image) c.self.view_is in
-    let table : c.self.inside.table ≡ c.args.self.now.table = ap (λ (x : Graph). x.table) c.self.view_is in
     elim c.requires [
       | inl e ↦ absurd (false≢true (sym c.if-self.false ∙ (ap (λ (x : Graph). x.failed) c.self.view_is ∙ e)))
-      | inr v ↦ (subst (λ (x : Image). IsFull x.canonical a) (sym image) v.full, subst (λ (t : Table). AllKnown t (values a.1)) (sym table) v.known)
+      | inr v ↦ (subst (λ (x : Image). IsFull x.canonical a) (sym inside.image) v.full, subst (λ (t : Table). AllKnown t (values a.1)) (sym inside.table) v.known)
     ]
 
 pub invariant_of-self : goal.invariant_of-self

@@ -15,20 +15,21 @@ use Rattle.slotted_core.proofs.FilledNames.{filled-full, fills-fresh}
 use Rattle.slotted_core.proofs.FreshSlots.{fresh_slots-more}
 use Rattle.slotted_core.proofs.GivenNodes.{ok-three}
 use Rattle.slotted_core.proofs.ValidIds.{of-valid}
+use Rattle.slotted_graph.proofs.Insides.{inside-of}
 use Rattle.slotted_graph.proofs.egraph.EGraph.full_id.Goals as goal
 
 pub fill_id-requires-clause-findable : goal.fill_id-requires-clause-findable
 fill_id-requires-clause-findable g c =
+    let inside = inside-of c.self.inside.table c.self.inside.store c.self.inside.nodes c.self.view_is c.if-self.false c.self.invariant in
     let graph = c.args.self.now in
     let core = c.self.inside.store in
     let a = to_applied c.args.a.now in
-    let image : image_of core ≡ graph.image = ap (λ (x : Graph). x.image) c.self.view_is in
     elim c.self.invariant [
       | inl e ↦ absurd (false≢true (sym c.if-self.false ∙ e))
       | inr inv ↦
           elim c.requires [
             | inl e ↦ absurd (false≢true (sym c.if-self.false ∙ (ap (λ (x : Graph). x.failed) c.self.view_is ∙ e)))
-            | inr v ↦ of-valid core inv.0 graph image a v
+            | inr v ↦ of-valid core inv.0 graph inside.image a v
           ]
     ]
 
@@ -43,12 +44,12 @@ returns-clause-id g c =
     let graph = c.args.self.now in
     let core = c.self.inside.store in
     let t = c.self.inside.table in
+    let inside = inside-of t c.self.inside.store c.self.inside.nodes c.self.view_is c.if-self.false c.self.invariant in
     let a = to_applied c.args.a.now in
-    let table : t ≡ graph.table = ap (λ (x : Graph). x.table) c.self.view_is in
     elim c.requires [
       | inl e ↦ absurd (false≢true (sym c.if-self.false ∙ (ap (λ (x : Graph). x.failed) c.self.view_is ∙ e)))
       | inr v ↦
-          let known : AllKnown t (values a.1) = subst (λ (x : Table). AllKnown x (values a.1)) (sym table) v.known in
+          let known : AllKnown t (values a.1) = subst (λ (x : Table). AllKnown x (values a.1)) (sym inside.table) v.known in
           both_ok c.fill_id.result (λ b. FillsId core t a (to_applied b)) (λ b. AllKnown t (values a.1) → AllKnown c.fill_id.new.table (values (to_applied b).1)) (λ b. IsFullId _ (to_applied b))
           (λ b fills k. record { full = filled-full core t a (to_applied b) known fills; known = k known }) c.fill_id.ensures.fills c.fill_id.ensures.known
     ]
@@ -58,13 +59,13 @@ returns-clause-fills g c =
     let graph = c.args.self.now in
     let core = c.self.inside.store in
     let t = c.self.inside.table in
+    let inside = inside-of t c.self.inside.store c.self.inside.nodes c.self.view_is c.if-self.false c.self.invariant in
     let u = c.fill_id.new.table in
     let a = to_applied c.args.a.now in
-    let table : t ≡ graph.table = ap (λ (x : Graph). x.table) c.self.view_is in
     elim c.requires [
       | inl e ↦ absurd (false≢true (sym c.if-self.false ∙ (ap (λ (x : Graph). x.failed) c.self.view_is ∙ e)))
       | inr v ↦
-          let known : AllKnown t (values a.1) = subst (λ (x : Table). AllKnown x (values a.1)) (sym table) v.known in
+          let known : AllKnown t (values a.1) = subst (λ (x : Table). AllKnown x (values a.1)) (sym inside.table) v.known in
           IfOk-weaker c.fill_id.result (λ b. FillsFresh (image_of core) t u a (to_applied b)) _
           (λ b fresh. subst (λ (y : Graph). FillsFresh y.image y.table u a (to_applied b)) c.self.view_is fresh)
           (ok-three c.fill_id.result (λ b. FillsId core t a (to_applied b)) (λ b. to_applied b ≡ filled_id core t.fresh a) (λ b. u ≡ with_fresh (missing core a) t)

@@ -1,30 +1,29 @@
-use Rattle.std.proofs.Common.{◌≡◌, ◌∙◌, ap, refl, subst, sym, inl, inr}
+use Rattle.std.proofs.Common.{◌∙◌, ap, refl, subst, sym, inl, inr}
 use Rattle.std.proofs.lemmas.Bool.{false≢true}
 use Rattle.std.proofs.lemmas.Result.{IfOk-weaker}
 use Rattle.slotted_slots.specs.Table.{Table}
 use Rattle.slotted_terms.specs.Valid.{AllKnown}
 use Rattle.slotted_model.specs.Applied.{values}
 use Rattle.slotted_proofs.specs.Equations.{to_applied}
-use Rattle.slotted_core.specs.Good.{image_of}
 use Rattle.slotted_core.specs.Graph.{Graph, MakesAtMost}
 use Rattle.slotted_core.specs.Syn.{FilledNodeRunsOut, GivesNode, IsFilledNode, IsNodeWhereFull, slots_for_node}
 use Rattle.slotted_core.proofs.ValidIds.{node-children_valid, of-valid}
 use Rattle.slotted_core.proofs.FreshSlots.{fresh_slots-more}
+use Rattle.slotted_graph.proofs.Insides.{inside-of}
 use Rattle.slotted_graph.proofs.egraph.EGraph.get_syn_node.Goals as goal
 
 pub syn_node_of-requires-clause-findable : goal.syn_node_of-requires-clause-findable
 syn_node_of-requires-clause-findable g c =
+    let inside = inside-of c.self.inside.table c.self.inside.store c.self.inside.nodes c.self.view_is c.if-self.false c.self.invariant in
     let graph = c.args.self.now in
     let core = c.self.inside.store in
     let a = to_applied c.args.a.now in
-    let image : image_of core ≡ graph.image = ap (λ (x : Graph). x.image) c.self.view_is in
-    let table : c.self.inside.table ≡ graph.table = ap (λ (x : Graph). x.table) c.self.view_is in
     elim c.self.invariant [
       | inl e ↦ absurd (false≢true (sym c.if-self.false ∙ e))
       | inr inv ↦
           elim c.requires [
             | inl e ↦ absurd (false≢true (sym c.if-self.false ∙ (ap (λ (x : Graph). x.failed) c.self.view_is ∙ e)))
-            | inr v ↦ (of-valid core inv.0 graph image a v, subst (λ (t : Table). AllKnown t (values a.1)) (sym table) v.known)
+            | inr v ↦ (of-valid core inv.0 graph inside.image a v, subst (λ (t : Table). AllKnown t (values a.1)) (sym inside.table) v.known)
           ]
     ]
 

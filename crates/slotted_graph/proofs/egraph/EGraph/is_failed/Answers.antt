@@ -5,6 +5,7 @@ use Rattle.slotted_rebuilding.specs.Filed.{state_in}
 use Rattle.slotted_core.specs.Good.{Good, HasFreshSlots, RestsWith}
 use Rattle.slotted_core.specs.Graph.{Graph}
 use Rattle.slotted_core.proofs.LookedUpClasses.{are-looked_up}
+use Rattle.slotted_core.proofs.RepresentedTerms.{are-represented}
 use Rattle.slotted_graph.specs.States.{IsGraph}
 use Rattle.slotted_graph.proofs.egraph.EGraph.is_failed.Goals as goal
 
@@ -12,6 +13,12 @@ pub returns-clause-nodes : goal.returns-clause-nodes
 returns-clause-nodes l c = elim c.self.invariant [
   | inl failed ↦ inl (ap (λ (x : Graph). x.failed) (sym c.self.view_is) ∙ failed)
   | inr well ↦ inr (are-looked_up c.self.inside.store c.self.inside.nodes well.0 well.2 c.args.self.now (ap (λ (x : Graph). x.image) c.self.view_is) (ap (λ (x : Graph). x.filed) c.self.view_is))
+]
+
+pub returns-clause-terms : goal.returns-clause-terms
+returns-clause-terms l c = elim c.self.invariant [
+  | inl failed ↦ inl (ap (λ (x : Graph). x.failed) (sym c.self.view_is) ∙ failed)
+  | inr well ↦ inr (are-represented c.self.inside.store c.self.inside.nodes well.0 well.2 c.args.self.now (ap (λ (x : Graph). x.image) c.self.view_is) (ap (λ (x : Graph). x.filed) c.self.view_is))
 ]
 
 pub returns-clause-rests : goal.returns-clause-rests

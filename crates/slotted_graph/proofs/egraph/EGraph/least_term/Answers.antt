@@ -1,6 +1,5 @@
 use Rattle.std.proofs.Common.{◌≡◌, ◌∙◌, ap, subst, sym, inl, inr}
 use Rattle.std.specs.Prelude.{IfOk}
-use Rattle.std.proofs.lemmas.Bool.{false≢true}
 use Rattle.std.proofs.lemmas.Result.{IfOk-weaker}
 use Rattle.slotted_slots.specs.Maps.{values}
 use Rattle.slotted_model.specs.Find.{find, find_class}
@@ -8,7 +7,6 @@ use Rattle.slotted_proofs.specs.Equations.{to_applied}
 use Rattle.slotted_store.specs.Finding.{IsFindable}
 use Rattle.slotted_store.specs.Kept.{entries_of}
 use Rattle.slotted_core.specs.Causes.{class_found}
-use Rattle.slotted_core.specs.Good.{Good, image_of}
 use Rattle.slotted_core.specs.Graph.{Graph, MakesAtMost}
 use Rattle.slotted_core.specs.Image.{Image, found_id}
 use Rattle.slotted_core.specs.ValidIds.{IsValidId}
@@ -18,16 +16,16 @@ use Rattle.slotted_core.proofs.ValidIds.{findable-within, of-valid}
 use Rattle.slotted_extraction.specs.Terms.{IsFreshTerm, IsMade, RunsOutWith, entry_at, slots_for}
 use Rattle.slotted_graph.specs.LeastTerms.{IsExtracted}
 use Rattle.slotted_graph.proofs.MadeOfEntries.{made-extracted}
+use Rattle.slotted_graph.proofs.Insides.{inside-of, given}
 use Rattle.slotted_graph.proofs.egraph.EGraph.least_term.Goals as goal
 
 pub extract-requires-clause-findable : goal.extract-requires-clause-findable
 extract-requires-clause-findable l c =
     let g = c.args.self.now in
     let k = c.self.inside.store in
-    let image : image_of k ≡ g.image = ap (λ (x : Graph). x.image) c.self.view_is in
-    let good : Good k = elim c.self.invariant [ inl h ↦ absurd (false≢true (sym c.if-self.false ∙ h)) | inr h ↦ h.0 ] in
-    let valid : IsValidId g (to_applied c.args.a.now) = elim c.requires [ inl h ↦ absurd (false≢true (sym c.if-self.false ∙ (ap (λ (x : Graph). x.failed) c.self.view_is ∙ h))) | inr v ↦ v ] in
-    of-valid k good g image (to_applied c.args.a.now) valid
+    let inside = inside-of c.self.inside.table k c.self.inside.nodes c.self.view_is c.if-self.false c.self.invariant in
+    let valid : IsValidId g (to_applied c.args.a.now) = given inside.failed c.requires in
+    of-valid k inside.good g inside.image (to_applied c.args.a.now) valid
 
 pub invariant_of-self : goal.invariant_of-self
 invariant_of-self g c = elim c.self.invariant [
@@ -40,39 +38,36 @@ returns-clause-least l c =
     let form = l.L.LanguageChildren.form in
     let g = c.args.self.now in
     let k = c.self.inside.store in
+    let inside = inside-of c.self.inside.table k c.self.inside.nodes c.self.view_is c.if-self.false c.self.invariant in
     let a = to_applied c.args.a.now in
     let es = c.args.terms.now.entries.items in
-    let image : image_of k ≡ g.image = ap (λ (x : Graph). x.image) c.self.view_is in
-    let good : Good k = elim c.self.invariant [ inl h ↦ absurd (false≢true (sym c.if-self.false ∙ h)) | inr h ↦ h.0 ] in
-    let valid : IsValidId g a = elim c.requires [ inl h ↦ absurd (false≢true (sym c.if-self.false ∙ (ap (λ (x : Graph). x.failed) c.self.view_is ∙ h))) | inr v ↦ v ] in
-    let findable : IsFindable k a = of-valid k good g image a valid in
-    IfOk-weaker c.extract.result (IsMade form es (find (entries_of k) a)) (IsExtracted form g es a) (λ t made. made-extracted form k g image es a findable valid t made) c.extract.ensures.made
+    let valid : IsValidId g a = given inside.failed c.requires in
+    let findable : IsFindable k a = of-valid k inside.good g inside.image a valid in
+    IfOk-weaker c.extract.result (IsMade form es (find (entries_of k) a)) (IsExtracted form g es a) (λ t made. made-extracted form k g inside.image es a findable valid t made) c.extract.ensures.made
 
 pub returns-clause-made : goal.returns-clause-made
 returns-clause-made l c =
     let form = l.L.LanguageChildren.form in
     let g = c.args.self.now in
     let k = c.self.inside.store in
+    let inside = inside-of c.self.inside.table k c.self.inside.nodes c.self.view_is c.if-self.false c.self.invariant in
     let a = to_applied c.args.a.now in
     let es = c.args.terms.now.entries.items in
-    let image : image_of k ≡ g.image = ap (λ (x : Graph). x.image) c.self.view_is in
-    let good : Good k = elim c.self.invariant [ inl h ↦ absurd (false≢true (sym c.if-self.false ∙ h)) | inr h ↦ h.0 ] in
-    let valid : IsValidId g a = elim c.requires [ inl h ↦ absurd (false≢true (sym c.if-self.false ∙ (ap (λ (x : Graph). x.failed) c.self.view_is ∙ h))) | inr v ↦ v ] in
-    let findable : IsFindable k a = of-valid k good g image a valid in
-    let found : find (entries_of k) a ≡ found_id g.image a = sym (found_id-is k a (findable-within k a findable)) ∙ ap (λ (i : Image). found_id i a) image in
+    let valid : IsValidId g a = given inside.failed c.requires in
+    let findable : IsFindable k a = of-valid k inside.good g inside.image a valid in
+    let found : find (entries_of k) a ≡ found_id g.image a = sym (found_id-is k a (findable-within k a findable)) ∙ ap (λ (i : Image). found_id i a) inside.image in
     subst (λ b. IfOk c.extract.result (IsMade form es b)) found c.extract.ensures.made
 
 pub returns-clause-unknown : goal.returns-clause-unknown
 returns-clause-unknown l c =
     let g = c.args.self.now in
     let k = c.self.inside.store in
+    let inside = inside-of c.self.inside.table k c.self.inside.nodes c.self.view_is c.if-self.false c.self.invariant in
     let a = to_applied c.args.a.now in
     let es = c.args.terms.now.entries.items in
-    let image : image_of k ≡ g.image = ap (λ (x : Graph). x.image) c.self.view_is in
-    let good : Good k = elim c.self.invariant [ inl h ↦ absurd (false≢true (sym c.if-self.false ∙ h)) | inr h ↦ h.0 ] in
-    let valid : IsValidId g a = elim c.requires [ inl h ↦ absurd (false≢true (sym c.if-self.false ∙ (ap (λ (x : Graph). x.failed) c.self.view_is ∙ h))) | inr v ↦ v ] in
-    let findable : IsFindable k a = of-valid k good g image a valid in
-    let class : class_found g.image a.0 ≡ find_class (entries_of k) a.0 = ap (λ (i : Image). class_found i a.0) (sym image) ∙ class_found-is k a.0 (findable-within k a findable) in
+    let valid : IsValidId g a = given inside.failed c.requires in
+    let findable : IsFindable k a = of-valid k inside.good g inside.image a valid in
+    let class : class_found g.image a.0 ≡ find_class (entries_of k) a.0 = ap (λ (i : Image). class_found i a.0) (sym inside.image) ∙ class_found-is k a.0 (findable-within k a findable) in
     let sound = sym (ap (λ (x : Graph). x.failed) c.self.view_is) ∙ c.if-self.false in
     (λ e. (sound, ap (entry_at es) class ∙ c.extract.ensures.unknown.0 e), λ h. c.extract.ensures.unknown.1 (ap (entry_at es) (sym class) ∙ h.1))
 
@@ -86,13 +81,12 @@ returns-clause-count l c =
     let form = l.L.LanguageChildren.form in
     let g = c.args.self.now in
     let k = c.self.inside.store in
+    let inside = inside-of c.self.inside.table k c.self.inside.nodes c.self.view_is c.if-self.false c.self.invariant in
     let a = to_applied c.args.a.now in
     let es = c.args.terms.now.entries.items in
-    let image : image_of k ≡ g.image = ap (λ (x : Graph). x.image) c.self.view_is in
-    let good : Good k = elim c.self.invariant [ inl h ↦ absurd (false≢true (sym c.if-self.false ∙ h)) | inr h ↦ h.0 ] in
-    let valid : IsValidId g a = elim c.requires [ inl h ↦ absurd (false≢true (sym c.if-self.false ∙ (ap (λ (x : Graph). x.failed) c.self.view_is ∙ h))) | inr v ↦ v ] in
-    let findable : IsFindable k a = of-valid k good g image a valid in
-    let class : class_found g.image a.0 ≡ find_class (entries_of k) a.0 = ap (λ (i : Image). class_found i a.0) (sym image) ∙ class_found-is k a.0 (findable-within k a findable) in
+    let valid : IsValidId g a = given inside.failed c.requires in
+    let findable : IsFindable k a = of-valid k inside.good g inside.image a valid in
+    let class : class_found g.image a.0 ≡ find_class (entries_of k) a.0 = ap (λ (i : Image). class_found i a.0) (sym inside.image) ∙ class_found-is k a.0 (findable-within k a findable) in
     let u = c.extract.new.table in
     subst (λ i. MakesAtMost (slots_for form es i) g.table u) (sym class)
     (subst (λ (x : Graph). MakesAtMost (slots_for form es (find_class (entries_of k) a.0)) x.table u) c.self.view_is c.extract.ensures.count)
@@ -102,13 +96,12 @@ returns-clause-full l c e =
     let form = l.L.LanguageChildren.form in
     let g = c.args.self.now in
     let k = c.self.inside.store in
+    let inside = inside-of c.self.inside.table k c.self.inside.nodes c.self.view_is c.if-self.false c.self.invariant in
     let a = to_applied c.args.a.now in
     let es = c.args.terms.now.entries.items in
-    let image : image_of k ≡ g.image = ap (λ (x : Graph). x.image) c.self.view_is in
-    let good : Good k = elim c.self.invariant [ inl h ↦ absurd (false≢true (sym c.if-self.false ∙ h)) | inr h ↦ h.0 ] in
-    let valid : IsValidId g a = elim c.requires [ inl h ↦ absurd (false≢true (sym c.if-self.false ∙ (ap (λ (x : Graph). x.failed) c.self.view_is ∙ h))) | inr v ↦ v ] in
-    let findable : IsFindable k a = of-valid k good g image a valid in
-    let class : class_found g.image a.0 ≡ find_class (entries_of k) a.0 = ap (λ (i : Image). class_found i a.0) (sym image) ∙ class_found-is k a.0 (findable-within k a findable) in
+    let valid : IsValidId g a = given inside.failed c.requires in
+    let findable : IsFindable k a = of-valid k inside.good g inside.image a valid in
+    let class : class_found g.image a.0 ≡ find_class (entries_of k) a.0 = ap (λ (i : Image). class_found i a.0) (sym inside.image) ∙ class_found-is k a.0 (findable-within k a findable) in
     let u = c.extract.new.table in
     subst (λ i. RunsOutWith form es (slots_for form es i) g.table u) (sym class)
     (subst (λ (x : Graph). RunsOutWith form es (slots_for form es (find_class (entries_of k) a.0)) x.table u) c.self.view_is (c.extract.ensures.full e))

@@ -1,34 +1,35 @@
-use Rattle.std.proofs.Common.{◌≡◌, ◌∙◌, ap, refl, sym, inl, inr}
+use base.Stored.{gnil}
+use Rattle.std.specs.Prelude.{false}
+use Rattle.slotted_filing.specs.FiledRows.{rows_in}
+use Rattle.slotted_core.specs.Graph.{Graph}
+use Rattle.slotted_graph.proofs.CountedGraphs.{counts-union}
+use Rattle.std.proofs.Common.{◌∙◌, refl, sym, inl, inr}
 use Rattle.std.proofs.lemmas.Bool.{false≢true}
 use Rattle.slotted_proofs.specs.Equations.{to_applied}
 use Rattle.slotted_core.specs.ValidIds.{IsValidId}
-use Rattle.slotted_core.specs.Good.{Good, image_of}
-use Rattle.slotted_core.specs.Graph.{Graph}
+use Rattle.slotted_core.specs.Good.{graph_of, image_of}
 use Rattle.slotted_core.proofs.FiledClasses.{grown-fresh}
 use Rattle.slotted_core.proofs.ValidIds.{of-valid}
 use Rattle.slotted_graph.proofs.Measured.{never-rises}
 use Rattle.slotted_graph.proofs.Indexes.{no-index}
+use Rattle.slotted_graph.proofs.Insides.{inside-of, given}
 use Rattle.slotted_graph.proofs.egraph.EGraph.union_justified.Goals as goal
 
 pub union-requires-clause-left : goal.union-requires-clause-left
 union-requires-clause-left l c =
+    let inside = inside-of c.self.inside.table c.self.inside.store c.self.inside.nodes c.self.view_is c.if-self.false c.self.invariant in
     let g = c.args.self.now in
     let core = c.self.inside.store in
-    let image : image_of core ≡ g.image = ap (λ (x : Graph). x.image) c.self.view_is in
-    let sound = ap (λ (x : Graph). x.failed) c.self.view_is in
-    let good : Good core = elim c.self.invariant [ inl h ↦ absurd (false≢true (sym c.if-self.false ∙ h)) | inr h ↦ h.0 ] in
-    let left : IsValidId g (to_applied c.args.l.now) = elim c.requires.left [ inl h ↦ absurd (false≢true (sym c.if-self.false ∙ (sound ∙ h))) | inr v ↦ v ] in
-    of-valid core good g image (to_applied c.args.l.now) left
+    let left : IsValidId g (to_applied c.args.l.now) = given inside.failed c.requires.left in
+    of-valid core inside.good g inside.image (to_applied c.args.l.now) left
 
 pub union-requires-clause-right : goal.union-requires-clause-right
 union-requires-clause-right l c =
+    let inside = inside-of c.self.inside.table c.self.inside.store c.self.inside.nodes c.self.view_is c.if-self.false c.self.invariant in
     let g = c.args.self.now in
     let core = c.self.inside.store in
-    let image : image_of core ≡ g.image = ap (λ (x : Graph). x.image) c.self.view_is in
-    let sound = ap (λ (x : Graph). x.failed) c.self.view_is in
-    let good : Good core = elim c.self.invariant [ inl h ↦ absurd (false≢true (sym c.if-self.false ∙ h)) | inr h ↦ h.0 ] in
-    let right : IsValidId g (to_applied c.args.r.now) = elim c.requires.right [ inl h ↦ absurd (false≢true (sym c.if-self.false ∙ (sound ∙ h))) | inr v ↦ v ] in
-    of-valid core good g image (to_applied c.args.r.now) right
+    let right : IsValidId g (to_applied c.args.r.now) = given inside.failed c.requires.right in
+    of-valid core inside.good g inside.image (to_applied c.args.r.now) right
 
 pub invariant_of-self-2 : goal.invariant_of-self-2
 invariant_of-self-2 g c = elim c.self.invariant [
@@ -43,7 +44,13 @@ invariant_of-self-2 g c = elim c.self.invariant [
 
 pub returns-clause-counts : goal.returns-clause-counts
 returns-clause-counts l c =
+    let inside = inside-of c.self.inside.table c.self.inside.store c.self.inside.nodes c.self.view_is c.if-self.false c.self.invariant in
     let core = c.self.inside.store in
-    let good : Good core = elim c.self.invariant [ inl h ↦ absurd (false≢true (sym c.if-self.false ∙ h)) | inr h ↦ h.0 ] in
     let ok = c.in_ok-answer.ensures.ok in
-    never-rises core c.union.new.store good ok.good ok.nodes ok.counts c.args.self.now.image (image_of c.union.new.store) (ap (λ (x : Graph). x.image) c.self.view_is) refl
+    never-rises core c.union.new.store inside.good ok.good ok.nodes ok.counts c.args.self.now.image (image_of c.union.new.store) inside.image refl
+
+pub returns-clause-counted : goal.returns-clause-counted
+returns-clause-counted l c =
+    let inside = inside-of c.self.inside.table c.self.inside.store c.self.inside.nodes c.self.view_is c.if-self.false c.self.invariant in
+    let h : Graph = graph_of false c.self.inside.table c.union.new.store (rows_in c.union.new.nodes.filed) gnil in
+    counts-union c.self.inside.store c.self.inside.nodes c.union.new.store c.union.new.nodes _ _ _ _ inside.good c.in_ok-answer.ensures.ok c.args.self.now h inside.image inside.filed refl

@@ -1,3 +1,4 @@
+use base.Stored.{gnil}
 use Rattle.std.proofs.Common.{◌∙◌, sym, inl, inr}
 use Rattle.std.proofs.lemmas.Bool.{false≢true}
 use Rattle.slotted_model.specs.ProofList.{reflexive}
@@ -32,7 +33,7 @@ returns-clause-accepted g c =
     let l = c.check_reflexive.new.store in
     let h : Good k × HasFreshSlots t k = elim c.graph.invariant [ inl h ↦ absurd (false≢true (sym c.if-graph.false ∙ h)) | inr h ↦ (h.0, h.1) ] in
     let checked = both_ok r (λ p. IsOfFull (nodes_of k) e × IsReflexiveStep e) (EntersIn k l (by_step (statement_of e) (reflexive))) (Checked t k l e (reflexive)) (λ p f x. reflexive_checked t k l e p h.0 f x) c.check_reflexive.ensures.fits c.check_reflexive.ensures.ok in
-    says_accepted r c.graph.inside.failed t c.graph.inside.nodes k l e (reflexive) c.args.graph.now c.graph.view_is checked
+    says_accepted r c.graph.inside.failed t c.graph.inside.nodes k l e (reflexive) gnil c.args.graph.now c.graph.view_is checked
 
 pub returns-clause-derivable : goal.returns-clause-derivable
 returns-clause-derivable g c =
@@ -43,7 +44,7 @@ returns-clause-derivable g c =
     let l = c.check_reflexive.new.store in
     let h : Good k × HasFreshSlots t k = elim c.graph.invariant [ inl h ↦ absurd (false≢true (sym c.if-graph.false ∙ h)) | inr h ↦ (h.0, h.1) ] in
     let checked = both_ok r (λ p. IsOfFull (nodes_of k) e × IsReflexiveStep e) (EntersIn k l (by_step (statement_of e) (reflexive))) (Checked t k l e (reflexive)) (λ p f x. reflexive_checked t k l e p h.0 f x) c.check_reflexive.ensures.fits c.check_reflexive.ensures.ok in
-    says_derivable r c.graph.inside.failed t c.graph.inside.nodes k l e (reflexive) c.args.graph.now c.graph.view_is checked
+    says_derivable r c.graph.inside.failed t c.graph.inside.nodes k l e (reflexive) gnil c.args.graph.now c.graph.view_is checked
 
 pub returns-clause-leaves : goal.returns-clause-leaves
 returns-clause-leaves g c =
@@ -54,4 +55,4 @@ returns-clause-leaves g c =
     let l = c.check_reflexive.new.store in
     let h : Good k × HasFreshSlots t k = elim c.graph.invariant [ inl h ↦ absurd (false≢true (sym c.if-graph.false ∙ h)) | inr h ↦ (h.0, h.1) ] in
     let checked = both_ok r (λ p. IsOfFull (nodes_of k) e × IsReflexiveStep e) (EntersIn k l (by_step (statement_of e) (reflexive))) (Checked t k l e (reflexive)) (λ p f x. reflexive_checked t k l e p h.0 f x) c.check_reflexive.ensures.fits c.check_reflexive.ensures.ok in
-    says_leaves r c.graph.inside.failed t c.graph.inside.nodes k l e (reflexive) c.args.graph.now c.graph.view_is checked
+    says_leaves r c.graph.inside.failed t c.graph.inside.nodes k l e (reflexive) gnil c.args.graph.now c.graph.view_is checked

@@ -1,3 +1,4 @@
+use base.Stored.{gnil}
 use Rattle.std.proofs.Common.{◌∙◌, sym, inl, inr}
 use Rattle.std.proofs.lemmas.Bool.{false≢true}
 use Rattle.slotted_model.specs.ProofList.{symmetric}
@@ -32,7 +33,7 @@ returns-clause-fits g c =
     let l = c.check_symmetric.new.store in
     let h : Good k × HasFreshSlots t k = elim c.graph.invariant [ inl h ↦ absurd (false≢true (sym c.if-graph.false ∙ h)) | inr h ↦ (h.0, h.1) ] in
     let checked = both_ok r (λ p. IsOfFull (nodes_of k) e × IsSymmetricStep k.proofs e c.args.self.now.0) (EntersIn k l (by_step (statement_of e) (symmetric c.args.self.now.0))) (Checked t k l e (symmetric c.args.self.now.0)) (λ p f x. symmetric_checked t k l e c.args.self.now.0 p h.0 f x) c.check_symmetric.ensures.fits c.check_symmetric.ensures.ok in
-    says_fits r c.graph.inside.failed t c.graph.inside.nodes k l e (symmetric c.args.self.now.0) c.args.graph.now c.graph.view_is checked
+    says_fits r c.graph.inside.failed t c.graph.inside.nodes k l e (symmetric c.args.self.now.0) gnil c.args.graph.now c.graph.view_is checked
 
 pub returns-clause-refused : goal.returns-clause-refused
 returns-clause-refused g c =
@@ -43,7 +44,7 @@ returns-clause-refused g c =
     let l = c.check_symmetric.new.store in
     let h : Good k × HasFreshSlots t k = elim c.graph.invariant [ inl h ↦ absurd (false≢true (sym c.if-graph.false ∙ h)) | inr h ↦ (h.0, h.1) ] in
     let checked = both_ok r (λ p. IsOfFull (nodes_of k) e × IsSymmetricStep k.proofs e c.args.self.now.0) (EntersIn k l (by_step (statement_of e) (symmetric c.args.self.now.0))) (Checked t k l e (symmetric c.args.self.now.0)) (λ p f x. symmetric_checked t k l e c.args.self.now.0 p h.0 f x) c.check_symmetric.ensures.fits c.check_symmetric.ensures.ok in
-    says_refused r c.graph.inside.failed t c.graph.inside.nodes k l e (symmetric c.args.self.now.0) c.args.graph.now c.graph.view_is (λ b. symmetric_refused k e c.args.self.now.0 h.0 (c.check_symmetric.ensures.refused b))
+    says_refused r c.graph.inside.failed t c.graph.inside.nodes k l e (symmetric c.args.self.now.0) gnil c.args.graph.now c.graph.view_is (λ b. symmetric_refused k e c.args.self.now.0 h.0 (c.check_symmetric.ensures.refused b))
 
 pub returns-clause-accepted : goal.returns-clause-accepted
 returns-clause-accepted g c =
@@ -54,7 +55,7 @@ returns-clause-accepted g c =
     let l = c.check_symmetric.new.store in
     let h : Good k × HasFreshSlots t k = elim c.graph.invariant [ inl h ↦ absurd (false≢true (sym c.if-graph.false ∙ h)) | inr h ↦ (h.0, h.1) ] in
     let checked = both_ok r (λ p. IsOfFull (nodes_of k) e × IsSymmetricStep k.proofs e c.args.self.now.0) (EntersIn k l (by_step (statement_of e) (symmetric c.args.self.now.0))) (Checked t k l e (symmetric c.args.self.now.0)) (λ p f x. symmetric_checked t k l e c.args.self.now.0 p h.0 f x) c.check_symmetric.ensures.fits c.check_symmetric.ensures.ok in
-    says_accepted r c.graph.inside.failed t c.graph.inside.nodes k l e (symmetric c.args.self.now.0) c.args.graph.now c.graph.view_is checked
+    says_accepted r c.graph.inside.failed t c.graph.inside.nodes k l e (symmetric c.args.self.now.0) gnil c.args.graph.now c.graph.view_is checked
 
 pub returns-clause-derivable : goal.returns-clause-derivable
 returns-clause-derivable g c =
@@ -65,7 +66,7 @@ returns-clause-derivable g c =
     let l = c.check_symmetric.new.store in
     let h : Good k × HasFreshSlots t k = elim c.graph.invariant [ inl h ↦ absurd (false≢true (sym c.if-graph.false ∙ h)) | inr h ↦ (h.0, h.1) ] in
     let checked = both_ok r (λ p. IsOfFull (nodes_of k) e × IsSymmetricStep k.proofs e c.args.self.now.0) (EntersIn k l (by_step (statement_of e) (symmetric c.args.self.now.0))) (Checked t k l e (symmetric c.args.self.now.0)) (λ p f x. symmetric_checked t k l e c.args.self.now.0 p h.0 f x) c.check_symmetric.ensures.fits c.check_symmetric.ensures.ok in
-    says_derivable r c.graph.inside.failed t c.graph.inside.nodes k l e (symmetric c.args.self.now.0) c.args.graph.now c.graph.view_is checked
+    says_derivable r c.graph.inside.failed t c.graph.inside.nodes k l e (symmetric c.args.self.now.0) gnil c.args.graph.now c.graph.view_is checked
 
 pub returns-clause-leaves : goal.returns-clause-leaves
 returns-clause-leaves g c =
@@ -76,4 +77,4 @@ returns-clause-leaves g c =
     let l = c.check_symmetric.new.store in
     let h : Good k × HasFreshSlots t k = elim c.graph.invariant [ inl h ↦ absurd (false≢true (sym c.if-graph.false ∙ h)) | inr h ↦ (h.0, h.1) ] in
     let checked = both_ok r (λ p. IsOfFull (nodes_of k) e × IsSymmetricStep k.proofs e c.args.self.now.0) (EntersIn k l (by_step (statement_of e) (symmetric c.args.self.now.0))) (Checked t k l e (symmetric c.args.self.now.0)) (λ p f x. symmetric_checked t k l e c.args.self.now.0 p h.0 f x) c.check_symmetric.ensures.fits c.check_symmetric.ensures.ok in
-    says_leaves r c.graph.inside.failed t c.graph.inside.nodes k l e (symmetric c.args.self.now.0) c.args.graph.now c.graph.view_is checked
+    says_leaves r c.graph.inside.failed t c.graph.inside.nodes k l e (symmetric c.args.self.now.0) gnil c.args.graph.now c.graph.view_is checked

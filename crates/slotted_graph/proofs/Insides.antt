@@ -1,0 +1,43 @@
+-- What each call knows of a graph that has not failed: how its parts tell what contracts see, and what its invariant says of them.
+use Rattle.std.proofs.Common.{◌≡◌, ◌⊎◌, ◌∙◌, false, ap, sym, inl, inr}
+use Rattle.std.specs.Prelude.{Bool, IsTrue}
+use Rattle.std.proofs.lemmas.Bool.{false≢true}
+use base.Stored.{Gv}
+use Rattle.slotted_slots.specs.Table.{Table}
+use Rattle.slotted_model.specs.State.{Row}
+use Rattle.slotted_store.specs.Kept.{Kept}
+use Rattle.slotted_filing.specs.FiledRows.{Rows, rows_in}
+use Rattle.slotted_core.specs.Good.{Good, HasFreshSlots, RestsWith, graph_of, image_of}
+use Rattle.slotted_core.specs.Graph.{Graph}
+use Rattle.slotted_core.specs.Image.{Image}
+
+pub record Inside (g : Graph) (t : Table) (k : Kept) (r : Rows) : Type 0 where
+  pub good : Good k
+  pub fresh : HasFreshSlots t k
+  pub rests : RestsWith k r
+  pub failed : g.failed ≡ false
+  pub table : t ≡ g.table
+  pub image : image_of k ≡ g.image
+  pub filed : rows_in r.filed ≡ g.filed
+
+-- a condition that a failed graph need not meet
+pub given : {P : Type 0} {b : Bool} → b ≡ false → IsTrue b ⊎ P → P
+given f (inl h) = absurd (false≢true (sym f ∙ h))
+given f (inr h) = h
+
+module _ {More : Type 0} {g : Graph} {b : Bool} {part : Gv} (t : Table) (k : Kept) (r : Rows) (is : graph_of b t k (rows_in r.filed) part ≡ g) (f : b ≡ false)
+    (invariant : IsTrue b ⊎ (Good k × HasFreshSlots t k × RestsWith k r × More)) where
+  pub inside-of : Inside g t k r
+  inside-of = let well = given f invariant in record {
+    good = well.0;
+    fresh = well.1;
+    rests = well.2;
+    failed = sym (ap (λ (x : Graph). x.failed) is) ∙ f;
+    table = ap (λ (x : Graph). x.table) is;
+    image = ap (λ (x : Graph). x.image) is;
+    filed = ap (λ (x : Graph). x.filed) is;
+  }
+
+  -- the graph is told by its parts
+  pub told-by : graph_of false t k (rows_in r.filed) part ≡ g
+  told-by = (λ i. graph_of (sym f i) t k (rows_in r.filed) part) ∙ is
