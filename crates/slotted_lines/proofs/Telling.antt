@@ -8,6 +8,7 @@ use Rattle.slotted_slots.specs.declared.error.Error.{Error}
 use Rattle.slotted_slots.specs.Syntax.{Element}
 use Rattle.slotted_nodes.specs.Form.{Form}
 use Rattle.slotted_runs.specs.declared.report.Report.{Report}
+use Rattle.slotted_core.specs.Graph.{totals_of}
 use Rattle.slotted_lines.specs.AnsweredIn.{AnsweredIn, IsRuleRefused, RuleAnswers, RunAnswers, rule_made, rule_refused, rules_run, run_refused, told_of_rule, told_of_run}
 use Rattle.slotted_lines.specs.Requests.{makes_rule, runs}
 use Rattle.slotted_lines.specs.States.{SessionState}
@@ -17,7 +18,8 @@ module _ {L : Type 0} (read : List Element → Option Form) (written : Term → 
   rule-answered name left right (Ok x) h = rule_made h.0 h.1 h.2
   rule-answered name left right (Err e) h = rule_refused h.0 h.1
 
-  pub run-answered : (limit : ℕ) (o : Result (Report Infallible) Error) → RunAnswers form limit s t o → AnsweredIn read written form s t (runs limit) (told_of_run o)
+  pub run-answered : (limit : ℕ) (o : Result (Report Infallible) Error) → RunAnswers form limit s t o →
+      AnsweredIn read written form s t (runs limit) (told_of_run o (totals_of s.graph) (totals_of t.graph))
   run-answered limit (Ok r) h = rules_run h.0 h.1
   run-answered limit (Err e) h = run_refused h.0 h.1
 

@@ -5,14 +5,14 @@
 --     RunAnswers limit s t o               what a run of the rules gives
 --     told_of_rule, told_of_run o          the answers to these
 --     AnsweredIn s t command told          the command is answered so over s, and leaves t
-use Rattle.std.specs.Prelude.{◌≡◌, ⊤, ℕ, List, [], ◌∷◌, ◌++◌, Option, Result, Ok, Err, IsTrue, false, string_bytes}
+use Rattle.std.specs.Prelude.{◌≡◌, ◌-◌, ⊤, ℕ, List, [], ◌∷◌, ◌++◌, Option, Result, Ok, Err, IsTrue, false, string_bytes}
 use Rattle.std.specs.declared.convert.Infallible.{Infallible}
 use Rattle.slotted_theory.specs.Term.{Term}
 use Rattle.slotted_slots.specs.declared.error.Error.{Error}
 use Rattle.slotted_slots.specs.declared.error.Error.TheVariants.{Failed}
 use Rattle.slotted_slots.specs.Syntax.{Element}
 use Rattle.slotted_nodes.specs.Form.{Form}
-use Rattle.slotted_core.specs.Graph.{Graph, OnlyReads}
+use Rattle.slotted_core.specs.Graph.{Graph, OnlyReads, totals_of}
 use Rattle.slotted_commands.specs.Commands.{Command}
 use Rattle.slotted_commands.specs.Sessions.{Answered}
 use Rattle.slotted_commands.specs.declared.answer.Answer.{Answer}
@@ -22,6 +22,7 @@ use Rattle.slotted_rules.specs.declared.condition.Always.{Always}
 use Rattle.slotted_rules.specs.declared.rewrite.Rewrite.{Rewrite}
 use Rattle.slotted_runs.specs.declared.report.Report.{Report}
 use Rattle.slotted_runs.specs.declared.report.StopReason.{StopReason}
+use Rattle.slotted_lines.specs.declared.told.Run.{Run}
 use Rattle.slotted_lines.specs.declared.told.Told.{Told}
 use Rattle.slotted_lines.specs.declared.told.Told.TheVariants.{Plain, Ran}
 use Rattle.slotted_lines.specs.Requests.{SessionCommand, makes_rule, runs, plain}
@@ -56,9 +57,13 @@ abbrev pub told_of_rule : Result ⊤ Error → Told
 told_of_rule (Ok x) = Plain Done
 told_of_rule (Err e) = Plain (Refused e)
 
-abbrev pub told_of_run : Result (Report Infallible) Error → Told
-told_of_run (Ok r) = Ran r.iterations r.stop_reason r.egraph_nodes
-told_of_run (Err e) = Plain (Refused e)
+-- what a run tells, by the totals of rebuilds before and after
+abbrev pub run_between : ℕ × ℕ → ℕ × ℕ → ℕ → StopReason Infallible → ℕ → Run
+run_between before after turns reason nodes = record { turns = turns; reason = reason; nodes = nodes; rebuild_turns = after.0 - before.0; rebuild_bound = after.1 - before.1 }
+
+abbrev pub told_of_run : Result (Report Infallible) Error → ℕ × ℕ → ℕ × ℕ → Told
+told_of_run (Ok r) before after = Ran (run_between before after r.iterations r.stop_reason r.egraph_nodes)
+told_of_run (Err e) before after = Plain (Refused e)
 
 pub data AnsweredIn {L : Type 0} (read : List Element → Option Form) (written : Term → List Element) (form : L → Form) (s t : SessionState L) : SessionCommand → Told → Type 0 where
   -- what is asked of the graph alone is answered over it, and the rules stay
@@ -70,6 +75,6 @@ pub data AnsweredIn {L : Type 0} (read : List Element → Option Form) (written 
       AnsweredIn read written form s t (makes_rule name left right) (Plain (Refused e))
   -- all rules so far are run, and stay
   rules_run : {limit turns nodes : ℕ} {reason : StopReason Infallible} → Reports form s.rules limit s.graph t.graph turns reason nodes → t.rules ≡ s.rules →
-      AnsweredIn read written form s t (runs limit) (Ran turns reason nodes)
+      AnsweredIn read written form s t (runs limit) (Ran (run_between (totals_of s.graph) (totals_of t.graph) turns reason nodes))
   run_refused : {limit : ℕ} {e : Error} → RunRefused form s.rules limit s.graph t.graph e → t.rules ≡ s.rules →
       AnsweredIn read written form s t (runs limit) (Plain (Refused e))

@@ -8,7 +8,7 @@ use crate::request::Request;
 use crate::rules::add_rule;
 use crate::runs::run_rules;
 use crate::session::Session;
-use crate::told::Told;
+use crate::told::{Run, Told};
 use slotted_commands::Answer;
 use slotted_commands::session::answer;
 use slotted_runs::Report;
@@ -26,7 +26,12 @@ pub fn answer_in<L: Printable>(alloc: Global, session: &mut Session<L>, line: &s
 {
     match Request::read(line) {
         Request::Rule(name, left, right) => tell_rule(add_rule(alloc, session, name, left, right)),
-        Request::Run(limit) => tell_run(run_rules(alloc, session, limit)),
+        Request::Run(limit) => {
+            let before = session.graph.rebuild_totals();
+            let outcome = run_rules(alloc, session, limit);
+            let after = session.graph.rebuild_totals();
+            tell_run(outcome, before, after)
+        }
         Request::Plain(line) => Told::Plain(answer(alloc, &mut session.graph, line)),
         Request::Unknown => Told::Plain(Answer::NoCommand),
     }
@@ -42,12 +47,22 @@ fn tell_rule(outcome: Result<(), Error>) -> Told
     }
 }
 
-// The answer to a run.
-fn tell_run(outcome: Result<Report<Infallible>, Error>) -> Told
-    ensures { result ≡ told_of_run outcome }
+// The answer to a run, by the totals of rebuilds before and after.
+fn tell_run(
+    outcome: Result<Report<Infallible>, Error>,
+    before: (u64, u128),
+    after: (u64, u128),
+) -> Told
+    ensures { result ≡ told_of_run outcome before after }
 {
     match outcome {
-        Ok(report) => Told::Ran(report.iterations, report.stop_reason, report.egraph_nodes),
+        Ok(report) => Told::Ran(Run {
+            turns: report.iterations,
+            reason: report.stop_reason,
+            nodes: report.egraph_nodes,
+            rebuild_turns: after.0.saturating_sub(before.0),
+            rebuild_bound: after.1.saturating_sub(before.1),
+        }),
         Err(error) => Told::Plain(Answer::Refused(error)),
     }
 }

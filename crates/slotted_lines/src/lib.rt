@@ -15,4 +15,4 @@ pub use request::Request;
 pub use session::Session;
 pub use still::StillClock;
 pub use stream::{answer_last_session, answer_line, answer_session};
-pub use told::Told;
+pub use told::{Run, Told};

@@ -1,6 +1,6 @@
 //! What a line is answered with.
 ghost use Rattle.std.specs.Prelude.{◌≡◌, Some};
-ghost use Rattle.slotted_lines.specs.Texts.{told_text, word_of};
+ghost use Rattle.slotted_lines.specs.Texts.{run_text, told_text, word_of};
 
 use slotted_commands::Answer;
 use slotted_runs::StopReason;
@@ -12,8 +12,23 @@ use std::fmt;
 pub enum Told {
     /// The answer to a line that asks the graph, or to a rule, or a refusal.
     Plain(Answer),
-    /// A run took so many turns, stopped for this reason, and left so many filed nodes.
-    Ran(usize, StopReason<Infallible>, usize),
+    /// The rules were run.
+    Ran(Run),
+}
+
+/// What a run of the rules tells: its report, and by how much the totals over all rebuilds rose.
+#[derive(Drop)]
+pub struct Run {
+    /// How many turns were taken.
+    pub turns: usize,
+    /// Why the run stopped.
+    pub reason: StopReason<Infallible>,
+    /// How many e-nodes were filed at its end.
+    pub nodes: usize,
+    /// How many e-nodes took their turn in rebuilds.
+    pub rebuild_turns: u64,
+    /// How many might have, by the bounds of the rebuilds.
+    pub rebuild_bound: u128,
 }
 
 // The word of a reason.
@@ -29,15 +44,29 @@ fn word(reason: &StopReason<Infallible>) -> &'static str
     }
 }
 
+/// The number of turns, the reason, and the number of filed e-nodes.
+impl fmt::Display for Run {
+    ghost output = { λ r. Some (run_text r) };
+
+    fn fmt<W: fmt::Write>(&self, f: &mut fmt::Formatter<W>) -> fmt::Result {
+        let turns = self.turns;
+        let word = word(&self.reason);
+        let nodes = self.nodes;
+        write!(f, "{turns} {word} {nodes}")
+    }
+}
+
+/// A run has a second line: by how much the totals of rebuilds rose, of turns and of their bounds.
 impl fmt::Display for Told {
     ghost output = { λ a. Some (told_text a) };
 
     fn fmt<W: fmt::Write>(&self, f: &mut fmt::Formatter<W>) -> fmt::Result {
         match self {
             Told::Plain(answer) => write!(f, "{answer}"),
-            Told::Ran(turns, reason, nodes) => {
-                let word = word(reason);
-                write!(f, "{turns} {word} {nodes}")
+            Told::Ran(run) => {
+                let turns = run.rebuild_turns;
+                let bound = run.rebuild_bound;
+                write!(f, "{run}\nturns {turns} of {bound}")
             }
         }
     }

@@ -151,3 +151,19 @@ pub fn number_of<L: Language>(
         _ => number_of_list(graph, word),
     }
 }
+
+/// Whether the last rebuild took no more turns than its bound allows, and all rebuilds together no more than theirs.
+pub fn is_within_bounds<L: Language>(graph: &EGraph<L>) -> bool {
+    let last = graph.last_rebuild();
+    let (turns, bound) = graph.rebuild_totals();
+    let fall = last.size_before.saturating_sub(last.size_after);
+    let most = (last.nodes as u128).saturating_mul(fall.saturating_add(1));
+    last.size_after <= last.size_before && last.turns as u128 <= most && turns as u128 <= bound
+}
+
+/// Whether the last rebuild left as many live classes and slots as there are.
+pub fn has_left_size<L: Language>(graph: &EGraph<L>) -> Result<bool, Error> {
+    let last = graph.last_rebuild();
+    let progress = graph.progress()?;
+    Ok(last.size_after == progress.number_of_live_classes as u128 + progress.sum_of_slots as u128)
+}

@@ -3,7 +3,7 @@ use crate::found::{make_side, stays};
 use crate::graphs::{parted, slot, yes};
 use crate::ids::{are_counted, holds, related, sides_related, turn, unite_because};
 use crate::nodes::is_known;
-use crate::reported::{are_its, number_of};
+use crate::reported::{are_its, has_left_size, is_within_bounds, number_of};
 use crate::steps;
 use crate::terms::{canonical, dumped, is_null_inside, printed};
 use slotted_graph::EGraph;
@@ -137,6 +137,9 @@ fn asked_of_graph<L: Language>(
         ("knows", name) => told(knows(alloc, graph, name)),
         ("null", _) => Ok(yes(graph.is_valid(&AppliedId::null(alloc)))),
         ("counted", _) => told(are_counted(graph)),
+        ("turned", _) => Ok(yes(graph.last_rebuild().turns > 0)),
+        ("within", _) => Ok(yes(is_within_bounds(graph))),
+        ("left", _) => told(has_left_size(graph)),
         ("sides", number) => sides_related(graph, number.parse::<usize>().unwrap_or(0)),
         _ => Ok(yes(graph.is_failed())),
     }

@@ -11,7 +11,7 @@ ghost use Rattle.std.specs.Io.BufRead.{strip_last};
 ghost use Rattle.std.specs.Io.KnownBytes.{Appends};
 
 use slotted_graph::EGraph;
-use slotted_lines::{Session, answer_line};
+use slotted_lines::{Run, Session, Told, answer_in};
 use slotted_proofs::ProvenEq;
 use slotted_rows::rows::answer_of_either;
 use slotted_slots::SlotTable;
@@ -56,17 +56,37 @@ fn ask<L: Printable, W: Write>(
     }
 }
 
-// Answers a line over a session. A question that changed the graph has left it fit for the rules.
+// Whether there were rebuilds, and they took no more turns than their bounds allow.
+fn is_within(run: &Run) -> bool {
+    run.rebuild_bound > 0 && run.rebuild_turns as u128 <= run.rebuild_bound
+}
+
+// Writes an answer. How many turns rebuilds took is open: of a run with rebuilds that kept their bound the numbers are not written.
+fn write_told<W: Write>(told: &Told, output: &mut W) -> io::Result<()> {
+    match told {
+        Told::Ran(run) if is_within(run) => writeln!(output, "{run}\nturns T of B"),
+        _ => writeln!(output, "{told}"),
+    }
+}
+
+// Answers a line over a session. A question that changed the graph has left it fit for the rules. An empty line has no answer.
 fn answer_if_searchable<L: Printable, W: Write>(
     alloc: Global,
     session: &mut Session<L>,
     line: &[u8],
     output: &mut W,
 ) -> io::Result<()> {
+    let Ok(text) = str::from_utf8(line.strip_suffix(b"\n").unwrap_or(line)) else {
+        return Err(io::Error::from(ErrorKind::InvalidData));
+    };
     if !session.is_searchable() {
         return Err(io::Error::from(ErrorKind::InvalidData));
     }
-    answer_line(alloc, session, line, output)
+    if text.is_empty() {
+        return Ok(());
+    }
+    let told = answer_in(alloc, session, text);
+    write_told(&told, output)
 }
 
 // Answers a line over a session, or asks its question.
