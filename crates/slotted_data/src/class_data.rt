@@ -1,0 +1,161 @@
+//! The data of classes, and what has to be known to carry it along.
+ghost use Rattle.std.specs.Prelude.{◌≡◌, ◌+◌, ◌<◌, ◌++◌, ◌∷◌, [], length, set, slice_get, slice_index_or, Some, IfErr, OnOk};
+ghost use Rattle.slotted_slots.specs.Error.{IsOutOfMemory};
+ghost use Rattle.slotted_data.specs.Held.{HasNewValue, HasValue, no_values, users_of, with_user, with_users_taken, with_entered, with_carried};
+
+use slotted_filing::Worklist;
+use slotted_slots::Error;
+use std::alloc::Global;
+use std::marker::Model;
+use std::mem;
+
+/// For each class its data, and the sources of nodes with a child that finds the class. Beside them how many classes are among the users of
+/// their children's classes, which classes wait to be modified, how many deaths have been carried, and whether some class had data of a
+/// height above 0 when it was made. After want of memory nothing is known of them.
+#[derive(Drop)]
+pub struct ClassData<D> {
+    values: Vec<D>,
+    users: Vec<Vec<u32>>,
+    entered: usize,
+    changed: Worklist,
+    carried: usize,
+    tall: bool,
+}
+
+impl<D> Model for ClassData<D> {
+    ghost use Rattle.std.specs.Prelude.{map};
+    ghost use Rattle.slotted_data.specs.Held.{FitsValues, Held};
+
+    ghost Value = { Held D };
+
+    ghost view = { λ s. record {
+      values = s.values.items;
+      users = map (λ v. v.items) s.users.items;
+      entered = s.entered;
+      changed = s.changed.queue;
+      carried = s.carried;
+      tall = s.tall;
+    } };
+
+    ghost invariant = { λ s. FitsValues s.values.items (map (λ v. v.items) s.users.items) s.changed };
+}
+
+impl<D: Drop> ClassData<D> {
+    /// No class.
+    pub fn new(alloc: Global) -> Self
+        ensures { result ≡ no_values }
+    {
+        ClassData {
+            values: Vec::new(alloc),
+            users: Vec::new(alloc),
+            entered: 0,
+            changed: Worklist::new(alloc),
+            carried: 0,
+            tall: false,
+        }
+    }
+
+    /// How many classes have data.
+    pub fn count(&self) -> usize
+        ensures { result ≡ length self.now.values }
+    {
+        self.values.len()
+    }
+
+    /// The data of a class.
+    pub fn value(&self, class: usize) -> &D
+        requires { class < length self.now.values }
+        ensures { slice_get self.now.values class ≡ Some result.now }
+    {
+        &self.values[class]
+    }
+
+    // Single writes, each said exactly.
+
+    // The next class has this data. No node is over it yet, and it waits to be modified.
+    pub(crate) fn add(&mut self, alloc: Global, value: D, is_tall: bool) -> Result<(), Error>
+        ensures ok { OnOk result (HasNewValue self.old self.new value is_tall) }
+        ensures err { IfErr result IsOutOfMemory }
+    {
+        let class = self.values.len();
+        self.changed.add_class()?;
+        self.changed.push(class)?;
+        self.users.push(Vec::new(alloc))?;
+        self.values.push(value)?;
+        self.tall = self.tall || is_tall;
+        Ok(())
+    }
+
+    // A class has other data, and waits to be modified.
+    pub(crate) fn set(&mut self, class: usize, value: D) -> Result<(), Error>
+        requires { class < length self.old.values }
+        ensures ok { OnOk result (HasValue self.old self.new class value) }
+        ensures err { IfErr result IsOutOfMemory }
+    {
+        self.changed.push(class)?;
+        self.values[class] = value;
+        Ok(())
+    }
+
+    // A source stands over a class.
+    pub(crate) fn add_user(&mut self, class: usize, source: u32) -> Result<(), Error>
+        requires { class < length self.old.values }
+        ensures ok { OnOk result (self.new ≡ with_user self.old class source) }
+        ensures err { IfErr result IsOutOfMemory }
+    {
+        self.users[class].push(source)?;
+        Ok(())
+    }
+
+    // The sources over a class, which has none from now on.
+    pub(crate) fn take_users(&mut self, alloc: Global, class: usize) -> Vec<u32>
+        requires { class < length self.old.values }
+        ensures taken { result.items ≡ users_of self.old class }
+        ensures left { self.new ≡ with_users_taken self.old class }
+    {
+        mem::replace(&mut self.users[class], Vec::new(alloc))
+    }
+
+    // The sources over a class.
+    pub(crate) fn users(&self, class: usize) -> &[u32]
+        requires { class < length self.now.values }
+        ensures { result.now ≡ users_of self.now class }
+    {
+        &self.users[class]
+    }
+
+    // How many classes are among the users of their children's classes.
+    pub(crate) fn entered(&self) -> usize
+        ensures { result ≡ self.now.entered }
+    {
+        self.entered
+    }
+
+    // So many classes are.
+    pub(crate) fn set_entered(&mut self, entered: usize)
+        ensures { self.new ≡ with_entered self.old entered }
+    {
+        self.entered = entered;
+    }
+
+    // How many deaths have been carried.
+    pub(crate) fn carried(&self) -> usize
+        ensures { result ≡ self.now.carried }
+    {
+        self.carried
+    }
+
+    // So many deaths have been.
+    pub(crate) fn set_carried(&mut self, carried: usize)
+        ensures { self.new ≡ with_carried self.old carried }
+    {
+        self.carried = carried;
+    }
+
+    // Whether some class had data of a height above 0 when it was made.
+    pub(crate) fn is_tall(&self) -> bool
+        ensures { result ≡ self.now.tall }
+    {
+        self.tall
+    }
+}
