@@ -1,1 +1,3 @@
+pub mod Carrying
 pub mod Held
+pub mod Made

@@ -3,5 +3,6 @@
 #![tactic(auto)]
 
 pub mod class_data;
+pub(crate) mod making;
 
 pub use class_data::ClassData;
