@@ -1,1 +1,2 @@
 pub mod NewData
+pub mod Entering

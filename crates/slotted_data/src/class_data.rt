@@ -1,5 +1,5 @@
 //! The data of classes, and what has to be known to carry it along.
-ghost use Rattle.std.specs.Prelude.{◌≡◌, ◌+◌, ◌<◌, ◌++◌, ◌∷◌, [], length, set, slice_get, slice_index_or, Some, IfErr, OnOk};
+ghost use Rattle.std.specs.Prelude.{◌≡◌, ◌<◌, ◌≤◌, ◌++◌, ◌∷◌, [], length, set, slice_get, slice_index_or, Some, IfErr, OnOk};
 ghost use Rattle.slotted_slots.specs.Error.{IsOutOfMemory};
 ghost use Rattle.slotted_data.specs.Held.{HasNewValue, HasValue, no_values, users_of, with_user, with_users_taken, with_entered, with_carried};
 
@@ -101,6 +101,7 @@ impl<D: Drop> ClassData<D> {
     pub(crate) fn add_user(&mut self, class: usize, source: u32) -> Result<(), Error>
         requires { class < length self.old.values }
         ensures ok { OnOk result (self.new ≡ with_user self.old class source) }
+        ensures lists { length self.old.values ≤ length self.old.users }
         ensures err { IfErr result IsOutOfMemory }
     {
         self.users[class].push(source)?;

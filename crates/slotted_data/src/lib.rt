@@ -4,5 +4,6 @@
 
 pub mod class_data;
 pub(crate) mod making;
+pub(crate) mod users;
 
 pub use class_data::ClassData;
