@@ -1,2 +1,3 @@
 pub mod NewData
 pub mod Entering
+pub mod TakenData

@@ -2,3 +2,4 @@ pub mod Carrying
 pub mod Held
 pub mod Made
 pub mod Users
+pub mod Lowering

@@ -3,6 +3,7 @@
 #![tactic(auto)]
 
 pub mod class_data;
+pub(crate) mod lowering;
 pub(crate) mod making;
 pub(crate) mod users;
 

@@ -1,0 +1,134 @@
+//! Values that are merged into the data of classes, and go upwards.
+ghost use Rattle.std.specs.Prelude.{◌≡◌, ◌<◌, ℕ, length, IfOk, IfErr, IfSome, IfNone, None, OnOk, All};
+ghost use Rattle.slotted_slots.specs.Error.{IsOutOfMemory};
+ghost use Rattle.slotted_model.specs.Correspondence.{AllDifferent};
+ghost use Rattle.slotted_model_analyses.specs.DataPart.{HasData};
+ghost use Rattle.slotted_store.specs.Finding.{HasFinds};
+ghost use Rattle.slotted_filing.specs.Filed.{filed_of};
+ghost use Rattle.slotted_rebuilding.specs.Filed.{state_in};
+ghost use Rattle.slotted_analyses.specs.Meaning.{by_bare_nodes};
+ghost use Rattle.slotted_data.specs.Carrying.{MayRefuse};
+ghost use Rattle.slotted_data.specs.Lowering.{IsReady, Lowers, MakesValue, Puts, RisesTo, TakesValue, part_of, quiet};
+
+use crate::class_data::ClassData;
+use crate::making::child_data;
+use crate::users::wait_each;
+use slotted_analyses::Analysis;
+use slotted_filing::Hashcons;
+use slotted_languages::Language;
+use slotted_slots::Error;
+use slotted_store::Store;
+use std::alloc::Global;
+
+// A class has this data. If it had other data, its users wait, and it waits to be modified.
+pub(crate) fn put_value<L: Language, N: Analysis<L>>(
+    nodes: &mut Hashcons<L>,
+    data: &mut ClassData<N::Data>,
+    class: usize,
+    value: N::Data,
+) -> Result<(), Error>
+    requires { class < length «data».old.values }
+    ensures ok { OnOk result (Puts class value nodes.old nodes.new «data».old «data».new) }
+    ensures err { IfErr result IsOutOfMemory }
+{
+    if value == *data.value(class) {
+        return Ok(());
+    }
+    wait_each(nodes, data.users(class))?;
+    data.set(class, value)?;
+    Ok(())
+}
+
+// A value is merged into the data of a class.
+pub(crate) fn lower<L: Language, N: Analysis<L>>(
+    nodes: &mut Hashcons<L>,
+    data: &mut ClassData<N::Data>,
+    analysis: &N,
+    alloc: Global,
+    class: usize,
+    value: &N::Data,
+) -> Result<(), Error>
+    requires { class < length «data».old.values }
+    ensures ok { OnOk result (Lowers (N.meaning analysis.now) class value.now nodes.old nodes.new «data».old «data».new) }
+    ensures err { IfErr result (MayRefuse N.refuses) }
+{
+    let merged = analysis.merge(alloc, data.value(class), value)?;
+    put_value::<L, N>(nodes, data, class, merged)?;
+    Ok(())
+}
+
+// What the filed node of a class makes, if it has one.
+fn value_made<L: Language, N: Analysis<L>>(
+    store: &Store<L>,
+    nodes: &Hashcons<L>,
+    data: &ClassData<N::Data>,
+    analysis: &N,
+    alloc: Global,
+    source: usize,
+) -> Result<Option<N::Data>, Error>
+    requires good { HasFinds store.now }
+    requires ready { IsReady store.now nodes.now «data».now }
+    ensures some { IfOk result (λ o. IfSome o
+        (MakesValue (N.meaning analysis.now) store.now «data».now.values (filed_of nodes.now.filed source))) }
+    ensures none { IfOk result (λ o. IfNone o (filed_of nodes.now.filed source ≡ None)) }
+    ensures err { IfErr result (MayRefuse N.refuses) }
+{
+    let Some((key, _)) = nodes.node(source) else {
+        return Ok(None);
+    };
+    let child = child_data(store, data, analysis, alloc, key)?;
+    let value = analysis.make(alloc, key, &child)?;
+    Ok(Some(value))
+}
+
+// What the filed node of a class makes is merged into the data of what the class finds. Data of height 0 absorbs everything.
+fn take_data<L: Language, N: Analysis<L>>(
+    store: &Store<L>,
+    nodes: &mut Hashcons<L>,
+    data: &mut ClassData<N::Data>,
+    analysis: &N,
+    alloc: Global,
+    source: usize,
+) -> Result<(), Error>
+    requires good { HasFinds store.now }
+    requires within { source < length store.now.classes }
+    requires ready { IsReady store.now nodes.old «data».old }
+    requires once { AllDifferent nodes.old.waiting }
+    requires changed { AllDifferent «data».old.changed }
+    ensures ok { OnOk result
+        (TakesValue (by_bare_nodes (N.meaning analysis.now)) store.now source nodes.old nodes.new «data».old «data».new) }
+    ensures err { IfErr result (MayRefuse N.refuses) }
+{
+    let class = store.find_class(source);
+    if analysis.height(data.value(class)) == 0 {
+        return Ok(());
+    }
+    let Some(value) = value_made(store, nodes, data, analysis, alloc, source)? else {
+        return Ok(());
+    };
+    lower(nodes, data, analysis, alloc, class, &value)?;
+    Ok(())
+}
+
+// Each class that waits takes what its filed node makes, until none waits.
+pub(crate) fn rise<L: Language, N: Analysis<L>>(
+    store: &Store<L>,
+    nodes: &mut Hashcons<L>,
+    data: &mut ClassData<N::Data>,
+    analysis: &N,
+    alloc: Global,
+) -> Result<(), Error>
+    requires good { HasFinds store.now }
+    requires ready { IsReady store.now nodes.old «data».old }
+    requires has { (x : N.Data) → HasData (by_bare_nodes (N.meaning analysis.now))
+        (state_in store.now (quiet nodes.old)) (part_of x «data».old nodes.old.waiting) }
+    ensures ok { OnOk result
+        (RisesTo (by_bare_nodes (N.meaning analysis.now)) store.now nodes.old nodes.new «data».old «data».new) }
+    ensures err { IfErr result (MayRefuse N.refuses) }
+{
+    while let Some(source) = nodes.front() {
+        nodes.leave(source);
+        take_data(store, nodes, data, analysis, alloc, source)?;
+    }
+    Ok(())
+}
