@@ -1,3 +1,4 @@
 pub mod NewData
 pub mod Entering
 pub mod TakenData
+pub mod Rising

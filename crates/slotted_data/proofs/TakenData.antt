@@ -1,6 +1,6 @@
 -- What filed nodes make is merged into the data of their classes, as the model merges it.
-use Rattle.std.proofs.Common.{◌≡◌, ◌≢◌, ◌<◌, ◌≤◌, ℕ, suc, ◌+◌, ◌*◌, List, [], ◌∷◌, length, map, true, false, cond, Option, Some, None, sym, ◌∙◌, ap, refl, subst, inl, inr, arith}
-use Rattle.std.specs.Prelude.{◌⊎◌, Contains, nat_lt, slice_get, slice_index_or, set}
+use Rattle.std.proofs.Common.{◌≡◌, ◌<◌, ℕ, List, length, map, true, false, cond, Some, None, sym, ◌∙◌, ap, refl, subst, inl, inr, arith}
+use Rattle.std.specs.Prelude.{Contains, nat_lt, slice_get}
 use Rattle.std.proofs.lemmas.Bool.{cases_eq}
 use Rattle.std.proofs.lemmas.List.{get_or-set_same, get_or-set_other, length-set}
 use Rattle.std.proofs.lemmas.Option.{get_or_from_slice_get, slice_get_within}
@@ -11,30 +11,30 @@ use Rattle.slotted_nodes.specs.Form.{Form}
 use Rattle.slotted_languages.specs.NodeTerm.{nameless_node}
 use Rattle.slotted_model.specs.Classes.{canonical_node}
 use Rattle.slotted_model.specs.Correspondence.{AllDifferent}
-use Rattle.slotted_model.specs.Find.{Linked, IsLive, find_class}
-use Rattle.slotted_model.specs.State.{Row, State, HasTouched, child_classes, normal_node, sources}
+use Rattle.slotted_model.specs.Find.{Linked, IsLive}
+use Rattle.slotted_model.specs.State.{Row, State, HasTouched, child_classes, normal_node}
 use Rattle.slotted_model.specs.Rest.{AtRest, IsCurrent}
 use Rattle.slotted_model.proofs.Finding.{Leads, leads, find_class-live, found-live, found-in_range}
 use Rattle.slotted_model.proofs.Optimal.{row-classes}
 use Rattle.slotted_model.proofs.Rows.{current-shape, of_source, one_row}
 use Rattle.slotted_model_analyses.specs.Analysis.{Analysis, IsMerge, Absorbs}
-use Rattle.slotted_model_analyses.specs.DataPart.{DataPart, HasNoted, Merges, absorbed, lowered, made, with_data, with_pending}
+use Rattle.slotted_model_analyses.specs.DataPart.{HasNoted, Merges, absorbed, lowered, made, with_data, with_pending}
 use Rattle.slotted_model_analyses.proofs.FiledAgain.{normal-classes}
 use Rattle.slotted_model_analyses.proofs.Heights.{with_data-here, with_data-other}
-use Rattle.slotted_store.specs.Kept.{Kept, node_at, nodes_of, entries_of}
+use Rattle.slotted_store.specs.Kept.{Kept, nodes_of, entries_of}
 use Rattle.slotted_store.proofs.KeptLists.{length-nodes_of}
-use Rattle.slotted_filing.specs.Filed.{Filing, filed_of}
+use Rattle.slotted_filing.specs.Filed.{filed_of}
 use Rattle.slotted_filing.specs.FiledRows.{IsFiled, Rows, key_children, row_of_entry, rows_in, HasChildrenBelow}
 use Rattle.slotted_filing.proofs.CanonicalChildren.{node-is}
 use Rattle.slotted_filing.proofs.FiledRows.{row-children, row-filed, source-filed, sources-different}
 use Rattle.slotted_rebuilding.specs.Filed.{state_in}
-use Rattle.slotted_bare_nodes.specs.BareNodes.{bare, bare_node}
+use Rattle.slotted_bare_nodes.specs.BareNodes.{bare_node}
 use Rattle.slotted_bare_nodes.proofs.Alike.{bare-shape}
 use Rattle.slotted_analyses.specs.Meaning.{Meaning, by_bare_nodes}
-use Rattle.slotted_data.specs.Held.{Held, HasValue, users_of}
+use Rattle.slotted_data.specs.Held.{Held, users_of}
 use Rattle.slotted_data.specs.Made.{data_in, children_at, child_values, source_class}
 use Rattle.slotted_data.specs.Users.{WaitEach, found_in}
-use Rattle.slotted_data.specs.Lowering.{quiet, part_of, Puts, PutsOther, Lowers, HasUsers, IsReady, SameUsers, MakesValue, TakesValue}
+use Rattle.slotted_data.specs.Lowering.{quiet, part_of, Puts, Lowers, HasUsers, SameUsers, MakesValue, TakesValue}
 use Rattle.slotted_data.proofs.NewData.{children-older, map-same, notes-once, notes-there, notes-kept, notes-from}
 
 -- data of height 0 absorbs everything

@@ -7,15 +7,14 @@
 --     IsReady k s d        there is data for each class of a graph at rest, and all its users are known
 --     TakesValue a k o ..  what the filed node of o makes is merged into the data of its class
 --     RisesTo a k ..       a run of turns for data alone leads to where nothing waits
-use Rattle.std.specs.Prelude.{◌≡◌, ◌⊎◌, ◌<◌, ℕ, suc, ◌+◌, ◌*◌, List, [], ◌∷◌, length, map, Some, None, Option, Contains, slice_get}
+use Rattle.std.specs.Prelude.{◌≡◌, ◌⊎◌, ◌<◌, ℕ, List, [], length, map, Some, Option, Contains, slice_get}
 use Rattle.slotted_nodes.specs.Form.{Form}
-use Rattle.slotted_model.specs.Correspondence.{AllDifferent}
 use Rattle.slotted_model.specs.Rest.{AtRest}
-use Rattle.slotted_model.specs.State.{Row, State}
+use Rattle.slotted_model.specs.State.{Row}
 use Rattle.slotted_model_analyses.specs.Analysis.{Analysis}
-use Rattle.slotted_model_analyses.specs.DataPart.{DataPart, HasData, Merges, RunsWithData, made, size_with_data}
+use Rattle.slotted_model_analyses.specs.DataPart.{DataPart, Merges, RunsWithData, made}
 use Rattle.slotted_store.specs.Kept.{Kept}
-use Rattle.slotted_filing.specs.Filed.{Filing, filed_of}
+use Rattle.slotted_filing.specs.Filed.{Filing}
 use Rattle.slotted_filing.specs.FiledRows.{Rows, rows_in}
 use Rattle.slotted_rebuilding.specs.Filed.{state_in}
 use Rattle.slotted_bare_nodes.specs.BareNodes.{bare_node}

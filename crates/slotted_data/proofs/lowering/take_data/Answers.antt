@@ -1,4 +1,4 @@
-use Rattle.std.proofs.Common.{◌≡◌, None, Some, sym, subst, rules}
+use Rattle.std.proofs.Common.{◌≡◌, None, subst, rules}
 use Rattle.std.specs.Prelude.{IfNone, IfSome}
 use Rattle.slotted_model_analyses.specs.Analysis.{IsMerge}
 use Rattle.slotted_filing.specs.Filed.{filed_of}

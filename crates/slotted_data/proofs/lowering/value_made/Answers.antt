@@ -1,5 +1,4 @@
-use Rattle.std.proofs.Common.{◌≡◌, ◌<◌, length, Some, sym, subst}
-use Rattle.slotted_filing.specs.Filed.{filed_of}
+use Rattle.std.proofs.Common.{sym, subst}
 use Rattle.slotted_filing.specs.FiledRows.{HasChildrenBelow}
 use Rattle.slotted_data.proofs.TakenData.{key-within}
 use Rattle.slotted_data.proofs.lowering.value_made.Goals as goal
