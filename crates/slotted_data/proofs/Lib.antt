@@ -2,3 +2,4 @@ pub mod NewData
 pub mod Entering
 pub mod TakenData
 pub mod Rising
+pub mod Buried

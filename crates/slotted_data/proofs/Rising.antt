@@ -50,6 +50,7 @@ pub users-same : {D : Type 0} (k : Kept) (n : ℕ) (d e : Held D) → e.users �
 users-same k n d e same has = record {
   cover = λ o c l there. subst (λ us. Contains (slice_index_or us (found_in k c) []) o) (sym same) (has.cover o c l there);
   only = λ c o there. has.only c o (subst (λ us. Contains (slice_index_or us c []) o) same there);
+  within = λ c o there. has.within c o (subst (λ us. Contains (slice_index_or us c []) o) same there);
 }
 
 -- where the same is filed, and the same are users, all is ready still

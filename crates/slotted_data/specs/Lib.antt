@@ -3,3 +3,4 @@ pub mod Held
 pub mod Made
 pub mod Users
 pub mod Lowering
+pub mod Burying

@@ -48,6 +48,7 @@ Lowers {D} a c v s t d e = (y : D) × (slice_get d.values c ≡ Some y) × Puts 
 pub record HasUsers {D : Type 0} (k : Kept) (n : ℕ) (d : Held D) : Type 0 where
   pub cover : (o c : ℕ) → o < n → Contains (children_at k o) c → Contains (users_of d (found_in k c)) o
   pub only : (c o : ℕ) → Contains (users_of d c) o → (o < length k.classes) × Contains (map (found_in k) (children_at k o)) (found_in k c)
+  pub within : (c o : ℕ) → Contains (users_of d c) o → c < length k.classes
 
 pub record IsReady {D : Type 0} (k : Kept) (s : Rows) (d : Held D) : Type 0 where
   pub rest : AtRest (state_in k (quiet s))

@@ -2,6 +2,7 @@
 //! that died is merged into that of the class that it finds, and from there values go upwards, until nothing changes.
 #![tactic(auto)]
 
+pub(crate) mod burying;
 pub mod class_data;
 pub(crate) mod lowering;
 pub(crate) mod making;
