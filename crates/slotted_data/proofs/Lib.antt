@@ -3,3 +3,4 @@ pub mod Entering
 pub mod TakenData
 pub mod Rising
 pub mod Buried
+pub mod GoingAlong

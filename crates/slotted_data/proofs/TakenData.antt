@@ -73,7 +73,7 @@ module _ (k : Kept) (s : Rows) (rest : AtRest (state_in k (quiet s))) where
       let l : c < length (nodes_of k) = omega (arith, within, e) in
       find_class-live (nodes_of k) (entries_of k) led (found_in k c) (found-in_range (nodes_of k) (entries_of k) led c l) (found-live (nodes_of k) (entries_of k) led c l)
 
-  row-source : (r : Row) → Contains (rows_in s.filed) r → IsFiled s.filed r.source
+  pub row-source : (r : Row) → Contains (rows_in s.filed) r → IsFiled s.filed r.source
   row-source r there = (source-filed s.filed r.source).0 (Contains-map (λ (q : Row). q.source) (rows_in s.filed) r there)
 
   module _ {D : Type 0} (d : Held D) (users : HasUsers k (length k.classes) d) where

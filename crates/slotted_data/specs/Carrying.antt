@@ -1,8 +1,77 @@
--- Carrying data along.
---     MayRefuse refuses e   a growth was refused, or the analysis refused
-use Rattle.std.specs.Prelude.{◌⊎◌}
+-- Carrying data along, from one graph at rest to a later one.
+--     DataRests a k r d         the graph is at rest with data d for all of its classes
+--     RestedBefore a k r l q d  the older graph rested with d, and the newer one goes on from it
+--     Carried a k r l q d e     the newer one is at rest with e, which went down from d; what was made or has changed waits to be modified
+--     CarriesUp a l q t d e     the steps: users are entered, the dead are buried, and what nodes make goes upwards
+--     MergesInData a k q ..     a value is merged into the data of a class, and goes upwards
+--     MayRefuse refuses e       a growth was refused, or the analysis refused
+use Rattle.std.specs.Prelude.{◌≡◌, ◌⊎◌, ◌<◌, ℕ, List, [], ◌++◌, length, drop, false, IsTrue}
 use Rattle.slotted_slots.specs.Error.{IsOutOfMemory}
 use Rattle.slotted_slots.specs.declared.error.Error.{Error}
+use Rattle.slotted_model.specs.Changes.{GoesOn}
+use Rattle.slotted_model.specs.Rest.{AtRest}
+use Rattle.slotted_model_analyses.specs.Analysis.{Analysis, Absorbs}
+use Rattle.slotted_model_analyses.specs.DataPart.{DataGoesDown, HasData}
+use Rattle.slotted_model_analyses.specs.DataWrites.{HasNotedAll}
+use Rattle.slotted_store.specs.Kept.{Kept, ListsDead, entries_of}
+use Rattle.slotted_filing.specs.FiledRows.{Rows}
+use Rattle.slotted_rebuilding.specs.Filed.{state_in}
+use Rattle.slotted_data.specs.Held.{Held}
+use Rattle.slotted_analyses.specs.Meaning.{Meaning, by_bare_nodes}
+use Rattle.slotted_data.specs.Made.{AddsNew, data_in}
+use Rattle.slotted_data.specs.Users.{EntersUsers, found_in}
+use Rattle.slotted_data.specs.Lowering.{HasUsers, RisesTo, part_of}
+use Rattle.slotted_data.specs.Burying.{Buries}
+
+-- at rest there is data for each class, and merging what a filed node makes changes nothing; x stands where there is no class
+pub record DataRests {D : Type 0} (a : Analysis D) (k : Kept) (r : Rows) (d : Held D) : Type 0 where
+  pub rest : AtRest (state_in k r)
+  pub count : length d.values ≡ length k.classes
+  pub has : (x : D) → HasData a (state_in k r) (part_of x d [])
+  -- all classes are among the users of what their children find, or none is, and then all data has height 0
+  pub users : HasUsers k d.entered d
+  pub all : IsTrue d.tall → d.entered ≡ length k.classes
+  pub low : d.tall ≡ false → (d.entered ≡ 0) × ((i : ℕ) → i < length k.classes → (x : D) → a.height (data_in x d.values i) ≡ 0)
+  -- each death has been carried
+  pub carried : d.carried ≡ length k.deaths
+  pub dead : ListsDead k.deaths (entries_of k)
+
+-- the graph of k and r was at rest with this data, and that of l and q goes on from it
+pub record RestedBefore {D : Type 0} (a : Analysis D) (k : Kept) (r : Rows) (l : Kept) (q : Rows) (d : Held D) : Type 0 where
+  pub rested : DataRests a k r d
+  pub goes_on : GoesOn (state_in k r) (state_in l q)
+  pub more : List ℕ
+  pub deaths : l.deaths ≡ k.deaths ++ more
+
+-- some graph was
+abbrev pub RestedOnce : {D : Type 0} → Analysis D → Kept → Rows → Held D → Type 0
+RestedOnce a l q d = (k : Kept) × (r : Rows) × RestedBefore a k r l q d
+
+-- the data e of the newer graph is that of rest again; it only went down from d; and what was made, or has changed, waits to be modified
+pub record Carried {D : Type 0} (a : Analysis D) (k : Kept) (r : Rows) (l : Kept) (q : Rows) (d e : Held D) : Type 0 where
+  pub rests : DataRests a l q e
+  pub down : (x : D) → DataGoesDown a (state_in k r) (part_of x d []) (state_in l q) (part_of x e [])
+  pub noted : (x : D) → HasNotedAll (state_in k r) (part_of x d []) (state_in l q) (part_of x e [])
+
+-- and since then each class that was made has got data
+pub record HasNewData {D : Type 0} (meaning : Meaning D) (l : Kept) (q : Rows) (e : Held D) : Type 0 where
+  pub kept : Kept
+  pub rows : Rows
+  pub held : Held D
+  pub before : RestedBefore (by_bare_nodes meaning) kept rows l q held
+  pub new : AddsNew meaning l held e
+  pub count : length e.values ≡ length l.classes
+
+-- all classes are entered among the users of what their children find, the classes that died go to what they find, and values go upwards
+pub record CarriesUp {D : Type 0} (a : Analysis D) (l : Kept) (q t : Rows) (d f : Held D) : Type 0 where
+  pub entered_rows : Rows
+  pub entered_data : Held D
+  pub enters : EntersUsers l d.entered (length l.classes) q entered_rows d entered_data
+  pub entered : entered_data.entered ≡ length l.classes
+  pub buried_rows : Rows
+  pub buried_data : Held D
+  pub buries : Buries a l (drop d.carried l.deaths) entered_rows buried_rows entered_data buried_data
+  pub rises : RisesTo a l buried_rows t buried_data f
 
 -- a growth was refused, or the analysis refused
 abbrev pub MayRefuse : (Error → Type 0) → Error → Type 0

@@ -1,6 +1,6 @@
-pub mod Carrying
 pub mod Held
 pub mod Made
 pub mod Users
 pub mod Lowering
 pub mod Burying
+pub mod Carrying

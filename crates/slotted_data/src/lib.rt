@@ -3,9 +3,11 @@
 #![tactic(auto)]
 
 pub(crate) mod burying;
+pub mod carrying;
 pub mod class_data;
 pub(crate) mod lowering;
 pub(crate) mod making;
 pub(crate) mod users;
 
+pub use carrying::carry;
 pub use class_data::ClassData;

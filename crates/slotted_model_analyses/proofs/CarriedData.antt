@@ -33,7 +33,7 @@ map-same f k (x ∷ xs) h = λ i. h x (contains_head x xs) i ∷ map-same f k xs
 
 module _ {D : Type 0} (P : DTerm → Type 0) (a : Analysis D) (law : IsMerge D a) (alike : MakesAlike P D a) (closed : (d e : DTerm) → AreAlike d e → P e → P d) where
   -- what a row makes is what the canonical node of its source makes
-  row-made : (h : State) → AtRest h → ((r : Row) → Contains h.rows r → P r.shape) → (t : DataPart D) → (r : Row) → Contains h.rows r →
+  pub row-made : (h : State) → AtRest h → ((r : Row) → Contains h.rows r → P r.shape) → (t : DataPart D) → (r : Row) → Contains h.rows r →
       made a t r.shape ≡ a.make (canonical_node h.nodes r.source) (map (λ k. t.data_of (find_class h.found k)) (child_classes (canonical_node h.nodes r.source).args))
   row-made h rest known t r there =
       let c : DTerm = canonical_node h.nodes r.source in

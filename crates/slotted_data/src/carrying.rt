@@ -1,0 +1,71 @@
+//! Data is carried along after a graph has come to rest, and values are merged into it.
+ghost use Rattle.std.specs.Prelude.{◌≡◌, ℕ, IfErr, OnOk};
+ghost use Rattle.slotted_model.specs.Rest.{AtRest};
+ghost use Rattle.slotted_store.specs.Finding.{HasFinds};
+ghost use Rattle.slotted_store.specs.Kept.{Kept};
+ghost use Rattle.slotted_filing.specs.FiledRows.{Rows};
+ghost use Rattle.slotted_rebuilding.specs.Filed.{state_in};
+ghost use Rattle.slotted_analyses.specs.Meaning.{by_bare_nodes};
+ghost use Rattle.slotted_data.specs.Carrying.{Carried, CarriesUp, HasNewData, MayRefuse, RestedBefore, RestedOnce};
+
+use crate::burying::bury;
+use crate::class_data::ClassData;
+use crate::lowering::rise;
+use crate::making::add_new;
+use crate::users::enter_users;
+use slotted_analyses::Analysis;
+use slotted_filing::Hashcons;
+use slotted_languages::Language;
+use slotted_slots::Error;
+use slotted_store::Store;
+use std::alloc::Global;
+
+// New classes have data. What the dead had goes to what they find, and values go upwards.
+fn carry_up<L: Language, N: Analysis<L>>(
+    store: &Store<L>,
+    nodes: &mut Hashcons<L>,
+    data: &mut ClassData<N::Data>,
+    analysis: &N,
+    alloc: Global,
+) -> Result<(), Error>
+    requires good { HasFinds store.now }
+    requires rests { AtRest (state_in store.now nodes.old) }
+    requires new { HasNewData (N.meaning analysis.now) store.now nodes.old «data».old }
+    ensures ok { OnOk result
+        (CarriesUp (by_bare_nodes (N.meaning analysis.now)) store.now nodes.old nodes.new «data».old «data».new) }
+    ensures err { IfErr result (MayRefuse N.refuses) }
+{
+    enter_users(store, nodes, data)?;
+    bury(store, nodes, data, analysis, alloc, &store.deaths()[data.carried()..])?;
+    rise(store, nodes, data, analysis, alloc)?;
+    Ok(())
+}
+
+/// The data of all classes comes to rest again, after the graph has.
+///
+/// A graph was at rest with the data before, and the one that is there goes on from it: whatever was done between the two, new classes get
+/// what their nodes make, the data of each class that died is merged into that of the class that it finds, and from there values go upwards.
+/// As long as all data has height 0, no death and no user is looked at.
+pub fn carry<L: Language, N: Analysis<L>>(
+    store: &Store<L>,
+    nodes: &mut Hashcons<L>,
+    data: &mut ClassData<N::Data>,
+    analysis: &N,
+    alloc: Global,
+) -> Result<(), Error>
+    requires good { HasFinds store.now }
+    requires rests { AtRest (state_in store.now nodes.old) }
+    requires since { RestedOnce (by_bare_nodes (N.meaning analysis.now)) store.now nodes.old «data».old }
+    ensures same { OnOk result (nodes.new ≡ nodes.old) }
+    ensures carried { OnOk result ((k : Kept) (r : Rows)
+        → RestedBefore (by_bare_nodes (N.meaning analysis.now)) k r store.now nodes.old «data».old
+        → Carried (by_bare_nodes (N.meaning analysis.now)) k r store.now nodes.old «data».old «data».new) }
+    ensures err { IfErr result (MayRefuse N.refuses) }
+{
+    add_new(store, data, analysis, alloc)?;
+    if data.is_tall() {
+        carry_up(store, nodes, data, analysis, alloc)?;
+    }
+    data.set_carried(store.deaths().len());
+    Ok(())
+}
