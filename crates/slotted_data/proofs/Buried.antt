@@ -1,6 +1,6 @@
 -- Classes that died go to what they find, one after another.
-use Rattle.std.proofs.Common.{◌≡◌, ◌≢◌, ◌<◌, ℕ, zero, suc, List, [], ◌∷◌, ◌++◌, length, Some, sym, ◌∙◌, ap, refl, subst, inl, inr, arith}
-use Rattle.std.specs.Prelude.{◌⊎◌, Contains, set, slice_get, slice_index_or}
+use Rattle.std.proofs.Common.{◌≡◌, ◌≢◌, ◌<◌, ℕ, zero, suc, List, [], ◌∷◌, ◌++◌, length, sym, ◌∙◌, ap, refl, subst, inl, inr, arith}
+use Rattle.std.specs.Prelude.{◌⊎◌, Contains, set, slice_index_or}
 use Rattle.std.proofs.lemmas.Bool.{cases_eq}
 use Rattle.std.proofs.lemmas.List.{get_or-set_same, get_or-set_other, length-set}
 use Rattle.std.proofs.lemmas.List.Elements.{Contains-append_left}
@@ -14,8 +14,7 @@ use Rattle.slotted_store.specs.Kept.{Kept, entries_of}
 use Rattle.slotted_filing.specs.FiledRows.{IsFiled, Rows}
 use Rattle.slotted_data.specs.Held.{Held, users_of, with_user, with_users_taken}
 use Rattle.slotted_data.specs.Made.{data_in}
-use Rattle.slotted_data.specs.Users.{SameValues, WaitEach, WaitsFiled, found_in}
-use Rattle.slotted_data.specs.Lowering.{Puts, PutsOther}
+use Rattle.slotted_data.specs.Users.{SameValues, WaitsFiled, found_in}
 use Rattle.slotted_data.specs.Burying.{MovesUsers, WaitsOr, HasTheSame, BuriesOne, FollowsUser, Buries}
 use Rattle.slotted_data.proofs.NewData.{notes-once, notes-there, notes-kept, notes-from}
 use Rattle.slotted_data.proofs.Entering.{end-cases, end-there, user-kept, user-there, user-only, waits-same, waits-then}
@@ -270,6 +269,7 @@ module _ {D : Type 0} (a : Analysis D) (law : IsMerge D a) (k : Kept) where
           | inl p ↦ ap (λ (q : Held D). length q.values) p.2
           | inr p ↦ ap length p.value.values ∙ length-set e.values h w
         ]
+
         changed-kept : (i : ℕ) → Contains e.changed i → Contains f.changed i
         changed-kept i y = subst (λ xs. Contains xs i) (sym one.moves.same.changed) (elim one.puts [
           | inl p ↦ subst (λ (q : Held D). Contains q.changed i) (sym p.2) y

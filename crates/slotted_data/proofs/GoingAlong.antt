@@ -1,6 +1,6 @@
 -- What was known of data when the older graph was at rest, and what has been done since, is what the model asks of data that is carried along.
-use Rattle.std.proofs.Common.{◌≡◌, ◌≢◌, ◌<◌, ◌≤◌, ℕ, suc, List, [], ◌∷◌, ◌++◌, length, map, drop, take, ◌-◌, true, false, cond, Option, sym, ◌∙◌, ap, refl, subst, inl, inr, arith}
-use Rattle.std.specs.Prelude.{◌⊎◌, Contains, IsTrue, slice_index_or, nat_lt}
+use Rattle.std.proofs.Common.{◌≡◌, ◌<◌, ◌≤◌, ℕ, List, [], ◌∷◌, ◌++◌, length, map, drop, take, ◌-◌, true, false, cond, Option, sym, ◌∙◌, ap, refl, subst, inl, inr, arith}
+use Rattle.std.specs.Prelude.{◌⊎◌, Contains}
 use Rattle.std.proofs.lemmas.Bool.{cases_eq, cases_lt, lt-ltb}
 use Rattle.std.proofs.lemmas.List.{length-drop, take-append-drop, take_all}
 use Rattle.std.proofs.lemmas.List.Elements.{Contains-append_cases, Contains-append_right}
@@ -8,16 +8,15 @@ use Rattle.std.proofs.Math.ListN.{get_or-append}
 use Rattle.slotted_theory.specs.Nameless.{DTerm}
 use Rattle.slotted_theory.proofs.Lists.{Contains-nil, Contains-map, Contains-of_map}
 use Rattle.slotted_languages.specs.NodeTerm.{nameless_node}
-use Rattle.slotted_model.specs.Classes.{canonical_node}
 use Rattle.slotted_model.specs.Changes.{GoesOn}
 use Rattle.slotted_model.specs.Correspondence.{AllDifferent, identity}
-use Rattle.slotted_model.specs.Find.{IsLive, entry_at, find_class, used_slots}
+use Rattle.slotted_model.specs.Find.{IsLive, entry_at, used_slots}
 use Rattle.slotted_model.specs.Rest.{AtRest}
 use Rattle.slotted_model.specs.State.{Row, State, child_classes, sources}
 use Rattle.slotted_model.proofs.Finding.{Leads, leads, find_class-live, found-live, found-in_range}
 use Rattle.slotted_model.proofs.GoingOn.{used-valid}
 use Rattle.slotted_model_analyses.specs.Analysis.{Analysis, IsMerge, Absorbs}
-use Rattle.slotted_model_analyses.specs.DataPart.{DataPart, HasData, DataGoesDown, RestsWithData, RunsWithData, made}
+use Rattle.slotted_model_analyses.specs.DataPart.{HasData, DataGoesDown, RestsWithData, RunsWithData, made}
 use Rattle.slotted_model_analyses.specs.DataWrites.{HasNotedAll}
 use Rattle.slotted_model_analyses.specs.Carried.{CarriesTo, GoesAlong}
 use Rattle.slotted_model_analyses.proofs.Absorbing.{absorbs-both}
@@ -32,14 +31,14 @@ use Rattle.slotted_rebuilding.specs.Filed.{state_in}
 use Rattle.slotted_analyses.specs.Meaning.{Meaning, by_bare_nodes}
 use Rattle.slotted_analyses.proofs.Merging.{makes-alike}
 use Rattle.slotted_data.specs.Held.{Held, users_of, with_carried}
-use Rattle.slotted_data.specs.Made.{data_in, children_at, source_class, made_in, AddsNew}
+use Rattle.slotted_data.specs.Made.{data_in, children_at, source_class, AddsNew}
 use Rattle.slotted_data.specs.Users.{EntersUsers, found_in}
 use Rattle.slotted_data.specs.Lowering.{HasUsers, IsReady, RisesTo, part_of, quiet}
 use Rattle.slotted_data.specs.Burying.{Buries}
-use Rattle.slotted_data.specs.Carrying.{DataRests, RestedBefore, Carried, CarriesUp}
+use Rattle.slotted_data.specs.Carrying.{RestedBefore, Carried, CarriesUp}
 use Rattle.slotted_data.proofs.NewData.{children-older, map-same}
 use Rattle.slotted_data.proofs.Rising.{users-same}
-use Rattle.slotted_data.proofs.TakenData.{zero-absorbs, row-within, row-source, row-found}
+use Rattle.slotted_data.proofs.TakenData.{zero-absorbs, row-within, row-source}
 
 -- data of height 0 is all the same
 pub low-same : {D : Type 0} (a : Analysis D) → IsMerge D a → (x y : D) → a.height x ≡ 0 → a.height y ≡ 0 → x ≡ y
@@ -421,8 +420,11 @@ module _ {D : Type 0} (meaning : Meaning D) (law : IsMerge D (by_bare_nodes mean
             let filed : IsFiled v w.source = row-source l q rest w there in
             elim (cases_lt w.source (length k.classes)) [
               | inr past ↦ inl (new-absorbs x w there past n)
-              | inl old ↦ inr (out_of_older w.source old, λ ch child.
-                  old-sees x w.source ch h old (subst (λ cs. Contains cs ch) (sym (later-children w.source old)) (subst (λ (z : DTerm). Contains (child_classes z.args) ch) (sym (node-is k w.source old)) child)) filed n)
+              | inl old ↦ inr (
+                out_of_older w.source old,
+                λ ch child.
+                    old-sees x w.source ch h old (subst (λ cs. Contains cs ch) (sym (later-children w.source old)) (subst (λ (z : DTerm). Contains (child_classes z.args) ch) (sym (node-is k w.source old)) child)) filed n,
+              )
             ];
       }
 

@@ -4,3 +4,4 @@ pub mod TakenData
 pub mod Rising
 pub mod Buried
 pub mod GoingAlong
+pub mod MergedValues

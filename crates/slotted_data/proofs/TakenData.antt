@@ -172,7 +172,7 @@ module _ (k : Kept) (s : Rows) (rest : AtRest (state_in k (quiet s))) where
     same-itself : SameUsers d d
     same-itself = record { count = refl; users = refl; entered = refl; carried = refl; tall = refl }
 
-    puts-same : (c : ℕ) (v : D) (t : Rows) (e : Held D) → Puts c v s t d e → SameUsers d e × (t.filed ≡ s.filed)
+    pub puts-same : (c : ℕ) (v : D) (t : Rows) (e : Held D) → Puts c v s t d e → SameUsers d e × (t.filed ≡ s.filed)
     puts-same c v t e (inl h) = (subst (SameUsers d) (sym h.2) same-itself, ap (λ (q : Rows). q.filed) h.1)
     puts-same c v t e (inr o) = (
       record { count = ap length o.value.values ∙ length-set d.values c v; users = o.value.users; entered = o.value.entered; carried = o.value.carried; tall = o.value.tall },

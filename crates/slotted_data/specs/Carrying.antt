@@ -3,7 +3,7 @@
 --     RestedBefore a k r l q d  the older graph rested with d, and the newer one goes on from it
 --     Carried a k r l q d e     the newer one is at rest with e, which went down from d; what was made or has changed waits to be modified
 --     CarriesUp a l q t d e     the steps: users are entered, the dead are buried, and what nodes make goes upwards
---     MergesInData a k q ..     a value is merged into the data of a class, and goes upwards
+--     MergesIn a k q i v d e    v is merged into the data of the class that i finds, and goes upwards
 --     MayRefuse refuses e       a growth was refused, or the analysis refused
 use Rattle.std.specs.Prelude.{◌≡◌, ◌⊎◌, ◌<◌, ℕ, List, [], ◌++◌, length, drop, false, IsTrue}
 use Rattle.slotted_slots.specs.Error.{IsOutOfMemory}
@@ -11,8 +11,8 @@ use Rattle.slotted_slots.specs.declared.error.Error.{Error}
 use Rattle.slotted_model.specs.Changes.{GoesOn}
 use Rattle.slotted_model.specs.Rest.{AtRest}
 use Rattle.slotted_model_analyses.specs.Analysis.{Analysis, Absorbs}
-use Rattle.slotted_model_analyses.specs.DataPart.{DataGoesDown, HasData}
-use Rattle.slotted_model_analyses.specs.DataWrites.{HasNotedAll}
+use Rattle.slotted_model_analyses.specs.DataPart.{DataGoesDown, GoesDown, HasData}
+use Rattle.slotted_model_analyses.specs.DataWrites.{HasNotedAll, MergesInto}
 use Rattle.slotted_store.specs.Kept.{Kept, ListsDead, entries_of}
 use Rattle.slotted_filing.specs.FiledRows.{Rows}
 use Rattle.slotted_rebuilding.specs.Filed.{state_in}
@@ -76,3 +76,11 @@ pub record CarriesUp {D : Type 0} (a : Analysis D) (l : Kept) (q t : Rows) (d f 
 -- a growth was refused, or the analysis refused
 abbrev pub MayRefuse : (Error → Type 0) → Error → Type 0
 MayRefuse refuses e = IsOutOfMemory e ⊎ refuses e
+
+-- v is merged into the data of the class that i finds, and values go upwards; the graph is at rest with what is there then
+pub record MergesIn {D : Type 0} (a : Analysis D) (k : Kept) (q : Rows) (i : ℕ) (v : D) (d e : Held D) : Type 0 where
+  pub rests : DataRests a k q e
+  pub merges : (x : D) → MergesInto a (state_in k q) (part_of x d []) i v (state_in k q) (part_of x e [])
+  -- merging it again changes nothing
+  pub absorbs : (x : D) → Absorbs a (data_in x e.values (found_in k i)) v
+  pub down : (x : D) → GoesDown a (part_of x d []) (part_of x e [])

@@ -20,7 +20,12 @@ use slotted_store::Store;
 use std::alloc::Global;
 
 // The users of one class are users of another one from now on.
-fn move_users<D: Drop>(data: &mut ClassData<D>, alloc: Global, from: usize, to: usize) -> Result<(), Error>
+fn move_users<D: Drop>(
+    data: &mut ClassData<D>,
+    alloc: Global,
+    from: usize,
+    to: usize,
+) -> Result<(), Error>
     requires from { from < length «data».old.values }
     requires to { to < length «data».old.values }
     ensures ok { OnOk result (MovesUsers from to «data».old «data».new) }

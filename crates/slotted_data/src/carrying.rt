@@ -1,16 +1,17 @@
 //! Data is carried along after a graph has come to rest, and values are merged into it.
-ghost use Rattle.std.specs.Prelude.{◌≡◌, ℕ, IfErr, OnOk};
+ghost use Rattle.std.specs.Prelude.{◌≡◌, ◌<◌, ℕ, length, IfErr, OnOk};
 ghost use Rattle.slotted_model.specs.Rest.{AtRest};
 ghost use Rattle.slotted_store.specs.Finding.{HasFinds};
 ghost use Rattle.slotted_store.specs.Kept.{Kept};
 ghost use Rattle.slotted_filing.specs.FiledRows.{Rows};
 ghost use Rattle.slotted_rebuilding.specs.Filed.{state_in};
 ghost use Rattle.slotted_analyses.specs.Meaning.{by_bare_nodes};
-ghost use Rattle.slotted_data.specs.Carrying.{Carried, CarriesUp, HasNewData, MayRefuse, RestedBefore, RestedOnce};
+ghost use Rattle.slotted_data.specs.Carrying.{Carried, CarriesUp, DataRests, HasNewData, MayRefuse};
+ghost use Rattle.slotted_data.specs.Carrying.{MergesIn, RestedBefore, RestedOnce};
 
 use crate::burying::bury;
 use crate::class_data::ClassData;
-use crate::lowering::rise;
+use crate::lowering::{lower, rise};
 use crate::making::add_new;
 use crate::users::enter_users;
 use slotted_analyses::Analysis;
@@ -36,7 +37,14 @@ fn carry_up<L: Language, N: Analysis<L>>(
     ensures err { IfErr result (MayRefuse N.refuses) }
 {
     enter_users(store, nodes, data)?;
-    bury(store, nodes, data, analysis, alloc, &store.deaths()[data.carried()..])?;
+    bury(
+        store,
+        nodes,
+        data,
+        analysis,
+        alloc,
+        &store.deaths()[data.carried()..],
+    )?;
     rise(store, nodes, data, analysis, alloc)?;
     Ok(())
 }
@@ -67,5 +75,32 @@ pub fn carry<L: Language, N: Analysis<L>>(
         carry_up(store, nodes, data, analysis, alloc)?;
     }
     data.set_carried(store.deaths().len());
+    Ok(())
+}
+
+/// A value is merged into the data of the class that a class finds, and goes upwards. Data of height 0 absorbs everything.
+pub fn merge_value<L: Language, N: Analysis<L>>(
+    store: &Store<L>,
+    nodes: &mut Hashcons<L>,
+    data: &mut ClassData<N::Data>,
+    analysis: &N,
+    alloc: Global,
+    class: usize,
+    value: &N::Data,
+) -> Result<(), Error>
+    requires good { HasFinds store.now }
+    requires rests { DataRests (by_bare_nodes (N.meaning analysis.now)) store.now nodes.old «data».old }
+    requires within { class < length store.now.classes }
+    ensures same { OnOk result (nodes.new ≡ nodes.old) }
+    ensures merges { OnOk result
+        (MergesIn (by_bare_nodes (N.meaning analysis.now)) store.now nodes.old class value.now «data».old «data».new) }
+    ensures err { IfErr result (MayRefuse N.refuses) }
+{
+    if !data.is_tall() {
+        return Ok(());
+    }
+    let found = store.find_class(class);
+    lower(nodes, data, analysis, alloc, found, value)?;
+    rise(store, nodes, data, analysis, alloc)?;
     Ok(())
 }

@@ -9,5 +9,5 @@ pub(crate) mod lowering;
 pub(crate) mod making;
 pub(crate) mod users;
 
-pub use carrying::carry;
+pub use carrying::{carry, merge_value};
 pub use class_data::ClassData;

@@ -1,4 +1,4 @@
-use Rattle.std.proofs.Common.{◌≡◌, take}
+use Rattle.std.proofs.Common.{take}
 use Rattle.slotted_data.proofs.Buried.{MovesFirst}
 use Rattle.slotted_data.proofs.burying.move_users.Given as goal
 

@@ -3,7 +3,7 @@ use Rattle.slotted_model_analyses.specs.Analysis.{IsMerge}
 use Rattle.slotted_analyses.specs.Meaning.{by_bare_nodes}
 use Rattle.slotted_analyses.proofs.Merging.{merge-decided}
 use Rattle.slotted_data.specs.Held.{Held, with_carried}
-use Rattle.slotted_data.specs.Carrying.{Carried, CarriesUp}
+use Rattle.slotted_data.specs.Carrying.{Carried}
 use Rattle.slotted_data.proofs.GoingAlong.{since-low, since-tall}
 use Rattle.slotted_data.proofs.carrying.carry.Goals as goal
 use Rattle.slotted_data.proofs.carrying.carry.Goals.{then-is_tall+in_ok-carry_up, else-is_tall}

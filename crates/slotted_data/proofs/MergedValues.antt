@@ -1,0 +1,140 @@
+-- A value that is merged into the data of a class at rest, and what comes to rest again.
+use Rattle.std.proofs.Common.{◌≡◌, ◌<◌, ℕ, List, [], length, true, false, Option, sym, ◌∙◌, refl, subst, arith}
+use Rattle.slotted_model.specs.Find.{IsLive}
+use Rattle.slotted_model.specs.State.{State}
+use Rattle.slotted_model.proofs.Finding.{Leads, leads, found-live, found-in_range}
+use Rattle.slotted_model_analyses.specs.Analysis.{Analysis, IsMerge}
+use Rattle.slotted_model_analyses.specs.DataPart.{HasData, Merges, absorbed, RestsWithData, RunsWithData, starts}
+use Rattle.slotted_model_analyses.specs.DataWrites.{MergesInto, merges_into}
+use Rattle.slotted_model_analyses.proofs.Writing.{merge-has, merging}
+use Rattle.slotted_store.specs.Kept.{Kept, nodes_of, entries_of}
+use Rattle.slotted_store.proofs.KeptLists.{length-nodes_of}
+use Rattle.slotted_filing.specs.Filed.{Filing}
+use Rattle.slotted_filing.specs.FiledRows.{Rows}
+use Rattle.slotted_rebuilding.specs.Filed.{state_in}
+use Rattle.slotted_analyses.specs.Meaning.{Meaning, by_bare_nodes}
+use Rattle.slotted_data.specs.Held.{Held}
+use Rattle.slotted_data.specs.Made.{data_in}
+use Rattle.slotted_data.specs.Users.{found_in}
+use Rattle.slotted_data.specs.Lowering.{HasUsers, IsReady, Lowers, RisesTo, part_of, quiet}
+use Rattle.slotted_data.specs.Carrying.{DataRests, MergesIn}
+use Rattle.slotted_data.proofs.Rising.{ready-same, same-then, users-same}
+use Rattle.slotted_data.proofs.TakenData.{zero-absorbs, puts-merges, puts-same}
+
+module _ {D : Type 0} (meaning : Meaning D) (law : IsMerge D (by_bare_nodes meaning)) (k : Kept) (v : List (Option Filing)) (d : Held D)
+    (rests : DataRests (by_bare_nodes meaning) k (record { filed = v; waiting = [] }) d) (i : ℕ) (within : i < length k.classes) (w : D) where
+  abbrev q : Rows
+  q = record { filed = v; waiting = [] }
+
+  abbrev a : Analysis D
+  a = by_bare_nodes meaning
+
+  abbrev g : State
+  g = state_in k q
+
+  led : Leads (nodes_of k) (entries_of k)
+  led = leads (nodes_of k) (entries_of k) rests.rest.sane.sound.linked
+
+  in_nodes : i < length (nodes_of k)
+  in_nodes = let e = length-nodes_of k in omega (arith, within, e)
+
+  found-within : found_in k i < length k.classes
+  found-within = let e = length-nodes_of k in let f = found-in_range (nodes_of k) (entries_of k) led i in_nodes in omega (arith, f, e)
+
+  rested : (x : D) → RestsWithData a g (part_of x d [])
+  rested x = record { rest = rests.rest; has = rests.has x; nothing_waits = refl }
+
+  merged-in : (f : Held D) → DataRests a k q f → ((x : D) → MergesInto a g (part_of x d []) i w g (part_of x f [])) → MergesIn a k q i w d f
+  merged-in f after merges = record {
+    rests = after;
+    merges = merges;
+    absorbs = λ x. ((merging a law g (part_of x d []) (rested x) i in_nodes w).1 g (part_of x f []) (merges x)).2;
+    down = λ x. ((merging a law g (part_of x d []) (rested x) i in_nodes w).1 g (part_of x f []) (merges x)).3;
+  }
+
+  pub low-merges : d.tall ≡ false → MergesIn a k q i w d d
+  low-merges short = merged-in d rests (λ x.
+      let low : meaning.height (data_in x d.values (found_in k i)) ≡ 0 = (rests.low short).1 (found_in k i) found-within x in
+      merges_into (absorbed (zero-absorbs a law (data_in x d.values (found_in k i)) w low)) starts ((rests.rest.nothing_waits, rests.rest.aligned), refl))
+
+  module _ (is_tall : d.tall ≡ true) where
+    all_users : HasUsers k (length k.classes) d
+    all_users = subst (λ n. HasUsers k n d) (rests.all is_tall) rests.users
+
+    ready : IsReady k q d
+    ready = record { rest = rests.rest; count = rests.count; users = all_users }
+
+    module _ (c : ℕ) (class : c ≡ found_in k i) (t : Rows) (e : Held D) (lowers : Lowers meaning c w q t d e) where
+      live : IsLive (entries_of k) c
+      live = subst (IsLive (entries_of k)) (sym class) (found-live (nodes_of k) (entries_of k) led i in_nodes)
+
+      c_in : c < length k.classes
+      c_in = subst (λ j. j < length k.classes) (sym class) found-within
+
+      first : (x : D) → Merges a g (part_of x d []) c w (part_of x e t.waiting)
+      first x = puts-merges k q rests.rest d all_users a rests.count c live c_in tt (rests.has x).changed_once w lowers.0 lowers.1 t e lowers.2 x
+
+      pub lowered-ready : IsReady k t e
+      lowered-ready =
+          let same = puts-same k q rests.rest meaning d c (meaning.merge lowers.0 w) t e lowers.2 in
+          ready-same k q t d e same.1 same.0 ready
+
+      pub lowered-has : (x : D) → HasData a (state_in k (quiet t)) (part_of x e t.waiting)
+      lowered-has x =
+          let same = puts-same k q rests.rest meaning d c (meaning.merge lowers.0 w) t e lowers.2 in
+          let n = length-nodes_of k in
+          let l = c_in in
+          subst (λ z. HasData a (state_in k (record { filed = z; waiting = [] })) (part_of x e t.waiting)) (sym same.1)
+          (merge-has a law g (part_of x d []) (rests.has x) c (omega (arith, l, n)) w (part_of x e t.waiting) (first x))
+
+      pub risen-merges : (u : Rows) (f : Held D) → RisesTo a k t u e f → MergesIn a k q i w d f
+      risen-merges u f rises =
+          let puts = puts-same k q rests.rest meaning d c (meaning.merge lowers.0 w) t e lowers.2 in
+          let same = same-then d e f puts.0 rises.same in
+          let merges : (x : D) → MergesInto a g (part_of x d []) i w g (part_of x f []) =
+          λ x.
+          let r = rises.runs x in
+          let run : RunsWithData a g (part_of x e t.waiting) r.0 g (part_of x f []) =
+          subst (λ z. RunsWithData a (state_in k (record { filed = z; waiting = [] })) (part_of x e t.waiting) r.0 (state_in k (record { filed = z; waiting = [] })) (part_of x f [])) puts.1 r.1 in
+          merges_into (subst (λ j. Merges a g (part_of x d []) j w (part_of x e t.waiting)) class (first x)) run ((rests.rest.nothing_waits, rests.rest.aligned), refl) in
+          merged-in f (record {
+            rest = rests.rest;
+            count = same.count ∙ rests.count;
+            has = λ x. ((merging a law g (part_of x d []) (rested x) i in_nodes w).1 g (part_of x f []) (merges x)).1.has;
+            users = subst (λ n. HasUsers k n f) (sym same.entered) (users-same k d.entered d f same.users rests.users);
+            all = λ z. same.entered ∙ rests.all is_tall;
+            low = λ z. absurd (let y = same.tall ∙ is_tall in cc);
+            carried = same.carried ∙ rests.carried;
+            dead = rests.dead;
+          }) merges
+
+-- the same of a graph in which nothing waits
+module _ {D : Type 0} (meaning : Meaning D) (law : IsMerge D (by_bare_nodes meaning)) (k : Kept) (q : Rows) (d : Held D)
+    (rests : DataRests (by_bare_nodes meaning) k q d) (i : ℕ) (within : i < length k.classes) (w : D) where
+  abbrev still : Rows
+  still = record { filed = q.filed; waiting = [] }
+
+  still-is : q ≡ still
+  still-is = λ j. record { filed = q.filed; waiting = rests.rest.nothing_waits j }
+
+  rests-still : DataRests (by_bare_nodes meaning) k still d
+  rests-still = subst (λ (z : Rows). DataRests (by_bare_nodes meaning) k z d) still-is rests
+
+  back : (f : Held D) → MergesIn (by_bare_nodes meaning) k still i w d f → MergesIn (by_bare_nodes meaning) k q i w d f
+  back f m = subst (λ (z : Rows). MergesIn (by_bare_nodes meaning) k z i w d f) (sym still-is) m
+
+  pub at-low : d.tall ≡ false → MergesIn (by_bare_nodes meaning) k q i w d d
+  at-low short = back d (low-merges meaning law k q.filed d rests-still i within w short)
+
+  module _ (is_tall : d.tall ≡ true) (c : ℕ) (class : c ≡ found_in k i) (t : Rows) (e : Held D) (lowers : Lowers meaning c w q t d e) where
+    lowers-still : Lowers meaning c w still t d e
+    lowers-still = subst (λ (z : Rows). Lowers meaning c w z t d e) still-is lowers
+
+    pub at-ready : IsReady k t e
+    at-ready = lowered-ready meaning law k q.filed d rests-still i within w is_tall c class t e lowers-still
+
+    pub at-has : (x : D) → HasData (by_bare_nodes meaning) (state_in k (quiet t)) (part_of x e t.waiting)
+    at-has = lowered-has meaning law k q.filed d rests-still i within w is_tall c class t e lowers-still
+
+    pub at-rise : (u : Rows) (f : Held D) → RisesTo (by_bare_nodes meaning) k t u e f → MergesIn (by_bare_nodes meaning) k q i w d f
+    at-rise u f rises = back f (risen-merges meaning law k q.filed d rests-still i within w is_tall c class t e lowers-still u f rises)
