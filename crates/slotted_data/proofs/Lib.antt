@@ -5,3 +5,4 @@ pub mod Rising
 pub mod Buried
 pub mod GoingAlong
 pub mod MergedValues
+pub mod Resting

@@ -66,3 +66,7 @@ with_entered d n = record d { entered = n }
 
 abbrev pub with_carried : {D : Type 0} → Held D → ℕ → Held D
 with_carried d n = record d { carried = n }
+
+-- no class waits to be modified
+abbrev pub with_none_changed : {D : Type 0} → Held D → Held D
+with_none_changed d = record d { changed = [] }

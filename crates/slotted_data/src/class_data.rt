@@ -1,7 +1,7 @@
 //! The data of classes, and what has to be known to carry it along.
-ghost use Rattle.std.specs.Prelude.{◌≡◌, ◌<◌, ◌≤◌, ◌++◌, ◌∷◌, [], length, set, slice_get, slice_index_or, Some, IfErr, OnOk};
+ghost use Rattle.std.specs.Prelude.{◌≡◌, ◌<◌, ◌≤◌, ◌++◌, ◌∷◌, [], length, set, slice_get, slice_index_or, Some, IfOk, IfErr, OnOk};
 ghost use Rattle.slotted_slots.specs.Error.{IsOutOfMemory};
-ghost use Rattle.slotted_data.specs.Held.{HasNewValue, HasValue, no_values, users_of, with_user, with_users_taken, with_entered, with_carried};
+ghost use Rattle.slotted_data.specs.Held.{HasNewValue, HasValue, no_values, users_of, with_none_changed, with_user, with_users_taken, with_entered, with_carried};
 
 use slotted_filing::Worklist;
 use slotted_slots::Error;
@@ -68,6 +68,29 @@ impl<D: Drop> ClassData<D> {
         ensures { slice_get self.now.values class ≡ Some result.now }
     {
         &self.values[class]
+    }
+
+    /// How many classes wait to be modified, dead ones too.
+    pub fn changed_count(&self) -> usize
+        ensures { result ≡ length self.now.changed }
+    {
+        self.changed.len()
+    }
+
+    /// The class at a place among those that wait to be modified, in the order in which they came.
+    pub fn changed_at(&self, k: usize) -> Option<usize>
+        ensures { result ≡ slice_get self.now.changed k }
+    {
+        self.changed.get(k)
+    }
+
+    /// The classes that wait to be modified, in the order in which they came. None waits from now on.
+    pub fn take_changed(&mut self, alloc: Global) -> Result<Vec<usize>, Error>
+        ensures ok { IfOk result (λ v. v.items ≡ self.old.changed) }
+        ensures left { OnOk result (self.new ≡ with_none_changed self.old) }
+        ensures err { IfErr result IsOutOfMemory }
+    {
+        drain(alloc, &mut self.changed)
     }
 
     // Single writes, each said exactly.
@@ -159,4 +182,18 @@ impl<D: Drop> ClassData<D> {
     {
         self.tall
     }
+}
+
+// Those that wait, in the order in which they came. None waits from now on.
+fn drain(alloc: Global, waiting: &mut Worklist) -> Result<Vec<usize>, Error>
+    ensures ok { IfOk result (λ v. v.items ≡ waiting.old.queue) }
+    ensures left { OnOk result (waiting.new.queue ≡ []) }
+    ensures count { waiting.new.count ≡ waiting.old.count }
+    ensures err { IfErr result IsOutOfMemory }
+{
+    let mut taken = Vec::new(alloc);
+    while let Some(class) = waiting.pop() {
+        taken.push(class)?;
+    }
+    Ok(taken)
 }
