@@ -1,0 +1,26 @@
+-- The least size of a class's terms, which merging lowers.
+use Rattle.std.specs.Prelude.{◌≡◌, ◌≢◌, ℕ, suc, ◌-◌, ◌<◌, ◌^◌, min, sum}
+use Rattle.std.proofs.Common.{arith}
+use Rattle.slotted_analyses.specs.Meaning.{Meaning, IsMergeOf}
+
+abbrev pub largest : ℕ
+largest = 2 ^ 32 - 1
+
+-- a node has one node more than its children together; the smaller of two sizes is kept; and so often can it fall
+abbrev pub least_size : Meaning ℕ
+least_size = record { make = λ _ xs. min (suc (sum xs)) largest; merge = min; height = λ n. n }
+
+commutes : (x y : ℕ) → min x y ≡ min y x
+commutes x y = omega arith
+
+associates : (x y z : ℕ) → min (min x y) z ≡ min x (min y z)
+associates x y z = omega arith
+
+itself : (x : ℕ) → min x x ≡ x
+itself x = omega arith
+
+falls : (x y : ℕ) → min x y ≢ x → min x y < x
+falls x y n = omega arith
+
+pub least_size_merges : IsMergeOf least_size
+least_size_merges = record { commutative = commutes; associative = associates; idempotent = itself; lowers = falls }

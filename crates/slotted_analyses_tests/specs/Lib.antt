@@ -1,0 +1,3 @@
+pub mod LeastSize
+pub mod ConstFold
+pub mod FoldLaws
