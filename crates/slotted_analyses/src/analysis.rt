@@ -14,17 +14,18 @@ use std::alloc::Global;
 
 /// Data for the classes of a graph, and edits that are asked for it.
 ///
-/// What a node makes is merged into the data of its class. Merging is commutative, associative and idempotent, and a merge that
-/// changes data lowers its height: so the data of a class changes no more often than its height says. Of a node `make` may read
-/// the operator, the payloads, and which of its places have one name: what it makes is a function of what is left of the node
-/// without its names and its children, and of the data of its children.
+/// What a node makes is merged into the data of its class. Merging is commutative, associative and idempotent. A merge that changes data
+/// lowers its height, so the data of a class changes no more often than its height says.
+///
+/// Of a node `make` may read the operator, the payloads, and which of its places have one name: all that is left of the node without its names
+/// and its children. Beside that it reads the data of the children. So alike nodes make alike data.
 pub trait Analysis<L: Language>: Drop {
     ghost use Rattle.slotted_analyses.specs.declared.edit.Edit.{Edit};
 
     type Data: Eq + Clone + Drop;
 
-    // What a node makes, of what is left of it without its names and its children, where the operator is one more than the node's,
-    // and of the data of its children from the left; the merge of two data; and the height of data.
+    // What a node makes, the merge of two data, and the height of data. A node makes it of what is left of the node without its names and its
+    // children, where the operator is one more than the node's, and of the data of its children from the left.
     ghost meaning: { Self → Meaning Self.Data };
 
     // What may be asked for a class, by its data and its slots.

@@ -1,5 +1,5 @@
 -- Data at rest, for callers: the graph without classes, a graph in which nothing was done, and one that goes on.
-use Rattle.std.proofs.Common.{◌≡◌, ◌<◌, ℕ, List, [], ◌++◌, length, sym, refl, arith, append-nil}
+use Rattle.std.proofs.Common.{◌≡◌, ℕ, List, [], ◌++◌, sym, refl, arith, append-nil}
 use Rattle.slotted_theory.proofs.Lists.{Contains-nil}
 use Rattle.slotted_model.specs.Changes.{GoesOn}
 use Rattle.slotted_model.proofs.Asserting.{nothing-rests}

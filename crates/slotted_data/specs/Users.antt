@@ -49,6 +49,10 @@ pub record EntersChildren {D : Type 0} (k : Kept) (o : ℕ) (cs : List ℕ) (s t
   pub only : (c p : ℕ) → Contains (users_of e c) p → Contains (users_of d c) p ⊎ ((p ≡ o) × Contains (map (found_in k) cs) c)
   pub waits : (c : ℕ) → Contains cs c → IsOlderOrWaits k s t o c
 
+-- so it is of what each of its children finds
+abbrev pub EntersClass : {D : Type 0} → Kept → ℕ → Rows → Rows → Held D → Held D → Type 0
+EntersClass k o s t d e = EntersChildren k o (children_at k o) s t d e
+
 -- each class from n on, below m, is among the users of what its children find, and waits if one of these is not older
 pub record EntersUsers {D : Type 0} (k : Kept) (n m : ℕ) (s t : Rows) (d e : Held D) : Type 0 where
   pub same : SameValues d e

@@ -51,9 +51,9 @@ fn carry_up<L: Language, N: Analysis<L>>(
 
 /// The data of all classes comes to rest again, after the graph has.
 ///
-/// A graph was at rest with the data before, and the one that is there goes on from it: whatever was done between the two, new classes get
-/// what their nodes make, the data of each class that died is merged into that of the class that it finds, and from there values go upwards.
-/// As long as all data has height 0, no death and no user is looked at.
+/// A graph was at rest with the data before, and the one that is there goes on from it, whatever was done between the two. New classes get
+/// what their nodes make. What a class had that died is merged into the data of the class that it finds. From there values go upwards. As
+/// long as all data has height 0, no death and no user is looked at.
 pub fn carry<L: Language, N: Analysis<L>>(
     store: &Store<L>,
     nodes: &mut Hashcons<L>,

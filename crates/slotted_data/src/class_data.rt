@@ -9,9 +9,9 @@ use std::alloc::Global;
 use std::marker::Model;
 use std::mem;
 
-/// For each class its data, and the sources of nodes with a child that finds the class. Beside them how many classes are among the users of
-/// their children's classes, which classes wait to be modified, how many deaths have been carried, and whether some class had data of a
-/// height above 0 when it was made. After want of memory nothing is known of them.
+/// For each class its data, and the sources of nodes with a child that finds the class. Beside them stand what has to be known to carry data
+/// along: how many classes are among the users of their children's classes, and how many deaths have been carried. A flag tells whether some
+/// class had data of a height above 0 when it was made. Some classes wait to be modified. After want of memory nothing is known of all this.
 #[derive(Drop)]
 pub struct ClassData<D> {
     values: Vec<D>,

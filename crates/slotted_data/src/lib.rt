@@ -1,5 +1,7 @@
-//! The data of classes, which is carried along after a graph has come to rest: new classes get what their nodes make, the data of a class
-//! that died is merged into that of the class that it finds, and from there values go upwards, until nothing changes.
+//! The data of classes, and how it is carried along after a graph has come to rest.
+//!
+//! [`carry`] gives data to new classes, merges what the dead had into what they find, and lets values go upwards until nothing changes.
+//! [`merge_value`] does so for a value that a caller has.
 #![tactic(auto)]
 
 pub(crate) mod burying;

@@ -27,7 +27,7 @@ fn class_with_data<L: Language>(store: &Store<L>, count: usize, class: usize) ->
     if found < count { found } else { class }
 }
 
-// Copies of the data of the classes that the children of a node find, from the left. A class that was made later may have no data yet: then
+// Copies of the data of the classes that the children of a node find, from the left. A class that was made later may have no data yet. Then
 // the data of the child's own class is read.
 pub(crate) fn child_data<L: Language, N: Analysis<L>>(
     store: &Store<L>,

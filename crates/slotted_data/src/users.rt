@@ -4,8 +4,7 @@ ghost use Rattle.slotted_slots.specs.Error.{IsOutOfMemory};
 ghost use Rattle.slotted_model.specs.Classes.{Canonical};
 ghost use Rattle.slotted_store.specs.Finding.{HasFinds};
 ghost use Rattle.slotted_store.specs.Kept.{nodes_of};
-ghost use Rattle.slotted_data.specs.Made.{children_at};
-ghost use Rattle.slotted_data.specs.Users.{EntersChildren, EntersUsers, WaitEach};
+ghost use Rattle.slotted_data.specs.Users.{EntersClass, EntersUsers, WaitEach};
 
 use crate::class_data::ClassData;
 use slotted_filing::Hashcons;
@@ -48,7 +47,7 @@ fn enter_class<L: Language, D: Drop>(
     requires canonical { Canonical (nodes_of store.now) }
     requires within { class < length store.now.classes }
     requires count { length «data».old.values ≡ length store.now.classes }
-    ensures ok { OnOk result (EntersChildren store.now class (children_at store.now class) nodes.old nodes.new «data».old «data».new) }
+    ensures ok { OnOk result (EntersClass store.now class nodes.old nodes.new «data».old «data».new) }
     ensures err { IfErr result IsOutOfMemory }
 {
     let Ok(source) = u32::try_from(class) else {
