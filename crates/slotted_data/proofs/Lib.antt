@@ -6,3 +6,4 @@ pub mod Buried
 pub mod GoingAlong
 pub mod MergedValues
 pub mod Resting
+pub mod Telling

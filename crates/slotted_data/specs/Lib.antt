@@ -4,3 +4,4 @@ pub mod Users
 pub mod Lowering
 pub mod Burying
 pub mod Carrying
+pub mod Part

@@ -1,0 +1,43 @@
+-- What a graph has by its analysis, as callers see it, and what of it stands at rest.
+--     Part N D                     the analysis, the data of each class, and the classes that wait to be modified
+--     part_in n rounds d           these of what is kept
+--     HasDatum found vs i x        x is the data of the class that i finds
+--     AbsorbsMade a rows found vs  merging what a filed node makes into the data of its class changes nothing
+--     OnlyFalls a ..               the data of each class has only gone down
+--     NotesChanges ..              what was made, or whose data has changed, waits to be modified
+use Rattle.std.specs.Prelude.{◌≡◌, ◌<◌, ℕ, List, length, Some, map, Contains, slice_get}
+use Rattle.slotted_model.specs.Find.{Entry, find_class}
+use Rattle.slotted_model.specs.State.{Row, child_classes}
+use Rattle.slotted_model_analyses.specs.Analysis.{Analysis, Absorbs}
+use Rattle.slotted_data.specs.Held.{Held}
+use Rattle.slotted_data.specs.Made.{data_in}
+
+-- at most so many rounds of edits run in one write
+pub record Part (N D : Type 0) : Type 0 where
+  pub analysis : N
+  pub values : List D
+  pub changed : List ℕ
+  pub rounds : ℕ
+
+abbrev pub part_in : {N D : Type 0} → N → ℕ → Held D → Part N D
+part_in n rounds d = record { analysis = n; values = d.values; changed = d.changed; rounds = rounds }
+
+-- x is the data of the class that i finds
+abbrev pub HasDatum : {D : Type 0} → List Entry → List D → ℕ → D → Type 0
+HasDatum found values i x = slice_get values (find_class found i) ≡ Some x
+
+-- whatever stands for classes that there are not, merging what a filed node makes changes nothing
+abbrev pub AbsorbsMade : {D : Type 0} → Analysis D → List Row → List Entry → List D → Type 0
+AbsorbsMade {D} a rows found values =
+    (x : D) (r : Row) → Contains rows r →
+    Absorbs a (data_in x values (find_class found r.source)) (a.make r.shape (map (data_in x values) (child_classes r.shape.args)))
+
+-- what a class has now absorbs what it had
+abbrev pub OnlyFalls : {D : Type 0} → Analysis D → List Entry → List D → List Entry → List D → Type 0
+OnlyFalls {D} a before values after newer =
+    (i : ℕ) → i < length before → (x y : D) → HasDatum before values i x → HasDatum after newer i y → Absorbs a y x
+
+-- those that waited still do, and a class that does not wait was there and has what it had
+pub record NotesChanges {D : Type 0} (values : List D) (changed : List ℕ) (newer : List D) (later : List ℕ) : Type 0 where
+  pub kept : (i : ℕ) → Contains changed i → Contains later i
+  pub same : (i : ℕ) (y : D) → slice_get newer i ≡ Some y → ¬ Contains later i → slice_get values i ≡ Some y
