@@ -1,0 +1,73 @@
+-- Which terms handles stand for after another term was added, what is asserted then, and what an answered question says of them.
+use Rattle.std.proofs.Common.{◌≡◌, ◌∙◌, ◌++◌, ℕ, zero, suc, List, [], ◌∷◌, ap, subst, sym}
+use Rattle.std.specs.Prelude.{Bool, true, false, IfOk, OnOk, Result, Ok, Err, Option, None, Some, if◌then◌else◌, nat_eq, slice_get}
+use Rattle.slotted_slots.specs.Syntax.{Element}
+use Rattle.slotted_theory.specs.Term.{Term}
+use Rattle.slotted_nodes.specs.Form.{Form}
+use Rattle.slotted_model.proofs.Options.{None-Some, Some-same}
+use Rattle.slotted_core.specs.Image.{asserted_in}
+use Rattle.slotted_workspace.specs.Asked.{AddsTerm, ChangesGraph, OfBoth}
+use Rattle.slotted_workspace.specs.Spaces.{Space, term_at}
+use Rattle.slotted_workspace.specs.declared.handle.Handle.{Handle}
+use Rattle.slotted_workspace.specs.declared.running.Limits.{Limits}
+use Rattle.slotted_uses.specs.Questions.{AddsBoth, AnswersQuestion, HasRulesRun, Judges}
+use Rattle.slotted_uses.specs.declared.question.Verdict.{Verdict}
+
+get-first : {A : Type 0} (xs ys : List A) (i : ℕ) (x : A) → slice_get xs i ≡ Some x → slice_get (xs ++ ys) i ≡ Some x
+get-first [] ys i x e = absurd (None-Some x e)
+get-first (y ∷ xs) ys zero x e = e
+get-first (y ∷ xs) ys (suc i) x e = get-first xs ys i x e
+
+chosen-later : {A : Type 0} (b : Bool) (o p : Option A) (x : A) → (o ≡ Some x → p ≡ Some x) → (if b then o else None) ≡ Some x → (if b then p else None) ≡ Some x
+chosen-later true o p x later e = later e
+chosen-later false o p x later e = absurd (None-Some x e)
+
+-- with more terms it stands for the same one
+pub stands-later : (s v : Space) (h : Handle) (t u : Term) → v.number ≡ s.number → v.terms ≡ s.terms ++ u ∷ [] → term_at s h ≡ Some t → term_at v h ≡ Some t
+stands-later s v h t u number terms e =
+    (λ i. if nat_eq h.workspace (number i) then slice_get (terms i) h.index else None)
+    ∙ chosen-later (nat_eq h.workspace s.number) (slice_get s.terms h.index) (slice_get (s.terms ++ u ∷ []) h.index) t (get-first s.terms (u ∷ []) h.index t) e
+
+-- and so it does where the graph alone changes
+pub stands-changed : (s v : Space) (h : Handle) (t : Term) → ChangesGraph s v → term_at s h ≡ Some t → term_at v h ≡ Some t
+stands-changed s v h t only e = subst (λ (x : Space). term_at x h ≡ Some t) (sym only) e
+
+-- of an answer P and K, of which Q follows
+pub ok-with : {T E : Type 0} (r : Result T E) (K : Type 0) (P Q : T → Type 0) → ((x : T) → K → P x → Q x) → OnOk r K → IfOk r P → IfOk r Q
+ok-with (Ok x) K P Q f k p = f x k p
+ok-with (Err e) K P Q f k p = p
+
+pub asserts-nothing : (read : List Element → Option Form) (s v : Space) (text : List ℕ) (h : Handle) → AddsTerm read s v text h → asserted_in v.graph.image ≡ asserted_in s.graph.image
+asserts-nothing read s v text h a = a.adds.gains.adds.asserted ∙ ap asserted_in a.adds.writes.only.image
+
+module _ (read : List Element → Option Form) (s between both : Space) (left right : List ℕ) (first second : Handle) (a : AddsTerm read s between left first) (b : AddsTerm read between both right second) where
+  abbrev pub both-added : AddsBoth read s both left right first second
+  both-added = record {
+    between = between;
+    adds_left = a;
+    adds_right = b;
+    asserts = asserts-nothing read between both right second b ∙ asserts-nothing read s between left first a;
+  }
+
+  -- what is said of the terms of both handles is said of the terms of both texts
+  pub of-both : (v : Space) (P : Term → Term → Type 0) → ChangesGraph both v → OfBoth v first second P → P a.term b.term
+  of-both v P only of =
+      let one : term_at v first ≡ Some a.term = stands-changed both v first a.term only (stands-later between both first a.term b.term (ap (λ (x : Space). x.number) b.rest) (ap (λ (x : Space). x.terms) b.rest) a.stands) in
+      let two : term_at v second ≡ Some b.term = stands-changed both v second b.term only b.stands in
+      subst (λ t. P t b.term) (Some-same of.0 a.term (sym of.2 ∙ one)) (subst (P of.0) (Some-same of.1 b.term (sym of.3 ∙ two)) of.4)
+
+  -- the rules have run, and the terms were judged
+  pub answered : {L : Type 0} (form : L → Form) (written : Term → List Element) (limits : Limits) (ran v : Space) (ended : Bool) (x : Verdict) → HasRulesRun form limits both ran ended → ChangesGraph both ran →
+      OfBoth ran first second (λ t u. Judges written ran.graph v.graph ended t u x) → ChangesGraph ran v → AnswersQuestion form read written limits s v left right x
+  answered form written limits ran v ended x runs only judged changes = record {
+    asked = both;
+    first = first;
+    second = second;
+    adds = both-added;
+    ran = ran;
+    ended = ended;
+    runs = runs;
+    only_rules = only;
+    judges = of-both ran (λ t u. Judges written ran.graph v.graph ended t u x) only judged;
+    only_judges = changes;
+  }

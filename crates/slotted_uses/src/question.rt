@@ -1,0 +1,93 @@
+//! Questions: whether two terms are equal by what was asserted, and by the rules.
+ghost use Rattle.std.specs.Prelude.{◌≡◌, IfOk, IfErr, OnOk};
+ghost use Rattle.slotted_workspace.specs.Asked.{ChangesGraph, OfBoth, Refuses, RefusesBoth};
+ghost use Rattle.slotted_workspace.specs.Runs.{OfRules, RunRefused};
+ghost use Rattle.slotted_uses.specs.Questions as questions;
+ghost use Rattle.slotted_uses.specs.Questions.{AnswersQuestion, HasRulesRun, Judges, ProofRefused, QuestionRefused};
+
+use slotted_languages::Language;
+use slotted_runs::StopReason;
+use slotted_terms::expr::printing::Printable;
+use slotted_workspace::{Handle, Limits, Workspace, WorkspaceError};
+
+/// The answer to a question.
+#[derive(Drop)]
+pub enum Verdict {
+    /// The terms are equal. The text is a proof.
+    Yes(String),
+    /// The rules ended, and what is asserted then does not make the terms equal.
+    No,
+    /// A limit stopped the rules, and the terms are not equal so far.
+    Stopped,
+    /// A symmetry is open, so that a no would say nothing.
+    Open,
+}
+
+// Whether a run that stopped for this reason has ended saturated.
+fn is_saturated(reason: &StopReason) -> bool
+    ensures { result ≡ questions.is_saturated reason.now }
+{
+    match reason {
+        StopReason::Saturated => true,
+        _ => false,
+    }
+}
+
+/// Runs the rules. Returns whether they ended before a limit was passed.
+pub fn saturate<L: Language>(
+    workspace: &mut Workspace<L>,
+    limits: Limits,
+) -> Result<bool, WorkspaceError>
+    ensures ok { IfOk result (HasRulesRun L.form limits workspace.old workspace.new) }
+    ensures rest { OnOk result (ChangesGraph workspace.old workspace.new) }
+    ensures err { IfErr result (Refuses workspace.old workspace.new (λ e. OfRules L.form workspace.old
+        (λ rules. RunRefused L.form rules limits.turns limits.nodes workspace.old.graph workspace.new.graph e))) }
+{
+    let report = workspace.run(limits)?;
+    Ok(is_saturated(&report.stop_reason))
+}
+
+/// Returns the verdict on two terms, where `ended` says whether the rules ended.
+pub fn judge<L: Printable>(
+    workspace: &mut Workspace<L>,
+    left: Handle,
+    right: Handle,
+    ended: bool,
+) -> Result<Verdict, WorkspaceError>
+    ensures ok { IfOk result (λ x. OfBoth workspace.old left right
+        (λ t u. Judges L.written workspace.old.graph workspace.new.graph ended t u x)) }
+    ensures rest { OnOk result (ChangesGraph workspace.old workspace.new) }
+    ensures err { IfErr result (RefusesBoth workspace.old workspace.new left right
+        (ProofRefused L.written workspace.old.graph workspace.new.graph)) }
+{
+    if workspace.eq(left, right)? {
+        return Ok(Verdict::Yes(workspace.explain(left, right)?));
+    }
+    if !ended {
+        return Ok(Verdict::Stopped);
+    }
+    let symmetries = workspace.symmetries()?;
+    if symmetries.open > 0 {
+        return Ok(Verdict::Open);
+    }
+    Ok(Verdict::No)
+}
+
+/// Adds two terms, runs the rules within limits, and returns whether the terms are equal.
+///
+/// A yes follows from what was asserted and from instances of the rules. A no says that it does not follow from those, and that another turn
+/// of the rules would find nothing new; instances over terms that the graph does not contain may say more.
+pub fn ask<L: Printable>(
+    workspace: &mut Workspace<L>,
+    left: &str,
+    right: &str,
+    limits: Limits,
+) -> Result<Verdict, WorkspaceError>
+    ensures ok { IfOk result (AnswersQuestion L.form L.read L.written limits workspace.old workspace.new left.now right.now) }
+    ensures err { IfErr result (QuestionRefused L.form L.read L.written limits workspace.old workspace.new left.now right.now) }
+{
+    let first = workspace.add(left)?;
+    let second = workspace.add(right)?;
+    let ended = saturate(workspace, limits)?;
+    judge(workspace, first, second, ended)
+}
