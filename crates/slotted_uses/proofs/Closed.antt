@@ -1,6 +1,6 @@
 -- What the count of open symmetries says of a no.
-use Rattle.std.proofs.Common.{◌≡◌, ◌++◌, ℕ, suc, List, [], ◌∷◌, subst, refl, inl, inr, arith}
-use Rattle.std.specs.Prelude.{◌⊎◌, ◌<◌, Bool, Contains, IsTrue, false}
+use Rattle.std.proofs.Common.{◌≡◌, ℕ, List, [], ◌∷◌, subst, refl, inl, inr, arith}
+use Rattle.std.specs.Prelude.{◌<◌, Contains, false}
 use Rattle.std.proofs.lemmas.Bool.{false≢true}
 use Rattle.std.proofs.lemmas.List.Elements.{Contains-append_left, Contains-push, Contains-push_cases}
 use Rattle.slotted_theory.specs.Term.{Term}

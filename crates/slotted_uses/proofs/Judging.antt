@@ -1,15 +1,13 @@
 -- What `eq`, `explain` and `symmetries` say together of the terms of two handles.
 use Rattle.std.proofs.Common.{◌≡◌, ◌∙◌, ℕ, subst, sym, refl, inl, inr}
-use Rattle.std.specs.Prelude.{◌<◌, Bool, false, IsTrue, List, Option, None, Some, String}
+use Rattle.std.specs.Prelude.{◌<◌, Bool, false, IsTrue, List, String}
 use Rattle.std.specs.declared.alloc.Global.{Global}
-use Rattle.slotted_slots.specs.declared.error.Error.{Error}
 use Rattle.slotted_slots.specs.Syntax.{Element}
 use Rattle.slotted_theory.specs.Term.{Term}
 use Rattle.slotted_model.proofs.Options.{Some-same}
-use Rattle.slotted_core.specs.Graph.{Graph}
 use Rattle.slotted_core.specs.Image.{CountsOpen}
-use Rattle.slotted_workspace.specs.Asked.{ChangesGraph, Compares, ExplainRefused, ExplainsTerms, HadFailed, OfBoth, Refuses, RefusesBoth}
-use Rattle.slotted_workspace.specs.Spaces.{Space, term_at}
+use Rattle.slotted_workspace.specs.Asked.{Compares, ExplainRefused, ExplainsTerms, HadFailed, OfBoth, Refuses, RefusesBoth}
+use Rattle.slotted_workspace.specs.Spaces.{Space}
 use Rattle.slotted_workspace.specs.declared.error.WorkspaceError.{WorkspaceError}
 use Rattle.slotted_workspace.specs.declared.error.WorkspaceError.TheVariants.{UnknownHandle}
 use Rattle.slotted_workspace.specs.declared.error.WorkspaceError.TheVariants as refused

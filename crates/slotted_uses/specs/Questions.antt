@@ -8,7 +8,7 @@
 --     AddsBoth read s one both ..         the terms of two texts are added, which asserts nothing
 --     AnswersQuestion ..                  both terms are added, the rules run, and then the terms are judged
 --     QuestionRefused ..                  one of these is refused
-use Rattle.std.specs.Prelude.{◌≡◌, ◌⊎◌, ℕ, List, map, Bool, true, false, Option, None, Some, IsTrue, String}
+use Rattle.std.specs.Prelude.{◌≡◌, ◌⊎◌, ℕ, List, map, Bool, true, false, Option, IsTrue, String}
 use Rattle.std.specs.declared.alloc.Global.{Global}
 use Rattle.slotted_slots.specs.declared.error.Error.{Error}
 use Rattle.slotted_slots.specs.Syntax.{Element}
