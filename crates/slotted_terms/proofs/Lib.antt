@@ -3,6 +3,7 @@ pub mod TermTexts
 pub mod PatternPrints
 pub mod Alike
 pub mod LargeNodes
+pub mod SubtermSizes
 pub mod AsTerms
 pub mod TermPatterns
 pub mod ValidTexts

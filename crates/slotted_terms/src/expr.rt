@@ -1,6 +1,7 @@
 // Terms of a language as trees of nodes.
 ghost use Rattle.std.specs.Prelude.{◌≡◌, ◌<◌, ◌⊎◌, ◌↔◌, length, IsTrue, IfOk, IfErr, IsErrOf, MatchResult};
 ghost use Rattle.slotted_slots.specs.Error.{IsOutOfMemory, IsShortage};
+ghost use Rattle.slotted_languages.specs.Filled.{term_of};
 ghost use Rattle.slotted_theory.specs.Nameless.{Alpha};
 ghost use Rattle.slotted_terms.specs.LargeNodes.{HasLargeNode, HaveLargeNode};
 ghost use Rattle.slotted_outlines.specs.Seen.{AreMatchedBy, AreTerms, SameTerm, SameChild, SameChildren};
@@ -14,7 +15,7 @@ use std::marker::Model;
 pub mod printing;
 
 /// A term: a node, and the terms that stand in the places of its children. The child ids inside `node` are ignored.
-#[derive(Drop, Debug)]
+#[derive(Debug)]
 #[cycle(expr)]
 pub struct RecExpr<L: Language> {
     pub node: L,
@@ -38,7 +39,27 @@ impl<L: Language> Model for RecExpr<L> {
     ghost size_decreases = { λ e h. omega (arith, children_smaller (L.form e.node) e.children.items) };
 }
 
+// The terms below are let go in turn, so a deep term needs no deep stack.
+impl<L: Language> Drop for RecExpr<L> {
+    fn drop(self) {
+        let RecExpr { node: _, children } = self;
+        let mut left = children;
+        while let Some(next) = left.pop() {
+            let mut below = next.into_parts().1;
+            let _ = left.append(&mut below);
+        }
+    }
+}
+
 impl<L: Language> RecExpr<L> {
+    /// The node and the terms that stand under it, of which the term is made.
+    pub fn into_parts(self) -> (L, Vec<RecExpr<L>>)
+        ensures { term_of (L.form result.0) result.1.items ≡ self }
+    {
+        let RecExpr { node, children } = self;
+        (node, children)
+    }
+
     // The operator of the term, which is one more than the node's: no term is a hole.
     fn operator(&self) -> u64
         ensures op { result ≡ self.now.op }
