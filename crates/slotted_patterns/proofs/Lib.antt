@@ -17,3 +17,4 @@ pub mod PrintedPatterns
 pub mod PatternsReadAgain
 pub mod PatternTexts
 pub mod PatternTrees
+pub mod PatternSizes

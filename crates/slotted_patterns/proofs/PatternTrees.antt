@@ -14,10 +14,10 @@ mapped_more f g xs ys i x y h is e k =
     map-append f xs (x ∷ []) ∙ ((λ j. e j ++ (k ∙ ap g is) j ∷ []) ∙ (sym (map-append g (take i ys) (get_or ys i y ∷ [])) ∙ ap (map g) (sym (take_more ys i y h))))
 
 module _ {L : Type 0} (form : L → Form) where
-  tree_of-ENode : (n : L) (ps : Vec (Pattern L) Global) → tree_of form (ENode n ps) ≡ enode (form n) (row_of (map (tree_of form) ps.items))
+  pub tree_of-ENode : (n : L) (ps : Vec (Pattern L) Global) → tree_of form (ENode n ps) ≡ enode (form n) (row_of (map (tree_of form) ps.items))
   tree_of-ENode n ps = search (rules, the_lemmas)
 
-  tree_of-Subst : (b x v : Box (Pattern L) Global) → tree_of form (Subst b x v) ≡ substitution (tree_of form b.value) (tree_of form x.value) (tree_of form v.value)
+  pub tree_of-Subst : (b x v : Box (Pattern L) Global) → tree_of form (Subst b x v) ≡ substitution (tree_of form b.value) (tree_of form x.value) (tree_of form v.value)
   tree_of-Subst b x v = search (rules, the_lemmas)
 
   tree_of-PVar : (v : String Global) → tree_of form (PVar v) ≡ pvar (string_bytes v)

@@ -11,7 +11,7 @@ use std::alloc::Global;
 pub mod printing;
 
 /// A pattern: a term with variables and substitutions in it. The child ids inside a node are ignored.
-#[derive(Drop, Debug, Clone, PartialEq, Eq, Hash)]
+#[derive(Debug, Clone, PartialEq, Eq, Hash)]
 pub enum Pattern<L: Language> {
     /// A node over the patterns that stand in the places of its children.
     ENode(L, Vec<Pattern<L>>),
@@ -21,7 +21,40 @@ pub enum Pattern<L: Language> {
     Subst(Box<Pattern<L>>, Box<Pattern<L>>, Box<Pattern<L>>),
 }
 
+// The patterns inside are let go in turn, so a deep pattern needs no deep stack.
+impl<L: Language> Drop for Pattern<L> {
+    fn drop(mut self) {
+        let mut left = Vec::new(self.allocator());
+        loop {
+            match self {
+                Pattern::ENode(_, mut children) => {
+                    let _ = left.append(&mut children);
+                }
+                Pattern::PVar(_) => {}
+                Pattern::Subst(body, place, value) => {
+                    let _ = left.push(Box::into_inner(body));
+                    let _ = left.push(Box::into_inner(place));
+                    let _ = left.push(Box::into_inner(value));
+                }
+            }
+            match left.pop() {
+                Some(next) => self = next,
+                None => return,
+            }
+        }
+    }
+}
+
 impl<L: Language> Pattern<L> {
+    // Where the pattern's memory comes from.
+    fn allocator(&self) -> Global {
+        match self {
+            Pattern::ENode(_, children) => *children.allocator(),
+            Pattern::PVar(name) => *name.allocator(),
+            Pattern::Subst(body, _, _) => *Box::allocator(body),
+        }
+    }
+
     /// A pattern that equals this one.
     pub fn copy(&self, alloc: Global) -> Result<Pattern<L>, Error>
         ensures ok { IfOk result (λ c. tree_of L.form c ≡ tree_of L.form self.now) }

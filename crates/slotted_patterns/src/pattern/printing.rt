@@ -11,15 +11,6 @@ use std::alloc::Global;
 use std::fmt;
 
 impl<L: Language> Pattern<L> {
-    // Where the pattern's memory comes from.
-    fn allocator(&self) -> Global {
-        match self {
-            Pattern::ENode(_, children) => *children.allocator(),
-            Pattern::PVar(name) => *name.allocator(),
-            Pattern::Subst(body, _, _) => *Box::allocator(body),
-        }
-    }
-
     /// The text of the pattern: a variable after `?`, a substitution as `b[x := t]`, and a node as `node_text` writes it over
     /// the texts of its child patterns.
     #[cycle(text)]
