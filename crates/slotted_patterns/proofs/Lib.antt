@@ -18,3 +18,4 @@ pub mod PatternsReadAgain
 pub mod PatternTexts
 pub mod PatternTrees
 pub mod PatternSizes
+pub mod PieceTexts

@@ -9,4 +9,5 @@ pub mod Stack
 pub mod Reader
 pub mod Known
 pub mod Shown
+pub mod Pieces
 pub mod ReadAgain

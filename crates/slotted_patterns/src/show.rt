@@ -46,7 +46,7 @@ fn child_text(children: &[String], k: usize) -> &str
 }
 
 // How many children stand in the place of an element.
-fn child_count(element: &SyntaxElem) -> usize
+pub(crate) fn child_count(element: &SyntaxElem) -> usize
     ensures count { result ≡ width (element_of element.now) }
     ensures one { result ≤ 1 }
 {
@@ -57,7 +57,7 @@ fn child_count(element: &SyntaxElem) -> usize
 }
 
 // Appends the text of an element, where the child that stands in its place has this text.
-fn push_part(
+pub(crate) fn push_part(
     text: &mut String,
     element: &SyntaxElem,
     child: &str,
