@@ -7,8 +7,8 @@ ghost use Rattle.slotted_languages.specs.Filled.{term_of};
 ghost use Rattle.slotted_terms.specs.Shown.{term_text, IsWrittenAs, PrintAs};
 
 use super::RecExpr;
+use crate::patterns::re_to_pattern;
 use slotted_languages::language::Language;
-use slotted_patterns::show::node_text;
 use slotted_slots::{Error, Show, SlotTable};
 use std::alloc::Global;
 use std::fmt;
@@ -25,18 +25,13 @@ pub trait Printable: Language {
 
 impl<L: Printable> RecExpr<L> {
     /// The text of the term: a node that is written as one text stands alone, and every other one in round brackets.
-    #[cycle(text)]
     pub fn text(&self, alloc: Global, table: &SlotTable) -> Result<String, Error>
         ensures ok { IfOk result (λ s. string_bytes s ≡ term_text L.written table.now self.now) }
         ensures patterns { IfOk result (λ s. PrintAs L.form L.shown table.now self.now (string_bytes s)) }
         ensures err { IfErr result IsOutOfMemory }
     {
-        let mut children = Vec::new(alloc);
-        for child in &self.children {
-            children.push(child.text(alloc, table)?)?;
-        }
-        let elements = self.node.to_syntax(alloc)?;
-        let text = node_text(alloc, &elements, &children, table)?;
+        let pattern = re_to_pattern(alloc, self)?;
+        let text = pattern.text(alloc, table)?;
         Ok(text)
     }
 }
