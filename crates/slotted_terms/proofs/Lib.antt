@@ -6,6 +6,7 @@ pub mod LargeNodes
 pub mod SubtermSizes
 pub mod AsTerms
 pub mod TermPatterns
+pub mod FlatTrees
 pub mod ValidTexts
 pub mod TermReadings
 pub mod TermsReadAgain

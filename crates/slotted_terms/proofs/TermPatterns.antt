@@ -1,20 +1,16 @@
 -- The pattern of a term's nodes is that term, where no child is missing and none is too many.
-use Rattle.std.proofs.Common.{◌≡◌, ◌<◌, ℕ, zero, suc, ◌+◌, List, [], ◌∷◌, ◌++◌, length, take, drop, get_or, map, refl, sym, ap, subst, ◌∙◌, arith, length-append, Vec}
+use Rattle.std.proofs.Common.{◌≡◌, ℕ, zero, suc, List, [], ◌∷◌, ◌++◌, length, take, drop, refl, sym, ap, subst, ◌∙◌, arith, length-append}
 use Rattle.std.specs.Prelude.{Some, ◌==◌}
-use Rattle.std.specs.declared.alloc.Global.{Global}
 use Rattle.std.proofs.lemmas.Bool.{eq-eqb}
-use Rattle.std.proofs.lemmas.List.{length-drop, length-take, map-append}
-use Rattle.std.proofs.Math.Seq.{take-suc}
+use Rattle.std.proofs.lemmas.List.{length-drop, length-take}
 use Rattle.slotted_theory.specs.Term.{Term}
-use Rattle.slotted_nodes.specs.Form.{Form, Tree, leaf, own, child, bind, scopes, children}
+use Rattle.slotted_nodes.specs.Form.{Tree, leaf, own, child, bind, scopes, children}
 use Rattle.slotted_languages.specs.Filled.{filled, term_of}
 use Rattle.slotted_patterns.specs.Tree.{PatternTree, enode, pvar, substitution, PatternRow, no_more, one_more, row_of}
-use Rattle.slotted_patterns.specs.View.{tree_of}
-use Rattle.slotted_patterns.specs.declared.pattern.Pattern.{Pattern, ENode}
 use Rattle.slotted_terms.specs.AsTerm.{over, in_front, as_term, as_terms}
 use Rattle.slotted_terms.specs.TermPattern.{term_in, terms_in, IsGround, AreGround, IsPatternOf, ArePatternsOf}
 use Rattle.slotted_terms.specs.Valid.{IsWhole}
-use Rattle.slotted_terms.proofs.AsTerms.{counted, tree_of-ENode}
+use Rattle.slotted_terms.proofs.AsTerms.{counted}
 
 -- no child is missing in any of the terms, and none is too many
 abbrev AreWhole : List Term → Type 0
@@ -67,20 +63,8 @@ terms_more : (ps : List PatternTree) (p : PatternTree) → terms_in (row_of (ps 
 terms_more [] p = refl
 terms_more (q ∷ ps) p = ap (λ ts. term_in q ∷ ts) (terms_more ps p)
 
-patterns_more : (ps : List PatternTree) (p : PatternTree) (ts : List Term) (t : Term) → ArePatternsOf (row_of ps) ts → IsPatternOf p t → ArePatternsOf (row_of (ps ++ p ∷ [])) (ts ++ t ∷ [])
+pub patterns_more : (ps : List PatternTree) (p : PatternTree) (ts : List Term) (t : Term) → ArePatternsOf (row_of ps) ts → IsPatternOf p t → ArePatternsOf (row_of (ps ++ p ∷ [])) (ts ++ t ∷ [])
 patterns_more ps p ts t h k = record {
   ground = ground_more ps p h.ground k.ground;
   value = terms_more ps p ∙ (ap (λ us. us ++ term_in p ∷ []) h.value ∙ ap (λ u. ts ++ u ∷ []) k.value);
 }
-
--- after i terms, the pattern of the one at i
-pub patterns_taken : {A : Type 0} (tree : A → PatternTree) (ps : List A) (p : A) (es : List Term) (i : ℕ) (e : Term) → i < length es → e ≡ get_or es i e → ArePatternsOf (row_of (map tree ps)) (take i es) → IsPatternOf (tree p) e → ArePatternsOf (row_of (map tree (ps ++ p ∷ []))) (take (i + 1) es)
-patterns_taken tree ps p es i e lt is h k =
-    let next : suc i ≡ i + 1 = omega arith in
-    let taken : take i es ++ e ∷ [] ≡ take (i + 1) es = ap (λ x. take i es ++ x ∷ []) is ∙ (sym (take-suc es i e lt) ∙ ap (λ n. take n es) next) in
-    let all = patterns_more (map tree ps) (tree p) (take i es) e h k in
-    subst (λ ts. ArePatternsOf (row_of (map tree (ps ++ p ∷ []))) ts) taken (subst (λ qs. ArePatternsOf (row_of qs) (take i es ++ e ∷ [])) (sym (map-append tree ps (p ∷ []))) all)
-
--- a node over the patterns of its children
-pub node_pattern : {L : Type 0} (form : L → Form) (n : L) (ps : Vec (Pattern L) Global) (ts : List Term) → ArePatternsOf (row_of (map (tree_of form) ps.items)) ts → IsPatternOf (tree_of form (ENode n ps)) (term_of (form n) ts)
-node_pattern form n ps ts h = subst (λ p. IsPatternOf p (term_of (form n) ts)) (sym (tree_of-ENode form n ps)) (record { ground = h.ground; value = ap (term_of (form n)) h.value })

@@ -2,6 +2,7 @@
 pub mod LargeNodes
 pub mod AsTerm
 pub mod TermPattern
+pub mod Flat
 pub mod Parsed
 pub mod Valid
 pub mod Shown

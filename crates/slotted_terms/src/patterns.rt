@@ -7,6 +7,7 @@ ghost use Rattle.slotted_terms.specs.TermPattern.{IsPatternOf};
 ghost use Rattle.slotted_terms.specs.Valid.{IsWhole};
 
 use crate::expr::RecExpr;
+use crate::flat::{assemble, flatten};
 use slotted_languages::language::Language;
 use slotted_patterns::Pattern;
 use slotted_slots::Error;
@@ -41,9 +42,7 @@ pub fn re_to_pattern<L: Language>(alloc: Global, term: &RecExpr<L>) -> Result<Pa
     ensures back { IfOk result (λ p. IsWhole term.now.args → as_term (tree_of L.form p) ≡ Some term.now) }
     ensures err { IfErr result IsOutOfMemory }
 {
-    let mut patterns = Vec::new(alloc);
-    for child in &term.children {
-        patterns.push(re_to_pattern(alloc, child)?)?;
-    }
-    Ok(Pattern::ENode(term.node.copy(alloc)?, patterns))
+    let nodes = flatten(alloc, term)?;
+    let pattern = assemble(alloc, nodes)?;
+    Ok(pattern)
 }

@@ -1,0 +1,86 @@
+//! Terms as lists of their nodes, which go to and from trees by loops.
+ghost use Rattle.std.specs.Prelude.{◌≡◌, ◌≤◌, ◌++◌, length, map, IfOk, OnOk, IfErr};
+ghost use Rattle.slotted_slots.specs.Error.{IsOutOfMemory};
+ghost use Rattle.slotted_patterns.specs.Tree.{PatternTree};
+ghost use Rattle.slotted_patterns.specs.View.{tree_of};
+ghost use Rattle.slotted_terms.specs.Flat.{HasTree, closed, flat, flat_of};
+ghost use Rattle.slotted_terms.specs.TermPattern.{IsGround, IsPatternOf};
+
+use crate::expr::RecExpr;
+use slotted_languages::language::Language;
+use slotted_patterns::Pattern;
+use slotted_slots::Error;
+use std::alloc::Global;
+
+// A node, and how many terms stand under it.
+#[derive(Drop)]
+pub(crate) struct FlatNode<L: Language> {
+    pub node: L,
+    pub count: usize,
+}
+
+// Adds the terms to those that are left.
+fn push_all<'a, L: Language>(
+    left: &mut Vec<&'a RecExpr<L>>,
+    terms: &'a [RecExpr<L>],
+) -> Result<(), Error>
+    ensures ok { OnOk result (map (λ t. t.now) left.new.items ≡ map (λ t. t.now) left.old.items ++ terms.now) }
+    ensures err { IfErr result IsOutOfMemory }
+{
+    for term in terms {
+        left.push(term)?;
+    }
+    Ok(())
+}
+
+// The nodes of a term, the uppermost first.
+pub(crate) fn flatten<L: Language>(
+    alloc: Global,
+    term: &RecExpr<L>,
+) -> Result<Vec<FlatNode<L>>, Error>
+    ensures ok { IfOk result (λ v. (p : PatternTree) × IsPatternOf p term.now × (flat_of L.form v.items ≡ flat p)) }
+    ensures err { IfErr result IsOutOfMemory }
+{
+    let mut nodes = Vec::new(alloc);
+    let mut left = Vec::new(alloc);
+    left.push(term)?;
+    while let Some(next) = left.pop() {
+        let node = next.node.copy(alloc)?;
+        let count = next.children.len();
+        nodes.push(FlatNode { node, count })?;
+        push_all(&mut left, &next.children)?;
+    }
+    Ok(nodes)
+}
+
+// The last patterns of the list, so many, give way to that of a node over them.
+fn close<L: Language>(done: &mut Vec<Pattern<L>>, node: FlatNode<L>) -> Result<(), Error>
+    requires { node.count ≤ length done.old.items }
+    ensures ok { OnOk result (map (tree_of L.form) done.new.items
+        ≡ closed (L.form node.node) node.count (map (tree_of L.form) done.old.items)) }
+    ensures err { IfErr result IsOutOfMemory }
+{
+    let FlatNode { node, count } = node;
+    let below = done.split_off(done.len() - count)?;
+    done.push(Pattern::ENode(node, below))?;
+    Ok(())
+}
+
+// The pattern of a list of nodes.
+pub(crate) fn assemble<L: Language>(
+    alloc: Global,
+    mut nodes: Vec<FlatNode<L>>,
+) -> Result<Pattern<L>, Error>
+    requires { HasTree (flat_of L.form nodes.items) }
+    ensures ok { IfOk result (λ q. (p : PatternTree) → IsGround p → flat_of L.form nodes.items ≡ flat p → tree_of L.form q ≡ p) }
+    ensures err { IfErr result IsOutOfMemory }
+{
+    let mut done = Vec::new(alloc);
+    while let Some(node) = nodes.pop() {
+        close(&mut done, node)?;
+    }
+    match done.pop() {
+        Some(pattern) => Ok(pattern),
+        None => unreachable!(),
+    }
+}
