@@ -1,13 +1,13 @@
 -- Trees of nodes go to lists and back.
 use Rattle.std.proofs.Common.{◌≡◌, ◌≤◌, ℕ, suc, ◌-◌, List, [], ◌∷◌, ◌++◌, length, map, take, drop, option_to_list, refl, sym, ap, subst, ◌∙◌, arith, append_assoc, append-nil, length-append}
 use Rattle.std.specs.Prelude.{Option, Some}
-use Rattle.std.proofs.lemmas.List.{map-append, length-map}
+use Rattle.std.proofs.lemmas.List.{map-append, length-map, take-map, drop-map}
 use Rattle.std.proofs.Math.Seq.{take-append_seam, drop-append_seam}
 use Rattle.slotted_theory.specs.Term.{Term}
 use Rattle.slotted_nodes.specs.Form.{Form}
 use Rattle.slotted_languages.specs.Filled.{term_of}
 use Rattle.slotted_patterns.specs.Tree.{PatternTree, enode, pvar, substitution, PatternRow, no_more, one_more, row_of}
-use Rattle.slotted_terms.specs.Flat.{row_length, flat, flat_row, flat_of, closed}
+use Rattle.slotted_terms.specs.Flat.{row_length, flat, flat_row, flat_of, closed, closed_terms}
 use Rattle.slotted_terms.specs.declared.flat.FlatNode.{FlatNode}
 use Rattle.slotted_terms.specs.TermPattern.{term_in, terms_in, IsGround, AreGround, IsPatternOf, ArePatternsOf}
 use Rattle.slotted_terms.proofs.TermPatterns.{patterns_more}
@@ -145,6 +145,10 @@ one_image f q p [] h = ap (first_or p) h
 one_image f q p (r ∷ []) h = absurd (omega (arith, ap length h))
 one_image f q p (r ∷ s ∷ rest) h = absurd (omega (arith, ap length h))
 
+same : {A : Type 0} (xs : List A) → map (λ x. x) xs ≡ xs
+same [] = refl
+same (x ∷ xs) = ap (λ ys. x ∷ ys) (same xs)
+
 -- a list whose image is one element has that element last
 pub only_one : {A B : Type 0} (f : A → B) (all rest : List A) (o : Option A) (q : A) (p : B) → all ≡ rest ++ option_to_list o → o ≡ Some q → map f all ≡ p ∷ [] → f q ≡ p
 only_one f all rest o q p last is one =
@@ -154,3 +158,15 @@ only_one f all rest o q p last is one =
 pub flat_last : {L : Type 0} (form : L → Form) (all rest : List (FlatNode L)) (o : Option (FlatNode L)) (x : FlatNode L) → all ≡ rest ++ option_to_list o → o ≡ Some x → flat_of form all ≡ flat_of form rest ++ (form x.node, x.count) ∷ []
 flat_last form all rest o x last is =
     ap (flat_of form) (last ∙ ap (λ r. rest ++ option_to_list r) is) ∙ map-append (λ n. (form n.node, n.count)) rest (x ∷ [])
+
+-- the terms of patterns of which the last give way to a node over them
+pub closed_terms_in : (f : Form) (n : ℕ) (ps : List PatternTree) → closed_terms f n (map term_in ps) ≡ map term_in (closed f n ps)
+closed_terms_in f n ps =
+    let k : length (map term_in ps) - n ≡ length ps - n = omega (arith, length-map ps term_in) in
+    let at = length ps - n in
+    ap (λ j. take j (map term_in ps) ++ term_of f (drop j (map term_in ps)) ∷ []) k
+    ∙ ((λ i. take-map term_in at ps i ++ term_of f ((drop-map term_in at ps ∙ sym (terms_of (drop at ps))) i) ∷ []) ∙ sym (map-append term_in (take at ps) (enode f (row_of (drop at ps)) ∷ [])))
+
+pub only_last : {A : Type 0} (all rest : List A) (o : Option A) (q d : A) → all ≡ rest ++ option_to_list o → o ≡ Some q → all ≡ d ∷ [] → q ≡ d
+only_last all rest o q d last is one =
+    only_one (λ x. x) all rest o q d last is (same all ∙ one)

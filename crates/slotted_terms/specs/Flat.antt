@@ -2,7 +2,9 @@
 --     flat p               the nodes of the pattern p, each with how many patterns stand under it
 --     flat_of form ns      what a list of nodes is, where form says what each of them is
 use Rattle.std.specs.Prelude.{◌≡◌, ℕ, suc, List, [], ◌∷◌, ◌++◌, ◌-◌, length, map, take, drop}
+use Rattle.slotted_theory.specs.Term.{Term}
 use Rattle.slotted_nodes.specs.Form.{Form}
+use Rattle.slotted_languages.specs.Filled.{term_of}
 use Rattle.slotted_patterns.specs.Tree.{PatternTree, enode, pvar, substitution, PatternRow, no_more, one_more, row_of}
 use Rattle.slotted_terms.specs.TermPattern.{IsGround}
 use Rattle.slotted_terms.specs.declared.flat.FlatNode.{FlatNode}
@@ -27,6 +29,10 @@ flat_of form ns = map (λ n. (form n.node, n.count)) ns
 -- the last patterns of a list, so many, give way to that of a node over them
 abbrev pub closed : Form → ℕ → List PatternTree → List PatternTree
 closed f n ps = take (length ps - n) ps ++ enode f (row_of (drop (length ps - n) ps)) ∷ []
+
+-- the same of terms
+abbrev pub closed_terms : Form → ℕ → List Term → List Term
+closed_terms f n ts = take (length ts - n) ts ++ term_of f (drop (length ts - n) ts) ∷ []
 
 -- the list is that of a tree of nodes
 abbrev pub HasTree : List (Form × ℕ) → Type 0

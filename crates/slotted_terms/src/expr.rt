@@ -6,6 +6,7 @@ ghost use Rattle.slotted_theory.specs.Nameless.{Alpha};
 ghost use Rattle.slotted_terms.specs.LargeNodes.{HasLargeNode, HaveLargeNode};
 ghost use Rattle.slotted_outlines.specs.Seen.{AreMatchedBy, AreTerms, SameTerm, SameChild, SameChildren};
 
+use crate::flat::{assemble_term, flatten};
 use slotted_languages::language::Language;
 use slotted_outlines::outlines::{Binders, Outlines};
 use slotted_slots::Error;
@@ -108,14 +109,9 @@ impl<L: Language> RecExpr<L> {
         ensures ok { IfOk result (λ c. c ≡ self.now) }
         ensures err { IfErr result IsOutOfMemory }
     {
-        let mut children = Vec::new(alloc);
-        for child in &self.children {
-            children.push(child.copy(alloc)?)?;
-        }
-        Ok(RecExpr {
-            node: self.node.copy(alloc)?,
-            children,
-        })
+        let nodes = flatten(alloc, self)?;
+        let copy = assemble_term(alloc, nodes)?;
+        Ok(copy)
     }
 }
 

@@ -3,8 +3,8 @@ ghost use Rattle.std.specs.Prelude.{◌≡◌, ◌≤◌, ◌++◌, length, map,
 ghost use Rattle.slotted_slots.specs.Error.{IsOutOfMemory};
 ghost use Rattle.slotted_patterns.specs.Tree.{PatternTree};
 ghost use Rattle.slotted_patterns.specs.View.{tree_of};
-ghost use Rattle.slotted_terms.specs.Flat.{HasTree, closed, flat, flat_of};
-ghost use Rattle.slotted_terms.specs.TermPattern.{IsGround, IsPatternOf};
+ghost use Rattle.slotted_terms.specs.Flat.{HasTree, closed, closed_terms, flat, flat_of};
+ghost use Rattle.slotted_terms.specs.TermPattern.{IsGround, IsPatternOf, term_in};
 
 use crate::expr::RecExpr;
 use slotted_languages::language::Language;
@@ -81,6 +81,37 @@ pub(crate) fn assemble<L: Language>(
     }
     match done.pop() {
         Some(pattern) => Ok(pattern),
+        None => unreachable!(),
+    }
+}
+
+// The last terms of the list, so many, give way to the term of a node over them.
+fn close_term<L: Language>(done: &mut Vec<RecExpr<L>>, node: FlatNode<L>) -> Result<(), Error>
+    requires { node.count ≤ length done.old.items }
+    ensures ok { OnOk result (done.new.items ≡ closed_terms (L.form node.node) node.count done.old.items) }
+    ensures err { IfErr result IsOutOfMemory }
+{
+    let FlatNode { node, count } = node;
+    let children = done.split_off(done.len() - count)?;
+    done.push(RecExpr { node, children })?;
+    Ok(())
+}
+
+// The term of a list of nodes.
+pub(crate) fn assemble_term<L: Language>(
+    alloc: Global,
+    mut nodes: Vec<FlatNode<L>>,
+) -> Result<RecExpr<L>, Error>
+    requires { HasTree (flat_of L.form nodes.items) }
+    ensures ok { IfOk result (λ t. (p : PatternTree) → IsGround p → flat_of L.form nodes.items ≡ flat p → t ≡ term_in p) }
+    ensures err { IfErr result IsOutOfMemory }
+{
+    let mut done = Vec::new(alloc);
+    while let Some(node) = nodes.pop() {
+        close_term(&mut done, node)?;
+    }
+    match done.pop() {
+        Some(term) => Ok(term),
         None => unreachable!(),
     }
 }

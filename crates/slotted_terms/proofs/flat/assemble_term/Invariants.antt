@@ -1,0 +1,15 @@
+-- What was built of the nodes that were taken.
+use Rattle.std.proofs.Common.{◌≡◌, ◌++◌, List, ℕ, length, map}
+use Rattle.slotted_nodes.specs.Form.{Form}
+use Rattle.slotted_terms.specs.TermPattern.{term_in}
+use Rattle.slotted_terms.specs.Flat.{flat_of}
+use Rattle.slotted_terms.proofs.FlatTrees.{build}
+use Rattle.slotted_terms.proofs.flat.assemble_term.Given as goal
+
+abbrev pub invariant-loop-node : goal.invariant-loop-node
+invariant-loop-node g l =
+    let form = g.L.LanguageChildren.form in
+    (s : List (Form × ℕ)) × (flat_of form l.nodes.items ++ s ≡ flat_of form l.fn.nodes.items) × (l.done.items ≡ map term_in (build s))
+
+abbrev pub decreases-loop-node : goal.decreases-loop-node
+decreases-loop-node g l = length l.nodes.items
