@@ -66,9 +66,10 @@ fn node_count(alloc: Global, term: RecExpr<Small>, most: usize) -> Result<usize,
     let mut left = Vec::new(alloc);
     left.push(term)?;
     for k in 0..most {
-        let Some(RecExpr { node, children }) = left.pop() else {
+        let Some(next) = left.pop() else {
             return Ok(k);
         };
+        let (_, children) = next.into_parts();
         for child in children {
             left.push(child)?;
         }

@@ -59,7 +59,7 @@ fn put_children<L: Language>(
 
 /// The node at the top of the term that a text writes, over the ids of its children.
 pub fn node_of<L: Language>(graph: &mut EGraph<L>, text: &str) -> Result<L, Error> {
-    let RecExpr { mut node, children } = graph.parse_expr(text)?;
+    let (mut node, children) = graph.parse_expr(text)?.into_parts();
     put_children(graph, &mut node, &children)?;
     Ok(node)
 }

@@ -23,7 +23,7 @@ fn childless<L: Language>(
     graph: &mut EGraph<L>,
     text: &str,
 ) -> Result<RecExpr<L>, Error> {
-    let RecExpr { node, .. } = graph.parse_expr(text)?;
+    let (node, _) = graph.parse_expr(text)?.into_parts();
     Ok(RecExpr {
         node,
         children: Vec::new(alloc),
