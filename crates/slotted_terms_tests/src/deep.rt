@@ -1,0 +1,89 @@
+//! Patterns and terms of very many levels, with the usual stack.
+use crate::checks::check_text;
+use slotted_patterns::Pattern;
+use slotted_slots::{Error, SlotTable};
+use slotted_small::Small;
+use slotted_terms::{RecExpr, re_to_pattern};
+use std::alloc::Global;
+use std::process::Abort;
+
+const LEVELS: usize = 100_000;
+
+// `(lam $x (lam $x .. ))` of so many levels over this text.
+fn deep_text(alloc: Global, inner: &str, levels: usize) -> Result<String, Error> {
+    let mut text = String::new(alloc);
+    for _level in 0..levels {
+        text.push_str("(lam $x ")?;
+    }
+    text.push_str(inner)?;
+    for _level in 0..levels {
+        text.push_str(")")?;
+    }
+    Ok(text)
+}
+
+// The pattern of a text prints as that text.
+fn check_pattern(rt: &impl Abort, alloc: Global, text: &str) -> Result<(), Error> {
+    let mut table = SlotTable::new(alloc);
+    let pattern = Pattern::<Small>::parse(alloc, text, &mut table)?;
+    let printed = pattern.text(alloc, &table)?;
+    check_text(rt, &printed, text);
+    Ok(())
+}
+
+// A binder over the term.
+fn above(
+    alloc: Global,
+    term: RecExpr<Small>,
+    table: &mut SlotTable,
+) -> Result<RecExpr<Small>, Error> {
+    let mut binder = RecExpr::<Small>::parse(alloc, "(lam $x a)", table)?;
+    binder.children.clear();
+    binder.children.push(term)?;
+    Ok(binder)
+}
+
+// A term of so many levels over `a`.
+fn deep_term(alloc: Global, levels: usize, table: &mut SlotTable) -> Result<RecExpr<Small>, Error> {
+    let mut term = RecExpr::<Small>::parse(alloc, "a", table)?;
+    for _level in 0..levels {
+        term = above(alloc, term, table)?;
+    }
+    Ok(term)
+}
+
+// The copy of the term, and its pattern, print as the text.
+fn check_copied(
+    rt: &impl Abort,
+    alloc: Global,
+    term: &RecExpr<Small>,
+    table: &SlotTable,
+    text: &str,
+) -> Result<(), Error> {
+    let copy = term.copy(alloc)?;
+    let pattern = re_to_pattern(alloc, &copy)?;
+    let printed = pattern.text(alloc, table)?;
+    check_text(rt, &printed, text);
+    Ok(())
+}
+
+// A deep term prints as the text, and so does its copy.
+fn check_term(rt: &impl Abort, alloc: Global, text: &str) -> Result<(), Error> {
+    let mut table = SlotTable::new(alloc);
+    let term = deep_term(alloc, LEVELS, &mut table)?;
+    let printed = term.text(alloc, &table)?;
+    check_text(rt, &printed, text);
+    check_copied(rt, alloc, &term, &table, text)
+}
+
+#[test]
+fn a_deep_pattern_is_read_and_printed(rt: HostRuntime) -> Result<(), Error> {
+    let text = deep_text(rt.alloc(), "?a", LEVELS)?;
+    check_pattern(&rt, rt.alloc(), &text)
+}
+
+#[test]
+fn a_deep_term_is_printed_and_copied(rt: HostRuntime) -> Result<(), Error> {
+    let text = deep_text(rt.alloc(), "a", LEVELS)?;
+    check_term(&rt, rt.alloc(), &text)
+}
