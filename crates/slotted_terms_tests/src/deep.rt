@@ -9,6 +9,9 @@ use std::process::Abort;
 
 const LEVELS: usize = 100_000;
 
+// Terms are built one binder at a time, which takes longer.
+const TERM_LEVELS: usize = 20_000;
+
 // `(lam $x (lam $x .. ))` of so many levels over this text.
 fn deep_text(alloc: Global, inner: &str, levels: usize) -> Result<String, Error> {
     let mut text = String::new(alloc);
@@ -70,7 +73,7 @@ fn check_copied(
 // A deep term prints as the text, and so does its copy.
 fn check_term(rt: &impl Abort, alloc: Global, text: &str) -> Result<(), Error> {
     let mut table = SlotTable::new(alloc);
-    let term = deep_term(alloc, LEVELS, &mut table)?;
+    let term = deep_term(alloc, TERM_LEVELS, &mut table)?;
     let printed = term.text(alloc, &table)?;
     check_text(rt, &printed, text);
     check_copied(rt, alloc, &term, &table, text)
@@ -84,6 +87,6 @@ fn a_deep_pattern_is_read_and_printed(rt: HostRuntime) -> Result<(), Error> {
 
 #[test]
 fn a_deep_term_is_printed_and_copied(rt: HostRuntime) -> Result<(), Error> {
-    let text = deep_text(rt.alloc(), "a", LEVELS)?;
+    let text = deep_text(rt.alloc(), "a", TERM_LEVELS)?;
     check_term(&rt, rt.alloc(), &text)
 }
