@@ -7,3 +7,4 @@ pub mod GoingAlong
 pub mod MergedValues
 pub mod Resting
 pub mod Telling
+pub mod LiveOnes

@@ -5,3 +5,4 @@ pub mod Lowering
 pub mod Burying
 pub mod Carrying
 pub mod Part
+pub mod Pending

@@ -9,7 +9,9 @@ pub mod carrying;
 pub mod class_data;
 pub(crate) mod lowering;
 pub(crate) mod making;
+pub mod pending;
 pub(crate) mod users;
 
 pub use carrying::{carry, merge_value};
 pub use class_data::ClassData;
+pub use pending::{pending_count, take_pending};
