@@ -1,4 +1,5 @@
 //! What the worked analyses make, merge and ask, through their bound.
+use crate::carried::carried_nothing;
 use crate::const_fold::{ConstFold, Fold};
 use crate::least_size::LeastSize;
 use slotted_analyses::Analysis;
@@ -99,5 +100,12 @@ fn numbers_are_asked_for(rt: HostRuntime) -> Result<(), Error> {
     assert!(&rt; asked(alloc, &ConstFold, &Fold::Number(5))? == 1);
     assert!(&rt; asked(alloc, &ConstFold, &Fold::Conflict)? == 0);
     assert!(&rt; asked(alloc, &LeastSize, &5)? == 0);
+    Ok(())
+}
+
+#[test]
+fn nothing_is_carried(rt: HostRuntime) -> Result<(), Error> {
+    let data = carried_nothing(rt.alloc())?;
+    assert!(&rt; data.count() == 0 && data.changed_count() == 0);
     Ok(())
 }

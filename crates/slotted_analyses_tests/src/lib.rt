@@ -1,6 +1,7 @@
 //! Worked analyses: constant folding over the written language, and the least size of a class over any language.
 #![tactic(auto)]
 
+pub mod carried;
 pub mod const_fold;
 #[cfg(test)]
 mod folding;

@@ -1,0 +1,26 @@
+//! Data of a graph without classes, which is carried along: what `carry` asks can be met from the beginning.
+ghost use Rattle.std.specs.Prelude.{◌≡◌, IfOk};
+ghost use Rattle.slotted_store.specs.Kept.{nothing};
+ghost use Rattle.slotted_filing.specs.FiledRows.{no_rows};
+ghost use Rattle.slotted_analyses.specs.Meaning.{by_bare_nodes};
+ghost use Rattle.slotted_data.specs.Carrying.{DataRests};
+ghost use Rattle.slotted_analyses_tests.specs.ConstFold.{fold};
+
+use crate::const_fold::{ConstFold, Fold};
+use slotted_data::{ClassData, carry};
+use slotted_filing::Hashcons;
+use slotted_slots::Error;
+use slotted_small::Small;
+use slotted_store::Store;
+use std::alloc::Global;
+
+/// The data of no class, carried once.
+pub fn carried_nothing(alloc: Global) -> Result<ClassData<Fold>, Error>
+    ensures { IfOk result (DataRests (by_bare_nodes fold) nothing no_rows) }
+{
+    let store: Store<Small> = Store::new(alloc);
+    let mut nodes = Hashcons::new(alloc);
+    let mut data = ClassData::new(alloc);
+    carry(&store, &mut nodes, &mut data, &ConstFold, alloc)?;
+    Ok(data)
+}
