@@ -35,5 +35,6 @@ pub use slotted_slots::{
 };
 pub use slotted_small::Small;
 pub use slotted_small_maps::SmallHashMap;
+pub use slotted_store::RebuildCount;
 pub use slotted_terms::expr::printing::Printable;
 pub use slotted_terms::{RecExpr, pattern_to_re, re_to_pattern};
