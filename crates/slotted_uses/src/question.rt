@@ -75,8 +75,8 @@ pub fn judge<L: Printable>(
 
 /// Adds two terms, runs the rules within limits, and returns whether the terms are equal.
 ///
-/// A yes follows from what was asserted and from instances of the rules. A no says that it does not follow from those, and that another turn
-/// of the rules would find nothing new; instances over terms that the graph does not contain may say more.
+/// A yes follows from what was asserted and from instances of the rules. A no says that it does not follow from those that were made, by a
+/// run that ended saturated. Other instances of the rules may say more.
 pub fn ask<L: Printable>(
     workspace: &mut Workspace<L>,
     left: &str,
