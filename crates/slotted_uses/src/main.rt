@@ -36,12 +36,10 @@ fn show_answer(rt: &impl Print, answer: &Answer) -> Result<()> {
 // Answers a line.
 fn answer_line(rt: &HostRuntime, workspace: &mut Workspace<Small>, line: &str) -> Result<()> {
     match carry_out(rt.alloc(), workspace, line) {
-        Ok(answer) => show_answer(rt, &answer),
-        Err(error) => {
-            println!(rt; "error: {error}")?;
-            Ok(())
-        }
+        Ok(answer) => show_answer(rt, &answer)?,
+        Err(error) => println!(rt; "error: {error}")?,
     }
+    Ok(())
 }
 
 // Answers a line, or repeats it if it asks nothing. A line `---` begins anew.
