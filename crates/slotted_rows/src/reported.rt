@@ -162,8 +162,9 @@ pub fn is_within_bounds<L: Language>(graph: &EGraph<L>) -> bool {
 }
 
 /// Whether the last rebuild left as many live classes and slots as there are.
-pub fn has_left_size<L: Language>(graph: &EGraph<L>) -> Result<bool, Error> {
+pub fn has_left_size<L: Language>(graph: &EGraph<L>) -> bool {
     let last = graph.last_rebuild();
-    let progress = graph.progress()?;
-    Ok(last.size_after == progress.number_of_live_classes as u128 + progress.sum_of_slots as u128)
+    let progress = graph.progress();
+    let classes = progress.number_of_live_classes as u128;
+    last.size_after == classes + progress.sum_of_slots as u128
 }

@@ -139,7 +139,7 @@ fn asked_of_graph<L: Language>(
         ("counted", _) => told(are_counted(graph)),
         ("turned", _) => Ok(yes(graph.last_rebuild().turns > 0)),
         ("within", _) => Ok(yes(is_within_bounds(graph))),
-        ("left", _) => told(has_left_size(graph)),
+        ("left", _) => Ok(yes(has_left_size(graph))),
         ("sides", number) => sides_related(graph, number.parse::<usize>().unwrap_or(0)),
         _ => Ok(yes(graph.is_failed())),
     }
