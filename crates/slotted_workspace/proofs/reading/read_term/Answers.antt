@@ -61,6 +61,3 @@ returns-clause-extends g c =
 
 pub returns-clause-stays : goal.returns-clause-stays
 returns-clause-stays g c = well-answered c.args.graph.now c.in_ok-term.term c.in_ok-term.ensures.failed
-
-pub same-term : goal.same-term
-same-term g c = refl
