@@ -13,8 +13,9 @@ returns-in-Rule-clause-answers g c =
 
 pub returns-in-Run-clause-answers : goal.returns-in-Run-clause-answers
 returns-in-Run-clause-answers g c =
-    rw (c.tell_run.ensures, sym c.in-Run.ensures)
-    (run-answered g.L.LanguageChildren.read g.L.Printable.written g.L.LanguageChildren.form (state_of c.args.session.now) (state_of c.run_rules.new.session) _ c.run_rules.result c.run_rules.ensures.answers)
+    let o = c.run_rules-outcome in
+    rw (c.tell_run.ensures, sym c.in-Run.ensures, c.rebuild_totals-before.ensures, c.rebuild_totals-after.ensures)
+    (run-answered g.L.LanguageChildren.read g.L.Printable.written g.L.LanguageChildren.form (state_of c.args.session.now) (state_of o.new.session) _ o.result o.ensures.answers)
 
 pub returns-in-Plain-clause-answers : goal.returns-in-Plain-clause-answers
 returns-in-Plain-clause-answers g c = rw (sym c.in-Plain.ensures) (answered c.answer.ensures refl)
