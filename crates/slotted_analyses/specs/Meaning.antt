@@ -3,7 +3,10 @@
 --     by_bare_nodes a   the model's analysis: what a node makes is what is left of it makes
 --     IsMergeOf a       what is asked of the merge and the height
 --     no_data           nothing is kept
+--     unit_code         there is one value of the unit type alone
 use Rattle.std.specs.Prelude.{◌≡◌, ◌≢◌, ◌<◌, refl}
+use Rattle.std.specs.Coded.{Coded}
+use base.Stored.{gnil}
 use Rattle.slotted_bare_nodes.specs.BareNodes.{bare}
 use Rattle.slotted_model_analyses.specs.Analysis.{Analysis}
 
@@ -32,3 +35,6 @@ no_data_merges = record {
   idempotent = λ _. refl;
   lowers = λ _ _ n. absurd (n refl);
 }
+
+abbrev pub unit_code : Coded (Unit {0})
+unit_code = record { code = λ _. gnil; inj = λ _ _ _. refl }

@@ -19,10 +19,16 @@ use std::alloc::Global;
 ///
 /// Of a node `make` may read the operator, the payloads, and which of its places have one name: all that is left of the node without its names
 /// and its children. Beside that it reads the data of the children. So alike nodes make alike data.
+///
+/// A graph stores its analysis and the data of its classes as values, so both need a code, which tells their values apart.
 pub trait Analysis<L: Language>: Drop {
+    ghost use Rattle.std.specs.Coded.{Coded};
     ghost use Rattle.slotted_analyses.specs.declared.edit.Edit.{Edit};
 
     type Data: Eq + Clone + Drop;
+
+    // What tells analyses of this type apart, and what tells data apart.
+    ghost codes: { Coded Self × Coded Self.Data };
 
     // What a node makes, the merge of two data, and the height of data. A node makes it of what is left of the node without its names and its
     // children, where the operator is one more than the node's, and of the data of its children from the left.
@@ -31,30 +37,30 @@ pub trait Analysis<L: Language>: Drop {
     // What may be asked for a class, by its data and its slots.
     ghost may_ask: { Self → Self.Data → List ℕ → Edit L → Type 0 } = { λ _ _ _ _. ⊥ };
 
-    // What a call may refuse with.
+    // What `modify` may refuse with.
     ghost refuses: { Error → Type 0 };
 
-    /// Data that equals this one.
+    /// Returns data that equals this one.
     fn copy(&self, alloc: Global, data: &Self::Data) -> Result<Self::Data, Error>
         ensures ok { IfOk result (λ d. d ≡ «data».now) }
         ensures err { IfErr result IsOutOfMemory };
 
-    /// What a node makes, whose children have these data, from the left.
+    /// Returns what a node makes whose children have these data, from the left. A growth may be refused, and nothing else.
     fn make(&self, alloc: Global, node: &L, child: &[Self::Data]) -> Result<Self::Data, Error>
         requires { HasValuesFor (L.form node.now) child.now }
         ensures ok { IfOk result (λ d. d ≡ (meaning self.now).make (bare_node (L.form node.now)) child.now) }
-        ensures err { IfErr result refuses };
+        ensures err { IfErr result IsOutOfMemory };
 
-    /// What both data come to.
+    /// Returns the merge of two data. A growth may be refused, and nothing else.
     fn merge(&self, alloc: Global, l: &Self::Data, r: &Self::Data) -> Result<Self::Data, Error>
         ensures ok { IfOk result (λ d. d ≡ (meaning self.now).merge l.now r.now) }
-        ensures err { IfErr result refuses };
+        ensures err { IfErr result IsOutOfMemory };
 
-    /// How often this data can still change, at most.
+    /// Returns how often this data can still change, at most.
     fn height(&self, data: &Self::Data) -> u32
         ensures { result ≡ (meaning self.now).height «data».now };
 
-    /// What is to be done for a class with this data and these slots, from the first edit to the last.
+    /// Returns what is to be done for a class with this data and these slots, from the first edit to the last.
     fn modify(
         &self,
         alloc: Global,
@@ -74,7 +80,7 @@ pub trait Analysis<L: Language>: Drop {
     // Data that is told to be equal is the same.
     ghost equal_is_same: { (x y : Self.Data) → IsTrue (Self.Data.eq x y) → x ≡ y };
 
-    // An analysis refuses for want of memory or of slots alone.
+    // So it refuses for want of memory or of slots alone.
     ghost only_shortages: { (e : Error) → refuses e → IsShortage e };
 }
 
@@ -87,9 +93,11 @@ pub fn analyses_merge<L: Language, N: Analysis<L>>()
 /// Nothing is kept, and nothing asked.
 impl<L: Language> Analysis<L> for () {
     ghost use Rattle.std.specs.Prelude.{refl};
-    ghost use Rattle.slotted_analyses.specs.Meaning.{no_data, no_data_merges};
+    ghost use Rattle.slotted_analyses.specs.Meaning.{no_data, no_data_merges, unit_code};
 
     type Data = ();
+
+    ghost codes = { (unit_code, unit_code) };
 
     ghost meaning = { λ _. no_data };
 

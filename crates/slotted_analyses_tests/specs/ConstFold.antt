@@ -2,14 +2,18 @@
 --     Fold           nothing is known, a number is, or two different ones are
 --     fold_made      a sum or a product of two numbers, where it is one of 32 bits
 --     fold_merged    what is known of a class by two of its nodes
-use Rattle.std.specs.Prelude.{◌≡◌, ℕ, ◌+◌, ◌*◌, ◌^◌, List, [], ◌∷◌, cond, nat_eq, nat_lt, slice_index, slice_index_or, Option, Some}
+--     fold_codes     what tells analyses and data apart
+use Rattle.std.specs.Prelude.{◌≡◌, refl, ℕ, ◌+◌, ◌*◌, ◌^◌, List, [], ◌∷◌, cond, nat_eq, nat_lt, slice_index, slice_index_or, Option, Some}
 use Rattle.std.specs.Prelude.{None as nothing}
+use Rattle.std.specs.Coded.{Coded, code_by, coded_option, coded_ℕ}
+use base.Stored.{gnil}
 use Rattle.slotted_analyses.specs.declared.edit.Edit.{Edit}
 use Rattle.slotted_analyses.specs.declared.edit.Edit.TheVariants.{Equal}
 use Rattle.slotted_small.specs.declared.small.Small.{Small}
 use Rattle.slotted_theory.specs.Nameless.{DTerm}
 use Rattle.slotted_theory.specs.Term.{Term, done}
 use Rattle.slotted_analyses.specs.Meaning.{Meaning}
+use Rattle.slotted_analyses_tests.specs.declared.const_fold.ConstFold.{ConstFold}
 use Rattle.slotted_analyses_tests.specs.declared.const_fold.Fold.{Fold}
 use Rattle.slotted_analyses_tests.specs.declared.const_fold.Fold.TheVariants.{None, Number, Conflict}
 
@@ -65,3 +69,22 @@ number_term n = record { op = 8; payloads = (n ∷ []) ∷ []; args = done }
 -- the class with a number equals its term
 abbrev pub AsksNumber : Fold → Edit Small → Type 0
 AsksNumber x e = (n : ℕ) × (x ≡ Number n) × (e ≡ Equal (number_term n))
+
+abbrev pub to_option : Fold → Option (Option ℕ)
+to_option None = nothing
+to_option Conflict = Some nothing
+to_option (Number n) = Some (Some n)
+
+abbrev pub of_option : Option (Option ℕ) → Fold
+of_option nothing = None
+of_option (Some nothing) = Conflict
+of_option (Some (Some n)) = Number n
+
+pub of-to : (x : Fold) → of_option (to_option x) ≡ x
+of-to None = refl
+of-to Conflict = refl
+of-to (Number n) = refl
+
+-- there is one analysis of this type, and data is told apart by its cases
+abbrev pub fold_codes : Coded ConstFold × Coded Fold
+fold_codes = (record { code = λ _. gnil; inj = λ _ _ _. refl }, code_by (Option (Option ℕ)) (coded_option (coded_option coded_ℕ)) to_option of_option of-to)

@@ -1,7 +1,11 @@
 -- The least size of a class's terms, which merging lowers.
 use Rattle.std.specs.Prelude.{◌≡◌, ◌≢◌, ℕ, suc, ◌-◌, ◌<◌, ◌^◌, min, sum}
+use Rattle.std.specs.Coded.{Coded, coded_ℕ}
+use Rattle.std.specs.Prelude.{refl}
+use base.Stored.{gnil}
 use Rattle.std.proofs.Common.{arith}
 use Rattle.slotted_analyses.specs.Meaning.{Meaning, IsMergeOf}
+use Rattle.slotted_analyses_tests.specs.declared.least_size.LeastSize.{LeastSize}
 
 abbrev pub largest : ℕ
 largest = 2 ^ 32 - 1
@@ -24,3 +28,7 @@ falls x y n = omega arith
 
 pub least_size_merges : IsMergeOf least_size
 least_size_merges = record { commutative = commutes; associative = associates; idempotent = itself; lowers = falls }
+
+-- there is one analysis of this type
+abbrev pub size_codes : Coded LeastSize × Coded ℕ
+size_codes = (record { code = λ _. gnil; inj = λ _ _ _. refl }, coded_ℕ)

@@ -26,11 +26,13 @@ pub enum Fold {
 pub struct ConstFold;
 
 impl Analysis<Small> for ConstFold {
-    ghost use Rattle.slotted_analyses_tests.specs.ConstFold.{AsksNumber, fold};
+    ghost use Rattle.slotted_analyses_tests.specs.ConstFold.{AsksNumber, fold, fold_codes};
     ghost use Rattle.slotted_analyses_tests.specs.FoldLaws.{fold_merges};
     ghost use Rattle.std.proofs.Common.{rules};
 
     type Data = Fold;
+
+    ghost codes = { fold_codes };
 
     ghost meaning = { λ _. fold };
 

@@ -12,10 +12,12 @@ use std::alloc::Global;
 pub struct LeastSize;
 
 impl<L: Language> Analysis<L> for LeastSize {
-    ghost use Rattle.slotted_analyses_tests.specs.LeastSize.{least_size, least_size_merges};
+    ghost use Rattle.slotted_analyses_tests.specs.LeastSize.{least_size, least_size_merges, size_codes};
     ghost use Rattle.std.proofs.Common.{rules};
 
     type Data = u32;
+
+    ghost codes = { size_codes };
 
     ghost meaning = { λ _. least_size };
 

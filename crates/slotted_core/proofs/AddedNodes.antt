@@ -19,7 +19,7 @@ use Rattle.slotted_core.specs.Adding.{AddsSyn, IsEqualToNode, MakesFilledClass, 
 use Rattle.slotted_core.specs.Good.{AddsFilled, AddsFound, Good, RestsWith, image_of}
 use Rattle.slotted_core.specs.Graph.{Graph, HasNewClass, IsFullId, MakesAtMost}
 use Rattle.slotted_core.specs.Image.{Image}
-use Rattle.slotted_core.specs.LookUp.{IsOneGraph, KeepsLookUps, MakesClassFor, look_up}
+use Rattle.slotted_core.specs.LookUp.{HasSameClasses, IsOneGraph, KeepsLookUps, MakesClassFor, look_up}
 use Rattle.slotted_core.specs.Reports.{IsFound}
 use Rattle.slotted_core.proofs.AddedByLookUp.{fresh-later}
 use Rattle.slotted_core.proofs.KnownNames.{answer_full, answer_names, answer_term}
@@ -52,15 +52,23 @@ module _ (k : Kept) (r : Rows) (good : Good k) (rests : RestsWith k r) (g : Grap
   pub added-equal : IsEqualToNode h.image a f
   added-equal = graph-equal l q added.good added.rests h image_h filed_h f fits children-after known-after a added-id
 
-  pub added-kept : h.part ≡ g.part → IsSome (look_up g f) → IsOneGraph g h
-  added-kept part s =
-      let same = added.kept (subst (λ (o : Option Applied). IsSome o) looked-before s) in
+  -- nothing was done where the node was looked up
+  pub added-none : IsSome (look_up g f) → (l ≡ k) × (q ≡ r) × (h.table ≡ t)
+  added-none s = added.kept (subst (λ (o : Option Applied). IsSome o) looked-before s)
+
+  pub added-same : IsSome (look_up g f) → HasSameClasses g h
+  added-same s =
+      let same = added-none s in
       record {
         table = same.2 ∙ table;
         image = sym image_h ∙ (ap image_of same.0 ∙ image);
         filed = sym filed_h ∙ (ap (λ (x : Rows). rows_in x.filed) same.1 ∙ filed);
-        part = part;
       }
+
+  pub added-kept : (l ≡ k → h.part ≡ g.part) → IsSome (look_up g f) → IsOneGraph g h
+  added-kept part s =
+      let same = added-same s in
+      record { table = same.table; image = same.image; filed = same.filed; part = part (added-none s).0 }
 
   pub added-made : MakesClassFor g h f a
   added-made none =
@@ -75,7 +83,7 @@ module _ (k : Kept) (r : Rows) (good : Good k) (rests : RestsWith k r) (g : Grap
 -- by canonical nodes
 module _ (k : Kept) (r : Rows) (g : Graph) (image : image_of k ≡ g.image) (filed : rows_in r.filed ≡ g.filed) (t : Table) (table : t ≡ g.table) (f : Form)
     (l : Kept) (q : Rows) (a : Applied) (h : Graph) (image_h : image_of l ≡ h.image) (filed_h : rows_in q.filed ≡ h.filed) (added : AddsFilled t h.table k r l q f a)
-    (part : h.part ≡ g.part) where
+    (part : l ≡ k → h.part ≡ g.part) where
   pub syn-valid : IsFullId h a
   syn-valid = record {
     full = subst (λ (x : Image). IsFull x.canonical a) image_h (answer_full (nodes_of l) added.filled a added.adds.found);
@@ -97,7 +105,7 @@ module _ (k : Kept) (r : Rows) (g : Graph) (image : image_of k ≡ g.image) (fil
           ap image_of same.0,
           sym filed_h ∙ (ap (λ (x : Rows). rows_in x.filed) same.1 ∙ filed),
           subst (MakesAtMost (children_lack (image_of k) f) t) (sym same.2) added.filling,
-          part,
+          part same.0,
         );
     made = λ none. let m : HasNewClass added.between h.table (nodes_of k) (nodes_of l) (nameless_node added.filled) = added.adds.made none in
         record { node = m.node; class = m.class; same_shape = m.same_shape; fresh = λ s c. fresh-later t added.between h.table s added.no_more (m.fresh s c) };

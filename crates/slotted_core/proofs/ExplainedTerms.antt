@@ -115,10 +115,11 @@ module _ (k : Kept) (r : Rows) (good : Good k) (m : Kept) (s : Rows) (n : Kept) 
     good = second.good;
     rests = second.rests;
     fresh_slots = second.fresh_slots;
+    goes_on = both-on;
     adds = both-added;
     notes = both-notes;
     filed = both-filed;
-    kept = λ x y. let all = both-kept x y in (ap nodes_of all.0, ap (λ (z : Kept). (image_of z).found) all.0, ap (λ (z : Kept). (image_of z).symmetries) all.0, all.1, all.2, ap (λ (z : Kept). z.counts) all.0);
+    kept = λ x y. let all = both-kept x y in (ap nodes_of all.0, ap (λ (z : Kept). (image_of z).found) all.0, ap (λ (z : Kept). (image_of z).symmetries) all.0, all.1, all.2, ap (λ (z : Kept). z.counts) all.0, ap (λ (z : Kept). z.deaths) all.0);
     answers = record { left = a; right = b; ids = both-ids; apart = λ f. apart (says-alike.1 f) };
   }
 
@@ -133,6 +134,7 @@ module _ (k : Kept) (r : Rows) (good : Good k) (m : Kept) (s : Rows) (n : Kept) 
         good = proving-good n q second.good second.rests l proves.only;
         rests = proved-rests n l q second.good second.rests proves.only;
         fresh_slots = grown-fresh w n l same second.fresh_slots;
+        goes_on = on;
         adds = record {
           extends = Extends-then (nodes_of k) (nodes_of n) (nodes_of l) both-added.extends x;
           adds = adds-then (image_of k) (image_of n) (image_of l) both-added.extends both-added.adds (proving-adds n q second.good second.rests l proves.only) (finds-on k r good l q on);
@@ -147,6 +149,7 @@ module _ (k : Kept) (r : Rows) (good : Good k) (m : Kept) (s : Rows) (n : Kept) 
               all.1,
               all.2,
               ap (λ (z : Kept). z.counts) (proves.only.kept ∙ ap (λ (z : Kept). with_proofs z proves.only.proofs) all.0),
+              ap (λ (z : Kept). z.deaths) (proves.only.kept ∙ ap (λ (z : Kept). with_proofs z proves.only.proofs) all.0),
             );
         answers = record {
           left = a;

@@ -1,5 +1,5 @@
 -- A graph to which a term was added by look-up, as contracts see it.
-use Rattle.std.proofs.Common.{◌≡◌, ◌∙◌, ℕ, [], false, Option, Some, ap, refl, sym, subst, inl, inr}
+use Rattle.std.proofs.Common.{◌≡◌, ◌<◌, ◌∙◌, ℕ, [], false, Option, Some, ap, refl, sym, subst, inl, inr, arith}
 use Rattle.std.specs.Prelude.{All, IsSome, slice_index_or}
 use Rattle.slotted_theory.specs.Nameless.{nameless}
 use Rattle.slotted_theory.specs.Term.{Term}
@@ -25,7 +25,7 @@ use Rattle.slotted_core.specs.LookUp.{IsOneGraph, KeepsLookUps, look_up, look_up
 use Rattle.slotted_core.specs.Nodes.{child_ids}
 use Rattle.slotted_core.specs.Reports.{IsFound}
 use Rattle.slotted_core.specs.Subterms.{IsTopIn}
-use Rattle.slotted_core.proofs.AddedNodes.{added-answers, added-id, added-kept, added-made}
+use Rattle.slotted_core.proofs.AddedNodes.{added-answers, added-id, added-made, added-same}
 use Rattle.slotted_core.proofs.AddedTerms.{Reached, reached}
 use Rattle.slotted_core.proofs.ValidIds.{fills-filling, findable-children, to-valid}
 use Rattle.slotted_core.proofs.LookUps.{looked_up-is, tree-is}
@@ -57,10 +57,10 @@ graph-top y t k r good rests w f o = record {
 }
 
 module _ (y : Gv) (w : Term) (t : Table) (k : Kept) (r : Rows) (good : Good k) (rests : RestsWith k r) (fresh : HasFreshSlots t k) where
-  graph-node : (u v : Table) (l m : Kept) (q s : Rows) → Reached t k r u l q → AddsNodeIn w u l q v m s → AddsNode w (seen y u l q) (seen y v m s)
-  graph-node u v l m q s p step =
+  graph-node : (z : Gv) (u v : Table) (l m : Kept) (q s : Rows) → Reached t k r u l q → AddsNodeIn w u l q v m s → AddsNode w (seen y u l q) (seen z v m s)
+  graph-node z u v l m q s p step =
       let g : Graph = seen y u l q in
-      let h : Graph = seen y v m s in
+      let h : Graph = seen z v m s in
       let c = over-children y u l q p.good step.node step.fits step.children step.known in
       record {
         node = step.node;
@@ -69,7 +69,7 @@ module _ (y : Gv) (w : Term) (t : Table) (k : Kept) (r : Rows) (good : Good k) (
         top = graph-top y u l q p.good p.rests w step.node step.top;
         answer = step.answer;
         id = added-id l q p.good p.rests g refl refl u refl step.node step.fits c step.known m s step.answer h refl refl step.more step.added;
-        kept = added-kept l q p.good p.rests g refl refl u refl step.node step.fits c step.known m s step.answer h refl refl step.more step.added refl;
+        kept = added-same l q p.good p.rests g refl refl u refl step.node step.fits c step.known m s step.answer h refl refl step.more step.added;
         made = added-made l q p.good p.rests g refl refl u refl step.node step.fits c step.known m s step.answer h refl refl step.more step.added;
         answers = added-answers l q p.good p.rests g refl refl u refl step.node step.fits c step.known m s step.answer h refl refl step.more step.added;
         extends = step.added.extends;
@@ -81,7 +81,13 @@ module _ (y : Gv) (w : Term) (t : Table) (k : Kept) (r : Rows) (good : Good k) (
   graph-nodes : (n : ℕ) (u : Table) (l : Kept) (q : Rows) → AddsNodesIn w t k r n u l q → AddsNodes w (seen y t k r) n (seen y u l q)
   graph-nodes _ _ _ _ kept.none_added = none_added
   graph-nodes _ _ _ _ (kept.one_added {n} {u} {v} {l} {m} {q} {s} before step) =
-      one_added (graph-nodes n u l q before) (graph-node u v l m q s (reached w t k r good rests fresh n u l q before) step)
+      one_added (graph-nodes n u l q before) (graph-node y u v l m q s (reached w t k r good rests fresh n u l q before) step)
+
+  -- the analysis may keep something else once the last one has been added
+  graph-nodes-then : (z : Gv) (n : ℕ) → 0 < n → (u : Table) (l : Kept) (q : Rows) → AddsNodesIn w t k r n u l q → AddsNodes w (seen y t k r) n (seen z u l q)
+  graph-nodes-then z _ more _ _ _ kept.none_added = absurd (omega (arith, more))
+  graph-nodes-then z _ more _ _ _ (kept.one_added {n} {u} {v} {l} {m} {q} {s} before step) =
+      one_added (graph-nodes n u l q before) (graph-node z u v l m q s (reached w t k r good rests fresh n u l q before) step)
 
   graph-takes : (v : Table) → TakesForTermIn w t k r v → TakesForTerm w (seen y t k r) v
   graph-takes v takes =
@@ -130,15 +136,16 @@ module _ (y : Gv) (w : Term) (t : Table) (k : Kept) (r : Rows) (good : Good k) (
     pub term-lacks : (v : Table) → LacksForTermIn w t k r v → LacksForTerm w g v
     term-lacks v lacks = subst (λ (x : Graph). LacksForTerm w x v) is (graph-lacks v lacks)
 
-    module _ (u : Table) (l : Kept) (q : Rows) (a : Applied) (add : AddsFoundTerm t k r u l q w a) where
+    -- the graph after, by what its analysis keeps then
+    module _ (z : Gv) (u : Table) (l : Kept) (q : Rows) (a : Applied) (add : AddsFoundTerm t k r u l q w a) where
       abbrev h : Graph
-      h = seen y u l q
+      h = seen z u l q
 
       pub term-reached : Reached t k r u l q
       term-reached = reached w t k r good rests fresh (term_nodes w) u l q add.nodes
 
       pub term-nodes : AddsNodes w g (term_nodes w) h
-      term-nodes = subst (λ (x : Graph). AddsNodes w x (term_nodes w) h) is (graph-nodes (term_nodes w) u l q add.nodes)
+      term-nodes = subst (λ (x : Graph). AddsNodes w x (term_nodes w) h) is (graph-nodes-then z (term_nodes w) (omega arith) u l q add.nodes)
 
       pub term-id : look_up_term h w ≡ Some a
       term-id = tree-is l q term-reached.good term-reached.rests h refl refl (nameless w) ∙ add.found
@@ -149,11 +156,11 @@ module _ (y : Gv) (w : Term) (t : Table) (k : Kept) (r : Rows) (good : Good k) (
       pub term-equal : IsEqualToTerm h.image a w
       term-equal left fills = filled-equal (state_in l q) (at-rest l q term-reached.good term-reached.rests) (nameless w) a left [] add.found (fills-filling l a left fills)
 
-      pub term-kept : IsSome (look_up_term g w) → IsOneGraph g h
-      term-kept some =
+      pub term-kept : (l ≡ k → z ≡ y) → IsSome (look_up_term g w) → IsOneGraph g h
+      term-kept part some =
           let before : look_up_term (seen y t k r) w ≡ look_up_tree (state_in k r) (nameless w) = tree-is k r good rests (seen y t k r) refl refl (nameless w) in
           let same = add.kept (subst (λ (o : Option Applied). IsSome o) (ap (λ (x : Graph). look_up_term x w) (sym is) ∙ before) some) in
-          subst (λ (x : Graph). IsOneGraph x h) is (record { table = same.2; image = ap image_of same.0; filed = ap (λ (x : Rows). rows_in x.filed) same.1; part = refl })
+          subst (λ (x : Graph). IsOneGraph x h) is (record { table = same.2; image = ap image_of same.0; filed = ap (λ (x : Rows). rows_in x.filed) same.1; part = part same.0 })
 
       pub term-answers : KeepsLookUps g h
       term-answers = subst (λ (x : Graph). KeepsLookUps x h) is

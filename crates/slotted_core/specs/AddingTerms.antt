@@ -21,7 +21,7 @@ use Rattle.slotted_core.specs.Adding.{IsOfTerm, RunsOutForFilled, slots_needed, 
 use Rattle.slotted_core.specs.ValidIds.{Fills, IsValidId}
 use Rattle.slotted_core.specs.Graph.{Graph, MakesAtMost}
 use Rattle.slotted_core.specs.Image.{AddsClasses, Image, NewClassesAre, asserted_in}
-use Rattle.slotted_core.specs.LookUp.{IsOneGraph, KeepsLookUps, MakesClassFor, look_up, look_up_nameless, look_up_term}
+use Rattle.slotted_core.specs.LookUp.{HasSameClasses, KeepsLookUps, MakesClassFor, look_up, look_up_nameless, look_up_term}
 use Rattle.slotted_core.specs.Nodes.{child_ids}
 use Rattle.slotted_core.specs.Subterms.{IsSubterm, IsTopIn}
 
@@ -39,7 +39,7 @@ pub record AddsNode (t : Term) (g h : Graph) : Type 0 where
   pub top : IsTopIn (look_up_nameless g) t node
   pub answer : Applied
   pub id : look_up h node ≡ Some answer
-  pub kept : IsSome (look_up g node) → IsOneGraph g h
+  pub kept : IsSome (look_up g node) → HasSameClasses g h
   pub made : MakesClassFor g h node answer
   pub answers : KeepsLookUps g h
   pub extends : Extends g.image.canonical h.image.canonical

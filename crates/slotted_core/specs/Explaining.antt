@@ -13,6 +13,7 @@ use Rattle.slotted_slots.specs.Table.{Table, slot_limit}
 use Rattle.slotted_theory.specs.Term.{Term, term_size}
 use Rattle.slotted_theory.specs.Nameless.{DTerm, nameless}
 use Rattle.slotted_model.specs.Applied.{Applied}
+use Rattle.slotted_model.specs.Changes.{GoesOn}
 use Rattle.slotted_model.specs.Growth.{Extends}
 use Rattle.slotted_model.specs.Ids.{id_of}
 use Rattle.slotted_model.specs.ProofList.{equation_of, equation_at}
@@ -20,6 +21,7 @@ use Rattle.slotted_store.specs.Finding.{FindAlike}
 use Rattle.slotted_store.specs.Kept.{Kept, entries_of, nodes_of}
 use Rattle.slotted_unions.specs.Proving.{ProvesEqual}
 use Rattle.slotted_filing.specs.FiledRows.{Rows}
+use Rattle.slotted_rebuilding.specs.Filed.{state_in}
 use Rattle.slotted_core.specs.Causes.{HasLargeClassIn, HasLargeClassOf}
 use Rattle.slotted_core.specs.Good.{Good, KeepsNotes, RestsWith, HasFreshSlots, image_of}
 use Rattle.slotted_core.specs.Graph.{Graph, RunsOut, id_of_term}
@@ -83,12 +85,13 @@ pub record ExplainsTerms (old new : Table) (k : Kept) (r : Rows) (l : Kept) (q :
   pub good : Good l
   pub rests : RestsWith l q
   pub fresh_slots : HasFreshSlots new l
+  pub goes_on : GoesOn (state_in k r) (state_in l q)
   pub adds : AddsTerms (image_of k) (image_of l)
   pub notes : KeepsNotes k l
   pub filed : NewClassesAre (nodes_of k) (nodes_of l) (IsIdOfEither (nodes_of l) t u)
   pub kept : IsSome (id_of (nodes_of k) (nameless t)) → IsSome (id_of (nodes_of k) (nameless u)) → (nodes_of l ≡ nodes_of k) ×
       ((image_of l).found ≡ (image_of k).found) × ((image_of l).symmetries ≡ (image_of k).symmetries) × (q ≡ r) × (new ≡ old) ×
-      (l.counts ≡ k.counts)
+      (l.counts ≡ k.counts) × (l.deaths ≡ k.deaths)
   pub answers : Answers (image_of l) t u answer
 
 -- one of the terms has no id

@@ -7,6 +7,7 @@
 --     RunsOutForUnknown   slots ran out for a node that was not looked up
 --     MakesClassFor       there is one class more where the node was not looked up
 --     AreLookedUp g       the node of each class is looked up
+--     HasSameClasses g h  the graphs have the same table, classes, proofs and filed nodes
 --     IsOneGraph g h      the graphs are one, but for whether they failed
 --     KeepsLookUps g h    ids find what they found, and what was looked up is looked up as before
 use Rattle.std.specs.Prelude.{◌≡◌, Option, None, Some, option_map}
@@ -64,6 +65,12 @@ pub record IsLookedUp (g : Graph) (a : Applied) : Type 0 where
 abbrev pub AreLookedUp : Graph → Type 0
 AreLookedUp g = (a : Applied) → IsFull g.image.canonical a → IsLookedUp g a
 
+pub record HasSameClasses (g h : Graph) : Type 0 where
+  pub table : h.table ≡ g.table
+  pub image : h.image ≡ g.image
+  pub filed : h.filed ≡ g.filed
+
+-- and so has what the analysis keeps
 pub record IsOneGraph (g h : Graph) : Type 0 where
   pub table : h.table ≡ g.table
   pub image : h.image ≡ g.image

@@ -4,6 +4,7 @@ pub mod TakenData
 pub mod Rising
 pub mod Buried
 pub mod GoingAlong
+pub mod Settled
 pub mod MergedValues
 pub mod Resting
 pub mod Telling

@@ -1,12 +1,14 @@
 -- Data at rest, for callers: the graph without classes, a graph in which nothing was done, and one that goes on.
-use Rattle.std.proofs.Common.{◌≡◌, ℕ, List, [], ◌++◌, sym, refl, arith, append-nil}
+use Rattle.std.proofs.Common.{◌≡◌, ℕ, List, [], ◌++◌, sym, refl, subst, arith, append-nil}
 use Rattle.slotted_theory.proofs.Lists.{Contains-nil}
 use Rattle.slotted_model.specs.Changes.{GoesOn}
+use Rattle.slotted_model.specs.Rest.{AtRest}
 use Rattle.slotted_model.proofs.Asserting.{nothing-rests}
 use Rattle.slotted_model.proofs.GoingOn.{goes_on-same}
 use Rattle.slotted_model_analyses.specs.Analysis.{Analysis}
 use Rattle.slotted_model_analyses.proofs.Writing.{nothing-rests-with}
-use Rattle.slotted_store.specs.Kept.{Kept, nothing}
+use Rattle.slotted_proofs.specs.Entries.{Proven}
+use Rattle.slotted_store.specs.Kept.{Kept, nothing, with_proofs}
 use Rattle.slotted_filing.specs.FiledRows.{Rows, no_rows}
 use Rattle.slotted_rebuilding.specs.Filed.{state_in}
 use Rattle.slotted_data.specs.Held.{Held, no_values, with_none_changed}
@@ -39,6 +41,26 @@ module _ {D : Type 0} (a : Analysis D) where
   -- and the same one
   pub rested-itself : (k : Kept) (r : Rows) (d : Held D) → DataRests a k r d → RestedBefore a k r k r d
   rested-itself k r d rests = rested-before k r k r d [] rests (goes_on-same (state_in k r) rests.rest.sane.sound.linked) (sym (append-nil k.deaths))
+
+  -- more proofs change no data
+  pub rests-proved : (k l : Kept) (ps : List Proven) (r : Rows) (d : Held D) → l ≡ with_proofs k ps → AtRest (state_in l r) → DataRests a k r d → DataRests a l r d
+  rests-proved k l ps r d is rest rests = subst (λ m. AtRest (state_in m r) → DataRests a m r d) (sym is) (λ now. record {
+    rest = now;
+    count = rests.count;
+    has = λ x. let h = rests.has x in record {
+      waits_once = h.waits_once;
+      waits_whole = h.waits_whole;
+      waits_for_row = h.waits_for_row;
+      absorbs_made = h.absorbs_made;
+      changed_once = h.changed_once;
+      changed_in_range = h.changed_in_range;
+    };
+    users = record { cover = rests.users.cover; only = rests.users.only; within = rests.users.within };
+    all = rests.all;
+    low = rests.low;
+    carried = rests.carried;
+    dead = rests.dead;
+  }) rest
 
   -- the classes that waited to be modified wait no more
   pub rests-taken : (k : Kept) (r : Rows) (d : Held D) → DataRests a k r d → DataRests a k r (with_none_changed d)

@@ -73,6 +73,19 @@ module _ (k : Kept) (s : Rows) (rest : AtRest (state_in k (quiet s))) where
       let l : c < length (nodes_of k) = omega (arith, within, e) in
       find_class-live (nodes_of k) (entries_of k) led (found_in k c) (found-in_range (nodes_of k) (entries_of k) led c l) (found-live (nodes_of k) (entries_of k) led c l)
 
+  -- so they are live classes
+  pub row-child : (r : Row) → Contains (rows_in s.filed) r → (c : ℕ) → Contains (child_classes r.shape.args) c → (c < length k.classes) × (found_in k c ≡ c)
+  row-child r there c child =
+      let w = Contains-of_map (found_in k) (children_at k r.source) c (subst (λ xs. Contains xs c) (row-found r there) child) in
+      let older = children-older k rest.sane.sound.canonical r.source (row-within r there) w.0 w.1 in
+      let n = length-nodes_of k in
+      let e = row-within r there in
+      let within : w.0 < length k.classes = omega (arith, older, e) in
+      let found : found_in k w.0 < length (nodes_of k) = found-in_range (nodes_of k) (entries_of k) led w.0 (omega (arith, within, n)) in (
+        subst (λ z. z < length k.classes) w.2 (omega (arith, found, n)),
+        subst (λ z. found_in k z ≡ z) w.2 (found-twice w.0 within),
+      )
+
   pub row-source : (r : Row) → Contains (rows_in s.filed) r → IsFiled s.filed r.source
   row-source r there = (source-filed s.filed r.source).0 (Contains-map (λ (q : Row). q.source) (rows_in s.filed) r there)
 

@@ -1,13 +1,11 @@
 -- Carrying data along, from one graph at rest to a later one.
 --     DataRests a k r d         the graph is at rest with data d for all of its classes
 --     RestedBefore a k r l q d  the older graph rested with d, and the newer one goes on from it
+--     HasCarriedAll l d         each class has data, and each death has been carried
 --     Carried a k r l q d e     the newer one is at rest with e, which went down from d; what was made or has changed waits to be modified
 --     CarriesUp a l q t d e     the steps: users are entered, the dead are buried, and what nodes make goes upwards
 --     MergesIn a k q i v d e    v is merged into the data of the class that i finds, and goes upwards
---     MayRefuse refuses e       a growth was refused, or the analysis refused
-use Rattle.std.specs.Prelude.{◌≡◌, ◌⊎◌, ◌<◌, ℕ, List, [], ◌++◌, length, drop, false, IsTrue}
-use Rattle.slotted_slots.specs.Error.{IsOutOfMemory}
-use Rattle.slotted_slots.specs.declared.error.Error.{Error}
+use Rattle.std.specs.Prelude.{◌≡◌, ◌<◌, ℕ, List, [], ◌++◌, length, drop, false, IsTrue}
 use Rattle.slotted_model.specs.Changes.{GoesOn}
 use Rattle.slotted_model.specs.Rest.{AtRest}
 use Rattle.slotted_model_analyses.specs.Analysis.{Analysis, Absorbs}
@@ -47,6 +45,10 @@ pub record RestedBefore {D : Type 0} (a : Analysis D) (k : Kept) (r : Rows) (l :
 abbrev pub RestedOnce : {D : Type 0} → Analysis D → Kept → Rows → Held D → Type 0
 RestedOnce a l q d = (k : Kept) × (r : Rows) × RestedBefore a k r l q d
 
+-- each class has data, and each death has been carried
+abbrev pub HasCarriedAll : {D : Type 0} → Kept → Held D → Type 0
+HasCarriedAll l d = (length d.values ≡ length l.classes) × (d.carried ≡ length l.deaths)
+
 -- the data e of the newer graph is that of rest again; it only went down from d; and what was made, or has changed, waits to be modified
 pub record Carried {D : Type 0} (a : Analysis D) (k : Kept) (r : Rows) (l : Kept) (q : Rows) (d e : Held D) : Type 0 where
   pub rests : DataRests a l q e
@@ -72,10 +74,6 @@ pub record CarriesUp {D : Type 0} (a : Analysis D) (l : Kept) (q t : Rows) (d f 
   pub buried_data : Held D
   pub buries : Buries a l (drop d.carried l.deaths) entered_rows buried_rows entered_data buried_data
   pub rises : RisesTo a l buried_rows t buried_data f
-
--- a growth was refused, or the analysis refused
-abbrev pub MayRefuse : (Error → Type 0) → Error → Type 0
-MayRefuse refuses e = IsOutOfMemory e ⊎ refuses e
 
 -- v is merged into the data of the class that i finds, and values go upwards; the graph is at rest with what is there then
 pub record MergesIn {D : Type 0} (a : Analysis D) (k : Kept) (q : Rows) (i : ℕ) (v : D) (d e : Held D) : Type 0 where

@@ -6,7 +6,6 @@ ghost use Rattle.slotted_store.specs.Finding.{HasFinds};
 ghost use Rattle.slotted_store.specs.Kept.{entries_of};
 ghost use Rattle.slotted_analyses.specs.Meaning.{by_bare_nodes};
 ghost use Rattle.slotted_data.specs.Burying.{Buries, BuriesOne, MovesUsers};
-ghost use Rattle.slotted_data.specs.Carrying.{MayRefuse};
 ghost use Rattle.slotted_data.specs.Held.{users_of};
 
 use crate::class_data::ClassData;
@@ -53,7 +52,7 @@ fn bury_one<L: Language, N: Analysis<L>>(
     requires count { length «data».old.values ≡ length store.now.classes }
     ensures ok { OnOk result
         (BuriesOne (by_bare_nodes (N.meaning analysis.now)) store.now dead nodes.old nodes.new «data».old «data».new) }
-    ensures err { IfErr result (MayRefuse N.refuses) }
+    ensures err { IfErr result IsOutOfMemory }
 {
     let heir = store.find_class(dead);
     let merged = analysis.merge(alloc, data.value(heir), data.value(dead))?;
@@ -82,7 +81,7 @@ pub(crate) fn bury<L: Language, N: Analysis<L>>(
     requires users { (c o : ℕ) → Contains (users_of «data».old c) o → c < length store.now.classes }
     ensures ok { OnOk result
         (Buries (by_bare_nodes (N.meaning analysis.now)) store.now deaths.now nodes.old nodes.new «data».old «data».new) }
-    ensures err { IfErr result (MayRefuse N.refuses) }
+    ensures err { IfErr result IsOutOfMemory }
 {
     for dead in deaths {
         bury_one(store, nodes, data, analysis, alloc, *dead)?;

@@ -1,12 +1,13 @@
 //! Data is carried along after a graph has come to rest, and values are merged into it.
-ghost use Rattle.std.specs.Prelude.{◌≡◌, ◌<◌, ℕ, length, IfErr, OnOk};
+ghost use Rattle.std.specs.Prelude.{◌≡◌, ◌<◌, ◌↔◌, ℕ, length, IfErr, IsTrue, OnOk};
+ghost use Rattle.slotted_slots.specs.Error.{IsOutOfMemory};
 ghost use Rattle.slotted_model.specs.Rest.{AtRest};
 ghost use Rattle.slotted_store.specs.Finding.{HasFinds};
-ghost use Rattle.slotted_store.specs.Kept.{Kept};
+ghost use Rattle.slotted_store.specs.Kept.{Kept, ListsDead, entries_of};
 ghost use Rattle.slotted_filing.specs.FiledRows.{Rows};
 ghost use Rattle.slotted_rebuilding.specs.Filed.{state_in};
 ghost use Rattle.slotted_analyses.specs.Meaning.{by_bare_nodes};
-ghost use Rattle.slotted_data.specs.Carrying.{Carried, CarriesUp, DataRests, HasNewData, MayRefuse};
+ghost use Rattle.slotted_data.specs.Carrying.{Carried, CarriesUp, DataRests, HasCarriedAll, HasNewData};
 ghost use Rattle.slotted_data.specs.Carrying.{MergesIn, RestedBefore, RestedOnce};
 
 use crate::burying::bury;
@@ -34,7 +35,7 @@ fn carry_up<L: Language, N: Analysis<L>>(
     requires new { HasNewData (N.meaning analysis.now) store.now nodes.old «data».old }
     ensures ok { OnOk result
         (CarriesUp (by_bare_nodes (N.meaning analysis.now)) store.now nodes.old nodes.new «data».old «data».new) }
-    ensures err { IfErr result (MayRefuse N.refuses) }
+    ensures err { IfErr result IsOutOfMemory }
 {
     enter_users(store, nodes, data)?;
     bury(
@@ -49,7 +50,16 @@ fn carry_up<L: Language, N: Analysis<L>>(
     Ok(())
 }
 
-/// The data of all classes comes to rest again, after the graph has.
+// Whether each class has data, and each death has been carried.
+fn has_carried_all<L: Language, D: Drop>(store: &Store<L>, data: &ClassData<D>) -> bool
+    ensures all { IsTrue result ↔ HasCarriedAll store.now «data».now }
+    ensures just { ListsDead store.now.deaths (entries_of store.now) }
+{
+    let deaths = store.deaths().len();
+    data.count() == store.class_count() && data.carried() == deaths
+}
+
+/// Brings the data of all classes to rest again, after the graph has come to rest.
 ///
 /// A graph was at rest with the data before, and the one that is there goes on from it, whatever was done between the two. New classes get
 /// what their nodes make. What a class had that died is merged into the data of the class that it finds. From there values go upwards. As
@@ -68,8 +78,13 @@ pub fn carry<L: Language, N: Analysis<L>>(
     ensures carried { OnOk result ((k : Kept) (r : Rows)
         → RestedBefore (by_bare_nodes (N.meaning analysis.now)) k r store.now nodes.old «data».old
         → Carried (by_bare_nodes (N.meaning analysis.now)) k r store.now nodes.old «data».old «data».new) }
-    ensures err { IfErr result (MayRefuse N.refuses) }
+    // Where each class has data, and each death has been carried, nothing changes.
+    ensures still { OnOk result (HasCarriedAll store.now «data».old → «data».new ≡ «data».old) }
+    ensures err { IfErr result IsOutOfMemory }
 {
+    if has_carried_all(store, data) {
+        return Ok(());
+    }
     add_new(store, data, analysis, alloc)?;
     if data.is_tall() {
         carry_up(store, nodes, data, analysis, alloc)?;
@@ -78,7 +93,7 @@ pub fn carry<L: Language, N: Analysis<L>>(
     Ok(())
 }
 
-/// A value is merged into the data of the class that a class finds, and goes upwards. Data of height 0 absorbs everything.
+/// Merges a value into the data of the class that a class finds, from where it goes upwards. Data of height 0 absorbs everything.
 pub fn merge_value<L: Language, N: Analysis<L>>(
     store: &Store<L>,
     nodes: &mut Hashcons<L>,
@@ -94,7 +109,7 @@ pub fn merge_value<L: Language, N: Analysis<L>>(
     ensures same { OnOk result (nodes.new ≡ nodes.old) }
     ensures merges { OnOk result
         (MergesIn (by_bare_nodes (N.meaning analysis.now)) store.now nodes.old class value.now «data».old «data».new) }
-    ensures err { IfErr result (MayRefuse N.refuses) }
+    ensures err { IfErr result IsOutOfMemory }
 {
     if !data.is_tall() {
         return Ok(());

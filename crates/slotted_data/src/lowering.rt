@@ -7,7 +7,6 @@ ghost use Rattle.slotted_store.specs.Finding.{HasFinds};
 ghost use Rattle.slotted_filing.specs.Filed.{filed_of};
 ghost use Rattle.slotted_rebuilding.specs.Filed.{state_in};
 ghost use Rattle.slotted_analyses.specs.Meaning.{by_bare_nodes};
-ghost use Rattle.slotted_data.specs.Carrying.{MayRefuse};
 ghost use Rattle.slotted_data.specs.Lowering.{IsReady, Lowers, MakesValue, Puts, RisesTo, TakesValue, part_of, quiet};
 
 use crate::class_data::ClassData;
@@ -50,7 +49,7 @@ pub(crate) fn lower<L: Language, N: Analysis<L>>(
 ) -> Result<(), Error>
     requires { class < length «data».old.values }
     ensures ok { OnOk result (Lowers (N.meaning analysis.now) class value.now nodes.old nodes.new «data».old «data».new) }
-    ensures err { IfErr result (MayRefuse N.refuses) }
+    ensures err { IfErr result IsOutOfMemory }
 {
     let merged = analysis.merge(alloc, data.value(class), value)?;
     put_value::<L, N>(nodes, data, class, merged)?;
@@ -71,7 +70,7 @@ fn value_made<L: Language, N: Analysis<L>>(
     ensures some { IfOk result (λ o. IfSome o
         (MakesValue (N.meaning analysis.now) store.now «data».now.values (filed_of nodes.now.filed source))) }
     ensures none { IfOk result (λ o. IfNone o (filed_of nodes.now.filed source ≡ None)) }
-    ensures err { IfErr result (MayRefuse N.refuses) }
+    ensures err { IfErr result IsOutOfMemory }
 {
     let Some((key, _)) = nodes.node(source) else {
         return Ok(None);
@@ -97,7 +96,7 @@ fn take_data<L: Language, N: Analysis<L>>(
     requires changed { AllDifferent «data».old.changed }
     ensures ok { OnOk result
         (TakesValue (by_bare_nodes (N.meaning analysis.now)) store.now source nodes.old nodes.new «data».old «data».new) }
-    ensures err { IfErr result (MayRefuse N.refuses) }
+    ensures err { IfErr result IsOutOfMemory }
 {
     let class = store.find_class(source);
     if analysis.height(data.value(class)) == 0 {
@@ -124,7 +123,7 @@ pub(crate) fn rise<L: Language, N: Analysis<L>>(
         (state_in store.now (quiet nodes.old)) (part_of x «data».old nodes.old.waiting) }
     ensures ok { OnOk result
         (RisesTo (by_bare_nodes (N.meaning analysis.now)) store.now nodes.old nodes.new «data».old «data».new) }
-    ensures err { IfErr result (MayRefuse N.refuses) }
+    ensures err { IfErr result IsOutOfMemory }
 {
     while let Some(source) = nodes.front() {
         nodes.leave(source);

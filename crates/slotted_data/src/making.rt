@@ -6,7 +6,6 @@ ghost use Rattle.slotted_store.specs.Finding.{HasFinds};
 ghost use Rattle.slotted_store.specs.Kept.{entries_of, nodes_of};
 ghost use Rattle.slotted_filing.specs.FiledRows.{HasChildrenBelow, key_children};
 ghost use Rattle.slotted_bare_nodes.specs.BareNodes.{HasValuesFor};
-ghost use Rattle.slotted_data.specs.Carrying.{MayRefuse};
 ghost use Rattle.slotted_data.specs.Made.{AddsNew, AddsNext, HasChildValues, source_class};
 
 use crate::class_data::ClassData;
@@ -62,7 +61,7 @@ fn add_next<L: Language, N: Analysis<L>>(
     requires canonical { Canonical (nodes_of store.now) }
     requires within { length «data».old.values < length store.now.classes }
     ensures ok { OnOk result (AddsNext (N.meaning analysis.now) store.now «data».old «data».new) }
-    ensures err { IfErr result (MayRefuse N.refuses) }
+    ensures err { IfErr result IsOutOfMemory }
 {
     let node = store.node_of(data.count());
     let child = child_data(store, data, analysis, alloc, node)?;
@@ -84,7 +83,7 @@ pub(crate) fn add_new<L: Language, N: Analysis<L>>(
     requires within { length «data».old.values ≤ length store.now.classes }
     ensures ok { OnOk result (AddsNew (N.meaning analysis.now) store.now «data».old «data».new) }
     ensures count { OnOk result (length «data».new.values ≡ length store.now.classes) }
-    ensures err { IfErr result (MayRefuse N.refuses) }
+    ensures err { IfErr result IsOutOfMemory }
 {
     for i in data.count()..store.class_count() {
         add_next(store, data, analysis, alloc)?;

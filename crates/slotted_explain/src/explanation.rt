@@ -10,6 +10,7 @@ ghost use Rattle.slotted_explain.specs.Chain.{ChainRunsOut, MakesForChain};
 use crate::flat::chain_text;
 use crate::print::lines_text;
 use crate::steps::flat_steps;
+use slotted_analyses::Analysis;
 use slotted_graph::EGraph;
 use slotted_languages::Language;
 use slotted_proofs::{Equation, Proof, ProvenEq, ProvenEqRaw};
@@ -23,18 +24,18 @@ pub trait Explanation {
     ghost number: { Self → ℕ };
 
     /// The equation, with numbered names.
-    fn equ<L: Language, N: Drop>(self, graph: &EGraph<L, N>) -> &Equation
+    fn equ<L: Language, N: Analysis<L>>(self, graph: &EGraph<L, N>) -> &Equation
         requires { number self < length graph.now.image.entries }
         ensures { IsWritten (statement_at graph.now.image.stored (number self)) result.now };
 
     /// The step by which it was proved.
-    fn proof<L: Language, N: Drop>(self, graph: &EGraph<L, N>) -> &Proof
+    fn proof<L: Language, N: Analysis<L>>(self, graph: &EGraph<L, N>) -> &Proof
         requires { number self < length graph.now.image.entries }
         ensures step { step_of result.now ≡ (proven_at graph.now.image.stored (number self)).step }
         ensures text { text_of result.now ≡ (proven_at graph.now.image.stored (number self)).text };
 
     /// A copy of the entry.
-    fn entry<L: Language, N: Drop>(
+    fn entry<L: Language, N: Analysis<L>>(
         self,
         alloc: Global,
         graph: &EGraph<L, N>,
@@ -50,7 +51,7 @@ pub trait Explanation {
     ///
     /// A line is `i: l = r by X`, ended by a line feed: the sides are canonical terms, and X is the debug form of the optional
     /// text, `refl`, or `symmetry(a)`, `transitivity(a, b)` or `congruence(a, b)` with the numbers of the parts' lines.
-    fn to_string<L: Printable, N: Drop>(
+    fn to_string<L: Printable, N: Analysis<L>>(
         self,
         alloc: Global,
         graph: &mut EGraph<L, N>,
@@ -73,7 +74,7 @@ pub trait Explanation {
     /// In each of these the subterm that was put in stands as `(Rewrite=> J T)`, or as `(Rewrite<= J T)` where the assertion is
     /// used from right to left. J is the text of the assertion, or `-` where it has none. The names are those of the left side's
     /// term; a name that only the other side of an assertion has is its own, or a number, where the term has that name already.
-    fn to_flat_string<L: Printable, N: Drop>(
+    fn to_flat_string<L: Printable, N: Analysis<L>>(
         self,
         alloc: Global,
         graph: &mut EGraph<L, N>,
@@ -94,15 +95,15 @@ pub trait Explanation {
 impl Explanation for ProvenEq {
     ghost number = { λ p. p };
 
-    fn equ<L: Language, N: Drop>(self, graph: &EGraph<L, N>) -> &Equation {
+    fn equ<L: Language, N: Analysis<L>>(self, graph: &EGraph<L, N>) -> &Equation {
         graph.proofs().equ(self)
     }
 
-    fn proof<L: Language, N: Drop>(self, graph: &EGraph<L, N>) -> &Proof {
+    fn proof<L: Language, N: Analysis<L>>(self, graph: &EGraph<L, N>) -> &Proof {
         graph.proofs().proof(self)
     }
 
-    fn entry<L: Language, N: Drop>(
+    fn entry<L: Language, N: Analysis<L>>(
         self,
         alloc: Global,
         graph: &EGraph<L, N>,
@@ -113,7 +114,7 @@ impl Explanation for ProvenEq {
         graph.proofs().entry(alloc, self)
     }
 
-    fn to_string<L: Printable, N: Drop>(
+    fn to_string<L: Printable, N: Analysis<L>>(
         self,
         alloc: Global,
         graph: &mut EGraph<L, N>,
@@ -126,7 +127,7 @@ impl Explanation for ProvenEq {
         Ok(text)
     }
 
-    fn to_flat_string<L: Printable, N: Drop>(
+    fn to_flat_string<L: Printable, N: Analysis<L>>(
         self,
         alloc: Global,
         graph: &mut EGraph<L, N>,

@@ -9,6 +9,7 @@ ghost use Rattle.slotted_explain.specs.Chain.{RunsOutForTwoTermsOf, StepRunsOut,
 
 use crate::flat_terms::{marked, name_others, names_in, replaced, subterm};
 use crate::steps::{FlatStep, from_side, mark_text, to_side};
+use slotted_analyses::Analysis;
 use slotted_graph::EGraph;
 use slotted_proofs::ProvenEq;
 use slotted_slots::{AppliedId, Error, SlotMap};
@@ -18,7 +19,7 @@ use std::alloc::Global;
 use std::fmt::Write;
 
 // The left side, and a line for each step. Each entry has a canonical term.
-pub(crate) fn chain_text<L: Printable, N: Drop>(
+pub(crate) fn chain_text<L: Printable, N: Analysis<L>>(
     alloc: Global,
     graph: &mut EGraph<L, N>,
     p: ProvenEq,
@@ -39,7 +40,7 @@ pub(crate) fn chain_text<L: Printable, N: Drop>(
 }
 
 // The term, and a line for each step that begins with it.
-fn steps_text<L: Printable, N: Drop>(
+fn steps_text<L: Printable, N: Analysis<L>>(
     alloc: Global,
     graph: &mut EGraph<L, N>,
     steps: &[FlatStep],
@@ -59,7 +60,7 @@ fn steps_text<L: Printable, N: Drop>(
 }
 
 // Takes a step where the term has its place, and appends its line.
-fn take_step<L: Printable, N: Drop>(
+fn take_step<L: Printable, N: Analysis<L>>(
     alloc: Global,
     graph: &mut EGraph<L, N>,
     step: &FlatStep,
@@ -80,7 +81,7 @@ fn take_step<L: Printable, N: Drop>(
 }
 
 // Appends the line of a step, after which the whole term is this one.
-fn push_line<L: Printable, N: Drop>(
+fn push_line<L: Printable, N: Analysis<L>>(
     alloc: Global,
     graph: &EGraph<L, N>,
     step: &FlatStep,
@@ -97,7 +98,7 @@ fn push_line<L: Printable, N: Drop>(
 }
 
 // What a step puts in, with the names of the term in which it stands.
-fn subterm_after<L: Printable, N: Drop>(
+fn subterm_after<L: Printable, N: Analysis<L>>(
     alloc: Global,
     graph: &mut EGraph<L, N>,
     step: &FlatStep,
@@ -121,7 +122,7 @@ fn subterm_after<L: Printable, N: Drop>(
 }
 
 // The names that the slots of what a step begins with have in a term that is its canonical one but for names.
-fn names_at<L: Printable, N: Drop>(
+fn names_at<L: Printable, N: Analysis<L>>(
     alloc: Global,
     graph: &mut EGraph<L, N>,
     step: &FlatStep,
@@ -146,7 +147,7 @@ fn names_at<L: Printable, N: Drop>(
 }
 
 // Names for the slots of an id that do not stand in its canonical term, if it is valid.
-fn names_apart<L: Printable, N: Drop>(
+fn names_apart<L: Printable, N: Analysis<L>>(
     alloc: Global,
     graph: &mut EGraph<L, N>,
     a: &AppliedId,
@@ -165,7 +166,7 @@ fn names_apart<L: Printable, N: Drop>(
 }
 
 // The canonical term of an id whose slots are renamed, if that is valid.
-fn renamed_term<L: Printable, N: Drop>(
+fn renamed_term<L: Printable, N: Analysis<L>>(
     alloc: Global,
     graph: &mut EGraph<L, N>,
     a: &AppliedId,
@@ -185,7 +186,7 @@ fn renamed_term<L: Printable, N: Drop>(
 }
 
 // The canonical term of an id, if it is valid.
-fn canonical_term<L: Printable, N: Drop>(
+fn canonical_term<L: Printable, N: Analysis<L>>(
     graph: &mut EGraph<L, N>,
     a: &AppliedId,
 ) -> Result<Option<RecExpr<L>>, Error>

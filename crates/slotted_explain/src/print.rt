@@ -7,6 +7,7 @@ ghost use Rattle.slotted_graph.specs.Syn.{MakesForTermAt, RunsOutForTermAt};
 ghost use Rattle.slotted_explain.specs.Printed.{AppendsLine, ArePrinted, IsSideText, IsSidesText, LineRunsOut};
 ghost use Rattle.slotted_explain.specs.Printed.{LinesRunOut, MakesForLine, MakesForLines};
 
+use slotted_analyses::Analysis;
 use slotted_graph::EGraph;
 use slotted_proofs::reasons::reason;
 use slotted_proofs::{ProofLines, ProvenEq};
@@ -16,7 +17,7 @@ use std::alloc::Global;
 use std::fmt::Write;
 
 // The lines in turn.
-pub(crate) fn lines_text<L: Printable, N: Drop>(
+pub(crate) fn lines_text<L: Printable, N: Analysis<L>>(
     alloc: Global,
     graph: &mut EGraph<L, N>,
     lines: &ProofLines,
@@ -40,7 +41,7 @@ pub(crate) fn lines_text<L: Printable, N: Drop>(
 }
 
 // Appends the line of an entry.
-fn push_line<L: Printable, N: Drop>(
+fn push_line<L: Printable, N: Analysis<L>>(
     alloc: Global,
     graph: &mut EGraph<L, N>,
     lines: &ProofLines,
@@ -63,7 +64,7 @@ fn push_line<L: Printable, N: Drop>(
 }
 
 // The two sides of an entry, printed.
-fn sides_text<L: Printable, N: Drop>(
+fn sides_text<L: Printable, N: Analysis<L>>(
     alloc: Global,
     graph: &mut EGraph<L, N>,
     p: ProvenEq,
@@ -84,7 +85,7 @@ fn sides_text<L: Printable, N: Drop>(
 }
 
 // The canonical term of an id, printed.
-fn side_text<L: Printable, N: Drop>(
+fn side_text<L: Printable, N: Analysis<L>>(
     alloc: Global,
     graph: &mut EGraph<L, N>,
     a: &AppliedId,

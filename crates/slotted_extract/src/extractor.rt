@@ -14,6 +14,7 @@ ghost use Rattle.slotted_graph.specs.LeastTerms.{AreChosenOf, AreLeastOf, HasEac
 ghost use Rattle.slotted_graph.specs.LeastTerms.{IsMadeOf, IsOfChosen, LacksEntry, MakesForExtracted, MakesForLeast};
 ghost use Rattle.slotted_graph.specs.LeastTerms.{RunsOutForExtracted, RunsOutForLeast};
 
+use slotted_analyses::Analysis;
 use slotted_costs::{AstSize, CostFunction};
 use slotted_graph::{EGraph, LeastTerms};
 use slotted_languages::Language;
@@ -34,7 +35,7 @@ pub struct Extractor<L: Language, CF: CostFunction<L>> {
 
 impl<L: Language, CF: CostFunction<L>> Extractor<L, CF> {
     /// The extractor of a graph by a cost function.
-    pub fn new<N: Drop>(alloc: Global, eg: &mut EGraph<L, N>, costs: CF) -> Result<Self, Error>
+    pub fn new<N: Analysis<L>>(alloc: Global, eg: &mut EGraph<L, N>, costs: CF) -> Result<Self, Error>
         ensures costs { IfOk result (λ x. x.costs ≡ costs) }
         ensures least { IfOk result (λ x. AreLeastOf L.form eg.old
             (costs_by CF.Cost.cmp (CF.node_cost costs)) x.terms.entries.items) }
@@ -59,7 +60,7 @@ impl<L: Language, CF: CostFunction<L>> Extractor<L, CF> {
     /// A term of least cost among those that the id represents. For a name that the id lacks, or that unions dropped, stands a fresh slot,
     /// and binders are fresh. It is refused with `UnknownClass` where the class that the id finds has come since. On a graph that changed
     /// since it may answer any term.
-    pub fn extract<N: Drop>(
+    pub fn extract<N: Analysis<L>>(
         &self,
         i: &AppliedId,
         eg: &mut EGraph<L, N>,
@@ -107,7 +108,7 @@ impl<L: Language, CF: CostFunction<L>> Extractor<L, CF> {
 }
 
 /// A term of least cost that an id represents, by the default of a cost function.
-pub fn extract<L: Language, N: Drop, CF: CostFunction<L> + Default>(
+pub fn extract<L: Language, N: Analysis<L>, CF: CostFunction<L> + Default>(
     alloc: Global,
     i: &AppliedId,
     eg: &mut EGraph<L, N>,
@@ -132,7 +133,7 @@ pub fn extract<L: Language, N: Drop, CF: CostFunction<L> + Default>(
 }
 
 /// A term of the fewest nodes that an id represents.
-pub fn ast_size_extract<L: Language, N: Drop>(
+pub fn ast_size_extract<L: Language, N: Analysis<L>>(
     alloc: Global,
     i: &AppliedId,
     eg: &mut EGraph<L, N>,

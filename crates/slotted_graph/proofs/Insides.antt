@@ -7,6 +7,9 @@ use Rattle.slotted_slots.specs.Table.{Table}
 use Rattle.slotted_model.specs.State.{Row}
 use Rattle.slotted_store.specs.Kept.{Kept}
 use Rattle.slotted_filing.specs.FiledRows.{Rows, rows_in}
+use Rattle.slotted_analyses.specs.Meaning.{Meaning, by_bare_nodes}
+use Rattle.slotted_data.specs.Held.{Held}
+use Rattle.slotted_data.specs.Carrying.{DataRests}
 use Rattle.slotted_core.specs.Good.{Good, HasFreshSlots, RestsWith, graph_of, image_of}
 use Rattle.slotted_core.specs.Graph.{Graph}
 use Rattle.slotted_core.specs.Image.{Image}
@@ -41,3 +44,8 @@ module _ {More : Type 0} {g : Graph} {b : Bool} {part : Gv} (t : Table) (k : Kep
   -- the graph is told by its parts
   pub told-by : graph_of false t k (rows_in r.filed) part ≡ g
   told-by = (λ i. graph_of (sym f i) t k (rows_in r.filed) part) ∙ is
+
+-- the data of a graph that has not failed is at rest
+pub data-inside : {N D X : Type 0} (meaning : N → Meaning D) (n : N) {t : Table} {k : Kept} {r : Rows} {d : Held D} {b : Bool} → b ≡ false →
+    IsTrue b ⊎ (Good k × HasFreshSlots t k × RestsWith k r × X × DataRests (by_bare_nodes (meaning n)) k r d) → DataRests (by_bare_nodes (meaning n)) k r d
+data-inside meaning n f invariant = (given f invariant).4

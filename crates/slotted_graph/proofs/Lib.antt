@@ -8,6 +8,7 @@ pub mod PatternLookUps
 pub mod Matching
 pub mod Finds
 pub mod Insides
+pub mod Analysed
 pub mod CountedGraphs
 pub mod KnownPatterns
 pub mod FoundValues

@@ -4,6 +4,7 @@ pub mod FiledNodes
 pub mod LeastTerms
 pub mod States
 pub mod Counted
+pub mod Analysed
 pub mod PatternLookUps
 pub mod Matching
 pub mod Extension

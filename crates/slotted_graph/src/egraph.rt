@@ -9,6 +9,7 @@ ghost use Rattle.slotted_model.specs.Classes.{Canonical, term_of};
 ghost use Rattle.slotted_model.specs.ProofList.{Proved};
 ghost use Rattle.slotted_proofs.specs.Entries.{explicit_numbers};
 ghost use Rattle.slotted_terms.specs.Valid.{IsValidTerm};
+ghost use Rattle.slotted_graph.specs.Analysed.{CarriesData, new_graph};
 ghost use Rattle.slotted_graph.specs.Counted.{CountsUnion};
 ghost use Rattle.slotted_graph.specs.Measure.{NeverRises};
 ghost use Rattle.slotted_graph.specs.States.{IsGraph};
@@ -18,7 +19,7 @@ ghost use Rattle.slotted_store.specs.Kept.{text_bytes, symmetry_entry};
 ghost use Rattle.slotted_core.specs.Affected.{AreRepresented, IsYesIfDerivable, IsYesIfEqual};
 ghost use Rattle.slotted_core.specs.ValidIds.{IsValidId, IsValidNode, SaysFillingsEqual, LackNothing, HaveValidSides};
 ghost use Rattle.slotted_core.specs.Causes.{HasLargeClassIn};
-ghost use Rattle.slotted_core.specs.Graph.{IsFullId, OnlyReads, RecordsUnion, empty_graph};
+ghost use Rattle.slotted_core.specs.Graph.{IsFullId, OnlyReads, RecordsUnion};
 ghost use Rattle.slotted_core.specs.LookUp.{AreLookedUp};
 ghost use Rattle.slotted_proofs.specs.Equations.{to_applied};
 ghost use Rattle.slotted_core.specs.Reads.{AnswersTerm, NodesAreRead};
@@ -27,9 +28,11 @@ ghost use Rattle.slotted_core.specs.SmallNodes.{IsSmallValidTerm};
 pub mod steps;
 
 use crate::method::SubstMethod;
+use slotted_analyses::Analysis;
 use slotted_core::adding::{is_full_id, is_valid, is_valid_node};
 use slotted_core::terms::is_valid_term;
-use slotted_core::uniting;
+use slotted_core::uniting::open_symmetries;
+use slotted_data::ClassData;
 use slotted_filing::Hashcons;
 use slotted_languages::Language;
 use slotted_matching::IndexCache;
@@ -37,10 +40,12 @@ use slotted_proofs::ProvenEq;
 use slotted_slots::{AppliedId, Error, SlotTable};
 use slotted_store::{Store, Symmetry};
 use slotted_terms::expr::RecExpr;
+use slotted_writes::uniting;
 use std::alloc::Global;
 use std::marker::Model;
 
 mod adding;
+mod analysed;
 mod building;
 mod canonical;
 mod counts;
@@ -61,22 +66,26 @@ mod reports;
 /// A graph that runs out of memory or slots in a call that changes it has failed: from then on each call that answers a
 /// `Result` answers `Failed`, and the table can still be taken out.
 #[derive(Drop)]
-pub struct EGraph<L: Language, N = ()> {
+pub struct EGraph<L: Language, N: Analysis<L> = ()> {
     failed: bool,
     store: Store<L>,
     nodes: Hashcons<L>,
     // Which filed nodes a search goes through: cleared by each call that may change classes or filed nodes.
     index: IndexCache<L>,
     table: SlotTable,
+    // The data of each class, which is at rest whenever the graph is.
+    data: ClassData<N::Data>,
     analysis: N,
     method: SubstMethod,
     alloc: Global,
 }
 
-impl<L: Language, N> Model for EGraph<L, N> {
+impl<L: Language, N: Analysis<L>> Model for EGraph<L, N> {
     ghost use Rattle.std.specs.Prelude.{IfSome, IsTrue, ◌⊎◌};
     ghost use Rattle.slotted_core.specs.Graph.{Graph, graph_code};
-    ghost use base.Stored.{gnil};
+    ghost use Rattle.slotted_analyses.specs.Meaning.{by_bare_nodes};
+    ghost use Rattle.slotted_data.specs.Carrying.{DataRests};
+    ghost use Rattle.slotted_data.specs.Part.{part_by};
     ghost use Rattle.slotted_core.specs.Good.{Good, RestsWith, HasFreshSlots, graph_of};
     ghost use Rattle.slotted_filing.specs.FiledRows.{rows_in};
     ghost use Rattle.slotted_matching.specs.Indexed.{IsIndexed};
@@ -85,13 +94,14 @@ impl<L: Language, N> Model for EGraph<L, N> {
 
     ghost coded = { graph_code };
 
-    ghost view = { λ s. graph_of s.failed s.table s.store (rows_in s.nodes.filed) gnil };
+    ghost view = { λ s. graph_of s.failed s.table s.store (rows_in s.nodes.filed) (part_by N.codes s.analysis s.«data») };
 
     ghost invariant = { λ s. IsTrue s.failed ⊎ (Good s.store × HasFreshSlots s.table s.store × RestsWith s.store s.nodes
-        × IfSome s.index.indexed (λ x. IsIndexed s.store s.nodes x.skeletons x.index)) };
+        × IfSome s.index.indexed (λ x. IsIndexed s.store s.nodes x.skeletons x.index)
+        × DataRests (by_bare_nodes (N.meaning s.analysis)) s.store s.nodes s.«data») };
 }
 
-impl<L: Language, N: Drop> EGraph<L, N> {
+impl<L: Language, N: Analysis<L>> EGraph<L, N> {
     /// The graph without classes, over a table of slots. Substitutions look into canonical terms. It takes no memory.
     pub fn new(alloc: Global, table: SlotTable, analysis: N) -> Result<Self, Error>
         ensures answers { IsOk result }
@@ -99,7 +109,7 @@ impl<L: Language, N: Drop> EGraph<L, N> {
         ensures table { IfOk result (λ g. g.table ≡ table) }
         ensures image { IfOk result (λ g. g.image ≡ no_classes) }
         ensures filed { IfOk result (λ g. g.filed ≡ []) }
-        ensures empty { IfOk result (λ g. g ≡ empty_graph table) }
+        ensures empty { IfOk result (λ g. g ≡ new_graph N.codes analysis table) }
     {
         Self::with_subst_method(alloc, table, analysis, SubstMethod::SynExpr)
     }
@@ -116,7 +126,7 @@ impl<L: Language, N: Drop> EGraph<L, N> {
         ensures table { IfOk result (λ g. g.table ≡ table) }
         ensures image { IfOk result (λ g. g.image ≡ no_classes) }
         ensures filed { IfOk result (λ g. g.filed ≡ []) }
-        ensures empty { IfOk result (λ g. g ≡ empty_graph table) }
+        ensures empty { IfOk result (λ g. g ≡ new_graph N.codes analysis table) }
     {
         Ok(EGraph {
             failed: false,
@@ -124,6 +134,7 @@ impl<L: Language, N: Drop> EGraph<L, N> {
             nodes: Hashcons::new(alloc),
             index: IndexCache::new(),
             table,
+            data: ClassData::new(alloc),
             analysis,
             method,
             alloc,
@@ -286,6 +297,7 @@ impl<L: Language, N: Drop> EGraph<L, N> {
         // The rebuild found no more e-nodes than were filed, and no greater size than the graph had.
         ensures counted { OnOk result (CountsUnion self.old self.new) }
         ensures table { self.new.table ≡ self.old.table }
+        ensures carries { OnOk result (CarriesData N.codes N.meaning self.old self.new) }
 
         ensures stays { IsTrue self.old.failed → self.new ≡ self.old }
         ensures failed { IsErrOf result Error.Failed ↔ IsTrue self.old.failed }
@@ -319,6 +331,7 @@ impl<L: Language, N: Drop> EGraph<L, N> {
         // The rebuild found no more e-nodes than were filed, and no greater size than the graph had.
         ensures counted { OnOk result (CountsUnion self.old self.new) }
         ensures table { self.new.table ≡ self.old.table }
+        ensures carries { OnOk result (CarriesData N.codes N.meaning self.old self.new) }
 
         ensures stays { IsTrue self.old.failed → self.new ≡ self.old }
         ensures failed { IsErrOf result Error.Failed ↔ IsTrue self.old.failed }
@@ -331,7 +344,16 @@ impl<L: Language, N: Drop> EGraph<L, N> {
         }
         self.failed = true;
         self.index.clear();
-        let answer = uniting::union(&mut self.store, &mut self.nodes, self.alloc, l, r, text)?;
+        let answer = uniting::union(
+            &mut self.store,
+            &mut self.nodes,
+            &mut self.data,
+            &self.analysis,
+            self.alloc,
+            l,
+            r,
+            text,
+        )?;
         self.failed = false;
         Ok(answer)
     }
@@ -358,7 +380,7 @@ impl<L: Language, N: Drop> EGraph<L, N> {
         if self.failed {
             return Err(Error::Failed);
         }
-        Ok(uniting::open_symmetries(&self.store))
+        Ok(open_symmetries(&self.store))
     }
 
     /// The numbers of the asserted equations, in the order in which they were entered.

@@ -10,13 +10,14 @@ ghost use Rattle.slotted_graph.specs.States.{IsGraph};
 ghost use Rattle.slotted_graph.specs.ValidIds.{IsValidId};
 ghost use Rattle.slotted_instances.specs.Building.{Builds};
 
+use slotted_analyses::Analysis;
 use slotted_graph::EGraph;
 use slotted_languages::Language;
 use slotted_languages::shape::PLACES;
 use slotted_slots::{AppliedId, Error};
 
 /// The class that was made with the node, or a new one, with the node's names put in. A node of 2^30 places or more is refused.
-pub(crate) fn add_node<L: Language, N: Drop>(
+pub(crate) fn add_node<L: Language, N: Analysis<L>>(
     graph: &mut EGraph<L, N>,
     node: L,
 ) -> Result<AppliedId, Error>

@@ -14,6 +14,7 @@ ghost use Rattle.slotted_instances.specs.Putting.{PutsIn};
 
 use crate::adding::add_node;
 use crate::method::OwnSubst;
+use slotted_analyses::Analysis;
 use slotted_graph::EGraph;
 use slotted_languages::Language;
 use slotted_patterns::Pattern;
@@ -23,7 +24,7 @@ use slotted_slots::{AppliedId, Error};
 use std::alloc::Global;
 
 // What the method answers for `b[x := t]`, where each id gets fresh slots for the names that it lacks.
-fn put_in<L: Language, N: Drop, M: OwnSubst<L, N>>(
+fn put_in<L: Language, N: Analysis<L>, M: OwnSubst<L, N>>(
     alloc: Global,
     graph: &mut EGraph<L, N>,
     method: &mut M,
@@ -52,7 +53,7 @@ fn put_in<L: Language, N: Drop, M: OwnSubst<L, N>>(
 
 /// Returns the id of an instance of the pattern: of a variable its value, of a node the class of it over the answers for its child
 /// patterns, and of `b[x := t]` what the method answers.
-pub(crate) fn build<L: Language, N: Drop, M: OwnSubst<L, N>>(
+pub(crate) fn build<L: Language, N: Analysis<L>, M: OwnSubst<L, N>>(
     alloc: Global,
     graph: &mut EGraph<L, N>,
     method: &mut M,

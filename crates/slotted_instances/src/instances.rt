@@ -16,6 +16,7 @@ ghost use Rattle.slotted_instances.specs.Refusals.{RefusesInstance};
 
 use crate::refusals::{check_values, failing};
 use crate::stored::build_stored;
+use slotted_analyses::Analysis;
 use slotted_graph::EGraph;
 use slotted_languages::Language;
 use slotted_patterns::Pattern;
@@ -25,7 +26,7 @@ use slotted_slots::{AppliedId, Error};
 use std::alloc::Global;
 
 // The instance of a whole pattern, if each variable has a value.
-fn instance<L: Language, N: Drop>(
+fn instance<L: Language, N: Analysis<L>>(
     alloc: Global,
     graph: &mut EGraph<L, N>,
     pattern: &Pattern<L>,
@@ -52,7 +53,7 @@ fn instance<L: Language, N: Drop>(
 ///
 /// A node of the instance is looked up by its canonical node, and a class is made where there is none. The answer for a variable is its
 /// value as it is handed in.
-pub fn pattern_subst<L: Language, N: Drop>(
+pub fn pattern_subst<L: Language, N: Analysis<L>>(
     alloc: Global,
     graph: &mut EGraph<L, N>,
     pattern: &Pattern<L>,

@@ -6,6 +6,7 @@ ghost use Rattle.slotted_terms.specs.Valid.{IsValidTerm};
 ghost use Rattle.slotted_graph.specs.LookUp.{look_up_term};
 ghost use Rattle.slotted_graph.specs.Reports.{IsFound};
 
+use slotted_analyses::Analysis;
 use slotted_graph::EGraph;
 use slotted_languages::Language;
 use slotted_languages::shape::PLACES;
@@ -15,7 +16,7 @@ use std::alloc::Global;
 
 /// Returns the id of a term, child by child, as `lookup` answers each node: None if some node has none. A node that has 2^30 places or more
 /// over what its children are looked up as is refused with `OutOfSlots`.
-pub fn lookup_rec_expr<L: Language, N: Drop>(
+pub fn lookup_rec_expr<L: Language, N: Analysis<L>>(
     alloc: Global,
     term: &RecExpr<L>,
     graph: &EGraph<L, N>,

@@ -11,13 +11,14 @@ ghost use Rattle.slotted_graph.specs.ValidIds.{IsValidId};
 ghost use Rattle.slotted_instances.specs.Methods.{IsKnownMethod, Method, SubstitutesBy, unknown, canonical};
 
 use crate::substitution::replaced;
+use slotted_analyses::Analysis;
 use slotted_graph::EGraph;
 use slotted_languages::Language;
 use slotted_slots::{AppliedId, Error};
 use std::alloc::Global;
 
 /// A method of substitution of the caller's own: which id is answered for `b[x := t]`.
-pub trait OwnSubst<L: Language, N: Drop> {
+pub trait OwnSubst<L: Language, N: Analysis<L>> {
     // What is known of it. Of a method of which nothing is known its answers are its own business.
     ghost method: { Method } = { unknown };
 

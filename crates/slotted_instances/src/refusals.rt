@@ -6,6 +6,7 @@ ghost use Rattle.slotted_rule_patterns.specs.Values.{values_of};
 ghost use Rattle.slotted_instances.specs.Instances.{HasValues};
 ghost use Rattle.slotted_instances.specs.Refusals.{IsMissing};
 
+use slotted_analyses::Analysis;
 use slotted_graph::EGraph;
 use slotted_languages::Language;
 use slotted_patterns::Pattern;
@@ -31,7 +32,7 @@ pub(crate) fn check_values<L: Language>(
 }
 
 /// Hands the answer of a structural write on. A graph in which it ran out of memory or slots has failed.
-pub(crate) fn failing<L: Language, N: Drop, T>(
+pub(crate) fn failing<L: Language, N: Analysis<L>, T>(
     graph: &mut EGraph<L, N>,
     answer: Result<T, Error>,
 ) -> Result<T, Error>

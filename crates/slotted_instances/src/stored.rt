@@ -15,6 +15,7 @@ ghost use Rattle.slotted_instances.specs.Methods.{canonical, extracted, method_o
 use crate::building::build;
 use crate::method::OwnSubst;
 use crate::substitution::replaced;
+use slotted_analyses::Analysis;
 use slotted_costs::AstSize;
 use slotted_graph::{EGraph, SubstMethod};
 use slotted_languages::Language;
@@ -27,7 +28,7 @@ use std::alloc::Global;
 #[derive(Drop)]
 struct Canonical;
 
-impl<L: Language, N: Drop> OwnSubst<L, N> for Canonical {
+impl<L: Language, N: Analysis<L>> OwnSubst<L, N> for Canonical {
     ghost method = { canonical };
 
     ghost refuses = { λ _. ⊥ };
@@ -50,7 +51,7 @@ impl<L: Language, N: Drop> OwnSubst<L, N> for Canonical {
 #[derive(Drop)]
 struct Extracted;
 
-impl<L: Language, N: Drop> OwnSubst<L, N> for Extracted {
+impl<L: Language, N: Analysis<L>> OwnSubst<L, N> for Extracted {
     ghost method = { extracted };
 
     ghost refuses = { λ _. ⊥ };
@@ -75,7 +76,7 @@ impl<L: Language, N: Drop> OwnSubst<L, N> for Extracted {
 }
 
 /// Builds an instance by a method that a graph can be made with.
-pub(crate) fn build_stored<L: Language, N: Drop>(
+pub(crate) fn build_stored<L: Language, N: Analysis<L>>(
     alloc: Global,
     graph: &mut EGraph<L, N>,
     method: SubstMethod,

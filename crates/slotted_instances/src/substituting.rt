@@ -9,6 +9,7 @@ ghost use Rattle.slotted_instances.specs.Substituting.{StandsForReplaced};
 
 use crate::refusals::failing;
 use crate::substitution::replaced;
+use slotted_analyses::Analysis;
 use slotted_graph::EGraph;
 use slotted_languages::Language;
 use slotted_slots::{AppliedId, Error};
@@ -16,7 +17,7 @@ use std::alloc::Global;
 
 /// Returns the id of `b[x := t]`, of three ids that lack no name: its canonical term is that of `b` with the canonical term of `t` for each
 /// topmost part that is alpha-equal to the canonical term of `x`. Nothing is captured, and what is put in is not searched again.
-pub fn subst_ids<L: Language, N: Drop>(
+pub fn subst_ids<L: Language, N: Analysis<L>>(
     alloc: Global,
     graph: &mut EGraph<L, N>,
     b: &AppliedId,

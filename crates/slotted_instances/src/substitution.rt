@@ -10,6 +10,7 @@ ghost use Rattle.slotted_instances.specs.Building.{Builds};
 ghost use Rattle.slotted_instances.specs.Substituting.{HasNameBeside, Replaces};
 
 use crate::adding::add_node;
+use slotted_analyses::Analysis;
 use slotted_graph::EGraph;
 use slotted_languages::Language;
 use slotted_slots::{AppliedId, Error, SlotMap};
@@ -37,7 +38,7 @@ fn is_older_or_lacks(b: &AppliedId, x: &AppliedId) -> bool
 
 /// Returns the id of `b[x := t]`: what `b` stands for, with what `t` stands for in the place of each topmost part that `x` stands for. A
 /// binder of `b` has a fresh name in between, so it captures nothing. What is put in is not searched again.
-pub(crate) fn replaced<L: Language, N: Drop>(
+pub(crate) fn replaced<L: Language, N: Analysis<L>>(
     alloc: Global,
     graph: &mut EGraph<L, N>,
     b: &AppliedId,

@@ -15,6 +15,7 @@ ghost use Rattle.slotted_instances.specs.Uniting.{UnitesInstances};
 
 use crate::refusals::{check_values, failing};
 use crate::stored::build_stored;
+use slotted_analyses::Analysis;
 use slotted_graph::EGraph;
 use slotted_languages::Language;
 use slotted_patterns::Pattern;
@@ -40,7 +41,7 @@ fn check_both<L: Language>(
 }
 
 // The union of both instances.
-fn unite<L: Language, N: Drop>(
+fn unite<L: Language, N: Analysis<L>>(
     alloc: Global,
     graph: &mut EGraph<L, N>,
     a: &Pattern<L>,
@@ -71,7 +72,7 @@ fn unite<L: Language, N: Drop>(
 }
 
 // The same, where each variable has a value.
-fn test_and_unite<L: Language, N: Drop>(
+fn test_and_unite<L: Language, N: Analysis<L>>(
     alloc: Global,
     graph: &mut EGraph<L, N>,
     a: &Pattern<L>,
@@ -101,7 +102,7 @@ fn test_and_unite<L: Language, N: Drop>(
 /// `union_justified` answers.
 ///
 /// The equation of both is a new entry of the proof list with the text, if it was not proved.
-pub fn union_instantiations<L: Language, N: Drop>(
+pub fn union_instantiations<L: Language, N: Analysis<L>>(
     alloc: Global,
     graph: &mut EGraph<L, N>,
     a: &Pattern<L>,

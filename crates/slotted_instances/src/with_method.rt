@@ -20,6 +20,7 @@ ghost use Rattle.slotted_instances.specs.Refusals.{RefusesMissing};
 use crate::building::build;
 use crate::method::OwnSubst;
 use crate::refusals::{check_values, failing};
+use slotted_analyses::Analysis;
 use slotted_graph::EGraph;
 use slotted_languages::Language;
 use slotted_patterns::Pattern;
@@ -29,7 +30,7 @@ use slotted_slots::{AppliedId, Error};
 use std::alloc::Global;
 
 // The instance of a whole pattern, if each variable has a value.
-fn instance_by<L: Language, N: Drop, M: OwnSubst<L, N>>(
+fn instance_by<L: Language, N: Analysis<L>, M: OwnSubst<L, N>>(
     alloc: Global,
     graph: &mut EGraph<L, N>,
     pattern: &Pattern<L>,
@@ -56,7 +57,7 @@ fn instance_by<L: Language, N: Drop, M: OwnSubst<L, N>>(
 
 /// Returns what `pattern_subst` does, but with what the method answers in the place of each `b[x := t]`. What it asserts is its own
 /// business.
-pub fn subst_with<L: Language, N: Drop, M: OwnSubst<L, N>>(
+pub fn subst_with<L: Language, N: Analysis<L>, M: OwnSubst<L, N>>(
     alloc: Global,
     graph: &mut EGraph<L, N>,
     pattern: &Pattern<L>,

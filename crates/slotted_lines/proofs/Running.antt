@@ -16,7 +16,6 @@ use Rattle.slotted_rules.specs.declared.condition.Always.{Always}
 use Rattle.slotted_rules.specs.declared.rewrite.Rewrite.{Rewrite}
 use Rattle.slotted_runs.specs.Runs.{HasReported, MayRefuse}
 use Rattle.slotted_runs.specs.Seen.{new_parts}
-use Rattle.slotted_slots.specs.Table.{Table}
 use Rattle.slotted_runs.specs.Turning.{Calls, IsStopClone, RulesOnce, measures}
 use Rattle.slotted_runs.specs.declared.hook.NoHook.{NoHook}
 use Rattle.slotted_runs.specs.declared.report.Report.{Report}
@@ -101,9 +100,9 @@ module _ {L : Type 0} (form : L → Form) (rules : List (Rewrite L Always)) (lim
       })
 
 -- a new runner with this limit, and then with this graph
-pub starts-over : (table : Table) (clock : StillClock) (hook : NoHook) (limit : ℕ) (g x : Graph) (a b : RunnerState) → a ≡ new_parts table clock hook → b ≡ record a { limits = record a.limits { iterations = limit } } → x ≡ g →
+pub starts-over : (new_one : Graph) (clock : StillClock) (hook : NoHook) (limit : ℕ) (g x : Graph) (a b : RunnerState) → a ≡ new_parts new_one clock hook → b ≡ record a { limits = record a.limits { iterations = limit } } → x ≡ g →
     record b { graph = x } ≡ runner_over g limit hook clock
-starts-over table clock hook limit g x a b new limited same =
+starts-over new_one clock hook limit g x a b new limited same =
     (λ i. let c : RunnerState = limited i in record c { graph = x }) ∙ ((λ i. let c : RunnerState = new i in record c { graph = x; limits = record c.limits { iterations = limit } }) ∙ (λ i. runner_over (same i) limit hook clock))
 
 pub run-answered-by : {L : Type 0} (form : L → Form) (rules read : List (Rewrite L Always)) (limit : ℕ) (is_clone : Infallible → Infallible → Type 0) (hook : NoHook) (clock : StillClock) (g h : Graph) (p q : RunnerState) (o : Result (Report Infallible) Error) →

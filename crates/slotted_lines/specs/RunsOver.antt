@@ -11,7 +11,6 @@ use Rattle.std.specs.Prelude.{◌≡◌, ◌⊎◌, ◌↔◌, ⊤, ℕ, List, f
 use Rattle.std.specs.declared.convert.Infallible.{Infallible}
 use Rattle.slotted_slots.specs.declared.error.Error.{Error}
 use Rattle.slotted_slots.specs.Error.{IsShortage}
-use Rattle.slotted_slots.specs.Table.{empty_table}
 use Rattle.slotted_nodes.specs.Form.{Form}
 use Rattle.slotted_patterns.specs.View.{tree_of}
 use Rattle.slotted_core.specs.Graph.{Graph}
@@ -50,7 +49,7 @@ leaves_all h g n i k stop = (k ≡ g) × (stop ≡ None)
 
 abbrev pub runner_over : Graph → ℕ → NoHook → StillClock → RunnerState
 runner_over g n hook clock =
-    let p : RunnerState = new_parts empty_table clock hook in record p { graph = g; limits = record usual_limits { iterations = n } }
+    let p : RunnerState = new_parts g clock hook in record p { limits = record usual_limits { iterations = n } }
 
 abbrev pub HasRunRules : {L : Type 0} → (L → Form) → List (Rewrite L Always) → RunnerState → RunnerState → model.Report Infallible → Type 0
 HasRunRules form rules p q told = HasRun TellsZero (RulesOnce (searches_by form) (applies_by form) rules) (Calls leaves_all) (measures (λ _ _. tt)) p q told

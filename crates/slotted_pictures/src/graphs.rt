@@ -5,6 +5,7 @@ ghost use Rattle.slotted_core.specs.Graph.{MakesAtMost, OnlyTakesSlots};
 ghost use Rattle.slotted_graph.specs.FiledNodes.{CanRunOutForDump, CanRunOutForEnodes, IsAppended, slots_for_dump, slots_for_enodes};
 
 use crate::quoting::{push_quoted, push_slot};
+use slotted_analyses::Analysis;
 use slotted_graph::EGraph;
 use slotted_languages::Language;
 use slotted_slots::{AppliedId, Error, Id, Slot, SlotTable, SmallHashSet, SyntaxElem};
@@ -168,7 +169,7 @@ fn push_edges<L: Language>(
 }
 
 // The e-nodes of a class, over its own slots.
-fn own_nodes<L: Language, N: Drop>(graph: &mut EGraph<L, N>, id: Id) -> Result<Vec<L>, Error>
+fn own_nodes<L: Language, N: Analysis<L>>(graph: &mut EGraph<L, N>, id: Id) -> Result<Vec<L>, Error>
     requires well { graph.old.failed ≡ false }
     requires within { id.0 < length graph.old.image.canonical }
     ensures takes { OnlyTakesSlots graph.old graph.new }
@@ -181,7 +182,7 @@ fn own_nodes<L: Language, N: Drop>(graph: &mut EGraph<L, N>, id: Id) -> Result<V
 }
 
 // Appends the cluster of a class, and its edges.
-fn push_class<L: Language, N: Drop>(
+fn push_class<L: Language, N: Analysis<L>>(
     alloc: Global,
     out: &mut String,
     graph: &mut EGraph<L, N>,
@@ -202,7 +203,7 @@ fn push_class<L: Language, N: Drop>(
 }
 
 // Appends each live class.
-fn push_classes<L: Language, N: Drop>(
+fn push_classes<L: Language, N: Analysis<L>>(
     alloc: Global,
     out: &mut String,
     graph: &mut EGraph<L, N>,
@@ -226,7 +227,7 @@ fn push_classes<L: Language, N: Drop>(
 /// each child to the child's class, labelled by the slots of that class and their names.
 ///
 /// `dot -Tsvg` draws it. Edges end at clusters, for which the layout `dot` is needed.
-pub fn graph_to_dot<L: Language, N: Drop>(
+pub fn graph_to_dot<L: Language, N: Analysis<L>>(
     alloc: Global,
     graph: &mut EGraph<L, N>,
     out: &mut String,

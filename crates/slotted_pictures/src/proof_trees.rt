@@ -4,6 +4,7 @@ ghost use Rattle.slotted_slots.specs.Error.{IsOutOfMemory};
 ghost use Rattle.slotted_graph.specs.FiledNodes.{IsAppended};
 
 use crate::quoting::{push_id, push_quoted};
+use slotted_analyses::Analysis;
 use slotted_graph::EGraph;
 use slotted_languages::Language;
 use slotted_proofs::{Equation, Proof, ProofLines, ProofList, ProvenEq};
@@ -126,7 +127,7 @@ fn push_lines(
 
 /// Appends a picture of a proof, as text in the DOT language: a record for each entry of the proof list that the proof uses, with its equation of ids and
 /// its reason, and an edge to each entry that it was proved by.
-pub fn proof_to_dot<L: Language, N: Drop>(
+pub fn proof_to_dot<L: Language, N: Analysis<L>>(
     alloc: Global,
     graph: &EGraph<L, N>,
     proof: ProvenEq,

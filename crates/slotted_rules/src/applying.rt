@@ -7,6 +7,7 @@ ghost use Rattle.slotted_rules.specs.Applying.{AreRefusedBy, CanApplyAll, HasPro
 
 use crate::failing::failing;
 use crate::rule::RewriteT;
+use slotted_analyses::Analysis;
 use slotted_graph::EGraph;
 use slotted_languages::Language;
 use slotted_slots::Error;
@@ -14,7 +15,7 @@ use std::alloc::Global;
 use std::collections::VecDeque;
 
 /// Whether each rule can be handed to calls on this graph. It takes no memory.
-pub fn are_valid<L: Language, N: Drop, R: RewriteT<L, N>>(graph: &EGraph<L, N>, rules: &[R]) -> bool
+pub fn are_valid<L: Language, N: Analysis<L>, R: RewriteT<L, N>>(graph: &EGraph<L, N>, rules: &[R]) -> bool
     ensures valid { IsTrue result → IsTrue graph.now.failed ⊎ All (λ r. R.valid r graph.now) rules.now }
     ensures exact { All (λ r. R.passes r graph.now) rules.now → IsTrue result }
 {
@@ -27,7 +28,7 @@ pub fn are_valid<L: Language, N: Drop, R: RewriteT<L, N>>(graph: &EGraph<L, N>, 
 }
 
 // What each rule found, in order.
-pub(crate) fn search_all<L: Language, N: Drop, R: RewriteT<L, N>>(
+pub(crate) fn search_all<L: Language, N: Analysis<L>, R: RewriteT<L, N>>(
     alloc: Global,
     graph: &mut EGraph<L, N>,
     rules: &[R],
@@ -48,7 +49,7 @@ pub(crate) fn search_all<L: Language, N: Drop, R: RewriteT<L, N>>(
 }
 
 // Each rule is applied to what it found, in order.
-fn apply_all<L: Language, N: Drop, R: RewriteT<L, N>>(
+fn apply_all<L: Language, N: Analysis<L>, R: RewriteT<L, N>>(
     alloc: Global,
     graph: &mut EGraph<L, N>,
     rules: &[R],
@@ -73,7 +74,7 @@ fn apply_all<L: Language, N: Drop, R: RewriteT<L, N>>(
 }
 
 // All rules are searched, and then each is applied.
-fn search_and_apply<L: Language, N: Drop, R: RewriteT<L, N>>(
+fn search_and_apply<L: Language, N: Analysis<L>, R: RewriteT<L, N>>(
     alloc: Global,
     graph: &mut EGraph<L, N>,
     rules: &[R],
@@ -92,7 +93,7 @@ fn search_and_apply<L: Language, N: Drop, R: RewriteT<L, N>>(
 /// Searches with all rules, then applies each in order to what its search found. Returns whether the graph's progress measure changed.
 ///
 /// What was applied before a refusal stays.
-pub fn apply_rewrites<L: Language, N: Drop, R: RewriteT<L, N>>(
+pub fn apply_rewrites<L: Language, N: Analysis<L>, R: RewriteT<L, N>>(
     alloc: Global,
     graph: &mut EGraph<L, N>,
     rules: &[R],

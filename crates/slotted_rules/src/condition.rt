@@ -7,6 +7,7 @@ ghost use Rattle.slotted_rules.specs.Asking.{is_slot_free, slot_outcome, LacksVa
 ghost use Rattle.slotted_rule_patterns.specs.Values.{values_of};
 ghost use Rattle.slotted_graph.specs.Matching.{AreValidValues};
 
+use slotted_analyses::Analysis;
 use slotted_graph::EGraph;
 use slotted_languages::Language;
 use slotted_rule_patterns::Subst;
@@ -17,7 +18,7 @@ use std::alloc::Global;
 /// A condition of a rule. It is asked just before the substitution is applied, in the graph as it is then.
 ///
 /// Its answer is a function of the condition, the substitution and the graph alone.
-pub trait Cond<L: Language, N: Drop>: Drop {
+pub trait Cond<L: Language, N: Analysis<L>>: Drop {
     ghost use Rattle.std.specs.Prelude.{Bool};
     ghost use Rattle.slotted_model_rules.specs.Conditions.{Values};
     ghost use Rattle.slotted_core.specs.Graph.{Graph};
@@ -43,7 +44,7 @@ pub trait Cond<L: Language, N: Drop>: Drop {
 #[derive(Drop, Debug)]
 pub struct Always;
 
-impl<L: Language, N: Drop> Cond<L, N> for Always {
+impl<L: Language, N: Analysis<L>> Cond<L, N> for Always {
     ghost use Rattle.std.specs.Prelude.{true};
 
     ghost yes = { λ c s g. true };
@@ -81,7 +82,7 @@ impl SlotFreeIn {
     }
 }
 
-impl<L: Language, N: Drop> Cond<L, N> for SlotFreeIn {
+impl<L: Language, N: Analysis<L>> Cond<L, N> for SlotFreeIn {
     ghost use Rattle.slotted_rules.specs.Asking.{lacks-never_failed};
 
     ghost yes = { λ c s g. is_slot_free c.slot (string_bytes c.variable) s };
@@ -114,7 +115,7 @@ pub struct Or<X, Y> {
     pub second: Y,
 }
 
-impl<L: Language, N: Drop, X: Cond<L, N>, Y: Cond<L, N>> Cond<L, N> for Or<X, Y> {
+impl<L: Language, N: Analysis<L>, X: Cond<L, N>, Y: Cond<L, N>> Cond<L, N> for Or<X, Y> {
     ghost use Rattle.std.specs.Prelude.{◌||◌, ◌⊎◌};
     ghost use Rattle.slotted_rules.specs.Asking.{either-never_failed};
 
@@ -139,7 +140,7 @@ pub struct And<X, Y> {
     pub second: Y,
 }
 
-impl<L: Language, N: Drop, X: Cond<L, N>, Y: Cond<L, N>> Cond<L, N> for And<X, Y> {
+impl<L: Language, N: Analysis<L>, X: Cond<L, N>, Y: Cond<L, N>> Cond<L, N> for And<X, Y> {
     ghost use Rattle.std.specs.Prelude.{true, ◌&&◌, ◌⊎◌};
     ghost use Rattle.slotted_rules.specs.Asking.{either-never_failed};
 
@@ -163,7 +164,7 @@ pub struct Not<X> {
     pub condition: X,
 }
 
-impl<L: Language, N: Drop, X: Cond<L, N>> Cond<L, N> for Not<X> {
+impl<L: Language, N: Analysis<L>, X: Cond<L, N>> Cond<L, N> for Not<X> {
     ghost yes = { λ c s g. not (X.yes c.condition s g) };
 
     ghost refuses = { λ c s g e. X.refuses c.condition s g e };

@@ -4,6 +4,7 @@ ghost use Rattle.slotted_rule_patterns.specs.Values.{values_of};
 ghost use Rattle.slotted_rules.specs.TreeAnswers.{outcome, tree_yes, TreeRefuses};
 
 use crate::condition::{Cond, SlotFreeIn};
+use slotted_analyses::Analysis;
 use slotted_graph::EGraph;
 use slotted_languages::Language;
 use slotted_rule_patterns::Subst;
@@ -49,7 +50,7 @@ impl CondTree {
     }
 }
 
-impl<L: Language, N: Drop> Cond<L, N> for CondTree {
+impl<L: Language, N: Analysis<L>> Cond<L, N> for CondTree {
     ghost use Rattle.slotted_rules.specs.TreeAnswers.{tree-never_failed};
 
     ghost yes = { λ c s g. tree_yes c s };

@@ -13,6 +13,7 @@ use crate::condition::Cond;
 use crate::failing::failing;
 use crate::rewrite::Rewrite;
 use crate::written::apply_matches;
+use slotted_analyses::Analysis;
 use slotted_graph::EGraph;
 use slotted_languages::Language;
 use slotted_matching::Matches;
@@ -39,7 +40,7 @@ pub struct TurnCounts {
 }
 
 // Applies a rule to what it found, and counts.
-fn count_one<L: Language, N: Drop, C: Cond<L, N>>(
+fn count_one<L: Language, N: Analysis<L>, C: Cond<L, N>>(
     alloc: Global,
     graph: &mut EGraph<L, N>,
     rule: &Rewrite<L, C>,
@@ -62,7 +63,7 @@ fn count_one<L: Language, N: Drop, C: Cond<L, N>>(
 }
 
 // Applies each rule to what it found, in order, and counts.
-fn count_all<L: Language, N: Drop, C: Cond<L, N>>(
+fn count_all<L: Language, N: Analysis<L>, C: Cond<L, N>>(
     alloc: Global,
     graph: &mut EGraph<L, N>,
     rules: &[Rewrite<L, C>],
@@ -89,7 +90,7 @@ fn count_all<L: Language, N: Drop, C: Cond<L, N>>(
 }
 
 // Searches with all rules, then applies each, and counts.
-fn search_and_count<L: Language, N: Drop, C: Cond<L, N>>(
+fn search_and_count<L: Language, N: Analysis<L>, C: Cond<L, N>>(
     alloc: Global,
     graph: &mut EGraph<L, N>,
     rules: &[Rewrite<L, C>],
@@ -108,7 +109,7 @@ fn search_and_count<L: Language, N: Drop, C: Cond<L, N>>(
 }
 
 // The rules once, over a graph that has not failed.
-fn count_turn<L: Language, N: Drop, C: Cond<L, N>>(
+fn count_turn<L: Language, N: Analysis<L>, C: Cond<L, N>>(
     alloc: Global,
     graph: &mut EGraph<L, N>,
     rules: &[Rewrite<L, C>],
@@ -133,7 +134,7 @@ fn count_turn<L: Language, N: Drop, C: Cond<L, N>>(
 ///
 /// A match counts as united if the instances of both sides were not found equal just before. E-nodes that an instance adds are not counted. What was
 /// applied before a refusal stays.
-pub fn apply_counted<L: Language, N: Drop, C: Cond<L, N>>(
+pub fn apply_counted<L: Language, N: Analysis<L>, C: Cond<L, N>>(
     alloc: Global,
     graph: &mut EGraph<L, N>,
     rules: &[Rewrite<L, C>],

@@ -2,12 +2,13 @@
 ghost use Rattle.std.specs.Prelude.{◌≡◌, true, IsErrAnd};
 ghost use Rattle.slotted_slots.specs.Error.{IsShortage};
 
+use slotted_analyses::Analysis;
 use slotted_graph::EGraph;
 use slotted_languages::Language;
 use slotted_slots::Error;
 
 /// Returns the outcome as it is, and fails the graph if it is a shortage.
-pub fn failing<L: Language, N: Drop, T>(
+pub fn failing<L: Language, N: Analysis<L>, T>(
     graph: &mut EGraph<L, N>,
     outcome: Result<T, Error>,
 ) -> Result<T, Error>

@@ -3,6 +3,7 @@ ghost use Rattle.std.specs.Prelude.{◌≡◌, ◌↔◌, ◌⊎◌, false, IsTr
 ghost use Rattle.slotted_slots.specs.Error.{IsShortage};
 ghost use Rattle.slotted_graph.specs.Extension.{ExtendsTo};
 
+use slotted_analyses::Analysis;
 use slotted_graph::EGraph;
 use slotted_languages::Language;
 use slotted_slots::Error;
@@ -12,7 +13,7 @@ use std::alloc::Global;
 ///
 /// A rule type states what its search may find, what its apply may leave, and which refusals both may answer. A search and an apply only extend the
 /// graph, and if the graph fails in one of them, memory or slots were lacking.
-pub trait RewriteT<L: Language, N: Drop>: Drop {
+pub trait RewriteT<L: Language, N: Analysis<L>>: Drop {
     ghost use Rattle.slotted_core.specs.Graph.{Graph};
     ghost use Rattle.slotted_slots.specs.declared.error.Error.{Error};
     ghost use Rattle.slotted_slots.specs.declared.error.Error.TheVariants.{Failed};

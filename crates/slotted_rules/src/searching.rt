@@ -10,6 +10,7 @@ ghost use Rattle.slotted_matching.specs.Found.{TakesFor};
 ghost use Rattle.slotted_graph.specs.Matching.{FindsAll};
 ghost use Rattle.slotted_rules.specs.Rewriting.{IsSearched, LacksSlots};
 
+use slotted_analyses::Analysis;
 use slotted_graph::EGraph;
 use slotted_languages::Language;
 use slotted_matching::Matches;
@@ -32,7 +33,7 @@ fn substitutions(alloc: Global, found: &Matches) -> Result<Vec<Subst>, Error>
 
 /// Returns what `find_matches` finds for a pattern, each answer as a substitution of its own: at the live classes in order, and at each of them by its filed
 /// nodes in ascending order.
-pub fn ematch_all<L: Language, N: Drop>(
+pub fn ematch_all<L: Language, N: Analysis<L>>(
     alloc: Global,
     graph: &mut EGraph<L, N>,
     pattern: &Pattern<L>,

@@ -20,6 +20,7 @@ use crate::condition::Cond;
 use crate::failing::failing;
 use crate::rewrite::Rewrite;
 use crate::rule::RewriteT;
+use slotted_analyses::Analysis;
 use slotted_graph::EGraph;
 use slotted_instances::union_instantiations;
 use slotted_languages::Language;
@@ -30,7 +31,7 @@ use slotted_slots::Error;
 use std::alloc::Global;
 
 // The union of the instances of both sides, with the rule's name for a text.
-fn unite<L: Language, N: Drop, C: Drop>(
+fn unite<L: Language, N: Analysis<L>, C: Drop>(
     alloc: Global,
     graph: &mut EGraph<L, N>,
     rule: &Rewrite<L, C>,
@@ -55,7 +56,7 @@ fn unite<L: Language, N: Drop, C: Drop>(
 }
 
 // The same, if the condition holds. Returns whether both sides were not found equal before.
-fn apply_to<L: Language, N: Drop, C: Cond<L, N>>(
+fn apply_to<L: Language, N: Analysis<L>, C: Cond<L, N>>(
     alloc: Global,
     graph: &mut EGraph<L, N>,
     rule: &Rewrite<L, C>,
@@ -80,7 +81,7 @@ fn apply_to<L: Language, N: Drop, C: Cond<L, N>>(
 }
 
 // The same for one of the answers.
-fn apply_answer<L: Language, N: Drop, C: Cond<L, N>>(
+fn apply_answer<L: Language, N: Analysis<L>, C: Cond<L, N>>(
     alloc: Global,
     graph: &mut EGraph<L, N>,
     rule: &Rewrite<L, C>,
@@ -103,7 +104,7 @@ fn apply_answer<L: Language, N: Drop, C: Cond<L, N>>(
 }
 
 // The same for each answer, one after another. Returns for how many of them both sides were not found equal before.
-fn apply_found<L: Language, N: Drop, C: Cond<L, N>>(
+fn apply_found<L: Language, N: Analysis<L>, C: Cond<L, N>>(
     alloc: Global,
     graph: &mut EGraph<L, N>,
     rule: &Rewrite<L, C>,
@@ -132,7 +133,7 @@ fn apply_found<L: Language, N: Drop, C: Cond<L, N>>(
 /// matches the instances were not found equal before.
 ///
 /// What was applied before a refusal stays.
-pub fn apply_matches<L: Language, N: Drop, C: Cond<L, N>>(
+pub fn apply_matches<L: Language, N: Analysis<L>, C: Cond<L, N>>(
     alloc: Global,
     graph: &mut EGraph<L, N>,
     rule: &Rewrite<L, C>,
@@ -158,7 +159,7 @@ pub fn apply_matches<L: Language, N: Drop, C: Cond<L, N>>(
     failing(graph, applied)
 }
 
-impl<L: Language, N: Drop, C: Cond<L, N>> RewriteT<L, N> for Rewrite<L, C> {
+impl<L: Language, N: Analysis<L>, C: Cond<L, N>> RewriteT<L, N> for Rewrite<L, C> {
     ghost use Rattle.slotted_rules.specs.WrittenLaws.{apply-later, found-applies, refused-other, valid-later};
 
     type Found = Matches;

@@ -1,5 +1,6 @@
 //! Conditions of a caller's own, whose answers depend on the graph.
 
+use slotted_analyses::Analysis;
 use slotted_graph::EGraph;
 use slotted_languages::Language;
 use slotted_rule_patterns::Subst;
@@ -11,7 +12,7 @@ use std::alloc::Global;
 #[derive(Drop)]
 pub struct FirstOnly;
 
-impl<L: Language, N: Drop> Cond<L, N> for FirstOnly {
+impl<L: Language, N: Analysis<L>> Cond<L, N> for FirstOnly {
     ghost use Rattle.std.specs.Prelude.{◌==◌, length};
     ghost use Rattle.slotted_proofs.specs.Entries.{explicit_numbers};
 
@@ -30,7 +31,7 @@ impl<L: Language, N: Drop> Cond<L, N> for FirstOnly {
 #[derive(Drop)]
 pub struct RefusesLater;
 
-impl<L: Language, N: Drop> Cond<L, N> for RefusesLater {
+impl<L: Language, N: Analysis<L>> Cond<L, N> for RefusesLater {
     ghost use Rattle.std.specs.Prelude.{true};
     ghost use Rattle.slotted_rules.specs.Rewriting.{IsNotATerm};
 

@@ -1,5 +1,6 @@
 //! A method of substitution of a caller's own.
 
+use slotted_analyses::Analysis;
 use slotted_graph::EGraph;
 use slotted_instances::OwnSubst;
 use slotted_languages::Language;
@@ -10,7 +11,7 @@ use std::alloc::Global;
 #[derive(Drop)]
 pub struct Asserting;
 
-impl<L: Language, N: Drop> OwnSubst<L, N> for Asserting {
+impl<L: Language, N: Analysis<L>> OwnSubst<L, N> for Asserting {
     ghost refuses = { λ e. ⊥ };
 
     ghost never_failed = { λ r. r };

@@ -1,6 +1,7 @@
 //! A rule of a caller's own.
 ghost use Rattle.std.specs.Prelude.{◌≡◌};
 
+use slotted_analyses::Analysis;
 use slotted_graph::EGraph;
 use slotted_languages::Language;
 use slotted_rules::RewriteT;
@@ -14,7 +15,7 @@ pub struct Union {
     pub right: AppliedId,
 }
 
-impl<L: Language, N: Drop> RewriteT<L, N> for Union {
+impl<L: Language, N: Analysis<L>> RewriteT<L, N> for Union {
     ghost use Rattle.std.specs.Prelude.{Bool, false};
     ghost use Rattle.slotted_proofs.specs.Equations.{to_applied};
     ghost use Rattle.slotted_graph.specs.ValidIds.{IsValidId};

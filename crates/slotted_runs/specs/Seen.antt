@@ -5,18 +5,18 @@
 --     Parts                     what a runner is
 --     parts_of r                what the runner r is
 --     seen p                    a runner as the model has it, over a graph with the state of a hook
---     new_parts table clock     a new runner
+--     new_parts graph clock     a new runner
 --     with_other_hook h p       the runner p with the hook h
 --     AddsRoot t p q            from p to q the term t is added, and its id is one root more
 use Rattle.std.specs.Prelude.{◌≡◌, ℕ, List, [], ◌∷◌, ◌++◌, map, Option, Some, None, false, option_map, IsSome}
-use Rattle.slotted_slots.specs.Table.{KnowsMore, Table}
+use Rattle.slotted_slots.specs.Table.{KnowsMore}
 use Rattle.slotted_slots.specs.declared.types.AppliedId.{AppliedId}
 use Rattle.slotted_theory.specs.Term.{Term}
 use Rattle.slotted_model.specs.Growth.{Extends}
 use Rattle.slotted_proofs.specs.Equations.{to_applied}
 use Rattle.slotted_core.specs.AddingTerms.{AddsNodes, FilesOnlyLookedUp, IsEqualToTerm, TakesForTerm}
 use Rattle.slotted_core.specs.Adding.{term_nodes}
-use Rattle.slotted_core.specs.Graph.{Graph, empty_graph}
+use Rattle.slotted_core.specs.Graph.{Graph}
 use Rattle.slotted_core.specs.Image.{AddsClasses}
 use Rattle.slotted_core.specs.LookUp.{IsOneGraph, KeepsLookUps, look_up_term}
 use Rattle.slotted_core.specs.Reports.{IsFound}
@@ -70,9 +70,9 @@ parts_of r = record {
 abbrev pub seen : {D T H K : Type 0} → Parts D T H K → model.Runner (Graph × H) T D
 seen p = record { graph = (p.graph, p.hook); stored = p.iterations; start = p.start; stop_reason = p.stop_reason }
 
-abbrev pub new_parts : {D T H K : Type 0} → Table → K → H → Parts D T H K
-new_parts table clock hook = record {
-  graph = empty_graph table;
+abbrev pub new_parts : {D T H K : Type 0} → Graph → K → H → Parts D T H K
+new_parts graph clock hook = record {
+  graph = graph;
   iterations = [];
   roots = [];
   stop_reason = None;

@@ -7,6 +7,7 @@ ghost use Rattle.slotted_runs.specs.Loops.{HasCalled};
 ghost use Rattle.slotted_runs.specs.Turning.{Calls, RulesOnce};
 
 use crate::hook::{Hook, HookStop};
+use slotted_analyses::Analysis;
 use slotted_graph::EGraph;
 use slotted_languages::Language;
 use slotted_rules::{RewriteT, apply_rewrites};
@@ -23,7 +24,7 @@ pub(crate) struct Called<T> {
 }
 
 // Calls the hook. Returns why it stops the run, if it does.
-fn call_hook<L: Language, N: Drop, T: Drop, H: Hook<L, N, T>>(
+fn call_hook<L: Language, N: Analysis<L>, T: Drop, H: Hook<L, N, T>>(
     alloc: Global,
     graph: &mut EGraph<L, N>,
     hook: &mut H,
@@ -43,7 +44,7 @@ fn call_hook<L: Language, N: Drop, T: Drop, H: Hook<L, N, T>>(
 }
 
 // Applies the rules once, and then calls the hook.
-pub(crate) fn apply_and_call<L: Language, N: Drop, T: Drop, H: Hook<L, N, T>, Q: RewriteT<L, N>>(
+pub(crate) fn apply_and_call<L: Language, N: Analysis<L>, T: Drop, H: Hook<L, N, T>, Q: RewriteT<L, N>>(
     alloc: Global,
     graph: &mut EGraph<L, N>,
     rules: &[Q],

@@ -7,6 +7,7 @@ ghost use Rattle.slotted_rules.specs.Counting.{RefusesRule};
 ghost use Rattle.slotted_rules.specs.Written.{CanBeSearched};
 ghost use Rattle.slotted_runs.specs.Counted.{TakesTurns};
 
+use slotted_analyses::Analysis;
 use slotted_graph::EGraph;
 use slotted_languages::Language;
 use slotted_rules::failing::failing;
@@ -15,7 +16,7 @@ use slotted_slots::Error;
 use std::alloc::Global;
 
 // Takes turns until one leaves the progress measure as it was, or the limit is reached, and keeps what the rules did in each.
-fn take_counted<L: Language, N: Drop, C: Cond<L, N>>(
+fn take_counted<L: Language, N: Analysis<L>, C: Cond<L, N>>(
     alloc: Global,
     graph: &mut EGraph<L, N>,
     rules: &[Rewrite<L, C>],
@@ -43,7 +44,7 @@ fn take_counted<L: Language, N: Drop, C: Cond<L, N>>(
 /// Applies the rules until a turn leaves the progress measure as it was, or so many turns were taken. Returns what each rule did in each turn.
 ///
 /// The rules have saturated the graph if the last turn did not change it. What was applied before a refusal stays.
-pub fn run_counted<L: Language, N: Drop, C: Cond<L, N>>(
+pub fn run_counted<L: Language, N: Analysis<L>, C: Cond<L, N>>(
     alloc: Global,
     graph: &mut EGraph<L, N>,
     rules: &[Rewrite<L, C>],

@@ -15,6 +15,7 @@ use crate::calling::apply_and_call;
 use crate::clock::Clock;
 use crate::hook::Hook;
 use crate::report::{Report, StopReason};
+use slotted_analyses::Analysis;
 use slotted_graph::EGraph;
 use slotted_languages::Language;
 use slotted_rules::RewriteT;
@@ -71,7 +72,7 @@ fn reason<T, K: Clock>(
 }
 
 // Takes a turn. Returns why it stops the run, if it does.
-fn take_turn<L: Language, N: Drop, T: Drop, H: Hook<L, N, T>, K: Clock, Q: RewriteT<L, N>>(
+fn take_turn<L: Language, N: Analysis<L>, T: Drop, H: Hook<L, N, T>, K: Clock, Q: RewriteT<L, N>>(
     alloc: Global,
     graph: &mut EGraph<L, N>,
     rules: &[Q],
@@ -102,7 +103,7 @@ struct Ended<T> {
 }
 
 // Takes turns until one stops the run. That one is not counted.
-fn take_turns<L: Language, N: Drop, T: Drop, H: Hook<L, N, T>, K: Clock, Q: RewriteT<L, N>>(
+fn take_turns<L: Language, N: Analysis<L>, T: Drop, H: Hook<L, N, T>, K: Clock, Q: RewriteT<L, N>>(
     alloc: Global,
     graph: &mut EGraph<L, N>,
     rules: &[Q],
@@ -135,7 +136,7 @@ fn take_turns<L: Language, N: Drop, T: Drop, H: Hook<L, N, T>, K: Clock, Q: Rewr
 ///
 /// A turn applies the rules once, calls the hook, and stops the run for the first of these causes that holds: the hook's own,
 /// saturation, as many counted turns as the limit, and as many whole seconds. A turn that stops the run is not counted.
-pub fn run_eqsat<L: Language, N: Drop, H: Hook<L, N, String>, K: Clock, Q: RewriteT<L, N>>(
+pub fn run_eqsat<L: Language, N: Analysis<L>, H: Hook<L, N, String>, K: Clock, Q: RewriteT<L, N>>(
     alloc: Global,
     graph: &mut EGraph<L, N>,
     rules: &[Q],

@@ -4,6 +4,7 @@ ghost use Rattle.slotted_slots.specs.Error.{IsShortage};
 ghost use Rattle.slotted_graph.specs.Extension.{ExtendsTo};
 ghost use Rattle.slotted_runs.specs.Hooks.{IsHookRefusal, StopsRun};
 
+use slotted_analyses::Analysis;
 use slotted_graph::EGraph;
 use slotted_languages::Language;
 use slotted_slots::Error;
@@ -21,7 +22,7 @@ pub enum HookStop<T> {
 /// What is called in each turn of a run, after the rules were applied.
 ///
 /// A hook may change the graph, which it only extends. If the graph fails in it, it answers that memory or slots were lacking.
-pub trait Hook<L: Language, N: Drop, T>: Drop {
+pub trait Hook<L: Language, N: Analysis<L>, T>: Drop {
     ghost use Rattle.std.specs.Prelude.{ℕ, Option};
     ghost use Rattle.slotted_core.specs.Graph.{Graph};
     ghost use Rattle.slotted_slots.specs.declared.error.Error.{Error};
@@ -54,7 +55,7 @@ pub trait Hook<L: Language, N: Drop, T>: Drop {
 #[derive(Drop, Debug)]
 pub struct NoHook;
 
-impl<L: Language, N: Drop, T> Hook<L, N, T> for NoHook {
+impl<L: Language, N: Analysis<L>, T> Hook<L, N, T> for NoHook {
     ghost leaves = { λ h g n i k stop. (k ≡ g) × (stop ≡ None) };
 
     ghost refuses = { λ e. ⊥ };

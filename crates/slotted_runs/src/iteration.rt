@@ -2,6 +2,7 @@
 ghost use Rattle.std.specs.Prelude.{◌≡◌, ◌⊎◌, false, IfOk, IfErr};
 ghost use Rattle.slotted_slots.specs.Error.{IsShortage};
 
+use slotted_analyses::Analysis;
 use slotted_graph::EGraph;
 use slotted_languages::Language;
 use slotted_slots::Error;
@@ -21,7 +22,7 @@ pub struct Iteration<D> {
 /// What a caller keeps of each turn.
 ///
 /// It is a function of the graph after the turn and of how many turns came before.
-pub trait IterationData<L: Language, N: Drop>: Drop {
+pub trait IterationData<L: Language, N: Analysis<L>>: Drop {
     ghost use Rattle.std.specs.Prelude.{ℕ};
     ghost use Rattle.slotted_core.specs.Graph.{Graph};
     ghost use Rattle.slotted_slots.specs.declared.error.Error.{Error};
@@ -42,7 +43,7 @@ pub trait IterationData<L: Language, N: Drop>: Drop {
 }
 
 /// Nothing is kept.
-impl<L: Language, N: Drop> IterationData<L, N> for () {
+impl<L: Language, N: Analysis<L>> IterationData<L, N> for () {
     ghost made = { λ g n. tt };
 
     ghost refuses = { λ e. ⊥ };

@@ -10,10 +10,11 @@ use crate::hook::Hook;
 use crate::iteration::IterationData;
 use crate::report::Report;
 use crate::runner::Runner;
+use slotted_analyses::Analysis;
 use slotted_languages::Language;
 use slotted_slots::Error;
 
-impl<L: Language, N: Drop, D: IterationData<L, N>, T: Clone, H: Hook<L, N, T>, K: Clock> Runner<
+impl<L: Language, N: Analysis<L>, D: IterationData<L, N>, T: Clone, H: Hook<L, N, T>, K: Clock> Runner<
     L,
     N,
     D,

@@ -2,6 +2,7 @@
 ghost use Rattle.std.specs.Prelude.{◌≡◌, ◌↔◌, ◌⊎◌, IsTrue, IsOk, IsErrOf, IfOk, IfErr, OnOk};
 ghost use Rattle.slotted_slots.specs.Error.{IsShortage};
 ghost use Rattle.slotted_terms.specs.Valid.{IsValidTerm};
+ghost use Rattle.slotted_graph.specs.Analysed.{new_graph};
 ghost use Rattle.slotted_runs.specs.Seen.{AddsId, AddsRoot, new_parts, parts_of, with_other_hook};
 
 use crate::clock::Clock;
@@ -9,6 +10,7 @@ use crate::hook::{Hook, NoHook};
 use crate::iteration::{Iteration, IterationData};
 use crate::limits::RunnerLimits;
 use crate::report::StopReason;
+use slotted_analyses::Analysis;
 use slotted_graph::EGraph;
 use slotted_languages::Language;
 use slotted_slots::{AppliedId, Error, SlotTable};
@@ -19,7 +21,7 @@ use std::alloc::Global;
 ///
 /// It starts with limits of 30 turns, 10,000 filed nodes and 60,000,000,000 nanoseconds.
 #[derive(Drop)]
-pub struct Runner<L: Language, N, D, T, H, K> {
+pub struct Runner<L: Language, N: Analysis<L>, D, T, H, K> {
     /// The graph.
     pub egraph: EGraph<L, N>,
     /// What is stored of each turn, in order.
@@ -35,7 +37,7 @@ pub struct Runner<L: Language, N, D, T, H, K> {
     pub(crate) alloc: Global,
 }
 
-impl<L: Language, N: Drop, D: IterationData<L, N>, T: Drop, K: Clock> Runner<
+impl<L: Language, N: Analysis<L>, D: IterationData<L, N>, T: Drop, K: Clock> Runner<
     L,
     N,
     D,
@@ -46,7 +48,7 @@ impl<L: Language, N: Drop, D: IterationData<L, N>, T: Drop, K: Clock> Runner<
     /// The runner over the graph without classes, without a hook, and with the usual limits. It takes no memory.
     pub fn new(alloc: Global, table: SlotTable, analysis: N, clock: K) -> Result<Self, Error>
         ensures answers { IsOk result }
-        ensures parts { IfOk result (λ r. let p = parts_of r in p ≡ new_parts table clock p.hook) }
+        ensures parts { IfOk result (λ r. let p = parts_of r in p ≡ new_parts (new_graph N.codes analysis table) clock p.hook) }
     {
         Ok(Runner {
             egraph: EGraph::new(alloc, table, analysis)?,
@@ -62,7 +64,7 @@ impl<L: Language, N: Drop, D: IterationData<L, N>, T: Drop, K: Clock> Runner<
 }
 
 // Adds a term, and appends its id.
-fn add_root<L: Language, N: Drop>(
+fn add_root<L: Language, N: Analysis<L>>(
     graph: &mut EGraph<L, N>,
     roots: &mut Vec<AppliedId>,
     term: &RecExpr<L>,
@@ -77,7 +79,7 @@ fn add_root<L: Language, N: Drop>(
     Ok(())
 }
 
-impl<L: Language, N: Drop, D: IterationData<L, N>, T: Drop, H: Hook<L, N, T>, K: Clock> Runner<
+impl<L: Language, N: Analysis<L>, D: IterationData<L, N>, T: Drop, H: Hook<L, N, T>, K: Clock> Runner<
     L,
     N,
     D,

@@ -12,6 +12,7 @@ use crate::clock::Clock;
 use crate::hook::Hook;
 use crate::iteration::{Iteration, IterationData};
 use crate::runner::Runner;
+use slotted_analyses::Analysis;
 use slotted_languages::Language;
 use slotted_rules::RewriteT;
 use slotted_slots::Error;
@@ -26,7 +27,7 @@ fn last_end<D>(iterations: &Vec<Iteration<D>>) -> Option<u64>
     }
 }
 
-impl<L: Language, N: Drop, D: IterationData<L, N>, T: Drop, H: Hook<L, N, T>, K: Clock> Runner<
+impl<L: Language, N: Analysis<L>, D: IterationData<L, N>, T: Drop, H: Hook<L, N, T>, K: Clock> Runner<
     L,
     N,
     D,

@@ -15,6 +15,7 @@ use crate::iteration::{Iteration, IterationData};
 use crate::limits::RunnerLimits;
 use crate::report::StopReason;
 use crate::runner::Runner;
+use slotted_analyses::Analysis;
 use slotted_languages::Language;
 use slotted_rules::RewriteT;
 use slotted_slots::Error;
@@ -71,7 +72,7 @@ fn reason<T: Drop, K: Clock>(
     }
 }
 
-impl<L: Language, N: Drop, D: IterationData<L, N>, T: Drop, H: Hook<L, N, T>, K: Clock> Runner<
+impl<L: Language, N: Analysis<L>, D: IterationData<L, N>, T: Drop, H: Hook<L, N, T>, K: Clock> Runner<
     L,
     N,
     D,

@@ -5,6 +5,7 @@ ghost use Rattle.slotted_patterns.specs.View.{tree_of};
 ghost use Rattle.slotted_rules.specs.Rewriting.{CanBeApplied, IsRefusedRewrite, IsSearched, LeavesApplied};
 ghost use Rattle.slotted_rules.specs.Written.{CanBeSearched, PassesTests};
 
+use slotted_analyses::Analysis;
 use slotted_graph::EGraph;
 use slotted_languages::Language;
 use slotted_matching::Matches;
@@ -54,7 +55,7 @@ impl<L: Language, C: Drop> Backoff<L, C> {
     }
 }
 
-impl<L: Language, N: Drop, C: Cond<L, N>> RewriteT<L, N> for Backoff<L, C> {
+impl<L: Language, N: Analysis<L>, C: Cond<L, N>> RewriteT<L, N> for Backoff<L, C> {
     ghost use Rattle.slotted_runs_tests.specs.Resting.{rested-fits};
     ghost use Rattle.slotted_rules.specs.WrittenLaws.{apply-later, refused-other, valid-later};
 

@@ -11,7 +11,9 @@ use Rattle.slotted_theory.specs.Term.{Term, term_code}
 use Rattle.slotted_nodes.specs.Form.{Form}
 use Rattle.slotted_patterns.specs.Tree.{PatternTree}
 use Rattle.slotted_patterns.specs.View.{tree_of}
-use Rattle.slotted_core.specs.Graph.{Graph, empty_graph, graph_code}
+use Rattle.slotted_core.specs.Graph.{Graph, graph_code}
+use Rattle.slotted_graph.specs.Analysed.{new_graph}
+use Rattle.slotted_analyses.specs.Meaning.{unit_code}
 use Rattle.slotted_rules.specs.declared.condition_tree.CondTree.{CondTree}
 use Rattle.slotted_rules.specs.contracts.condition_tree.CondTree as condition
 use Rattle.slotted_rules.specs.declared.rewrite.Rewrite.{Rewrite}
@@ -44,7 +46,7 @@ space_code =
     (λ p. record { number = p.0; graph = p.1.0; terms = p.1.1.0; rules = p.1.1.1 }) (λ _. refl)
 
 abbrev pub empty_space : ℕ → Space
-empty_space number = record { number = number; graph = empty_graph empty_table; terms = []; rules = [] }
+empty_space number = record { number = number; graph = new_graph (unit_code, unit_code) tt empty_table; terms = []; rules = [] }
 
 abbrev pub term_at : Space → Handle → Option Term
 term_at s h = if nat_eq h.workspace s.number then slice_get s.terms h.index else None

@@ -4,6 +4,7 @@ ghost use Rattle.slotted_graph.specs.Extension.{ExtendsTo};
 ghost use Rattle.slotted_rules.specs.Written.{CanBeSearched};
 ghost use Rattle.slotted_workspace.specs.Runs.{RunAnswers};
 
+use slotted_analyses::Analysis;
 use slotted_explain::EGraph;
 use slotted_languages::Language;
 use slotted_rules::{CondTree, Rewrite};
@@ -50,7 +51,7 @@ pub(crate) struct NodeLimit {
     nodes: usize,
 }
 
-impl<L: Language, N: Drop> Hook<L, N, String> for NodeLimit {
+impl<L: Language, N: Analysis<L>> Hook<L, N, String> for NodeLimit {
     ghost use Rattle.slotted_workspace.specs.Runs.{StopsPast};
 
     ghost leaves = { λ h g n i k stop. StopsPast h.nodes g k stop × (i ≡ h) };

@@ -17,15 +17,17 @@ ghost use Rattle.slotted_core.specs.Image.{AddsClasses};
 ghost use Rattle.slotted_core.specs.LookUp.{IsOneGraph, KeepsLookUps, MakesClassFor, RunsOutForUnknown, look_up, look_up_term};
 ghost use Rattle.slotted_core.specs.Places.{term_slots};
 ghost use Rattle.slotted_core.specs.Reports.{IsFound};
+ghost use Rattle.slotted_graph.specs.Analysed.{CarriesData};
 
 use super::EGraph;
+use slotted_analyses::Analysis;
 use slotted_adding::lookup::look_up;
-use slotted_core::{adding, looking_up};
 use slotted_languages::Language;
 use slotted_slots::{AppliedId, Error};
 use slotted_terms::expr::RecExpr;
+use slotted_writes::adding;
 
-impl<L: Language, N: Drop> EGraph<L, N> {
+impl<L: Language, N: Analysis<L>> EGraph<L, N> {
     /// The id of a node: what the class of its filed node finds, with the node's names put in. Children may lack names for slots that unions
     /// dropped. Nodes whose children find alike in turn have one id.
     pub fn lookup(&self, node: &L) -> Result<Option<AppliedId>, Error>
@@ -69,6 +71,9 @@ impl<L: Language, N: Drop> EGraph<L, N> {
         ensures takes { MakesAtMost (slots_needed self.old.image (L.form node)) self.old.table self.new.table }
         ensures full { IsErrOf result Error.OutOfSlots → RunsOutForUnknown self.old self.new (L.form node) }
 
+        // Data only went down, and what was made or has changed waits to be modified.
+        ensures carries { OnOk result (CarriesData N.codes N.meaning self.old self.new) }
+
         // A failed graph stays as it is.
         ensures stays { IsTrue self.old.failed → self.new ≡ self.old }
         ensures failed { IsErrOf result Error.Failed ↔ IsTrue self.old.failed }
@@ -80,9 +85,11 @@ impl<L: Language, N: Drop> EGraph<L, N> {
         }
         self.failed = true;
         self.index.clear();
-        let id = looking_up::add(
+        let id = adding::add(
             &mut self.store,
             &mut self.nodes,
+            &mut self.data,
+            &self.analysis,
             self.alloc,
             &mut self.table,
             &node,
@@ -111,6 +118,9 @@ impl<L: Language, N: Drop> EGraph<L, N> {
             → RunsOutForFilled self.old.image (L.form node) self.old.table self.new.table }
         ensures unknown { IsErrOf result Error.OutOfSlots → IsUnknownIfFull self.old.image.canonical (L.form node) }
 
+        // Data only went down, and what was made or has changed waits to be modified.
+        ensures carries { OnOk result (CarriesData N.codes N.meaning self.old self.new) }
+
         // A failed graph stays as it is.
         ensures stays { IsTrue self.old.failed → self.new ≡ self.old }
         ensures failed { IsErrOf result Error.Failed ↔ IsTrue self.old.failed }
@@ -122,9 +132,11 @@ impl<L: Language, N: Drop> EGraph<L, N> {
         }
         self.failed = true;
         self.index.clear();
-        let made = looking_up::add_filled(
+        let made = adding::add_filled(
             &mut self.store,
             &mut self.nodes,
+            &mut self.data,
+            &self.analysis,
             self.alloc,
             &mut self.table,
             &node,
@@ -156,6 +168,9 @@ impl<L: Language, N: Drop> EGraph<L, N> {
         ensures takes { IsTrue self.old.failed ⊎ TakesForTerm term.now self.old self.new.table }
         ensures full { IsErrOf result Error.OutOfSlots → LacksForTerm term.now self.old self.new.table }
 
+        // Data only went down, and what was made or has changed waits to be modified.
+        ensures carries { OnOk result (CarriesData N.codes N.meaning self.old self.new) }
+
         // A failed graph stays as it is.
         ensures stays { IsTrue self.old.failed → self.new ≡ self.old }
         ensures failed { IsErrOf result Error.Failed ↔ IsTrue self.old.failed }
@@ -167,9 +182,11 @@ impl<L: Language, N: Drop> EGraph<L, N> {
         }
         self.failed = true;
         self.index.clear();
-        let answer = looking_up::add_expr(
+        let answer = adding::add_expr(
             &mut self.store,
             &mut self.nodes,
+            &mut self.data,
+            &self.analysis,
             self.alloc,
             &mut self.table,
             term,
@@ -201,6 +218,9 @@ impl<L: Language, N: Drop> EGraph<L, N> {
             → CanRunOutForTerm self.old.image term.now self.old.table self.new.table }
         ensures unknown { IsErrOf result Error.OutOfSlots → IsUnknownTerm self.old.image term.now }
 
+        // Data only went down, and what was made or has changed waits to be modified.
+        ensures carries { OnOk result (CarriesData N.codes N.meaning self.old self.new) }
+
         // A failed graph stays as it is.
         ensures stays { IsTrue self.old.failed → self.new ≡ self.old }
         ensures failed { IsErrOf result Error.Failed ↔ IsTrue self.old.failed }
@@ -215,6 +235,8 @@ impl<L: Language, N: Drop> EGraph<L, N> {
         let answer = adding::add_syn_expr(
             &mut self.store,
             &mut self.nodes,
+            &mut self.data,
+            &self.analysis,
             self.alloc,
             &mut self.table,
             term,

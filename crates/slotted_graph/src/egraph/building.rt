@@ -10,12 +10,13 @@ ghost use Rattle.slotted_core.specs.Syn.{FillsFresh, HasUnknownBinders, MakesFor
 ghost use Rattle.slotted_core.specs.ValidIds.{IsValidId, IsValidNode};
 
 use super::EGraph;
+use slotted_analyses::Analysis;
 use slotted_adding::filling::fill_id;
 use slotted_core::syn;
 use slotted_languages::Language;
 use slotted_slots::{AppliedId, Error};
 
-impl<L: Language, N: Drop> EGraph<L, N> {
+impl<L: Language, N: Analysis<L>> EGraph<L, N> {
     /// Returns the id with a fresh slot for each name that it lacks. An id that lacks none is answered as it is.
     pub fn full_id(&mut self, a: &AppliedId) -> Result<AppliedId, Error>
         requires { IsTrue self.old.failed ⊎ IsValidId self.old (to_applied a.now) }

@@ -15,13 +15,14 @@ ghost use Rattle.slotted_core.specs.Syn.{IsNodeOfFilling, IsNodeWhereFull, IsTer
 ghost use Rattle.slotted_core.specs.Syn.{MakesForNodeOf, MakesForTermOf, RunsOutForNodeOf, RunsOutForTermOf};
 
 use super::EGraph;
+use slotted_analyses::Analysis;
 use slotted_core::syn;
 use slotted_languages::Language;
 use slotted_proofs::{ProofList, ProvenEq};
 use slotted_slots::{AppliedId, Error};
 use slotted_terms::expr::RecExpr;
 
-impl<L: Language, N: Drop> EGraph<L, N> {
+impl<L: Language, N: Analysis<L>> EGraph<L, N> {
     /// The node that the class of an id was made with, with the id's names put in. For a slot that it has no name for, since a union
     /// dropped it, stands a fresh one. Binders that would meet one of these get fresh names.
     pub fn get_syn_node(&mut self, a: &AppliedId) -> Result<L, Error>

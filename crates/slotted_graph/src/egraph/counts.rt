@@ -5,10 +5,11 @@ ghost use Rattle.slotted_core.specs.Graph.{totals_of};
 ghost use Rattle.slotted_graph.specs.Counted.{IsWithinCounts};
 
 use super::EGraph;
+use slotted_analyses::Analysis;
 use slotted_languages::Language;
 use slotted_store::RebuildCount;
 
-impl<L: Language, N: Drop> EGraph<L, N> {
+impl<L: Language, N: Analysis<L>> EGraph<L, N> {
     /// Returns what the last rebuild did: how many e-nodes were filed and which size it found, which size it left, and how many turns it took. A
     /// turn is one e-node taken from the pending list, and the size of a graph is the number of its live classes and of their slots.
     ///

@@ -5,11 +5,12 @@ ghost use Rattle.slotted_core.specs.Graph.{MakesAtMost, OnlyTakesSlots};
 ghost use Rattle.slotted_graph.specs.FiledNodes.{CanRunOutForDump, IsAppended, slots_for_dump};
 
 use super::EGraph;
+use slotted_analyses::Analysis;
 use slotted_languages::Language;
 use slotted_reports::dumping::append_live;
 use slotted_slots::Error;
 
-impl<L: Language, N: Drop> EGraph<L, N> {
+impl<L: Language, N: Analysis<L>> EGraph<L, N> {
     /// Appends a line feed, then for each live class by its number a line feed, its line with its slots, `>> ` and the node that it was made
     /// with, and for each filed node by shape ` - ` and the node with the class that it was made with; and a line feed.
     pub fn dump(&mut self, out: &mut String) -> Result<(), Error>

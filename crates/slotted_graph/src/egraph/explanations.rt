@@ -6,15 +6,17 @@ ghost use Rattle.slotted_terms.specs.Valid.{IsValidTerm};
 ghost use Rattle.slotted_core.specs.Explaining.{AddsTerms, Explains, FilesOnlyTerms, FindsApart, KeepsKnown, RunsOutForTerms};
 ghost use Rattle.slotted_core.specs.Graph.{MakesAtMost};
 ghost use Rattle.slotted_core.specs.Places.{term_slots};
+ghost use Rattle.slotted_graph.specs.Analysed.{CarriesData};
 
 use super::EGraph;
-use slotted_core::explaining;
+use slotted_analyses::Analysis;
 use slotted_languages::Language;
 use slotted_proofs::ProvenEq;
 use slotted_slots::Error;
 use slotted_terms::expr::RecExpr;
+use slotted_writes::explaining;
 
-impl<L: Language, N: Drop> EGraph<L, N> {
+impl<L: Language, N: Analysis<L>> EGraph<L, N> {
     /// The proof that two terms are equal: the number of an entry of the proof list that says so of their ids. The terms are added
     /// first, and they stay where the graph does not find them equal.
     pub fn explain_equivalence(
@@ -40,6 +42,9 @@ impl<L: Language, N: Drop> EGraph<L, N> {
         ensures full { IsErrOf result Error.OutOfSlots
             → RunsOutForTerms self.old.image left.now right.now self.old.table self.new.table }
 
+        // Data only went down, and what was made or has changed waits to be modified.
+        ensures carries { IsTrue self.new.failed ⊎ CarriesData N.codes N.meaning self.old self.new }
+
         ensures stays { IsTrue self.old.failed → self.new ≡ self.old }
         ensures failed { IsErrOf result Error.Failed ↔ IsTrue self.old.failed }
         ensures fails { IsTrue self.new.failed ↔ (IsErr result × ¬ IsErrOf result Error.NotEqual) }
@@ -53,6 +58,8 @@ impl<L: Language, N: Drop> EGraph<L, N> {
         let answer = explaining::explain(
             &mut self.store,
             &mut self.nodes,
+            &mut self.data,
+            &self.analysis,
             self.alloc,
             &mut self.table,
             left,

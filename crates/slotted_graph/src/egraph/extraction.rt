@@ -12,13 +12,14 @@ ghost use Rattle.slotted_graph.specs.LeastTerms.{AreChosenOf, AreLeastOf, HasEac
 ghost use Rattle.slotted_graph.specs.LeastTerms.{LacksEntry, MakesForExtracted, RunsOutForExtracted};
 
 use super::EGraph;
+use slotted_analyses::Analysis;
 use slotted_costs::CostFunction;
 use slotted_extraction::{LeastTerms, extracting, terms};
 use slotted_languages::Language;
 use slotted_slots::{AppliedId, Error};
 use slotted_terms::expr::RecExpr;
 
-impl<L: Language, N: Drop> EGraph<L, N> {
+impl<L: Language, N: Analysis<L>> EGraph<L, N> {
     /// For each class that finds itself a filed node of least cost. It takes time for each filed node once, and for a turn of a heap.
     pub fn least_terms<F: CostFunction<L>>(
         &self,

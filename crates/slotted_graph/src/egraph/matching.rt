@@ -15,6 +15,7 @@ ghost use Rattle.slotted_graph.specs.Matching.{AreFoundValid, FindsAll, FindsAll
 ghost use Rattle.slotted_graph.specs.Matching.{FindsAllAt, FindsAllAtOf, FindsEachAtOf, FindsLookedUpAt};
 
 use super::EGraph;
+use slotted_analyses::Analysis;
 use slotted_languages::Language;
 use slotted_matching::Matches;
 use slotted_matching::find::{find_matches, find_matches_at};
@@ -22,7 +23,7 @@ use slotted_patterns::Pattern;
 use slotted_rule_patterns::pattern::{has_substitution, is_whole};
 use slotted_slots::{AppliedId, Error};
 
-impl<L: Language, N: Drop> EGraph<L, N> {
+impl<L: Language, N: Analysis<L>> EGraph<L, N> {
     /// Returns what is found for a pattern at the live classes, one class after another. Each answer has an id for each variable.
     ///
     /// A name of such an id that stands for no slot of the pattern is a fresh slot, which all ids of the answer share. A pattern with a wrong number of

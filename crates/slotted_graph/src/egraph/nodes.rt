@@ -10,13 +10,14 @@ ghost use Rattle.slotted_graph.specs.FiledNodes.{AscendByShape, CanRunOutForEnod
 ghost use Rattle.slotted_graph.specs.FiledNodes.{HasLargeRow, HasLargeRowOf, HasOwnNames, IsEnode, IsNoneIfDead, slots_for_enodes};
 
 use super::EGraph;
+use slotted_analyses::Analysis;
 use slotted_adding::reports;
 use slotted_languages::Language;
 use slotted_reports::{checking, nodes};
 use slotted_slots::{AppliedId, Error, Id};
 use std::collections::HashSet;
 
-impl<L: Language, N: Drop> EGraph<L, N> {
+impl<L: Language, N: Analysis<L>> EGraph<L, N> {
     /// The number of filed nodes, also of a failed graph. It takes no memory.
     pub fn total_number_of_nodes(&self) -> usize
         ensures { result ≡ length self.now.filed }

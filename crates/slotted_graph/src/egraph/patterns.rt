@@ -7,6 +7,7 @@ ghost use Rattle.slotted_core.specs.Reads.{AnswersPattern};
 ghost use Rattle.slotted_graph.specs.KnownPatterns.{knows_node, knows_pattern, HasSmallNodes};
 
 use super::EGraph;
+use slotted_analyses::Analysis;
 use slotted_core::names::{PLACES, places_are_known};
 use slotted_languages::Language;
 use slotted_patterns::Pattern;
@@ -41,7 +42,7 @@ fn has_known_names<L: Language>(table: &SlotTable, pattern: &Pattern<L>) -> bool
     }
 }
 
-impl<L: Language, N: Drop> EGraph<L, N> {
+impl<L: Language, N: Analysis<L>> EGraph<L, N> {
     /// The pattern that a text writes, as `Pattern::parse` reads it: each slot's name is looked up or kept in the graph's
     /// table. A text that is refused does not fail the graph, and the names that were read before it stay in the table.
     pub fn parse_pattern(&mut self, text: &str) -> Result<Pattern<L>, Error>

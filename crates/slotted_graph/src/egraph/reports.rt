@@ -15,6 +15,7 @@ ghost use Rattle.slotted_core.specs.Reports.{HasClass, IsFoundFor, class_numbers
 ghost use Rattle.slotted_graph.specs.Measure.{IsProgress, no_progress};
 
 use super::EGraph;
+use slotted_analyses::Analysis;
 use slotted_adding::{finding, reports};
 use slotted_languages::Language;
 use slotted_reports::{ProgressMeasure, measure};
@@ -36,7 +37,7 @@ fn live_ids<L: Language>(store: &Store<L>, alloc: Global) -> Result<Vec<Id>, Err
     Ok(ids)
 }
 
-impl<L: Language, N: Drop> EGraph<L, N> {
+impl<L: Language, N: Analysis<L>> EGraph<L, N> {
     /// Whether a number is that of a class. None is in a failed graph. It takes no memory.
     pub fn is_valid_id(&self, id: Id) -> bool
         ensures { IsTrue result ↔ HasClass self.now id.0 }

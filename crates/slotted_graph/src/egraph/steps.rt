@@ -5,6 +5,7 @@ ghost use Rattle.slotted_proofs.specs.Steps.{IsRefusal};
 ghost use Rattle.slotted_core.specs.Checks.{Fits, CanRunOut, Accepts, IsDerivable, FollowsFromEntry, entry_by};
 
 use crate::egraph::EGraph;
+use slotted_analyses::Analysis;
 use slotted_core::checking;
 use slotted_languages::Language;
 use slotted_proofs::{
@@ -22,7 +23,7 @@ pub trait Check {
     /// Any equation may be handed in, and any numbers in the step. `BadStep` if the step does not prove the equation over the
     /// entries of this graph, or a side is not an id of this graph with different names for exactly the canonical slots of its
     /// class. A refusal changes nothing.
-    fn check<L: Language, N: Drop>(
+    fn check<L: Language, N: Analysis<L>>(
         &self,
         equation: &Equation,
         graph: &mut EGraph<L, N>,
@@ -46,7 +47,7 @@ pub trait Check {
 impl Check for ReflexivityProof {
     ghost step = { λ _. reflexive };
 
-    fn check<L: Language, N: Drop>(
+    fn check<L: Language, N: Analysis<L>>(
         &self,
         equation: &Equation,
         graph: &mut EGraph<L, N>,
@@ -62,7 +63,7 @@ impl Check for ReflexivityProof {
 impl Check for SymmetryProof {
     ghost step = { λ s. symmetric s.0 };
 
-    fn check<L: Language, N: Drop>(
+    fn check<L: Language, N: Analysis<L>>(
         &self,
         equation: &Equation,
         graph: &mut EGraph<L, N>,
@@ -78,7 +79,7 @@ impl Check for SymmetryProof {
 impl Check for TransitivityProof {
     ghost step = { λ s. transitive s.0 s.1 };
 
-    fn check<L: Language, N: Drop>(
+    fn check<L: Language, N: Analysis<L>>(
         &self,
         equation: &Equation,
         graph: &mut EGraph<L, N>,
@@ -94,7 +95,7 @@ impl Check for TransitivityProof {
 impl Check for CongruenceProof {
     ghost step = { λ s. congruent s.0.items };
 
-    fn check<L: Language, N: Drop>(
+    fn check<L: Language, N: Analysis<L>>(
         &self,
         equation: &Equation,
         graph: &mut EGraph<L, N>,

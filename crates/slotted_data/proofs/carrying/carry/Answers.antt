@@ -5,6 +5,7 @@ use Rattle.slotted_analyses.proofs.Merging.{merge-decided}
 use Rattle.slotted_data.specs.Held.{Held, with_carried}
 use Rattle.slotted_data.specs.Carrying.{Carried}
 use Rattle.slotted_data.proofs.GoingAlong.{since-low, since-tall}
+use Rattle.slotted_data.proofs.Settled.{still-carried}
 use Rattle.slotted_data.proofs.carrying.carry.Goals as goal
 use Rattle.slotted_data.proofs.carrying.carry.Goals.{then-is_tall+in_ok-carry_up, else-is_tall}
 
@@ -32,3 +33,9 @@ returns-clause-carried g c k r before =
           subst (λ (f : Held D). Carried a k r l q d (with_carried f (length l.deaths))) (sym w.data-is)
           (since-low meaning law l c.deaths.ensures.just q c.requires.rests.nothing_waits c.requires.rests k r d before e new count short)
     ])
+
+pub returns-then-has_carried_all-clause-carried : goal.returns-then-has_carried_all-clause-carried
+returns-then-has_carried_all-clause-carried g c k r before =
+    let meaning = g.N.Analysis.meaning c.args.analysis.now in
+    let law : IsMerge g.row.N-Data.Denot (by_bare_nodes meaning) = merge-decided meaning g.N.Data.PartialEq.eq g.met.N.Data.Eq.laws g.met.N.Analysis.equal_is_same (g.met.N.Analysis.is_merge c.args.analysis.now) in
+    still-carried meaning law c.args.store.now c.has_carried_all.ensures.just c.args.nodes.now c.requires.rests.nothing_waits c.requires.rests k r c.args.data.now before (c.has_carried_all.ensures.all.0 c.if-has_carried_all.true)

@@ -16,7 +16,7 @@ returns-clause-answers g c =
     let b : RunnerState = parts_of c.with_iter_limit-runner.result in
     let e = c.run-outcome.ensures in
     run-answered-by form c.args.session.now.rules.items c.deref.result.now c.args.limit _ a.hook (record {}) before c.swap-2.new.y (record b { graph = x }) (parts_of c.run-outcome.new.self) c.run-outcome.result
-    c.deref.ensures.value (starts-over c.new.result (record {}) a.hook c.args.limit before x a b c.in_ok-runner.ensures.parts c.with_iter_limit-runner.ensures c.swap.ensures.x_after) c.swap-2.ensures.y_after
+    c.deref.ensures.value (starts-over _ (record {}) a.hook c.args.limit before x a b c.in_ok-runner.ensures.parts c.with_iter_limit-runner.ensures c.swap.ensures.x_after) c.swap-2.ensures.y_after
     (record {
       ok = e.ok;
       refused = e.refused;

@@ -1,4 +1,3 @@
-use base.Stored.{gnil}
 use Rattle.std.proofs.Common.{◌∙◌, false, ap, arith, refl, rules, sym, subst, inl, inr}
 use Rattle.std.proofs.lemmas.Bool.{false≢true}
 use Rattle.slotted_slots.specs.Table.{Table}
@@ -6,6 +5,7 @@ use Rattle.slotted_proofs.specs.Equations.{to_applied}
 use Rattle.slotted_filing.specs.FiledRows.{rows_in}
 use Rattle.slotted_terms.specs.Valid.{AllKnown}
 use Rattle.slotted_core.specs.ValidIds.{IsValidNode}
+use Rattle.slotted_data.specs.Part.{part_by}
 use Rattle.slotted_core.specs.Good.{graph_of}
 use Rattle.slotted_core.specs.Graph.{Graph}
 use Rattle.slotted_languages.specs.NodeTerm.{nameless_node}
@@ -13,7 +13,8 @@ use Rattle.slotted_core.specs.Adding.{RunsOutForFilled}
 use Rattle.slotted_core.proofs.LookUps.{looked_up-is}
 use Rattle.slotted_core.proofs.ValidIds.{findable-children}
 use Rattle.slotted_core.proofs.AddedNodes.{added-answers, added-equal, added-found, added-id, added-kept, added-made}
-use Rattle.slotted_graph.proofs.Insides.{inside-of, given}
+use Rattle.slotted_graph.proofs.Analysed.{kept-part}
+use Rattle.slotted_graph.proofs.Insides.{data-inside, inside-of, given}
 use Rattle.slotted_graph.proofs.egraph.EGraph.add.Goals as goal
 
 pub add-requires-clause-fresh_slots : goal.add-requires-clause-fresh_slots
@@ -52,7 +53,7 @@ returns-clause-id g c =
     let valid : IsValidNode h f = given inside.failed c.requires in
     added-id k r inside.good inside.rests h inside.image inside.filed t inside.table f (g.met.L.LanguageChildren.fits c.args.node)
     (findable-children k inside.good h inside.image f (g.met.L.LanguageChildren.fits c.args.node) valid.children) valid.known c.add.new.store c.add.new.nodes (to_applied c.in_ok-id.id)
-    (graph_of false c.add.new.table c.add.new.store (rows_in c.add.new.nodes.filed) gnil) refl refl c.add.ensures.more c.in_ok-id.ensures.ok
+    (graph_of false c.add.new.table c.add.new.store (rows_in c.add.new.nodes.filed) (part_by g.N.Analysis.codes c.self.inside.analysis c.add.new.data)) refl refl c.add.ensures.more c.in_ok-id.ensures.ok
 
 pub returns-clause-found : goal.returns-clause-found
 returns-clause-found g c =
@@ -65,7 +66,7 @@ returns-clause-found g c =
     let valid : IsValidNode h f = given inside.failed c.requires in
     added-found k r inside.good inside.rests h inside.image inside.filed t inside.table f (g.met.L.LanguageChildren.fits c.args.node)
     (findable-children k inside.good h inside.image f (g.met.L.LanguageChildren.fits c.args.node) valid.children) valid.known c.add.new.store c.add.new.nodes (to_applied c.in_ok-id.id)
-    (graph_of false c.add.new.table c.add.new.store (rows_in c.add.new.nodes.filed) gnil) refl refl c.add.ensures.more c.in_ok-id.ensures.ok
+    (graph_of false c.add.new.table c.add.new.store (rows_in c.add.new.nodes.filed) (part_by g.N.Analysis.codes c.self.inside.analysis c.add.new.data)) refl refl c.add.ensures.more c.in_ok-id.ensures.ok
 
 pub returns-clause-equal : goal.returns-clause-equal
 returns-clause-equal g c =
@@ -78,10 +79,11 @@ returns-clause-equal g c =
     let valid : IsValidNode h f = given inside.failed c.requires in
     added-equal k r inside.good inside.rests h inside.image inside.filed t inside.table f (g.met.L.LanguageChildren.fits c.args.node)
     (findable-children k inside.good h inside.image f (g.met.L.LanguageChildren.fits c.args.node) valid.children) valid.known c.add.new.store c.add.new.nodes (to_applied c.in_ok-id.id)
-    (graph_of false c.add.new.table c.add.new.store (rows_in c.add.new.nodes.filed) gnil) refl refl c.add.ensures.more c.in_ok-id.ensures.ok
+    (graph_of false c.add.new.table c.add.new.store (rows_in c.add.new.nodes.filed) (part_by g.N.Analysis.codes c.self.inside.analysis c.add.new.data)) refl refl c.add.ensures.more c.in_ok-id.ensures.ok
 
 pub returns-clause-kept : goal.returns-clause-kept
 returns-clause-kept g c =
+    let data = data-inside g.N.Analysis.meaning c.self.inside.analysis c.if-self.false c.self.invariant in
     let h = c.args.self.now in
     let f = g.L.LanguageChildren.form c.args.node in
     let k = c.self.inside.store in
@@ -91,7 +93,7 @@ returns-clause-kept g c =
     let valid : IsValidNode h f = given inside.failed c.requires in
     added-kept k r inside.good inside.rests h inside.image inside.filed t inside.table f (g.met.L.LanguageChildren.fits c.args.node)
     (findable-children k inside.good h inside.image f (g.met.L.LanguageChildren.fits c.args.node) valid.children) valid.known c.add.new.store c.add.new.nodes (to_applied c.in_ok-id.id)
-    (graph_of false c.add.new.table c.add.new.store (rows_in c.add.new.nodes.filed) gnil) refl refl c.add.ensures.more c.in_ok-id.ensures.ok (ap (λ (x : Graph). x.part) c.self.view_is)
+    (graph_of false c.add.new.table c.add.new.store (rows_in c.add.new.nodes.filed) (part_by g.N.Analysis.codes c.self.inside.analysis c.add.new.data)) refl refl c.add.ensures.more c.in_ok-id.ensures.ok (λ same. kept-part g.N.Analysis.codes g.N.Analysis.meaning c.self.inside.analysis k r c.self.inside.data data c.add.new.store same c.add.new.data c.in_ok-id.ensures.still ∙ ap (λ (x : Graph). x.part) c.self.view_is)
 
 pub returns-clause-made : goal.returns-clause-made
 returns-clause-made g c =
@@ -104,7 +106,7 @@ returns-clause-made g c =
     let valid : IsValidNode h f = given inside.failed c.requires in
     added-made k r inside.good inside.rests h inside.image inside.filed t inside.table f (g.met.L.LanguageChildren.fits c.args.node)
     (findable-children k inside.good h inside.image f (g.met.L.LanguageChildren.fits c.args.node) valid.children) valid.known c.add.new.store c.add.new.nodes (to_applied c.in_ok-id.id)
-    (graph_of false c.add.new.table c.add.new.store (rows_in c.add.new.nodes.filed) gnil) refl refl c.add.ensures.more c.in_ok-id.ensures.ok
+    (graph_of false c.add.new.table c.add.new.store (rows_in c.add.new.nodes.filed) (part_by g.N.Analysis.codes c.self.inside.analysis c.add.new.data)) refl refl c.add.ensures.more c.in_ok-id.ensures.ok
 
 pub returns-clause-answers : goal.returns-clause-answers
 returns-clause-answers g c =
@@ -117,7 +119,7 @@ returns-clause-answers g c =
     let valid : IsValidNode h f = given inside.failed c.requires in
     added-answers k r inside.good inside.rests h inside.image inside.filed t inside.table f (g.met.L.LanguageChildren.fits c.args.node)
     (findable-children k inside.good h inside.image f (g.met.L.LanguageChildren.fits c.args.node) valid.children) valid.known c.add.new.store c.add.new.nodes (to_applied c.in_ok-id.id)
-    (graph_of false c.add.new.table c.add.new.store (rows_in c.add.new.nodes.filed) gnil) refl refl c.add.ensures.more c.in_ok-id.ensures.ok
+    (graph_of false c.add.new.table c.add.new.store (rows_in c.add.new.nodes.filed) (part_by g.N.Analysis.codes c.self.inside.analysis c.add.new.data)) refl refl c.add.ensures.more c.in_ok-id.ensures.ok
 
 pub returns-in_err-id-clause-full : goal.returns-in_err-id-clause-full
 returns-in_err-id-clause-full g c e =

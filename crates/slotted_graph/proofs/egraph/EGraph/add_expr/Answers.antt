@@ -1,4 +1,3 @@
-use base.Stored.{gnil}
 use Rattle.std.proofs.Common.{◌∙◌, ap, rules, sym, subst, inl, inr}
 use Rattle.std.proofs.lemmas.Bool.{false≢true}
 use Rattle.slotted_slots.specs.Table.{Table}
@@ -6,12 +5,14 @@ use Rattle.slotted_model.specs.Growth.{Extends}
 use Rattle.slotted_proofs.specs.Equations.{to_applied}
 use Rattle.slotted_store.specs.Kept.{nodes_of}
 use Rattle.slotted_terms.specs.Valid.{IsValidTerm}
+use Rattle.slotted_data.specs.Part.{part_by}
 use Rattle.slotted_core.specs.Good.{image_of}
 use Rattle.slotted_core.specs.Graph.{Graph}
 use Rattle.slotted_core.specs.Image.{AddsClasses}
 use Rattle.slotted_core.proofs.GraphTerms.{term-answers, term-equal, term-filed, term-found, term-id, term-kept, term-lacks, term-nodes, term-reached, term-takes}
 use Rattle.slotted_graph.proofs.Indexes.{no-index}
-use Rattle.slotted_graph.proofs.Insides.{inside-of, told-by}
+use Rattle.slotted_graph.proofs.Analysed.{kept-part}
+use Rattle.slotted_graph.proofs.Insides.{data-inside, inside-of, told-by}
 use Rattle.slotted_graph.proofs.egraph.EGraph.add_expr.Goals as goal
 
 pub add_expr-requires-clause-fresh_slots : goal.add_expr-requires-clause-fresh_slots
@@ -32,8 +33,8 @@ invariant_of-self-2 g c =
     let inside = inside-of t k r c.self.view_is c.if-self.false c.self.invariant in
     let w = c.args.term.now in
     let is = told-by t k r c.self.view_is c.if-self.false c.self.invariant in
-    let p = term-reached gnil w t k r inside.good inside.rests inside.fresh h is c.add_expr.new.table c.add_expr.new.store c.add_expr.new.nodes (to_applied c.in_ok-answer.answer) c.in_ok-answer.ensures.ok in
-    inr (p.good, p.fresh_slots, p.rests, no-index _ c.clear.new.self.indexed c.clear.ensures)
+    let p = term-reached _ w t k r inside.good inside.rests inside.fresh h is (part_by g.N.Analysis.codes c.self.inside.analysis c.add_expr.new.data) c.add_expr.new.table c.add_expr.new.store c.add_expr.new.nodes (to_applied c.in_ok-answer.answer) c.in_ok-answer.ensures.ok in
+    inr (p.good, p.fresh_slots, p.rests, no-index _ c.clear.new.self.indexed c.clear.ensures, c.in_ok-answer.ensures.carried.rests)
 
 pub returns-clause-id : goal.returns-clause-id
 returns-clause-id g c =
@@ -44,7 +45,7 @@ returns-clause-id g c =
     let inside = inside-of t k r c.self.view_is c.if-self.false c.self.invariant in
     let w = c.args.term.now in
     let is = told-by t k r c.self.view_is c.if-self.false c.self.invariant in
-    term-id gnil w t k r inside.good inside.rests inside.fresh h is c.add_expr.new.table c.add_expr.new.store c.add_expr.new.nodes (to_applied c.in_ok-answer.answer) c.in_ok-answer.ensures.ok
+    term-id _ w t k r inside.good inside.rests inside.fresh h is (part_by g.N.Analysis.codes c.self.inside.analysis c.add_expr.new.data) c.add_expr.new.table c.add_expr.new.store c.add_expr.new.nodes (to_applied c.in_ok-answer.answer) c.in_ok-answer.ensures.ok
 
 pub returns-clause-found : goal.returns-clause-found
 returns-clause-found g c =
@@ -55,7 +56,7 @@ returns-clause-found g c =
     let inside = inside-of t k r c.self.view_is c.if-self.false c.self.invariant in
     let w = c.args.term.now in
     let is = told-by t k r c.self.view_is c.if-self.false c.self.invariant in
-    term-found gnil w t k r inside.good inside.rests inside.fresh h is c.add_expr.new.table c.add_expr.new.store c.add_expr.new.nodes (to_applied c.in_ok-answer.answer) c.in_ok-answer.ensures.ok
+    term-found _ w t k r inside.good inside.rests inside.fresh h is (part_by g.N.Analysis.codes c.self.inside.analysis c.add_expr.new.data) c.add_expr.new.table c.add_expr.new.store c.add_expr.new.nodes (to_applied c.in_ok-answer.answer) c.in_ok-answer.ensures.ok
 
 pub returns-clause-equal : goal.returns-clause-equal
 returns-clause-equal g c =
@@ -66,10 +67,11 @@ returns-clause-equal g c =
     let inside = inside-of t k r c.self.view_is c.if-self.false c.self.invariant in
     let w = c.args.term.now in
     let is = told-by t k r c.self.view_is c.if-self.false c.self.invariant in
-    term-equal gnil w t k r inside.good inside.rests inside.fresh h is c.add_expr.new.table c.add_expr.new.store c.add_expr.new.nodes (to_applied c.in_ok-answer.answer) c.in_ok-answer.ensures.ok
+    term-equal _ w t k r inside.good inside.rests inside.fresh h is (part_by g.N.Analysis.codes c.self.inside.analysis c.add_expr.new.data) c.add_expr.new.table c.add_expr.new.store c.add_expr.new.nodes (to_applied c.in_ok-answer.answer) c.in_ok-answer.ensures.ok
 
 pub returns-clause-kept : goal.returns-clause-kept
 returns-clause-kept g c =
+    let data = data-inside g.N.Analysis.meaning c.self.inside.analysis c.if-self.false c.self.invariant in
     let h = c.args.self.now in
     let k = c.self.inside.store in
     let r = c.self.inside.nodes in
@@ -77,7 +79,8 @@ returns-clause-kept g c =
     let inside = inside-of t k r c.self.view_is c.if-self.false c.self.invariant in
     let w = c.args.term.now in
     let is = told-by t k r c.self.view_is c.if-self.false c.self.invariant in
-    term-kept gnil w t k r inside.good inside.rests inside.fresh h is c.add_expr.new.table c.add_expr.new.store c.add_expr.new.nodes (to_applied c.in_ok-answer.answer) c.in_ok-answer.ensures.ok
+    term-kept _ w t k r inside.good inside.rests inside.fresh h is (part_by g.N.Analysis.codes c.self.inside.analysis c.add_expr.new.data) c.add_expr.new.table c.add_expr.new.store c.add_expr.new.nodes (to_applied c.in_ok-answer.answer) c.in_ok-answer.ensures.ok
+    (λ same. kept-part g.N.Analysis.codes g.N.Analysis.meaning c.self.inside.analysis k r c.self.inside.data data c.add_expr.new.store same c.add_expr.new.data c.in_ok-answer.ensures.still)
 
 pub returns-clause-nodes : goal.returns-clause-nodes
 returns-clause-nodes g c =
@@ -88,7 +91,7 @@ returns-clause-nodes g c =
     let inside = inside-of t k r c.self.view_is c.if-self.false c.self.invariant in
     let w = c.args.term.now in
     let is = told-by t k r c.self.view_is c.if-self.false c.self.invariant in
-    term-nodes gnil w t k r inside.good inside.rests inside.fresh h is c.add_expr.new.table c.add_expr.new.store c.add_expr.new.nodes (to_applied c.in_ok-answer.answer) c.in_ok-answer.ensures.ok
+    term-nodes _ w t k r inside.good inside.rests inside.fresh h is (part_by g.N.Analysis.codes c.self.inside.analysis c.add_expr.new.data) c.add_expr.new.table c.add_expr.new.store c.add_expr.new.nodes (to_applied c.in_ok-answer.answer) c.in_ok-answer.ensures.ok
 
 pub returns-clause-filed : goal.returns-clause-filed
 returns-clause-filed g c =
@@ -99,7 +102,7 @@ returns-clause-filed g c =
     let inside = inside-of t k r c.self.view_is c.if-self.false c.self.invariant in
     let w = c.args.term.now in
     let is = told-by t k r c.self.view_is c.if-self.false c.self.invariant in
-    term-filed gnil w t k r inside.good inside.rests inside.fresh h is c.add_expr.new.table c.add_expr.new.store c.add_expr.new.nodes (to_applied c.in_ok-answer.answer) c.in_ok-answer.ensures.ok
+    term-filed _ w t k r inside.good inside.rests inside.fresh h is (part_by g.N.Analysis.codes c.self.inside.analysis c.add_expr.new.data) c.add_expr.new.table c.add_expr.new.store c.add_expr.new.nodes (to_applied c.in_ok-answer.answer) c.in_ok-answer.ensures.ok
 
 pub returns-clause-answers : goal.returns-clause-answers
 returns-clause-answers g c =
@@ -110,7 +113,7 @@ returns-clause-answers g c =
     let inside = inside-of t k r c.self.view_is c.if-self.false c.self.invariant in
     let w = c.args.term.now in
     let is = told-by t k r c.self.view_is c.if-self.false c.self.invariant in
-    term-answers gnil w t k r inside.good inside.rests inside.fresh h is c.add_expr.new.table c.add_expr.new.store c.add_expr.new.nodes (to_applied c.in_ok-answer.answer) c.in_ok-answer.ensures.ok
+    term-answers _ w t k r inside.good inside.rests inside.fresh h is (part_by g.N.Analysis.codes c.self.inside.analysis c.add_expr.new.data) c.add_expr.new.table c.add_expr.new.store c.add_expr.new.nodes (to_applied c.in_ok-answer.answer) c.in_ok-answer.ensures.ok
 
 pub returns-clause-extends : goal.returns-clause-extends
 returns-clause-extends g c =
@@ -121,7 +124,7 @@ returns-clause-extends g c =
     let inside = inside-of t k r c.self.view_is c.if-self.false c.self.invariant in
     let w = c.args.term.now in
     let is = told-by t k r c.self.view_is c.if-self.false c.self.invariant in
-    subst (λ (x : Graph). Extends x.image.canonical (nodes_of c.add_expr.new.store)) is (term-reached gnil w t k r inside.good inside.rests inside.fresh h is c.add_expr.new.table c.add_expr.new.store c.add_expr.new.nodes (to_applied c.in_ok-answer.answer) c.in_ok-answer.ensures.ok).extends
+    subst (λ (x : Graph). Extends x.image.canonical (nodes_of c.add_expr.new.store)) is (term-reached _ w t k r inside.good inside.rests inside.fresh h is (part_by g.N.Analysis.codes c.self.inside.analysis c.add_expr.new.data) c.add_expr.new.table c.add_expr.new.store c.add_expr.new.nodes (to_applied c.in_ok-answer.answer) c.in_ok-answer.ensures.ok).extends
 
 pub returns-clause-adds : goal.returns-clause-adds
 returns-clause-adds g c =
@@ -132,7 +135,7 @@ returns-clause-adds g c =
     let inside = inside-of t k r c.self.view_is c.if-self.false c.self.invariant in
     let w = c.args.term.now in
     let is = told-by t k r c.self.view_is c.if-self.false c.self.invariant in
-    subst (λ (x : Graph). AddsClasses x.image (image_of c.add_expr.new.store)) is (term-reached gnil w t k r inside.good inside.rests inside.fresh h is c.add_expr.new.table c.add_expr.new.store c.add_expr.new.nodes (to_applied c.in_ok-answer.answer) c.in_ok-answer.ensures.ok).adds
+    subst (λ (x : Graph). AddsClasses x.image (image_of c.add_expr.new.store)) is (term-reached _ w t k r inside.good inside.rests inside.fresh h is (part_by g.N.Analysis.codes c.self.inside.analysis c.add_expr.new.data) c.add_expr.new.table c.add_expr.new.store c.add_expr.new.nodes (to_applied c.in_ok-answer.answer) c.in_ok-answer.ensures.ok).adds
 
 pub returns-clause-takes : goal.returns-clause-takes
 returns-clause-takes g c =
@@ -143,7 +146,7 @@ returns-clause-takes g c =
     let inside = inside-of t k r c.self.view_is c.if-self.false c.self.invariant in
     let w = c.args.term.now in
     let is = told-by t k r c.self.view_is c.if-self.false c.self.invariant in
-    inr (term-takes gnil w t k r inside.good inside.rests inside.fresh h is c.add_expr.new.table c.add_expr.ensures.takes)
+    inr (term-takes _ w t k r inside.good inside.rests inside.fresh h is c.add_expr.new.table c.add_expr.ensures.takes)
 
 pub returns-in_err-answer-clause-takes : goal.returns-in_err-answer-clause-takes
 returns-in_err-answer-clause-takes g c =
@@ -154,7 +157,7 @@ returns-in_err-answer-clause-takes g c =
     let inside = inside-of t k r c.self.view_is c.if-self.false c.self.invariant in
     let w = c.args.term.now in
     let is = told-by t k r c.self.view_is c.if-self.false c.self.invariant in
-    inr (term-takes gnil w t k r inside.good inside.rests inside.fresh h is c.add_expr.new.table c.add_expr.ensures.takes)
+    inr (term-takes _ w t k r inside.good inside.rests inside.fresh h is c.add_expr.new.table c.add_expr.ensures.takes)
 
 pub returns-in_err-answer-clause-full : goal.returns-in_err-answer-clause-full
 returns-in_err-answer-clause-full g c e =
@@ -165,4 +168,4 @@ returns-in_err-answer-clause-full g c e =
     let inside = inside-of t k r c.self.view_is c.if-self.false c.self.invariant in
     let w = c.args.term.now in
     let is = told-by t k r c.self.view_is c.if-self.false c.self.invariant in
-    term-lacks gnil w t k r inside.good inside.rests inside.fresh h is c.add_expr.new.table (c.in_err-answer.ensures.full (search rules))
+    term-lacks _ w t k r inside.good inside.rests inside.fresh h is c.add_expr.new.table (c.in_err-answer.ensures.full (search rules))

@@ -26,7 +26,7 @@ append_live-requires-clause-known l c = elim c.self.invariant [
 pub invariant_of-self : goal.invariant_of-self
 invariant_of-self g c = elim c.self.invariant [
   | inl h ↦ inl h
-  | inr h ↦ inr (h.0, fresh_slots-more c.self.inside.table c.append_live.new.table c.self.inside.store c.append_live.ensures.more h.1, h.2, h.3)
+  | inr h ↦ inr (h.0, fresh_slots-more c.self.inside.table c.append_live.new.table c.self.inside.store c.append_live.ensures.more h.1, h.2, h.3, h.4)
 ]
 
 pub returns-clause-full : goal.returns-clause-full

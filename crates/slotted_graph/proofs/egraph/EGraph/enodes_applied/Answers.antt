@@ -44,7 +44,7 @@ enodes_applied-requires-clause-known l c =
 pub invariant_of-self : goal.invariant_of-self
 invariant_of-self g c = elim c.self.invariant [
   | inl h ↦ inl h
-  | inr h ↦ inr (h.0, fresh_slots-more c.self.inside.table c.enodes_applied.new.table c.self.inside.store c.enodes_applied.ensures.more h.1, h.2, h.3)
+  | inr h ↦ inr (h.0, fresh_slots-more c.self.inside.table c.enodes_applied.new.table c.self.inside.store c.enodes_applied.ensures.more h.1, h.2, h.3, h.4)
 ]
 
 pub returns-clause-each : goal.returns-clause-each

@@ -1,8 +1,8 @@
-use base.Stored.{gnil}
 -- A search over what is kept and filed has what the graph is asked for.
 use Rattle.std.proofs.Common.{◌≡◌, ◌∙◌, ◌<◌, length, arith, ap, subst, sym, refl, inl, inr}
 use Rattle.std.proofs.lemmas.Bool.{false≢true}
 use Rattle.slotted_filing.specs.FiledRows.{rows_in}
+use Rattle.slotted_data.specs.Part.{part_by}
 use Rattle.slotted_core.specs.Good.{graph_of, image_of}
 use Rattle.slotted_core.specs.Graph.{Graph}
 use Rattle.slotted_core.proofs.FreshSlots.{fresh_slots-more}
@@ -53,7 +53,7 @@ pub invariant_of-self : goal.invariant_of-self
 invariant_of-self g c =
     elim c.self.invariant [
       | inl h ↦ inl h
-      | inr h ↦ inr (h.0, fresh_slots-more c.self.inside.table c.find_matches_at.new.table c.self.inside.store c.find_matches_at.ensures.more h.1, h.2, c.find_matches_at.ensures.index)
+      | inr h ↦ inr (h.0, fresh_slots-more c.self.inside.table c.find_matches_at.new.table c.self.inside.store c.find_matches_at.ensures.more h.1, h.2, c.find_matches_at.ensures.index, h.4)
     ]
 
 pub find_class-requires-clause-good : goal.find_class-requires-clause-good
@@ -77,7 +77,7 @@ returns-clause-finds g c =
     let tree = tree_of g.L.LanguageChildren.form c.args.pattern.now in
     let k = c.self.inside.store in
     let r = c.self.inside.nodes in
-    let h : Graph = graph_of c.self.inside.failed c.find_matches_at.new.table k (rows_in r.filed) gnil in
+    let h : Graph = graph_of c.self.inside.failed c.find_matches_at.new.table k (rows_in r.filed) (part_by g.N.Analysis.codes c.self.inside.analysis c.self.inside.data) in
     let e = c.find_matches_at.ensures in
     let graph = c.args.self.now in
     let a = to_applied c.args.id.now in
@@ -94,7 +94,7 @@ returns-clause-valid g c =
     let tree = tree_of g.L.LanguageChildren.form c.args.pattern.now in
     let k = c.self.inside.store in
     let r = c.self.inside.nodes in
-    let h : Graph = graph_of c.self.inside.failed c.find_matches_at.new.table k (rows_in r.filed) gnil in
+    let h : Graph = graph_of c.self.inside.failed c.find_matches_at.new.table k (rows_in r.filed) (part_by g.N.Analysis.codes c.self.inside.analysis c.self.inside.data) in
     let e = c.find_matches_at.ensures in
     ok-with c.find_matches_at.result e.valid (λ found valid. valid-of h k r inside.good inside.rests more refl refl tree found valid)
 
@@ -105,7 +105,7 @@ returns-clause-looked_up g c =
     let tree = tree_of g.L.LanguageChildren.form c.args.pattern.now in
     let k = c.self.inside.store in
     let r = c.self.inside.nodes in
-    let h : Graph = graph_of c.self.inside.failed c.find_matches_at.new.table k (rows_in r.filed) gnil in
+    let h : Graph = graph_of c.self.inside.failed c.find_matches_at.new.table k (rows_in r.filed) (part_by g.N.Analysis.codes c.self.inside.analysis c.self.inside.data) in
     let e = c.find_matches_at.ensures in
     let graph = c.args.self.now in
     let a = to_applied c.args.id.now in
@@ -125,7 +125,7 @@ returns-clause-each g c =
     let tree = tree_of g.L.LanguageChildren.form c.args.pattern.now in
     let k = c.self.inside.store in
     let r = c.self.inside.nodes in
-    let h : Graph = graph_of c.self.inside.failed c.find_matches_at.new.table k (rows_in r.filed) gnil in
+    let h : Graph = graph_of c.self.inside.failed c.find_matches_at.new.table k (rows_in r.filed) (part_by g.N.Analysis.codes c.self.inside.analysis c.self.inside.data) in
     let e = c.find_matches_at.ensures in
     let graph = c.args.self.now in
     let a = to_applied c.args.id.now in
@@ -143,7 +143,7 @@ returns-clause-needs g c =
     let tree = tree_of g.L.LanguageChildren.form c.args.pattern.now in
     let k = c.self.inside.store in
     let r = c.self.inside.nodes in
-    let h : Graph = graph_of c.self.inside.failed c.find_matches_at.new.table k (rows_in r.filed) gnil in
+    let h : Graph = graph_of c.self.inside.failed c.find_matches_at.new.table k (rows_in r.filed) (part_by g.N.Analysis.codes c.self.inside.analysis c.self.inside.data) in
     let e = c.find_matches_at.ensures in
     let graph = c.args.self.now in
     let a = to_applied c.args.id.now in
@@ -163,7 +163,7 @@ returns-clause-full g c out =
     let tree = tree_of g.L.LanguageChildren.form c.args.pattern.now in
     let k = c.self.inside.store in
     let r = c.self.inside.nodes in
-    let h : Graph = graph_of c.self.inside.failed c.find_matches_at.new.table k (rows_in r.filed) gnil in
+    let h : Graph = graph_of c.self.inside.failed c.find_matches_at.new.table k (rows_in r.filed) (part_by g.N.Analysis.codes c.self.inside.analysis c.self.inside.data) in
     let e = c.find_matches_at.ensures in
     let graph = c.args.self.now in
     let a = to_applied c.args.id.now in

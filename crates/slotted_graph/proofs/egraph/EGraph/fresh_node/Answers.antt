@@ -33,7 +33,7 @@ fresh_node-requires-clause-full g c =
 pub invariant_of-self : goal.invariant_of-self
 invariant_of-self g c = elim c.self.invariant [
   | inl h ↦ inl h
-  | inr h ↦ inr (h.0, fresh_slots-more c.self.inside.table c.fresh_node.new.table c.self.inside.store c.fresh_node.ensures.more h.1, h.2, h.3)
+  | inr h ↦ inr (h.0, fresh_slots-more c.self.inside.table c.fresh_node.new.table c.self.inside.store c.fresh_node.ensures.more h.1, h.2, h.3, h.4)
 ]
 
 pub returns-clause-node : goal.returns-clause-node

@@ -36,7 +36,7 @@ fill_id-requires-clause-findable g c =
 pub invariant_of-self : goal.invariant_of-self
 invariant_of-self g c = elim c.self.invariant [
   | inl h ↦ inl h
-  | inr h ↦ inr (h.0, fresh_slots-more c.self.inside.table c.fill_id.new.table c.self.inside.store c.fill_id.ensures.more h.1, h.2, h.3)
+  | inr h ↦ inr (h.0, fresh_slots-more c.self.inside.table c.fill_id.new.table c.self.inside.store c.fill_id.ensures.more h.1, h.2, h.3, h.4)
 ]
 
 pub returns-clause-id : goal.returns-clause-id

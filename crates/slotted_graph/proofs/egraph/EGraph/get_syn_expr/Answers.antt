@@ -30,7 +30,7 @@ syn_expr_of-requires-clause-findable g c =
 pub invariant_of-self : goal.invariant_of-self
 invariant_of-self g c = elim c.self.invariant [
   | inl h ↦ inl h
-  | inr h ↦ inr (h.0, fresh_slots-more c.self.inside.table c.syn_expr_of.new.table c.self.inside.store c.syn_expr_of.ensures.more h.1, h.2, h.3)
+  | inr h ↦ inr (h.0, fresh_slots-more c.self.inside.table c.syn_expr_of.new.table c.self.inside.store c.syn_expr_of.ensures.more h.1, h.2, h.3, h.4)
 ]
 
 pub returns-clause-filled : goal.returns-clause-filled

@@ -30,7 +30,7 @@ extract-requires-clause-findable l c =
 pub invariant_of-self : goal.invariant_of-self
 invariant_of-self g c = elim c.self.invariant [
   | inl h ↦ inl h
-  | inr h ↦ inr (h.0, fresh_slots-more c.self.inside.table c.extract.new.table c.self.inside.store c.extract.ensures.more h.1, h.2, h.3)
+  | inr h ↦ inr (h.0, fresh_slots-more c.self.inside.table c.extract.new.table c.self.inside.store c.extract.ensures.more h.1, h.2, h.3, h.4)
 ]
 
 pub returns-clause-least : goal.returns-clause-least

@@ -5,5 +5,5 @@ use Rattle.slotted_graph.proofs.egraph.EGraph.named_slot.Goals as goal
 pub invariant_of-self : goal.invariant_of-self
 invariant_of-self g c = elim c.self.invariant [
   | inl h ↦ inl h
-  | inr h ↦ inr (h.0, fresh_slots-more c.self.inside.table c.named.new.self c.self.inside.store c.named.ensures.more h.1, h.2, h.3)
+  | inr h ↦ inr (h.0, fresh_slots-more c.self.inside.table c.named.new.self c.self.inside.store c.named.ensures.more h.1, h.2, h.3, h.4)
 ]

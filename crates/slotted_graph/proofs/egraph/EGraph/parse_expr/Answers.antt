@@ -5,5 +5,5 @@ use Rattle.slotted_graph.proofs.egraph.EGraph.parse_expr.Goals as goal
 pub invariant_of-self : goal.invariant_of-self
 invariant_of-self g c = elim c.self.invariant [
   | inl h ↦ inl h
-  | inr h ↦ inr (h.0, fresh_slots-more c.self.inside.table c.parse.new.table c.self.inside.store c.parse.ensures.more h.1, h.2, h.3)
+  | inr h ↦ inr (h.0, fresh_slots-more c.self.inside.table c.parse.new.table c.self.inside.store c.parse.ensures.more h.1, h.2, h.3, h.4)
 ]

@@ -1,6 +1,6 @@
-use base.Stored.{gnil}
 use Rattle.std.specs.Prelude.{false}
 use Rattle.slotted_filing.specs.FiledRows.{rows_in}
+use Rattle.slotted_data.specs.Part.{part_by}
 use Rattle.slotted_core.specs.Graph.{Graph}
 use Rattle.slotted_graph.proofs.CountedGraphs.{counts-union}
 use Rattle.std.proofs.Common.{◌∙◌, refl, sym, inl, inr}
@@ -39,6 +39,7 @@ invariant_of-self-2 g c = elim c.self.invariant [
     grown-fresh c.self.inside.table c.self.inside.store c.union.new.store c.in_ok-answer.ensures.ok.nodes h.1,
     c.in_ok-answer.ensures.ok.rests,
     no-index _ c.clear.new.self.indexed c.clear.ensures,
+    c.in_ok-answer.ensures.carried.rests,
   )
 ]
 
@@ -52,5 +53,5 @@ returns-clause-counts l c =
 pub returns-clause-counted : goal.returns-clause-counted
 returns-clause-counted l c =
     let inside = inside-of c.self.inside.table c.self.inside.store c.self.inside.nodes c.self.view_is c.if-self.false c.self.invariant in
-    let h : Graph = graph_of false c.self.inside.table c.union.new.store (rows_in c.union.new.nodes.filed) gnil in
+    let h : Graph = graph_of false c.self.inside.table c.union.new.store (rows_in c.union.new.nodes.filed) (part_by l.N.Analysis.codes c.self.inside.analysis c.union.new.data) in
     counts-union c.self.inside.store c.self.inside.nodes c.union.new.store c.union.new.nodes _ _ _ _ inside.good c.in_ok-answer.ensures.ok c.args.self.now h inside.image inside.filed refl

@@ -1,4 +1,3 @@
-use base.Stored.{gnil}
 use Rattle.std.proofs.Common.{◌∙◌, sym, subst, inl, inr}
 use Rattle.std.specs.Prelude.{IfOk, IsErrOf}
 use Rattle.slotted_slots.specs.declared.error.Error.TheVariants.{BadStep}
@@ -11,7 +10,9 @@ use Rattle.slotted_proofs.specs.Equations.{statement_of}
 use Rattle.slotted_proofs.specs.Steps.{by_step}
 use Rattle.slotted_proofs.specs.StepClaims.{IsOfFull}
 use Rattle.slotted_core.proofs.AcceptedSteps.{both_ok, Checked, congruent_checked, congruent_refused, kept_good, says_refused, says_fits, says_accepted, says_derivable, says_leaves}
+use Rattle.slotted_graph.proofs.Analysed.{data-checked}
 use Rattle.slotted_graph.proofs.Indexes.{no-index}
+use Rattle.slotted_graph.proofs.Insides.{data-inside}
 use Rattle.slotted_graph.proofs.egraph.steps.CongruenceProofCheck.check.Goals as goal
 
 pub invariant_of-graph : goal.invariant_of-graph
@@ -28,7 +29,13 @@ invariant_of-graph g c =
     let ok = subst (λ qs. IfOk r (EntersIn k l (by_step (statement_of e) (congruent qs)))) c.in_ok-copy.ensures.ok c.check_congruent.ensures.ok in
     let checked = both_ok r (λ p. IsOfFull (nodes_of k) e × IsCongruentIn k e ps) (EntersIn k l (by_step (statement_of e) (congruent ps))) (Checked t k l e (congruent ps)) (λ p f x. congruent_checked t k l e ps p h.0 f x) fits ok in
     let kept = kept_good r t k l rows e (congruent ps) h checked c.check_congruent.ensures.err in
-    inr (kept.0, kept.1, kept.2, no-index _ c.clear.new.self.indexed c.clear.ensures)
+    inr (
+      kept.0,
+      kept.1,
+      kept.2,
+      no-index _ c.clear.new.self.indexed c.clear.ensures,
+      data-checked (g.N.Analysis.meaning c.graph.inside.analysis) r k l rows c.graph.inside.data _ kept.0 kept.2 (data-inside g.N.Analysis.meaning c.graph.inside.analysis c.if-graph.false c.graph.invariant) ok c.check_congruent.ensures.err,
+    )
 
 pub returns-clause-fits : goal.returns-clause-fits
 returns-clause-fits g c =
@@ -42,7 +49,7 @@ returns-clause-fits g c =
     let fits = subst (λ qs. IfOk r (λ _. IsOfFull (nodes_of k) e × IsCongruentIn k e qs)) c.in_ok-copy.ensures.ok c.check_congruent.ensures.fits in
     let ok = subst (λ qs. IfOk r (EntersIn k l (by_step (statement_of e) (congruent qs)))) c.in_ok-copy.ensures.ok c.check_congruent.ensures.ok in
     let checked = both_ok r (λ p. IsOfFull (nodes_of k) e × IsCongruentIn k e ps) (EntersIn k l (by_step (statement_of e) (congruent ps))) (Checked t k l e (congruent ps)) (λ p f x. congruent_checked t k l e ps p h.0 f x) fits ok in
-    says_fits r c.graph.inside.failed t c.graph.inside.nodes k l e (congruent ps) gnil c.args.graph.now c.graph.view_is checked
+    says_fits r c.graph.inside.failed t c.graph.inside.nodes k l e (congruent ps) _ c.args.graph.now c.graph.view_is checked
 
 pub returns-clause-refused : goal.returns-clause-refused
 returns-clause-refused g c =
@@ -54,7 +61,7 @@ returns-clause-refused g c =
     let ps = c.args.self.now.0.items in
     let h : Good k × HasFreshSlots t k = elim c.graph.invariant [ inl h ↦ absurd (false≢true (sym c.if-graph.false ∙ h)) | inr h ↦ (h.0, h.1) ] in
     let refused = subst (λ qs. IsErrOf r BadStep → ¬ (IsOfFull (nodes_of k) e × IsCongruentIn k e qs)) c.in_ok-copy.ensures.ok c.check_congruent.ensures.refused in
-    says_refused r c.graph.inside.failed t c.graph.inside.nodes k l e (congruent ps) gnil c.args.graph.now c.graph.view_is (λ b. congruent_refused k e ps h.0 (refused b))
+    says_refused r c.graph.inside.failed t c.graph.inside.nodes k l e (congruent ps) _ c.args.graph.now c.graph.view_is (λ b. congruent_refused k e ps h.0 (refused b))
 
 pub returns-clause-accepted : goal.returns-clause-accepted
 returns-clause-accepted g c =
@@ -68,7 +75,7 @@ returns-clause-accepted g c =
     let fits = subst (λ qs. IfOk r (λ _. IsOfFull (nodes_of k) e × IsCongruentIn k e qs)) c.in_ok-copy.ensures.ok c.check_congruent.ensures.fits in
     let ok = subst (λ qs. IfOk r (EntersIn k l (by_step (statement_of e) (congruent qs)))) c.in_ok-copy.ensures.ok c.check_congruent.ensures.ok in
     let checked = both_ok r (λ p. IsOfFull (nodes_of k) e × IsCongruentIn k e ps) (EntersIn k l (by_step (statement_of e) (congruent ps))) (Checked t k l e (congruent ps)) (λ p f x. congruent_checked t k l e ps p h.0 f x) fits ok in
-    says_accepted r c.graph.inside.failed t c.graph.inside.nodes k l e (congruent ps) gnil c.args.graph.now c.graph.view_is checked
+    says_accepted r c.graph.inside.failed t c.graph.inside.nodes k l e (congruent ps) _ c.args.graph.now c.graph.view_is checked
 
 pub returns-clause-derivable : goal.returns-clause-derivable
 returns-clause-derivable g c =
@@ -82,7 +89,7 @@ returns-clause-derivable g c =
     let fits = subst (λ qs. IfOk r (λ _. IsOfFull (nodes_of k) e × IsCongruentIn k e qs)) c.in_ok-copy.ensures.ok c.check_congruent.ensures.fits in
     let ok = subst (λ qs. IfOk r (EntersIn k l (by_step (statement_of e) (congruent qs)))) c.in_ok-copy.ensures.ok c.check_congruent.ensures.ok in
     let checked = both_ok r (λ p. IsOfFull (nodes_of k) e × IsCongruentIn k e ps) (EntersIn k l (by_step (statement_of e) (congruent ps))) (Checked t k l e (congruent ps)) (λ p f x. congruent_checked t k l e ps p h.0 f x) fits ok in
-    says_derivable r c.graph.inside.failed t c.graph.inside.nodes k l e (congruent ps) gnil c.args.graph.now c.graph.view_is checked
+    says_derivable r c.graph.inside.failed t c.graph.inside.nodes k l e (congruent ps) _ c.args.graph.now c.graph.view_is checked
 
 pub returns-clause-leaves : goal.returns-clause-leaves
 returns-clause-leaves g c =
@@ -96,4 +103,4 @@ returns-clause-leaves g c =
     let fits = subst (λ qs. IfOk r (λ _. IsOfFull (nodes_of k) e × IsCongruentIn k e qs)) c.in_ok-copy.ensures.ok c.check_congruent.ensures.fits in
     let ok = subst (λ qs. IfOk r (EntersIn k l (by_step (statement_of e) (congruent qs)))) c.in_ok-copy.ensures.ok c.check_congruent.ensures.ok in
     let checked = both_ok r (λ p. IsOfFull (nodes_of k) e × IsCongruentIn k e ps) (EntersIn k l (by_step (statement_of e) (congruent ps))) (Checked t k l e (congruent ps)) (λ p f x. congruent_checked t k l e ps p h.0 f x) fits ok in
-    says_leaves r c.graph.inside.failed t c.graph.inside.nodes k l e (congruent ps) gnil c.args.graph.now c.graph.view_is checked
+    says_leaves r c.graph.inside.failed t c.graph.inside.nodes k l e (congruent ps) _ c.args.graph.now c.graph.view_is checked

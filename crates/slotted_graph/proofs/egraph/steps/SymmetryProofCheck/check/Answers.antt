@@ -1,4 +1,3 @@
-use base.Stored.{gnil}
 use Rattle.std.proofs.Common.{◌∙◌, sym, inl, inr}
 use Rattle.std.proofs.lemmas.Bool.{false≢true}
 use Rattle.slotted_model.specs.ProofList.{symmetric}
@@ -8,7 +7,9 @@ use Rattle.slotted_proofs.specs.Equations.{statement_of}
 use Rattle.slotted_proofs.specs.Steps.{IsSymmetricStep, by_step}
 use Rattle.slotted_proofs.specs.StepClaims.{IsOfFull}
 use Rattle.slotted_core.proofs.AcceptedSteps.{both_ok, Checked, symmetric_checked, symmetric_refused, kept_good, says_refused, says_fits, says_accepted, says_derivable, says_leaves}
+use Rattle.slotted_graph.proofs.Analysed.{data-checked}
 use Rattle.slotted_graph.proofs.Indexes.{no-index}
+use Rattle.slotted_graph.proofs.Insides.{data-inside}
 use Rattle.slotted_graph.proofs.egraph.steps.SymmetryProofCheck.check.Goals as goal
 
 pub invariant_of-graph : goal.invariant_of-graph
@@ -22,7 +23,13 @@ invariant_of-graph g c =
     let h : Good k × HasFreshSlots t k × RestsWith k rows = elim c.graph.invariant [ inl h ↦ absurd (false≢true (sym c.if-graph.false ∙ h)) | inr h ↦ (h.0, h.1, h.2) ] in
     let checked = both_ok r (λ p. IsOfFull (nodes_of k) e × IsSymmetricStep k.proofs e c.args.self.now.0) (EntersIn k l (by_step (statement_of e) (symmetric c.args.self.now.0))) (Checked t k l e (symmetric c.args.self.now.0)) (λ p f x. symmetric_checked t k l e c.args.self.now.0 p h.0 f x) c.check_symmetric.ensures.fits c.check_symmetric.ensures.ok in
     let kept = kept_good r t k l rows e (symmetric c.args.self.now.0) h checked c.check_symmetric.ensures.err in
-    inr (kept.0, kept.1, kept.2, no-index _ c.clear.new.self.indexed c.clear.ensures)
+    inr (
+      kept.0,
+      kept.1,
+      kept.2,
+      no-index _ c.clear.new.self.indexed c.clear.ensures,
+      data-checked (g.N.Analysis.meaning c.graph.inside.analysis) r k l rows c.graph.inside.data _ kept.0 kept.2 (data-inside g.N.Analysis.meaning c.graph.inside.analysis c.if-graph.false c.graph.invariant) c.check_symmetric.ensures.ok c.check_symmetric.ensures.err,
+    )
 
 pub returns-clause-fits : goal.returns-clause-fits
 returns-clause-fits g c =
@@ -33,7 +40,7 @@ returns-clause-fits g c =
     let l = c.check_symmetric.new.store in
     let h : Good k × HasFreshSlots t k = elim c.graph.invariant [ inl h ↦ absurd (false≢true (sym c.if-graph.false ∙ h)) | inr h ↦ (h.0, h.1) ] in
     let checked = both_ok r (λ p. IsOfFull (nodes_of k) e × IsSymmetricStep k.proofs e c.args.self.now.0) (EntersIn k l (by_step (statement_of e) (symmetric c.args.self.now.0))) (Checked t k l e (symmetric c.args.self.now.0)) (λ p f x. symmetric_checked t k l e c.args.self.now.0 p h.0 f x) c.check_symmetric.ensures.fits c.check_symmetric.ensures.ok in
-    says_fits r c.graph.inside.failed t c.graph.inside.nodes k l e (symmetric c.args.self.now.0) gnil c.args.graph.now c.graph.view_is checked
+    says_fits r c.graph.inside.failed t c.graph.inside.nodes k l e (symmetric c.args.self.now.0) _ c.args.graph.now c.graph.view_is checked
 
 pub returns-clause-refused : goal.returns-clause-refused
 returns-clause-refused g c =
@@ -44,7 +51,7 @@ returns-clause-refused g c =
     let l = c.check_symmetric.new.store in
     let h : Good k × HasFreshSlots t k = elim c.graph.invariant [ inl h ↦ absurd (false≢true (sym c.if-graph.false ∙ h)) | inr h ↦ (h.0, h.1) ] in
     let checked = both_ok r (λ p. IsOfFull (nodes_of k) e × IsSymmetricStep k.proofs e c.args.self.now.0) (EntersIn k l (by_step (statement_of e) (symmetric c.args.self.now.0))) (Checked t k l e (symmetric c.args.self.now.0)) (λ p f x. symmetric_checked t k l e c.args.self.now.0 p h.0 f x) c.check_symmetric.ensures.fits c.check_symmetric.ensures.ok in
-    says_refused r c.graph.inside.failed t c.graph.inside.nodes k l e (symmetric c.args.self.now.0) gnil c.args.graph.now c.graph.view_is (λ b. symmetric_refused k e c.args.self.now.0 h.0 (c.check_symmetric.ensures.refused b))
+    says_refused r c.graph.inside.failed t c.graph.inside.nodes k l e (symmetric c.args.self.now.0) _ c.args.graph.now c.graph.view_is (λ b. symmetric_refused k e c.args.self.now.0 h.0 (c.check_symmetric.ensures.refused b))
 
 pub returns-clause-accepted : goal.returns-clause-accepted
 returns-clause-accepted g c =
@@ -55,7 +62,7 @@ returns-clause-accepted g c =
     let l = c.check_symmetric.new.store in
     let h : Good k × HasFreshSlots t k = elim c.graph.invariant [ inl h ↦ absurd (false≢true (sym c.if-graph.false ∙ h)) | inr h ↦ (h.0, h.1) ] in
     let checked = both_ok r (λ p. IsOfFull (nodes_of k) e × IsSymmetricStep k.proofs e c.args.self.now.0) (EntersIn k l (by_step (statement_of e) (symmetric c.args.self.now.0))) (Checked t k l e (symmetric c.args.self.now.0)) (λ p f x. symmetric_checked t k l e c.args.self.now.0 p h.0 f x) c.check_symmetric.ensures.fits c.check_symmetric.ensures.ok in
-    says_accepted r c.graph.inside.failed t c.graph.inside.nodes k l e (symmetric c.args.self.now.0) gnil c.args.graph.now c.graph.view_is checked
+    says_accepted r c.graph.inside.failed t c.graph.inside.nodes k l e (symmetric c.args.self.now.0) _ c.args.graph.now c.graph.view_is checked
 
 pub returns-clause-derivable : goal.returns-clause-derivable
 returns-clause-derivable g c =
@@ -66,7 +73,7 @@ returns-clause-derivable g c =
     let l = c.check_symmetric.new.store in
     let h : Good k × HasFreshSlots t k = elim c.graph.invariant [ inl h ↦ absurd (false≢true (sym c.if-graph.false ∙ h)) | inr h ↦ (h.0, h.1) ] in
     let checked = both_ok r (λ p. IsOfFull (nodes_of k) e × IsSymmetricStep k.proofs e c.args.self.now.0) (EntersIn k l (by_step (statement_of e) (symmetric c.args.self.now.0))) (Checked t k l e (symmetric c.args.self.now.0)) (λ p f x. symmetric_checked t k l e c.args.self.now.0 p h.0 f x) c.check_symmetric.ensures.fits c.check_symmetric.ensures.ok in
-    says_derivable r c.graph.inside.failed t c.graph.inside.nodes k l e (symmetric c.args.self.now.0) gnil c.args.graph.now c.graph.view_is checked
+    says_derivable r c.graph.inside.failed t c.graph.inside.nodes k l e (symmetric c.args.self.now.0) _ c.args.graph.now c.graph.view_is checked
 
 pub returns-clause-leaves : goal.returns-clause-leaves
 returns-clause-leaves g c =
@@ -77,4 +84,4 @@ returns-clause-leaves g c =
     let l = c.check_symmetric.new.store in
     let h : Good k × HasFreshSlots t k = elim c.graph.invariant [ inl h ↦ absurd (false≢true (sym c.if-graph.false ∙ h)) | inr h ↦ (h.0, h.1) ] in
     let checked = both_ok r (λ p. IsOfFull (nodes_of k) e × IsSymmetricStep k.proofs e c.args.self.now.0) (EntersIn k l (by_step (statement_of e) (symmetric c.args.self.now.0))) (Checked t k l e (symmetric c.args.self.now.0)) (λ p f x. symmetric_checked t k l e c.args.self.now.0 p h.0 f x) c.check_symmetric.ensures.fits c.check_symmetric.ensures.ok in
-    says_leaves r c.graph.inside.failed t c.graph.inside.nodes k l e (symmetric c.args.self.now.0) gnil c.args.graph.now c.graph.view_is checked
+    says_leaves r c.graph.inside.failed t c.graph.inside.nodes k l e (symmetric c.args.self.now.0) _ c.args.graph.now c.graph.view_is checked

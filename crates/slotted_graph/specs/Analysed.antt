@@ -1,0 +1,79 @@
+-- What a graph keeps by its analysis: the data of each class, and the classes that wait to be modified.
+--     KeepsPart codes g p            this is what the graph keeps
+--     new_graph codes n t            the graph without classes
+--     IsAnalysisOf codes g n         its analysis
+--     HasData codes g i x            the data of the class that i finds
+--     AbsorbsMade codes meaning g    merging what a filed node makes into the data of its class changes nothing
+--     CountsPending codes g n        so many live classes wait to be modified
+--     CarriesData codes meaning g h  from g to h data only went down, and what was made or has changed waits to be modified
+--     MergesData ..                  the same, and the class that i finds has data that absorbs v
+--     KeepsClassesAsTheyAre g h      nothing changed but data
+use Rattle.std.specs.Prelude.{◌≡◌, ◌<◌, ℕ, List, [], length, count_by, map, slice_get, slice_index_or, Some, Contains}
+use Rattle.std.specs.Coded.{Coded}
+use Rattle.slotted_slots.specs.Table.{Table}
+use Rattle.slotted_model.specs.State.{Row, child_classes}
+use Rattle.slotted_model_analyses.specs.Analysis.{Absorbs}
+use Rattle.slotted_analyses.specs.Meaning.{Meaning, by_bare_nodes}
+use Rattle.slotted_data.specs.Held.{no_values}
+use Rattle.slotted_data.specs.Part.{Part, NotesChanges, part_by, part_code}
+use Rattle.slotted_core.specs.Causes.{class_found}
+use Rattle.slotted_core.specs.Graph.{Graph, empty_graph}
+use Rattle.slotted_core.specs.Reports.{finds_itself}
+
+abbrev pub KeepsPart : {N D : Type 0} → Coded N × Coded D → Graph → Part N D → Type 0
+KeepsPart codes g p = g.part ≡ (part_code codes).code p
+
+-- the graph without classes, over this table
+abbrev pub new_graph : {N D : Type 0} → Coded N × Coded D → N → Table → Graph
+new_graph codes n t = record (empty_graph t) { part = part_by codes n no_values }
+
+pub record IsAnalysisOf {N D : Type 0} (codes : Coded N × Coded D) (g : Graph) (n : N) : Type 0 where
+  pub part : Part N D
+  pub keeps : KeepsPart codes g part
+  pub is : part.analysis ≡ n
+
+-- what a graph with this part has for the class that i finds
+abbrev pub HasDatumIn : {N D : Type 0} → Graph → Part N D → ℕ → D → Type 0
+HasDatumIn g p i x = slice_get p.values (class_found g.image i) ≡ Some x
+
+-- the same by a function, which is x where there is no class
+abbrev pub datum_in : {N D : Type 0} → Graph → Part N D → D → ℕ → D
+datum_in g p x i = slice_index_or p.values (class_found g.image i) x
+
+pub record HasData {N D : Type 0} (codes : Coded N × Coded D) (g : Graph) (i : ℕ) (x : D) : Type 0 where
+  pub part : Part N D
+  pub keeps : KeepsPart codes g part
+  pub is : HasDatumIn g part i x
+
+-- of each filed node, what it makes of the data of its children is absorbed by the data of its class
+pub record AbsorbsMade {N D : Type 0} (codes : Coded N × Coded D) (meaning : N → Meaning D) (g : Graph) : Type 0 where
+  pub part : Part N D
+  pub keeps : KeepsPart codes g part
+  pub absorbs : (x : D) (r : Row) → Contains g.filed r → Absorbs (by_bare_nodes (meaning part.analysis)) (datum_in g part x r.source)
+      ((by_bare_nodes (meaning part.analysis)).make r.shape (map (datum_in g part x) (child_classes r.shape.args)))
+
+pub record CountsPending {N D : Type 0} (codes : Coded N × Coded D) (g : Graph) (n : ℕ) : Type 0 where
+  pub part : Part N D
+  pub keeps : KeepsPart codes g part
+  pub is : n ≡ count_by (finds_itself g.image) part.changed
+
+pub record CarriesData {N D : Type 0} (codes : Coded N × Coded D) (meaning : N → Meaning D) (g h : Graph) : Type 0 where
+  pub older : Part N D
+  pub newer : Part N D
+  pub before : KeepsPart codes g older
+  pub after : KeepsPart codes h newer
+  pub analysis : newer.analysis ≡ older.analysis
+  -- what a class has now absorbs what it had
+  pub falls : (i : ℕ) → i < length g.image.canonical → (x y : D) → HasDatumIn g older i x → HasDatumIn h newer i y →
+      Absorbs (by_bare_nodes (meaning older.analysis)) y x
+  pub notes : D → NotesChanges older.values older.changed newer.values newer.changed
+
+pub record MergesData {N D : Type 0} (codes : Coded N × Coded D) (meaning : N → Meaning D) (g h : Graph) (i : ℕ) (v : D) : Type 0 where
+  pub carries : CarriesData codes meaning g h
+  pub absorbs : (y : D) → HasData codes h i y → Absorbs (by_bare_nodes (meaning carries.older.analysis)) y v
+
+-- from g to h nothing changed but data and whether the graph failed
+pub record KeepsClassesAsTheyAre (g h : Graph) : Type 0 where
+  pub table : h.table ≡ g.table
+  pub image : h.image ≡ g.image
+  pub filed : h.filed ≡ g.filed

@@ -1,0 +1,73 @@
+//! The analysis of a graph, and the data of its classes.
+ghost use Rattle.std.specs.Prelude.{◌≡◌, ◌⊎◌, ◌↔◌, ◌<◌, length, IsTrue, IfErr, IsErr, IsErrOf, OnOk};
+ghost use Rattle.slotted_slots.specs.Error.{IsOutOfMemory};
+ghost use Rattle.slotted_core.specs.Reports.{HasClass};
+ghost use Rattle.slotted_graph.specs.Analysed.{AbsorbsMade, CountsPending, HasData, IsAnalysisOf, KeepsClassesAsTheyAre, MergesData};
+
+use super::EGraph;
+use slotted_analyses::Analysis;
+use slotted_data::{merge_value, pending_count};
+use slotted_languages::Language;
+use slotted_slots::{Error, Id};
+
+impl<L: Language, N: Analysis<L>> EGraph<L, N> {
+    /// Returns the graph's analysis. It takes no memory.
+    pub fn analysis(&self) -> &N
+        ensures { IsAnalysisOf N.codes self.now result.now }
+    {
+        &self.analysis
+    }
+
+    /// Returns the data of the class that a class finds: the merge of what its nodes make, and of what was merged into it. It takes no memory.
+    pub fn analysis_data(&self, id: Id) -> &N::Data
+        requires { HasClass self.now id.0 }
+        ensures value { HasData N.codes self.now id.0 result.now }
+
+        // What any filed node makes of the data of its children is absorbed by the data of its class.
+        ensures rests { AbsorbsMade N.codes N.meaning self.now }
+    {
+        self.data.value(self.store.find_class(id.0))
+    }
+
+    /// Merges a value into the data of the class that a class finds. From there values go upwards: each class whose data changes waits to be
+    /// modified.
+    pub fn merge_analysis_data(&mut self, id: Id, value: &N::Data) -> Result<(), Error>
+        requires { IsTrue self.old.failed ⊎ (id.0 < length self.old.image.canonical) }
+
+        // Data only goes down, and merging the value again changes nothing.
+        ensures merges { OnOk result (MergesData N.codes N.meaning self.old self.new id.0 value.now) }
+        ensures same { OnOk result (KeepsClassesAsTheyAre self.old self.new) }
+
+        ensures stays { IsTrue self.old.failed → self.new ≡ self.old }
+        ensures failed { IsErrOf result Error.Failed ↔ IsTrue self.old.failed }
+        ensures fails { IsTrue self.new.failed ↔ IsErr result }
+        ensures only { IfErr result (λ e. (e ≡ Error.Failed) ⊎ IsOutOfMemory e) }
+    {
+        if self.failed {
+            return Err(Error::Failed);
+        }
+        self.failed = true;
+        self.index.clear();
+        merge_value(
+            &self.store,
+            &mut self.nodes,
+            &mut self.data,
+            &self.analysis,
+            self.alloc,
+            id.0,
+            value,
+        )?;
+        self.failed = false;
+        Ok(())
+    }
+
+    /// Returns how many live classes wait to be modified: those that were made, or whose data has changed. It takes no memory.
+    pub fn modify_pending(&self) -> usize
+        ensures { IsTrue self.now.failed ⊎ CountsPending N.codes self.now result }
+    {
+        if self.failed {
+            return 0;
+        }
+        pending_count(&self.store, &self.data)
+    }
+}

@@ -1,0 +1,153 @@
+//! Nodes and terms are added, and data is carried along.
+ghost use Rattle.std.specs.Prelude.{◌≡◌, IfErr, IfOk, IsErrOf, OnOk};
+ghost use Rattle.slotted_slots.specs.Error.{IsShortage};
+ghost use Rattle.slotted_slots.specs.Table.{KnowsMore};
+ghost use Rattle.slotted_filing.specs.NormalNodes.{HasFindableChildren};
+ghost use Rattle.slotted_proofs.specs.Equations.{to_applied};
+ghost use Rattle.slotted_terms.specs.Valid.{AllKnown, IsValidTerm, IsWhole};
+ghost use Rattle.slotted_store.specs.Kept.{nodes_of};
+ghost use Rattle.slotted_analyses.specs.Meaning.{by_bare_nodes};
+ghost use Rattle.slotted_data.specs.Carrying.{Carried, DataRests, HasCarriedAll};
+ghost use Rattle.slotted_core.specs.Adding.{RunsOutForFilled, slots_needed};
+ghost use Rattle.slotted_core.specs.Causes.{CanRunOutForTerm, IsUnknownIfFull, IsUnknownTerm};
+ghost use Rattle.slotted_core.specs.Good.{AddsFilled, AddsFound, AddsFoundTerm, AddsTerm, Good, HasFreshSlots, RestsWith};
+ghost use Rattle.slotted_core.specs.Good.{LacksForTermIn, RunsOutForUnknownIn, TakesForTermIn, image_of};
+ghost use Rattle.slotted_core.specs.Graph.{MakesAtMost};
+ghost use Rattle.slotted_core.specs.Places.{term_slots};
+
+use slotted_analyses::Analysis;
+use slotted_core::{adding, looking_up};
+use slotted_data::{ClassData, carry};
+use slotted_filing::Hashcons;
+use slotted_languages::Language;
+use slotted_slots::{AppliedId, Error, SlotTable};
+use slotted_store::Store;
+use slotted_terms::expr::RecExpr;
+use std::alloc::Global;
+
+/// Returns the class that was made with the node, whose children are filled first, or a new one, with the node's names put in.
+pub fn add_filled<L: Language, N: Analysis<L>>(
+    store: &mut Store<L>,
+    nodes: &mut Hashcons<L>,
+    data: &mut ClassData<N::Data>,
+    analysis: &N,
+    alloc: Global,
+    table: &mut SlotTable,
+    node: &L,
+) -> Result<AppliedId, Error>
+    requires good { Good store.old }
+    requires rests { RestsWith store.old nodes.old }
+    requires fresh_slots { HasFreshSlots table.old store.old }
+    requires children { HasFindableChildren store.old (L.form node.now) }
+    requires known { AllKnown table.old (L.form node.now).names }
+    requires since { DataRests (by_bare_nodes (N.meaning analysis.now)) store.old nodes.old «data».old }
+    ensures ok { IfOk result
+        (λ a. AddsFilled table.old table.new store.old nodes.old store.new nodes.new (L.form node.now) (to_applied a)) }
+    ensures carried { OnOk result
+        (Carried (by_bare_nodes (N.meaning analysis.now)) store.old nodes.old store.new nodes.new «data».old «data».new) }
+    ensures still { OnOk result (HasCarriedAll store.new «data».old → «data».new ≡ «data».old) }
+    ensures more { KnowsMore table.old table.new }
+    ensures takes { MakesAtMost (slots_needed (image_of store.old) (L.form node.now)) table.old table.new }
+    ensures full { IsErrOf result Error.OutOfSlots
+        → RunsOutForFilled (image_of store.old) (L.form node.now) table.old table.new }
+    ensures unknown { IsErrOf result Error.OutOfSlots → IsUnknownIfFull (nodes_of store.old) (L.form node.now) }
+    ensures err { IfErr result IsShortage }
+{
+    let made = looking_up::add_filled(store, nodes, alloc, table, node)?;
+    carry(store, nodes, data, analysis, alloc)?;
+    Ok(made)
+}
+
+/// Returns what the node is looked up as. Where it is not, a class is made of it, whose children are filled first.
+pub fn add<L: Language, N: Analysis<L>>(
+    store: &mut Store<L>,
+    nodes: &mut Hashcons<L>,
+    data: &mut ClassData<N::Data>,
+    analysis: &N,
+    alloc: Global,
+    table: &mut SlotTable,
+    node: &L,
+) -> Result<AppliedId, Error>
+    requires good { Good store.old }
+    requires rests { RestsWith store.old nodes.old }
+    requires fresh_slots { HasFreshSlots table.old store.old }
+    requires children { HasFindableChildren store.old (L.form node.now) }
+    requires known { AllKnown table.old (L.form node.now).names }
+    requires since { DataRests (by_bare_nodes (N.meaning analysis.now)) store.old nodes.old «data».old }
+    ensures ok { IfOk result
+        (λ a. AddsFound table.old table.new store.old nodes.old store.new nodes.new (L.form node.now) (to_applied a)) }
+    ensures carried { OnOk result
+        (Carried (by_bare_nodes (N.meaning analysis.now)) store.old nodes.old store.new nodes.new «data».old «data».new) }
+    ensures still { OnOk result (HasCarriedAll store.new «data».old → «data».new ≡ «data».old) }
+    ensures more { KnowsMore table.old table.new }
+    ensures takes { MakesAtMost (slots_needed (image_of store.old) (L.form node.now)) table.old table.new }
+    ensures full { IsErrOf result Error.OutOfSlots
+        → RunsOutForUnknownIn table.old table.new store.old nodes.old (L.form node.now) }
+    ensures err { IfErr result IsShortage }
+{
+    let id = looking_up::add(store, nodes, alloc, table, node)?;
+    carry(store, nodes, data, analysis, alloc)?;
+    Ok(id)
+}
+
+/// Returns what the term is looked up as, child by child. Classes are made of the nodes that are not.
+pub fn add_expr<L: Language, N: Analysis<L>>(
+    store: &mut Store<L>,
+    nodes: &mut Hashcons<L>,
+    data: &mut ClassData<N::Data>,
+    analysis: &N,
+    alloc: Global,
+    table: &mut SlotTable,
+    term: &RecExpr<L>,
+) -> Result<AppliedId, Error>
+    requires good { Good store.old }
+    requires rests { RestsWith store.old nodes.old }
+    requires fresh_slots { HasFreshSlots table.old store.old }
+    requires valid { IsValidTerm table.old term.now }
+    requires since { DataRests (by_bare_nodes (N.meaning analysis.now)) store.old nodes.old «data».old }
+    ensures ok { IfOk result
+        (λ a. AddsFoundTerm table.old store.old nodes.old table.new store.new nodes.new term.now (to_applied a)) }
+    ensures carried { OnOk result
+        (Carried (by_bare_nodes (N.meaning analysis.now)) store.old nodes.old store.new nodes.new «data».old «data».new) }
+    ensures still { OnOk result (HasCarriedAll store.new «data».old → «data».new ≡ «data».old) }
+    ensures more { KnowsMore table.old table.new }
+    ensures takes { TakesForTermIn term.now table.old store.old nodes.old table.new }
+    ensures full { IsErrOf result Error.OutOfSlots → LacksForTermIn term.now table.old store.old nodes.old table.new }
+    ensures err { IfErr result IsShortage }
+{
+    let answer = looking_up::add_expr(store, nodes, alloc, table, term)?;
+    carry(store, nodes, data, analysis, alloc)?;
+    Ok(answer)
+}
+
+/// Returns the id of the term, whose nodes are added from below.
+pub fn add_syn_expr<L: Language, N: Analysis<L>>(
+    store: &mut Store<L>,
+    nodes: &mut Hashcons<L>,
+    data: &mut ClassData<N::Data>,
+    analysis: &N,
+    alloc: Global,
+    table: &mut SlotTable,
+    term: &RecExpr<L>,
+) -> Result<AppliedId, Error>
+    requires good { Good store.old }
+    requires rests { RestsWith store.old nodes.old }
+    requires fresh_slots { HasFreshSlots table.old store.old }
+    requires whole { IsWhole term.now.args }
+    requires since { DataRests (by_bare_nodes (N.meaning analysis.now)) store.old nodes.old «data».old }
+    ensures ok { IfOk result
+        (λ a. AddsTerm table.old table.new store.old nodes.old store.new nodes.new term.now (to_applied a)) }
+    ensures carried { OnOk result
+        (Carried (by_bare_nodes (N.meaning analysis.now)) store.old nodes.old store.new nodes.new «data».old «data».new) }
+    ensures still { OnOk result (HasCarriedAll store.new «data».old → «data».new ≡ «data».old) }
+    ensures more { KnowsMore table.old table.new }
+    ensures takes { MakesAtMost (term_slots term.now) table.old table.new }
+    ensures full { IsErrOf result Error.OutOfSlots
+        → CanRunOutForTerm (image_of store.old) term.now table.old table.new }
+    ensures unknown { IsErrOf result Error.OutOfSlots → IsUnknownTerm (image_of store.old) term.now }
+    ensures err { IfErr result IsShortage }
+{
+    let answer = adding::add_syn_expr(store, nodes, alloc, table, term)?;
+    carry(store, nodes, data, analysis, alloc)?;
+    Ok(answer)
+}
