@@ -1,11 +1,12 @@
 -- The least size of a class's terms, which merging lowers.
 use Rattle.std.specs.Prelude.{◌≡◌, ◌≢◌, ℕ, suc, ◌-◌, ◌<◌, ◌^◌, min, sum}
-use Rattle.std.specs.Coded.{Coded, coded_ℕ}
+use Rattle.std.specs.Coded.{Coded, code_by, coded_ℕ}
 use Rattle.std.specs.Prelude.{refl}
 use base.Stored.{gnil}
 use Rattle.std.proofs.Common.{arith}
 use Rattle.slotted_analyses.specs.Meaning.{Meaning, IsMergeOf}
 use Rattle.slotted_analyses_tests.specs.declared.least_size.LeastSize.{LeastSize}
+use Rattle.slotted_analyses_tests.specs.declared.refusing.Refusing.{Refusing}
 
 abbrev pub largest : ℕ
 largest = 2 ^ 32 - 1
@@ -32,3 +33,6 @@ least_size_merges = record { commutative = commutes; associative = associates; i
 -- there is one analysis of this type
 abbrev pub size_codes : Coded LeastSize × Coded ℕ
 size_codes = (record { code = λ _. gnil; inj = λ _ _ _. refl }, coded_ℕ)
+
+abbrev pub refusing_codes : Coded Refusing × Coded ℕ
+refusing_codes = (code_by ℕ coded_ℕ (λ r. r.most) (λ n. record { most = n }) (λ _. refl), coded_ℕ)

@@ -5,4 +5,7 @@ pub mod carried;
 pub mod const_fold;
 #[cfg(test)]
 mod folding;
+#[cfg(test)]
+mod graphs;
 pub mod least_size;
+pub mod refusing;

@@ -8,4 +8,3 @@ pub mod Settled
 pub mod MergedValues
 pub mod Resting
 pub mod Telling
-pub mod LiveOnes

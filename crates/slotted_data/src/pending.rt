@@ -1,5 +1,5 @@
 //! The classes that wait to be modified, as far as they live.
-ghost use Rattle.std.specs.Prelude.{◌≡◌, ◌<◌, ℕ, Contains, count_by, length, IfOk, IfErr, OnOk};
+ghost use Rattle.std.specs.Prelude.{◌≡◌, count_by, IfOk, IfErr, OnOk};
 ghost use Rattle.slotted_slots.specs.Error.{IsOutOfMemory};
 ghost use Rattle.slotted_data.specs.Held.{with_none_changed};
 ghost use Rattle.slotted_data.specs.Pending.{ArePending, lives_in};
@@ -10,17 +10,15 @@ use slotted_slots::Error;
 use slotted_store::Store;
 use std::alloc::Global;
 
-// Whether a class leads to itself.
+// Whether a number is that of a class that leads to itself.
 fn is_live<L: Language>(store: &Store<L>, class: usize) -> bool
-    requires { class < length store.now.classes }
     ensures { result ≡ lives_in store.now class }
 {
-    store.entry(class).id.0 == class
+    class < store.class_count() && store.entry(class).id.0 == class
 }
 
-/// How many live classes wait to be modified. It takes no memory.
+/// Returns how many live classes wait to be modified. It takes no memory.
 pub fn pending_count<L: Language, D: Drop>(store: &Store<L>, data: &ClassData<D>) -> usize
-    requires { (i : ℕ) → Contains «data».now.changed i → i < length store.now.classes }
     ensures { result ≡ count_by (lives_in store.now) «data».now.changed }
 {
     let mut count = 0;
@@ -34,13 +32,12 @@ pub fn pending_count<L: Language, D: Drop>(store: &Store<L>, data: &ClassData<D>
     count
 }
 
-/// The live classes that wait to be modified, by ascending id. No class waits from now on.
+/// Returns the live classes that wait to be modified, by ascending id. No class waits from now on.
 pub fn take_pending<L: Language, D: Drop>(
     store: &Store<L>,
     data: &mut ClassData<D>,
     alloc: Global,
 ) -> Result<Vec<usize>, Error>
-    requires { (i : ℕ) → Contains «data».old.changed i → i < length store.now.classes }
     ensures taken { IfOk result (λ v. ArePending store.now «data».old.changed v.items) }
     ensures left { OnOk result («data».new ≡ with_none_changed «data».old) }
     ensures err { IfErr result IsOutOfMemory }

@@ -1,23 +1,29 @@
 -- What a graph keeps by its analysis, told by its parts.
-use Rattle.std.proofs.Common.{◌≡◌, ◌<◌, ℕ, List, length, map, Some, sym, ◌∙◌, ap, refl, subst, arith}
-use Rattle.std.specs.Prelude.{Contains, Result, Ok, Err, IfOk, OnErr, slice_get, slice_index_or}
+use Rattle.std.proofs.Common.{◌≡◌, ◌<◌, ℕ, List, Bool, true, false, nat_eq, length, map, Some, sym, ◌∙◌, ap, refl, subst, arith, inl, inr}
+use Rattle.std.proofs.lemmas.Bool.{eq-eqb, eqb-true, false≢true, ltb-true, ne_eqb}
+use Rattle.std.proofs.lemmas.Option.{get_or_from_slice_get}
+use Rattle.std.specs.Prelude.{◌↔◌, ◌&&◌, Contains, Result, Ok, Err, IfOk, OnErr, count_by, nat_lt, slice_get, slice_index_or}
 use Rattle.std.specs.Coded.{Coded}
 use base.Stored.{Gv}
 use Rattle.slotted_slots.specs.declared.error.Error.{Error}
 use Rattle.slotted_model.specs.Changes.{GoesOn}
-use Rattle.slotted_model.specs.Find.{find_class}
+use Rattle.slotted_model.specs.Find.{Entry, find_class}
+use Rattle.slotted_model.specs.Rest.{AtRest}
 use Rattle.slotted_model.specs.State.{Row, child_classes}
-use Rattle.slotted_model_analyses.specs.Analysis.{Absorbs}
+use Rattle.slotted_model.proofs.GoingOn.{goes_on-same}
+use Rattle.slotted_model_analyses.specs.Analysis.{Absorbs, Analysis, IsMerge}
 use Rattle.slotted_proofs.specs.Entries.{Proven}
-use Rattle.slotted_store.specs.Kept.{EntersIn, Kept, entries_of, nodes_of}
-use Rattle.slotted_store.proofs.KeptLists.{length-nodes_of}
+use Rattle.slotted_store.specs.Kept.{EntersIn, Kept, entries_of, find_at, nodes_of}
+use Rattle.slotted_store.proofs.KeptLists.{entry_at-of, length-entries_of, length-nodes_of}
 use Rattle.slotted_filing.specs.FiledRows.{Rows, rows_in}
 use Rattle.slotted_rebuilding.specs.Filed.{state_in}
 use Rattle.slotted_analyses.specs.Meaning.{Meaning, by_bare_nodes}
 use Rattle.slotted_data.specs.Held.{Held}
+use Rattle.slotted_data.specs.Lowering.{quiet}
 use Rattle.slotted_data.specs.Made.{data_in}
-use Rattle.slotted_data.specs.Carrying.{Carried, DataRests, HasCarriedAll}
-use Rattle.slotted_data.specs.Part.{part_by, part_in}
+use Rattle.slotted_data.specs.Carrying.{Carried, DataRests, HasCarriedAll, MergesIn}
+use Rattle.slotted_data.specs.Part.{Part, part_by, part_code, part_in}
+use Rattle.slotted_data.specs.Pending.{lives_in}
 use Rattle.slotted_data.proofs.NewData.{map-same}
 use Rattle.slotted_data.proofs.Resting.{rests-proved}
 use Rattle.slotted_data.proofs.TakenData.{row-child, row-within}
@@ -28,8 +34,10 @@ use Rattle.slotted_core.specs.Graph.{Graph}
 use Rattle.slotted_core.specs.Image.{Image}
 use Rattle.slotted_writes.proofs.Since.{carried-same}
 use Rattle.slotted_core.proofs.Images.{class_found-is}
+use Rattle.slotted_core.specs.Reports.{finds_itself}
+use Rattle.slotted_core.proofs.Reports.{live-is}
 use Rattle.slotted_core.proofs.Resting.{at-rest}
-use Rattle.slotted_graph.specs.Analysed.{AbsorbsMade, CarriesData, HasData, datum_in}
+use Rattle.slotted_graph.specs.Analysed.{AbsorbsMade, CarriesData, CountsPending, HasData, KeepsPart, MergesData, datum_in, is_live_class}
 
 module _ {N D : Type 0} (codes : Coded N × Coded D) (meaning : N → Meaning D) (n : N) (k : Kept) (r : Rows) (d : Held D) (g : Graph)
     (image : image_of k ≡ g.image) (part : g.part ≡ part_by codes n d) where
@@ -44,6 +52,9 @@ module _ {N D : Type 0} (codes : Coded N × Coded D) (meaning : N → Meaning D)
     datum-is : (x : D) (i : ℕ) → i < length k.classes → datum_in g (part_in n d) x i ≡ data_in x d.values (find_class (entries_of k) i)
     datum-is x i within = ap (data_in x d.values) (class-is i within)
 
+    still-rest : AtRest (state_in k (quiet r))
+    still-rest = subst (λ w. AtRest (state_in k (record { filed = r.filed; waiting = w }))) rests.rest.nothing_waits rests.rest
+
     pub absorbs-made : AbsorbsMade codes meaning g
     absorbs-made = record {
       part = part_in n d;
@@ -53,9 +64,9 @@ module _ {N D : Type 0} (codes : Coded N × Coded D) (meaning : N → Meaning D)
           let a = by_bare_nodes (meaning n) in
           let children : map (datum_in g (part_in n d) x) (child_classes w.shape.args) ≡ map (data_in x d.values) (child_classes w.shape.args) =
           map-same (datum_in g (part_in n d) x) (data_in x d.values) (child_classes w.shape.args) (λ c h.
-            let live = row-child k r rests.rest w row c h in
-            datum-is x c live.0 ∙ ap (data_in x d.values) live.1) in
-          subst (λ y. Absorbs a y (a.make w.shape (map (datum_in g (part_in n d) x) (child_classes w.shape.args)))) (sym (datum-is x w.source (row-within k r rests.rest w row)))
+          let live = row-child k r still-rest w row c h in
+          datum-is x c live.0 ∙ ap (data_in x d.values) live.1) in
+          subst (λ y. Absorbs a y (a.make w.shape (map (datum_in g (part_in n d) x) (child_classes w.shape.args)))) (sym (datum-is x w.source (row-within k r still-rest w row)))
           (subst (λ ys. Absorbs a (data_in x d.values (find_class (entries_of k) w.source)) (a.make w.shape ys)) (sym children) (rest-absorbs a k r d rests x w row));
     }
 
@@ -69,11 +80,14 @@ module _ {N D : Type 0} (codes : Coded N × Coded D) (meaning : N → Meaning D)
       after = later;
       analysis = refl;
       falls = λ i within x y old new.
-          let here : i < length k.classes = subst (λ ns. i < length ns) (ap (λ (z : Image). z.canonical) (sym image)) within in
-          let count = length-nodes_of k in
+          let before : i < length (nodes_of k) = subst (λ ns. i < length ns) (ap (λ (z : Image). z.canonical) (sym image)) within in
+          let classes = length-nodes_of k in
+          let here : i < length k.classes = omega (arith, before, classes) in
+          let entries = length-entries_of k in
+          let within-entries : i < length (entries_of k) = omega (arith, here, entries) in
           let counts = length-nodes_of l in
-          let on = (goes.classes i (omega (arith, here, count))).0 in
-          carried-falls (by_bare_nodes (meaning n)) k r l q d e rests carried i here x y
+          let on = (goes.classes i before).0 in
+          carried-falls (by_bare_nodes (meaning n)) k r l q d e rests carried i within-entries x y
           (ap (slice_get d.values) (sym (class-is i here)) ∙ old)
           (ap (slice_get e.values) (sym (ap (λ (z : Image). class_found z i) (sym newer) ∙ class_found-is l i (omega (arith, on, counts)))) ∙ new);
       notes = carried-notes (by_bare_nodes (meaning n)) k r l q d e rests carried;
@@ -89,3 +103,64 @@ data-checked meaning (Err e) k l r d x good rests h enters same = subst (λ m. D
 pub kept-part : {N D : Type 0} (codes : Coded N × Coded D) (meaning : N → Meaning D) (n : N) (k : Kept) (r : Rows) (d : Held D) → DataRests (by_bare_nodes (meaning n)) k r d → (l : Kept) → l ≡ k → (e : Held D) →
     (HasCarriedAll l d → e ≡ d) → part_by codes n e ≡ part_by codes n d
 kept-part codes meaning n k r d rests l same e still = ap (part_by codes n) (still (carried-same (by_bare_nodes (meaning n)) k r d rests l same))
+
+-- what was merged in was carried along in one graph
+pub merged-carried : {D : Type 0} (a : Analysis D) → IsMerge D a → (k : Kept) (r : Rows) (i : ℕ) (v : D) (d e : Held D) → MergesIn a k r i v d e → Carried a k r k r d e
+merged-carried a law k r i v d e m = record {
+  rests = m.rests;
+  down = λ x c h. (m.down x).lower (find_class (entries_of k) c);
+  noted = λ x. record {
+    kept = (m.down x).kept;
+    noted = λ c h none. (
+      h,
+      elim (law.decided (data_in x e.values c) (data_in x d.values c)) [
+        | inl same ↦ same
+        | inr other ↦ absurd (none ((m.down x).noted c other))
+      ],
+    );
+  };
+}
+
+-- what the graph keeps is what its parts are
+pub part-is : {N D : Type 0} (codes : Coded N × Coded D) (n : N) (e : Held D) (g : Graph) → g.part ≡ part_by codes n e → (p : Part N D) → KeepsPart codes g p → p ≡ part_in n e
+part-is codes n e g is p keeps = (part_code codes).inj p (part_in n e) (sym keeps ∙ is)
+
+-- a value was merged in
+pub merges-data : {N D : Type 0} (codes : Coded N × Coded D) (meaning : N → Meaning D) (n : N) (law : IsMerge D (by_bare_nodes (meaning n))) (k : Kept) (r : Rows) (d e : Held D) (g h : Graph) → image_of k ≡ g.image → image_of k ≡ h.image →
+    g.part ≡ part_by codes n d → h.part ≡ part_by codes n e → rows_in r.filed ≡ g.filed → DataRests (by_bare_nodes (meaning n)) k r d →
+    (i : ℕ) → i < length k.classes → (v : D) → MergesIn (by_bare_nodes (meaning n)) k r i v d e → MergesData codes meaning g h i v
+unfolding carries-data
+merges-data codes meaning n law k r d e g h before after older newer filed rests i within v m = record {
+  carries = carries-data codes meaning n k r d g before older rests filed k r e h after newer (goes_on-same (state_in k r) rests.rest.sane.sound.linked) (merged-carried (by_bare_nodes (meaning n)) law k r i v d e m);
+  absorbs = λ y has.
+      let same = part-is codes n e h newer has.part has.keeps in
+      let at : slice_get e.values (find_class (entries_of k) i) ≡ Some y =
+      ap (slice_get e.values) (sym (class-is codes meaning n k r e h after newer i within)) ∙ (sym (ap (λ (p : Part _ _). slice_get p.values (class_found h.image i)) same) ∙ has.is) in
+      subst (λ z. Absorbs (by_bare_nodes (meaning n)) z v) (get_or_from_slice_get e.values (find_class (entries_of k) i) y y at) (m.absorbs y);
+}
+
+-- a class that leads to itself finds itself, told by tests
+and-same : (b x y : Bool) → (b ≡ true → x ≡ y) → (b && x) ≡ (b && y)
+and-same true x y h = h refl
+and-same false x y h = refl
+
+told-alike : (b : Bool) (m n i : ℕ) → b ≡ nat_eq m i → ((m ≡ i) ↔ (n ≡ i)) → b ≡ nat_eq n i
+told-alike true m n i is same = sym (eq-eqb n i (same.0 (eqb-true m i (sym is))))
+told-alike false m n i is same = sym (ne_eqb n i (λ e. false≢true (is ∙ eq-eqb m i (same.1 e))))
+
+lives-is : (k : Kept) → Good k → (i : ℕ) → lives_in k i ≡ is_live_class (image_of k) i
+lives-is k good i =
+    (λ j. nat_lt i (sym (length-nodes_of k) j) && nat_eq (find_at k i).class i)
+    ∙ and-same (nat_lt i (length (nodes_of k))) (nat_eq (find_at k i).class i) (finds_itself (image_of k) i) (λ e.
+    let h = ltb-true i (length (nodes_of k)) e in
+    let n = length-nodes_of k in
+    told-alike (nat_eq (find_at k i).class i) (find_at k i).class (class_found (image_of k) i) i refl
+    (subst (λ (x : Entry). (x.class ≡ i) ↔ (class_found (image_of k) i ≡ i)) (entry_at-of k i) (live-is k good i (omega (arith, h, n)))))
+
+-- so many live classes wait
+pub counts-pending : {N D : Type 0} (codes : Coded N × Coded D) (n : N) (k : Kept) → Good k → (d : Held D) (g : Graph) → image_of k ≡ g.image → g.part ≡ part_by codes n d → (c : ℕ) → c ≡ count_by (lives_in k) d.changed → CountsPending codes g c
+counts-pending codes n k good d g image part c is = record {
+  part = part_in n d;
+  keeps = part;
+  is = is ∙ ((λ j. count_by (λ i. lives-is k good i j) d.changed) ∙ ap (λ (x : Image). count_by (is_live_class x) d.changed) image);
+}

@@ -28,8 +28,8 @@ pub given : {P : Type 0} {b : Bool} → b ≡ false → IsTrue b ⊎ P → P
 given f (inl h) = absurd (false≢true (sym f ∙ h))
 given f (inr h) = h
 
-module _ {More : Type 0} {g : Graph} {b : Bool} {part : Gv} (t : Table) (k : Kept) (r : Rows) (is : graph_of b t k (rows_in r.filed) part ≡ g) (f : b ≡ false)
-    (invariant : IsTrue b ⊎ (Good k × HasFreshSlots t k × RestsWith k r × More)) where
+module _ {Indexed Rested : Type 0} {g : Graph} {b : Bool} {part : Gv} (t : Table) (k : Kept) (r : Rows) (is : graph_of b t k (rows_in r.filed) part ≡ g) (f : b ≡ false)
+    (invariant : IsTrue b ⊎ (Good k × HasFreshSlots t k × RestsWith k r × Indexed × Rested)) where
   pub inside-of : Inside g t k r
   inside-of = let well = given f invariant in record {
     good = well.0;

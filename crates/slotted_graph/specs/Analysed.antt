@@ -8,7 +8,7 @@
 --     CarriesData codes meaning g h  from g to h data only went down, and what was made or has changed waits to be modified
 --     MergesData ..                  the same, and the class that i finds has data that absorbs v
 --     KeepsClassesAsTheyAre g h      nothing changed but data
-use Rattle.std.specs.Prelude.{◌≡◌, ◌<◌, ℕ, List, [], length, count_by, map, slice_get, slice_index_or, Some, Contains}
+use Rattle.std.specs.Prelude.{◌≡◌, ◌<◌, ℕ, List, length, Bool, ◌&&◌, count_by, map, nat_lt, slice_get, slice_index_or, Some, Contains}
 use Rattle.std.specs.Coded.{Coded}
 use Rattle.slotted_slots.specs.Table.{Table}
 use Rattle.slotted_model.specs.State.{Row, child_classes}
@@ -18,6 +18,7 @@ use Rattle.slotted_data.specs.Held.{no_values}
 use Rattle.slotted_data.specs.Part.{Part, NotesChanges, part_by, part_code}
 use Rattle.slotted_core.specs.Causes.{class_found}
 use Rattle.slotted_core.specs.Graph.{Graph, empty_graph}
+use Rattle.slotted_core.specs.Image.{Image}
 use Rattle.slotted_core.specs.Reports.{finds_itself}
 
 abbrev pub KeepsPart : {N D : Type 0} → Coded N × Coded D → Graph → Part N D → Type 0
@@ -52,10 +53,14 @@ pub record AbsorbsMade {N D : Type 0} (codes : Coded N × Coded D) (meaning : N 
   pub absorbs : (x : D) (r : Row) → Contains g.filed r → Absorbs (by_bare_nodes (meaning part.analysis)) (datum_in g part x r.source)
       ((by_bare_nodes (meaning part.analysis)).make r.shape (map (datum_in g part x) (child_classes r.shape.args)))
 
+-- whether the number is that of a class that finds itself
+abbrev pub is_live_class : Image → ℕ → Bool
+is_live_class g i = nat_lt i (length g.canonical) && finds_itself g i
+
 pub record CountsPending {N D : Type 0} (codes : Coded N × Coded D) (g : Graph) (n : ℕ) : Type 0 where
   pub part : Part N D
   pub keeps : KeepsPart codes g part
-  pub is : n ≡ count_by (finds_itself g.image) part.changed
+  pub is : n ≡ count_by (is_live_class g.image) part.changed
 
 pub record CarriesData {N D : Type 0} (codes : Coded N × Coded D) (meaning : N → Meaning D) (g h : Graph) : Type 0 where
   pub older : Part N D

@@ -20,8 +20,8 @@ ghost use Rattle.slotted_core.specs.Reports.{IsFound};
 ghost use Rattle.slotted_graph.specs.Analysed.{CarriesData};
 
 use super::EGraph;
-use slotted_analyses::Analysis;
 use slotted_adding::lookup::look_up;
+use slotted_analyses::Analysis;
 use slotted_languages::Language;
 use slotted_slots::{AppliedId, Error};
 use slotted_terms::expr::RecExpr;

@@ -10,8 +10,8 @@ ghost use Rattle.slotted_core.specs.Syn.{FillsFresh, HasUnknownBinders, MakesFor
 ghost use Rattle.slotted_core.specs.ValidIds.{IsValidId, IsValidNode};
 
 use super::EGraph;
-use slotted_analyses::Analysis;
 use slotted_adding::filling::fill_id;
+use slotted_analyses::Analysis;
 use slotted_core::syn;
 use slotted_languages::Language;
 use slotted_slots::{AppliedId, Error};

@@ -10,8 +10,8 @@ ghost use Rattle.slotted_graph.specs.FiledNodes.{AscendByShape, CanRunOutForEnod
 ghost use Rattle.slotted_graph.specs.FiledNodes.{HasLargeRow, HasLargeRowOf, HasOwnNames, IsEnode, IsNoneIfDead, slots_for_enodes};
 
 use super::EGraph;
-use slotted_analyses::Analysis;
 use slotted_adding::reports;
+use slotted_analyses::Analysis;
 use slotted_languages::Language;
 use slotted_reports::{checking, nodes};
 use slotted_slots::{AppliedId, Error, Id};

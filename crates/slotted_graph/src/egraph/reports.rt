@@ -15,8 +15,8 @@ ghost use Rattle.slotted_core.specs.Reports.{HasClass, IsFoundFor, class_numbers
 ghost use Rattle.slotted_graph.specs.Measure.{IsProgress, no_progress};
 
 use super::EGraph;
-use slotted_analyses::Analysis;
 use slotted_adding::{finding, reports};
+use slotted_analyses::Analysis;
 use slotted_languages::Language;
 use slotted_reports::{ProgressMeasure, measure};
 use slotted_slots::{AppliedId, Error, Id, Slot, SmallHashSet};

@@ -3,12 +3,8 @@ use Rattle.std.specs.Prelude.{slice_get, slice_index_or}
 use Rattle.std.proofs.lemmas.List.Sums.{count_by_more_no, count_by_more_yes}
 use Rattle.std.proofs.lemmas.Option.{get_or_from_slice_get, slice_get-get_or}
 use Rattle.slotted_data.specs.Pending.{lives_in}
-use Rattle.slotted_data.proofs.LiveOnes.{there-at}
 use Rattle.slotted_data.proofs.pending.pending_count.Goals as goal
 use Rattle.slotted_data.proofs.pending.pending_count.Goals.{in-Some+then-is_live, in-Some+else-is_live, in_default}
-
-pub is_live-requires : goal.is_live-requires
-is_live-requires g c = c.requires c.in-Some.class (there-at c.args.data.now.changed c.loop-k.k c.in-Some.class (sym c.in-Some.ensures))
 
 pub loop-k-preserved : goal.loop-k-preserved
 loop-k-preserved g c =

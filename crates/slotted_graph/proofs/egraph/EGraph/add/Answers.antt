@@ -13,8 +13,8 @@ use Rattle.slotted_core.specs.Adding.{RunsOutForFilled}
 use Rattle.slotted_core.proofs.LookUps.{looked_up-is}
 use Rattle.slotted_core.proofs.ValidIds.{findable-children}
 use Rattle.slotted_core.proofs.AddedNodes.{added-answers, added-equal, added-found, added-id, added-kept, added-made}
-use Rattle.slotted_graph.proofs.Analysed.{kept-part}
-use Rattle.slotted_graph.proofs.Insides.{data-inside, inside-of, given}
+use Rattle.slotted_graph.proofs.Analysed.{carries-data, kept-part}
+use Rattle.slotted_graph.proofs.Insides.{data-inside, given, inside-of}
 use Rattle.slotted_graph.proofs.egraph.EGraph.add.Goals as goal
 
 pub add-requires-clause-fresh_slots : goal.add-requires-clause-fresh_slots
@@ -83,7 +83,7 @@ returns-clause-equal g c =
 
 pub returns-clause-kept : goal.returns-clause-kept
 returns-clause-kept g c =
-    let data = data-inside g.N.Analysis.meaning c.self.inside.analysis c.if-self.false c.self.invariant in
+    let rested = data-inside g.N.Analysis.meaning c.self.inside.analysis c.if-self.false c.self.invariant in
     let h = c.args.self.now in
     let f = g.L.LanguageChildren.form c.args.node in
     let k = c.self.inside.store in
@@ -93,7 +93,7 @@ returns-clause-kept g c =
     let valid : IsValidNode h f = given inside.failed c.requires in
     added-kept k r inside.good inside.rests h inside.image inside.filed t inside.table f (g.met.L.LanguageChildren.fits c.args.node)
     (findable-children k inside.good h inside.image f (g.met.L.LanguageChildren.fits c.args.node) valid.children) valid.known c.add.new.store c.add.new.nodes (to_applied c.in_ok-id.id)
-    (graph_of false c.add.new.table c.add.new.store (rows_in c.add.new.nodes.filed) (part_by g.N.Analysis.codes c.self.inside.analysis c.add.new.data)) refl refl c.add.ensures.more c.in_ok-id.ensures.ok (λ same. kept-part g.N.Analysis.codes g.N.Analysis.meaning c.self.inside.analysis k r c.self.inside.data data c.add.new.store same c.add.new.data c.in_ok-id.ensures.still ∙ ap (λ (x : Graph). x.part) c.self.view_is)
+    (graph_of false c.add.new.table c.add.new.store (rows_in c.add.new.nodes.filed) (part_by g.N.Analysis.codes c.self.inside.analysis c.add.new.data)) refl refl c.add.ensures.more c.in_ok-id.ensures.ok (λ same. kept-part g.N.Analysis.codes g.N.Analysis.meaning c.self.inside.analysis k r c.self.inside.data rested c.add.new.store same c.add.new.data c.in_ok-id.ensures.still ∙ ap (λ (x : Graph). x.part) c.self.view_is)
 
 pub returns-clause-made : goal.returns-clause-made
 returns-clause-made g c =
@@ -138,3 +138,15 @@ returns-in_err-id-clause-full g c e =
       ],
       subst (λ (x : Graph). RunsOutForFilled x.image f x.table c.add.new.table) c.self.view_is lacks.0,
     )
+
+pub add-requires-clause-since : goal.add-requires-clause-since
+add-requires-clause-since g c = data-inside g.N.Analysis.meaning c.self.inside.analysis c.if-self.false c.self.invariant
+
+pub returns-clause-carries : goal.returns-clause-carries
+returns-clause-carries g c =
+    let k = c.self.inside.store in
+    let r = c.self.inside.nodes in
+    let t = c.self.inside.table in
+    let inside = inside-of t k r c.self.view_is c.if-self.false c.self.invariant in
+    let rested = data-inside g.N.Analysis.meaning c.self.inside.analysis c.if-self.false c.self.invariant in
+    carries-data g.N.Analysis.codes g.N.Analysis.meaning c.self.inside.analysis k r c.self.inside.data c.args.self.now inside.image (sym (ap (λ (x : Graph). x.part) c.self.view_is)) rested inside.filed c.add.new.store c.add.new.nodes c.add.new.data _ refl refl c.in_ok-id.ensures.ok.goes_on c.in_ok-id.ensures.carried

@@ -1,4 +1,4 @@
-use Rattle.std.proofs.Common.{◌∙◌, ap, rules, sym, subst, inl, inr}
+use Rattle.std.proofs.Common.{◌∙◌, ap, rules, sym, subst, inl, inr, refl}
 use Rattle.std.proofs.lemmas.Bool.{false≢true}
 use Rattle.slotted_slots.specs.Table.{Table}
 use Rattle.slotted_model.specs.Growth.{Extends}
@@ -9,9 +9,11 @@ use Rattle.slotted_data.specs.Part.{part_by}
 use Rattle.slotted_core.specs.Good.{image_of}
 use Rattle.slotted_core.specs.Graph.{Graph}
 use Rattle.slotted_core.specs.Image.{AddsClasses}
+use Rattle.slotted_core.specs.Adding.{term_nodes}
+use Rattle.slotted_core.proofs.AddedTerms.{reached}
 use Rattle.slotted_core.proofs.GraphTerms.{term-answers, term-equal, term-filed, term-found, term-id, term-kept, term-lacks, term-nodes, term-reached, term-takes}
 use Rattle.slotted_graph.proofs.Indexes.{no-index}
-use Rattle.slotted_graph.proofs.Analysed.{kept-part}
+use Rattle.slotted_graph.proofs.Analysed.{carries-data, kept-part}
 use Rattle.slotted_graph.proofs.Insides.{data-inside, inside-of, told-by}
 use Rattle.slotted_graph.proofs.egraph.EGraph.add_expr.Goals as goal
 
@@ -71,7 +73,7 @@ returns-clause-equal g c =
 
 pub returns-clause-kept : goal.returns-clause-kept
 returns-clause-kept g c =
-    let data = data-inside g.N.Analysis.meaning c.self.inside.analysis c.if-self.false c.self.invariant in
+    let rested = data-inside g.N.Analysis.meaning c.self.inside.analysis c.if-self.false c.self.invariant in
     let h = c.args.self.now in
     let k = c.self.inside.store in
     let r = c.self.inside.nodes in
@@ -80,7 +82,7 @@ returns-clause-kept g c =
     let w = c.args.term.now in
     let is = told-by t k r c.self.view_is c.if-self.false c.self.invariant in
     term-kept _ w t k r inside.good inside.rests inside.fresh h is (part_by g.N.Analysis.codes c.self.inside.analysis c.add_expr.new.data) c.add_expr.new.table c.add_expr.new.store c.add_expr.new.nodes (to_applied c.in_ok-answer.answer) c.in_ok-answer.ensures.ok
-    (λ same. kept-part g.N.Analysis.codes g.N.Analysis.meaning c.self.inside.analysis k r c.self.inside.data data c.add_expr.new.store same c.add_expr.new.data c.in_ok-answer.ensures.still)
+    (λ same. kept-part g.N.Analysis.codes g.N.Analysis.meaning c.self.inside.analysis k r c.self.inside.data rested c.add_expr.new.store same c.add_expr.new.data c.in_ok-answer.ensures.still)
 
 pub returns-clause-nodes : goal.returns-clause-nodes
 returns-clause-nodes g c =
@@ -169,3 +171,15 @@ returns-in_err-answer-clause-full g c e =
     let w = c.args.term.now in
     let is = told-by t k r c.self.view_is c.if-self.false c.self.invariant in
     term-lacks _ w t k r inside.good inside.rests inside.fresh h is c.add_expr.new.table (c.in_err-answer.ensures.full (search rules))
+
+pub add_expr-requires-clause-since : goal.add_expr-requires-clause-since
+add_expr-requires-clause-since g c = data-inside g.N.Analysis.meaning c.self.inside.analysis c.if-self.false c.self.invariant
+
+pub returns-clause-carries : goal.returns-clause-carries
+returns-clause-carries g c =
+    let k = c.self.inside.store in
+    let r = c.self.inside.nodes in
+    let t = c.self.inside.table in
+    let inside = inside-of t k r c.self.view_is c.if-self.false c.self.invariant in
+    let rested = data-inside g.N.Analysis.meaning c.self.inside.analysis c.if-self.false c.self.invariant in
+    carries-data g.N.Analysis.codes g.N.Analysis.meaning c.self.inside.analysis k r c.self.inside.data c.args.self.now inside.image (sym (ap (λ (x : Graph). x.part) c.self.view_is)) rested inside.filed c.add_expr.new.store c.add_expr.new.nodes c.add_expr.new.data _ refl refl (reached c.args.term.now t k r inside.good inside.rests inside.fresh (term_nodes c.args.term.now) c.add_expr.new.table c.add_expr.new.store c.add_expr.new.nodes c.in_ok-answer.ensures.ok.nodes).goes_on c.in_ok-answer.ensures.carried

@@ -3,7 +3,7 @@ use Rattle.slotted_filing.specs.FiledRows.{rows_in}
 use Rattle.slotted_data.specs.Part.{part_by}
 use Rattle.slotted_core.specs.Graph.{Graph}
 use Rattle.slotted_graph.proofs.CountedGraphs.{counts-union}
-use Rattle.std.proofs.Common.{◌∙◌, refl, sym, inl, inr}
+use Rattle.std.proofs.Common.{◌∙◌, refl, sym, inl, inr, ap}
 use Rattle.std.proofs.lemmas.Bool.{false≢true}
 use Rattle.slotted_proofs.specs.Equations.{to_applied}
 use Rattle.slotted_core.specs.ValidIds.{IsValidId}
@@ -12,7 +12,8 @@ use Rattle.slotted_core.proofs.FiledClasses.{grown-fresh}
 use Rattle.slotted_core.proofs.ValidIds.{of-valid}
 use Rattle.slotted_graph.proofs.Measured.{never-rises}
 use Rattle.slotted_graph.proofs.Indexes.{no-index}
-use Rattle.slotted_graph.proofs.Insides.{inside-of, given}
+use Rattle.slotted_graph.proofs.Insides.{data-inside, given, inside-of}
+use Rattle.slotted_graph.proofs.Analysed.{carries-data}
 use Rattle.slotted_graph.proofs.egraph.EGraph.union_justified.Goals as goal
 
 pub union-requires-clause-left : goal.union-requires-clause-left
@@ -55,3 +56,15 @@ returns-clause-counted l c =
     let inside = inside-of c.self.inside.table c.self.inside.store c.self.inside.nodes c.self.view_is c.if-self.false c.self.invariant in
     let h : Graph = graph_of false c.self.inside.table c.union.new.store (rows_in c.union.new.nodes.filed) (part_by l.N.Analysis.codes c.self.inside.analysis c.union.new.data) in
     counts-union c.self.inside.store c.self.inside.nodes c.union.new.store c.union.new.nodes _ _ _ _ inside.good c.in_ok-answer.ensures.ok c.args.self.now h inside.image inside.filed refl
+
+pub union-requires-clause-since : goal.union-requires-clause-since
+union-requires-clause-since g c = data-inside g.N.Analysis.meaning c.self.inside.analysis c.if-self.false c.self.invariant
+
+pub returns-clause-carries : goal.returns-clause-carries
+returns-clause-carries g c =
+    let k = c.self.inside.store in
+    let r = c.self.inside.nodes in
+    let t = c.self.inside.table in
+    let inside = inside-of t k r c.self.view_is c.if-self.false c.self.invariant in
+    let rested = data-inside g.N.Analysis.meaning c.self.inside.analysis c.if-self.false c.self.invariant in
+    carries-data g.N.Analysis.codes g.N.Analysis.meaning c.self.inside.analysis k r c.self.inside.data c.args.self.now inside.image (sym (ap (λ (x : Graph). x.part) c.self.view_is)) rested inside.filed c.union.new.store c.union.new.nodes c.union.new.data _ refl refl c.in_ok-answer.ensures.ok.goes_on c.in_ok-answer.ensures.carried

@@ -1,0 +1,198 @@
+//! Graphs that keep data, told by texts.
+use crate::const_fold::{ConstFold, Fold};
+use crate::least_size::LeastSize;
+use crate::refusing::Refusing;
+use slotted_analyses::Analysis;
+use slotted_graph::EGraph;
+use slotted_slots::{AppliedId, Error, SlotTable};
+use slotted_small::Small;
+use std::alloc::Global;
+
+// A graph without classes.
+fn empty<N: Analysis<Small>>(alloc: Global, analysis: N) -> Result<EGraph<Small, N>, Error> {
+    EGraph::new(alloc, SlotTable::new(alloc), analysis)
+}
+
+// The id of the term that a text writes.
+fn put<N: Analysis<Small>>(graph: &mut EGraph<Small, N>, text: &str) -> Result<AppliedId, Error> {
+    let term = graph.parse_expr(text)?;
+    graph.add_expr(&term)
+}
+
+// Two terms are equal.
+fn unite<N: Analysis<Small>>(
+    graph: &mut EGraph<Small, N>,
+    left: &str,
+    right: &str,
+) -> Result<(), Error> {
+    let l = put(graph, left)?;
+    let r = put(graph, right)?;
+    if !graph.is_valid(&l) || !graph.is_valid(&r) {
+        return Err(Error::NotATerm);
+    }
+    graph.union(&l, &r)?;
+    Ok(())
+}
+
+// The data of a term's class.
+fn datum<N: Analysis<Small>>(
+    alloc: Global,
+    graph: &mut EGraph<Small, N>,
+    text: &str,
+) -> Result<N::Data, Error> {
+    let a = put(graph, text)?;
+    if !graph.is_valid_id(a.id) {
+        return Err(Error::NotATerm);
+    }
+    graph.analysis().copy(alloc, graph.analysis_data(a.id))
+}
+
+// A value is merged into the data of a term's class.
+fn merge<N: Analysis<Small>>(
+    graph: &mut EGraph<Small, N>,
+    text: &str,
+    value: &N::Data,
+) -> Result<(), Error> {
+    let a = put(graph, text)?;
+    if !graph.is_valid_id(a.id) {
+        return Err(Error::NotATerm);
+    }
+    graph.merge_analysis_data(a.id, value)
+}
+
+// The data of a term's class, once these pairs of terms are equal.
+fn told<N: Analysis<Small>>(
+    alloc: Global,
+    analysis: N,
+    equal: &[(&str, &str)],
+    text: &str,
+) -> Result<N::Data, Error> {
+    let mut graph = empty(alloc, analysis)?;
+    for pair in equal {
+        unite(&mut graph, pair.0, pair.1)?;
+    }
+    datum(alloc, &mut graph, text)
+}
+
+// So many sums over x, one over another, each of which adds 1.
+fn tower(alloc: Global, sums: usize) -> Result<String, Error> {
+    let mut text = String::new(alloc);
+    for _ in 0..sums {
+        text.push_str("(add ")?;
+    }
+    text.push_str("x")?;
+    for _ in 0..sums {
+        text.push_str(" 1)")?;
+    }
+    Ok(text)
+}
+
+#[test]
+fn sums_and_products_are_folded(rt: HostRuntime) -> Result<(), Error> {
+    let eight = told(rt.alloc(), ConstFold, &[], "(add 2 (mul 2 3))")?;
+    assert!(&rt; eight == Fold::Number(8));
+    Ok(())
+}
+
+#[test]
+fn a_union_brings_a_number(rt: HostRuntime) -> Result<(), Error> {
+    let alloc = rt.alloc();
+    let unknown = told(alloc, ConstFold, &[], "a")?;
+    assert!(&rt; unknown == Fold::None);
+    let known = told(alloc, ConstFold, &[("a", "42")], "a")?;
+    assert!(&rt; known == Fold::Number(42));
+    let above = told(
+        alloc,
+        ConstFold,
+        &[("b", "(add a 1)"), ("a", "42")],
+        "(mul b b)",
+    )?;
+    assert!(&rt; above == Fold::Number(1849));
+    Ok(())
+}
+
+#[test]
+fn two_numbers_are_in_conflict(rt: HostRuntime) -> Result<(), Error> {
+    let above = told(rt.alloc(), ConstFold, &[("4", "5")], "(add 4 1)")?;
+    assert!(&rt; above == Fold::Conflict);
+    Ok(())
+}
+
+#[test]
+fn a_class_over_itself_is_folded(rt: HostRuntime) -> Result<(), Error> {
+    let alloc = rt.alloc();
+    let open = told(alloc, ConstFold, &[("x", "(add x 3)")], "x")?;
+    assert!(&rt; open == Fold::None);
+    let closed = told(alloc, ConstFold, &[("x", "(add x 3)"), ("x", "1")], "x")?;
+    assert!(&rt; closed == Fold::Conflict);
+    Ok(())
+}
+
+#[test]
+fn fifty_sums_are_folded_after_one_union(rt: HostRuntime) -> Result<(), Error> {
+    let alloc = rt.alloc();
+    let text = tower(alloc, 50)?;
+    let number = told(alloc, ConstFold, &[("y", &text), ("x", "5")], "y")?;
+    assert!(&rt; number == Fold::Number(55));
+    Ok(())
+}
+
+#[test]
+fn the_least_size_goes_upwards(rt: HostRuntime) -> Result<(), Error> {
+    let alloc = rt.alloc();
+    let text = "(app (app (lam $x (var $x)) b) c)";
+    let before = told(alloc, LeastSize, &[], text)?;
+    assert!(&rt; before == 6);
+    let after = told(
+        alloc,
+        LeastSize,
+        &[(text, "e"), ("(app (lam $x (var $x)) b)", "d")],
+        "(lam $y (app (app (lam $x (var $x)) b) c))",
+    )?;
+    assert!(&rt; after == 2);
+    Ok(())
+}
+
+#[test]
+fn a_value_is_merged(rt: HostRuntime) -> Result<(), Error> {
+    let alloc = rt.alloc();
+    let mut graph = empty(alloc, ConstFold)?;
+    put(&mut graph, "(add x 1)")?;
+    merge(&mut graph, "x", &Fold::Number(7))?;
+    let above = datum(alloc, &mut graph, "(add x 1)")?;
+    assert!(&rt; above == Fold::Number(8));
+    merge(&mut graph, "x", &Fold::Number(7))?;
+    let again = datum(alloc, &mut graph, "x")?;
+    assert!(&rt; again == Fold::Number(7));
+    Ok(())
+}
+
+#[test]
+fn what_was_made_or_has_changed_is_pending(rt: HostRuntime) -> Result<(), Error> {
+    let alloc = rt.alloc();
+    let mut graph = empty(alloc, ConstFold)?;
+    put(&mut graph, "(add 2 3)")?;
+    assert!(&rt; graph.modify_pending() == 3);
+    unite(&mut graph, "2", "a")?;
+    assert!(&rt; graph.modify_pending() == 3);
+    let mut plain = empty(alloc, ())?;
+    put(&mut plain, "(add 2 3)")?;
+    assert!(&rt; plain.modify_pending() == 3);
+    Ok(())
+}
+
+#[test]
+fn an_analysis_that_refuses_fails_the_graph(rt: HostRuntime) -> Result<(), Error> {
+    let alloc = rt.alloc();
+    for most in 0..3 {
+        let mut graph = empty(alloc, Refusing { most })?;
+        let refused = put(&mut graph, "(app a b)");
+        assert!(&rt; matches!(refused, Err(Error::OutOfMemory)));
+        assert!(&rt; graph.is_failed());
+        let later = put(&mut graph, "a");
+        assert!(&rt; matches!(later, Err(Error::Failed)));
+    }
+    let three = told(alloc, Refusing { most: 3 }, &[], "(app a b)")?;
+    assert!(&rt; three == 3);
+    Ok(())
+}
