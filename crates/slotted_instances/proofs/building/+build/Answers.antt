@@ -66,7 +66,7 @@ build-requires g t c =
     let r : IsReady h.table s (tree_of form c.child-item.result) = subst (IsReady h.table s) child (ready-child g0.table h.table s f qs node more.extends.more c.loop-k.k lt) in
     let less : pattern_size (tree_of form c.child-item.result) < pattern_size (tree_of form c.args.pattern.now) =
     subst (λ q. pattern_size (tree_of form c.child-item.result) < pattern_size q) (sym view) (subst (λ q. pattern_size q < pattern_size (enode f (row_of qs))) child (smaller-child f qs c.loop-k.k lt)) in
-    λ κs z. (omega (arith, less, c.decreases), (search rules, (search rules, (search rules, (more.graph, (r.known, ((λ j d lt. more.extends.valid _ (c.requires.values j d lt)), (r.whole, r.given))))))))
+    λ κs z. (omega (arith, less, c.decreases), (search rules, (search rules, (search rules, (search rules, (more.graph, (r.known, ((λ j d lt. more.extends.valid _ (c.requires.values j d lt)), (r.whole, r.given)))))))))
 
 pub returns-in_err-answer-in-ENode-clause-err : goal.returns-in_err-answer-in-ENode-clause-err
 returns-in_err-answer-in-ENode-clause-err g t c =
@@ -219,7 +219,7 @@ build-requires-in-Subst g t c =
           search rules,
           (
             search rules,
-            (at-first.graph, (r.known, ((λ j d lt. at-first.extends.valid _ (c.requires.values j d lt)), (r.whole, r.given)))),
+            (search rules, (at-first.graph, (r.known, ((λ j d lt. at-first.extends.valid _ (c.requires.values j d lt)), (r.whole, r.given))))),
           ),
         ),
       ),
@@ -249,7 +249,7 @@ build-requires-in-Subst-2 g t c =
           search rules,
           (
             search rules,
-            (nb.grows.graph, (r.known, ((λ j d lt. nb.grows.extends.valid _ (c.requires.values j d lt)), (r.whole, r.given)))),
+            (search rules, (nb.grows.graph, (r.known, ((λ j d lt. nb.grows.extends.valid _ (c.requires.values j d lt)), (r.whole, r.given))))),
           ),
         ),
       ),
@@ -283,7 +283,7 @@ build-requires-in-Subst-3 g t c =
           search rules,
           (
             search rules,
-            (both.graph, (r.known, ((λ j d lt. both.extends.valid _ (c.requires.values j d lt)), (r.whole, r.given)))),
+            (search rules, (both.graph, (r.known, ((λ j d lt. both.extends.valid _ (c.requires.values j d lt)), (r.whole, r.given))))),
           ),
         ),
       ),

@@ -55,7 +55,7 @@ lookup_rec_expr-requires g t c =
     let l : c.loop-k.k < length us = omega (arith, c.loop-k-test.true, c.deref-child-items.ensures.len) in
     let d : Term = c.child-item.result in
     let small = child-smaller gr.table f us w view valid c.loop-k.k d l c.child-item.is in
-    λ κs h. (omega (arith, small, c.decreases), (search rules, (search rules, inr (valid-child gr.table f us w view valid c.loop-k.k d l c.child-item.is))))
+    λ κs h. (omega (arith, small, c.decreases), (search rules, (search rules, (search rules, inr (valid-child gr.table f us w view valid c.loop-k.k d l c.child-item.is)))))
 
 pub set_applied_id-requires : goal.set_applied_id-requires
 set_applied_id-requires g t c =

@@ -132,7 +132,7 @@ replaced-requires g t c =
     let full = next-full g0 h x v b f entered i n c.loop-k.changed c.loop-k.k walked l in
     λ κs z. (
       omega (arith, subst (λ (a : Applied). a.0 < c.args.b.now.id.0) (sym child) less, c.decreases),
-      (search rules, (search rules, (walked.builds.grows.graph, (subst (IsFullId i) (sym child) full, (walked-part g0 h x v b f entered i n c.loop-k.changed c.loop-k.k walked, walked-value g0 h x v b f entered i n c.loop-k.changed c.loop-k.k walked))))),
+      (search rules, (search rules, (search rules, (walked.builds.grows.graph, (subst (IsFullId i) (sym child) full, (walked-part g0 h x v b f entered i n c.loop-k.changed c.loop-k.k walked, walked-value g0 h x v b f entered i n c.loop-k.changed c.loop-k.k walked)))))),
     )
 
 pub returns-in_err-answer-clause-err : goal.returns-in_err-answer-clause-err
