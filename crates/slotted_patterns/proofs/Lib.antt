@@ -18,4 +18,6 @@ pub mod PatternsReadAgain
 pub mod PatternTexts
 pub mod PatternTrees
 pub mod PatternSizes
+pub mod Folds
+pub mod PatternCopies
 pub mod PieceTexts

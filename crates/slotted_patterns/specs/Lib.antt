@@ -1,6 +1,7 @@
 -- What patterns are, and what texts read as.
 pub mod Tree
 pub mod View
+pub mod Subpatterns
 pub mod Grammar
 pub mod Outcome
 pub mod Parsed

@@ -1,6 +1,7 @@
 //! Terms with variables and substitutions in them.
-ghost use Rattle.std.specs.Prelude.{◌≡◌, map, string_bytes, IfOk, IfErr};
+ghost use Rattle.std.specs.Prelude.{◌≡◌, ◌≤◌, ◌++◌, length, map, string_bytes, IfOk, IfErr, IfSome, IfNone, OnOk};
 ghost use Rattle.slotted_slots.specs.Error.{IsOutOfMemory};
+ghost use Rattle.slotted_patterns.specs.Subpatterns.{before_parts, parts, subpatterns, EndsInParts, IsNode, IsSubstitution};
 ghost use Rattle.slotted_patterns.specs.Tree.{enode, row_of};
 ghost use Rattle.slotted_patterns.specs.View.{tree_of};
 
@@ -55,26 +56,131 @@ impl<L: Language> Pattern<L> {
         }
     }
 
+    /// The node and the patterns that stand under it, if the pattern is a node.
+    pub fn into_node(self) -> Option<(L, Vec<Pattern<L>>)>
+        ensures some { IfSome result (λ r. tree_of L.form self ≡ enode (L.form r.0) (row_of (map (tree_of L.form) r.1.items))) }
+        ensures none { IfNone result (¬ (IsNode (tree_of L.form self))) }
+    {
+        match self {
+            Pattern::ENode(node, children) => Some((node, children)),
+            Pattern::PVar(_) => None,
+            Pattern::Subst(_, _, _) => None,
+        }
+    }
+
     /// A pattern that equals this one.
     pub fn copy(&self, alloc: Global) -> Result<Pattern<L>, Error>
         ensures ok { IfOk result (λ c. tree_of L.form c ≡ tree_of L.form self.now) }
         ensures err { IfErr result IsOutOfMemory }
     {
-        match self {
-            Pattern::ENode(node, children) => {
-                let mut copies = Vec::new(alloc);
-                for child in children {
-                    copies.push(child.copy(alloc)?)?;
-                }
-                Ok(Pattern::ENode(node.copy(alloc)?, copies))
-            }
-            Pattern::PVar(name) => Ok(Pattern::PVar(String::from_str(alloc, name.as_str())?)),
-            Pattern::Subst(body, place, value) => {
-                let body = Box::new(alloc, body.copy(alloc)?)?;
-                let place = Box::new(alloc, place.copy(alloc)?)?;
-                let value = Box::new(alloc, value.copy(alloc)?)?;
-                Ok(Pattern::Subst(body, place, value))
-            }
+        let mut left = all_inside(alloc, self)?;
+        let mut copies = Vec::new(alloc);
+        while let Some(next) = left.pop() {
+            let copy = copy_over(alloc, next, &mut copies)?;
+            copies.push(copy)?;
         }
+        match copies.pop() {
+            Some(copy) => Ok(copy),
+            None => unreachable!(),
+        }
+    }
+}
+
+// Adds the patterns to those that are left.
+fn push_all<'a, L: Language>(
+    left: &mut Vec<&'a Pattern<L>>,
+    patterns: &'a [Pattern<L>],
+) -> Result<(), Error>
+    ensures ok { OnOk result (map (λ p. tree_of L.form p.now) left.new.items
+        ≡ map (λ p. tree_of L.form p.now) left.old.items ++ map (tree_of L.form) patterns.now) }
+    ensures err { IfErr result IsOutOfMemory }
+{
+    for pattern in patterns {
+        left.push(pattern)?;
+    }
+    Ok(())
+}
+
+// Adds the parts of the pattern to those that are left.
+fn push_parts<'a, L: Language>(
+    left: &mut Vec<&'a Pattern<L>>,
+    pattern: &'a Pattern<L>,
+) -> Result<(), Error>
+    ensures ok { OnOk result (map (λ p. tree_of L.form p.now) left.new.items
+        ≡ map (λ p. tree_of L.form p.now) left.old.items ++ parts (tree_of L.form pattern.now)) }
+    ensures err { IfErr result IsOutOfMemory }
+{
+    match pattern {
+        Pattern::ENode(_, children) => push_all(left, children),
+        Pattern::PVar(_) => Ok(()),
+        Pattern::Subst(body, place, value) => {
+            left.push(body)?;
+            left.push(place)?;
+            left.push(value)?;
+            Ok(())
+        }
+    }
+}
+
+// The pattern and those inside it, each before its parts.
+fn all_inside<'a, L: Language>(
+    alloc: Global,
+    pattern: &'a Pattern<L>,
+) -> Result<Vec<&'a Pattern<L>>, Error>
+    ensures ok { IfOk result (λ v. map (λ p. tree_of L.form p.now) v.items ≡ subpatterns (tree_of L.form pattern.now)) }
+    ensures err { IfErr result IsOutOfMemory }
+{
+    let mut found = Vec::new(alloc);
+    let mut left = Vec::new(alloc);
+    left.push(pattern)?;
+    while let Some(next) = left.pop() {
+        found.push(next)?;
+        push_parts(&mut left, next)?;
+    }
+    Ok(found)
+}
+
+// A copy of the pattern over copies of its parts, which are taken from the end of the list.
+fn copy_over<L: Language>(
+    alloc: Global,
+    pattern: &Pattern<L>,
+    copies: &mut Vec<Pattern<L>>,
+) -> Result<Pattern<L>, Error>
+    requires { EndsInParts (tree_of L.form pattern.now) (map (tree_of L.form) copies.old.items) }
+    ensures ok { IfOk result (λ c. tree_of L.form c ≡ tree_of L.form pattern.now) }
+    ensures rest { OnOk result (map (tree_of L.form) copies.new.items
+        ≡ before_parts (tree_of L.form pattern.now) (map (tree_of L.form) copies.old.items)) }
+    ensures err { IfErr result IsOutOfMemory }
+{
+    match pattern {
+        Pattern::ENode(node, children) => {
+            let node = node.copy(alloc)?;
+            let below = copies.split_off(copies.len() - children.len())?;
+            Ok(Pattern::ENode(node, below))
+        }
+        Pattern::PVar(name) => Ok(Pattern::PVar(String::from_str(alloc, name.as_str())?)),
+        Pattern::Subst(_, _, _) => copy_substitution(alloc, copies),
+    }
+}
+
+// A substitution over the last three patterns of the list.
+fn copy_substitution<L: Language>(
+    alloc: Global,
+    copies: &mut Vec<Pattern<L>>,
+) -> Result<Pattern<L>, Error>
+    requires { 3 ≤ length copies.old.items }
+    ensures ok { IfOk result (λ c. map (tree_of L.form) copies.old.items
+        ≡ map (tree_of L.form) copies.new.items ++ parts (tree_of L.form c)) }
+    ensures whole { IfOk result (λ c. IsSubstitution (tree_of L.form c)) }
+    ensures err { IfErr result IsOutOfMemory }
+{
+    match (copies.pop(), copies.pop(), copies.pop()) {
+        (Some(value), Some(place), Some(body)) => {
+            let body = Box::new(alloc, body)?;
+            let place = Box::new(alloc, place)?;
+            let value = Box::new(alloc, value)?;
+            Ok(Pattern::Subst(body, place, value))
+        }
+        _ => unreachable!(),
     }
 }
