@@ -28,7 +28,7 @@ length-list : (row : PatternRow) → length (list_of row) ≡ row_length row
 length-list no_more = refl
 length-list (one_more p rest) = ap suc (length-list rest)
 
-row_length-row : (ps : List PatternTree) → row_length (row_of ps) ≡ length ps
+pub row_length-row : (ps : List PatternTree) → row_length (row_of ps) ≡ length ps
 row_length-row [] = refl
 row_length-row (p ∷ ps) = ap suc (row_length-row ps)
 
@@ -84,12 +84,12 @@ pub fits : (ns : List (Form × ℕ)) (p : PatternTree) → IsGround p → ns ≡
 fits ns p g is = subst Fits (sym (is ∙ sym (append-nil (flat p)))) (fits_flat p g [] tt)
 
 -- rows of patterns, one after another
-flat_append : (ps qs : List PatternTree) → flat_row (row_of (ps ++ qs)) ≡ flat_row (row_of qs) ++ flat_row (row_of ps)
+pub flat_append : (ps qs : List PatternTree) → flat_row (row_of (ps ++ qs)) ≡ flat_row (row_of qs) ++ flat_row (row_of ps)
 flat_append [] qs = sym (append-nil (flat_row (row_of qs)))
 flat_append (p ∷ ps) qs =
     ap (λ x. x ++ flat p) (flat_append ps qs) ∙ append_assoc (flat_row (row_of qs)) (flat_row (row_of ps)) (flat p)
 
-terms_of : (ps : List PatternTree) → terms_in (row_of ps) ≡ map term_in ps
+pub terms_of : (ps : List PatternTree) → terms_in (row_of ps) ≡ map term_in ps
 terms_of [] = refl
 terms_of (p ∷ ps) = ap (λ ts. term_in p ∷ ts) (terms_of ps)
 

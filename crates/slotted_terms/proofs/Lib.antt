@@ -7,6 +7,8 @@ pub mod SubtermSizes
 pub mod AsTerms
 pub mod TermPatterns
 pub mod FlatTrees
+pub mod OpenedPatterns
+pub mod TermFolds
 pub mod ValidTexts
 pub mod TermReadings
 pub mod TermsReadAgain

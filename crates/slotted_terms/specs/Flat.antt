@@ -3,7 +3,7 @@
 --     flat_of form ns      what a list of nodes is, where form says what each of them is
 use Rattle.std.specs.Prelude.{◌≡◌, ℕ, suc, List, [], ◌∷◌, ◌++◌, ◌-◌, length, map, take, drop}
 use Rattle.slotted_theory.specs.Term.{Term}
-use Rattle.slotted_nodes.specs.Form.{Form}
+use Rattle.slotted_nodes.specs.Form.{Form, children}
 use Rattle.slotted_languages.specs.Filled.{term_of}
 use Rattle.slotted_patterns.specs.Tree.{PatternTree, enode, pvar, substitution, PatternRow, no_more, one_more, row_of}
 use Rattle.slotted_terms.specs.TermPattern.{IsGround}
@@ -37,3 +37,11 @@ closed_terms f n ts = take (length ts - n) ts ++ term_of f (drop (length ts - n)
 -- the list is that of a tree of nodes
 abbrev pub HasTree : List (Form × ℕ) → Type 0
 HasTree ns = (p : PatternTree) × IsGround p × (ns ≡ flat p)
+
+-- p is the node n over as many patterns as its children, which were added to the list
+pub record Opens {L : Type 0} (form : L → Form) (p : PatternTree) (n : FlatNode L) (old new : List PatternTree) : Type 0 where
+  pub below : List PatternTree
+  pub whole : p ≡ enode (form n.node) (row_of below)
+  pub count : n.count ≡ length below
+  pub right : length below ≡ length (children (form n.node).tree)
+  pub left : new ≡ old ++ below

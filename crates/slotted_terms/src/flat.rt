@@ -1,9 +1,10 @@
 //! Terms as lists of their nodes, which go to and from trees by loops.
-ghost use Rattle.std.specs.Prelude.{◌≡◌, ◌≤◌, ◌++◌, length, map, IfOk, OnOk, IfErr};
+ghost use Rattle.std.specs.Prelude.{◌≡◌, ◌≤◌, ◌++◌, length, map, IfOk, OnOk, IfErr, IsSome};
 ghost use Rattle.slotted_slots.specs.Error.{IsOutOfMemory};
 ghost use Rattle.slotted_patterns.specs.Tree.{PatternTree};
 ghost use Rattle.slotted_patterns.specs.View.{tree_of};
-ghost use Rattle.slotted_terms.specs.Flat.{HasTree, closed, closed_terms, flat, flat_of};
+ghost use Rattle.slotted_terms.specs.AsTerm.{as_term, IsRefusal};
+ghost use Rattle.slotted_terms.specs.Flat.{HasTree, Opens, closed, closed_terms, flat, flat_of};
 ghost use Rattle.slotted_terms.specs.TermPattern.{IsGround, IsPatternOf, term_in};
 
 use crate::expr::RecExpr;
@@ -12,9 +13,9 @@ use slotted_patterns::Pattern;
 use slotted_slots::Error;
 use std::alloc::Global;
 
-// A node, and how many terms stand under it.
+/// A node of a term, and how many terms stand under it.
 #[derive(Drop)]
-pub(crate) struct FlatNode<L: Language> {
+pub struct FlatNode<L: Language> {
     pub node: L,
     pub count: usize,
 }
@@ -33,11 +34,9 @@ fn push_all<'a, L: Language>(
     Ok(())
 }
 
-// The nodes of a term, the uppermost first.
-pub(crate) fn flatten<L: Language>(
-    alloc: Global,
-    term: &RecExpr<L>,
-) -> Result<Vec<FlatNode<L>>, Error>
+/// The nodes of a term, each before those under it, which follow from the right. Where they are taken from the end, the terms under each node
+/// are complete.
+pub fn flatten<L: Language>(alloc: Global, term: &RecExpr<L>) -> Result<Vec<FlatNode<L>>, Error>
     ensures ok { IfOk result (λ v. (p : PatternTree) × IsPatternOf p term.now × (flat_of L.form v.items ≡ flat p)) }
     ensures err { IfErr result IsOutOfMemory }
 {
@@ -49,6 +48,42 @@ pub(crate) fn flatten<L: Language>(
         let count = next.children.len();
         nodes.push(FlatNode { node, count })?;
         push_all(&mut left, &next.children)?;
+    }
+    Ok(nodes)
+}
+
+// The node that the pattern is. The patterns under it, which must be as many as its children, are added to those that are left.
+fn open<L: Language>(pattern: Pattern<L>, left: &mut Vec<Pattern<L>>) -> Result<FlatNode<L>, Error>
+    ensures ok { IfOk result (λ n. Opens L.form (tree_of L.form pattern) n
+        (map (tree_of L.form) left.old.items) (map (tree_of L.form) left.new.items)) }
+    ensures none { IfErr result (IsRefusal (as_term (tree_of L.form pattern))) }
+{
+    let Some((node, mut below)) = pattern.into_node() else {
+        return Err(Error::NotATerm);
+    };
+    let count = below.len();
+    if count != node.applied_id_count() {
+        return Err(Error::NotATerm);
+    }
+    left.append(&mut below)?;
+    Ok(FlatNode { node, count })
+}
+
+// The nodes of the pattern, the uppermost first, if it is a term.
+pub(crate) fn take_apart<L: Language>(
+    alloc: Global,
+    pattern: Pattern<L>,
+) -> Result<Vec<FlatNode<L>>, Error>
+    ensures ok { IfOk result (λ v. flat_of L.form v.items ≡ flat (tree_of L.form pattern)) }
+    ensures term { IfOk result (λ _. IsSome (as_term (tree_of L.form pattern))) }
+    ensures none { IfErr result (IsRefusal (as_term (tree_of L.form pattern))) }
+{
+    let mut nodes = Vec::new(alloc);
+    let mut left = Vec::new(alloc);
+    left.push(pattern)?;
+    while let Some(next) = left.pop() {
+        let node = open(next, &mut left)?;
+        nodes.push(node)?;
     }
     Ok(nodes)
 }

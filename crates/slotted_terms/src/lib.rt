@@ -2,7 +2,7 @@
 #![tactic(auto)]
 
 pub mod expr;
-mod flat;
+pub mod flat;
 pub mod parse;
 pub mod patterns;
 pub mod read_again;

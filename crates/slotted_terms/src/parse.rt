@@ -8,7 +8,7 @@ ghost use Rattle.slotted_terms.specs.ReadAgain.{ReadsAsNodes};
 ghost use Rattle.slotted_terms.specs.Valid.{IsValidTerm};
 
 use crate::expr::RecExpr;
-use crate::patterns::pattern_to_re;
+use crate::patterns::into_term;
 use slotted_languages::language::Language;
 use slotted_patterns::Pattern;
 use slotted_slots::{Error, SlotTable};
@@ -30,7 +30,7 @@ impl<L: Language> RecExpr<L> {
         ensures more { KnowsMore table.old table.new }
     {
         let pattern = Pattern::parse(alloc, text, table)?;
-        pattern_to_re(alloc, &pattern)
+        into_term(alloc, pattern)
     }
 }
 

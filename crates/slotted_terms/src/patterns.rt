@@ -7,7 +7,7 @@ ghost use Rattle.slotted_terms.specs.TermPattern.{IsPatternOf};
 ghost use Rattle.slotted_terms.specs.Valid.{IsWhole};
 
 use crate::expr::RecExpr;
-use crate::flat::{assemble, flatten};
+use crate::flat::{assemble, assemble_term, flatten, take_apart};
 use slotted_languages::language::Language;
 use slotted_patterns::Pattern;
 use slotted_slots::Error;
@@ -19,20 +19,21 @@ pub fn pattern_to_re<L: Language>(alloc: Global, pattern: &Pattern<L>) -> Result
     ensures ok { IfOk result (λ t. as_term (tree_of L.form pattern.now) ≡ Some t) }
     ensures none { IfErr result (IsRefusal (as_term (tree_of L.form pattern.now))) }
 {
-    let Pattern::ENode(node, patterns) = pattern else {
-        return Err(Error::NotATerm);
-    };
-    let mut children = Vec::new(alloc);
-    for child in patterns {
-        children.push(pattern_to_re(alloc, child)?)?;
-    }
-    if children.len() != node.applied_id_count() {
-        return Err(Error::NotATerm);
-    }
-    Ok(RecExpr {
-        node: node.copy(alloc)?,
-        children,
-    })
+    let copy = pattern.copy(alloc)?;
+    into_term(alloc, copy)
+}
+
+// The term that a pattern is, made of the pattern's own nodes.
+pub(crate) fn into_term<L: Language>(
+    alloc: Global,
+    pattern: Pattern<L>,
+) -> Result<RecExpr<L>, Error>
+    ensures ok { IfOk result (λ t. as_term (tree_of L.form pattern) ≡ Some t) }
+    ensures none { IfErr result (IsRefusal (as_term (tree_of L.form pattern))) }
+{
+    let nodes = take_apart(alloc, pattern)?;
+    let term = assemble_term(alloc, nodes)?;
+    Ok(term)
 }
 
 /// The pattern of a term's nodes, with as many child patterns as the nodes have children. `pattern_to_re` makes the term of it

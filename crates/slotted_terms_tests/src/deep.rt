@@ -9,9 +9,6 @@ use std::process::Abort;
 
 const LEVELS: usize = 100_000;
 
-// Terms are built one binder at a time, which takes longer.
-const TERM_LEVELS: usize = 20_000;
-
 // `(lam $x (lam $x .. ))` of so many levels over this text.
 fn deep_text(alloc: Global, inner: &str, levels: usize) -> Result<String, Error> {
     let mut text = String::new(alloc);
@@ -25,34 +22,16 @@ fn deep_text(alloc: Global, inner: &str, levels: usize) -> Result<String, Error>
     Ok(text)
 }
 
-// The pattern of a text prints as that text.
+// The pattern of a text, and its copy, print as that text.
 fn check_pattern(rt: &impl Abort, alloc: Global, text: &str) -> Result<(), Error> {
     let mut table = SlotTable::new(alloc);
     let pattern = Pattern::<Small>::parse(alloc, text, &mut table)?;
     let printed = pattern.text(alloc, &table)?;
     check_text(rt, &printed, text);
+    let copy = pattern.copy(alloc)?;
+    let copied = copy.text(alloc, &table)?;
+    check_text(rt, &copied, text);
     Ok(())
-}
-
-// A binder over the term.
-fn above(
-    alloc: Global,
-    term: RecExpr<Small>,
-    table: &mut SlotTable,
-) -> Result<RecExpr<Small>, Error> {
-    let mut binder = RecExpr::<Small>::parse(alloc, "(lam $x a)", table)?;
-    binder.children.clear();
-    binder.children.push(term)?;
-    Ok(binder)
-}
-
-// A term of so many levels over `a`.
-fn deep_term(alloc: Global, levels: usize, table: &mut SlotTable) -> Result<RecExpr<Small>, Error> {
-    let mut term = RecExpr::<Small>::parse(alloc, "a", table)?;
-    for _level in 0..levels {
-        term = above(alloc, term, table)?;
-    }
-    Ok(term)
 }
 
 // The copy of the term, and its pattern, print as the text.
@@ -70,23 +49,23 @@ fn check_copied(
     Ok(())
 }
 
-// A deep term prints as the text, and so does its copy.
+// The term of a text prints as that text, and so does its copy.
 fn check_term(rt: &impl Abort, alloc: Global, text: &str) -> Result<(), Error> {
     let mut table = SlotTable::new(alloc);
-    let term = deep_term(alloc, TERM_LEVELS, &mut table)?;
+    let term = RecExpr::<Small>::parse(alloc, text, &mut table)?;
     let printed = term.text(alloc, &table)?;
     check_text(rt, &printed, text);
     check_copied(rt, alloc, &term, &table, text)
 }
 
 #[test]
-fn a_deep_pattern_is_read_and_printed(rt: HostRuntime) -> Result<(), Error> {
+fn a_deep_pattern_is_read_printed_and_copied(rt: HostRuntime) -> Result<(), Error> {
     let text = deep_text(rt.alloc(), "?a", LEVELS)?;
     check_pattern(&rt, rt.alloc(), &text)
 }
 
 #[test]
-fn a_deep_term_is_printed_and_copied(rt: HostRuntime) -> Result<(), Error> {
-    let text = deep_text(rt.alloc(), "a", TERM_LEVELS)?;
+fn a_deep_term_is_read_printed_and_copied(rt: HostRuntime) -> Result<(), Error> {
+    let text = deep_text(rt.alloc(), "a", LEVELS)?;
     check_term(&rt, rt.alloc(), &text)
 }

@@ -3,7 +3,7 @@ use Rattle.std.proofs.lemmas.List.{length-map, map-append, take-map, drop-map}
 use Rattle.slotted_patterns.specs.Tree.{enode, row_of}
 use Rattle.slotted_patterns.specs.View.{tree_of}
 use Rattle.slotted_patterns.specs.declared.pattern.Pattern.{ENode}
-use Rattle.slotted_terms.proofs.AsTerms.{tree_of-ENode}
+use Rattle.slotted_patterns.proofs.PatternTrees.{tree_of-ENode}
 use Rattle.slotted_terms.proofs.flat.close.Goals as goal
 
 pub returns-clause-ok : goal.returns-clause-ok

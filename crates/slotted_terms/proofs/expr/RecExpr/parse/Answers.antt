@@ -13,12 +13,12 @@ returns-in_err-pattern-clause-answer g c =
 
 pub returns-clause-answer : goal.returns-clause-answer
 returns-clause-answer g c =
-    answers_term g.L.LanguageChildren.read c.args.table.now (chars c.args.text.now) c.parse.new.table (tree_of g.L.LanguageChildren.form c.in_ok-pattern.pattern) c.pattern_to_re.result c.in_ok-pattern.ensures.answer c.pattern_to_re.ensures.ok c.pattern_to_re.ensures.none
+    answers_term g.L.LanguageChildren.read c.args.table.now (chars c.args.text.now) c.parse.new.table (tree_of g.L.LanguageChildren.form c.in_ok-pattern.pattern) c.into_term.result c.in_ok-pattern.ensures.answer c.into_term.ensures.ok c.into_term.ensures.none
 
 pub returns-clause-valid : goal.returns-clause-valid
 returns-clause-valid g c =
-    answer_valid c.parse.new.table (tree_of g.L.LanguageChildren.form c.in_ok-pattern.pattern) c.pattern_to_re.result c.in_ok-pattern.ensures.known c.pattern_to_re.ensures.ok
+    answer_valid c.parse.new.table (tree_of g.L.LanguageChildren.form c.in_ok-pattern.pattern) c.into_term.result c.in_ok-pattern.ensures.known c.into_term.ensures.ok
 
 pub returns-clause-nodes : goal.returns-clause-nodes
 returns-clause-nodes g c =
-    answer_nodes g.L.LanguageChildren.form g.L.LanguageChildren.read c.args.table.now (chars c.args.text.now) c.parse.new.table c.in_ok-pattern.pattern c.pattern_to_re.result c.in_ok-pattern.ensures.answer c.pattern_to_re.ensures.ok
+    answer_nodes g.L.LanguageChildren.form g.L.LanguageChildren.read c.args.table.now (chars c.args.text.now) c.parse.new.table c.in_ok-pattern.pattern c.into_term.result c.in_ok-pattern.ensures.answer c.into_term.ensures.ok
