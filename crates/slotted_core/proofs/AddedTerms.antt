@@ -14,6 +14,7 @@ use Rattle.slotted_languages.specs.Filled as form
 use Rattle.slotted_languages.specs.Shape.{Fits}
 use Rattle.slotted_languages.proofs.NodeTerms.{own_fits, child_keys_fit, child_rest_fits, bind_inner_fits, bind_rest_fits}
 use Rattle.slotted_terms.specs.Valid.{HasKnownNames, IsValidTerm, IsWhole}
+use Rattle.slotted_terms.proofs.TermFolds.{weigh}
 use Rattle.slotted_model.specs.Applied.{Applied, values}
 use Rattle.slotted_model.specs.Changes.{GoesOn}
 use Rattle.slotted_model.specs.Correspondence.{AllDifferent}
@@ -103,52 +104,14 @@ of-larger c w f p s o = record { places = omega (arith, p, o.places); size = ome
 abbrev pub top-larger : (c w : Term) → ((s : Term) → IsSubterm s c → IsSubterm s w) → (look : DTerm → Option Applied) (f : Form) → IsTopIn look c f → IsTopIn look w f
 top-larger c w up look f o = record { subterm = o.subterm; stands = up o.subterm o.stands; top = o.top }
 
--- some nodes, and then those of a smaller term
-pub nodes-then : (c w : Term) → term_places c ≤ term_places w → term_size c ≤ term_size w → ((s : Term) → IsSubterm s c → IsSubterm s w) → (t u : Table) (k l : Kept) (r q : Rows) (n : ℕ) → AddsNodesIn w t k r n u l q →
-    (j : ℕ) (v : Table) (m : Kept) (s : Rows) → AddsNodesIn c u l q j v m s → AddsNodesIn w t k r (j + n) v m s
-nodes-then c w p z up t u k l r q n first _ _ _ _ none_added = subst (λ i. AddsNodesIn w t k r i u l q) (omega arith) first
-nodes-then c w p z up t u k l r q n first _ _ _ _ (one_added {n = i} {u = x} {v = y} {l = a} {m = b} {q = e} {s = g} before step) =
-    let same : suc (i + n) ≡ suc i + n = omega arith in
-    subst (λ d. AddsNodesIn w t k r d y b g) same (one_added (nodes-then c w p z up t u k l r q n first i x a e before) (record {
-      node = step.node;
-      fits = step.fits;
-      children = step.children;
-      known = step.known;
-      small = of-larger c w step.node p z step.small;
-      top = top-larger c w up (look_up_node (state_in a e)) step.node step.top;
-      answer = step.answer;
-      added = step.added;
-      more = step.more;
-      makes = step.makes;
-    }))
-
 -- how many nodes stand in some terms
 abbrev pub nodes_in : List Term → ℕ
-nodes_in [] = 0
-nodes_in (u ∷ us) = term_nodes u + nodes_in us
+nodes_in us = weigh term_nodes us
 
 nodes_in-parts : (n : ℕ) (us : List Term) → nodes_in (take n us) + nodes_in (drop n us) ≡ nodes_in us
 nodes_in-parts zero us = omega arith
 nodes_in-parts (suc n) [] = omega arith
 nodes_in-parts (suc n) (u ∷ us) = omega (arith, nodes_in-parts n us)
-
-nodes_in-push : (us : List Term) (i : ℕ) (d : Term) → i < length us → nodes_in (take (suc i) us) ≡ nodes_in (take i us) + term_nodes (get_or us i d)
-nodes_in-push [] i d l = absurd (omega arith)
-nodes_in-push (u ∷ us) zero d l = omega arith
-nodes_in-push (u ∷ us) (suc i) d l = omega (arith, nodes_in-push us i d (omega (arith, l)))
-
--- one term more
-pub nodes_in-next : (us : List Term) (i : ℕ) (d : Term) → i < length us → nodes_in (take (i + 1) us) ≡ nodes_in (take i us) + term_nodes (get_or us i d)
-nodes_in-next us i d l =
-    let e : i + 1 ≡ suc i = omega arith in
-    ap (λ n. nodes_in (take n us)) e ∙ nodes_in-push us i d l
-
-pub nodes_in-take : (n : ℕ) (us : List Term) → nodes_in (take n us) ≤ nodes_in us
-nodes_in-take n us = omega (arith, nodes_in-parts n us)
-
-pub nodes_in-all : (us : List Term) → nodes_in (take (length us) us) ≡ nodes_in us
-nodes_in-all [] = refl
-nodes_in-all (u ∷ us) = ap (λ n. term_nodes u + n) (nodes_in-all us)
 
 filled-nodes : (t : Tree) (xs : List ℕ) (us : List Term) → length us ≡ length (children t) → args_nodes (filled t xs us) ≡ nodes_in us
 filled-nodes leaf xs [] n = refl

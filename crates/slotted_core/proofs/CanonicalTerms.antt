@@ -1,6 +1,6 @@
 -- Canonical nodes and terms with the names of an id put in.
 use Rattle.std.proofs.Common.{◌≡◌, ◌<◌, ℕ, suc, ◌+◌, List, [], ◌∷◌, ◌++◌, length, get_or, take, drop, sym, ◌∙◌, ap, refl, subst, arith, inl, inr, length-append}
-use Rattle.std.specs.Prelude.{slice_index_or, slice_index}
+use Rattle.std.specs.Prelude.{slice_index_or, slice_index, slice_set}
 use Rattle.std.specs.List.{zip}
 use Rattle.std.proofs.Math.Seq.{get_or-append_seam}
 use Rattle.std.proofs.lemmas.Bool.{cases_lt}
@@ -30,7 +30,7 @@ use Rattle.slotted_core.specs.Nodes.{ids_in, child_ids}
 use Rattle.slotted_core.specs.Canonical.{args_count, place_count, IsBeside}
 use Rattle.slotted_core.proofs.RowLookUps.{canonical_node-in}
 use Rattle.slotted_store.proofs.NameMaps.{In-at, In-key, length-keys, length-values}
-use Rattle.slotted_store.proofs.ChildIds.{Each, atom-is, length-ids}
+use Rattle.slotted_store.proofs.ChildIds.{Each, atom-is, length-ids, zip-keys_values}
 use Rattle.slotted_core.proofs.ChildReplacement.{plugs}
 use Rattle.slotted_core.proofs.Layers.{expand-filled, match-from, each_at}
 
@@ -150,3 +150,9 @@ beside-step f h k a fits lt b =
       count = length_children-with_child_in h.tree k a.0 (keys a.1) ∙ b.count;
       outline = λ us z. q.1 us (z ∙ sym b.count) ∙ b.outline us z;
     }
+
+-- an id in the place of a child
+pub child_set : (h : Form) (k : ℕ) (a : Applied) → Fits h → k < length (children h.tree) → child_ids (with_child h k a.0 (keys a.1) (values a.1)) ≡ slice_set (child_ids h) k a
+child_set h k a fits lt =
+    let n : length (values a.1) ≡ length (keys a.1) = length-values a.1 ∙ sym (length-keys a.1) in
+    (plugs h.tree h.names k a.0 (keys a.1) (values a.1) fits lt n).0 ∙ ap (λ (y : List (ℕ × ℕ)). slice_set (child_ids h) k (a.0, y)) (zip-keys_values a.1)

@@ -50,6 +50,7 @@ pub mod FilledNodes
 pub mod AddedByLookUp
 pub mod LookedUp
 pub mod AddedNodes
+pub mod AnswerLists
 pub mod AddedTerms
 pub mod LookedUpTerms
 pub mod GraphTerms

@@ -8,6 +8,7 @@ pub mod explaining;
 pub mod looking_up;
 pub mod names;
 mod sides;
+mod stacks;
 pub mod syn;
 pub mod terms;
 pub mod uniting;

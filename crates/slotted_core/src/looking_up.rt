@@ -13,6 +13,7 @@ ghost use Rattle.slotted_core.specs.Good.{LacksForTermIn, RunsOutForUnknownIn, T
 ghost use Rattle.slotted_core.specs.Graph.{MakesAtMost};
 
 use crate::adding::add_syn;
+use crate::stacks::over_last;
 use slotted_adding::filling::fill_node;
 use slotted_adding::lookup::look_up;
 use slotted_filing::Hashcons;
@@ -20,6 +21,7 @@ use slotted_languages::Language;
 use slotted_slots::{AppliedId, Error, SlotTable};
 use slotted_store::Store;
 use slotted_terms::expr::RecExpr;
+use slotted_terms::flat::flatten;
 use std::alloc::Global;
 
 /// The class that was made with the node, whose children are filled first, or a new one, with the node's names put in.
@@ -80,7 +82,7 @@ pub fn add<L: Language>(
     }
 }
 
-/// What the term is looked up as, child by child. Classes are made of the nodes that are not.
+/// What the term is looked up as, from its innermost nodes on. Classes are made of the nodes that are not.
 pub fn add_expr<L: Language>(
     store: &mut Store<L>,
     nodes: &mut Hashcons<L>,
@@ -99,11 +101,15 @@ pub fn add_expr<L: Language>(
     ensures full { IsErrOf result Error.OutOfSlots → LacksForTermIn term.now table.old store.old nodes.old table.new }
     ensures err { IfErr result IsShortage }
 {
-    let mut node = term.node.copy(alloc)?;
-    for (k, child) in term.children.iter().enumerate() {
-        let answer = add_expr(store, nodes, alloc, table, child)?;
-        node.set_applied_id(k, answer);
+    let mut left = flatten(alloc, term)?;
+    let mut answers = Vec::new(alloc);
+    while let Some(next) = left.pop() {
+        let node = over_last(next, &mut answers);
+        let answer = add(store, nodes, alloc, table, &node)?;
+        answers.push(answer)?;
     }
-    let answer = add(store, nodes, alloc, table, &node)?;
-    Ok(answer)
+    match answers.pop() {
+        Some(answer) => Ok(answer),
+        None => unreachable!(),
+    }
 }
