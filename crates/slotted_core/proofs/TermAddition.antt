@@ -1,17 +1,16 @@
--- Adding a term from below: the ids of the children stand in the node so far.
-use Rattle.std.proofs.Common.{◌≡◌, ◌<◌, ◌≤◌, ℕ, zero, suc, ◌+◌, List, [], ◌∷◌, length, get_or, Some, sym, ◌∙◌, ap, refl, subst, arith, inl, inr}
-use Rattle.std.specs.Prelude.{slice_set, slice_index_or, All, IsSome, is_some}
-use Rattle.std.proofs.lemmas.Bool.{cases_eq, false≢true}
+-- Adding a term from below: each node over the ids of the terms under it.
+use Rattle.std.proofs.Common.{◌≡◌, ◌<◌, ◌≤◌, ℕ, suc, ◌+◌, List, [], ◌∷◌, ◌++◌, length, get_or, Some, sym, ◌∙◌, ap, refl, subst, arith, inl, inr, length-append}
+use Rattle.std.specs.Prelude.{slice_index_or, All, IsSome, is_some}
+use Rattle.std.proofs.lemmas.Bool.{false≢true}
 use Rattle.slotted_theory.specs.Term.{Args, Term, done, args_size, term_size}
 use Rattle.slotted_theory.specs.Nameless.{nameless, nameless_args}
-use Rattle.slotted_slots.specs.Maps.{keys, values}
-use Rattle.slotted_slots.specs.Table.{Table}
-use Rattle.slotted_nodes.specs.Form.{Form, children, with_child}
-use Rattle.slotted_nodes.specs.Joined.{length_children-with_child_in}
-use Rattle.slotted_languages.specs.Filled.{filled}
+use Rattle.slotted_slots.specs.Table.{KnowsMore, Table}
+use Rattle.slotted_nodes.specs.Form.{Form, children}
 use Rattle.slotted_languages.specs.Filled as form
 use Rattle.slotted_languages.specs.NodeTerm.{nameless_node}
 use Rattle.slotted_languages.specs.Shape.{Fits}
+use Rattle.slotted_terms.specs.Valid.{IsWhole}
+use Rattle.slotted_terms.proofs.TermFolds.{TermFolds, TermStep, term_folds-end, term_folds-step, weigh-append, weighs}
 use Rattle.slotted_model.specs.Applied.{Applied}
 use Rattle.slotted_model.specs.Changes.{GoesOn}
 use Rattle.slotted_model.specs.Classes.{terms, term_of, layer_of, IsFull, Canonical}
@@ -26,10 +25,12 @@ use Rattle.slotted_store.specs.Kept.{Kept, nodes_of}
 use Rattle.slotted_filing.specs.FiledRows.{Rows}
 use Rattle.slotted_congruence.specs.Named.{node_size}
 use Rattle.slotted_rebuilding.specs.Filed.{state_in}
-use Rattle.slotted_core.specs.Causes.{HasLargeClassIn, HasLargeClassOrNode, HasLargeClassOrTerm, IsUnknownNode, IsUnknownTerm}
+use Rattle.slotted_core.specs.Causes.{HasLargeClassIn, HasLargeClassOrNode, CanRunOutForNode, CanRunOutForTerm, HasLargeClassOrTerm, IsUnknownNode, IsUnknownTerm}
 use Rattle.slotted_core.specs.Good.{image_of, Good, RestsWith, HasFreshSlots, Adds, AddsTerm, KeepsNotes}
+use Rattle.slotted_core.specs.Canonical.{IsBeside}
+use Rattle.slotted_core.specs.Graph.{MakesAtMost, RunsOutForNode, RunsOutForTerm}
 use Rattle.slotted_core.specs.Nodes.{child_ids}
-use Rattle.slotted_core.specs.Places.{args_places, term_places}
+use Rattle.slotted_core.specs.Places.{args_places, term_places, term_slots}
 use Rattle.slotted_core.specs.Subterms.{IsSubterm}
 use Rattle.slotted_core.proofs.NodeAddition.{full_children}
 use Rattle.slotted_core.proofs.Options.{none-where}
@@ -37,18 +38,67 @@ use Rattle.slotted_core.proofs.ContinuedFinds.{finds-on}
 use Rattle.slotted_core.proofs.FiledClasses.{adds-none, same-goes_on}
 use Rattle.slotted_core.proofs.KeptNotes.{notes-none, notes-then}
 use Rattle.slotted_core.proofs.Images.{adds-then}
-use Rattle.slotted_store.proofs.ChildIds.{length-ids, zip-keys_values}
+use Rattle.slotted_store.proofs.ChildIds.{length-ids}
 use Rattle.slotted_core.proofs.KnownNames.{answer_full, answer_term}
 use Rattle.slotted_core.proofs.Filing.{Files, of_child, files-nothing, files-then, files-more, files-node}
 use Rattle.slotted_core.proofs.FoundParts.{node_has_id}
 use Rattle.slotted_core.proofs.LookedUpParts.{children_found}
-use Rattle.slotted_core.proofs.Layers.{match-from, expand-filled, each_at, child_smaller}
-use Rattle.slotted_store.proofs.NameMaps.{length-keys, length-values}
-use Rattle.slotted_core.proofs.ChildReplacement.{plugs}
-use Rattle.slotted_core.proofs.Sizes.{node_fits, node_size_fits}
+use Rattle.slotted_core.proofs.AnswerLists.{Both, Both-at, Both-length, Both-map, Both-more, Both-split}
+use Rattle.slotted_core.proofs.Layers.{match-from, expand-filled, each_at, child_smaller, whole_count, whole_each}
+use Rattle.slotted_core.proofs.Sizes.{child_places_fit, node_fits, node_size_fits}
+use Rattle.slotted_core.proofs.Tables.{makes-more, makes-none, makes-then, runs_out-then}
+use Rattle.slotted_core.proofs.TermSlots.{slots_fit, slots_of}
 
--- the first i children of h are ids of the terms us, and beside its children h is f
-pub record IsPart (o : Table) (k : Kept) (r : Rows) (t : Table) (l : Kept) (q : Rows) (f h : Form) (us : List Term) (i : ℕ) : Type 0 where
+-- the id stands for the term
+abbrev pub IsIdFor : Kept → Applied → Term → Type 0
+IsIdFor l a c = IsFull (nodes_of l) a × (term_of (nodes_of l) a ≡ nameless c)
+
+-- the node h over ids of the terms us, where beside its children it is f
+module _ (l : Kept) (good : Good l) (f h : Form) (us : List Term) (n : length us ≡ length (children f.tree)) (beside : IsBeside f h) (fits : Fits h) (answers : Both (IsIdFor l) (child_ids h) us) where
+  ids : (j : ℕ) (d : Applied) (e : Term) → j < length us → IsFull (nodes_of l) (get_or (child_ids h) j d) × (term_of (nodes_of l) (get_or (child_ids h) j d) ≡ nameless (get_or us j e))
+  ids = Both-at (IsIdFor l) (child_ids h) us answers
+
+  as-many : length (child_ids h) ≡ length us
+  as-many = length-ids h.tree h.names ∙ (beside.count ∙ sym n)
+
+  node-full : All (IsFull (nodes_of l)) (child_ids h)
+  node-full j d lt = (ids j d (record { op = 0; payloads = []; args = done }) (omega (arith, lt, as-many))).0
+
+  node-layer : layer_of (nodes_of l) (nameless_node h) ≡ nameless (form.term_of f us)
+  node-layer =
+      let m = match-from (nodes_of l) good.stored.sane.sound.canonical (child_ids h) us as-many ids in
+      let e = expand-filled (terms (nodes_of l)) (λ x. x) h.tree h.names us fits m in
+      λ i. record { op = suc (beside.operator i); payloads = beside.payloads i; args = (e ∙ ap (λ (a : Args). nameless_args (λ x. x) a) (beside.outline us n)) i }
+
+  -- it has no more places than the term
+  node-size : length h.names ≤ term_places (form.term_of f us)
+  node-size =
+      let s = node_fits (nodes_of l) good.stored.sane.sound.canonical h us fits (n ∙ sym beside.count) (λ j d e y. ids j d e (omega (arith, y))) in
+      omega (arith, s, ap args_places (beside.outline us n))
+
+  -- nor more places, binders and children than the term's size
+  node-width : node_size (nameless_node h) ≤ term_size (form.term_of f us)
+  node-width =
+      let s = node_size_fits (nodes_of l) good.stored.sane.sound.canonical h us fits (n ∙ sym beside.count) (λ j d e y. ids j d e (omega (arith, y))) in
+      omega (arith, s, ap args_size (beside.outline us n))
+
+  -- where the term has an id, so has the node
+  node-id : IsSome (id_of (nodes_of l) (nameless (form.term_of f us))) → IsSome (id_of_node (nodes_of l) (nameless_node h))
+  node-id some =
+      node_has_id (nodes_of l) good.stored.sane.sound.canonical (nameless_node h) (full_children (nodes_of l) h fits node-full) (nameless (form.term_of f us)) node-layer some
+
+-- a term in w: what is known of w holds of it
+pub record IsPartOf (w : Term) (k : Kept) (c : Term) : Type 0 where
+  pub whole : IsWhole c.args
+  pub places : term_places c ≤ term_places w
+  pub size : term_size c ≤ term_size w
+  pub up : (s : Term) → IsSubterm s c → IsSubterm s w
+  pub found : IsSome (id_of (nodes_of k) (nameless w)) → IsSome (id_of (nodes_of k) (nameless c))
+
+-- some nodes of w were added, with these left, and the ids stand for the terms that were completed
+pub record IsAdded (w : Term) (o : Table) (k : Kept) (r : Rows) (t : Table) (l : Kept) (q : Rows) (left : List (Form × ℕ)) (ids : List Applied) : Type 0 where
+  pub done : List Term
+  pub folds : TermFolds w left done
   pub good : Good l
   pub rests : RestsWith l q
   pub fresh_slots : HasFreshSlots t l
@@ -56,194 +106,192 @@ pub record IsPart (o : Table) (k : Kept) (r : Rows) (t : Table) (l : Kept) (q : 
   pub goes_on : GoesOn (state_in k r) (state_in l q)
   pub adds : AddsClasses (image_of k) (image_of l)
   pub notes : KeepsNotes k l
-  pub operator : h.operator ≡ f.operator
-  pub payloads : h.payloads ≡ f.payloads
-  pub count : length (children h.tree) ≡ length (children f.tree)
-  pub outline : (vs : List Term) → length vs ≡ length (children f.tree) → filled h.tree h.names vs ≡ filled f.tree f.names vs
-  pub filed : Files (nodes_of k) (nodes_of l) (form.term_of f us)
-  pub kept : IsSome (id_of (nodes_of k) (nameless (form.term_of f us))) → (l ≡ k) × (q ≡ r) × (t ≡ o)
-  pub large : HasLargeClassIn (image_of l) → HasLargeClassOrTerm (image_of k) (form.term_of f us)
-  pub ids : (j : ℕ) (d : Applied) (e : Term) → j < i → IsFull (nodes_of l) (slice_index_or (child_ids h) j d) × (term_of (nodes_of l) (slice_index_or (child_ids h) j d) ≡ nameless (slice_index_or us j e))
+  pub more : KnowsMore o t
+  pub makes : MakesAtMost (slots_of done) o t
+  pub filed : Files (nodes_of k) (nodes_of l) w
+  pub kept : IsSome (id_of (nodes_of k) (nameless w)) → (l ≡ k) × (q ≡ r) × (t ≡ o)
+  pub large : HasLargeClassIn (image_of l) → HasLargeClassOrTerm (image_of k) w
+  pub answers : Both (IsIdFor l) ids done
 
-pub part_start : (k : Kept) (r : Rows) (t : Table) → Good k → RestsWith k r → HasFreshSlots t k → (f : Form) (us : List Term) → IsPart t k r t k r f f us 0
-part_start k r t good rests fresh f us = record {
-  good = good;
-  rests = rests;
-  fresh_slots = fresh;
-  extends = Extends-same (nodes_of k);
-  goes_on = same-goes_on k r good rests;
-  adds = adds-none k r good rests;
-  notes = notes-none k;
-  operator = refl;
-  payloads = refl;
-  count = refl;
-  outline = λ vs n. refl;
-  filed = files-nothing (nodes_of k) (form.term_of f us);
-  kept = λ s. (refl, refl, refl);
-  large = inl;
-  ids = λ j d e l. absurd (omega arith);
-}
+module _ (w : Term) (o : Table) (k : Kept) (r : Rows) (start : Good k) (quiet : RestsWith k r) (fresh : HasFreshSlots o k) (holds : IsWhole w.args) where
+  part-root : IsPartOf w k w
+  part-root = record { whole = holds; places = omega arith; size = omega arith; up = λ s h. h; found = λ h. h }
 
-pub set_same : {X : Type 0} (xs : List X) (k : ℕ) (a d : X) → k < length xs → get_or (slice_set xs k a) k d ≡ a
-set_same [] k a d l = absurd (omega arith)
-set_same (x ∷ xs) zero a d l = refl
-set_same (x ∷ xs) (suc k) a d l = set_same xs k a d (omega arith)
+  part-child : (g : Form) (us : List Term) → IsPartOf w k (form.term_of g us) → (i : ℕ) (c : Term) → i < length us → c ≡ get_or us i c → IsPartOf w k c
+  part-child g us h i c lt is =
+      let places : term_places (get_or us i c) ≤ term_places (form.term_of g us) = child_places_fit g us i c lt in
+      let smaller : term_size (get_or us i c) < term_size (form.term_of g us) = child_smaller g us i c lt in
+      record {
+        whole = subst (λ (x : Term). IsWhole x.args) (sym is) (each_at (λ (x : Term). IsWhole x.args) us i c lt (whole_each g.tree g.names us h.whole));
+        places = omega (arith, h.places, places, ap term_places is);
+        size = omega (arith, h.size, smaller, ap term_size is);
+        up = λ s stands. h.up s (of_child s g us i c lt (subst (IsSubterm s) is stands));
+        found = λ some.
+            let n = whole_count g.tree g.names us h.whole in
+            let each = children_found (id_of_node (nodes_of k)) (id_of_node-moved (nodes_of k) start.stored.sane.sound.canonical) g us n (h.found some) in
+            subst (λ (x : Term). IsSome (id_of (nodes_of k) (nameless x))) (sym is) (each_at (λ (x : Term). IsSome (id_of (nodes_of k) (nameless x))) us i c lt each);
+      }
 
-pub set_other : {X : Type 0} (xs : List X) (k j : ℕ) (a d : X) → j < k → get_or (slice_set xs k a) j d ≡ get_or xs j d
-set_other [] k j a d l = refl
-set_other (x ∷ xs) zero j a d l = absurd (omega arith)
-set_other (x ∷ xs) (suc k) zero a d l = refl
-set_other (x ∷ xs) (suc k) (suc j) a d l = set_other xs k j a d (omega arith)
+  few-slots : (left : List (Form × ℕ)) (done : List Term) → TermFolds w left done → slots_of done ≤ term_slots w
+  few-slots = weighs w (IsPartOf w k) part-child part-root term_slots (λ g us h. omega (arith, slots_fit g us))
 
-pub part_step : (k : Kept) (r : Rows) → Good k → (o t v : Table) (l : Kept) (q : Rows) (m : Kept) (s : Rows) (f h : Form) (us : List Term) → length us ≡ length (children f.tree) → (i : ℕ) (a : Applied) (u : Term) → Fits h → IsPart o k r t l q f h us i → i < length (children f.tree) → ((e : Term) → slice_index_or us i e ≡ u) → AddsTerm t v l q m s u a → IsPart o k r v m s f (with_child h i a.0 (keys a.1) (values a.1)) us (i + 1)
-part_step k r start o t v l before m after f h us nu i a u fits p lt at add =
-    let can : Canonical (nodes_of k) = start.stored.sane.sound.canonical in
-    let on : GoesOn (state_in k r) (state_in m after) = goes_on-then (state_in k r) (state_in l before) (state_in m after) start.stored.sane.sound.linked p.goes_on add.goes_on in
-    let n : length (values a.1) ≡ length (keys a.1) = length-values a.1 ∙ sym (length-keys a.1) in
-    let q = plugs h.tree h.names i a.0 (keys a.1) (values a.1) fits (omega (arith, p.count, lt)) n in
-    let c : child_ids (with_child h i a.0 (keys a.1) (values a.1)) ≡ slice_set (child_ids h) i a =
-    q.0 ∙ ap (λ (z : List (ℕ × ℕ)). slice_set (child_ids h) i (a.0, z)) (zip-keys_values a.1) in
-    let w : i < length (child_ids h) = omega (arith, p.count, lt, length-ids h.tree h.names) in
-    let o : length (children (with_child h i a.0 (keys a.1) (values a.1)).tree) ≡ length (children h.tree) = length_children-with_child_in h.tree i a.0 (keys a.1) in
-    record {
-      good = add.good;
-      rests = add.rests;
-      fresh_slots = add.fresh_slots;
-      extends = Extends-then (nodes_of k) (nodes_of l) (nodes_of m) p.extends add.extends;
-      goes_on = on;
-      adds = adds-then (image_of k) (image_of l) (image_of m) p.extends p.adds add.adds (finds-on k r start m after on);
-      notes = notes-then k l m p.notes add.notes;
-      operator = p.operator;
-      payloads = p.payloads;
-      count = o ∙ p.count;
-      outline = λ vs z. q.1 vs (z ∙ sym p.count) ∙ p.outline vs z;
-      filed = files-then (nodes_of k) (nodes_of l) (nodes_of m) (form.term_of f us) add.extends p.filed
-          (files-more (nodes_of l) (nodes_of m) (form.term_of f us) u
-          (λ s h. of_child s f us i u (omega (arith, lt, nu)) (subst (IsSubterm s) (sym (at u)) h)) add.filed);
-      kept = λ s.
-          let same = p.kept s in
-          let of_part : IsSome (id_of (nodes_of k) (nameless u)) =
-          subst (λ (x : Term). IsSome (id_of (nodes_of k) (nameless x))) (at u)
-          (each_at (λ (x : Term). IsSome (id_of (nodes_of k) (nameless x))) us i u (omega (arith, lt, nu)) (children_found (id_of_node (nodes_of k)) (id_of_node-moved (nodes_of k) can) f us nu s)) in
-          let stays = add.kept (subst (λ (x : Kept). IsSome (id_of (nodes_of x) (nameless u))) (sym same.0) of_part) in
-          (stays.0 ∙ same.0, stays.1 ∙ same.1, stays.2 ∙ same.2);
-      large = λ c. elim (add.large c) [
-        | inl o ↦ p.large o
-        | inr o ↦ let e : slice_index_or us i u ≡ u = at u in inr (omega (arith, o, child_smaller f us i u (omega (arith, lt, nu)), ap term_size e))
-      ];
-      ids = λ j d e z. elim (cases_eq j i) [
-        | inl r ↦
-            let b : slice_index_or (child_ids (with_child h i a.0 (keys a.1) (values a.1))) j d ≡ a =
-            ap (λ (ids : List Applied). get_or ids j d) c ∙ (ap (λ (y : ℕ). get_or (slice_set (child_ids h) i a) y d) r ∙ set_same (child_ids h) i a d w) in (
-              subst (IsFull (nodes_of m)) (sym b) add.full,
-              ap (term_of (nodes_of m)) b ∙ (add.term ∙ ap nameless (sym (ap (λ (y : ℕ). get_or us y e) r ∙ at e))),
-            )
-        | inr r ↦
-            let s : j < i = omega (arith, r, z) in
-            let b : slice_index_or (child_ids (with_child h i a.0 (keys a.1) (values a.1))) j d ≡ slice_index_or (child_ids h) j d =
-            ap (λ (ids : List Applied). get_or ids j d) c ∙ set_other (child_ids h) i j a d s in
-            let old = p.ids j d e s in (
-              subst (IsFull (nodes_of m)) (sym b) (add.extends.full (slice_index_or (child_ids h) j d) old.0),
-              ap (term_of (nodes_of m)) b ∙ (add.extends.terms (slice_index_or (child_ids h) j d) old.0 ∙ old.1),
-            )
-      ];
-    }
+  pub added-start : (left : List (Form × ℕ)) → TermFolds w left [] → IsAdded w o k r o k r left []
+  added-start left folds = record {
+    done = [];
+    folds = folds;
+    good = start;
+    rests = quiet;
+    fresh_slots = fresh;
+    extends = Extends-same (nodes_of k);
+    goes_on = same-goes_on k r start quiet;
+    adds = adds-none k r start quiet;
+    notes = notes-none k;
+    more = λ s h. h;
+    makes = makes-none 0 o;
+    filed = files-nothing (nodes_of k) w;
+    kept = λ s. (refl, refl, refl);
+    large = inl;
+    answers = tt;
+  }
 
--- where all children are ids the node is one over full ids
+  pub now-makes : (t : Table) (l : Kept) (q : Rows) (left : List (Form × ℕ)) (ids : List Applied) → IsAdded w o k r t l q left ids → MakesAtMost (term_slots w) o t
+  now-makes t l q left ids p = makes-more (slots_of p.done) (term_slots w) o t p.makes (few-slots left p.done p.folds)
 
-pub part_full : (o : Table) (k : Kept) (r : Rows) (t : Table) (l : Kept) (q : Rows) (f h : Form) (us : List Term) → IsPart o k r t l q f h us (length us) → length us ≡ length (children f.tree) → All (IsFull (nodes_of l)) (child_ids h)
-part_full o k r t l q f h us p n j d lt = (p.ids j d (record { op = 0; payloads = []; args = done }) (omega (arith, lt, n, p.count, length-ids h.tree h.names))).0
+  -- the next node
+  module _ (t : Table) (l : Kept) (q : Rows) (left : List (Form × ℕ)) (f : Form) (i : ℕ) (ids : List Applied) (p : IsAdded w o k r t l q (left ++ (f, i) ∷ []) ids) where
+    abbrev step : TermStep w f i left p.done
+    step = term_folds-step w f i left p.done p.folds
 
-pub part_layer : (o : Table) (k : Kept) (r : Rows) (t : Table) (l : Kept) (q : Rows) (f h : Form) (us : List Term) → Fits h → IsPart o k r t l q f h us (length us) → length us ≡ length (children f.tree) → layer_of (nodes_of l) (nameless_node h) ≡ nameless (form.term_of f us)
-part_layer o k r t l q f h us fits p n =
-    let m = match-from (nodes_of l) p.good.stored.sane.sound.canonical (child_ids h) us (length-ids h.tree h.names ∙ (p.count ∙ sym n)) p.ids in
-    let e = expand-filled (terms (nodes_of l)) (λ x. x) h.tree h.names us fits m in
-    let o : filled h.tree h.names us ≡ filled f.tree f.names us = p.outline us n in
-    λ i. record { op = suc (p.operator i); payloads = p.payloads i; args = (e ∙ ap (λ (a : Args). nameless_args (λ x. x) a) o) i }
+    abbrev c : Term
+    c = form.term_of f step.under
 
--- the node has no more places than the term
-pub part_size : (o : Table) (k : Kept) (r : Rows) (t : Table) (l : Kept) (q : Rows) (f h : Form) (us : List Term) → Fits h → IsPart o k r t l q f h us (length us) → length us ≡ length (children f.tree) → length h.names ≤ term_places (form.term_of f us)
-part_size o k r t l q f h us fits p n =
-    let s = node_fits (nodes_of l) p.good.stored.sane.sound.canonical h us fits (n ∙ sym p.count) p.ids in
-    omega (arith, s, ap args_places (p.outline us n))
+    part : IsPartOf w k c
+    part = step.inside (IsPartOf w k) part-child part-root
 
--- nor more places, binders and children than the term's size
-pub part_width : (o : Table) (k : Kept) (r : Rows) (t : Table) (l : Kept) (q : Rows) (f h : Form) (us : List Term) → Fits h → IsPart o k r t l q f h us (length us) → length us ≡ length (children f.tree) → node_size (nameless_node h) ≤ term_size (form.term_of f us)
-part_width o k r t l q f h us fits p n =
-    let s = node_size_fits (nodes_of l) p.good.stored.sane.sound.canonical h us fits (n ∙ sym p.count) p.ids in
-    omega (arith, s, ap args_size (p.outline us n))
+    count : length step.under ≡ length (children f.tree)
+    count = whole_count f.tree f.names step.under part.whole
 
--- where slots run out for the node, or for a child that is added after others
-module _ (k : Kept) (r : Rows) (l : Kept) (q : Rows) (f h : Form) (us : List Term) (i : ℕ) (w : Term) (view : form.term_of f us ≡ w) (o t : Table) (p : IsPart o k r t l q f h us i) where
-  grown-large : HasLargeClassIn (image_of l) → HasLargeClassOrTerm (image_of k) w
-  grown-large c = subst (HasLargeClassOrTerm (image_of k)) view (p.large c)
+    pub enough : length (children f.tree) ≤ length ids
+    enough = omega (arith, Both-length (IsIdFor l) ids p.done p.answers, ap length step.split, length-append step.below step.under, count)
 
-  pub node-large : node_size (nameless_node h) ≤ term_size (form.term_of f us) → HasLargeClassOrNode (image_of l) h → HasLargeClassOrTerm (image_of k) w
-  node-large s (inl c) = grown-large c
-  node-large s (inr wide) = subst (HasLargeClassOrTerm (image_of k)) view (inr (omega (arith, wide, s)))
+    module _ (h : Form) (rest : List Applied) (split : ids ≡ rest ++ child_ids h) (beside : IsBeside f h) (fits : Fits h) where
+      parts : Both (IsIdFor l) rest step.below × Both (IsIdFor l) (child_ids h) step.under
+      parts =
+          Both-split (IsIdFor l) rest (child_ids h) step.below step.under (length-ids h.tree h.names ∙ (beside.count ∙ sym count))
+          (subst (λ (x : List Applied × List Term). Both (IsIdFor l) x.0 x.1) (λ j. (split j, step.split j)) p.answers)
 
-  pub child-large : (c : Term) → term_size c < term_size w → HasLargeClassOrTerm (image_of l) c → HasLargeClassOrTerm (image_of k) w
-  child-large c smaller (inl o) = grown-large o
-  child-large c smaller (inr wide) = inr (omega (arith, wide, smaller))
+      pub next-full : All (IsFull (nodes_of l)) (child_ids h)
+      next-full = node-full l p.good f h step.under count beside fits parts.1
 
-  -- a term of which a child has no id has none
-  pub child-unknown : Good k → length us ≡ length (children f.tree) → (c : Term) → ((e : Term) → slice_index_or us i e ≡ c) → i < length us → term_places c ≤ term_places w → IsUnknownTerm (image_of l) c → IsUnknownTerm (image_of k) w
-  child-unknown good n c at lt places (inr large) = inr (omega (arith, large, places))
-  child-unknown good n c at lt places (inl none) = inl (none-where (id_of (nodes_of k) (nameless w)) (λ s.
-      let some : IsSome (id_of (nodes_of k) (nameless (form.term_of f us))) = subst (λ (x : Term). IsSome (id_of (nodes_of k) (nameless x))) (sym view) s in
-      let of_part : IsSome (id_of (nodes_of k) (nameless c)) =
-      subst (λ (x : Term). IsSome (id_of (nodes_of k) (nameless x))) (at c)
-      (each_at (λ (x : Term). IsSome (id_of (nodes_of k) (nameless x))) us i c lt (children_found (id_of_node (nodes_of k)) (id_of_node-moved (nodes_of k) good.stored.sane.sound.canonical) f us n some)) in
-      false≢true (sym (ap is_some none) ∙ subst (λ (x : Kept). IsSome (id_of (nodes_of x) (nameless c))) (sym (p.kept some).0) of_part)))
+      size : length h.names ≤ term_places c
+      size = node-size l p.good f h step.under count beside fits parts.1
 
--- nor has one whose node has no class
-pub node-unknown : (k : Kept) (r : Rows) (l : Kept) (q : Rows) (f h : Form) (us : List Term) (w : Term) → form.term_of f us ≡ w → (o t : Table) → Fits h → IsPart o k r t l q f h us (length us) → length us ≡ length (children f.tree) → IsUnknownNode (nodes_of l) h → IsUnknownTerm (image_of k) w
-node-unknown k r l q f h us w view o t fits p n (inr large) = inr (omega (arith, large, part_size o k r t l q f h us fits p n, ap term_places view))
-node-unknown k r l q f h us w view o t fits p n (inl none) = inl (none-where (id_of (nodes_of k) (nameless w)) (λ s.
-    let some : IsSome (id_of (nodes_of k) (nameless (form.term_of f us))) = subst (λ (x : Term). IsSome (id_of (nodes_of k) (nameless x))) (sym view) s in
-    let here : IsSome (id_of (nodes_of l) (nameless (form.term_of f us))) = subst (λ (x : Kept). IsSome (id_of (nodes_of x) (nameless (form.term_of f us)))) (sym (p.kept some).0) some in
-    let children = full_children (nodes_of l) h fits (part_full o k r t l q f h us p n) in
-    let filed = node_has_id (nodes_of l) p.good.stored.sane.sound.canonical (nameless_node h) children (nameless (form.term_of f us)) (part_layer o k r t l q f h us fits p n) here in
-    false≢true (sym (ap is_some none) ∙ filed)))
+      width : node_size (nameless_node h) ≤ term_size w
+      width = omega (arith, node-width l p.good f h step.under count beside fits parts.1, part.size)
 
--- and then the node's id is that of the term
-pub part_end : (k : Kept) (r : Rows) → Good k → (o t v : Table) (l : Kept) (q : Rows) (m : Kept) (s : Rows) (f h : Form) (us : List Term) (a : Applied) → Fits h → IsPart o k r t l q f h us (length us) → length us ≡ length (children f.tree) → Adds t v l q m s h a → AddsTerm o v k r m s (form.term_of f us) a
-part_end k r start o t v l before m after f h us a fits p n add = record {
-  good = add.good;
-  rests = add.rests;
-  fresh_slots = add.fresh_slots;
-  extends = Extends-then (nodes_of k) (nodes_of l) (nodes_of m) p.extends add.extends;
-  goes_on = on;
-  adds = adds-then (image_of k) (image_of l) (image_of m) p.extends p.adds add.adds (finds-on k r start m after on);
-  notes = notes-then k l m p.notes add.notes;
-  full = full;
-  term = stands;
-  filed = files-then (nodes_of k) (nodes_of l) (nodes_of m) (form.term_of f us) add.extends p.filed
-      (files-node (nodes_of l) (nodes_of m) (nameless_node h) (form.term_of f us) a add.found looked_up add.filed);
-  kept = λ s.
-      let same = p.kept s in
-      let here : IsSome (id_of (nodes_of l) (nameless (form.term_of f us))) = subst (λ (x : Kept). IsSome (id_of (nodes_of x) (nameless (form.term_of f us)))) (sym same.0) s in
-      let c = p.good.stored.sane.sound.canonical in
-      let children = full_children (nodes_of l) h fits (part_full o k r t l before f h us p n) in
-      let filed = node_has_id (nodes_of l) c (nameless_node h) children (nameless (form.term_of f us)) (part_layer o k r t l before f h us fits p n) here in
-      let stays = add.kept filed in
-      (stays.0 ∙ same.0, stays.1 ∙ same.1, stays.2 ∙ same.2);
-  large = λ c. elim (add.large c) [
-    | inl o ↦ p.large o
-    | inr wide ↦ inr (omega (arith, wide, part_width o k r t l before f h us fits p n))
-  ];
-}
-  where
-    on : GoesOn (state_in k r) (state_in m after)
-    on = goes_on-then (state_in k r) (state_in l before) (state_in m after) start.stored.sane.sound.linked p.goes_on add.goes_on
+      -- its slots, and those of the terms before
+      next-slots : slots_of p.done + length h.names ≤ slots_of (step.below ++ c ∷ [])
+      next-slots = omega (arith, ap slots_of step.split, weigh-append term_slots step.below step.under, weigh-append term_slots step.below (c ∷ []), slots_fit f step.under, size)
 
-    full : IsFull (nodes_of m) a
-    full = answer_full (nodes_of m) h a add.found
+      all-slots : slots_of p.done + length h.names ≤ term_slots w
+      all-slots = omega (arith, next-slots, few-slots left (step.below ++ c ∷ []) step.next)
 
-    stands : term_of (nodes_of m) a ≡ nameless (form.term_of f us)
-    stands =
-        answer_term (nodes_of m) h a add.found add.good.stored.sane.sound.canonical
-        ∙ (add.extends.layers (nameless_node h) (full_children (nodes_of l) h fits (part_full o k r t l before f h us p n)) ∙ part_layer o k r t l before f h us fits p n)
+      -- where slots were made for it, or ran out for it
+      pub next-makes : (x : Table) → MakesAtMost (length h.names) t x → MakesAtMost (term_slots w) o x
+      next-makes x makes = makes-then (slots_of p.done) (length h.names) (term_slots w) o t x p.makes makes all-slots
 
-    looked_up : id_of (nodes_of m) (nameless (form.term_of f us)) ≡ Some a
-    looked_up = (id_of-iff (nodes_of m) add.good.stored.sane.sound.canonical (nameless (form.term_of f us)) a).1 (full, stands)
+      runs-out : (x : Table) → RunsOutForNode h t x → RunsOutForTerm w o x
+      runs-out x (inl lacks) = inl (runs_out-then (slots_of p.done) (length h.names) (term_slots w) o t x p.makes lacks all-slots)
+      runs-out x (inr wide) = inr (omega (arith, wide, size, part.places))
+
+      pub next-lacks : (x : Table) → CanRunOutForNode (image_of l) h t x → CanRunOutForTerm (image_of k) w o x
+      next-lacks x (inl lacks) = inl (runs-out x lacks)
+      next-lacks x (inr (inl old)) = inr (p.large old)
+      next-lacks x (inr (inr wide)) = inr (inr (omega (arith, wide, width)))
+
+      -- where w had an id, so has the node
+      known-id : IsSome (id_of (nodes_of k) (nameless w)) → IsSome (id_of_node (nodes_of l) (nameless_node h))
+      known-id some =
+          node-id l p.good f h step.under count beside fits parts.1
+          (subst (λ (x : Kept). IsSome (id_of (nodes_of x) (nameless c))) (sym (p.kept some).0) (part.found some))
+
+      pub next-unknown : IsUnknownNode (nodes_of l) h → IsUnknownTerm (image_of k) w
+      next-unknown (inr wide) = inr (omega (arith, wide, size, part.places))
+      next-unknown (inl none) = inl (none-where (id_of (nodes_of k) (nameless w)) (λ some. false≢true (sym (ap is_some none) ∙ known-id some)))
+
+      -- the node is added
+      module _ (v : Table) (m : Kept) (s : Rows) (a : Applied) (add : Adds t v l q m s h a) (more : KnowsMore t v) (makes : MakesAtMost (length h.names) t v) where
+        on : GoesOn (state_in k r) (state_in m s)
+        on = goes_on-then (state_in k r) (state_in l q) (state_in m s) start.stored.sane.sound.linked p.goes_on add.goes_on
+
+        full : IsFull (nodes_of m) a
+        full = answer_full (nodes_of m) h a add.found
+
+        stands : term_of (nodes_of m) a ≡ nameless c
+        stands =
+            answer_term (nodes_of m) h a add.found add.good.stored.sane.sound.canonical
+            ∙ (add.extends.layers (nameless_node h) (full_children (nodes_of l) h fits next-full) ∙ node-layer l p.good f h step.under count beside fits parts.1)
+
+        looked_up : id_of (nodes_of m) (nameless c) ≡ Some a
+        looked_up = (id_of-iff (nodes_of m) add.good.stored.sane.sound.canonical (nameless c) a).1 (full, stands)
+
+        id-later : (b : Applied) (d : Term) → IsIdFor l b d → IsIdFor m b d
+        id-later b d is = (add.extends.full b is.0, add.extends.terms b is.0 ∙ is.1)
+
+        all-kept : IsSome (id_of (nodes_of k) (nameless w)) → (m ≡ k) × (s ≡ r) × (v ≡ o)
+        all-kept some =
+            let same = p.kept some in
+            let stays = add.kept (known-id some) in
+            (stays.0 ∙ same.0, stays.1 ∙ same.1, stays.2 ∙ same.2)
+
+        all-large : HasLargeClassIn (image_of m) → HasLargeClassOrTerm (image_of k) w
+        all-large large = elim (add.large large) [
+          | inl old ↦ p.large old
+          | inr wide ↦ inr (omega (arith, wide, width))
+        ]
+
+        pub next-added : IsAdded w o k r v m s left (rest ++ a ∷ [])
+        next-added = record {
+          done = step.below ++ c ∷ [];
+          folds = step.next;
+          good = add.good;
+          rests = add.rests;
+          fresh_slots = add.fresh_slots;
+          extends = Extends-then (nodes_of k) (nodes_of l) (nodes_of m) p.extends add.extends;
+          goes_on = on;
+          adds = adds-then (image_of k) (image_of l) (image_of m) p.extends p.adds add.adds (finds-on k r start m s on);
+          notes = notes-then k l m p.notes add.notes;
+          more = λ x y. more x (p.more x y);
+          makes = makes-then (slots_of p.done) (length h.names) (slots_of (step.below ++ c ∷ [])) o t v p.makes makes next-slots;
+          filed = files-then (nodes_of k) (nodes_of l) (nodes_of m) w add.extends p.filed
+              (files-more (nodes_of l) (nodes_of m) w c part.up (files-node (nodes_of l) (nodes_of m) (nameless_node h) c a add.found looked_up add.filed));
+          kept = all-kept;
+          large = all-large;
+          answers = Both-more (IsIdFor m) rest step.below a c (Both-map (IsIdFor l) (IsIdFor m) id-later rest step.below parts.0) (full, stands);
+        }
+
+  -- where no node is left, one id is there, that of the term
+  module _ (t : Table) (l : Kept) (q : Rows) (ids : List Applied) (p : IsAdded w o k r t l q [] ids) where
+    all-done : p.done ≡ w ∷ []
+    all-done = term_folds-end w p.done p.folds
+
+    pub one-id : length ids ≡ 1
+    one-id = Both-length (IsIdFor l) ids p.done p.answers ∙ ap length all-done
+
+    pub added-end : (a : Applied) → ids ≡ a ∷ [] → AddsTerm o t k r l q w a
+    added-end a is =
+        let answer : Both (IsIdFor l) (a ∷ []) (w ∷ []) = subst (λ (x : List Applied × List Term). Both (IsIdFor l) x.0 x.1) (λ j. (is j, all-done j)) p.answers in
+        record {
+          good = p.good;
+          rests = p.rests;
+          fresh_slots = p.fresh_slots;
+          extends = p.extends;
+          goes_on = p.goes_on;
+          adds = p.adds;
+          notes = p.notes;
+          full = answer.0.0;
+          term = answer.0.1;
+          filed = p.filed;
+          kept = p.kept;
+          large = p.large;
+        }

@@ -19,6 +19,7 @@ ghost use Rattle.slotted_core.specs.Places.{term_slots};
 use crate::names::{
     PLACES, keys_are_values, places_are_known, renew_values, values_are_keys, values_are_known,
 };
+use crate::stacks::over_last;
 use slotted_filing::Hashcons;
 use slotted_languages::Language;
 use slotted_rebuilding::newest::file_newest;
@@ -26,6 +27,7 @@ use slotted_slots::{AppliedId, Error, Id, SlotMap, SlotTable};
 use slotted_store::names::map_between;
 use slotted_store::{Row, Store};
 use slotted_terms::expr::RecExpr;
+use slotted_terms::flat::flatten;
 use std::alloc::Global;
 
 // Testing.
@@ -197,13 +199,17 @@ pub fn add_syn_expr<L: Language>(
     ensures unknown { IsErrOf result Error.OutOfSlots → IsUnknownTerm (image_of store.old) term.now }
     ensures err { IfErr result IsShortage }
 {
-    let mut node = term.node.copy(alloc)?;
-    for (k, child) in term.children.iter().enumerate() {
-        let answer = add_syn_expr(store, nodes, alloc, table, child)?;
-        node.set_applied_id(k, answer);
+    let mut left = flatten(alloc, term)?;
+    let mut answers = Vec::new(alloc);
+    while let Some(next) = left.pop() {
+        let node = over_last(next, &mut answers);
+        let answer = add_syn(store, nodes, alloc, table, &node)?;
+        answers.push(answer)?;
     }
-    let answer = add_syn(store, nodes, alloc, table, &node)?;
-    Ok(answer)
+    match answers.pop() {
+        Some(answer) => Ok(answer),
+        None => unreachable!(),
+    }
 }
 
 // The class of a row, with these names for the numbers of the row's shape.
