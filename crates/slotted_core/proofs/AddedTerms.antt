@@ -20,7 +20,6 @@ use Rattle.slotted_model.specs.Changes.{GoesOn}
 use Rattle.slotted_model.specs.Correspondence.{AllDifferent}
 use Rattle.slotted_model.specs.Growth.{Extends}
 use Rattle.slotted_model.specs.LookUp.{Renames, look_up}
-use Rattle.slotted_model.specs.State.{look_up_node}
 use Rattle.slotted_model.proofs.Children.{EachChild-map}
 use Rattle.slotted_model.proofs.GoingOn.{goes_on-then}
 use Rattle.slotted_model.proofs.Growing.{Extends-same, Extends-then}

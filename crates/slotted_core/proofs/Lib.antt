@@ -37,6 +37,7 @@ pub mod Tables
 pub mod Options
 pub mod TermAddition
 pub mod ValidTerms
+pub mod LeftTerms
 pub mod Sizes
 pub mod TermSlots
 pub mod GivenNodes

@@ -1,5 +1,5 @@
 -- Adding a term from below by look-up: each node over what the terms under it were looked up as.
-use Rattle.std.proofs.Common.{◌≡◌, ◌<◌, ◌≤◌, ◌+◌, ◌∙◌, ℕ, suc, List, [], ◌∷◌, ◌++◌, length, get_or, Option, None, Some, ap, refl, sym, subst, arith, inl, inr, length-append}
+use Rattle.std.proofs.Common.{◌≡◌, ◌<◌, ◌≤◌, ◌∙◌, ℕ, suc, List, [], ◌∷◌, ◌++◌, length, get_or, Option, None, Some, ap, refl, sym, subst, arith, inl, inr, length-append}
 use Rattle.std.specs.Prelude.{All, IsSome, IsTrue, is_some, option_and_then, slice_index_or}
 use Rattle.std.proofs.lemmas.Bool.{cases_lt}
 use Rattle.slotted_theory.specs.Nameless.{DTerm, nameless}

@@ -1,6 +1,6 @@
 -- Adding a term from below: each node over the ids of the terms under it.
 use Rattle.std.proofs.Common.{◌≡◌, ◌<◌, ◌≤◌, ℕ, suc, ◌+◌, List, [], ◌∷◌, ◌++◌, length, get_or, Some, sym, ◌∙◌, ap, refl, subst, arith, inl, inr, length-append}
-use Rattle.std.specs.Prelude.{slice_index_or, All, IsSome, is_some}
+use Rattle.std.specs.Prelude.{All, IsSome, is_some}
 use Rattle.std.proofs.lemmas.Bool.{false≢true}
 use Rattle.slotted_theory.specs.Term.{Args, Term, done, args_size, term_size}
 use Rattle.slotted_theory.specs.Nameless.{nameless, nameless_args}
@@ -13,7 +13,7 @@ use Rattle.slotted_terms.specs.Valid.{IsWhole}
 use Rattle.slotted_terms.proofs.TermFolds.{TermFolds, TermStep, term_folds-end, term_folds-step, weigh-append, weighs}
 use Rattle.slotted_model.specs.Applied.{Applied}
 use Rattle.slotted_model.specs.Changes.{GoesOn}
-use Rattle.slotted_model.specs.Classes.{terms, term_of, layer_of, IsFull, Canonical}
+use Rattle.slotted_model.specs.Classes.{terms, term_of, layer_of, IsFull}
 use Rattle.slotted_model.specs.Growth.{Extends}
 use Rattle.slotted_model.proofs.GoingOn.{goes_on-then}
 use Rattle.slotted_model.proofs.Growing.{Extends-same, Extends-then}
@@ -25,7 +25,7 @@ use Rattle.slotted_store.specs.Kept.{Kept, nodes_of}
 use Rattle.slotted_filing.specs.FiledRows.{Rows}
 use Rattle.slotted_congruence.specs.Named.{node_size}
 use Rattle.slotted_rebuilding.specs.Filed.{state_in}
-use Rattle.slotted_core.specs.Causes.{HasLargeClassIn, HasLargeClassOrNode, CanRunOutForNode, CanRunOutForTerm, HasLargeClassOrTerm, IsUnknownNode, IsUnknownTerm}
+use Rattle.slotted_core.specs.Causes.{HasLargeClassIn, CanRunOutForNode, CanRunOutForTerm, HasLargeClassOrTerm, IsUnknownNode, IsUnknownTerm}
 use Rattle.slotted_core.specs.Good.{image_of, Good, RestsWith, HasFreshSlots, Adds, AddsTerm, KeepsNotes}
 use Rattle.slotted_core.specs.Canonical.{IsBeside}
 use Rattle.slotted_core.specs.Graph.{MakesAtMost, RunsOutForNode, RunsOutForTerm}

@@ -1,7 +1,7 @@
 -- Terms at which no node of a language can have 2^30 places. The ids that stand inside a node count for its places, and a
 -- term does not show them: so this speaks of each node that could stand there.
-use Rattle.std.specs.Prelude.{◌≡◌, List}
-use Rattle.slotted_theory.specs.Term.{Args, Term, done, name, child, bind}
+use Rattle.std.specs.Prelude.{◌≡◌, ◌<◌, ◌+◌, ℕ, List, [], ◌∷◌}
+use Rattle.slotted_theory.specs.Term.{Args, Term, done, name, child, bind, term_size}
 use Rattle.slotted_slots.specs.Table.{Table}
 use Rattle.slotted_nodes.specs.Form.{Form, IsSmall}
 use Rattle.slotted_languages.specs.Filled.{term_of}
@@ -26,3 +26,12 @@ HasSmallNodes form u = IsSmallAt form u × HasSmallParts form u.args
 -- a valid term, at which no node is too large
 abbrev pub IsSmallValidTerm : {A : Type 0} → (A → Form) → Table → Term → Type 0
 IsSmallValidTerm form t u = IsValidTerm t u × HasSmallNodes form u
+
+-- a valid term, with an operator
+abbrev pub IsTermOver : Table → Term → Type 0
+IsTermOver t u = (0 < u.op) × IsValidTerm t u
+
+-- the sizes of terms, and one for each of them
+abbrev pub total_size : List Term → ℕ
+total_size [] = 0
+total_size (u ∷ us) = 1 + term_size u + total_size us

@@ -1,9 +1,10 @@
 //! Which terms a graph can take in.
-ghost use Rattle.std.specs.Prelude.{◌↔◌, ◌<◌, length, IsTrue};
+ghost use Rattle.std.specs.Prelude.{◌↔◌, ◌<◌, ◌≤◌, ◌+◌, length, map, IsTrue, All};
+ghost use Rattle.slotted_theory.specs.Term.{term_size};
 ghost use Rattle.slotted_nodes.specs.Form.{IsSmall};
 ghost use Rattle.slotted_terms.specs.Valid.{IsValidTerm};
-ghost use Rattle.slotted_core.specs.Nodes.{IsChildPlace, IsKnownPlace, HasKnownPlaces};
-ghost use Rattle.slotted_core.specs.SmallNodes.{HasSmallNodes};
+ghost use Rattle.slotted_core.specs.Nodes.{IsChildPlace, IsKnownPlace, IsValidOver, HasKnownPlaces};
+ghost use Rattle.slotted_core.specs.SmallNodes.{HasSmallNodes, IsSmallValidTerm, IsTermOver, total_size};
 
 use crate::names::PLACES;
 use slotted_languages::Language;
@@ -49,22 +50,78 @@ fn own_places_are_known<L: Language>(table: &SlotTable, node: &L) -> bool
     true
 }
 
+// Whether the node has so many children, fewer than 2^30 places, and known slots at its own places.
+fn is_node_over<L: Language>(table: &SlotTable, node: &L, count: usize) -> bool
+    ensures { IsTrue result ↔ IsValidOver table.now (L.form node.now) count }
+{
+    if node.applied_id_count() != count || node.slot_count() >= PLACES {
+        return false;
+    }
+    own_places_are_known(table, node)
+}
+
 /// Whether at each node of the term the number of children is right and the own slots are known. The child ids inside the
 /// nodes are not looked at. A node with 2^30 places or more cannot be read, and is not valid.
+#[cycle(valid)]
 pub fn is_valid_term<L: Language>(table: &SlotTable, term: &RecExpr<L>) -> bool
     ensures operator { 0 < term.now.op }
     ensures valid { IsTrue result → IsValidTerm table.now term.now }
     ensures exact { IsValidTerm table.now term.now → HasSmallNodes L.form term.now → IsTrue result }
 {
-    let node = &term.node;
-    if node.applied_id_count() != term.children.len() || node.slot_count() >= PLACES {
-        return false;
+    let mut left = Vec::new(*term.children.allocator());
+    let mut next = term;
+    loop {
+        if !is_node_over(table, &next.node, next.children.len()) {
+            return false;
+        }
+        if !push_or_ask_all(table, &next.children, &mut left) {
+            return false;
+        }
+        match left.pop() {
+            Some(other) => next = other,
+            None => return true,
+        }
     }
-    if !own_places_are_known(table, node) {
-        return false;
+}
+
+// Adds the term to those that are left. One that finds no memory is asked at once, and only so does the test call itself.
+#[cycle(valid)]
+fn push_or_ask<'a, L: Language>(
+    table: &SlotTable,
+    term: &'a RecExpr<L>,
+    left: &mut Vec<&'a RecExpr<L>>,
+) -> bool
+    ensures valid { IsTrue result → All (IsTermOver table.now) (map (λ t. t.now) left.new.items)
+        → All (IsTermOver table.now) (map (λ t. t.now) left.old.items) × IsTermOver table.now term.now }
+    ensures exact { All (IsSmallValidTerm L.form table.now) (map (λ t. t.now) left.old.items)
+        → IsSmallValidTerm L.form table.now term.now
+        → IsTrue result × All (IsSmallValidTerm L.form table.now) (map (λ t. t.now) left.new.items) }
+    ensures light { total_size (map (λ t. t.now) left.new.items)
+        ≤ total_size (map (λ t. t.now) left.old.items) + (1 + term_size term.now) }
+{
+    match left.push(term) {
+        Ok(()) => true,
+        Err(_) => is_valid_term(table, term),
     }
-    for child in &term.children {
-        if !is_valid_term(table, child) {
+}
+
+// The same with some terms in turn.
+#[cycle(valid)]
+fn push_or_ask_all<'a, L: Language>(
+    table: &SlotTable,
+    terms: &'a [RecExpr<L>],
+    left: &mut Vec<&'a RecExpr<L>>,
+) -> bool
+    ensures valid { IsTrue result → All (IsTermOver table.now) (map (λ t. t.now) left.new.items)
+        → All (IsTermOver table.now) (map (λ t. t.now) left.old.items) × All (IsTermOver table.now) terms.now }
+    ensures exact { All (IsSmallValidTerm L.form table.now) (map (λ t. t.now) left.old.items)
+        → All (IsSmallValidTerm L.form table.now) terms.now
+        → IsTrue result × All (IsSmallValidTerm L.form table.now) (map (λ t. t.now) left.new.items) }
+    ensures light { total_size (map (λ t. t.now) left.new.items)
+        ≤ total_size (map (λ t. t.now) left.old.items) + total_size terms.now }
+{
+    for term in terms {
+        if !push_or_ask(table, term, left) {
             return false;
         }
     }

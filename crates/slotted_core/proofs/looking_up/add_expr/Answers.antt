@@ -1,5 +1,5 @@
 -- Each node is added over what the terms under it were looked up as.
-use Rattle.std.proofs.Common.{◌≡◌, ◌++◌, ◌∷◌, [], length, map, sym, subst, ap, ◌∙◌, arith, rules}
+use Rattle.std.proofs.Common.{◌++◌, ◌∷◌, [], map, sym, subst, ap, ◌∙◌, arith, rules}
 use Rattle.std.proofs.lemmas.List.{length-map, map-append}
 use Rattle.slotted_patterns.proofs.PatternCopies.{mapped_last}
 use Rattle.slotted_patterns.proofs.PieceTexts.{nothing}

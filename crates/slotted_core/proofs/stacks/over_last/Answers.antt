@@ -1,6 +1,6 @@
 -- The last id that is left goes into the last place that is left.
 use Rattle.std.proofs.Common.{◌≡◌, ◌<◌, ◌-◌, ◌++◌, suc, drop, length, map, sym, subst, ap, ◌∙◌, arith, append-nil}
-use Rattle.std.proofs.lemmas.List.{drop_all, length-map}
+use Rattle.std.proofs.lemmas.List.{drop_all}
 use Rattle.slotted_nodes.specs.Form.{Form, children}
 use Rattle.slotted_patterns.proofs.PatternCopies.{mapped_last}
 use Rattle.slotted_patterns.proofs.PieceTexts.{length_last}
