@@ -48,7 +48,7 @@ abbrev pub ids_binders : List DTerm → List Applied → ℕ
 ids_binders nodes [] = 0
 ids_binders nodes (a ∷ ids) = term_binders nodes a.0 + ids_binders nodes ids
 
-ids_binders-append : (nodes : List DTerm) (ids more : List Applied) → ids_binders nodes (ids ++ more) ≡ ids_binders nodes ids + ids_binders nodes more
+pub ids_binders-append : (nodes : List DTerm) (ids more : List Applied) → ids_binders nodes (ids ++ more) ≡ ids_binders nodes ids + ids_binders nodes more
 ids_binders-append nodes [] more = omega arith
 ids_binders-append nodes (a ∷ ids) more = omega (arith, ids_binders-append nodes ids more)
 
@@ -84,7 +84,7 @@ node_within nodes can i lt f is =
 
 -- and the canonical term of an id, whose node is f
 module _ (nodes : List DTerm) (can : Canonical nodes) (a : Applied) (full : IsFull nodes a) (f : Form) (is : IsNodeOf nodes a f) where
-  parts_counted : term_binders nodes a.0 ≡ node_binders nodes a.0 + ids_binders nodes (child_ids f)
+  pub parts_counted : term_binders nodes a.0 ≡ node_binders nodes a.0 + ids_binders nodes (child_ids f)
   parts_counted =
       let given : binder_count (term_of nodes a) ≡ term_binders nodes a.0 = args_binders-moved (filled a.1) (canonical_term nodes a.0).args in
       let own : binder_count (nameless_node f) ≡ node_binders nodes a.0 = ap binder_count is ∙ args_binders-moved (filled a.1) (canonical_node nodes a.0).args in

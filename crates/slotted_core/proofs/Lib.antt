@@ -52,6 +52,9 @@ pub mod AddedByLookUp
 pub mod LookedUp
 pub mod AddedNodes
 pub mod AnswerLists
+pub mod Preorders
+pub mod TermNodes
+pub mod OpenedIds
 pub mod AddedTerms
 pub mod LookedUpTerms
 pub mod GraphTerms

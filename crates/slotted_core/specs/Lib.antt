@@ -1,5 +1,7 @@
 pub mod TermCode
 pub mod Nodes
+pub mod Preorder
+pub mod Opened
 pub mod Subterms
 pub mod Places
 pub mod Image

@@ -1,9 +1,10 @@
 //! Canonical nodes and terms, with the names of an id put in. Names that the id lacks are filled in first, by fresh slots.
-ghost use Rattle.std.specs.Prelude.{◌≡◌, ◌<◌, ◌*◌, IfOk, IfErr, IsErrOf, All};
+ghost use Rattle.std.specs.Prelude.{◌≡◌, ◌<◌, ◌*◌, map, IfOk, IfErr, IsErrOf, All};
 ghost use Rattle.slotted_theory.specs.Nameless.{nameless};
 ghost use Rattle.slotted_slots.specs.Error.{IsShortage};
 ghost use Rattle.slotted_slots.specs.Table.{KnowsMore};
 ghost use Rattle.slotted_nodes.specs.Form.{IsSmall};
+ghost use Rattle.slotted_terms.specs.Flat.{flat_of};
 ghost use Rattle.slotted_terms.specs.Valid.{AllKnown, IsValidTerm};
 ghost use Rattle.slotted_model.specs.Classes.{IsFull, term_of};
 ghost use Rattle.slotted_core.specs.Canonical.{IsNodeOf, IsBeside};
@@ -14,13 +15,16 @@ ghost use Rattle.slotted_core.specs.Nodes.{child_ids};
 ghost use Rattle.slotted_proofs.specs.Equations.{to_applied};
 ghost use Rattle.slotted_core.specs.Syn.{GivesNode, GivesTerm, KnowsSlotsAnd, LacksForFilledNode, LacksForFilledTerm};
 ghost use Rattle.slotted_core.specs.Syn.{LacksForFullNode, LacksForFullTerm, MakesForNode, MakesForTerm};
+ghost use Rattle.slotted_core.specs.Opened.{IsOfTermOf, OpensId};
 ghost use Rattle.slotted_core.specs.Syn.{FreshNodeRunsOut, HasUnknownBinders, node_binders, slots_for_node, slots_for_term};
 
+use crate::stacks::{assemble, push_children};
 use slotted_adding::filling::fill_id;
 use slotted_languages::Language;
 use slotted_slots::{AppliedId, Error, SlotTable};
 use slotted_store::Store;
 use slotted_terms::expr::RecExpr;
+use slotted_terms::flat::FlatNode;
 use std::alloc::Global;
 
 /// The canonical node of an id, which may lack names.
@@ -132,14 +136,61 @@ fn syn_expr<L: Language>(
     ensures full { IsErrOf result Error.OutOfSlots → LacksForFullTerm store.now a.now.id.0 a.now.m table.old table.new }
     ensures only { IfErr result IsShortage }
 {
-    let mut node = syn_node(store, alloc, table, a)?;
-    let mut children = Vec::new(alloc);
-    for k in 0..node.applied_id_count() {
-        let term = syn_expr(store, alloc, table, node.applied_id(k))?;
-        children.push(term)?;
+    let nodes = syn_nodes(store, alloc, table, a)?;
+    let term = assemble(alloc, nodes)?;
+    Ok(term)
+}
+
+// The nodes of the term that an id stands for, each before those of the terms under it, which follow from the left.
+fn syn_nodes<L: Language>(
+    store: &Store<L>,
+    alloc: Global,
+    table: &mut SlotTable,
+    a: &AppliedId,
+) -> Result<Vec<FlatNode<L>>, Error>
+    requires good { Good store.now }
+    requires full { IsFull (nodes_of store.now) (to_applied a.now) }
+    ensures nodes { IfOk result (λ v. IsOfTermOf table.old table.new store.now a.now (flat_of L.form v.items)) }
+    ensures takes { MakesForTerm store.now a.now.id.0 a.now.m table.old table.new }
+    ensures more { KnowsMore table.old table.new }
+    ensures kept { table.new.names ≡ table.old.names }
+    ensures full { IsErrOf result Error.OutOfSlots → LacksForFullTerm store.now a.now.id.0 a.now.m table.old table.new }
+    ensures only { IfErr result IsShortage }
+{
+    let mut nodes = Vec::new(alloc);
+    let mut left = Vec::new(alloc);
+    let first = a.copy(alloc)?;
+    left.push(first)?;
+    while let Some(next) = left.pop() {
+        let node = open_id(store, alloc, table, &next, &mut left)?;
+        nodes.push(node)?;
     }
+    Ok(nodes)
+}
+
+// The node that a class was made with, with the id's names put in. Its children are added to the ids that are left, the last one first.
+fn open_id<L: Language>(
+    store: &Store<L>,
+    alloc: Global,
+    table: &mut SlotTable,
+    a: &AppliedId,
+    left: &mut Vec<AppliedId>,
+) -> Result<FlatNode<L>, Error>
+    requires good { Good store.now }
+    requires full { IsFull (nodes_of store.now) (to_applied a.now) }
+    ensures node { IfOk result (λ n. OpensId table.old table.new store.now a.now (L.form n.node) n.count
+        (map to_applied left.old.items) (map to_applied left.new.items)) }
+    ensures takes { MakesForNode store.now a.now.id.0 a.now.m table.old table.new }
+    ensures more { KnowsMore table.old table.new }
+    ensures kept { table.new.names ≡ table.old.names }
+    ensures full { IsErrOf result Error.OutOfSlots → LacksForFullNode store.now a.now.id.0 a.now.m table.old table.new }
+    ensures only { IfErr result IsShortage }
+{
+    let mut node = syn_node(store, alloc, table, a)?;
+    let count = node.applied_id_count();
+    push_children(alloc, &node, left)?;
     forget_children(alloc, &mut node);
-    Ok(RecExpr { node, children })
+    Ok(FlatNode { node, count })
 }
 
 /// Puts the null id in the place of each child.
