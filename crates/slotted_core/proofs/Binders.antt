@@ -1,7 +1,7 @@
 -- Binders are counted alike in a node, in its nameless form and in its term: a canonical term has those of its node and those of
 -- its children's terms.
-use Rattle.std.proofs.Common.{◌≡◌, ◌<◌, ◌≤◌, ℕ, zero, suc, ◌+◌, List, [], ◌∷◌, ◌++◌, length, take, drop, sym, ◌∙◌, ap, refl, arith}
-use Rattle.std.specs.Prelude.{slice_index, slice_index_or, map, Option, None}
+use Rattle.std.proofs.Common.{◌≡◌, ◌<◌, ◌≤◌, ℕ, ◌+◌, List, [], ◌∷◌, ◌++◌, length, take, drop, sym, ◌∙◌, ap, refl, arith}
+use Rattle.std.specs.Prelude.{slice_index, map, Option, None}
 use Rattle.slotted_theory.specs.Nameless.{DArgs, DTerm, stop, place, sub, scope, extend, lift, moved_args, nameless_args}
 use Rattle.slotted_theory.specs.FiniteMaps.{filled}
 use Rattle.slotted_theory.proofs.Values.{expand_args}
@@ -52,16 +52,6 @@ pub ids_binders-append : (nodes : List DTerm) (ids more : List Applied) → ids_
 ids_binders-append nodes [] more = omega arith
 ids_binders-append nodes (a ∷ ids) more = omega (arith, ids_binders-append nodes ids more)
 
-ids_binders-next : (nodes : List DTerm) (ids : List Applied) (k : ℕ) (d : Applied) → k < length ids → ids_binders nodes (take (suc k) ids) ≡ ids_binders nodes (take k ids) + term_binders nodes (slice_index_or ids k d).0
-ids_binders-next nodes [] k d l = absurd (omega arith)
-ids_binders-next nodes (a ∷ ids) zero d l = omega arith
-ids_binders-next nodes (a ∷ ids) (suc k) d l = omega (arith, ids_binders-next nodes ids k d (omega (arith, l)))
-
-ids_binders-first : (nodes : List DTerm) (ids : List Applied) (k : ℕ) → ids_binders nodes (take k ids) ≤ ids_binders nodes ids
-ids_binders-first nodes ids zero = omega arith
-ids_binders-first nodes [] (suc k) = omega arith
-ids_binders-first nodes (a ∷ ids) (suc k) = omega (arith, ids_binders-first nodes ids k)
-
 -- a node over the terms of its children has its own binders and theirs
 expanded_binders : (nodes : List DTerm) (ρ : ℕ → ℕ) (t : Tree) (xs : List ℕ) → args_binders (expand_args (stands (terms nodes)) (nameless_args ρ (node_args t xs))) ≡ args_binders (nameless_args ρ (node_args t xs)) + ids_binders nodes (ids_in t xs)
 expanded_binders nodes ρ leaf xs = omega arith
@@ -90,18 +80,3 @@ module _ (nodes : List DTerm) (can : Canonical nodes) (a : Applied) (full : IsFu
       let own : binder_count (nameless_node f) ≡ node_binders nodes a.0 = ap binder_count is ∙ args_binders-moved (filled a.1) (canonical_node nodes a.0).args in
       let layered : binder_count (term_of nodes a) ≡ binder_count (layer_of nodes (nameless_node f)) = ap binder_count (term_of-layer nodes can a full) ∙ ap (λ (d : DTerm). binder_count (layer_of nodes d)) (sym is) in
       omega (arith, given, own, layered, layer_binders nodes f)
-
-  -- the node and its first children have no more binders than the term
-  pub children_within : (k : ℕ) → node_binders nodes a.0 + ids_binders nodes (take k (child_ids f)) ≤ term_binders nodes a.0
-  children_within k = omega (arith, parts_counted, ids_binders-first nodes (child_ids f) k)
-
--- one child more
-pub child_binders : (nodes : List DTerm) (ids : List Applied) (k : ℕ) (b : Applied) → k < length ids → b ≡ slice_index_or ids k (0, []) → ids_binders nodes (take (k + 1) ids) ≡ ids_binders nodes (take k ids) + term_binders nodes b.0
-child_binders nodes ids k b lt is =
-    let next : k + 1 ≡ suc k = omega arith in
-    ap (λ n. ids_binders nodes (take n ids)) next ∙ (ids_binders-next nodes ids k (0, []) lt ∙ ap (λ (x : Applied). ids_binders nodes (take k ids) + term_binders nodes x.0) (sym is))
-
--- its term is counted in that of the id
-pub child_counted : (nodes : List DTerm) → Canonical nodes → (a : Applied) → IsFull nodes a → (f : Form) → IsNodeOf nodes a f → (k : ℕ) (b : Applied) → k < length (child_ids f) → b ≡ slice_index_or (child_ids f) k (0, []) →
-    (node_binders nodes a.0 + ids_binders nodes (take k (child_ids f))) + term_binders nodes b.0 ≤ term_binders nodes a.0
-child_counted nodes canonical a full f is_node k b lt is = omega (arith, children_within nodes canonical a full f is_node (k + 1), child_binders nodes (child_ids f) k b lt is)

@@ -1,10 +1,7 @@
 -- Canonical nodes and terms with the names of an id put in.
-use Rattle.std.proofs.Common.{◌≡◌, ◌<◌, ℕ, suc, ◌+◌, List, [], ◌∷◌, ◌++◌, length, get_or, take, drop, sym, ◌∙◌, ap, refl, subst, arith, inl, inr, length-append}
+use Rattle.std.proofs.Common.{◌≡◌, ◌<◌, ℕ, suc, List, [], ◌∷◌, ◌++◌, length, get_or, take, drop, sym, ◌∙◌, ap, refl, subst, arith, inl, inr, length-append}
 use Rattle.std.specs.Prelude.{slice_index_or, slice_index, slice_set}
 use Rattle.std.specs.List.{zip}
-use Rattle.std.proofs.Math.Seq.{get_or-append_seam}
-use Rattle.std.proofs.lemmas.Bool.{cases_lt}
-use Rattle.std.proofs.lemmas.List.{get_or_append_left}
 use Rattle.slotted_theory.specs.Term.{Term, Args}
 use Rattle.slotted_theory.specs.Nameless.{DTerm, extend, nameless_args, nameless, moved}
 use Rattle.slotted_theory.specs.Renaming.{IsInjective}
@@ -121,20 +118,6 @@ places_in ρ (bind u r) xs n =
 
 pub places-counted : (f : Form) → Fits f → place_count (nameless_node f) ≡ length f.names
 places-counted f fits = places_in (λ x. x) f.tree f.names fits
-
--- the first n terms are those of the ids
-abbrev pub AreTermsOf : List DTerm → List Applied → List Term → ℕ → Type 0
-AreTermsOf nodes ids us n = (j : ℕ) (d : Applied) (e : Term) → j < n → nameless (slice_index_or us j e) ≡ term_of nodes (slice_index_or ids j d)
-
-pub terms-step : (nodes : List DTerm) (ids : List Applied) (us : List Term) (u : Term) (k : ℕ) (a : Applied) → length us ≡ k → AreTermsOf nodes ids us k → ((d : Applied) → a ≡ slice_index_or ids k d) → nameless u ≡ term_of nodes a → AreTermsOf nodes ids (us ++ u ∷ []) (k + 1)
-terms-step nodes ids us u k a n so_far is term j d e lt = elim (cases_lt j k) [
-  | inl l ↦ ap nameless (get_or_append_left us (u ∷ []) e j (omega (arith, l, n))) ∙ so_far j d e l
-  | inr g ↦
-      let last : j ≡ length us = omega (arith, g, lt, n) in
-      let here : slice_index_or (us ++ u ∷ []) j e ≡ u = ap (λ i. get_or (us ++ u ∷ []) i e) last ∙ get_or-append_seam us u [] e in
-      let at : slice_index_or ids k d ≡ slice_index_or ids j d = ap (λ i. slice_index_or ids i d) (sym (last ∙ n)) in
-      ap nameless here ∙ (term ∙ ap (term_of nodes) (is d ∙ at))
-]
 
 -- another child beside the same
 pub beside-itself : (f : Form) → IsBeside f f

@@ -1,11 +1,10 @@
 -- A canonical node with the names of an id put in is over full ids, as large as it was, and known where those names are.
 use Rattle.std.proofs.Common.{◌≡◌, ◌<◌, ◌≤◌, ◌+◌, ℕ, suc, List, [], ◌∷◌, ◌++◌, length, cond, not, slice_index_or, sym, ◌∙◌, ap, refl, subst, arith, inr}
 use Rattle.std.specs.Prelude.{All, IsTrue, Result, Ok, Err, IfOk, IfErr, IsErrOf}
-use Rattle.std.proofs.lemmas.List.Elements.{All-append, All-push}
+use Rattle.std.proofs.lemmas.List.Elements.{All-append}
 use Rattle.slotted_theory.specs.Nameless.{DArgs, DTerm, stop, place, sub, scope, lift, moved_args, moved}
 use Rattle.slotted_theory.specs.FiniteMaps.{filled}
 use Rattle.slotted_theory.specs.Term.{Term}
-use Rattle.slotted_slots.specs.Maps.{values}
 use Rattle.slotted_slots.specs.declared.error.Error.{Error}
 use Rattle.slotted_slots.specs.declared.error.Error.TheVariants.{OutOfSlots}
 use Rattle.slotted_slots.specs.Error.{IsOutOfMemory}
@@ -21,15 +20,10 @@ use Rattle.slotted_model.specs.Applied.{Applied}
 use Rattle.slotted_model.specs.Classes.{canonical_node, IsFull, Canonical}
 use Rattle.slotted_terms.specs.Valid.{AllKnown, IsValidTerm}
 use Rattle.slotted_core.specs.Canonical.{args_count, place_count, IsBeside}
-use Rattle.slotted_store.specs.Kept.{Kept}
-use Rattle.slotted_core.specs.Good.{HasFreshSlots}
 use Rattle.slotted_core.specs.Graph.{RunsOut}
 use Rattle.slotted_core.specs.Nodes.{child_ids}
-use Rattle.slotted_core.specs.Syn.{KnowsSlotsAnd}
-use Rattle.slotted_core.proofs.CallerLemmas.{term_later}
 use Rattle.slotted_core.proofs.CanonicalTerms.{children-below, places-counted}
 use Rattle.slotted_store.proofs.ChildIds.{length-ids}
-use Rattle.slotted_core.proofs.FreshSlots.{fresh_slots-more}
 use Rattle.slotted_core.proofs.KnownNames.{In-take, In-drop}
 use Rattle.slotted_store.proofs.NameMaps.{In-at, at_In}
 use Rattle.slotted_core.proofs.ValidTerms.{valid_term}
@@ -78,15 +72,6 @@ pub child_names-known : (P : ℕ → Type 0) (f : Form) (k : ℕ) → All P f.na
 child_names-known P f k all i d l =
     let x = slice_index_or (child_names f k) i d in
     at_In P f.names all x (In-drop (child_place f.tree k) f.names x (In-take (width f.tree k) _ x (In-at (child_names f k) i d l)))
-
--- a table that knows the names of a node knows those of a child
-pub child-given : (t u : Table) (k : Kept) (f : Form) (i : ℕ) (m : List (ℕ × ℕ)) → KnowsMore t u → HasFreshSlots t k → AllKnown u f.names → values m ≡ child_names f i → KnowsSlotsAnd u k m
-child-given t u k f i m more over known is =
-    (fresh_slots-more t u k more over, subst (AllKnown u) (sym is) (child_names-known (λ s. IsTrue (is_known u s)) f i known))
-
--- valid terms, and one more
-pub valid-push : (t u : Table) → KnowsMore t u → (us : List Term) (x : Term) → All (IsValidTerm t) us → IsValidTerm u x → All (IsValidTerm u) (us ++ x ∷ [])
-valid-push t u more us x all v = All-push (IsValidTerm u) us x (λ k d l. term_later t u more (slice_index_or us k d) (all k d l)) v
 
 -- over valid terms a node with known names is a valid term, whatever its children were before
 pub valid-beside : (t : Table) (f h : Form) (us : List Term) → Fits f → IsBeside f h → length us ≡ length (children f.tree) → AllKnown t f.names → All (λ (u : Term). 0 < u.op) us → All (IsValidTerm t) us → IsValidTerm t (term_of h us)
