@@ -1,11 +1,11 @@
-//! What a line is answered with.
+//! Answers to lines.
 ghost use Rattle.std.specs.Prelude.{Some};
 ghost use Rattle.slotted_commands.specs.Answers.{text_of};
 
 use slotted_slots::Error;
 use std::fmt;
 
-/// What one line is answered with.
+/// The answer to one line.
 #[derive(Drop)]
 pub enum Answer {
     /// The term was added.
@@ -18,11 +18,11 @@ pub enum Answer {
     United,
     /// The two terms to unite were equal already.
     WereEqual,
-    /// The two terms are equal, and this is the proof by lines, whose last line feed is left out.
+    /// The two terms are equal. The text is the proof by lines, without the last line feed.
     Explained(String),
-    /// A term of least cost, by its cost and its text.
+    /// A term of least cost: its cost and its text.
     Extracted(u64, String),
-    /// So many symmetries were met, and so many of them are open.
+    /// How many symmetries were met, and how many of them are open.
     Symmetries(usize, usize),
     /// The command was refused.
     Refused(Error),

@@ -1,4 +1,4 @@
-//! What a line asks.
+//! Commands, as lines write them.
 ghost use Rattle.std.specs.Prelude.{◌≡◌};
 ghost use Rattle.slotted_commands.specs.Commands.{command_of, asked_of_text, asked_of_pair};
 ghost use Rattle.slotted_commands.specs.Asked.{asked};
@@ -6,24 +6,24 @@ ghost use Rattle.slotted_commands.specs.Asked.{asked};
 /// What one line asks, with the texts that it names.
 #[derive(Drop)]
 pub enum Command<'a> {
-    /// To add a text.
+    /// Adds a text.
     Add(&'a str),
-    /// To compare two texts.
+    /// Compares two texts.
     Eq(&'a str, &'a str),
-    /// To unite two texts.
+    /// Unites two texts.
     Union(&'a str, &'a str),
-    /// To explain why two texts are equal.
+    /// Explains why two texts are equal.
     Explain(&'a str, &'a str),
-    /// To extract a term of least cost that is equal to a text.
+    /// Extracts a term of least cost that is equal to a text.
     Extract(&'a str),
-    /// To count the symmetries that were met, and the open ones.
+    /// Counts the symmetries that were met, and the open ones.
     Symmetries,
-    /// Nothing that is known.
+    /// Asks nothing that is known.
     Unknown,
 }
 
 impl<'a> Command<'a> {
-    /// What a line asks, which holds no line feed.
+    /// Returns what a line without a line feed asks.
     pub fn read(line: &'a str) -> Command<'a>
         ensures { asked result ≡ command_of line.now }
     {
@@ -33,7 +33,7 @@ impl<'a> Command<'a> {
         Command::read_text(line)
     }
 
-    // What a line asks of one text, or else of two.
+    // Returns what a line asks of one text, or else of two.
     fn read_text(line: &'a str) -> Command<'a>
         ensures { asked result ≡ asked_of_text line.now }
     {
@@ -46,7 +46,7 @@ impl<'a> Command<'a> {
         }
     }
 
-    // What a line asks of two texts.
+    // Returns what a line asks of two texts.
     fn read_pair(line: &'a str) -> Command<'a>
         ensures { asked result ≡ asked_of_pair line.now }
     {

@@ -1,4 +1,4 @@
-//! What an explanation of two terms answers.
+//! Answers to `explain`.
 ghost use Rattle.std.specs.Prelude.{◌<◌, length, IsTrue, IfOk, IfErr};
 ghost use Rattle.slotted_terms.specs.Valid.{IsValidTerm};
 ghost use Rattle.slotted_commands.specs.Explained.{ExplanationAnswers, Prints, PrintingRunsOut};
@@ -12,7 +12,7 @@ use slotted_terms::expr::RecExpr;
 use slotted_terms::expr::printing::Printable;
 use std::alloc::Global;
 
-// Explains why two terms are equal, which adds them.
+// Explains why two terms are equal, which adds both.
 pub(crate) fn explain_terms<L: Printable>(
     alloc: Global,
     graph: &mut EGraph<L>,
@@ -29,7 +29,7 @@ pub(crate) fn explain_terms<L: Printable>(
     Ok(Answer::Explained(text))
 }
 
-// The proof of an entry by lines, without the last line feed: each answer gets one where it is written.
+// Returns the proof of an entry by lines, without the last line feed: whoever writes an answer ends its line.
 fn proof_text<L: Printable>(
     alloc: Global,
     graph: &mut EGraph<L>,

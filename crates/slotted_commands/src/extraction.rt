@@ -1,4 +1,4 @@
-//! What an extraction of a term answers.
+//! Answers to `extract`.
 ghost use Rattle.std.specs.Prelude.{IsTrue, IfOk, IfErr, IsErrOf};
 ghost use Rattle.slotted_slots.specs.Error.{IsShortage};
 ghost use Rattle.slotted_explain.specs.Graph.{OnlyTakesSlots};
@@ -15,7 +15,7 @@ use slotted_terms::expr::RecExpr;
 use slotted_terms::expr::printing::Printable;
 use std::alloc::Global;
 
-// Extracts a term of the fewest nodes that an id represents, which is what it finds itself.
+// Extracts a term of the fewest e-nodes that a canonical id represents.
 pub(crate) fn extract_term<L: Printable>(
     alloc: Global,
     graph: &mut EGraph<L>,
@@ -30,7 +30,7 @@ pub(crate) fn extract_term<L: Printable>(
     Ok(Answer::Extracted(cost, text))
 }
 
-// The term, behind its cost.
+// Returns a smallest term of an id, behind its cost.
 fn smallest_term<L: Printable>(
     alloc: Global,
     graph: &mut EGraph<L>,

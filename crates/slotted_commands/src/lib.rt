@@ -1,4 +1,4 @@
-//! The commands of the program that ask a graph, over any language: a line is answered over it.
+//! The commands that ask a graph, over any language: what a line asks, and its answer.
 #![tactic(auto)]
 
 mod answer;

@@ -1,4 +1,4 @@
-//! What a line does to the graph.
+//! How the commands are done.
 ghost use Rattle.std.specs.Prelude.{◌≡◌, [], ◌∷◌, IfOk, IfErr};
 ghost use Rattle.slotted_commands.specs.Commands.{adds, compares, unites, explains, extracts, counts, command_of};
 ghost use Rattle.slotted_commands.specs.Sessions.{Answered, ReadsBoth, LooksUp, LooksUpBoth, AddsBoth, answer_of};
@@ -14,7 +14,7 @@ use slotted_terms::expr::RecExpr;
 use slotted_terms::expr::printing::Printable;
 use std::alloc::Global;
 
-/// The answer to one line, which holds no line feed, over a graph.
+/// Answers one line, without a line feed, over a graph.
 pub fn answer<L: Printable>(alloc: Global, graph: &mut EGraph<L>, line: &str) -> Answer
     ensures { Answered L.read L.written graph.old graph.new (command_of line.now) result }
 {
@@ -29,7 +29,7 @@ pub fn answer<L: Printable>(alloc: Global, graph: &mut EGraph<L>, line: &str) ->
     }
 }
 
-// The answer, where a refusal is one too.
+// Returns the answer, or the refusal as an answer.
 fn to_answer(outcome: Result<Answer, Error>) -> Answer
     ensures { result ≡ answer_of outcome }
 {
@@ -47,7 +47,7 @@ fn add<L: Printable>(graph: &mut EGraph<L>, text: &str) -> Result<Answer, Error>
     Ok(Answer::Done)
 }
 
-// Adds the term of a text, by look-up.
+// Adds the term of a text by look-up, and returns its id.
 fn look_up<L: Printable>(graph: &mut EGraph<L>, text: &str) -> Result<AppliedId, Error>
     ensures ok { IfOk result (LooksUp L.read graph.old graph.new text.now) }
     ensures err { IfErr result (IsAnsweredIn by_look_up L.read L.written graph.old graph.new (text.now ∷ [])) }
@@ -57,7 +57,7 @@ fn look_up<L: Printable>(graph: &mut EGraph<L>, text: &str) -> Result<AppliedId,
     Ok(id)
 }
 
-// The terms of two texts.
+// Returns the terms of two texts.
 fn read_both<L: Printable>(
     graph: &mut EGraph<L>,
     left: &str,
@@ -71,7 +71,7 @@ fn read_both<L: Printable>(
     Ok((left, right))
 }
 
-// Adds the terms of two texts, by look-up.
+// Adds the terms of two texts by look-up, and returns their ids.
 fn look_up_both<L: Printable>(
     graph: &mut EGraph<L>,
     left: &str,
@@ -87,7 +87,7 @@ fn look_up_both<L: Printable>(
     Ok((left, right))
 }
 
-// Adds the terms of two texts, by canonical nodes.
+// Adds the terms of two texts by syntactic e-nodes, and returns their ids.
 fn add_both<L: Printable>(
     graph: &mut EGraph<L>,
     left: &str,
@@ -103,7 +103,7 @@ fn add_both<L: Printable>(
     Ok((left, right))
 }
 
-// Looks up the terms of two texts, adding what is not there, and compares them.
+// Adds the terms of two texts by look-up, and compares them.
 fn compare<L: Printable>(graph: &mut EGraph<L>, left: &str, right: &str) -> Result<Answer, Error>
     ensures { Answered L.read L.written graph.old graph.new (compares left.now right.now) (answer_of result) }
 {
@@ -140,7 +140,7 @@ fn explain<L: Printable>(
     explain_terms(alloc, graph, &one, &two)
 }
 
-// Extracts a term of least cost that is equal to that of a text.
+// Extracts a term of least cost that is equal to the term of a text.
 fn extract<L: Printable>(alloc: Global, graph: &mut EGraph<L>, text: &str) -> Result<Answer, Error>
     ensures { Answered L.read L.written graph.old graph.new (extracts text.now) (answer_of result) }
 {
@@ -148,7 +148,7 @@ fn extract<L: Printable>(alloc: Global, graph: &mut EGraph<L>, text: &str) -> Re
     extract_term(alloc, graph, &id)
 }
 
-// How many symmetries were met, and how many of them are open.
+// Returns how many symmetries were met, and how many of them are open.
 fn count_symmetries<L: Printable>(graph: &EGraph<L>) -> Result<Answer, Error>
     ensures { Answered L.read L.written graph.now graph.now counts (answer_of result) }
 {

@@ -1,4 +1,4 @@
-// How many nodes a term has.
+//! The size of terms as a cost.
 ghost use Rattle.std.specs.Prelude.{◌≡◌, ◌+◌, ℕ, suc, sum, min, IsOk, IfOk, IfErr};
 ghost use Rattle.slotted_slots.specs.Error.{IsOutOfMemory};
 ghost use Rattle.slotted_costs.specs.Costs.{bare_node};
@@ -10,7 +10,7 @@ use slotted_languages::language::Language;
 use slotted_slots::Error;
 use std::alloc::Global;
 
-/// The number of nodes, or the largest number where there are more: a node costs 1 and the costs of its children.
+/// The cost function that counts e-nodes, up to the largest number: an e-node costs 1 and the costs of its children.
 #[derive(Drop, Default)]
 pub struct AstSize;
 
@@ -41,7 +41,7 @@ impl<L: Language> CostFunction<L> for AstSize {
     }
 }
 
-// One more than the sum, or the largest number.
+// Returns one more than the sum, or the largest number if the sum is too large.
 fn size_over(child: &[u64]) -> u64
     ensures { result ≡ min (suc (sum child.now)) largest }
 {

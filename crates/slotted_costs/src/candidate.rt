@@ -1,9 +1,10 @@
-// Rows that wait for their turn.
+//! Filed e-nodes that wait for their turn.
 use std::cmp::Reverse;
 
-// The filed node of a source with its cost, and whether each of its children costs less. The greatest candidate has its turn
-// first: here alone it is said which of two that is, by the fields as they stand. It is the cheaper one; of two that cost the
-// same one over cheaper children; and of two such ones that with the lesser key.
+// A filed e-node with its cost, its source, and whether each of its children costs less.
+//
+// The order of the fields decides which of two candidates has its turn first, namely the greater one: the cheaper one,
+// else the one over cheaper children, else the one with the lesser shape.
 #[derive(Drop, PartialEq, Eq, PartialOrd, Ord)]
 pub struct Candidate<'a, L, C> {
     pub cost: Reverse<C>,

@@ -1,8 +1,8 @@
-// The entries of a table of costs.
+//! The entries of a table of costs.
 use slotted_slots::SlotMap;
 
-/// A class with its cost, and a filed node that has it: a key, the class that the node was filed of, and the slot of that
-/// class for each number of the key.
+/// A class with its cost and a filed e-node of that cost: the e-node's shape, its source, and the slot of the source
+/// for each number of the shape.
 #[derive(Drop)]
 pub struct CostEntry<L, C> {
     pub class: usize,

@@ -1,8 +1,8 @@
-//! Costs of nodes and of terms, and tables of least costs: for each class the filed node that costs least.
+//! Costs of e-nodes and terms, and tables of least costs, which have a filed e-node of least cost for each class.
 //!
-//! A cost function says what a node costs over the costs of its children; what it has to keep is told by [`CostFunction`].
-//! [`AstSize`] is one: it counts nodes. Others that add a weight of the node to the costs of its children are made with
-//! [`weighed_sum`].
+//! A cost function gives the cost of an e-node over the costs of its children; [`CostFunction`] states its laws.
+//! [`AstSize`] counts e-nodes. [`weighed_sum`] helps to write cost functions that add a weight of the e-node to the
+//! costs of its children.
 #![tactic(auto)]
 
 pub mod ast_size;

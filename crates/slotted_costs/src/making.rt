@@ -1,4 +1,4 @@
-//! The making of a table: the cheapest row that can enter does, until none can.
+//! How a table is made: the cheapest filed e-node whose children have costs enters, until none is left.
 ghost use Rattle.std.specs.Prelude.{◌≡◌, ◌<◌, ◌≤◌, ℕ, All, length, true, false, slice_index_or, None, IfOk, IfErr, OnOk};
 ghost use Rattle.slotted_slots.specs.Error.{IsOutOfMemory};
 ghost use Rattle.slotted_model.specs.Extraction.{Fits, HasTiesBroken};
@@ -28,7 +28,7 @@ use std::alloc::Global;
 use std::cmp::Reverse;
 use std::collections::BinaryHeap;
 
-// The table so far, the rows that wait for their turn, and for each row how many of its children have no cost.
+// The table so far, the filed e-nodes that wait for their turn, and for each source how many children have no cost yet.
 #[derive(Drop)]
 pub(crate) struct Making<'a, L: Ord, C: Ord> {
     pub table: CostTable<L, C>,
@@ -36,7 +36,7 @@ pub(crate) struct Making<'a, L: Ord, C: Ord> {
     pub lacking: Vec<usize>,
 }
 
-// No class has a cost, and the rows without children wait.
+// Begins a table: no class has a cost, and the filed e-nodes without children wait for their turn.
 fn start<'a, L: Language, F: CostFunction<L>>(
     store: &Store<L>,
     nodes: &'a Hashcons<L>,
@@ -62,7 +62,8 @@ fn start<'a, L: Language, F: CostFunction<L>>(
     })
 }
 
-// A child of a row has a cost from now on: the row waits for its turn if no child lacks one.
+// Notes that one more child of a filed e-node has a cost. The e-node waits for its turn once all of its children have
+// one.
 fn tell<'a, L: Language, F: CostFunction<L>>(
     making: &mut Making<'a, L, F::Cost>,
     nodes: &'a Hashcons<L>,
@@ -90,7 +91,7 @@ fn tell<'a, L: Language, F: CostFunction<L>>(
     Ok(())
 }
 
-// The same of each of these rows.
+// Notes this for each of the sources.
 fn tell_all<'a, L: Language, F: CostFunction<L>>(
     making: &mut Making<'a, L, F::Cost>,
     nodes: &'a Hashcons<L>,
@@ -109,7 +110,7 @@ fn tell_all<'a, L: Language, F: CostFunction<L>>(
     Ok(())
 }
 
-// The entry of a class by the row that has its turn.
+// Returns the entry of a class by the candidate that has its turn.
 fn entry_for<L: Language, C: Ord + Drop>(
     nodes: &Hashcons<L>,
     alloc: Global,
@@ -136,7 +137,8 @@ fn entry_for<L: Language, C: Ord + Drop>(
     })
 }
 
-// A class without a cost gets that of the row whose turn it is, and the rows over it are told.
+// Enters the cost of a class that has none, by the candidate that has its turn, and notes this for the e-nodes over the
+// class.
 fn take_turn<'a, L: Language, F: CostFunction<L>>(
     making: &mut Making<'a, L, F::Cost>,
     store: &Store<L>,
@@ -161,7 +163,7 @@ fn take_turn<'a, L: Language, F: CostFunction<L>>(
     tell_all(making, nodes, alloc, costs, users.of(class))
 }
 
-// The row whose turn it is enters, or is passed over where its class has a cost. Answers whether there was one.
+// Takes the next candidate. The candidate enters if its class has no cost yet. Returns whether there was a candidate.
 fn step<'a, L: Language, F: CostFunction<L>>(
     making: &mut Making<'a, L, F::Cost>,
     store: &Store<L>,
@@ -190,10 +192,11 @@ fn step<'a, L: Language, F: CostFunction<L>>(
     Ok(true)
 }
 
-/// The table of least costs of a graph: an entry for each class that has a term. At rest that is each live one.
+/// Returns the table of least costs of a graph: an entry for each class that has a term. In a rebuilt graph each live
+/// class has one.
 ///
-/// Each row waits once, from when the last of its children got its cost on. So with n rows it takes the time of n turns of
-/// a heap, beside that of the finds and of the calls of the cost function.
+/// Each filed e-node waits once, from the time when all of its children have costs. So n filed e-nodes take n turns of
+/// a heap, beside the finds and the calls of the cost function.
 pub fn make_table<L: Language, F: CostFunction<L>>(
     store: &Store<L>,
     nodes: &Hashcons<L>,

@@ -1,4 +1,4 @@
-// What rows cost by the costs of their children.
+//! What filed e-nodes cost by the costs of their children.
 ghost use Rattle.std.specs.Prelude.{◌≡◌, ◌↔◌, All, None, true, map, option_map, IsTrue, IfOk, IfErr, IfSome, IfNone, OnOk};
 ghost use Rattle.std.specs.Ordering.{is_lt};
 ghost use Rattle.std.specs.BinaryHeap.{heap_items, KeepsHeap};
@@ -19,7 +19,7 @@ use std::alloc::Global;
 use std::cmp::Reverse;
 use std::collections::BinaryHeap;
 
-// The costs of the children of a node, if all of them have one.
+// Returns the costs of the children of an e-node, if all of them have one.
 fn child_costs<L: Language, F: CostFunction<L>>(
     table: &CostTable<L, F::Cost>,
     costs: &F,
@@ -40,14 +40,14 @@ fn child_costs<L: Language, F: CostFunction<L>>(
     Ok(Some(each))
 }
 
-// Whether each of these costs is less than this one.
+// Returns whether each of these costs is less than the other cost.
 fn are_less<C: Ord>(each: &[C], cost: &C) -> bool
     ensures { IsTrue result ↔ All (λ x. is_lt (C.cmp x cost.now) ≡ true) each.now }
 {
     each.iter().all(|x| x < cost)
 }
 
-// The filed node of a source as a candidate, if there is one all of whose children have a cost.
+// Returns the filed e-node of a source as a candidate, if all of its children have costs.
 fn candidate<'a, L: Language, F: CostFunction<L>>(
     nodes: &'a Hashcons<L>,
     table: &CostTable<L, F::Cost>,
@@ -77,7 +77,7 @@ fn candidate<'a, L: Language, F: CostFunction<L>>(
     }))
 }
 
-// The filed node of a source waits for its turn, if all of its children have a cost.
+// Lets the filed e-node of a source wait for its turn, if all of its children have costs.
 pub fn push_row<'a, L: Language, F: CostFunction<L>>(
     nodes: &'a Hashcons<L>,
     table: &CostTable<L, F::Cost>,

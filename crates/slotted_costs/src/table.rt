@@ -1,4 +1,4 @@
-// Tables of costs.
+//! Tables of costs.
 ghost use Rattle.std.specs.Prelude.{◌≡◌, ◌<◌, ◌++◌, ◌∷◌, [], length, None, option_map, IfOk, IfErr, OnOk};
 ghost use Rattle.slotted_slots.specs.Error.{IsOutOfMemory};
 ghost use Rattle.slotted_model.specs.Extraction.{cost_in};
@@ -9,7 +9,8 @@ use slotted_languages::Language;
 use slotted_slots::Error;
 use std::alloc::Global;
 
-/// The entries in the order in which they entered, at most one for a class: each row is over classes of earlier ones.
+/// The entries in the order in which they entered, at most one for each class. The children of each e-node belong to
+/// classes of earlier entries.
 #[derive(Drop)]
 pub struct CostTable<L, C> {
     pub entries: Vec<CostEntry<L, C>>,
@@ -18,7 +19,7 @@ pub struct CostTable<L, C> {
 }
 
 impl<L: Language, C: Drop> CostTable<L, C> {
-    // The empty table, for this many classes.
+    // Returns an empty table for this many classes.
     pub(crate) fn new(alloc: Global, classes: usize) -> Result<Self, Error>
         ensures empty { IfOk result (λ t. t.entries.items ≡ []) }
         ensures room { IfOk result (λ t. length t.places.items ≡ classes) }
@@ -29,7 +30,7 @@ impl<L: Language, C: Drop> CostTable<L, C> {
         Ok(CostTable { entries, places })
     }
 
-    /// The entry of a class, if there is one. It takes no memory.
+    /// Returns the entry of a class, if there is one. Takes no memory.
     pub fn get(&self, class: usize) -> Option<&CostEntry<L, C>>
         ensures entry { option_map (λ e. entry_of L.form e.now) result
             ≡ entry_in (table_of L.form self.now.entries.items) class }
@@ -50,7 +51,7 @@ impl<L: Language, C: Drop> CostTable<L, C> {
         }
     }
 
-    // One entry more, of a class that had none.
+    // Adds an entry, of a class that has none.
     pub(crate) fn enter(&mut self, entry: CostEntry<L, C>) -> Result<(), Error>
         requires within { entry.class < length self.old.places.items }
         requires new_class { entry_in (table_of L.form self.old.entries.items) entry.class ≡ None }
@@ -63,7 +64,7 @@ impl<L: Language, C: Drop> CostTable<L, C> {
         Ok(())
     }
 
-    /// The entries, taken out.
+    /// Returns the entries, and gives up the table.
     pub fn into_entries(self) -> Vec<CostEntry<L, C>>
         ensures { result.items ≡ self.entries.items }
     {

@@ -1,4 +1,4 @@
-// Which rows stand over a class, and how many children a row has.
+//! Which filed e-nodes stand over a class, and how many children they have.
 ghost use Rattle.std.specs.Prelude.{◌≡◌, ◌∷◌, ℕ, List, [], length, map, IfOk, IfErr, OnOk, slice_index_or};
 ghost use Rattle.slotted_slots.specs.Error.{IsOutOfMemory};
 ghost use Rattle.slotted_filing.specs.Filed.{filed_of};
@@ -10,7 +10,7 @@ use slotted_languages::Language;
 use slotted_slots::{Error, Id};
 use std::alloc::Global;
 
-// This many classes, which no row is over.
+// Returns usages for this many classes, without any user.
 fn no_users(alloc: Global, classes: usize) -> Result<Usages, Error>
     ensures lists { IfOk result (λ u. length u ≡ classes) }
     ensures none { IfOk result (λ u. (c : ℕ) → slice_index_or u c [] ≡ []) }
@@ -23,7 +23,7 @@ fn no_users(alloc: Global, classes: usize) -> Result<Usages, Error>
     Ok(users)
 }
 
-// A source stands over a class, if there is such a class.
+// Adds a source to the users of a class, if the class exists.
 fn add_known(users: &mut Usages, classes: usize, class: usize, source: usize) -> Result<(), Error>
     requires { classes ≡ length users.old }
     ensures ok { OnOk result (UsesMore (class ∷ []) source users.old users.new) }
@@ -35,7 +35,7 @@ fn add_known(users: &mut Usages, classes: usize, class: usize, source: usize) ->
     users.add(class, source)
 }
 
-// A source stands over each of these classes.
+// Adds a source to the users of each of these classes.
 fn add_to_each(users: &mut Usages, classes: usize, ids: &[Id], source: usize) -> Result<(), Error>
     requires { classes ≡ length users.old }
     ensures ok { OnOk result (UsesMore (map (λ i. i.0) ids.now) source users.old users.new) }
@@ -47,7 +47,7 @@ fn add_to_each(users: &mut Usages, classes: usize, ids: &[Id], source: usize) ->
     Ok(())
 }
 
-// The filed node of a source stands over the class of each child.
+// Adds a source to the users of the classes of its filed e-node's children.
 fn add_row<L: Language>(
     nodes: &Hashcons<L>,
     alloc: Global,
@@ -65,7 +65,7 @@ fn add_row<L: Language>(
     add_to_each(users, nodes.class_count(), &ids, source)
 }
 
-// For each class the sources of the rows over it, each as often as the class is a child.
+// Returns for each class the sources whose filed e-nodes have the class as a child, each as often as the class is one.
 pub fn users_of<L: Language>(nodes: &Hashcons<L>, alloc: Global) -> Result<Usages, Error>
     ensures ok { IfOk result (λ u. AreUsers nodes.now.filed u) }
     ensures err { IfErr result IsOutOfMemory }
@@ -77,7 +77,7 @@ pub fn users_of<L: Language>(nodes: &Hashcons<L>, alloc: Global) -> Result<Usage
     Ok(users)
 }
 
-// How many children the filed node of a source has.
+// Returns how many children the filed e-node of a source has.
 fn child_count<L: Language>(nodes: &Hashcons<L>, source: usize) -> usize
     ensures count { result ≡ length (children_of nodes.now.filed source) }
     ensures key { IsKeyOf L.form (filed_of nodes.now.filed source) }
@@ -88,7 +88,7 @@ fn child_count<L: Language>(nodes: &Hashcons<L>, source: usize) -> usize
     }
 }
 
-// How many children each row has. Its keys are nodes of the language.
+// Returns how many children the filed e-node of each source has.
 pub fn child_counts<L: Language>(nodes: &Hashcons<L>, alloc: Global) -> Result<Vec<usize>, Error>
     ensures ok { IfOk result (λ n. AreCounts nodes.now.filed n.items) }
     ensures keys { OnOk result (AreKeysOf L.form nodes.now.filed) }

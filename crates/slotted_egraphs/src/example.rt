@@ -1,5 +1,5 @@
-//! First callers: texts are added, united and asked, a canonical term is added again, a node is looked up and asked, rules are applied, and a term is
-//! simplified by rules.
+//! First callers: they unite and compare terms, add a term again, look an e-node up, apply rules, and simplify a term
+//! by rules.
 ghost use Rattle.std.specs.Prelude.{◌↔◌, ◌⊎◌, All, IsTrue, IfOk, OnOk};
 ghost use Rattle.slotted_egraphs.specs.AppliedRules.{HasAppliedEach};
 ghost use Rattle.slotted_egraphs.specs.Filed.{IsFiledAs, SaysNodeEqual};
@@ -16,8 +16,8 @@ use crate::{
 };
 use std::alloc::Global;
 
-/// Adds the terms of two texts, unites them and asks whether they are equal. Where there is an answer it is yes, or a symmetry that
-/// a union met is open, and this is proved.
+/// Adds the terms of two texts, unites them, and returns whether they are equal. Any answer is yes, unless a symmetry
+/// that a union met is open.
 pub fn unite_and_ask<L: Language>(
     graph: &mut EGraph<L>,
     left: &str,
@@ -33,7 +33,7 @@ pub fn unite_and_ask<L: Language>(
     graph.eq(&left, &right)
 }
 
-/// Adds the term of a text, and then the canonical term of its id. Where there is an answer it says that both got equal ids.
+/// Adds the term of a text, and then the canonical term of its id. Any answer is yes: both got equal ids.
 pub fn add_again<L: Language>(graph: &mut EGraph<L>, text: &str) -> Result<bool, Error>
     ensures { IfOk result IsTrue }
 {
@@ -44,12 +44,12 @@ pub fn add_again<L: Language>(graph: &mut EGraph<L>, text: &str) -> Result<bool,
     graph.eq(&id, &again)
 }
 
-/// Whether a node is looked up as an id that finds what this one finds.
+/// Returns whether an e-node is looked up as an id that is found equal to the given one.
 pub fn is_filed_as<L: Language>(graph: &EGraph<L>, node: &L, id: &AppliedId) -> Result<bool, Error>
     requires node { IsTrue graph.now.failed ⊎ IsValidNode graph.now (L.form node.now) }
     requires id { IsTrue graph.now.failed ⊎ IsValidId graph.now (to_applied id.now) }
 
-    // Yes exactly where it is; and a yes says that they are equal by what was asserted.
+    // Yes exactly if it is so. A yes says that both are equal by what was asserted.
     ensures filed { IfOk result (λ y. IsTrue y ↔ IsFiledAs graph.now (L.form node.now) (to_applied id.now)) }
     ensures equal { IfOk result (SaysNodeEqual graph.now (L.form node.now) (to_applied id.now)) }
 {
@@ -59,8 +59,8 @@ pub fn is_filed_as<L: Language>(graph: &EGraph<L>, node: &L, id: &AppliedId) -> 
     graph.eq(&found, id)
 }
 
-/// Applies rules without conditions once. Where there is an answer, instances of both sides are equal by what is asserted, for each rule and each of its
-/// matches.
+/// Applies rules without conditions once. If there is an answer, instances of both sides are then equal by what is
+/// asserted, for each rule and each match.
 pub fn apply_once<L: Language>(
     alloc: Global,
     graph: &mut EGraph<L>,
@@ -70,13 +70,13 @@ pub fn apply_once<L: Language>(
     ensures { OnOk result (HasAppliedEach L.form graph.old graph.new rules.now) }
 {
     let answer = apply_rewrites(alloc, graph, rules);
-    // It is asked for what each graph keeps that has not failed.
+    // This call is there for its clauses: what holds of each graph that has not failed.
     let _ = graph.is_failed();
     answer
 }
 
-/// Adds a term, applies rules until they change nothing or so many turns were taken, and extracts a term of the fewest nodes. Returns that term, with the
-/// proof that both are equal.
+/// Adds a term, applies rules until they change nothing or the limit of turns is reached, and extracts a term of the
+/// fewest e-nodes. Returns that term, with a proof that both are equal.
 pub fn simplify<L: Language>(
     alloc: Global,
     graph: &mut EGraph<L>,

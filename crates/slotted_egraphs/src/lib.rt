@@ -1,7 +1,8 @@
 //! Slotted e-graphs with checked explanations: the crate that a user's crate names.
 //!
-//! It hands on what a user needs of the crates below, and so a line `my_crate: slotted_egraphs` in crates.txt is enough. CALLING.md
-//! beside this folder has the calls in the order in which a caller meets them, and [`example`] has callers, proved.
+//! It hands on what a user needs of the crates below, so a line `my_crate: slotted_egraphs` in crates.txt is enough.
+//! CALLING.md beside this folder has the calls in the order in which a caller meets them, and [`example`] has callers,
+//! proved.
 #![tactic(auto)]
 
 pub mod example;

@@ -1,4 +1,4 @@
-//! Extractors: the least costs of a graph's classes, and the terms that have them.
+//! Extractors: the least costs of a graph's classes, and the terms that have these costs.
 ghost use Rattle.std.specs.Prelude.{◌≡◌, ◌⊎◌, ◌↔◌, false, None, Some, option_map, IsTrue, IfOk, IfErr, IsErrOf};
 ghost use Rattle.slotted_slots.specs.Error.{IsOutOfMemory, IsShortage};
 ghost use Rattle.slotted_slots.specs.Maps.{values};
@@ -22,10 +22,11 @@ use slotted_slots::{AppliedId, Error};
 use slotted_terms::expr::RecExpr;
 use std::alloc::Global;
 
-/// For each class of a graph its least cost, and a node that has it. It speaks of the graph as it was when it was made.
+/// The least cost of each class of a graph, and an e-node that has it. An extractor speaks of the graph as it was when
+/// the extractor was made.
 ///
-/// Of several such nodes over children that all cost less it has the one whose shape is least by `Ord`. If there are only nodes over a
-/// child that costs as much, which of them it has is open.
+/// Of several e-nodes of least cost whose children all cost less, it has the one whose shape is least by `Ord`. Nothing
+/// is said of which one it has if each of them is over a child that costs as much.
 #[derive(Drop)]
 pub struct Extractor<L: Language, CF: CostFunction<L>> {
     pub costs: CF,
@@ -34,14 +35,18 @@ pub struct Extractor<L: Language, CF: CostFunction<L>> {
 }
 
 impl<L: Language, CF: CostFunction<L>> Extractor<L, CF> {
-    /// The extractor of a graph by a cost function.
-    pub fn new<N: Analysis<L>>(alloc: Global, eg: &mut EGraph<L, N>, costs: CF) -> Result<Self, Error>
+    /// Returns the extractor of a graph by a cost function.
+    pub fn new<N: Analysis<L>>(
+        alloc: Global,
+        eg: &mut EGraph<L, N>,
+        costs: CF,
+    ) -> Result<Self, Error>
         ensures costs { IfOk result (λ x. x.costs ≡ costs) }
         ensures least { IfOk result (λ x. AreLeastOf L.form eg.old
             (costs_by CF.Cost.cmp (CF.node_cost costs)) x.terms.entries.items) }
         ensures each { IfOk result (λ x. HasEachLiveClass eg.old x.terms.entries.items) }
 
-        // Of several filed nodes that cost the least, over children that all cost less, it is the first by the order of the language.
+        // Of several filed e-nodes of least cost whose children all cost less, the order of the language decides.
         ensures chosen { IfOk result (λ x. AreChosenOf L.form L.cmp eg.old
             (costs_by CF.Cost.cmp (CF.node_cost costs)) x.terms.entries.items) }
 
@@ -57,9 +62,10 @@ impl<L: Language, CF: CostFunction<L>> Extractor<L, CF> {
         })
     }
 
-    /// A term of least cost among those that the id represents. For a name that the id lacks, or that unions dropped, stands a fresh slot,
-    /// and binders are fresh. It is refused with `UnknownClass` where the class that the id finds has come since. On a graph that changed
-    /// since it may answer any term.
+    /// Returns a term of least cost among those that the id represents. Redundant slots and binders get fresh slots.
+    ///
+    /// The error is `UnknownClass` if the class that the id finds was made after the extractor. If the graph has
+    /// changed since, the answer may be any term.
     pub fn extract<N: Analysis<L>>(
         &self,
         i: &AppliedId,
@@ -68,15 +74,16 @@ impl<L: Language, CF: CostFunction<L>> Extractor<L, CF> {
         requires { IsTrue eg.old.failed ⊎ IsValidId eg.old (to_applied i.now) }
         ensures least { IfOk result (IsExtracted L.form eg.old self.now.terms.entries.items (to_applied i.now)) }
 
-        // At each class the term has the operator, the payloads and the children of the node that the extractor has.
+        // At each class the term has the operator, the payloads and the children of the e-node that the extractor has.
         ensures made { IfOk result (IsMadeOf L.form eg.old self.now.terms.entries.items (to_applied i.now)) }
 
         ensures valid { IfOk result (λ t. IsValidTerm eg.new.table t) }
 
-        // Each name that stands in the term is one of the id's, or was unknown, and so was each binder.
+        // Each name of the term is one of the id's or was unknown, and each binder was unknown.
         ensures fresh { IfOk result (IsFreshTerm eg.old.table (values i.now.m)) }
 
-        // Only fresh slots are made, two at most for each place of the term's nodes, and a refusal does not fail the graph.
+        // Only fresh slots are made, at most two for each place of the term's e-nodes. A refusal does not fail the
+        // graph.
         ensures takes { OnlyTakesSlots eg.old eg.new }
         ensures count { MakesForExtracted L.form self.now.terms.entries.items (to_applied i.now) eg.old eg.new }
         ensures stays { IsTrue eg.old.failed → eg.new ≡ eg.old }
@@ -91,8 +98,8 @@ impl<L: Language, CF: CostFunction<L>> Extractor<L, CF> {
         eg.least_term(&self.terms, i)
     }
 
-    /// The least cost of an id's own class: it is not looked at what the id finds. It is refused with `UnknownClass` where the class had no
-    /// cost when the extractor was made.
+    /// Returns the least cost of the id's own class, whatever the id finds. If the class may be dead, hand in what
+    /// `find_applied_id` returns. The error is `UnknownClass` if the class had no cost when the extractor was made.
     pub fn get_best_cost(&self, i: &AppliedId) -> Result<CF::Cost, Error>
         ensures cost { IfOk result
             (λ c. option_map (λ e. e.cost) (entry_at self.now.terms.entries.items i.now.id.0) ≡ Some c) }
@@ -107,7 +114,7 @@ impl<L: Language, CF: CostFunction<L>> Extractor<L, CF> {
     }
 }
 
-/// A term of least cost that an id represents, by the default of a cost function.
+/// Returns a term of least cost that an id represents, by the default of a cost function.
 pub fn extract<L: Language, N: Analysis<L>, CF: CostFunction<L> + Default>(
     alloc: Global,
     i: &AppliedId,
@@ -132,7 +139,7 @@ pub fn extract<L: Language, N: Analysis<L>, CF: CostFunction<L> + Default>(
     extractor.extract(i, eg)
 }
 
-/// A term of the fewest nodes that an id represents.
+/// Returns a term of the fewest e-nodes that an id represents.
 pub fn ast_size_extract<L: Language, N: Analysis<L>>(
     alloc: Global,
     i: &AppliedId,

@@ -1,8 +1,8 @@
-// What terms are made of.
+//! What terms are made of.
 use slotted_slots::SlotMap;
 
-/// The node of least cost of a class: its cost, how many classes got theirs before, the node as a key, and the slot of the class
-/// for each number of the key that stands for one.
+/// The e-node of least cost of a class: its cost, how many classes got theirs before, its shape, and the slot of the
+/// class for each number of the shape that stands for one.
 #[derive(Drop)]
 pub struct TermEntry<L, C> {
     pub cost: C,

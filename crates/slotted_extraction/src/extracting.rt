@@ -1,4 +1,5 @@
-//! The making of a term from entries. Frames stand for the nodes whose children are not all made, on a stack that grows by memory.
+//! How a term is made of entries. Frames on a list stand for the e-nodes whose children are not all made, so nothing
+//! recurses.
 ghost use Rattle.std.specs.Prelude.{◌≡◌, ◌<◌, ◌≤◌, ◌⊎◌, ◌↔◌, [], None, length, true, false, IsSome, IfOk, IfErr, IsErrOf, OnOk};
 ghost use Rattle.slotted_slots.specs.Error.{IsOutOfMemory, IsShortage};
 ghost use Rattle.slotted_slots.specs.Maps.{values};
@@ -28,21 +29,22 @@ use slotted_terms::expr::RecExpr;
 use std::alloc::Global;
 use std::mem;
 
-// A node with the terms of its first children.
+// An e-node with the terms of its first children.
 #[derive(Drop)]
 pub(crate) struct Frame<L: Language> {
     pub node: L,
     pub children: Vec<RecExpr<L>>,
 }
 
-// The frame whose children are made now, and those that wait for it, from the root on.
+// The frame whose children are being made, and the frames that wait for it, from the root on.
 #[derive(Drop)]
 pub(crate) struct Stack<L: Language> {
     pub waiting: Vec<Frame<L>>,
     pub current: Frame<L>,
 }
 
-// The node of an entry with the names of an id of its class. What stands for no slot of the id has a fresh name, and so has each binder.
+// Returns the e-node of an entry with the names of an id of its class. What stands for no slot of the id gets a fresh
+// name, and so does each binder.
 fn named_node<L: Language, C: Drop>(
     entry: &TermEntry<L, C>,
     alloc: Global,
@@ -65,7 +67,7 @@ fn named_node<L: Language, C: Drop>(
     Ok(answer)
 }
 
-// The frame of an id, without children so far.
+// Returns the frame of an id, without children.
 fn frame_for<L: Language, C: Drop>(
     terms: &LeastTerms<L, C>,
     alloc: Global,
@@ -92,14 +94,14 @@ fn frame_for<L: Language, C: Drop>(
     Ok(Frame { node, children })
 }
 
-// Whether a frame has the terms of all its children.
+// Returns whether a frame has the terms of all its children.
 fn has_all_children<L: Language>(frame: &Frame<L>) -> bool
     ensures { result ≡ has_all L.form frame.now }
 {
     frame.children.len() >= frame.node.applied_id_count()
 }
 
-// The term of a frame that has them.
+// Returns the term of a frame that has all its children.
 fn close<L: Language>(alloc: Global, frame: Frame<L>) -> RecExpr<L>
     requires { length frame.children.items ≡ length (children (L.form frame.node).tree) }
     ensures { result ≡ term_of (L.form frame.node) frame.children.items }
@@ -109,7 +111,7 @@ fn close<L: Language>(alloc: Global, frame: Frame<L>) -> RecExpr<L>
     RecExpr { node, children }
 }
 
-// The next child of the current frame comes.
+// Makes the frame of the next child the current one.
 fn go_down<L: Language, C: Drop>(
     stack: &mut Stack<L>,
     terms: &LeastTerms<L, C>,
@@ -138,7 +140,8 @@ fn go_down<L: Language, C: Drop>(
     Ok(())
 }
 
-// The next child comes, or the term of the current frame is given to the frame that waits for it. Answers whether one did.
+// Goes to the next child, or hands the term of the current frame to the frame that waits for it. Returns whether either
+// was possible.
 fn step<L: Language, C: Drop>(
     stack: &mut Stack<L>,
     terms: &LeastTerms<L, C>,
@@ -172,8 +175,8 @@ fn step<L: Language, C: Drop>(
     Ok(true)
 }
 
-/// The term that is made for an id of a class that has an entry, with the names of the id. A slot of a node that stands for none of the id's
-/// has a fresh name, and so has each binder.
+/// Returns the term that the entries make for an id of a class with an entry, with the names of the id. What stands for
+/// no name of the id gets a fresh name, and so does each binder.
 pub fn term_for<L: Language, C: Drop>(
     terms: &LeastTerms<L, C>,
     alloc: Global,
@@ -185,7 +188,7 @@ pub fn term_for<L: Language, C: Drop>(
     ensures made { IfOk result (IsMade L.form terms.now.entries.items (to_applied a.now)) }
     ensures valid { IfOk result (IsValidTerm table.new) }
 
-    // Each name is one of the id's or new, and binders are new.
+    // Each name is one of the id's or fresh, and binders are fresh.
     ensures fresh { IfOk result (IsFreshTerm table.old (values a.now.m)) }
     ensures count { MakesAtMost (slots_for L.form terms.now.entries.items a.now.id.0) table.old table.new }
     ensures more { KnowsMore table.old table.new }
@@ -200,7 +203,8 @@ pub fn term_for<L: Language, C: Drop>(
     Ok(close(alloc, stack.current))
 }
 
-/// The term that is made for what a valid id finds. It is refused exactly where the found class has no entry.
+/// Returns the term that the entries make for what a valid id finds. The error is `UnknownClass` exactly if the found
+/// class has no entry.
 pub fn extract<L: Language, C: Drop>(
     store: &Store<L>,
     alloc: Global,

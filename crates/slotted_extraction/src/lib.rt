@@ -1,4 +1,4 @@
-//! Terms of least cost: for each class a node of least cost, and the terms that these nodes make.
+//! Terms of least cost: an e-node of least cost for each class, and the terms that these e-nodes make.
 #![tactic(auto)]
 
 pub mod entry;

@@ -21,7 +21,8 @@ use slotted_slots::Error;
 use slotted_store::Store;
 use std::alloc::Global;
 
-/// For each class that has a cost its entry, which is over entries that were there before it.
+/// An entry for each class that has a cost. The children of each e-node belong to classes that got their entries
+/// earlier.
 #[derive(Drop)]
 pub struct LeastTerms<L: Language, C> {
     pub entries: Vec<Option<TermEntry<L, C>>>,
@@ -29,7 +30,7 @@ pub struct LeastTerms<L: Language, C> {
 }
 
 impl<L: Language, C: Drop> LeastTerms<L, C> {
-    /// The entry of a class, if there is one. It takes no memory.
+    /// Returns the entry of a class, if there is one. Takes no memory.
     pub fn get(&self, class: usize) -> Option<&TermEntry<L, C>>
         ensures { option_map (λ e. e.now) result ≡ entry_at self.now.entries.items class }
     {
@@ -41,7 +42,7 @@ impl<L: Language, C: Drop> LeastTerms<L, C> {
     }
 }
 
-// The entry with the slots of the class in the place of those of its source.
+// Returns the entry over the slots of its class, in place of those of its source.
 fn term_entry<L: Language, C: Drop>(
     store: &Store<L>,
     alloc: Global,
@@ -64,7 +65,7 @@ fn term_entry<L: Language, C: Drop>(
     })
 }
 
-// No class has an entry.
+// Returns a list in which no class has an entry.
 fn no_entries<L: Language, C: Drop>(
     alloc: Global,
     classes: usize,
@@ -80,7 +81,7 @@ fn no_entries<L: Language, C: Drop>(
     Ok(entries)
 }
 
-// Each entry at the place of its class.
+// Puts each entry at the place of its class.
 fn place<L: Language, C: Drop>(
     store: &Store<L>,
     alloc: Global,
@@ -102,7 +103,7 @@ fn place<L: Language, C: Drop>(
     Ok(placed)
 }
 
-/// The entries of a graph at rest: each live class has one.
+/// Returns the entries of a rebuilt graph. Each live class has one.
 pub fn least_terms<L: Language, F: CostFunction<L>>(
     store: &Store<L>,
     nodes: &Hashcons<L>,
@@ -114,7 +115,7 @@ pub fn least_terms<L: Language, F: CostFunction<L>>(
     ensures ok { IfOk result (λ t. AreLeast L.form store.now nodes.now
         (costs_by F.Cost.cmp (F.node_cost costs.now)) t.entries.items) }
 
-    // Where several nodes of a class cost the least, the entry has the one that the order of the language says.
+    // If several e-nodes of a class cost least, the order of the language decides between them.
     ensures chosen { IfOk result (λ t. AreChosen L.form L.cmp (costs_by F.Cost.cmp (F.node_cost costs.now))
         (find_class (entries_of store.now)) (rows_in nodes.now.filed) t.entries.items) }
 

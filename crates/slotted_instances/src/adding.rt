@@ -1,4 +1,4 @@
-//! One more node in a graph.
+//! Adding one more e-node to a graph.
 ghost use Rattle.std.specs.Prelude.{All, ◌⊎◌, IsTrue, IfOk, IfErr, OnOk, OnErr};
 ghost use Rattle.slotted_slots.specs.Error.{IsShortage};
 ghost use Rattle.slotted_terms.specs.Valid.{AllKnown};
@@ -16,7 +16,7 @@ use slotted_languages::Language;
 use slotted_languages::shape::PLACES;
 use slotted_slots::{AppliedId, Error};
 
-/// The class that was made with the node, or a new one, with the node's names put in. A node of 2^30 places or more is refused.
+/// Adds an e-node as a syntactic e-node, and returns its full id. An e-node of 2^30 places or more is refused.
 pub(crate) fn add_node<L: Language, N: Analysis<L>>(
     graph: &mut EGraph<L, N>,
     node: L,
@@ -34,7 +34,7 @@ pub(crate) fn add_node<L: Language, N: Analysis<L>>(
         return Err(Error::OutOfSlots);
     }
     let answer = graph.add_syn(node)?;
-    // It is asked for what each graph keeps that has not failed.
+    // This call is there for its clauses: what holds of each graph that has not failed.
     let _ = graph.is_failed();
     Ok(answer)
 }

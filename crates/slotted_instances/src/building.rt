@@ -1,4 +1,4 @@
-//! Instances of patterns: from the bottom, node by node.
+//! Building instances of patterns, from the bottom, e-node by e-node.
 ghost use Rattle.std.specs.Prelude.{◌≡◌, ◌⊎◌, IsErrAnd, IsSome, IsTrue, IfOk, IfErr, OnErr};
 ghost use Rattle.slotted_slots.specs.Error.{IsShortage};
 ghost use Rattle.slotted_proofs.specs.Equations.{to_applied};
@@ -23,7 +23,7 @@ use slotted_rule_patterns::subst::value;
 use slotted_slots::{AppliedId, Error};
 use std::alloc::Global;
 
-// What the method answers for `b[x := t]`, where each id gets fresh slots for the names that it lacks.
+// Returns what the method answers for `b[x := t]`. Each id gets fresh slots for the names that it omits.
 fn put_in<L: Language, N: Analysis<L>, M: OwnSubst<L, N>>(
     alloc: Global,
     graph: &mut EGraph<L, N>,
@@ -46,13 +46,13 @@ fn put_in<L: Language, N: Analysis<L>, M: OwnSubst<L, N>>(
     let x = graph.full_id(x)?;
     let t = graph.full_id(t)?;
     let answer = method.subst(alloc, b, x, t, graph);
-    // It is asked for what each graph keeps that has not failed.
+    // This call is there for its clauses: what holds of each graph that has not failed.
     let _ = graph.is_failed();
     answer
 }
 
-/// Returns the id of an instance of the pattern: of a variable its value, of a node the class of it over the answers for its child
-/// patterns, and of `b[x := t]` what the method answers.
+/// Returns the id of an instance of the pattern. A variable gives its value, an e-node its class over the answers for
+/// the child patterns, and `b[x := t]` what the method answers.
 pub(crate) fn build<L: Language, N: Analysis<L>, M: OwnSubst<L, N>>(
     alloc: Global,
     graph: &mut EGraph<L, N>,

@@ -25,7 +25,7 @@ use slotted_rule_patterns::pattern::is_whole;
 use slotted_slots::{AppliedId, Error};
 use std::alloc::Global;
 
-// The instance of a whole pattern, if each variable has a value.
+// Builds the instance of a whole pattern, if each variable has a value.
 fn instance<L: Language, N: Analysis<L>>(
     alloc: Global,
     graph: &mut EGraph<L, N>,
@@ -47,12 +47,11 @@ fn instance<L: Language, N: Analysis<L>>(
     build_stored(alloc, graph, method, pattern, subst)
 }
 
-/// Returns the id of an instance of the pattern, in which the ids of the substitution stand for the variables. In `b[x := t]` the method
-/// that the graph was made with says which term stands for `b`; each topmost part of it that is alpha-equal to the canonical term of `x`
-/// gives way to `t`, and nothing is captured.
+/// Returns the id of an instance of the pattern, in which the ids of the substitution stand for the variables.
 ///
-/// A node of the instance is looked up by its canonical node, and a class is made where there is none. The answer for a variable is its
-/// value as it is handed in.
+/// For `b[x := t]` the graph's method of substitution chooses a term for `b`. In this term `t` replaces each topmost
+/// part that is alpha-equal to the canonical term of `x`, and nothing is captured. An e-node of the instance is added
+/// as a syntactic e-node. The answer for a variable is its value, as it was handed in.
 pub fn pattern_subst<L: Language, N: Analysis<L>>(
     alloc: Global,
     graph: &mut EGraph<L, N>,
@@ -62,7 +61,8 @@ pub fn pattern_subst<L: Language, N: Analysis<L>>(
     requires known { IsTrue graph.old.failed ⊎ HasKnownNames graph.old.table (tree_of L.form pattern.now) }
     requires values { IsTrue graph.old.failed ⊎ AreValidValues graph.old (values_of subst.now) }
 
-    // The answer is the value of the pattern if that is a variable, and else a full id whose term is an instance. Nothing is asserted.
+    // If the pattern is a variable, the answer is its value; else a full id whose term is an instance. Nothing is
+    // asserted.
     ensures instance { IfOk result (λ a. InstantiatesKnown graph.old graph.new (values_of subst.now)
         (tree_of L.form pattern.now) (to_applied a)) }
     ensures valid { IfOk result (λ a. IsValidId graph.new (to_applied a)) }

@@ -14,8 +14,9 @@ use slotted_slots::{AppliedId, Error};
 use slotted_terms::expr::RecExpr;
 use std::alloc::Global;
 
-/// Returns the id of a term, child by child, as `lookup` answers each node: None if some node has none. A node that has 2^30 places or more
-/// over what its children are looked up as is refused with `OutOfSlots`.
+/// Returns the id of a term, child by child, as `lookup` gives it for each e-node, or `None` if some e-node has none.
+///
+/// An e-node that has 2^30 places or more over the ids of its children is refused with `OutOfSlots`.
 pub fn lookup_rec_expr<L: Language, N: Analysis<L>>(
     alloc: Global,
     term: &RecExpr<L>,

@@ -17,15 +17,15 @@ use slotted_languages::Language;
 use slotted_slots::{AppliedId, Error};
 use std::alloc::Global;
 
-/// A method of substitution of the caller's own: which id is answered for `b[x := t]`.
+/// A method of substitution of a caller's own: it decides which id stands for `b[x := t]`.
 pub trait OwnSubst<L: Language, N: Analysis<L>> {
-    // What is known of it. Of a method of which nothing is known its answers are its own business.
+    // What is known of the method. If nothing is known, its answers may be any valid ids.
     ghost method: { Method } = { unknown };
 
-    // What it may refuse with beside shortages.
+    // The errors that the method may return beside shortages.
     ghost refuses: { Error → Type 0 };
 
-    /// The id of `b[x := t]`, of three ids that lack no name. It may change the graph, but only extends it.
+    /// Returns the id of `b[x := t]`, for three full ids. The graph may change, but is only extended.
     fn subst(
         &mut self,
         alloc: Global,
@@ -45,6 +45,6 @@ pub trait OwnSubst<L: Language, N: Analysis<L>> {
         ensures fails { IsTrue graph.new.failed → IsErrAnd result IsShortage }
         ensures only { IfErr result (λ e. IsShortage e ⊎ refuses e) };
 
-    // Only a graph fails.
+    // `Failed` is an error of graphs alone.
     ghost never_failed: { ¬ refuses Failed };
 }

@@ -1,4 +1,4 @@
-//! What is tested before anything is added, and what fails a graph.
+//! Tests before anything is added, and the failure of a graph.
 ghost use Rattle.std.specs.Prelude.{◌≡◌, ◌⊎◌, true, IsErrAnd, IsOk, IfErr, OnOk};
 ghost use Rattle.slotted_slots.specs.Error.{IsOutOfMemory, IsShortage};
 ghost use Rattle.slotted_patterns.specs.View.{tree_of};
@@ -15,7 +15,7 @@ use slotted_rule_patterns::pattern::first_missing;
 use slotted_slots::Error;
 use std::alloc::Global;
 
-/// Whether each variable of the pattern has a value: the first one that has none is refused.
+/// Checks that each variable of the pattern has a value. The first variable without one is refused.
 pub(crate) fn check_values<L: Language>(
     alloc: Global,
     pattern: &Pattern<L>,
@@ -31,7 +31,7 @@ pub(crate) fn check_values<L: Language>(
     }
 }
 
-/// Hands the answer of a structural write on. A graph in which it ran out of memory or slots has failed.
+/// Returns the answer of a structural write as it is, and fails the graph if memory or slots ran out.
 pub(crate) fn failing<L: Language, N: Analysis<L>, T>(
     graph: &mut EGraph<L, N>,
     answer: Result<T, Error>,

@@ -24,7 +24,7 @@ use slotted_rule_patterns::Subst;
 use slotted_slots::{AppliedId, Error};
 use std::alloc::Global;
 
-// Looks into the canonical term of the body.
+// The method that looks into the canonical term of the body.
 #[derive(Drop)]
 struct Canonical;
 
@@ -47,7 +47,7 @@ impl<L: Language, N: Analysis<L>> OwnSubst<L, N> for Canonical {
     }
 }
 
-// Looks into a term of fewest nodes that the body represents.
+// The method that looks into a term of the fewest e-nodes that the body represents.
 #[derive(Drop)]
 struct Extracted;
 
@@ -69,7 +69,7 @@ impl<L: Language, N: Analysis<L>> OwnSubst<L, N> for Extracted {
         let terms = graph.least_terms(&AstSize)?;
         let term = graph.least_term(&terms, &b)?;
         let body = graph.add_syn_expr(&term)?;
-        // It is asked for what each graph keeps that has not failed.
+        // This call is there for its clauses: what holds of each graph that has not failed.
         let _ = graph.is_failed();
         replaced(alloc, graph, &body, &x, &t)
     }

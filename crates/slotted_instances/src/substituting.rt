@@ -15,8 +15,10 @@ use slotted_languages::Language;
 use slotted_slots::{AppliedId, Error};
 use std::alloc::Global;
 
-/// Returns the id of `b[x := t]`, of three ids that lack no name: its canonical term is that of `b` with the canonical term of `t` for each
-/// topmost part that is alpha-equal to the canonical term of `x`. Nothing is captured, and what is put in is not searched again.
+/// Returns the id of `b[x := t]`, for three full ids. Its canonical term is that of `b`, in which the canonical term of
+/// `t` replaces each topmost part that is alpha-equal to the canonical term of `x`.
+///
+/// Nothing is captured, and what is put in is not searched again.
 pub fn subst_ids<L: Language, N: Analysis<L>>(
     alloc: Global,
     graph: &mut EGraph<L, N>,

@@ -1,4 +1,4 @@
-//! Substitution without capture: a walk over canonical nodes, from the top.
+//! Substitution without capture: a walk over syntactic e-nodes, from the top.
 ghost use Rattle.std.specs.Prelude.{◌⊎◌, IsTrue, IfOk, IfErr, OnErr};
 ghost use Rattle.slotted_slots.specs.Error.{IsShortage};
 ghost use Rattle.slotted_slots.specs.Maps.{values};
@@ -17,7 +17,7 @@ use slotted_slots::{AppliedId, Error, SlotMap};
 use slotted_store::names::has_value;
 use std::alloc::Global;
 
-// Whether some value of the map is none of the other.
+// Returns whether some value of the map is no value of the other map.
 fn has_name_beside(map: &SlotMap, other: &SlotMap) -> bool
     ensures { IsTrue result → HasNameBeside map.now other.now }
 {
@@ -29,15 +29,18 @@ fn has_name_beside(map: &SlotMap, other: &SlotMap) -> bool
     false
 }
 
-// Whether the class of `b` is older than that of `x`, or `b` lacks a name of `x`: then `x` stands nowhere in `b`.
+// Returns whether the class of `b` is older than that of `x`, or `b` omits a name of `x`. In either case `x` stands
+// nowhere in `b`.
 fn is_older_or_lacks(b: &AppliedId, x: &AppliedId) -> bool
     ensures { IsTrue result → IsOlderOrLacks (to_applied b.now) (to_applied x.now) }
 {
     b.id < x.id || has_name_beside(&x.m, &b.m)
 }
 
-/// Returns the id of `b[x := t]`: what `b` stands for, with what `t` stands for in the place of each topmost part that `x` stands for. A
-/// binder of `b` has a fresh name in between, so it captures nothing. What is put in is not searched again.
+/// Returns the id of `b[x := t]`: the term of `b`, in which the term of `t` replaces each topmost part that is the term
+/// of `x`.
+///
+/// Binders of `b` have fresh names meanwhile, so nothing is captured. What is put in is not searched again.
 pub(crate) fn replaced<L: Language, N: Analysis<L>>(
     alloc: Global,
     graph: &mut EGraph<L, N>,

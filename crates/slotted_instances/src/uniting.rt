@@ -24,7 +24,7 @@ use slotted_rule_patterns::pattern::is_whole;
 use slotted_slots::Error;
 use std::alloc::Global;
 
-// Whether each variable of both patterns has a value.
+// Checks that each variable of both patterns has a value.
 fn check_both<L: Language>(
     alloc: Global,
     a: &Pattern<L>,
@@ -40,7 +40,7 @@ fn check_both<L: Language>(
     check_values(alloc, b, subst)
 }
 
-// The union of both instances.
+// Unites both instances.
 fn unite<L: Language, N: Analysis<L>>(
     alloc: Global,
     graph: &mut EGraph<L, N>,
@@ -66,12 +66,12 @@ fn unite<L: Language, N: Analysis<L>>(
     let left = build_stored(alloc, graph, method, a, subst)?;
     let right = build_stored(alloc, graph, method, b, subst)?;
     let answer = graph.union_justified(&left, &right, text);
-    // It is asked for what each graph keeps that has not failed.
+    // This call is there for its clauses: what holds of each graph that has not failed.
     let _ = graph.is_failed();
     answer
 }
 
-// The same, where each variable has a value.
+// Unites both instances, if each variable has a value.
 fn test_and_unite<L: Language, N: Analysis<L>>(
     alloc: Global,
     graph: &mut EGraph<L, N>,
@@ -98,10 +98,10 @@ fn test_and_unite<L: Language, N: Analysis<L>>(
     unite(alloc, graph, a, b, subst, text)
 }
 
-/// Instances of both patterns, as `pattern_subst` answers them, are equal, because the caller says so. True if they did not find alike, as
-/// `union_justified` answers.
+/// Asserts that instances of both patterns are equal, which are built as `pattern_subst` builds them. Returns true if
+/// they were not found equal before.
 ///
-/// The equation of both is a new entry of the proof list with the text, if it was not proved.
+/// Their equation is a new entry of the proof list with the text, unless it was proved already.
 pub fn union_instantiations<L: Language, N: Analysis<L>>(
     alloc: Global,
     graph: &mut EGraph<L, N>,
@@ -114,12 +114,14 @@ pub fn union_instantiations<L: Language, N: Analysis<L>>(
     requires right { IsTrue graph.old.failed ⊎ HasKnownNames graph.old.table (tree_of L.form b.now) }
     requires values { IsTrue graph.old.failed ⊎ AreValidValues graph.old (values_of subst.now) }
 
-    // From this it follows that an entry is an equation of instances of both, and each new asserted one is it (`united-equation`).
+    // It follows that an entry is an equation of instances of both patterns, and that each new asserted entry is this
+    // one (`united-equation`).
     ensures unites { IfOk result (UnitesInstances graph.old graph.new (values_of subst.now)
         (tree_of L.form a.now) (tree_of L.form b.now) (text_bytes text)) }
     ensures extends { IsTrue graph.new.failed ⊎ ExtendsTo graph.old graph.new }
 
-    // Both patterns are tested before anything is added: first that they are whole, and then their variables from the left.
+    // Both patterns are tested before anything is added: first that they are whole, and then their variables from the
+    // left.
     ensures tested { OnOk result (HavePassed (values_of subst.now) (tree_of L.form a.now) (tree_of L.form b.now)) }
     ensures whole { IsErrOf result Error.NotATerm ↔ ((graph.old.failed ≡ false)
         × IsEitherNotWhole (tree_of L.form a.now) (tree_of L.form b.now)) }

@@ -29,7 +29,7 @@ use slotted_rule_patterns::pattern::is_whole;
 use slotted_slots::{AppliedId, Error};
 use std::alloc::Global;
 
-// The instance of a whole pattern, if each variable has a value.
+// Builds the instance of a whole pattern, if each variable has a value.
 fn instance_by<L: Language, N: Analysis<L>, M: OwnSubst<L, N>>(
     alloc: Global,
     graph: &mut EGraph<L, N>,
@@ -55,8 +55,8 @@ fn instance_by<L: Language, N: Analysis<L>, M: OwnSubst<L, N>>(
     build(alloc, graph, method, pattern, subst)
 }
 
-/// Returns what `pattern_subst` does, but with what the method answers in the place of each `b[x := t]`. What it asserts is its own
-/// business.
+/// Returns the id of an instance of the pattern, as `pattern_subst` does, but by the caller's method for each `b[x :=
+/// t]`. Nothing is said of what the method asserts.
 pub fn subst_with<L: Language, N: Analysis<L>, M: OwnSubst<L, N>>(
     alloc: Global,
     graph: &mut EGraph<L, N>,

@@ -17,7 +17,7 @@ use slotted_terms::expr::printing::Printable;
 use std::alloc::Global;
 use std::convert::Infallible;
 
-/// The answer to one line, which holds no line feed, over a session.
+/// Answers one line, without a line feed, over a session.
 pub fn answer_in<L: Printable>(alloc: Global, session: &mut Session<L>, line: &str) -> Told
     requires { AreSearchable L.form (state_of session.old) }
     ensures answers { AnsweredIn L.read L.written L.form (state_of session.old) (state_of session.new)
@@ -37,7 +37,7 @@ pub fn answer_in<L: Printable>(alloc: Global, session: &mut Session<L>, line: &s
     }
 }
 
-// The answer to a rule.
+// Returns the answer to a rule.
 fn tell_rule(outcome: Result<(), Error>) -> Told
     ensures { result ≡ told_of_rule outcome }
 {
@@ -47,7 +47,7 @@ fn tell_rule(outcome: Result<(), Error>) -> Told
     }
 }
 
-// The answer to a run, by the totals of rebuilds before and after.
+// Returns the answer to a run, by the totals of rebuilds before and after.
 fn tell_run(
     outcome: Result<Report<Infallible>, Error>,
     before: (u64, u128),

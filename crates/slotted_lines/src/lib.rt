@@ -1,4 +1,5 @@
-//! The lines of the program, over any language: a line is answered over a session, which is a graph with the rules so far.
+//! The lines of the program, over any language. A line is answered over a session: a graph with the rules of the lines
+//! before.
 #![tactic(auto)]
 
 pub mod answering;

@@ -6,18 +6,18 @@ ghost use Rattle.slotted_lines.specs.Requests.{rule_of, run_of, session_command_
 /// What one line asks, with the texts that it names.
 #[derive(Drop)]
 pub enum Request<'a> {
-    /// To keep a rule of this name, from the left text to the right one.
+    /// Keeps a rule: its name, its left text and its right text.
     Rule(&'a str, &'a str, &'a str),
-    /// To run the rules so far with this limit of turns.
+    /// Runs the rules of the lines before, with this limit of turns.
     Run(u32),
-    /// What the line asks of the graph alone.
+    /// Asks the graph alone.
     Plain(&'a str),
-    /// Nothing that is known.
+    /// Asks nothing that is known.
     Unknown,
 }
 
 impl<'a> Request<'a> {
-    /// What a line asks, which holds no line feed.
+    /// Returns what a line without a line feed asks.
     pub fn read(line: &'a str) -> Request<'a>
         ensures { requested result ≡ session_command_of line.now }
     {
@@ -30,7 +30,7 @@ impl<'a> Request<'a> {
         }
     }
 
-    // What is asked by what follows the word `rule`.
+    // Returns what is asked by the text behind the word `rule`.
     fn read_rule(text: &'a str) -> Request<'a>
         ensures { requested result ≡ rule_of text.now }
     {
@@ -43,7 +43,7 @@ impl<'a> Request<'a> {
         }
     }
 
-    // What is asked by what follows the word `run`.
+    // Returns what is asked by the text behind the word `run`.
     fn read_run(text: &'a str) -> Request<'a>
         ensures { requested result ≡ run_of text.now }
     {

@@ -1,4 +1,4 @@
-//! Rules of a session.
+//! The rules of a session.
 ghost use Rattle.std.specs.Prelude.{◌≡◌, IfOk, IfErr, IsErr, IsOk, IsTrue};
 ghost use Rattle.slotted_slots.specs.Table.{KnowsMore};
 ghost use Rattle.slotted_rules.specs.Written.{CanBeSearched};
@@ -12,7 +12,7 @@ use slotted_rules::{Always, Rewrite};
 use slotted_slots::Error;
 use std::alloc::Global;
 
-// The rule of three texts. Both sides are read over the graph's table, the left one first.
+// Returns the rule of three texts. Both sides are read over the graph's table, the left one first.
 fn read_rule<L: Language>(
     alloc: Global,
     graph: &mut EGraph<L>,

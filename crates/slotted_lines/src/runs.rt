@@ -13,9 +13,10 @@ use std::alloc::Global;
 use std::convert::Infallible;
 use std::mem;
 
+// The runner of a session: without data, with a hook that does nothing and a clock that stands still.
 type RunnerOf<L> = Runner<L, (), (), Infallible, NoHook, StillClock>;
 
-// Runs the rules over the graph, which the runner has meanwhile.
+// Runs the rules over the graph, which the runner holds meanwhile.
 pub(crate) fn run_rules<L: Language>(
     alloc: Global,
     session: &mut Session<L>,

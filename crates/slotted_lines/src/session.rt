@@ -1,4 +1,4 @@
-//! A graph, with rules for it.
+//! Sessions: a graph with its rules.
 ghost use Rattle.std.specs.Prelude.{◌≡◌, All, IsOk, IfOk, IsTrue};
 ghost use Rattle.slotted_rules.specs.Written.{PassesTests};
 ghost use Rattle.slotted_lines.specs.States.{AreSearchable, empty_state, state_of};
@@ -9,7 +9,7 @@ use slotted_rules::{Always, Rewrite, are_valid};
 use slotted_slots::{Error, SlotTable};
 use std::alloc::Global;
 
-/// A graph, and the rules of the lines so far, in order.
+/// A graph, and the rules of the lines before, in order.
 #[derive(Drop)]
 pub struct Session<L: Language> {
     /// The graph.
@@ -19,7 +19,7 @@ pub struct Session<L: Language> {
 }
 
 impl<L: Language> Session<L> {
-    /// Returns the session over a graph without classes, without rules. It takes no memory.
+    /// Returns a session over a graph without classes, and without rules. Takes no memory.
     pub fn new(alloc: Global) -> Result<Self, Error>
         ensures answers { IsOk result }
         ensures empty { IfOk result (λ s. state_of s ≡ empty_state) }
@@ -30,9 +30,9 @@ impl<L: Language> Session<L> {
         })
     }
 
-    /// Returns whether the rules can be handed to runs over the graph. It takes no memory.
+    /// Returns whether the rules can be handed to runs over the graph. Takes no memory.
     ///
-    /// Lines keep this. Whoever changes the graph or the rules beside them can ask for it.
+    /// Lines keep this so. If you change the graph or the rules by other means, ask for it again.
     pub fn is_searchable(&self) -> bool
         ensures searchable { IsTrue result → AreSearchable L.form (state_of self.now) }
         ensures failed { IsTrue self.now.graph.failed → IsTrue result }

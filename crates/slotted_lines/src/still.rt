@@ -1,7 +1,7 @@
 //! A clock that stands still.
 use slotted_runs::Clock;
 
-/// The clock that always tells 0. So no limit of time is ever passed.
+/// The clock that always tells 0, so that no limit of time is ever passed.
 #[derive(Drop, Debug)]
 pub struct StillClock;
 

@@ -1,4 +1,4 @@
-//! Lines in, answers out.
+//! Streams: lines in, answers out.
 ghost use Rattle.std.specs.Prelude.{◌≡◌, ℕ, List, IfSome, OnSome, IsErr, OnOk};
 ghost use Rattle.std.specs.Str.{IsUtf8};
 ghost use Rattle.std.specs.Io.BufRead.{strip_last};
@@ -13,9 +13,11 @@ use std::alloc::Global;
 use std::io::{BufRead, ErrorKind, Write};
 use std::{io, mem};
 
-/// Answers each line of `input` on `output`, from a graph without classes and no rules on, up to the end of the input. Each answer is
-/// written out before the next line is read. The first read or write that fails ends it, and so do bytes that are not
-/// UTF-8 and want of memory for a line; what was answered before stands.
+/// Answers each line of `input` on `output`, over a new graph without rules. Each answer is written out before the next
+/// line is read.
+///
+/// A read or a write that fails ends the session, and so do bytes that are not UTF-8 and want of memory for a line.
+/// What was answered before stands.
 pub fn answer_session<L: Printable, R: BufRead, W: Write>(
     alloc: Global,
     input: &mut R,
@@ -31,7 +33,8 @@ pub fn answer_session<L: Printable, R: BufRead, W: Write>(
     }
 }
 
-/// The same for a process that ends with it: the session is not taken apart, and its memory goes with the process.
+/// Answers each line as `answer_session` does, for a process that ends afterwards: the session is not taken apart, and
+/// the process gives its memory back.
 pub fn answer_last_session<L: Printable, R: BufRead, W: Write>(
     alloc: Global,
     input: &mut R,
@@ -74,8 +77,9 @@ fn answer_each<L: Printable, R: BufRead, W: Write>(
     Err(io::Error::from(ErrorKind::FileTooLarge))
 }
 
-/// Answers one line, which may end in a line feed, on `output`, and writes it out. An empty line has no answer. Where it cannot be written,
-/// the line was asked all the same.
+/// Answers one line, which may end in a line feed, on `output`, and writes the answer out. An empty line has no answer.
+///
+/// If the answer cannot be written, the line has been asked all the same.
 pub fn answer_line<L: Printable, W: Write>(
     alloc: Global,
     session: &mut Session<L>,
@@ -103,7 +107,7 @@ pub fn answer_line<L: Printable, W: Write>(
     output.flush()
 }
 
-// The line without the line feed that may end it.
+// Returns the line without the line feed at its end, if there is one.
 fn without_line_feed(line: &[u8]) -> &[u8]
     ensures { result.now ≡ strip_last 10 line.now }
 {

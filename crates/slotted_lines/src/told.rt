@@ -1,4 +1,4 @@
-//! What a line is answered with.
+//! Answers to lines.
 ghost use Rattle.std.specs.Prelude.{◌≡◌, Some};
 ghost use Rattle.slotted_lines.specs.Texts.{run_text, told_text, word_of};
 
@@ -7,31 +7,31 @@ use slotted_runs::StopReason;
 use std::convert::Infallible;
 use std::fmt;
 
-/// What one line is answered with.
+/// The answer to one line.
 #[derive(Drop)]
 pub enum Told {
-    /// The answer to a line that asks the graph, or to a rule, or a refusal.
+    /// The answer to a line that asks the graph, the answer to a rule, or a refusal.
     Plain(Answer),
     /// The rules were run.
     Ran(Run),
 }
 
-/// What a run of the rules tells: its report, and by how much the totals over all rebuilds rose.
+/// What is told of a run: its report, and by how much the totals over all rebuilds rose.
 #[derive(Drop)]
 pub struct Run {
     /// How many turns were taken.
     pub turns: usize,
     /// Why the run stopped.
     pub reason: StopReason<Infallible>,
-    /// How many e-nodes were filed at its end.
+    /// How many e-nodes were filed at the end.
     pub nodes: usize,
     /// How many e-nodes took their turn in rebuilds.
     pub rebuild_turns: u64,
-    /// How many might have, by the bounds of the rebuilds.
+    /// How many e-nodes might have taken their turn, by the bounds of the rebuilds.
     pub rebuild_bound: u128,
 }
 
-// The word of a reason.
+// Returns the word for a reason.
 fn word(reason: &StopReason<Infallible>) -> &'static str
     ensures { result.now ≡ word_of reason.now }
 {
@@ -44,7 +44,7 @@ fn word(reason: &StopReason<Infallible>) -> &'static str
     }
 }
 
-/// The number of turns, the reason, and the number of filed e-nodes.
+/// Writes the number of turns, the reason, and the number of filed e-nodes.
 impl fmt::Display for Run {
     ghost output = { λ r. Some (run_text r) };
 
@@ -56,7 +56,7 @@ impl fmt::Display for Run {
     }
 }
 
-/// A run has a second line: by how much the totals of rebuilds rose, of turns and of their bounds.
+/// Writes an answer. A run has a second line: by how much the totals of rebuilds rose, of turns and of bounds.
 impl fmt::Display for Told {
     ghost output = { λ a. Some (told_text a) };
 

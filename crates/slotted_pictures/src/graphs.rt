@@ -71,7 +71,7 @@ fn push_slots(
     Ok(())
 }
 
-// Appends the cluster of a class: its slots, and its e-nodes.
+// Appends the cluster of a class: its slots and its e-nodes.
 fn push_cluster<L: Language>(
     alloc: Global,
     out: &mut String,
@@ -110,7 +110,8 @@ fn push_map(
     Ok(())
 }
 
-// Appends an edge to the class of a child, with its map. It ends at the cluster of the class, unless it comes from inside.
+// Appends an edge to the class of a child, with the child's map. The edge ends at the cluster of the class, unless it
+// comes from inside that cluster.
 fn push_edge(
     alloc: Global,
     out: &mut String,
@@ -152,7 +153,7 @@ fn push_node_edges<L: Language>(
     Ok(())
 }
 
-// Appends the edges of e-nodes.
+// Appends the edges of several e-nodes.
 fn push_edges<L: Language>(
     alloc: Global,
     out: &mut String,
@@ -168,7 +169,7 @@ fn push_edges<L: Language>(
     Ok(())
 }
 
-// The e-nodes of a class, over its own slots.
+// Returns the e-nodes of a class, over the class's own slots.
 fn own_nodes<L: Language, N: Analysis<L>>(graph: &mut EGraph<L, N>, id: Id) -> Result<Vec<L>, Error>
     requires well { graph.old.failed ≡ false }
     requires within { id.0 < length graph.old.image.canonical }
@@ -223,20 +224,21 @@ fn push_classes<L: Language, N: Analysis<L>>(
     Ok(())
 }
 
-/// Appends a picture of the graph, as text in the DOT language: a cluster for each live class with its slots, a record for each e-node, and an edge for
-/// each child to the child's class, labelled by the slots of that class and their names.
+/// Appends a picture of the graph, as text in the DOT language.
 ///
-/// `dot -Tsvg` draws it. Edges end at clusters, for which the layout `dot` is needed.
+/// Each live class is a cluster with its slots, each e-node a record, and each child an edge to its class, labelled by
+/// the slots of that class and their names. `dot -Tsvg` draws the picture; since edges end at clusters, the layout
+/// `dot` is needed.
 pub fn graph_to_dot<L: Language, N: Analysis<L>>(
     alloc: Global,
     graph: &mut EGraph<L, N>,
     out: &mut String,
 ) -> Result<(), Error>
-    // What stood in the text stays before the picture. The text stays as it is if the call is refused.
+    // What stood in the text stays before the picture. If the call is refused, the text stays as it was.
     ensures appends { OnOk result (IsAppended (string_bytes out.old) (string_bytes out.new)) }
     ensures unchanged { OnErr result (string_bytes out.new ≡ string_bytes out.old) }
 
-    // Only fresh slots are made, two at most for each place of all filed nodes, and a refusal does not fail the graph.
+    // Only fresh slots are made, at most two for each place of all filed e-nodes. A refusal does not fail the graph.
     ensures takes { OnlyTakesSlots graph.old graph.new }
     ensures count { MakesAtMost (slots_for_dump graph.old) graph.old.table graph.new.table }
     ensures stays { IsTrue graph.old.failed → graph.new ≡ graph.old }

@@ -32,7 +32,7 @@ fn push_reason(out: &mut String, proof: &Proof) -> Result<(), Error>
     Ok(())
 }
 
-// Appends a line: its equation, and how that was proved.
+// Appends a line: its equation, and how the equation was proved.
 fn push_line(
     alloc: Global,
     out: &mut String,
@@ -68,7 +68,7 @@ fn push_part(
     Ok(())
 }
 
-// Appends an edge to each of these parts.
+// Appends an edge to each of several parts.
 fn push_each_part(
     out: &mut String,
     lines: &ProofLines,
@@ -125,8 +125,10 @@ fn push_lines(
     Ok(())
 }
 
-/// Appends a picture of a proof, as text in the DOT language: a record for each entry of the proof list that the proof uses, with its equation of ids and
-/// its reason, and an edge to each entry that it was proved by.
+/// Appends a picture of a proof, as text in the DOT language.
+///
+/// Each entry of the proof list that the proof uses is a record, with its equation of ids and its reason. An edge leads
+/// from an entry to each entry that proves it.
 pub fn proof_to_dot<L: Language, N: Analysis<L>>(
     alloc: Global,
     graph: &EGraph<L, N>,
@@ -135,7 +137,7 @@ pub fn proof_to_dot<L: Language, N: Analysis<L>>(
 ) -> Result<(), Error>
     requires { IsTrue graph.now.failed ⊎ (proof < length graph.now.image.stored) }
 
-    // What stood in the text stays before the picture. The text stays as it is if the call is refused.
+    // What stood in the text stays before the picture. If the call is refused, the text stays as it was.
     ensures appends { OnOk result (IsAppended (string_bytes out.old) (string_bytes out.new)) }
     ensures unchanged { OnErr result (string_bytes out.new ≡ string_bytes out.old) }
     ensures failed { IsErrOf result Error.Failed ↔ IsTrue graph.now.failed }

@@ -6,7 +6,7 @@ use slotted_slots::{AppliedId, Error, Show, Slot, SlotTable};
 use std::alloc::Global;
 use std::fmt::Write;
 
-// Appends a text, in which a reverse solidus stands before each character that labels read.
+// Appends a text, with a backslash before each character that has a meaning in labels.
 pub(crate) fn push_quoted(out: &mut String, text: &str) -> Result<(), Error>
     ensures { IfErr result IsOutOfMemory }
 {
@@ -19,7 +19,7 @@ pub(crate) fn push_quoted(out: &mut String, text: &str) -> Result<(), Error>
     Ok(())
 }
 
-// Appends a slot with its name.
+// Appends a slot by its name.
 pub(crate) fn push_slot(
     alloc: Global,
     out: &mut String,
@@ -33,7 +33,7 @@ pub(crate) fn push_slot(
     push_quoted(out, &text)
 }
 
-// Appends an applied id with its names.
+// Appends an applied id by its names.
 pub(crate) fn push_id(
     alloc: Global,
     out: &mut String,

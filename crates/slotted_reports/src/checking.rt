@@ -1,4 +1,4 @@
-//! Whether what a graph keeps fits together.
+//! The check of what a graph stores: that its parts fit together.
 ghost use Rattle.std.specs.Prelude.{◌≡◌, IsTrue, IfOk, IfErr, IsErrOf};
 ghost use Rattle.slotted_slots.specs.Error.{IsShortage};
 ghost use Rattle.slotted_filing.specs.Filed.{HasKey};
@@ -14,7 +14,7 @@ use slotted_slots::Error;
 use slotted_store::Store;
 use std::alloc::Global;
 
-// Whether each class finds one that finds itself.
+// Returns whether each class leads to a live class.
 fn classes_fit<L: Language>(store: &Store<L>) -> bool
     requires { HasFinds store.now }
     ensures { IsTrue result }
@@ -27,7 +27,7 @@ fn classes_fit<L: Language>(store: &Store<L>) -> bool
     true
 }
 
-// Whether a key that is filed of a class is found as that of this class.
+// Returns whether looking up the shape that a source has filed gives that source.
 fn is_found<L: Language>(nodes: &Hashcons<L>, key: &L, source: usize) -> bool
     requires { HasKey nodes.now.filed source (L.form key.now) }
     ensures { IsTrue result }
@@ -38,21 +38,22 @@ fn is_found<L: Language>(nodes: &Hashcons<L>, key: &L, source: usize) -> bool
     }
 }
 
-// Whether a node has the form of another one.
+// Returns whether two e-nodes are the same. E-nodes with one form are.
 fn is_same<L: Language>(left: &L, right: &L) -> bool
     ensures { L.form left.now ≡ L.form right.now → IsTrue result }
 {
     left == right
 }
 
-// Whether all three hold.
+// Returns whether all three are true.
 fn all(first: bool, second: bool, third: bool) -> bool
     ensures { IsTrue first → IsTrue second → IsTrue third → IsTrue result }
 {
     first && second && third
 }
 
-// Whether the node that is filed of a class stands under its own shape, once, with a slot of the class for each number.
+// Returns whether the e-node that a source has filed is its own shape, is filed once, and has a slot for each of its
+// numbers.
 fn node_fits<L: Language>(nodes: &Hashcons<L>, alloc: Global, source: usize) -> Result<bool, Error>
     requires { HasKeyed nodes.now source }
     ensures ok { IfOk result (λ y. IsTrue y) }
@@ -69,7 +70,7 @@ fn node_fits<L: Language>(nodes: &Hashcons<L>, alloc: Global, source: usize) -> 
     }
 }
 
-// Whether each filed node does.
+// Returns whether `node_fits` holds for each source.
 fn nodes_fit<L: Language>(nodes: &Hashcons<L>, alloc: Global) -> Result<bool, Error>
     requires { HasKeyedEach nodes.now }
     ensures ok { IfOk result (λ y. IsTrue y) }
@@ -84,7 +85,8 @@ fn nodes_fit<L: Language>(nodes: &Hashcons<L>, alloc: Global) -> Result<bool, Er
     Ok(true)
 }
 
-/// Whether each class finds one that finds itself, and each filed node stands under its own shape, once. It is so where all is filed well.
+/// Returns whether each class leads to a live class, and each e-node is filed under its own shape, and once. The answer
+/// is true if the graph is well filed.
 pub fn check<L: Language>(
     store: &Store<L>,
     nodes: &Hashcons<L>,

@@ -1,4 +1,4 @@
-//! What a graph holds, as a text: for each live class its slots, the node that it was made with, and its filed nodes.
+//! A graph as a text: for each live class its slots, its syntactic e-node, and its filed e-nodes.
 ghost use Rattle.std.specs.Prelude.{◌≡◌, ◌<◌, [], length, string_bytes, All, IfOk, OnOk, OnErr, IfErr, IsErrOf};
 ghost use Rattle.std.specs.List.{range_with_len};
 ghost use Rattle.slotted_slots.specs.Error.{IsOutOfMemory, IsShortage};
@@ -19,7 +19,7 @@ use slotted_store::Store;
 use std::alloc::Global;
 use std::fmt::Write;
 
-// The text of each child of a node.
+// Returns the text of each child of an e-node.
 fn child_texts<L: Language>(
     alloc: Global,
     table: &SlotTable,
@@ -35,7 +35,7 @@ fn child_texts<L: Language>(
     Ok(texts)
 }
 
-// The text of a node, over its applied ids.
+// Returns the text of an e-node, with applied ids for its children.
 fn text_of<L: Language>(alloc: Global, table: &SlotTable, node: &L) -> Result<String, Error>
     ensures { IfErr result IsOutOfMemory }
 {
@@ -65,7 +65,7 @@ fn push_class(
     Ok(())
 }
 
-// Appends the line of the node that a class was made with.
+// Appends the line of a class's syntactic e-node.
 fn push_canonical<L: Language>(
     alloc: Global,
     out: &mut String,
@@ -79,7 +79,7 @@ fn push_canonical<L: Language>(
     Ok(())
 }
 
-// The class that a filed node was made with, by its shape.
+// Returns the class that has filed an e-node, by its shape.
 fn source_of<L: Language>(alloc: Global, nodes: &Hashcons<L>, node: &L) -> Result<usize, Error>
     requires { IsSmall (L.form node.now) }
     ensures { IfErr result IsOutOfMemory }
@@ -88,7 +88,7 @@ fn source_of<L: Language>(alloc: Global, nodes: &Hashcons<L>, node: &L) -> Resul
     Ok(nodes.source_of(&key).unwrap_or(0))
 }
 
-// Appends the line of a filed node.
+// Appends the line of a filed e-node.
 fn push_node<L: Language>(
     alloc: Global,
     out: &mut String,
@@ -105,7 +105,7 @@ fn push_node<L: Language>(
     Ok(())
 }
 
-// Appends the lines of filed nodes.
+// Appends the lines of filed e-nodes.
 fn push_nodes<L: Language>(
     alloc: Global,
     out: &mut String,
@@ -122,7 +122,7 @@ fn push_nodes<L: Language>(
     Ok(())
 }
 
-// The filed nodes of a class, over its own slots.
+// Returns the filed e-nodes of a class, over the class's own slots.
 fn own_nodes<L: Language>(
     alloc: Global,
     store: &Store<L>,
@@ -147,7 +147,7 @@ fn own_nodes<L: Language>(
     Ok(answer)
 }
 
-// Appends what is told of a class.
+// Appends the lines of a class: its slots, its syntactic e-node and its filed e-nodes.
 fn push_whole<L: Language>(
     alloc: Global,
     out: &mut String,
@@ -175,7 +175,7 @@ fn push_whole<L: Language>(
     Ok(())
 }
 
-// Appends what is told of each live class.
+// Appends the lines of each live class.
 fn push_live<L: Language>(
     alloc: Global,
     out: &mut String,
@@ -204,8 +204,10 @@ fn push_live<L: Language>(
     Ok(())
 }
 
-/// Appends a line feed, then for each live class by its number a line feed, its line with its slots, `>> ` and the node that it was made
-/// with, and for each filed node by shape ` - ` and the node with the class that it was made with; and a line feed: whole or not at all.
+/// Appends a text of all live classes, in ascending order. If the call is refused, the text stays as it was.
+///
+/// A line feed comes first and last. Each class has an empty line, a line with its number and slots, a line `>> ` with
+/// its syntactic e-node, and for each filed e-node a line ` - ` with the class that has filed it.
 pub fn append_live<L: Language>(
     alloc: Global,
     out: &mut String,

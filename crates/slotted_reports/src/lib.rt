@@ -1,4 +1,5 @@
-//! Reports of a graph as a whole: how far it is, the filed nodes of a class, and whether all fits.
+//! Reports on a graph: its progress, the filed e-nodes of a class, a text of all classes, and a check of what is
+//! stored.
 #![tactic(auto)]
 
 pub mod checking;

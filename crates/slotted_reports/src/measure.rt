@@ -1,4 +1,4 @@
-//! How far a graph is. Nothing here takes memory.
+//! The progress of a graph. Nothing in this module takes memory.
 ghost use Rattle.std.specs.Prelude.{◌≡◌, length};
 ghost use Rattle.slotted_nodes.specs.Form.{counted};
 ghost use Rattle.slotted_adding.specs.Reports.{live_ids};
@@ -8,24 +8,25 @@ use slotted_adding::reports::is_alive;
 use slotted_languages::Language;
 use slotted_store::Store;
 
-/// How far a graph is. Calls never lower the number of classes. While that stands still, the number of live ones never rises, and while both
-/// stand still, the sum of slots never does.
+/// How far a graph has come. No call lowers the number of classes. While this number stays the same, the number of live
+/// classes never rises; while both stay the same, the sum of slots never rises.
 #[derive(Drop, PartialEq, Eq)]
 pub struct ProgressMeasure {
-    /// The number of classes, dead ones too.
+    /// The number of classes, including dead ones.
     pub number_of_classes: usize,
 
-    /// The number of classes that find themselves.
+    /// The number of live classes.
     pub number_of_live_classes: usize,
 
-    /// How many slots these have left, together. It ends at `usize::MAX`.
+    /// The number of slots of all live classes together, at most `usize::MAX`.
     pub sum_of_slots: usize,
 
-    /// The number of live classes again: each has the identity, and listed symmetries are not counted.
+    /// The number of live classes once more: each has the identity as a symmetry, and listed symmetries are not
+    /// counted.
     pub sum_of_symmetries: usize,
 }
 
-// The number of classes that lead to themselves.
+// Returns the number of live classes.
 fn live_count<L: Language>(store: &Store<L>) -> usize
     ensures { result ≡ length (live_ids store.now) }
 {
@@ -38,7 +39,7 @@ fn live_count<L: Language>(store: &Store<L>) -> usize
     count
 }
 
-// The number of their slots.
+// Returns the number of slots of all live classes together.
 fn slot_count<L: Language>(store: &Store<L>) -> usize
     ensures { result ≡ counted (live_slots store.now) }
 {
@@ -51,7 +52,7 @@ fn slot_count<L: Language>(store: &Store<L>) -> usize
     count
 }
 
-/// How far a graph is.
+/// Returns the progress measure of a graph.
 pub fn progress<L: Language>(store: &Store<L>) -> ProgressMeasure
     ensures classes { result.number_of_classes ≡ length store.now.classes }
     ensures live { result.number_of_live_classes ≡ length (live_ids store.now) }

@@ -1,4 +1,5 @@
-//! The filed nodes of a class, ascending by their keys, with the names of an id; and as a set, over slots of the class.
+//! The filed e-nodes of a class: as a list with the names of an id, ascending by shape, and as a set over the class's
+//! own slots.
 ghost use Rattle.std.specs.Prelude.{◌≡◌, [], ◌∷◌, map, All, IfOk, IfErr, IsErrOf};
 ghost use Rattle.std.specs.List.Sorted.{IsPermutation};
 ghost use Rattle.slotted_slots.specs.Error.{IsOutOfMemory, IsShortage};
@@ -25,9 +26,9 @@ use slotted_store::Store;
 use std::alloc::Global;
 use std::collections::HashSet;
 
-// In order.
+// The order of sources.
 
-// The keys of these sources, each with its source.
+// Returns the filed shape of each source, beside the source.
 fn with_keys<'a, L: Language>(
     nodes: &'a Hashcons<L>,
     alloc: Global,
@@ -47,7 +48,7 @@ fn with_keys<'a, L: Language>(
     Ok(pairs)
 }
 
-// The sources of such pairs.
+// Returns the sources of such pairs.
 fn sources_of<L: Language>(alloc: Global, pairs: &[(&L, usize)]) -> Result<Vec<usize>, Error>
     ensures ok { IfOk result (λ v. v.items ≡ map (λ p. p.1) pairs.now) }
     ensures err { IfErr result IsOutOfMemory }
@@ -59,7 +60,7 @@ fn sources_of<L: Language>(alloc: Global, pairs: &[(&L, usize)]) -> Result<Vec<u
     Ok(sources)
 }
 
-// The same sources, ascending by key.
+// Returns the sources in ascending order of their filed shapes.
 fn in_order<L: Language>(
     nodes: &Hashcons<L>,
     alloc: Global,
@@ -76,9 +77,9 @@ fn in_order<L: Language>(
     Ok(ordered)
 }
 
-// With names.
+// E-nodes with the names of an id.
 
-// The node that is filed of a class, with the names of an id that finds the same class. Each other name is fresh.
+// Returns the e-node that a source has filed, with the names of an id of its live class. Each other name is fresh.
 fn filed_node<L: Language>(
     store: &Store<L>,
     nodes: &Hashcons<L>,
@@ -112,7 +113,7 @@ fn filed_node<L: Language>(
     }
 }
 
-// The nodes of these sources, in turn.
+// Returns the e-node of each source, in turn.
 fn filed_nodes<L: Language>(
     store: &Store<L>,
     nodes: &Hashcons<L>,
@@ -142,8 +143,9 @@ fn filed_nodes<L: Language>(
     Ok(answer)
 }
 
-/// For each filed node of an id's class a node with the id's names, ascending by their shapes. No node waits. A slot that finds do not use has
-/// a fresh name, and so has each binder. A dead class has no filed nodes.
+/// Returns one e-node for each filed e-node of an id's class, with the names of the id, ascending by shape.
+///
+/// Redundant slots and binders get fresh names. A dead class has no filed e-nodes. Nothing may be pending.
 pub fn enodes_applied<L: Language>(
     store: &Store<L>,
     nodes: &Hashcons<L>,
@@ -170,9 +172,9 @@ pub fn enodes_applied<L: Language>(
     Ok(answer)
 }
 
-// As a set.
+// E-nodes as a set.
 
-// The nodes of these sources with the names of an id, in a set: no two have one key.
+// Returns the e-nodes of these sources, with the names of an id, as a set. No two of them have one shape.
 fn node_set<L: Language>(
     store: &Store<L>,
     nodes: &Hashcons<L>,
@@ -198,8 +200,9 @@ fn node_set<L: Language>(
     Ok(set)
 }
 
-/// The filed nodes of an id's class with the id's names, which are fresh slots. No node waits. A number stays that stands for no name of
-/// the id, and so does each binder: so no table is needed.
+/// Returns the filed e-nodes of an id's class as a set, with the names of the id, which have to be fresh slots.
+///
+/// Redundant slots and binders keep their numbers, so that no slot table is needed. Nothing may be pending.
 pub fn enodes<L: Language>(
     store: &Store<L>,
     nodes: &Hashcons<L>,

@@ -1,4 +1,4 @@
-//! Ids that texts write: of terms and nodes that are added, and of nodes that are looked up.
+//! Ids of texts: of terms and e-nodes that are added, and of e-nodes that are looked up.
 use crate::graphs::{node_of, put};
 use crate::words::Question;
 use slotted_graph::EGraph;
@@ -8,7 +8,7 @@ use slotted_slots::{AppliedId, Error};
 use slotted_terms::expr::RecExpr;
 use std::alloc::Global;
 
-// What a term is looked up as, if it is valid. Where there is no answer, it is added.
+// Adds a term by look-up, if the term is valid.
 fn add_term<L: Language>(graph: &mut EGraph<L>, term: &RecExpr<L>) -> Result<AppliedId, Error> {
     if graph.is_valid_expr(term) {
         graph.add_expr(term)
@@ -17,13 +17,13 @@ fn add_term<L: Language>(graph: &mut EGraph<L>, term: &RecExpr<L>) -> Result<App
     }
 }
 
-// The same of the term that a text writes.
+// Adds the term of a text by look-up.
 fn add<L: Language>(graph: &mut EGraph<L>, text: &str) -> Result<AppliedId, Error> {
     let term = graph.parse_expr(text)?;
     add_term(graph, &term)
 }
 
-// The id of a node, added by itself, if it is valid.
+// Adds an e-node by look-up, if the e-node is valid.
 fn put_node<L: Language>(graph: &mut EGraph<L>, node: L) -> Result<AppliedId, Error> {
     if graph.is_valid_node(&node) {
         graph.add(node)
@@ -32,7 +32,7 @@ fn put_node<L: Language>(graph: &mut EGraph<L>, node: L) -> Result<AppliedId, Er
     }
 }
 
-// The class that was made with a node, if that is valid.
+// Adds an e-node as a syntactic e-node, if the e-node is valid.
 fn put_syn<L: Language>(graph: &mut EGraph<L>, node: L) -> Result<AppliedId, Error> {
     if graph.is_valid_node(&node) {
         graph.add_syn(node)
@@ -41,7 +41,7 @@ fn put_syn<L: Language>(graph: &mut EGraph<L>, node: L) -> Result<AppliedId, Err
     }
 }
 
-/// What a node is looked up as, if it is valid.
+/// Looks an e-node up, if the e-node is valid.
 pub fn look_up<L: Language>(graph: &EGraph<L>, node: &L) -> Result<Option<AppliedId>, Error> {
     if graph.is_valid_node(node) {
         graph.lookup(node)
@@ -50,7 +50,7 @@ pub fn look_up<L: Language>(graph: &EGraph<L>, node: &L) -> Result<Option<Applie
     }
 }
 
-// The same, or the null id.
+// Looks an e-node up. Returns the null id if there is none.
 fn sought<L: Language>(alloc: Global, graph: &EGraph<L>, node: &L) -> Result<AppliedId, Error> {
     match look_up(graph, node)? {
         Some(id) => Ok(id),
@@ -58,7 +58,7 @@ fn sought<L: Language>(alloc: Global, graph: &EGraph<L>, node: &L) -> Result<App
     }
 }
 
-// The id of a node, by the word for how it is made.
+// Returns the id of an e-node, by the word for how the id is made.
 fn made_of_node<L: Language>(
     alloc: Global,
     graph: &mut EGraph<L>,
@@ -72,7 +72,7 @@ fn made_of_node<L: Language>(
     }
 }
 
-// The same of the node of a text.
+// Returns the id of the e-node of a text, by the word for how the id is made.
 fn made_of_text<L: Language>(
     alloc: Global,
     graph: &mut EGraph<L>,
@@ -83,7 +83,7 @@ fn made_of_text<L: Language>(
     made_of_node(alloc, graph, word, node)
 }
 
-// The id that a text writes.
+// Returns the id of a text, by the word for how the id is made.
 fn made<L: Language>(
     alloc: Global,
     graph: &mut EGraph<L>,
@@ -97,7 +97,7 @@ fn made<L: Language>(
     }
 }
 
-// Puts the id that a text writes in the place of this one.
+// Replaces an id by the id of a text.
 fn make<L: Language>(
     alloc: Global,
     graph: &mut EGraph<L>,
@@ -109,7 +109,7 @@ fn make<L: Language>(
     Ok(())
 }
 
-/// Makes the id of one of the sides of its text.
+/// Replaces the id of one side by the id of its text.
 pub fn make_side<L: Language>(
     alloc: Global,
     graph: &mut EGraph<L>,
@@ -123,7 +123,7 @@ pub fn make_side<L: Language>(
     }
 }
 
-/// The same, and whether nothing was proved for it.
+/// Replaces an id by that of a text's e-node. Returns whether nothing was proved for it.
 pub fn stays<L: Language>(
     alloc: Global,
     graph: &mut EGraph<L>,

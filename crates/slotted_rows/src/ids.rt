@@ -1,4 +1,4 @@
-//! What is asked of two ids.
+//! Questions on two ids.
 use crate::graphs::{parted, slot, yes};
 use slotted_graph::EGraph;
 use slotted_languages::Language;
@@ -7,7 +7,7 @@ use slotted_slots::{AppliedId, Error, Id, Slot, SlotMap};
 use std::alloc::Global;
 use std::mem;
 
-// Whether two ids are equal, if they can be asked.
+// Returns whether two ids are equal, if both are valid.
 fn equal<L: Language>(graph: &EGraph<L>, a: &AppliedId, b: &AppliedId) -> Result<bool, Error> {
     if graph.is_valid(a) && graph.is_valid(b) {
         graph.eq(a, b)
@@ -16,7 +16,7 @@ fn equal<L: Language>(graph: &EGraph<L>, a: &AppliedId, b: &AppliedId) -> Result
     }
 }
 
-/// How two ids are related.
+/// Returns how two ids are related.
 pub fn related<L: Language>(
     graph: &EGraph<L>,
     a: &AppliedId,
@@ -31,7 +31,7 @@ pub fn related<L: Language>(
     }
 }
 
-/// What an id finds, if it can be asked.
+/// Returns what an id finds, if the id is valid.
 pub fn found<L: Language>(graph: &EGraph<L>, a: &AppliedId) -> Result<AppliedId, Error> {
     if graph.is_valid(a) {
         graph.find_applied_id(a)
@@ -40,7 +40,7 @@ pub fn found<L: Language>(graph: &EGraph<L>, a: &AppliedId) -> Result<AppliedId,
     }
 }
 
-/// The class of an id with its own slots as its names, if it can be asked.
+/// Returns the class of an id, with its own slots for names, if the class exists.
 pub fn own<L: Language>(graph: &EGraph<L>, a: &AppliedId) -> Result<AppliedId, Error> {
     if graph.is_valid_id(a.id) {
         graph.mk_identity_applied_id(a.id)
@@ -49,7 +49,7 @@ pub fn own<L: Language>(graph: &EGraph<L>, a: &AppliedId) -> Result<AppliedId, E
     }
 }
 
-/// The number of slots that the class of an id has left.
+/// Returns how many slots the class of an id has left.
 pub fn slots_left<L: Language>(graph: &EGraph<L>, a: &AppliedId) -> Result<usize, Error> {
     if !graph.is_valid_id(a.id) {
         return Err(Error::NotATerm);
@@ -57,7 +57,7 @@ pub fn slots_left<L: Language>(graph: &EGraph<L>, a: &AppliedId) -> Result<usize
     Ok(graph.slots(a.id)?.len())
 }
 
-/// How the two sides of a symmetry that was met are related.
+/// Returns how the two sides of a listed symmetry are related.
 pub fn sides_related<L: Language>(graph: &EGraph<L>, number: usize) -> Result<&'static str, Error> {
     match graph.symmetries_met().get(number) {
         Some(symmetry) => related(graph, &symmetry.equation.l, &symmetry.equation.r),
@@ -65,7 +65,7 @@ pub fn sides_related<L: Language>(graph: &EGraph<L>, number: usize) -> Result<&'
     }
 }
 
-/// Whether the two sides of as many symmetries as are open are not equal.
+/// Returns whether exactly as many listed symmetries have unequal sides as are said to be open.
 pub fn are_counted<L: Language>(graph: &EGraph<L>) -> Result<bool, Error> {
     let mut left = graph.open_symmetries()?;
     for symmetry in graph.symmetries_met() {
@@ -79,7 +79,7 @@ pub fn are_counted<L: Language>(graph: &EGraph<L>) -> Result<bool, Error> {
     Ok(left == 0)
 }
 
-// What a union answers, if the ids can be asked.
+// Unites both ids, if they are valid, and returns the answer.
 fn unite<L: Language>(graph: &mut EGraph<L>, sides: &Equation) -> Result<bool, Error> {
     if graph.is_valid(&sides.l) && graph.is_valid(&sides.r) {
         graph.union(&sides.l, &sides.r)
@@ -88,7 +88,7 @@ fn unite<L: Language>(graph: &mut EGraph<L>, sides: &Equation) -> Result<bool, E
     }
 }
 
-// The same, with a text that says why.
+// Unites both ids with a text that says why, if they are valid, and returns the answer.
 fn unite_since<L: Language>(
     graph: &mut EGraph<L>,
     sides: &Equation,
@@ -101,7 +101,7 @@ fn unite_since<L: Language>(
     }
 }
 
-/// What a union answers, because of a text if there is one.
+/// Unites both ids, with the text unless it is empty, and returns the answer.
 pub fn unite_because<L: Language>(
     alloc: Global,
     graph: &mut EGraph<L>,
@@ -115,14 +115,14 @@ pub fn unite_because<L: Language>(
     }
 }
 
-// Puts another slot in at a place of the id, if it has the place.
+// Puts another slot at a place of an id, if the id has the place.
 fn put_slot(id: &mut AppliedId, i: usize, slot: Slot) {
     if i < id.m.len() {
         id.m.set_value_at(i, slot);
     }
 }
 
-// Takes the first slot of the id away.
+// Removes the first slot of an id.
 fn shorten(a: &mut AppliedId) {
     let first = a.m.iter().next();
     if let Some((key, _)) = first {
@@ -130,7 +130,7 @@ fn shorten(a: &mut AppliedId) {
     }
 }
 
-// The class of this number without slots.
+// Returns the class of this number without slots.
 fn bare(alloc: Global, number: &str) -> AppliedId {
     AppliedId {
         id: Id(number.parse::<usize>().unwrap_or(0)),
@@ -138,14 +138,14 @@ fn bare(alloc: Global, number: &str) -> AppliedId {
     }
 }
 
-// Puts one pair more in.
+// Adds a pair to the map of an id.
 fn put_more(id: &mut AppliedId, slot: Slot) -> Result<(), Error> {
     id.m.insert(slot, slot)?;
     Ok(())
 }
 
-// The left id with another slot at a place, with one pair more, as a class of this number without slots, or over the slots of
-// the right one.
+// Changes the left id: another slot at a place, one more pair, a class of this number without slots, or the slots of
+// the right id.
 fn change(alloc: Global, sides: &mut Equation, how: &str) -> Result<(), Error> {
     let (word, name) = parted(how, " ");
     let slot = slot(alloc, name)?;
@@ -159,13 +159,13 @@ fn change(alloc: Global, sides: &mut Equation, how: &str) -> Result<(), Error> {
     Ok(())
 }
 
-// Puts what an id finds in its place.
+// Replaces an id by what it finds.
 fn find<L: Language>(graph: &EGraph<L>, id: &mut AppliedId) -> Result<(), Error> {
     *id = found(graph, id)?;
     Ok(())
 }
 
-// Puts the id of its class over its own slots in its place.
+// Replaces an id by its class over the class's own slots.
 fn make_own<L: Language>(graph: &EGraph<L>, id: &mut AppliedId) -> Result<(), Error> {
     *id = own(graph, id)?;
     Ok(())
@@ -191,7 +191,7 @@ pub fn turn<L: Language>(
     }
 }
 
-// Whether this is the class 0 with the slot of this name alone put in, for its one slot.
+// Returns whether the id is the class 0 with the slot of this name for its one slot.
 fn is_first_over(alloc: Global, id: &AppliedId, name: &str) -> Result<bool, Error> {
     let slot = slot(alloc, name)?;
     match id.m.iter().next() {
@@ -200,12 +200,12 @@ fn is_first_over(alloc: Global, id: &AppliedId, name: &str) -> Result<bool, Erro
     }
 }
 
-// Whether the id is over as many slots as its class has left.
+// Returns whether the id has as many slots as its class has left.
 fn is_narrow<L: Language>(graph: &EGraph<L>, id: &AppliedId) -> Result<bool, Error> {
     Ok(slots_left(graph, id)? == id.m.len())
 }
 
-/// Whether it holds of the ids, or of the graph.
+/// Returns whether a word holds of the ids, or of the graph.
 pub fn holds<L: Language>(
     alloc: Global,
     graph: &EGraph<L>,

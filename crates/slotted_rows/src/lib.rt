@@ -1,5 +1,7 @@
-//! What tests ask of a graph by words, and what is answered to that as a text: the rows of tables in crates of tests are
-//! read with it. No test stands here, so that it is proved once. What is asked of printed proofs stands in a crate of tests.
+//! Questions of tests: words by which tests ask a graph, and their answers as texts. Crates of tests read the rows of
+//! their tables with them.
+//!
+//! No test stands here, so that this crate is proved once. Questions on printed proofs stand in a crate of tests.
 #![tactic(auto)]
 
 mod found;

@@ -1,4 +1,4 @@
-//! Which nodes and terms that one graph reads are those of another one.
+//! Which e-nodes and terms that one graph reads belong to another one.
 use crate::graphs::{node_of, parted};
 use crate::words::Question;
 use slotted_graph::EGraph;
@@ -7,7 +7,7 @@ use slotted_slots::Error;
 use slotted_terms::expr::RecExpr;
 use std::alloc::Global;
 
-// Whether the node of a text, made in another graph, is one over this graph.
+// Returns whether the e-node of a text, made in the other graph, is valid in this graph.
 fn is_node<L: Language>(
     graph: &EGraph<L>,
     other: &mut EGraph<L>,
@@ -17,7 +17,7 @@ fn is_node<L: Language>(
     Ok(graph.is_valid_node(&node))
 }
 
-// The term of a text, without its children.
+// Returns the term of a text, without its children.
 fn childless<L: Language>(
     alloc: Global,
     graph: &mut EGraph<L>,
@@ -30,7 +30,7 @@ fn childless<L: Language>(
     })
 }
 
-// Puts the node of a text under a term, without children.
+// Puts the e-node of a text, without children, under a term.
 fn put_child<L: Language>(
     alloc: Global,
     graph: &mut EGraph<L>,
@@ -42,7 +42,7 @@ fn put_child<L: Language>(
     Ok(())
 }
 
-// The node of `T` over the node of `U` alone, for `T / U`.
+// Returns the e-node of `T` over the e-node of `U` alone, for the text `T / U`.
 fn above<L: Language>(
     alloc: Global,
     graph: &mut EGraph<L>,
@@ -54,7 +54,7 @@ fn above<L: Language>(
     Ok(term)
 }
 
-// The term of a text, of the node of a text without children, or of a node over another.
+// Returns the term of a text, the e-node of a text without children, or one e-node over another.
 fn term_of<L: Language>(
     alloc: Global,
     graph: &mut EGraph<L>,
@@ -68,7 +68,7 @@ fn term_of<L: Language>(
     }
 }
 
-// Whether that, made in another graph, is a term over this graph.
+// Returns whether such a term, made in the other graph, is valid in this graph.
 fn is_term<L: Language>(
     alloc: Global,
     graph: &EGraph<L>,
@@ -80,7 +80,7 @@ fn is_term<L: Language>(
     Ok(graph.is_valid_expr(&term))
 }
 
-/// Whether what another graph reads, a node or a term, is valid in this graph.
+/// Returns whether what the other graph reads, an e-node or a term, is valid in this graph.
 pub fn is_known<L: Language>(
     alloc: Global,
     graph: &EGraph<L>,

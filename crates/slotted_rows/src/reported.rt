@@ -1,4 +1,4 @@
-//! What is counted in a graph, and what is asked of its filed nodes.
+//! What is counted in a graph, and questions on filed e-nodes.
 use crate::found::look_up;
 use crate::ids::{own, slots_left};
 use slotted_graph::EGraph;
@@ -7,7 +7,7 @@ use slotted_slots::{AppliedId, Error, Id};
 use std::alloc::Global;
 use std::collections::HashSet;
 
-// The filed nodes of an id's class, if it can be asked.
+// Returns the filed e-nodes of an id's class, if the id is valid.
 fn nodes_of<L: Language>(graph: &mut EGraph<L>, a: &AppliedId) -> Result<Vec<L>, Error> {
     if graph.is_valid(a) {
         graph.enodes_applied(a)
@@ -16,7 +16,7 @@ fn nodes_of<L: Language>(graph: &mut EGraph<L>, a: &AppliedId) -> Result<Vec<L>,
     }
 }
 
-// Whether a node is looked up as this id.
+// Returns whether an e-node is looked up as this id.
 fn is_found<L: Language>(graph: &EGraph<L>, node: &L, id: &AppliedId) -> Result<bool, Error> {
     match look_up(graph, node)? {
         Some(found) => Ok(found == *id),
@@ -24,7 +24,7 @@ fn is_found<L: Language>(graph: &EGraph<L>, node: &L, id: &AppliedId) -> Result<
     }
 }
 
-// Whether each node is.
+// Returns whether each e-node is looked up as this id.
 fn are_found<L: Language>(graph: &EGraph<L>, nodes: &[L], id: &AppliedId) -> Result<bool, Error> {
     for node in nodes {
         if !is_found(graph, node, id)? {
@@ -34,14 +34,14 @@ fn are_found<L: Language>(graph: &EGraph<L>, nodes: &[L], id: &AppliedId) -> Res
     Ok(true)
 }
 
-// Whether the shape of one node is less than that of another.
+// Returns whether the shape of one e-node is less than that of another.
 fn is_before<L: Language>(alloc: Global, left: &L, right: &L) -> Result<bool, Error> {
     let (left, _) = left.weak_shape(alloc)?;
     let (right, _) = right.weak_shape(alloc)?;
     Ok(left < right)
 }
 
-// Whether the shapes ascend.
+// Returns whether the shapes of e-nodes ascend.
 fn ascend<L: Language>(alloc: Global, nodes: &[L]) -> Result<bool, Error> {
     for i in 1..nodes.len() {
         if !is_before(alloc, &nodes[i - 1], &nodes[i])? {
@@ -51,7 +51,7 @@ fn ascend<L: Language>(alloc: Global, nodes: &[L]) -> Result<bool, Error> {
     Ok(true)
 }
 
-// The filed nodes of a class in a set, if it can be asked.
+// Returns the filed e-nodes of a class as a set, if the class exists.
 fn set_of<L: Language>(graph: &EGraph<L>, id: Id) -> Result<HashSet<L>, Error> {
     if graph.is_valid_id(id) {
         graph.enodes(id)
@@ -60,7 +60,7 @@ fn set_of<L: Language>(graph: &EGraph<L>, id: Id) -> Result<HashSet<L>, Error> {
     }
 }
 
-// How many of these are looked up as this id.
+// Returns how many e-nodes of a set are looked up as this id.
 fn found_count<L: Language>(
     graph: &EGraph<L>,
     nodes: &HashSet<L>,
@@ -75,14 +75,14 @@ fn found_count<L: Language>(
     Ok(count)
 }
 
-// How many nodes the set of a class has that are looked up as the class with its own slots.
+// Returns how many e-nodes of a class's set are looked up as the class with its own slots.
 fn member_count<L: Language>(graph: &EGraph<L>, a: &AppliedId) -> Result<usize, Error> {
     let class = own(graph, a)?;
     let nodes = set_of(graph, a.id)?;
     found_count(graph, &nodes, &class)
 }
 
-// How many nodes the sets of all live classes have together.
+// Returns how many e-nodes the sets of all live classes have together.
 fn all_members<L: Language>(graph: &EGraph<L>) -> Result<usize, Error> {
     let mut count: usize = 0;
     for id in graph.ids()? {
@@ -91,7 +91,7 @@ fn all_members<L: Language>(graph: &EGraph<L>) -> Result<usize, Error> {
     Ok(count)
 }
 
-/// Whether the filed nodes of an id's class ascend, and are looked up as the id.
+/// Returns whether the filed e-nodes of an id's class ascend, and are looked up as the id.
 pub fn are_its<L: Language>(
     alloc: Global,
     graph: &mut EGraph<L>,
@@ -101,12 +101,12 @@ pub fn are_its<L: Language>(
     Ok(ascend(alloc, &nodes)? && are_found(graph, &nodes, id)?)
 }
 
-// How many there are.
+// Returns how many filed e-nodes the class of an id has.
 fn node_count<L: Language>(graph: &mut EGraph<L>, a: &AppliedId) -> Result<usize, Error> {
     Ok(nodes_of(graph, a)?.len())
 }
 
-// The number of children of the canonical node of an id, if it can be found.
+// Returns how many children the syntactic e-node of an id has, if the id is valid.
 fn child_count<L: Language>(graph: &mut EGraph<L>, a: &AppliedId) -> Result<usize, Error> {
     if !graph.is_valid(a) {
         return Err(Error::NotATerm);
@@ -115,7 +115,7 @@ fn child_count<L: Language>(graph: &mut EGraph<L>, a: &AppliedId) -> Result<usiz
     Ok(node.applied_id_count())
 }
 
-// The length of the list of live classes, of proofs or of what was asserted.
+// Returns the length of the list of live classes, of proofs, or of asserted equations.
 fn number_of_list<L: Language>(graph: &EGraph<L>, word: &str) -> Result<usize, Error> {
     match word {
         "live" => Ok(graph.ids()?.len()),
@@ -124,7 +124,7 @@ fn number_of_list<L: Language>(graph: &EGraph<L>, word: &str) -> Result<usize, E
     }
 }
 
-// A number of how far the graph is.
+// Returns a number of the graph's progress.
 fn number_of_report<L: Language>(graph: &EGraph<L>, word: &str) -> usize {
     match word {
         "total" => graph.total_number_of_nodes(),
@@ -134,7 +134,7 @@ fn number_of_report<L: Language>(graph: &EGraph<L>, word: &str) -> usize {
     }
 }
 
-/// A number that is asked of an id, of the graph's reports or of its lists.
+/// Returns a number that is asked of an id, of the graph's reports, or of its lists.
 pub fn number_of<L: Language>(
     graph: &mut EGraph<L>,
     id: &AppliedId,
@@ -152,7 +152,8 @@ pub fn number_of<L: Language>(
     }
 }
 
-/// Whether the last rebuild took no more turns than its bound allows, and all rebuilds together no more than theirs.
+/// Returns whether the last rebuild took no more turns than its bound allows, and all rebuilds together no more than
+/// the sum of their bounds.
 pub fn is_within_bounds<L: Language>(graph: &EGraph<L>) -> bool {
     let last = graph.last_rebuild();
     let (turns, bound) = graph.rebuild_totals();
@@ -161,7 +162,7 @@ pub fn is_within_bounds<L: Language>(graph: &EGraph<L>) -> bool {
     last.size_after <= last.size_before && last.turns as u128 <= most && turns as u128 <= bound
 }
 
-/// Whether the last rebuild left as many live classes and slots as there are.
+/// Returns whether the last rebuild left as many live classes and slots as there are now.
 pub fn has_left_size<L: Language>(graph: &EGraph<L>) -> bool {
     let last = graph.last_rebuild();
     let progress = graph.progress();

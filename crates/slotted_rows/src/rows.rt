@@ -1,4 +1,4 @@
-//! What is answered to a question `ASK: TERMS`.
+//! Answers to questions `ASK: TERMS`.
 use crate::graphs::parted;
 use crate::words::{Question, asked, meaning};
 use slotted_graph::EGraph;
@@ -7,7 +7,7 @@ use slotted_slots::{AppliedId, Error};
 use slotted_terms::expr::printing::Printable;
 use std::alloc::Global;
 
-// Asks words in turn, up to the first that is not answered by yes.
+// Asks words in turn, up to the first that is not answered by yes, and returns its answer.
 fn asked_in_turn<L: Printable>(
     alloc: Global,
     graph: &mut EGraph<L>,
@@ -27,7 +27,7 @@ fn asked_in_turn<L: Printable>(
     Ok("yes")
 }
 
-// The same of two null ids at first.
+// Asks words in turn, beginning with two null ids.
 fn answered<L: Printable>(
     alloc: Global,
     graph: &mut EGraph<L>,
@@ -44,7 +44,7 @@ fn answered<L: Printable>(
     asked_in_turn(alloc, graph, other, known, &mut sides, question, words, out)
 }
 
-// Writes what is answered.
+// Writes the answer to a question.
 fn write_answer<L: Printable>(
     alloc: Global,
     graph: &mut EGraph<L>,
@@ -67,7 +67,7 @@ fn write_answer<L: Printable>(
     Ok(())
 }
 
-/// What is answered to a question. The memory of a short answer is taken first: so nothing is refused once the graph was asked.
+/// Answers a question. Memory for a short answer is taken first, so that no answer is lost once the graph was asked.
 pub fn answer<L: Printable>(
     alloc: Global,
     graph: &mut EGraph<L>,
@@ -80,7 +80,7 @@ pub fn answer<L: Printable>(
     Ok(out)
 }
 
-/// What is answered to a question, which may be asked of the other graph.
+/// Answers a question, which may ask the other graph.
 pub fn answer_of_either<L: Printable>(
     alloc: Global,
     graph: &mut EGraph<L>,

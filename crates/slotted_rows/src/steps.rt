@@ -1,4 +1,4 @@
-//! Steps that callers ask for, by the names of the steps.
+//! Proof steps that tests ask for, by their names.
 use crate::graphs::{parted, yes};
 use crate::ids::unite_because;
 use slotted_graph::{Check, EGraph};
@@ -10,7 +10,7 @@ use slotted_slots::Error;
 use slotted_terms::expr::RecExpr;
 use std::alloc::Global;
 
-// The number of an equation that is asserted.
+// Asserts an equation, and returns the number of the last asserted entry.
 fn asserted<L: Language>(
     alloc: Global,
     graph: &mut EGraph<L>,
@@ -24,7 +24,7 @@ fn asserted<L: Language>(
     }
 }
 
-// The parts that digits name: each is the place of an earlier answer.
+// Returns the parts that digits name. A digit is the place of an earlier answer.
 fn parts_of(alloc: Global, known: &[ProvenEq], digits: &str) -> Result<Vec<ProvenEq>, Error> {
     let mut parts = Vec::new(alloc);
     for digit in digits.bytes() {
@@ -35,6 +35,7 @@ fn parts_of(alloc: Global, known: &[ProvenEq], digits: &str) -> Result<Vec<Prove
     Ok(parts)
 }
 
+// Checks the congruent step over the parts that digits name, for an equation.
 fn congruent<L: Language>(
     alloc: Global,
     graph: &mut EGraph<L>,
@@ -46,7 +47,7 @@ fn congruent<L: Language>(
     CongruenceProof(parts).check(equation, graph)
 }
 
-/// The part that a digit names.
+/// Returns the part that a digit names.
 pub fn part(known: &[ProvenEq], digit: Option<&u8>) -> Result<ProvenEq, Error> {
     match digit {
         Some(digit) => match known.get(usize::from(digit.wrapping_sub(b'0'))) {
@@ -57,7 +58,7 @@ pub fn part(known: &[ProvenEq], digit: Option<&u8>) -> Result<ProvenEq, Error> {
     }
 }
 
-// What a step of this name over these parts answers of the equation.
+// Checks the step of this name, over the parts that digits name, for an equation.
 fn step_over<L: Language>(
     alloc: Global,
     graph: &mut EGraph<L>,
@@ -81,8 +82,8 @@ fn step_over<L: Language>(
     }
 }
 
-/// What a step answers: `accepted`, and its number is known from now on, or a refusal, and the graph has as many entries as
-/// before.
+/// Checks a step, and keeps the number of its entry if the step is accepted. A refusal has to leave the graph with as
+/// many entries as before.
 pub fn answer<L: Language>(
     alloc: Global,
     graph: &mut EGraph<L>,
@@ -101,7 +102,7 @@ pub fn answer<L: Language>(
     }
 }
 
-// The proof that two terms are equal, if both are valid.
+// Explains why two terms are equal, if both are valid.
 fn explanation<L: Language>(
     graph: &mut EGraph<L>,
     left: &RecExpr<L>,
@@ -115,7 +116,7 @@ fn explanation<L: Language>(
     Err(Error::NotATerm)
 }
 
-/// Explains why the terms of two texts are equal. The number of the entry is known from now on.
+/// Explains why the terms of two texts are equal, and keeps the number of the entry.
 pub fn explained<L: Language>(
     graph: &mut EGraph<L>,
     known: &mut Vec<ProvenEq>,
@@ -129,7 +130,8 @@ pub fn explained<L: Language>(
     Ok("explained")
 }
 
-/// Whether the number that a digit names is that of the last entry, of the next one, of the third one or a later one, or valid.
+/// Returns whether the number that a digit names is the last one, the next one, the third or a later one, or a valid
+/// one.
 pub fn numbered<L: Language>(
     graph: &EGraph<L>,
     known: &[ProvenEq],

@@ -1,4 +1,4 @@
-//! What is printed of terms and patterns.
+//! Printed terms and patterns.
 use slotted_graph::EGraph;
 use slotted_languages::Language;
 use slotted_patterns::Pattern;
@@ -7,7 +7,7 @@ use slotted_terms::expr::RecExpr;
 use slotted_terms::expr::printing::Printable;
 use std::alloc::Global;
 
-// What is printed of a pattern.
+// Returns a pattern as it is printed.
 fn shown<L: Language>(
     alloc: Global,
     pattern: &Pattern<L>,
@@ -17,31 +17,31 @@ fn shown<L: Language>(
     Ok(format!(in alloc; "{shown}")?)
 }
 
-// What is printed, with the graph's names, of the pattern that a text writes.
+// Returns the pattern of a text as it is printed, with the graph's names.
 fn pattern<L: Language>(alloc: Global, graph: &mut EGraph<L>, text: &str) -> Result<String, Error> {
     let pattern = graph.parse_pattern(text)?;
     shown(alloc, &pattern, graph.table())
 }
 
-// What is printed of a slot.
+// Returns a slot as it is printed.
 fn slot_text(alloc: Global, slot: Slot, table: &SlotTable) -> Result<String, Error> {
     let shown = slot.show(table);
     Ok(format!(in alloc; "{shown}")?)
 }
 
-// The same of the slot of a name.
+// Returns the slot of a name as it is printed.
 fn slot<L: Language>(alloc: Global, graph: &mut EGraph<L>, name: &str) -> Result<String, Error> {
     let slot = graph.named_slot(name)?;
     slot_text(alloc, slot, graph.table())
 }
 
-// What is printed of the term that a text writes.
+// Returns the term of a text as it is printed.
 fn term<L: Printable>(alloc: Global, graph: &mut EGraph<L>, text: &str) -> Result<String, Error> {
     let term = graph.parse_expr(text)?;
     term.text(alloc, graph.table())
 }
 
-/// The canonical term of an id, if it can be found.
+/// Returns the canonical term of an id as it is printed, if the id is valid.
 pub fn canonical<L: Printable>(
     alloc: Global,
     graph: &mut EGraph<L>,
@@ -54,7 +54,7 @@ pub fn canonical<L: Printable>(
     term.text(alloc, graph.table())
 }
 
-// Whether each child id inside a node is null.
+// Returns whether each child id inside an e-node is null.
 fn has_null_ids<L: Language>(alloc: Global, node: &L) -> bool {
     let null = AppliedId::null(alloc);
     for k in 0..node.applied_id_count() {
@@ -65,7 +65,7 @@ fn has_null_ids<L: Language>(alloc: Global, node: &L) -> bool {
     true
 }
 
-// The same of all nodes of a term.
+// Returns whether all child ids inside the e-nodes of a term are null.
 fn has_only_nulls<L: Language>(alloc: Global, term: &RecExpr<L>) -> bool {
     for child in term.children.iter() {
         if !has_only_nulls(alloc, child) {
@@ -75,7 +75,7 @@ fn has_only_nulls<L: Language>(alloc: Global, term: &RecExpr<L>) -> bool {
     has_null_ids(alloc, &term.node)
 }
 
-/// The same of the canonical term of an id, if it can be found.
+/// Returns whether all child ids inside the canonical term of an id are null, if the id is valid.
 pub fn is_null_inside<L: Language>(
     alloc: Global,
     graph: &mut EGraph<L>,
@@ -88,14 +88,14 @@ pub fn is_null_inside<L: Language>(
     Ok(has_only_nulls(alloc, &term))
 }
 
-/// The text of the whole graph, with a sign for each line feed.
+/// Returns the text of the whole graph, with a sign for each line feed.
 pub fn dumped<L: Language>(alloc: Global, graph: &mut EGraph<L>) -> Result<String, Error> {
     let mut out = String::new(alloc);
     graph.dump(&mut out)?;
     Ok(out.replace(alloc, "\n", "¶")?)
 }
 
-/// What is printed of a text by a word.
+/// Returns what is printed of a text, by a word.
 pub fn printed<L: Printable>(
     alloc: Global,
     graph: &mut EGraph<L>,

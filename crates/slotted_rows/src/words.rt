@@ -1,4 +1,4 @@
-//! What is asked by the words of a question, one after another.
+//! The words of questions, and how they are answered.
 use crate::found::{make_side, stays};
 use crate::graphs::{parted, slot, yes};
 use crate::ids::{are_counted, holds, related, sides_related, turn, unite_because};
@@ -13,8 +13,8 @@ use slotted_slots::{AppliedId, Error};
 use slotted_terms::expr::printing::Printable;
 use std::alloc::Global;
 
-// What each question stands for: words that are asked in turn, up to the first that is not answered by yes. What stands behind
-// the question is their argument.
+// What each question stands for: words that are asked in turn, up to the first that is not answered by yes. What
+// follows the question is their argument.
 const MEANINGS: &str = "ids = make put, make put right, related
 found = make put, make put right, turn find, turn find right, is same
 own = make put, turn own, is valid
@@ -60,12 +60,12 @@ report check = is checked
 report = number filed
 dump = text dumped";
 
-/// A question, what is asked with it, and the two texts that it is asked of.
+/// A question, its argument, and the two texts that it is about.
 #[derive(Clone, Copy)]
 pub struct Question<'a> {
-    /// The name of a step and its parts, if that is asked.
+    /// The name of a proof step and its parts, if the question is about one.
     pub step: &'a str,
-    /// What stands behind its name.
+    /// What follows the name of the question.
     pub argument: &'a str,
     /// The left text.
     pub left: &'a str,
@@ -73,7 +73,7 @@ pub struct Question<'a> {
     pub right: &'a str,
 }
 
-/// The words that a question stands for, and what is asked with them.
+/// Returns the words that a question stands for, and their argument.
 pub fn meaning(ask: &str) -> (&'static str, &str) {
     for line in MEANINGS.lines() {
         let (name, words) = parted(line, " = ");
@@ -84,7 +84,7 @@ pub fn meaning(ask: &str) -> (&'static str, &str) {
     ("none", ask)
 }
 
-// What holds, as a text.
+// Returns the answer to a test, or the refusal.
 fn told(holds: Result<bool, Error>) -> Result<&'static str, Error> {
     match holds {
         Ok(holds) => Ok(yes(holds)),
@@ -92,7 +92,7 @@ fn told(holds: Result<bool, Error>) -> Result<&'static str, Error> {
     }
 }
 
-// What was done is answered by yes.
+// Returns yes for what was done, or the refusal.
 fn done(outcome: Result<(), Error>) -> Result<&'static str, Error> {
     match outcome {
         Ok(()) => Ok("yes"),
@@ -117,17 +117,18 @@ fn write_number(
     write(out, text_of_number(alloc, number))
 }
 
+// Returns a number as a text.
 fn text_of_number(alloc: Global, number: usize) -> Result<String, Error> {
     Ok(format!(in alloc; "{number}")?)
 }
 
-// Whether the graph has a slot of this name that no text has to write.
+// Returns whether the graph knows the slot of this name without having read it.
 fn knows<L: Language>(alloc: Global, graph: &EGraph<L>, name: &str) -> Result<bool, Error> {
     let slot = slot(alloc, name)?;
     Ok(graph.table().knows(slot))
 }
 
-// What is asked of the graph itself.
+// Answers a question on the graph itself.
 fn asked_of_graph<L: Language>(
     alloc: Global,
     graph: &EGraph<L>,
@@ -145,7 +146,7 @@ fn asked_of_graph<L: Language>(
     }
 }
 
-// Whether a look-up gave an id.
+// Returns whether a look-up found an id.
 fn found(alloc: Global, id: &AppliedId) -> &'static str {
     if *id == AppliedId::null(alloc) {
         "none"
@@ -154,7 +155,7 @@ fn found(alloc: Global, id: &AppliedId) -> &'static str {
     }
 }
 
-// What is asked of the two ids alone.
+// Answers a question on the two ids alone.
 fn asked_of_ids<L: Language>(
     alloc: Global,
     graph: &mut EGraph<L>,
@@ -174,7 +175,7 @@ fn asked_of_ids<L: Language>(
     }
 }
 
-// What is written of an id, or of a text.
+// Returns what is written of an id, or of a text.
 fn text<L: Printable>(
     alloc: Global,
     graph: &mut EGraph<L>,
@@ -189,7 +190,7 @@ fn text<L: Printable>(
     }
 }
 
-// What a word asks that changes the ids, or is answered by a number or a text.
+// Asks a word that changes the ids, or that is answered by a number or a text.
 fn asked_of_words<L: Printable>(
     alloc: Global,
     graph: &mut EGraph<L>,
@@ -214,7 +215,7 @@ fn asked_of_words<L: Printable>(
     }
 }
 
-/// What is answered to a word: a text, or none where the answer was written.
+/// Asks a word. Returns the answer, which is empty if it was written.
 pub fn asked<L: Printable>(
     alloc: Global,
     graph: &mut EGraph<L>,

@@ -1,4 +1,4 @@
-//! Rules applied to a graph: all are searched, and then each is applied.
+//! Rules applied to a graph: all are searched for, and then each is applied.
 ghost use Rattle.std.specs.Prelude.{◌≡◌, ◌↔◌, ◌⊎◌, false, All, length, IsTrue, IsErrAnd, IsErrOf, IfOk, IfErr, OnOk};
 ghost use Rattle.slotted_slots.specs.Error.{IsShortage};
 ghost use Rattle.slotted_model_rules.specs.Runners.{AppliesAll, AppliesRules, SearchesAll};
@@ -14,8 +14,11 @@ use slotted_slots::Error;
 use std::alloc::Global;
 use std::collections::VecDeque;
 
-/// Whether each rule can be handed to calls on this graph. It takes no memory.
-pub fn are_valid<L: Language, N: Analysis<L>, R: RewriteT<L, N>>(graph: &EGraph<L, N>, rules: &[R]) -> bool
+/// Returns whether each rule can be handed to calls on this graph. Takes no memory.
+pub fn are_valid<L: Language, N: Analysis<L>, R: RewriteT<L, N>>(
+    graph: &EGraph<L, N>,
+    rules: &[R],
+) -> bool
     ensures valid { IsTrue result → IsTrue graph.now.failed ⊎ All (λ r. R.valid r graph.now) rules.now }
     ensures exact { All (λ r. R.passes r graph.now) rules.now → IsTrue result }
 {
@@ -27,7 +30,7 @@ pub fn are_valid<L: Language, N: Analysis<L>, R: RewriteT<L, N>>(graph: &EGraph<
     true
 }
 
-// What each rule found, in order.
+// Returns what each rule found, in order.
 pub(crate) fn search_all<L: Language, N: Analysis<L>, R: RewriteT<L, N>>(
     alloc: Global,
     graph: &mut EGraph<L, N>,
@@ -48,7 +51,7 @@ pub(crate) fn search_all<L: Language, N: Analysis<L>, R: RewriteT<L, N>>(
     Ok(found)
 }
 
-// Each rule is applied to what it found, in order.
+// Applies each rule to what it found, in order.
 fn apply_all<L: Language, N: Analysis<L>, R: RewriteT<L, N>>(
     alloc: Global,
     graph: &mut EGraph<L, N>,
@@ -73,7 +76,7 @@ fn apply_all<L: Language, N: Analysis<L>, R: RewriteT<L, N>>(
     Ok(())
 }
 
-// All rules are searched, and then each is applied.
+// Searches with all rules, then applies each.
 fn search_and_apply<L: Language, N: Analysis<L>, R: RewriteT<L, N>>(
     alloc: Global,
     graph: &mut EGraph<L, N>,
@@ -90,7 +93,8 @@ fn search_and_apply<L: Language, N: Analysis<L>, R: RewriteT<L, N>>(
     apply_all(alloc, graph, rules, found)
 }
 
-/// Searches with all rules, then applies each in order to what its search found. Returns whether the graph's progress measure changed.
+/// Searches with all rules, then applies each in order to what its search found. Returns whether the graph's progress
+/// measure changed.
 ///
 /// What was applied before a refusal stays.
 pub fn apply_rewrites<L: Language, N: Analysis<L>, R: RewriteT<L, N>>(
@@ -102,7 +106,7 @@ pub fn apply_rewrites<L: Language, N: Analysis<L>, R: RewriteT<L, N>>(
     ensures rules { OnOk result (AppliesRules R.searches R.applies rules.now graph.old graph.new) }
     ensures changed { IfOk result (λ y. IsTrue y ↔ HasProgressed graph.old.image graph.new.image) }
 
-    // What was there stays, also where a rule is refused.
+    // What was there stays, even if a rule is refused.
     ensures extends { IsTrue graph.new.failed ⊎ ExtendsTo graph.old graph.new }
     ensures stays { IsTrue graph.old.failed → graph.new ≡ graph.old }
     ensures failed { IsErrOf result Error.Failed ↔ IsTrue graph.old.failed }

@@ -1,4 +1,4 @@
-//! Conditions of rules: each answers yes or no for a substitution in a graph.
+//! Conditions of rules, which answer yes or no for a substitution in a graph.
 ghost use Rattle.std.specs.Prelude.{◌≡◌, false, not, string_bytes, Ok, IfOk, IfErr};
 ghost use Rattle.slotted_slots.specs.Maps.{values};
 ghost use Rattle.slotted_model.specs.Correspondence.{has_slot};
@@ -15,9 +15,9 @@ use slotted_rule_patterns::subst::value;
 use slotted_slots::{Error, Slot, SlotMap};
 use std::alloc::Global;
 
-/// A condition of a rule. It is asked just before the substitution is applied, in the graph as it is then.
+/// A condition of a rule. It is asked just before a match is applied, in the graph as it is then.
 ///
-/// Its answer is a function of the condition, the substitution and the graph alone.
+/// The answer is a function of the condition, the substitution and the graph alone.
 pub trait Cond<L: Language, N: Analysis<L>>: Drop {
     ghost use Rattle.std.specs.Prelude.{Bool};
     ghost use Rattle.slotted_model_rules.specs.Conditions.{Values};
@@ -27,10 +27,10 @@ pub trait Cond<L: Language, N: Analysis<L>>: Drop {
 
     ghost yes: { Self → Values → Graph → Bool };
 
-    // which refusals it may answer
+    // The errors that the condition may return.
     ghost refuses: { Self → Values → Graph → Error → Type 0 };
 
-    /// Whether the condition holds. The graph has not failed, and the values are valid ids of it.
+    /// Returns whether the condition holds. The graph has not failed, and the values are valid ids of the graph.
     fn holds(&self, alloc: Global, s: &Subst, graph: &EGraph<L, N>) -> Result<bool, Error>
         requires well { graph.now.failed ≡ false }
         requires valid { AreValidValues graph.now (values_of s.now) }
@@ -40,7 +40,7 @@ pub trait Cond<L: Language, N: Analysis<L>>: Drop {
     ghost never_failed: { (c : Self) (s : Values) (g : Graph) → ¬ refuses c s g Failed };
 }
 
-/// Holds for each substitution.
+/// The condition that holds for each substitution.
 #[derive(Drop, Debug)]
 pub struct Always;
 
@@ -58,7 +58,8 @@ impl<L: Language, N: Analysis<L>> Cond<L, N> for Always {
     }
 }
 
-/// Holds if a slot does not occur in the value of a variable, as the value was handed in. A variable without a value is refused.
+/// The condition that a slot does not occur in the value of a variable, as the value was handed in. A variable without
+/// a value is refused.
 #[derive(Drop, Debug)]
 pub struct SlotFreeIn {
     pub slot: Slot,
@@ -66,7 +67,7 @@ pub struct SlotFreeIn {
 }
 
 impl SlotFreeIn {
-    // The answer, for which no graph is asked.
+    // Returns the answer, which does not depend on a graph.
     pub(crate) fn answer(&self, alloc: Global, s: &Subst) -> Result<bool, Error>
         ensures ok { IfOk result
             (λ y. slot_outcome self.now.slot (string_bytes self.now.variable) (value_at (values_of s.now) (string_bytes self.now.variable)) ≡ Ok y) }
@@ -96,7 +97,7 @@ impl<L: Language, N: Analysis<L>> Cond<L, N> for SlotFreeIn {
     }
 }
 
-// Whether no name of the map is this slot.
+// Returns whether a slot is none of the map's names.
 fn names_lack(names: &SlotMap, slot: Slot) -> bool
     ensures { result ≡ not (has_slot (values names.now) slot) }
 {
@@ -108,7 +109,7 @@ fn names_lack(names: &SlotMap, slot: Slot) -> bool
     true
 }
 
-/// Holds if the first condition holds, and else if the second one does, which is asked only then.
+/// The condition that one of two conditions holds. The second one is asked only if the first one does not hold.
 #[derive(Drop, Debug)]
 pub struct Or<X, Y> {
     pub first: X,
@@ -133,7 +134,7 @@ impl<L: Language, N: Analysis<L>, X: Cond<L, N>, Y: Cond<L, N>> Cond<L, N> for O
     }
 }
 
-/// Holds if both conditions do. The second is asked only if the first holds.
+/// The condition that two conditions hold. The second one is asked only if the first one holds.
 #[derive(Drop, Debug)]
 pub struct And<X, Y> {
     pub first: X,
@@ -158,7 +159,7 @@ impl<L: Language, N: Analysis<L>, X: Cond<L, N>, Y: Cond<L, N>> Cond<L, N> for A
     }
 }
 
-/// Holds if the condition does not.
+/// The condition that another condition does not hold.
 #[derive(Drop, Debug)]
 pub struct Not<X> {
     pub condition: X,

@@ -22,7 +22,7 @@ pub enum CondTree {
 }
 
 impl CondTree {
-    // The answer, for which no graph is asked.
+    // Returns the answer, which does not depend on a graph.
     fn answer(&self, alloc: Global, s: &Subst) -> Result<bool, Error>
         ensures ok { IfOk result (λ y. outcome self.now (values_of s.now) ≡ Ok y) }
         ensures err { IfErr result (TreeRefuses self.now (values_of s.now)) }

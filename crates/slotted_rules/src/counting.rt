@@ -1,4 +1,4 @@
-//! Rules applied to a graph, and what each of them found and changed.
+//! Rules applied to a graph, with counts of what each of them found and changed.
 ghost use Rattle.std.specs.Prelude.{◌≡◌, ◌↔◌, ◌⊎◌, [], false, length, All, IsTrue, IsErrAnd, IsErrOf, IfOk, IfErr, OnOk};
 ghost use Rattle.slotted_slots.specs.Error.{IsShortage};
 ghost use Rattle.slotted_patterns.specs.View.{tree_of};
@@ -24,7 +24,7 @@ use std::collections::VecDeque;
 /// What a rule did when the rules were applied once.
 #[derive(Drop, Debug, Clone, Copy, PartialEq, Eq)]
 pub struct RuleCounts {
-    /// The number of matches that its search found.
+    /// The number of matches that the search found.
     pub found: usize,
     /// The number of matches whose instances were not found equal before they were united.
     pub united: usize,
@@ -108,7 +108,7 @@ fn search_and_count<L: Language, N: Analysis<L>, C: Cond<L, N>>(
     Ok(counts)
 }
 
-// The rules once, over a graph that has not failed.
+// Applies the rules once and counts, over a graph that has not failed.
 fn count_turn<L: Language, N: Analysis<L>, C: Cond<L, N>>(
     alloc: Global,
     graph: &mut EGraph<L, N>,
@@ -130,10 +130,11 @@ fn count_turn<L: Language, N: Analysis<L>, C: Cond<L, N>>(
     })
 }
 
-/// Searches with all rules, then applies each in order to what its search found, as `apply_rewrites` does. Returns what each rule found and changed.
+/// Searches with all rules, then applies each in order to what its search found, as `apply_rewrites` does. Returns what
+/// each rule found and changed.
 ///
-/// A match counts as united if the instances of both sides were not found equal just before. E-nodes that an instance adds are not counted. What was
-/// applied before a refusal stays.
+/// A match counts as united if the instances of both sides were not found equal just before. E-nodes that an instance
+/// adds are not counted. What was applied before a refusal stays.
 pub fn apply_counted<L: Language, N: Analysis<L>, C: Cond<L, N>>(
     alloc: Global,
     graph: &mut EGraph<L, N>,
@@ -143,7 +144,7 @@ pub fn apply_counted<L: Language, N: Analysis<L>, C: Cond<L, N>>(
     ensures counts { IfOk result (λ t. CountsRules L.form C.yes rules.now graph.old t.rules.items graph.new) }
     ensures changed { IfOk result (λ t. IsTrue t.changed ↔ HasProgressed graph.old.image graph.new.image) }
 
-    // What was there stays, also where a rule is refused.
+    // What was there stays, even if a rule is refused.
     ensures extends { IsTrue graph.new.failed ⊎ ExtendsTo graph.old graph.new }
     ensures stays { IsTrue graph.old.failed → graph.new ≡ graph.old }
     ensures failed { IsErrOf result Error.Failed ↔ IsTrue graph.old.failed }

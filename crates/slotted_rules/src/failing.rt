@@ -7,7 +7,7 @@ use slotted_graph::EGraph;
 use slotted_languages::Language;
 use slotted_slots::Error;
 
-/// Returns the outcome as it is, and fails the graph if it is a shortage.
+/// Returns the outcome as it is, and fails the graph if memory or slots ran out.
 pub fn failing<L: Language, N: Analysis<L>, T>(
     graph: &mut EGraph<L, N>,
     outcome: Result<T, Error>,

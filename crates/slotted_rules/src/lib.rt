@@ -1,4 +1,4 @@
-//! Rules: what is matched, under which condition, and what becomes equal to it.
+//! Rules: what is searched for, under which condition, and what becomes equal to it.
 #![tactic(auto)]
 
 pub mod applying;

@@ -1,6 +1,7 @@
 //! Rules in one line.
 
-/// The rule `name: left => right` over a table of slots, with a condition after `if`, or one that has to fail after `if !`.
+/// Returns the rule `name: left => right`, read over a table of slots. A condition may follow after `if`, or one that
+/// must not hold after `if !`.
 ///
 /// `rw!(alloc, table; "eta"; "(lam $x (app ?f (var $x)))" => "?f", if slot_free_in(alloc, x, "f")?)`
 #[macro_export]

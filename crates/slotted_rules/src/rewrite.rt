@@ -1,4 +1,4 @@
-//! Rules that are written: a pattern, another one that becomes equal to it, and a condition.
+//! Written rules: a pattern, another pattern that becomes equal to it, and a condition.
 ghost use Rattle.std.specs.Prelude.{◌≡◌, ◌⊎◌, None, Some, false, string_bytes, IfOk, IfErr, IsTrue};
 ghost use Rattle.slotted_slots.specs.Table.{KnowsMore};
 ghost use Rattle.slotted_patterns.specs.Known.{HasKnownNames};
@@ -14,7 +14,7 @@ use slotted_rule_patterns::pattern::{first_lacking, has_substitution};
 use slotted_slots::{Error, SlotTable};
 use std::alloc::Global;
 
-/// A rule: where its left side is found and its condition holds, the right side becomes equal to what was found.
+/// A written rule. If its left side is found and its condition holds, the right side becomes equal to what was found.
 #[derive(Drop, Debug)]
 pub struct Rewrite<L: Language, C> {
     pub name: String,
@@ -23,7 +23,7 @@ pub struct Rewrite<L: Language, C> {
     pub condition: C,
 }
 
-// The refusal of a variable that stands on the right alone.
+// Returns the error for a variable that stands on the right side alone.
 fn missing(alloc: Global, variable: &str) -> Error
     ensures { IsMissing variable.now result }
 {
@@ -34,7 +34,8 @@ fn missing(alloc: Global, variable: &str) -> Error
 }
 
 impl<L: Language, C: Drop> Rewrite<L, C> {
-    /// Returns the rule of two patterns. A substitution on the left is refused, and a variable of the right that the left lacks.
+    /// Returns the rule of two patterns. Two things are refused: a substitution on the left side, and a variable of the
+    /// right side that the left one lacks.
     pub fn from_patterns(
         alloc: Global,
         name: &str,
@@ -62,7 +63,8 @@ impl<L: Language, C: Drop> Rewrite<L, C> {
         })
     }
 
-    /// Returns the rule of two texts, which are read one after the other over a table of slots. Names that were read before a refusal stay in the table.
+    /// Returns the rule of two texts, which are read one after the other over a table of slots. Names that were read
+    /// before a refusal stay in the table.
     pub fn new_if(
         alloc: Global,
         name: &str,

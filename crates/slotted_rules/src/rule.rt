@@ -1,4 +1,4 @@
-//! What a rule is to those that apply it.
+//! Rules as those see them who apply them.
 ghost use Rattle.std.specs.Prelude.{◌≡◌, ◌↔◌, ◌⊎◌, false, IsTrue, IsErrAnd, IsErrOf, IfOk, IfErr, OnOk};
 ghost use Rattle.slotted_slots.specs.Error.{IsShortage};
 ghost use Rattle.slotted_graph.specs.Extension.{ExtendsTo};
@@ -9,41 +9,42 @@ use slotted_languages::Language;
 use slotted_slots::Error;
 use std::alloc::Global;
 
-/// A rule: what it looks for in a graph, and what it does with what it found.
+/// A rule: what it searches for in a graph, and what it does with what it found.
 ///
-/// A rule type states what its search may find, what its apply may leave, and which refusals both may answer. A search and an apply only extend the
-/// graph, and if the graph fails in one of them, memory or slots were lacking.
+/// A rule type states what its search may find, what its apply may leave, and which errors both may return. A search
+/// and an apply only extend the graph. If the graph fails in one of them, memory or slots ran out.
 pub trait RewriteT<L: Language, N: Analysis<L>>: Drop {
     ghost use Rattle.slotted_core.specs.Graph.{Graph};
     ghost use Rattle.slotted_slots.specs.declared.error.Error.{Error};
     ghost use Rattle.slotted_slots.specs.declared.error.Error.TheVariants.{Failed};
 
-    /// What a search found.
+    /// What a search finds.
     type Found: Drop;
 
-    // the rule can be handed to calls on this graph
+    // The rule can be handed to calls on this graph.
     ghost valid: { Self → Graph → Type 0 };
 
-    // `is_valid` answers yes of such a rule
+    // `is_valid` is true for such a rule.
     ghost passes: { Self → Graph → Type 0 };
 
-    // what a search finds, from one graph to the other
+    // What a search finds, from one graph to the other.
     ghost searches: { Self → Graph → Self.Found → Graph → Type 0 };
 
-    // what was found, in this graph or an older one, can be applied
+    // What was found, in this graph or an older one, can be applied.
     ghost can_apply: { Self → Self.Found → Graph → Type 0 };
 
-    // what an apply leaves, from one graph to the other
+    // What an apply leaves, from one graph to the other.
     ghost applies: { Self → Self.Found → Graph → Graph → Type 0 };
 
     ghost refuses: { Self → Error → Type 0 };
 
-    /// Whether the rule can be handed to calls on this graph, for which its slots have to be known. It takes no memory.
+    /// Returns whether the rule can be handed to calls on this graph, which has to know the rule's slots. Takes no
+    /// memory.
     fn is_valid(&self, graph: &EGraph<L, N>) -> bool
         ensures valid { IsTrue result → (graph.now.failed ≡ false) × valid self.now graph.now }
         ensures exact { passes self.now graph.now → IsTrue result };
 
-    /// What the rule finds in the graph.
+    /// Returns what the rule finds in the graph.
     fn search(&self, alloc: Global, graph: &mut EGraph<L, N>) -> Result<Self::Found, Error>
         requires { IsTrue graph.old.failed ⊎ valid self.now graph.old }
         ensures ok { IfOk result (λ f. searches self.now graph.old f graph.new) }
@@ -53,7 +54,7 @@ pub trait RewriteT<L: Language, N: Analysis<L>>: Drop {
         ensures fails { IsTrue graph.new.failed → IsErrAnd result (λ e. (e ≡ Error.Failed) ⊎ IsShortage e) }
         ensures err { IfErr result (λ e. (e ≡ Error.Failed) ⊎ IsShortage e ⊎ refuses self.now e) };
 
-    /// Does with what was found what the rule is for.
+    /// Applies the rule to what it found.
     fn apply(
         &self,
         alloc: Global,

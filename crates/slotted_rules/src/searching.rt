@@ -19,7 +19,7 @@ use slotted_rule_patterns::Subst;
 use slotted_slots::Error;
 use std::alloc::Global;
 
-// The answers as substitutions.
+// Returns the matches as substitutions.
 fn substitutions(alloc: Global, found: &Matches) -> Result<Vec<Subst>, Error>
     ensures ok { IfOk result (λ all. map values_of all.items ≡ found.now) }
     ensures err { IfErr result IsOutOfMemory }
@@ -31,8 +31,8 @@ fn substitutions(alloc: Global, found: &Matches) -> Result<Vec<Subst>, Error>
     Ok(all)
 }
 
-/// Returns what `find_matches` finds for a pattern, each answer as a substitution of its own: at the live classes in order, and at each of them by its filed
-/// nodes in ascending order.
+/// Returns what `find_matches` finds for a pattern, each match as a substitution of its own. Live classes come in
+/// order, and the matches of each class by its filed e-nodes in ascending order.
 pub fn ematch_all<L: Language, N: Analysis<L>>(
     alloc: Global,
     graph: &mut EGraph<L, N>,
@@ -42,7 +42,7 @@ pub fn ematch_all<L: Language, N: Analysis<L>>(
     ensures found { IfOk result (λ all.
         IsSearched (tree_of L.form pattern.now) graph.old (map values_of all.items) graph.new) }
 
-    // Only fresh slots are made, at most as many as what can be found has names, and a refusal does not fail the graph.
+    // Only fresh slots are made, at most as many as the matches can have names. A refusal does not fail the graph.
     ensures takes { OnlyTakesSlots graph.old graph.new }
     ensures needs { (graph.new.table ≡ graph.old.table)
         ⊎ TakesFor (tree_of L.form pattern.now) (FindsAll graph.new) graph.old.table graph.new.table }

@@ -1,4 +1,4 @@
-//! Written rules as rules: their left side is searched for, and instances of both sides are united.
+//! Written rules as rules: the left side is searched for, and instances of both sides are united.
 ghost use Rattle.std.specs.Prelude.{◌≡◌, ◌<◌, ◌↔◌, ◌⊎◌, None, [], false, length, slice_index_or, string_bytes};
 ghost use Rattle.std.specs.Prelude.{IsErr, IsErrAnd, IsErrOf, IsSome, IsTrue, IfErr, IfOk, OnOk, Some};
 ghost use Rattle.slotted_slots.specs.Error.{IsShortage};
@@ -30,7 +30,8 @@ use slotted_rule_patterns::pattern::{first_lacking, has_substitution};
 use slotted_slots::Error;
 use std::alloc::Global;
 
-// The union of the instances of both sides, with the rule's name for a text.
+// Unites the instances of both sides, with the rule's name for a text. Returns whether they were not found equal
+// before.
 fn unite<L: Language, N: Analysis<L>, C: Drop>(
     alloc: Global,
     graph: &mut EGraph<L, N>,
@@ -55,7 +56,7 @@ fn unite<L: Language, N: Analysis<L>, C: Drop>(
     union_instantiations(alloc, graph, &rule.left, &rule.right, subst, Some(name))
 }
 
-// The same, if the condition holds. Returns whether both sides were not found equal before.
+// Unites the instances of both sides if the condition holds. Returns whether they were not found equal before.
 fn apply_to<L: Language, N: Analysis<L>, C: Cond<L, N>>(
     alloc: Global,
     graph: &mut EGraph<L, N>,
@@ -80,7 +81,8 @@ fn apply_to<L: Language, N: Analysis<L>, C: Cond<L, N>>(
     unite(alloc, graph, rule, subst)
 }
 
-// The same for one of the answers.
+// Unites the instances of both sides for one match, if the condition holds. Returns whether they were not found equal
+// before.
 fn apply_answer<L: Language, N: Analysis<L>, C: Cond<L, N>>(
     alloc: Global,
     graph: &mut EGraph<L, N>,
@@ -103,7 +105,8 @@ fn apply_answer<L: Language, N: Analysis<L>, C: Cond<L, N>>(
     apply_to(alloc, graph, rule, &subst)
 }
 
-// The same for each answer, one after another. Returns for how many of them both sides were not found equal before.
+// Unites the instances of both sides for each match in turn, if the condition holds then. Returns for how many matches
+// they were not found equal before.
 fn apply_found<L: Language, N: Analysis<L>, C: Cond<L, N>>(
     alloc: Global,
     graph: &mut EGraph<L, N>,
@@ -129,8 +132,8 @@ fn apply_found<L: Language, N: Analysis<L>, C: Cond<L, N>>(
     Ok(united)
 }
 
-/// Unites the instances of both sides for each match for which the condition holds just then, as `apply` of the rule does. Returns for how many
-/// matches the instances were not found equal before.
+/// Unites the instances of both sides for each match in turn, if the condition holds just then, as `apply` of the rule
+/// does. Returns for how many matches the instances were not found equal before.
 ///
 /// What was applied before a refusal stays.
 pub fn apply_matches<L: Language, N: Analysis<L>, C: Cond<L, N>>(
@@ -184,8 +187,9 @@ impl<L: Language, N: Analysis<L>, C: Cond<L, N>> RewriteT<L, N> for Rewrite<L, C
 
     ghost never_failed = { λ r. refused-other (C.refuses r.condition) (λ s g. C.never_failed r.condition s g) (tree_of L.form r.right) };
 
-    /// Returns whether the graph's table knows the names of both sides, nothing is replaced on the left, and no variable stands on the right alone. A
-    /// rule with a node of 2^30 places or more is not valid.
+    /// Returns whether the rule can be handed to calls on the graph. The graph's table has to know the names of both
+    /// sides; no substitution may stand on the left side, and no variable on the right side alone. A rule with an
+    /// e-node of 2^30 places or more is not valid.
     fn is_valid(&self, graph: &EGraph<L, N>) -> bool {
         graph.is_valid_pattern(&self.left)
             && graph.is_valid_pattern(&self.right)
@@ -212,7 +216,8 @@ impl<L: Language, N: Analysis<L>, C: Cond<L, N>> RewriteT<L, N> for Rewrite<L, C
         graph.find_matches(&self.left)
     }
 
-    /// Unites the instances of both sides for each answer for which the condition holds just then. The rule's name is the text of each new equation.
+    /// Unites the instances of both sides for each match in turn, if the condition holds just then. The rule's name is
+    /// the text of each new equation.
     fn apply(&self, alloc: Global, found: Matches, graph: &mut EGraph<L, N>) -> Result<(), Error>
         requires valid { IsTrue graph.old.failed ⊎ CanBeSearched L.form graph.old.table self.now }
         requires found { IsTrue graph.old.failed ⊎ CanBeApplied (tree_of L.form self.now.left) found graph.old }

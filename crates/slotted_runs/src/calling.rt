@@ -17,13 +17,13 @@ use std::alloc::Global;
 // What the rules and the hook of a turn did.
 #[derive(Drop)]
 pub(crate) struct Called<T> {
-    // whether the rules changed the progress measure
+    // Whether the rules changed the progress measure.
     pub(crate) changed: bool,
-    // why the hook stops the run, if it does
+    // Why the hook stops the run, if it does.
     pub(crate) stop: Option<T>,
 }
 
-// Calls the hook. Returns why it stops the run, if it does.
+// Calls the hook. Returns why the hook stops the run, if it does.
 fn call_hook<L: Language, N: Analysis<L>, T: Drop, H: Hook<L, N, T>>(
     alloc: Global,
     graph: &mut EGraph<L, N>,
@@ -44,7 +44,13 @@ fn call_hook<L: Language, N: Analysis<L>, T: Drop, H: Hook<L, N, T>>(
 }
 
 // Applies the rules once, and then calls the hook.
-pub(crate) fn apply_and_call<L: Language, N: Analysis<L>, T: Drop, H: Hook<L, N, T>, Q: RewriteT<L, N>>(
+pub(crate) fn apply_and_call<
+    L: Language,
+    N: Analysis<L>,
+    T: Drop,
+    H: Hook<L, N, T>,
+    Q: RewriteT<L, N>,
+>(
     alloc: Global,
     graph: &mut EGraph<L, N>,
     rules: &[Q],

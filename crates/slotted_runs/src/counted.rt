@@ -15,7 +15,8 @@ use slotted_rules::{Cond, Rewrite, TurnCounts, apply_counted};
 use slotted_slots::Error;
 use std::alloc::Global;
 
-// Takes turns until one leaves the progress measure as it was, or the limit is reached, and keeps what the rules did in each.
+// Takes turns until one leaves the progress measure as it was, or the limit is reached. Keeps what the rules did in
+// each turn.
 fn take_counted<L: Language, N: Analysis<L>, C: Cond<L, N>>(
     alloc: Global,
     graph: &mut EGraph<L, N>,
@@ -41,7 +42,8 @@ fn take_counted<L: Language, N: Analysis<L>, C: Cond<L, N>>(
     Ok(turns)
 }
 
-/// Applies the rules until a turn leaves the progress measure as it was, or so many turns were taken. Returns what each rule did in each turn.
+/// Applies the rules until a turn leaves the progress measure as it was, or the limit of turns is reached. Returns what
+/// each rule did in each turn.
 ///
 /// The rules have saturated the graph if the last turn did not change it. What was applied before a refusal stays.
 pub fn run_counted<L: Language, N: Analysis<L>, C: Cond<L, N>>(
@@ -53,7 +55,7 @@ pub fn run_counted<L: Language, N: Analysis<L>, C: Cond<L, N>>(
     requires { IsTrue graph.old.failed ⊎ All (CanBeSearched L.form graph.old.table) rules.now }
     ensures turns { IfOk result (λ turns. TakesTurns L.form C.yes rules.now turn_limit graph.old turns.items graph.new) }
 
-    // What was there stays, also where a turn is refused.
+    // What was there stays, even if a turn is refused.
     ensures extends { IsTrue graph.new.failed ⊎ ExtendsTo graph.old graph.new }
     ensures stays { IsTrue graph.old.failed → graph.new ≡ graph.old }
     ensures failed { IsErrOf result Error.Failed ↔ IsTrue graph.old.failed }

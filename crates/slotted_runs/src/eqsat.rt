@@ -1,4 +1,4 @@
-//! Runs of a graph without a runner.
+//! Runs over a graph without a runner.
 ghost use Rattle.std.specs.Prelude.{◌≡◌, ◌↔◌, ◌⊎◌, ◌*◌, false, not, option_map, None, All, IsTrue, IsErrAnd, IsErrOf, IfOk, IfErr};
 ghost use Rattle.std.specs.Prelude.{OnErr};
 ghost use Rattle.slotted_slots.specs.Error.{IsShortage};
@@ -31,7 +31,7 @@ struct Bounds {
     start: u64,
 }
 
-// Saturation, or else the limit of turns, or of time, for which alone the clock is read.
+// Returns saturation, or else the limit that is reached: of turns, or of time. The clock is read for the latter alone.
 fn bound_met<T, K: Clock>(
     clock: &mut K,
     bounds: Bounds,
@@ -54,7 +54,7 @@ fn bound_met<T, K: Clock>(
     None
 }
 
-// Why a turn stops the run, if it does: by its hook, or else by saturation or a limit.
+// Returns why a turn stops the run, if it does: its hook, or else saturation or a limit.
 fn reason<T, K: Clock>(
     stop: Option<T>,
     clock: &mut K,
@@ -71,7 +71,7 @@ fn reason<T, K: Clock>(
     }
 }
 
-// Takes a turn. Returns why it stops the run, if it does.
+// Takes a turn. Returns why the turn stops the run, if it does.
 fn take_turn<L: Language, N: Analysis<L>, T: Drop, H: Hook<L, N, T>, K: Clock, Q: RewriteT<L, N>>(
     alloc: Global,
     graph: &mut EGraph<L, N>,
@@ -102,7 +102,7 @@ struct Ended<T> {
     reason: StopReason<T>,
 }
 
-// Takes turns until one stops the run. That one is not counted.
+// Takes turns until one stops the run. That turn is not counted.
 fn take_turns<L: Language, N: Analysis<L>, T: Drop, H: Hook<L, N, T>, K: Clock, Q: RewriteT<L, N>>(
     alloc: Global,
     graph: &mut EGraph<L, N>,
@@ -132,10 +132,11 @@ fn take_turns<L: Language, N: Analysis<L>, T: Drop, H: Hook<L, N, T>, K: Clock, 
     }
 }
 
-/// Takes turns until one stops the run, and reports.
+/// Takes turns until one stops the run, and returns a report.
 ///
-/// A turn applies the rules once, calls the hook, and stops the run for the first of these causes that holds: the hook's own,
-/// saturation, as many counted turns as the limit, and as many whole seconds. A turn that stops the run is not counted.
+/// A turn applies the rules once and calls the hook. It stops the run for the first of these causes that holds: the
+/// hook's own, saturation, as many counted turns as the limit, and as many whole seconds. A turn that stops the run is
+/// not counted.
 pub fn run_eqsat<L: Language, N: Analysis<L>, H: Hook<L, N, String>, K: Clock, Q: RewriteT<L, N>>(
     alloc: Global,
     graph: &mut EGraph<L, N>,
@@ -153,7 +154,7 @@ pub fn run_eqsat<L: Language, N: Analysis<L>, H: Hook<L, N, String>, K: Clock, Q
         K.tells (RulesOnce Q.searches Q.applies rules.now) (Calls H.leaves) iter_limit time_limit_seconds
         (graph.old, hook.old) clock.old (graph.new, hook.new) clock.new) }
 
-    // What was there stays, also where a turn is refused.
+    // What was there stays, even if a turn is refused.
     ensures extends { IsTrue graph.new.failed ⊎ ExtendsTo graph.old graph.new }
     ensures stays { IsTrue graph.old.failed
         → (graph.new ≡ graph.old) × (hook.new ≡ hook.old) × (clock.new ≡ clock.old) }

@@ -21,20 +21,23 @@ pub enum HookStop<T> {
 
 /// What is called in each turn of a run, after the rules were applied.
 ///
-/// A hook may change the graph, which it only extends. If the graph fails in it, it answers that memory or slots were lacking.
+/// A hook may change the graph, which it only extends. If the graph fails in a hook, its error says that memory or
+/// slots ran out.
 pub trait Hook<L: Language, N: Analysis<L>, T>: Drop {
     ghost use Rattle.std.specs.Prelude.{ℕ, Option};
     ghost use Rattle.slotted_core.specs.Graph.{Graph};
     ghost use Rattle.slotted_slots.specs.declared.error.Error.{Error};
     ghost use Rattle.slotted_slots.specs.declared.error.Error.TheVariants.{Failed};
 
-    // what a call that is handed the number of turns before leaves of the hook and of the graph, and why it stops the run, if it does
+    // What a call, with the number of turns before, leaves of the hook and of the graph, and why it stops the run, if
+    // it does.
     ghost leaves: { Self → Graph → ℕ → Self → Graph → Option T → Type 0 };
 
-    // which refusals it may answer beside shortages
+    // The errors that the hook may return beside shortages.
     ghost refuses: { Error → Type 0 };
 
-    /// The call after the rules of a turn. `iterations` is the number of turns before it. The graph has not failed.
+    /// Does what the hook is for, after the rules of a turn. `iterations` is the number of turns before. The graph has
+    /// not failed.
     fn call(
         &mut self,
         alloc: Global,

@@ -13,9 +13,9 @@ use std::alloc::Global;
 pub struct Iteration<D> {
     /// What the caller keeps of the turn.
     pub made: D,
-    /// The number of filed nodes after it.
+    /// The number of filed e-nodes after the turn.
     pub num_nodes: usize,
-    /// When it ended.
+    /// When the turn ended.
     pub finish_time: Option<u64>,
 }
 
@@ -30,10 +30,10 @@ pub trait IterationData<L: Language, N: Analysis<L>>: Drop {
 
     ghost made: { Graph → ℕ → Self };
 
-    // which refusals it may answer beside shortages
+    // The errors that `make` may return beside shortages.
     ghost refuses: { Error → Type 0 };
 
-    /// What is kept of a turn. `iterations` is the number of turns before it. The graph has not failed.
+    /// Returns what is kept of a turn. `iterations` is the number of turns before. The graph has not failed.
     fn make(alloc: Global, graph: &EGraph<L, N>, iterations: usize) -> Result<Self, Error>
         requires { graph.now.failed ≡ false }
         ensures ok { IfOk result (λ d. d ≡ made graph.now iterations) }
@@ -42,7 +42,7 @@ pub trait IterationData<L: Language, N: Analysis<L>>: Drop {
     ghost never_failed: { ¬ refuses Failed };
 }
 
-/// Nothing is kept.
+/// Keeps nothing.
 impl<L: Language, N: Analysis<L>> IterationData<L, N> for () {
     ghost made = { λ g n. tt };
 

@@ -6,18 +6,18 @@ ghost use Rattle.slotted_runs.specs.Seen.{limits_of, start_of};
 /// The limits of a runner, and when it started.
 #[derive(Drop, Debug)]
 pub struct RunnerLimits {
-    // of turns
+    // The limit of turns.
     pub(crate) iterations: usize,
-    // of filed nodes
+    // The limit of filed e-nodes.
     pub(crate) nodes: usize,
-    // in nanoseconds
+    // The limit of time, in nanoseconds.
     pub(crate) time: u64,
-    // the reading before the first turn
+    // The reading before the first turn.
     pub(crate) start: Option<u64>,
 }
 
 impl RunnerLimits {
-    // Thirty turns, ten thousand nodes, and a minute.
+    // Returns the usual limits: 30 turns, 10,000 e-nodes, and a minute.
     pub(crate) fn usual() -> Self
         ensures limits { limits_of result ≡ usual_limits }
         ensures start { start_of result ≡ None }

@@ -6,9 +6,9 @@ use crate::clock::Clock;
 use std::time::Instant;
 use std::{io, rt};
 
-/// The machine's clock, which tells the time since it was made.
+/// The machine's clock, which tells the time since the clock was made.
 ///
-/// Where the machine does not answer it tells the last time again.
+/// If the machine does not answer, the clock tells the last time again.
 #[derive(Drop)]
 pub struct MachineClock<R> {
     runtime: R,
@@ -17,7 +17,7 @@ pub struct MachineClock<R> {
 }
 
 impl<R: rt::Clock + Drop> MachineClock<R> {
-    /// The clock that tells the time from now on.
+    /// Returns a clock that tells the time from now on.
     pub fn new(runtime: R) -> io::Result<Self>
         ensures { IfOk result (λ k. last_told k ≡ 0) }
     {

@@ -9,25 +9,25 @@ pub enum StopReason<T = String> {
     IterationLimit,
     /// More time has passed than the limit allows.
     TimeLimit,
-    /// The graph has more nodes than the limit allows.
+    /// The graph has more filed e-nodes than the limit allows.
     NodeLimit,
     /// The hook stopped the run, for this reason.
     Other(T),
 }
 
-/// The result of what may stop a run.
+/// The result of a call that may stop a run.
 pub type RunnerResult<X, T = String> = Result<X, StopReason<T>>;
 
-/// What a run reports.
+/// The report of a run.
 #[derive(Drop, Debug, Clone)]
 pub struct Report<T = String> {
     /// How many turns were taken.
     pub iterations: usize,
     /// Why the run stopped.
     pub stop_reason: StopReason<T>,
-    /// The number of filed nodes.
+    /// The number of filed e-nodes.
     pub egraph_nodes: usize,
-    /// The number of classes: of a `Runner` all that were ever made, and of `run_eqsat` those that are alive.
+    /// The number of classes: for a `Runner` all that were ever made, for `run_eqsat` the live ones.
     pub egraph_classes: usize,
     /// The time from the start to the end, in nanoseconds.
     pub total_time: u64,

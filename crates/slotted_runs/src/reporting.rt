@@ -1,4 +1,4 @@
-//! What a runner that has stopped reports.
+//! The report of a runner that has stopped.
 ghost use Rattle.std.specs.Prelude.{◌≡◌, false, IsSome, IfOk, IfErr};
 ghost use Rattle.slotted_slots.specs.Error.{IsOutOfMemory};
 ghost use Rattle.slotted_runs.specs.Loops.{IsReportOf};
@@ -14,15 +14,15 @@ use slotted_analyses::Analysis;
 use slotted_languages::Language;
 use slotted_slots::Error;
 
-impl<L: Language, N: Analysis<L>, D: IterationData<L, N>, T: Clone, H: Hook<L, N, T>, K: Clock> Runner<
-    L,
-    N,
-    D,
-    T,
-    H,
-    K,
-> {
-    // The report, with a clone of the reason.
+impl<
+    L: Language,
+    N: Analysis<L>,
+    D: IterationData<L, N>,
+    T: Clone,
+    H: Hook<L, N, T>,
+    K: Clock,
+> Runner<L, N, D, T, H, K> {
+    // Returns the report, with a clone of the reason.
     pub(crate) fn report(&self) -> Result<Report<T>, Error>
         requires well { self.now.egraph.failed ≡ false }
         requires stopped { IsSome self.now.stop_reason }

@@ -18,15 +18,15 @@ use slotted_rules::RewriteT;
 use slotted_rules::failing::failing;
 use slotted_slots::Error;
 
-impl<L: Language, N: Analysis<L>, D: IterationData<L, N>, T: Clone, H: Hook<L, N, T>, K: Clock> Runner<
-    L,
-    N,
-    D,
-    T,
-    H,
-    K,
-> {
-    // Takes turns until one stops the run, and reports.
+impl<
+    L: Language,
+    N: Analysis<L>,
+    D: IterationData<L, N>,
+    T: Clone,
+    H: Hook<L, N, T>,
+    K: Clock,
+> Runner<L, N, D, T, H, K> {
+    // Takes turns until one stops the run, and returns a report.
     fn answer<Q: RewriteT<L, N>>(&mut self, rules: &[Q]) -> Result<Report<T>, Error>
         requires well { self.old.egraph.failed ≡ false }
         requires valid { All (λ r. Q.valid r self.old.egraph) rules.now }
@@ -45,11 +45,13 @@ impl<L: Language, N: Analysis<L>, D: IterationData<L, N>, T: Clone, H: Hook<L, N
         self.report()
     }
 
-    /// Takes turns until one stops the run, and reports. A runner that has stopped reports again, and nothing changes.
+    /// Takes turns until one stops the run, and returns a report. A runner that has stopped reports again, and nothing
+    /// changes.
     ///
-    /// A turn applies the rules once, calls the hook, and stops the run for the first of these causes that holds: the hook's
-    /// own, more stored turns than the limit, more filed nodes, more time, and saturation, where the rules left the progress
-    /// measure as it was. What a refused turn did to the graph stays, but the turn is not stored.
+    /// A turn applies the rules once and calls the hook. It stops the run for the first of these causes that holds: the
+    /// hook's own, more stored turns than the limit, more filed e-nodes, more time, and saturation. A graph is
+    /// saturated if the rules left its progress measure as it was. What a refused turn did to the graph stays, but the
+    /// turn is not stored.
     pub fn run<Q: RewriteT<L, N>>(&mut self, rules: &[Q]) -> Result<Report<T>, Error>
         requires { IsTrue self.old.egraph.failed ⊎ All (λ r. Q.valid r self.old.egraph) rules.now }
         ensures ok { IfOk result
@@ -60,7 +62,7 @@ impl<L: Language, N: Analysis<L>, D: IterationData<L, N>, T: Clone, H: Hook<L, N
             ⊎ IsRefused K.tells (RulesOnce Q.searches Q.applies rules.now) (Calls H.leaves) (measures D.made)
             (parts_of self.old) (parts_of self.new) e) }
 
-        // What was there stays, also where a turn is refused.
+        // What was there stays, even if a turn is refused.
         ensures extends { IsTrue self.new.egraph.failed ⊎ ExtendsTo self.old.egraph self.new.egraph }
         ensures stays { IsTrue self.old.egraph.failed → self.new ≡ self.old }
         ensures failed { IsErrOf result Error.Failed ↔ IsTrue self.old.egraph.failed }

@@ -1,4 +1,4 @@
-//! Runners: a graph, a hook and a clock, limits, and the turns so far.
+//! Runners: a graph, a hook, a clock, limits, and the turns so far.
 ghost use Rattle.std.specs.Prelude.{◌≡◌, ◌↔◌, ◌⊎◌, IsTrue, IsOk, IsErrOf, IfOk, IfErr, OnOk};
 ghost use Rattle.slotted_slots.specs.Error.{IsShortage};
 ghost use Rattle.slotted_terms.specs.Valid.{IsValidTerm};
@@ -17,9 +17,9 @@ use slotted_slots::{AppliedId, Error, SlotTable};
 use slotted_terms::expr::RecExpr;
 use std::alloc::Global;
 
-/// Applies rules to its graph in turns, until its hook, a limit or saturation stops it.
+/// Applies rules to its graph in turns, until its hook, a limit or saturation stops the run.
 ///
-/// It starts with limits of 30 turns, 10,000 filed nodes and 60,000,000,000 nanoseconds.
+/// A new runner has limits of 30 turns, 10,000 filed e-nodes and 60,000,000,000 nanoseconds.
 #[derive(Drop)]
 pub struct Runner<L: Language, N: Analysis<L>, D, T, H, K> {
     /// The graph.
@@ -45,7 +45,7 @@ impl<L: Language, N: Analysis<L>, D: IterationData<L, N>, T: Drop, K: Clock> Run
     NoHook,
     K,
 > {
-    /// The runner over the graph without classes, without a hook, and with the usual limits. It takes no memory.
+    /// Returns a runner over a graph without classes, without a hook, and with the usual limits. Takes no memory.
     pub fn new(alloc: Global, table: SlotTable, analysis: N, clock: K) -> Result<Self, Error>
         ensures answers { IsOk result }
         ensures parts { IfOk result (λ r. let p = parts_of r in p ≡ new_parts (new_graph N.codes analysis table) clock p.hook) }
@@ -79,15 +79,15 @@ fn add_root<L: Language, N: Analysis<L>>(
     Ok(())
 }
 
-impl<L: Language, N: Analysis<L>, D: IterationData<L, N>, T: Drop, H: Hook<L, N, T>, K: Clock> Runner<
-    L,
-    N,
-    D,
-    T,
-    H,
-    K,
-> {
-    /// Puts a hook in place of the runner's own.
+impl<
+    L: Language,
+    N: Analysis<L>,
+    D: IterationData<L, N>,
+    T: Drop,
+    H: Hook<L, N, T>,
+    K: Clock,
+> Runner<L, N, D, T, H, K> {
+    /// Replaces the runner's hook.
     pub fn with_hook<J: Hook<L, N, T>>(self, hook: J) -> Runner<L, N, D, T, J, K>
         ensures { parts_of result ≡ with_other_hook hook (parts_of self) }
     {
@@ -124,7 +124,7 @@ impl<L: Language, N: Analysis<L>, D: IterationData<L, N>, T: Drop, H: Hook<L, N,
         Ok(self)
     }
 
-    /// Puts a graph in place of the runner's own. The roots stay.
+    /// Replaces the runner's graph. The roots stay.
     pub fn with_egraph(mut self, egraph: EGraph<L, N>) -> Self
         ensures { let p = parts_of self in parts_of result ≡ record p { graph = egraph } }
     {
@@ -132,7 +132,7 @@ impl<L: Language, N: Analysis<L>, D: IterationData<L, N>, T: Drop, H: Hook<L, N,
         self
     }
 
-    /// Sets the number of filed nodes past which the runner stops.
+    /// Sets the number of filed e-nodes past which the runner stops.
     pub fn with_node_limit(mut self, node_limit: usize) -> Self
         ensures { let p = parts_of self in parts_of result
             ≡ record p { limits = record p.limits { nodes = node_limit } } }

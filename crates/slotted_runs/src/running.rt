@@ -17,7 +17,7 @@ use slotted_languages::Language;
 use slotted_rules::RewriteT;
 use slotted_slots::Error;
 
-// The end of the last turn, if there is one.
+// Returns the end of the last turn, if there is one.
 fn last_end<D>(iterations: &Vec<Iteration<D>>) -> Option<u64>
     ensures { result ≡ last_finish (map iteration_of iterations.now.items) }
 {
@@ -27,15 +27,15 @@ fn last_end<D>(iterations: &Vec<Iteration<D>>) -> Option<u64>
     }
 }
 
-impl<L: Language, N: Analysis<L>, D: IterationData<L, N>, T: Drop, H: Hook<L, N, T>, K: Clock> Runner<
-    L,
-    N,
-    D,
-    T,
-    H,
-    K,
-> {
-    // Returns the reading before the first turn. The clock is read where there was none.
+impl<
+    L: Language,
+    N: Analysis<L>,
+    D: IterationData<L, N>,
+    T: Drop,
+    H: Hook<L, N, T>,
+    K: Clock,
+> Runner<L, N, D, T, H, K> {
+    // Returns the reading before the first turn. If there is none yet, the clock is read.
     fn begin(&mut self) -> u64
         ensures { IsBegun K.tells (parts_of self.old) (parts_of self.new) result }
     {
@@ -49,7 +49,7 @@ impl<L: Language, N: Analysis<L>, D: IterationData<L, N>, T: Drop, H: Hook<L, N,
         }
     }
 
-    // The time from the start to the end of the last turn.
+    // Returns the time from the start to the end of the last turn.
     pub(crate) fn total_time(&self) -> u64
         ensures { result
             ≡ time_between (start_of self.now.limits) (last_finish (map iteration_of self.now.iterations.items)) }
@@ -84,7 +84,7 @@ impl<L: Language, N: Analysis<L>, D: IterationData<L, N>, T: Drop, H: Hook<L, N,
         Ok(())
     }
 
-    // Takes turns until one stops the run, where none has.
+    // Takes turns until one stops the run, unless the runner has stopped already.
     pub(crate) fn stop<Q: RewriteT<L, N>>(&mut self, rules: &[Q]) -> Result<(), Error>
         requires well { self.old.egraph.failed ≡ false }
         requires valid { All (λ r. Q.valid r self.old.egraph) rules.now }

@@ -20,14 +20,14 @@ use slotted_languages::Language;
 use slotted_rules::RewriteT;
 use slotted_slots::Error;
 
-// What is stored of a turn, and why the run stops with it, if it does.
+// What is stored of a turn, and why the turn stops the run, if it does.
 #[derive(Drop)]
 pub(crate) struct Turn<D, T> {
     pub(crate) kept: Iteration<D>,
     pub(crate) stop: Option<StopReason<T>>,
 }
 
-// The first limit that is passed, or else saturation.
+// Returns the first limit that is passed, or else saturation.
 fn limit_met<T>(
     limits: &RunnerLimits,
     stored: usize,
@@ -50,7 +50,8 @@ fn limit_met<T>(
     }
 }
 
-// Why a turn stops the run, if it does: by its hook, or else by a limit or saturation, for which the clock is read.
+// Returns why a turn stops the run, if it does: its hook, or else a limit or saturation. The clock is read unless the
+// hook stops the run.
 fn reason<T: Drop, K: Clock>(
     stop: Option<T>,
     clock: &mut K,
@@ -72,14 +73,14 @@ fn reason<T: Drop, K: Clock>(
     }
 }
 
-impl<L: Language, N: Analysis<L>, D: IterationData<L, N>, T: Drop, H: Hook<L, N, T>, K: Clock> Runner<
-    L,
-    N,
-    D,
-    T,
-    H,
-    K,
-> {
+impl<
+    L: Language,
+    N: Analysis<L>,
+    D: IterationData<L, N>,
+    T: Drop,
+    H: Hook<L, N, T>,
+    K: Clock,
+> Runner<L, N, D, T, H, K> {
     // Takes a turn, and stores nothing.
     pub(crate) fn turn<Q: RewriteT<L, N>>(
         &mut self,

@@ -1,4 +1,4 @@
-//! What a call of a workspace may refuse with.
+//! Errors of a workspace.
 ghost use Rattle.std.specs.Prelude.{◌≡◌};
 ghost use Rattle.slotted_workspace.specs.declared.error.WorkspaceError.TheVariants.{Graph};
 ghost use Rattle.slotted_slots.specs.declared.error.Error.TheVariants.{OutOfMemory};
@@ -7,13 +7,13 @@ use slotted_slots::Error as GraphError;
 use std::alloc::AllocFailed;
 use thiserror::Error;
 
-/// Why a call of a workspace was refused.
+/// The error of a call of a workspace.
 #[derive(Debug, Drop, Error)]
 pub enum WorkspaceError {
-    /// A handle is of another workspace, or too large.
+    /// The handle belongs to another workspace, or is too large.
     #[error("the handle is none of this workspace")]
     UnknownHandle,
-    /// The graph refused.
+    /// The graph returned this error.
     #[error("{0}")]
     Graph(GraphError),
 }

@@ -1,4 +1,4 @@
-//! Proofs of two terms as texts.
+//! Proofs as texts.
 ghost use Rattle.std.specs.Prelude.{◌≡◌, ◌⊎◌, IfOk, IfErr, IsTrue};
 ghost use Rattle.slotted_graph.specs.Extension.{ExtendsTo};
 ghost use Rattle.slotted_workspace.specs.Asked.{ExplainsTerms, ExplainRefused};
@@ -10,7 +10,7 @@ use slotted_slots::Error;
 use slotted_terms::expr::printing::Printable;
 use std::alloc::Global;
 
-/// The lines of a proof that two kept terms are equal.
+/// Returns the lines of a proof that two kept terms are equal.
 pub(crate) fn explanation<L: Printable>(
     alloc: Global,
     graph: &mut EGraph<L>,
@@ -26,7 +26,7 @@ pub(crate) fn explanation<L: Printable>(
     ensures stays { IsTrue graph.old.failed → graph.new ≡ graph.old }
 {
     let proof = graph.explain_equivalence(&left.term, &right.term)?;
-    // It is asked for what each graph keeps that has not failed.
+    // This call is there for its clauses: what holds of each graph that has not failed.
     let _ = graph.is_failed();
     proof.to_string(alloc, graph)
 }

@@ -1,4 +1,4 @@
-//! Terms of the fewest nodes, as texts.
+//! Smallest terms, as texts.
 ghost use Rattle.std.specs.Prelude.{◌≡◌, ◌⊎◌, Some, IfOk, IfErr, IsTrue};
 ghost use Rattle.slotted_core.specs.Graph.{IsFullId, id_of_term};
 ghost use Rattle.slotted_graph.specs.Extension.{ExtendsTo};
@@ -16,14 +16,14 @@ use slotted_slots::Error;
 use slotted_terms::expr::printing::Printable;
 use std::alloc::Global;
 
-/// A term that was extracted: how many nodes it has, and its text.
+/// An extracted term: its number of e-nodes, and its text.
 #[derive(Drop, Debug)]
 pub struct Extracted {
     pub cost: u64,
     pub text: String,
 }
 
-/// A term of the fewest nodes that is equal to a kept one.
+/// Returns a term of the fewest e-nodes that is equal to a kept term.
 pub(crate) fn smallest<L: Printable>(
     alloc: Global,
     graph: &mut EGraph<L>,

@@ -8,14 +8,14 @@ use slotted_languages::Language;
 use slotted_slots::AppliedId;
 use slotted_terms::expr::RecExpr;
 
-/// A term that was added, and the id that stands for it.
+/// A term that was added, with its id.
 #[derive(Drop)]
 pub(crate) struct Kept<L: Language> {
     pub(crate) id: AppliedId,
     pub(crate) term: RecExpr<L>,
 }
 
-/// What a handle stands for, in the workspace with this number.
+/// Returns what a handle stands for, in the workspace with this number.
 pub(crate) fn kept_at<L: Language>(
     kept: &[Kept<L>],
     number: u64,
@@ -30,7 +30,7 @@ pub(crate) fn kept_at<L: Language>(
     Ok(&kept[handle.index])
 }
 
-/// The same of two handles.
+/// Returns what two handles stand for, in the workspace with this number.
 pub(crate) fn both_at<L: Language>(
     kept: &[Kept<L>],
     number: u64,

@@ -1,6 +1,6 @@
-//! A workspace: a graph with its rules and its terms, whose calls need no proof of their caller.
+//! Workspaces: a graph with its rules and terms, whose calls need no proof of their caller.
 //!
-//! Terms are named by handles. A handle that is none of the workspace's is refused, and so no call has a condition.
+//! Terms are named by handles. A handle that does not belong to the workspace is refused, so no call has a condition.
 #![tactic(auto)]
 
 pub mod error;

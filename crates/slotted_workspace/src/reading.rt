@@ -1,4 +1,4 @@
-//! What is read from texts: terms, which are added, and rules.
+//! Reading of texts: terms, which are added, and rules.
 ghost use Rattle.std.specs.Prelude.{◌≡◌, ◌⊎◌, IfOk, IfErr, IsTrue};
 ghost use Rattle.slotted_slots.specs.Table.{KnowsMore};
 ghost use Rattle.slotted_graph.specs.Extension.{ExtendsTo};
@@ -14,7 +14,7 @@ use slotted_rules::{CondTree, Rewrite};
 use slotted_slots::Error;
 use std::alloc::Global;
 
-/// Adds the term of a text, by canonical nodes: so its id stands for just this term.
+/// Adds the term of a text by syntactic e-nodes, so that the id stands for just this term.
 pub(crate) fn read_term<L: Language>(graph: &mut EGraph<L>, text: &str) -> Result<Kept<L>, Error>
     ensures ok { IfOk result (λ k. AddsKept L.read graph.old graph.new text.now k.term (to_applied k.id)) }
     ensures valid { IfOk result (λ k. IsValidTerm graph.new.table k.term) }
@@ -27,7 +27,7 @@ pub(crate) fn read_term<L: Language>(graph: &mut EGraph<L>, text: &str) -> Resul
     Ok(Kept { id, term })
 }
 
-/// The rule of two texts. Both are read over the graph's table, the left one first.
+/// Returns the rule of two texts. Both are read over the graph's table, the left one first.
 pub(crate) fn read_rule<L: Language>(
     alloc: Global,
     graph: &mut EGraph<L>,

@@ -12,7 +12,7 @@ use slotted_runs::{Clock, Hook, HookStop, Report, run_eqsat};
 use slotted_slots::Error;
 use std::alloc::Global;
 
-/// How long a run may go on: it stops after so many turns, and past so many filed nodes.
+/// The limits of a run: how many turns it takes, and past how many filed e-nodes it stops.
 #[derive(Clone, Copy, Debug)]
 pub struct Limits {
     pub turns: usize,
@@ -20,7 +20,7 @@ pub struct Limits {
 }
 
 impl Limits {
-    /// Thirty turns, and ten thousand nodes.
+    /// Returns the usual limits: 30 turns and 10,000 e-nodes.
     pub fn usual() -> Limits
         ensures { result ≡ record { turns = 30; nodes = 10000 } }
     {
@@ -31,7 +31,7 @@ impl Limits {
     }
 }
 
-/// A clock that stands still, so that no limit of time is met.
+/// A clock that stands still, so that no limit of time is passed.
 #[derive(Drop, Debug)]
 pub(crate) struct NoClock;
 
@@ -45,7 +45,7 @@ impl Clock for NoClock {
     }
 }
 
-/// The hook that stops a run past a number of filed nodes.
+/// The hook that stops a run past a number of filed e-nodes.
 #[derive(Drop, Debug)]
 pub(crate) struct NodeLimit {
     nodes: usize,

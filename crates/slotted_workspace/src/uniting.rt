@@ -11,7 +11,7 @@ use slotted_languages::Language;
 use slotted_slots::Error;
 use std::alloc::Global;
 
-/// Asserts that two kept terms are equal.
+/// Asserts that two kept terms are equal. Returns true if they were not found equal before.
 pub(crate) fn unite<L: Language>(
     graph: &mut EGraph<L>,
     left: &Kept<L>,
@@ -26,12 +26,13 @@ pub(crate) fn unite<L: Language>(
     ensures stays { IsTrue graph.old.failed → graph.new ≡ graph.old }
 {
     let answer = graph.union_justified(&left.id, &right.id, text)?;
-    // It is asked for what each graph keeps that has not failed.
+    // This call is there for its clauses: what holds of each graph that has not failed.
     let _ = graph.is_failed();
     Ok(answer)
 }
 
-/// The same, with a text that says why.
+/// Asserts that two kept terms are equal, with a text that proofs cite. Returns true if they were not found equal
+/// before.
 pub(crate) fn unite_because<L: Language>(
     alloc: Global,
     graph: &mut EGraph<L>,

@@ -30,8 +30,9 @@ use std::marker::Model;
 
 /// A graph, its rules, and the terms that were added, each named by a handle.
 ///
-/// No call has a condition: a handle of a workspace with another number, or one that is too large, is refused, and nothing changes. Give
-/// workspaces that live beside each other different numbers: a handle of one with the same number stands for this one's own term.
+/// No call has a condition: a handle that is too large, or that belongs to a workspace with another number, is refused,
+/// and nothing changes. Give different numbers to workspaces that live at the same time: a handle of another workspace
+/// with the same number stands for this one's own term.
 #[derive(Drop)]
 pub struct Workspace<L: Language> {
     number: u64,
@@ -63,7 +64,7 @@ pub struct SymmetryCount {
 }
 
 impl<L: Language> Workspace<L> {
-    /// Returns the workspace with the number 0, without terms and rules. It takes no memory.
+    /// Returns a workspace with the number 0, without terms and rules. Takes no memory.
     pub fn new(alloc: Global) -> Result<Self, WorkspaceError>
         ensures answers { IsOk result }
         ensures empty { IfOk result (λ w. w ≡ empty_space 0) }
@@ -71,7 +72,7 @@ impl<L: Language> Workspace<L> {
         Self::with_number(alloc, 0)
     }
 
-    /// Returns a workspace with a number, by which its handles are told from those of others. It takes no memory.
+    /// Returns a workspace with a number, which tells its handles from those of others. Takes no memory.
     pub fn with_number(alloc: Global, number: u64) -> Result<Self, WorkspaceError>
         ensures answers { IsOk result }
         ensures empty { IfOk result (λ w. w ≡ empty_space number) }
@@ -117,7 +118,8 @@ impl<L: Language> Workspace<L> {
         })
     }
 
-    /// Returns whether two terms are equal by what was asserted. A yes is right, and so is a no, unless open symmetries affect both terms.
+    /// Returns whether two terms are equal by what was asserted. A yes is right. So is a no, unless open symmetries
+    /// affect both terms.
     pub fn eq(&self, a: Handle, b: Handle) -> Result<bool, WorkspaceError>
         ensures ok { IfOk result (λ y. OfBoth self.now a b (λ t u. Compares self.now.graph t u y)) }
         ensures err { IfErr result
@@ -139,7 +141,8 @@ impl<L: Language> Workspace<L> {
         Ok(unite(&mut self.graph, left, right, None)?)
     }
 
-    /// Asserts that two terms are equal, with a text that says why. Proofs cite the text.
+    /// Asserts that two terms are equal, with a text that proofs cite. Returns true if they were not found equal
+    /// before.
     pub fn union_because(
         &mut self,
         a: Handle,
@@ -156,7 +159,8 @@ impl<L: Language> Workspace<L> {
         Ok(unite_because(self.alloc, &mut self.graph, left, right, text)?)
     }
 
-    /// Keeps the rule of a name and two texts. A run makes the right side equal to the left side wherever the left side is found.
+    /// Keeps a rule, by its name and the texts of both sides. A run makes the right side equal to the left side
+    /// wherever the left side is found.
     pub fn rule(&mut self, name: &str, left: &str, right: &str) -> Result<(), WorkspaceError>
         ensures ok { OnOk result
             (KeepsRule L.form L.read self.old self.new name.now left.now right.now CondTree.Always) }
@@ -184,7 +188,7 @@ impl<L: Language> Workspace<L> {
         Ok(())
     }
 
-    /// Returns the slot of the text after a `$`, for conditions of rules.
+    /// Returns the slot of the text behind a `$`, for conditions of rules.
     pub fn slot(&mut self, text: &str) -> Result<Slot, WorkspaceError>
         ensures ok { IfOk result
             (λ slot. named_of self.old.graph.table text.now ≡ gives slot self.new.graph.table) }
@@ -194,7 +198,8 @@ impl<L: Language> Workspace<L> {
         Ok(self.graph.named_slot(text)?)
     }
 
-    /// Runs all rules, in turns, until none changes the graph or a limit is passed. The report names a passed limit of e-nodes as `Other`.
+    /// Runs all rules in turns, until none changes the graph or a limit is passed. The report names a passed limit of
+    /// e-nodes as `Other`.
     pub fn run(&mut self, limits: Limits) -> Result<Report, WorkspaceError>
         ensures ok { IfOk result (λ r. OfRules L.form self.old
             (λ rules. HasRun L.form rules limits.turns limits.nodes self.old.graph self.new.graph r)) }
@@ -205,7 +210,7 @@ impl<L: Language> Workspace<L> {
         Ok(run_rules(self.alloc, &mut self.graph, &self.rules, limits)?)
     }
 
-    /// Returns how many symmetries unions met, and how many of them are open.
+    /// Returns how many symmetries the unions met, and how many of them are open.
     pub fn symmetries(&self) -> Result<SymmetryCount, WorkspaceError>
         ensures met { IfOk result (λ n. n.met ≡ length self.now.graph.image.symmetries) }
         ensures open { IfOk result
@@ -220,7 +225,8 @@ impl<L: Language> Workspace<L> {
 }
 
 impl<L: Printable> Workspace<L> {
-    /// Returns the proof that two terms are equal, by lines, each ended by a line feed. The last line is the equation of both.
+    /// Returns a proof that two terms are equal, as lines that each end with a line feed. The last line is the equation
+    /// of both.
     pub fn explain(&mut self, a: Handle, b: Handle) -> Result<String, WorkspaceError>
         ensures ok { IfOk result (λ text. OfBoth self.old a b
             (λ t u. ExplainsTerms L.written self.old.graph self.new.graph t u text)) }
@@ -232,7 +238,7 @@ impl<L: Printable> Workspace<L> {
         Ok(explanation(self.alloc, &mut self.graph, left, right)?)
     }
 
-    /// Returns a term of the fewest nodes that is equal to the handle's, and how many nodes it has.
+    /// Returns a term of the fewest e-nodes that is equal to the handle's term, and its number of e-nodes.
     pub fn extract(&mut self, a: Handle) -> Result<Extracted, WorkspaceError>
         ensures ok { IfOk result (λ x. OfOne self.old a
             (λ t. ExtractsTerm L.form L.written self.old.graph self.new.graph t x.cost x.text)) }
