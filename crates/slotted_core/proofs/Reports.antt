@@ -65,7 +65,7 @@ filter-agrees f g s (suc n) same =
     λ j. cond (e j) (s ∷ r j) (r j)
 
 -- two numbers that are i together are compared with i alike
-compared-alike : (a b i : ℕ) → ((a ≡ i) ↔ (b ≡ i)) → nat_eq a i ≡ nat_eq b i
+pub compared-alike : (a b i : ℕ) → ((a ≡ i) ↔ (b ≡ i)) → nat_eq a i ≡ nat_eq b i
 compared-alike a b i same = elim (cases_Bool (nat_eq a i)) [
   | inl y ↦ y ∙ sym (eq-eqb b i (same.0 (eqb-true a i y)))
   | inr n ↦ n ∙ sym (ne_eqb b i (λ e. absurd (false≢true (sym n ∙ eq-eqb a i (same.1 e)))))

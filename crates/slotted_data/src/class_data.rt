@@ -1,7 +1,8 @@
 //! The data of classes, and what has to be known to carry it along.
 ghost use Rattle.std.specs.Prelude.{◌≡◌, ◌<◌, ◌≤◌, ◌++◌, ◌∷◌, [], length, set, slice_get, slice_index_or, Some, IfOk, IfErr, OnOk};
 ghost use Rattle.slotted_slots.specs.Error.{IsOutOfMemory};
-ghost use Rattle.slotted_data.specs.Held.{HasNewValue, HasValue, no_values, users_of, with_none_changed, with_user, with_users_taken, with_entered, with_carried};
+ghost use Rattle.slotted_data.specs.Held.{HasNewValue, HasValue, no_values, users_of, with_carried, with_entered};
+ghost use Rattle.slotted_data.specs.Held.{with_none_changed, with_user, with_users_taken};
 
 use slotted_filing::Worklist;
 use slotted_slots::Error;
@@ -41,7 +42,7 @@ impl<D> Model for ClassData<D> {
 }
 
 impl<D: Drop> ClassData<D> {
-    /// No class.
+    /// Returns the data of no class.
     pub fn new(alloc: Global) -> Self
         ensures { result ≡ no_values }
     {
@@ -55,14 +56,14 @@ impl<D: Drop> ClassData<D> {
         }
     }
 
-    /// How many classes have data.
+    /// Returns how many classes have data.
     pub fn count(&self) -> usize
         ensures { result ≡ length self.now.values }
     {
         self.values.len()
     }
 
-    /// The data of a class.
+    /// Returns the data of a class.
     pub fn value(&self, class: usize) -> &D
         requires { class < length self.now.values }
         ensures { slice_get self.now.values class ≡ Some result.now }
@@ -70,21 +71,21 @@ impl<D: Drop> ClassData<D> {
         &self.values[class]
     }
 
-    /// How many classes wait to be modified, dead ones too.
+    /// Returns how many classes wait to be modified, dead ones too.
     pub fn changed_count(&self) -> usize
         ensures { result ≡ length self.now.changed }
     {
         self.changed.len()
     }
 
-    /// The class at a place among those that wait to be modified, in the order in which they came.
+    /// Returns the class at a place among those that wait to be modified, in the order in which they came.
     pub fn changed_at(&self, k: usize) -> Option<usize>
         ensures { result ≡ slice_get self.now.changed k }
     {
         self.changed.get(k)
     }
 
-    /// The classes that wait to be modified, in the order in which they came. None waits from now on.
+    /// Returns the classes that wait to be modified, in the order in which they came. None waits from now on.
     pub fn take_changed(&mut self, alloc: Global) -> Result<Vec<usize>, Error>
         ensures ok { IfOk result (λ v. v.items ≡ self.old.changed) }
         ensures left { OnOk result (self.new ≡ with_none_changed self.old) }

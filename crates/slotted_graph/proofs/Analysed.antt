@@ -1,6 +1,6 @@
 -- What a graph keeps by its analysis, told by its parts.
 use Rattle.std.proofs.Common.{◌≡◌, ◌<◌, ℕ, List, Bool, true, false, nat_eq, length, map, Some, sym, ◌∙◌, ap, refl, subst, arith, inl, inr}
-use Rattle.std.proofs.lemmas.Bool.{eq-eqb, eqb-true, false≢true, ltb-true, ne_eqb}
+use Rattle.std.proofs.lemmas.Bool.{ltb-true}
 use Rattle.std.proofs.lemmas.Option.{get_or_from_slice_get}
 use Rattle.std.specs.Prelude.{◌↔◌, ◌&&◌, Contains, Result, Ok, Err, IfOk, OnErr, count_by, nat_lt, slice_get, slice_index_or}
 use Rattle.std.specs.Coded.{Coded}
@@ -35,7 +35,7 @@ use Rattle.slotted_core.specs.Image.{Image}
 use Rattle.slotted_writes.proofs.Since.{carried-same}
 use Rattle.slotted_core.proofs.Images.{class_found-is}
 use Rattle.slotted_core.specs.Reports.{finds_itself}
-use Rattle.slotted_core.proofs.Reports.{live-is}
+use Rattle.slotted_core.proofs.Reports.{compared-alike, live-is}
 use Rattle.slotted_core.proofs.Resting.{at-rest}
 use Rattle.slotted_graph.specs.Analysed.{AbsorbsMade, CarriesData, CountsPending, HasData, KeepsPart, MergesData, datum_in, is_live_class}
 
@@ -144,17 +144,13 @@ and-same : (b x y : Bool) → (b ≡ true → x ≡ y) → (b && x) ≡ (b && y)
 and-same true x y h = h refl
 and-same false x y h = refl
 
-told-alike : (b : Bool) (m n i : ℕ) → b ≡ nat_eq m i → ((m ≡ i) ↔ (n ≡ i)) → b ≡ nat_eq n i
-told-alike true m n i is same = sym (eq-eqb n i (same.0 (eqb-true m i (sym is))))
-told-alike false m n i is same = sym (ne_eqb n i (λ e. false≢true (is ∙ eq-eqb m i (same.1 e))))
-
 lives-is : (k : Kept) → Good k → (i : ℕ) → lives_in k i ≡ is_live_class (image_of k) i
 lives-is k good i =
     (λ j. nat_lt i (sym (length-nodes_of k) j) && nat_eq (find_at k i).class i)
     ∙ and-same (nat_lt i (length (nodes_of k))) (nat_eq (find_at k i).class i) (finds_itself (image_of k) i) (λ e.
     let h = ltb-true i (length (nodes_of k)) e in
     let n = length-nodes_of k in
-    told-alike (nat_eq (find_at k i).class i) (find_at k i).class (class_found (image_of k) i) i refl
+    compared-alike (find_at k i).class (class_found (image_of k) i) i
     (subst (λ (x : Entry). (x.class ≡ i) ↔ (class_found (image_of k) i ≡ i)) (entry_at-of k i) (live-is k good i (omega (arith, h, n)))))
 
 -- so many live classes wait

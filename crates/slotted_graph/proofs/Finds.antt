@@ -144,8 +144,3 @@ ok-with (Err e) h f = tt
 pub ok-three_of : {A : Type 0} {P Q R S : A → Type 0} (o : Result A Error) → IfOk o P → IfOk o Q → IfOk o R → ((a : A) → P a → Q a → R a → S a) → IfOk o S
 ok-three_of (Ok a) h i j f = f a h i j
 ok-three_of (Err e) h i j f = tt
-
--- of a graph that has not failed
-pub invariant-of : {Index : Type 0} (failed : Bool) (t : Table) (k : Kept) (r : Rows) → failed ≡ false → IsTrue failed ⊎ (Good k × HasFreshSlots t k × RestsWith k r × Index) → Good k × HasFreshSlots t k × RestsWith k r × Index
-invariant-of failed t k r f (inl h) = absurd (false≢true (sym f ∙ h))
-invariant-of failed t k r f (inr h) = h
