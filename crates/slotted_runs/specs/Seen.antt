@@ -55,7 +55,7 @@ pub record Parts (D T H K : Type 0) : Type 0 where
   pub hook : H
   pub clock : K
 
-abbrev pub parts_of : {L N D T H K : Type 0} → Runner L N D T H K → Parts D T H K
+abbrev pub parts_of : {L N D T H K X : Type 0} → Runner L N D T H K X → Parts D T H K
 parts_of r = record {
   graph = r.egraph;
   iterations = map iteration_of r.iterations.items;
