@@ -4,6 +4,9 @@ use Rattle.std.proofs.lemmas.Bool.{ltb-true}
 use Rattle.std.proofs.lemmas.Option.{get_or_from_slice_get}
 use Rattle.std.specs.Prelude.{◌↔◌, ◌&&◌, Contains, Result, Ok, Err, IfOk, OnErr, count_by, nat_lt, slice_get, slice_index_or}
 use Rattle.std.specs.Coded.{Coded}
+use Rattle.std.specs.List.{filter}
+use Rattle.std.specs.List.Sorted.{IsPermutation, IsSorted}
+use Rattle.std.specs.Ordering.{nat_cmp}
 use base.Stored.{Gv}
 use Rattle.slotted_slots.specs.declared.error.Error.{Error}
 use Rattle.slotted_model.specs.Changes.{GoesOn}
@@ -18,12 +21,12 @@ use Rattle.slotted_store.proofs.KeptLists.{entry_at-of, length-entries_of, lengt
 use Rattle.slotted_filing.specs.FiledRows.{Rows, rows_in}
 use Rattle.slotted_rebuilding.specs.Filed.{state_in}
 use Rattle.slotted_analyses.specs.Meaning.{Meaning, by_bare_nodes}
-use Rattle.slotted_data.specs.Held.{Held}
+use Rattle.slotted_data.specs.Held.{Held, with_none_changed}
 use Rattle.slotted_data.specs.Lowering.{quiet}
 use Rattle.slotted_data.specs.Made.{data_in}
 use Rattle.slotted_data.specs.Carrying.{Carried, DataRests, HasCarriedAll, MergesIn}
 use Rattle.slotted_data.specs.Part.{Part, part_by, part_code, part_in}
-use Rattle.slotted_data.specs.Pending.{lives_in}
+use Rattle.slotted_data.specs.Pending.{ArePending, lives_in}
 use Rattle.slotted_data.proofs.NewData.{map-same}
 use Rattle.slotted_data.proofs.Resting.{rests-proved}
 use Rattle.slotted_data.proofs.TakenData.{row-child, row-within}
@@ -37,7 +40,7 @@ use Rattle.slotted_core.proofs.Images.{class_found-is}
 use Rattle.slotted_core.specs.Reports.{finds_itself}
 use Rattle.slotted_core.proofs.Reports.{compared-alike, live-is}
 use Rattle.slotted_core.proofs.Resting.{at-rest}
-use Rattle.slotted_graph.specs.Analysed.{AbsorbsMade, CarriesData, CountsPending, HasData, KeepsPart, MergesData, datum_in, is_live_class}
+use Rattle.slotted_graph.specs.Analysed.{AbsorbsMade, CarriesData, CountsPending, HasData, KeepsPart, MergesData, TakesPending, datum_in, is_live_class}
 
 module _ {N D : Type 0} (codes : Coded N × Coded D) (meaning : N → Meaning D) (n : N) (k : Kept) (r : Rows) (d : Held D) (g : Graph)
     (image : image_of k ≡ g.image) (part : g.part ≡ part_by codes n d) where
@@ -159,4 +162,16 @@ counts-pending codes n k good d g image part c is = record {
   part = part_in n d;
   keeps = part;
   is = is ∙ ((λ j. count_by (λ i. lives-is k good i j) d.changed) ∙ ap (λ (x : Image). count_by (is_live_class x) d.changed) image);
+}
+
+-- those that live are taken
+pub takes-pending : {N D : Type 0} (codes : Coded N × Coded D) (meaning : N → Meaning D) (n : N) (k : Kept) (r : Rows) → Good k → (d e : Held D) (g h : Graph) → image_of k ≡ g.image → g.part ≡ part_by codes n d → h.part ≡ part_by codes n e →
+    DataRests (by_bare_nodes (meaning n)) k r d → e ≡ with_none_changed d → (is ids : List ℕ) → ArePending k d.changed is → ids ≡ is → TakesPending codes g h ids
+takes-pending codes meaning n k r good d e g h image before after rests left is ids taken same = record {
+  part = part_in n d;
+  keeps = before;
+  left = after ∙ ap (part_by codes n) left;
+  once = λ x. (rests.has x).changed_once;
+  same = subst (IsPermutation (filter (is_live_class g.image) d.changed)) (sym same) (subst (λ xs. IsPermutation xs is) ((λ j. filter (λ i. lives-is k good i j) d.changed) ∙ ap (λ (x : Image). filter (is_live_class x) d.changed) image) taken.same);
+  ascending = subst (IsSorted nat_cmp) (sym same) taken.ascending;
 }

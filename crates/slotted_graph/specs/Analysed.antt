@@ -8,9 +8,14 @@
 --     CarriesData codes meaning g h  from g to h data only went down, and what was made or has changed waits to be modified
 --     MergesData ..                  the same, and the class that i finds has data that absorbs v
 --     KeepsClassesAsTheyAre g h      nothing changed but data
-use Rattle.std.specs.Prelude.{◌≡◌, ◌<◌, ℕ, List, length, Bool, ◌&&◌, count_by, map, nat_lt, slice_get, slice_index_or, Some, Contains}
+--     TakesPending codes g h is      from g to h the live classes that waited were taken, and these are they, ascending
+use Rattle.std.specs.Prelude.{◌≡◌, ◌<◌, ℕ, List, [], length, Bool, ◌&&◌, count_by, map, nat_lt, slice_get, slice_index_or, Some, Contains}
 use Rattle.std.specs.Coded.{Coded}
+use Rattle.std.specs.List.{filter}
+use Rattle.std.specs.List.Sorted.{IsPermutation, IsSorted}
+use Rattle.std.specs.Ordering.{nat_cmp}
 use Rattle.slotted_slots.specs.Table.{Table}
+use Rattle.slotted_model.specs.Correspondence.{AllDifferent}
 use Rattle.slotted_model.specs.State.{Row, child_classes}
 use Rattle.slotted_model_analyses.specs.Analysis.{Absorbs}
 use Rattle.slotted_analyses.specs.Meaning.{Meaning, by_bare_nodes}
@@ -82,3 +87,12 @@ pub record KeepsClassesAsTheyAre (g h : Graph) : Type 0 where
   pub table : h.table ≡ g.table
   pub image : h.image ≡ g.image
   pub filed : h.filed ≡ g.filed
+
+-- no class waited twice, the live ones of those that waited are taken, ascending, and nothing else of what is kept has changed
+pub record TakesPending {N D : Type 0} (codes : Coded N × Coded D) (g h : Graph) (taken : List ℕ) : Type 0 where
+  pub part : Part N D
+  pub keeps : KeepsPart codes g part
+  pub left : KeepsPart codes h (record part { changed = [] })
+  pub once : D → AllDifferent part.changed
+  pub same : IsPermutation (filter (is_live_class g.image) part.changed) taken
+  pub ascending : IsSorted nat_cmp taken

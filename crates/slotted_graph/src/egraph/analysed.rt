@@ -1,14 +1,27 @@
 //! The analysis of a graph, and the data of its classes.
-ghost use Rattle.std.specs.Prelude.{◌≡◌, ◌⊎◌, ◌↔◌, ◌<◌, length, IsTrue, IfErr, IsErr, IsErrOf, OnOk};
+ghost use Rattle.std.specs.Prelude.{◌≡◌, ◌⊎◌, ◌↔◌, ◌<◌, length, IsTrue, IfErr, IfOk, IsErr, IsErrOf, OnOk};
 ghost use Rattle.slotted_slots.specs.Error.{IsOutOfMemory};
-ghost use Rattle.slotted_core.specs.Reports.{HasClass};
-ghost use Rattle.slotted_graph.specs.Analysed.{AbsorbsMade, CountsPending, HasData, IsAnalysisOf, KeepsClassesAsTheyAre, MergesData};
+ghost use Rattle.slotted_core.specs.Reports.{HasClass, class_numbers};
+ghost use Rattle.slotted_graph.specs.Analysed.{AbsorbsMade, CountsPending, HasData, IsAnalysisOf, KeepsClassesAsTheyAre, MergesData, TakesPending};
 
 use super::EGraph;
 use slotted_analyses::Analysis;
-use slotted_data::{merge_value, pending_count};
+use slotted_data::{merge_value, pending_count, take_pending};
 use slotted_languages::Language;
 use slotted_slots::{Error, Id};
+use std::alloc::Global;
+
+// Classes by their numbers.
+fn ids_of(alloc: Global, classes: &[usize]) -> Result<Vec<Id>, Error>
+    ensures ok { IfOk result (λ v. class_numbers v.items ≡ classes.now) }
+    ensures err { IfErr result IsOutOfMemory }
+{
+    let mut ids = Vec::new(alloc);
+    for class in classes {
+        ids.push(Id(*class))?;
+    }
+    Ok(ids)
+}
 
 impl<L: Language, N: Analysis<L>> EGraph<L, N> {
     /// Returns the graph's analysis. It takes no memory.
@@ -69,5 +82,25 @@ impl<L: Language, N: Analysis<L>> EGraph<L, N> {
             return 0;
         }
         pending_count(&self.store, &self.data)
+    }
+
+    /// Returns the live classes that wait to be modified, by ascending id. None waits from now on.
+    pub fn take_pending(&mut self) -> Result<Vec<Id>, Error>
+        ensures taken { IfOk result (λ v. TakesPending N.codes self.old self.new (class_numbers v.items)) }
+        ensures same { OnOk result (KeepsClassesAsTheyAre self.old self.new) }
+
+        ensures stays { IsTrue self.old.failed → self.new ≡ self.old }
+        ensures failed { IsErrOf result Error.Failed ↔ IsTrue self.old.failed }
+        ensures fails { IsTrue self.new.failed ↔ IsErr result }
+        ensures only { IfErr result (λ e. (e ≡ Error.Failed) ⊎ IsOutOfMemory e) }
+    {
+        if self.failed {
+            return Err(Error::Failed);
+        }
+        self.failed = true;
+        let taken = take_pending(&self.store, &mut self.data, self.alloc)?;
+        let ids = ids_of(self.alloc, &taken)?;
+        self.failed = false;
+        Ok(ids)
     }
 }
