@@ -1,9 +1,11 @@
 //! What no line of text shows of the commands: streams that fail, bytes that are no text, answers that wait, refused
-//! memory; and the callers of `slotted_egraphs`. They stand in a crate of their own, since a crate with tests is proved twice.
+//! memory, large inputs; and the callers of `slotted_egraphs`. They stand in a crate of their own, since a crate with tests is proved twice.
 #![tactic(auto)]
 
 #[cfg(test)]
 mod callers;
+#[cfg(test)]
+mod large;
 #[cfg(test)]
 mod lines;
 #[cfg(test)]
