@@ -7,6 +7,7 @@
 
 pub mod example;
 
+pub use slotted_analyses::{Analysis, Edit};
 pub use slotted_explain::{Check, EGraph, Explanation, LeastTerms, ProgressMeasure, Symmetry};
 pub use slotted_extract::{AstSize, CostFunction, Extractor, ast_size_extract, extract};
 pub use slotted_graph::SubstMethod;
