@@ -61,6 +61,19 @@ fn merge<N: Analysis<Small>>(
 }
 
 // The data of a term's class, once these pairs of terms are equal.
+fn asked<N: Analysis<Small>>(
+    alloc: Global,
+    graph: &mut EGraph<Small, N>,
+    equal: &[(&str, &str)],
+    text: &str,
+) -> Result<N::Data, Error> {
+    for pair in equal {
+        unite(graph, pair.0, pair.1)?;
+    }
+    datum(alloc, graph, text)
+}
+
+// The same in a graph of its own.
 fn told<N: Analysis<Small>>(
     alloc: Global,
     analysis: N,
@@ -68,10 +81,7 @@ fn told<N: Analysis<Small>>(
     text: &str,
 ) -> Result<N::Data, Error> {
     let mut graph = empty(alloc, analysis)?;
-    for pair in equal {
-        unite(&mut graph, pair.0, pair.1)?;
-    }
-    datum(alloc, &mut graph, text)
+    asked(alloc, &mut graph, equal, text)
 }
 
 // So many sums over x, one over another, each of which adds 1.
@@ -153,45 +163,69 @@ fn the_least_size_goes_upwards(rt: HostRuntime) -> Result<(), Error> {
     Ok(())
 }
 
+// A value is merged into the data of x, under a sum: the data of the sum, and that of x after it was merged again.
+fn merging(alloc: Global, graph: &mut EGraph<Small, ConstFold>) -> Result<(Fold, Fold), Error> {
+    put(graph, "(add x 1)")?;
+    merge(graph, "x", &Fold::Number(7))?;
+    let above = datum(alloc, graph, "(add x 1)")?;
+    merge(graph, "x", &Fold::Number(7))?;
+    let again = datum(alloc, graph, "x")?;
+    Ok((above, again))
+}
+
 #[test]
 fn a_value_is_merged(rt: HostRuntime) -> Result<(), Error> {
     let alloc = rt.alloc();
     let mut graph = empty(alloc, ConstFold)?;
-    put(&mut graph, "(add x 1)")?;
-    merge(&mut graph, "x", &Fold::Number(7))?;
-    let above = datum(alloc, &mut graph, "(add x 1)")?;
-    assert!(&rt; above == Fold::Number(8));
-    merge(&mut graph, "x", &Fold::Number(7))?;
-    let again = datum(alloc, &mut graph, "x")?;
-    assert!(&rt; again == Fold::Number(7));
+    let seen = merging(alloc, &mut graph).expect(&rt, "there is memory");
+    assert!(&rt; seen == (Fold::Number(8), Fold::Number(7)));
     Ok(())
+}
+
+// How many classes are pending once a sum was added, and once a number is equal to a name.
+fn pending<N: Analysis<Small>>(graph: &mut EGraph<Small, N>) -> Result<(usize, usize), Error> {
+    put(graph, "(add 2 3)")?;
+    let made = graph.modify_pending();
+    unite(graph, "2", "a")?;
+    Ok((made, graph.modify_pending()))
 }
 
 #[test]
 fn what_was_made_or_has_changed_is_pending(rt: HostRuntime) -> Result<(), Error> {
     let alloc = rt.alloc();
     let mut graph = empty(alloc, ConstFold)?;
-    put(&mut graph, "(add 2 3)")?;
-    assert!(&rt; graph.modify_pending() == 3);
-    unite(&mut graph, "2", "a")?;
-    assert!(&rt; graph.modify_pending() == 3);
-    let mut plain = empty(alloc, ())?;
-    put(&mut plain, "(add 2 3)")?;
-    assert!(&rt; plain.modify_pending() == 3);
+    let seen = pending(&mut graph).expect(&rt, "there is memory");
+    assert!(&rt; seen == (3, 3));
     Ok(())
+}
+
+#[test]
+fn classes_without_data_are_pending_too(rt: HostRuntime) -> Result<(), Error> {
+    let alloc = rt.alloc();
+    let mut graph = empty(alloc, ())?;
+    let seen = pending(&mut graph).expect(&rt, "there is memory");
+    assert!(&rt; seen == (3, 3));
+    Ok(())
+}
+
+// Whether a term is refused for want of memory, and any other afterwards because the graph has failed.
+fn is_refused(graph: &mut EGraph<Small, Refusing>) -> bool {
+    let refused = matches!(put(graph, "(app a b)"), Err(Error::OutOfMemory));
+    let later = matches!(put(graph, "a"), Err(Error::Failed));
+    refused && graph.is_failed() && later
+}
+
+// The same in a graph of its own, whose analysis makes no more than this.
+fn refuses(alloc: Global, most: u32) -> Result<bool, Error> {
+    let mut graph = empty(alloc, Refusing { most })?;
+    Ok(is_refused(&mut graph))
 }
 
 #[test]
 fn an_analysis_that_refuses_fails_the_graph(rt: HostRuntime) -> Result<(), Error> {
     let alloc = rt.alloc();
-    for most in 0..3 {
-        let mut graph = empty(alloc, Refusing { most })?;
-        let refused = put(&mut graph, "(app a b)");
-        assert!(&rt; matches!(refused, Err(Error::OutOfMemory)));
-        assert!(&rt; graph.is_failed());
-        let later = put(&mut graph, "a");
-        assert!(&rt; matches!(later, Err(Error::Failed)));
-    }
+    assert!(&rt; refuses(alloc, 0)? && refuses(alloc, 1)? && refuses(alloc, 2)?);
+    assert!(&rt; !refuses(alloc, 3)?);
     let three = told(alloc, Refusing { most: 3 }, &[], "(app a b)")?;
     assert!(&rt; three == 3);
     Ok(())
