@@ -34,7 +34,7 @@ use Rattle.slotted_graph.specs.Image.{AddsClasses, FillApart, IsUnion, asserted_
 use Rattle.slotted_graph.specs.States.{IsGraph}
 use Rattle.slotted_graph.specs.ValidIds.{IsValidId}
 use Rattle.slotted_graph.proofs.Extending.{between-longer, extends-added, extends-then, extends-united}
-use Rattle.slotted_rounds.specs.Edited.{AddsTerm, AssertsMore, HasBareEntry, IsSaid, KeepsAnalysis, MakesEdit, UnitesIds}
+use Rattle.slotted_rounds.specs.Edited.{AddsTerm, AssertsMore, HasBareEntry, IsDone, IsIdOf, IsSaid, KeepsAnalysis, MakesEdit, UnitesIds}
 
 -- data that was carried along is that of the same analysis
 pub carried-analysis : {N D : Type 0} (codes : Coded N × Coded D) (meaning : N → Meaning D) (g h : Graph) → CarriesData codes meaning g h → KeepsAnalysis codes g h
@@ -76,6 +76,7 @@ unites-ids codes meaning g h a b y is va vb u recorded table carries =
     record {
       graph = is;
       extends = extends-united g h a b None y u recorded table;
+      stands = (asserts.number, asserts.in_range, asserts.stands ∙ own);
       asserts = elim asserts.asserted [
         | inl same ↦ inl same.1
         | inr added ↦ elim records.entered [
@@ -144,6 +145,10 @@ said-longer f g h i c e pair before after s = record {
   entry = bare-later h i (equation_of s.left s.right) after.stored s.entry;
 }
 
+-- an id of a term stays one
+stays-id : (g h : Graph) (t : Term) (a : Applied) → ExtendsTo g h → IsIdOf g t a → IsIdOf h t a
+stays-id g h t a e is = (e.canonical.full a is.0, e.canonical.terms a is.0 ∙ is.1)
+
 -- an edit that was valid is valid later
 pub edit-later : {L : Type 0} (t u : Table) → KnowsMore t u → (e : Edit L) → IsValidEdit t e → IsValidEdit u e
 edit-later t u more (Add a) v = term_later t u more a v
@@ -174,16 +179,18 @@ module _ {L N D : Type 0} (codes : Coded N × Coded D) (g : Graph) (c : Applied)
   makes-add h t a adds = record {
     graph = adds.graph;
     extends = adds.extends;
+    done = (a, (adds.full.full, adds.term));
     asserts = no-more (IsSaid g h c (Add t)) g h adds.asserted;
     analysis = adds.analysis;
   }
 
   -- what is added and then united
   united : (f h : Graph) (e : Edit L) (a b : Applied) → IsGraph f → ExtendsTo g f → asserted_in f.image ≡ asserted_in g.image → KeepsAnalysis codes g f → ((pair : DTerm × DTerm) → IsGraph f → ExtendsTo g f → pair ≡ term_pair f.image.canonical (equation_of a b) → ExtendsTo f h → HasBareEntry h (equation_of a b) → IsSaid g h c e pair) →
-      UnitesIds codes f h a b → MakesEdit codes g h c e
-  united f h e a b is extends same analysis said u = record {
+      UnitesIds codes f h a b → IsDone h c e → MakesEdit codes g h c e
+  united f h e a b is extends same analysis said u done = record {
     graph = u.graph;
     extends = extends-then g f h extends u.extends;
+    done = done;
     asserts = elim u.asserts [
       | inl none ↦ no-more (IsSaid g h c e) g h (none ∙ same)
       | inr one ↦
@@ -207,6 +214,7 @@ module _ {L N D : Type 0} (codes : Coded N × Coded D) (g : Graph) (c : Applied)
         entry = entry;
       })
       u
+      (b, stays-id f h t b u.extends (adds.full.full, adds.term), u.stands)
 
   -- two terms are equal
   pub makes-equate : (e f h : Graph) (t v : Term) (a b : Applied) → AddsTerm codes g e t a → AddsTerm codes e f v b → UnitesIds codes f h a b → MakesEdit {L = L} codes g h c (Equate t v)
@@ -222,3 +230,4 @@ module _ {L N D : Type 0} (codes : Coded N × Coded D) (g : Graph) (c : Applied)
         entry = entry;
       })
       u
+      (a, b, stays-id f h t a u.extends (stays-id e f t a second.extends (first.full.full, first.term)), stays-id f h v b u.extends (second.full.full, second.term), u.stands)

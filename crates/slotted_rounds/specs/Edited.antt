@@ -3,6 +3,8 @@
 --     HasBareEntry h e         the equation e is an explicit entry without a text
 --     IsSaid g h c e pair      the pair was asserted between g and h, since the edit says so
 --     AssertsMore P g h        what is asserted in h and not in g are pairs of which P holds
+--     IsIdOf h t a             a is a full id of the term t
+--     IsDone h c e             the terms of the edit have ids, and what it says of the class c stands in the proof list
 --     KeepsAnalysis codes g h  the analysis is the same
 --     AddsTerm codes g h t a   the term t was added, and a is its id
 --     UnitesIds codes g h a b  it was asserted that a equals b
@@ -20,7 +22,7 @@ use Rattle.slotted_analyses.specs.declared.edit.Edit.{Edit}
 use Rattle.slotted_analyses.specs.declared.edit.Edit.TheVariants.{Add, Equal, Equate}
 use Rattle.slotted_graph.specs.Analysed.{IsAnalysisOf}
 use Rattle.slotted_graph.specs.Graph.{Graph, IsFullId}
-use Rattle.slotted_graph.specs.Image.{asserted_in}
+use Rattle.slotted_graph.specs.Image.{StandsIn, asserted_in}
 use Rattle.slotted_graph.specs.States.{IsGraph}
 use Rattle.slotted_graph.specs.Extension.{ExtendsTo, IsBetween}
 
@@ -51,6 +53,14 @@ pub record AssertsMore (P : DTerm × DTerm → Type 0) (g h : Graph) : Type 0 wh
   pub asserted : asserted_in h.image ≡ asserted_in g.image ++ more
   pub each : (pair : DTerm × DTerm) → Contains more pair → P pair
 
+abbrev pub IsIdOf : Graph → Term → Applied → Type 0
+IsIdOf h t a = IsFull h.image.canonical a × (term_of h.image.canonical a ≡ nameless t)
+
+abbrev pub IsDone : {L : Type 0} → Graph → Applied → Edit L → Type 0
+IsDone h c (Add t) = (a : Applied) × IsIdOf h t a
+IsDone h c (Equal t) = (a : Applied) × IsIdOf h t a × StandsIn h.image (equation_of c a)
+IsDone h c (Equate t u) = (a : Applied) × (b : Applied) × IsIdOf h t a × IsIdOf h u b × StandsIn h.image (equation_of a b)
+
 abbrev pub KeepsAnalysis : {N D : Type 0} → Coded N × Coded D → Graph → Graph → Type 0
 KeepsAnalysis {N} codes g h = (n : N) → IsAnalysisOf codes g n → IsAnalysisOf codes h n
 
@@ -62,18 +72,20 @@ pub record AddsTerm {N D : Type 0} (codes : Coded N × Coded D) (g h : Graph) (t
   pub term : term_of h.image.canonical a ≡ nameless t
   pub analysis : KeepsAnalysis codes g h
 
--- where the equation stood, nothing more is asserted
+-- the equation stands, and where it stood before, nothing more is asserted
 pub record UnitesIds {N D : Type 0} (codes : Coded N × Coded D) (g h : Graph) (a b : Applied) : Type 0 where
   pub graph : IsGraph h
   pub extends : ExtendsTo g h
+  pub stands : StandsIn h.image (equation_of a b)
   pub asserts : (asserted_in h.image ≡ asserted_in g.image) ⊎
       ((asserted_in h.image ≡ asserted_in g.image ++ term_pair g.image.canonical (equation_of a b) ∷ []) × HasBareEntry h (equation_of a b))
   pub analysis : KeepsAnalysis codes g h
 
--- the terms were added, and nothing was asserted but what the edit says
+-- the terms were added, what the edit says stands, and nothing else was asserted
 pub record MakesEdit {L N D : Type 0} (codes : Coded N × Coded D) (g h : Graph) (c : Applied) (e : Edit L) : Type 0 where
   pub graph : IsGraph h
   pub extends : ExtendsTo g h
+  pub done : IsDone h c e
   pub asserts : AssertsMore (IsSaid g h c e) g h
   pub analysis : KeepsAnalysis codes g h
 
