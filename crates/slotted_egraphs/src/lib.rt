@@ -21,6 +21,7 @@ pub use slotted_proofs::{
     CongruenceProof, Equation, ExplicitProof, Proof, ProofLines, ProofList, ProvenEq, ProvenEqRaw,
     ReflexivityProof, SymmetryProof, TransitivityProof,
 };
+pub use slotted_rounds::{make_edit, modify_class, modify_in_rounds, modify_once};
 pub use slotted_rule_patterns::Subst;
 pub use slotted_rules::{
     Always, And, Cond, CondTree, Not, Or, Rewrite, RewriteT, RuleCounts, SlotFreeIn, TurnCounts,
