@@ -9,3 +9,5 @@ mod folding;
 mod graphs;
 pub mod least_size;
 pub mod refusing;
+#[cfg(test)]
+mod rounds;
