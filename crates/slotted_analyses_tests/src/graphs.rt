@@ -9,18 +9,24 @@ use slotted_small::Small;
 use std::alloc::Global;
 
 // A graph without classes.
-fn empty<N: Analysis<Small>>(alloc: Global, analysis: N) -> Result<EGraph<Small, N>, Error> {
+pub(crate) fn empty<N: Analysis<Small>>(
+    alloc: Global,
+    analysis: N,
+) -> Result<EGraph<Small, N>, Error> {
     EGraph::new(alloc, SlotTable::new(alloc), analysis)
 }
 
 // The id of the term that a text writes.
-fn put<N: Analysis<Small>>(graph: &mut EGraph<Small, N>, text: &str) -> Result<AppliedId, Error> {
+pub(crate) fn put<N: Analysis<Small>>(
+    graph: &mut EGraph<Small, N>,
+    text: &str,
+) -> Result<AppliedId, Error> {
     let term = graph.parse_expr(text)?;
     graph.add_expr(&term)
 }
 
 // Two terms are equal.
-fn unite<N: Analysis<Small>>(
+pub(crate) fn unite<N: Analysis<Small>>(
     graph: &mut EGraph<Small, N>,
     left: &str,
     right: &str,

@@ -1,38 +1,13 @@
 //! Edits of constant folding, made in rounds.
 use crate::const_fold::{ConstFold, Fold};
+use crate::graphs::{empty, put, unite};
 use slotted_analyses::Analysis;
 use slotted_costs::AstSize;
 use slotted_graph::EGraph;
 use slotted_rounds::{modify_in_rounds, modify_once};
-use slotted_slots::{AppliedId, Error, SlotTable};
+use slotted_slots::Error;
 use slotted_small::Small;
 use std::alloc::Global;
-
-// A graph without classes.
-fn empty<N: Analysis<Small>>(alloc: Global, analysis: N) -> Result<EGraph<Small, N>, Error> {
-    EGraph::new(alloc, SlotTable::new(alloc), analysis)
-}
-
-// The id of the term that a text writes.
-fn put<N: Analysis<Small>>(graph: &mut EGraph<Small, N>, text: &str) -> Result<AppliedId, Error> {
-    let term = graph.parse_expr(text)?;
-    graph.add_expr(&term)
-}
-
-// Two terms are equal.
-fn unite<N: Analysis<Small>>(
-    graph: &mut EGraph<Small, N>,
-    left: &str,
-    right: &str,
-) -> Result<(), Error> {
-    let l = put(graph, left)?;
-    let r = put(graph, right)?;
-    if !graph.is_valid(&l) || !graph.is_valid(&r) {
-        return Err(Error::NotATerm);
-    }
-    graph.union(&l, &r)?;
-    Ok(())
-}
 
 // Whether two terms are found equal.
 fn are_equal<N: Analysis<Small>>(
