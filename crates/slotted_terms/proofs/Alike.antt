@@ -1,5 +1,5 @@
 -- Terms that are equal without bound names have nodes that agree but for names and children, and equally many children.
-use Rattle.std.proofs.Common.{◌≡◌, ℕ, suc, ◌<◌, ◌≤◌, List, [], ◌∷◌, length, take, drop, refl, slice_index, ap, ◌∙◌, sym, arith, length-take, length-drop}
+use Rattle.std.proofs.Common.{◌≡◌, ℕ, suc, ◌<◌, List, [], ◌∷◌, length, take, drop, refl, slice_index, ap, ◌∙◌, sym, arith, length-take, length-drop}
 use Rattle.std.proofs.lemmas.List.Elements.{All-head, All-tail, All-take, All-drop}
 use Rattle.std.proofs.Math.Nat.{suc_inj}
 use Rattle.slotted_theory.specs.Term.{Term}

@@ -9,6 +9,7 @@ pub mod TermPatterns
 pub mod FlatTrees
 pub mod OpenedPatterns
 pub mod TermFolds
+pub mod PairLists
 pub mod ValidTexts
 pub mod TermReadings
 pub mod TermsReadAgain

@@ -3,6 +3,7 @@ pub mod LargeNodes
 pub mod AsTerm
 pub mod TermPattern
 pub mod Flat
+pub mod Pairs
 pub mod Parsed
 pub mod Valid
 pub mod Shown

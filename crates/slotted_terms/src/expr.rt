@@ -1,18 +1,16 @@
 // Terms of a language as trees of nodes.
-ghost use Rattle.std.specs.Prelude.{◌≡◌, ◌<◌, ◌⊎◌, ◌↔◌, length, IsTrue, IfOk, IfErr, IsErrOf, MatchResult};
-ghost use Rattle.slotted_slots.specs.Error.{IsOutOfMemory, IsShortage};
+ghost use Rattle.std.specs.Prelude.{◌≡◌, ◌<◌, length, IfOk, IfErr, MatchResult};
+ghost use Rattle.slotted_slots.specs.Error.{IsOutOfMemory};
 ghost use Rattle.slotted_languages.specs.Filled.{term_of};
-ghost use Rattle.slotted_theory.specs.Nameless.{Alpha};
-ghost use Rattle.slotted_terms.specs.LargeNodes.{HasLargeNode, HaveLargeNode};
-ghost use Rattle.slotted_outlines.specs.Seen.{AreMatchedBy, AreTerms, SameTerm, SameChild, SameChildren};
+ghost use Rattle.slotted_outlines.specs.Seen.{AreTerms};
 
 use crate::flat::{assemble_term, flatten};
 use slotted_languages::language::Language;
-use slotted_outlines::outlines::{Binders, Outlines};
 use slotted_slots::Error;
 use std::alloc::{AllocError, Global};
 use std::marker::Model;
 
+mod alpha;
 pub mod printing;
 
 /// A term: a node, and the terms that stand in the places of its children. The child ids inside `node` are ignored.
@@ -69,41 +67,6 @@ impl<L: Language> RecExpr<L> {
         u64::from(self.node.operator()) + 1
     }
 
-    // Alpha-equality below binders.
-    #[cycle(alpha)]
-    fn alpha_eq_under(
-        &self,
-        alloc: Global,
-        other: &RecExpr<L>,
-        binders: &mut Binders,
-    ) -> Result<bool, Error>
-        ensures same { IfOk result (λ b. IsTrue b ↔ SameTerm binders.old.items self.now other.now) }
-        ensures kept { IfOk result (λ _. binders.new.items ≡ binders.old.items) }
-        ensures slots { IsErrOf result Error.OutOfSlots → HasLargeNode self.now ⊎ HasLargeNode other.now }
-        ensures err { IfErr result IsShortage }
-    {
-        if term_count(&self.children) != term_count(&other.children) {
-            return Ok(false);
-        }
-        let Some(nodes) = Outlines::new(alloc, &self.node, &other.node)? else {
-            return Ok(false);
-        };
-        if !nodes.same_owns(binders)? {
-            return Ok(false);
-        }
-        alpha_eq_children(alloc, &self.children, &other.children, &nodes, binders)
-    }
-
-    /// Whether the two terms are the same up to the choice of bound names.
-    pub fn alpha_eq(&self, alloc: Global, other: &RecExpr<L>) -> Result<bool, Error>
-        ensures same { IfOk result (λ b. IsTrue b ↔ Alpha self.now other.now) }
-        ensures slots { IsErrOf result Error.OutOfSlots → HasLargeNode self.now ⊎ HasLargeNode other.now }
-        ensures err { IfErr result IsShortage }
-    {
-        let mut binders = Vec::new(alloc);
-        self.alpha_eq_under(alloc, other, &mut binders)
-    }
-
     /// A term that equals this one.
     pub fn copy(&self, alloc: Global) -> Result<RecExpr<L>, Error>
         ensures ok { IfOk result (λ c. c ≡ self.now) }
@@ -140,53 +103,4 @@ fn term_count<L: Language>(row: &[RecExpr<L>]) -> usize
         }
     }
     count
-}
-
-// Alpha-equality of the children `k` of the nodes below their binders.
-#[cycle(alpha)]
-fn alpha_eq_child<L: Language>(
-    alloc: Global,
-    k: usize,
-    one: &RecExpr<L>,
-    two: &RecExpr<L>,
-    nodes: &Outlines<L>,
-    binders: &mut Binders,
-) -> Result<bool, Error>
-    requires { AreMatchedBy L.form nodes.now.one nodes.now.two nodes.now.skeleton }
-    ensures same { IfOk result (λ b. IsTrue b
-        ↔ SameChild (L.form nodes.now.one) (L.form nodes.now.two) binders.old.items k one.now two.now) }
-    ensures kept { IfOk result (λ _. binders.new.items ≡ binders.old.items) }
-    ensures slots { IsErrOf result Error.OutOfSlots → HasLargeNode one.now ⊎ HasLargeNode two.now }
-    ensures err { IfErr result IsShortage }
-{
-    let depth = binders.len();
-    nodes.push_above(k, binders)?;
-    let equal = one.alpha_eq_under(alloc, two, binders)?;
-    binders.truncate(depth);
-    Ok(equal)
-}
-
-// Alpha-equality of the nodes' children in turn.
-#[cycle(alpha)]
-fn alpha_eq_children<L: Language>(
-    alloc: Global,
-    ones: &[RecExpr<L>],
-    twos: &[RecExpr<L>],
-    nodes: &Outlines<L>,
-    binders: &mut Binders,
-) -> Result<bool, Error>
-    requires matched { AreMatchedBy L.form nodes.now.one nodes.now.two nodes.now.skeleton }
-    requires count { length ones.now ≡ length twos.now }
-    ensures same { IfOk result (λ b. IsTrue b
-        ↔ SameChildren (L.form nodes.now.one) (L.form nodes.now.two) binders.old.items ones.now twos.now) }
-    ensures kept { IfOk result (λ _. binders.new.items ≡ binders.old.items) }
-    ensures slots { IsErrOf result Error.OutOfSlots → HaveLargeNode ones.now ⊎ HaveLargeNode twos.now }
-    ensures err { IfErr result IsShortage }
-{
-    for k in 0..ones.len() {
-        if !alpha_eq_child(alloc, k, &ones[k], &twos[k], nodes, binders)? {
-            return Ok(false);
-        }
-    }
-    Ok(true)
 }

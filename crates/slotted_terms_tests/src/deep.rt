@@ -43,11 +43,13 @@ fn check_term(rt: &impl Abort, alloc: Global, text: &str) -> Result<(), Error> {
     Ok(())
 }
 
-// The pattern of a copy of a text's term prints as that text.
+// The term of a text is alpha-equal to its copy, whose pattern prints as that text.
 fn check_copied(rt: &impl Abort, alloc: Global, text: &str) -> Result<(), Error> {
     let mut table = SlotTable::new(alloc);
     let term = RecExpr::<Small>::parse(alloc, text, &mut table)?;
     let copy = term.copy(alloc)?;
+    let equal = term.alpha_eq(alloc, &copy)?;
+    assert!(rt; equal);
     let pattern = re_to_pattern(alloc, &copy)?;
     let printed = pattern.text(alloc, &table)?;
     check_text(rt, &printed, text);
@@ -67,7 +69,7 @@ fn a_deep_term_is_read_and_printed(rt: HostRuntime) -> Result<(), Error> {
 }
 
 #[test]
-fn a_deep_term_is_copied(rt: HostRuntime) -> Result<(), Error> {
+fn a_deep_term_is_copied_and_compared(rt: HostRuntime) -> Result<(), Error> {
     let text = deep_text(rt.alloc(), "a", LEVELS)?;
     check_copied(&rt, rt.alloc(), &text)
 }
