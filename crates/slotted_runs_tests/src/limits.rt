@@ -1,6 +1,6 @@
 //! Limits of time, and times of reports.
 use crate::doubles::Times;
-use crate::turns::{Counted, counted, counted_at_once};
+use crate::turns::{Counted, counted_at_once, report_of};
 use slotted_runs::{NoHook, Runner, StopReason};
 use slotted_slots::{Error, SlotTable};
 use std::alloc::Global;
@@ -20,8 +20,7 @@ fn a_run_ends_past_its_limit_of_time(rt: HostRuntime) -> Result<(), Error> {
     let alloc = rt.alloc();
     let clock = times(alloc, &[10, 15, 16, 30, 35])?;
     let runner: Counted<NoHook> = Runner::new(alloc, SlotTable::new(alloc), (), clock)?;
-    let mut runner = runner.with_time_limit(19);
-    let report = counted(&mut runner, 100)?;
+    let report = report_of(runner.with_time_limit(19), 100)?;
     assert!(&rt; report.iterations == 2);
     assert!(&rt; report.total_time == 25);
     assert!(&rt; matches!(report.stop_reason, StopReason::TimeLimit));

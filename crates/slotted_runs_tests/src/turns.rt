@@ -30,6 +30,21 @@ pub(crate) fn counted<H: Hook<Small, (), String>>(
     runner.run(&[Counting { most }])
 }
 
+// The same of a runner that is given up.
+pub(crate) fn report_of<H: Hook<Small, (), String>>(
+    mut runner: Counted<H>,
+    most: u32,
+) -> Result<Report, Error> {
+    counted(&mut runner, most)
+}
+
+// What a runner reports twice.
+fn reports_of(mut runner: Counted<NoHook>, most: u32) -> Result<(Report, Report), Error> {
+    let first = counted(&mut runner, most)?;
+    let again = counted(&mut runner, most)?;
+    Ok((first, again))
+}
+
 // The same of a run without a runner, from the empty graph, with limits of turns and of seconds.
 pub(crate) fn counted_at_once(
     alloc: Global,
@@ -71,8 +86,7 @@ fn assert_reports(rt: &impl Abort, report: &Report, iterations: usize, reason: u
 
 #[test]
 fn an_empty_graph_is_saturated(rt: HostRuntime) -> Result<(), Error> {
-    let mut runner = runner(rt.alloc())?;
-    let report = counted(&mut runner, 0)?;
+    let report = report_of(runner(rt.alloc())?, 0)?;
     assert_reports(&rt, &report, 1, b'S', 0);
     Ok(())
 }
@@ -87,34 +101,29 @@ fn an_empty_graph_is_saturated_at_once(rt: HostRuntime) -> Result<(), Error> {
 
 #[test]
 fn a_run_ends_past_its_limit_of_turns(rt: HostRuntime) -> Result<(), Error> {
-    let mut runner = runner(rt.alloc())?.with_iter_limit(3);
-    let report = counted(&mut runner, 100)?;
-    assert_reports(&rt, &report, 5, b'I', 5);
-    let again = counted(&mut runner, 100)?;
-    assert_reports(&rt, &again, 5, b'I', 5);
+    let reports = reports_of(runner(rt.alloc())?.with_iter_limit(3), 100)?;
+    assert_reports(&rt, &reports.0, 5, b'I', 5);
+    assert_reports(&rt, &reports.1, 5, b'I', 5);
     Ok(())
 }
 
 #[test]
 fn a_run_ends_past_its_limit_of_nodes(rt: HostRuntime) -> Result<(), Error> {
-    let mut runner = runner(rt.alloc())?.with_node_limit(9);
-    let report = counted(&mut runner, 100)?;
+    let report = report_of(runner(rt.alloc())?.with_node_limit(9), 100)?;
     assert_reports(&rt, &report, 10, b'N', 10);
     Ok(())
 }
 
 #[test]
 fn a_run_ends_where_no_rule_changes_the_graph(rt: HostRuntime) -> Result<(), Error> {
-    let mut runner = runner(rt.alloc())?;
-    let report = counted(&mut runner, 4)?;
+    let report = report_of(runner(rt.alloc())?, 4)?;
     assert_reports(&rt, &report, 5, b'S', 4);
     Ok(())
 }
 
 #[test]
 fn a_hook_stops_a_run(rt: HostRuntime) -> Result<(), Error> {
-    let mut runner = runner(rt.alloc())?.with_hook(Enough { at: 2 });
-    let report = counted(&mut runner, 100)?;
+    let report = report_of(runner(rt.alloc())?.with_hook(Enough { at: 2 }), 100)?;
     assert_reports(&rt, &report, 3, b'e', 3);
     Ok(())
 }
