@@ -54,7 +54,7 @@ fn datum<N: Analysis<Small>>(
 }
 
 // A value is merged into the data of a term's class.
-fn merge<N: Analysis<Small>>(
+pub(crate) fn merge<N: Analysis<Small>>(
     graph: &mut EGraph<Small, N>,
     text: &str,
     value: &N::Data,
@@ -91,7 +91,7 @@ fn told<N: Analysis<Small>>(
 }
 
 // So many sums over x, one over another, each of which adds 1.
-fn tower(alloc: Global, sums: usize) -> Result<String, Error> {
+pub(crate) fn tower(alloc: Global, sums: usize) -> Result<String, Error> {
     let mut text = String::new(alloc);
     for _ in 0..sums {
         text.push_str("(add ")?;
