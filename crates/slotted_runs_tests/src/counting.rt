@@ -2,6 +2,7 @@
 ghost use Rattle.std.specs.Prelude.{◌≡◌, ⊤, false};
 ghost use Rattle.slotted_graph.specs.Extension.{ExtendsTo};
 
+use slotted_analyses::Analysis;
 use slotted_graph::EGraph;
 use slotted_rules::RewriteT;
 use slotted_slots::Error;
@@ -14,7 +15,7 @@ pub struct Counting {
     pub most: u32,
 }
 
-impl RewriteT<Small, ()> for Counting {
+impl<N: Analysis<Small>> RewriteT<Small, N> for Counting {
     type Found = ();
 
     ghost valid = { λ r g. ⊤ };
@@ -37,18 +38,18 @@ impl RewriteT<Small, ()> for Counting {
 
     ghost never_failed = { λ r h. h };
 
-    fn is_valid(&self, graph: &EGraph<Small, ()>) -> bool {
+    fn is_valid(&self, graph: &EGraph<Small, N>) -> bool {
         !graph.is_failed()
     }
 
-    fn search(&self, alloc: Global, graph: &mut EGraph<Small, ()>) -> Result<(), Error> {
+    fn search(&self, alloc: Global, graph: &mut EGraph<Small, N>) -> Result<(), Error> {
         if graph.is_failed() {
             return Err(Error::Failed);
         }
         Ok(())
     }
 
-    fn apply(&self, alloc: Global, found: (), graph: &mut EGraph<Small, ()>) -> Result<(), Error> {
+    fn apply(&self, alloc: Global, found: (), graph: &mut EGraph<Small, N>) -> Result<(), Error> {
         if graph.is_failed() {
             return Err(Error::Failed);
         }

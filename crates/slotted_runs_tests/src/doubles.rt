@@ -1,6 +1,7 @@
 //! A clock of given times, and a hook that has enough.
 ghost use Rattle.std.specs.Prelude.{◌≡◌, ⊤};
 
+use slotted_analyses::Analysis;
 use slotted_graph::EGraph;
 use slotted_runs::{Clock, Hook, HookStop};
 use slotted_slots::Error;
@@ -28,7 +29,7 @@ pub struct Enough {
     pub at: usize,
 }
 
-impl Hook<Small, (), String> for Enough {
+impl<N: Analysis<Small>> Hook<Small, N, String> for Enough {
     ghost leaves = { λ h g n i k stop. k ≡ g };
 
     ghost refuses = { λ e. ⊥ };
@@ -38,7 +39,7 @@ impl Hook<Small, (), String> for Enough {
     fn call(
         &mut self,
         alloc: Global,
-        graph: &mut EGraph<Small, ()>,
+        graph: &mut EGraph<Small, N>,
         iterations: usize,
     ) -> Result<(), HookStop<String>> {
         if iterations < self.at {
