@@ -22,6 +22,7 @@ use std::alloc::Global;
 ///
 /// A graph stores its analysis and the data of its classes as values, so both need a code, which tells their values apart.
 pub trait Analysis<L: Language>: Drop {
+    ghost use Rattle.std.specs.Prelude.{Bool};
     ghost use Rattle.std.specs.Coded.{Coded};
     ghost use Rattle.slotted_analyses.specs.declared.edit.Edit.{Edit};
 
@@ -36,6 +37,9 @@ pub trait Analysis<L: Language>: Drop {
 
     // What may be asked for a class, by its data and its slots.
     ghost may_ask: { Self → Self.Data → List ℕ → Edit L → Type 0 } = { λ _ _ _ _. ⊥ };
+
+    // Whether classes are modified.
+    ghost modifies: { Bool };
 
     // What `modify` may refuse with.
     ghost refuses: { Error → Type 0 };
@@ -59,6 +63,10 @@ pub trait Analysis<L: Language>: Drop {
     /// Returns how often this data can still change, at most.
     fn height(&self, data: &Self::Data) -> u32
         ensures { result ≡ (meaning self.now).height «data».now };
+
+    /// Returns whether classes are modified. If they are not, `modify` is never called, and a write leaves what its contract says without rounds.
+    fn modifies() -> bool
+        ensures { result ≡ modifies };
 
     /// Returns what is to be done for a class with this data and these slots, from the first edit to the last.
     fn modify(
@@ -92,7 +100,7 @@ pub fn analyses_merge<L: Language, N: Analysis<L>>()
 
 /// Nothing is kept, and nothing asked.
 impl<L: Language> Analysis<L> for () {
-    ghost use Rattle.std.specs.Prelude.{refl};
+    ghost use Rattle.std.specs.Prelude.{false, refl};
     ghost use Rattle.slotted_analyses.specs.Meaning.{no_data, no_data_merges, unit_code};
 
     type Data = ();
@@ -100,6 +108,8 @@ impl<L: Language> Analysis<L> for () {
     ghost codes = { (unit_code, unit_code) };
 
     ghost meaning = { λ _. no_data };
+
+    ghost modifies = { false };
 
     ghost refuses = { λ _. ⊥ };
 
@@ -123,5 +133,9 @@ impl<L: Language> Analysis<L> for () {
 
     fn height(&self, data: &()) -> u32 {
         0
+    }
+
+    fn modifies() -> bool {
+        false
     }
 }

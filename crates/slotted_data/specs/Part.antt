@@ -1,8 +1,8 @@
 -- What a graph has by its analysis, as callers see it, and what of it stands at rest.
---     Part N D                     the analysis, the data of each class, and the classes that wait to be modified
+--     Part N D                     the analysis, the limit of rounds, the data of each class, and the classes that wait to be modified
 --     part_code codes              what tells such parts apart
---     part_in n d                  these of what is kept
---     part_by codes n d            and as a graph's value has them
+--     part_in n m d                these of what is kept
+--     part_by codes n m d          and as a graph's value has them
 --     HasDatum found vs i x        x is the data of the class that i finds
 --     AbsorbsMade a rows found vs  merging what a filed node makes into the data of its class changes nothing
 --     OnlyFalls a ..               the data of each class has only gone down
@@ -18,21 +18,22 @@ use Rattle.slotted_data.specs.Made.{data_in}
 
 pub record Part (N D : Type 0) : Type 0 where
   pub analysis : N
+  pub rounds : ℕ
   pub values : List D
   pub changed : List ℕ
 
 -- what tells such parts apart, by what tells analyses and data apart
 abbrev pub part_code : {N D : Type 0} → Coded N × Coded D → Coded (Part N D)
 part_code {N} {D} codes =
-    code_by (N × (List D × List ℕ)) (coded× codes.0 (coded× (coded_list codes.1) (coded_list coded_ℕ)))
-    (λ p. (p.analysis, (p.values, p.changed))) (λ p. record { analysis = p.0; values = p.1.0; changed = p.1.1 }) (λ _. refl)
+    code_by (N × (ℕ × (List D × List ℕ))) (coded× codes.0 (coded× coded_ℕ (coded× (coded_list codes.1) (coded_list coded_ℕ))))
+    (λ p. (p.analysis, (p.rounds, (p.values, p.changed)))) (λ p. record { analysis = p.0; rounds = p.1.0; values = p.1.1.0; changed = p.1.1.1 }) (λ _. refl)
 
-abbrev pub part_in : {N D : Type 0} → N → Held D → Part N D
-part_in n d = record { analysis = n; values = d.values; changed = d.changed }
+abbrev pub part_in : {N D : Type 0} → N → ℕ → Held D → Part N D
+part_in n m d = record { analysis = n; rounds = m; values = d.values; changed = d.changed }
 
 -- and as a graph's value has it
-abbrev pub part_by : {N D : Type 0} → Coded N × Coded D → N → Held D → Gv
-part_by codes n d = (part_code codes).code (part_in n d)
+abbrev pub part_by : {N D : Type 0} → Coded N × Coded D → N → ℕ → Held D → Gv
+part_by codes n m d = (part_code codes).code (part_in n m d)
 
 -- x is the data of the class that i finds
 abbrev pub HasDatum : {D : Type 0} → List Entry → List D → ℕ → D → Type 0

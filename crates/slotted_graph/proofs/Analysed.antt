@@ -30,7 +30,7 @@ use Rattle.slotted_data.specs.Pending.{ArePending, lives_in}
 use Rattle.slotted_data.proofs.NewData.{map-same}
 use Rattle.slotted_data.proofs.Resting.{rests-proved}
 use Rattle.slotted_data.proofs.TakenData.{row-child, row-within}
-use Rattle.slotted_data.proofs.Telling.{carried-falls, carried-notes, rest-absorbs}
+use Rattle.slotted_data.proofs.Telling.{carried-falls, carried-notes, rest-absorbs, rest-has}
 use Rattle.slotted_core.specs.Causes.{class_found}
 use Rattle.slotted_core.specs.Good.{Good, RestsWith, image_of}
 use Rattle.slotted_core.specs.Graph.{Graph}
@@ -42,17 +42,17 @@ use Rattle.slotted_core.proofs.Reports.{compared-alike, live-is}
 use Rattle.slotted_core.proofs.Resting.{at-rest}
 use Rattle.slotted_graph.specs.Analysed.{AbsorbsMade, CarriesData, CountsPending, HasData, KeepsPart, MergesData, TakesPending, datum_in, is_live_class}
 
-module _ {N D : Type 0} (codes : Coded N × Coded D) (meaning : N → Meaning D) (n : N) (k : Kept) (r : Rows) (d : Held D) (g : Graph)
-    (image : image_of k ≡ g.image) (part : g.part ≡ part_by codes n d) where
+module _ {N D : Type 0} (codes : Coded N × Coded D) (meaning : N → Meaning D) (n : N) (m : ℕ) (k : Kept) (r : Rows) (d : Held D) (g : Graph)
+    (image : image_of k ≡ g.image) (part : g.part ≡ part_by codes n m d) where
   -- what a class finds
   class-is : (i : ℕ) → i < length k.classes → class_found g.image i ≡ find_class (entries_of k) i
   class-is i within = ap (λ (x : Image). class_found x i) (sym image) ∙ class_found-is k i within
 
   pub has-data : (i : ℕ) → i < length k.classes → (x : D) → slice_get d.values (find_class (entries_of k) i) ≡ Some x → HasData codes g i x
-  has-data i within x is = record { part = part_in n d; keeps = part; is = ap (slice_get d.values) (class-is i within) ∙ is }
+  has-data i within x is = record { part = part_in n m d; keeps = part; is = ap (slice_get d.values) (class-is i within) ∙ is }
 
   module _ (rests : DataRests (by_bare_nodes (meaning n)) k r d) (filed : rows_in r.filed ≡ g.filed) where
-    datum-is : (x : D) (i : ℕ) → i < length k.classes → datum_in g (part_in n d) x i ≡ data_in x d.values (find_class (entries_of k) i)
+    datum-is : (x : D) (i : ℕ) → i < length k.classes → datum_in g (part_in n m d) x i ≡ data_in x d.values (find_class (entries_of k) i)
     datum-is x i within = ap (data_in x d.values) (class-is i within)
 
     still-rest : AtRest (state_in k (quiet r))
@@ -60,29 +60,30 @@ module _ {N D : Type 0} (codes : Coded N × Coded D) (meaning : N → Meaning D)
 
     pub absorbs-made : AbsorbsMade codes meaning g
     absorbs-made = record {
-      part = part_in n d;
+      part = part_in n m d;
       keeps = part;
       absorbs = λ x w there.
           let row : Contains (rows_in r.filed) w = subst (λ ws. Contains ws w) (sym filed) there in
           let a = by_bare_nodes (meaning n) in
-          let children : map (datum_in g (part_in n d) x) (child_classes w.shape.args) ≡ map (data_in x d.values) (child_classes w.shape.args) =
-          map-same (datum_in g (part_in n d) x) (data_in x d.values) (child_classes w.shape.args) (λ c h.
+          let children : map (datum_in g (part_in n m d) x) (child_classes w.shape.args) ≡ map (data_in x d.values) (child_classes w.shape.args) =
+          map-same (datum_in g (part_in n m d) x) (data_in x d.values) (child_classes w.shape.args) (λ c h.
           let live = row-child k r still-rest w row c h in
           datum-is x c live.0 ∙ ap (data_in x d.values) live.1) in
-          subst (λ y. Absorbs a y (a.make w.shape (map (datum_in g (part_in n d) x) (child_classes w.shape.args)))) (sym (datum-is x w.source (row-within k r still-rest w row)))
+          subst (λ y. Absorbs a y (a.make w.shape (map (datum_in g (part_in n m d) x) (child_classes w.shape.args)))) (sym (datum-is x w.source (row-within k r still-rest w row)))
           (subst (λ ys. Absorbs a (data_in x d.values (find_class (entries_of k) w.source)) (a.make w.shape ys)) (sym children) (rest-absorbs a k r d rests x w row));
     }
 
     -- data that was carried along to a later graph
-    pub carries-data : (l : Kept) (q : Rows) (e : Held D) (h : Graph) → image_of l ≡ h.image → h.part ≡ part_by codes n e → GoesOn (state_in k r) (state_in l q) →
+    pub carries-data : (l : Kept) (q : Rows) (e : Held D) (h : Graph) → image_of l ≡ h.image → h.part ≡ part_by codes n m e → GoesOn (state_in k r) (state_in l q) →
         Carried (by_bare_nodes (meaning n)) k r l q d e → CarriesData codes meaning g h
     carries-data l q e h newer later goes carried = record {
-      older = part_in n d;
-      newer = part_in n e;
+      older = part_in n m d;
+      newer = part_in n m e;
       before = part;
       after = later;
       analysis = refl;
-      falls = λ i within x y old new.
+      rounds = refl;
+      falls = λ i within x old.
           let before : i < length (nodes_of k) = subst (λ ns. i < length ns) (ap (λ (z : Image). z.canonical) (sym image)) within in
           let classes = length-nodes_of k in
           let here : i < length k.classes = omega (arith, before, classes) in
@@ -90,9 +91,14 @@ module _ {N D : Type 0} (codes : Coded N × Coded D) (meaning : N → Meaning D)
           let within-entries : i < length (entries_of k) = omega (arith, here, entries) in
           let counts = length-nodes_of l in
           let on = (goes.classes i before).0 in
-          carried-falls (by_bare_nodes (meaning n)) k r l q d e rests carried i within-entries x y
-          (ap (slice_get d.values) (sym (class-is i here)) ∙ old)
-          (ap (slice_get e.values) (sym (ap (λ (z : Image). class_found z i) (sym newer) ∙ class_found-is l i (omega (arith, on, counts)))) ∙ new);
+          let there : i < length l.classes = omega (arith, on, counts) in
+          let a = by_bare_nodes (meaning n) in
+          let y = data_in x e.values (find_class (entries_of l) i) in
+          let has : slice_get e.values (find_class (entries_of l) i) ≡ Some y = rest-has a l q e carried.rests i there x in (
+            y,
+            ap (slice_get e.values) (ap (λ (z : Image). class_found z i) (sym newer) ∙ class_found-is l i there) ∙ has,
+            carried-falls a k r l q d e rests carried i within-entries x y (ap (slice_get d.values) (sym (class-is i here)) ∙ old) has,
+          );
       notes = carried-notes (by_bare_nodes (meaning n)) k r l q d e rests carried;
     }
 
@@ -103,9 +109,9 @@ data-checked meaning (Ok p) k l r d x good rests h enters same = rests-proved (b
 data-checked meaning (Err e) k l r d x good rests h enters same = subst (λ m. DataRests (by_bare_nodes meaning) m r d) (sym same) h
 
 -- what is kept of an analysis where no class was made and none died
-pub kept-part : {N D : Type 0} (codes : Coded N × Coded D) (meaning : N → Meaning D) (n : N) (k : Kept) (r : Rows) (d : Held D) → DataRests (by_bare_nodes (meaning n)) k r d → (l : Kept) → l ≡ k → (e : Held D) →
-    (HasCarriedAll l d → e ≡ d) → part_by codes n e ≡ part_by codes n d
-kept-part codes meaning n k r d rests l same e still = ap (part_by codes n) (still (carried-same (by_bare_nodes (meaning n)) k r d rests l same))
+pub kept-part : {N D : Type 0} (codes : Coded N × Coded D) (meaning : N → Meaning D) (n : N) (m : ℕ) (k : Kept) (r : Rows) (d : Held D) → DataRests (by_bare_nodes (meaning n)) k r d → (l : Kept) → l ≡ k → (e : Held D) →
+    (HasCarriedAll l d → e ≡ d) → part_by codes n m e ≡ part_by codes n m d
+kept-part codes meaning n m k r d rests l same e still = ap (part_by codes n m) (still (carried-same (by_bare_nodes (meaning n)) k r d rests l same))
 
 -- what was merged in was carried along in one graph
 pub merged-carried : {D : Type 0} (a : Analysis D) → IsMerge D a → (k : Kept) (r : Rows) (i : ℕ) (v : D) (d e : Held D) → MergesIn a k r i v d e → Carried a k r k r d e
@@ -125,21 +131,21 @@ merged-carried a law k r i v d e m = record {
 }
 
 -- what the graph keeps is what its parts are
-pub part-is : {N D : Type 0} (codes : Coded N × Coded D) (n : N) (e : Held D) (g : Graph) → g.part ≡ part_by codes n e → (p : Part N D) → KeepsPart codes g p → p ≡ part_in n e
-part-is codes n e g is p keeps = (part_code codes).inj p (part_in n e) (sym keeps ∙ is)
+pub part-is : {N D : Type 0} (codes : Coded N × Coded D) (n : N) (m : ℕ) (e : Held D) (g : Graph) → g.part ≡ part_by codes n m e → (p : Part N D) → KeepsPart codes g p → p ≡ part_in n m e
+part-is codes n m e g is p keeps = (part_code codes).inj p (part_in n m e) (sym keeps ∙ is)
 
 -- a value was merged in
-pub merges-data : {N D : Type 0} (codes : Coded N × Coded D) (meaning : N → Meaning D) (n : N) (law : IsMerge D (by_bare_nodes (meaning n))) (k : Kept) (r : Rows) (d e : Held D) (g h : Graph) → image_of k ≡ g.image → image_of k ≡ h.image →
-    g.part ≡ part_by codes n d → h.part ≡ part_by codes n e → rows_in r.filed ≡ g.filed → DataRests (by_bare_nodes (meaning n)) k r d →
+pub merges-data : {N D : Type 0} (codes : Coded N × Coded D) (meaning : N → Meaning D) (n : N) (m : ℕ) (law : IsMerge D (by_bare_nodes (meaning n))) (k : Kept) (r : Rows) (d e : Held D) (g h : Graph) → image_of k ≡ g.image → image_of k ≡ h.image →
+    g.part ≡ part_by codes n m d → h.part ≡ part_by codes n m e → rows_in r.filed ≡ g.filed → DataRests (by_bare_nodes (meaning n)) k r d →
     (i : ℕ) → i < length k.classes → (v : D) → MergesIn (by_bare_nodes (meaning n)) k r i v d e → MergesData codes meaning g h i v
 unfolding carries-data
-merges-data codes meaning n law k r d e g h before after older newer filed rests i within v m = record {
-  carries = carries-data codes meaning n k r d g before older rests filed k r e h after newer (goes_on-same (state_in k r) rests.rest.sane.sound.linked) (merged-carried (by_bare_nodes (meaning n)) law k r i v d e m);
+merges-data codes meaning n m law k r d e g h before after older newer filed rests i within v into = record {
+  carries = carries-data codes meaning n m k r d g before older rests filed k r e h after newer (goes_on-same (state_in k r) rests.rest.sane.sound.linked) (merged-carried (by_bare_nodes (meaning n)) law k r i v d e into);
   absorbs = λ y has.
-      let same = part-is codes n e h newer has.part has.keeps in
+      let same = part-is codes n m e h newer has.part has.keeps in
       let at : slice_get e.values (find_class (entries_of k) i) ≡ Some y =
-      ap (slice_get e.values) (sym (class-is codes meaning n k r e h after newer i within)) ∙ (sym (ap (λ (p : Part _ _). slice_get p.values (class_found h.image i)) same) ∙ has.is) in
-      subst (λ z. Absorbs (by_bare_nodes (meaning n)) z v) (get_or_from_slice_get e.values (find_class (entries_of k) i) y y at) (m.absorbs y);
+      ap (slice_get e.values) (sym (class-is codes meaning n m k r e h after newer i within)) ∙ (sym (ap (λ (p : Part _ _). slice_get p.values (class_found h.image i)) same) ∙ has.is) in
+      subst (λ z. Absorbs (by_bare_nodes (meaning n)) z v) (get_or_from_slice_get e.values (find_class (entries_of k) i) y y at) (into.absorbs y);
 }
 
 -- a class that leads to itself finds itself, told by tests
@@ -157,20 +163,20 @@ lives-is k good i =
     (subst (λ (x : Entry). (x.class ≡ i) ↔ (class_found (image_of k) i ≡ i)) (entry_at-of k i) (live-is k good i (omega (arith, h, n)))))
 
 -- so many live classes wait
-pub counts-pending : {N D : Type 0} (codes : Coded N × Coded D) (n : N) (k : Kept) → Good k → (d : Held D) (g : Graph) → image_of k ≡ g.image → g.part ≡ part_by codes n d → (c : ℕ) → c ≡ count_by (lives_in k) d.changed → CountsPending codes g c
-counts-pending codes n k good d g image part c is = record {
-  part = part_in n d;
+pub counts-pending : {N D : Type 0} (codes : Coded N × Coded D) (n : N) (m : ℕ) (k : Kept) → Good k → (d : Held D) (g : Graph) → image_of k ≡ g.image → g.part ≡ part_by codes n m d → (c : ℕ) → c ≡ count_by (lives_in k) d.changed → CountsPending codes g c
+counts-pending codes n m k good d g image part c is = record {
+  part = part_in n m d;
   keeps = part;
   is = is ∙ ((λ j. count_by (λ i. lives-is k good i j) d.changed) ∙ ap (λ (x : Image). count_by (is_live_class x) d.changed) image);
 }
 
 -- those that live are taken
-pub takes-pending : {N D : Type 0} (codes : Coded N × Coded D) (meaning : N → Meaning D) (n : N) (k : Kept) (r : Rows) → Good k → (d e : Held D) (g h : Graph) → image_of k ≡ g.image → g.part ≡ part_by codes n d → h.part ≡ part_by codes n e →
+pub takes-pending : {N D : Type 0} (codes : Coded N × Coded D) (meaning : N → Meaning D) (n : N) (m : ℕ) (k : Kept) (r : Rows) → Good k → (d e : Held D) (g h : Graph) → image_of k ≡ g.image → g.part ≡ part_by codes n m d → h.part ≡ part_by codes n m e →
     DataRests (by_bare_nodes (meaning n)) k r d → e ≡ with_none_changed d → (is ids : List ℕ) → ArePending k d.changed is → ids ≡ is → TakesPending codes g h ids
-takes-pending codes meaning n k r good d e g h image before after rests left is ids taken same = record {
-  part = part_in n d;
+takes-pending codes meaning n m k r good d e g h image before after rests left is ids taken same = record {
+  part = part_in n m d;
   keeps = before;
-  left = after ∙ ap (part_by codes n) left;
+  left = after ∙ ap (part_by codes n m) left;
   once = λ x. (rests.has x).changed_once;
   same = subst (IsPermutation (filter (is_live_class g.image) d.changed)) (sym same) (subst (λ xs. IsPermutation xs is) ((λ j. filter (λ i. lives-is k good i j) d.changed) ∙ ap (λ (x : Image). filter (is_live_class x) d.changed) image) taken.same);
   ascending = subst (IsSorted nat_cmp) (sym same) taken.ascending;

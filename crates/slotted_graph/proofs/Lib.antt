@@ -4,6 +4,9 @@ pub mod Enodes
 pub mod MadeOfEntries
 pub mod LeastLater
 pub mod Extending
+pub mod Saying
+pub mod Leaving
+pub mod Writing
 pub mod PatternLookUps
 pub mod Matching
 pub mod Finds

@@ -2,12 +2,13 @@
 --     KeepsPart codes g p            this is what the graph keeps
 --     new_graph codes n t            the graph without classes
 --     IsAnalysisOf codes g n         its analysis
+--     HasRounds codes g m            its limit of rounds
 --     HasData codes g i x            the data of the class that i finds
 --     AbsorbsMade codes meaning g    merging what a filed node makes into the data of its class changes nothing
 --     CountsPending codes g n        so many live classes wait to be modified
+--     LowersData codes meaning g h   data only went down, and the analysis and the limit of rounds are the same
 --     CarriesData codes meaning g h  from g to h data only went down, and what was made or has changed waits to be modified
 --     MergesData ..                  the same, and the class that i finds has data that absorbs v
---     KeepsClassesAsTheyAre g h      nothing changed but data
 --     TakesPending codes g h is      from g to h the live classes that waited were taken, and these are they, ascending
 use Rattle.std.specs.Prelude.{◌≡◌, ◌<◌, ℕ, List, [], length, Bool, ◌&&◌, count_by, map, nat_lt, slice_get, slice_index_or, Some, Contains}
 use Rattle.std.specs.Coded.{Coded}
@@ -29,14 +30,29 @@ use Rattle.slotted_core.specs.Reports.{finds_itself}
 abbrev pub KeepsPart : {N D : Type 0} → Coded N × Coded D → Graph → Part N D → Type 0
 KeepsPart codes g p = g.part ≡ (part_code codes).code p
 
+-- how many rounds are made at most, unless a caller says otherwise
+abbrev pub usual_rounds : ℕ
+usual_rounds = 16
+
 -- the graph without classes, over this table
 abbrev pub new_graph : {N D : Type 0} → Coded N × Coded D → N → Table → Graph
-new_graph codes n t = record (empty_graph t) { part = part_by codes n no_values }
+new_graph codes n t = record (empty_graph t) { part = part_by codes n usual_rounds no_values }
 
 pub record IsAnalysisOf {N D : Type 0} (codes : Coded N × Coded D) (g : Graph) (n : N) : Type 0 where
   pub part : Part N D
   pub keeps : KeepsPart codes g part
   pub is : part.analysis ≡ n
+
+pub record HasRounds {N D : Type 0} (codes : Coded N × Coded D) (g : Graph) (m : ℕ) : Type 0 where
+  pub part : Part N D
+  pub keeps : KeepsPart codes g part
+  pub is : part.rounds ≡ m
+
+-- from g to h the limit of rounds was set, and nothing else has changed
+pub record SetsRounds {N D : Type 0} (codes : Coded N × Coded D) (g h : Graph) (m : ℕ) : Type 0 where
+  pub part : Part N D
+  pub keeps : KeepsPart codes g part
+  pub set : h ≡ record g { part = (part_code codes).code (record part { rounds = m }) }
 
 -- what a graph with this part has for the class that i finds
 abbrev pub HasDatumIn : {N D : Type 0} → Graph → Part N D → ℕ → D → Type 0
@@ -67,26 +83,35 @@ pub record CountsPending {N D : Type 0} (codes : Coded N × Coded D) (g : Graph)
   pub keeps : KeepsPart codes g part
   pub is : n ≡ count_by (is_live_class g.image) part.changed
 
+-- what each class has now absorbs what it had
+abbrev pub DataFalls : {N D : Type 0} → (N → Meaning D) → Graph → Part N D → Graph → Part N D → Type 0
+DataFalls {D = D} meaning g older h newer =
+    (i : ℕ) → i < length g.image.canonical → (x : D) → HasDatumIn g older i x → (y : D) × HasDatumIn h newer i y × Absorbs (by_bare_nodes (meaning older.analysis)) y x
+
+-- what h keeps, where g keeps this
+pub record LowersPart {N D : Type 0} (codes : Coded N × Coded D) (meaning : N → Meaning D) (g : Graph) (older : Part N D) (h : Graph) : Type 0 where
+  pub newer : Part N D
+  pub after : KeepsPart codes h newer
+  pub analysis : newer.analysis ≡ older.analysis
+  pub rounds : newer.rounds ≡ older.rounds
+  pub falls : DataFalls meaning g older h newer
+
+abbrev pub LowersData : {N D : Type 0} → Coded N × Coded D → (N → Meaning D) → Graph → Graph → Type 0
+LowersData {N} {D} codes meaning g h = (older : Part N D) → KeepsPart codes g older → LowersPart codes meaning g older h
+
 pub record CarriesData {N D : Type 0} (codes : Coded N × Coded D) (meaning : N → Meaning D) (g h : Graph) : Type 0 where
   pub older : Part N D
   pub newer : Part N D
   pub before : KeepsPart codes g older
   pub after : KeepsPart codes h newer
   pub analysis : newer.analysis ≡ older.analysis
-  -- what a class has now absorbs what it had
-  pub falls : (i : ℕ) → i < length g.image.canonical → (x y : D) → HasDatumIn g older i x → HasDatumIn h newer i y →
-      Absorbs (by_bare_nodes (meaning older.analysis)) y x
+  pub rounds : newer.rounds ≡ older.rounds
+  pub falls : DataFalls meaning g older h newer
   pub notes : D → NotesChanges older.values older.changed newer.values newer.changed
 
 pub record MergesData {N D : Type 0} (codes : Coded N × Coded D) (meaning : N → Meaning D) (g h : Graph) (i : ℕ) (v : D) : Type 0 where
   pub carries : CarriesData codes meaning g h
   pub absorbs : (y : D) → HasData codes h i y → Absorbs (by_bare_nodes (meaning carries.older.analysis)) y v
-
--- from g to h nothing changed but data and whether the graph failed
-pub record KeepsClassesAsTheyAre (g h : Graph) : Type 0 where
-  pub table : h.table ≡ g.table
-  pub image : h.image ≡ g.image
-  pub filed : h.filed ≡ g.filed
 
 -- no class waited twice, the live ones of those that waited are taken, ascending, and nothing else of what is kept has changed
 pub record TakesPending {N D : Type 0} (codes : Coded N × Coded D) (g h : Graph) (taken : List ℕ) : Type 0 where

@@ -8,6 +8,10 @@ pub mod Analysed
 pub mod PatternLookUps
 pub mod Matching
 pub mod Extension
+pub mod Edited
+pub mod Asked
+pub mod Rounds
+pub mod Writing
 -- The words of the clauses of its calls, handed on to the crates above.
 pub use Rattle.slotted_core.specs.Graph
 pub use Rattle.slotted_core.specs.Image

@@ -57,6 +57,9 @@ mod nodes;
 mod patterns;
 mod reports;
 
+// How many rounds of edits are made at the end of a write, unless the caller says otherwise.
+const USUAL_ROUNDS: usize = 16;
+
 /// A graph of terms with binders, up to alpha-equality.
 ///
 /// Each class has the node that it was made with, its canonical node, over slots of its own and over earlier classes. An
@@ -76,6 +79,8 @@ pub struct EGraph<L: Language, N: Analysis<L> = ()> {
     // The data of each class, which is at rest whenever the graph is.
     data: ClassData<N::Data>,
     analysis: N,
+    // How many rounds of edits are made at the end of a write, at most.
+    rounds: usize,
     method: SubstMethod,
     alloc: Global,
 }
@@ -94,7 +99,7 @@ impl<L: Language, N: Analysis<L>> Model for EGraph<L, N> {
 
     ghost coded = { graph_code };
 
-    ghost view = { λ s. graph_of s.failed s.table s.store (rows_in s.nodes.filed) (part_by N.codes s.analysis s.«data») };
+    ghost view = { λ s. graph_of s.failed s.table s.store (rows_in s.nodes.filed) (part_by N.codes s.analysis s.rounds s.«data») };
 
     ghost invariant = { λ s. IsTrue s.failed ⊎ (Good s.store × HasFreshSlots s.table s.store × RestsWith s.store s.nodes
         × IfSome s.index.indexed (λ x. IsIndexed s.store s.nodes x.skeletons x.index)
@@ -136,6 +141,7 @@ impl<L: Language, N: Analysis<L>> EGraph<L, N> {
             table,
             data: ClassData::new(alloc),
             analysis,
+            rounds: USUAL_ROUNDS,
             method,
             alloc,
         })
@@ -279,37 +285,8 @@ impl<L: Language, N: Analysis<L>> EGraph<L, N> {
         RecExpr::parse(self.alloc, text, &mut self.table)
     }
 
-    /// Two ids are equal, because the caller says so. True if they did not find alike. They may lack names for slots that unions dropped:
-    /// what is asserted is the equation of any two ids that fill them by names apart.
-    ///
-    /// From now on both find one class with one set of names, and they find alike unless a symmetry of that class is open. Slots that
-    /// only one side has are dropped. Equal nodes over them are united too: what was asserted is closed under congruence again.
-    pub fn union(&mut self, l: &AppliedId, r: &AppliedId) -> Result<bool, Error>
-        requires left { IsTrue self.old.failed ⊎ IsValidId self.old (to_applied l.now) }
-        requires right { IsTrue self.old.failed ⊎ IsValidId self.old (to_applied r.now) }
-        ensures union { IfOk result (IsUnion self.old.image self.new.image (to_applied l.now) (to_applied r.now)) }
-        ensures text { OnOk result (RecordsUnion self.old self.new l.now r.now None) }
-
-        // No node is filed anew where it answers false. No class is made, no more live, and where as many live, they have no more slots.
-        ensures filed { IfOk result (λ y. y ≡ false → self.new.filed ≡ self.old.filed) }
-        ensures counts { OnOk result (NeverRises self.old.image self.new.image) }
-
-        // The rebuild found no more e-nodes than were filed, and no greater size than the graph had.
-        ensures counted { OnOk result (CountsUnion self.old self.new) }
-        ensures table { self.new.table ≡ self.old.table }
-        ensures carries { OnOk result (CarriesData N.codes N.meaning self.old self.new) }
-
-        ensures stays { IsTrue self.old.failed → self.new ≡ self.old }
-        ensures failed { IsErrOf result Error.Failed ↔ IsTrue self.old.failed }
-        ensures fails { IsTrue self.new.failed ↔ IsErr result }
-        ensures full { IsErrOf result Error.OutOfSlots → HasLargeClassIn self.old.image }
-        ensures only { IfErr result (λ e. (e ≡ Error.Failed) ⊎ IsShortage e) }
-    {
-        self.union_justified(l, r, None)
-    }
-
-    /// The same, with a text that says why.
-    pub fn union_justified(
+    /// Unites two ids as `union_justified` does, and modifies no class. What was made or has changed waits.
+    pub fn union_quietly(
         &mut self,
         l: &AppliedId,
         r: &AppliedId,

@@ -2,12 +2,22 @@
 //! Each yes is proved, by entries that a union makes or by steps that a caller asks for.
 #![tactic(auto)]
 
+pub mod adding;
+pub mod editing;
 pub mod egraph;
+pub mod explaining;
+pub mod merging;
 pub mod method;
+pub mod modifying;
+pub mod rounds;
+pub mod uniting;
 
+pub use editing::make_edit;
 pub use egraph::EGraph;
 pub use egraph::steps::Check;
 pub use method::SubstMethod;
+pub use modifying::modify_class;
+pub use rounds::{modify_in_rounds, modify_once};
 pub use slotted_extraction::LeastTerms;
 pub use slotted_reports::ProgressMeasure;
 pub use slotted_store::Symmetry;

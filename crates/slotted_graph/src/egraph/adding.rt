@@ -1,5 +1,5 @@
-//! Adding nodes and terms, and looking up nodes: by canonical nodes, which keeps each term as it was given, or by what children find, which
-//! gives equal nodes one id.
+//! Adding nodes and terms without modifying classes, and looking up nodes: by canonical nodes, which keeps each term as it was given, or by what
+//! children find, which gives equal nodes one id.
 ghost use Rattle.std.specs.Prelude.{◌≡◌, ◌⊎◌, ◌↔◌, Some, option_map, IsErr, IsErrOf, IsSome, IsTrue, IfErr, IfOk, IfSome, OnOk};
 ghost use Rattle.slotted_slots.specs.Error.{IsShortage};
 ghost use Rattle.slotted_slots.specs.Table.{KnowsMore};
@@ -48,28 +48,27 @@ impl<L: Language, N: Analysis<L>> EGraph<L, N> {
         look_up(&self.store, &self.nodes, self.alloc, node)
     }
 
-    /// What a node is looked up as. Where it is not, a class is made of it, whose slots are fresh; names that its children lack are filled by
-    /// fresh ones first.
-    pub fn add(&mut self, node: L) -> Result<AppliedId, Error>
-        requires { IsTrue self.old.failed ⊎ IsValidNode self.old (L.form node) }
+    /// Adds a node as `add` does, and modifies no class. What was made or has changed waits.
+    pub fn add_quietly(&mut self, node: &L) -> Result<AppliedId, Error>
+        requires { IsTrue self.old.failed ⊎ IsValidNode self.old (L.form node.now) }
 
         // The answer is what a look-up answers from now on, what it finds itself, and equal to the node by what was asserted.
-        ensures id { IfOk result (λ a. look_up self.new (L.form node) ≡ Some (to_applied a)) }
+        ensures id { IfOk result (λ a. look_up self.new (L.form node.now) ≡ Some (to_applied a)) }
         ensures found { IfOk result (λ a. IsFound self.new (to_applied a)) }
-        ensures equal { IfOk result (λ a. IsEqualToNode self.new.image (to_applied a) (L.form node)) }
+        ensures equal { IfOk result (λ a. IsEqualToNode self.new.image (to_applied a) (L.form node.now)) }
 
         // A class is made only where there was no answer, and no other class is made. What was there stays: ids find what they found, and what
         // was looked up is looked up as before.
-        ensures kept { OnOk result (IsSome (look_up self.old (L.form node)) → IsOneGraph self.old self.new) }
-        ensures made { IfOk result (λ a. MakesClassFor self.old self.new (L.form node) (to_applied a)) }
+        ensures kept { OnOk result (IsSome (look_up self.old (L.form node.now)) → IsOneGraph self.old self.new) }
+        ensures made { IfOk result (λ a. MakesClassFor self.old self.new (L.form node.now) (to_applied a)) }
         ensures answers { OnOk result (KeepsLookUps self.old self.new) }
         ensures extends { OnOk result (Extends self.old.image.canonical self.new.image.canonical) }
         ensures adds { OnOk result (AddsClasses self.old.image self.new.image) }
 
         // Where a class is made, fresh slots are made for its names, and for those that children lack.
         ensures more { KnowsMore self.old.table self.new.table }
-        ensures takes { MakesAtMost (slots_needed self.old.image (L.form node)) self.old.table self.new.table }
-        ensures full { IsErrOf result Error.OutOfSlots → RunsOutForUnknown self.old self.new (L.form node) }
+        ensures takes { MakesAtMost (slots_needed self.old.image (L.form node.now)) self.old.table self.new.table }
+        ensures full { IsErrOf result Error.OutOfSlots → RunsOutForUnknown self.old self.new (L.form node.now) }
 
         // Data only went down, and what was made or has changed waits to be modified.
         ensures carries { OnOk result (CarriesData N.codes N.meaning self.old self.new) }
@@ -92,20 +91,19 @@ impl<L: Language, N: Analysis<L>> EGraph<L, N> {
             &self.analysis,
             self.alloc,
             &mut self.table,
-            &node,
+            node,
         )?;
         self.failed = false;
         Ok(id)
     }
 
-    /// The class that was made with a node, with the node's names put in. Where there is none, a class is made, whose slots are fresh; it is
-    /// united with the class that has an equal node, if there is one. Names that children lack are filled by fresh ones first.
-    pub fn add_syn(&mut self, node: L) -> Result<AppliedId, Error>
-        requires { IsTrue self.old.failed ⊎ IsValidNode self.old (L.form node) }
+    /// Adds a node as `add_syn` does, and modifies no class. What was made or has changed waits.
+    pub fn add_syn_quietly(&mut self, node: &L) -> Result<AppliedId, Error>
+        requires { IsTrue self.old.failed ⊎ IsValidNode self.old (L.form node.now) }
 
         // The answer is valid, has all names, and stands for the node over what its children stand for.
         ensures valid { IfOk result (λ a. IsFullId self.new (to_applied a)) }
-        ensures syn { IfOk result (λ a. AddsSyn self.old self.new (L.form node) (to_applied a)) }
+        ensures syn { IfOk result (λ a. AddsSyn self.old self.new (L.form node.now) (to_applied a)) }
 
         // What was there stays.
         ensures extends { OnOk result (Extends self.old.image.canonical self.new.image.canonical) }
@@ -113,10 +111,10 @@ impl<L: Language, N: Analysis<L>> EGraph<L, N> {
 
         // Where a class is made, fresh slots are made for its names, and for those that children lack.
         ensures more { KnowsMore self.old.table self.new.table }
-        ensures takes { MakesAtMost (slots_needed self.old.image (L.form node)) self.old.table self.new.table }
+        ensures takes { MakesAtMost (slots_needed self.old.image (L.form node.now)) self.old.table self.new.table }
         ensures full { IsErrOf result Error.OutOfSlots
-            → RunsOutForFilled self.old.image (L.form node) self.old.table self.new.table }
-        ensures unknown { IsErrOf result Error.OutOfSlots → IsUnknownIfFull self.old.image.canonical (L.form node) }
+            → RunsOutForFilled self.old.image (L.form node.now) self.old.table self.new.table }
+        ensures unknown { IsErrOf result Error.OutOfSlots → IsUnknownIfFull self.old.image.canonical (L.form node.now) }
 
         // Data only went down, and what was made or has changed waits to be modified.
         ensures carries { OnOk result (CarriesData N.codes N.meaning self.old self.new) }
@@ -139,14 +137,14 @@ impl<L: Language, N: Analysis<L>> EGraph<L, N> {
             &self.analysis,
             self.alloc,
             &mut self.table,
-            &node,
+            node,
         )?;
         self.failed = false;
         Ok(made)
     }
 
-    /// What a term is looked up as, child by child. Where a node is not, a class is made of it, as `add` does.
-    pub fn add_expr(&mut self, term: &RecExpr<L>) -> Result<AppliedId, Error>
+    /// Adds a term as `add_expr` does, and modifies no class. What was made or has changed waits.
+    pub fn add_expr_quietly(&mut self, term: &RecExpr<L>) -> Result<AppliedId, Error>
         requires { IsTrue self.old.failed ⊎ IsValidTerm self.old.table term.now }
 
         // The answer is what a look-up of the term answers from now on, what it finds itself, and equal to the term by what was asserted.
@@ -195,8 +193,8 @@ impl<L: Language, N: Analysis<L>> EGraph<L, N> {
         Ok(answer)
     }
 
-    /// The id of a term, whose canonical term it is: from below, the class that was made with each node, or a new one where there is none.
-    pub fn add_syn_expr(&mut self, term: &RecExpr<L>) -> Result<AppliedId, Error>
+    /// Adds a term as `add_syn_expr` does, and modifies no class. What was made or has changed waits.
+    pub fn add_syn_expr_quietly(&mut self, term: &RecExpr<L>) -> Result<AppliedId, Error>
         requires { IsTrue self.old.failed ⊎ IsValidTerm self.old.table term.now }
 
         // The answer is valid, stands for the term, and is what a look-up of the term answers from now on.

@@ -1,10 +1,13 @@
 //! The analysis of a graph, and the data of its classes.
 ghost use Rattle.std.specs.Prelude.{◌≡◌, ◌⊎◌, ◌↔◌, ◌<◌, length, IsTrue, IfErr, IfOk, IsErr, IsErrOf, OnOk};
-ghost use Rattle.slotted_slots.specs.Error.{IsOutOfMemory};
+ghost use Rattle.slotted_slots.specs.Error.{IsOutOfMemory, IsShortage};
 ghost use Rattle.slotted_core.specs.Reports.{HasClass, class_numbers};
-ghost use Rattle.slotted_graph.specs.Analysed.{AbsorbsMade, CountsPending, HasData, IsAnalysisOf, KeepsClassesAsTheyAre, MergesData, TakesPending};
+ghost use Rattle.slotted_core.specs.LookUp.{HasSameClasses};
+ghost use Rattle.slotted_graph.specs.Analysed.{AbsorbsMade, CountsPending, HasData, HasRounds, IsAnalysisOf, MergesData, SetsRounds, TakesPending};
+ghost use Rattle.slotted_graph.specs.Rounds.{IsModified};
 
 use super::EGraph;
+use crate::rounds::modify_in_rounds;
 use slotted_analyses::Analysis;
 use slotted_data::{merge_value, pending_count, take_pending};
 use slotted_languages::Language;
@@ -42,14 +45,13 @@ impl<L: Language, N: Analysis<L>> EGraph<L, N> {
         self.data.value(self.store.find_class(id.0))
     }
 
-    /// Merges a value into the data of the class that a class finds. From there values go upwards: each class whose data changes waits to be
-    /// modified.
-    pub fn merge_analysis_data(&mut self, id: Id, value: &N::Data) -> Result<(), Error>
+    /// Merges a value as `merge_analysis_data` does, and modifies no class. Each class whose data has changed waits.
+    pub fn merge_data_quietly(&mut self, id: Id, value: &N::Data) -> Result<(), Error>
         requires { IsTrue self.old.failed ⊎ (id.0 < length self.old.image.canonical) }
 
         // Data only goes down, and merging the value again changes nothing.
         ensures merges { OnOk result (MergesData N.codes N.meaning self.old self.new id.0 value.now) }
-        ensures same { OnOk result (KeepsClassesAsTheyAre self.old self.new) }
+        ensures same { OnOk result (HasSameClasses self.old self.new) }
 
         ensures stays { IsTrue self.old.failed → self.new ≡ self.old }
         ensures failed { IsErrOf result Error.Failed ↔ IsTrue self.old.failed }
@@ -87,7 +89,7 @@ impl<L: Language, N: Analysis<L>> EGraph<L, N> {
     /// Returns the live classes that wait to be modified, by ascending id. None waits from now on.
     pub fn take_pending(&mut self) -> Result<Vec<Id>, Error>
         ensures taken { IfOk result (λ v. TakesPending N.codes self.old self.new (class_numbers v.items)) }
-        ensures same { OnOk result (KeepsClassesAsTheyAre self.old self.new) }
+        ensures same { OnOk result (HasSameClasses self.old self.new) }
 
         ensures stays { IsTrue self.old.failed → self.new ≡ self.old }
         ensures failed { IsErrOf result Error.Failed ↔ IsTrue self.old.failed }
@@ -102,5 +104,41 @@ impl<L: Language, N: Analysis<L>> EGraph<L, N> {
         let ids = ids_of(self.alloc, &taken)?;
         self.failed = false;
         Ok(ids)
+    }
+
+    /// Returns the number of rounds of edits that a write makes at its end, at most. Takes no memory.
+    pub fn modify_rounds(&self) -> usize
+        ensures { HasRounds N.codes self.now result }
+    {
+        self.rounds
+    }
+
+    /// Sets the number of rounds of edits that a write makes at its end, at most. A graph begins with 16. Takes no memory.
+    pub fn set_modify_rounds(&mut self, rounds: usize)
+        ensures { SetsRounds N.codes self.old self.new rounds }
+    {
+        self.rounds = rounds;
+    }
+
+    /// Modifies the classes that wait, in rounds, until none waits or the limit of rounds is reached. Returns whether anything was asked.
+    ///
+    /// Each write of the graph ends with this call, except those that end in `_quietly`. Nothing is done if the analysis never modifies classes.
+    pub fn modify(&mut self) -> Result<bool, Error>
+        ensures modified { IfOk result (IsModified N.codes N.meaning N.may_ask N.modifies self.old self.new) }
+
+        ensures stays { IsTrue self.old.failed → self.new ≡ self.old }
+        ensures failed { IsErrOf result Error.Failed ↔ IsTrue self.old.failed }
+        ensures fails { IsTrue self.new.failed ↔ IsErr result }
+        ensures only { IfErr result (λ e. (e ≡ Error.Failed) ⊎ IsShortage e) }
+    {
+        if self.failed {
+            return Err(Error::Failed);
+        }
+        if !N::modifies() {
+            return Ok(false);
+        }
+        let limit = self.rounds;
+        let alloc = self.alloc;
+        modify_in_rounds(self, alloc, limit)
     }
 }

@@ -17,9 +17,8 @@ use slotted_terms::expr::RecExpr;
 use slotted_writes::explaining;
 
 impl<L: Language, N: Analysis<L>> EGraph<L, N> {
-    /// The proof that two terms are equal: the number of an entry of the proof list that says so of their ids. The terms are added
-    /// first, and they stay where the graph does not find them equal.
-    pub fn explain_equivalence(
+    /// Explains as `explain_equivalence` does, and modifies no class. What was made or has changed waits.
+    pub fn explain_quietly(
         &mut self,
         left: &RecExpr<L>,
         right: &RecExpr<L>,

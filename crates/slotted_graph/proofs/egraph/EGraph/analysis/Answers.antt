@@ -4,4 +4,4 @@ use Rattle.slotted_core.specs.Graph.{Graph}
 use Rattle.slotted_graph.proofs.egraph.EGraph.analysis.Goals as goal
 
 pub returns : goal.returns
-returns g c = record { part = part_in c.self.inside.analysis c.self.inside.data; keeps = sym (ap (λ (x : Graph). x.part) c.self.view_is); is = refl }
+returns g c = record { part = part_in c.self.inside.analysis c.self.inside.rounds c.self.inside.data; keeps = sym (ap (λ (x : Graph). x.part) c.self.view_is); is = refl }

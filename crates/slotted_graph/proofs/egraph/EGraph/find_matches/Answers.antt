@@ -57,7 +57,7 @@ returns-clause-finds g c =
     let tree = tree_of g.L.LanguageChildren.form c.args.pattern.now in
     let k = c.self.inside.store in
     let r = c.self.inside.nodes in
-    let h : Graph = graph_of c.self.inside.failed c.find_matches.new.table k (rows_in r.filed) (part_by g.N.Analysis.codes c.self.inside.analysis c.self.inside.data) in
+    let h : Graph = graph_of c.self.inside.failed c.find_matches.new.table k (rows_in r.filed) (part_by g.N.Analysis.codes c.self.inside.analysis c.self.inside.rounds c.self.inside.data) in
     let e = c.find_matches.ensures in
     ok-with c.find_matches.result e.finds (λ found finds p at. found-of h k r inside.good inside.rests more refl refl p found (finds p at))
 
@@ -68,7 +68,7 @@ returns-clause-valid g c =
     let tree = tree_of g.L.LanguageChildren.form c.args.pattern.now in
     let k = c.self.inside.store in
     let r = c.self.inside.nodes in
-    let h : Graph = graph_of c.self.inside.failed c.find_matches.new.table k (rows_in r.filed) (part_by g.N.Analysis.codes c.self.inside.analysis c.self.inside.data) in
+    let h : Graph = graph_of c.self.inside.failed c.find_matches.new.table k (rows_in r.filed) (part_by g.N.Analysis.codes c.self.inside.analysis c.self.inside.rounds c.self.inside.data) in
     let e = c.find_matches.ensures in
     ok-with c.find_matches.result e.valid (λ found valid. valid-of h k r inside.good inside.rests more refl refl tree found valid)
 
@@ -79,7 +79,7 @@ returns-clause-looked_up g c =
     let tree = tree_of g.L.LanguageChildren.form c.args.pattern.now in
     let k = c.self.inside.store in
     let r = c.self.inside.nodes in
-    let h : Graph = graph_of c.self.inside.failed c.find_matches.new.table k (rows_in r.filed) (part_by g.N.Analysis.codes c.self.inside.analysis c.self.inside.data) in
+    let h : Graph = graph_of c.self.inside.failed c.find_matches.new.table k (rows_in r.filed) (part_by g.N.Analysis.codes c.self.inside.analysis c.self.inside.rounds c.self.inside.data) in
     let e = c.find_matches.ensures in
     ok-three_of c.find_matches.result e.finds e.valid e.variables
     (λ found finds valid variables p at s i. found-looked_up h p found (found-of h k r inside.good inside.rests more refl refl p found (finds p at)) s i (each-valid h k r inside.good inside.rests more refl refl tree found valid variables p at s i))
@@ -91,7 +91,7 @@ returns-clause-each g c =
     let tree = tree_of g.L.LanguageChildren.form c.args.pattern.now in
     let k = c.self.inside.store in
     let r = c.self.inside.nodes in
-    let h : Graph = graph_of c.self.inside.failed c.find_matches.new.table k (rows_in r.filed) (part_by g.N.Analysis.codes c.self.inside.analysis c.self.inside.data) in
+    let h : Graph = graph_of c.self.inside.failed c.find_matches.new.table k (rows_in r.filed) (part_by g.N.Analysis.codes c.self.inside.analysis c.self.inside.rounds c.self.inside.data) in
     let e = c.find_matches.ensures in
     ok-three_of c.find_matches.result e.finds e.valid e.variables
     (λ found finds valid variables p at. found-each h p found (found-of h k r inside.good inside.rests more refl refl p found (finds p at)) (each-within h k r inside.good inside.rests more refl refl tree found valid variables p at))
@@ -103,7 +103,7 @@ returns-clause-needs g c =
     let tree = tree_of g.L.LanguageChildren.form c.args.pattern.now in
     let k = c.self.inside.store in
     let r = c.self.inside.nodes in
-    let h : Graph = graph_of c.self.inside.failed c.find_matches.new.table k (rows_in r.filed) (part_by g.N.Analysis.codes c.self.inside.analysis c.self.inside.data) in
+    let h : Graph = graph_of c.self.inside.failed c.find_matches.new.table k (rows_in r.filed) (part_by g.N.Analysis.codes c.self.inside.analysis c.self.inside.rounds c.self.inside.data) in
     let e = c.find_matches.ensures in
     elim e.takes [
       | inl s ↦ inl (s ∙ inside.table)
@@ -117,7 +117,7 @@ returns-clause-full g c out =
     let tree = tree_of g.L.LanguageChildren.form c.args.pattern.now in
     let k = c.self.inside.store in
     let r = c.self.inside.nodes in
-    let h : Graph = graph_of c.self.inside.failed c.find_matches.new.table k (rows_in r.filed) (part_by g.N.Analysis.codes c.self.inside.analysis c.self.inside.data) in
+    let h : Graph = graph_of c.self.inside.failed c.find_matches.new.table k (rows_in r.filed) (part_by g.N.Analysis.codes c.self.inside.analysis c.self.inside.rounds c.self.inside.data) in
     let e = c.find_matches.ensures in
     elim (e.full out) [
       | inl w ↦ inl (wide-row h k r inside.good inside.rests more refl refl w)

@@ -8,4 +8,4 @@ pub returns : goal.returns
 returns g c =
     let k = c.self.inside.store in
     let inside = inside-of c.self.inside.table k c.self.inside.nodes c.self.view_is c.if-self.false c.self.invariant in
-    inr (counts-pending g.N.Analysis.codes c.self.inside.analysis k inside.good c.self.inside.data c.args.self.now inside.image (sym (ap (λ (x : Graph). x.part) c.self.view_is)) c.pending_count.result c.pending_count.ensures)
+    inr (counts-pending g.N.Analysis.codes c.self.inside.analysis c.self.inside.rounds k inside.good c.self.inside.data c.args.self.now inside.image (sym (ap (λ (x : Graph). x.part) c.self.view_is)) c.pending_count.result c.pending_count.ensures)

@@ -23,5 +23,5 @@ returns-clause-taken g c =
     let r = c.self.inside.nodes in
     let n = c.self.inside.analysis in
     let inside = inside-of c.self.inside.table k r c.self.view_is c.if-self.false c.self.invariant in
-    takes-pending g.N.Analysis.codes g.N.Analysis.meaning n k r inside.good c.self.inside.data c.take_pending.new.data c.args.self.now _ inside.image (sym (ap (λ (x : Graph). x.part) c.self.view_is)) refl
+    takes-pending g.N.Analysis.codes g.N.Analysis.meaning n c.self.inside.rounds k r inside.good c.self.inside.data c.take_pending.new.data c.args.self.now _ inside.image (sym (ap (λ (x : Graph). x.part) c.self.view_is)) refl
     (data-inside g.N.Analysis.meaning n c.if-self.false c.self.invariant) c.in_ok-taken.ensures.left _ _ c.in_ok-taken.ensures.taken (c.in_ok-ids.ensures.ok ∙ c.deref.ensures.value)

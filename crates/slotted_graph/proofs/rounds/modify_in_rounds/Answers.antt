@@ -1,0 +1,34 @@
+use Rattle.std.proofs.Common.{◌∙◌, ◌+◌, ap, arith, sym}
+use Rattle.std.specs.Prelude.{◌||◌}
+use Rattle.slotted_graph.proofs.Insides.{given}
+use Rattle.slotted_graph.specs.Rounds.{no_rounds}
+use Rattle.slotted_graph.proofs.Leaving.{rounds-leave, rounds-then, some-wait}
+use Rattle.slotted_graph.proofs.rounds.modify_in_rounds.Goals.{then-branch, else-branch}
+use Rattle.slotted_graph.proofs.rounds.modify_in_rounds.Goals as goal
+
+pub loop-init : goal.loop-init
+loop-init g c =
+    let is = given (sym c.is_failed.ensures.failed ∙ c.if-is_failed.false) c.is_failed.ensures.rests in
+    (is, is, no_rounds)
+
+pub returns-then-modify_pending-eq0-clause-leaves : goal.returns-then-modify_pending-eq0-clause-leaves
+returns-then-modify_pending-eq0-clause-leaves g c = rounds-leave g.N.Analysis.codes g.N.Analysis.meaning g.met.N.Analysis.is_merge g.N.Analysis.may_ask c.loop.invariant.0 c.loop.invariant.2
+
+pub loop-preserved : goal.loop-preserved
+loop-preserved g c =
+    let codes = g.N.Analysis.codes in
+    let meaning = g.N.Analysis.meaning in
+    let y = c.loop.asked in
+    let inv = c.loop.invariant in (
+      inv.0,
+      c.in_ok-modify_once.ensures.leaves.graph,
+      rounds-then codes meaning g.met.N.Analysis.is_merge g.N.Analysis.may_ask inv.2 (some-wait codes c.loop.graph c.modify_pending.result inv.1 c.modify_pending.ensures c.if-modify_pending-eq0.false)
+          c.in_ok-modify_once.ensures.round (c.loop.counter + 1) (omega arith) c.if-branch.asked
+          (elim c.if-branch.branch [
+            | then-branch w ↦ w.asked-is ∙ sym (ap (λ b. b || y) w.if-branch.true)
+            | else-branch w ↦ w.asked-is ∙ sym (ap (λ b. b || y) w.if-branch.false)
+          ]),
+    )
+
+pub returns-clause-leaves : goal.returns-clause-leaves
+returns-clause-leaves g c = rounds-leave g.N.Analysis.codes g.N.Analysis.meaning g.met.N.Analysis.is_merge g.N.Analysis.may_ask c.loop.invariant.0 c.loop.invariant.2

@@ -1,0 +1,65 @@
+-- What writes leave that modify classes at their ends.
+--     AddsMore .. g h             classes were added, and nothing was asserted
+--     AddsAndModifies .. g h      classes were added, and then classes were modified. What was to be added may be added again
+--     AddsSynBefore g h f a       the id of a node was found or made, and then other classes may have been modified
+--     UnitesAndModifies ..        two ids were united, and then classes were modified
+--     MergesAndModifies ..        a value was merged into the data of a class, and then classes were modified
+--     LeavesAsked .. g h          what was there stays, data only went down, and nothing was asserted but what edits say
+use Rattle.std.specs.Prelude.{◌≡◌, ◌⊎◌, ℕ, List, Bool, Option, false}
+use Rattle.std.specs.Coded.{Coded}
+use Rattle.slotted_slots.specs.declared.types.AppliedId.{AppliedId}
+use Rattle.slotted_nodes.specs.Form.{Form}
+use Rattle.slotted_model.specs.Applied.{Applied}
+use Rattle.slotted_proofs.specs.Equations.{to_applied}
+use Rattle.slotted_analyses.specs.Meaning.{Meaning}
+use Rattle.slotted_core.specs.Adding.{AddsSyn}
+use Rattle.slotted_core.specs.Graph.{Graph, RecordsUnion}
+use Rattle.slotted_core.specs.Image.{IsUnion, asserted_in}
+use Rattle.slotted_core.specs.LookUp.{HasSameClasses}
+use Rattle.slotted_graph.specs.Analysed.{CarriesData, LowersData, MergesData}
+use Rattle.slotted_graph.specs.Asked.{Asks, IsAskedBetween}
+use Rattle.slotted_graph.specs.Edited.{AssertsMore}
+use Rattle.slotted_graph.specs.Extension.{ExtendsTo}
+use Rattle.slotted_graph.specs.Rounds.{IsModified}
+use Rattle.slotted_graph.specs.States.{IsGraph}
+
+pub record AddsMore {N D : Type 0} (codes : Coded N × Coded D) (meaning : N → Meaning D) (g h : Graph) : Type 0 where
+  pub graph : IsGraph h
+  pub extends : ExtendsTo g h
+  pub asserted : asserted_in h.image ≡ asserted_in g.image
+  pub carries : CarriesData codes meaning g h
+
+pub record LeavesAsked {L N D : Type 0} (codes : Coded N × Coded D) (meaning : N → Meaning D) (ask : Asks L N D) (g h : Graph) : Type 0 where
+  pub extends : ExtendsTo g h
+  pub asserts : AssertsMore (IsAskedBetween codes ask g h) g h
+  pub lowers : LowersData codes meaning g h
+
+pub record AddsAndModifies {L N D : Type 0} (codes : Coded N × Coded D) (meaning : N → Meaning D) (ask : Asks L N D) (modifies : Bool) (g h : Graph) : Type 0 where
+  pub added : Graph
+  pub adds : AddsMore codes meaning g added
+  pub modified : Graph
+  pub asked : Bool
+  pub rounds : IsModified codes meaning ask modifies added modified asked
+  pub again : (h ≡ modified) ⊎ AddsMore codes meaning modified h
+
+pub record AddsSynBefore (g h : Graph) (f : Form) (a : Applied) : Type 0 where
+  pub added : Graph
+  pub syn : AddsSyn g added f a
+  pub extends : ExtendsTo added h
+
+pub record UnitesAndModifies {L N D : Type 0} (codes : Coded N × Coded D) (meaning : N → Meaning D) (ask : Asks L N D) (modifies : Bool) (g h : Graph) (l r : AppliedId) (text : Option (List ℕ)) (y : Bool) : Type 0 where
+  pub united : Graph
+  pub union : IsUnion g.image united.image (to_applied l) (to_applied r) y
+  pub text : RecordsUnion g united l r text
+  pub filed : y ≡ false → united.filed ≡ g.filed
+  pub table : united.table ≡ g.table
+  pub carries : CarriesData codes meaning g united
+  pub asked : Bool
+  pub rounds : IsModified codes meaning ask modifies united h asked
+
+pub record MergesAndModifies {L N D : Type 0} (codes : Coded N × Coded D) (meaning : N → Meaning D) (ask : Asks L N D) (modifies : Bool) (g h : Graph) (i : ℕ) (v : D) : Type 0 where
+  pub merged : Graph
+  pub merges : MergesData codes meaning g merged i v
+  pub same : HasSameClasses g merged
+  pub asked : Bool
+  pub rounds : IsModified codes meaning ask modifies merged h asked

@@ -1,0 +1,292 @@
+//! Adding nodes and terms: by what children find, which gives equal nodes one id, or by canonical nodes, which keeps each term as it was given.
+ghost use Rattle.std.specs.Prelude.{◌≡◌, ◌⊎◌, ◌↔◌, Some, false, IsErr, IsErrOf, IsSome, IsTrue, IfErr, IfOk, OnOk};
+ghost use Rattle.slotted_slots.specs.Error.{IsShortage};
+ghost use Rattle.slotted_slots.specs.Table.{KnowsMore};
+ghost use Rattle.slotted_theory.specs.Nameless.{nameless};
+ghost use Rattle.slotted_model.specs.Classes.{term_of};
+ghost use Rattle.slotted_model.specs.Growth.{Extends};
+ghost use Rattle.slotted_proofs.specs.Equations.{to_applied};
+ghost use Rattle.slotted_terms.specs.Valid.{IsValidTerm};
+ghost use Rattle.slotted_core.specs.Adding.{AddsSyn, IsEqualToNode, RunsOutForFilled, slots_needed, term_nodes};
+ghost use Rattle.slotted_core.specs.AddingTerms.{AddsNodes, FilesOnlyLookedUp, IsEqualToTerm, LacksForTerm, TakesForTerm};
+ghost use Rattle.slotted_core.specs.Causes.{CanRunOutForTerm, IsUnknownIfFull, IsUnknownTerm};
+ghost use Rattle.slotted_core.specs.ValidIds.{IsValidNode};
+ghost use Rattle.slotted_core.specs.Graph.{FilesOnlySubterms, IsFullId, MakesAtMost, id_of_term};
+ghost use Rattle.slotted_core.specs.Image.{AddsClasses};
+ghost use Rattle.slotted_core.specs.LookUp.{IsOneGraph, KeepsLookUps, MakesClassFor, RunsOutForUnknown, look_up, look_up_term};
+ghost use Rattle.slotted_core.specs.Places.{term_slots};
+ghost use Rattle.slotted_core.specs.Reports.{IsFound};
+ghost use Rattle.slotted_graph.specs.Analysed.{CarriesData};
+ghost use Rattle.slotted_graph.specs.Writing.{AddsAndModifies, AddsSynBefore, LeavesAsked};
+
+use crate::egraph::EGraph;
+use slotted_analyses::Analysis;
+use slotted_languages::Language;
+use slotted_slots::{AppliedId, Error};
+use slotted_terms::expr::RecExpr;
+
+impl<L: Language, N: Analysis<L>> EGraph<L, N> {
+    // Adds a node, and modifies classes. An edit may turn what the node is looked up as, so the node is added again after edits.
+    fn add_and_modify(&mut self, node: &L) -> Result<AppliedId, Error>
+        requires { IsTrue self.old.failed ⊎ IsValidNode self.old (L.form node.now) }
+        ensures id { IfOk result (λ a. look_up self.new (L.form node.now) ≡ Some (to_applied a)) }
+        ensures found { IfOk result (λ a. IsFound self.new (to_applied a)) }
+        ensures equal { IfOk result (λ a. IsEqualToNode self.new.image (to_applied a) (L.form node.now)) }
+        ensures adds { OnOk result (AddsAndModifies N.codes N.meaning N.may_ask N.modifies self.old self.new) }
+        ensures stays { IsTrue self.old.failed → self.new ≡ self.old }
+        ensures failed { IsErrOf result Error.Failed ↔ IsTrue self.old.failed }
+        ensures fails { IsTrue self.new.failed ↔ IsErr result }
+        ensures only { IfErr result (λ e. (e ≡ Error.Failed) ⊎ IsShortage e) }
+    {
+        let id = self.add_quietly(node)?;
+        // It is asked for what each graph keeps that has not failed.
+        let _ = self.is_failed();
+        if self.modify_pending() == 0 {
+            return Ok(id);
+        }
+        self.modify()?;
+        let answer = self.add_quietly(node);
+        // It is asked for what each graph keeps that has not failed.
+        let _ = self.is_failed();
+        answer
+    }
+
+    /// Returns what a node is looked up as. If it is not, adds a class of it, whose slots are fresh. Names that its children lack are filled by
+    /// fresh ones first.
+    ///
+    /// Then classes are modified, as `modify` does.
+    pub fn add(&mut self, node: L) -> Result<AppliedId, Error>
+        requires { IsTrue self.old.failed ⊎ IsValidNode self.old (L.form node) }
+
+        // The answer is what a look-up answers from now on, what it finds itself, and equal to the node by what was asserted.
+        ensures id { IfOk result (λ a. look_up self.new (L.form node) ≡ Some (to_applied a)) }
+        ensures found { IfOk result (λ a. IsFound self.new (to_applied a)) }
+        ensures equal { IfOk result (λ a. IsEqualToNode self.new.image (to_applied a) (L.form node)) }
+
+        // What was there stays, and nothing is asserted but what was asked for by the analysis.
+        ensures leaves { OnOk result (LeavesAsked N.codes N.meaning N.may_ask self.old self.new) }
+        ensures modified { OnOk result (AddsAndModifies N.codes N.meaning N.may_ask N.modifies self.old self.new) }
+        ensures extends { OnOk result (Extends self.old.image.canonical self.new.image.canonical) }
+        ensures more { N.modifies ≡ false → KnowsMore self.old.table self.new.table }
+
+        // If classes are never modified, a class is made only if there was no answer, and no other class is made. Ids find what they found, and
+        // what was looked up is looked up as before.
+        ensures kept { N.modifies ≡ false → OnOk result (IsSome (look_up self.old (L.form node)) → IsOneGraph self.old self.new) }
+        ensures made { N.modifies ≡ false → IfOk result (λ a. MakesClassFor self.old self.new (L.form node) (to_applied a)) }
+        ensures answers { N.modifies ≡ false → OnOk result (KeepsLookUps self.old self.new) }
+        ensures adds { N.modifies ≡ false → OnOk result (AddsClasses self.old.image self.new.image) }
+
+        // And if a class is made, fresh slots are made for its names, and for those that children lack.
+        ensures takes { N.modifies ≡ false → MakesAtMost (slots_needed self.old.image (L.form node)) self.old.table self.new.table }
+        ensures full { N.modifies ≡ false → IsErrOf result Error.OutOfSlots → RunsOutForUnknown self.old self.new (L.form node) }
+        ensures carries { N.modifies ≡ false → OnOk result (CarriesData N.codes N.meaning self.old self.new) }
+
+        // A failed graph stays as it is.
+        ensures stays { IsTrue self.old.failed → self.new ≡ self.old }
+        ensures failed { IsErrOf result Error.Failed ↔ IsTrue self.old.failed }
+        ensures fails { IsTrue self.new.failed ↔ IsErr result }
+        ensures only { IfErr result (λ e. (e ≡ Error.Failed) ⊎ IsShortage e) }
+    {
+        if N::modifies() {
+            return self.add_and_modify(&node);
+        }
+        let answer = self.add_quietly(&node);
+        // It is asked for what each graph keeps that has not failed.
+        let _ = self.is_failed();
+        answer
+    }
+
+    // Adds a node by canonical nodes, and modifies classes.
+    fn add_syn_and_modify(&mut self, node: &L) -> Result<AppliedId, Error>
+        requires { IsTrue self.old.failed ⊎ IsValidNode self.old (L.form node.now) }
+        ensures valid { IfOk result (λ a. IsFullId self.new (to_applied a)) }
+        ensures stands { IfOk result (λ a. AddsSynBefore self.old self.new (L.form node.now) (to_applied a)) }
+        ensures adds { OnOk result (AddsAndModifies N.codes N.meaning N.may_ask N.modifies self.old self.new) }
+        ensures stays { IsTrue self.old.failed → self.new ≡ self.old }
+        ensures failed { IsErrOf result Error.Failed ↔ IsTrue self.old.failed }
+        ensures fails { IsTrue self.new.failed ↔ IsErr result }
+        ensures only { IfErr result (λ e. (e ≡ Error.Failed) ⊎ IsShortage e) }
+    {
+        let id = self.add_syn_quietly(node)?;
+        // It is asked for what each graph keeps that has not failed.
+        let _ = self.is_failed();
+        self.modify()?;
+        Ok(id)
+    }
+
+    /// Returns the class that was made with a node, with the node's names put in. If there is none, adds a class, whose slots are fresh. It is
+    /// united with the class that has an equal node, if there is one. Names that children lack are filled by fresh ones first.
+    ///
+    /// Then classes are modified, as `modify` does.
+    pub fn add_syn(&mut self, node: L) -> Result<AppliedId, Error>
+        requires { IsTrue self.old.failed ⊎ IsValidNode self.old (L.form node) }
+
+        // The answer is valid, has all names, and stands for the node over what its children stand for.
+        ensures valid { IfOk result (λ a. IsFullId self.new (to_applied a)) }
+        ensures stands { IfOk result (λ a. AddsSynBefore self.old self.new (L.form node) (to_applied a)) }
+
+        // What was there stays, and nothing is asserted but what was asked for by the analysis.
+        ensures leaves { OnOk result (LeavesAsked N.codes N.meaning N.may_ask self.old self.new) }
+        ensures modified { OnOk result (AddsAndModifies N.codes N.meaning N.may_ask N.modifies self.old self.new) }
+        ensures extends { OnOk result (Extends self.old.image.canonical self.new.image.canonical) }
+        ensures more { N.modifies ≡ false → KnowsMore self.old.table self.new.table }
+
+        // If classes are never modified, and a class is made, fresh slots are made for its names, and for those that children lack.
+        ensures syn { N.modifies ≡ false → IfOk result (λ a. AddsSyn self.old self.new (L.form node) (to_applied a)) }
+        ensures adds { N.modifies ≡ false → OnOk result (AddsClasses self.old.image self.new.image) }
+        ensures takes { N.modifies ≡ false → MakesAtMost (slots_needed self.old.image (L.form node)) self.old.table self.new.table }
+        ensures full { N.modifies ≡ false → IsErrOf result Error.OutOfSlots
+            → RunsOutForFilled self.old.image (L.form node) self.old.table self.new.table }
+        ensures unknown { N.modifies ≡ false → IsErrOf result Error.OutOfSlots
+            → IsUnknownIfFull self.old.image.canonical (L.form node) }
+        ensures carries { N.modifies ≡ false → OnOk result (CarriesData N.codes N.meaning self.old self.new) }
+
+        // A failed graph stays as it is.
+        ensures stays { IsTrue self.old.failed → self.new ≡ self.old }
+        ensures failed { IsErrOf result Error.Failed ↔ IsTrue self.old.failed }
+        ensures fails { IsTrue self.new.failed ↔ IsErr result }
+        ensures only { IfErr result (λ e. (e ≡ Error.Failed) ⊎ IsShortage e) }
+    {
+        if N::modifies() {
+            return self.add_syn_and_modify(&node);
+        }
+        let answer = self.add_syn_quietly(&node);
+        // It is asked for what each graph keeps that has not failed.
+        let _ = self.is_failed();
+        answer
+    }
+
+    // Adds a term, and modifies classes. An edit may turn what the term is looked up as, so the term is added again after edits.
+    fn add_expr_and_modify(&mut self, term: &RecExpr<L>) -> Result<AppliedId, Error>
+        requires { IsTrue self.old.failed ⊎ IsValidTerm self.old.table term.now }
+        ensures id { IfOk result (λ a. look_up_term self.new term.now ≡ Some (to_applied a)) }
+        ensures found { IfOk result (λ a. IsFound self.new (to_applied a)) }
+        ensures equal { IfOk result (λ a. IsEqualToTerm self.new.image (to_applied a) term.now) }
+        ensures adds { OnOk result (AddsAndModifies N.codes N.meaning N.may_ask N.modifies self.old self.new) }
+        ensures stays { IsTrue self.old.failed → self.new ≡ self.old }
+        ensures failed { IsErrOf result Error.Failed ↔ IsTrue self.old.failed }
+        ensures fails { IsTrue self.new.failed ↔ IsErr result }
+        ensures only { IfErr result (λ e. (e ≡ Error.Failed) ⊎ IsShortage e) }
+    {
+        let id = self.add_expr_quietly(term)?;
+        // It is asked for what each graph keeps that has not failed.
+        let _ = self.is_failed();
+        if self.modify_pending() == 0 {
+            return Ok(id);
+        }
+        self.modify()?;
+        let answer = self.add_expr_quietly(term);
+        // It is asked for what each graph keeps that has not failed.
+        let _ = self.is_failed();
+        answer
+    }
+
+    /// Returns what a term is looked up as, child by child. If a node is not, adds a class of it, as `add` does.
+    ///
+    /// Then classes are modified, as `modify` does.
+    pub fn add_expr(&mut self, term: &RecExpr<L>) -> Result<AppliedId, Error>
+        requires { IsTrue self.old.failed ⊎ IsValidTerm self.old.table term.now }
+
+        // The answer is what a look-up of the term answers from now on, what it finds itself, and equal to the term by what was asserted.
+        ensures id { IfOk result (λ a. look_up_term self.new term.now ≡ Some (to_applied a)) }
+        ensures found { IfOk result (λ a. IsFound self.new (to_applied a)) }
+        ensures equal { IfOk result (λ a. IsEqualToTerm self.new.image (to_applied a) term.now) }
+
+        // What was there stays, and nothing is asserted but what was asked for by the analysis.
+        ensures leaves { OnOk result (LeavesAsked N.codes N.meaning N.may_ask self.old self.new) }
+        ensures modified { OnOk result (AddsAndModifies N.codes N.meaning N.may_ask N.modifies self.old self.new) }
+        ensures extends { OnOk result (Extends self.old.image.canonical self.new.image.canonical) }
+        ensures more { N.modifies ≡ false → KnowsMore self.old.table self.new.table }
+
+        // If classes are never modified, and the term was looked up, nothing changes. Else its nodes are added from below, and each class that is
+        // made is what a subterm is looked up as from now on. Ids find what they found, and what was looked up is looked up as before.
+        ensures kept { N.modifies ≡ false → OnOk result (IsSome (look_up_term self.old term.now) → IsOneGraph self.old self.new) }
+        ensures nodes { N.modifies ≡ false → OnOk result (AddsNodes term.now self.old (term_nodes term.now) self.new) }
+        ensures filed { N.modifies ≡ false → OnOk result (FilesOnlyLookedUp self.old self.new term.now) }
+        ensures answers { N.modifies ≡ false → OnOk result (KeepsLookUps self.old self.new) }
+        ensures adds { N.modifies ≡ false → OnOk result (AddsClasses self.old.image self.new.image) }
+
+        // And if classes are made, fresh slots are made for their names, and for those that children lack.
+        ensures takes { N.modifies ≡ false → IsTrue self.old.failed ⊎ TakesForTerm term.now self.old self.new.table }
+        ensures full { N.modifies ≡ false → IsErrOf result Error.OutOfSlots → LacksForTerm term.now self.old self.new.table }
+        ensures carries { N.modifies ≡ false → OnOk result (CarriesData N.codes N.meaning self.old self.new) }
+
+        // A failed graph stays as it is.
+        ensures stays { IsTrue self.old.failed → self.new ≡ self.old }
+        ensures failed { IsErrOf result Error.Failed ↔ IsTrue self.old.failed }
+        ensures fails { IsTrue self.new.failed ↔ IsErr result }
+        ensures only { IfErr result (λ e. (e ≡ Error.Failed) ⊎ IsShortage e) }
+    {
+        if N::modifies() {
+            return self.add_expr_and_modify(term);
+        }
+        let answer = self.add_expr_quietly(term);
+        // It is asked for what each graph keeps that has not failed.
+        let _ = self.is_failed();
+        answer
+    }
+
+    // Adds a term by canonical nodes, and modifies classes.
+    fn add_syn_expr_and_modify(&mut self, term: &RecExpr<L>) -> Result<AppliedId, Error>
+        requires { IsTrue self.old.failed ⊎ IsValidTerm self.old.table term.now }
+        ensures valid { IfOk result (λ a. IsFullId self.new (to_applied a)) }
+        ensures term { IfOk result (λ a. term_of self.new.image.canonical (to_applied a) ≡ nameless term.now) }
+        ensures found { IfOk result (λ a. id_of_term self.new term.now ≡ Some (to_applied a)) }
+        ensures adds { OnOk result (AddsAndModifies N.codes N.meaning N.may_ask N.modifies self.old self.new) }
+        ensures stays { IsTrue self.old.failed → self.new ≡ self.old }
+        ensures failed { IsErrOf result Error.Failed ↔ IsTrue self.old.failed }
+        ensures fails { IsTrue self.new.failed ↔ IsErr result }
+        ensures only { IfErr result (λ e. (e ≡ Error.Failed) ⊎ IsShortage e) }
+    {
+        let id = self.add_syn_expr_quietly(term)?;
+        // It is asked for what each graph keeps that has not failed.
+        let _ = self.is_failed();
+        self.modify()?;
+        Ok(id)
+    }
+
+    /// Returns the id of a term, whose canonical term it is: from below, the class that was made with each node. If there is none, adds a class.
+    ///
+    /// Then classes are modified, as `modify` does.
+    pub fn add_syn_expr(&mut self, term: &RecExpr<L>) -> Result<AppliedId, Error>
+        requires { IsTrue self.old.failed ⊎ IsValidTerm self.old.table term.now }
+
+        // The answer is valid, stands for the term, and is what a look-up of the term answers from now on.
+        ensures valid { IfOk result (λ a. IsFullId self.new (to_applied a)) }
+        ensures term { IfOk result (λ a. term_of self.new.image.canonical (to_applied a) ≡ nameless term.now) }
+        ensures found { IfOk result (λ a. id_of_term self.new term.now ≡ Some (to_applied a)) }
+
+        // What was there stays, and nothing is asserted but what was asked for by the analysis.
+        ensures leaves { OnOk result (LeavesAsked N.codes N.meaning N.may_ask self.old self.new) }
+        ensures modified { OnOk result (AddsAndModifies N.codes N.meaning N.may_ask N.modifies self.old self.new) }
+        ensures extends { OnOk result (Extends self.old.image.canonical self.new.image.canonical) }
+        ensures more { N.modifies ≡ false → KnowsMore self.old.table self.new.table }
+
+        // If classes are never modified, and the term has an id, nothing changes. Each class that is made is what a subterm is looked up as from now
+        // on.
+        ensures kept { N.modifies ≡ false → OnOk result (IsSome (id_of_term self.old term.now) → IsOneGraph self.old self.new) }
+        ensures filed { N.modifies ≡ false → OnOk result (FilesOnlySubterms self.old self.new term.now) }
+        ensures adds { N.modifies ≡ false → OnOk result (AddsClasses self.old.image self.new.image) }
+
+        // And if classes are made, fresh slots are made for their names.
+        ensures takes { N.modifies ≡ false → MakesAtMost (term_slots term.now) self.old.table self.new.table }
+        ensures full { N.modifies ≡ false → IsErrOf result Error.OutOfSlots
+            → CanRunOutForTerm self.old.image term.now self.old.table self.new.table }
+        ensures unknown { N.modifies ≡ false → IsErrOf result Error.OutOfSlots → IsUnknownTerm self.old.image term.now }
+        ensures carries { N.modifies ≡ false → OnOk result (CarriesData N.codes N.meaning self.old self.new) }
+
+        // A failed graph stays as it is.
+        ensures stays { IsTrue self.old.failed → self.new ≡ self.old }
+        ensures failed { IsErrOf result Error.Failed ↔ IsTrue self.old.failed }
+        ensures fails { IsTrue self.new.failed ↔ IsErr result }
+        ensures only { IfErr result (λ e. (e ≡ Error.Failed) ⊎ IsShortage e) }
+    {
+        if N::modifies() {
+            return self.add_syn_expr_and_modify(term);
+        }
+        let answer = self.add_syn_expr_quietly(term);
+        // It is asked for what each graph keeps that has not failed.
+        let _ = self.is_failed();
+        answer
+    }
+}

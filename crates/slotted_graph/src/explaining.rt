@@ -1,0 +1,80 @@
+//! Explanations of two terms.
+ghost use Rattle.std.specs.Prelude.{◌≡◌, ◌⊎◌, ◌↔◌, ◌+◌, false, IsTrue, IfOk, IfErr, IsErr, IsErrOf};
+ghost use Rattle.slotted_slots.specs.Error.{IsShortage};
+ghost use Rattle.slotted_slots.specs.Table.{KnowsMore};
+ghost use Rattle.slotted_terms.specs.Valid.{IsValidTerm};
+ghost use Rattle.slotted_core.specs.Explaining.{AddsTerms, Explains, FilesOnlyTerms, FindsApart, KeepsKnown, RunsOutForTerms};
+ghost use Rattle.slotted_core.specs.Graph.{MakesAtMost};
+ghost use Rattle.slotted_core.specs.Places.{term_slots};
+ghost use Rattle.slotted_graph.specs.Analysed.{CarriesData};
+ghost use Rattle.slotted_graph.specs.Extension.{ExtendsTo};
+
+use crate::egraph::EGraph;
+use slotted_analyses::Analysis;
+use slotted_languages::Language;
+use slotted_proofs::ProvenEq;
+use slotted_slots::Error;
+use slotted_terms::expr::RecExpr;
+
+impl<L: Language, N: Analysis<L>> EGraph<L, N> {
+    // Adds two terms, and modifies classes, before they are explained.
+    fn explain_after_edits(
+        &mut self,
+        left: &RecExpr<L>,
+        right: &RecExpr<L>,
+    ) -> Result<ProvenEq, Error>
+        requires left { IsTrue self.old.failed ⊎ IsValidTerm self.old.table left.now }
+        requires right { IsTrue self.old.failed ⊎ IsValidTerm self.old.table right.now }
+        ensures explains { IfOk result (Explains self.new.image left.now right.now) }
+        ensures not_equal { IsErrOf result Error.NotEqual → FindsApart self.new.image left.now right.now }
+        ensures extends { IsTrue self.new.failed ⊎ ExtendsTo self.old self.new }
+        ensures stays { IsTrue self.old.failed → self.new ≡ self.old }
+        ensures failed { IsErrOf result Error.Failed ↔ IsTrue self.old.failed }
+        ensures fails { IsTrue self.new.failed ↔ (IsErr result × ¬ IsErrOf result Error.NotEqual) }
+        ensures only { IfErr result (λ e. (e ≡ Error.Failed) ⊎ (e ≡ Error.NotEqual) ⊎ IsShortage e) }
+    {
+        self.add_syn_expr(left)?;
+        self.add_syn_expr(right)?;
+        self.explain_quietly(left, right)
+    }
+
+    /// Returns the proof that two terms are equal: the number of an entry of the proof list that says so of their ids. The terms are added
+    /// first, and they stay if the graph does not find them equal. Classes are modified before the graph is asked.
+    pub fn explain_equivalence(
+        &mut self,
+        left: &RecExpr<L>,
+        right: &RecExpr<L>,
+    ) -> Result<ProvenEq, Error>
+        requires left { IsTrue self.old.failed ⊎ IsValidTerm self.old.table left.now }
+        requires right { IsTrue self.old.failed ⊎ IsValidTerm self.old.table right.now }
+
+        // Each yes is explained, and `NotEqual` is answered exactly where the ids of the terms do not find alike. `NotEqual` does not fail the
+        // graph. What was there stays.
+        ensures explains { IfOk result (Explains self.new.image left.now right.now) }
+        ensures not_equal { IsErrOf result Error.NotEqual → FindsApart self.new.image left.now right.now }
+        ensures extends { IsTrue self.new.failed ⊎ ExtendsTo self.old self.new }
+
+        // If classes are never modified, nothing is asserted, and what found alike still does.
+        ensures adds { N.modifies ≡ false → IsTrue self.new.failed ⊎ AddsTerms self.old.image self.new.image }
+
+        // And each class that is made is what a subterm is looked up as from now on, and where both terms have ids there is none.
+        ensures filed { N.modifies ≡ false → IsTrue self.new.failed ⊎ FilesOnlyTerms self.old self.new left.now right.now }
+        ensures kept { N.modifies ≡ false → IsTrue self.new.failed ⊎ KeepsKnown self.old self.new left.now right.now }
+        ensures more { N.modifies ≡ false → KnowsMore self.old.table self.new.table }
+        ensures takes { N.modifies ≡ false
+            → MakesAtMost (term_slots left.now + term_slots right.now) self.old.table self.new.table }
+        ensures full { N.modifies ≡ false → IsErrOf result Error.OutOfSlots
+            → RunsOutForTerms self.old.image left.now right.now self.old.table self.new.table }
+        ensures carries { N.modifies ≡ false → IsTrue self.new.failed ⊎ CarriesData N.codes N.meaning self.old self.new }
+
+        ensures stays { IsTrue self.old.failed → self.new ≡ self.old }
+        ensures failed { IsErrOf result Error.Failed ↔ IsTrue self.old.failed }
+        ensures fails { IsTrue self.new.failed ↔ (IsErr result × ¬ IsErrOf result Error.NotEqual) }
+        ensures only { IfErr result (λ e. (e ≡ Error.Failed) ⊎ (e ≡ Error.NotEqual) ⊎ IsShortage e) }
+    {
+        if N::modifies() {
+            return self.explain_after_edits(left, right);
+        }
+        self.explain_quietly(left, right)
+    }
+}

@@ -1,0 +1,36 @@
+//! Merging values into the data of classes.
+ghost use Rattle.std.specs.Prelude.{◌≡◌, ◌⊎◌, ◌↔◌, ◌<◌, false, length, IsTrue, IfErr, IsErr, IsErrOf, OnOk};
+ghost use Rattle.slotted_slots.specs.Error.{IsShortage};
+ghost use Rattle.slotted_core.specs.LookUp.{HasSameClasses};
+ghost use Rattle.slotted_graph.specs.Analysed.{MergesData};
+ghost use Rattle.slotted_graph.specs.Writing.{LeavesAsked, MergesAndModifies};
+
+use crate::egraph::EGraph;
+use slotted_analyses::Analysis;
+use slotted_languages::Language;
+use slotted_slots::{Error, Id};
+
+impl<L: Language, N: Analysis<L>> EGraph<L, N> {
+    /// Merges a value into the data of the class that a class finds. From there values go upwards. Then classes are modified, as `modify` does.
+    pub fn merge_analysis_data(&mut self, id: Id, value: &N::Data) -> Result<(), Error>
+        requires { IsTrue self.old.failed ⊎ (id.0 < length self.old.image.canonical) }
+
+        // Data only goes down, and merging the value again changes nothing. What is asserted was asked for by the analysis.
+        ensures modified { OnOk result
+            (MergesAndModifies N.codes N.meaning N.may_ask N.modifies self.old self.new id.0 value.now) }
+        ensures leaves { OnOk result (LeavesAsked N.codes N.meaning N.may_ask self.old self.new) }
+
+        // If classes are never modified, nothing changes but data.
+        ensures merges { N.modifies ≡ false → OnOk result (MergesData N.codes N.meaning self.old self.new id.0 value.now) }
+        ensures same { N.modifies ≡ false → OnOk result (HasSameClasses self.old self.new) }
+
+        ensures stays { IsTrue self.old.failed → self.new ≡ self.old }
+        ensures failed { IsErrOf result Error.Failed ↔ IsTrue self.old.failed }
+        ensures fails { IsTrue self.new.failed ↔ IsErr result }
+        ensures only { IfErr result (λ e. (e ≡ Error.Failed) ⊎ IsShortage e) }
+    {
+        self.merge_data_quietly(id, value)?;
+        self.modify()?;
+        Ok(())
+    }
+}

@@ -1,0 +1,89 @@
+//! Rounds over the classes that wait to be modified.
+ghost use Rattle.std.specs.Prelude.{◌≡◌, ◌⊎◌, ◌↔◌, IsErr, IsErrOf, IsTrue, IfErr, IfOk};
+ghost use Rattle.slotted_slots.specs.Error.{IsShortage};
+ghost use Rattle.slotted_core.specs.Reports.{class_numbers};
+ghost use Rattle.slotted_graph.specs.States.{IsGraph};
+ghost use Rattle.slotted_graph.specs.Rounds.{LeavesModified, MakesRounds, Modifies, TakesRound};
+
+use crate::modifying::modify_class;
+use slotted_analyses::Analysis;
+use crate::egraph::EGraph;
+use slotted_languages::Language;
+use slotted_slots::{Error, Id};
+use std::alloc::Global;
+
+// These classes are modified in turn. Returns whether anything was asked for one of them.
+fn modify_each<L: Language, N: Analysis<L>>(
+    graph: &mut EGraph<L, N>,
+    alloc: Global,
+    ids: &[Id],
+) -> Result<bool, Error>
+    requires { IsGraph graph.old }
+    ensures modifies { IfOk result (λ y. Modifies N.codes N.meaning N.may_ask graph.old (class_numbers ids.now) graph.new y) }
+    ensures well { IfOk result (λ y. IsGraph graph.new) }
+    ensures fails { IsTrue graph.new.failed ↔ IsErr result }
+    ensures err { IfErr result IsShortage }
+{
+    let mut asked = false;
+    for id in ids {
+        if modify_class(graph, alloc, *id)? {
+            asked = true;
+        }
+    }
+    Ok(asked)
+}
+
+/// Makes one round: the live classes that wait are taken, and each is modified if it still lives. Returns whether anything was asked.
+pub fn modify_once<L: Language, N: Analysis<L>>(
+    graph: &mut EGraph<L, N>,
+    alloc: Global,
+) -> Result<bool, Error>
+    ensures round { IfOk result (λ y. TakesRound N.codes N.meaning N.may_ask graph.old graph.new y) }
+
+    // From this it follows that what was there stays, and that what is asserted is what edits say.
+    ensures leaves { IfOk result (λ y. LeavesModified N.codes N.meaning N.may_ask graph.old graph.new) }
+
+    ensures stays { IsTrue graph.old.failed → graph.new ≡ graph.old }
+    ensures failed { IsErrOf result Error.Failed ↔ IsTrue graph.old.failed }
+    ensures fails { IsTrue graph.new.failed ↔ IsErr result }
+    ensures only { IfErr result (λ e. (e ≡ Error.Failed) ⊎ IsShortage e) }
+{
+    if graph.is_failed() {
+        return Err(Error::Failed);
+    }
+    let ids = graph.take_pending()?;
+    // It is asked for what each graph keeps that has not failed.
+    let _ = graph.is_failed();
+    modify_each(graph, alloc, &ids)
+}
+
+/// Makes rounds until no live class waits to be modified, but no more than the limit. Returns whether anything was asked.
+pub fn modify_in_rounds<L: Language, N: Analysis<L>>(
+    graph: &mut EGraph<L, N>,
+    alloc: Global,
+    limit: usize,
+) -> Result<bool, Error>
+    ensures rounds { IfOk result (λ y. MakesRounds N.codes N.meaning N.may_ask limit graph.old graph.new y) }
+
+    // From this it follows that what was there stays, and that what is asserted is what edits say.
+    ensures leaves { IfOk result (λ y. LeavesModified N.codes N.meaning N.may_ask graph.old graph.new) }
+
+    ensures stays { IsTrue graph.old.failed → graph.new ≡ graph.old }
+    ensures failed { IsErrOf result Error.Failed ↔ IsTrue graph.old.failed }
+    ensures fails { IsTrue graph.new.failed ↔ IsErr result }
+    ensures only { IfErr result (λ e. (e ≡ Error.Failed) ⊎ IsShortage e) }
+{
+    if graph.is_failed() {
+        return Err(Error::Failed);
+    }
+    let mut asked = false;
+    for _ in 0..limit {
+        if graph.modify_pending() == 0 {
+            return Ok(asked);
+        }
+        if modify_once(graph, alloc)? {
+            asked = true;
+        }
+    }
+    Ok(asked)
+}

@@ -1,0 +1,124 @@
+//! Uniting ids.
+ghost use Rattle.std.specs.Prelude.{◌≡◌, ◌⊎◌, ◌↔◌, None, false, IsErr, IsErrOf, IsTrue, IfErr, IfOk, OnOk};
+ghost use Rattle.slotted_slots.specs.Error.{IsShortage};
+ghost use Rattle.slotted_proofs.specs.Equations.{to_applied};
+ghost use Rattle.slotted_store.specs.Kept.{text_bytes};
+ghost use Rattle.slotted_core.specs.Causes.{HasLargeClassIn};
+ghost use Rattle.slotted_core.specs.Graph.{RecordsUnion};
+ghost use Rattle.slotted_core.specs.Image.{IsUnion, FoundAlike};
+ghost use Rattle.slotted_core.specs.ValidIds.{IsValidId};
+ghost use Rattle.slotted_graph.specs.Analysed.{CarriesData};
+ghost use Rattle.slotted_graph.specs.Counted.{CountsUnion};
+ghost use Rattle.slotted_graph.specs.Extension.{ExtendsTo};
+ghost use Rattle.slotted_graph.specs.Measure.{NeverRises};
+ghost use Rattle.slotted_graph.specs.Writing.{UnitesAndModifies};
+
+use crate::egraph::EGraph;
+use slotted_analyses::Analysis;
+use slotted_languages::Language;
+use slotted_slots::{AppliedId, Error};
+
+impl<L: Language, N: Analysis<L>> EGraph<L, N> {
+    // Unites two ids, and modifies classes.
+    fn unite_and_modify(
+        &mut self,
+        l: &AppliedId,
+        r: &AppliedId,
+        text: Option<String>,
+    ) -> Result<bool, Error>
+        requires left { IsTrue self.old.failed ⊎ IsValidId self.old (to_applied l.now) }
+        requires right { IsTrue self.old.failed ⊎ IsValidId self.old (to_applied r.now) }
+        ensures unites { IfOk result
+            (UnitesAndModifies N.codes N.meaning N.may_ask N.modifies self.old self.new l.now r.now (text_bytes text)) }
+        ensures stays { IsTrue self.old.failed → self.new ≡ self.old }
+        ensures failed { IsErrOf result Error.Failed ↔ IsTrue self.old.failed }
+        ensures fails { IsTrue self.new.failed ↔ IsErr result }
+        ensures only { IfErr result (λ e. (e ≡ Error.Failed) ⊎ IsShortage e) }
+    {
+        let answer = self.union_quietly(l, r, text)?;
+        self.modify()?;
+        Ok(answer)
+    }
+
+    /// Unites two ids, because the caller says that they are equal. Returns whether they did not find alike before. They may lack names for
+    /// slots that unions dropped: what is asserted is the equation of any two ids that fill them by names apart.
+    ///
+    /// From now on both find one class with one set of names, and they find alike unless a symmetry of that class is open. Slots that
+    /// only one side has are dropped. Equal nodes over them are united too: what was asserted is closed under congruence again. Then classes are
+    /// modified, as `modify` does.
+    pub fn union(&mut self, l: &AppliedId, r: &AppliedId) -> Result<bool, Error>
+        requires left { IsTrue self.old.failed ⊎ IsValidId self.old (to_applied l.now) }
+        requires right { IsTrue self.old.failed ⊎ IsValidId self.old (to_applied r.now) }
+        ensures unites { IfOk result
+            (UnitesAndModifies N.codes N.meaning N.may_ask N.modifies self.old self.new l.now r.now None) }
+        ensures answer { IfOk result (λ y. IsTrue y ↔ (¬ FoundAlike self.old.image (to_applied l.now) (to_applied r.now))) }
+        ensures extends { OnOk result (ExtendsTo self.old self.new) }
+
+        // If classes are never modified, this is all that has changed.
+        ensures union { N.modifies ≡ false → IfOk result (IsUnion self.old.image self.new.image (to_applied l.now) (to_applied r.now)) }
+        ensures text { N.modifies ≡ false → OnOk result (RecordsUnion self.old self.new l.now r.now None) }
+
+        // And no node is filed anew where it answers false. No class is made, no more live, and where as many live, they have no more slots.
+        ensures filed { N.modifies ≡ false → IfOk result (λ y. y ≡ false → self.new.filed ≡ self.old.filed) }
+        ensures counts { N.modifies ≡ false → OnOk result (NeverRises self.old.image self.new.image) }
+
+        // The rebuild found no more e-nodes than were filed, and no greater size than the graph had.
+        ensures counted { N.modifies ≡ false → OnOk result (CountsUnion self.old self.new) }
+        ensures table { N.modifies ≡ false → self.new.table ≡ self.old.table }
+        ensures carries { N.modifies ≡ false → OnOk result (CarriesData N.codes N.meaning self.old self.new) }
+        ensures full { N.modifies ≡ false → IsErrOf result Error.OutOfSlots → HasLargeClassIn self.old.image }
+
+        ensures stays { IsTrue self.old.failed → self.new ≡ self.old }
+        ensures failed { IsErrOf result Error.Failed ↔ IsTrue self.old.failed }
+        ensures fails { IsTrue self.new.failed ↔ IsErr result }
+        ensures only { IfErr result (λ e. (e ≡ Error.Failed) ⊎ IsShortage e) }
+    {
+        self.union_justified(l, r, None)
+    }
+
+    /// Unites two ids as `union` does, with a text that says why.
+    pub fn union_justified(
+        &mut self,
+        l: &AppliedId,
+        r: &AppliedId,
+        text: Option<String>,
+    ) -> Result<bool, Error>
+        requires left { IsTrue self.old.failed ⊎ IsValidId self.old (to_applied l.now) }
+        requires right { IsTrue self.old.failed ⊎ IsValidId self.old (to_applied r.now) }
+
+        // The ids were united, and then classes were modified. If the equation was not proved before, it is a new entry, asserted with the text.
+        ensures unites { IfOk result
+            (UnitesAndModifies N.codes N.meaning N.may_ask N.modifies self.old self.new l.now r.now (text_bytes text)) }
+
+        // True or false as `eq` said no or yes before. What was there stays.
+        ensures answer { IfOk result (λ y. IsTrue y ↔ (¬ FoundAlike self.old.image (to_applied l.now) (to_applied r.now))) }
+        ensures extends { OnOk result (ExtendsTo self.old self.new) }
+
+        // If classes are never modified, this is all that has changed.
+        ensures union { N.modifies ≡ false → IfOk result (IsUnion self.old.image self.new.image (to_applied l.now) (to_applied r.now)) }
+        ensures text { N.modifies ≡ false → OnOk result (RecordsUnion self.old self.new l.now r.now (text_bytes text)) }
+
+        // And no node is filed anew where it answers false. No class is made, no more live, and where as many live, they have no more slots.
+        ensures filed { N.modifies ≡ false → IfOk result (λ y. y ≡ false → self.new.filed ≡ self.old.filed) }
+        ensures counts { N.modifies ≡ false → OnOk result (NeverRises self.old.image self.new.image) }
+
+        // The rebuild found no more e-nodes than were filed, and no greater size than the graph had.
+        ensures counted { N.modifies ≡ false → OnOk result (CountsUnion self.old self.new) }
+        ensures table { N.modifies ≡ false → self.new.table ≡ self.old.table }
+        ensures carries { N.modifies ≡ false → OnOk result (CarriesData N.codes N.meaning self.old self.new) }
+        ensures full { N.modifies ≡ false → IsErrOf result Error.OutOfSlots → HasLargeClassIn self.old.image }
+
+        ensures stays { IsTrue self.old.failed → self.new ≡ self.old }
+        ensures failed { IsErrOf result Error.Failed ↔ IsTrue self.old.failed }
+        ensures fails { IsTrue self.new.failed ↔ IsErr result }
+        ensures only { IfErr result (λ e. (e ≡ Error.Failed) ⊎ IsShortage e) }
+    {
+        if N::modifies() {
+            return self.unite_and_modify(l, r, text);
+        }
+        let answer = self.union_quietly(l, r, text);
+        // It is asked for what each graph keeps that has not failed.
+        let _ = self.is_failed();
+        answer
+    }
+}

@@ -1,8 +1,0 @@
-use Rattle.slotted_rounds.proofs.Saying.{graph-kept, unites-ids}
-use Rattle.slotted_rounds.proofs.editing.unite.Goals as goal
-
-pub returns-clause-ok : goal.returns-clause-ok
-returns-clause-ok g c =
-    let e = c.in_ok-union_justified.ensures in
-    unites-ids g.N.Analysis.codes g.N.Analysis.meaning c.args.graph.now c.union_justified.new.self c.args.left.now c.args.right.now _
-    (graph-kept c.union_justified.new.self c.is_failed.ensures.rests e.fails.0) c.requires.left c.requires.right e.union e.text c.union_justified.ensures.table e.carries

@@ -1,6 +1,0 @@
-use Rattle.slotted_rounds.specs.Rounds.{HasTakenRounds}
-use Rattle.slotted_rounds.proofs.rounds.modify_in_rounds.Given as goal
-
--- the rounds so far
-abbrev pub invariant-loop : goal.invariant-loop
-invariant-loop g l = HasTakenRounds g.N.Analysis.codes g.N.Analysis.may_ask l.fn.graph l.counter l.graph l.asked

@@ -1,4 +1,0 @@
--- What edits and rounds leave of a graph.
-pub mod Edited
-pub mod Asked
-pub mod Rounds
