@@ -1,3 +1,4 @@
 pub mod LeastSize
 pub mod ConstFold
 pub mod FoldLaws
+pub mod Marking

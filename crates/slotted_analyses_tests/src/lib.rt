@@ -8,6 +8,9 @@ mod folding;
 #[cfg(test)]
 mod graphs;
 pub mod least_size;
+pub mod marking;
 pub mod refusing;
 #[cfg(test)]
 mod rounds;
+#[cfg(test)]
+mod turning;
