@@ -5,6 +5,8 @@
 #[cfg(test)]
 mod callers;
 #[cfg(test)]
+mod deep;
+#[cfg(test)]
 mod large;
 #[cfg(test)]
 mod lines;
