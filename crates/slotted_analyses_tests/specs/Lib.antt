@@ -1,3 +1,2 @@
 pub mod LeastSize
-pub mod ConstFold
-pub mod FoldLaws
+pub mod LeastBinders

@@ -1,7 +1,7 @@
 //! Edits of constant folding, made in rounds.
-use crate::const_fold::{ConstFold, Fold};
 use crate::graphs::{empty, merge, put, tower, unite};
 use slotted_analyses::Analysis;
+use slotted_const_fold::{ConstFold, Fold};
 use slotted_costs::AstSize;
 use slotted_graph::EGraph;
 use slotted_rounds::{modify_in_rounds, modify_once};
