@@ -1,4 +1,3 @@
 pub mod LeastSize
-pub mod ConstFold
-pub mod FoldLaws
+pub mod LeastBinders
 pub mod Marking

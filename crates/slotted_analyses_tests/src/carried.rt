@@ -4,9 +4,9 @@ ghost use Rattle.slotted_store.specs.Kept.{nothing};
 ghost use Rattle.slotted_filing.specs.FiledRows.{no_rows};
 ghost use Rattle.slotted_analyses.specs.Meaning.{by_bare_nodes};
 ghost use Rattle.slotted_data.specs.Carrying.{DataRests};
-ghost use Rattle.slotted_analyses_tests.specs.ConstFold.{fold};
+ghost use Rattle.slotted_const_fold.specs.ConstFold.{fold};
 
-use crate::const_fold::{ConstFold, Fold};
+use slotted_const_fold::{ConstFold, Fold};
 use slotted_data::{ClassData, carry};
 use slotted_filing::Hashcons;
 use slotted_slots::Error;

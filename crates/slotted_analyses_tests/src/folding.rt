@@ -1,8 +1,9 @@
 //! What the worked analyses make, merge and ask, through their bound.
 use crate::carried::carried_nothing;
-use crate::const_fold::{ConstFold, Fold};
+use crate::least_binders::LeastBinders;
 use crate::least_size::LeastSize;
 use slotted_analyses::Analysis;
+use slotted_const_fold::{ConstFold, Fold};
 use slotted_languages::LanguageChildren;
 use slotted_slots::{AppliedId, Error, Id, SlotMap};
 use slotted_small::Small;
@@ -91,6 +92,19 @@ fn nodes_are_counted(rt: HostRuntime) -> Result<(), Error> {
     let sum = Small::Add(child(alloc, 0), child(alloc, 1));
     let size = made(alloc, &LeastSize, &sum, &[1, 3])?;
     assert!(&rt; size == Some(5));
+    Ok(())
+}
+
+#[test]
+fn binders_are_counted(rt: HostRuntime) -> Result<(), Error> {
+    let alloc = rt.alloc();
+    let sum = Small::Add(child(alloc, 0), child(alloc, 1));
+    let together = made(alloc, &LeastBinders, &sum, &[1, 3])?;
+    assert!(&rt; together == Some(4));
+    let largest = made(alloc, &LeastBinders, &sum, &[u32::MAX, 1])?;
+    assert!(&rt; largest == Some(u32::MAX));
+    let word = made(alloc, &LeastBinders, &Small::Number(7), &[])?;
+    assert!(&rt; word == Some(0));
     Ok(())
 }
 

@@ -1,8 +1,9 @@
 //! Graphs that keep data, told by texts.
-use crate::const_fold::{ConstFold, Fold};
+use crate::least_binders::LeastBinders;
 use crate::least_size::LeastSize;
 use crate::refusing::Refusing;
 use slotted_analyses::Analysis;
+use slotted_const_fold::{ConstFold, Fold};
 use slotted_graph::EGraph;
 use slotted_slots::{AppliedId, Error, SlotTable};
 use slotted_small::Small;
@@ -165,6 +166,17 @@ fn the_least_size_goes_upwards(rt: HostRuntime) -> Result<(), Error> {
         &[(text, "e"), ("(app (lam $x (var $x)) b)", "d")],
         "(lam $y (app (app (lam $x (var $x)) b) c))",
     )?;
+    assert!(&rt; after == 2);
+    Ok(())
+}
+
+#[test]
+fn the_fewest_binders_go_upwards(rt: HostRuntime) -> Result<(), Error> {
+    let alloc = rt.alloc();
+    let text = "(app (lam $x (app (var $x) (lam $y (var $y)))) (lam $z b))";
+    let before = told(alloc, LeastBinders, &[], text)?;
+    assert!(&rt; before == 3);
+    let after = told(alloc, LeastBinders, &[("(lam $p (var $p))", "i")], text)?;
     assert!(&rt; after == 2);
     Ok(())
 }

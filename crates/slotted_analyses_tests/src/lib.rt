@@ -1,12 +1,12 @@
-//! Worked analyses: constant folding over the written language, and the least size of a class over any language.
+//! Worked analyses: the least size of a class over any language, the least number of its binders, and tests of these and of constant folding.
 #![tactic(auto)]
 
 pub mod carried;
-pub mod const_fold;
 #[cfg(test)]
 mod folding;
 #[cfg(test)]
 mod graphs;
+pub mod least_binders;
 pub mod least_size;
 pub mod marking;
 pub mod refusing;

@@ -1,7 +1,7 @@
 //! Edits of constant folding, made in rounds at the end of each write.
-use crate::const_fold::{ConstFold, Fold};
 use crate::graphs::{datum, empty, merge, put, tower, unite};
 use slotted_analyses::Analysis;
+use slotted_const_fold::{ConstFold, Fold};
 use slotted_costs::AstSize;
 use slotted_graph::{EGraph, modify_once};
 use slotted_slots::Error;

@@ -8,8 +8,8 @@ use Rattle.slotted_analyses.specs.Meaning.{by_bare_nodes}
 use Rattle.slotted_data.specs.Held.{Held, no_values}
 use Rattle.slotted_data.specs.Carrying.{DataRests, RestedBefore}
 use Rattle.slotted_data.proofs.Resting.{nothing-rests-data, rested-itself}
-use Rattle.slotted_analyses_tests.specs.declared.const_fold.Fold.{Fold}
-use Rattle.slotted_analyses_tests.specs.ConstFold.{fold}
+use Rattle.slotted_const_fold.specs.declared.const_fold.Fold.{Fold}
+use Rattle.slotted_const_fold.specs.ConstFold.{fold}
 use Rattle.slotted_analyses_tests.proofs.carried.carried_nothing.Goals as goal
 
 pub carry-requires-clause-rests : goal.carry-requires-clause-rests

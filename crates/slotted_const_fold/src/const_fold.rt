@@ -2,7 +2,7 @@
 ghost use Rattle.std.specs.Prelude.{◌≡◌, ◌+◌, ◌*◌, ℕ, List, Option};
 ghost use Rattle.std.proofs.Common.{inl};
 ghost use Rattle.slotted_slots.specs.Error.{IsOutOfMemory};
-ghost use Rattle.slotted_analyses_tests.specs.ConstFold.{both, fold_merged, known_of};
+ghost use Rattle.slotted_const_fold.specs.ConstFold.{both, fold_merged, known_of};
 
 use slotted_analyses::{Analysis, Edit};
 use slotted_slots::{Error, Slot};
@@ -26,9 +26,9 @@ pub enum Fold {
 pub struct ConstFold;
 
 impl Analysis<Small> for ConstFold {
-    ghost use Rattle.slotted_analyses_tests.specs.ConstFold.{AsksNumber, fold, fold_codes};
+    ghost use Rattle.slotted_const_fold.specs.ConstFold.{AsksNumber, fold, fold_codes};
+    ghost use Rattle.slotted_const_fold.specs.FoldLaws.{fold_merges};
     ghost use Rattle.std.specs.Prelude.{true};
-    ghost use Rattle.slotted_analyses_tests.specs.FoldLaws.{fold_merges};
     ghost use Rattle.std.proofs.Common.{rules};
 
     type Data = Fold;

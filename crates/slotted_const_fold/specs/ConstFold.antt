@@ -13,9 +13,9 @@ use Rattle.slotted_small.specs.declared.small.Small.{Small}
 use Rattle.slotted_theory.specs.Nameless.{DTerm}
 use Rattle.slotted_theory.specs.Term.{Term, done}
 use Rattle.slotted_analyses.specs.Meaning.{Meaning}
-use Rattle.slotted_analyses_tests.specs.declared.const_fold.ConstFold.{ConstFold}
-use Rattle.slotted_analyses_tests.specs.declared.const_fold.Fold.{Fold}
-use Rattle.slotted_analyses_tests.specs.declared.const_fold.Fold.TheVariants.{None, Number, Conflict}
+use Rattle.slotted_const_fold.specs.declared.const_fold.ConstFold.{ConstFold}
+use Rattle.slotted_const_fold.specs.declared.const_fold.Fold.{Fold}
+use Rattle.slotted_const_fold.specs.declared.const_fold.Fold.TheVariants.{None, Number, Conflict}
 
 -- a number that 32 bits hold
 abbrev pub fitting : ℕ → Fold

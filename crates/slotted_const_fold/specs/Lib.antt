@@ -1,0 +1,2 @@
+pub mod ConstFold
+pub mod FoldLaws

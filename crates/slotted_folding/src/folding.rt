@@ -1,0 +1,89 @@
+//! A term, and what the rules of arithmetic and the folding of constants make of it.
+use crate::rules::{Rule, arithmetic};
+use slotted_analyses::Analysis;
+use slotted_const_fold::ConstFold;
+use slotted_extract::ast_size_extract;
+use slotted_graph::EGraph;
+use slotted_rules::are_valid;
+use slotted_runs::{Clock, NoHook, Runner, StopReason};
+use slotted_slots::{AppliedId, Error, SlotTable};
+use slotted_small::Small;
+use std::alloc::Global;
+use std::convert::Infallible;
+
+/// The runner of a term. Its graph keeps what numbers classes come to, and makes them equal.
+pub type Folder<K> = Runner<Small, ConstFold, (), Infallible, NoHook, K>;
+
+/// What a term folds to.
+#[derive(Drop)]
+pub struct Folded {
+    /// A smallest term that equals it.
+    pub term: String,
+    /// How many e-classes the graph has.
+    pub classes: usize,
+    /// How many e-nodes these have.
+    pub nodes: usize,
+    /// Whether the last turn changed nothing.
+    pub is_saturated: bool,
+}
+
+// The id of the term that a text writes.
+fn put<N: Analysis<Small>>(graph: &mut EGraph<Small, N>, text: &str) -> Result<AppliedId, Error> {
+    let term = graph.parse_expr(text)?;
+    graph.add_expr(&term)
+}
+
+// Runs rules, and returns whether the last turn changed nothing.
+fn run_rules<K: Clock>(folder: &mut Folder<K>, rules: &[Rule]) -> Result<bool, Error> {
+    if !are_valid(&folder.egraph, rules) {
+        return Err(Error::Failed);
+    }
+    let report = folder.run(rules)?;
+    Ok(matches!(report.stop_reason, StopReason::Saturated))
+}
+
+// Runs the rules of arithmetic.
+fn saturate<K: Clock>(alloc: Global, folder: &mut Folder<K>) -> Result<bool, Error> {
+    let rules = arithmetic(alloc, &mut folder.egraph)?;
+    run_rules(folder, &rules)
+}
+
+// The text of a smallest term that an id represents.
+fn smallest<N: Analysis<Small>>(
+    alloc: Global,
+    graph: &mut EGraph<Small, N>,
+    id: &AppliedId,
+) -> Result<String, Error> {
+    if !graph.is_valid(id) {
+        return Err(Error::Failed);
+    }
+    let term = ast_size_extract(alloc, id, graph)?;
+    term.text(alloc, graph.table())
+}
+
+// Folds the term of a text in a runner's graph.
+fn fold_in<K: Clock>(alloc: Global, folder: &mut Folder<K>, text: &str) -> Result<Folded, Error> {
+    let id = put(&mut folder.egraph, text)?;
+    let is_saturated = saturate(alloc, folder)?;
+    let classes = folder.egraph.ids()?.len();
+    let nodes = folder.egraph.total_number_of_nodes();
+    let term = smallest(alloc, &mut folder.egraph, &id)?;
+    Ok(Folded {
+        term,
+        classes,
+        nodes,
+        is_saturated,
+    })
+}
+
+/// Folds the term of a text in a graph of its own. The rules run until a turn changes nothing, or until more turns are stored than the limit.
+pub fn fold<K: Clock>(
+    alloc: Global,
+    clock: K,
+    text: &str,
+    turn_limit: usize,
+) -> Result<Folded, Error> {
+    let runner = Runner::new(alloc, SlotTable::new(alloc), ConstFold, clock)?;
+    let mut folder: Folder<K> = runner.with_iter_limit(turn_limit);
+    fold_in(alloc, &mut folder, text)
+}
