@@ -1,6 +1,6 @@
 -- What is known of a pattern whose nodes are all known.
 use Rattle.std.proofs.Common.{◌≡◌, ◌↔◌, ◌∙◌, ℕ, List, [], ◌∷◌, Bool, true, false, refl, sym, ap, length}
-use Rattle.std.specs.Prelude.{◌&&◌, IsTrue}
+use Rattle.std.specs.Prelude.{not, ◌&&◌, ◌||◌, IsTrue, is_some}
 use Rattle.std.specs.List.{list_all}
 use Rattle.std.proofs.Math.Dec.{ltb}
 use Rattle.std.proofs.lemmas.Bool.{false≢true, lt-ltb}
@@ -10,7 +10,10 @@ use Rattle.slotted_nodes.specs.Form.{Form, IsSmall}
 use Rattle.slotted_patterns.specs.Known.{AreKnown, HasKnownNames, HaveKnownNames}
 use Rattle.slotted_patterns.specs.Tree.{PatternTree, PatternRow, enode, pvar, substitution, no_more, one_more}
 use Rattle.slotted_terms.specs.Valid.{AllKnown}
-use Rattle.slotted_graph.specs.KnownPatterns.{knows_node, knows_pattern, know_row, HasSmallNodes, HaveSmallNodes}
+use Rattle.slotted_rule_patterns.specs.Inside.{first_such}
+use Rattle.slotted_rule_patterns.proofs.FirstInside.{asked-node, asked-row, asked-substitution, row_such}
+use Rattle.slotted_rule_patterns.proofs.Questions.{neither, or-false, twice}
+use Rattle.slotted_graph.specs.KnownPatterns.{is_unknown, knows_node, knows_pattern, know_row, HasSmallNodes, HaveSmallNodes}
 
 both-true : (x y : Bool) → (x && y) ≡ true → (x ≡ true) × (y ≡ true)
 both-true true y e = (refl, e)
@@ -53,6 +56,26 @@ node-known t f b small same = decide b refl (list_all (is_known t) f.names) refl
     decide false e false l = e ∙ sym (ap (λ x. x && list_all (is_known t) f.names) (lt-ltb (length f.names) slot_limit small) ∙ l)
 
 module _ (t : Table) where
+  -- each node is known exactly if no pattern inside is one that is not
+  mutual
+    pub asks-unknown : (p : PatternTree) → not (is_some (first_such (is_unknown t) p)) ≡ knows_pattern t p
+    asks-unknown (enode f row) =
+        let q = is_unknown t in
+        ap not (asked-node q f row)
+        ∙ (neither (is_some (row_such q row)) (not (knows_node t f)) ∙ (λ i. asks-unknowns row i && twice (knows_node t f) i))
+    asks-unknown (pvar v) = refl
+    asks-unknown (substitution b x v) =
+        let q = is_unknown t in
+        ap not (asked-substitution q b x v ∙ ap (λ c. is_some (first_such q b) || (is_some (first_such q x) || c)) (or-false (is_some (first_such q v))))
+        ∙ (neither (is_some (first_such q b)) (is_some (first_such q x) || is_some (first_such q v))
+        ∙ (λ i. asks-unknown b i && (neither (is_some (first_such q x)) (is_some (first_such q v)) ∙ (λ j. asks-unknown x j && asks-unknown v j)) i))
+
+    asks-unknowns : (row : PatternRow) → not (is_some (row_such (is_unknown t) row)) ≡ know_row t row
+    asks-unknowns no_more = refl
+    asks-unknowns (one_more p rest) =
+        ap not (asked-row (is_unknown t) p rest)
+        ∙ (neither (is_some (first_such (is_unknown t) p)) (is_some (row_such (is_unknown t) rest)) ∙ (λ i. asks-unknown p i && asks-unknowns rest i))
+
   mutual
     pub knows-known : (p : PatternTree) → knows_pattern t p ≡ true → HasKnownNames t p
     knows-known (enode f row) e =

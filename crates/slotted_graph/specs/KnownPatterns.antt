@@ -1,8 +1,9 @@
 -- Patterns that a graph can be asked for.
 --     knows_node t f      the node f has fewer than 2^30 places, and the table knows the name at each
+--     is_unknown t p      the pattern p is a node that is not known so
 --     knows_pattern t p   it knows each node of the pattern so
 --     HasSmallNodes p     each node of the pattern has fewer than 2^30 places
-use Rattle.std.specs.Prelude.{Bool, true, ◌&&◌}
+use Rattle.std.specs.Prelude.{Bool, true, false, not, ◌&&◌}
 use Rattle.std.specs.List.{list_all}
 use Rattle.std.proofs.Math.Dec.{ltb}
 use Rattle.slotted_slots.specs.Table.{Table, is_known, slot_limit}
@@ -12,6 +13,11 @@ use Rattle.std.specs.Prelude.{length}
 
 abbrev pub knows_node : Table → Form → Bool
 knows_node t f = ltb (length f.names) slot_limit && list_all (is_known t) f.names
+
+abbrev pub is_unknown : Table → PatternTree → Bool
+is_unknown t (enode f row) = not (knows_node t f)
+is_unknown t (pvar v) = false
+is_unknown t (substitution b x v) = false
 
 abbrev mutual
   pub knows_pattern : Table → PatternTree → Bool

@@ -1,20 +1,14 @@
 -- The program of a node: its step, and then those of its child patterns from the left.
-use Rattle.std.proofs.Common.{◌≡◌, ℕ, zero, suc, ◌+◌, ◌<◌, ◌≤◌, List, [], ◌∷◌, ◌++◌, length, take, drop, map, Bool, true, false, refl, sym, ap, ◌∙◌, subst, arith, inl, inr, get_or, append_assoc, length-append, length-drop, length-take, Some, None, Vec}
-use Rattle.std.specs.Prelude.{◌||◌, ◌==◌, if◌then◌else◌, option_and_then}
+use Rattle.std.proofs.Common.{◌≡◌, ℕ, suc, ◌+◌, List, [], ◌∷◌, ◌++◌, length, take, drop, Bool, true, false, refl, sym, ap, ◌∙◌, subst, arith, inl, inr, append_assoc, length-append, length-drop, length-take, Some, None, Vec}
+use Rattle.std.specs.Prelude.{◌==◌, if◌then◌else◌}
 use Rattle.std.proofs.lemmas.Bool.{eqb-true}
 use Rattle.std.specs.declared.alloc.Global.{Global}
-use Rattle.std.proofs.lemmas.List.{length-map, append-nil, take_all, take-append-drop}
+use Rattle.std.proofs.lemmas.List.{append-nil, take-append-drop}
 use Rattle.slotted_nodes.specs.Form.{Form, Tree, leaf, own, child, bind, scopes, children}
-use Rattle.slotted_patterns.specs.Tree.{PatternTree, enode, PatternRow, row_of}
-use Rattle.slotted_patterns.specs.View.{tree_of}
-use Rattle.slotted_patterns.specs.declared.pattern.Pattern.{Pattern as Term, ENode}
-use Rattle.slotted_rule_patterns.specs.Variables.{has_substitution, have_substitution}
-use Rattle.slotted_rule_patterns.proofs.Rows.{tree_of-node}
-use Rattle.slotted_rule_patterns.proofs.Sizes.{pattern_size, size-in-row}
-use Rattle.slotted_rule_patterns.proofs.Whole.{length-patterns}
+use Rattle.slotted_patterns.specs.Tree.{PatternTree}
 use Rattle.slotted_model_rules.specs.Patterns.{Pattern, variable}
-use Rattle.slotted_rule_patterns.specs.PatternCode.{filled_pattern, pattern_over, pattern_in, patterns_in}
-use Rattle.slotted_rule_patterns.proofs.Parts.{node-parts, first-parts, node_of}
+use Rattle.slotted_rule_patterns.specs.PatternCode.{filled_pattern, pattern_over}
+use Rattle.slotted_rule_patterns.proofs.Parts.{node_of}
 use Rattle.slotted_match_machine.specs.declared.program.Source.{Source}
 use Rattle.slotted_match_machine.specs.declared.program.Step.{Step}
 use Rattle.slotted_match_machine.specs.declared.program.Step.TheVariants.{Node, Variable}
@@ -66,36 +60,6 @@ children-filled (bind u r) xs ps n =
     ++ children-filled r (drop m (drop 1 xs)) (drop k ps) (omega (arith, total, length-drop k ps)) j)
     ∙ take-append-drop k ps
 
--- patterns in a row, one more at the end
-pub placed-push : (register k : ℕ) (ps : List Pattern) (p : Pattern) (n : ℕ) → n ≡ k + length ps → placed register k (ps ++ p ∷ []) ≡ placed register k ps ++ (p, record { register = register; child = n }) ∷ []
-placed-push register k [] p n e = ap (λ m. (p, record { register = register; child = m }) ∷ []) (omega (arith, e))
-placed-push register k (q ∷ ps) p n e = ap (λ l. (q, record { register = register; child = k }) ∷ l) (placed-push register (suc k) ps p n (omega (arith, e)))
-
--- the pattern at a place of a row
-pub record IsNextOf (all : List Pattern) (t : PatternTree) (k : ℕ) : Type 0 where
-  pub pattern : Pattern
-  pub is : pattern_in t ≡ Some pattern
-  pub more : take (k + 1) all ≡ take k all ++ pattern ∷ []
-  pub count : length (take k all) ≡ k
-
-later : (k : ℕ) → suc k + 1 ≡ suc (k + 1)
-later k = omega arith
-
-pub next-of : {A : Type 0} (tree : A → PatternTree) (es : List A) (all : List Pattern) (k : ℕ) (e : A) → k < length es → e ≡ get_or es k e → patterns_in (row_of (map tree es)) ≡ Some all → IsNextOf all (tree e) k
-next-of tree [] all k e l at is = absurd (omega (arith, l))
-next-of tree (a ∷ es) all zero e l at is =
-    let f = first-parts (tree a) (row_of (map tree es)) all is in
-    record { pattern = f.first; is = ap (λ x. pattern_in (tree x)) at ∙ f.first_is; more = ap (take 1) f.is; count = refl }
-next-of tree (a ∷ es) all (suc k) e l at is =
-    let f = first-parts (tree a) (row_of (map tree es)) all is in
-    let n = next-of tree es f.others k e (omega (arith, l)) at f.others_are in
-    record {
-      pattern = n.pattern;
-      is = n.is;
-      more = (λ j. take (later k j) (f.is j)) ∙ (ap (λ l. f.first ∷ l) n.more ∙ ap (λ x. take (suc k) x ++ n.pattern ∷ []) (sym f.is));
-      count = ap (λ x. length (take (suc k) x)) f.is ∙ ap suc n.count;
-    }
-
 -- whether the node f is over the patterns ps
 over-parts : (f : Form) (ps : List Pattern) (p : Pattern) → pattern_over f ps ≡ Some p → (length ps ≡ length (children f.tree)) × (p ≡ node_of f ps)
 over-parts f ps p e = by (length ps == length (children f.tree)) refl e
@@ -112,62 +76,23 @@ module _ (S : List Form) where
     seen = seen;
     register_is = refl;
     next = next ∙ omega arith;
-    finds = λ ps p over e adds.
+    finds = λ ps p over e later adds.
         let o = over-parts f ps p over in
         record {
           more = Node outline slots from ∷ adds.more;
           steps = adds.steps ∙ (ap (λ l. l ++ adds.more) steps ∙ append_assoc c.steps (Node outline slots from ∷ []) adds.more);
           finds = λ variables rest others is.
-              let after : IsProgramFor (IsPlaceOutline S) variables d.next d.seen (adds.more ++ rest) (placed c.next 0 ps ++ others) = adds.finds variables rest others is in
-              let here : IsProgramFor (IsPlaceOutline S) variables (suc c.next) c.seen (adds.more ++ rest) (placed c.next 0 ps ++ others) =
-              subst (λ n. IsProgramFor (IsPlaceOutline S) variables n c.seen (adds.more ++ rest) (placed c.next 0 ps ++ others)) (next ∙ omega arith)
-              (subst (λ s. IsProgramFor (IsPlaceOutline S) variables d.next s (adds.more ++ rest) (placed c.next 0 ps ++ others)) seen after) in
-              subst (λ q. IsProgramFor (IsPlaceOutline S) variables c.next c.seen (Node outline slots from ∷ (adds.more ++ rest)) ((q, from) ∷ others)) (sym o.1)
+              let goals = placed c.next 0 ps ++ (later ++ others) in
+              let after : IsProgramFor (IsPlaceOutline S) variables d.next d.seen (adds.more ++ rest) goals =
+              subst (IsProgramFor (IsPlaceOutline S) variables d.next d.seen (adds.more ++ rest)) (append_assoc (placed c.next 0 ps) later others) (adds.finds variables rest others is) in
+              let here : IsProgramFor (IsPlaceOutline S) variables (suc c.next) c.seen (adds.more ++ rest) goals =
+              subst (λ n. IsProgramFor (IsPlaceOutline S) variables n c.seen (adds.more ++ rest) goals) (next ∙ omega arith)
+              (subst (λ s. IsProgramFor (IsPlaceOutline S) variables d.next s (adds.more ++ rest) goals) seen after) in
+              subst (λ q. IsProgramFor (IsPlaceOutline S) variables c.next c.seen (Node outline slots from ∷ (adds.more ++ rest)) ((q, from) ∷ (later ++ others))) (sym o.1)
               (enters (f, ps, over ∙ ap Some o.1, place) (names ∙ own-common f.tree f.names ps o.0)
-              (subst (λ qs. IsProgramFor (IsPlaceOutline S) variables (suc c.next) c.seen (adds.more ++ rest) (placed c.next 0 qs ++ others)) (sym (children-filled f.tree f.names ps o.0)) here));
+              (subst (λ qs. IsProgramFor (IsPlaceOutline S) variables (suc c.next) c.seen (adds.more ++ rest) (placed c.next 0 qs ++ (later ++ others))) (sym (children-filled f.tree f.names ps o.0)) here));
         };
   }
-
--- a pattern without substitutions has none in its child patterns
-or-false : (a b : Bool) → (a || b) ≡ false → (a ≡ false) × (b ≡ false)
-or-false true b e = absurd (cc)
-or-false false b e = (refl, e)
-
-plain-at : {A : Type 0} (tree : A → PatternTree) (es : List A) (k : ℕ) (e : A) → k < length es → e ≡ get_or es k e → have_substitution (row_of (map tree es)) ≡ false → has_substitution (tree e) ≡ false
-plain-at tree [] k e l at h = absurd (omega (arith, l))
-plain-at tree (a ∷ es) zero e l at h = ap (λ x. has_substitution (tree x)) at ∙ (or-false (has_substitution (tree a)) (have_substitution (row_of (map tree es))) h).0
-plain-at tree (a ∷ es) (suc k) e l at h = plain-at tree es k e (omega (arith, l)) at (or-false (has_substitution (tree a)) (have_substitution (row_of (map tree es))) h).1
-
-module _ {L : Type 0} (form : L → Form) (p : Term L) (n : L) (ps : Vec (Term L) Global) (is : p ≡ ENode n ps) (es : List (Term L)) (listed : es ≡ ps.items) where
-  abbrev row : PatternRow
-  row = row_of (map (tree_of form) es)
-
-  view : tree_of form p ≡ enode (form n) row
-  view = tree_of-node form p n ps is ∙ ap (λ xs. enode (form n) (row_of (map (tree_of form) xs))) (sym listed)
-
-  pub plain-child : (k : ℕ) (e : Term L) → k < length es → e ≡ get_or es k e → has_substitution (tree_of form p) ≡ false → has_substitution (tree_of form e) ≡ false
-  plain-child k e l at h = plain-at (tree_of form) es k e l at (sym (ap has_substitution view) ∙ h)
-
-  pub smaller-child : (k : ℕ) (e : Term L) → k < length es → e ≡ get_or es k e → pattern_size (tree_of form e) < pattern_size (tree_of form p)
-  smaller-child k e l at = let le = size-in-row (tree_of form) es k e l at in omega (arith, le, ap pattern_size view)
-
-  module _ (S : List Form) (c entered : Compiling) (from : Source) (register : ℕ) where
-    -- of the first child patterns
-    abbrev pub AddsChildren : Compiling → ℕ → Type 0
-    AddsChildren d k = (all : List Pattern) → patterns_in (row_of (map (tree_of form) es)) ≡ Some all → Adds S entered d (placed register 0 (take k all))
-
-    pub child-added : (d e : Compiling) (k : ℕ) (q : Term L) → k < length es → q ≡ get_or es k q → AddsChildren d k → AddsPattern S d e (tree_of form q) (record { register = register; child = k }) → AddsChildren e (k + 1)
-    child-added d e k q l at before here all are =
-        let n = next-of (tree_of form) es all k q l at are in
-        subst (Adds S entered e) (sym (ap (placed register 0) n.more ∙ placed-push register 0 (take k all) n.pattern k (sym n.count ∙ omega arith)))
-        (adds-then S entered d e (placed register 0 (take k all)) ((n.pattern, record { register = register; child = k }) ∷ []) (before all are) (here n.pattern n.is))
-
-    pub node-added : (d : Compiling) (k : ℕ) → length es ≤ k → Enters S c entered (form n) from register → AddsChildren d k → AddsPattern S c d (tree_of form p) from
-    node-added d k le node all p is =
-        let o = node-parts (form n) row p (sym (ap pattern_in view) ∙ is) in
-        let count : length o.patterns ≤ k = omega (arith, le, length-patterns (map (tree_of form) es) o.patterns o.are, length-map es (tree_of form)) in
-        node.finds o.patterns p (ap (λ z. option_and_then (pattern_over (form n)) z) (sym o.are) ∙ (sym (ap pattern_in view) ∙ is)) d
-        (subst (λ xs. Adds S entered d (placed register 0 xs)) (take_all k o.patterns count) (all o.patterns o.are))
 
 -- all steps of a pattern
 pub compiled : (S : List Form) (c d : Compiling) (steps : List Step) (variables : List (List ℕ)) (t : PatternTree) → c ≡ nothing → steps ≡ d.steps → variables ≡ d.seen → AddsPattern S c d t root → IsCompiled S t steps variables

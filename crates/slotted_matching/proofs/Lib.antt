@@ -11,6 +11,7 @@ pub mod AnswersOver
 pub mod Names
 pub mod OwnSlots
 pub mod Compiling
+pub mod WantedPatterns
 pub mod VariableNumbers
 pub mod SourceRows
 pub mod IndexedClasses

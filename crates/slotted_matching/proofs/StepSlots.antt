@@ -1,5 +1,5 @@
 -- The slots of a pattern are those of its steps, and stand in it.
-use Rattle.std.proofs.Common.{◌≡◌, ℕ, zero, suc, ◌+◌, ◌<◌, List, [], ◌∷◌, ◌++◌, length, take, drop, map, sym, ap, ◌∙◌, subst, arith, inl, inr, get_or, slice_index, length-append, Vec}
+use Rattle.std.proofs.Common.{◌≡◌, ℕ, ◌+◌, List, [], ◌∷◌, ◌++◌, length, take, drop, sym, ap, ◌∙◌, subst, arith, inl, inr, slice_index, length-append, Vec}
 use Rattle.std.specs.Prelude.{Contains, IsTrue}
 use Rattle.std.specs.declared.alloc.Global.{Global}
 use Rattle.std.proofs.lemmas.List.Elements.{Contains-append_left, Contains-append_right, Contains-append_cases, Contains-push_cases}
@@ -8,12 +8,11 @@ use Rattle.slotted_nodes.specs.Form.{Form, Tree, leaf, own, child, bind, scopes}
 use Rattle.slotted_languages.specs.Outline.{outlined_names}
 use Rattle.slotted_languages.proofs.NodeTerms.{own_fits, child_rest_fits, bind_inner_fits, bind_rest_fits}
 use Rattle.slotted_model.proofs.Members.{In, In-append, In-Contains}
-use Rattle.slotted_patterns.specs.Tree.{PatternTree, row_of}
-use Rattle.slotted_patterns.specs.Known.{AreKnown, HasKnownNames, HaveKnownNames}
+use Rattle.slotted_patterns.specs.Known.{AreKnown}
 use Rattle.slotted_match_machine.specs.declared.program.Source.{Source}
 use Rattle.slotted_match_machine.specs.declared.program.Step.{Step}
 use Rattle.slotted_match_machine.specs.declared.program.Step.TheVariants.{Node, Variable}
-use Rattle.slotted_matching.specs.Compiled.{AreFewer, BeginsWith, HoldsSlots, HasWideNode, HaveWideNode, KnowsEach, common_names, pattern_names}
+use Rattle.slotted_matching.specs.Compiled.{AreFewer, BeginsWith, HoldsSlots, KnowsEach, common_names, pattern_names}
 use Rattle.slotted_matching.proofs.KeyNames.{In-drop, In-first, In-take}
 use Rattle.slotted_matching.proofs.OwnSlots.{both-first, common-append, same-outlines}
 
@@ -94,18 +93,6 @@ knows-node t f old new fits e known before y c =
       | inl i ↦ before y i
       | inr i ↦ known-in t f.names y known (common-in f.tree f.names y fits (In-Contains (pattern_names f) y i))
     ]
-
--- known names of a child pattern
-pub names-at : {A : Type 0} (t : Table) (tree : A → PatternTree) (es : List A) (k : ℕ) (e : A) → k < length es → e ≡ get_or es k e → HaveKnownNames t (row_of (map tree es)) → HasKnownNames t (tree e)
-names-at t tree [] k e l at h = absurd (omega (arith, l))
-names-at t tree (a ∷ es) zero e l at h = subst (λ x. HasKnownNames t (tree x)) (sym at) h.0
-names-at t tree (a ∷ es) (suc k) e l at h = names-at t tree es k e (omega (arith, l)) at h.1
-
--- a wide node of a child pattern
-pub wide-at : {A : Type 0} (tree : A → PatternTree) (es : List A) (k : ℕ) (e : A) → k < length es → e ≡ get_or es k e → HasWideNode (tree e) → HaveWideNode (row_of (map tree es))
-wide-at tree [] k e l at h = absurd (omega (arith, l))
-wide-at tree (a ∷ es) zero e l at h = inl (subst (λ x. HasWideNode (tree x)) at h)
-wide-at tree (a ∷ es) (suc k) e l at h = inr (wide-at tree es k e (omega (arith, l)) at h)
 
 pub knows-none : (t : Table) (slots : List ℕ) → slots ≡ [] → KnowsEach t slots
 knows-none t slots e y c = let d = subst (λ l. Contains l y) e c in absurd (omega (arith, d.1))

@@ -105,7 +105,7 @@ pub record Enters (S : List Form) (c d : Compiling) (f : Form) (from : Source) (
   pub seen : d.seen ≡ c.seen
   pub register_is : register ≡ c.next
   pub next : d.next ≡ suc c.next
-  pub finds : (ps : List Pattern) (p : Pattern) → pattern_over f ps ≡ Some p → (e : Compiling) → Adds S d e (placed register 0 ps) → Adds S c e ((p, from) ∷ [])
+  pub finds : (ps : List Pattern) (p : Pattern) → pattern_over f ps ≡ Some p → (e : Compiling) (others : List Goal) → Adds S d e (placed register 0 ps ++ others) → Adds S c e ((p, from) ∷ others)
 
 -- the variables of the program in the order of their numbers
 abbrev pub IsCompiled : List Form → PatternTree → List Step → List (List ℕ) → Type 0

@@ -5,10 +5,12 @@ ghost use Rattle.slotted_slots.specs.Table.{Table};
 ghost use Rattle.slotted_patterns.specs.Known.{HasKnownNames};
 ghost use Rattle.slotted_nodes.specs.Form.{Form, IsSmall};
 ghost use Rattle.slotted_model_rules.specs.Patterns.{variable};
+ghost use Rattle.slotted_patterns.specs.Tree.{row_of};
 ghost use Rattle.slotted_patterns.specs.View.{tree_of};
 ghost use Rattle.slotted_rule_patterns.specs.PatternCode.{pattern_in};
 ghost use Rattle.slotted_rule_patterns.specs.Variables.{has_substitution};
 ghost use Rattle.slotted_matching.specs.Compiled.{Adds, AddsPattern, AddsSlots, BeginsWith, HoldsSlots, KnowsEach, Compiling, Enters, HasWideNode, nothing, IsCompiled, IsNumber, Numbers, common_names, pattern_names};
+ghost use Rattle.slotted_matching.specs.Wanted.{Opens, placed_in, wanted};
 ghost use Rattle.slotted_matching.specs.Skeletons.{HasFewPlaces, HasManyPlaces};
 
 use crate::skeletons::{Skeletons, has_many_places};
@@ -47,6 +49,34 @@ impl Model for Compiler {
     ghost view = { λ c. record { steps = c.steps.items; seen = map string_bytes c.variables.items; slots = c.slots.items; next = c.next } };
 
     ghost invariant = { λ c. AreFewer c.next (length c.steps.items) × HoldsSlots c.steps.items c.slots.items };
+}
+
+// A pattern that is still to be compiled, and where it is found.
+#[derive(Drop)]
+struct Wanted<'a, L: Language> {
+    pattern: &'a Pattern<L>,
+    from: Source,
+}
+
+// Adds the child patterns of the node that the register holds, the last one first.
+fn push_children<'a, L: Language>(
+    register: usize,
+    children: &'a [Pattern<L>],
+    left: &mut Vec<Wanted<'a, L>>,
+) -> Result<(), Error>
+    ensures ok { OnOk result (wanted L.form left.new.items
+        ≡ placed_in register 0 (row_of (map (tree_of L.form) children.now)) ++ wanted L.form left.old.items) }
+    ensures err { IfErr result IsOutOfMemory }
+{
+    let mut child = children.len();
+    while child > 0 {
+        child -= 1;
+        left.push(Wanted {
+            pattern: &children[child],
+            from: Source { register, child },
+        })?;
+    }
+    Ok(())
 }
 
 // The slots at the places where both nodes have the same one.
@@ -174,6 +204,32 @@ impl Compiler {
         Ok(register)
     }
 
+    // Adds the step of a pattern without those of its child patterns, which are added to what is left.
+    fn step<'a, L: Language>(
+        &mut self,
+        alloc: Global,
+        pattern: &'a Pattern<L>,
+        from: Source,
+        skeletons: &Skeletons<L>,
+        left: &mut Vec<Wanted<'a, L>>,
+    ) -> Result<(), Error>
+        requires { has_substitution (tree_of L.form pattern.now) ≡ false }
+        ensures ok { OnOk result (Opens skeletons.now self.old self.new (tree_of L.form pattern.now) from
+            (wanted L.form left.old.items) (wanted L.form left.new.items)) }
+        ensures slots { OnOk result (AddsSlots self.old.slots self.new.slots (tree_of L.form pattern.now)) }
+        ensures full { IsErrOf result Error.OutOfSlots → HasWideNode (tree_of L.form pattern.now) }
+        ensures err { IfErr result IsShortage }
+    {
+        match pattern {
+            Pattern::ENode(node, children) => {
+                let register = self.enter(alloc, node, from, skeletons)?;
+                push_children(register, children, left)
+            }
+            Pattern::PVar(name) => self.add_variable(alloc, name.as_str(), from),
+            Pattern::Subst(_, _, _) => unreachable!(),
+        }
+    }
+
     // Adds the steps of a pattern: of a node first, and then those of its child patterns from the left.
     fn add<L: Language>(
         &mut self,
@@ -188,20 +244,13 @@ impl Compiler {
         ensures full { IsErrOf result Error.OutOfSlots → HasWideNode (tree_of L.form pattern.now) }
         ensures err { IfErr result IsShortage }
     {
-        match pattern {
-            Pattern::ENode(node, children) => {
-                let register = self.enter(alloc, node, from, skeletons)?;
-                for (child, pattern) in children.iter().enumerate() {
-                    self.add(alloc, pattern, Source { register, child }, skeletons)?;
-                }
-                Ok(())
-            }
-            Pattern::PVar(name) => {
-                self.add_variable(alloc, name.as_str(), from)?;
-                Ok(())
-            }
-            Pattern::Subst(_, _, _) => unreachable!(),
+        let mut left = Vec::new(alloc);
+        left.push(Wanted { pattern, from })?;
+        while let Some(next) = left.pop() {
+            let Wanted { pattern, from } = next;
+            self.step(alloc, pattern, from, skeletons, &mut left)?;
         }
+        Ok(())
     }
 }
 

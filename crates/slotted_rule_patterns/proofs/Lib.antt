@@ -1,10 +1,11 @@
 -- Lemmas on patterns of a language, their variables and their values.
 pub mod Rows
 pub mod Sizes
-pub mod Variables
 pub mod Values
 pub mod Whole
 pub mod Parts
+pub mod FirstInside
+pub mod Questions
 pub mod TermCodes
 pub mod OutlineCodes
 pub mod EachVariable

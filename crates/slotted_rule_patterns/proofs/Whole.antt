@@ -1,16 +1,11 @@
 -- Patterns that have as many child patterns as children at each node.
-use Rattle.std.proofs.Common.{◌≡◌, ◌↔◌, ℕ, suc, ◌≤◌, List, [], ◌∷◌, length, map, Bool, true, false, refl, sym, ap, ◌∙◌, Vec, IsTrue}
-use Rattle.std.specs.Prelude.{Option, Some, None, is_some, IsSome, option_and_then, ◌==◌, if◌then◌else◌}
-use Rattle.std.specs.declared.alloc.Global.{Global}
-use Rattle.std.proofs.lemmas.List.{length-map}
+use Rattle.std.proofs.Common.{◌≡◌, ℕ, suc, List, [], ◌∷◌, length, Bool, true, false, refl, sym, ap, ◌∙◌}
+use Rattle.std.specs.Prelude.{Option, Some, None, is_some, option_and_then, ◌==◌, if◌then◌else◌}
 use Rattle.slotted_nodes.specs.Form.{Form, children}
 use Rattle.slotted_patterns.specs.Tree.{PatternTree, row_of}
-use Rattle.slotted_patterns.specs.View.{tree_of}
-use Rattle.slotted_patterns.specs.declared.pattern.Pattern.{Pattern, ENode}
 use Rattle.slotted_model.specs.LookUp.{both}
 use Rattle.slotted_model_rules.specs.Patterns.{Pattern as Code}
 use Rattle.slotted_rule_patterns.specs.PatternCode.{pattern_over, pattern_in, patterns_in}
-use Rattle.slotted_rule_patterns.proofs.Rows.{rest, rest-ended, tree_of-node}
 
 -- one pattern more
 one_more_here : (p : Option Code) (qs : Option (List Code)) (n : ℕ) → ((ps : List Code) → qs ≡ Some ps → length ps ≡ n) → (ps : List Code) → both (λ q qs. q ∷ qs) p qs ≡ Some ps → length ps ≡ suc n
@@ -28,23 +23,7 @@ counted true x = refl
 counted false x = refl
 
 -- a node over patterns that are whole
-is_some-over : (f : Form) (n : ℕ) (o : Option (List Code)) → is_some o ≡ true → ((ps : List Code) → o ≡ Some ps → length ps ≡ n) → is_some (option_and_then (pattern_over f) o) ≡ (n == length (children f.tree))
+pub is_some-over : (f : Form) (n : ℕ) (o : Option (List Code)) → is_some o ≡ true → ((ps : List Code) → o ≡ Some ps → length ps ≡ n) → is_some (option_and_then (pattern_over f) o) ≡ (n == length (children f.tree))
 is_some-over f n None h l = absurd (cc)
 is_some-over f n (Some ps) h l =
     counted (length ps == length (children f.tree)) _ ∙ ap (λ k. k == length (children f.tree)) (l ps refl)
-
-module _ {L : Type 0} (form : L → Form) (p : Pattern L) (n : L) (ps : Vec (Pattern L) Global) (is : p ≡ ENode n ps) where
-  -- the children were gone through, and each of them was whole
-  pub node-whole : (es : List (Pattern L)) (i count many : ℕ) → es ≡ ps.items → length es ≤ i
-      → is_some (patterns_in (row_of (map (tree_of form) es))) ≡ is_some (patterns_in (rest (tree_of form) es i))
-      → count ≡ length ps.items → many ≡ length (children (form n).tree)
-      → IsTrue (count == many) ↔ IsSome (pattern_in (tree_of form p))
-  node-whole es i count many listed le all c m =
-      let ts = map (tree_of form) ps.items in
-      let some : is_some (patterns_in (row_of ts)) ≡ true =
-      ap (λ es. is_some (patterns_in (row_of (map (tree_of form) es)))) (sym listed) ∙ (all ∙ ap (λ r. is_some (patterns_in r)) (rest-ended (tree_of form) es i le)) in
-      let same : is_some (pattern_in (tree_of form p)) ≡ (count == many) =
-      ap (λ t. is_some (pattern_in t)) (tree_of-node form p n ps is)
-      ∙ (is_some-over (form n) (length ts) (patterns_in (row_of ts)) some (length-patterns ts)
-      ∙ (λ j. (length-map ps.items (tree_of form) ∙ sym c) j == sym m j)) in
-      (λ h. same ∙ h, λ h. sym same ∙ h)

@@ -3,3 +3,4 @@ pub mod PatternCode
 pub mod Variables
 pub mod Values
 pub mod NodeArguments
+pub mod Inside

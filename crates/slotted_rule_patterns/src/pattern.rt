@@ -1,30 +1,53 @@
 //! What rules ask of patterns before anything is matched or built.
 ghost use Rattle.std.specs.Prelude.{◌≡◌, ◌↔◌, ℕ, List, Bool, IsSome, IsTrue, option_map};
 ghost use Rattle.slotted_patterns.specs.View.{tree_of};
+ghost use Rattle.slotted_rule_patterns.specs.Inside.{is_miscounted, is_named, is_outside, is_substitution, name_in};
 ghost use Rattle.slotted_rule_patterns.specs.PatternCode.{pattern_in};
 ghost use Rattle.slotted_rule_patterns.specs.Values.{values_of};
 ghost use Rattle.slotted_rule_patterns.specs.Variables.{has_substitution, has_value, has_variable};
 ghost use Rattle.slotted_rule_patterns.specs.Variables.{first_outside, first_missing, first_lacking};
 
+use crate::inside::{Question, first_such};
 use crate::subst::{Subst, value};
 use slotted_languages::language::Language;
 use slotted_patterns::Pattern;
+
+// Is it a node with more or fewer child patterns than children?
+#[derive(Drop)]
+struct Miscounted {}
+
+impl Question for Miscounted {
+    ghost holds = { λ _. is_miscounted };
+
+    fn holds<L: Language>(&self, pattern: &Pattern<L>) -> bool {
+        match pattern {
+            Pattern::ENode(node, children) => children.len() != node.applied_id_count(),
+            Pattern::PVar(_) => false,
+            Pattern::Subst(_, _, _) => false,
+        }
+    }
+}
 
 /// Whether each node has as many child patterns as children.
 pub fn is_whole<L: Language>(pattern: &Pattern<L>) -> bool
     ensures { IsTrue result ↔ IsSome (pattern_in (tree_of L.form pattern.now)) }
 {
-    match pattern {
-        Pattern::ENode(node, children) => {
-            for child in children {
-                if !is_whole(child) {
-                    return false;
-                }
-            }
-            children.len() == node.applied_id_count()
+    first_such(pattern, &Miscounted {}).is_none()
+}
+
+// Is it a substitution?
+#[derive(Drop)]
+struct Substitutes {}
+
+impl Question for Substitutes {
+    ghost holds = { λ _. is_substitution };
+
+    fn holds<L: Language>(&self, pattern: &Pattern<L>) -> bool {
+        match pattern {
+            Pattern::ENode(_, _) => false,
+            Pattern::PVar(_) => false,
+            Pattern::Subst(_, _, _) => true,
         }
-        Pattern::PVar(_) => true,
-        Pattern::Subst(body, part, value) => is_whole(body) && is_whole(part) && is_whole(value),
     }
 }
 
@@ -32,17 +55,24 @@ pub fn is_whole<L: Language>(pattern: &Pattern<L>) -> bool
 pub fn has_substitution<L: Language>(pattern: &Pattern<L>) -> bool
     ensures { result ≡ has_substitution (tree_of L.form pattern.now) }
 {
-    match pattern {
-        Pattern::ENode(_, children) => {
-            for child in children {
-                if has_substitution(child) {
-                    return true;
-                }
-            }
-            false
+    first_such(pattern, &Substitutes {}).is_some()
+}
+
+// Is it the variable of this name?
+#[derive(Drop)]
+struct Named<'a> {
+    name: &'a str,
+}
+
+impl<'a> Question for Named<'a> {
+    ghost holds = { λ q. is_named q.name.now };
+
+    fn holds<L: Language>(&self, pattern: &Pattern<L>) -> bool {
+        match pattern {
+            Pattern::ENode(_, _) => false,
+            Pattern::PVar(variable) => variable.as_str() == self.name,
+            Pattern::Subst(_, _, _) => false,
         }
-        Pattern::PVar(_) => false,
-        Pattern::Subst(_, _, _) => true,
     }
 }
 
@@ -50,20 +80,7 @@ pub fn has_substitution<L: Language>(pattern: &Pattern<L>) -> bool
 pub fn has_variable<L: Language>(pattern: &Pattern<L>, name: &str) -> bool
     ensures { result ≡ has_variable (tree_of L.form pattern.now) name.now }
 {
-    match pattern {
-        Pattern::ENode(_, children) => {
-            for child in children {
-                if has_variable(child, name) {
-                    return true;
-                }
-            }
-            false
-        }
-        Pattern::PVar(variable) => variable.as_str() == name,
-        Pattern::Subst(body, part, value) => {
-            has_variable(body, name) || has_variable(part, name) || has_variable(value, name)
-        }
-    }
+    first_such(pattern, &Named { name }).is_some()
 }
 
 // What knows some variables.
@@ -92,34 +109,42 @@ impl<L: Language> Known for Pattern<L> {
     }
 }
 
+// Is it a variable that is not known?
+#[derive(Drop)]
+struct Outside<'a, K: Known> {
+    known: &'a K,
+}
+
+impl<'a, K: Known> Question for Outside<'a, K> {
+    ghost holds = { λ q. is_outside (K.knows q.known.now) };
+
+    fn holds<L: Language>(&self, pattern: &Pattern<L>) -> bool {
+        match pattern {
+            Pattern::ENode(_, _) => false,
+            Pattern::PVar(name) => !self.known.knows(name.as_str()),
+            Pattern::Subst(_, _, _) => false,
+        }
+    }
+}
+
+// The name of a pattern that is a variable.
+fn name_of<L: Language>(pattern: &Pattern<L>) -> Option<&str>
+    ensures { option_map (λ v. v.now) result ≡ name_in (tree_of L.form pattern.now) }
+{
+    match pattern {
+        Pattern::ENode(_, _) => None,
+        Pattern::PVar(name) => Some(name.as_str()),
+        Pattern::Subst(_, _, _) => None,
+    }
+}
+
 // The first variable, from the left, that is not known.
 fn first_outside<'a, L: Language, K: Known>(pattern: &'a Pattern<L>, known: &K) -> Option<&'a str>
     ensures { option_map (λ v. v.now) result ≡ first_outside (K.knows known.now) (tree_of L.form pattern.now) }
 {
-    match pattern {
-        Pattern::ENode(_, children) => {
-            for child in children {
-                if let Some(name) = first_outside(child, known) {
-                    return Some(name);
-                }
-            }
-            None
-        }
-        Pattern::PVar(name) => {
-            if known.knows(name.as_str()) {
-                return None;
-            }
-            Some(name.as_str())
-        }
-        Pattern::Subst(body, part, value) => {
-            if let Some(name) = first_outside(body, known) {
-                return Some(name);
-            }
-            if let Some(name) = first_outside(part, known) {
-                return Some(name);
-            }
-            first_outside(value, known)
-        }
+    match first_such(pattern, &Outside { known }) {
+        Some(found) => name_of(found),
+        None => None,
     }
 }
 

@@ -4,13 +4,14 @@ ghost use Rattle.slotted_patterns.specs.Known.{HasKnownNames};
 ghost use Rattle.slotted_patterns.specs.View.{tree_of};
 ghost use Rattle.slotted_core.specs.Graph.{OnlyReads};
 ghost use Rattle.slotted_core.specs.Reads.{AnswersPattern};
-ghost use Rattle.slotted_graph.specs.KnownPatterns.{knows_node, knows_pattern, HasSmallNodes};
+ghost use Rattle.slotted_graph.specs.KnownPatterns.{is_unknown, knows_node, knows_pattern, HasSmallNodes};
 
 use super::EGraph;
 use slotted_analyses::Analysis;
 use slotted_core::names::{PLACES, places_are_known};
 use slotted_languages::Language;
 use slotted_patterns::Pattern;
+use slotted_rule_patterns::inside::{Question, first_such};
 use slotted_slots::{Error, SlotTable};
 
 // Whether the table knows each name of a node. One with 2^30 places or more cannot be read.
@@ -20,26 +21,29 @@ fn is_known_node<L: Language>(table: &SlotTable, node: &L) -> bool
     node.slot_count() < PLACES && places_are_known(table, node)
 }
 
+// Is it a node whose names the table does not all know?
+#[derive(Drop)]
+struct Unknown<'a> {
+    table: &'a SlotTable,
+}
+
+impl<'a> Question for Unknown<'a> {
+    ghost holds = { λ q. is_unknown q.table.now };
+
+    fn holds<L: Language>(&self, pattern: &Pattern<L>) -> bool {
+        match pattern {
+            Pattern::ENode(node, _) => !is_known_node(self.table, node),
+            Pattern::PVar(_) => false,
+            Pattern::Subst(_, _, _) => false,
+        }
+    }
+}
+
 // Whether the table knows each name of each node of the pattern.
 fn has_known_names<L: Language>(table: &SlotTable, pattern: &Pattern<L>) -> bool
     ensures { result ≡ knows_pattern table.now (tree_of L.form pattern.now) }
 {
-    match pattern {
-        Pattern::ENode(node, children) => {
-            for child in children {
-                if !has_known_names(table, child) {
-                    return false;
-                }
-            }
-            is_known_node(table, node)
-        }
-        Pattern::PVar(_) => true,
-        Pattern::Subst(body, part, value) => {
-            has_known_names(table, body)
-                && has_known_names(table, part)
-                && has_known_names(table, value)
-        }
-    }
+    first_such(pattern, &Unknown { table }).is_none()
 }
 
 impl<L: Language, N: Analysis<L>> EGraph<L, N> {
@@ -63,7 +67,8 @@ impl<L: Language, N: Analysis<L>> EGraph<L, N> {
     }
 
     /// Returns whether a pattern is one over this graph: the slots of its nodes are known. The child ids inside pattern nodes are null, or have known names too. A
-    /// node with 2^30 places or more cannot be read: a pattern with one is not valid. Nothing is valid in a failed graph. Takes no memory.
+    /// node with 2^30 places or more cannot be read: a pattern with one is not valid. Nothing is valid in a failed graph. The patterns inside are gone through
+    /// by a list, and without one where memory for it is refused.
     pub fn is_valid_pattern(&self, pattern: &Pattern<L>) -> bool
         ensures failed { IsTrue result → self.now.failed ≡ false }
         ensures known { IsTrue result → HasKnownNames self.now.table (tree_of L.form pattern.now) }
