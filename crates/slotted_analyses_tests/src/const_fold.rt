@@ -27,6 +27,7 @@ pub struct ConstFold;
 
 impl Analysis<Small> for ConstFold {
     ghost use Rattle.slotted_analyses_tests.specs.ConstFold.{AsksNumber, fold, fold_codes};
+    ghost use Rattle.std.specs.Prelude.{true};
     ghost use Rattle.slotted_analyses_tests.specs.FoldLaws.{fold_merges};
     ghost use Rattle.std.proofs.Common.{rules};
 
@@ -37,6 +38,8 @@ impl Analysis<Small> for ConstFold {
     ghost meaning = { λ _. fold };
 
     ghost may_ask = { λ _ x _ e. AsksNumber x e };
+
+    ghost modifies = { true };
 
     ghost refuses = { IsOutOfMemory };
 
@@ -69,6 +72,10 @@ impl Analysis<Small> for ConstFold {
             Fold::Number(_) => 1,
             Fold::Conflict => 0,
         }
+    }
+
+    fn modifies() -> bool {
+        true
     }
 
     fn modify(

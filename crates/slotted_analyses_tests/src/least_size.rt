@@ -13,6 +13,7 @@ pub struct LeastSize;
 
 impl<L: Language> Analysis<L> for LeastSize {
     ghost use Rattle.slotted_analyses_tests.specs.LeastSize.{least_size, least_size_merges, size_codes};
+    ghost use Rattle.std.specs.Prelude.{false};
     ghost use Rattle.std.proofs.Common.{rules};
 
     type Data = u32;
@@ -20,6 +21,8 @@ impl<L: Language> Analysis<L> for LeastSize {
     ghost codes = { size_codes };
 
     ghost meaning = { λ _. least_size };
+
+    ghost modifies = { false };
 
     ghost refuses = { λ _. ⊥ };
 
@@ -43,6 +46,10 @@ impl<L: Language> Analysis<L> for LeastSize {
 
     fn height(&self, data: &u32) -> u32 {
         *data
+    }
+
+    fn modifies() -> bool {
+        false
     }
 }
 

@@ -13,6 +13,7 @@ pub struct Refusing {
 
 impl<L: Language> Analysis<L> for Refusing {
     ghost use Rattle.slotted_analyses_tests.specs.LeastSize.{least_size, least_size_merges, refusing_codes};
+    ghost use Rattle.std.specs.Prelude.{false};
     ghost use Rattle.std.proofs.Common.{rules};
 
     type Data = u32;
@@ -20,6 +21,8 @@ impl<L: Language> Analysis<L> for Refusing {
     ghost codes = { refusing_codes };
 
     ghost meaning = { λ _. least_size };
+
+    ghost modifies = { false };
 
     ghost refuses = { λ _. ⊥ };
 
@@ -47,5 +50,9 @@ impl<L: Language> Analysis<L> for Refusing {
 
     fn height(&self, data: &u32) -> u32 {
         *data
+    }
+
+    fn modifies() -> bool {
+        false
     }
 }

@@ -1,10 +1,9 @@
-//! Edits of constant folding, made in rounds.
+//! Edits of constant folding, made in rounds at the end of each write.
 use crate::const_fold::{ConstFold, Fold};
-use crate::graphs::{empty, merge, put, tower, unite};
+use crate::graphs::{datum, empty, merge, put, tower, unite};
 use slotted_analyses::Analysis;
 use slotted_costs::AstSize;
-use slotted_graph::EGraph;
-use slotted_rounds::{modify_in_rounds, modify_once};
+use slotted_graph::{EGraph, modify_once};
 use slotted_slots::Error;
 use slotted_small::Small;
 use std::alloc::Global;
@@ -33,20 +32,19 @@ fn has_number<N: Analysis<Small>>(graph: &EGraph<Small, N>, number: u32) -> Resu
     Ok(found.is_some())
 }
 
-// Rounds over a sum of a product: whether anything was asked, and which numbers the terms equal.
-fn sums_are_numbers(alloc: Global, graph: &mut EGraph<Small, ConstFold>) -> Result<bool, Error> {
+// Whether a sum of a product and the product equal their numbers.
+fn sums_are_numbers(graph: &mut EGraph<Small, ConstFold>) -> Result<bool, Error> {
     put(graph, "(add 2 (mul 2 3))")?;
-    let asked = modify_in_rounds(graph, alloc, 16)?;
     let product = are_equal(graph, "(mul 2 3)", "6")?;
     let sum = are_equal(graph, "(add 2 (mul 2 3))", "8")?;
     let other = are_equal(graph, "6", "8")?;
-    Ok(asked && product && sum && !other)
+    Ok(product && sum && !other)
 }
 
 #[test]
 fn sums_and_products_equal_their_numbers(rt: HostRuntime) -> Result<(), Error> {
     let mut graph = empty(rt.alloc(), ConstFold)?;
-    let holds = sums_are_numbers(rt.alloc(), &mut graph).expect(&rt, "there is memory");
+    let holds = sums_are_numbers(&mut graph).expect(&rt, "there is memory");
     assert!(&rt; holds);
     Ok(())
 }
@@ -54,11 +52,10 @@ fn sums_and_products_equal_their_numbers(rt: HostRuntime) -> Result<(), Error> {
 // Whether rounds leave no class that waits, and ask nothing again.
 fn waits_no_more(alloc: Global, graph: &mut EGraph<Small, ConstFold>) -> Result<bool, Error> {
     put(graph, "(add 2 3)")?;
-    let asked = modify_in_rounds(graph, alloc, 16)?;
     let left = graph.modify_pending();
-    let again = modify_in_rounds(graph, alloc, 16)?;
+    let again = graph.modify()?;
     let once = modify_once(graph, alloc)?;
-    Ok(asked && left == 0 && !again && !once && graph.asserted().len() == 1)
+    Ok(left == 0 && !again && !once && graph.asserted().len() == 1)
 }
 
 #[test]
@@ -73,11 +70,9 @@ fn a_folded_class_waits_no_more(rt: HostRuntime) -> Result<(), Error> {
 fn sums_follow(alloc: Global, graph: &mut EGraph<Small, ConstFold>) -> Result<bool, Error> {
     let text = tower(alloc, 50)?;
     put(graph, &text)?;
-    modify_in_rounds(graph, alloc, 16)?;
     unite(graph, "x", "5")?;
-    let asked = modify_in_rounds(graph, alloc, 16)?;
     let number = are_equal(graph, &text, "55")?;
-    Ok(asked && number && graph.modify_pending() == 0)
+    Ok(number && graph.modify_pending() == 0)
 }
 
 #[test]
@@ -91,11 +86,13 @@ fn a_number_makes_fifty_sums_numbers(rt: HostRuntime) -> Result<(), Error> {
 // Whether a value that is merged into the data of x is asserted, and that of a sum over x too.
 fn merged_is_asserted(alloc: Global, graph: &mut EGraph<Small, ConstFold>) -> Result<bool, Error> {
     put(graph, "(add x 3)")?;
+    let none = datum(alloc, graph, "(add x 3)")? == Fold::None;
     merge(graph, "x", &Fold::Number(4))?;
-    let asked = modify_in_rounds(graph, alloc, 16)?;
+    let left = graph.modify_pending();
+    let seven = datum(alloc, graph, "(add x 3)")? == Fold::Number(7);
     let sum = are_equal(graph, "(add x 3)", "7")?;
     let name = are_equal(graph, "x", "4")?;
-    Ok(asked && sum && name && graph.modify_pending() == 0)
+    Ok(none && seven && sum && name && left == 0)
 }
 
 #[test]
@@ -106,19 +103,21 @@ fn a_merged_number_is_asserted(rt: HostRuntime) -> Result<(), Error> {
     Ok(())
 }
 
-// Whether no round does nothing, and one round makes the number of a sum.
+// Whether no number is made if no round is made, and the number of a sum with the next write once one round is.
 fn limits_hold(alloc: Global, graph: &mut EGraph<Small, ConstFold>) -> Result<bool, Error> {
+    graph.set_modify_rounds(0);
     put(graph, "(add 2 3)")?;
-    let none = modify_in_rounds(graph, alloc, 0)?;
     let left = graph.modify_pending();
     let before = has_number(graph, 5)?;
-    let one = modify_in_rounds(graph, alloc, 1)?;
-    let after = has_number(graph, 5)?;
-    Ok(!none && left == 3 && !before && one && after && graph.modify_pending() == 1)
+    let five = datum(alloc, graph, "(add 2 3)")? == Fold::Number(5);
+    graph.set_modify_rounds(1);
+    put(graph, "x")?;
+    let after = are_equal(graph, "(add 2 3)", "5")?;
+    Ok(left == 3 && !before && five && after && graph.modify_rounds() == 1)
 }
 
 #[test]
-fn no_round_asks_nothing(rt: HostRuntime) -> Result<(), Error> {
+fn the_limit_of_rounds_holds(rt: HostRuntime) -> Result<(), Error> {
     let mut graph = empty(rt.alloc(), ConstFold)?;
     let holds = limits_hold(rt.alloc(), &mut graph).expect(&rt, "there is memory");
     assert!(&rt; holds);
@@ -128,7 +127,6 @@ fn no_round_asks_nothing(rt: HostRuntime) -> Result<(), Error> {
 // Whether a folded sum has the number as its smallest term.
 fn least_is_the_number(alloc: Global, graph: &mut EGraph<Small, ConstFold>) -> Result<bool, Error> {
     let a = put(graph, "(add 2 (mul 2 3))")?;
-    modify_in_rounds(graph, alloc, 16)?;
     if !graph.is_valid(&a) {
         return Err(Error::NotATerm);
     }
@@ -147,18 +145,17 @@ fn a_folded_sum_has_a_least_term(rt: HostRuntime) -> Result<(), Error> {
 }
 
 // Whether nothing is asked where nothing is kept.
-fn nothing_is_asked(alloc: Global, graph: &mut EGraph<Small>) -> Result<bool, Error> {
+fn nothing_is_asked(graph: &mut EGraph<Small>) -> Result<bool, Error> {
     put(graph, "(add 2 3)")?;
-    let made = graph.modify_pending();
-    let asked = modify_in_rounds(graph, alloc, 16)?;
+    let asked = graph.modify()?;
     let number = has_number(graph, 5)?;
-    Ok(made == 3 && !asked && !number && graph.modify_pending() == 0)
+    Ok(!asked && !number && graph.modify_pending() == 0)
 }
 
 #[test]
 fn nothing_is_asked_where_nothing_is_kept(rt: HostRuntime) -> Result<(), Error> {
     let mut graph = empty(rt.alloc(), ())?;
-    let holds = nothing_is_asked(rt.alloc(), &mut graph).expect(&rt, "there is memory");
+    let holds = nothing_is_asked(&mut graph).expect(&rt, "there is memory");
     assert!(&rt; holds);
     Ok(())
 }

@@ -10,7 +10,7 @@ pub mod example;
 pub use slotted_analyses::{Analysis, Edit};
 pub use slotted_explain::{Check, EGraph, Explanation, LeastTerms, ProgressMeasure, Symmetry};
 pub use slotted_extract::{AstSize, CostFunction, Extractor, ast_size_extract, extract};
-pub use slotted_graph::SubstMethod;
+pub use slotted_graph::{SubstMethod, make_edit, modify_class, modify_in_rounds, modify_once};
 pub use slotted_instances::{
     OwnSubst, lookup_rec_expr, pattern_subst, subst_ids, subst_with, union_instantiations,
 };
@@ -21,7 +21,6 @@ pub use slotted_proofs::{
     CongruenceProof, Equation, ExplicitProof, Proof, ProofLines, ProofList, ProvenEq, ProvenEqRaw,
     ReflexivityProof, SymmetryProof, TransitivityProof,
 };
-pub use slotted_rounds::{make_edit, modify_class, modify_in_rounds, modify_once};
 pub use slotted_rule_patterns::Subst;
 pub use slotted_rules::{
     Always, And, Cond, CondTree, Not, Or, Rewrite, RewriteT, RuleCounts, SlotFreeIn, TurnCounts,

@@ -1,15 +1,19 @@
 -- What writes leave that modify classes at their ends.
 use Rattle.std.proofs.Common.{◌≡◌, ◌∙◌, ap, refl, sym, subst, inl, inr, arith}
-use Rattle.std.specs.Prelude.{◌⊎◌, Bool, false, true, IsTrue, ℕ}
+use Rattle.std.specs.Prelude.{◌⊎◌, ◌↔◌, Bool, false, true, IfOk, IsErr, IsTrue, List, OnOk, Option, Result, Ok, Err, ℕ}
+use Rattle.slotted_slots.specs.declared.error.Error.{Error}
 use Rattle.std.specs.Coded.{Coded}
 use Rattle.std.proofs.lemmas.Bool.{false≢true}
 use Rattle.slotted_slots.specs.Table.{KnowsMore}
+use Rattle.slotted_slots.specs.declared.types.AppliedId.{AppliedId}
+use Rattle.slotted_proofs.specs.Equations.{to_applied}
 use Rattle.slotted_nodes.specs.Form.{Form}
 use Rattle.slotted_model.specs.Growth.{Extends}
 use Rattle.slotted_analyses.specs.Meaning.{IsMergeOf, Meaning}
 use Rattle.slotted_data.specs.Part.{Part, part_code}
-use Rattle.slotted_core.specs.Graph.{Graph}
-use Rattle.slotted_core.specs.Image.{AddsClasses, asserted_in}
+use Rattle.slotted_core.specs.Explaining.{AddsTerms}
+use Rattle.slotted_core.specs.Graph.{Graph, RecordsUnion}
+use Rattle.slotted_core.specs.Image.{AddsClasses, FoundAlike, IsUnion, asserted_in}
 use Rattle.slotted_core.specs.LookUp.{HasSameClasses}
 use Rattle.slotted_core.specs.ValidIds.{IsValidNode}
 use Rattle.slotted_graph.specs.Analysed.{CarriesData, CountsPending, HasRounds, MergesData}
@@ -17,10 +21,11 @@ use Rattle.slotted_graph.specs.Asked.{Asks, IsAskedBetween}
 use Rattle.slotted_graph.specs.Extension.{ExtendsTo}
 use Rattle.slotted_graph.specs.Rounds.{IsModified, LeavesModified, MakesRounds, no_rounds}
 use Rattle.slotted_graph.specs.States.{IsGraph}
-use Rattle.slotted_graph.specs.Writing.{AddsAndModifies, AddsMore, LeavesAsked, MergesAndModifies, UnitesAndModifies}
-use Rattle.slotted_graph.proofs.Extending.{extends-added, extends-itself, extends-then}
+use Rattle.slotted_graph.specs.Writing.{AddsAndModifies, AddsMore, IfUnmodified, LeavesAsked, MergesAndModifies, UnitesAndModifies}
+use Rattle.slotted_graph.proofs.Extending.{extends-added, extends-itself, extends-then, extends-united}
+use Rattle.slotted_graph.proofs.Insides.{given}
 use Rattle.slotted_graph.proofs.Leaving.{asked-longer, extends-kept, leaves-itself}
-use Rattle.slotted_graph.proofs.Saying.{carried-lowers, lowers-itself, lowers-then, no-more, then-more}
+use Rattle.slotted_graph.proofs.Saying.{carried-lowers, graph-kept, lowers-itself, lowers-then, no-more, then-more}
 
 -- a node that was valid is valid later
 pub node-later : (g h : Graph) (f : Form) → ExtendsTo g h → IsValidNode g f → IsValidNode h f
@@ -29,6 +34,27 @@ node-later g h f e v = record {
   known = λ k d lt. e.more _ (v.known k d lt);
   children = λ k d lt. e.valid _ (v.children k d lt);
 }
+
+-- what holds where classes are never modified, and what need not
+pub unmodified : (modifies : Bool) → modifies ≡ false → (P : Type 0) → P → IfUnmodified modifies P
+unmodified true never P p = tt
+unmodified false never P p = p
+
+pub is-modified : (modifies : Bool) → modifies ≡ true → (P : Type 0) → IfUnmodified modifies P
+is-modified true always P = tt
+is-modified false always P = absurd (false≢true always)
+
+-- a graph whose write did not refuse had not failed
+pub was-well : (g h : Graph) → (IsTrue g.failed → h ≡ g) → (IsTrue h.failed → false ≡ true) → g.failed ≡ false
+was-well g h stays well = by g.failed (λ t. well (subst (λ (x : Graph). IsTrue x.failed) (sym (stays t)) t))
+  where
+    by : (b : Bool) → (IsTrue b → false ≡ true) → b ≡ false
+    by true f = absurd (false≢true (f refl))
+    by false f = refl
+
+-- none of the classes of a graph waits
+pub none-pending : {N D : Type 0} (codes : Coded N × Coded D) (g : Graph) (n : ℕ) → IsGraph g → IsTrue g.failed ⊎ CountsPending codes g n → n ≡ 0 → CountsPending codes g 0
+none-pending codes g n is counts none = subst (CountsPending codes g) none (given is.well counts)
 
 -- a graph has one limit of rounds
 one-limit : {N D : Type 0} (codes : Coded N × Coded D) (g : Graph) (m n : ℕ) → HasRounds codes g m → HasRounds codes g n → m ≡ n
@@ -61,6 +87,11 @@ module _ {L N D : Type 0} (codes : Coded N × Coded D) (meaning : N → Meaning 
     still = λ never. absurd (false≢true (sym never ∙ always));
     rounds = λ yes n is. subst (λ m. MakesRounds codes meaning ask m g h y) (one-limit codes g limit n has is) made;
   }
+
+  pub ok-modified : (modifies : Bool) → modifies ≡ true → (g h : Graph) (r : Result Bool Error) (limit : ℕ) → HasRounds codes g limit → IfOk r (λ y. MakesRounds codes meaning ask limit g h y) →
+      IfOk r (λ y. LeavesModified codes meaning ask g h) → IfOk r (IsModified codes meaning ask modifies g h)
+  ok-modified modifies always g h (Ok y) limit has made leaves = was-modified modifies always g h y limit has made leaves
+  ok-modified modifies always g h (Err e) limit has made leaves = tt
 
   leaves-asked : (g h : Graph) → LeavesModified codes meaning ask g h → LeavesAsked codes meaning ask g h
   leaves-asked g h l = record { extends = l.extends; asserts = l.asserts; lowers = l.lowers }
@@ -103,3 +134,54 @@ module _ {L N D : Type 0} (codes : Coded N × Coded D) (meaning : N → Meaning 
 
   pub adds-alone : (modifies : Bool) → modifies ≡ false → (g h : Graph) → AddsMore codes meaning g h → AddsAndModifies codes meaning ask modifies g h
   adds-alone modifies never g h adds = record { added = h; adds = adds; modified = h; asked = false; rounds = never-modified modifies never h adds.graph; again = inl refl }
+
+  -- what a quiet addition says, told of its answer
+  pub ok-adds : {A : Type 0} (r : Result A Error) (g h : Graph) → IsTrue h.failed ⊎ IsGraph h → (IsTrue h.failed → IsErr r) → OnOk r (Extends g.image.canonical h.image.canonical) → OnOk r (AddsClasses g.image h.image) →
+      KnowsMore g.table h.table → OnOk r (CarriesData codes meaning g h) → OnOk r (AddsMore codes meaning g h)
+  ok-adds (Ok x) g h is fails extends adds more carries = adds-more g h (graph-kept h is fails) extends adds more carries
+  ok-adds (Err e) g h is fails extends adds more carries = tt
+
+  pub ok-alone : {A : Type 0} (r : Result A Error) (modifies : Bool) → modifies ≡ false → (g h : Graph) → OnOk r (AddsMore codes meaning g h) → OnOk r (AddsAndModifies codes meaning ask modifies g h)
+  ok-alone (Ok x) modifies never g h adds = adds-alone modifies never g h adds
+  ok-alone (Err e) modifies never g h adds = tt
+
+  pub ok-again : {A : Type 0} (r : Result A Error) (modifies : Bool) (f g h i : Graph) (y : Bool) → AddsMore codes meaning f g → IsModified codes meaning ask modifies g h y → OnOk r (AddsMore codes meaning h i) →
+      OnOk r (AddsAndModifies codes meaning ask modifies f i)
+  ok-again (Ok x) modifies f g h i y first rounds again = record { added = g; adds = first; modified = h; asked = y; rounds = rounds; again = inr again }
+  ok-again (Err e) modifies f g h i y first rounds again = tt
+
+  pub ok-asked : {A : Type 0} (r : Result A Error) (modifies : Bool) (g h : Graph) → OnOk r (AddsAndModifies codes meaning ask modifies g h) → OnOk r (LeavesAsked codes meaning ask g h)
+  ok-asked (Ok x) modifies g h adds = adds-asked modifies g h adds
+  ok-asked (Err e) modifies g h adds = tt
+
+  pub ok-extends : {A : Type 0} (r : Result A Error) (modifies : Bool) (g h : Graph) → OnOk r (AddsAndModifies codes meaning ask modifies g h) → OnOk r (Extends g.image.canonical h.image.canonical)
+  ok-extends (Ok x) modifies g h adds = (adds-asked modifies g h adds).extends.canonical
+  ok-extends (Err e) modifies g h adds = tt
+
+  -- what a quiet union says, told of its answer
+  pub ok-unites : (r : Result Bool Error) (modifies : Bool) → modifies ≡ false → (g h : Graph) (a b : AppliedId) (text : Option (List ℕ)) → IsTrue h.failed ⊎ IsGraph h → (IsTrue h.failed → IsErr r) →
+      IfOk r (IsUnion g.image h.image (to_applied a) (to_applied b)) → OnOk r (RecordsUnion g h a b text) → IfOk r (λ y. y ≡ false → h.filed ≡ g.filed) → h.table ≡ g.table → OnOk r (CarriesData codes meaning g h) →
+      IfOk r (UnitesAndModifies codes meaning ask modifies g h a b text)
+  ok-unites (Ok y) modifies never g h a b text is fails union records filed table carries =
+      record { united = h; union = union; records = records; filed = filed; table = table; carries = carries; asked = false; rounds = never-modified modifies never h (graph-kept h is fails) }
+  ok-unites (Err e) modifies never g h a b text is fails union records filed table carries = tt
+
+  pub ok-answer : (r : Result Bool Error) (modifies : Bool) (g h : Graph) (a b : AppliedId) (text : Option (List ℕ)) → IfOk r (UnitesAndModifies codes meaning ask modifies g h a b text) →
+      IfOk r (λ y. IsTrue y ↔ (¬ FoundAlike g.image (to_applied a) (to_applied b)))
+  ok-answer (Ok y) modifies g h a b text u = u.union.answer
+  ok-answer (Err e) modifies g h a b text u = tt
+
+  pub ok-united : (r : Result Bool Error) (modifies : Bool) (g h : Graph) (a b : AppliedId) (text : Option (List ℕ)) → IfOk r (UnitesAndModifies codes meaning ask modifies g h a b text) → OnOk r (ExtendsTo g h)
+  ok-united (Ok y) modifies g h a b text u = extends-then g u.united h (extends-united g u.united a b text y u.union u.records u.table) u.rounds.leaves.extends
+  ok-united (Err e) modifies g h a b text u = tt
+
+-- what was explained without edits extends the graph
+pub explained-extends : (g h : Graph) → IsTrue h.failed ⊎ AddsTerms g.image h.image → KnowsMore g.table h.table → IsTrue h.failed ⊎ ExtendsTo g h
+explained-extends g h (inl failed) more = inl failed
+explained-extends g h (inr adds) more = inr (extends-added g h adds.extends adds.adds more)
+
+-- what holds before holds after, where classes are never modified
+pub still-unmodified : {L N D : Type 0} (codes : Coded N × Coded D) (meaning : N → Meaning D) (ask : Asks L N D) (modifies : Bool) (g h : Graph) (y : Bool) → IsModified codes meaning ask modifies g h y →
+    (P : Graph → Type 0) → P g → IfUnmodified modifies (P h)
+still-unmodified codes meaning ask true g h y m P p = tt
+still-unmodified codes meaning ask false g h y m P p = subst P (sym (m.still refl).0) p

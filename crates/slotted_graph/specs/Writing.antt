@@ -4,8 +4,9 @@
 --     AddsSynBefore g h f a       the id of a node was found or made, and then other classes may have been modified
 --     UnitesAndModifies ..        two ids were united, and then classes were modified
 --     MergesAndModifies ..        a value was merged into the data of a class, and then classes were modified
+--     IfUnmodified m P            P, unless classes are modified
 --     LeavesAsked .. g h          what was there stays, data only went down, and nothing was asserted but what edits say
-use Rattle.std.specs.Prelude.{◌≡◌, ◌⊎◌, ℕ, List, Bool, Option, false}
+use Rattle.std.specs.Prelude.{◌≡◌, ◌⊎◌, ℕ, List, Bool, Option, true, false}
 use Rattle.std.specs.Coded.{Coded}
 use Rattle.slotted_slots.specs.declared.types.AppliedId.{AppliedId}
 use Rattle.slotted_nodes.specs.Form.{Form}
@@ -22,6 +23,11 @@ use Rattle.slotted_graph.specs.Edited.{AssertsMore}
 use Rattle.slotted_graph.specs.Extension.{ExtendsTo}
 use Rattle.slotted_graph.specs.Rounds.{IsModified}
 use Rattle.slotted_graph.specs.States.{IsGraph}
+
+-- by its cases, so that P stands as it is for an analysis that modifies no class
+abbrev pub IfUnmodified : Bool → Type 0 → Type 0
+IfUnmodified true P = Unit {0}
+IfUnmodified false P = P
 
 pub record AddsMore {N D : Type 0} (codes : Coded N × Coded D) (meaning : N → Meaning D) (g h : Graph) : Type 0 where
   pub graph : IsGraph h
@@ -50,7 +56,7 @@ pub record AddsSynBefore (g h : Graph) (f : Form) (a : Applied) : Type 0 where
 pub record UnitesAndModifies {L N D : Type 0} (codes : Coded N × Coded D) (meaning : N → Meaning D) (ask : Asks L N D) (modifies : Bool) (g h : Graph) (l r : AppliedId) (text : Option (List ℕ)) (y : Bool) : Type 0 where
   pub united : Graph
   pub union : IsUnion g.image united.image (to_applied l) (to_applied r) y
-  pub text : RecordsUnion g united l r text
+  pub records : RecordsUnion g united l r text
   pub filed : y ≡ false → united.filed ≡ g.filed
   pub table : united.table ≡ g.table
   pub carries : CarriesData codes meaning g united

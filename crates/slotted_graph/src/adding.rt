@@ -1,5 +1,5 @@
 //! Adding nodes and terms: by what children find, which gives equal nodes one id, or by canonical nodes, which keeps each term as it was given.
-ghost use Rattle.std.specs.Prelude.{◌≡◌, ◌⊎◌, ◌↔◌, Some, false, IsErr, IsErrOf, IsSome, IsTrue, IfErr, IfOk, OnOk};
+ghost use Rattle.std.specs.Prelude.{◌≡◌, ◌⊎◌, ◌↔◌, Some, IsErr, IsErrOf, IsSome, IsTrue, IfErr, IfOk, OnOk};
 ghost use Rattle.slotted_slots.specs.Error.{IsShortage};
 ghost use Rattle.slotted_slots.specs.Table.{KnowsMore};
 ghost use Rattle.slotted_theory.specs.Nameless.{nameless};
@@ -17,7 +17,7 @@ ghost use Rattle.slotted_core.specs.LookUp.{IsOneGraph, KeepsLookUps, MakesClass
 ghost use Rattle.slotted_core.specs.Places.{term_slots};
 ghost use Rattle.slotted_core.specs.Reports.{IsFound};
 ghost use Rattle.slotted_graph.specs.Analysed.{CarriesData};
-ghost use Rattle.slotted_graph.specs.Writing.{AddsAndModifies, AddsSynBefore, LeavesAsked};
+ghost use Rattle.slotted_graph.specs.Writing.{AddsAndModifies, AddsSynBefore, IfUnmodified, LeavesAsked};
 
 use crate::egraph::EGraph;
 use slotted_analyses::Analysis;
@@ -41,14 +41,14 @@ impl<L: Language, N: Analysis<L>> EGraph<L, N> {
         let id = self.add_quietly(node)?;
         // It is asked for what each graph keeps that has not failed.
         let _ = self.is_failed();
-        if self.modify_pending() == 0 {
+        if self.pending_classes() == 0 {
             return Ok(id);
         }
         self.modify()?;
-        let answer = self.add_quietly(node);
+        let again = self.add_quietly(node);
         // It is asked for what each graph keeps that has not failed.
         let _ = self.is_failed();
-        answer
+        again
     }
 
     /// Returns what a node is looked up as. If it is not, adds a class of it, whose slots are fresh. Names that its children lack are filled by
@@ -67,19 +67,19 @@ impl<L: Language, N: Analysis<L>> EGraph<L, N> {
         ensures leaves { OnOk result (LeavesAsked N.codes N.meaning N.may_ask self.old self.new) }
         ensures modified { OnOk result (AddsAndModifies N.codes N.meaning N.may_ask N.modifies self.old self.new) }
         ensures extends { OnOk result (Extends self.old.image.canonical self.new.image.canonical) }
-        ensures more { N.modifies ≡ false → KnowsMore self.old.table self.new.table }
+        ensures more { IfUnmodified N.modifies (KnowsMore self.old.table self.new.table) }
 
         // If classes are never modified, a class is made only if there was no answer, and no other class is made. Ids find what they found, and
         // what was looked up is looked up as before.
-        ensures kept { N.modifies ≡ false → OnOk result (IsSome (look_up self.old (L.form node)) → IsOneGraph self.old self.new) }
-        ensures made { N.modifies ≡ false → IfOk result (λ a. MakesClassFor self.old self.new (L.form node) (to_applied a)) }
-        ensures answers { N.modifies ≡ false → OnOk result (KeepsLookUps self.old self.new) }
-        ensures adds { N.modifies ≡ false → OnOk result (AddsClasses self.old.image self.new.image) }
+        ensures kept { IfUnmodified N.modifies (OnOk result (IsSome (look_up self.old (L.form node)) → IsOneGraph self.old self.new)) }
+        ensures made { IfUnmodified N.modifies (IfOk result (λ a. MakesClassFor self.old self.new (L.form node) (to_applied a))) }
+        ensures answers { IfUnmodified N.modifies (OnOk result (KeepsLookUps self.old self.new)) }
+        ensures adds { IfUnmodified N.modifies (OnOk result (AddsClasses self.old.image self.new.image)) }
 
         // And if a class is made, fresh slots are made for its names, and for those that children lack.
-        ensures takes { N.modifies ≡ false → MakesAtMost (slots_needed self.old.image (L.form node)) self.old.table self.new.table }
-        ensures full { N.modifies ≡ false → IsErrOf result Error.OutOfSlots → RunsOutForUnknown self.old self.new (L.form node) }
-        ensures carries { N.modifies ≡ false → OnOk result (CarriesData N.codes N.meaning self.old self.new) }
+        ensures takes { IfUnmodified N.modifies (MakesAtMost (slots_needed self.old.image (L.form node)) self.old.table self.new.table) }
+        ensures full { IfUnmodified N.modifies (IsErrOf result Error.OutOfSlots → RunsOutForUnknown self.old self.new (L.form node)) }
+        ensures carries { IfUnmodified N.modifies (OnOk result (CarriesData N.codes N.meaning self.old self.new)) }
 
         // A failed graph stays as it is.
         ensures stays { IsTrue self.old.failed → self.new ≡ self.old }
@@ -129,17 +129,17 @@ impl<L: Language, N: Analysis<L>> EGraph<L, N> {
         ensures leaves { OnOk result (LeavesAsked N.codes N.meaning N.may_ask self.old self.new) }
         ensures modified { OnOk result (AddsAndModifies N.codes N.meaning N.may_ask N.modifies self.old self.new) }
         ensures extends { OnOk result (Extends self.old.image.canonical self.new.image.canonical) }
-        ensures more { N.modifies ≡ false → KnowsMore self.old.table self.new.table }
+        ensures more { IfUnmodified N.modifies (KnowsMore self.old.table self.new.table) }
 
         // If classes are never modified, and a class is made, fresh slots are made for its names, and for those that children lack.
-        ensures syn { N.modifies ≡ false → IfOk result (λ a. AddsSyn self.old self.new (L.form node) (to_applied a)) }
-        ensures adds { N.modifies ≡ false → OnOk result (AddsClasses self.old.image self.new.image) }
-        ensures takes { N.modifies ≡ false → MakesAtMost (slots_needed self.old.image (L.form node)) self.old.table self.new.table }
-        ensures full { N.modifies ≡ false → IsErrOf result Error.OutOfSlots
-            → RunsOutForFilled self.old.image (L.form node) self.old.table self.new.table }
-        ensures unknown { N.modifies ≡ false → IsErrOf result Error.OutOfSlots
-            → IsUnknownIfFull self.old.image.canonical (L.form node) }
-        ensures carries { N.modifies ≡ false → OnOk result (CarriesData N.codes N.meaning self.old self.new) }
+        ensures syn { IfUnmodified N.modifies (IfOk result (λ a. AddsSyn self.old self.new (L.form node) (to_applied a))) }
+        ensures adds { IfUnmodified N.modifies (OnOk result (AddsClasses self.old.image self.new.image)) }
+        ensures takes { IfUnmodified N.modifies (MakesAtMost (slots_needed self.old.image (L.form node)) self.old.table self.new.table) }
+        ensures full { IfUnmodified N.modifies (IsErrOf result Error.OutOfSlots
+            → RunsOutForFilled self.old.image (L.form node) self.old.table self.new.table) }
+        ensures unknown { IfUnmodified N.modifies (IsErrOf result Error.OutOfSlots
+            → IsUnknownIfFull self.old.image.canonical (L.form node)) }
+        ensures carries { IfUnmodified N.modifies (OnOk result (CarriesData N.codes N.meaning self.old self.new)) }
 
         // A failed graph stays as it is.
         ensures stays { IsTrue self.old.failed → self.new ≡ self.old }
@@ -171,14 +171,14 @@ impl<L: Language, N: Analysis<L>> EGraph<L, N> {
         let id = self.add_expr_quietly(term)?;
         // It is asked for what each graph keeps that has not failed.
         let _ = self.is_failed();
-        if self.modify_pending() == 0 {
+        if self.pending_classes() == 0 {
             return Ok(id);
         }
         self.modify()?;
-        let answer = self.add_expr_quietly(term);
+        let again = self.add_expr_quietly(term);
         // It is asked for what each graph keeps that has not failed.
         let _ = self.is_failed();
-        answer
+        again
     }
 
     /// Returns what a term is looked up as, child by child. If a node is not, adds a class of it, as `add` does.
@@ -196,20 +196,20 @@ impl<L: Language, N: Analysis<L>> EGraph<L, N> {
         ensures leaves { OnOk result (LeavesAsked N.codes N.meaning N.may_ask self.old self.new) }
         ensures modified { OnOk result (AddsAndModifies N.codes N.meaning N.may_ask N.modifies self.old self.new) }
         ensures extends { OnOk result (Extends self.old.image.canonical self.new.image.canonical) }
-        ensures more { N.modifies ≡ false → KnowsMore self.old.table self.new.table }
+        ensures more { IfUnmodified N.modifies (KnowsMore self.old.table self.new.table) }
 
         // If classes are never modified, and the term was looked up, nothing changes. Else its nodes are added from below, and each class that is
         // made is what a subterm is looked up as from now on. Ids find what they found, and what was looked up is looked up as before.
-        ensures kept { N.modifies ≡ false → OnOk result (IsSome (look_up_term self.old term.now) → IsOneGraph self.old self.new) }
-        ensures nodes { N.modifies ≡ false → OnOk result (AddsNodes term.now self.old (term_nodes term.now) self.new) }
-        ensures filed { N.modifies ≡ false → OnOk result (FilesOnlyLookedUp self.old self.new term.now) }
-        ensures answers { N.modifies ≡ false → OnOk result (KeepsLookUps self.old self.new) }
-        ensures adds { N.modifies ≡ false → OnOk result (AddsClasses self.old.image self.new.image) }
+        ensures kept { IfUnmodified N.modifies (OnOk result (IsSome (look_up_term self.old term.now) → IsOneGraph self.old self.new)) }
+        ensures nodes { IfUnmodified N.modifies (OnOk result (AddsNodes term.now self.old (term_nodes term.now) self.new)) }
+        ensures filed { IfUnmodified N.modifies (OnOk result (FilesOnlyLookedUp self.old self.new term.now)) }
+        ensures answers { IfUnmodified N.modifies (OnOk result (KeepsLookUps self.old self.new)) }
+        ensures adds { IfUnmodified N.modifies (OnOk result (AddsClasses self.old.image self.new.image)) }
 
         // And if classes are made, fresh slots are made for their names, and for those that children lack.
-        ensures takes { N.modifies ≡ false → IsTrue self.old.failed ⊎ TakesForTerm term.now self.old self.new.table }
-        ensures full { N.modifies ≡ false → IsErrOf result Error.OutOfSlots → LacksForTerm term.now self.old self.new.table }
-        ensures carries { N.modifies ≡ false → OnOk result (CarriesData N.codes N.meaning self.old self.new) }
+        ensures takes { IfUnmodified N.modifies (IsTrue self.old.failed ⊎ TakesForTerm term.now self.old self.new.table) }
+        ensures full { IfUnmodified N.modifies (IsErrOf result Error.OutOfSlots → LacksForTerm term.now self.old self.new.table) }
+        ensures carries { IfUnmodified N.modifies (OnOk result (CarriesData N.codes N.meaning self.old self.new)) }
 
         // A failed graph stays as it is.
         ensures stays { IsTrue self.old.failed → self.new ≡ self.old }
@@ -260,20 +260,20 @@ impl<L: Language, N: Analysis<L>> EGraph<L, N> {
         ensures leaves { OnOk result (LeavesAsked N.codes N.meaning N.may_ask self.old self.new) }
         ensures modified { OnOk result (AddsAndModifies N.codes N.meaning N.may_ask N.modifies self.old self.new) }
         ensures extends { OnOk result (Extends self.old.image.canonical self.new.image.canonical) }
-        ensures more { N.modifies ≡ false → KnowsMore self.old.table self.new.table }
+        ensures more { IfUnmodified N.modifies (KnowsMore self.old.table self.new.table) }
 
         // If classes are never modified, and the term has an id, nothing changes. Each class that is made is what a subterm is looked up as from now
         // on.
-        ensures kept { N.modifies ≡ false → OnOk result (IsSome (id_of_term self.old term.now) → IsOneGraph self.old self.new) }
-        ensures filed { N.modifies ≡ false → OnOk result (FilesOnlySubterms self.old self.new term.now) }
-        ensures adds { N.modifies ≡ false → OnOk result (AddsClasses self.old.image self.new.image) }
+        ensures kept { IfUnmodified N.modifies (OnOk result (IsSome (id_of_term self.old term.now) → IsOneGraph self.old self.new)) }
+        ensures filed { IfUnmodified N.modifies (OnOk result (FilesOnlySubterms self.old self.new term.now)) }
+        ensures adds { IfUnmodified N.modifies (OnOk result (AddsClasses self.old.image self.new.image)) }
 
         // And if classes are made, fresh slots are made for their names.
-        ensures takes { N.modifies ≡ false → MakesAtMost (term_slots term.now) self.old.table self.new.table }
-        ensures full { N.modifies ≡ false → IsErrOf result Error.OutOfSlots
-            → CanRunOutForTerm self.old.image term.now self.old.table self.new.table }
-        ensures unknown { N.modifies ≡ false → IsErrOf result Error.OutOfSlots → IsUnknownTerm self.old.image term.now }
-        ensures carries { N.modifies ≡ false → OnOk result (CarriesData N.codes N.meaning self.old self.new) }
+        ensures takes { IfUnmodified N.modifies (MakesAtMost (term_slots term.now) self.old.table self.new.table) }
+        ensures full { IfUnmodified N.modifies (IsErrOf result Error.OutOfSlots
+            → CanRunOutForTerm self.old.image term.now self.old.table self.new.table) }
+        ensures unknown { IfUnmodified N.modifies (IsErrOf result Error.OutOfSlots → IsUnknownTerm self.old.image term.now) }
+        ensures carries { IfUnmodified N.modifies (OnOk result (CarriesData N.codes N.meaning self.old self.new)) }
 
         // A failed graph stays as it is.
         ensures stays { IsTrue self.old.failed → self.new ≡ self.old }

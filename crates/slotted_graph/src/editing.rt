@@ -9,8 +9,8 @@ ghost use Rattle.slotted_graph.specs.States.{IsGraph};
 ghost use Rattle.slotted_core.specs.ValidIds.{IsValidId};
 ghost use Rattle.slotted_graph.specs.Edited.{AddsTerm, MakesEdit, MakesEdits, UnitesIds};
 
-use slotted_analyses::{Analysis, Edit};
 use crate::egraph::EGraph;
+use slotted_analyses::{Analysis, Edit};
 use slotted_languages::Language;
 use slotted_slots::{AppliedId, Error};
 use slotted_terms::RecExpr;

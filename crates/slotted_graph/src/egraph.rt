@@ -107,7 +107,7 @@ impl<L: Language, N: Analysis<L>> Model for EGraph<L, N> {
 }
 
 impl<L: Language, N: Analysis<L>> EGraph<L, N> {
-    /// The graph without classes, over a table of slots. Substitutions look into canonical terms. It takes no memory.
+    /// Returns the graph without classes, over a table of slots. Substitutions look into canonical terms. Takes no memory.
     pub fn new(alloc: Global, table: SlotTable, analysis: N) -> Result<Self, Error>
         ensures answers { IsOk result }
         ensures failed { IfOk result (λ g. g.failed ≡ false) }
@@ -119,7 +119,7 @@ impl<L: Language, N: Analysis<L>> EGraph<L, N> {
         Self::with_subst_method(alloc, table, analysis, SubstMethod::SynExpr)
     }
 
-    /// The graph without classes whose substitutions look into the terms that the method says. It takes no memory.
+    /// Returns the graph without classes whose substitutions look into the terms that the method says. Takes no memory.
     pub fn with_subst_method(
         alloc: Global,
         table: SlotTable,
@@ -147,33 +147,33 @@ impl<L: Language, N: Analysis<L>> EGraph<L, N> {
         })
     }
 
-    /// The method that the graph was made with: which terms its substitutions look into. It takes no memory.
+    /// Returns the method that the graph was made with: which terms its substitutions look into. Takes no memory.
     pub fn subst_method(&self) -> SubstMethod {
         self.method
     }
 
-    /// Marks the graph failed, as a structural write of a crate above does where it runs out of memory or slots. It takes no memory.
+    /// Marks the graph failed, as a write of a crate above that runs out of memory or slots does. Takes no memory.
     pub fn fail(&mut self)
         ensures { self.new ≡ record self.old { failed = true } }
     {
         self.failed = true;
     }
 
-    /// The graph's table of slots.
+    /// Returns the graph's table of slots.
     pub fn table(&self) -> &SlotTable
         ensures { result.now ≡ self.now.table }
     {
         &self.table
     }
 
-    /// The graph's table of slots, taken out. This works on a failed graph too.
+    /// Takes the graph's table of slots out. This works on a failed graph too.
     pub fn into_table(self) -> SlotTable
         ensures { result ≡ self.table }
     {
         self.table
     }
 
-    /// Whether a call that changes the graph ran out of memory or slots.
+    /// Returns whether a call that changes the graph ran out of memory or slots.
     pub fn is_failed(&self) -> bool
         ensures failed { result ≡ self.now.failed }
         ensures canonical { IsTrue self.now.failed ⊎ Canonical self.now.image.canonical }
@@ -194,33 +194,33 @@ impl<L: Language, N: Analysis<L>> EGraph<L, N> {
         self.failed
     }
 
-    /// Whether an applied id is one of this graph: a class of it, with different known names for slots of the class, among them all that no
-    /// union dropped. A valid id stays valid. Nothing is valid in a failed graph. It takes no memory.
+    /// Returns whether an applied id is one of this graph: a class of it, with different known names for slots of the class, among them all that no
+    /// union dropped. A valid id stays valid. Nothing is valid in a failed graph. Takes no memory.
     pub fn is_valid(&self, a: &AppliedId) -> bool
         ensures { IsTrue result ↔ ((self.now.failed ≡ false) × IsValidId self.now (to_applied a.now)) }
     {
         !self.failed && is_valid(&self.store, &self.table, a)
     }
 
-    /// Whether an applied id has a name for each slot of its class, also for those that unions dropped: it is valid then, and lacks no
-    /// name. Nothing is full in a failed graph. It takes no memory.
+    /// Returns whether an applied id has a name for each slot of its class, also for those that unions dropped: it is valid then, and lacks no
+    /// name. Nothing is full in a failed graph. Takes no memory.
     pub fn is_full(&self, a: &AppliedId) -> bool
         ensures { IsTrue result ↔ ((self.now.failed ≡ false) × IsFullId self.now (to_applied a.now)) }
     {
         !self.failed && is_full_id(&self.store, &self.table, a)
     }
 
-    /// Whether a node is one over this graph: its slots are known, its children are valid, and it has fewer than 2^30
-    /// places. Nothing is valid in a failed graph. It takes no memory.
+    /// Returns whether a node is one over this graph: its slots are known, its children are valid, and it has fewer than 2^30
+    /// places. Nothing is valid in a failed graph. Takes no memory.
     pub fn is_valid_node(&self, node: &L) -> bool
         ensures { IsTrue result ↔ ((self.now.failed ≡ false) × IsValidNode self.now (L.form node.now)) }
     {
         !self.failed && is_valid_node(&self.store, &self.table, node)
     }
 
-    /// Whether a term can be added: at each node the number of children is right and the own slots are known. The child ids
+    /// Returns whether a term can be added: at each node the number of children is right and the own slots are known. The child ids
     /// inside the nodes are not looked at. A node with 2^30 places or more cannot be read: a term with one is not valid.
-    /// Nothing is valid in a failed graph. It takes no memory.
+    /// Nothing is valid in a failed graph. Memory for a list that is refused changes no answer.
     pub fn is_valid_expr(&self, term: &RecExpr<L>) -> bool
         ensures failed { IsTrue result → self.now.failed ≡ false }
         ensures valid { IsTrue result → IsValidTerm self.now.table term.now }
@@ -231,8 +231,8 @@ impl<L: Language, N: Analysis<L>> EGraph<L, N> {
         !self.failed && is_valid_term(&self.table, term)
     }
 
-    /// Whether two ids are equal by what was asserted: whether they find the same. They may lack names for slots that unions dropped. It
-    /// takes no memory.
+    /// Returns whether two ids are equal by what was asserted: whether they find the same. They may lack names for slots that unions dropped.
+    /// Takes no memory.
     ///
     /// A yes is always right. A no is, unless both ids find classes that an open symmetry affects: one of `symmetries_met` whose two sides
     /// `eq` tells apart, or a class with a node over such a class.
@@ -263,7 +263,7 @@ impl<L: Language, N: Analysis<L>> EGraph<L, N> {
         Ok(self.store.eq(a, b))
     }
 
-    /// The term that a text writes, as `RecExpr::parse` reads it: each slot's name is looked up or kept in the graph's table.
+    /// Returns the term that a text writes, as `RecExpr::parse` reads it: each slot's name is looked up or kept in the graph's table.
     /// A text that is refused does not fail the graph, and the names that were read before it stay in the table.
     pub fn parse_expr(&mut self, text: &str) -> Result<RecExpr<L>, Error>
         // The answer is that of the text over the graph's table, and it can be added.
@@ -335,7 +335,7 @@ impl<L: Language, N: Analysis<L>> EGraph<L, N> {
         Ok(answer)
     }
 
-    /// The symmetries that unions met, in the order in which they were met: each says that a class equals itself with its slots in
+    /// Returns the symmetries that unions met, in the order in which they were met: each says that a class equals itself with its slots in
     /// another order. A symmetry is open until its two sides find alike.
     pub fn symmetries_met(&self) -> &[Symmetry]
         ensures list { map symmetry_entry result.now ≡ self.now.image.symmetries }
@@ -348,7 +348,7 @@ impl<L: Language, N: Analysis<L>> EGraph<L, N> {
         self.store.symmetries()
     }
 
-    /// How many of the symmetries that unions met are open. It takes no memory.
+    /// Returns how many of the symmetries that unions met are open. Takes no memory.
     pub fn open_symmetries(&self) -> Result<usize, Error>
         ensures count { IfOk result (CountsOpen self.now.image self.now.image.symmetries) }
         ensures failed { IsErrOf result Error.Failed ↔ IsTrue self.now.failed }
@@ -360,14 +360,14 @@ impl<L: Language, N: Analysis<L>> EGraph<L, N> {
         Ok(open_symmetries(&self.store))
     }
 
-    /// The numbers of the asserted equations, in the order in which they were entered.
+    /// Returns the numbers of the asserted equations, in the order in which they were entered.
     pub fn asserted(&self) -> &[ProvenEq]
         ensures { result.now ≡ explicit_numbers self.now.image.entries }
     {
         self.store.asserted()
     }
 
-    /// The number of proved equations.
+    /// Returns the number of proved equations.
     pub fn proof_count(&self) -> usize
         ensures { result ≡ length self.now.image.entries }
     {

@@ -1,5 +1,5 @@
 //! Explanations of two terms.
-ghost use Rattle.std.specs.Prelude.{◌≡◌, ◌⊎◌, ◌↔◌, ◌+◌, false, IsTrue, IfOk, IfErr, IsErr, IsErrOf};
+ghost use Rattle.std.specs.Prelude.{◌≡◌, ◌⊎◌, ◌↔◌, ◌+◌, IsTrue, IfOk, IfErr, IsErr, IsErrOf};
 ghost use Rattle.slotted_slots.specs.Error.{IsShortage};
 ghost use Rattle.slotted_slots.specs.Table.{KnowsMore};
 ghost use Rattle.slotted_terms.specs.Valid.{IsValidTerm};
@@ -8,6 +8,7 @@ ghost use Rattle.slotted_core.specs.Graph.{MakesAtMost};
 ghost use Rattle.slotted_core.specs.Places.{term_slots};
 ghost use Rattle.slotted_graph.specs.Analysed.{CarriesData};
 ghost use Rattle.slotted_graph.specs.Extension.{ExtendsTo};
+ghost use Rattle.slotted_graph.specs.Writing.{IfUnmodified};
 
 use crate::egraph::EGraph;
 use slotted_analyses::Analysis;
@@ -55,17 +56,17 @@ impl<L: Language, N: Analysis<L>> EGraph<L, N> {
         ensures extends { IsTrue self.new.failed ⊎ ExtendsTo self.old self.new }
 
         // If classes are never modified, nothing is asserted, and what found alike still does.
-        ensures adds { N.modifies ≡ false → IsTrue self.new.failed ⊎ AddsTerms self.old.image self.new.image }
+        ensures adds { IfUnmodified N.modifies (IsTrue self.new.failed ⊎ AddsTerms self.old.image self.new.image) }
 
         // And each class that is made is what a subterm is looked up as from now on, and where both terms have ids there is none.
-        ensures filed { N.modifies ≡ false → IsTrue self.new.failed ⊎ FilesOnlyTerms self.old self.new left.now right.now }
-        ensures kept { N.modifies ≡ false → IsTrue self.new.failed ⊎ KeepsKnown self.old self.new left.now right.now }
-        ensures more { N.modifies ≡ false → KnowsMore self.old.table self.new.table }
-        ensures takes { N.modifies ≡ false
-            → MakesAtMost (term_slots left.now + term_slots right.now) self.old.table self.new.table }
-        ensures full { N.modifies ≡ false → IsErrOf result Error.OutOfSlots
-            → RunsOutForTerms self.old.image left.now right.now self.old.table self.new.table }
-        ensures carries { N.modifies ≡ false → IsTrue self.new.failed ⊎ CarriesData N.codes N.meaning self.old self.new }
+        ensures filed { IfUnmodified N.modifies (IsTrue self.new.failed ⊎ FilesOnlyTerms self.old self.new left.now right.now) }
+        ensures kept { IfUnmodified N.modifies (IsTrue self.new.failed ⊎ KeepsKnown self.old self.new left.now right.now) }
+        ensures more { IfUnmodified N.modifies (KnowsMore self.old.table self.new.table) }
+        ensures takes { IfUnmodified N.modifies
+            (MakesAtMost (term_slots left.now + term_slots right.now) self.old.table self.new.table) }
+        ensures full { IfUnmodified N.modifies (IsErrOf result Error.OutOfSlots
+            → RunsOutForTerms self.old.image left.now right.now self.old.table self.new.table) }
+        ensures carries { IfUnmodified N.modifies (IsTrue self.new.failed ⊎ CarriesData N.codes N.meaning self.old self.new) }
 
         ensures stays { IsTrue self.old.failed → self.new ≡ self.old }
         ensures failed { IsErrOf result Error.Failed ↔ IsTrue self.old.failed }

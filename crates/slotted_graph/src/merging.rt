@@ -1,9 +1,9 @@
 //! Merging values into the data of classes.
-ghost use Rattle.std.specs.Prelude.{◌≡◌, ◌⊎◌, ◌↔◌, ◌<◌, false, length, IsTrue, IfErr, IsErr, IsErrOf, OnOk};
+ghost use Rattle.std.specs.Prelude.{◌≡◌, ◌⊎◌, ◌↔◌, ◌<◌, length, IsTrue, IfErr, IsErr, IsErrOf, OnOk};
 ghost use Rattle.slotted_slots.specs.Error.{IsShortage};
 ghost use Rattle.slotted_core.specs.LookUp.{HasSameClasses};
 ghost use Rattle.slotted_graph.specs.Analysed.{MergesData};
-ghost use Rattle.slotted_graph.specs.Writing.{LeavesAsked, MergesAndModifies};
+ghost use Rattle.slotted_graph.specs.Writing.{IfUnmodified, LeavesAsked, MergesAndModifies};
 
 use crate::egraph::EGraph;
 use slotted_analyses::Analysis;
@@ -21,8 +21,8 @@ impl<L: Language, N: Analysis<L>> EGraph<L, N> {
         ensures leaves { OnOk result (LeavesAsked N.codes N.meaning N.may_ask self.old self.new) }
 
         // If classes are never modified, nothing changes but data.
-        ensures merges { N.modifies ≡ false → OnOk result (MergesData N.codes N.meaning self.old self.new id.0 value.now) }
-        ensures same { N.modifies ≡ false → OnOk result (HasSameClasses self.old self.new) }
+        ensures merges { IfUnmodified N.modifies (OnOk result (MergesData N.codes N.meaning self.old self.new id.0 value.now)) }
+        ensures same { IfUnmodified N.modifies (OnOk result (HasSameClasses self.old self.new)) }
 
         ensures stays { IsTrue self.old.failed → self.new ≡ self.old }
         ensures failed { IsErrOf result Error.Failed ↔ IsTrue self.old.failed }

@@ -6,8 +6,8 @@ ghost use Rattle.slotted_graph.specs.Asked.{IsLiveIn};
 ghost use Rattle.slotted_graph.specs.Rounds.{LeavesModified, ModifiesClass};
 
 use crate::editing::make_edits;
-use slotted_analyses::Analysis;
 use crate::egraph::EGraph;
+use slotted_analyses::Analysis;
 use slotted_languages::Language;
 use slotted_slots::{Error, Id};
 use std::alloc::Global;

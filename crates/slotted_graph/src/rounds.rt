@@ -5,9 +5,9 @@ ghost use Rattle.slotted_core.specs.Reports.{class_numbers};
 ghost use Rattle.slotted_graph.specs.States.{IsGraph};
 ghost use Rattle.slotted_graph.specs.Rounds.{LeavesModified, MakesRounds, Modifies, TakesRound};
 
+use crate::egraph::EGraph;
 use crate::modifying::modify_class;
 use slotted_analyses::Analysis;
-use crate::egraph::EGraph;
 use slotted_languages::Language;
 use slotted_slots::{Error, Id};
 use std::alloc::Global;
@@ -78,7 +78,7 @@ pub fn modify_in_rounds<L: Language, N: Analysis<L>>(
     }
     let mut asked = false;
     for _ in 0..limit {
-        if graph.modify_pending() == 0 {
+        if graph.pending_classes() == 0 {
             return Ok(asked);
         }
         if modify_once(graph, alloc)? {

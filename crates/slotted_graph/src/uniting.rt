@@ -11,7 +11,7 @@ ghost use Rattle.slotted_graph.specs.Analysed.{CarriesData};
 ghost use Rattle.slotted_graph.specs.Counted.{CountsUnion};
 ghost use Rattle.slotted_graph.specs.Extension.{ExtendsTo};
 ghost use Rattle.slotted_graph.specs.Measure.{NeverRises};
-ghost use Rattle.slotted_graph.specs.Writing.{UnitesAndModifies};
+ghost use Rattle.slotted_graph.specs.Writing.{IfUnmodified, UnitesAndModifies};
 
 use crate::egraph::EGraph;
 use slotted_analyses::Analysis;
@@ -55,18 +55,18 @@ impl<L: Language, N: Analysis<L>> EGraph<L, N> {
         ensures extends { OnOk result (ExtendsTo self.old self.new) }
 
         // If classes are never modified, this is all that has changed.
-        ensures union { N.modifies ≡ false → IfOk result (IsUnion self.old.image self.new.image (to_applied l.now) (to_applied r.now)) }
-        ensures text { N.modifies ≡ false → OnOk result (RecordsUnion self.old self.new l.now r.now None) }
+        ensures union { IfUnmodified N.modifies (IfOk result (IsUnion self.old.image self.new.image (to_applied l.now) (to_applied r.now))) }
+        ensures text { IfUnmodified N.modifies (OnOk result (RecordsUnion self.old self.new l.now r.now None)) }
 
         // And no node is filed anew where it answers false. No class is made, no more live, and where as many live, they have no more slots.
-        ensures filed { N.modifies ≡ false → IfOk result (λ y. y ≡ false → self.new.filed ≡ self.old.filed) }
-        ensures counts { N.modifies ≡ false → OnOk result (NeverRises self.old.image self.new.image) }
+        ensures filed { IfUnmodified N.modifies (IfOk result (λ y. y ≡ false → self.new.filed ≡ self.old.filed)) }
+        ensures counts { IfUnmodified N.modifies (OnOk result (NeverRises self.old.image self.new.image)) }
 
         // The rebuild found no more e-nodes than were filed, and no greater size than the graph had.
-        ensures counted { N.modifies ≡ false → OnOk result (CountsUnion self.old self.new) }
-        ensures table { N.modifies ≡ false → self.new.table ≡ self.old.table }
-        ensures carries { N.modifies ≡ false → OnOk result (CarriesData N.codes N.meaning self.old self.new) }
-        ensures full { N.modifies ≡ false → IsErrOf result Error.OutOfSlots → HasLargeClassIn self.old.image }
+        ensures counted { IfUnmodified N.modifies (OnOk result (CountsUnion self.old self.new)) }
+        ensures table { IfUnmodified N.modifies (self.new.table ≡ self.old.table) }
+        ensures carries { IfUnmodified N.modifies (OnOk result (CarriesData N.codes N.meaning self.old self.new)) }
+        ensures full { IfUnmodified N.modifies (IsErrOf result Error.OutOfSlots → HasLargeClassIn self.old.image) }
 
         ensures stays { IsTrue self.old.failed → self.new ≡ self.old }
         ensures failed { IsErrOf result Error.Failed ↔ IsTrue self.old.failed }
@@ -95,18 +95,18 @@ impl<L: Language, N: Analysis<L>> EGraph<L, N> {
         ensures extends { OnOk result (ExtendsTo self.old self.new) }
 
         // If classes are never modified, this is all that has changed.
-        ensures union { N.modifies ≡ false → IfOk result (IsUnion self.old.image self.new.image (to_applied l.now) (to_applied r.now)) }
-        ensures text { N.modifies ≡ false → OnOk result (RecordsUnion self.old self.new l.now r.now (text_bytes text)) }
+        ensures union { IfUnmodified N.modifies (IfOk result (IsUnion self.old.image self.new.image (to_applied l.now) (to_applied r.now))) }
+        ensures text { IfUnmodified N.modifies (OnOk result (RecordsUnion self.old self.new l.now r.now (text_bytes text))) }
 
         // And no node is filed anew where it answers false. No class is made, no more live, and where as many live, they have no more slots.
-        ensures filed { N.modifies ≡ false → IfOk result (λ y. y ≡ false → self.new.filed ≡ self.old.filed) }
-        ensures counts { N.modifies ≡ false → OnOk result (NeverRises self.old.image self.new.image) }
+        ensures filed { IfUnmodified N.modifies (IfOk result (λ y. y ≡ false → self.new.filed ≡ self.old.filed)) }
+        ensures counts { IfUnmodified N.modifies (OnOk result (NeverRises self.old.image self.new.image)) }
 
         // The rebuild found no more e-nodes than were filed, and no greater size than the graph had.
-        ensures counted { N.modifies ≡ false → OnOk result (CountsUnion self.old self.new) }
-        ensures table { N.modifies ≡ false → self.new.table ≡ self.old.table }
-        ensures carries { N.modifies ≡ false → OnOk result (CarriesData N.codes N.meaning self.old self.new) }
-        ensures full { N.modifies ≡ false → IsErrOf result Error.OutOfSlots → HasLargeClassIn self.old.image }
+        ensures counted { IfUnmodified N.modifies (OnOk result (CountsUnion self.old self.new)) }
+        ensures table { IfUnmodified N.modifies (self.new.table ≡ self.old.table) }
+        ensures carries { IfUnmodified N.modifies (OnOk result (CarriesData N.codes N.meaning self.old self.new)) }
+        ensures full { IfUnmodified N.modifies (IsErrOf result Error.OutOfSlots → HasLargeClassIn self.old.image) }
 
         ensures stays { IsTrue self.old.failed → self.new ≡ self.old }
         ensures failed { IsErrOf result Error.Failed ↔ IsTrue self.old.failed }

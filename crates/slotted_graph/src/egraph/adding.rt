@@ -28,7 +28,7 @@ use slotted_terms::expr::RecExpr;
 use slotted_writes::adding;
 
 impl<L: Language, N: Analysis<L>> EGraph<L, N> {
-    /// The id of a node: what the class of its filed node finds, with the node's names put in. Children may lack names for slots that unions
+    /// Returns the id of a node: what the class of its filed node finds, with the node's names put in. Children may lack names for slots that unions
     /// dropped. Nodes whose children find alike in turn have one id.
     pub fn lookup(&self, node: &L) -> Result<Option<AppliedId>, Error>
         requires { IsTrue self.now.failed ⊎ IsValidNode self.now (L.form node.now) }

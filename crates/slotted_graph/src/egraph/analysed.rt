@@ -1,5 +1,5 @@
 //! The analysis of a graph, and the data of its classes.
-ghost use Rattle.std.specs.Prelude.{◌≡◌, ◌⊎◌, ◌↔◌, ◌<◌, length, IsTrue, IfErr, IfOk, IsErr, IsErrOf, OnOk};
+ghost use Rattle.std.specs.Prelude.{◌≡◌, ◌⊎◌, ◌↔◌, ◌<◌, false, length, IsTrue, IfErr, IfOk, IsErr, IsErrOf, OnOk};
 ghost use Rattle.slotted_slots.specs.Error.{IsOutOfMemory, IsShortage};
 ghost use Rattle.slotted_core.specs.Reports.{HasClass, class_numbers};
 ghost use Rattle.slotted_core.specs.LookUp.{HasSameClasses};
@@ -27,14 +27,14 @@ fn ids_of(alloc: Global, classes: &[usize]) -> Result<Vec<Id>, Error>
 }
 
 impl<L: Language, N: Analysis<L>> EGraph<L, N> {
-    /// Returns the graph's analysis. It takes no memory.
+    /// Returns the graph's analysis. Takes no memory.
     pub fn analysis(&self) -> &N
         ensures { IsAnalysisOf N.codes self.now result.now }
     {
         &self.analysis
     }
 
-    /// Returns the data of the class that a class finds: the merge of what its nodes make, and of what was merged into it. It takes no memory.
+    /// Returns the data of the class that a class finds: the merge of what its nodes make, and of what was merged into it. Takes no memory.
     pub fn analysis_data(&self, id: Id) -> &N::Data
         requires { HasClass self.now id.0 }
         ensures value { HasData N.codes self.now id.0 result.now }
@@ -76,8 +76,20 @@ impl<L: Language, N: Analysis<L>> EGraph<L, N> {
         Ok(())
     }
 
-    /// Returns how many live classes wait to be modified: those that were made, or whose data has changed. It takes no memory.
+    /// Returns how many live classes wait to be modified: those that were made, or whose data has changed. None waits if the analysis never
+    /// modifies classes. Takes no memory.
     pub fn modify_pending(&self) -> usize
+        ensures waits { IsTrue N.modifies → IsTrue self.now.failed ⊎ CountsPending N.codes self.now result }
+        ensures none { N.modifies ≡ false → result ≡ 0 }
+    {
+        if !N::modifies() {
+            return 0;
+        }
+        self.pending_classes()
+    }
+
+    /// Returns how many live classes were made, or have other data, since `take_pending`. Takes no memory.
+    pub fn pending_classes(&self) -> usize
         ensures { IsTrue self.now.failed ⊎ CountsPending N.codes self.now result }
     {
         if self.failed {
@@ -131,13 +143,13 @@ impl<L: Language, N: Analysis<L>> EGraph<L, N> {
         ensures fails { IsTrue self.new.failed ↔ IsErr result }
         ensures only { IfErr result (λ e. (e ≡ Error.Failed) ⊎ IsShortage e) }
     {
-        if self.failed {
+        if self.is_failed() {
             return Err(Error::Failed);
         }
         if !N::modifies() {
             return Ok(false);
         }
-        let limit = self.rounds;
+        let limit = self.modify_rounds();
         let alloc = self.alloc;
         modify_in_rounds(self, alloc, limit)
     }

@@ -23,7 +23,7 @@ use slotted_slots::{AppliedId, Error};
 use slotted_terms::expr::RecExpr;
 
 impl<L: Language, N: Analysis<L>> EGraph<L, N> {
-    /// The node that the class of an id was made with, with the id's names put in. For a slot that it has no name for, since a union
+    /// Returns the node that the class of an id was made with, with the id's names put in. For a slot that it has no name for, since a union
     /// dropped it, stands a fresh one. Binders that would meet one of these get fresh names.
     pub fn get_syn_node(&mut self, a: &AppliedId) -> Result<L, Error>
         requires { IsTrue self.old.failed ⊎ IsValidId self.old (to_applied a.now) }
@@ -47,7 +47,7 @@ impl<L: Language, N: Analysis<L>> EGraph<L, N> {
         syn::syn_node_of(&self.store, self.alloc, &mut self.table, a)
     }
 
-    /// The term that an id stands for, the canonical one: the node that its class was made with, over the terms of the node's
+    /// Returns the term that an id stands for, the canonical one: the node that its class was made with, over the terms of the node's
     /// children. For a slot that the id has no name for, since a union dropped it, stands a fresh one. The child ids inside its nodes
     /// are null.
     pub fn get_syn_expr(&mut self, a: &AppliedId) -> Result<RecExpr<L>, Error>
@@ -71,7 +71,7 @@ impl<L: Language, N: Analysis<L>> EGraph<L, N> {
         syn::syn_expr_of(&self.store, self.alloc, &mut self.table, a)
     }
 
-    /// The proved equations, with their steps and texts.
+    /// Returns the proved equations, with their steps and texts.
     pub fn proofs(&self) -> &ProofList
         ensures list { result.now ≡ self.now.image.stored }
         ensures entries { self.now.image.entries ≡ entries_of self.now.image.stored }
@@ -87,7 +87,7 @@ impl<L: Language, N: Analysis<L>> EGraph<L, N> {
         self.store.proofs()
     }
 
-    /// Whether the number is that of a proved equation. It takes no memory.
+    /// Returns whether the number is that of a proved equation. Takes no memory.
     pub fn is_valid_proof(&self, p: ProvenEq) -> bool
         ensures { IsTrue result ↔ (p < length self.now.image.entries) }
     {

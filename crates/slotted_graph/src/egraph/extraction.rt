@@ -20,7 +20,7 @@ use slotted_slots::{AppliedId, Error};
 use slotted_terms::expr::RecExpr;
 
 impl<L: Language, N: Analysis<L>> EGraph<L, N> {
-    /// For each class that finds itself a filed node of least cost. It takes time for each filed node once, and for a turn of a heap.
+    /// Returns a filed node of least cost for each class that finds itself. It takes time for each filed node once, and for a turn of a heap.
     pub fn least_terms<F: CostFunction<L>>(
         &self,
         costs: &F,
@@ -42,8 +42,8 @@ impl<L: Language, N: Analysis<L>> EGraph<L, N> {
         terms::least_terms(&self.store, &self.nodes, self.alloc, costs)
     }
 
-    /// The term that such nodes make of what an id finds. For a slot that the id has no name for, or that unions dropped, stands a fresh
-    /// name, and binders are fresh. Where the nodes are those of an older graph it answers too, whatever that is.
+    /// Returns the term that such nodes make of what an id finds. For a slot that the id has no name for, or that unions dropped, stands a fresh
+    /// name, and binders are fresh. If the nodes are those of an older graph, some term is answered.
     pub fn least_term<C: Drop>(
         &mut self,
         terms: &LeastTerms<L, C>,

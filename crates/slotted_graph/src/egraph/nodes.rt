@@ -18,14 +18,14 @@ use slotted_slots::{AppliedId, Error, Id};
 use std::collections::HashSet;
 
 impl<L: Language, N: Analysis<L>> EGraph<L, N> {
-    /// The number of filed nodes, also of a failed graph. It takes no memory.
+    /// Returns the number of filed nodes, also of a failed graph. Takes no memory.
     pub fn total_number_of_nodes(&self) -> usize
         ensures { result ≡ length self.now.filed }
     {
         reports::filed_count(&self.nodes)
     }
 
-    /// The filed nodes of the class of an id, with the id's names, ascending by their shapes. For a slot that the id has no name for, or that
+    /// Returns the filed nodes of the class of an id, with the id's names, ascending by their shapes. For a slot that the id has no name for, or that
     /// unions dropped, stands a fresh one, and binders are fresh. A class that does not find itself has none.
     pub fn enodes_applied(&mut self, a: &AppliedId) -> Result<Vec<L>, Error>
         requires { IsTrue self.old.failed ⊎ IsValidId self.old (to_applied a.now) }
@@ -52,7 +52,7 @@ impl<L: Language, N: Analysis<L>> EGraph<L, N> {
         nodes::enodes_applied(&self.store, &self.nodes, self.alloc, &mut self.table, a)
     }
 
-    /// The filed nodes of a class, over the slots that it has left. A number stands for each slot that unions dropped, and for each binder.
+    /// Returns the filed nodes of a class, over the slots that it has left. A number stands for each slot that unions dropped, and for each binder.
     /// A class that does not find itself has none.
     pub fn enodes(&self, id: Id) -> Result<HashSet<L>, Error>
         requires { IsTrue self.now.failed ⊎ (id.0 < length self.now.image.canonical) }
@@ -75,7 +75,7 @@ impl<L: Language, N: Analysis<L>> EGraph<L, N> {
         nodes::enodes(&self.store, &self.nodes, self.alloc, &class)
     }
 
-    /// Whether what is kept of filed nodes fits together: each class finds one that finds itself, and each filed node stands under its own
+    /// Returns whether what is kept of filed nodes fits together: each class finds one that finds itself, and each filed node stands under its own
     /// shape, once. It is so in every graph that has not failed.
     pub fn check(&self) -> Result<bool, Error>
         ensures yes { IfOk result (λ y. IsTrue y) }

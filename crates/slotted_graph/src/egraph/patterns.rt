@@ -43,7 +43,7 @@ fn has_known_names<L: Language>(table: &SlotTable, pattern: &Pattern<L>) -> bool
 }
 
 impl<L: Language, N: Analysis<L>> EGraph<L, N> {
-    /// The pattern that a text writes, as `Pattern::parse` reads it: each slot's name is looked up or kept in the graph's
+    /// Returns the pattern that a text writes, as `Pattern::parse` reads it: each slot's name is looked up or kept in the graph's
     /// table. A text that is refused does not fail the graph, and the names that were read before it stay in the table.
     pub fn parse_pattern(&mut self, text: &str) -> Result<Pattern<L>, Error>
         // The answer is that of the text over the graph's table, which knows the names of the pattern's nodes from now on.
@@ -62,8 +62,8 @@ impl<L: Language, N: Analysis<L>> EGraph<L, N> {
         Pattern::parse(self.alloc, text, &mut self.table)
     }
 
-    /// Whether a pattern is one over this graph: the slots of its nodes are known. The child ids inside pattern nodes are null, or have known names too. A
-    /// node with 2^30 places or more cannot be read: a pattern with one is not valid. Nothing is valid in a failed graph. It takes no memory.
+    /// Returns whether a pattern is one over this graph: the slots of its nodes are known. The child ids inside pattern nodes are null, or have known names too. A
+    /// node with 2^30 places or more cannot be read: a pattern with one is not valid. Nothing is valid in a failed graph. Takes no memory.
     pub fn is_valid_pattern(&self, pattern: &Pattern<L>) -> bool
         ensures failed { IsTrue result → self.now.failed ≡ false }
         ensures known { IsTrue result → HasKnownNames self.now.table (tree_of L.form pattern.now) }

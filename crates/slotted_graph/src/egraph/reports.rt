@@ -38,21 +38,21 @@ fn live_ids<L: Language>(store: &Store<L>, alloc: Global) -> Result<Vec<Id>, Err
 }
 
 impl<L: Language, N: Analysis<L>> EGraph<L, N> {
-    /// Whether a number is that of a class. None is in a failed graph. It takes no memory.
+    /// Returns whether a number is that of a class. None is in a failed graph. Takes no memory.
     pub fn is_valid_id(&self, id: Id) -> bool
         ensures { IsTrue result ↔ HasClass self.now id.0 }
     {
         !self.failed && id.0 < self.store.class_count()
     }
 
-    /// Whether a number is that of a class that finds itself. None is in a failed graph. It takes no memory.
+    /// Returns whether a number is that of a class that finds itself. None is in a failed graph. Takes no memory.
     pub fn is_alive(&self, id: Id) -> bool
         ensures { IsTrue result ↔ (HasClass self.now id.0 × (class_found self.now.image id.0 ≡ id.0)) }
     {
         self.is_valid_id(id) && reports::is_alive(&self.store, id.0)
     }
 
-    /// What an applied id finds: a live class, with a name for just each slot that it has left. The id may lack names for slots that
+    /// Returns what an applied id finds: a live class, with a name for just each slot that it has left. The id may lack names for slots that
     /// unions dropped.
     pub fn find_applied_id(&self, a: &AppliedId) -> Result<AppliedId, Error>
         requires { IsTrue self.now.failed ⊎ IsValidId self.now (to_applied a.now) }
@@ -70,7 +70,7 @@ impl<L: Language, N: Analysis<L>> EGraph<L, N> {
         finding::find_applied_id(&self.store, self.alloc, a)
     }
 
-    /// The classes that find themselves, ascending.
+    /// Returns the classes that find themselves, ascending.
     pub fn ids(&self) -> Result<Vec<Id>, Error>
         ensures ok { IfOk result (λ v. class_numbers v.items ≡ live_classes self.now.image) }
 
@@ -84,7 +84,7 @@ impl<L: Language, N: Analysis<L>> EGraph<L, N> {
         Ok(ids)
     }
 
-    /// How far the graph is. Of a failed one nothing is counted. It takes no memory.
+    /// Returns how far the graph is. Of a failed one nothing is counted. Takes no memory.
     pub fn progress(&self) -> ProgressMeasure
         ensures measure { IsTrue self.now.failed ⊎ IsProgress self.now.image result }
         ensures failed { IsTrue self.now.failed → result ≡ no_progress }
@@ -100,7 +100,7 @@ impl<L: Language, N: Analysis<L>> EGraph<L, N> {
         measure::progress(&self.store)
     }
 
-    /// The slots of a class that no union dropped, ascending. The table knows them.
+    /// Returns the slots of a class that no union dropped, ascending. The table knows them.
     pub fn slots(&self, id: Id) -> Result<SmallHashSet<Slot>, Error>
         requires { IsTrue self.now.failed ⊎ (id.0 < length self.now.image.canonical) }
         ensures ok { IfOk result (λ s. s ≡ slots_used self.now.image id.0) }
@@ -115,7 +115,7 @@ impl<L: Language, N: Analysis<L>> EGraph<L, N> {
         reports::slots_of(&self.store, self.alloc, id.0)
     }
 
-    /// A class with each of these slots as its own name.
+    /// Returns a class with each slot that it has left as its own name.
     pub fn mk_identity_applied_id(&self, id: Id) -> Result<AppliedId, Error>
         requires { IsTrue self.now.failed ⊎ (id.0 < length self.now.image.canonical) }
         ensures ok { IfOk result (λ a. to_applied a ≡ names_slots self.now.image id.0) }
@@ -131,7 +131,7 @@ impl<L: Language, N: Analysis<L>> EGraph<L, N> {
         Ok(made)
     }
 
-    /// A slot that the graph's table never made before. It takes no memory.
+    /// Returns a slot that the graph's table never made before. Takes no memory.
     pub fn fresh_slot(&mut self) -> Result<Slot, Error>
         ensures slot { IfOk result (λ s. s ≡ fresh_slot self.old.table.fresh) }
         ensures moved { OnOk result (self.new.table ≡ record self.old.table { fresh = self.old.table.fresh + 1 }) }
@@ -153,7 +153,7 @@ impl<L: Language, N: Analysis<L>> EGraph<L, N> {
         self.table.fresh()
     }
 
-    /// The slot of the text after a `$` in the graph's table, as `SlotTable::named` reads it. Only a new name takes memory.
+    /// Returns the slot of the text after a `$` in the graph's table, as `SlotTable::named` reads it. Only a new name takes memory.
     pub fn named_slot(&mut self, s: &str) -> Result<Slot, Error>
         ensures slot { IfOk result (λ slot. named_of self.old.table s.now ≡ gives slot self.new.table) }
 

@@ -18,7 +18,7 @@ pub trait Check {
     // Which step it is.
     ghost step: { Self → Step };
 
-    /// The number of the equation, which is entered by this step if it is not there yet.
+    /// Returns the number of the equation, which is entered by this step if it is not there yet.
     ///
     /// Any equation may be handed in, and any numbers in the step. `BadStep` if the step does not prove the equation over the
     /// entries of this graph, or a side is not an id of this graph with different names for exactly the canonical slots of its

@@ -11,8 +11,8 @@ loop-init g c =
     let is = given (sym c.is_failed.ensures.failed ∙ c.if-is_failed.false) c.is_failed.ensures.rests in
     (is, is, no_rounds)
 
-pub returns-then-modify_pending-eq0-clause-leaves : goal.returns-then-modify_pending-eq0-clause-leaves
-returns-then-modify_pending-eq0-clause-leaves g c = rounds-leave g.N.Analysis.codes g.N.Analysis.meaning g.met.N.Analysis.is_merge g.N.Analysis.may_ask c.loop.invariant.0 c.loop.invariant.2
+pub returns-then-pending_classes-eq0-clause-leaves : goal.returns-then-pending_classes-eq0-clause-leaves
+returns-then-pending_classes-eq0-clause-leaves g c = rounds-leave g.N.Analysis.codes g.N.Analysis.meaning g.met.N.Analysis.is_merge g.N.Analysis.may_ask c.loop.invariant.0 c.loop.invariant.2
 
 pub loop-preserved : goal.loop-preserved
 loop-preserved g c =
@@ -22,7 +22,7 @@ loop-preserved g c =
     let inv = c.loop.invariant in (
       inv.0,
       c.in_ok-modify_once.ensures.leaves.graph,
-      rounds-then codes meaning g.met.N.Analysis.is_merge g.N.Analysis.may_ask inv.2 (some-wait codes c.loop.graph c.modify_pending.result inv.1 c.modify_pending.ensures c.if-modify_pending-eq0.false)
+      rounds-then codes meaning g.met.N.Analysis.is_merge g.N.Analysis.may_ask inv.2 (some-wait codes c.loop.graph c.pending_classes.result inv.1 c.pending_classes.ensures c.if-pending_classes-eq0.false)
           c.in_ok-modify_once.ensures.round (c.loop.counter + 1) (omega arith) c.if-branch.asked
           (elim c.if-branch.branch [
             | then-branch w ↦ w.asked-is ∙ sym (ap (λ b. b || y) w.if-branch.true)

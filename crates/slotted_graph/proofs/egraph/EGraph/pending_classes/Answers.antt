@@ -2,7 +2,7 @@ use Rattle.std.proofs.Common.{ap, inr, sym}
 use Rattle.slotted_core.specs.Graph.{Graph}
 use Rattle.slotted_graph.proofs.Analysed.{counts-pending}
 use Rattle.slotted_graph.proofs.Insides.{inside-of}
-use Rattle.slotted_graph.proofs.egraph.EGraph.modify_pending.Goals as goal
+use Rattle.slotted_graph.proofs.egraph.EGraph.pending_classes.Goals as goal
 
 pub returns : goal.returns
 returns g c =

@@ -1,0 +1,35 @@
+use Rattle.std.proofs.Common.{inl, inr}
+use Rattle.slotted_core.proofs.CallerLemmas.{term_later}
+use Rattle.slotted_graph.proofs.Extending.{extends-then}
+use Rattle.slotted_graph.proofs.Insides.{given}
+use Rattle.slotted_graph.proofs.Writing.{explained-extends, was-well}
+use Rattle.slotted_graph.proofs.egraph.EGraph.explain_after_edits.Goals as goal
+
+pub add_syn_expr-requires-2 : goal.add_syn_expr-requires-2
+add_syn_expr-requires-2 g c =
+    let e = c.in_ok-add_syn_expr.ensures in
+    let well = was-well c.args.self.now c.add_syn_expr.new.self c.add_syn_expr.ensures.stays e.fails.0 in
+    inr (term_later c.args.self.now.table c.add_syn_expr.new.self.table e.leaves.extends.more c.args.right.now (given well c.requires.right))
+
+pub explain_quietly-requires-clause-left : goal.explain_quietly-requires-clause-left
+explain_quietly-requires-clause-left g c =
+    let e = c.in_ok-add_syn_expr.ensures in
+    let well = was-well c.args.self.now c.add_syn_expr.new.self c.add_syn_expr.ensures.stays e.fails.0 in
+    let both = extends-then c.args.self.now c.add_syn_expr.new.self c.add_syn_expr-2.new.self e.leaves.extends c.in_ok-add_syn_expr-2.ensures.leaves.extends in
+    inr (term_later c.args.self.now.table c.add_syn_expr-2.new.self.table both.more c.args.left.now (given well c.requires.left))
+
+pub explain_quietly-requires-clause-right : goal.explain_quietly-requires-clause-right
+explain_quietly-requires-clause-right g c =
+    let e = c.in_ok-add_syn_expr.ensures in
+    let well = was-well c.args.self.now c.add_syn_expr.new.self c.add_syn_expr.ensures.stays e.fails.0 in
+    let both = extends-then c.args.self.now c.add_syn_expr.new.self c.add_syn_expr-2.new.self e.leaves.extends c.in_ok-add_syn_expr-2.ensures.leaves.extends in
+    inr (term_later c.args.self.now.table c.add_syn_expr-2.new.self.table both.more c.args.right.now (given well c.requires.right))
+
+pub returns-clause-extends : goal.returns-clause-extends
+returns-clause-extends g c =
+    let e = c.in_ok-add_syn_expr.ensures in
+    let both = extends-then c.args.self.now c.add_syn_expr.new.self c.add_syn_expr-2.new.self e.leaves.extends c.in_ok-add_syn_expr-2.ensures.leaves.extends in
+    elim (explained-extends c.add_syn_expr-2.new.self c.explain_quietly.new.self c.explain_quietly.ensures.adds c.explain_quietly.ensures.more) [
+      | inl failed ↦ inl failed
+      | inr more ↦ inr (extends-then c.args.self.now c.add_syn_expr-2.new.self c.explain_quietly.new.self both more)
+    ]
