@@ -68,7 +68,7 @@ impl<L: Language, N: Analysis<L>> OwnSubst<L, N> for Extracted {
     ) -> Result<AppliedId, Error> {
         let terms = graph.least_terms(&AstSize)?;
         let term = graph.least_term(&terms, &b)?;
-        let body = graph.add_syn_expr(&term)?;
+        let body = graph.add_syn_expr_quietly(&term)?;
         // This call is there for its clauses: what holds of each graph that has not failed.
         let _ = graph.is_failed();
         replaced(alloc, graph, &body, &x, &t)

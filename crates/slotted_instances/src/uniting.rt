@@ -65,7 +65,7 @@ fn unite<L: Language, N: Analysis<L>>(
     let method = graph.subst_method();
     let left = build_stored(alloc, graph, method, a, subst)?;
     let right = build_stored(alloc, graph, method, b, subst)?;
-    let answer = graph.union_justified(&left, &right, text);
+    let answer = graph.union_quietly(&left, &right, text);
     // This call is there for its clauses: what holds of each graph that has not failed.
     let _ = graph.is_failed();
     answer
@@ -101,7 +101,8 @@ fn test_and_unite<L: Language, N: Analysis<L>>(
 /// Asserts that instances of both patterns are equal, which are built as `pattern_subst` builds them. Returns true if
 /// they were not found equal before.
 ///
-/// Their equation is a new entry of the proof list with the text, unless it was proved already.
+/// Their equation is a new entry of the proof list with the text, unless it was proved already. No class is modified:
+/// what was made or has changed waits for `EGraph::modify`.
 pub fn union_instantiations<L: Language, N: Analysis<L>>(
     alloc: Global,
     graph: &mut EGraph<L, N>,

@@ -56,7 +56,7 @@ fn instance_by<L: Language, N: Analysis<L>, M: OwnSubst<L, N>>(
 }
 
 /// Returns the id of an instance of the pattern, as `pattern_subst` does, but by the caller's method for each `b[x :=
-/// t]`. Nothing is said of what the method asserts.
+/// t]`. Nothing is said of what the method asserts. No class is modified, unless the method does so.
 pub fn subst_with<L: Language, N: Analysis<L>, M: OwnSubst<L, N>>(
     alloc: Global,
     graph: &mut EGraph<L, N>,

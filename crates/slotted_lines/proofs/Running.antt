@@ -11,6 +11,7 @@ use Rattle.slotted_languages.proofs.HandedOn.{error_or}
 use Rattle.slotted_core.specs.Graph.{Graph}
 use Rattle.slotted_graph.specs.Extension.{ExtendsTo}
 use Rattle.slotted_model_rules.specs.Runners.{Stop, saturated, iteration_limit, time_limit, node_limit, other}
+use Rattle.slotted_rules.specs.Applying.{NeverModified}
 use Rattle.slotted_rules.specs.Written.{CanBeSearched}
 use Rattle.slotted_rules.specs.declared.condition.Always.{Always}
 use Rattle.slotted_rules.specs.declared.rewrite.Rewrite.{Rewrite}
@@ -35,7 +36,7 @@ same-stop is_clone (other never) b e = elim never [ ]
 
 -- all that `run` says, of a runner that is p before and q after
 pub record RunSays {L : Type 0} (form : L → Form) (rules : List (Rewrite L Always)) (is_clone : Infallible → Infallible → Type 0) (p q : RunnerState) (o : Result (Report Infallible) Error) : Type 0 where
-  pub ok : IfOk o (HasReported TellsZero (RulesOnce (searches_by form) (applies_by form) rules) (Calls leaves_all) (measures (λ _ _. tt)) is_clone p q)
+  pub ok : IfOk o (HasReported TellsZero (RulesOnce (searches_by form) (applies_by form) (NeverModified L) rules) (Calls leaves_all) (measures (λ _ _. tt)) is_clone p q)
   pub refused : IfErr o (λ e. IsTrue p.graph.failed ⊎ HasRefusedRules form rules p q e)
   pub extends : IsTrue q.graph.failed ⊎ ExtendsTo p.graph q.graph
   pub stays : IsTrue p.graph.failed → q.graph ≡ p.graph

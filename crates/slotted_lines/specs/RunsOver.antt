@@ -18,6 +18,7 @@ use Rattle.slotted_graph.specs.Extension.{ExtendsTo}
 use Rattle.slotted_model_rules.specs.Conditions.{Values}
 use Rattle.slotted_model_rules.specs.Runners.{usual_limits}
 use Rattle.slotted_model_rules.specs.Runners as model
+use Rattle.slotted_rules.specs.Applying.{NeverModified}
 use Rattle.slotted_rules.specs.Counting.{AppliesRule, RefusesRule, SearchesRule}
 use Rattle.slotted_rules.specs.declared.condition.Always.{Always}
 use Rattle.slotted_rules.specs.declared.rewrite.Rewrite.{Rewrite}
@@ -52,10 +53,10 @@ runner_over g n hook clock =
     let p : RunnerState = new_parts g clock hook in record p { limits = record usual_limits { iterations = n } }
 
 abbrev pub HasRunRules : {L : Type 0} → (L → Form) → List (Rewrite L Always) → RunnerState → RunnerState → model.Report Infallible → Type 0
-HasRunRules form rules p q told = HasRun TellsZero (RulesOnce (searches_by form) (applies_by form) rules) (Calls leaves_all) (measures (λ _ _. tt)) p q told
+HasRunRules {L} form rules p q told = HasRun TellsZero (RulesOnce (searches_by form) (applies_by form) (NeverModified L) rules) (Calls leaves_all) (measures (λ _ _. tt)) p q told
 
 abbrev pub HasRefusedRules : {L : Type 0} → (L → Form) → List (Rewrite L Always) → RunnerState → RunnerState → Error → Type 0
-HasRefusedRules form rules p q e = IsRefused TellsZero (RulesOnce (searches_by form) (applies_by form) rules) (Calls leaves_all) (measures (λ _ _. tt)) p q e
+HasRefusedRules {L} form rules p q e = IsRefused TellsZero (RulesOnce (searches_by form) (applies_by form) (NeverModified L) rules) (Calls leaves_all) (measures (λ _ _. tt)) p q e
 
 pub record Reports {L : Type 0} (form : L → Form) (rules : List (Rewrite L Always)) (limit : ℕ) (g h : Graph) (turns : ℕ) (reason : StopReason Infallible) (nodes : ℕ) : Type 0 where
   pub hook : NoHook

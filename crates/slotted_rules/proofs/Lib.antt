@@ -2,6 +2,7 @@
 pub mod AppliedRules
 pub mod Counted
 pub mod Progress
+pub mod Modified
 pub mod Settling
 pub mod LeftGraphs
 pub mod UnitedAnswers

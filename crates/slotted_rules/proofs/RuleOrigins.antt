@@ -1,6 +1,6 @@
--- Where written rules were applied, each new explicit entry comes from one of them.
-use Rattle.std.proofs.Common.{◌≡◌, ◌∙◌, ◌<◌, ◌≤◌, ℕ, List, length, ap, sym, refl, inl, inr, arith}
-use Rattle.std.specs.Prelude.{Bool, Contains, string_bytes}
+-- Where written rules were applied, each new explicit entry comes from one of them, or entered in the edits after them.
+use Rattle.std.proofs.Common.{◌≡◌, ◌∙◌, ◌<◌, ◌≤◌, ℕ, List, length, map, ap, subst, sym, refl, inl, inr, arith}
+use Rattle.std.specs.Prelude.{◌⊎◌, Bool, Contains, string_bytes}
 use Rattle.std.proofs.lemmas.Bool.{cases_lt}
 use Rattle.slotted_nodes.specs.Form.{Form}
 use Rattle.slotted_patterns.specs.View.{tree_of}
@@ -14,9 +14,26 @@ use Rattle.slotted_graph.specs.Extension.{ExtendsTo}
 use Rattle.slotted_graph.proofs.Extending.{extends-itself, extends-takes, extends-then}
 use Rattle.slotted_instances.proofs.InstanceEquations.{stored-length}
 use Rattle.slotted_rules.specs.declared.rewrite.Rewrite.{Rewrite}
-use Rattle.slotted_rules.specs.Counting.{AppliesRule, SearchesRule}
-use Rattle.slotted_rules.specs.RuleOrigins.{ComesFromRules}
+use Rattle.slotted_rules.specs.Applying.{ThenModifies}
+use Rattle.slotted_rules.specs.Counting.{AppliesRule, CountsAndModifies, CountsRules, SearchesRule, UnitesRule}
+use Rattle.slotted_rules.specs.RuleOrigins.{AreFromRulesOrEdits, ComesFromEdits, ComesFromRules}
+use Rattle.slotted_rules.specs.declared.counting.RuleCounts.{RuleCounts}
 use Rattle.slotted_rules.proofs.Settling.{begins-at, begins-within, comes-wider}
+
+-- an explicit entry that was there before was explicit then
+pub step-before : (k h : Graph) → ExtendsTo k h → (n : ℕ) → n < length k.image.entries → step_at h.image.entries n ≡ explicit → step_at k.image.entries n ≡ explicit
+step-before k h e n lt new = sym (ap (λ (z : ProofEntry). z.step) (begins-at k.image.entries h.image.entries _ e.entries n lt)) ∙ new
+
+pub edits-wider : (after : Graph → Graph → Type 0) (g f h i : Graph) → ExtendsTo g f → ExtendsTo h i → (n : ℕ) → ComesFromEdits after f h n → ComesFromEdits after g i n
+edits-wider after g f h i first later n c = record {
+  before = c.before;
+  left = c.left;
+  by_edits = c.by_edits;
+  start = extends-then g f c.before first c.start;
+  end = extends-then c.left h i c.end later;
+  past = c.past;
+  within = c.within;
+}
 
 module _ {L C : Type 0} (form : L → Form) (holds : C → Values → Graph → Bool) where
   abbrev applies : Rewrite L C → List Values → Graph → Graph → Type 0
@@ -64,7 +81,7 @@ module _ {L C : Type 0} (form : L → Form) (holds : C → Values → Graph → 
   each-came all g sub start end (one_searched {rule = rule} {g = e} {f = f} {found = found} first more) (one_applied {g = j} {f = k} {h = h} now later) n past lt new = elim (cases_lt n (length k.image.entries)) [
     | inl before ↦
         let after : ExtendsTo k h = applies-extend later in
-        let was : step_at k.image.entries n ≡ explicit = sym (ap (λ (z : ProofEntry). z.step) (begins-at k.image.entries h.image.entries _ after.entries n before)) ∙ new in
+        let was : step_at k.image.entries n ≡ explicit = step-before k h after n before new in
         let kept : n < length k.image.stored = omega (arith, before, stored-length k now.graph) in (
           record {
             rule = rule;
@@ -85,3 +102,47 @@ module _ {L C : Type 0} (form : L → Form) (holds : C → Values → Graph → 
   rules-came rules g h a n past lt new =
       let same : length a.searched.image.entries ≡ length g.image.entries = ap (λ (x : Image). length x.entries) (searches-same a.by_searches) in
       each-came rules g (λ r c. Contains-In rules r c) (extends-itself g) (searches-extend a.by_searches) a.by_searches a.by_applies n (omega (arith, past, same)) lt new
+
+  -- what is counted is applied
+  united-applied : {rules : List (Rewrite L C)} {each : List (List Values × ℕ)} {g h : Graph} → AppliesAll (UnitesRule form holds) rules each g h → AppliesAll applies rules (map (λ k. k.0) each) g h
+  united-applied none_applied = none_applied
+  united-applied (one_applied first more) = one_applied first.0 (united-applied more)
+
+  pub counted-rules : (rules : List (Rewrite L C)) (g : Graph) (counts : List RuleCounts) (h : Graph) → CountsRules form holds rules g counts h → AppliesRules (SearchesRule form) applies rules g h
+  counted-rules rules g counts h c = record { searched = c.searched; found = map (λ k. k.0) c.each; by_searches = c.by_searches; by_applies = united-applied c.by_applies }
+
+  -- rules, and then edits, which extend the graph
+  module _ (after : Graph → Graph → Type 0) (extends : (g h : Graph) → after g h → ExtendsTo g h) (rules : List (Rewrite L C)) (g h : Graph) where
+    abbrev Then : Type 0
+    Then = ThenModifies (AppliesRules (SearchesRule form) applies rules) after g h
+
+    pub then-extends : Then → ExtendsTo g h
+    then-extends led = extends-then g led.applied h (rules-extend rules g led.applied led.by_rules) (extends led.applied h led.by_edits)
+
+    pub then-came : Then → (n : ℕ) → length g.image.entries ≤ n → n < length h.image.entries → step_at h.image.entries n ≡ explicit → Came rules g h n ⊎ ComesFromEdits after g h n
+    then-came led n past lt new =
+        let f = led.applied in
+        let later : ExtendsTo f h = extends f h led.by_edits in
+        elim (cases_lt n (length f.image.entries)) [
+          | inl before ↦ inl (came-wider rules g g f h (extends-itself g) later n before (rules-came rules g f led.by_rules n past before (step-before f h later n before new)))
+          | inr past_it ↦ inr (record {
+            before = f;
+            left = h;
+            by_edits = led.by_edits;
+            start = rules-extend rules g f led.by_rules;
+            end = extends-itself h;
+            past = past_it;
+            within = lt;
+          })
+        ]
+
+    -- what `apply_rewrites` leaves says where its entries come from
+    pub rules-or-edits : Then → AreFromRulesOrEdits form holds rules after g h
+    rules-or-edits led n past lt new = elim (then-came led n past lt new) [
+      | inl c ↦ inl c.0
+      | inr c ↦ inr c
+    ]
+
+    -- and so does what `apply_counted` leaves
+    pub counted-or-edits : (counts : List RuleCounts) → CountsAndModifies form holds rules after g counts h → AreFromRulesOrEdits form holds rules after g h
+    counted-or-edits counts c = rules-or-edits (record { applied = c.applied; by_rules = counted-rules rules g counts c.applied c.by_rules; by_edits = c.by_edits })

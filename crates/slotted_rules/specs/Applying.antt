@@ -1,13 +1,20 @@
--- Rules applied one after another.
+-- Rules applied one after another, and rounds of edits after them.
 --     CanApplyAll can rules founds g    each rule can apply what it found, in the graph g
 --     AreRefusedBy refuses rules e      one of the rules may refuse so
 --     HasProgressed g h                 the progress measures of the graphs differ
-use Rattle.std.specs.Prelude.{◌≢◌, List, [], ◌∷◌, Contains}
+--     AreModified .. g h                classes were modified, or nothing was done where classes are never modified
+--     NeverModified L g h               so it is of the analysis that keeps nothing, by which no graph changes
+--     ThenModifies rules after g h      the rules lead from g to a graph from which `after` leads to h
+use Rattle.std.specs.Prelude.{◌≢◌, List, [], ◌∷◌, Bool, Contains, false}
+use Rattle.std.specs.Coded.{Coded}
 use Rattle.slotted_slots.specs.declared.error.Error.{Error}
 use Rattle.slotted_reports.specs.declared.measure.ProgressMeasure.{ProgressMeasure}
 use Rattle.slotted_core.specs.Graph.{Graph}
 use Rattle.slotted_core.specs.Image.{Image}
+use Rattle.slotted_analyses.specs.Meaning.{Meaning, no_data, unit_code}
+use Rattle.slotted_graph.specs.Asked.{Asks}
 use Rattle.slotted_graph.specs.Measure.{IsProgress}
+use Rattle.slotted_graph.specs.Rounds.{IsModified}
 
 abbrev pub CanApplyAll : {R F : Type 0} → (R → F → Graph → Type 0) → List R → List F → Graph → Type 0
 CanApplyAll can [] [] g = Unit {0}
@@ -20,3 +27,15 @@ AreRefusedBy {R} refuses rules e = (r : R) × Contains rules r × refuses r e
 
 abbrev pub HasProgressed : Image → Image → Type 0
 HasProgressed g h = (m n : ProgressMeasure) → IsProgress g m → IsProgress h n → m ≢ n
+
+-- whether anything was asked is not said
+abbrev pub AreModified : {L N D : Type 0} → Coded N × Coded D → (N → Meaning D) → Asks L N D → Bool → Graph → Graph → Type 0
+AreModified codes meaning ask modifies g h = (asked : Bool) × IsModified codes meaning ask modifies g h asked
+
+abbrev pub NeverModified : Type 0 → Graph → Graph → Type 0
+NeverModified L g h = AreModified {L = L} (unit_code, unit_code) (λ _. no_data) (λ _ _ _ _. ⊥) false g h
+
+pub record ThenModifies (rules after : Graph → Graph → Type 0) (g h : Graph) : Type 0 where
+  pub applied : Graph
+  pub by_rules : rules g applied
+  pub by_edits : after applied h

@@ -6,6 +6,7 @@
 --     UnitesRule form holds r k g h        an apply of r to the answers k.0 unites k.1 times what was not found equal before
 --     counts_in ks                         what is told of each rule
 --     CountsRules form holds rules g counts h      all rules are searched, then each is applied, and this is told of them
+--     CountsAndModifies form holds rules after g counts h      so it is of a graph from which `after` leads to h
 use Rattle.std.specs.Prelude.{◌≡◌, ℕ, List, length, map, Bool, string_bytes}
 use Rattle.slotted_slots.specs.declared.error.Error.{Error}
 use Rattle.slotted_nodes.specs.Form.{Form}
@@ -15,6 +16,7 @@ use Rattle.slotted_model_rules.specs.Runners.{AppliesAll, SearchesAll}
 use Rattle.slotted_core.specs.Graph.{Graph}
 use Rattle.slotted_rules.specs.declared.counting.RuleCounts.{RuleCounts}
 use Rattle.slotted_rules.specs.declared.rewrite.Rewrite.{Rewrite}
+use Rattle.slotted_rules.specs.Applying.{ThenModifies}
 use Rattle.slotted_rules.specs.Rewriting.{CanBeApplied, IsRefusedRewrite, IsSearched, LeavesApplied, LeavesUnited}
 
 abbrev pub SearchesRule : {L C : Type 0} → (L → Form) → Rewrite L C → Graph → List Values → Graph → Type 0
@@ -45,3 +47,7 @@ pub record CountsRules {L C : Type 0} (form : L → Form) (holds : C → Values 
 -- the rules were applied to what was found, and this is told of them
 abbrev pub AppliesCounted : {L C : Type 0} → (L → Form) → (C → Values → Graph → Bool) → List (Rewrite L C) → List (List Values) → Graph → List RuleCounts → Graph → Type 0
 AppliesCounted form holds rules founds g counts h = (each : List (List Values × ℕ)) × (map (λ k. k.0) each ≡ founds) × AppliesAll (UnitesRule form holds) rules each g h × (counts ≡ counts_in each)
+
+-- and then edits are made
+abbrev pub CountsAndModifies : {L C : Type 0} → (L → Form) → (C → Values → Graph → Bool) → List (Rewrite L C) → (Graph → Graph → Type 0) → Graph → List RuleCounts → Graph → Type 0
+CountsAndModifies form holds rules after g counts h = ThenModifies (λ e f. CountsRules form holds rules e counts f) after g h

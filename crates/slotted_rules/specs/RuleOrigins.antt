@@ -2,7 +2,9 @@
 --     ComesFromRules form holds rules g h n    the entry n of h is an equation of instances of both sides of one of the rules, under an answer of its search
 --                                              whose condition was yes in a graph between g and h, and has the rule's name
 --     AreFromRules form holds rules g h        so is each explicit entry that g has not
-use Rattle.std.specs.Prelude.{◌≡◌, ◌<◌, ◌≤◌, ℕ, List, length, Contains, Bool, string_bytes}
+--     ComesFromEdits after g h n               the entry n entered where `after`, rounds of edits, leads from a graph after g to one before h
+--     AreFromRulesOrEdits form holds rules after g h   each explicit entry that g has not comes from a rule, or from edits
+use Rattle.std.specs.Prelude.{◌≡◌, ◌⊎◌, ◌<◌, ◌≤◌, ℕ, List, length, Contains, Bool, string_bytes}
 use Rattle.slotted_nodes.specs.Form.{Form}
 use Rattle.slotted_patterns.specs.View.{tree_of}
 use Rattle.slotted_model.specs.ProofList.{explicit, step_at}
@@ -24,3 +26,16 @@ pub record ComesFromRules {L C : Type 0} (form : L → Form) (holds : C → Valu
 
 abbrev pub AreFromRules : {L C : Type 0} → (L → Form) → (C → Values → Graph → Bool) → List (Rewrite L C) → Graph → Graph → Type 0
 AreFromRules form holds rules g h = (n : ℕ) → length g.image.entries ≤ n → n < length h.image.entries → step_at h.image.entries n ≡ explicit → ComesFromRules form holds rules g h n
+
+pub record ComesFromEdits (after : Graph → Graph → Type 0) (g h : Graph) (n : ℕ) : Type 0 where
+  pub before : Graph
+  pub left : Graph
+  pub by_edits : after before left
+  pub start : ExtendsTo g before
+  pub end : ExtendsTo left h
+  pub past : length before.image.entries ≤ n
+  pub within : n < length left.image.entries
+
+abbrev pub AreFromRulesOrEdits : {L C : Type 0} → (L → Form) → (C → Values → Graph → Bool) → List (Rewrite L C) → (Graph → Graph → Type 0) → Graph → Graph → Type 0
+AreFromRulesOrEdits form holds rules after g h =
+    (n : ℕ) → length g.image.entries ≤ n → n < length h.image.entries → step_at h.image.entries n ≡ explicit → ComesFromRules form holds rules g h n ⊎ ComesFromEdits after g h n

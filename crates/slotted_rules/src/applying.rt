@@ -1,11 +1,13 @@
-//! Rules applied to a graph: all are searched for, and then each is applied.
+//! Rules applied to a graph: all are searched for, then each is applied, and then classes are modified.
 ghost use Rattle.std.specs.Prelude.{◌≡◌, ◌↔◌, ◌⊎◌, false, All, length, IsTrue, IsErrAnd, IsErrOf, IfOk, IfErr, OnOk};
 ghost use Rattle.slotted_slots.specs.Error.{IsShortage};
 ghost use Rattle.slotted_model_rules.specs.Runners.{AppliesAll, AppliesRules, SearchesAll};
 ghost use Rattle.slotted_graph.specs.Extension.{ExtendsTo};
-ghost use Rattle.slotted_rules.specs.Applying.{AreRefusedBy, CanApplyAll, HasProgressed};
+ghost use Rattle.slotted_graph.specs.Writing.{IfUnmodified};
+ghost use Rattle.slotted_rules.specs.Applying.{AreModified, AreRefusedBy, CanApplyAll, HasProgressed, ThenModifies};
 
 use crate::failing::failing;
+use crate::modifying::modify_classes;
 use crate::rule::RewriteT;
 use slotted_analyses::Analysis;
 use slotted_graph::EGraph;
@@ -93,17 +95,40 @@ fn search_and_apply<L: Language, N: Analysis<L>, R: RewriteT<L, N>>(
     apply_all(alloc, graph, rules, found)
 }
 
-/// Searches with all rules, then applies each in order to what its search found. Returns whether the graph's progress
-/// measure changed.
+// Searches with all rules, applies each, and then modifies classes.
+fn apply_and_modify<L: Language, N: Analysis<L>, R: RewriteT<L, N>>(
+    alloc: Global,
+    graph: &mut EGraph<L, N>,
+    rules: &[R],
+) -> Result<(), Error>
+    requires well { graph.old.failed ≡ false }
+    requires valid { All (λ r. R.valid r graph.old) rules.now }
+    ensures modified { OnOk result (ThenModifies (AppliesRules R.searches R.applies rules.now)
+        (AreModified N.codes N.meaning N.may_ask N.modifies) graph.old graph.new) }
+    ensures extends { IsTrue graph.new.failed ⊎ ExtendsTo graph.old graph.new }
+    ensures fails { IsTrue graph.new.failed → IsErrAnd result IsShortage }
+    ensures err { IfErr result (λ e. IsShortage e ⊎ AreRefusedBy R.refuses rules.now e) }
+{
+    search_and_apply(alloc, graph, rules)?;
+    modify_classes(graph)
+}
+
+/// Searches with all rules, then applies each in order to what its search found, and then modifies classes, as
+/// `EGraph::modify` does. Returns whether the graph's progress measure changed over all of this.
 ///
-/// What was applied before a refusal stays.
+/// What was applied before a refusal stays. After the refusal of a rule no class is modified.
 pub fn apply_rewrites<L: Language, N: Analysis<L>, R: RewriteT<L, N>>(
     alloc: Global,
     graph: &mut EGraph<L, N>,
     rules: &[R],
 ) -> Result<bool, Error>
     requires { IsTrue graph.old.failed ⊎ All (λ r. R.valid r graph.old) rules.now }
-    ensures rules { OnOk result (AppliesRules R.searches R.applies rules.now graph.old graph.new) }
+    ensures modified { OnOk result (ThenModifies (AppliesRules R.searches R.applies rules.now)
+        (AreModified N.codes N.meaning N.may_ask N.modifies) graph.old graph.new) }
+
+    // If classes are never modified, the rules alone lead to the new graph.
+    ensures rules { IfUnmodified N.modifies
+        (OnOk result (AppliesRules R.searches R.applies rules.now graph.old graph.new)) }
     ensures changed { IfOk result (λ y. IsTrue y ↔ HasProgressed graph.old.image graph.new.image) }
 
     // What was there stays, even if a rule is refused.
@@ -117,7 +142,7 @@ pub fn apply_rewrites<L: Language, N: Analysis<L>, R: RewriteT<L, N>>(
         return Err(Error::Failed);
     }
     let before = graph.progress();
-    let applied = search_and_apply(alloc, graph, rules);
+    let applied = apply_and_modify(alloc, graph, rules);
     failing(graph, applied)?;
     Ok(graph.progress() != before)
 }

@@ -3,14 +3,16 @@ ghost use Rattle.std.specs.Prelude.{◌≡◌, ◌↔◌, ◌⊎◌, [], false, 
 ghost use Rattle.slotted_slots.specs.Error.{IsShortage};
 ghost use Rattle.slotted_patterns.specs.View.{tree_of};
 ghost use Rattle.slotted_graph.specs.Extension.{ExtendsTo};
-ghost use Rattle.slotted_rules.specs.Applying.{AreRefusedBy, CanApplyAll, HasProgressed};
-ghost use Rattle.slotted_rules.specs.Counting.{AppliesCounted, CanApplyRule, CountsRules, RefusesRule, UnitesRule};
+ghost use Rattle.slotted_graph.specs.Writing.{IfUnmodified};
+ghost use Rattle.slotted_rules.specs.Applying.{AreModified, AreRefusedBy, CanApplyAll, HasProgressed};
+ghost use Rattle.slotted_rules.specs.Counting.{AppliesCounted, CanApplyRule, CountsAndModifies, CountsRules, RefusesRule, UnitesRule};
 ghost use Rattle.slotted_rules.specs.Rewriting.{CanBeApplied};
 ghost use Rattle.slotted_rules.specs.Written.{CanBeSearched};
 
 use crate::applying::search_all;
 use crate::condition::Cond;
 use crate::failing::failing;
+use crate::modifying::modify_classes;
 use crate::rewrite::Rewrite;
 use crate::written::apply_matches;
 use slotted_analyses::Analysis;
@@ -108,7 +110,26 @@ fn search_and_count<L: Language, N: Analysis<L>, C: Cond<L, N>>(
     Ok(counts)
 }
 
-// Applies the rules once and counts, over a graph that has not failed.
+// Searches with all rules, applies each, counts, and then modifies classes.
+fn count_and_modify<L: Language, N: Analysis<L>, C: Cond<L, N>>(
+    alloc: Global,
+    graph: &mut EGraph<L, N>,
+    rules: &[Rewrite<L, C>],
+) -> Result<Vec<RuleCounts>, Error>
+    requires well { graph.old.failed ≡ false }
+    requires valid { All (CanBeSearched L.form graph.old.table) rules.now }
+    ensures modified { IfOk result (λ v. CountsAndModifies L.form C.yes rules.now
+        (AreModified N.codes N.meaning N.may_ask N.modifies) graph.old v.items graph.new) }
+    ensures extends { IsTrue graph.new.failed ⊎ ExtendsTo graph.old graph.new }
+    ensures fails { IsTrue graph.new.failed → IsErrAnd result IsShortage }
+    ensures err { IfErr result (λ e. IsShortage e ⊎ AreRefusedBy (RefusesRule L.form C.refuses) rules.now e) }
+{
+    let counts = search_and_count(alloc, graph, rules)?;
+    modify_classes(graph)?;
+    Ok(counts)
+}
+
+// Applies the rules once, counts, and modifies classes, over a graph that has not failed.
 fn count_turn<L: Language, N: Analysis<L>, C: Cond<L, N>>(
     alloc: Global,
     graph: &mut EGraph<L, N>,
@@ -116,32 +137,38 @@ fn count_turn<L: Language, N: Analysis<L>, C: Cond<L, N>>(
 ) -> Result<TurnCounts, Error>
     requires well { graph.old.failed ≡ false }
     requires valid { All (CanBeSearched L.form graph.old.table) rules.now }
-    ensures counts { IfOk result (λ t. CountsRules L.form C.yes rules.now graph.old t.rules.items graph.new) }
+    ensures modified { IfOk result (λ t. CountsAndModifies L.form C.yes rules.now
+        (AreModified N.codes N.meaning N.may_ask N.modifies) graph.old t.rules.items graph.new) }
     ensures changed { IfOk result (λ t. IsTrue t.changed ↔ HasProgressed graph.old.image graph.new.image) }
     ensures extends { IsTrue graph.new.failed ⊎ ExtendsTo graph.old graph.new }
     ensures fails { IsTrue graph.new.failed → IsErrAnd result IsShortage }
     ensures err { IfErr result (λ e. IsShortage e ⊎ AreRefusedBy (RefusesRule L.form C.refuses) rules.now e) }
 {
     let before = graph.progress();
-    let counts = search_and_count(alloc, graph, rules)?;
+    let counts = count_and_modify(alloc, graph, rules)?;
     Ok(TurnCounts {
         changed: graph.progress() != before,
         rules: counts,
     })
 }
 
-/// Searches with all rules, then applies each in order to what its search found, as `apply_rewrites` does. Returns what
-/// each rule found and changed.
+/// Searches with all rules, then applies each in order to what its search found, and then modifies classes, as
+/// `apply_rewrites` does. Returns what each rule found and changed.
 ///
 /// A match counts as united if the instances of both sides were not found equal just before. E-nodes that an instance
-/// adds are not counted. What was applied before a refusal stays.
+/// adds are not counted, nor is what edits of classes change. What was applied before a refusal stays.
 pub fn apply_counted<L: Language, N: Analysis<L>, C: Cond<L, N>>(
     alloc: Global,
     graph: &mut EGraph<L, N>,
     rules: &[Rewrite<L, C>],
 ) -> Result<TurnCounts, Error>
     requires { IsTrue graph.old.failed ⊎ All (CanBeSearched L.form graph.old.table) rules.now }
-    ensures counts { IfOk result (λ t. CountsRules L.form C.yes rules.now graph.old t.rules.items graph.new) }
+    ensures modified { IfOk result (λ t. CountsAndModifies L.form C.yes rules.now
+        (AreModified N.codes N.meaning N.may_ask N.modifies) graph.old t.rules.items graph.new) }
+
+    // If classes are never modified, the rules alone lead to the new graph.
+    ensures counts { IfUnmodified N.modifies
+        (IfOk result (λ t. CountsRules L.form C.yes rules.now graph.old t.rules.items graph.new)) }
     ensures changed { IfOk result (λ t. IsTrue t.changed ↔ HasProgressed graph.old.image graph.new.image) }
 
     // What was there stays, even if a rule is refused.

@@ -8,6 +8,7 @@ pub mod condition_tree;
 pub mod counting;
 pub mod failing;
 pub mod macros;
+mod modifying;
 pub mod rewrite;
 pub mod rule;
 pub mod searching;

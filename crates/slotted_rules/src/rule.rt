@@ -54,7 +54,8 @@ pub trait RewriteT<L: Language, N: Analysis<L>>: Drop {
         ensures fails { IsTrue graph.new.failed → IsErrAnd result (λ e. (e ≡ Error.Failed) ⊎ IsShortage e) }
         ensures err { IfErr result (λ e. (e ≡ Error.Failed) ⊎ IsShortage e ⊎ refuses self.now e) };
 
-    /// Applies the rule to what it found.
+    /// Applies the rule to what it found. The rules of this crate modify no class here: `apply_rewrites` does so once
+    /// all rules were applied, and whoever applies one rule calls `EGraph::modify`.
     fn apply(
         &self,
         alloc: Global,

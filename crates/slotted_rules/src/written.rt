@@ -135,7 +135,8 @@ fn apply_found<L: Language, N: Analysis<L>, C: Cond<L, N>>(
 /// Unites the instances of both sides for each match in turn, if the condition holds just then, as `apply` of the rule
 /// does. Returns for how many matches the instances were not found equal before.
 ///
-/// What was applied before a refusal stays.
+/// What was applied before a refusal stays. No class is modified: what was made or has changed waits for
+/// `EGraph::modify`.
 pub fn apply_matches<L: Language, N: Analysis<L>, C: Cond<L, N>>(
     alloc: Global,
     graph: &mut EGraph<L, N>,
@@ -217,7 +218,7 @@ impl<L: Language, N: Analysis<L>, C: Cond<L, N>> RewriteT<L, N> for Rewrite<L, C
     }
 
     /// Unites the instances of both sides for each match in turn, if the condition holds just then. The rule's name is
-    /// the text of each new equation.
+    /// the text of each new equation. No class is modified: what was made or has changed waits for `EGraph::modify`.
     fn apply(&self, alloc: Global, found: Matches, graph: &mut EGraph<L, N>) -> Result<(), Error>
         requires valid { IsTrue graph.old.failed ⊎ CanBeSearched L.form graph.old.table self.now }
         requires found { IsTrue graph.old.failed ⊎ CanBeApplied (tree_of L.form self.now.left) found graph.old }

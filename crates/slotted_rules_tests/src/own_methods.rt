@@ -24,7 +24,7 @@ impl<L: Language, N: Analysis<L>> OwnSubst<L, N> for Asserting {
         t: AppliedId,
         graph: &mut EGraph<L, N>,
     ) -> Result<AppliedId, Error> {
-        graph.union(&x, &t)?;
+        graph.union_quietly(&x, &t, None)?;
         Ok(b)
     }
 }

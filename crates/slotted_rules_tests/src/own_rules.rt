@@ -55,7 +55,7 @@ impl<L: Language, N: Analysis<L>> RewriteT<L, N> for Union {
     }
 
     fn apply(&self, alloc: Global, found: (), graph: &mut EGraph<L, N>) -> Result<(), Error> {
-        graph.union(&self.left, &self.right)?;
+        graph.union_quietly(&self.left, &self.right, None)?;
         Ok(())
     }
 }

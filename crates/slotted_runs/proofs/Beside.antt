@@ -1,35 +1,17 @@
--- Rules beside a hook, and progress as four numbers.
+-- Progress as four numbers.
 use Rattle.std.proofs.Common.{◌≡◌, ◌∙◌, ◌↔◌, ℕ, List, [], ◌∷◌, length, Bool, true, false, refl, sym, ap, subst}
 use Rattle.std.specs.Prelude.{IsTrue, not}
 use Rattle.std.proofs.lemmas.Bool.{false≢true}
 use Rattle.slotted_nodes.specs.Form.{counted}
 use Rattle.slotted_theory.specs.Decided.{numbers_eq}
 use Rattle.slotted_theory.proofs.Decides.{numbers_eq-true, numbers_eq-same}
-use Rattle.slotted_model_rules.specs.Runners.{AppliesAll, AppliesRules, SearchesAll, none_applied, none_searched, one_applied, one_searched}
 use Rattle.slotted_reports.specs.declared.measure.ProgressMeasure.{ProgressMeasure}
 use Rattle.slotted_core.specs.Graph.{Graph}
 use Rattle.slotted_core.specs.Image.{Image}
 use Rattle.slotted_core.specs.Reports.{live_classes}
 use Rattle.slotted_graph.specs.Measure.{IsProgress, slots_of_live}
 use Rattle.slotted_rules.specs.Applying.{HasProgressed}
-use Rattle.slotted_runs.specs.Turning.{RulesOnce, applies_in, progress_of, searches_in}
-
-module _ {Q F H : Type 0} (searches : Q → Graph → F → Graph → Type 0) (applies : Q → F → Graph → Graph → Type 0) (hook : H) where
-  searched-beside : {rules : List Q} {g f : Graph} {found : List F} → SearchesAll searches rules g found f → SearchesAll (searches_in searches) rules (g, hook) found (f, hook)
-  searched-beside none_searched = none_searched
-  searched-beside (one_searched first more) = one_searched (first, refl) (searched-beside more)
-
-  applied-beside : {rules : List Q} {g f : Graph} {found : List F} → AppliesAll applies rules found g f → AppliesAll (applies_in applies) rules found (g, hook) (f, hook)
-  applied-beside none_applied = none_applied
-  applied-beside (one_applied first more) = one_applied (first, refl) (applied-beside more)
-
-  pub rules-beside : (rules : List Q) (g f : Graph) → AppliesRules searches applies rules g f → RulesOnce searches applies rules (g, hook) (f, hook)
-  rules-beside rules g f a = record {
-    searched = (a.searched, hook);
-    found = a.found;
-    by_searches = searched-beside a.by_searches;
-    by_applies = applied-beside a.by_applies;
-  }
+use Rattle.slotted_runs.specs.Turning.{progress_of}
 
 -- the measure of a graph
 abbrev measure_of : Image → ProgressMeasure

@@ -1,26 +1,27 @@
 -- Turns of written rules that are counted. A rule's condition is given by its answers.
---     IsTurn form holds rules g t h           the rules are applied once, t tells what they did and whether the progress measure changed
---     GoesOn form holds rules g turns h       turns that each changed the measure, one after another
---     TakesTurns form holds rules limit g turns h     turns until one does not change the measure, and at most so many
+--     IsTurn form holds rules after g t h     the rules are applied once, and then `after`, rounds of edits, leads to h; t tells what the rules did, and whether
+--                                             the progress measure changed
+--     GoesOn form holds rules after g turns h         turns that each changed the measure, one after another
+--     TakesTurns form holds rules after limit g turns h   turns until one does not change the measure, and at most so many
 use Rattle.std.specs.Prelude.{◌≡◌, ◌⊎◌, ◌↔◌, ◌<◌, ℕ, List, [], ◌∷◌, ◌++◌, length, Bool, true, false, IsTrue}
 use Rattle.slotted_nodes.specs.Form.{Form}
 use Rattle.slotted_model_rules.specs.Conditions.{Values}
 use Rattle.slotted_core.specs.Graph.{Graph}
 use Rattle.slotted_rules.specs.Applying.{HasProgressed}
-use Rattle.slotted_rules.specs.Counting.{CountsRules}
+use Rattle.slotted_rules.specs.Counting.{CountsAndModifies}
 use Rattle.slotted_rules.specs.declared.counting.TurnCounts.{TurnCounts}
 use Rattle.slotted_rules.specs.declared.rewrite.Rewrite.{Rewrite}
 
-pub record IsTurn {L C : Type 0} (form : L → Form) (holds : C → Values → Graph → Bool) (rules : List (Rewrite L C)) (g : Graph) (t : TurnCounts) (h : Graph) : Type 0 where
-  pub counts : CountsRules form holds rules g t.rules.items h
+pub record IsTurn {L C : Type 0} (form : L → Form) (holds : C → Values → Graph → Bool) (rules : List (Rewrite L C)) (after : Graph → Graph → Type 0) (g : Graph) (t : TurnCounts) (h : Graph) : Type 0 where
+  pub counts : CountsAndModifies form holds rules after g t.rules.items h
   pub changed : IsTrue t.changed ↔ HasProgressed g.image h.image
 
-pub data GoesOn {L C : Type 0} (form : L → Form) (holds : C → Values → Graph → Bool) (rules : List (Rewrite L C)) : Graph → List TurnCounts → Graph → Type 0 where
-  no_turn : {g : Graph} → GoesOn form holds rules g [] g
-  turn_more : {g f h : Graph} {turns : List TurnCounts} {t : TurnCounts} → GoesOn form holds rules g turns f → IsTurn form holds rules f t h → t.changed ≡ true →
-      GoesOn form holds rules g (turns ++ t ∷ []) h
+pub data GoesOn {L C : Type 0} (form : L → Form) (holds : C → Values → Graph → Bool) (rules : List (Rewrite L C)) (after : Graph → Graph → Type 0) : Graph → List TurnCounts → Graph → Type 0 where
+  no_turn : {g : Graph} → GoesOn form holds rules after g [] g
+  turn_more : {g f h : Graph} {turns : List TurnCounts} {t : TurnCounts} → GoesOn form holds rules after g turns f → IsTurn form holds rules after f t h → t.changed ≡ true →
+      GoesOn form holds rules after g (turns ++ t ∷ []) h
 
-pub data TakesTurns {L C : Type 0} (form : L → Form) (holds : C → Values → Graph → Bool) (rules : List (Rewrite L C)) (limit : ℕ) (g : Graph) (turns : List TurnCounts) (h : Graph) : Type 0 where
-  reaches_limit : GoesOn form holds rules g turns h → length turns ≡ limit → TakesTurns form holds rules limit g turns h
-  saturates : (before : List TurnCounts) (f : Graph) (last : TurnCounts) → turns ≡ before ++ last ∷ [] → GoesOn form holds rules g before f → IsTurn form holds rules f last h → last.changed ≡ false →
-      length before < limit → TakesTurns form holds rules limit g turns h
+pub data TakesTurns {L C : Type 0} (form : L → Form) (holds : C → Values → Graph → Bool) (rules : List (Rewrite L C)) (after : Graph → Graph → Type 0) (limit : ℕ) (g : Graph) (turns : List TurnCounts) (h : Graph) : Type 0 where
+  reaches_limit : GoesOn form holds rules after g turns h → length turns ≡ limit → TakesTurns form holds rules after limit g turns h
+  saturates : (before : List TurnCounts) (f : Graph) (last : TurnCounts) → turns ≡ before ++ last ∷ [] → GoesOn form holds rules after g before f → IsTurn form holds rules after f last h → last.changed ≡ false →
+      length before < limit → TakesTurns form holds rules after limit g turns h

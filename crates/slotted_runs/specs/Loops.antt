@@ -1,5 +1,5 @@
 -- What loops of turns keep.
---     HasCalled       the rules were applied once, and then the hook was called
+--     HasCalled       the rules were applied once, edits were made, and then the hook was called
 --     GivesReason     why a turn stops the run, with what the clock was read for it
 --     ReadsClock tells k l    the clock k was read, maybe more than once or not at all, and is l
 --     IsTurn          a turn, whatever was read before it

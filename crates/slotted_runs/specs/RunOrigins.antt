@@ -1,6 +1,7 @@
 -- Where the equations that a run asserts come from: rules are written, and a rule's condition is given by its answers.
 --     ComesFromHook leaves g h n      the entry n entered in a call of the hook, between g and h
---     HaveOrigins form holds rules leaves g h     each explicit entry that g has not comes from one of the rules, or entered in a call of the hook
+--     HaveOrigins form holds rules after leaves g h   each explicit entry that g has not comes from one of the rules, entered in a call of the hook, or entered in
+--                                                 the edits after the rules
 use Rattle.std.specs.Prelude.{◌≡◌, ◌⊎◌, ◌<◌, ◌≤◌, ℕ, List, length, Bool, Option}
 use Rattle.slotted_nodes.specs.Form.{Form}
 use Rattle.slotted_model.specs.ProofList.{explicit, step_at}
@@ -8,7 +9,7 @@ use Rattle.slotted_model_rules.specs.Conditions.{Values}
 use Rattle.slotted_core.specs.Graph.{Graph}
 use Rattle.slotted_graph.specs.Extension.{ExtendsTo}
 use Rattle.slotted_rules.specs.declared.rewrite.Rewrite.{Rewrite}
-use Rattle.slotted_rules.specs.RuleOrigins.{ComesFromRules}
+use Rattle.slotted_rules.specs.RuleOrigins.{ComesFromEdits, ComesFromRules}
 
 pub record ComesFromHook {H T : Type 0} (leaves : H → Graph → ℕ → H → Graph → Option T → Type 0) (g h : Graph) (n : ℕ) : Type 0 where
   pub before : Graph
@@ -23,6 +24,7 @@ pub record ComesFromHook {H T : Type 0} (leaves : H → Graph → ℕ → H → 
   pub past : length before.image.entries ≤ n
   pub within : n < length after.image.entries
 
-abbrev pub HaveOrigins : {L C H T : Type 0} → (L → Form) → (C → Values → Graph → Bool) → List (Rewrite L C) → (H → Graph → ℕ → H → Graph → Option T → Type 0) → Graph → Graph → Type 0
-HaveOrigins form holds rules leaves g h =
-    (n : ℕ) → length g.image.entries ≤ n → n < length h.image.entries → step_at h.image.entries n ≡ explicit → ComesFromRules form holds rules g h n ⊎ ComesFromHook leaves g h n
+abbrev pub HaveOrigins : {L C H T : Type 0} → (L → Form) → (C → Values → Graph → Bool) → List (Rewrite L C) → (Graph → Graph → Type 0) → (H → Graph → ℕ → H → Graph → Option T → Type 0) → Graph → Graph → Type 0
+HaveOrigins form holds rules after leaves g h =
+    (n : ℕ) → length g.image.entries ≤ n → n < length h.image.entries → step_at h.image.entries n ≡ explicit →
+    ComesFromRules form holds rules g h n ⊎ ComesFromHook leaves g h n ⊎ ComesFromEdits after g h n

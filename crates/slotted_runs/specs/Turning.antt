@@ -1,5 +1,5 @@
 -- Turns over a graph with the state of a hook.
---     RulesOnce searches applies rules   the rules once, which leave the hook as it is
+--     RulesOnce searches applies after rules   the rules once, and then `after`, rounds of edits, which leave the hook as it is
 --     Calls leaves                       a call of the hook
 --     progress_of g                      the four numbers of the graph's progress measure
 --     measures made                      what is read off a graph
@@ -19,17 +19,12 @@ use Rattle.slotted_graph.specs.Extension.{ExtendsTo}
 use Rattle.slotted_graph.specs.Measure.{slots_of_live}
 use Rattle.slotted_model_rules.specs.Runners.{AppliesRules, Measures, Stop, saturated, iteration_limit, time_limit, node_limit, other}
 use Rattle.slotted_model_rules.specs.Runners as model
+use Rattle.slotted_rules.specs.Applying.{ThenModifies}
 use Rattle.slotted_runs.specs.Seen.{stop_of}
 use Rattle.slotted_runs.specs.declared.report.Report.{Report}
 
-abbrev pub searches_in : {Q F H : Type 0} → (Q → Graph → F → Graph → Type 0) → Q → Graph × H → F → Graph × H → Type 0
-searches_in searches rule s found t = searches rule s.0 found t.0 × (t.1 ≡ s.1)
-
-abbrev pub applies_in : {Q F H : Type 0} → (Q → F → Graph → Graph → Type 0) → Q → F → Graph × H → Graph × H → Type 0
-applies_in applies rule found s t = applies rule found s.0 t.0 × (t.1 ≡ s.1)
-
-abbrev pub RulesOnce : {Q F H : Type 0} → (Q → Graph → F → Graph → Type 0) → (Q → F → Graph → Graph → Type 0) → List Q → Graph × H → Graph × H → Type 0
-RulesOnce searches applies rules = AppliesRules (searches_in searches) (applies_in applies) rules
+abbrev pub RulesOnce : {Q F H : Type 0} → (Q → Graph → F → Graph → Type 0) → (Q → F → Graph → Graph → Type 0) → (Graph → Graph → Type 0) → List Q → Graph × H → Graph × H → Type 0
+RulesOnce searches applies after rules s t = ThenModifies (AppliesRules searches applies rules) after s.0 t.0 × (t.1 ≡ s.1)
 
 abbrev pub Calls : {H T : Type 0} → (H → Graph → ℕ → H → Graph → Option T → Type 0) → Graph × H → ℕ → Graph × H → Option T → Type 0
 Calls leaves s n t stop = leaves s.1 s.0 n t.1 t.0 stop

@@ -1,8 +1,8 @@
-//! The rules of a turn, and the hook after them.
+//! The rules of a turn, edits of classes, and the hook after them.
 ghost use Rattle.std.specs.Prelude.{◌≡◌, ◌⊎◌, false, not, All, IsTrue, IsErrAnd, IfOk, IfErr};
 ghost use Rattle.slotted_slots.specs.Error.{IsShortage};
 ghost use Rattle.slotted_graph.specs.Extension.{ExtendsTo};
-ghost use Rattle.slotted_rules.specs.Applying.{AreRefusedBy};
+ghost use Rattle.slotted_rules.specs.Applying.{AreModified, AreRefusedBy};
 ghost use Rattle.slotted_runs.specs.Loops.{HasCalled};
 ghost use Rattle.slotted_runs.specs.Turning.{Calls, RulesOnce};
 
@@ -17,7 +17,7 @@ use std::alloc::Global;
 // What the rules and the hook of a turn did.
 #[derive(Drop)]
 pub(crate) struct Called<T> {
-    // Whether the rules changed the progress measure.
+    // Whether the rules and the edits after them changed the progress measure.
     pub(crate) changed: bool,
     // Why the hook stops the run, if it does.
     pub(crate) stop: Option<T>,
@@ -43,7 +43,7 @@ fn call_hook<L: Language, N: Analysis<L>, T: Drop, H: Hook<L, N, T>>(
     }
 }
 
-// Applies the rules once, and then calls the hook.
+// Applies the rules once, modifies classes, and then calls the hook.
 pub(crate) fn apply_and_call<
     L: Language,
     N: Analysis<L>,
@@ -60,7 +60,9 @@ pub(crate) fn apply_and_call<
     requires well { graph.old.failed ≡ false }
     requires valid { All (λ r. Q.valid r graph.old) rules.now }
     ensures ok { IfOk result
-        (λ c. HasCalled (RulesOnce Q.searches Q.applies rules.now) (Calls H.leaves)
+        (λ c. HasCalled
+        (RulesOnce Q.searches Q.applies (AreModified N.codes N.meaning N.may_ask N.modifies) rules.now)
+        (Calls H.leaves)
         (graph.old, hook.old) iterations (graph.new, hook.new) (not c.changed) c.stop) }
     ensures extends { IsTrue graph.new.failed ⊎ ExtendsTo graph.old graph.new }
     ensures fails { IsTrue graph.new.failed → IsErrAnd result IsShortage }

@@ -2,7 +2,7 @@
 ghost use Rattle.std.specs.Prelude.{◌≡◌, ◌↔◌, ◌⊎◌, false, All, IsTrue, IsErrAnd, IsErrOf, IfOk, IfErr};
 ghost use Rattle.slotted_slots.specs.Error.{IsShortage};
 ghost use Rattle.slotted_graph.specs.Extension.{ExtendsTo};
-ghost use Rattle.slotted_rules.specs.Applying.{AreRefusedBy};
+ghost use Rattle.slotted_rules.specs.Applying.{AreModified, AreRefusedBy};
 ghost use Rattle.slotted_rules.specs.Counting.{RefusesRule};
 ghost use Rattle.slotted_rules.specs.Written.{CanBeSearched};
 ghost use Rattle.slotted_runs.specs.Counted.{TakesTurns};
@@ -25,7 +25,8 @@ fn take_counted<L: Language, N: Analysis<L>, C: Cond<L, N>>(
 ) -> Result<Vec<TurnCounts>, Error>
     requires well { graph.old.failed ≡ false }
     requires valid { All (CanBeSearched L.form graph.old.table) rules.now }
-    ensures turns { IfOk result (λ turns. TakesTurns L.form C.yes rules.now turn_limit graph.old turns.items graph.new) }
+    ensures turns { IfOk result (λ turns. TakesTurns L.form C.yes rules.now
+        (AreModified N.codes N.meaning N.may_ask N.modifies) turn_limit graph.old turns.items graph.new) }
     ensures extends { IsTrue graph.new.failed ⊎ ExtendsTo graph.old graph.new }
     ensures fails { IsTrue graph.new.failed → IsErrAnd result IsShortage }
     ensures err { IfErr result (λ e. IsShortage e ⊎ AreRefusedBy (RefusesRule L.form C.refuses) rules.now e) }
@@ -45,7 +46,8 @@ fn take_counted<L: Language, N: Analysis<L>, C: Cond<L, N>>(
 /// Applies the rules until a turn leaves the progress measure as it was, or the limit of turns is reached. Returns what
 /// each rule did in each turn.
 ///
-/// The rules have saturated the graph if the last turn did not change it. What was applied before a refusal stays.
+/// Each turn ends with edits of classes, as `apply_counted` does. The rules have saturated the graph if the last turn
+/// did not change it. What was applied before a refusal stays.
 pub fn run_counted<L: Language, N: Analysis<L>, C: Cond<L, N>>(
     alloc: Global,
     graph: &mut EGraph<L, N>,
@@ -53,7 +55,8 @@ pub fn run_counted<L: Language, N: Analysis<L>, C: Cond<L, N>>(
     turn_limit: usize,
 ) -> Result<Vec<TurnCounts>, Error>
     requires { IsTrue graph.old.failed ⊎ All (CanBeSearched L.form graph.old.table) rules.now }
-    ensures turns { IfOk result (λ turns. TakesTurns L.form C.yes rules.now turn_limit graph.old turns.items graph.new) }
+    ensures turns { IfOk result (λ turns. TakesTurns L.form C.yes rules.now
+        (AreModified N.codes N.meaning N.may_ask N.modifies) turn_limit graph.old turns.items graph.new) }
 
     // What was there stays, even if a turn is refused.
     ensures extends { IsTrue graph.new.failed ⊎ ExtendsTo graph.old graph.new }

@@ -3,7 +3,7 @@ ghost use Rattle.std.specs.Prelude.{◌≡◌, ◌↔◌, ◌⊎◌, ◌*◌, fa
 ghost use Rattle.std.specs.Prelude.{OnErr};
 ghost use Rattle.slotted_slots.specs.Error.{IsShortage};
 ghost use Rattle.slotted_graph.specs.Extension.{ExtendsTo};
-ghost use Rattle.slotted_rules.specs.Applying.{AreRefusedBy};
+ghost use Rattle.slotted_rules.specs.Applying.{AreModified, AreRefusedBy};
 ghost use Rattle.slotted_model_rules.specs.Runners.{eqsat_stop};
 ghost use Rattle.slotted_runs.specs.Eqsat.{GivesEqsatReason, HasBroken, HasEnded, HasEqsatReported, HasRefusedEqsat};
 ghost use Rattle.slotted_runs.specs.Eqsat.{IsEqsatTurn};
@@ -84,7 +84,9 @@ fn take_turn<L: Language, N: Analysis<L>, T: Drop, H: Hook<L, N, T>, K: Clock, Q
     requires well { graph.old.failed ≡ false }
     requires valid { All (λ r. Q.valid r graph.old) rules.now }
     ensures ok { IfOk result (λ stop. IsEqsatTurn
-        K.tells (RulesOnce Q.searches Q.applies rules.now) (Calls H.leaves) bounds.iterations bounds.seconds bounds.start
+        K.tells
+        (RulesOnce Q.searches Q.applies (AreModified N.codes N.meaning N.may_ask N.modifies) rules.now)
+        (Calls H.leaves) bounds.iterations bounds.seconds bounds.start
         counted (graph.old, hook.old) clock.old (graph.new, hook.new) clock.new (option_map stop_of stop)) }
     ensures clock { OnErr result (clock.new ≡ clock.old) }
     ensures extends { IsTrue graph.new.failed ⊎ ExtendsTo graph.old graph.new }
@@ -114,10 +116,14 @@ fn take_turns<L: Language, N: Analysis<L>, T: Drop, H: Hook<L, N, T>, K: Clock, 
     requires well { graph.old.failed ≡ false }
     requires valid { All (λ r. Q.valid r graph.old) rules.now }
     ensures ok { IfOk result (λ e. HasEnded
-        K.tells (RulesOnce Q.searches Q.applies rules.now) (Calls H.leaves) bounds.iterations bounds.seconds bounds.start
+        K.tells
+        (RulesOnce Q.searches Q.applies (AreModified N.codes N.meaning N.may_ask N.modifies) rules.now)
+        (Calls H.leaves) bounds.iterations bounds.seconds bounds.start
         (graph.old, hook.old) clock.old (graph.new, hook.new) clock.new e.counted (stop_of e.reason)) }
     ensures refused { OnErr result (HasBroken
-        K.tells (RulesOnce Q.searches Q.applies rules.now) (Calls H.leaves) bounds.iterations bounds.seconds bounds.start
+        K.tells
+        (RulesOnce Q.searches Q.applies (AreModified N.codes N.meaning N.may_ask N.modifies) rules.now)
+        (Calls H.leaves) bounds.iterations bounds.seconds bounds.start
         (graph.old, hook.old) clock.old (graph.new, hook.new) clock.new) }
     ensures extends { IsTrue graph.new.failed ⊎ ExtendsTo graph.old graph.new }
     ensures fails { IsTrue graph.new.failed → IsErrAnd result IsShortage }
@@ -134,9 +140,9 @@ fn take_turns<L: Language, N: Analysis<L>, T: Drop, H: Hook<L, N, T>, K: Clock, 
 
 /// Takes turns until one stops the run, and returns a report.
 ///
-/// A turn applies the rules once and calls the hook. It stops the run for the first of these causes that holds: the
-/// hook's own, saturation, as many counted turns as the limit, and as many whole seconds. A turn that stops the run is
-/// not counted.
+/// A turn applies the rules once, modifies classes, as `apply_rewrites` does, and calls the hook. It stops the run for
+/// the first of these causes that holds: the hook's own, saturation, as many counted turns as the limit, and as many
+/// whole seconds. A turn that stops the run is not counted.
 pub fn run_eqsat<L: Language, N: Analysis<L>, H: Hook<L, N, String>, K: Clock, Q: RewriteT<L, N>>(
     alloc: Global,
     graph: &mut EGraph<L, N>,
@@ -148,10 +154,14 @@ pub fn run_eqsat<L: Language, N: Analysis<L>, H: Hook<L, N, String>, K: Clock, Q
 ) -> Result<Report, Error>
     requires { IsTrue graph.old.failed ⊎ All (λ r. Q.valid r graph.old) rules.now }
     ensures ok { IfOk result (HasEqsatReported
-        K.tells (RulesOnce Q.searches Q.applies rules.now) (Calls H.leaves) iter_limit time_limit_seconds
+        K.tells
+        (RulesOnce Q.searches Q.applies (AreModified N.codes N.meaning N.may_ask N.modifies) rules.now)
+        (Calls H.leaves) iter_limit time_limit_seconds
         (graph.old, hook.old) clock.old (graph.new, hook.new) clock.new) }
     ensures refused { OnErr result (IsTrue graph.old.failed ⊎ HasRefusedEqsat
-        K.tells (RulesOnce Q.searches Q.applies rules.now) (Calls H.leaves) iter_limit time_limit_seconds
+        K.tells
+        (RulesOnce Q.searches Q.applies (AreModified N.codes N.meaning N.may_ask N.modifies) rules.now)
+        (Calls H.leaves) iter_limit time_limit_seconds
         (graph.old, hook.old) clock.old (graph.new, hook.new) clock.new) }
 
     // What was there stays, even if a turn is refused.

@@ -19,7 +19,7 @@ pub enum HookStop<T> {
     Refused(Error),
 }
 
-/// What is called in each turn of a run, after the rules were applied.
+/// What is called in each turn of a run, after the rules were applied and classes were modified.
 ///
 /// A hook may change the graph, which it only extends. If the graph fails in a hook, its error says that memory or
 /// slots ran out.

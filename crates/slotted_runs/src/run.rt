@@ -2,6 +2,7 @@
 ghost use Rattle.std.specs.Prelude.{◌≡◌, ◌↔◌, ◌⊎◌, false, All, IsTrue, IsErrAnd, IsErrOf, IsSome, IfOk, IfErr, OnOk};
 ghost use Rattle.slotted_slots.specs.Error.{IsShortage};
 ghost use Rattle.slotted_graph.specs.Extension.{ExtendsTo};
+ghost use Rattle.slotted_rules.specs.Applying.{AreModified};
 ghost use Rattle.slotted_runs.specs.Loops.{IsRefusedWithin};
 ghost use Rattle.slotted_runs.specs.Runs.{HasReported, IsRefused, MayRefuse};
 ghost use Rattle.slotted_runs.specs.Seen.{parts_of};
@@ -31,11 +32,15 @@ impl<
         requires well { self.old.egraph.failed ≡ false }
         requires valid { All (λ r. Q.valid r self.old.egraph) rules.now }
         ensures ok { IfOk result
-            (HasReported K.tells (RulesOnce Q.searches Q.applies rules.now) (Calls H.leaves) (measures D.made)
+            (HasReported K.tells
+            (RulesOnce Q.searches Q.applies (AreModified N.codes N.meaning N.may_ask N.modifies) rules.now)
+            (Calls H.leaves) (measures D.made)
             T.is_clone (parts_of self.old) (parts_of self.new)) }
         ensures again { IsSome self.old.stop_reason → self.new ≡ self.old }
         ensures refused { IfErr result
-            (IsRefusedWithin K.tells (RulesOnce Q.searches Q.applies rules.now) (Calls H.leaves) (measures D.made)
+            (IsRefusedWithin K.tells
+            (RulesOnce Q.searches Q.applies (AreModified N.codes N.meaning N.may_ask N.modifies) rules.now)
+            (Calls H.leaves) (measures D.made)
             (parts_of self.old) (parts_of self.new)) }
         ensures extends { IsTrue self.new.egraph.failed ⊎ ExtendsTo self.old.egraph self.new.egraph }
         ensures fails { IsTrue self.new.egraph.failed → IsErrAnd result IsShortage }
@@ -48,18 +53,22 @@ impl<
     /// Takes turns until one stops the run, and returns a report. A runner that has stopped reports again, and nothing
     /// changes.
     ///
-    /// A turn applies the rules once and calls the hook. It stops the run for the first of these causes that holds: the
-    /// hook's own, more stored turns than the limit, more filed e-nodes, more time, and saturation. A graph is
-    /// saturated if the rules left its progress measure as it was. What a refused turn did to the graph stays, but the
-    /// turn is not stored.
+    /// A turn applies the rules once, modifies classes, as `apply_rewrites` does, and calls the hook. It stops the run
+    /// for the first of these causes that holds: the hook's own, more stored turns than the limit, more filed e-nodes,
+    /// more time, and saturation. A graph is saturated if the rules and the edits of classes left its progress measure
+    /// as it was. What a refused turn did to the graph stays, but the turn is not stored.
     pub fn run<Q: RewriteT<L, N>>(&mut self, rules: &[Q]) -> Result<Report<T>, Error>
         requires { IsTrue self.old.egraph.failed ⊎ All (λ r. Q.valid r self.old.egraph) rules.now }
         ensures ok { IfOk result
-            (HasReported K.tells (RulesOnce Q.searches Q.applies rules.now) (Calls H.leaves) (measures D.made)
+            (HasReported K.tells
+            (RulesOnce Q.searches Q.applies (AreModified N.codes N.meaning N.may_ask N.modifies) rules.now)
+            (Calls H.leaves) (measures D.made)
             T.is_clone (parts_of self.old) (parts_of self.new)) }
         ensures again { IsSome self.old.stop_reason → OnOk result (self.new ≡ self.old) }
         ensures refused { IfErr result (λ e. IsTrue self.old.egraph.failed
-            ⊎ IsRefused K.tells (RulesOnce Q.searches Q.applies rules.now) (Calls H.leaves) (measures D.made)
+            ⊎ IsRefused K.tells
+            (RulesOnce Q.searches Q.applies (AreModified N.codes N.meaning N.may_ask N.modifies) rules.now)
+            (Calls H.leaves) (measures D.made)
             (parts_of self.old) (parts_of self.new) e) }
 
         // What was there stays, even if a turn is refused.

@@ -74,7 +74,7 @@ fn add_root<L: Language, N: Analysis<L>>(
     ensures failed { IsErrOf result Error.Failed ↔ IsTrue graph.old.failed }
     ensures only { IfErr result (λ e. (e ≡ Error.Failed) ⊎ IsShortage e) }
 {
-    let id = graph.add_expr(term)?;
+    let id = graph.add_expr_quietly(term)?;
     roots.push(id)?;
     Ok(())
 }
@@ -113,7 +113,8 @@ impl<
         }
     }
 
-    /// Adds a term, as `EGraph::add_expr` does, and appends its id to the roots. A refusal gives up the runner.
+    /// Adds a term, as `EGraph::add_expr_quietly` does, and appends its id to the roots. Classes that are made are
+    /// modified at the end of the first turn. A refusal gives up the runner.
     pub fn with_expr(mut self, term: &RecExpr<L>) -> Result<Self, Error>
         requires { IsTrue self.egraph.failed ⊎ IsValidTerm self.egraph.table term.now }
         ensures ok { IfOk result (λ r. AddsRoot term.now (parts_of self) (parts_of r)) }

@@ -3,6 +3,7 @@ ghost use Rattle.std.specs.Prelude.{◌≡◌, ◌⊎◌, false, None, All, IsTr
 ghost use Rattle.slotted_slots.specs.Error.{IsShortage};
 ghost use Rattle.slotted_model_rules.specs.Runners.{last_finish, time_between};
 ghost use Rattle.slotted_graph.specs.Extension.{ExtendsTo};
+ghost use Rattle.slotted_rules.specs.Applying.{AreModified};
 ghost use Rattle.slotted_runs.specs.Loops.{HasRefused, HasStopped, HasTaken, IsBegun};
 ghost use Rattle.slotted_runs.specs.Runs.{HasRefusedTurn, MayRefuse};
 ghost use Rattle.slotted_runs.specs.Seen.{iteration_of, limits_of, parts_of, start_of};
@@ -66,11 +67,15 @@ impl<
         requires valid { All (λ r. Q.valid r self.old.egraph) rules.now }
         requires goes_on { self.old.stop_reason ≡ None }
         ensures ok { OnOk result
-            (HasTaken K.tells (RulesOnce Q.searches Q.applies rules.now) (Calls H.leaves) (measures D.made)
+            (HasTaken K.tells
+            (RulesOnce Q.searches Q.applies (AreModified N.codes N.meaning N.may_ask N.modifies) rules.now)
+            (Calls H.leaves) (measures D.made)
             (limits_of self.old.limits) start (parts_of self.old) (parts_of self.new)) }
         ensures stopped { OnOk result (IsSome self.new.stop_reason) }
         ensures refused { OnErr result
-            (HasRefused K.tells (RulesOnce Q.searches Q.applies rules.now) (Calls H.leaves) (measures D.made)
+            (HasRefused K.tells
+            (RulesOnce Q.searches Q.applies (AreModified N.codes N.meaning N.may_ask N.modifies) rules.now)
+            (Calls H.leaves) (measures D.made)
             (limits_of self.old.limits) start (parts_of self.old) (parts_of self.new)) }
         ensures extends { IsTrue self.new.egraph.failed ⊎ ExtendsTo self.old.egraph self.new.egraph }
         ensures fails { IsTrue self.new.egraph.failed → IsErrAnd result IsShortage }
@@ -89,11 +94,15 @@ impl<
         requires well { self.old.egraph.failed ≡ false }
         requires valid { All (λ r. Q.valid r self.old.egraph) rules.now }
         ensures ok { OnOk result
-            (HasStopped K.tells (RulesOnce Q.searches Q.applies rules.now) (Calls H.leaves) (measures D.made)
+            (HasStopped K.tells
+            (RulesOnce Q.searches Q.applies (AreModified N.codes N.meaning N.may_ask N.modifies) rules.now)
+            (Calls H.leaves) (measures D.made)
             (parts_of self.old) (parts_of self.new)) }
         ensures again { IsSome self.old.stop_reason → self.new ≡ self.old }
         ensures refused { OnErr result
-            (HasRefusedTurn K.tells (RulesOnce Q.searches Q.applies rules.now) (Calls H.leaves) (measures D.made)
+            (HasRefusedTurn K.tells
+            (RulesOnce Q.searches Q.applies (AreModified N.codes N.meaning N.may_ask N.modifies) rules.now)
+            (Calls H.leaves) (measures D.made)
             (parts_of self.old) (parts_of self.new)) }
         ensures extends { IsTrue self.new.egraph.failed ⊎ ExtendsTo self.old.egraph self.new.egraph }
         ensures fails { IsTrue self.new.egraph.failed → IsErrAnd result IsShortage }

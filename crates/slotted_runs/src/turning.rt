@@ -3,6 +3,7 @@ ghost use Rattle.std.specs.Prelude.{◌≡◌, ◌⊎◌, false, not, length, op
 ghost use Rattle.slotted_slots.specs.Error.{IsShortage};
 ghost use Rattle.slotted_model_rules.specs.Runners.{runner_stop};
 ghost use Rattle.slotted_graph.specs.Extension.{ExtendsTo};
+ghost use Rattle.slotted_rules.specs.Applying.{AreModified};
 ghost use Rattle.slotted_runs.specs.Loops.{GivesReason, HasTurned, ReadsClock};
 ghost use Rattle.slotted_runs.specs.Runs.{MayRefuse};
 ghost use Rattle.slotted_runs.specs.Seen.{iteration_of, limits_of, parts_of, stop_of};
@@ -90,7 +91,9 @@ impl<
         requires well { self.old.egraph.failed ≡ false }
         requires valid { All (λ r. Q.valid r self.old.egraph) rules.now }
         ensures ok { IfOk result
-            (HasTurned K.tells (RulesOnce Q.searches Q.applies rules.now) (Calls H.leaves) (measures D.made)
+            (HasTurned K.tells
+            (RulesOnce Q.searches Q.applies (AreModified N.codes N.meaning N.may_ask N.modifies) rules.now)
+            (Calls H.leaves) (measures D.made)
             start (length self.old.iterations.items) (parts_of self.old) (parts_of self.new)) }
         ensures rest { let q = parts_of self.new in q
             ≡ record (parts_of self.old) { graph = q.graph; hook = q.hook; clock = q.clock } }

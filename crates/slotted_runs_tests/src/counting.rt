@@ -58,7 +58,7 @@ impl<N: Analysis<Small>> RewriteT<Small, N> for Counting {
         if count >= self.most || !graph.is_valid_node(&node) {
             return Ok(());
         }
-        graph.add(node)?;
+        graph.add_quietly(&node)?;
         Ok(())
     }
 }

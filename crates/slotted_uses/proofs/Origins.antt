@@ -6,10 +6,12 @@ use Rattle.slotted_nodes.specs.Form.{Form}
 use Rattle.slotted_core.specs.Graph.{Graph}
 use Rattle.slotted_graph.specs.Extension.{ExtendsTo}
 use Rattle.slotted_graph.proofs.Extending.{extends-itself}
+use Rattle.slotted_rules.specs.Applying.{NeverModified}
 use Rattle.slotted_rules.specs.RuleOrigins.{AreFromRules}
 use Rattle.slotted_rules.specs.TreeAnswers.{tree_yes}
 use Rattle.slotted_rules.specs.declared.condition_tree.CondTree.{CondTree}
 use Rattle.slotted_rules.specs.declared.rewrite.Rewrite.{Rewrite}
+use Rattle.slotted_rules.proofs.Modified.{never-changed}
 use Rattle.slotted_runs.specs.Eqsat.{counts_of, report_of}
 use Rattle.slotted_runs.specs.Turning.{reading_in}
 use Rattle.slotted_runs.specs.declared.report.Report.{Report}
@@ -26,11 +28,14 @@ limit-still n g h (Some text) says = says.0
 
 pub run-from-rules : {L : Type 0} (form : L → Form) (rules : List (Rewrite L CondTree)) (turns nodes : ℕ) (g h : Graph) (r : Report (String Global)) → HasRun form rules turns nodes g h r →
     AreFromRules form (λ c values _. tree_yes c values) rules g h
-run-from-rules form rules turns nodes g h r run =
-    rules-alone form (λ c values _. tree_yes c values) rules leaves_by (λ k l f i n stop says. subst (ExtendsTo f) (sym (limit-still k.nodes f i stop says.0)) (extends-itself f)) g h
-    (λ k l f i n stop says. limit-still k.nodes f i stop says.0)
-    (eqsat-origins form (λ c values _. tree_yes c values) rules leaves_by (λ k l f i n stop says. subst (ExtendsTo f) (sym (limit-still k.nodes f i stop says.0)) (extends-itself f)) counts_of turns endless (reading_in run.reported.readings) 0
+run-from-rules {L} form rules turns nodes g h r run =
+    rules-alone form (λ c values _. tree_yes c values) rules (NeverModified L) grows leaves_by (λ k l f i n stop says. subst (ExtendsTo f) (sym (limit-still k.nodes f i stop says.0)) (extends-itself f)) g h
+    (λ k l f i n stop says. limit-still k.nodes f i stop says.0) (never-changed L)
+    (eqsat-origins form (λ c values _. tree_yes c values) rules (NeverModified L) grows leaves_by (λ k l f i n stop says. subst (ExtendsTo f) (sym (limit-still k.nodes f i stop says.0)) (extends-itself f)) counts_of turns endless (reading_in run.reported.readings) 0
     (g, run.hook) (h, run.last) (report_of r) run.reported.by_turns)
+  where
+    grows : (f i : Graph) → NeverModified L f i → ExtendsTo f i
+    grows f i m = subst (ExtendsTo f) (sym (never-changed L f i m)) (extends-itself f)
 
 pub rules-ran : {L : Type 0} (form : L → Form) (limits : Limits) (s v : Space) (r : Report (String Global)) (ended : Bool) → ended ≡ is_saturated r.stop_reason →
     OfRules form s (λ rules. HasRun form rules limits.turns limits.nodes s.graph v.graph r) → HasRulesRun form limits s v ended

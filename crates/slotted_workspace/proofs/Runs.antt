@@ -10,6 +10,7 @@ use Rattle.slotted_nodes.specs.Form.{Form}
 use Rattle.slotted_languages.proofs.HandedOn.{error_or}
 use Rattle.slotted_core.specs.Graph.{Graph}
 use Rattle.slotted_graph.specs.Extension.{ExtendsTo}
+use Rattle.slotted_rules.specs.Applying.{NeverModified}
 use Rattle.slotted_rules.specs.declared.condition_tree.CondTree.{CondTree}
 use Rattle.slotted_rules.specs.declared.rewrite.Rewrite.{Rewrite}
 use Rattle.slotted_runs.specs.Eqsat.{HasEqsatReported, HasRefusedEqsat}
@@ -22,10 +23,10 @@ use Rattle.slotted_workspace.specs.declared.running.NodeLimit.{NodeLimit}
 
 module _ {L : Type 0} (form : L → Form) (rules : List (Rewrite L CondTree)) (turns : ℕ) (hook last : NodeLimit) (clock later : NoClock) (g h : Graph) (extends : IsTrue h.failed ⊎ ExtendsTo g h) (stays : IsTrue g.failed → h ≡ g) where
   abbrev Reported : Report (String Global) → Type 0
-  Reported r = HasEqsatReported TellsZero (RulesOnce (searches_by form) (applies_by form) rules) (Calls leaves_by) turns endless (g, hook) clock (h, last) later r
+  Reported r = HasEqsatReported TellsZero (RulesOnce (searches_by form) (applies_by form) (NeverModified L) rules) (Calls leaves_by) turns endless (g, hook) clock (h, last) later r
 
   abbrev Broken : Type 0
-  Broken = HasRefusedEqsat TellsZero (RulesOnce (searches_by form) (applies_by form) rules) (Calls leaves_by) turns endless (g, hook) clock (h, last) later
+  Broken = HasRefusedEqsat TellsZero (RulesOnce (searches_by form) (applies_by form) (NeverModified L) rules) (Calls leaves_by) turns endless (g, hook) clock (h, last) later
 
   pub run-answers : (o : Result (Report (String Global)) Error) → IfOk o Reported → OnErr o (IsTrue g.failed ⊎ Broken) → IsErrOf o Failed ↔ IsTrue g.failed → IsTrue h.failed ↔ IsErrAnd o (λ e. (e ≡ Failed) ⊎ IsShortage e) → RunAnswers form rules turns hook.nodes g h o
   run-answers (Ok r) ok refused failed fails = record {

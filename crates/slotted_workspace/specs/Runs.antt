@@ -14,6 +14,7 @@ use Rattle.slotted_patterns.specs.View.{tree_of}
 use Rattle.slotted_core.specs.Graph.{Graph}
 use Rattle.slotted_graph.specs.Extension.{ExtendsTo}
 use Rattle.slotted_model_rules.specs.Conditions.{Values}
+use Rattle.slotted_rules.specs.Applying.{NeverModified}
 use Rattle.slotted_rules.specs.Counting.{AppliesRule, SearchesRule}
 use Rattle.slotted_rules.specs.TreeAnswers.{tree_yes}
 use Rattle.slotted_rules.specs.declared.condition_tree.CondTree.{CondTree}
@@ -56,7 +57,7 @@ pub record HasRun {L : Type 0} (form : L → Form) (rules : List (Rewrite L Cond
   pub last : NodeLimit
   pub clock : NoClock
   pub later : NoClock
-  pub reported : HasEqsatReported TellsZero (RulesOnce (searches_by form) (applies_by form) rules) (Calls leaves_by) turns endless (g, hook) clock (h, last) later r
+  pub reported : HasEqsatReported TellsZero (RulesOnce (searches_by form) (applies_by form) (NeverModified L) rules) (Calls leaves_by) turns endless (g, hook) clock (h, last) later r
 
 pub record IsRefusedRun {L : Type 0} (form : L → Form) (rules : List (Rewrite L CondTree)) (turns nodes : ℕ) (g h : Graph) (e : Error) : Type 0 where
   pub well : g.failed ≡ false
@@ -66,7 +67,7 @@ pub record IsRefusedRun {L : Type 0} (form : L → Form) (rules : List (Rewrite 
   pub last : NodeLimit
   pub clock : NoClock
   pub later : NoClock
-  pub refused : HasRefusedEqsat TellsZero (RulesOnce (searches_by form) (applies_by form) rules) (Calls leaves_by) turns endless (g, hook) clock (h, last) later
+  pub refused : HasRefusedEqsat TellsZero (RulesOnce (searches_by form) (applies_by form) (NeverModified L) rules) (Calls leaves_by) turns endless (g, hook) clock (h, last) later
 
 abbrev pub RunRefused : {L : Type 0} → (L → Form) → List (Rewrite L CondTree) → ℕ → ℕ → Graph → Graph → Error → Type 0
 RunRefused form rules turns nodes g h e = HadFailed g h e ⊎ IsRefusedRun form rules turns nodes g h e

@@ -14,12 +14,12 @@ build_stored-requires-2-clause-known g c =
 pub build_stored-requires-2-clause-values : goal.build_stored-requires-2-clause-values
 build_stored-requires-2-clause-values g c k d lt = c.in_ok-left.ensures.ok.grows.extends.valid _ (c.requires.values k d lt)
 
-pub union_justified-answer-requires-clause-left : goal.union_justified-answer-requires-clause-left
-union_justified-answer-requires-clause-left g c = inr (c.in_ok-right.ensures.ok.grows.extends.valid (to_applied c.in_ok-left.left) c.in_ok-left.ensures.ok.valid)
+pub union_quietly-answer-requires-clause-left : goal.union_quietly-answer-requires-clause-left
+union_quietly-answer-requires-clause-left g c = inr (c.in_ok-right.ensures.ok.grows.extends.valid (to_applied c.in_ok-left.left) c.in_ok-left.ensures.ok.valid)
 
 pub returns-clause-unites : goal.returns-clause-unites
 returns-clause-unites g c =
     let form = g.L.LanguageChildren.form in
-    ok-united c.subst_method-method.result c.args.graph.now c.build_stored.new.graph c.build_stored-2.new.graph c.union_justified-answer.new.self (values_of c.args.subst.now) (tree_of form c.args.a.now) (tree_of form c.args.b.now)
+    ok-united c.subst_method-method.result c.args.graph.now c.build_stored.new.graph c.build_stored-2.new.graph c.union_quietly-answer.new.self (values_of c.args.subst.now) (tree_of form c.args.a.now) (tree_of form c.args.b.now)
     c.in_ok-left.left c.in_ok-right.right (text_bytes c.args.text) c.requires.graph c.in_ok-left.ensures.ok c.in_ok-right.ensures.ok
-    c.union_justified-answer.result c.is_failed.ensures.rests c.union_justified-answer.ensures.fails.0 c.union_justified-answer.ensures.union c.union_justified-answer.ensures.text c.union_justified-answer.ensures.table
+    c.union_quietly-answer.result c.is_failed.ensures.rests c.union_quietly-answer.ensures.fails.0 c.union_quietly-answer.ensures.union c.union_quietly-answer.ensures.text c.union_quietly-answer.ensures.table

@@ -7,8 +7,8 @@ use Rattle.slotted_rules.proofs.counting.count_turn.Goals as goal
 pub returns-clause-changed : goal.returns-clause-changed
 unfolding same_measure
 returns-clause-changed g c =
-    let a = c.search_and_count.new.graph in
-    let well : a.failed ≡ false = ok-well _ a.failed c.search_and_count.result c.in_ok-counts.counts c.in_ok-counts.was c.search_and_count.ensures.fails in
+    let a = c.count_and_modify.new.graph in
+    let well : a.failed ≡ false = ok-well _ a.failed c.count_and_modify.result c.in_ok-counts.counts c.in_ok-counts.was c.count_and_modify.ensures.fails in
     progressed c.args.graph.now.image a.image c.progress-before.result c.progress.result
     (not-failed-so c.args.graph.now.failed c.requires.well c.progress-before.ensures.measure)
     (not-failed-so a.failed well c.progress.ensures.measure)

@@ -1,9 +1,9 @@
 -- The hook is called in the graph that the rules leave.
-use Rattle.std.proofs.Common.{◌≡◌, false, inl, inr}
+use Rattle.std.proofs.Common.{◌≡◌, false, refl, inl, inr}
 use Rattle.slotted_graph.specs.Extension.{ExtendsTo}
 use Rattle.slotted_graph.proofs.Extending.{extends-then}
 use Rattle.slotted_rules.proofs.AppliedRules.{not-failed-so, ok-well}
-use Rattle.slotted_runs.proofs.Beside.{rules-beside, same-progress}
+use Rattle.slotted_runs.proofs.Beside.{same-progress}
 use Rattle.slotted_runs.proofs.calling.apply_and_call.Goals as goal
 
 pub returns-in_err-stop-clause-extends : goal.returns-in_err-stop-clause-extends
@@ -18,7 +18,7 @@ returns-in_err-stop-clause-extends g c =
 pub returns-clause-ok : goal.returns-clause-ok
 returns-clause-ok g c = record {
   applied = (c.apply_rewrites.new.graph, c.args.hook.now);
-  by_rules = rules-beside g.Q.RewriteT.searches g.Q.RewriteT.applies c.args.hook.now c.args.rules.now c.args.graph.now c.apply_rewrites.new.graph c.in_ok-changed.ensures.rules;
+  by_rules = (c.in_ok-changed.ensures.modified, refl);
   by_hook = c.in_ok-stop.ensures.ok;
   same_is = same-progress c.args.graph.now.image c.apply_rewrites.new.graph.image c.in_ok-changed.changed c.in_ok-changed.ensures.changed;
 }

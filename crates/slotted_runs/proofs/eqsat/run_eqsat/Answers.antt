@@ -6,6 +6,7 @@ use Rattle.slotted_slots.specs.Error.{IsShortage}
 use Rattle.slotted_core.specs.Graph.{Graph}
 use Rattle.slotted_graph.specs.Measure.{IsProgress}
 use Rattle.slotted_rules.proofs.AppliedRules.{not-failed-so, ok-well}
+use Rattle.slotted_rules.specs.Applying.{AreModified}
 use Rattle.slotted_runs.specs.Eqsat.{HasBroken, HasEnded}
 use Rattle.slotted_runs.specs.Seen.{stop_of}
 use Rattle.slotted_runs.specs.Turning.{Calls, RulesOnce}
@@ -17,9 +18,9 @@ pub returns-in_err-ended-clause-refused : goal.returns-in_err-ended-clause-refus
 returns-in_err-ended-clause-refused g c =
     let was : c.take_turns-outcome.result ≡ Err c.in_err-ended.field-0.0 = sym c.failing.ensures.same ∙ c.in_err-ended.was in
     on-err c.from_residual.result
-    (inr (refused-eqsat g.K.Clock.tells (RulesOnce g.Q.RewriteT.searches g.Q.RewriteT.applies c.args.rules.now) (Calls g.H.Hook.leaves) c.args.iter_limit c.args.time_limit_seconds c.take_turns-outcome.result
+    (inr (refused-eqsat g.K.Clock.tells (RulesOnce g.Q.RewriteT.searches g.Q.RewriteT.applies (AreModified g.N.Analysis.codes g.N.Analysis.meaning g.N.Analysis.may_ask g.N.Analysis.modifies) c.args.rules.now) (Calls g.H.Hook.leaves) c.args.iter_limit c.args.time_limit_seconds c.take_turns-outcome.result
     (c.args.graph.now, c.args.hook.now) (c.take_turns-outcome.new.graph, c.take_turns-outcome.new.hook) c.args.clock.now c.now.new.self c.take_turns-outcome.new.clock c.now.result c.now.ensures
-    (subst (λ (r : Result _ Error). OnErr r (HasBroken g.K.Clock.tells (RulesOnce g.Q.RewriteT.searches g.Q.RewriteT.applies c.args.rules.now) (Calls g.H.Hook.leaves) c.args.iter_limit c.args.time_limit_seconds c.now.result
+    (subst (λ (r : Result _ Error). OnErr r (HasBroken g.K.Clock.tells (RulesOnce g.Q.RewriteT.searches g.Q.RewriteT.applies (AreModified g.N.Analysis.codes g.N.Analysis.meaning g.N.Analysis.may_ask g.N.Analysis.modifies) c.args.rules.now) (Calls g.H.Hook.leaves) c.args.iter_limit c.args.time_limit_seconds c.now.result
     (c.args.graph.now, c.args.hook.now) c.now.new.self (c.take_turns-outcome.new.graph, c.take_turns-outcome.new.hook) c.take_turns-outcome.new.clock)) was c.take_turns-outcome.ensures.refused)
     c.failing.new.graph (c.failing.ensures.short, c.failing.ensures.other)))
 
@@ -30,11 +31,11 @@ returns-clause-ok g c =
     let left : c.failing.new.graph ≡ c.take_turns-outcome.new.graph = c.failing.ensures.other (λ short. subst (λ (r : Result _ Error). IsErrAnd r IsShortage) was short) in
     let still : c.failing.new.graph.failed ≡ false = ap (λ (x : Graph). x.failed) left ∙ well in
     let measure : IsProgress c.failing.new.graph.image c.progress.result = not-failed-so c.failing.new.graph.failed still c.progress.ensures.measure in
-    reported-eqsat g.K.Clock.tells (RulesOnce g.Q.RewriteT.searches g.Q.RewriteT.applies c.args.rules.now) (Calls g.H.Hook.leaves) c.args.iter_limit c.args.time_limit_seconds
+    reported-eqsat g.K.Clock.tells (RulesOnce g.Q.RewriteT.searches g.Q.RewriteT.applies (AreModified g.N.Analysis.codes g.N.Analysis.meaning g.N.Analysis.may_ask g.N.Analysis.modifies) c.args.rules.now) (Calls g.H.Hook.leaves) c.args.iter_limit c.args.time_limit_seconds
     (c.args.graph.now, c.args.hook.now) (c.failing.new.graph, c.take_turns-outcome.new.hook) c.args.clock.now c.now.new.self c.take_turns-outcome.new.clock c.now-2.new.self c.now.result c.now-2.result c.now.ensures
     c.in_ok-ended.ended.counted c.in_ok-ended.ended.reason
-    (subst (λ x. HasEnded g.K.Clock.tells (RulesOnce g.Q.RewriteT.searches g.Q.RewriteT.applies c.args.rules.now) (Calls g.H.Hook.leaves) c.args.iter_limit c.args.time_limit_seconds c.now.result
+    (subst (λ x. HasEnded g.K.Clock.tells (RulesOnce g.Q.RewriteT.searches g.Q.RewriteT.applies (AreModified g.N.Analysis.codes g.N.Analysis.meaning g.N.Analysis.may_ask g.N.Analysis.modifies) c.args.rules.now) (Calls g.H.Hook.leaves) c.args.iter_limit c.args.time_limit_seconds c.now.result
     (c.args.graph.now, c.args.hook.now) c.now.new.self (x, c.take_turns-outcome.new.hook) c.take_turns-outcome.new.clock c.in_ok-ended.ended.counted (stop_of c.in_ok-ended.ended.reason)) (sym left)
-    (subst (λ (r : Result _ Error). IfOk r (λ e. HasEnded g.K.Clock.tells (RulesOnce g.Q.RewriteT.searches g.Q.RewriteT.applies c.args.rules.now) (Calls g.H.Hook.leaves) c.args.iter_limit c.args.time_limit_seconds c.now.result
+    (subst (λ (r : Result _ Error). IfOk r (λ e. HasEnded g.K.Clock.tells (RulesOnce g.Q.RewriteT.searches g.Q.RewriteT.applies (AreModified g.N.Analysis.codes g.N.Analysis.meaning g.N.Analysis.may_ask g.N.Analysis.modifies) c.args.rules.now) (Calls g.H.Hook.leaves) c.args.iter_limit c.args.time_limit_seconds c.now.result
     (c.args.graph.now, c.args.hook.now) c.now.new.self (c.take_turns-outcome.new.graph, c.take_turns-outcome.new.hook) c.take_turns-outcome.new.clock e.counted (stop_of e.reason))) was c.take_turns-outcome.ensures.ok))
     c.now-2.ensures c.total_number_of_nodes.result c.progress.result.number_of_live_classes c.saturating_sub.result c.total_number_of_nodes.ensures measure.live c.saturating_sub.ensures

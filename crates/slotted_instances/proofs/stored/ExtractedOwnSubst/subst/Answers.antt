@@ -37,17 +37,17 @@ returns-in_err-term-clause-only g c =
     ] in
     search rules
 
-pub add_syn_expr-requires : goal.add_syn_expr-requires
-add_syn_expr-requires g c =
+pub add_syn_expr_quietly-requires : goal.add_syn_expr_quietly-requires
+add_syn_expr_quietly-requires g c =
     inr c.in_ok-term.ensures.valid
 
 pub replaced-requires-clause-graph : goal.replaced-requires-clause-graph
 replaced-requires-clause-graph g c =
     let g0 = c.args.graph.now in
     let e = c.least_term.new.self in
-    let f = c.add_syn_expr.new.self in
+    let f = c.add_syn_expr_quietly.new.self in
     let well : IsTrue f.failed → ⊥ = λ failed. false≢true (c.in_ok-body.ensures.fails.0 failed) in
-    let builds = added-builds g0 e f c.requires.graph c.least_term.ensures.takes c.in_ok-body.ensures.extends c.in_ok-body.ensures.adds c.add_syn_expr.ensures.more c.is_failed.ensures.rests well in
+    let builds = added-builds g0 e f c.requires.graph c.least_term.ensures.takes c.in_ok-body.ensures.extends c.in_ok-body.ensures.adds c.add_syn_expr_quietly.ensures.more c.is_failed.ensures.rests well in
     builds.grows.graph
 
 pub replaced-requires-clause-body : goal.replaced-requires-clause-body
@@ -58,18 +58,18 @@ pub replaced-requires-clause-part : goal.replaced-requires-clause-part
 replaced-requires-clause-part g c =
     let g0 = c.args.graph.now in
     let e = c.least_term.new.self in
-    let f = c.add_syn_expr.new.self in
+    let f = c.add_syn_expr_quietly.new.self in
     let well : IsTrue f.failed → ⊥ = λ failed. false≢true (c.in_ok-body.ensures.fails.0 failed) in
-    let builds = added-builds g0 e f c.requires.graph c.least_term.ensures.takes c.in_ok-body.ensures.extends c.in_ok-body.ensures.adds c.add_syn_expr.ensures.more c.is_failed.ensures.rests well in
+    let builds = added-builds g0 e f c.requires.graph c.least_term.ensures.takes c.in_ok-body.ensures.extends c.in_ok-body.ensures.adds c.add_syn_expr_quietly.ensures.more c.is_failed.ensures.rests well in
     full-builds g0 f (to_applied c.args.x) builds c.requires.part
 
 pub replaced-requires-clause-value : goal.replaced-requires-clause-value
 replaced-requires-clause-value g c =
     let g0 = c.args.graph.now in
     let e = c.least_term.new.self in
-    let f = c.add_syn_expr.new.self in
+    let f = c.add_syn_expr_quietly.new.self in
     let well : IsTrue f.failed → ⊥ = λ failed. false≢true (c.in_ok-body.ensures.fails.0 failed) in
-    let builds = added-builds g0 e f c.requires.graph c.least_term.ensures.takes c.in_ok-body.ensures.extends c.in_ok-body.ensures.adds c.add_syn_expr.ensures.more c.is_failed.ensures.rests well in
+    let builds = added-builds g0 e f c.requires.graph c.least_term.ensures.takes c.in_ok-body.ensures.extends c.in_ok-body.ensures.adds c.add_syn_expr_quietly.ensures.more c.is_failed.ensures.rests well in
     full-builds g0 f (to_applied c.args.t) builds c.requires.value
 
 pub returns-clause-valid : goal.returns-clause-valid
@@ -80,11 +80,11 @@ pub returns-clause-stands : goal.returns-clause-stands
 returns-clause-stands g c =
     let g0 = c.args.graph.now in
     let e = c.least_term.new.self in
-    let f = c.add_syn_expr.new.self in
+    let f = c.add_syn_expr_quietly.new.self in
     let well : IsTrue f.failed → ⊥ = λ failed. false≢true (c.in_ok-body.ensures.fails.0 failed) in
-    let builds = added-builds g0 e f c.requires.graph c.least_term.ensures.takes c.in_ok-body.ensures.extends c.in_ok-body.ensures.adds c.add_syn_expr.ensures.more c.is_failed.ensures.rests well in
+    let builds = added-builds g0 e f c.requires.graph c.least_term.ensures.takes c.in_ok-body.ensures.extends c.in_ok-body.ensures.adds c.add_syn_expr_quietly.ensures.more c.is_failed.ensures.rests well in
     ok-mapped c.replaced.result c.replaced.ensures.ok (λ a r k.
-    extracted-answers g0 e f c.requires.graph c.least_term.ensures.takes c.in_ok-body.ensures.extends c.in_ok-body.ensures.adds c.add_syn_expr.ensures.more c.is_failed.ensures.rests well
+    extracted-answers g0 e f c.requires.graph c.least_term.ensures.takes c.in_ok-body.ensures.extends c.in_ok-body.ensures.adds c.add_syn_expr_quietly.ensures.more c.is_failed.ensures.rests well
     c.replaced.new.graph (to_applied c.args.b) (to_applied c.args.x) (to_applied c.args.t) (to_applied c.in_ok-body.body) (to_applied a) c.in_ok-term.term c.requires.body
     (c.in_ok-term.ensures.least (costs_by nat_cmp size_cost) c.in_ok-terms.ensures.least).0 c.in_ok-body.ensures.valid c.in_ok-body.ensures.term r)
 
@@ -92,7 +92,7 @@ pub returns-clause-extends : goal.returns-clause-extends
 returns-clause-extends g c =
     let g0 = c.args.graph.now in
     let e = c.least_term.new.self in
-    let f = c.add_syn_expr.new.self in
+    let f = c.add_syn_expr_quietly.new.self in
     let well : IsTrue f.failed → ⊥ = λ failed. false≢true (c.in_ok-body.ensures.fails.0 failed) in
-    let builds = added-builds g0 e f c.requires.graph c.least_term.ensures.takes c.in_ok-body.ensures.extends c.in_ok-body.ensures.adds c.add_syn_expr.ensures.more c.is_failed.ensures.rests well in
+    let builds = added-builds g0 e f c.requires.graph c.least_term.ensures.takes c.in_ok-body.ensures.extends c.in_ok-body.ensures.adds c.add_syn_expr_quietly.ensures.more c.is_failed.ensures.rests well in
     extends-from g0 f c.replaced.new.graph builds (replaced-extends f c.replaced.new.graph (to_applied c.args.x) (to_applied c.args.t) (to_applied c.in_ok-body.body) c.replaced.result c.replaced.ensures.ok c.replaced.ensures.err)

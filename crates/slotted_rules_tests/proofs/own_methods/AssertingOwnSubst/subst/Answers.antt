@@ -6,17 +6,17 @@ use Rattle.slotted_graph.proofs.CallerLemmas.{full-valid}
 use Rattle.slotted_graph.proofs.Extending.{extends-united}
 use Rattle.slotted_rules_tests.proofs.own_methods.AssertingOwnSubst.subst.Goals as goal
 
-pub union-requires-clause-left : goal.union-requires-clause-left
-union-requires-clause-left g c = inr (full-valid c.args.graph.now (to_applied c.args.x) c.requires.part)
+pub union_quietly-requires-clause-left : goal.union_quietly-requires-clause-left
+union_quietly-requires-clause-left g c = inr (full-valid c.args.graph.now (to_applied c.args.x) c.requires.part)
 
-pub union-requires-clause-right : goal.union-requires-clause-right
-union-requires-clause-right g c = inr (full-valid c.args.graph.now (to_applied c.args.t) c.requires.value)
+pub union_quietly-requires-clause-right : goal.union_quietly-requires-clause-right
+union_quietly-requires-clause-right g c = inr (full-valid c.args.graph.now (to_applied c.args.t) c.requires.value)
 
 pub returns-clause-valid : goal.returns-clause-valid
 returns-clause-valid g c =
-    let extends : ExtendsTo c.args.graph.now c.union.new.self = extends-united c.args.graph.now c.union.new.self c.args.x c.args.t None c.in_ok-union.field-0 c.in_ok-union.ensures.union c.in_ok-union.ensures.text c.in_ok-union.ensures.table in
+    let extends : ExtendsTo c.args.graph.now c.union_quietly.new.self = extends-united c.args.graph.now c.union_quietly.new.self c.args.x c.args.t None c.in_ok-union_quietly.field-0 c.in_ok-union_quietly.ensures.union c.in_ok-union_quietly.ensures.text c.in_ok-union_quietly.ensures.table in
     extends.valid (to_applied c.args.b) (full-valid c.args.graph.now (to_applied c.args.b) c.requires.body)
 
 pub returns-clause-extends : goal.returns-clause-extends
 returns-clause-extends g c =
-    inr (extends-united c.args.graph.now c.union.new.self c.args.x c.args.t None c.in_ok-union.field-0 c.in_ok-union.ensures.union c.in_ok-union.ensures.text c.in_ok-union.ensures.table)
+    inr (extends-united c.args.graph.now c.union_quietly.new.self c.args.x c.args.t None c.in_ok-union_quietly.field-0 c.in_ok-union_quietly.ensures.union c.in_ok-union_quietly.ensures.text c.in_ok-union_quietly.ensures.table)

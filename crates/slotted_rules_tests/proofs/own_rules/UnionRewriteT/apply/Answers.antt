@@ -5,4 +5,4 @@ use Rattle.slotted_rules_tests.proofs.own_rules.UnionRewriteT.apply.Goals as goa
 
 pub returns-clause-extends : goal.returns-clause-extends
 returns-clause-extends g c =
-    inr (extends-united c.args.graph.now c.union.new.self c.args.self.now.left c.args.self.now.right None c.in_ok-union.field-0 c.in_ok-union.ensures.union c.in_ok-union.ensures.text c.in_ok-union.ensures.table)
+    inr (extends-united c.args.graph.now c.union_quietly.new.self c.args.self.now.left c.args.self.now.right None c.in_ok-union_quietly.field-0 c.in_ok-union_quietly.ensures.union c.in_ok-union_quietly.ensures.text c.in_ok-union_quietly.ensures.table)

@@ -1,6 +1,7 @@
 -- The rules, the hook, why it stops, and the reading at its end.
 use Rattle.std.proofs.Common.{◌∙◌, Some, subst}
 use Rattle.std.specs.Prelude.{not, option_map}
+use Rattle.slotted_rules.specs.Applying.{AreModified}
 use Rattle.slotted_runs.specs.Loops.{IsTurn}
 use Rattle.slotted_runs.specs.Seen.{limits_of, stop_of}
 use Rattle.slotted_runs.specs.Turning.{Calls, RulesOnce, measures}
@@ -9,7 +10,7 @@ use Rattle.slotted_runs.proofs.runner.Runner.turn.Goals as goal
 
 pub returns-clause-ok : goal.returns-clause-ok
 returns-clause-ok g c =
-    let rules = RulesOnce g.Q.RewriteT.searches g.Q.RewriteT.applies c.args.rules.now in
+    let rules = RulesOnce g.Q.RewriteT.searches g.Q.RewriteT.applies (AreModified g.N.Analysis.codes g.N.Analysis.meaning g.N.Analysis.may_ask g.N.Analysis.modifies) c.args.rules.now in
     let calls = Calls g.H.Hook.leaves in
     let limits = limits_of c.args.self.now.limits in
     let stop = option_map stop_of c.reason-stop.result in

@@ -4,7 +4,7 @@ use Rattle.slotted_graph.proofs.Extending.{extends-added}
 use Rattle.slotted_runs_tests.proofs.counting.CountingRewriteTSmall.apply.Goals as goal
 
 pub returns-clause-ok : goal.returns-clause-ok
-returns-clause-ok g c = extends-added c.args.graph.now c.add.new.self c.in_ok-add.ensures.extends c.in_ok-add.ensures.adds c.add.ensures.more
+returns-clause-ok g c = extends-added c.args.graph.now c.add_quietly.new.self c.in_ok-add_quietly.ensures.extends c.in_ok-add_quietly.ensures.adds c.add_quietly.ensures.more
 
 pub returns-clause-extends : goal.returns-clause-extends
-returns-clause-extends g c = inr (extends-added c.args.graph.now c.add.new.self c.in_ok-add.ensures.extends c.in_ok-add.ensures.adds c.add.ensures.more)
+returns-clause-extends g c = inr (extends-added c.args.graph.now c.add_quietly.new.self c.in_ok-add_quietly.ensures.extends c.in_ok-add_quietly.ensures.adds c.add_quietly.ensures.more)

@@ -1,0 +1,8 @@
+use Rattle.std.proofs.Common.{inl, inr}
+use Rattle.slotted_rules.proofs.modifying.modify_classes.Goals as goal
+
+pub returns-clause-modified : goal.returns-clause-modified
+returns-clause-modified g c = (c.in_ok-modify.field-0, c.in_ok-modify.ensures.modified)
+
+pub returns-clause-extends : goal.returns-clause-extends
+returns-clause-extends g c = inr c.in_ok-modify.ensures.modified.leaves.extends
