@@ -29,6 +29,7 @@ use Rattle.slotted_rule_patterns.specs.PatternCode.{filled_pattern}
 use Rattle.slotted_instances.specs.Building.{AssertsNothing, Grows}
 use Rattle.slotted_instances.specs.Methods.{Method, unknown, canonical, extracted, represented, IsKnownMethod}
 use Rattle.slotted_instances.specs.Instances.{Instantiates}
+use Rattle.slotted_instances.specs.Stacked.{Makes}
 use Rattle.slotted_instances.proofs.Growing.{grows-then}
 use Rattle.slotted_instances.proofs.NodesOver.{Each-take, Each-drop, first-of}
 use Rattle.slotted_instances.proofs.Putting.{representatives-longer}
@@ -55,11 +56,6 @@ answer-stays R older newer ext σ given p a (inr i) = inr (
   ext.full a i.0,
   subst (IsInstance R newer given σ (λ y. y) p) (sym (ext.terms a i.0)) (instance-stays R older newer ext σ given (λ y. y) p (term_of older a) i.1),
 )
-
--- what is built, where nothing is asserted if the method is known
-pub record Makes (m : Method) (g h : Graph) : Type 0 where
-  pub grows : Grows g h
-  pub asserts : IsKnownMethod m → AssertsNothing g h
 
 pub makes-then : (m : Method) (f g h : Graph) → Makes m f g → Makes m g h → Makes m f h
 makes-then m f g h b c = record { grows = grows-then f g h b.grows c.grows; asserts = λ k. c.asserts k ∙ b.asserts k }

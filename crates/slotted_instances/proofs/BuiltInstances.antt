@@ -46,7 +46,8 @@ use Rattle.slotted_instances.specs.Building.{Builds}
 use Rattle.slotted_instances.specs.Instances.{AreValidValues, Instantiates}
 use Rattle.slotted_instances.specs.Methods.{Method, represented, IsKnownMethod, AreRepresentatives}
 use Rattle.slotted_instances.specs.Putting.{PutsIn}
-use Rattle.slotted_instances.proofs.Answers.{method-moves, method-more, answer-more, answer-stays, Makes, makes-then, makes-instance, instance-wider, EachPair, IsAnswerOver, over-answers}
+use Rattle.slotted_instances.specs.Stacked.{Makes}
+use Rattle.slotted_instances.proofs.Answers.{method-moves, method-more, answer-more, answer-stays, makes-then, makes-instance, instance-wider, EachPair, IsAnswerOver, over-answers}
 use Rattle.slotted_instances.proofs.Growing.{graph-canonical, grows-itself, grows-then}
 use Rattle.slotted_instances.proofs.NodesOver.{known-over}
 use Rattle.slotted_instances.proofs.Parts.{pattern_at, all-known, part-at}
@@ -203,17 +204,14 @@ variable-instance m g s is valid v a found =
     }
 
 -- and a substitution what the method answers, for fillings of the answers for its parts
-pub substituted-instance : (m : Method) (g e f i h : Graph) (s : Values) (b x t : PatternTree) (body part value a : Applied) → IsGraph g → Instantiates m g e s b body → Instantiates m e f s x part → Instantiates m f i s t value →
+pub substituted-instance : (m : Method) (g i h : Graph) (s : Values) (b x t : PatternTree) (body part value a : Applied) → IsGraph g → Makes m g i → Instantiates m g i s b body → Instantiates m g i s x part → Instantiates m g i s t value →
     PutsIn m i h body part value a → Instantiates m g h s (substitution b x t) a
-substituted-instance m g e f i h s b x t body part value a is nb nx nt put =
-    let one = makes-instance m g e s b body nb in
-    let two = makes-instance m e f s x part nx in
-    let three = makes-instance m f i s t value nt in
+substituted-instance m g i h s b x t body part value a is before nb nx nt put =
     let last : Makes m i h = record { grows = put.grows; asserts = λ k. (put.filled k).stands.asserts } in
-    let before = makes-then m g f i (makes-then m g e f one two) three in
-    let wb = instance-wider m g g e h s b body (makes-itself m g is) (makes-then m e f h two (makes-then m f i h three last)) nb in
-    let wx = instance-wider m g e f h s x part one (makes-then m f i h three last) nx in
-    let wt = instance-wider m g f i h s t value (makes-then m g e f one two) last nt in
+    let wider = λ (q : PatternTree) (z : Applied) (n : Instantiates m g i s q z). instance-wider m g g i h s q z (makes-itself m g is) last n in
+    let wb = wider b body nb in
+    let wx = wider x part nx in
+    let wt = wider t value nt in
     record {
       grows = grows-then g i h before.grows put.grows;
       valid = put.valid;

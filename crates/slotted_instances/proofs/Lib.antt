@@ -8,6 +8,7 @@ pub mod Putting
 pub mod Answers
 pub mod Parts
 pub mod BuiltInstances
+pub mod StackedInstances
 pub mod StoredMethods
 pub mod Refusing
 pub mod UnitedInstances

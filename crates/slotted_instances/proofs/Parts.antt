@@ -16,6 +16,7 @@ use Rattle.slotted_rule_patterns.proofs.Sizes.{pattern_size, row_size}
 use Rattle.slotted_rule_patterns.proofs.Whole.{length-patterns}
 use Rattle.slotted_rule_patterns.proofs.Parts.{node-parts, replacing-parts, first-parts}
 use Rattle.slotted_instances.specs.Instances.{HasValues}
+use Rattle.slotted_instances.specs.Stacked.{IsReady}
 use Rattle.slotted_instances.proofs.NodesOver.{All-Each}
 
 -- the pattern with this number
@@ -94,12 +95,6 @@ size-at : (qs : List PatternTree) (k : ℕ) → k < length qs → pattern_size (
 size-at [] k l = absurd (omega arith)
 size-at (q ∷ qs) zero l = omega arith
 size-at (q ∷ qs) (suc k) l = omega (arith, size-at qs k (omega arith))
-
--- what is asked of a pattern of which an instance is built
-pub record IsReady (t : Table) (s : Values) (q : PatternTree) : Type 0 where
-  pub known : HasKnownNames t q
-  pub whole : IsSome (pattern_in q)
-  pub given : HasValues s q
 
 pub record IsReadyNode (t : Table) (s : Values) (f : Form) (qs : List PatternTree) : Type 0 where
   pub own : AreKnown t f.names

@@ -6,6 +6,7 @@ mod building;
 pub mod instances;
 pub mod looking_up;
 pub mod method;
+mod over;
 mod refusals;
 mod stored;
 pub mod substituting;
