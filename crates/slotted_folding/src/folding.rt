@@ -1,4 +1,12 @@
 //! A term, and what the rules of arithmetic and the folding of constants make of it.
+ghost use Rattle.std.specs.Prelude.{IfOk};
+ghost use Rattle.std.specs.Ordering.{nat_cmp};
+ghost use Rattle.slotted_terms.specs.Valid.{IsValidTerm};
+ghost use Rattle.slotted_costs.specs.Costs.{costs_by};
+ghost use Rattle.slotted_costs.specs.Size.{size_cost};
+ghost use Rattle.slotted_proofs.specs.Equations.{to_applied};
+ghost use Rattle.slotted_graph.specs.LeastTerms.{IsLeastTerm};
+
 use crate::rules::{Rule, arithmetic};
 use slotted_analyses::Analysis;
 use slotted_const_fold::ConstFold;
@@ -8,6 +16,7 @@ use slotted_rules::are_valid;
 use slotted_runs::{Clock, NoHook, Runner, StopReason};
 use slotted_slots::{AppliedId, Error, SlotTable};
 use slotted_small::Small;
+use slotted_terms::RecExpr;
 use std::alloc::Global;
 use std::convert::Infallible;
 
@@ -48,16 +57,28 @@ fn saturate<K: Clock>(alloc: Global, folder: &mut Folder<K>) -> Result<bool, Err
     run_rules(folder, &rules)
 }
 
-// The text of a smallest term that an id represents.
+// A smallest term that an id represents.
 fn smallest<N: Analysis<Small>>(
     alloc: Global,
     graph: &mut EGraph<Small, N>,
     id: &AppliedId,
-) -> Result<String, Error> {
+) -> Result<RecExpr<Small>, Error>
+    ensures least { IfOk result (IsLeastTerm graph.old (costs_by nat_cmp size_cost) (to_applied id.now)) }
+    ensures valid { IfOk result (λ t. IsValidTerm graph.new.table t) }
+{
     if !graph.is_valid(id) {
         return Err(Error::Failed);
     }
-    let term = ast_size_extract(alloc, id, graph)?;
+    ast_size_extract(alloc, id, graph)
+}
+
+// Its text.
+fn smallest_text<N: Analysis<Small>>(
+    alloc: Global,
+    graph: &mut EGraph<Small, N>,
+    id: &AppliedId,
+) -> Result<String, Error> {
+    let term = smallest(alloc, graph, id)?;
     term.text(alloc, graph.table())
 }
 
@@ -67,7 +88,7 @@ fn fold_in<K: Clock>(alloc: Global, folder: &mut Folder<K>, text: &str) -> Resul
     let is_saturated = saturate(alloc, folder)?;
     let classes = folder.egraph.ids()?.len();
     let nodes = folder.egraph.total_number_of_nodes();
-    let term = smallest(alloc, &mut folder.egraph, &id)?;
+    let term = smallest_text(alloc, &mut folder.egraph, &id)?;
     Ok(Folded {
         term,
         classes,
