@@ -15,3 +15,4 @@ pub mod UnitedInstances
 pub mod ExplicitEntries
 pub mod InstanceEquations
 pub mod LookedUp
+pub mod LookedStack
