@@ -1,3 +1,4 @@
 pub mod LeastSize
 pub mod LeastBinders
 pub mod Marking
+pub mod Tired

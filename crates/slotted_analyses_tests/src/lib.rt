@@ -10,6 +10,7 @@ pub mod least_binders;
 pub mod least_size;
 pub mod marking;
 pub mod refusing;
+pub mod tired;
 #[cfg(test)]
 mod rounds;
 #[cfg(test)]

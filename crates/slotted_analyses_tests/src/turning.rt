@@ -1,6 +1,7 @@
-//! A round turns what a term that is being added is looked up as.
+//! Rounds that turn what a term that is being added is looked up as, and rounds that are refused.
 use crate::graphs::{empty, put, unite};
 use crate::marking::Marking;
+use crate::tired::Tired;
 use slotted_graph::EGraph;
 use slotted_slots::{Error, Id};
 use slotted_small::Small;
@@ -20,5 +21,19 @@ fn a_term_is_added_again_after_edits(rt: HostRuntime) -> Result<(), Error> {
     let mut graph = empty(rt.alloc(), Marking)?;
     let holds = is_added_again(&mut graph).expect(&rt, "there is memory");
     assert!(&rt; holds);
+    Ok(())
+}
+
+// Whether a write is refused for want of slots because its edits are, and any later one because the graph has failed.
+fn is_refused(graph: &mut EGraph<Small, Tired>) -> bool {
+    let refused = matches!(put(graph, "(app a b)"), Err(Error::OutOfSlots));
+    let later = matches!(put(graph, "a"), Err(Error::Failed));
+    refused && graph.is_failed() && later
+}
+
+#[test]
+fn edits_that_are_refused_fail_the_graph(rt: HostRuntime) -> Result<(), Error> {
+    let mut graph = empty(rt.alloc(), Tired)?;
+    assert!(&rt; is_refused(&mut graph));
     Ok(())
 }
