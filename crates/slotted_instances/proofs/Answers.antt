@@ -26,8 +26,7 @@ use Rattle.slotted_model_rules.proofs.Instantiating.{instance-stays}
 use Rattle.slotted_model_rules.proofs.Representing.{listed-moves, represented-moves, listed-more, answer-represented}
 use Rattle.slotted_patterns.specs.Tree.{PatternTree}
 use Rattle.slotted_rule_patterns.specs.PatternCode.{filled_pattern}
-use Rattle.slotted_instances.specs.Building.{AssertsNothing, Grows}
-use Rattle.slotted_instances.specs.Methods.{Method, unknown, canonical, extracted, represented, IsKnownMethod}
+use Rattle.slotted_instances.specs.Methods.{Method, unknown, canonical, extracted, represented}
 use Rattle.slotted_instances.specs.Instances.{Instantiates}
 use Rattle.slotted_instances.specs.Stacked.{Makes}
 use Rattle.slotted_instances.proofs.Growing.{grows-then}

@@ -1,16 +1,16 @@
 -- Instances on a stack: those of the parts of a pattern give way to one of the pattern.
-use Rattle.std.proofs.Common.{◌≡◌, ◌∙◌, ap, refl, sym, subst, ℕ, zero, suc, ◌+◌, ◌-◌, ◌<◌, ◌≤◌, List, [], ◌∷◌, ◌++◌, length, map, take, drop, arith, append_assoc, append-nil, length-append, length-drop}
-use Rattle.std.specs.Prelude.{All, IsSome, Some, true}
+use Rattle.std.proofs.Common.{◌≡◌, ◌∙◌, ap, refl, sym, subst, ℕ, zero, suc, ◌+◌, ◌-◌, ◌<◌, ◌≤◌, List, [], ◌∷◌, ◌++◌, length, take, drop, arith, append_assoc, append-nil, length-append, length-drop}
+use Rattle.std.specs.Prelude.{All, Some, true}
 use Rattle.std.proofs.lemmas.List.{take-append-drop, take_all}
 use Rattle.std.proofs.lemmas.List.Elements.{All-drop}
 use Rattle.std.proofs.Math.Seq.{get_or-append_seam, take-append_seam}
 use Rattle.slotted_slots.specs.Maps.{keys, values}
 use Rattle.slotted_slots.specs.declared.types.AppliedId.{AppliedId}
-use Rattle.slotted_slots.specs.Table.{KnowsMore, Table}
+use Rattle.slotted_slots.specs.Table.{Table}
 use Rattle.slotted_nodes.specs.Form.{Form, children, with_applied, with_child}
 use Rattle.slotted_languages.specs.Shape.{Fits}
 use Rattle.slotted_terms.specs.Valid.{AllKnown}
-use Rattle.slotted_patterns.specs.Known.{AreKnown, HasKnownNames, HaveKnownNames}
+use Rattle.slotted_patterns.specs.Known.{AreKnown, HaveKnownNames}
 use Rattle.slotted_patterns.specs.Subpatterns.{before_parts, parts, patterns_in as row_list, subpatterns, EndsInParts}
 use Rattle.slotted_patterns.specs.Tree.{PatternTree, enode, pvar, substitution, PatternRow, no_more, one_more, row_of}
 use Rattle.slotted_patterns.proofs.Folds.{EachOf, Folds, ends-length, folds-end, folds-inside, folds-parts, folds-start, folds-step, patterns_in-row}
@@ -31,12 +31,10 @@ use Rattle.slotted_graph.specs.States.{IsGraph}
 use Rattle.slotted_graph.specs.ValidIds.{IsValidId}
 use Rattle.slotted_instances.specs.Building.{Builds}
 use Rattle.slotted_instances.specs.Instances.{AreValidValues, Instantiates}
-use Rattle.slotted_instances.specs.Methods.{IsKnownMethod, Method}
-use Rattle.slotted_instances.specs.Putting.{PutsIn}
+use Rattle.slotted_instances.specs.Methods.{Method}
 use Rattle.slotted_instances.specs.Stacked.{AreInstances, BuildsOver, IsReady, Makes, PutsLast, ids_before, last_ids}
 use Rattle.slotted_instances.proofs.Answers.{instance-wider, makes-then}
 use Rattle.slotted_instances.proofs.BuiltInstances.{built-node, makes-itself, substituted-instance, variable-instance}
-use Rattle.slotted_instances.proofs.Growing.{builds-itself}
 use Rattle.slotted_instances.proofs.NodesOver.{known-over}
 use Rattle.slotted_instances.proofs.Parts.{all-known, known-later, pattern_at, ready-parts, some-is, some-of, values-left, values-right}
 use Rattle.slotted_instances.proofs.Walking.{at}

@@ -1,12 +1,12 @@
 -- Each pattern is built over the instances of its parts.
-use Rattle.std.proofs.Common.{◌≡◌, ◌∙◌, ◌∷◌, ◌++◌, [], ap, sym, subst, arith, inr, length, map}
+use Rattle.std.proofs.Common.{◌∙◌, ◌∷◌, ◌++◌, [], ap, subst, arith, inr, map}
 use Rattle.std.proofs.lemmas.List.{length-map, map-append}
 use Rattle.slotted_patterns.specs.View.{tree_of}
 use Rattle.slotted_patterns.proofs.PatternCopies.{mapped_last}
 use Rattle.slotted_patterns.proofs.PieceTexts.{nothing}
 use Rattle.slotted_proofs.specs.Equations.{to_applied}
 use Rattle.slotted_rule_patterns.specs.Values.{values_of}
-use Rattle.slotted_instances.specs.Stacked.{AreInstances, IsReady}
+use Rattle.slotted_instances.specs.Stacked.{IsReady}
 use Rattle.slotted_instances.proofs.Answering.{err-then}
 use Rattle.slotted_instances.proofs.Growing.{grows-itself, grows-then, later-grows}
 use Rattle.slotted_instances.proofs.StackedInstances.{Waits, instances-length, next-enough, next-ready, only-one, waits-end, waits-start, waits-step, waits-valid}

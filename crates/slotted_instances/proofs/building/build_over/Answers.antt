@@ -1,5 +1,5 @@
 use Rattle.std.proofs.Common.{◌≡◌, ◌≤◌, ◌∙◌, ap, sym, subst, arith, refl, inr, length, List, map, string_bytes}
-use Rattle.std.specs.Prelude.{All, IfOk, Some, [], is_some}
+use Rattle.std.specs.Prelude.{IfOk, Some, [], is_some}
 use Rattle.std.proofs.lemmas.Bool.{false≢true}
 use Rattle.std.proofs.lemmas.List.{length-map}
 use Rattle.slotted_nodes.specs.Form.{Form, children}
@@ -11,10 +11,9 @@ use Rattle.slotted_proofs.specs.Equations.{to_applied}
 use Rattle.slotted_model_rules.specs.Matcher.{value_at}
 use Rattle.slotted_rule_patterns.specs.Values.{values_of}
 use Rattle.slotted_rule_patterns.proofs.Rows.{tree_of-node, tree_of-variable, tree_of-substitution}
-use Rattle.slotted_adding.specs.Filling.{node_over}
 use Rattle.slotted_graph.specs.Adding.{AddsSyn}
 use Rattle.slotted_instances.specs.Instances.{HasValues}
-use Rattle.slotted_instances.specs.Stacked.{BuildsOver, IsReady, ids_before, last_ids}
+use Rattle.slotted_instances.specs.Stacked.{BuildsOver, IsReady, last_ids}
 use Rattle.slotted_instances.proofs.Answering.{err-mapped, err-then, ok-added, ok-copied, ok-mapped}
 use Rattle.slotted_instances.proofs.Growing.{grows-itself, later-built}
 use Rattle.slotted_instances.proofs.Parts.{ready-count, ready-node}

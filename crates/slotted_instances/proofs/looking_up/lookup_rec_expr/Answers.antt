@@ -1,5 +1,5 @@
 -- A node is looked up over what the terms under it are.
-use Rattle.std.proofs.Common.{◌≡◌, ◌∙◌, ◌∷◌, ◌++◌, [], ap, sym, subst, arith, inl, inr, length, map, true, false}
+use Rattle.std.proofs.Common.{◌≡◌, ◌∙◌, ◌∷◌, ◌++◌, [], ap, sym, subst, arith, inl, inr, map, false}
 use Rattle.std.specs.Prelude.{◌⊎◌, IfSome, IsSome, IsTrue, option_map}
 use Rattle.std.proofs.lemmas.Bool.{false≢true}
 use Rattle.std.proofs.lemmas.List.{length-map, map-append}
