@@ -6,7 +6,6 @@ use Rattle.slotted_nodes.specs.Form.{counted}
 use Rattle.slotted_theory.specs.Decided.{numbers_eq}
 use Rattle.slotted_theory.proofs.Decides.{numbers_eq-true, numbers_eq-same}
 use Rattle.slotted_reports.specs.declared.measure.ProgressMeasure.{ProgressMeasure}
-use Rattle.slotted_core.specs.Graph.{Graph}
 use Rattle.slotted_core.specs.Image.{Image}
 use Rattle.slotted_core.specs.Reports.{live_classes}
 use Rattle.slotted_graph.specs.Measure.{IsProgress, slots_of_live}

@@ -1,7 +1,6 @@
 -- Turns that are counted: one more.
-use Rattle.std.proofs.Common.{◌≡◌, ◌∙◌, ◌<◌, ◌≤◌, ℕ, List, [], ◌∷◌, ◌++◌, length, true, false, sym, subst, arith}
+use Rattle.std.proofs.Common.{◌≡◌, ◌<◌, ◌≤◌, ℕ, List, [], ◌∷◌, ◌++◌, length, true, false, sym, subst, arith}
 use Rattle.std.specs.Prelude.{◌↔◌, Bool, IsTrue}
-use Rattle.std.proofs.lemmas.Bool.{false≢true}
 use Rattle.slotted_nodes.specs.Form.{Form}
 use Rattle.slotted_model_rules.specs.Conditions.{Values}
 use Rattle.slotted_core.specs.Graph.{Graph}

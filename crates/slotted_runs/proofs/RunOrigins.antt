@@ -1,11 +1,11 @@
 -- Each explicit entry that a run leaves comes from one of its rules, entered in a call of the hook, or entered in the edits after the rules.
-use Rattle.std.proofs.Common.{◌≡◌, ◌∙◌, ◌<◌, ◌≤◌, ℕ, List, [], ◌∷◌, ◌++◌, length, ap, sym, subst, refl, inl, inr, arith}
-use Rattle.std.specs.Prelude.{◌⊎◌, Bool, Option, Some, None, string_bytes}
+use Rattle.std.proofs.Common.{◌≡◌, ◌<◌, ◌≤◌, ℕ, List, length, ap, inl, inr, arith}
+use Rattle.std.specs.Prelude.{◌⊎◌, Bool, Option}
 use Rattle.std.proofs.lemmas.Bool.{cases_lt}
 use Rattle.slotted_nodes.specs.Form.{Form}
 use Rattle.slotted_model.specs.ProofList.{explicit, step_at}
 use Rattle.slotted_model_rules.specs.Conditions.{Values}
-use Rattle.slotted_model_rules.specs.Runners.{EqsatAnswers, EqsatRuns, EqsatTurn, Iteration, Limits, Measures, RunnerAnswers, RunnerRuns, RunnerTurn, Stop}
+use Rattle.slotted_model_rules.specs.Runners.{EqsatAnswers, EqsatRuns, Iteration, Limits, Measures, RunnerAnswers, RunnerRuns, Stop}
 use Rattle.slotted_model_rules.specs.Runners.{again, eqsat_goes_on, eqsat_stops, goes_on, starts, stops_now, takes_up}
 use Rattle.slotted_model_rules.specs.Runners as model
 use Rattle.slotted_core.specs.Graph.{Graph}
@@ -13,7 +13,7 @@ use Rattle.slotted_graph.specs.Extension.{ExtendsTo}
 use Rattle.slotted_graph.proofs.Extending.{extends-itself, extends-then}
 use Rattle.slotted_rules.specs.declared.rewrite.Rewrite.{Rewrite}
 use Rattle.slotted_rules.specs.Counting.{AppliesRule, SearchesRule}
-use Rattle.slotted_rules.specs.RuleOrigins.{AreFromRules, ComesFromEdits, ComesFromRules}
+use Rattle.slotted_rules.specs.RuleOrigins.{AreFromRules, ComesFromEdits}
 use Rattle.slotted_rules.proofs.RuleOrigins.{Came, came-wider, edits-wider, step-before, then-came, then-extends}
 use Rattle.slotted_runs.specs.RunOrigins.{ComesFromHook, HaveOrigins}
 use Rattle.slotted_runs.specs.Turning.{Calls, RulesOnce}

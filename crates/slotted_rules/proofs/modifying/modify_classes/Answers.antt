@@ -1,4 +1,4 @@
-use Rattle.std.proofs.Common.{inl, inr}
+use Rattle.std.proofs.Common.{inr}
 use Rattle.slotted_rules.proofs.modifying.modify_classes.Goals as goal
 
 pub returns-clause-modified : goal.returns-clause-modified
