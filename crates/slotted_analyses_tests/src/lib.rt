@@ -10,8 +10,8 @@ pub mod least_binders;
 pub mod least_size;
 pub mod marking;
 pub mod refusing;
-pub mod tired;
 #[cfg(test)]
 mod rounds;
+pub mod tired;
 #[cfg(test)]
 mod turning;
