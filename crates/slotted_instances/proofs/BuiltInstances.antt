@@ -1,16 +1,12 @@
 -- The instance of a pattern from those of its parts.
-use Rattle.std.proofs.Common.{◌≡◌, ◌∙◌, ap, refl, sym, subst, inl, inr, ℕ, zero, suc, ◌+◌, ◌<◌, ◌≤◌, List, [], ◌∷◌, ◌++◌, length, arith, length-append}
-use Rattle.std.specs.Prelude.{IsTrue, All, Contains, Some, is_some, slice_index_or}
+use Rattle.std.proofs.Common.{◌≡◌, ◌∙◌, ap, refl, sym, subst, inl, inr, ℕ, zero, suc, ◌<◌, ◌≤◌, List, [], ◌∷◌, ◌++◌, length, arith}
+use Rattle.std.specs.Prelude.{IsTrue, Contains, Some, is_some, slice_index_or}
 use Rattle.std.proofs.lemmas.Bool.{cases_eq}
-use Rattle.std.proofs.lemmas.List.{get_or_append_left}
 use Rattle.std.proofs.lemmas.List.Elements.{Contains-append_left, Contains-append_right, Contains-append_cases}
-use Rattle.std.proofs.Math.Seq.{get_or-append_seam}
-use Rattle.slotted_slots.specs.declared.types.AppliedId.{AppliedId}
 use Rattle.slotted_slots.specs.Table.{is_known}
-use Rattle.slotted_slots.specs.Maps.{keys, values}
 use Rattle.slotted_theory.specs.Nameless.{DTerm}
 use Rattle.slotted_theory.proofs.Values.{node}
-use Rattle.slotted_nodes.specs.Form.{Form, children, with_applied, with_child}
+use Rattle.slotted_nodes.specs.Form.{Form, children}
 use Rattle.slotted_languages.specs.NodeTerm.{nameless_node}
 use Rattle.slotted_languages.specs.Shape.{Fits}
 use Rattle.slotted_terms.specs.Valid.{AllKnown}
@@ -26,12 +22,8 @@ use Rattle.slotted_model_rules.proofs.Laws.{pattern-laws}
 use Rattle.slotted_model_rules.proofs.ReplacedIds.{filled-stays}
 use Rattle.slotted_patterns.specs.Known.{AreKnown}
 use Rattle.slotted_patterns.specs.Tree.{PatternTree, enode, pvar, substitution, row_of}
-use Rattle.slotted_proofs.specs.Equations.{to_applied}
-use Rattle.slotted_store.specs.ChildIds.{child_ids}
 use Rattle.slotted_store.proofs.ChildIds.{Each-from_All}
-use Rattle.slotted_store.proofs.KeptLists.{any_default}
 use Rattle.slotted_adding.specs.Filling.{node_over}
-use Rattle.slotted_adding.proofs.NodesOver.{node_over-none, node_over-more, child_ids-over, length-over}
 use Rattle.slotted_core.proofs.CallerLemmas.{full-valid}
 use Rattle.slotted_graph.proofs.Extending.{extends-itself}
 use Rattle.slotted_graph.specs.Adding.{AddsSyn}
@@ -47,9 +39,8 @@ use Rattle.slotted_instances.specs.Instances.{AreValidValues, Instantiates}
 use Rattle.slotted_instances.specs.Methods.{Method, represented, IsKnownMethod, AreRepresentatives}
 use Rattle.slotted_instances.specs.Putting.{PutsIn}
 use Rattle.slotted_instances.specs.Stacked.{Makes}
-use Rattle.slotted_instances.proofs.Answers.{method-moves, method-more, answer-more, answer-stays, makes-then, makes-instance, instance-wider, EachPair, IsAnswerOver, over-answers}
+use Rattle.slotted_instances.proofs.Answers.{method-moves, method-more, answer-more, answer-stays, instance-wider, EachPair, IsAnswerOver, over-answers}
 use Rattle.slotted_instances.proofs.Growing.{graph-canonical, grows-itself, grows-then}
-use Rattle.slotted_instances.proofs.NodesOver.{known-over}
 use Rattle.slotted_instances.proofs.Parts.{pattern_at, all-known, part-at}
 use Rattle.slotted_instances.proofs.Putting.{representatives-longer}
 use Rattle.slotted_instances.proofs.Walking.{at}
@@ -70,55 +61,7 @@ pub record AreBuilt (m : Method) (g : Graph) (s : Values) (f : Form) (qs : List 
   pub each : (j : ℕ) → j < k → Instantiates m g h s (pattern_at qs j) (at ids j)
 
 module _ (m : Method) (g : Graph) (s : Values) (f : Form) (qs : List PatternTree) (fits : Fits f) where
-  pub built-start : IsGraph g → AreBuilt m g s f qs g f 0
-  built-start is = record {
-    ids = [];
-    count = refl;
-    form = sym (node_over-none f fits);
-    makes = makes-itself m g is;
-    each = λ j l. absurd (omega arith);
-  }
-
   module _ (h : Graph) (n : Form) (k : ℕ) (b : AreBuilt m g s f qs h n k) where
-    pub built-count : length (children n.tree) ≡ length (children f.tree)
-    built-count = ap (λ (z : Form). length (children z.tree)) b.form ∙ length-over f.tree b.ids
-
-    pub built-step : (i : Graph) (o : Form) (c : AppliedId) → IsGraph g → k < length (children f.tree) → Instantiates m h i s (pattern_at qs k) (to_applied c) → o ≡ with_applied n k c → AreBuilt m g s f qs i o (k + 1)
-    built-step i o c is l r put =
-        let a : Applied = to_applied c in
-        let more : Makes m h i = makes-instance m h i s (pattern_at qs k) a r in
-        record {
-          ids = b.ids ++ a ∷ [];
-          count = omega (arith, b.count, length-append b.ids (a ∷ []));
-          form = put ∙ (ap (λ (z : Form). with_child z k a.0 (keys a.1) (values a.1)) b.form ∙ node_over-more f b.ids k a b.count l fits);
-          makes = makes-then m g h i b.makes more;
-          each = λ p q. elim (cases_eq p k) [
-            | inl e ↦
-                let new : Instantiates m g i s (pattern_at qs k) a = instance-wider m g h i i s (pattern_at qs k) a b.makes (makes-itself m i r.grows.graph) r in
-                subst (λ (z : Applied). Instantiates m g i s (pattern_at qs p) z) (sym (ap (at (b.ids ++ a ∷ [])) (e ∙ sym b.count) ∙ get_or-append_seam b.ids a [] (0, [])))
-                (subst (λ z. Instantiates m g i s (pattern_at qs z) a) (sym e) new)
-            | inr ne ↦
-                let lt : p < k = omega (arith, q, ne) in
-                subst (λ (z : Applied). Instantiates m g i s (pattern_at qs p) z) (sym (get_or_append_left b.ids (a ∷ []) (0, []) p (omega (arith, lt, b.count))))
-                (instance-wider m g g h i s (pattern_at qs p) (at b.ids p) (makes-itself m g is) more (b.each p lt))
-          ];
-        }
-
-    -- it can be added
-    ids-valid : (j : ℕ) (d : Applied) → j < length b.ids → IsValidId h (slice_index_or b.ids j d)
-    ids-valid j d l = subst (IsValidId h) (any_default b.ids j (0, []) d l) (b.each j (omega (arith, l, b.count))).valid
-
-    pub built-known : k ≡ length (children f.tree) → AreKnown g.table f.names → AllKnown h.table n.names
-    built-known e known =
-        let more = b.makes.grows.extends.more in
-        subst (λ (z : Form). AllKnown h.table z.names) (sym b.form)
-        (known-over h.table f b.ids fits (λ j d l. more _ (all-known g.table f.names known j d l)) (λ j d l. (ids-valid j d l).known))
-
-    pub built-children : k ≡ length (children f.tree) → All (IsValidId h) (child_ids n)
-    built-children e =
-        let is : child_ids n ≡ b.ids = ap child_ids b.form ∙ child_ids-over f b.ids fits (b.count ∙ e) in
-        subst (All (IsValidId h)) (sym is) ids-valid
-
     -- all answers, by the pairs of all
     record Gathered (j : ℕ) : Type 0 where
       pub pairs : List (DTerm × DTerm)

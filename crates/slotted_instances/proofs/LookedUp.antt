@@ -1,15 +1,13 @@
 -- A term is looked up as the node over what its children are looked up as.
-use Rattle.std.proofs.Common.{◌≡◌, ◌∙◌, ap, refl, sym, subst, inl, inr, ℕ, suc, ◌+◌, ◌<◌, List, [], ◌∷◌, ◌++◌, length, arith, length-append}
+use Rattle.std.proofs.Common.{◌≡◌, ◌∙◌, ap, refl, sym, subst, ℕ, suc, ◌<◌, List, [], ◌∷◌, length, arith}
 use Rattle.std.specs.Prelude.{All, IsSome, IsTrue, None, Option, Some, is_some, option_and_then, slice_index_or}
-use Rattle.std.proofs.lemmas.Bool.{cases_eq, false≢true}
-use Rattle.std.proofs.lemmas.List.{get_or_append_left}
-use Rattle.std.proofs.Math.Seq.{get_or-append_seam}
+use Rattle.std.proofs.lemmas.Bool.{false≢true}
 use Rattle.slotted_slots.specs.Table.{is_known}
-use Rattle.slotted_slots.specs.Maps.{keys, values}
+use Rattle.slotted_slots.specs.Maps.{values}
 use Rattle.slotted_theory.specs.Term.{Term}
 use Rattle.slotted_theory.specs.Nameless.{DTerm, nameless}
 use Rattle.slotted_theory.proofs.Values.{node}
-use Rattle.slotted_nodes.specs.Form.{Form, IsSmall, children, with_applied, with_child}
+use Rattle.slotted_nodes.specs.Form.{Form, IsSmall, children}
 use Rattle.slotted_languages.specs.Filled as form
 use Rattle.slotted_languages.specs.Filled.{filled}
 use Rattle.slotted_languages.specs.NodeTerm.{nameless_node}
@@ -21,8 +19,6 @@ use Rattle.slotted_model.specs.State.{look_up_node}
 use Rattle.slotted_model.proofs.LookUps.{Renames}
 use Rattle.slotted_model.proofs.Members.{In}
 use Rattle.slotted_model.proofs.Rows.{look_up_node-moved}
-use Rattle.slotted_proofs.specs.Equations.{to_applied}
-use Rattle.slotted_slots.specs.declared.types.AppliedId.{AppliedId}
 use Rattle.slotted_store.specs.ChildIds.{child_ids}
 use Rattle.slotted_store.specs.Finding.{IsFindable}
 use Rattle.slotted_store.proofs.ChildIds.{Each, Each-from_All, EachChild-node_args}
@@ -30,7 +26,7 @@ use Rattle.slotted_store.proofs.KeptLists.{any_default}
 use Rattle.slotted_store.proofs.NameMaps.{In-at, at_In}
 use Rattle.slotted_rebuilding.specs.Filed.{state_in}
 use Rattle.slotted_adding.specs.Filling.{node_over}
-use Rattle.slotted_adding.proofs.NodesOver.{node_over-none, node_over-more, child_ids-over, beside-over, length-over}
+use Rattle.slotted_adding.proofs.NodesOver.{child_ids-over, beside-over, length-over}
 use Rattle.slotted_core.proofs.AddedTerms.{places-known}
 use Rattle.slotted_core.proofs.Layers.{each_at}
 use Rattle.slotted_core.proofs.LookUps.{looked_up-is, tree-is}
@@ -52,38 +48,9 @@ pub record AreLooked (g : Graph) (f : Form) (us : List Term) (n : Form) (i : ℕ
   pub found : (j : ℕ) (e : Term) → j < i → look_up_term g (slice_index_or us j e) ≡ Some (at ids j)
 
 module _ (g : Graph) (f : Form) (us : List Term) (fits : Fits f) where
-  pub looked-start : AreLooked g f us f 0
-  looked-start = record {
-    ids = [];
-    count = refl;
-    form = sym (node_over-none f fits);
-    valid = λ j l. absurd (omega arith);
-    found = λ j e l. absurd (omega arith);
-  }
-
   module _ (n : Form) (i : ℕ) (b : AreLooked g f us n i) where
     pub looked-count : length (children n.tree) ≡ length (children f.tree)
     looked-count = ap (λ (z : Form). length (children z.tree)) b.form ∙ length-over f.tree b.ids
-
-    pub looked-step : (o : Form) (c : AppliedId) (u : Term) → i < length (children f.tree) → i < length us → u ≡ slice_index_or us i u → IsValidId g (to_applied c) → look_up_term g u ≡ Some (to_applied c) → o ≡ with_applied n i c → AreLooked g f us o (i + 1)
-    looked-step o c u l lu is valid found put =
-        let a : Applied = to_applied c in
-        let last : at (b.ids ++ a ∷ []) i ≡ a = ap (at (b.ids ++ a ∷ [])) (sym b.count) ∙ get_or-append_seam b.ids a [] (0, []) in
-        record {
-          ids = b.ids ++ a ∷ [];
-          count = omega (arith, b.count, length-append b.ids (a ∷ []));
-          form = put ∙ (ap (λ (z : Form). with_child z i a.0 (keys a.1) (values a.1)) b.form ∙ node_over-more f b.ids i a b.count l fits);
-          valid = λ p q. elim (cases_eq p i) [
-            | inl e ↦ subst (IsValidId g) (sym (ap (at (b.ids ++ a ∷ [])) e ∙ last)) valid
-            | inr ne ↦ subst (IsValidId g) (sym (get_or_append_left b.ids (a ∷ []) (0, []) p (omega (arith, q, ne, b.count)))) (b.valid p (omega (arith, q, ne)))
-          ];
-          found = λ p d q. elim (cases_eq p i) [
-            | inl e ↦
-                ap (λ (z : ℕ). look_up_term g (slice_index_or us z d)) e
-                ∙ (ap (look_up_term g) (any_default us i d u lu ∙ sym is) ∙ (found ∙ ap Some (sym (ap (at (b.ids ++ a ∷ [])) e ∙ last))))
-            | inr ne ↦ b.found p d (omega (arith, q, ne)) ∙ ap Some (sym (get_or_append_left b.ids (a ∷ []) (0, []) p (omega (arith, q, ne, b.count))))
-          ];
-        }
 
     module _ (is : IsGraph g) (all : i ≡ length (children f.tree)) (many : length us ≡ length (children f.tree)) (now : Fits n) where
       ids-are : child_ids n ≡ b.ids

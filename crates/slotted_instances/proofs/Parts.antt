@@ -1,5 +1,5 @@
 -- What holds of a pattern holds of its parts: known names, variables with values, and the right number of child patterns at each node.
-use Rattle.std.proofs.Common.{◌≡◌, ◌∙◌, ap, refl, sym, ℕ, zero, suc, ◌<◌, ◌≤◌, List, [], ◌∷◌, ◌++◌, length, map, get_or, arith}
+use Rattle.std.proofs.Common.{◌≡◌, ◌∙◌, ap, refl, sym, ℕ, zero, suc, ◌<◌, List, [], ◌∷◌, ◌++◌, length, arith}
 use Rattle.std.specs.Prelude.{All, Option, Some, None, IsSome, is_some, true, slice_index_or}
 use Rattle.std.proofs.lemmas.Bool.{false≢true}
 use Rattle.slotted_slots.specs.Table.{KnowsMore, Table}
@@ -12,21 +12,14 @@ use Rattle.slotted_model_rules.specs.Conditions.{Values}
 use Rattle.slotted_model_rules.specs.Patterns.{Pattern, variable}
 use Rattle.slotted_rule_patterns.specs.PatternCode.{pattern_in, patterns_in}
 use Rattle.slotted_rule_patterns.specs.Variables.{has_value, variables_of, variables_of_row}
-use Rattle.slotted_rule_patterns.proofs.Sizes.{pattern_size, row_size}
 use Rattle.slotted_rule_patterns.proofs.Whole.{length-patterns}
 use Rattle.slotted_rule_patterns.proofs.Parts.{node-parts, replacing-parts, first-parts}
-use Rattle.slotted_instances.specs.Instances.{HasValues}
 use Rattle.slotted_instances.specs.Stacked.{IsReady}
 use Rattle.slotted_instances.proofs.NodesOver.{All-Each}
 
 -- the pattern with this number
 abbrev pub pattern_at : List PatternTree → ℕ → PatternTree
 pattern_at qs k = slice_index_or qs k (pvar [])
-
-pub tree-at : {A : Type 0} (tree : A → PatternTree) (es : List A) (k : ℕ) (e : A) → k < length es → e ≡ get_or es k e → pattern_at (map tree es) k ≡ tree e
-tree-at tree [] k e l is = absurd (omega arith)
-tree-at tree (a ∷ es) zero e l is = ap tree (sym is)
-tree-at tree (a ∷ es) (suc k) e l is = tree-at tree es k e (omega arith) is
 
 -- known names
 
@@ -50,11 +43,6 @@ module _ (t u : Table) (more : KnowsMore t u) where
     row-later no_more h = tt
     row-later (one_more q rest) h = (known-later q h.0, row-later rest h.1)
 
-pub known-at : (t : Table) (qs : List PatternTree) → HaveKnownNames t (row_of qs) → (k : ℕ) → k < length qs → HasKnownNames t (pattern_at qs k)
-known-at t [] h k l = absurd (omega arith)
-known-at t (q ∷ qs) h zero l = h.0
-known-at t (q ∷ qs) h (suc k) l = known-at t qs h.1 k (omega arith)
-
 -- values
 
 Has : Values → List ℕ → Type 0
@@ -65,11 +53,6 @@ values-left s vs ws h = All-Each (λ v. has_value s v ≡ true) vs (Each-append 
 
 pub values-right : (s : Values) (vs ws : List (List ℕ)) → All (λ v. has_value s v ≡ true) (vs ++ ws) → All (λ v. has_value s v ≡ true) ws
 values-right s vs ws h = All-Each (λ v. has_value s v ≡ true) ws (Each-append (λ v. has_value s v ≡ true) vs ws (Each-from_All (λ v. has_value s v ≡ true) (vs ++ ws) h)).1
-
-pub values-at : (s : Values) (qs : List PatternTree) → All (λ v. has_value s v ≡ true) (variables_of_row (row_of qs)) → (k : ℕ) → k < length qs → HasValues s (pattern_at qs k)
-values-at s [] h k l = absurd (omega arith)
-values-at s (q ∷ qs) h zero l = values-left s (variables_of q) (variables_of_row (row_of qs)) h
-values-at s (q ∷ qs) h (suc k) l = values-at s qs (values-right s (variables_of q) (variables_of_row (row_of qs)) h) k (omega arith)
 
 -- whole patterns
 
@@ -89,13 +72,6 @@ part-at (q ∷ qs) ps e (suc k) l =
     let n = first-parts q (row_of qs) ps e in
     part-at qs n.others n.others_are k (omega arith) ∙ ap (λ z. Some (slice_index_or z (suc k) (variable []))) (sym n.is)
 
--- child patterns are smaller
-
-size-at : (qs : List PatternTree) (k : ℕ) → k < length qs → pattern_size (pattern_at qs k) ≤ row_size (row_of qs)
-size-at [] k l = absurd (omega arith)
-size-at (q ∷ qs) zero l = omega arith
-size-at (q ∷ qs) (suc k) l = omega (arith, size-at qs k (omega arith))
-
 pub record IsReadyNode (t : Table) (s : Values) (f : Form) (qs : List PatternTree) : Type 0 where
   pub own : AreKnown t f.names
   pub row : HaveKnownNames t (row_of qs)
@@ -114,16 +90,6 @@ pub ready-count : (t : Table) (s : Values) (f : Form) (qs : List PatternTree) �
 ready-count t s f qs r = sym (length-patterns qs r.patterns r.are) ∙ r.count
 
 -- so it is asked of its parts, later too
-
-pub ready-child : (t u : Table) (s : Values) (f : Form) (qs : List PatternTree) → IsReadyNode t s f qs → KnowsMore t u → (k : ℕ) → k < length qs → IsReady u s (pattern_at qs k)
-ready-child t u s f qs r more k l = record {
-  known = known-later t u more (pattern_at qs k) (known-at t qs r.row k l);
-  whole = some-is (pattern_in (pattern_at qs k)) _ (part-at qs r.patterns r.are k l);
-  given = values-at s qs r.given k l;
-}
-
-pub smaller-child : (f : Form) (qs : List PatternTree) (k : ℕ) → k < length qs → pattern_size (pattern_at qs k) < pattern_size (enode f (row_of qs))
-smaller-child f qs k l = omega (arith, size-at qs k l)
 
 pub record AreReady (u : Table) (s : Values) (b x v : PatternTree) : Type 0 where
   pub body : IsReady u s b
