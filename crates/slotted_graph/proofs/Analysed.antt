@@ -181,3 +181,14 @@ takes-pending codes meaning n m k r good d e g h image before after rests left i
   same = subst (IsPermutation (filter (is_live_class g.image) d.changed)) (sym same) (subst (λ xs. IsPermutation xs is) ((λ j. filter (λ i. lives-is k good i j) d.changed) ∙ ap (λ (x : Image). filter (is_live_class x) d.changed) image) taken.same);
   ascending = subst (IsSorted nat_cmp) (sym same) taken.ascending;
 }
+
+-- a graph keeps one part, and has one datum for each class
+pub one-part : {N D : Type 0} (codes : Coded N × Coded D) (g : Graph) (p q : Part N D) → KeepsPart codes g p → KeepsPart codes g q → p ≡ q
+one-part codes g p q first second = (part_code codes).inj p q (sym first ∙ second)
+
+one-some : {A : Type 0} (a b : A) → Some a ≡ Some b → a ≡ b
+one-some a b same = cc
+
+pub one-datum : {N D : Type 0} (codes : Coded N × Coded D) (g : Graph) (i : ℕ) (x y : D) → HasData codes g i x → HasData codes g i y → x ≡ y
+one-datum codes g i x y a b =
+    one-some x y (sym a.is ∙ ap (λ (p : Part _ _). slice_get p.values (class_found g.image i)) (one-part codes g a.part b.part a.keeps b.keeps) ∙ b.is)

@@ -1,6 +1,6 @@
 -- What writes leave that modify classes at their ends.
 use Rattle.std.proofs.Common.{◌≡◌, ◌∙◌, ap, refl, sym, subst, inl, inr, arith}
-use Rattle.std.specs.Prelude.{◌⊎◌, ◌↔◌, Bool, false, true, IfOk, IsErr, IsTrue, List, OnOk, Option, Result, Ok, Err, ℕ}
+use Rattle.std.specs.Prelude.{◌⊎◌, ◌↔◌, Bool, false, true, IfOk, IsErr, IsSome, IsTrue, List, OnOk, Option, Result, Ok, Err, ℕ}
 use Rattle.slotted_slots.specs.declared.error.Error.{Error}
 use Rattle.std.specs.Coded.{Coded}
 use Rattle.std.proofs.lemmas.Bool.{false≢true}
@@ -8,24 +8,38 @@ use Rattle.slotted_slots.specs.Table.{KnowsMore}
 use Rattle.slotted_slots.specs.declared.types.AppliedId.{AppliedId}
 use Rattle.slotted_proofs.specs.Equations.{to_applied}
 use Rattle.slotted_nodes.specs.Form.{Form}
+use Rattle.slotted_model.specs.Applied.{Applied}
 use Rattle.slotted_model.specs.Growth.{Extends}
 use Rattle.slotted_analyses.specs.Meaning.{IsMergeOf, Meaning}
 use Rattle.slotted_data.specs.Part.{Part, part_code}
 use Rattle.slotted_core.specs.Explaining.{AddsTerms}
 use Rattle.slotted_core.specs.Graph.{Graph, RecordsUnion}
 use Rattle.slotted_core.specs.Image.{AddsClasses, FoundAlike, IsUnion, asserted_in}
-use Rattle.slotted_core.specs.LookUp.{HasSameClasses}
+use Rattle.slotted_core.specs.LookUp.{HasSameClasses, IsOneGraph, MakesClassFor, look_up}
 use Rattle.slotted_core.specs.ValidIds.{IsValidNode}
 use Rattle.slotted_graph.specs.Analysed.{CarriesData, CountsPending, HasRounds, MergesData}
 use Rattle.slotted_graph.specs.Asked.{Asks, IsAskedBetween}
 use Rattle.slotted_graph.specs.Extension.{ExtendsTo}
 use Rattle.slotted_graph.specs.Rounds.{IsModified, LeavesModified, MakesRounds, no_rounds}
 use Rattle.slotted_graph.specs.States.{IsGraph}
-use Rattle.slotted_graph.specs.Writing.{AddsAndModifies, AddsMore, IfUnmodified, LeavesAsked, MergesAndModifies, UnitesAndModifies}
+use Rattle.slotted_graph.specs.Writing.{AddsAndModifies, AddsMore, IfUnmodified, LeavesAsked, MakesForNode, MergesAndModifies, UnitesAndModifies}
 use Rattle.slotted_graph.proofs.Extending.{extends-added, extends-itself, extends-then, extends-united}
 use Rattle.slotted_graph.proofs.Insides.{given}
 use Rattle.slotted_graph.proofs.Leaving.{asked-longer, extends-kept, leaves-itself}
 use Rattle.slotted_graph.proofs.Saying.{carried-lowers, graph-kept, lowers-itself, lowers-then, no-more, then-more}
+
+-- which classes were made, told of an answer
+pub ok-both : {A : Type 0} (r : Result A Error) (P Q : Type 0) → OnOk r P → OnOk r Q → OnOk r (P × Q)
+ok-both (Ok x) P Q p q = (p, q)
+ok-both (Err e) P Q p q = tt
+
+pub ok-some : (r : Result AppliedId Error) (P : Applied → Type 0) → IfOk r (λ a. P (to_applied a)) → OnOk r ((a : Applied) × P a)
+ok-some (Ok x) P p = (to_applied x, p)
+ok-some (Err e) P p = tt
+
+pub ok-node : (r : Result AppliedId Error) (f : Form) (g h : Graph) → OnOk r (IsSome (look_up g f) → IsOneGraph g h) → IfOk r (λ a. MakesClassFor g h f (to_applied a)) → OnOk r (MakesForNode f g h)
+ok-node (Ok x) f g h kept made = record { kept = kept; id = to_applied x; made = made }
+ok-node (Err e) f g h kept made = tt
 
 -- a node that was valid is valid later
 pub node-later : (g h : Graph) (f : Form) → ExtendsTo g h → IsValidNode g f → IsValidNode h f
@@ -103,7 +117,7 @@ module _ {L N D : Type 0} (codes : Coded N × Coded D) (meaning : N → Meaning 
     lowers = carried-lowers codes meaning g h carries;
   }
 
-  asked-then : (f g h : Graph) → LeavesAsked codes meaning ask f g → LeavesAsked codes meaning ask g h → LeavesAsked codes meaning ask f h
+  pub asked-then : (f g h : Graph) → LeavesAsked codes meaning ask f g → LeavesAsked codes meaning ask g h → LeavesAsked codes meaning ask f h
   asked-then f g h a b = record {
     extends = extends-then f g h a.extends b.extends;
     asserts = then-more (IsAskedBetween codes ask f g) (IsAskedBetween codes ask g h) (IsAskedBetween codes ask f h) f g h
@@ -114,8 +128,8 @@ module _ {L N D : Type 0} (codes : Coded N × Coded D) (meaning : N → Meaning 
   }
 
   -- what adds and modifies leaves nothing that was not asked
-  pub adds-asked : (modifies : Bool) (g h : Graph) → AddsAndModifies codes meaning ask modifies g h → LeavesAsked codes meaning ask g h
-  adds-asked modifies g h a =
+  pub adds-asked : (modifies : Bool) (W : Graph → Graph → Type 0) (g h : Graph) → AddsAndModifies codes meaning ask modifies W g h → LeavesAsked codes meaning ask g h
+  adds-asked modifies W g h a =
       let first = asks-none g a.added a.adds.extends a.adds.asserted a.adds.carries in
       let both = asked-then g a.added a.modified first (leaves-asked a.added a.modified a.rounds.leaves) in
       elim a.again [
@@ -129,34 +143,34 @@ module _ {L N D : Type 0} (codes : Coded N × Coded D) (meaning : N → Meaning 
       asked-then g m.merged h (asks-none g m.merged (extends-kept g m.merged m.same) (ap asserted_in m.same.image) m.merges.carries) (leaves-asked m.merged h m.rounds.leaves)
 
   -- what was added by a call that modifies no class
-  pub adds-more : (g h : Graph) → IsGraph h → Extends g.image.canonical h.image.canonical → AddsClasses g.image h.image → KnowsMore g.table h.table → CarriesData codes meaning g h → AddsMore codes meaning g h
-  adds-more g h is extends adds more carries = record { graph = is; extends = extends-added g h extends adds more; asserted = adds.asserted; carries = carries }
+  pub adds-more : (W : Graph → Graph → Type 0) (g h : Graph) → IsGraph h → Extends g.image.canonical h.image.canonical → AddsClasses g.image h.image → KnowsMore g.table h.table → CarriesData codes meaning g h → W g h → AddsMore codes meaning W g h
+  adds-more W g h is extends adds more carries made = record { graph = is; extends = extends-added g h extends adds more; asserted = adds.asserted; carries = carries; made = made }
 
-  pub adds-alone : (modifies : Bool) → modifies ≡ false → (g h : Graph) → AddsMore codes meaning g h → AddsAndModifies codes meaning ask modifies g h
-  adds-alone modifies never g h adds = record { added = h; adds = adds; modified = h; asked = false; rounds = never-modified modifies never h adds.graph; again = inl refl }
+  pub adds-alone : (modifies : Bool) → modifies ≡ false → (W : Graph → Graph → Type 0) (g h : Graph) → AddsMore codes meaning W g h → AddsAndModifies codes meaning ask modifies W g h
+  adds-alone modifies never W g h adds = record { added = h; adds = adds; modified = h; asked = false; rounds = never-modified modifies never h adds.graph; again = inl refl }
 
   -- what a quiet addition says, told of its answer
-  pub ok-adds : {A : Type 0} (r : Result A Error) (g h : Graph) → IsTrue h.failed ⊎ IsGraph h → (IsTrue h.failed → IsErr r) → OnOk r (Extends g.image.canonical h.image.canonical) → OnOk r (AddsClasses g.image h.image) →
-      KnowsMore g.table h.table → OnOk r (CarriesData codes meaning g h) → OnOk r (AddsMore codes meaning g h)
-  ok-adds (Ok x) g h is fails extends adds more carries = adds-more g h (graph-kept h is fails) extends adds more carries
-  ok-adds (Err e) g h is fails extends adds more carries = tt
+  pub ok-adds : {A : Type 0} (r : Result A Error) (W : Graph → Graph → Type 0) (g h : Graph) → IsTrue h.failed ⊎ IsGraph h → (IsTrue h.failed → IsErr r) → OnOk r (Extends g.image.canonical h.image.canonical) → OnOk r (AddsClasses g.image h.image) →
+      KnowsMore g.table h.table → OnOk r (CarriesData codes meaning g h) → OnOk r (W g h) → OnOk r (AddsMore codes meaning W g h)
+  ok-adds (Ok x) W g h is fails extends adds more carries made = adds-more W g h (graph-kept h is fails) extends adds more carries made
+  ok-adds (Err e) W g h is fails extends adds more carries made = tt
 
-  pub ok-alone : {A : Type 0} (r : Result A Error) (modifies : Bool) → modifies ≡ false → (g h : Graph) → OnOk r (AddsMore codes meaning g h) → OnOk r (AddsAndModifies codes meaning ask modifies g h)
-  ok-alone (Ok x) modifies never g h adds = adds-alone modifies never g h adds
-  ok-alone (Err e) modifies never g h adds = tt
+  pub ok-alone : {A : Type 0} (r : Result A Error) (modifies : Bool) → modifies ≡ false → (W : Graph → Graph → Type 0) (g h : Graph) → OnOk r (AddsMore codes meaning W g h) → OnOk r (AddsAndModifies codes meaning ask modifies W g h)
+  ok-alone (Ok x) modifies never W g h adds = adds-alone modifies never W g h adds
+  ok-alone (Err e) modifies never W g h adds = tt
 
-  pub ok-again : {A : Type 0} (r : Result A Error) (modifies : Bool) (f g h i : Graph) (y : Bool) → AddsMore codes meaning f g → IsModified codes meaning ask modifies g h y → OnOk r (AddsMore codes meaning h i) →
-      OnOk r (AddsAndModifies codes meaning ask modifies f i)
-  ok-again (Ok x) modifies f g h i y first rounds again = record { added = g; adds = first; modified = h; asked = y; rounds = rounds; again = inr again }
-  ok-again (Err e) modifies f g h i y first rounds again = tt
+  pub ok-again : {A : Type 0} (r : Result A Error) (modifies : Bool) (W : Graph → Graph → Type 0) (f g h i : Graph) (y : Bool) → AddsMore codes meaning W f g → IsModified codes meaning ask modifies g h y → OnOk r (AddsMore codes meaning W h i) →
+      OnOk r (AddsAndModifies codes meaning ask modifies W f i)
+  ok-again (Ok x) modifies W f g h i y first rounds again = record { added = g; adds = first; modified = h; asked = y; rounds = rounds; again = inr again }
+  ok-again (Err e) modifies W f g h i y first rounds again = tt
 
-  pub ok-asked : {A : Type 0} (r : Result A Error) (modifies : Bool) (g h : Graph) → OnOk r (AddsAndModifies codes meaning ask modifies g h) → OnOk r (LeavesAsked codes meaning ask g h)
-  ok-asked (Ok x) modifies g h adds = adds-asked modifies g h adds
-  ok-asked (Err e) modifies g h adds = tt
+  pub ok-asked : {A : Type 0} (r : Result A Error) (modifies : Bool) (W : Graph → Graph → Type 0) (g h : Graph) → OnOk r (AddsAndModifies codes meaning ask modifies W g h) → OnOk r (LeavesAsked codes meaning ask g h)
+  ok-asked (Ok x) modifies W g h adds = adds-asked modifies W g h adds
+  ok-asked (Err e) modifies W g h adds = tt
 
-  pub ok-extends : {A : Type 0} (r : Result A Error) (modifies : Bool) (g h : Graph) → OnOk r (AddsAndModifies codes meaning ask modifies g h) → OnOk r (Extends g.image.canonical h.image.canonical)
-  ok-extends (Ok x) modifies g h adds = (adds-asked modifies g h adds).extends.canonical
-  ok-extends (Err e) modifies g h adds = tt
+  pub ok-extends : {A : Type 0} (r : Result A Error) (modifies : Bool) (W : Graph → Graph → Type 0) (g h : Graph) → OnOk r (AddsAndModifies codes meaning ask modifies W g h) → OnOk r (Extends g.image.canonical h.image.canonical)
+  ok-extends (Ok x) modifies W g h adds = (adds-asked modifies W g h adds).extends.canonical
+  ok-extends (Err e) modifies W g h adds = tt
 
   -- what a quiet union says, told of its answer
   pub ok-unites : (r : Result Bool Error) (modifies : Bool) → modifies ≡ false → (g h : Graph) (a b : AppliedId) (text : Option (List ℕ)) → IsTrue h.failed ⊎ IsGraph h → (IsTrue h.failed → IsErr r) →
@@ -175,10 +189,16 @@ module _ {L N D : Type 0} (codes : Coded N × Coded D) (meaning : N → Meaning 
   ok-united (Ok y) modifies g h a b text u = extends-then g u.united h (extends-united g u.united a b text y u.union u.records u.table) u.rounds.leaves.extends
   ok-united (Err e) modifies g h a b text u = tt
 
--- what was explained without edits extends the graph
-pub explained-extends : (g h : Graph) → IsTrue h.failed ⊎ AddsTerms g.image h.image → KnowsMore g.table h.table → IsTrue h.failed ⊎ ExtendsTo g h
-explained-extends g h (inl failed) more = inl failed
-explained-extends g h (inr adds) more = inr (extends-added g h adds.extends adds.adds more)
+  -- what was explained without edits asserts nothing
+  pub explained-asked : (g h : Graph) → IsTrue h.failed ⊎ AddsTerms g.image h.image → KnowsMore g.table h.table → IsTrue h.failed ⊎ CarriesData codes meaning g h → IsTrue h.failed ⊎ LeavesAsked codes meaning ask g h
+  explained-asked g h (inl failed) more carries = inl failed
+  explained-asked g h (inr adds) more (inl failed) = inl failed
+  explained-asked g h (inr adds) more (inr carries) = inr (asks-none g h (extends-added g h adds.extends adds.adds more) adds.adds.asserted carries)
+
+  -- nor does it where edits were made before
+  pub explained-after : (f g h : Graph) → LeavesAsked codes meaning ask f g → IsTrue h.failed ⊎ LeavesAsked codes meaning ask g h → IsTrue h.failed ⊎ LeavesAsked codes meaning ask f h
+  explained-after f g h edits (inl failed) = inl failed
+  explained-after f g h edits (inr more) = inr (asked-then f g h edits more)
 
 -- what holds before holds after, where classes are never modified
 pub still-unmodified : {L N D : Type 0} (codes : Coded N × Coded D) (meaning : N → Meaning D) (ask : Asks L N D) (modifies : Bool) (g h : Graph) (y : Bool) → IsModified codes meaning ask modifies g h y →

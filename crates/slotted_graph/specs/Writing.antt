@@ -1,22 +1,25 @@
 -- What writes leave that modify classes at their ends.
---     AddsMore .. g h             classes were added, and nothing was asserted
---     AddsAndModifies .. g h      classes were added, and then classes were modified. What was to be added may be added again
+--     MakesForNode, MakesForSynNode, MakesForTerm, MakesForSynTerm    which classes were made for a node or for a term, if any
+--     AddsMore .. W g h           the classes were added that W says, and nothing was asserted
+--     AddsAndModifies .. W g h    so they were, and then classes were modified. What was to be added may be added again
 --     AddsSynBefore g h f a       the id of a node was found or made, and then other classes may have been modified
 --     UnitesAndModifies ..        two ids were united, and then classes were modified
 --     MergesAndModifies ..        a value was merged into the data of a class, and then classes were modified
 --     IfUnmodified m P            P, unless classes are modified
 --     LeavesAsked .. g h          what was there stays, data only went down, and nothing was asserted but what edits say
-use Rattle.std.specs.Prelude.{◌≡◌, ◌⊎◌, ℕ, List, Bool, Option, true, false}
+use Rattle.std.specs.Prelude.{◌≡◌, ◌⊎◌, ℕ, List, Bool, IsSome, Option, true, false}
 use Rattle.std.specs.Coded.{Coded}
 use Rattle.slotted_slots.specs.declared.types.AppliedId.{AppliedId}
+use Rattle.slotted_theory.specs.Term.{Term}
 use Rattle.slotted_nodes.specs.Form.{Form}
 use Rattle.slotted_model.specs.Applied.{Applied}
 use Rattle.slotted_proofs.specs.Equations.{to_applied}
 use Rattle.slotted_analyses.specs.Meaning.{Meaning}
 use Rattle.slotted_core.specs.Adding.{AddsSyn}
-use Rattle.slotted_core.specs.Graph.{Graph, RecordsUnion}
+use Rattle.slotted_core.specs.AddingTerms.{FilesOnlyLookedUp}
+use Rattle.slotted_core.specs.Graph.{FilesOnlySubterms, Graph, RecordsUnion, id_of_term}
 use Rattle.slotted_core.specs.Image.{IsUnion, asserted_in}
-use Rattle.slotted_core.specs.LookUp.{HasSameClasses}
+use Rattle.slotted_core.specs.LookUp.{HasSameClasses, IsOneGraph, MakesClassFor, look_up, look_up_term}
 use Rattle.slotted_graph.specs.Analysed.{CarriesData, LowersData, MergesData}
 use Rattle.slotted_graph.specs.Asked.{Asks, IsAskedBetween}
 use Rattle.slotted_graph.specs.Edited.{AssertsMore}
@@ -29,24 +32,41 @@ abbrev pub IfUnmodified : Bool → Type 0 → Type 0
 IfUnmodified true P = Unit {0}
 IfUnmodified false P = P
 
-pub record AddsMore {N D : Type 0} (codes : Coded N × Coded D) (meaning : N → Meaning D) (g h : Graph) : Type 0 where
+-- one class at most, for the node with its children filled, by look-up or by canonical nodes
+pub record MakesForNode (f : Form) (g h : Graph) : Type 0 where
+  pub kept : IsSome (look_up g f) → IsOneGraph g h
+  pub id : Applied
+  pub made : MakesClassFor g h f id
+
+abbrev pub MakesForSynNode : Form → Graph → Graph → Type 0
+MakesForSynNode f g h = (a : Applied) × AddsSyn g h f a
+
+-- those of subterms alone
+abbrev pub MakesForTerm : Term → Graph → Graph → Type 0
+MakesForTerm t g h = (IsSome (look_up_term g t) → IsOneGraph g h) × FilesOnlyLookedUp g h t
+
+abbrev pub MakesForSynTerm : Term → Graph → Graph → Type 0
+MakesForSynTerm t g h = (IsSome (id_of_term g t) → IsOneGraph g h) × FilesOnlySubterms g h t
+
+pub record AddsMore {N D : Type 0} (codes : Coded N × Coded D) (meaning : N → Meaning D) (W : Graph → Graph → Type 0) (g h : Graph) : Type 0 where
   pub graph : IsGraph h
   pub extends : ExtendsTo g h
   pub asserted : asserted_in h.image ≡ asserted_in g.image
   pub carries : CarriesData codes meaning g h
+  pub made : W g h
 
 pub record LeavesAsked {L N D : Type 0} (codes : Coded N × Coded D) (meaning : N → Meaning D) (ask : Asks L N D) (g h : Graph) : Type 0 where
   pub extends : ExtendsTo g h
   pub asserts : AssertsMore (IsAskedBetween codes ask g h) g h
   pub lowers : LowersData codes meaning g h
 
-pub record AddsAndModifies {L N D : Type 0} (codes : Coded N × Coded D) (meaning : N → Meaning D) (ask : Asks L N D) (modifies : Bool) (g h : Graph) : Type 0 where
+pub record AddsAndModifies {L N D : Type 0} (codes : Coded N × Coded D) (meaning : N → Meaning D) (ask : Asks L N D) (modifies : Bool) (W : Graph → Graph → Type 0) (g h : Graph) : Type 0 where
   pub added : Graph
-  pub adds : AddsMore codes meaning g added
+  pub adds : AddsMore codes meaning W g added
   pub modified : Graph
   pub asked : Bool
   pub rounds : IsModified codes meaning ask modifies added modified asked
-  pub again : (h ≡ modified) ⊎ AddsMore codes meaning modified h
+  pub again : (h ≡ modified) ⊎ AddsMore codes meaning W modified h
 
 pub record AddsSynBefore (g h : Graph) (f : Form) (a : Applied) : Type 0 where
   pub added : Graph

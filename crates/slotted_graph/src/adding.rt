@@ -18,6 +18,7 @@ ghost use Rattle.slotted_core.specs.Places.{term_slots};
 ghost use Rattle.slotted_core.specs.Reports.{IsFound};
 ghost use Rattle.slotted_graph.specs.Analysed.{CarriesData};
 ghost use Rattle.slotted_graph.specs.Writing.{AddsAndModifies, AddsSynBefore, IfUnmodified, LeavesAsked};
+ghost use Rattle.slotted_graph.specs.Writing.{MakesForNode, MakesForSynNode, MakesForSynTerm, MakesForTerm};
 
 use crate::egraph::EGraph;
 use slotted_analyses::Analysis;
@@ -32,7 +33,7 @@ impl<L: Language, N: Analysis<L>> EGraph<L, N> {
         ensures id { IfOk result (λ a. look_up self.new (L.form node.now) ≡ Some (to_applied a)) }
         ensures found { IfOk result (λ a. IsFound self.new (to_applied a)) }
         ensures equal { IfOk result (λ a. IsEqualToNode self.new.image (to_applied a) (L.form node.now)) }
-        ensures adds { OnOk result (AddsAndModifies N.codes N.meaning N.may_ask N.modifies self.old self.new) }
+        ensures adds { OnOk result (AddsAndModifies N.codes N.meaning N.may_ask N.modifies (MakesForNode (L.form node.now)) self.old self.new) }
         ensures stays { IsTrue self.old.failed → self.new ≡ self.old }
         ensures failed { IsErrOf result Error.Failed ↔ IsTrue self.old.failed }
         ensures fails { IsTrue self.new.failed ↔ IsErr result }
@@ -65,7 +66,7 @@ impl<L: Language, N: Analysis<L>> EGraph<L, N> {
 
         // What was there stays, and nothing is asserted but what was asked for by the analysis.
         ensures leaves { OnOk result (LeavesAsked N.codes N.meaning N.may_ask self.old self.new) }
-        ensures modified { OnOk result (AddsAndModifies N.codes N.meaning N.may_ask N.modifies self.old self.new) }
+        ensures modified { OnOk result (AddsAndModifies N.codes N.meaning N.may_ask N.modifies (MakesForNode (L.form node)) self.old self.new) }
         ensures extends { OnOk result (Extends self.old.image.canonical self.new.image.canonical) }
         ensures more { IfUnmodified N.modifies (KnowsMore self.old.table self.new.table) }
 
@@ -101,7 +102,7 @@ impl<L: Language, N: Analysis<L>> EGraph<L, N> {
         requires { IsTrue self.old.failed ⊎ IsValidNode self.old (L.form node.now) }
         ensures valid { IfOk result (λ a. IsFullId self.new (to_applied a)) }
         ensures stands { IfOk result (λ a. AddsSynBefore self.old self.new (L.form node.now) (to_applied a)) }
-        ensures adds { OnOk result (AddsAndModifies N.codes N.meaning N.may_ask N.modifies self.old self.new) }
+        ensures adds { OnOk result (AddsAndModifies N.codes N.meaning N.may_ask N.modifies (MakesForSynNode (L.form node.now)) self.old self.new) }
         ensures stays { IsTrue self.old.failed → self.new ≡ self.old }
         ensures failed { IsErrOf result Error.Failed ↔ IsTrue self.old.failed }
         ensures fails { IsTrue self.new.failed ↔ IsErr result }
@@ -127,7 +128,7 @@ impl<L: Language, N: Analysis<L>> EGraph<L, N> {
 
         // What was there stays, and nothing is asserted but what was asked for by the analysis.
         ensures leaves { OnOk result (LeavesAsked N.codes N.meaning N.may_ask self.old self.new) }
-        ensures modified { OnOk result (AddsAndModifies N.codes N.meaning N.may_ask N.modifies self.old self.new) }
+        ensures modified { OnOk result (AddsAndModifies N.codes N.meaning N.may_ask N.modifies (MakesForSynNode (L.form node)) self.old self.new) }
         ensures extends { OnOk result (Extends self.old.image.canonical self.new.image.canonical) }
         ensures more { IfUnmodified N.modifies (KnowsMore self.old.table self.new.table) }
 
@@ -162,7 +163,7 @@ impl<L: Language, N: Analysis<L>> EGraph<L, N> {
         ensures id { IfOk result (λ a. look_up_term self.new term.now ≡ Some (to_applied a)) }
         ensures found { IfOk result (λ a. IsFound self.new (to_applied a)) }
         ensures equal { IfOk result (λ a. IsEqualToTerm self.new.image (to_applied a) term.now) }
-        ensures adds { OnOk result (AddsAndModifies N.codes N.meaning N.may_ask N.modifies self.old self.new) }
+        ensures adds { OnOk result (AddsAndModifies N.codes N.meaning N.may_ask N.modifies (MakesForTerm term.now) self.old self.new) }
         ensures stays { IsTrue self.old.failed → self.new ≡ self.old }
         ensures failed { IsErrOf result Error.Failed ↔ IsTrue self.old.failed }
         ensures fails { IsTrue self.new.failed ↔ IsErr result }
@@ -194,7 +195,7 @@ impl<L: Language, N: Analysis<L>> EGraph<L, N> {
 
         // What was there stays, and nothing is asserted but what was asked for by the analysis.
         ensures leaves { OnOk result (LeavesAsked N.codes N.meaning N.may_ask self.old self.new) }
-        ensures modified { OnOk result (AddsAndModifies N.codes N.meaning N.may_ask N.modifies self.old self.new) }
+        ensures modified { OnOk result (AddsAndModifies N.codes N.meaning N.may_ask N.modifies (MakesForTerm term.now) self.old self.new) }
         ensures extends { OnOk result (Extends self.old.image.canonical self.new.image.canonical) }
         ensures more { IfUnmodified N.modifies (KnowsMore self.old.table self.new.table) }
 
@@ -232,7 +233,7 @@ impl<L: Language, N: Analysis<L>> EGraph<L, N> {
         ensures valid { IfOk result (λ a. IsFullId self.new (to_applied a)) }
         ensures term { IfOk result (λ a. term_of self.new.image.canonical (to_applied a) ≡ nameless term.now) }
         ensures found { IfOk result (λ a. id_of_term self.new term.now ≡ Some (to_applied a)) }
-        ensures adds { OnOk result (AddsAndModifies N.codes N.meaning N.may_ask N.modifies self.old self.new) }
+        ensures adds { OnOk result (AddsAndModifies N.codes N.meaning N.may_ask N.modifies (MakesForSynTerm term.now) self.old self.new) }
         ensures stays { IsTrue self.old.failed → self.new ≡ self.old }
         ensures failed { IsErrOf result Error.Failed ↔ IsTrue self.old.failed }
         ensures fails { IsTrue self.new.failed ↔ IsErr result }
@@ -258,7 +259,7 @@ impl<L: Language, N: Analysis<L>> EGraph<L, N> {
 
         // What was there stays, and nothing is asserted but what was asked for by the analysis.
         ensures leaves { OnOk result (LeavesAsked N.codes N.meaning N.may_ask self.old self.new) }
-        ensures modified { OnOk result (AddsAndModifies N.codes N.meaning N.may_ask N.modifies self.old self.new) }
+        ensures modified { OnOk result (AddsAndModifies N.codes N.meaning N.may_ask N.modifies (MakesForSynTerm term.now) self.old self.new) }
         ensures extends { OnOk result (Extends self.old.image.canonical self.new.image.canonical) }
         ensures more { IfUnmodified N.modifies (KnowsMore self.old.table self.new.table) }
 

@@ -7,8 +7,7 @@ ghost use Rattle.slotted_core.specs.Explaining.{AddsTerms, Explains, FilesOnlyTe
 ghost use Rattle.slotted_core.specs.Graph.{MakesAtMost};
 ghost use Rattle.slotted_core.specs.Places.{term_slots};
 ghost use Rattle.slotted_graph.specs.Analysed.{CarriesData};
-ghost use Rattle.slotted_graph.specs.Extension.{ExtendsTo};
-ghost use Rattle.slotted_graph.specs.Writing.{IfUnmodified};
+ghost use Rattle.slotted_graph.specs.Writing.{IfUnmodified, LeavesAsked};
 
 use crate::egraph::EGraph;
 use slotted_analyses::Analysis;
@@ -28,7 +27,7 @@ impl<L: Language, N: Analysis<L>> EGraph<L, N> {
         requires right { IsTrue self.old.failed ⊎ IsValidTerm self.old.table right.now }
         ensures explains { IfOk result (Explains self.new.image left.now right.now) }
         ensures not_equal { IsErrOf result Error.NotEqual → FindsApart self.new.image left.now right.now }
-        ensures extends { IsTrue self.new.failed ⊎ ExtendsTo self.old self.new }
+        ensures leaves { IsTrue self.new.failed ⊎ LeavesAsked N.codes N.meaning N.may_ask self.old self.new }
         ensures stays { IsTrue self.old.failed → self.new ≡ self.old }
         ensures failed { IsErrOf result Error.Failed ↔ IsTrue self.old.failed }
         ensures fails { IsTrue self.new.failed ↔ (IsErr result × ¬ IsErrOf result Error.NotEqual) }
@@ -50,10 +49,10 @@ impl<L: Language, N: Analysis<L>> EGraph<L, N> {
         requires right { IsTrue self.old.failed ⊎ IsValidTerm self.old.table right.now }
 
         // Each yes is explained, and `NotEqual` is answered exactly where the ids of the terms do not find alike. `NotEqual` does not fail the
-        // graph. What was there stays.
+        // graph. What was there stays, and nothing is asserted but what was asked for by the analysis.
         ensures explains { IfOk result (Explains self.new.image left.now right.now) }
         ensures not_equal { IsErrOf result Error.NotEqual → FindsApart self.new.image left.now right.now }
-        ensures extends { IsTrue self.new.failed ⊎ ExtendsTo self.old self.new }
+        ensures leaves { IsTrue self.new.failed ⊎ LeavesAsked N.codes N.meaning N.may_ask self.old self.new }
 
         // If classes are never modified, nothing is asserted, and what found alike still does.
         ensures adds { IfUnmodified N.modifies (IsTrue self.new.failed ⊎ AddsTerms self.old.image self.new.image) }

@@ -66,9 +66,9 @@ impl<L: Language, N: Analysis<L>> EGraph<L, N> {
         Pattern::parse(self.alloc, text, &mut self.table)
     }
 
-    /// Returns whether a pattern is one over this graph: the slots of its nodes are known. The child ids inside pattern nodes are null, or have known names too. A
-    /// node with 2^30 places or more cannot be read: a pattern with one is not valid. Nothing is valid in a failed graph. The patterns inside are gone through
-    /// by a list, and without one where memory for it is refused.
+    /// Returns whether a pattern is one over this graph: the slots of its nodes are known. The child ids inside pattern nodes are null, or have
+    /// known names too. A node with 2^30 places or more cannot be read: a pattern with one is not valid. Nothing is valid in a failed graph. The
+    /// patterns inside are gone through by a list, and without one if memory for it is refused.
     pub fn is_valid_pattern(&self, pattern: &Pattern<L>) -> bool
         ensures failed { IsTrue result → self.now.failed ≡ false }
         ensures known { IsTrue result → HasKnownNames self.now.table (tree_of L.form pattern.now) }

@@ -1,10 +1,10 @@
 use Rattle.std.proofs.Common.{◌∙◌, sym}
 use Rattle.slotted_proofs.specs.Equations.{to_applied}
 use Rattle.slotted_core.specs.Adding.{AddsSyn}
-use Rattle.slotted_graph.specs.Writing.{AddsSynBefore}
+use Rattle.slotted_graph.specs.Writing.{AddsSynBefore, MakesForSynNode}
 use Rattle.slotted_graph.proofs.Extending.{extends-itself}
 use Rattle.slotted_graph.proofs.Saying.{if-ok}
-use Rattle.slotted_graph.proofs.Writing.{is-modified, ok-adds, ok-alone, ok-asked, ok-extends, unmodified}
+use Rattle.slotted_graph.proofs.Writing.{is-modified, ok-adds, ok-alone, ok-asked, ok-extends, ok-some, unmodified}
 use Rattle.slotted_graph.proofs.egraph.EGraph.add_syn.Goals as goal
 
 pub returns-then-modifies-clause-syn : goal.returns-then-modifies-clause-syn
@@ -50,23 +50,23 @@ pub returns-clause-carries : goal.returns-clause-carries
 returns-clause-carries g c = unmodified g.N.Analysis.modifies (sym c.modifies.ensures ∙ c.if-modifies.false) _ c.add_syn_quietly-answer.ensures.carries
 
 pub returns-then-modifies-clause-leaves : goal.returns-then-modifies-clause-leaves
-returns-then-modifies-clause-leaves g c = ok-asked g.N.Analysis.codes g.N.Analysis.meaning g.met.N.Analysis.is_merge g.N.Analysis.may_ask c.add_syn_and_modify.result g.N.Analysis.modifies c.args.self.now c.add_syn_and_modify.new.self c.add_syn_and_modify.ensures.adds
+returns-then-modifies-clause-leaves g c = ok-asked g.N.Analysis.codes g.N.Analysis.meaning g.met.N.Analysis.is_merge g.N.Analysis.may_ask c.add_syn_and_modify.result g.N.Analysis.modifies (MakesForSynNode (g.L.LanguageChildren.form c.args.node)) c.args.self.now c.add_syn_and_modify.new.self c.add_syn_and_modify.ensures.adds
 
 pub returns-then-modifies-clause-extends : goal.returns-then-modifies-clause-extends
-returns-then-modifies-clause-extends g c = ok-extends g.N.Analysis.codes g.N.Analysis.meaning g.met.N.Analysis.is_merge g.N.Analysis.may_ask c.add_syn_and_modify.result g.N.Analysis.modifies c.args.self.now c.add_syn_and_modify.new.self c.add_syn_and_modify.ensures.adds
+returns-then-modifies-clause-extends g c = ok-extends g.N.Analysis.codes g.N.Analysis.meaning g.met.N.Analysis.is_merge g.N.Analysis.may_ask c.add_syn_and_modify.result g.N.Analysis.modifies (MakesForSynNode (g.L.LanguageChildren.form c.args.node)) c.args.self.now c.add_syn_and_modify.new.self c.add_syn_and_modify.ensures.adds
 
 pub returns-clause-modified : goal.returns-clause-modified
 returns-clause-modified g c =
     let e = c.add_syn_quietly-answer.ensures in
-    ok-alone g.N.Analysis.codes g.N.Analysis.meaning g.met.N.Analysis.is_merge g.N.Analysis.may_ask c.add_syn_quietly-answer.result g.N.Analysis.modifies (sym c.modifies.ensures ∙ c.if-modifies.false) c.args.self.now c.add_syn_quietly-answer.new.self
-    (ok-adds g.N.Analysis.codes g.N.Analysis.meaning g.met.N.Analysis.is_merge g.N.Analysis.may_ask c.add_syn_quietly-answer.result c.args.self.now c.add_syn_quietly-answer.new.self c.is_failed.ensures.rests e.fails.0 e.extends e.adds e.more e.carries)
+    ok-alone g.N.Analysis.codes g.N.Analysis.meaning g.met.N.Analysis.is_merge g.N.Analysis.may_ask c.add_syn_quietly-answer.result g.N.Analysis.modifies (sym c.modifies.ensures ∙ c.if-modifies.false) (MakesForSynNode (g.L.LanguageChildren.form c.args.node)) c.args.self.now c.add_syn_quietly-answer.new.self
+    (ok-adds g.N.Analysis.codes g.N.Analysis.meaning g.met.N.Analysis.is_merge g.N.Analysis.may_ask c.add_syn_quietly-answer.result (MakesForSynNode (g.L.LanguageChildren.form c.args.node)) c.args.self.now c.add_syn_quietly-answer.new.self c.is_failed.ensures.rests e.fails.0 e.extends e.adds e.more e.carries (ok-some c.add_syn_quietly-answer.result (AddsSyn c.args.self.now c.add_syn_quietly-answer.new.self (g.L.LanguageChildren.form c.args.node)) e.syn))
 
 pub returns-clause-leaves : goal.returns-clause-leaves
 returns-clause-leaves g c =
     let e = c.add_syn_quietly-answer.ensures in
-    ok-asked g.N.Analysis.codes g.N.Analysis.meaning g.met.N.Analysis.is_merge g.N.Analysis.may_ask c.add_syn_quietly-answer.result g.N.Analysis.modifies c.args.self.now c.add_syn_quietly-answer.new.self
-    (ok-alone g.N.Analysis.codes g.N.Analysis.meaning g.met.N.Analysis.is_merge g.N.Analysis.may_ask c.add_syn_quietly-answer.result g.N.Analysis.modifies (sym c.modifies.ensures ∙ c.if-modifies.false) c.args.self.now c.add_syn_quietly-answer.new.self
-    (ok-adds g.N.Analysis.codes g.N.Analysis.meaning g.met.N.Analysis.is_merge g.N.Analysis.may_ask c.add_syn_quietly-answer.result c.args.self.now c.add_syn_quietly-answer.new.self c.is_failed.ensures.rests e.fails.0 e.extends e.adds e.more e.carries))
+    ok-asked g.N.Analysis.codes g.N.Analysis.meaning g.met.N.Analysis.is_merge g.N.Analysis.may_ask c.add_syn_quietly-answer.result g.N.Analysis.modifies (MakesForSynNode (g.L.LanguageChildren.form c.args.node)) c.args.self.now c.add_syn_quietly-answer.new.self
+    (ok-alone g.N.Analysis.codes g.N.Analysis.meaning g.met.N.Analysis.is_merge g.N.Analysis.may_ask c.add_syn_quietly-answer.result g.N.Analysis.modifies (sym c.modifies.ensures ∙ c.if-modifies.false) (MakesForSynNode (g.L.LanguageChildren.form c.args.node)) c.args.self.now c.add_syn_quietly-answer.new.self
+    (ok-adds g.N.Analysis.codes g.N.Analysis.meaning g.met.N.Analysis.is_merge g.N.Analysis.may_ask c.add_syn_quietly-answer.result (MakesForSynNode (g.L.LanguageChildren.form c.args.node)) c.args.self.now c.add_syn_quietly-answer.new.self c.is_failed.ensures.rests e.fails.0 e.extends e.adds e.more e.carries (ok-some c.add_syn_quietly-answer.result (AddsSyn c.args.self.now c.add_syn_quietly-answer.new.self (g.L.LanguageChildren.form c.args.node)) e.syn)))
 
 pub returns-clause-stands : goal.returns-clause-stands
 returns-clause-stands g c =

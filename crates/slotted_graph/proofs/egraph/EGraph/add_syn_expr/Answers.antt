@@ -1,5 +1,9 @@
 use Rattle.std.proofs.Common.{◌∙◌, sym}
-use Rattle.slotted_graph.proofs.Writing.{is-modified, ok-adds, ok-alone, ok-asked, ok-extends, unmodified}
+use Rattle.std.specs.Prelude.{IsSome}
+use Rattle.slotted_core.specs.LookUp.{IsOneGraph}
+use Rattle.slotted_core.specs.Graph.{FilesOnlySubterms, id_of_term}
+use Rattle.slotted_graph.specs.Writing.{MakesForSynTerm}
+use Rattle.slotted_graph.proofs.Writing.{is-modified, ok-adds, ok-alone, ok-asked, ok-both, ok-extends, unmodified}
 use Rattle.slotted_graph.proofs.egraph.EGraph.add_syn_expr.Goals as goal
 
 pub returns-then-modifies-clause-kept : goal.returns-then-modifies-clause-kept
@@ -51,20 +55,20 @@ pub returns-clause-carries : goal.returns-clause-carries
 returns-clause-carries g c = unmodified g.N.Analysis.modifies (sym c.modifies.ensures ∙ c.if-modifies.false) _ c.add_syn_expr_quietly-answer.ensures.carries
 
 pub returns-then-modifies-clause-leaves : goal.returns-then-modifies-clause-leaves
-returns-then-modifies-clause-leaves g c = ok-asked g.N.Analysis.codes g.N.Analysis.meaning g.met.N.Analysis.is_merge g.N.Analysis.may_ask c.add_syn_expr_and_modify.result g.N.Analysis.modifies c.args.self.now c.add_syn_expr_and_modify.new.self c.add_syn_expr_and_modify.ensures.adds
+returns-then-modifies-clause-leaves g c = ok-asked g.N.Analysis.codes g.N.Analysis.meaning g.met.N.Analysis.is_merge g.N.Analysis.may_ask c.add_syn_expr_and_modify.result g.N.Analysis.modifies (MakesForSynTerm c.args.term.now) c.args.self.now c.add_syn_expr_and_modify.new.self c.add_syn_expr_and_modify.ensures.adds
 
 pub returns-then-modifies-clause-extends : goal.returns-then-modifies-clause-extends
-returns-then-modifies-clause-extends g c = ok-extends g.N.Analysis.codes g.N.Analysis.meaning g.met.N.Analysis.is_merge g.N.Analysis.may_ask c.add_syn_expr_and_modify.result g.N.Analysis.modifies c.args.self.now c.add_syn_expr_and_modify.new.self c.add_syn_expr_and_modify.ensures.adds
+returns-then-modifies-clause-extends g c = ok-extends g.N.Analysis.codes g.N.Analysis.meaning g.met.N.Analysis.is_merge g.N.Analysis.may_ask c.add_syn_expr_and_modify.result g.N.Analysis.modifies (MakesForSynTerm c.args.term.now) c.args.self.now c.add_syn_expr_and_modify.new.self c.add_syn_expr_and_modify.ensures.adds
 
 pub returns-clause-modified : goal.returns-clause-modified
 returns-clause-modified g c =
     let e = c.add_syn_expr_quietly-answer.ensures in
-    ok-alone g.N.Analysis.codes g.N.Analysis.meaning g.met.N.Analysis.is_merge g.N.Analysis.may_ask c.add_syn_expr_quietly-answer.result g.N.Analysis.modifies (sym c.modifies.ensures ∙ c.if-modifies.false) c.args.self.now c.add_syn_expr_quietly-answer.new.self
-    (ok-adds g.N.Analysis.codes g.N.Analysis.meaning g.met.N.Analysis.is_merge g.N.Analysis.may_ask c.add_syn_expr_quietly-answer.result c.args.self.now c.add_syn_expr_quietly-answer.new.self c.is_failed.ensures.rests e.fails.0 e.extends e.adds e.more e.carries)
+    ok-alone g.N.Analysis.codes g.N.Analysis.meaning g.met.N.Analysis.is_merge g.N.Analysis.may_ask c.add_syn_expr_quietly-answer.result g.N.Analysis.modifies (sym c.modifies.ensures ∙ c.if-modifies.false) (MakesForSynTerm c.args.term.now) c.args.self.now c.add_syn_expr_quietly-answer.new.self
+    (ok-adds g.N.Analysis.codes g.N.Analysis.meaning g.met.N.Analysis.is_merge g.N.Analysis.may_ask c.add_syn_expr_quietly-answer.result (MakesForSynTerm c.args.term.now) c.args.self.now c.add_syn_expr_quietly-answer.new.self c.is_failed.ensures.rests e.fails.0 e.extends e.adds e.more e.carries (ok-both c.add_syn_expr_quietly-answer.result (IsSome (id_of_term c.args.self.now c.args.term.now) → IsOneGraph c.args.self.now c.add_syn_expr_quietly-answer.new.self) (FilesOnlySubterms c.args.self.now c.add_syn_expr_quietly-answer.new.self c.args.term.now) e.kept e.filed))
 
 pub returns-clause-leaves : goal.returns-clause-leaves
 returns-clause-leaves g c =
     let e = c.add_syn_expr_quietly-answer.ensures in
-    ok-asked g.N.Analysis.codes g.N.Analysis.meaning g.met.N.Analysis.is_merge g.N.Analysis.may_ask c.add_syn_expr_quietly-answer.result g.N.Analysis.modifies c.args.self.now c.add_syn_expr_quietly-answer.new.self
-    (ok-alone g.N.Analysis.codes g.N.Analysis.meaning g.met.N.Analysis.is_merge g.N.Analysis.may_ask c.add_syn_expr_quietly-answer.result g.N.Analysis.modifies (sym c.modifies.ensures ∙ c.if-modifies.false) c.args.self.now c.add_syn_expr_quietly-answer.new.self
-    (ok-adds g.N.Analysis.codes g.N.Analysis.meaning g.met.N.Analysis.is_merge g.N.Analysis.may_ask c.add_syn_expr_quietly-answer.result c.args.self.now c.add_syn_expr_quietly-answer.new.self c.is_failed.ensures.rests e.fails.0 e.extends e.adds e.more e.carries))
+    ok-asked g.N.Analysis.codes g.N.Analysis.meaning g.met.N.Analysis.is_merge g.N.Analysis.may_ask c.add_syn_expr_quietly-answer.result g.N.Analysis.modifies (MakesForSynTerm c.args.term.now) c.args.self.now c.add_syn_expr_quietly-answer.new.self
+    (ok-alone g.N.Analysis.codes g.N.Analysis.meaning g.met.N.Analysis.is_merge g.N.Analysis.may_ask c.add_syn_expr_quietly-answer.result g.N.Analysis.modifies (sym c.modifies.ensures ∙ c.if-modifies.false) (MakesForSynTerm c.args.term.now) c.args.self.now c.add_syn_expr_quietly-answer.new.self
+    (ok-adds g.N.Analysis.codes g.N.Analysis.meaning g.met.N.Analysis.is_merge g.N.Analysis.may_ask c.add_syn_expr_quietly-answer.result (MakesForSynTerm c.args.term.now) c.args.self.now c.add_syn_expr_quietly-answer.new.self c.is_failed.ensures.rests e.fails.0 e.extends e.adds e.more e.carries (ok-both c.add_syn_expr_quietly-answer.result (IsSome (id_of_term c.args.self.now c.args.term.now) → IsOneGraph c.args.self.now c.add_syn_expr_quietly-answer.new.self) (FilesOnlySubterms c.args.self.now c.add_syn_expr_quietly-answer.new.self c.args.term.now) e.kept e.filed)))

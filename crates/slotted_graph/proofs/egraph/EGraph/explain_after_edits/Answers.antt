@@ -1,8 +1,8 @@
-use Rattle.std.proofs.Common.{inl, inr}
+use Rattle.std.proofs.Common.{inr}
 use Rattle.slotted_core.proofs.CallerLemmas.{term_later}
 use Rattle.slotted_graph.proofs.Extending.{extends-then}
 use Rattle.slotted_graph.proofs.Insides.{given}
-use Rattle.slotted_graph.proofs.Writing.{explained-extends, was-well}
+use Rattle.slotted_graph.proofs.Writing.{asked-then, explained-after, explained-asked, was-well}
 use Rattle.slotted_graph.proofs.egraph.EGraph.explain_after_edits.Goals as goal
 
 pub add_syn_expr-requires-2 : goal.add_syn_expr-requires-2
@@ -25,11 +25,9 @@ explain_quietly-requires-clause-right g c =
     let both = extends-then c.args.self.now c.add_syn_expr.new.self c.add_syn_expr-2.new.self e.leaves.extends c.in_ok-add_syn_expr-2.ensures.leaves.extends in
     inr (term_later c.args.self.now.table c.add_syn_expr-2.new.self.table both.more c.args.right.now (given well c.requires.right))
 
-pub returns-clause-extends : goal.returns-clause-extends
-returns-clause-extends g c =
-    let e = c.in_ok-add_syn_expr.ensures in
-    let both = extends-then c.args.self.now c.add_syn_expr.new.self c.add_syn_expr-2.new.self e.leaves.extends c.in_ok-add_syn_expr-2.ensures.leaves.extends in
-    elim (explained-extends c.add_syn_expr-2.new.self c.explain_quietly.new.self c.explain_quietly.ensures.adds c.explain_quietly.ensures.more) [
-      | inl failed ↦ inl failed
-      | inr more ↦ inr (extends-then c.args.self.now c.add_syn_expr-2.new.self c.explain_quietly.new.self both more)
-    ]
+pub returns-clause-leaves : goal.returns-clause-leaves
+returns-clause-leaves g c =
+    let e = c.explain_quietly.ensures in
+    let both = asked-then g.N.Analysis.codes g.N.Analysis.meaning g.met.N.Analysis.is_merge g.N.Analysis.may_ask c.args.self.now c.add_syn_expr.new.self c.add_syn_expr-2.new.self c.in_ok-add_syn_expr.ensures.leaves c.in_ok-add_syn_expr-2.ensures.leaves in
+    explained-after g.N.Analysis.codes g.N.Analysis.meaning g.met.N.Analysis.is_merge g.N.Analysis.may_ask c.args.self.now c.add_syn_expr-2.new.self c.explain_quietly.new.self both
+    (explained-asked g.N.Analysis.codes g.N.Analysis.meaning g.met.N.Analysis.is_merge g.N.Analysis.may_ask c.add_syn_expr-2.new.self c.explain_quietly.new.self e.adds e.more e.carries)

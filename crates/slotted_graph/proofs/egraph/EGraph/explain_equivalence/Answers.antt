@@ -1,5 +1,5 @@
 use Rattle.std.proofs.Common.{◌∙◌, sym}
-use Rattle.slotted_graph.proofs.Writing.{explained-extends, is-modified, unmodified}
+use Rattle.slotted_graph.proofs.Writing.{explained-asked, is-modified, unmodified}
 use Rattle.slotted_graph.proofs.egraph.EGraph.explain_equivalence.Goals as goal
 
 pub returns-then-modifies-clause-adds : goal.returns-then-modifies-clause-adds
@@ -44,5 +44,7 @@ returns-then-modifies-clause-carries g c = is-modified g.N.Analysis.modifies (sy
 pub returns-clause-carries : goal.returns-clause-carries
 returns-clause-carries g c = unmodified g.N.Analysis.modifies (sym c.modifies.ensures ∙ c.if-modifies.false) _ c.explain_quietly.ensures.carries
 
-pub returns-clause-extends : goal.returns-clause-extends
-returns-clause-extends g c = explained-extends c.args.self.now c.explain_quietly.new.self c.explain_quietly.ensures.adds c.explain_quietly.ensures.more
+pub returns-clause-leaves : goal.returns-clause-leaves
+returns-clause-leaves g c =
+    let e = c.explain_quietly.ensures in
+    explained-asked g.N.Analysis.codes g.N.Analysis.meaning g.met.N.Analysis.is_merge g.N.Analysis.may_ask c.args.self.now c.explain_quietly.new.self e.adds e.more e.carries
