@@ -7,7 +7,7 @@ ghost use Rattle.slotted_explain.specs.Chain.{AreWithin, from_class};
 ghost use Rattle.slotted_explain.specs.Chain.{MakesForStep, MakesForSteps, MakesForTerms, MakesForTwoTermsOf};
 ghost use Rattle.slotted_explain.specs.Chain.{RunsOutForTwoTermsOf, StepRunsOut, StepsRunOut, TermsRunOut};
 
-use crate::flat_terms::{marked, name_others, names_in, replaced, subterm};
+use crate::flat_terms::{marked, name_others, names_in, replace_at, subterm};
 use crate::steps::{FlatStep, from_side, mark_text, to_side};
 use slotted_analyses::Analysis;
 use slotted_graph::EGraph;
@@ -76,7 +76,7 @@ fn take_step<L: Printable, N: Analysis<L>>(
     let Some(term) = subterm_after(alloc, graph, step, head)? else {
         return Ok(());
     };
-    *head = replaced(alloc, head, &step.path, &term)?;
+    replace_at(head, &step.path, term);
     push_line(alloc, graph, step, head, text)
 }
 

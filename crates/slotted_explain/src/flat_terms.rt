@@ -8,6 +8,7 @@ use slotted_patterns::show::node_text;
 use slotted_slots::{AppliedId, Error, Slot, SlotMap, SlotTable, SyntaxElem};
 use slotted_terms::expr::RecExpr;
 use slotted_terms::expr::printing::Printable;
+use slotted_terms::flat::flatten;
 use std::alloc::Global;
 
 // The term at a path, if there is one.
@@ -25,33 +26,52 @@ pub(crate) fn subterm<'a, L: Language>(
     Some(at)
 }
 
-// The term with another one at a path.
-pub(crate) fn replaced<L: Language>(
-    alloc: Global,
-    term: &RecExpr<L>,
-    path: &[usize],
-    new: &RecExpr<L>,
-) -> Result<RecExpr<L>, Error>
-    ensures err { IfErr result IsOutOfMemory }
-{
-    let Some((next, rest)) = path.split_first() else {
-        return new.copy(alloc);
-    };
-    let mut children = Vec::new(alloc);
-    for (k, child) in term.children.iter().enumerate() {
-        if k == *next {
-            children.push(replaced(alloc, child, rest, new)?)?;
-        } else {
-            children.push(child.copy(alloc)?)?;
+// Puts another term at a path, if there is one there.
+pub(crate) fn replace_at<L: Language>(term: &mut RecExpr<L>, path: &[usize], new: RecExpr<L>) {
+    let mut at = &mut *term;
+    for k in path {
+        if *k >= at.children.len() {
+            return;
         }
+        at = &mut at.children[*k];
     }
-    Ok(RecExpr {
-        node: term.node.copy(alloc)?,
-        children,
-    })
+    *at = new;
 }
 
-// The text of a term in which the subterm at a path stands in round brackets after the mark.
+// The terms along a path, each over the next. Ends where there is no child.
+fn along<'a, L: Language>(
+    alloc: Global,
+    term: &'a RecExpr<L>,
+    path: &[usize],
+) -> Result<Vec<&'a RecExpr<L>>, Error>
+    ensures err { IfErr result IsOutOfMemory }
+{
+    let mut terms = Vec::new(alloc);
+    let mut at = term;
+    for k in path {
+        terms.push(at)?;
+        match at.children.get(*k) {
+            Some(child) => at = child,
+            None => return Ok(terms),
+        }
+    }
+    Ok(terms)
+}
+
+// The text of a term in brackets after the mark.
+fn bracketed<L: Printable>(
+    alloc: Global,
+    term: &RecExpr<L>,
+    mark: &str,
+    table: &SlotTable,
+) -> Result<String, Error>
+    ensures err { IfErr result IsOutOfMemory }
+{
+    let text = term.text(alloc, table)?;
+    Ok(format!(in alloc; "({mark} {text})")?)
+}
+
+// The text of a term in which the subterm at a path stands in round brackets after the mark. Without such a subterm there is no mark.
 pub(crate) fn marked<L: Printable>(
     alloc: Global,
     term: &RecExpr<L>,
@@ -61,15 +81,15 @@ pub(crate) fn marked<L: Printable>(
 ) -> Result<String, Error>
     ensures err { IfErr result IsOutOfMemory }
 {
-    let Some((next, rest)) = path.split_first() else {
-        let text = term.text(alloc, table)?;
-        return Ok(format!(in alloc; "({mark} {text})")?);
-    };
-    let Some(child) = term.children.get(*next) else {
+    let Some(at) = subterm(term, path) else {
         return term.text(alloc, table);
     };
-    let inner = marked(alloc, child, rest, mark, table)?;
-    text_around(alloc, term, *next, &inner, table)
+    let mut text = bracketed(alloc, at, mark, table)?;
+    let terms = along(alloc, term, path)?;
+    for (above, place) in terms.iter().zip(path).rev() {
+        text = text_around(alloc, above, *place, &text, table)?;
+    }
+    Ok(text)
 }
 
 // The text of a term with another text in place of that of one child.
@@ -94,28 +114,16 @@ fn text_around<L: Printable>(
     node_text(alloc, &elements, &children, table)
 }
 
-// The slots that stand in a term, from the left.
+// The slots that stand in a term, node by node: two terms that differ in names alone have them in one order.
 fn slots_of<L: Language>(alloc: Global, term: &RecExpr<L>) -> Result<Vec<Slot>, Error>
     ensures err { IfErr result IsOutOfMemory }
 {
+    let nodes = flatten(alloc, term)?;
     let mut slots = Vec::new(alloc);
-    push_slots(alloc, term, &mut slots)?;
-    Ok(slots)
-}
-
-// Appends the slots of a term, those of its node first.
-fn push_slots<L: Language>(
-    alloc: Global,
-    term: &RecExpr<L>,
-    slots: &mut Vec<Slot>,
-) -> Result<(), Error>
-    ensures err { IfErr result IsOutOfMemory }
-{
-    push_own(alloc, &term.node, slots)?;
-    for child in &term.children {
-        push_slots(alloc, child, slots)?;
+    for flat in &nodes {
+        push_own(alloc, &flat.node, &mut slots)?;
     }
-    Ok(())
+    Ok(slots)
 }
 
 // Appends the slots that a node writes itself.
