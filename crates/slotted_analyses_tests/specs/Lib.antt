@@ -2,3 +2,4 @@ pub mod LeastSize
 pub mod LeastBinders
 pub mod Marking
 pub mod Tired
+pub mod ComesTo

@@ -1,7 +1,9 @@
-//! Worked analyses: the least size of a class over any language, the least number of its binders, and tests of these and of constant folding.
+//! Worked analyses: the least size of a class over any language, the least number of its binders, and tests of these,
+//! of constant folding, and of rules that ask what is known of a class.
 #![tactic(auto)]
 
 pub mod carried;
+pub mod conditioned;
 #[cfg(test)]
 mod folding;
 #[cfg(test)]
@@ -15,3 +17,5 @@ mod rounds;
 pub mod tired;
 #[cfg(test)]
 mod turning;
+#[cfg(test)]
+mod units;

@@ -1,7 +1,6 @@
 -- Where rules without conditions were applied, instances of both sides are equal by what is asserted, for each match.
-use Rattle.std.proofs.Common.{◌≡◌, ◌∙◌, List, sym, subst, inl, inr}
-use Rattle.std.specs.Prelude.{◌<◌, ℕ, Bool, true, length, Contains}
-use Rattle.std.proofs.lemmas.Bool.{false≢true}
+use Rattle.std.proofs.Common.{◌≡◌, List, sym, subst, inl, inr}
+use Rattle.std.specs.Prelude.{◌<◌, ℕ, Bool, false, length, Contains}
 use Rattle.slotted_nodes.specs.Form.{Form}
 use Rattle.slotted_theory.specs.Nameless.{DTerm}
 use Rattle.slotted_patterns.specs.Tree.{PatternTree}
@@ -55,7 +54,7 @@ module _ (h : Graph) (is : IsGraph h) where
   }
 
 -- rules without conditions, one after another
-module _ {L C : Type 0} (form : L → Form) (holds : C → Values → Graph → Bool) (always : (c : C) (s : Values) (g : Graph) → holds c s g ≡ true) where
+module _ {L C : Type 0} (form : L → Form) (holds : C → Values → Graph → Bool → Type 0) (never_no : (c : C) (s : Values) (g : Graph) → ¬ holds c s g false) where
   abbrev applies : Rewrite L C → List Values → Graph → Graph → Type 0
   applies = AppliesRule form holds
 
@@ -67,7 +66,7 @@ module _ {L C : Type 0} (form : L → Form) (holds : C → Values → Graph → 
 
   settled-has : (c : C) (p q : PatternTree) (g h : Graph) (s : Values) → IsSettled (holds c) p q g h s → HasEquationFor g h p q s
   settled-has c p q g h s (inl e) = e
-  settled-has c p q g h s (inr m) = absurd (false≢true (sym m.2 ∙ always c s m.0))
+  settled-has c p q g h s (inr m) = absurd (never_no c s m.0 m.2)
 
   one-settled : (rule : Rewrite L C) (found : List Values) (g e f j k h : Graph) → ExtendsTo g e → ExtendsTo g j → SearchesRule form rule e found f → applies rule found j k → ExtendsTo k h → SearchedAndSettled g h rule
   one-settled rule found g e f j k h start end first now later =

@@ -35,7 +35,7 @@ edits-wider after g f h i first later n c = record {
   within = c.within;
 }
 
-module _ {L C : Type 0} (form : L → Form) (holds : C → Values → Graph → Bool) where
+module _ {L C : Type 0} (form : L → Form) (holds : C → Values → Graph → Bool → Type 0) where
   abbrev applies : Rewrite L C → List Values → Graph → Graph → Type 0
   applies = AppliesRule form holds
 

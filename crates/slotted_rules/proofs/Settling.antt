@@ -73,7 +73,7 @@ module _ (g f h i : Graph) (before : ExtendsTo g f) (after : ExtendsTo h i) (p q
     each = λ rule l r given known. entry-wider (represented (method_of e.method) e.pairs) given rule (e.each rule l r given (known-later g f before given known));
   }
 
-  pub settled-wider : (holds : Values → Graph → Bool) → IsSettled holds p q f h s → IsSettled holds p q g i s
+  pub settled-wider : (holds : Values → Graph → Bool → Type 0) → IsSettled holds p q f h s → IsSettled holds p q g i s
   settled-wider holds (inl e) = inl (has-wider e)
   settled-wider holds (inr m) = inr (m.0, between-longer g f h i m.0 before after m.1, m.2)
 
@@ -86,7 +86,7 @@ module _ (g f h i : Graph) (before : ExtendsTo g f) (after : ExtendsTo h i) (p q
         equation-stays h.image.canonical i.image.canonical after.canonical (represented (method_of k.method) k.pairs) given rule s e (k.each rule l r given (known-later g f before given known));
   }
 
-module _ (g f h i : Graph) (before : ExtendsTo g f) (after : ExtendsTo h i) (holds : Values → Graph → Bool) (p q : PatternTree) (name : List ℕ) (found : List Values) where
+module _ (g f h i : Graph) (before : ExtendsTo g f) (after : ExtendsTo h i) (holds : Values → Graph → Bool → Type 0) (p q : PatternTree) (name : List ℕ) (found : List Values) where
   pub comes-wider : (n : ℕ) → n < length h.image.entries → n < length h.image.stored → ComesFromRule holds p q name found f h n → ComesFromRule holds p q name found g i n
   comes-wider n l k c = record {
     answer = c.answer;
@@ -107,7 +107,7 @@ none-given : (g : Graph) → AllKnown g.table []
 none-given g = λ k d l. absurd (omega (arith, l))
 
 -- one answer whose condition holds
-module _ (holds : Values → Graph → Bool) (p q : PatternTree) (name : List ℕ) (s : Values) (g h : Graph) (y : Bool) (u : UnitesInstances g h s p q (Some name) y) where
+module _ (holds : Values → Graph → Bool → Type 0) (p q : PatternTree) (name : List ℕ) (s : Values) (g h : Graph) (y : Bool) (u : UnitesInstances g h s p q (Some name) y) where
   united-has : HasEquationFor g h p q s
   united-has = record {
     method = u.method;
@@ -122,7 +122,7 @@ module _ (holds : Values → Graph → Bool) (p q : PatternTree) (name : List �
         };
   }
 
-  module _ (found : List Values) (c : Contains found s) (held : holds s g ≡ true) (is : IsGraph g) (passed : HavePassed s p q) where
+  module _ (found : List Values) (c : Contains found s) (held : holds s g true) (is : IsGraph g) (passed : HavePassed s p q) where
     united-comes : AreFromRule holds p q name found g h
     united-comes n past lt new =
         let l = some-is (pattern_in p) passed.0.0 in
@@ -150,14 +150,14 @@ one-at-most : (y : Bool) → from_bool y ≤ 1
 one-at-most true = omega arith
 one-at-most false = omega arith
 
-each-more : {holds : Values → Graph → Bool} {p q : PatternTree} {name : List ℕ} {found : List Values} {s : Values} {y : Bool} {n : ℕ} {g f h : Graph} → AppliesEach holds p q name found n g f → AppliesOne holds p q name s f h y →
+each-more : {holds : Values → Graph → Bool → Type 0} {p q : PatternTree} {name : List ℕ} {found : List Values} {s : Values} {y : Bool} {n : ℕ} {g f h : Graph} → AppliesEach holds p q name found n g f → AppliesOne holds p q name s f h y →
     AppliesEach holds p q name (found ++ s ∷ []) (n + from_bool y) g h
 each-more {holds} {p} {q} {name} {found} {s} {y} {n} {g} {f} {h} no_answer one = subst (λ (k : ℕ). AppliesEach holds p q name (s ∷ []) k g h) (omega arith) (next_answer one no_answer)
 each-more {holds} {p} {q} {name} {found} {s} {y} {n} {g} {f} {h} (next_answer {s = t} {found = more} {y = z} {n = m} first later) one =
     let all : AppliesEach holds p q name (t ∷ more ++ s ∷ []) (from_bool z + (m + from_bool y)) g h = next_answer first (each-more later one) in
     subst (λ (k : ℕ). AppliesEach holds p q name (t ∷ more ++ s ∷ []) k g h) (omega arith) all
 
-module _ (holds : Values → Graph → Bool) (p q : PatternTree) (name : List ℕ) (found : List Values) (i n : ℕ) (l : i < length found) (g f : Graph) (so_far : HasAppliedSome holds p q name found i n g f) where
+module _ (holds : Values → Graph → Bool → Type 0) (p q : PatternTree) (name : List ℕ) (found : List Values) (i n : ℕ) (l : i < length found) (g f : Graph) (so_far : HasAppliedSome holds p q name found i n g f) where
   abbrev answer : Values
   answer = slice_index_or found i []
 
@@ -202,13 +202,13 @@ module _ (holds : Values → Graph → Bool) (p q : PatternTree) (name : List �
   }
 
 -- one answer whose instances were united
-pub if-asserted : (holds : Values → Graph → Bool) (p q : PatternTree) (name : List ℕ) (s : Values) (g h : Graph) (r : Result Bool Error) → holds s g ≡ true → OnOk r (HavePassed s p q) → IfOk r (UnitesInstances g h s p q (Some name)) →
+pub if-asserted : (holds : Values → Graph → Bool → Type 0) (p q : PatternTree) (name : List ℕ) (s : Values) (g h : Graph) (r : Result Bool Error) → holds s g true → OnOk r (HavePassed s p q) → IfOk r (UnitesInstances g h s p q (Some name)) →
     IfOk r (AppliesOne holds p q name s g h)
 if-asserted holds p q name s g h (Ok y) held passed u = asserts held passed u
 if-asserted holds p q name s g h (Err e) held passed u = tt
 
 -- before the first answer nothing is new
-pub none-applied : (holds : Values → Graph → Bool) (p q : PatternTree) (name : List ℕ) (found : List Values) (g : Graph) → IsGraph g → HasAppliedSome holds p q name found 0 0 g g
+pub none-applied : (holds : Values → Graph → Bool → Type 0) (p q : PatternTree) (name : List ℕ) (found : List Values) (g : Graph) → IsGraph g → HasAppliedSome holds p q name found 0 0 g g
 none-applied holds p q name found g is = record {
   graph = is;
   extends = extends-itself g;
@@ -219,7 +219,7 @@ none-applied holds p q name found g is = record {
 }
 
 -- and after the last one each is settled
-pub all-applied : (holds : Values → Graph → Bool) (p q : PatternTree) (name : List ℕ) (found : List Values) (i n : ℕ) (g h : Graph) → length found ≤ i → HasAppliedSome holds p q name found i n g h → LeavesUnited holds p q name found g h n
+pub all-applied : (holds : Values → Graph → Bool → Type 0) (p q : PatternTree) (name : List ℕ) (found : List Values) (i n : ℕ) (g h : Graph) → length found ≤ i → HasAppliedSome holds p q name found i n g h → LeavesUnited holds p q name found g h n
 all-applied holds p q name found i n g h le a = (
   record {
     graph = a.graph;

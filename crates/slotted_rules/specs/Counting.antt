@@ -25,10 +25,10 @@ SearchesRule form r g found h = IsSearched (tree_of form r.left) g found h
 abbrev pub CanApplyRule : {L C : Type 0} → (L → Form) → Rewrite L C → List Values → Graph → Type 0
 CanApplyRule form r found g = CanBeApplied (tree_of form r.left) found g
 
-abbrev pub AppliesRule : {L C : Type 0} → (L → Form) → (C → Values → Graph → Bool) → Rewrite L C → List Values → Graph → Graph → Type 0
+abbrev pub AppliesRule : {L C : Type 0} → (L → Form) → (C → Values → Graph → Bool → Type 0) → Rewrite L C → List Values → Graph → Graph → Type 0
 AppliesRule form holds r found g h = LeavesApplied (holds r.condition) (tree_of form r.left) (tree_of form r.right) (string_bytes r.name) found g h
 
-abbrev pub UnitesRule : {L C : Type 0} → (L → Form) → (C → Values → Graph → Bool) → Rewrite L C → List Values × ℕ → Graph → Graph → Type 0
+abbrev pub UnitesRule : {L C : Type 0} → (L → Form) → (C → Values → Graph → Bool → Type 0) → Rewrite L C → List Values × ℕ → Graph → Graph → Type 0
 UnitesRule form holds r k g h = LeavesUnited (holds r.condition) (tree_of form r.left) (tree_of form r.right) (string_bytes r.name) k.0 g h k.1
 
 abbrev pub RefusesRule : {L C : Type 0} → (L → Form) → (C → Values → Graph → Error → Type 0) → Rewrite L C → Error → Type 0
@@ -37,7 +37,7 @@ RefusesRule form refuses r e = IsRefusedRewrite (refuses r.condition) (tree_of f
 abbrev pub counts_in : List (List Values × ℕ) → List RuleCounts
 counts_in = map (λ k. record { found = length k.0; united = k.1 })
 
-pub record CountsRules {L C : Type 0} (form : L → Form) (holds : C → Values → Graph → Bool) (rules : List (Rewrite L C)) (g : Graph) (counts : List RuleCounts) (h : Graph) : Type 0 where
+pub record CountsRules {L C : Type 0} (form : L → Form) (holds : C → Values → Graph → Bool → Type 0) (rules : List (Rewrite L C)) (g : Graph) (counts : List RuleCounts) (h : Graph) : Type 0 where
   pub searched : Graph
   pub each : List (List Values × ℕ)
   pub by_searches : SearchesAll (SearchesRule form) rules g (map (λ k. k.0) each) searched
@@ -45,9 +45,9 @@ pub record CountsRules {L C : Type 0} (form : L → Form) (holds : C → Values 
   pub told : counts ≡ counts_in each
 
 -- the rules were applied to what was found, and this is told of them
-abbrev pub AppliesCounted : {L C : Type 0} → (L → Form) → (C → Values → Graph → Bool) → List (Rewrite L C) → List (List Values) → Graph → List RuleCounts → Graph → Type 0
+abbrev pub AppliesCounted : {L C : Type 0} → (L → Form) → (C → Values → Graph → Bool → Type 0) → List (Rewrite L C) → List (List Values) → Graph → List RuleCounts → Graph → Type 0
 AppliesCounted form holds rules founds g counts h = (each : List (List Values × ℕ)) × (map (λ k. k.0) each ≡ founds) × AppliesAll (UnitesRule form holds) rules each g h × (counts ≡ counts_in each)
 
 -- and then edits are made
-abbrev pub CountsAndModifies : {L C : Type 0} → (L → Form) → (C → Values → Graph → Bool) → List (Rewrite L C) → (Graph → Graph → Type 0) → Graph → List RuleCounts → Graph → Type 0
+abbrev pub CountsAndModifies : {L C : Type 0} → (L → Form) → (C → Values → Graph → Bool → Type 0) → List (Rewrite L C) → (Graph → Graph → Type 0) → Graph → List RuleCounts → Graph → Type 0
 CountsAndModifies form holds rules after g counts h = ThenModifies (λ e f. CountsRules form holds rules e counts f) after g h

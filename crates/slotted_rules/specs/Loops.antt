@@ -28,7 +28,7 @@ pub record HasApplied {R F : Type 0} (applies : R → F → Graph → Graph → 
   pub can_apply : CanApplyAll can after left h
 
 -- the first i answers are settled, n of them united what was not found equal, and each new explicit entry comes from the rule
-pub record HasAppliedSome (holds : Values → Graph → Bool) (p q : PatternTree) (name : List ℕ) (found : List Values) (i n : ℕ) (g h : Graph) : Type 0 where
+pub record HasAppliedSome (holds : Values → Graph → Bool → Type 0) (p q : PatternTree) (name : List ℕ) (found : List Values) (i n : ℕ) (g h : Graph) : Type 0 where
   pub graph : IsGraph h
   pub extends : ExtendsTo g h
   pub settled : (j : ℕ) → j < i → IsSettled holds p q g h (slice_index_or found j [])

@@ -78,34 +78,34 @@ pub record HasEquationFor (g h : Graph) (p q : PatternTree) (s : Values) : Type 
   pub each : (rule : Rule) → pattern_in p ≡ Some rule.left → pattern_in q ≡ Some rule.right → (given : List ℕ) → AllKnown g.table given →
       HasEntryFor (represented (method_of method) pairs) given h rule s
 
-abbrev pub IsSettled : (Values → Graph → Bool) → PatternTree → PatternTree → Graph → Graph → Values → Type 0
-IsSettled holds p q g h s = HasEquationFor g h p q s ⊎ ((m : Graph) × IsBetween g h m × (holds s m ≡ false))
+abbrev pub IsSettled : (Values → Graph → Bool → Type 0) → PatternTree → PatternTree → Graph → Graph → Values → Type 0
+IsSettled holds p q g h s = HasEquationFor g h p q s ⊎ ((m : Graph) × IsBetween g h m × holds s m false)
 
-pub record ComesFromRule (holds : Values → Graph → Bool) (p q : PatternTree) (name : List ℕ) (found : List Values) (g h : Graph) (n : ℕ) : Type 0 where
+pub record ComesFromRule (holds : Values → Graph → Bool → Type 0) (p q : PatternTree) (name : List ℕ) (found : List Values) (g h : Graph) (n : ℕ) : Type 0 where
   pub answer : Values
   pub is_found : Contains found answer
   pub moment : Graph
   pub between : IsBetween g h moment
-  pub held : holds answer moment ≡ true
+  pub held : holds answer moment true
   pub equation : IsEquationFor g h p q answer (equation_at h.image.entries n)
   pub text : (proven_at h.image.stored n).text ≡ Some name
 
-abbrev pub AreFromRule : (Values → Graph → Bool) → PatternTree → PatternTree → List ℕ → List Values → Graph → Graph → Type 0
+abbrev pub AreFromRule : (Values → Graph → Bool → Type 0) → PatternTree → PatternTree → List ℕ → List Values → Graph → Graph → Type 0
 AreFromRule holds p q name found g h = (n : ℕ) → length g.image.entries ≤ n → n < length h.image.entries → step_at h.image.entries n ≡ explicit →
     ComesFromRule holds p q name found g h n
 
 -- the condition is asked in the graph as it is; y says that a union was made, and that its sides were not found equal before
-pub data AppliesOne (holds : Values → Graph → Bool) (p q : PatternTree) (name : List ℕ) (s : Values) (g h : Graph) (y : Bool) : Type 0 where
-  passes_over : holds s g ≡ false → h ≡ g → y ≡ false → AppliesOne holds p q name s g h y
-  asserts : holds s g ≡ true → HavePassed s p q → UnitesInstances g h s p q (Some name) y → AppliesOne holds p q name s g h y
+pub data AppliesOne (holds : Values → Graph → Bool → Type 0) (p q : PatternTree) (name : List ℕ) (s : Values) (g h : Graph) (y : Bool) : Type 0 where
+  passes_over : holds s g false → h ≡ g → y ≡ false → AppliesOne holds p q name s g h y
+  asserts : holds s g true → HavePassed s p q → UnitesInstances g h s p q (Some name) y → AppliesOne holds p q name s g h y
 
 -- the answers in order, each in the graph that the ones before it left, and for how many of them y was said
-pub data AppliesEach (holds : Values → Graph → Bool) (p q : PatternTree) (name : List ℕ) : List Values → ℕ → Graph → Graph → Type 0 where
+pub data AppliesEach (holds : Values → Graph → Bool → Type 0) (p q : PatternTree) (name : List ℕ) : List Values → ℕ → Graph → Graph → Type 0 where
   no_answer : {g : Graph} → AppliesEach holds p q name [] 0 g g
   next_answer : {s : Values} {found : List Values} {y : Bool} {n : ℕ} {g f h : Graph} → AppliesOne holds p q name s g f y →
       AppliesEach holds p q name found n f h → AppliesEach holds p q name (s ∷ found) (from_bool y + n) g h
 
-pub record LeavesApplied (holds : Values → Graph → Bool) (p q : PatternTree) (name : List ℕ) (found : List Values) (g h : Graph) : Type 0 where
+pub record LeavesApplied (holds : Values → Graph → Bool → Type 0) (p q : PatternTree) (name : List ℕ) (found : List Values) (g h : Graph) : Type 0 where
   pub graph : IsGraph h
   pub extends : ExtendsTo g h
   pub settled : (s : Values) → Contains found s → IsSettled holds p q g h s
@@ -114,7 +114,7 @@ pub record LeavesApplied (holds : Values → Graph → Bool) (p q : PatternTree)
   pub in_turn : AppliesEach holds p q name found united g h
 
 -- so many of the answers united what was not found equal before
-abbrev pub LeavesUnited : (Values → Graph → Bool) → PatternTree → PatternTree → List ℕ → List Values → Graph → Graph → ℕ → Type 0
+abbrev pub LeavesUnited : (Values → Graph → Bool → Type 0) → PatternTree → PatternTree → List ℕ → List Values → Graph → Graph → ℕ → Type 0
 LeavesUnited holds p q name found g h n = (l : LeavesApplied holds p q name found g h) × (l.united ≡ n)
 
 abbrev pub IsNotATerm : Error → Type 0

@@ -14,7 +14,7 @@ use Rattle.slotted_graph.specs.Extension.{ExtendsTo}
 use Rattle.slotted_rules.specs.declared.rewrite.Rewrite.{Rewrite}
 use Rattle.slotted_rules.specs.Rewriting.{ComesFromRule, IsSearched}
 
-pub record ComesFromRules {L C : Type 0} (form : L → Form) (holds : C → Values → Graph → Bool) (rules : List (Rewrite L C)) (g h : Graph) (n : ℕ) : Type 0 where
+pub record ComesFromRules {L C : Type 0} (form : L → Form) (holds : C → Values → Graph → Bool → Type 0) (rules : List (Rewrite L C)) (g h : Graph) (n : ℕ) : Type 0 where
   pub rule : Rewrite L C
   pub is_one : Contains rules rule
   pub before : Graph
@@ -24,7 +24,7 @@ pub record ComesFromRules {L C : Type 0} (form : L → Form) (holds : C → Valu
   pub searched : IsSearched (tree_of form rule.left) before found after
   pub comes : ComesFromRule (holds rule.condition) (tree_of form rule.left) (tree_of form rule.right) (string_bytes rule.name) found g h n
 
-abbrev pub AreFromRules : {L C : Type 0} → (L → Form) → (C → Values → Graph → Bool) → List (Rewrite L C) → Graph → Graph → Type 0
+abbrev pub AreFromRules : {L C : Type 0} → (L → Form) → (C → Values → Graph → Bool → Type 0) → List (Rewrite L C) → Graph → Graph → Type 0
 AreFromRules form holds rules g h = (n : ℕ) → length g.image.entries ≤ n → n < length h.image.entries → step_at h.image.entries n ≡ explicit → ComesFromRules form holds rules g h n
 
 pub record ComesFromEdits (after : Graph → Graph → Type 0) (g h : Graph) (n : ℕ) : Type 0 where
@@ -36,6 +36,6 @@ pub record ComesFromEdits (after : Graph → Graph → Type 0) (g h : Graph) (n 
   pub past : length before.image.entries ≤ n
   pub within : n < length left.image.entries
 
-abbrev pub AreFromRulesOrEdits : {L C : Type 0} → (L → Form) → (C → Values → Graph → Bool) → List (Rewrite L C) → (Graph → Graph → Type 0) → Graph → Graph → Type 0
+abbrev pub AreFromRulesOrEdits : {L C : Type 0} → (L → Form) → (C → Values → Graph → Bool → Type 0) → List (Rewrite L C) → (Graph → Graph → Type 0) → Graph → Graph → Type 0
 AreFromRulesOrEdits form holds rules after g h =
     (n : ℕ) → length g.image.entries ≤ n → n < length h.image.entries → step_at h.image.entries n ≡ explicit → ComesFromRules form holds rules g h n ⊎ ComesFromEdits after g h n

@@ -1,13 +1,13 @@
 -- What conditions of one type answer.
 --     outcome c s         yes or no, or the variable without a value at which the condition is refused
---     tree_yes c s        the answer
+--     AnswersTree c s y   the answer
 --     TreeRefuses c s e   the refusal
-use Rattle.std.specs.Prelude.{Bool, true, false, cond, not, Ok, Err, string_bytes}
+use Rattle.std.specs.Prelude.{◌≡◌, Bool, true, false, cond, not, Ok, Err, string_bytes}
 use Rattle.slotted_slots.specs.declared.error.Error.{Error}
 use Rattle.slotted_slots.specs.declared.error.Error.TheVariants.{Failed}
 use Rattle.slotted_model_rules.specs.Conditions.{Values}
 use Rattle.slotted_model_rules.specs.Matcher.{value_at}
-use Rattle.slotted_rules.specs.Asking.{IsMissing, Outcome, answer_of, slot_outcome}
+use Rattle.slotted_rules.specs.Asking.{IsMissing, Outcome, slot_outcome}
 use Rattle.slotted_rules.specs.declared.condition_tree.CondTree.{CondTree, fold-CondTree}
 use Rattle.slotted_rules.specs.declared.condition_tree.CondTree.TheOpen.{CondTree-F}
 
@@ -35,8 +35,8 @@ outcome_step s (CondTree-F.Not c) = opposite_outcome c.value
 abbrev pub outcome : CondTree → Values → Outcome
 outcome c s = fold-CondTree Outcome (outcome_step s) c
 
-abbrev pub tree_yes : CondTree → Values → Bool
-tree_yes c s = answer_of (outcome c s)
+abbrev pub AnswersTree : CondTree → Values → Bool → Type 0
+AnswersTree c s y = outcome c s ≡ Ok y
 
 -- the variable of the outcome is named, or memory was lacking for that
 abbrev pub RefusesAs : Outcome → Error → Type 0

@@ -3,7 +3,7 @@ ghost use Rattle.std.specs.Prelude.{◌≡◌, false, not, string_bytes, Ok, IfO
 ghost use Rattle.slotted_slots.specs.Maps.{values};
 ghost use Rattle.slotted_model.specs.Correspondence.{has_slot};
 ghost use Rattle.slotted_model_rules.specs.Matcher.{value_at};
-ghost use Rattle.slotted_rules.specs.Asking.{is_slot_free, slot_outcome, LacksValue};
+ghost use Rattle.slotted_rules.specs.Asking.{AnswersBoth, AnswersEither, AnswersOpposite, LacksValue, slot_outcome};
 ghost use Rattle.slotted_rule_patterns.specs.Values.{values_of};
 ghost use Rattle.slotted_graph.specs.Matching.{AreValidValues};
 
@@ -17,15 +17,18 @@ use std::alloc::Global;
 
 /// A condition of a rule. It is asked just before a match is applied, in the graph as it is then.
 ///
-/// The answer is a function of the condition, the substitution and the graph alone.
+/// The answer depends on the condition, the substitution and the graph alone. What the graph's analysis keeps of a class is part of the graph: a
+/// condition may read it by `analysis_data`, and [`DataPasses`](crate::DataPasses) is one that does.
 pub trait Cond<L: Language, N: Analysis<L>>: Drop {
     ghost use Rattle.std.specs.Prelude.{Bool};
     ghost use Rattle.slotted_model_rules.specs.Conditions.{Values};
     ghost use Rattle.slotted_core.specs.Graph.{Graph};
     ghost use Rattle.slotted_slots.specs.declared.error.Error.{Error};
     ghost use Rattle.slotted_slots.specs.declared.error.Error.TheVariants.{Failed};
+    ghost use Rattle.slotted_rules.specs.Asking.{IsOneAnswer};
 
-    ghost yes: { Self → Values → Graph → Bool };
+    // The answer.
+    ghost answers: { Self → Values → Graph → Bool → Type 0 };
 
     // The errors that the condition may return.
     ghost refuses: { Self → Values → Graph → Error → Type 0 };
@@ -34,10 +37,12 @@ pub trait Cond<L: Language, N: Analysis<L>>: Drop {
     fn holds(&self, alloc: Global, s: &Subst, graph: &EGraph<L, N>) -> Result<bool, Error>
         requires well { graph.now.failed ≡ false }
         requires valid { AreValidValues graph.now (values_of s.now) }
-        ensures ok { IfOk result (λ y. y ≡ yes self.now (values_of s.now) graph.now) }
+        ensures ok { IfOk result (answers self.now (values_of s.now) graph.now) }
         ensures err { IfErr result (refuses self.now (values_of s.now) graph.now) };
 
     ghost never_failed: { (c : Self) (s : Values) (g : Graph) → ¬ refuses c s g Failed };
+
+    ghost one_answer: { (c : Self) (s : Values) (g : Graph) → IsOneAnswer (answers c s g) };
 }
 
 /// The condition that holds for each substitution.
@@ -46,12 +51,15 @@ pub struct Always;
 
 impl<L: Language, N: Analysis<L>> Cond<L, N> for Always {
     ghost use Rattle.std.specs.Prelude.{true};
+    ghost use Rattle.slotted_rules.specs.Asking.{same-one};
 
-    ghost yes = { λ c s g. true };
+    ghost answers = { λ c s g y. y ≡ true };
 
     ghost refuses = { λ c s g e. ⊥ };
 
     ghost never_failed = { λ c s g r. r };
+
+    ghost one_answer = { λ c s g. same-one true };
 
     fn holds(&self, alloc: Global, s: &Subst, graph: &EGraph<L, N>) -> Result<bool, Error> {
         Ok(true)
@@ -84,13 +92,15 @@ impl SlotFreeIn {
 }
 
 impl<L: Language, N: Analysis<L>> Cond<L, N> for SlotFreeIn {
-    ghost use Rattle.slotted_rules.specs.Asking.{lacks-never_failed};
+    ghost use Rattle.slotted_rules.specs.Asking.{lacks-never_failed, outcome-one};
 
-    ghost yes = { λ c s g. is_slot_free c.slot (string_bytes c.variable) s };
+    ghost answers = { λ c s g y. slot_outcome c.slot (string_bytes c.variable) (value_at s (string_bytes c.variable)) ≡ Ok y };
 
     ghost refuses = { λ c s g e. LacksValue (string_bytes c.variable) s e };
 
     ghost never_failed = { λ c s g r. lacks-never_failed (string_bytes c.variable) s r };
+
+    ghost one_answer = { λ c s g. outcome-one (slot_outcome c.slot (string_bytes c.variable) (value_at s (string_bytes c.variable))) };
 
     fn holds(&self, alloc: Global, s: &Subst, graph: &EGraph<L, N>) -> Result<bool, Error> {
         self.answer(alloc, s)
@@ -117,14 +127,16 @@ pub struct Or<X, Y> {
 }
 
 impl<L: Language, N: Analysis<L>, X: Cond<L, N>, Y: Cond<L, N>> Cond<L, N> for Or<X, Y> {
-    ghost use Rattle.std.specs.Prelude.{◌||◌, ◌⊎◌};
-    ghost use Rattle.slotted_rules.specs.Asking.{either-never_failed};
+    ghost use Rattle.std.specs.Prelude.{◌⊎◌};
+    ghost use Rattle.slotted_rules.specs.Asking.{either-never_failed, either-one};
 
-    ghost yes = { λ c s g. X.yes c.first s g || Y.yes c.second s g };
+    ghost answers = { λ c s g. AnswersEither (X.answers c.first s g) (Y.answers c.second s g) };
 
-    ghost refuses = { λ c s g e. X.refuses c.first s g e ⊎ ((X.yes c.first s g ≡ false) × Y.refuses c.second s g e) };
+    ghost refuses = { λ c s g e. X.refuses c.first s g e ⊎ (X.answers c.first s g false × Y.refuses c.second s g e) };
 
     ghost never_failed = { λ c s g r. either-never_failed (X.never_failed c.first s g) (Y.never_failed c.second s g) r };
+
+    ghost one_answer = { λ c s g. either-one (X.answers c.first s g) (Y.answers c.second s g) (X.one_answer c.first s g) (Y.one_answer c.second s g) };
 
     fn holds(&self, alloc: Global, s: &Subst, graph: &EGraph<L, N>) -> Result<bool, Error> {
         if self.first.holds(alloc, s, graph)? {
@@ -142,14 +154,16 @@ pub struct And<X, Y> {
 }
 
 impl<L: Language, N: Analysis<L>, X: Cond<L, N>, Y: Cond<L, N>> Cond<L, N> for And<X, Y> {
-    ghost use Rattle.std.specs.Prelude.{true, ◌&&◌, ◌⊎◌};
-    ghost use Rattle.slotted_rules.specs.Asking.{either-never_failed};
+    ghost use Rattle.std.specs.Prelude.{true, ◌⊎◌};
+    ghost use Rattle.slotted_rules.specs.Asking.{both-one, either-never_failed};
 
-    ghost yes = { λ c s g. X.yes c.first s g && Y.yes c.second s g };
+    ghost answers = { λ c s g. AnswersBoth (X.answers c.first s g) (Y.answers c.second s g) };
 
-    ghost refuses = { λ c s g e. X.refuses c.first s g e ⊎ ((X.yes c.first s g ≡ true) × Y.refuses c.second s g e) };
+    ghost refuses = { λ c s g e. X.refuses c.first s g e ⊎ (X.answers c.first s g true × Y.refuses c.second s g e) };
 
     ghost never_failed = { λ c s g r. either-never_failed (X.never_failed c.first s g) (Y.never_failed c.second s g) r };
+
+    ghost one_answer = { λ c s g. both-one (X.answers c.first s g) (Y.answers c.second s g) (X.one_answer c.first s g) (Y.one_answer c.second s g) };
 
     fn holds(&self, alloc: Global, s: &Subst, graph: &EGraph<L, N>) -> Result<bool, Error> {
         if !self.first.holds(alloc, s, graph)? {
@@ -166,11 +180,15 @@ pub struct Not<X> {
 }
 
 impl<L: Language, N: Analysis<L>, X: Cond<L, N>> Cond<L, N> for Not<X> {
-    ghost yes = { λ c s g. not (X.yes c.condition s g) };
+    ghost use Rattle.slotted_rules.specs.Asking.{opposite-one};
+
+    ghost answers = { λ c s g. AnswersOpposite (X.answers c.condition s g) };
 
     ghost refuses = { λ c s g e. X.refuses c.condition s g e };
 
     ghost never_failed = { λ c s g r. X.never_failed c.condition s g r };
+
+    ghost one_answer = { λ c s g. opposite-one (X.answers c.condition s g) (X.one_answer c.condition s g) };
 
     fn holds(&self, alloc: Global, s: &Subst, graph: &EGraph<L, N>) -> Result<bool, Error> {
         let held = self.condition.holds(alloc, s, graph)?;

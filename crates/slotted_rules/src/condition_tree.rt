@@ -1,7 +1,7 @@
 //! The five kinds of conditions as one type, for slices of rules whose conditions differ.
 ghost use Rattle.std.specs.Prelude.{◌≡◌, Ok, IfOk, IfErr};
 ghost use Rattle.slotted_rule_patterns.specs.Values.{values_of};
-ghost use Rattle.slotted_rules.specs.TreeAnswers.{outcome, tree_yes, TreeRefuses};
+ghost use Rattle.slotted_rules.specs.TreeAnswers.{AnswersTree, TreeRefuses, outcome};
 
 use crate::condition::{Cond, SlotFreeIn};
 use slotted_analyses::Analysis;
@@ -24,7 +24,7 @@ pub enum CondTree {
 impl CondTree {
     // Returns the answer, which does not depend on a graph.
     fn answer(&self, alloc: Global, s: &Subst) -> Result<bool, Error>
-        ensures ok { IfOk result (λ y. outcome self.now (values_of s.now) ≡ Ok y) }
+        ensures ok { IfOk result (AnswersTree self.now (values_of s.now)) }
         ensures err { IfErr result (TreeRefuses self.now (values_of s.now)) }
     {
         match self {
@@ -52,12 +52,15 @@ impl CondTree {
 
 impl<L: Language, N: Analysis<L>> Cond<L, N> for CondTree {
     ghost use Rattle.slotted_rules.specs.TreeAnswers.{tree-never_failed};
+    ghost use Rattle.slotted_rules.specs.Asking.{outcome-one};
 
-    ghost yes = { λ c s g. tree_yes c s };
+    ghost answers = { λ c s g. AnswersTree c s };
 
     ghost refuses = { λ c s g e. TreeRefuses c s e };
 
     ghost never_failed = { λ c s g r. tree-never_failed c s r };
+
+    ghost one_answer = { λ c s g. outcome-one (outcome c s) };
 
     fn holds(&self, alloc: Global, s: &Subst, graph: &EGraph<L, N>) -> Result<bool, Error> {
         self.answer(alloc, s)

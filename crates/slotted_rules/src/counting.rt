@@ -51,7 +51,7 @@ fn count_one<L: Language, N: Analysis<L>, C: Cond<L, N>>(
     requires well { graph.old.failed ≡ false }
     requires valid { CanBeSearched L.form graph.old.table rule.now }
     requires found { CanBeApplied (tree_of L.form rule.now.left) found graph.old }
-    ensures ok { IfOk result (λ k. (k.found ≡ length found) × UnitesRule L.form C.yes rule.now (found, k.united) graph.old graph.new) }
+    ensures ok { IfOk result (λ k. (k.found ≡ length found) × UnitesRule L.form C.answers rule.now (found, k.united) graph.old graph.new) }
     ensures extends { IsTrue graph.new.failed ⊎ ExtendsTo graph.old graph.new }
     ensures fails { IsTrue graph.new.failed → IsErrAnd result (λ e. (e ≡ Error.Failed) ⊎ IsShortage e) }
     ensures failed { IsErrOf result Error.Failed ↔ IsTrue graph.old.failed }
@@ -76,7 +76,7 @@ fn count_all<L: Language, N: Analysis<L>, C: Cond<L, N>>(
     requires valid { All (CanBeSearched L.form graph.old.table) rules.now }
     requires can { CanApplyAll (CanApplyRule L.form) rules.now found.items graph.old }
     requires none { counts.old.items ≡ [] }
-    ensures ok { OnOk result (AppliesCounted L.form C.yes rules.now found.items graph.old counts.new.items graph.new) }
+    ensures ok { OnOk result (AppliesCounted L.form C.answers rules.now found.items graph.old counts.new.items graph.new) }
     ensures extends { IsTrue graph.new.failed ⊎ ExtendsTo graph.old graph.new }
     ensures fails { IsTrue graph.new.failed → IsErrAnd result IsShortage }
     ensures err { IfErr result (λ e. IsShortage e ⊎ AreRefusedBy (RefusesRule L.form C.refuses) rules.now e) }
@@ -99,7 +99,7 @@ fn search_and_count<L: Language, N: Analysis<L>, C: Cond<L, N>>(
 ) -> Result<Vec<RuleCounts>, Error>
     requires well { graph.old.failed ≡ false }
     requires valid { All (CanBeSearched L.form graph.old.table) rules.now }
-    ensures counts { IfOk result (λ v. CountsRules L.form C.yes rules.now graph.old v.items graph.new) }
+    ensures counts { IfOk result (λ v. CountsRules L.form C.answers rules.now graph.old v.items graph.new) }
     ensures extends { IsTrue graph.new.failed ⊎ ExtendsTo graph.old graph.new }
     ensures fails { IsTrue graph.new.failed → IsErrAnd result IsShortage }
     ensures err { IfErr result (λ e. IsShortage e ⊎ AreRefusedBy (RefusesRule L.form C.refuses) rules.now e) }
@@ -118,7 +118,7 @@ fn count_and_modify<L: Language, N: Analysis<L>, C: Cond<L, N>>(
 ) -> Result<Vec<RuleCounts>, Error>
     requires well { graph.old.failed ≡ false }
     requires valid { All (CanBeSearched L.form graph.old.table) rules.now }
-    ensures modified { IfOk result (λ v. CountsAndModifies L.form C.yes rules.now
+    ensures modified { IfOk result (λ v. CountsAndModifies L.form C.answers rules.now
         (AreModified N.codes N.meaning N.may_ask N.modifies) graph.old v.items graph.new) }
     ensures extends { IsTrue graph.new.failed ⊎ ExtendsTo graph.old graph.new }
     ensures fails { IsTrue graph.new.failed → IsErrAnd result IsShortage }
@@ -137,7 +137,7 @@ fn count_turn<L: Language, N: Analysis<L>, C: Cond<L, N>>(
 ) -> Result<TurnCounts, Error>
     requires well { graph.old.failed ≡ false }
     requires valid { All (CanBeSearched L.form graph.old.table) rules.now }
-    ensures modified { IfOk result (λ t. CountsAndModifies L.form C.yes rules.now
+    ensures modified { IfOk result (λ t. CountsAndModifies L.form C.answers rules.now
         (AreModified N.codes N.meaning N.may_ask N.modifies) graph.old t.rules.items graph.new) }
     ensures changed { IfOk result (λ t. IsTrue t.changed ↔ HasProgressed graph.old.image graph.new.image) }
     ensures extends { IsTrue graph.new.failed ⊎ ExtendsTo graph.old graph.new }
@@ -163,12 +163,12 @@ pub fn apply_counted<L: Language, N: Analysis<L>, C: Cond<L, N>>(
     rules: &[Rewrite<L, C>],
 ) -> Result<TurnCounts, Error>
     requires { IsTrue graph.old.failed ⊎ All (CanBeSearched L.form graph.old.table) rules.now }
-    ensures modified { IfOk result (λ t. CountsAndModifies L.form C.yes rules.now
+    ensures modified { IfOk result (λ t. CountsAndModifies L.form C.answers rules.now
         (AreModified N.codes N.meaning N.may_ask N.modifies) graph.old t.rules.items graph.new) }
 
     // If classes are never modified, the rules alone lead to the new graph.
     ensures counts { IfUnmodified N.modifies
-        (IfOk result (λ t. CountsRules L.form C.yes rules.now graph.old t.rules.items graph.new)) }
+        (IfOk result (λ t. CountsRules L.form C.answers rules.now graph.old t.rules.items graph.new)) }
     ensures changed { IfOk result (λ t. IsTrue t.changed ↔ HasProgressed graph.old.image graph.new.image) }
 
     // What was there stays, even if a rule is refused.

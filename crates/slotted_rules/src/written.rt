@@ -68,7 +68,7 @@ fn apply_to<L: Language, N: Analysis<L>, C: Cond<L, N>>(
     requires valid { AreValidValues graph.old (values_of subst.now) }
     requires whole { IsSome (pattern_in (tree_of L.form rule.now.left)) }
     requires values { first_missing (tree_of L.form rule.now.left) (values_of subst.now) ≡ None }
-    ensures applies { IfOk result (AppliesOne (C.yes rule.now.condition) (tree_of L.form rule.now.left)
+    ensures applies { IfOk result (AppliesOne (C.answers rule.now.condition) (tree_of L.form rule.now.left)
         (tree_of L.form rule.now.right) (string_bytes rule.now.name) (values_of subst.now) graph.old graph.new) }
     ensures unchanged { IsErr result → IsTrue graph.new.failed ⊎ (graph.new ≡ graph.old) }
     ensures fails { IsTrue graph.new.failed → IsErrAnd result IsShortage }
@@ -94,7 +94,7 @@ fn apply_answer<L: Language, N: Analysis<L>, C: Cond<L, N>>(
     requires rule { CanBeSearched L.form graph.old.table rule.now }
     requires found { CanBeApplied (tree_of L.form rule.now.left) found.now graph.old }
     requires answer { answer < length found.now }
-    ensures applies { IfOk result (AppliesOne (C.yes rule.now.condition) (tree_of L.form rule.now.left)
+    ensures applies { IfOk result (AppliesOne (C.answers rule.now.condition) (tree_of L.form rule.now.left)
         (tree_of L.form rule.now.right) (string_bytes rule.now.name) (slice_index_or found.now answer []) graph.old graph.new) }
     ensures unchanged { IsErr result → IsTrue graph.new.failed ⊎ (graph.new ≡ graph.old) }
     ensures fails { IsTrue graph.new.failed → IsErrAnd result IsShortage }
@@ -116,10 +116,10 @@ fn apply_found<L: Language, N: Analysis<L>, C: Cond<L, N>>(
     requires graph { IsGraph graph.old }
     requires rule { CanBeSearched L.form graph.old.table rule.now }
     requires found { CanBeApplied (tree_of L.form rule.now.left) found.now graph.old }
-    ensures applied { IfOk result (LeavesUnited (C.yes rule.now.condition) (tree_of L.form rule.now.left)
+    ensures applied { IfOk result (LeavesUnited (C.answers rule.now.condition) (tree_of L.form rule.now.left)
         (tree_of L.form rule.now.right) (string_bytes rule.now.name) found.now graph.old graph.new) }
     ensures extends { IsTrue graph.new.failed ⊎ ExtendsTo graph.old graph.new }
-    ensures origin { IsTrue graph.new.failed ⊎ AreFromRule (C.yes rule.now.condition) (tree_of L.form rule.now.left)
+    ensures origin { IsTrue graph.new.failed ⊎ AreFromRule (C.answers rule.now.condition) (tree_of L.form rule.now.left)
         (tree_of L.form rule.now.right) (string_bytes rule.now.name) found.now graph.old graph.new }
     ensures fails { IsTrue graph.new.failed → IsErrAnd result IsShortage }
     ensures err { IfErr result (λ e. IsShortage e
@@ -145,9 +145,9 @@ pub fn apply_matches<L: Language, N: Analysis<L>, C: Cond<L, N>>(
 ) -> Result<usize, Error>
     requires valid { IsTrue graph.old.failed ⊎ CanBeSearched L.form graph.old.table rule.now }
     requires found { IsTrue graph.old.failed ⊎ CanBeApplied (tree_of L.form rule.now.left) found.now graph.old }
-    ensures ok { IfOk result (LeavesUnited (C.yes rule.now.condition) (tree_of L.form rule.now.left)
+    ensures ok { IfOk result (LeavesUnited (C.answers rule.now.condition) (tree_of L.form rule.now.left)
         (tree_of L.form rule.now.right) (string_bytes rule.now.name) found.now graph.old graph.new) }
-    ensures origin { IsTrue graph.new.failed ⊎ AreFromRule (C.yes rule.now.condition) (tree_of L.form rule.now.left)
+    ensures origin { IsTrue graph.new.failed ⊎ AreFromRule (C.answers rule.now.condition) (tree_of L.form rule.now.left)
         (tree_of L.form rule.now.right) (string_bytes rule.now.name) found.now graph.old graph.new }
     ensures extends { IsTrue graph.new.failed ⊎ ExtendsTo graph.old graph.new }
     ensures stays { IsTrue graph.old.failed → graph.new ≡ graph.old }
@@ -176,7 +176,7 @@ impl<L: Language, N: Analysis<L>, C: Cond<L, N>> RewriteT<L, N> for Rewrite<L, C
 
     ghost can_apply = { λ r found g. CanBeApplied (tree_of L.form r.left) found g };
 
-    ghost applies = { λ r found g h. LeavesApplied (C.yes r.condition) (tree_of L.form r.left) (tree_of L.form r.right) (string_bytes r.name) found g h };
+    ghost applies = { λ r found g h. LeavesApplied (C.answers r.condition) (tree_of L.form r.left) (tree_of L.form r.right) (string_bytes r.name) found g h };
 
     ghost refuses = { λ r e. IsRefusedRewrite (C.refuses r.condition) (tree_of L.form r.right) e };
 
@@ -222,11 +222,11 @@ impl<L: Language, N: Analysis<L>, C: Cond<L, N>> RewriteT<L, N> for Rewrite<L, C
     fn apply(&self, alloc: Global, found: Matches, graph: &mut EGraph<L, N>) -> Result<(), Error>
         requires valid { IsTrue graph.old.failed ⊎ CanBeSearched L.form graph.old.table self.now }
         requires found { IsTrue graph.old.failed ⊎ CanBeApplied (tree_of L.form self.now.left) found graph.old }
-        ensures ok { OnOk result (LeavesApplied (C.yes self.now.condition) (tree_of L.form self.now.left)
+        ensures ok { OnOk result (LeavesApplied (C.answers self.now.condition) (tree_of L.form self.now.left)
             (tree_of L.form self.now.right) (string_bytes self.now.name) found graph.old graph.new) }
 
         // What was applied before a refusal stays.
-        ensures origin { IsTrue graph.new.failed ⊎ AreFromRule (C.yes self.now.condition) (tree_of L.form self.now.left)
+        ensures origin { IsTrue graph.new.failed ⊎ AreFromRule (C.answers self.now.condition) (tree_of L.form self.now.left)
             (tree_of L.form self.now.right) (string_bytes self.now.name) found graph.old graph.new }
         ensures extends { IsTrue graph.new.failed ⊎ ExtendsTo graph.old graph.new }
         ensures stays { IsTrue graph.old.failed → graph.new ≡ graph.old }

@@ -13,14 +13,17 @@ use std::alloc::Global;
 pub struct FirstOnly;
 
 impl<L: Language, N: Analysis<L>> Cond<L, N> for FirstOnly {
-    ghost use Rattle.std.specs.Prelude.{◌==◌, length};
+    ghost use Rattle.std.specs.Prelude.{◌≡◌, ◌==◌, length};
     ghost use Rattle.slotted_proofs.specs.Entries.{explicit_numbers};
+    ghost use Rattle.slotted_rules.specs.Asking.{same-one};
 
-    ghost yes = { λ c s g. length (explicit_numbers g.image.entries) == 0 };
+    ghost answers = { λ c s g y. y ≡ (length (explicit_numbers g.image.entries) == 0) };
 
     ghost refuses = { λ c s g e. ⊥ };
 
     ghost never_failed = { λ c s g r. r };
+
+    ghost one_answer = { λ c s g. same-one (length (explicit_numbers g.image.entries) == 0) };
 
     fn holds(&self, alloc: Global, s: &Subst, graph: &EGraph<L, N>) -> Result<bool, Error> {
         Ok(graph.asserted().len() == 0)
@@ -32,14 +35,17 @@ impl<L: Language, N: Analysis<L>> Cond<L, N> for FirstOnly {
 pub struct RefusesLater;
 
 impl<L: Language, N: Analysis<L>> Cond<L, N> for RefusesLater {
-    ghost use Rattle.std.specs.Prelude.{true};
+    ghost use Rattle.std.specs.Prelude.{◌≡◌, true};
+    ghost use Rattle.slotted_rules.specs.Asking.{same-one};
     ghost use Rattle.slotted_rules.specs.Rewriting.{IsNotATerm};
 
-    ghost yes = { λ c s g. true };
+    ghost answers = { λ c s g y. y ≡ true };
 
     ghost refuses = { λ c s g e. IsNotATerm e };
 
     ghost never_failed = { λ c s g r. r };
+
+    ghost one_answer = { λ c s g. same-one true };
 
     fn holds(&self, alloc: Global, s: &Subst, graph: &EGraph<L, N>) -> Result<bool, Error> {
         if graph.asserted().len() == 0 {

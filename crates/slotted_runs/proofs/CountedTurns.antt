@@ -10,7 +10,7 @@ use Rattle.slotted_rules.specs.declared.counting.TurnCounts.{TurnCounts}
 use Rattle.slotted_rules.specs.declared.rewrite.Rewrite.{Rewrite}
 use Rattle.slotted_runs.specs.Counted.{GoesOn, IsTurn, TakesTurns, no_turn, reaches_limit, saturates, turn_more}
 
-module _ {L C : Type 0} (form : L → Form) (holds : C → Values → Graph → Bool) (rules : List (Rewrite L C)) (after : Graph → Graph → Type 0) (limit : ℕ) (g : Graph) where
+module _ {L C : Type 0} (form : L → Form) (holds : C → Values → Graph → Bool → Type 0) (rules : List (Rewrite L C)) (after : Graph → Graph → Type 0) (limit : ℕ) (g : Graph) where
   pub no-turns : (turns : List TurnCounts) → turns ≡ [] → GoesOn form holds rules after g turns g
   no-turns turns none = subst (λ ts. GoesOn form holds rules after g ts g) (sym none) no_turn
 

@@ -18,7 +18,7 @@ use Rattle.slotted_rules.proofs.RuleOrigins.{Came, came-wider, edits-wider, step
 use Rattle.slotted_runs.specs.RunOrigins.{ComesFromHook, HaveOrigins}
 use Rattle.slotted_runs.specs.Turning.{Calls, RulesOnce}
 
-module _ {L C H T : Type 0} (form : L → Form) (holds : C → Values → Graph → Bool) (rules : List (Rewrite L C)) (after : Graph → Graph → Type 0) (modified : (g h : Graph) → after g h → ExtendsTo g h)
+module _ {L C H T : Type 0} (form : L → Form) (holds : C → Values → Graph → Bool → Type 0) (rules : List (Rewrite L C)) (after : Graph → Graph → Type 0) (modified : (g h : Graph) → after g h → ExtendsTo g h)
     (leaves : H → Graph → ℕ → H → Graph → Option T → Type 0) (extends : (k l : H) (g h : Graph) (n : ℕ) (stop : Option T) → leaves k g n l h stop → ExtendsTo g h) where
   abbrev rules_once : Graph × H → Graph × H → Type 0
   rules_once = RulesOnce (SearchesRule form) (AppliesRule form holds) after rules

@@ -12,16 +12,16 @@ use Rattle.slotted_rules.specs.Counting.{CountsAndModifies}
 use Rattle.slotted_rules.specs.declared.counting.TurnCounts.{TurnCounts}
 use Rattle.slotted_rules.specs.declared.rewrite.Rewrite.{Rewrite}
 
-pub record IsTurn {L C : Type 0} (form : L → Form) (holds : C → Values → Graph → Bool) (rules : List (Rewrite L C)) (after : Graph → Graph → Type 0) (g : Graph) (t : TurnCounts) (h : Graph) : Type 0 where
+pub record IsTurn {L C : Type 0} (form : L → Form) (holds : C → Values → Graph → Bool → Type 0) (rules : List (Rewrite L C)) (after : Graph → Graph → Type 0) (g : Graph) (t : TurnCounts) (h : Graph) : Type 0 where
   pub counts : CountsAndModifies form holds rules after g t.rules.items h
   pub changed : IsTrue t.changed ↔ HasProgressed g.image h.image
 
-pub data GoesOn {L C : Type 0} (form : L → Form) (holds : C → Values → Graph → Bool) (rules : List (Rewrite L C)) (after : Graph → Graph → Type 0) : Graph → List TurnCounts → Graph → Type 0 where
+pub data GoesOn {L C : Type 0} (form : L → Form) (holds : C → Values → Graph → Bool → Type 0) (rules : List (Rewrite L C)) (after : Graph → Graph → Type 0) : Graph → List TurnCounts → Graph → Type 0 where
   no_turn : {g : Graph} → GoesOn form holds rules after g [] g
   turn_more : {g f h : Graph} {turns : List TurnCounts} {t : TurnCounts} → GoesOn form holds rules after g turns f → IsTurn form holds rules after f t h → t.changed ≡ true →
       GoesOn form holds rules after g (turns ++ t ∷ []) h
 
-pub data TakesTurns {L C : Type 0} (form : L → Form) (holds : C → Values → Graph → Bool) (rules : List (Rewrite L C)) (after : Graph → Graph → Type 0) (limit : ℕ) (g : Graph) (turns : List TurnCounts) (h : Graph) : Type 0 where
+pub data TakesTurns {L C : Type 0} (form : L → Form) (holds : C → Values → Graph → Bool → Type 0) (rules : List (Rewrite L C)) (after : Graph → Graph → Type 0) (limit : ℕ) (g : Graph) (turns : List TurnCounts) (h : Graph) : Type 0 where
   reaches_limit : GoesOn form holds rules after g turns h → length turns ≡ limit → TakesTurns form holds rules after limit g turns h
   saturates : (before : List TurnCounts) (f : Graph) (last : TurnCounts) → turns ≡ before ++ last ∷ [] → GoesOn form holds rules after g before f → IsTurn form holds rules after f last h → last.changed ≡ false →
       length before < limit → TakesTurns form holds rules after limit g turns h

@@ -24,7 +24,7 @@ pub record ComesFromHook {H T : Type 0} (leaves : H → Graph → ℕ → H → 
   pub past : length before.image.entries ≤ n
   pub within : n < length after.image.entries
 
-abbrev pub HaveOrigins : {L C H T : Type 0} → (L → Form) → (C → Values → Graph → Bool) → List (Rewrite L C) → (Graph → Graph → Type 0) → (H → Graph → ℕ → H → Graph → Option T → Type 0) → Graph → Graph → Type 0
+abbrev pub HaveOrigins : {L C H T : Type 0} → (L → Form) → (C → Values → Graph → Bool → Type 0) → List (Rewrite L C) → (Graph → Graph → Type 0) → (H → Graph → ℕ → H → Graph → Option T → Type 0) → Graph → Graph → Type 0
 HaveOrigins form holds rules after leaves g h =
     (n : ℕ) → length g.image.entries ≤ n → n < length h.image.entries → step_at h.image.entries n ≡ explicit →
     ComesFromRules form holds rules g h n ⊎ ComesFromHook leaves g h n ⊎ ComesFromEdits after g h n

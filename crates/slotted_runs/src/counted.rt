@@ -25,7 +25,7 @@ fn take_counted<L: Language, N: Analysis<L>, C: Cond<L, N>>(
 ) -> Result<Vec<TurnCounts>, Error>
     requires well { graph.old.failed ≡ false }
     requires valid { All (CanBeSearched L.form graph.old.table) rules.now }
-    ensures turns { IfOk result (λ turns. TakesTurns L.form C.yes rules.now
+    ensures turns { IfOk result (λ turns. TakesTurns L.form C.answers rules.now
         (AreModified N.codes N.meaning N.may_ask N.modifies) turn_limit graph.old turns.items graph.new) }
     ensures extends { IsTrue graph.new.failed ⊎ ExtendsTo graph.old graph.new }
     ensures fails { IsTrue graph.new.failed → IsErrAnd result IsShortage }
@@ -55,7 +55,7 @@ pub fn run_counted<L: Language, N: Analysis<L>, C: Cond<L, N>>(
     turn_limit: usize,
 ) -> Result<Vec<TurnCounts>, Error>
     requires { IsTrue graph.old.failed ⊎ All (CanBeSearched L.form graph.old.table) rules.now }
-    ensures turns { IfOk result (λ turns. TakesTurns L.form C.yes rules.now
+    ensures turns { IfOk result (λ turns. TakesTurns L.form C.answers rules.now
         (AreModified N.codes N.meaning N.may_ask N.modifies) turn_limit graph.old turns.items graph.new) }
 
     // What was there stays, even if a turn is refused.

@@ -69,7 +69,7 @@ impl<L: Language, N: Analysis<L>, C: Cond<L, N>> RewriteT<L, N> for Backoff<L, C
 
     ghost can_apply = { λ b found g. CanBeApplied (tree_of L.form b.rule.left) found g };
 
-    ghost applies = { λ b found g h. LeavesApplied (C.yes b.rule.condition) (tree_of L.form b.rule.left) (tree_of L.form b.rule.right) (string_bytes b.rule.name) found g h };
+    ghost applies = { λ b found g h. LeavesApplied (C.answers b.rule.condition) (tree_of L.form b.rule.left) (tree_of L.form b.rule.right) (string_bytes b.rule.name) found g h };
 
     ghost refuses = { λ b e. IsRefusedRewrite (C.refuses b.rule.condition) (tree_of L.form b.rule.right) e };
 

@@ -8,7 +8,7 @@ use Rattle.slotted_graph.specs.Extension.{ExtendsTo}
 use Rattle.slotted_graph.proofs.Extending.{extends-itself}
 use Rattle.slotted_rules.specs.Applying.{NeverModified}
 use Rattle.slotted_rules.specs.RuleOrigins.{AreFromRules}
-use Rattle.slotted_rules.specs.TreeAnswers.{tree_yes}
+use Rattle.slotted_rules.specs.TreeAnswers.{AnswersTree}
 use Rattle.slotted_rules.specs.declared.condition_tree.CondTree.{CondTree}
 use Rattle.slotted_rules.specs.declared.rewrite.Rewrite.{Rewrite}
 use Rattle.slotted_rules.proofs.Modified.{never-changed}
@@ -27,11 +27,11 @@ limit-still n g h None says = says.0
 limit-still n g h (Some text) says = says.0
 
 pub run-from-rules : {L : Type 0} (form : L → Form) (rules : List (Rewrite L CondTree)) (turns nodes : ℕ) (g h : Graph) (r : Report (String Global)) → HasRun form rules turns nodes g h r →
-    AreFromRules form (λ c values _. tree_yes c values) rules g h
+    AreFromRules form (λ c values _. AnswersTree c values) rules g h
 run-from-rules {L} form rules turns nodes g h r run =
-    rules-alone form (λ c values _. tree_yes c values) rules (NeverModified L) grows leaves_by (λ k l f i n stop says. subst (ExtendsTo f) (sym (limit-still k.nodes f i stop says.0)) (extends-itself f)) g h
+    rules-alone form (λ c values _. AnswersTree c values) rules (NeverModified L) grows leaves_by (λ k l f i n stop says. subst (ExtendsTo f) (sym (limit-still k.nodes f i stop says.0)) (extends-itself f)) g h
     (λ k l f i n stop says. limit-still k.nodes f i stop says.0) (never-changed L)
-    (eqsat-origins form (λ c values _. tree_yes c values) rules (NeverModified L) grows leaves_by (λ k l f i n stop says. subst (ExtendsTo f) (sym (limit-still k.nodes f i stop says.0)) (extends-itself f)) counts_of turns endless (reading_in run.reported.readings) 0
+    (eqsat-origins form (λ c values _. AnswersTree c values) rules (NeverModified L) grows leaves_by (λ k l f i n stop says. subst (ExtendsTo f) (sym (limit-still k.nodes f i stop says.0)) (extends-itself f)) counts_of turns endless (reading_in run.reported.readings) 0
     (g, run.hook) (h, run.last) (report_of r) run.reported.by_turns)
   where
     grows : (f i : Graph) → NeverModified L f i → ExtendsTo f i

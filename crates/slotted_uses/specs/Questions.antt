@@ -19,7 +19,7 @@ use Rattle.slotted_core.specs.Explaining.{FindsApart}
 use Rattle.slotted_core.specs.Graph.{Graph}
 use Rattle.slotted_core.specs.Image.{AreClosed, Image, asserted_in}
 use Rattle.slotted_rules.specs.RuleOrigins.{AreFromRules}
-use Rattle.slotted_rules.specs.TreeAnswers.{tree_yes}
+use Rattle.slotted_rules.specs.TreeAnswers.{AnswersTree}
 use Rattle.slotted_rules.specs.declared.condition_tree.CondTree.{CondTree}
 use Rattle.slotted_rules.specs.declared.rewrite.Rewrite.{Rewrite}
 use Rattle.slotted_runs.specs.declared.report.Report.{Report}
@@ -47,7 +47,7 @@ is_saturated (Other reason) = false
 pub record RunsRules {L : Type 0} (form : L → Form) (limits : Limits) (s v : Space) (rules : List (Rewrite L CondTree)) (ended : Bool) : Type 0 where
   pub report : Report (String Global)
   pub run : HasRun form rules limits.turns limits.nodes s.graph v.graph report
-  pub origins : AreFromRules form (λ c values _. tree_yes c values) rules s.graph v.graph
+  pub origins : AreFromRules form (λ c values _. AnswersTree c values) rules s.graph v.graph
   pub ends : ended ≡ is_saturated report.stop_reason
 
 abbrev pub HasRulesRun : {L : Type 0} → (L → Form) → Limits → Space → Space → Bool → Type 0

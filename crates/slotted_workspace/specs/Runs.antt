@@ -16,7 +16,7 @@ use Rattle.slotted_graph.specs.Extension.{ExtendsTo}
 use Rattle.slotted_model_rules.specs.Conditions.{Values}
 use Rattle.slotted_rules.specs.Applying.{NeverModified}
 use Rattle.slotted_rules.specs.Counting.{AppliesRule, SearchesRule}
-use Rattle.slotted_rules.specs.TreeAnswers.{tree_yes}
+use Rattle.slotted_rules.specs.TreeAnswers.{AnswersTree}
 use Rattle.slotted_rules.specs.declared.condition_tree.CondTree.{CondTree}
 use Rattle.slotted_rules.specs.declared.rewrite.Rewrite.{Rewrite}
 use Rattle.slotted_runs.specs.Eqsat.{HasEqsatReported, HasRefusedEqsat}
@@ -38,7 +38,7 @@ abbrev pub searches_by : {L : Type 0} → (L → Form) → Rewrite L CondTree �
 searches_by form = SearchesRule form
 
 abbrev pub applies_by : {L : Type 0} → (L → Form) → Rewrite L CondTree → List Values → Graph → Graph → Type 0
-applies_by form = AppliesRule form (λ c s _. tree_yes c s)
+applies_by form = AppliesRule form (λ c s _. AnswersTree c s)
 
 abbrev pub leaves_by : NodeLimit → Graph → ℕ → NodeLimit → Graph → Option (String Global) → Type 0
 leaves_by h g n i k stop = StopsPast h.nodes g k stop × (i ≡ h)

@@ -1,5 +1,6 @@
 -- An answer leaves a graph that has not failed, in which each match of each rule was applied.
-use Rattle.std.proofs.Common.{inl, inr, refl}
+use Rattle.std.proofs.Common.{◌≡◌, inl, inr}
+use Rattle.std.proofs.lemmas.Bool.{false≢true}
 use Rattle.std.specs.Prelude.{◌⊎◌, true, IsErrAnd, IsTrue, OnOk, Result, Ok, Err}
 use Rattle.slotted_slots.specs.declared.error.Error.{Error}
 use Rattle.slotted_egraphs.specs.Graph.{Graph}
@@ -18,4 +19,4 @@ pub returns : goal.returns
 returns g c =
     let h : Graph = c.apply_rewrites-answer.new.graph in
     answered _ c.apply_rewrites-answer.result h _ _ c.apply_rewrites-answer.ensures.rules c.is_failed.ensures.rests c.apply_rewrites-answer.ensures.fails.0
-    (λ is applied. rules-applied g.L.LanguageChildren.form (λ a s m. true) (λ a s m. refl) c.args.rules.now c.args.graph.now h is applied)
+    (λ is applied. rules-applied g.L.LanguageChildren.form (λ a s m y. y ≡ true) (λ a s m e. false≢true e) c.args.rules.now c.args.graph.now h is applied)

@@ -22,7 +22,7 @@ popped old new o x items is = items ∙ ap (λ p. option_to_list p ++ new) is
 pub loop-rule-init : goal.loop-rule-init
 loop-rule-init g c =
     let form = g.L.LanguageChildren.form in
-    ([], none-done (λ k. k.0) (UnitesRule form g.C.Cond.yes) (CanApplyRule form) c.args.rules.now c.args.found.items c.args.graph.now c.requires.well c.requires.can, c.requires.none)
+    ([], none-done (λ k. k.0) (UnitesRule form g.C.Cond.answers) (CanApplyRule form) c.args.rules.now c.args.found.items c.args.graph.now c.requires.well c.requires.can, c.requires.none)
 
 pub count_one-requires-clause-valid : goal.count_one-requires-clause-valid
 count_one-requires-clause-valid g c =
@@ -33,7 +33,7 @@ count_one-requires-clause-valid g c =
 pub count_one-requires-clause-found : goal.count_one-requires-clause-found
 count_one-requires-clause-found g c =
     let form = g.L.LanguageChildren.form in
-    done-can (λ (k : List Values × ℕ). k.0) (UnitesRule form g.C.Cond.yes) (CanApplyRule form) c.args.rules.now c.loop-rule.rule-index c.rule-item.result c.loop-rule-test.true c.rule-item.is c.args.found.items c.loop-rule.left.items
+    done-can (λ (k : List Values × ℕ). k.0) (UnitesRule form g.C.Cond.answers) (CanApplyRule form) c.args.rules.now c.loop-rule.rule-index c.rule-item.result c.loop-rule-test.true c.rule-item.is c.args.found.items c.loop-rule.left.items
     c.pop_front.new.self.items (c.in-Some.next, 0) (popped c.loop-rule.left.items c.pop_front.new.self.items c.pop_front.result c.in-Some.next c.pop_front.ensures.items c.in-Some.is) c.loop-rule.invariant.0 c.args.graph.now c.loop-rule.graph
     c.loop-rule.invariant.1
 
@@ -66,7 +66,7 @@ loop-rule-preserved g c =
     let well : h.failed ≡ false = ok-well _ h.failed c.count_one.result told c.in_ok-count_one-in-Some.was c.count_one.ensures.fails in
     let k : List Values × ℕ = (c.in-Some.next, told.united) in (
       c.loop-rule.invariant.0 ++ k ∷ [],
-      done-more (λ (p : List Values × ℕ). p.0) (UnitesRule form g.C.Cond.yes) (CanApplyRule form) c.args.rules.now c.loop-rule.rule-index c.rule-item.result c.loop-rule-test.true c.rule-item.is c.args.found.items c.loop-rule.left.items
+      done-more (λ (p : List Values × ℕ). p.0) (UnitesRule form g.C.Cond.answers) (CanApplyRule form) c.args.rules.now c.loop-rule.rule-index c.rule-item.result c.loop-rule-test.true c.rule-item.is c.args.found.items c.loop-rule.left.items
           c.pop_front.new.self.items k (popped c.loop-rule.left.items c.pop_front.new.self.items c.pop_front.result c.in-Some.next c.pop_front.ensures.items c.in-Some.is) c.loop-rule.invariant.0 c.args.graph.now c.loop-rule.graph
           c.loop-rule.invariant.1 (λ r found a b e can. apply-later (tree_of form r.left) found a b e can) h c.in_ok-count_one-in-Some.ensures.ok.1 (not-failed-so h.failed well c.count_one.ensures.extends) well,
       counts-more c.loop-rule.counts.items c.push.new.self.items c.loop-rule.invariant.0 k told c.loop-rule.invariant.2 c.in_ok-count_one-in-Some.ensures.ok.0 refl c.in_ok-push-in-Some.ensures.items,
@@ -75,6 +75,6 @@ loop-rule-preserved g c =
 pub returns-clause-ok : goal.returns-clause-ok
 returns-clause-ok g c =
     let form = g.L.LanguageChildren.form in
-    let whole = done-whole (λ (p : List Values × ℕ). p.0) (UnitesRule form g.C.Cond.yes) (CanApplyRule form) c.args.rules.now c.loop-rule.rule-index c.loop-rule-test.false c.args.found.items c.loop-rule.left.items c.loop-rule.invariant.0
+    let whole = done-whole (λ (p : List Values × ℕ). p.0) (UnitesRule form g.C.Cond.answers) (CanApplyRule form) c.args.rules.now c.loop-rule.rule-index c.loop-rule-test.false c.args.found.items c.loop-rule.left.items c.loop-rule.invariant.0
     c.args.graph.now c.loop-rule.graph c.loop-rule.invariant.1 in
     (c.loop-rule.invariant.0, whole.0, whole.1, c.loop-rule.invariant.2)

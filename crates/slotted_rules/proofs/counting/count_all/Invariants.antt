@@ -9,5 +9,5 @@ abbrev pub invariant-loop-rule : goal.invariant-loop-rule
 invariant-loop-rule g l =
     let form = g.L.LanguageChildren.form in
     (done : List (List Values × ℕ)) ×
-    HasDone (λ k. k.0) (UnitesRule form g.C.Cond.yes) (CanApplyRule form) (take l.rule-index l.rules) (drop l.rule-index l.rules) l.fn.found.items l.left.items done l.fn.graph l.graph ×
+    HasDone (λ k. k.0) (UnitesRule form g.C.Cond.answers) (CanApplyRule form) (take l.rule-index l.rules) (drop l.rule-index l.rules) l.fn.found.items l.left.items done l.fn.graph l.graph ×
     (l.counts.items ≡ counts_in done)

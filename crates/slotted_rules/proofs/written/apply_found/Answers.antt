@@ -20,7 +20,7 @@ apply_answer-requires-clause-found g c =
 pub loop-answer-init : goal.loop-answer-init
 loop-answer-init g c =
     let form = g.L.LanguageChildren.form in
-    none-applied (g.C.Cond.yes c.args.rule.now.condition) (tree_of form c.args.rule.now.left) (tree_of form c.args.rule.now.right) (string_bytes c.args.rule.now.name) c.args.found.now c.args.graph.now c.requires.graph
+    none-applied (g.C.Cond.answers c.args.rule.now.condition) (tree_of form c.args.rule.now.left) (tree_of form c.args.rule.now.right) (string_bytes c.args.rule.now.name) c.args.found.now c.args.graph.now c.requires.graph
 
 pub returns-in_err-apply_answer-clause-origin : goal.returns-in_err-apply_answer-clause-origin
 returns-in_err-apply_answer-clause-origin g c =
@@ -29,7 +29,7 @@ returns-in_err-apply_answer-clause-origin g c =
     let q : PatternTree = tree_of form c.args.rule.now.right in
     elim (c.in_err-apply_answer.ensures.unchanged refl) [
       | inl failed ↦ inl failed
-      | inr same ↦ inr (subst (λ (h : Graph). AreFromRule (g.C.Cond.yes c.args.rule.now.condition) p q (string_bytes c.args.rule.now.name) c.args.found.now c.args.graph.now h) (sym same) c.loop-answer.invariant.origin)
+      | inr same ↦ inr (subst (λ (h : Graph). AreFromRule (g.C.Cond.answers c.args.rule.now.condition) p q (string_bytes c.args.rule.now.name) c.args.found.now c.args.graph.now h) (sym same) c.loop-answer.invariant.origin)
     ]
 
 pub loop-answer-preserved : goal.loop-answer-preserved
@@ -37,12 +37,12 @@ loop-answer-preserved g c =
     let form = g.L.LanguageChildren.form in
     let p : PatternTree = tree_of form c.args.rule.now.left in
     let q : PatternTree = tree_of form c.args.rule.now.right in
-    subst (λ (n : ℕ). HasAppliedSome (g.C.Cond.yes c.args.rule.now.condition) p q (string_bytes c.args.rule.now.name) c.args.found.now (c.loop-answer.answer + 1) (c.loop-answer.united + n) c.args.graph.now c.apply_answer.new.graph) (sym c.from.ensures)
-    (one-applied (g.C.Cond.yes c.args.rule.now.condition) p q (string_bytes c.args.rule.now.name) c.args.found.now
+    subst (λ (n : ℕ). HasAppliedSome (g.C.Cond.answers c.args.rule.now.condition) p q (string_bytes c.args.rule.now.name) c.args.found.now (c.loop-answer.answer + 1) (c.loop-answer.united + n) c.args.graph.now c.apply_answer.new.graph) (sym c.from.ensures)
+    (one-applied (g.C.Cond.answers c.args.rule.now.condition) p q (string_bytes c.args.rule.now.name) c.args.found.now
     c.loop-answer.answer c.loop-answer.united (omega (arith, c.loop-answer-test.true, c.len-answer-end.ensures)) c.args.graph.now c.loop-answer.graph c.loop-answer.invariant c.apply_answer.new.graph c.in_ok-apply_answer.field-0 c.in_ok-apply_answer.ensures.applies)
 
 pub returns-clause-applied : goal.returns-clause-applied
 returns-clause-applied g c =
     let form = g.L.LanguageChildren.form in
-    all-applied (g.C.Cond.yes c.args.rule.now.condition) (tree_of form c.args.rule.now.left) (tree_of form c.args.rule.now.right) (string_bytes c.args.rule.now.name) c.args.found.now
+    all-applied (g.C.Cond.answers c.args.rule.now.condition) (tree_of form c.args.rule.now.left) (tree_of form c.args.rule.now.right) (string_bytes c.args.rule.now.name) c.args.found.now
     c.loop-answer.answer c.loop-answer.united c.args.graph.now c.loop-answer.graph (omega (arith, c.loop-answer-test.false, c.len-answer-end.ensures)) c.loop-answer.invariant

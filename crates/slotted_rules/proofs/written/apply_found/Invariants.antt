@@ -7,4 +7,4 @@ use Rattle.slotted_rules.proofs.written.apply_found.Given as goal
 abbrev pub invariant-loop-answer : goal.invariant-loop-answer
 invariant-loop-answer g l =
     let form = g.L.LanguageChildren.form in
-    HasAppliedSome (g.C.Cond.yes l.rule.condition) (tree_of form l.rule.left) (tree_of form l.rule.right) (string_bytes l.rule.name) l.found l.answer l.united l.fn.graph l.graph
+    HasAppliedSome (g.C.Cond.answers l.rule.condition) (tree_of form l.rule.left) (tree_of form l.rule.right) (string_bytes l.rule.name) l.found l.answer l.united l.fn.graph l.graph

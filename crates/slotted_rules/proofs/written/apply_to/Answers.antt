@@ -1,4 +1,4 @@
-use Rattle.std.proofs.Common.{◌∙◌, sym}
+use Rattle.std.proofs.Common.{subst}
 use Rattle.slotted_patterns.specs.Tree.{PatternTree}
 use Rattle.slotted_patterns.specs.View.{tree_of}
 use Rattle.slotted_rule_patterns.specs.Values.{values_of}
@@ -11,5 +11,5 @@ returns-clause-applies g c =
     let form = g.L.LanguageChildren.form in
     let p : PatternTree = tree_of form c.args.rule.now.left in
     let q : PatternTree = tree_of form c.args.rule.now.right in
-    if-asserted (g.C.Cond.yes c.args.rule.now.condition) p q (string_bytes c.args.rule.now.name) (values_of c.args.subst.now) c.args.graph.now c.unite.new.graph c.unite.result
-    (◌∙◌ {a = g.C.Cond.yes c.args.rule.now.condition (values_of c.args.subst.now) c.args.graph.now} (sym c.in_ok-holds.ensures.ok) c.if-not-branch.false) c.unite.ensures.tested c.unite.ensures.unites
+    if-asserted (g.C.Cond.answers c.args.rule.now.condition) p q (string_bytes c.args.rule.now.name) (values_of c.args.subst.now) c.args.graph.now c.unite.new.graph c.unite.result
+    (subst (g.C.Cond.answers c.args.rule.now.condition (values_of c.args.subst.now) c.args.graph.now) c.if-not-branch.false c.in_ok-holds.ensures.ok) c.unite.ensures.tested c.unite.ensures.unites

@@ -11,7 +11,7 @@ use Rattle.slotted_runs.proofs.counted.run_counted.Goals as goal
 pub returns-clause-turns : goal.returns-clause-turns
 returns-clause-turns g c =
     left-ok c.args.graph.now c.take_counted-taken.new.graph c.failing.new.graph c.take_counted-taken.result c.failing.result c.failing.ensures.same c.failing.ensures.short c.failing.ensures.other
-    (λ turns h. TakesTurns g.L.LanguageChildren.form g.C.Cond.yes c.args.rules.now (AreModified g.N.Analysis.codes g.N.Analysis.meaning g.N.Analysis.may_ask g.N.Analysis.modifies) c.args.turn_limit c.args.graph.now turns.items h) c.take_counted-taken.ensures.turns
+    (λ turns h. TakesTurns g.L.LanguageChildren.form g.C.Cond.answers c.args.rules.now (AreModified g.N.Analysis.codes g.N.Analysis.meaning g.N.Analysis.may_ask g.N.Analysis.modifies) c.args.turn_limit c.args.graph.now turns.items h) c.take_counted-taken.ensures.turns
 
 pub returns-clause-extends : goal.returns-clause-extends
 returns-clause-extends g c =

@@ -24,7 +24,7 @@ loop-alloc-init g c = record {
   well = c.requires.well;
   extends = extends-itself c.args.graph.now;
   within = omega (arith, ap length c.new-turns.ensures.items);
-  turns = no-turns g.L.LanguageChildren.form g.C.Cond.yes c.args.rules.now (AreModified g.N.Analysis.codes g.N.Analysis.meaning g.N.Analysis.may_ask g.N.Analysis.modifies) c.args.turn_limit c.args.graph.now c.new-turns.result.items c.new-turns.ensures.items;
+  turns = no-turns g.L.LanguageChildren.form g.C.Cond.answers c.args.rules.now (AreModified g.N.Analysis.codes g.N.Analysis.meaning g.N.Analysis.may_ask g.N.Analysis.modifies) c.args.turn_limit c.args.graph.now c.new-turns.result.items c.new-turns.ensures.items;
 }
 
 pub apply_counted-requires : goal.apply_counted-requires
@@ -52,7 +52,7 @@ returns-in_err-push-clause-extends g c = elim c.apply_counted.ensures.extends [
 
 pub returns-then-not-changed-clause-turns : goal.returns-then-not-changed-clause-turns
 returns-then-not-changed-clause-turns g c =
-    turn-last g.L.LanguageChildren.form g.C.Cond.yes c.args.rules.now (AreModified g.N.Analysis.codes g.N.Analysis.meaning g.N.Analysis.may_ask g.N.Analysis.modifies) c.args.turn_limit c.args.graph.now c.loop-alloc.turns.items c.push.new.self.items c.loop-alloc.graph c.apply_counted.new.graph c.in_ok-turn.turn
+    turn-last g.L.LanguageChildren.form g.C.Cond.answers c.args.rules.now (AreModified g.N.Analysis.codes g.N.Analysis.meaning g.N.Analysis.may_ask g.N.Analysis.modifies) c.args.turn_limit c.args.graph.now c.loop-alloc.turns.items c.push.new.self.items c.loop-alloc.graph c.apply_counted.new.graph c.in_ok-turn.turn
     c.loop-alloc.invariant.turns c.in_ok-turn.ensures.modified c.in_ok-turn.ensures.changed c.in_ok-push.ensures.items c.if-not-changed.true (omega (arith, c.loop-alloc-test.true, c.len.ensures))
 
 pub returns-then-not-changed-clause-extends : goal.returns-then-not-changed-clause-extends
@@ -70,6 +70,6 @@ loop-alloc-preserved g c =
       well = well;
       extends = extends-then c.args.graph.now c.loop-alloc.graph h c.loop-alloc.invariant.extends more;
       within = omega (arith, c.loop-alloc-test.true, c.len.ensures, ap length c.in_ok-push.ensures.items, length-append c.loop-alloc.turns.items (c.in_ok-turn.turn ∷ []));
-      turns = turn-added g.L.LanguageChildren.form g.C.Cond.yes c.args.rules.now (AreModified g.N.Analysis.codes g.N.Analysis.meaning g.N.Analysis.may_ask g.N.Analysis.modifies) c.args.turn_limit c.args.graph.now c.loop-alloc.turns.items c.push.new.self.items c.loop-alloc.graph h c.in_ok-turn.turn
+      turns = turn-added g.L.LanguageChildren.form g.C.Cond.answers c.args.rules.now (AreModified g.N.Analysis.codes g.N.Analysis.meaning g.N.Analysis.may_ask g.N.Analysis.modifies) c.args.turn_limit c.args.graph.now c.loop-alloc.turns.items c.push.new.self.items c.loop-alloc.graph h c.in_ok-turn.turn
           c.loop-alloc.invariant.turns c.in_ok-turn.ensures.modified c.in_ok-turn.ensures.changed c.in_ok-push.ensures.items c.if-not-changed.false;
     }

@@ -10,7 +10,7 @@ invariant-loop-alloc g l = record {
   well : l.graph.failed ≡ false;
   extends : ExtendsTo l.fn.graph l.graph;
   within : length l.turns.items ≤ l.turn_limit;
-  turns : GoesOn g.L.LanguageChildren.form g.C.Cond.yes l.rules (AreModified g.N.Analysis.codes g.N.Analysis.meaning g.N.Analysis.may_ask g.N.Analysis.modifies) l.fn.graph l.turns.items l.graph;
+  turns : GoesOn g.L.LanguageChildren.form g.C.Cond.answers l.rules (AreModified g.N.Analysis.codes g.N.Analysis.meaning g.N.Analysis.may_ask g.N.Analysis.modifies) l.fn.graph l.turns.items l.graph;
 }
 
 abbrev pub decreases-loop-alloc : goal.decreases-loop-alloc
