@@ -1,5 +1,5 @@
 -- The first row that is left has the outline, or those after it have the same ones of the outline.
-use Rattle.std.proofs.Common.{sym, ◌∙◌, ap, arith}
+use Rattle.std.proofs.Common.{◌∙◌, ap, arith}
 use Rattle.slotted_match_machine.specs.Answers.{rows_of_outline}
 use Rattle.slotted_match_machine.proofs.RowAnswers.{outline-first, outline-later}
 use Rattle.slotted_match_machine.proofs.run.first_of_outline.Goals as goal

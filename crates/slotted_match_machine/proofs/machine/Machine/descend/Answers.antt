@@ -1,6 +1,6 @@
 -- The steps that are left answer the same as all did.
 use Rattle.std.specs.Prelude.{Bool, cond}
-use Rattle.std.proofs.Common.{◌++◌, ◌∷◌, [], ◌∙◌, ap, sym, arith}
+use Rattle.std.proofs.Common.{◌++◌, ◌∷◌, [], ◌∙◌, ap, arith}
 use Rattle.slotted_match_machine.specs.Scratch.{scratch_of, state_of}
 use Rattle.slotted_match_machine.specs.Answers.{answers_in, answers_from, answered}
 use Rattle.slotted_match_machine.specs.Choices.{answers_left, moves_after}

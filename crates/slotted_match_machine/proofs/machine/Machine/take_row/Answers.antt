@@ -1,6 +1,6 @@
 -- The row comes first, and those after it are left at a choice.
 use Rattle.std.specs.Prelude.{IfOk, if◌then◌else◌}
-use Rattle.std.proofs.Common.{◌≡◌, ◌<◌, ◌++◌, [], sym, subst, arith}
+use Rattle.std.proofs.Common.{◌≡◌, ◌++◌, [], sym, subst, arith}
 use Rattle.std.proofs.lemmas.Result.{on_ok_weaker}
 use Rattle.slotted_match_machine.specs.Scratch.{scratch_of}
 use Rattle.slotted_match_machine.specs.Answers.{answers_from}

@@ -1,6 +1,6 @@
 -- A node is a choice among the rows of its class, and a variable takes one occurrence.
 use Rattle.std.specs.Prelude.{IfOk, if◌then◌else◌}
-use Rattle.std.proofs.Common.{◌≡◌, ◌≤◌, ◌<◌, ◌++◌, ◌∷◌, [], ◌∙◌, ap, sym, subst, arith}
+use Rattle.std.proofs.Common.{◌≡◌, ◌++◌, ◌∷◌, [], ◌∙◌, ap, sym, subst, arith}
 use Rattle.std.proofs.lemmas.Result.{on_ok_weaker}
 use Rattle.slotted_match_machine.specs.declared.machine.Choice.{Choice}
 use Rattle.slotted_match_machine.specs.Scratch.{scratch_of}
