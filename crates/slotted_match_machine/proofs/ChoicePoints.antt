@@ -1,9 +1,8 @@
 -- What the machine has still to answer at its choice points, and how many rows it visits there at most.
-use Rattle.std.specs.Prelude.{Bool, true, false, cond, Option, Some, None, option_to_list, Result, Ok, Err, IfOk, OnOk, reverse, sum_by}
+use Rattle.std.specs.Prelude.{Bool, true, false, cond, Option, Some, None, Result, Ok, Err, IfOk, OnOk, reverse, sum_by}
 use Rattle.std.proofs.Common.{◌≡◌, ◌≤◌, ◌<◌, ◌+◌, ◌*◌, ◌++◌, ℕ, zero, suc, List, [], ◌∷◌, take, length, sym, subst, ◌∙◌, ap, refl, arith, append_assoc}
 use Rattle.std.specs.List.{flat_map}
-use Rattle.std.proofs.lemmas.List.{take-take, length-take, nil_from_length, reverse-append}
-use Rattle.std.proofs.lemmas.List.Sums.{sum_by-append}
+use Rattle.std.proofs.lemmas.List.{take-take, length-take, nil_from_length}
 use Rattle.std.proofs.Math.Seq.{take-length}
 use Rattle.std.proofs.Math.Nat.{mul-le-mul_right}
 use denote.Ref.{Bor}
@@ -98,31 +97,6 @@ row-first s t c row rows old new first e left =
     ap (λ rs. flat_map gives rs ++ old) first
     ∙ (append_assoc (gives row) (answers_of_choice s (record c { rows = rows })) old
     ∙ (λ i. answers_of_row (sym e i) c.rest.now c.from c.slots.now row ++ sym left i))
-
--- the last choice comes first
-last-choice : (all rest : List Choice) (o : Option Choice) (c : Choice) → all ≡ rest ++ option_to_list o → o ≡ Some c → reverse all ≡ c ∷ reverse rest
-last-choice all rest o c last is = ap reverse (last ∙ ap (λ q. rest ++ option_to_list q) is) ∙ reverse-append rest (c ∷ [])
-
--- the machine backtracks to where the last choice was made
-pub last-taken : (s t : Scratch) (all rest now : List Choice) (o : Option Choice) (c : Choice) → all ≡ rest ++ option_to_list o → o ≡ Some c →
-    AreChoices s (reverse all) → t ≡ cut_to c.mark s → now ≡ rest →
-    IsChoice t c × AreChoices t (reverse now) × (answers_at_all s (reverse all) ≡ answers_of_choice t c ++ answers_at_all t (reverse now))
-last-taken s t all rest now o c last is h cut same =
-    let e = last-choice all rest o c last is in
-    let k = subst (AreChoices s) e h in (
-      subst (λ (q : Scratch). IsChoice q c) (sym cut) k.0,
-      subst (λ (q : Scratch). AreChoices q (reverse now)) (sym cut) (subst (λ l. AreChoices (cut_to c.mark s) (reverse l)) (sym same) k.1),
-      ap (answers_at_all s) e ∙ (λ i. answers_of_choice (sym cut i) c ++ answers_at_all (sym cut i) (reverse (sym same i))),
-    )
-
-pub last-moves : (s t : Scratch) (all rest now : List Choice) (o : Option Choice) (c : Choice) → all ≡ rest ++ option_to_list o → o ≡ Some c →
-    t ≡ cut_to c.mark s → now ≡ rest → sum_by (moves_at s.classes) all ≡ moves_at t.classes c + sum_by (moves_at t.classes) now
-last-moves s t all rest now o c last is cut same =
-    let f = moves_at s.classes in
-    let e = ap (sum_by f) (last ∙ ap (λ q. rest ++ option_to_list q) is) in
-    let parts = sum_by-append f rest (c ∷ []) in
-    let there : moves_at t.classes c + sum_by (moves_at t.classes) now ≡ f c + sum_by f rest = λ i. moves_at (ap (λ (q : Scratch). q.classes) cut i) c + sum_by (moves_at (ap (λ (q : Scratch). q.classes) cut i)) (same i) in
-    omega (arith, e, parts, there)
 
 -- a choice has fewer moves with fewer rows
 pub moves-fewer : (classes : List ClassRows) (c : Choice) (rows : Bor (List IndexRow)) (old new : ℕ) → length rows.now < length c.rows.now →
