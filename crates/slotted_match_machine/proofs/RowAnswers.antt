@@ -2,7 +2,6 @@
 use Rattle.std.specs.Prelude.{Bool, true, false, cond, nat_eq, filter, Vec}
 use Rattle.std.specs.List.{flat_map}
 use Rattle.std.proofs.Common.{◌≡◌, ◌++◌, ℕ, List, [], ◌∷◌, length, sym, ◌∙◌, ap, refl, arith, append_assoc}
-use Rattle.std.proofs.lemmas.Bool.{eq-eqb, ne_eqb}
 use Rattle.std.proofs.lemmas.List.{map-append}
 use Rattle.std.specs.declared.alloc.Global.{Global}
 use Rattle.slotted_match_machine.specs.declared.answer.Answer.{Answer as AnswerRead}
@@ -14,18 +13,12 @@ use Rattle.slotted_match_machine.specs.declared.view.View.{View}
 use Rattle.slotted_match_machine.specs.Machine.{Answer, Occurrence, answers_of, occurrence_at, with_variable, rows_in, if_there, after_row}
 use Rattle.slotted_match_machine.specs.Scratch.{Scratch, state_of}
 use Rattle.slotted_match_machine.specs.Views.{occurrence_of}
-use Rattle.slotted_match_machine.specs.Answers.{answer_of, answers_in, answered, answers_from, answers_of_value, answers_of_row, rows_of_outline, answers_of_rows}
+use Rattle.slotted_match_machine.specs.Answers.{answer_of, answers_in, answered, answers_from, answers_of_value, answers_of_row, answers_of_rows}
 
 pub answers_from-end : (s : Scratch) (steps : List Step) → length steps ≡ 0 → answers_from s steps ≡ answered (state_of s) ∷ []
 unfolding answers_of
 answers_from-end s [] e = refl
 answers_from-end s (x ∷ steps) e = absurd (omega (arith, e))
-
-pub outline-first : (outline : ℕ) (r : IndexRow) (rows : List IndexRow) → r.outline ≡ outline → rows_of_outline outline (r ∷ rows) ≡ r ∷ rows_of_outline outline rows
-outline-first outline r rows e = ap (λ (b : Bool). cond b (r ∷ rows_of_outline outline rows) (rows_of_outline outline rows)) (eq-eqb r.outline outline e)
-
-pub outline-later : (outline : ℕ) (r : IndexRow) (rows : List IndexRow) → (r.outline ≡ outline → ⊥) → rows_of_outline outline (r ∷ rows) ≡ rows_of_outline outline rows
-outline-later outline r rows h = ap (λ (b : Bool). cond b (r ∷ rows_of_outline outline rows) (rows_of_outline outline rows)) (ne_eqb r.outline outline h)
 
 -- a list of those that pass a test gives what they give
 of-filtered : {A B : Type 0} (f : A → List B) (test : A → Bool) (xs : List A) → flat_map (λ x. cond (test x) (f x) []) xs ≡ flat_map f (filter test xs)
