@@ -90,7 +90,8 @@ moves-kept (Err x) s t cs ds e same = e
 
 -- the first row of a choice, and those after it
 pub row-first : (s t : Scratch) (c : Choice) (row : IndexRow) (rows : Bor (List IndexRow)) (old new : List Answer) →
-    rows_of_outline c.outline c.rows.now ≡ row ∷ rows_of_outline c.outline rows.now → t ≡ s → new ≡ answers_of_choice s (record c { rows = rows }) ++ old →
+    rows_of_outline c.outline c.rows.now ≡ row ∷ rows_of_outline c.outline rows.now → t ≡ s →
+    new ≡ answers_of_choice s (record c { rows = rows }) ++ old →
     answers_of_choice s c ++ old ≡ answers_of_row t c.rest.now c.from c.slots.now row ++ new
 row-first s t c row rows old new first e left =
     let gives = answers_of_row s c.rest.now c.from c.slots.now in
@@ -116,7 +117,8 @@ pub moves-node : (classes : List ClassRows) (c : Choice) (step : Step) (class : 
     moves_at classes c ≤ moves_after classes (step ∷ c.rest.now)
 unfolding moves_after
 moves-node classes c step class e =
-    mul-le-mul_right {m = suc (length c.rows.now)} {n = suc (row_count classes)} (suc (moves_after classes c.rest.now)) (omega (arith, ap length e, rows-counted classes class))
+    mul-le-mul_right {m = suc (length c.rows.now)} {n = suc (row_count classes)} (suc (moves_after classes c.rest.now))
+    (omega (arith, ap length e, rows-counted classes class))
 
 pub moves-variable : (classes : List ClassRows) (step : Step) (rest : List Step) → moves_after classes rest ≤ moves_after classes (step ∷ rest)
 unfolding moves_after

@@ -33,7 +33,9 @@ of-filtered f test (x ∷ xs) = go (test x) (of-filtered f test xs)
 -- what a node answers, where its occurrence is o
 answers_at_node : Scratch → List Step → ℕ → List ℕ → Occurrence → List Answer
 answers_at_node s rest outline slots o =
-    flat_map (λ (r : IndexRow). cond (nat_eq r.outline outline) (if_there (answers_of s.classes rest) (after_row (state_of s) o.names r slots)) []) (rows_in s.classes o.class)
+    flat_map
+    (λ (r : IndexRow). cond (nat_eq r.outline outline) (if_there (answers_of s.classes rest) (after_row (state_of s) o.names r slots)) [])
+    (rows_in s.classes o.class)
 
 pub answers_from-node : (s : Scratch) (steps rest : List Step) (outline : ℕ) (slots : Vec ℕ Global) (from : Source) (v : View) (own : List ℕ) →
     steps ≡ Node outline slots from ∷ rest → occurrence_of s.frames v ≡ occurrence_at (state_of s) from → own ≡ slots.items →

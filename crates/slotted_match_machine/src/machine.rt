@@ -13,7 +13,7 @@ use crate::program::{Source, Step};
 use crate::view::{Register, View, occurrences};
 use std::alloc::{AllocError, Global};
 
-// The lists grow where a row is entered or a variable takes a value, and are cut where the machine backtracks to a choice.
+// The lists grow where a row is entered or a variable takes a value, and are cut where the machine backtracks.
 #[derive(Drop)]
 pub struct Machine<'a> {
     pub alloc: Global,
@@ -37,7 +37,7 @@ pub struct Mark {
     pub count: usize,
 }
 
-// A choice point: rows of a class that are still to be visited for a node of the pattern, and the steps after that node.
+// A choice point: rows of a class that are still to be visited for a node of the pattern, and the steps after it.
 #[derive(Clone, Copy)]
 pub struct Choice<'a> {
     pub mark: Mark,

@@ -51,11 +51,13 @@ impl<'a> Machine<'a> {
     fn descend(&mut self, steps: &'a [Step], answers: &mut Vec<Answer>) -> Result<(), AllocError>
         requires readable { IsReadable (scratch_of self.old) }
         requires choices { HasChoices self.old }
-        ensures answers { OnOk result (answers_in answers.old.items ++ (answers_from (scratch_of self.old) steps.now ++ answers_left self.old)
+        ensures answers { OnOk result
+            (answers_in answers.old.items ++ (answers_from (scratch_of self.old) steps.now ++ answers_left self.old)
             ≡ answers_in answers.new.items ++ answers_left self.new) }
         ensures choices { OnOk result (HasChoices self.new) }
         ensures classes { OnOk result ((scratch_of self.new).classes ≡ (scratch_of self.old).classes) }
-        ensures moves { OnOk result (moves_left self.new ≤ moves_after (scratch_of self.old).classes steps.now + moves_left self.old) }
+        ensures moves { OnOk result (moves_left self.new
+            ≤ moves_after (scratch_of self.old).classes steps.now + moves_left self.old) }
     {
         let mut left = steps;
         while let Some((step, rest)) = left.split_first() {
@@ -73,7 +75,8 @@ impl<'a> Machine<'a> {
     fn take_step(&mut self, step: &'a Step, rest: &'a [Step]) -> Result<bool, AllocError>
         requires readable { IsReadable (scratch_of self.old) }
         requires choices { HasChoices self.old }
-        ensures answers { IfOk result (λ y. answers_from (scratch_of self.old) (step.now ∷ rest.now) ++ answers_left self.old
+        ensures answers { IfOk result (λ y.
+            answers_from (scratch_of self.old) (step.now ∷ rest.now) ++ answers_left self.old
             ≡ (if y then answers_from (scratch_of self.new) rest.now else []) ++ answers_left self.new) }
         ensures readable { IfOk result (λ y. IsTrue y → IsReadable (scratch_of self.new)) }
         ensures choices { OnOk result (HasChoices self.new) }
@@ -104,11 +107,13 @@ impl<'a> Machine<'a> {
         }
     }
 
-    // Enters the first row of a choice that has the outline, and leaves those after it for later. Returns whether the row can be entered.
+    // Enters the first row of a choice that has the outline, and leaves those after it for later.
+    // Returns whether the row can be entered.
     fn take_row(&mut self, choice: &Choice<'a>) -> Result<bool, AllocError>
         requires choice { IsChoice (scratch_of self.old) choice.now }
         requires choices { HasChoices self.old }
-        ensures answers { IfOk result (λ y. answers_of_choice (scratch_of self.old) choice.now ++ answers_left self.old
+        ensures answers { IfOk result (λ y.
+            answers_of_choice (scratch_of self.old) choice.now ++ answers_left self.old
             ≡ (if y then answers_from (scratch_of self.new) choice.now.rest.now else []) ++ answers_left self.new) }
         ensures readable { IfOk result (λ y. IsTrue y → IsReadable (scratch_of self.new)) }
         ensures choices { OnOk result (HasChoices self.new) }
@@ -127,10 +132,12 @@ impl<'a> Machine<'a> {
     fn push_choice(&mut self, choice: Choice<'a>) -> Result<(), AllocError>
         requires choice { IsChoice (scratch_of self.old) choice }
         requires choices { HasChoices self.old }
-        ensures answers { OnOk result (answers_left self.new ≡ answers_of_choice (scratch_of self.old) choice.entry ++ answers_left self.old) }
+        ensures answers { OnOk result (answers_left self.new
+            ≡ answers_of_choice (scratch_of self.old) choice.entry ++ answers_left self.old) }
         ensures choices { OnOk result (HasChoices self.new) }
         ensures kept { OnOk result (scratch_of self.new ≡ scratch_of self.old) }
-        ensures moves { OnOk result (moves_left self.new ≤ moves_at (scratch_of self.old).classes choice.entry + moves_left self.old) }
+        ensures moves { OnOk result (moves_left self.new
+            ≤ moves_at (scratch_of self.old).classes choice.entry + moves_left self.old) }
     {
         if choice.rows.is_empty() {
             return Ok(());

@@ -12,4 +12,5 @@ returns-clause-answers c =
     let a = c.args.answers.now.items in
     let end = answers_from-end (scratch_of m) c.loop-step.left.now c.in_default.ensures.cases in
     ap (λ l. answers_in a ++ l) (c.loop-step.invariant.answers ∙ ap (λ l. l ++ answers_left m) end)
-    ∙ answer-added a c.push.new.self.items c.in_ok-answer.answer (answered (state_of (scratch_of m))) (answers_left m) c.in_ok-push.ensures.items c.in_ok-answer.ensures
+    ∙ answer-added a c.push.new.self.items c.in_ok-answer.answer (answered (state_of (scratch_of m))) (answers_left m)
+    c.in_ok-push.ensures.items c.in_ok-answer.ensures

@@ -11,7 +11,8 @@ invariant-loop-step l = record {
   readable : IsReadable (scratch_of l.self);
   choices : HasChoices l.self;
   classes : (scratch_of l.self).classes ≡ (scratch_of l.initial.self).classes;
-  moves : moves_left l.self + moves_after (scratch_of l.initial.self).classes l.left ≤ moves_after (scratch_of l.initial.self).classes l.steps + moves_left l.initial.self;
+  moves : moves_left l.self + moves_after (scratch_of l.initial.self).classes l.left
+      ≤ moves_after (scratch_of l.initial.self).classes l.steps + moves_left l.initial.self;
 }
 
 abbrev pub decreases-loop-step : goal.decreases-loop-step

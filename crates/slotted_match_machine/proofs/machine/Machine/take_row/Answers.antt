@@ -15,8 +15,10 @@ returns-clause-answers c =
     let choice = c.args.choice.now in
     let row = c.in-Some.row.now in
     let pushed = c.in_ok-push_choice.ensures in
-    let first = row-first s (scratch_of m) choice row c.in-Some.rows (answers_left c.args.self.now) (answers_left m) c.in-Some.ensures.rows pushed.kept pushed.answers in
-    subst (λ all. IfOk c.enter.result (λ y. all ≡ (if y then answers_from (scratch_of c.enter.new.self) choice.rest.now else []) ++ answers_left c.enter.new.self)) (sym first)
+    let first = row-first s (scratch_of m) choice row c.in-Some.rows (answers_left c.args.self.now) (answers_left m)
+    c.in-Some.ensures.rows pushed.kept pushed.answers in
+    let n = c.enter.new.self in
+    subst (λ all. IfOk c.enter.result (λ y. all ≡ (if y then answers_from (scratch_of n) choice.rest.now else []) ++ answers_left n)) (sym first)
     (step-taken c.enter.result (scratch_of m) (scratch_of c.enter.new.self) choice.rest.now _ m.choices.items c.enter.new.self.choices.items
     pushed.choices c.enter.ensures.entered c.enter.ensures.extends c.enter.ensures.choices)
 
@@ -30,6 +32,8 @@ pub returns-clause-moves : goal.returns-clause-moves
 returns-clause-moves c =
     let m = c.push_choice.new.self in
     let pushed = c.in_ok-push_choice.ensures in
-    let kept = moves-kept c.enter.result (scratch_of m) (scratch_of c.enter.new.self) m.choices.items c.enter.new.self.choices.items c.enter.ensures.extends c.enter.ensures.choices in
-    let fewer = moves-fewer c.args.self.now.index.now.classes.items c.args.choice.now c.in-Some.rows (moves_left c.args.self.now) (moves_left m) c.in-Some.ensures.fewer pushed.moves in
+    let kept = moves-kept c.enter.result (scratch_of m) (scratch_of c.enter.new.self) m.choices.items c.enter.new.self.choices.items
+    c.enter.ensures.extends c.enter.ensures.choices in
+    let fewer = moves-fewer c.args.self.now.index.now.classes.items c.args.choice.now c.in-Some.rows (moves_left c.args.self.now) (moves_left m)
+    c.in-Some.ensures.fewer pushed.moves in
     on_ok_weaker c.enter.result (λ same. omega (arith, same, fewer)) kept
