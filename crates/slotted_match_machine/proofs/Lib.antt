@@ -23,3 +23,4 @@ pub mod Indexing
 pub mod NewNames
 pub mod States
 pub mod RowAnswers
+pub mod ChoicePoints

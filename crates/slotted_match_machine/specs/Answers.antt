@@ -7,8 +7,9 @@
 --     answers_with       what is answered from another state, if there is one
 --     answers_of_value   after a variable took what is read through a view
 --     answers_of_row     after a row was entered, at a class that is read through a view
+--     rows_of_outline    the rows that have an outline
 --     answers_of_rows    after each row of an outline was
-use Rattle.std.specs.Prelude.{◌≡◌, ℕ, List, [], ◌++◌, map, Option, cond, nat_eq}
+use Rattle.std.specs.Prelude.{◌≡◌, ℕ, List, ◌++◌, map, filter, Option, nat_eq}
 use Rattle.std.specs.List.{flat_map}
 use Rattle.slotted_match_machine.specs.Machine.{Answer, Occurrence, MachineState, answers_of, if_there, after_row, with_variable}
 use Rattle.slotted_match_machine.specs.Scratch.{Scratch, state_of}
@@ -46,6 +47,8 @@ answers_of_value s steps number v = answers_with s steps (with_variable (state_o
 abbrev pub answers_of_row : Scratch → List Step → View → List ℕ → IndexRow → List Answer
 answers_of_row s steps v slots r = answers_with s steps (after_row (state_of s) (names_at s.frames v.names) r slots)
 
+abbrev pub rows_of_outline : ℕ → List IndexRow → List IndexRow
+rows_of_outline outline rows = filter (λ (r : IndexRow). nat_eq r.outline outline) rows
+
 abbrev pub answers_of_rows : Scratch → List Step → View → ℕ → List ℕ → List IndexRow → List Answer
-answers_of_rows s steps v outline slots rows =
-    flat_map (λ (r : IndexRow). cond (nat_eq r.outline outline) (answers_of_row s steps v slots r) []) rows
+answers_of_rows s steps v outline slots rows = flat_map (answers_of_row s steps v slots) (rows_of_outline outline rows)

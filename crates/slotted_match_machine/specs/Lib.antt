@@ -7,3 +7,4 @@ pub mod MachineClaims
 pub mod Views
 pub mod Scratch
 pub mod Answers
+pub mod Choices

@@ -5,6 +5,7 @@
 --     state_of            the state that it stands for
 --     IsReadable          each frame that is read is one of those that were given, and so is each name
 --     mark_of, cut_to     how long the lists are, and the lists cut to these lengths
+--     Extends             each list of the second begins with that of the first, and the rest is the same
 use Rattle.std.specs.Prelude.{◌≡◌, ℕ, ◌≤◌, List, [], ◌∷◌, take, length, map, reverse}
 use Rattle.std.specs.List.{All}
 use Rattle.slotted_match_machine.specs.Machine.{MachineState}
@@ -53,14 +54,24 @@ pub record IsReadable (s : Scratch) : Type 0 where
   pub values : All (λ v. IsIn s.frames v.names.frame) s.values
   pub names : s.count ≤ length s.frames
 
--- how long the lists are that grow where a row is entered
+-- how long the lists are that grow
 abbrev pub mark_of : Scratch → Mark
-mark_of s = record { registers = length s.registers; frames = length s.frames; pairs = length s.pairs; count = s.count }
+mark_of s = record {
+  registers = length s.registers;
+  frames = length s.frames;
+  pairs = length s.pairs;
+  values = length s.values;
+  count = s.count;
+}
 
 abbrev pub cut_to : Mark → Scratch → Scratch
 cut_to mark s = record s {
   registers = take mark.registers s.registers;
   frames = take mark.frames s.frames;
   pairs = take mark.pairs s.pairs;
+  values = take mark.values s.values;
   count = mark.count;
 }
+
+abbrev pub Extends : Scratch → Scratch → Type 0
+Extends old new = cut_to (mark_of old) new ≡ old

@@ -1,15 +1,15 @@
 // What the machine holds as it runs: what was entered, paired and taken so far.
 ghost use Rattle.std.specs.Prelude.{◌≡◌, IfOk, OnOk, Some, None, if◌then◌else◌, IsTrue};
-ghost use Rattle.slotted_match_machine.specs.Machine.{started, after_row, occurrence_at};
+ghost use Rattle.slotted_match_machine.specs.Machine.{started, after_row, occurrence_at, with_variable};
 ghost use Rattle.slotted_match_machine.specs.Views.{IsIn, names_at, occurrence_of};
-ghost use Rattle.slotted_match_machine.specs.Scratch.{IsReadable, scratch_of, state_of, mark_of, cut_to};
+ghost use Rattle.slotted_match_machine.specs.Scratch.{IsReadable, Extends, scratch_of, state_of, mark_of, cut_to};
 ghost use Rattle.slotted_match_machine.specs.Answers.{answer_of, answered};
 
 use crate::answer::Answer;
 use crate::index::{IndexRow, RowIndex};
 use crate::names::{Frame, Names, name_numbers, name_slots};
 use crate::pairing::pair_all;
-use crate::program::Source;
+use crate::program::{Source, Step};
 use crate::view::{Register, View, occurrences};
 use std::alloc::{AllocError, Global};
 
@@ -24,6 +24,7 @@ pub struct Machine<'a> {
     pub pairs: Vec<(usize, usize)>,
     pub values: Vec<View<'a>>,
     pub count: usize,
+    pub choices: Vec<Choice<'a>>,
 }
 
 // How long the lists were before a row was entered.
@@ -32,7 +33,19 @@ pub struct Mark {
     pub registers: usize,
     pub frames: usize,
     pub pairs: usize,
+    pub values: usize,
     pub count: usize,
+}
+
+// A choice point: rows of a class that are still to be visited for a node of the pattern, and the steps after it.
+#[derive(Clone, Copy)]
+pub struct Choice<'a> {
+    pub mark: Mark,
+    pub from: View<'a>,
+    pub outline: usize,
+    pub slots: &'a [usize],
+    pub rows: &'a [IndexRow],
+    pub rest: &'a [Step],
 }
 
 impl<'a> Machine<'a> {
@@ -49,6 +62,7 @@ impl<'a> Machine<'a> {
             pairs: Vec::new(alloc),
             values: Vec::new(alloc),
             count: 0,
+            choices: Vec::new(alloc),
         }
     }
 
@@ -110,17 +124,20 @@ impl<'a> Machine<'a> {
             registers: self.registers.len(),
             frames: self.frames.len(),
             pairs: self.pairs.len(),
+            values: self.values.len(),
             count: self.count,
         }
     }
 
     // Backtracks to where the mark was made.
     pub fn backtrack(&mut self, mark: Mark)
-        ensures { scratch_of self.new ≡ cut_to mark (scratch_of self.old) }
+        ensures cut { scratch_of self.new ≡ cut_to mark (scratch_of self.old) }
+        ensures choices { self.new.choices.items ≡ self.old.choices.items }
     {
         self.registers.truncate(mark.registers);
         self.frames.truncate(mark.frames);
         self.pairs.truncate(mark.pairs);
+        self.values.truncate(mark.values);
         self.count = mark.count;
     }
 
@@ -138,7 +155,8 @@ impl<'a> Machine<'a> {
             after_row (state_of (scratch_of self.old)) (names_at self.old.frames.items from.now.names) row.now slots.now
             ≡ (if y then Some (state_of (scratch_of self.new)) else None)) }
         ensures readable { IfOk result (λ y. IsTrue y → IsReadable (scratch_of self.new)) }
-        ensures kept { OnOk result (cut_to (mark_of (scratch_of self.old)) (scratch_of self.new) ≡ scratch_of self.old) }
+        ensures extends { OnOk result (Extends (scratch_of self.old) (scratch_of self.new)) }
+        ensures choices { OnOk result (self.new.choices.items ≡ self.old.choices.items) }
     {
         let frame = Frame {
             start: self.frames.len(),
@@ -156,6 +174,24 @@ impl<'a> Machine<'a> {
             children: &row.children,
             frame,
         })?;
+        Ok(true)
+    }
+
+    // The variable takes the occurrence, if it took none before. Returns whether it has this occurrence then.
+    pub fn take_value(&mut self, number: usize, from: &View<'a>) -> Result<bool, AllocError>
+        requires readable { IsReadable (scratch_of self.old) }
+        requires names { IsIn self.old.frames.items from.now.names.frame }
+        ensures taken { IfOk result (λ y.
+            with_variable (state_of (scratch_of self.old)) number (occurrence_of self.old.frames.items from.now)
+            ≡ (if y then Some (state_of (scratch_of self.new)) else None)) }
+        ensures readable { IfOk result (λ y. IsTrue y → IsReadable (scratch_of self.new)) }
+        ensures extends { OnOk result (Extends (scratch_of self.old) (scratch_of self.new)) }
+        ensures choices { OnOk result (self.new.choices.items ≡ self.old.choices.items) }
+    {
+        if let Some(value) = self.values.get(number) {
+            return Ok(value.is_same(&self.frames, from));
+        }
+        self.values.push(*from)?;
         Ok(true)
     }
 }
