@@ -1,4 +1,5 @@
 pub mod TermCosts
+pub mod FlatCosts
 pub mod Lawful
 pub mod Within
 pub mod Tables

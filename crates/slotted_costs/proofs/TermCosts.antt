@@ -20,7 +20,7 @@ use Rattle.slotted_costs.specs.Costs.{bare, bare_node, costs_by, cost_of_term}
 use Rattle.slotted_bare_nodes.proofs.Alike.{bare-moved}
 
 -- each of the terms has the right number of children at each node
-abbrev AreWhole : List Term → Type 0
+abbrev pub AreWhole : List Term → Type 0
 AreWhole [] = Unit {0}
 AreWhole (t ∷ ts) = IsWhole t.args × AreWhole ts
 
@@ -35,7 +35,7 @@ whole-at (v ∷ us) zero u h lt is = subst (λ (t : Term). IsWhole t.args) (sym 
 whole-at (v ∷ us) (suc i) u h lt is = whole-at us i u h.1 (omega arith) is
 
 -- a node of a whole term has a child for each place, and each of them is whole
-filled-whole : (t : Tree) (xs : List ℕ) (us : List Term) → IsWhole (filled t xs us) → (length us ≡ length (children t)) × AreWhole us
+pub filled-whole : (t : Tree) (xs : List ℕ) (us : List Term) → IsWhole (filled t xs us) → (length us ≡ length (children t)) × AreWhole us
 filled-whole leaf xs [] w = (refl, tt)
 filled-whole leaf xs (u ∷ us) w = absurd (omega (arith, w.0))
 filled-whole (own r) xs us w = filled-whole r (drop 1 xs) us w

@@ -1,5 +1,6 @@
 -- What nodes and terms cost.
 pub mod Costs
+pub mod FlatCosts
 pub mod Laws
 pub mod Size
 pub mod SizeLaws

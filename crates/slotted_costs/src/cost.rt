@@ -1,16 +1,19 @@
 //! Cost functions and their laws.
-ghost use Rattle.std.specs.Prelude.{◌≡◌, List, map, IfOk, IfErr};
+ghost use Rattle.std.specs.Prelude.{◌≡◌, ◌≤◌, List, length, IfOk, IfErr, OnOk};
 ghost use Rattle.slotted_theory.specs.Nameless.{DTerm};
 ghost use Rattle.slotted_slots.specs.Error.{IsOutOfMemory};
 ghost use Rattle.slotted_slots.specs.declared.error.Error.{Error};
 ghost use Rattle.slotted_slots.specs.declared.error.Error.TheVariants.{Failed};
+ghost use Rattle.slotted_nodes.specs.Form.{children};
 ghost use Rattle.slotted_terms.specs.Valid.{IsWhole};
+ghost use Rattle.slotted_costs.specs.FlatCosts.{closed_costs};
 ghost use Rattle.slotted_costs.specs.Costs.{HasValuesFor, bare_node, costs_by, cost_of_term, MayRefuse};
 ghost use Rattle.slotted_costs.specs.Laws.{NeverFalls, CoversChildren, CostLaws};
 
 use slotted_languages::language::Language;
 use slotted_slots::Error;
 use slotted_terms::RecExpr;
+use slotted_terms::flat::{FlatNode, flatten};
 use std::alloc::Global;
 
 /// A cost function: what an e-node costs over the costs of its children, in any type with an order.
@@ -60,7 +63,26 @@ pub trait CostFunction<L: Language>: Drop {
     ghost never_failed: { ¬ refuses Failed };
 }
 
-// Returns the cost of a term, child by child.
+// The costs of the last terms, so many, give way to that of a node over them.
+fn close<L: Language, F: CostFunction<L>>(
+    costs: &F,
+    alloc: Global,
+    done: &mut Vec<F::Cost>,
+    node: &FlatNode<L>,
+) -> Result<(), Error>
+    requires enough { node.now.count ≤ length done.old.items }
+    requires right { node.now.count ≡ length (children (L.form node.now.node).tree) }
+    ensures ok { OnOk result (done.new.items
+        ≡ closed_costs (F.node_cost costs.now) (L.form node.now.node) node.now.count done.old.items) }
+    ensures err { IfErr result (MayRefuse F.refuses) }
+{
+    let below = done.split_off(done.len() - node.count)?;
+    let cost = costs.cost(alloc, &node.node, &below)?;
+    done.push(cost)?;
+    Ok(())
+}
+
+// Returns the cost of a term, from the lowest nodes upwards.
 fn term_cost<L: Language, F: CostFunction<L>>(
     costs: &F,
     alloc: Global,
@@ -70,11 +92,15 @@ fn term_cost<L: Language, F: CostFunction<L>>(
     ensures ok { IfOk result (λ c. c ≡ cost_of_term (costs_by F.Cost.cmp (F.node_cost costs.now)) term.now) }
     ensures err { IfErr result (MayRefuse F.refuses) }
 {
-    let mut each = Vec::new(alloc);
-    for child in &term.children {
-        each.push(term_cost(costs, alloc, child)?)?;
+    let mut nodes = flatten(alloc, term)?;
+    let mut done = Vec::new(alloc);
+    while let Some(node) = nodes.pop() {
+        close(costs, alloc, &mut done, &node)?;
     }
-    costs.cost(alloc, &term.node, &each)
+    match done.pop() {
+        Some(cost) => Ok(cost),
+        None => unreachable!(),
+    }
 }
 
 /// States that the costs of each cost function are lawful on the e-nodes of its language, in a total order.
