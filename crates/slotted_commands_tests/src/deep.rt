@@ -51,3 +51,28 @@ fn deep_terms_are_answered(rt: HostRuntime) -> io::Result<()> {
     let alloc = rt.alloc();
     check(&rt, alloc, &nested(alloc, "b")?, &nested(alloc, "c")?)
 }
+
+// A rule between patterns of so many levels, and a question that it answers by yes.
+fn rule_lines(alloc: Global) -> io::Result<Vec<u8>> {
+    let found = nested(alloc, "?x")?;
+    let made = nested(alloc, "?y")?;
+    let left = nested(alloc, "b")?;
+    let right = nested(alloc, "c")?;
+    let mut lines = Vec::new(alloc);
+    writeln!(lines, "add (mul c {left})\nrule deep: (mul ?y {found}) => (add {made} ?x)")?;
+    writeln!(lines, "run 0\neq (mul c {left}) == (add {right} b)")?;
+    Ok(lines)
+}
+
+// One turn leaves two e-nodes for each level, three words, a product and a sum.
+fn check_rule(rt: &impl Abort, alloc: Global) -> io::Result<()> {
+    let mut output = Vec::new(alloc);
+    answer(alloc, &rule_lines(alloc)?, &mut output)?;
+    assert!(rt; output.starts_with(b"ok\nok\n1 NodeLimit 200005\nturns ") && output.ends_with(b"\nyes\n"));
+    Ok(())
+}
+
+#[test]
+fn deep_patterns_are_matched(rt: HostRuntime) -> io::Result<()> {
+    check_rule(&rt, rt.alloc())
+}
