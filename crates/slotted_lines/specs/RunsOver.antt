@@ -39,7 +39,7 @@ abbrev pub searches_by : {L : Type 0} → (L → Form) → Rewrite L Always → 
 searches_by form = SearchesRule form
 
 abbrev pub applies_by : {L : Type 0} → (L → Form) → Rewrite L Always → List Values → Graph → Graph → Type 0
-applies_by form = AppliesRule form (λ _ _ _. true)
+applies_by form = AppliesRule form (λ _ _ _ y. y ≡ true)
 
 abbrev pub refuses_by : {L : Type 0} → (L → Form) → Rewrite L Always → Error → Type 0
 refuses_by form = RefusesRule form (λ _ _ _ _. ⊥)
