@@ -4,6 +4,8 @@ pub mod TakenData
 pub mod Rising
 pub mod Buried
 pub mod Noting
+pub mod Sizes
+pub mod Told
 pub mod GoingAlong
 pub mod Settled
 pub mod MergedValues

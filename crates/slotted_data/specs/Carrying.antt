@@ -1,5 +1,6 @@
 -- Carrying data along, from one graph at rest to a later one.
 --     DataRests a k r d         the graph is at rest with data d for all of its classes
+--     AreCounted a k d          what is noted of its rebuilds fits
 --     RestedBefore a k r l q d  the older graph rested with d, and the newer one goes on from it
 --     HasCarriedAll l d         each class has data, and each death has been carried
 --     Carried a k r l q d e     the newer one is at rest with e, which went down from d; what was made or has changed waits to be modified
@@ -11,7 +12,7 @@ use Rattle.slotted_model.specs.Rest.{AtRest}
 use Rattle.slotted_model_analyses.specs.Analysis.{Analysis, Absorbs}
 use Rattle.slotted_model_analyses.specs.DataPart.{DataGoesDown, GoesDown, HasData}
 use Rattle.slotted_model_analyses.specs.DataWrites.{HasNotedAll, MergesInto}
-use Rattle.slotted_store.specs.Kept.{Kept, ListsDead, entries_of}
+use Rattle.slotted_store.specs.Kept.{Kept, ListsDead, entries_of, size_of}
 use Rattle.slotted_filing.specs.FiledRows.{Rows}
 use Rattle.slotted_rebuilding.specs.Counted.{CountsFit, CountsGo}
 use Rattle.slotted_rebuilding.specs.Filed.{state_in}
@@ -38,6 +39,14 @@ pub record DataRests {D : Type 0} (a : Analysis D) (k : Kept) (r : Rows) (d : He
   pub counts : CountsFit d.counts.own 0
   pub still : d.tall ≡ false → d.counts ≡ no_turns
   pub high : d.tall ≡ true → HasHeights a
+
+-- what is noted of the rebuilds of a graph that has data for all classes, and of its turns for data
+pub record AreCounted {D : Type 0} (a : Analysis D) (k : Kept) (d : Held D) : Type 0 where
+  pub count : length d.values ≡ length k.classes
+  pub rebuilds : CountsFit k.counts (size_of k)
+  pub turns : CountsFit d.counts.own 0
+  pub still : d.tall ≡ false → d.counts ≡ no_turns
+  pub low : d.tall ≡ false → (i : ℕ) → i < length k.classes → (x : D) → a.height (data_in x d.values i) ≡ 0
 
 -- the graph of k and r was at rest with this data, and that of l and q goes on from it
 pub record RestedBefore {D : Type 0} (a : Analysis D) (k : Kept) (r : Rows) (l : Kept) (q : Rows) (d : Held D) : Type 0 where

@@ -4,9 +4,11 @@
 --     with_turns d n f m t    they were noted
 --     last_of c t             the last rebuild, which is one of turns for data if these came after all others
 --     told_at c n             what is told of it in a graph of the size n
+--     IsWithinBound c         it took no more turns than its bound allows
+--     most_size               no graph has a larger size
 --     totals_with c t         the totals over all rebuilds
 --     heights_of lives a i xs the heights of those data whose class lives, where the first one is that of the class i
-use Rattle.std.specs.Prelude.{ℕ, suc, ◌+◌, ◌-◌, ◌^◌, min, List, [], ◌∷◌, Bool, ◌&&◌, cond, nat_eq, nat_lt}
+use Rattle.std.specs.Prelude.{◌≤◌, ℕ, suc, ◌+◌, ◌-◌, ◌*◌, ◌^◌, min, List, [], ◌∷◌, Bool, ◌&&◌, cond, nat_eq, nat_lt}
 use Rattle.slotted_model_analyses.specs.Analysis.{Analysis}
 use Rattle.slotted_store.specs.Counts.{Counts, most_bound, most_turns, noted}
 use Rattle.slotted_store.specs.declared.counts.RebuildCount.{RebuildCount}
@@ -32,6 +34,15 @@ last_of c t = cond (came_last c t) t.own c
 -- the size that it left is that of the graph, and the size that it found is larger by as much as it fell
 abbrev pub told_at : Counts → ℕ → RebuildCount
 told_at c n = record { nodes = c.nodes; size_before = min (n + (c.size_before - c.size_after)) most_bound; size_after = n; turns = c.turns }
+
+-- no more turns than one for each node, and once more for each unit by which the size fell
+pub record IsWithinBound (c : RebuildCount) : Type 0 where
+  pub turns : c.turns ≤ c.nodes * suc (c.size_before - c.size_after)
+  pub falls : c.size_after ≤ c.size_before
+
+-- no graph has a larger size: there are fewer than 2^63 classes, each has fewer than 2^64 slots, and a height is below 2^32
+abbrev pub most_size : ℕ
+most_size = 2 ^ 63 * (2 ^ 64 + 2 ^ 32)
 
 abbrev pub totals_with : Counts → DataCounts → ℕ × ℕ
 totals_with c t = (min (c.total_turns + t.own.total_turns) most_turns, min (c.total_bound + t.own.total_bound) most_bound)

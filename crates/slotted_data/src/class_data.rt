@@ -1,5 +1,5 @@
 //! The data of classes, and what has to be known to carry it along.
-ghost use Rattle.std.specs.Prelude.{◌≡◌, ◌<◌, ◌≤◌, ◌++◌, ◌∷◌, [], length, set, slice_get, slice_index_or, Some, IfOk, IfErr, OnOk};
+ghost use Rattle.std.specs.Prelude.{◌≡◌, ◌<◌, ◌≤◌, ◌^◌, ◌++◌, ◌∷◌, [], length, set, slice_get, slice_index_or, Some, IfOk, IfErr, OnOk};
 ghost use Rattle.slotted_slots.specs.Error.{IsOutOfMemory};
 ghost use Rattle.slotted_data.specs.Held.{HasNewValue, HasValue, no_values, users_of, with_carried, with_entered};
 ghost use Rattle.slotted_data.specs.Held.{with_none_changed, with_user, with_users_taken};
@@ -86,7 +86,8 @@ impl<D: Drop> ClassData<D> {
 
     /// Returns how many classes have data.
     pub fn count(&self) -> usize
-        ensures { result ≡ length self.now.values }
+        ensures count { result ≡ length self.now.values }
+        ensures few { result < 2 ^ 63 }
     {
         self.values.len()
     }
