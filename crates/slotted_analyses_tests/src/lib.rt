@@ -6,6 +6,8 @@ pub mod carried;
 mod folding;
 #[cfg(test)]
 mod graphs;
+#[cfg(test)]
+mod counting;
 pub mod least_binders;
 pub mod least_size;
 pub mod marking;
