@@ -2,17 +2,16 @@
 use Rattle.std.proofs.Common.{◌≡◌, ◌<◌, ℕ, List, Bool, true, false, nat_eq, length, map, Some, sym, ◌∙◌, ap, refl, subst, arith, inl, inr}
 use Rattle.std.proofs.lemmas.Bool.{ltb-true}
 use Rattle.std.proofs.lemmas.Option.{get_or_from_slice_get}
-use Rattle.std.specs.Prelude.{◌↔◌, ◌&&◌, Contains, Result, Ok, Err, IfOk, OnErr, count_by, nat_lt, slice_get, slice_index_or}
+use Rattle.std.specs.Prelude.{◌↔◌, ◌&&◌, Contains, Result, Ok, Err, IfOk, OnErr, count_by, nat_lt, slice_get}
 use Rattle.std.specs.Coded.{Coded}
 use Rattle.std.specs.List.{filter}
 use Rattle.std.specs.List.Sorted.{IsPermutation, IsSorted}
 use Rattle.std.specs.Ordering.{nat_cmp}
-use base.Stored.{Gv}
 use Rattle.slotted_slots.specs.declared.error.Error.{Error}
 use Rattle.slotted_model.specs.Changes.{GoesOn}
 use Rattle.slotted_model.specs.Find.{Entry, find_class}
 use Rattle.slotted_model.specs.Rest.{AtRest}
-use Rattle.slotted_model.specs.State.{Row, child_classes}
+use Rattle.slotted_model.specs.State.{child_classes}
 use Rattle.slotted_model.proofs.GoingOn.{goes_on-same}
 use Rattle.slotted_model_analyses.specs.Analysis.{Absorbs, Analysis, IsMerge}
 use Rattle.slotted_proofs.specs.Entries.{Proven}

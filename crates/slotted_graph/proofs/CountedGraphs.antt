@@ -1,11 +1,11 @@
 -- What rebuilds noted of what is kept, as contracts see it.
 use Rattle.std.proofs.Common.{◌≡◌, ◌≤◌, ◌+◌, ◌∙◌, ap, length, subst, sym, true, false, refl, arith, inl, inr}
-use Rattle.std.specs.Prelude.{◌⊎◌, Bool, List, Option, min, ℕ}
+use Rattle.std.specs.Prelude.{◌⊎◌, Bool, List, Option, ℕ}
 use Rattle.std.specs.Coded.{Coded}
 use Rattle.std.proofs.lemmas.Bool.{cases_lt}
 use Rattle.slotted_model.specs.Applied.{Applied}
 use Rattle.slotted_model.specs.State.{Row}
-use Rattle.slotted_store.specs.Counts.{Counts, most_bound, most_turns}
+use Rattle.slotted_store.specs.Counts.{Counts, most_bound}
 use Rattle.slotted_store.specs.Kept.{Kept, size_of}
 use Rattle.slotted_store.specs.declared.counts.RebuildCount.{RebuildCount}
 use Rattle.slotted_filing.specs.FiledRows.{Rows, rows_in}
