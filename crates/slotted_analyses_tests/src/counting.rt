@@ -8,7 +8,11 @@ use slotted_store::RebuildCount;
 use std::alloc::Global;
 
 // Two terms are equal, and no class is modified.
-fn unite_quietly(graph: &mut EGraph<Small, ConstFold>, left: &str, right: &str) -> Result<(), Error> {
+fn unite_quietly(
+    graph: &mut EGraph<Small, ConstFold>,
+    left: &str,
+    right: &str,
+) -> Result<(), Error> {
     let l = put(graph, left)?;
     let r = put(graph, right)?;
     if !graph.is_valid(&l) || !graph.is_valid(&r) {

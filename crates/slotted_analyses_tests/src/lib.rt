@@ -3,11 +3,11 @@
 
 pub mod carried;
 #[cfg(test)]
+mod counting;
+#[cfg(test)]
 mod folding;
 #[cfg(test)]
 mod graphs;
-#[cfg(test)]
-mod counting;
 pub mod least_binders;
 pub mod least_size;
 pub mod marking;
