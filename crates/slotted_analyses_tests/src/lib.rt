@@ -5,6 +5,8 @@
 pub mod carried;
 pub mod conditioned;
 #[cfg(test)]
+mod counting;
+#[cfg(test)]
 mod folding;
 #[cfg(test)]
 mod graphs;

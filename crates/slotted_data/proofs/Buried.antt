@@ -36,7 +36,7 @@ taken-none (u ∷ us) (suc c) = taken-none us c
 module _ {D : Type 0} (c h : ℕ) (d : Held D) where
   pub moves-none : MovesFirst c h [] d (with_users_taken d c)
   moves-none = record {
-    same = record { values = refl; changed = refl; carried = refl; tall = refl };
+    same = record { values = refl; changed = refl; carried = refl; tall = refl; counts = refl };
     entered = refl;
     moved = λ o there. absurd (Contains-nil o there);
     kept = λ b o n there. subst (λ us. Contains us o) (sym (get_or-set_other d.users c b [] [] n)) there;
@@ -48,7 +48,7 @@ module _ {D : Type 0} (c h : ℕ) (d : Held D) where
 
   pub moves-next : (os : List ℕ) (o : ℕ) (e : Held D) → MovesFirst c h os d e → h < length e.users → MovesFirst c h (os ++ o ∷ []) d (with_user e h o)
   moves-next os o e m within = record {
-    same = record { values = m.same.values; changed = m.same.changed; carried = m.same.carried; tall = m.same.tall };
+    same = record { values = m.same.values; changed = m.same.changed; carried = m.same.carried; tall = m.same.tall; counts = m.same.counts };
     entered = m.entered;
     moved = λ p there. elim (end-cases os o p there) [
       | inl j ↦ user-kept e h o within h p (m.moved p j)
@@ -83,6 +83,7 @@ module _ {D : Type 0} (a : Analysis D) (law : IsMerge D a) (k : Kept) where
     entered = refl;
     carried = refl;
     tall = refl;
+    counts = refl;
     rows = waits-same s;
     down = λ i x. absorbs-same a law (data_in x d.values i);
     merged = λ i x there. absurd (Contains-nil i there);
@@ -220,6 +221,10 @@ module _ {D : Type 0} (a : Analysis D) (law : IsMerge D a) (k : Kept) where
         | inl p ↦ ap (λ (q : Held D). q.tall) p.2
         | inr p ↦ p.value.tall
       ] ∙ m.tall);
+      counts = one.moves.same.counts ∙ (elim one.puts [
+        | inl p ↦ ap (λ (q : Held D). q.counts) p.2
+        | inr p ↦ p.value.counts
+      ] ∙ m.counts);
       rows = waits-then s t u m.rows both_rows;
       down = λ i x. absorbs-then a law (data_in x f.values i) (data_in x e.values i) (data_in x d.values i) (lower i x) (m.down i x);
       merged = λ i x there. elim (end-cases cs c i there) [

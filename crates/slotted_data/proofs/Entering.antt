@@ -104,6 +104,7 @@ module _ {D : Type 0} where
     changed = n.changed ∙ m.changed;
     carried = n.carried ∙ m.carried;
     tall = n.tall ∙ m.tall;
+    counts = n.counts ∙ m.counts;
   }
 
   -- one user more
@@ -136,7 +137,7 @@ module _ {D : Type 0} where
   module _ (k : Kept) (o : ℕ) (s : Rows) (d : Held D) where
     pub children-none : EntersChildren k o [] s s d d
     children-none = record {
-      same = record { values = refl; changed = refl; carried = refl; tall = refl };
+      same = record { values = refl; changed = refl; carried = refl; tall = refl; counts = refl };
       entered = refl;
       rows = waits-same s;
       kept = λ _ _ h. h;
@@ -149,7 +150,7 @@ module _ {D : Type 0} where
     pub children-next : (cs : List ℕ) (c : ℕ) (t u : Rows) (e : Held D) → EntersChildren k o cs s t d e → found_in k c < length e.users →
         ((found_in k c < o) × (u ≡ t)) ⊎ WaitEach t u (o ∷ []) → EntersChildren k o (cs ++ c ∷ []) s u d (with_user e (found_in k c) o)
     children-next cs c t u e m within w = record {
-      same = record { values = m.same.values; changed = m.same.changed; carried = m.same.carried; tall = m.same.tall };
+      same = record { values = m.same.values; changed = m.same.changed; carried = m.same.carried; tall = m.same.tall; counts = m.same.counts };
       entered = m.entered;
       rows = waits-then s t u m.rows more;
       kept = λ x p h. user-kept e (found_in k c) o within x p (m.kept x p h);
@@ -191,7 +192,7 @@ module _ {D : Type 0} where
   module _ (k : Kept) (n : ℕ) (s : Rows) (d : Held D) where
     pub users-none : EntersUsers k n n s s d d
     users-none = record {
-      same = record { values = refl; changed = refl; carried = refl; tall = refl };
+      same = record { values = refl; changed = refl; carried = refl; tall = refl; counts = refl };
       rows = waits-same s;
       kept = λ _ _ h. h;
       cover = λ o c l h. absurd (omega arith);
@@ -230,7 +231,7 @@ module _ {D : Type 0} where
     -- so many classes are entered now
     pub users-counted : (m : ℕ) (t : Rows) (e : Held D) (count : ℕ) → EntersUsers k n m s t d e → EntersUsers k n m s t d (with_entered e count)
     users-counted m t e count a = record {
-      same = record { values = a.same.values; changed = a.same.changed; carried = a.same.carried; tall = a.same.tall };
+      same = record { values = a.same.values; changed = a.same.changed; carried = a.same.carried; tall = a.same.tall; counts = a.same.counts };
       rows = a.rows;
       kept = a.kept;
       cover = a.cover;

@@ -27,16 +27,19 @@ use Rattle.slotted_filing.specs.Filed.{Filing}
 use Rattle.slotted_filing.specs.FiledRows.{IsFiled, Rows, rows_in}
 use Rattle.slotted_filing.proofs.CanonicalChildren.{node-is}
 use Rattle.slotted_filing.proofs.FiledRows.{source-filed}
+use Rattle.slotted_rebuilding.specs.Counted.{CountsFit, CountsGo}
 use Rattle.slotted_rebuilding.specs.Filed.{state_in}
+use Rattle.slotted_rebuilding.proofs.CountedRebuilds.{counts-same}
 use Rattle.slotted_analyses.specs.Meaning.{Meaning, by_bare_nodes}
 use Rattle.slotted_analyses.proofs.Merging.{makes-alike}
-use Rattle.slotted_data.specs.Held.{Held, users_of, with_carried}
+use Rattle.slotted_data.specs.Held.{DataCounts, Held, users_of, with_carried}
 use Rattle.slotted_data.specs.Made.{data_in, children_at, source_class, AddsNew}
 use Rattle.slotted_data.specs.Users.{EntersUsers, found_in}
-use Rattle.slotted_data.specs.Lowering.{HasUsers, IsReady, RisesTo, part_of, quiet}
+use Rattle.slotted_data.specs.Lowering.{HasUsers, IsReady, TakesTurns, part_of, quiet, totals_in}
 use Rattle.slotted_data.specs.Burying.{Buries}
 use Rattle.slotted_data.specs.Carrying.{RestedBefore, Carried, CarriesUp}
 use Rattle.slotted_data.proofs.NewData.{children-older, map-same}
+use Rattle.slotted_data.proofs.Noting.{carried-noted}
 use Rattle.slotted_data.proofs.Rising.{users-same}
 use Rattle.slotted_data.proofs.TakenData.{zero-absorbs, row-within, row-source}
 
@@ -223,12 +226,16 @@ module _ {D : Type 0} (meaning : Meaning D) (law : IsMerge D (by_bare_nodes mean
           low = λ _. (new.entered ∙ (before.rested.low (new.still_low short)).0, λ i h x. low-each x i h);
           carried = refl;
           dead = deaths;
+          counts = subst (λ (c : DataCounts). CountsFit c.own 0) (sym new.counts) before.rested.counts;
+          still = λ _. new.counts ∙ before.rested.still (new.still_low short);
+          high = λ t. absurd cc;
         };
         down = λ x i h. absorbs-any x (found_in l i) (new_found i (later-class i (in_older i h))) (data_in x d.values (found_in k i));
         noted = λ x. record {
           kept = new.kept;
           noted = λ i h n. let u = unnoted x i (in_nodes i h) n in (out_of_older i u.0, u.1);
         };
+        counts = subst (λ (c : DataCounts). CountsGo d.counts.own c.own) (sym new.counts) (counts-same d.counts.own);
       }
 
     -- users were entered, and the dead were buried
@@ -475,17 +482,24 @@ module _ {D : Type 0} (meaning : Meaning D) (law : IsMerge D (by_bare_nodes mean
       }
 
       -- and values rose until nothing waits
-      module _ (is_tall : e.tall ≡ true) (all : d1.entered ≡ length l.classes) (u : Rows) (f : Held D) (rises : RisesTo a l t u d2 f) where
+      module _ (is_tall : e.tall ≡ true) (all : d1.entered ≡ length l.classes) (u : Rows) (f : Held D) (turns fall : ℕ) (rises : TakesTurns a l t u d2 f turns fall) (ended : u.waiting ≡ []) where
         risen : (x : D) → CarriesTo a older (part_of x d []) newer (part_of x f [])
         risen x =
-            let w = rises.runs x in
-            let run : RunsWithData a newer (part_of x d2 t.waiting) w.0 newer (part_of x f []) =
-            subst (λ z. RunsWithData a (state_in l (record { filed = z; waiting = [] })) (part_of x d2 t.waiting) w.0 (state_in l (record { filed = z; waiting = [] })) (part_of x f [])) (buries.rows.same ∙ enters.rows.same) w.1 in
+            let w : RunsWithData a (state_in l (quiet t)) (part_of x d2 t.waiting) rises.taken (state_in l (quiet t)) (part_of x f []) =
+            subst (λ ws. RunsWithData a (state_in l (quiet t)) (part_of x d2 t.waiting) rises.taken (state_in l (quiet t)) (part_of x f ws)) ended (rises.runs x) in
+            let run : RunsWithData a newer (part_of x d2 t.waiting) rises.taken newer (part_of x f []) =
+            subst (λ z. RunsWithData a (state_in l (record { filed = z; waiting = [] })) (part_of x d2 t.waiting) rises.taken (state_in l (record { filed = z; waiting = [] })) (part_of x f [])) (buries.rows.same ∙ enters.rows.same) w in
             let carried = carried-rests (λ _. Unit {0}) a law (makes-alike meaning) (λ _ _ _ _. tt) older (part_of x d []) (rests-before x) (λ _ _. tt) newer (part_of x d2 t.waiting) rest before.goes_on (λ _ _. tt) (along x) (all-noted x) in
-            (carried.1 w.0 newer (part_of x f []) run refl).1
+            (carried.1 rises.taken newer (part_of x f []) run refl).1
 
         entered-now : f.entered ≡ length l.classes
         entered-now = rises.same.entered ∙ (buries.entered ∙ all)
+
+        tall-now : f.tall ≡ true
+        tall-now = rises.same.tall ∙ (buries.tall ∙ (enters.same.tall ∙ is_tall))
+
+        same-counts : f.counts ≡ d.counts
+        same-counts = rises.same.counts ∙ (buries.counts ∙ (enters.same.counts ∙ new.counts))
 
         pub tall-carried : Carried a k r l q d (with_carried f (length l.deaths))
         tall-carried = record {
@@ -501,12 +515,16 @@ module _ {D : Type 0} (meaning : Meaning D) (law : IsMerge D (by_bare_nodes mean
                   within = all_users.within;
                 };
             all = λ _. entered-now;
-            low = λ short. absurd (let z = rises.same.tall ∙ (buries.tall ∙ (enters.same.tall ∙ is_tall)) in cc);
+            low = λ short. absurd (let z = tall-now in cc);
             carried = refl;
             dead = deaths;
+            counts = subst (λ (c : DataCounts). CountsFit c.own 0) (sym same-counts) before.rested.counts;
+            still = λ short. absurd (let z = tall-now in cc);
+            high = λ _. elim (new.high is_tall) [ inl old ↦ before.rested.high old | inr some ↦ some ];
           };
           down = λ x. (risen x).down;
           noted = λ x. (risen x).noted;
+          counts = subst (λ (c : DataCounts). CountsGo d.counts.own c.own) (sym same-counts) (counts-same d.counts.own);
         }
 
 -- the same of a graph in which nothing waits
@@ -540,12 +558,18 @@ module _ {D : Type 0} (meaning : Meaning D) (law : IsMerge D (by_bare_nodes mean
           (low-carried meaning law k r l q.filed d before-still rest-still deaths e new count short)
 
       pub since-tall : e.tall ≡ true → (t : Rows) (f : Held D) → CarriesUp (by_bare_nodes meaning) l q t e f → Carried (by_bare_nodes meaning) k r l q d (with_carried f (length l.deaths))
-      since-tall is_tall t f up = subst (λ (w : Rows). Carried (by_bare_nodes meaning) k r l w d (with_carried f (length l.deaths))) (sym still-is)
+      since-tall is_tall t f up =
+          let risen : Held D = up.rises.risen in
+          let takes = up.rises.takes in
+          subst (λ (g : Held D). Carried (by_bare_nodes meaning) k r l q d (with_carried g (length l.deaths))) (sym up.rises.notes)
+          (carried-noted (by_bare_nodes meaning) l q (with_carried risen (length l.deaths)) (length (rows_in up.buried_rows.filed)) up.rises.fall up.rises.turns (totals_in l) up.rises.few
+          (takes.same.tall ∙ (up.buries.tall ∙ (up.enters.same.tall ∙ is_tall))) k r d
+          (subst (λ (w : Rows). Carried (by_bare_nodes meaning) k r l w d (with_carried risen (length l.deaths))) (sym still-is)
           (tall-carried meaning law k r l q.filed d before-still rest-still deaths e new count up.entered_rows up.entered_data
           (subst (λ (w : Rows). EntersUsers l e.entered (length l.classes) w up.entered_rows e up.entered_data) still-is up.enters)
           up.buried_rows up.buried_data
           (subst (λ cs. Buries (by_bare_nodes meaning) l cs up.entered_rows up.buried_rows up.entered_data up.buried_data) (since-more e new.carried) up.buries)
-          is_tall up.entered t f up.rises)
+          is_tall up.entered t risen up.rises.turns up.rises.fall takes up.rises.nothing_waits)))
 
       module _ (s : Rows) (d1 : Held D) (enters : EntersUsers l e.entered (length l.classes) q s e d1) where
         pub since-within : (c o : ℕ) → Contains (users_of d1 c) o → c < length l.classes

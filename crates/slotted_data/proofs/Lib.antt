@@ -3,6 +3,9 @@ pub mod Entering
 pub mod TakenData
 pub mod Rising
 pub mod Buried
+pub mod Noting
+pub mod Sizes
+pub mod Told
 pub mod GoingAlong
 pub mod Settled
 pub mod MergedValues

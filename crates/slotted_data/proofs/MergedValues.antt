@@ -10,14 +10,17 @@ use Rattle.slotted_model_analyses.proofs.Writing.{merge-has, merging}
 use Rattle.slotted_store.specs.Kept.{Kept, nodes_of, entries_of}
 use Rattle.slotted_store.proofs.KeptLists.{length-nodes_of}
 use Rattle.slotted_filing.specs.Filed.{Filing}
-use Rattle.slotted_filing.specs.FiledRows.{Rows}
+use Rattle.slotted_filing.specs.FiledRows.{Rows, rows_in}
+use Rattle.slotted_rebuilding.specs.Counted.{CountsFit, CountsGo}
 use Rattle.slotted_rebuilding.specs.Filed.{state_in}
+use Rattle.slotted_rebuilding.proofs.CountedRebuilds.{counts-same}
 use Rattle.slotted_analyses.specs.Meaning.{Meaning, by_bare_nodes}
-use Rattle.slotted_data.specs.Held.{Held}
+use Rattle.slotted_data.specs.Held.{DataCounts, Held}
 use Rattle.slotted_data.specs.Made.{data_in}
 use Rattle.slotted_data.specs.Users.{found_in}
-use Rattle.slotted_data.specs.Lowering.{HasUsers, IsReady, Lowers, RisesTo, part_of, quiet}
+use Rattle.slotted_data.specs.Lowering.{HasUsers, IsReady, Lowers, RisesTo, TakesTurns, part_of, quiet, totals_in}
 use Rattle.slotted_data.specs.Carrying.{DataRests, MergesIn}
+use Rattle.slotted_data.proofs.Noting.{merges-noted}
 use Rattle.slotted_data.proofs.Rising.{ready-same, same-then, users-same}
 use Rattle.slotted_data.proofs.TakenData.{zero-absorbs, puts-merges, puts-same}
 
@@ -44,8 +47,9 @@ module _ {D : Type 0} (meaning : Meaning D) (law : IsMerge D (by_bare_nodes mean
   rested : (x : D) → RestsWithData a g (part_of x d [])
   rested x = record { rest = rests.rest; has = rests.has x; nothing_waits = refl }
 
-  merged-in : (f : Held D) → DataRests a k q f → ((x : D) → MergesInto a g (part_of x d []) i w g (part_of x f [])) → MergesIn a k q i w d f
-  merged-in f after merges = record {
+  merged-in : (f : Held D) → f.counts ≡ d.counts → DataRests a k q f → ((x : D) → MergesInto a g (part_of x d []) i w g (part_of x f [])) → MergesIn a k q i w d f
+  merged-in f same after merges = record {
+    counts = subst (λ (c : DataCounts). CountsGo d.counts.own c.own) (sym same) (counts-same d.counts.own);
     rests = after;
     merges = merges;
     absorbs = λ x. ((merging a law g (part_of x d []) (rested x) i in_nodes w).1 g (part_of x f []) (merges x)).2;
@@ -53,7 +57,7 @@ module _ {D : Type 0} (meaning : Meaning D) (law : IsMerge D (by_bare_nodes mean
   }
 
   pub low-merges : d.tall ≡ false → MergesIn a k q i w d d
-  low-merges short = merged-in d rests (λ x.
+  low-merges short = merged-in d refl rests (λ x.
       let low : meaning.height (data_in x d.values (found_in k i)) ≡ 0 = (rests.low short).1 (found_in k i) found-within x in
       merges_into (absorbed (zero-absorbs a law (data_in x d.values (found_in k i)) w low)) starts ((rests.rest.nothing_waits, rests.rest.aligned), refl))
 
@@ -87,26 +91,39 @@ module _ {D : Type 0} (meaning : Meaning D) (law : IsMerge D (by_bare_nodes mean
           subst (λ z. HasData a (state_in k (record { filed = z; waiting = [] })) (part_of x e t.waiting)) (sym same.1)
           (merge-has a law g (part_of x d []) (rests.has x) c (omega (arith, l, n)) w (part_of x e t.waiting) (first x))
 
-      pub risen-merges : (u : Rows) (f : Held D) → RisesTo a k t u e f → MergesIn a k q i w d f
-      risen-merges u f rises =
+      risen-merges : (u : Rows) (f : Held D) (turns fall : ℕ) → TakesTurns a k t u e f turns fall → u.waiting ≡ [] → (f.tall ≡ true) × MergesIn a k q i w d f
+      risen-merges u f turns fall rises ended =
           let puts = puts-same k q rests.rest meaning d c (meaning.merge lowers.0 w) t e lowers.2 in
           let same = same-then d e f puts.0 rises.same in
           let merges : (x : D) → MergesInto a g (part_of x d []) i w g (part_of x f []) =
           λ x.
-          let r = rises.runs x in
-          let run : RunsWithData a g (part_of x e t.waiting) r.0 g (part_of x f []) =
-          subst (λ z. RunsWithData a (state_in k (record { filed = z; waiting = [] })) (part_of x e t.waiting) r.0 (state_in k (record { filed = z; waiting = [] })) (part_of x f [])) puts.1 r.1 in
+          let r : RunsWithData a (state_in k (quiet t)) (part_of x e t.waiting) rises.taken (state_in k (quiet t)) (part_of x f []) =
+          subst (λ ws. RunsWithData a (state_in k (quiet t)) (part_of x e t.waiting) rises.taken (state_in k (quiet t)) (part_of x f ws)) ended (rises.runs x) in
+          let run : RunsWithData a g (part_of x e t.waiting) rises.taken g (part_of x f []) =
+          subst (λ z. RunsWithData a (state_in k (record { filed = z; waiting = [] })) (part_of x e t.waiting) rises.taken (state_in k (record { filed = z; waiting = [] })) (part_of x f [])) puts.1 r in
           merges_into (subst (λ j. Merges a g (part_of x d []) j w (part_of x e t.waiting)) class (first x)) run ((rests.rest.nothing_waits, rests.rest.aligned), refl) in
-          merged-in f (record {
-            rest = rests.rest;
-            count = same.count ∙ rests.count;
-            has = λ x. ((merging a law g (part_of x d []) (rested x) i in_nodes w).1 g (part_of x f []) (merges x)).1.has;
-            users = subst (λ n. HasUsers k n f) (sym same.entered) (users-same k d.entered d f same.users rests.users);
-            all = λ z. same.entered ∙ rests.all is_tall;
-            low = λ z. absurd (let y = same.tall ∙ is_tall in cc);
-            carried = same.carried ∙ rests.carried;
-            dead = rests.dead;
-          }) merges
+          let now : f.tall ≡ true = same.tall ∙ is_tall in (
+            now,
+            merged-in f same.counts (record {
+              rest = rests.rest;
+              count = same.count ∙ rests.count;
+              has = λ x. ((merging a law g (part_of x d []) (rested x) i in_nodes w).1 g (part_of x f []) (merges x)).1.has;
+              users = subst (λ n. HasUsers k n f) (sym same.entered) (users-same k d.entered d f same.users rests.users);
+              all = λ z. same.entered ∙ rests.all is_tall;
+              low = λ z. absurd cc;
+              carried = same.carried ∙ rests.carried;
+              dead = rests.dead;
+              counts = subst (λ (c : DataCounts). CountsFit c.own 0) (sym same.counts) rests.counts;
+              still = λ z. absurd cc;
+              high = λ _. rests.high is_tall;
+            }) merges,
+          )
+
+      pub noted-merges : (u : Rows) (f : Held D) → RisesTo a k t u e f → MergesIn a k q i w d f
+      noted-merges u f rises =
+          let m = risen-merges u rises.risen rises.turns rises.fall rises.takes rises.nothing_waits in
+          subst (MergesIn a k q i w d) (sym rises.notes)
+          (merges-noted a k q rises.risen (length (rows_in t.filed)) rises.fall rises.turns (totals_in k) rises.few m.0 i w d m.1)
 
 -- the same of a graph in which nothing waits
 module _ {D : Type 0} (meaning : Meaning D) (law : IsMerge D (by_bare_nodes meaning)) (k : Kept) (q : Rows) (d : Held D)
@@ -137,4 +154,4 @@ module _ {D : Type 0} (meaning : Meaning D) (law : IsMerge D (by_bare_nodes mean
     at-has = lowered-has meaning law k q.filed d rests-still i within w is_tall c class t e lowers-still
 
     pub at-rise : (u : Rows) (f : Held D) → RisesTo (by_bare_nodes meaning) k t u e f → MergesIn (by_bare_nodes meaning) k q i w d f
-    at-rise u f rises = back f (risen-merges meaning law k q.filed d rests-still i within w is_tall c class t e lowers-still u f rises)
+    at-rise u f rises = back f (noted-merges meaning law k q.filed d rests-still i within w is_tall c class t e lowers-still u f rises)

@@ -99,6 +99,10 @@ both-false : (a b : Bool) → (a || b) ≡ false → (a ≡ false) × (b ≡ fal
 both-false false b h = (refl, h)
 both-false true b h = cc
 
+or-true : (a b : Bool) → (a || b) ≡ true → (a ≡ true) ⊎ (b ≡ true)
+or-true true b h = inl refl
+or-true false b h = inr h
+
 -- functions that agree on a list map it alike
 pub map-same : {X Y : Type 0} (f g : X → Y) (xs : List X) → ((x : X) → Contains xs x → f x ≡ g x) → map f xs ≡ map g xs
 map-same f g [] h = refl
@@ -128,11 +132,13 @@ module _ {D : Type 0} (a : Meaning D) (k : Kept) where
     users = λ _. refl;
     entered = refl;
     carried = refl;
+    counts = refl;
     once = λ h. h;
     kept = λ _ h. h;
     new = λ i l h. absurd (omega arith);
     from = λ _ h. inl h;
     still_low = λ h. h;
+    high = λ h. inl h;
     low = λ _ i l h. absurd (omega arith);
   }
 
@@ -147,6 +153,7 @@ module _ {D : Type 0} (a : Meaning D) (k : Kept) where
     users = λ c. ap (λ us. slice_index_or us c []) n.new.users ∙ (none-added e.users c ∙ s.users c);
     entered = n.new.entered ∙ s.entered;
     carried = n.new.carried ∙ s.carried;
+    counts = n.new.counts ∙ s.counts;
     once = λ h. notes-once (length e.values) e.changed f.changed n.new.changed (s.once h);
     kept = λ i h. notes-kept (length e.values) e.changed f.changed n.new.changed i (s.kept i h);
     new = λ i l h. elim (cases_eq i (length e.values)) [
@@ -161,6 +168,10 @@ module _ {D : Type 0} (a : Meaning D) (k : Kept) where
       | inr q ↦ inr (let c = count in omega (arith, q))
     ];
     still_low = λ h. s.still_low (both-false e.tall n.is_tall (sym n.new.tall ∙ h)).0;
+    high = λ h. elim (or-true e.tall n.is_tall (sym n.new.tall ∙ h)) [
+      | inl before ↦ s.high before
+      | inr now ↦ inr (n.value, n.high now)
+    ];
     low = λ h i l w x. elim (cases_eq i (length e.values)) [
       | inl q ↦ subst (λ j. a.height (data_in x f.values j) ≡ 0) (sym q) (ap a.height (here x) ∙ n.low (both-false e.tall n.is_tall (sym n.new.tall ∙ h)).1)
       | inr d ↦

@@ -1,5 +1,5 @@
 -- Data at rest, for callers: the graph without classes, a graph in which nothing was done, and one that goes on.
-use Rattle.std.proofs.Common.{◌≡◌, ℕ, List, [], ◌++◌, sym, refl, subst, arith, append-nil}
+use Rattle.std.proofs.Common.{◌≡◌, ℕ, List, [], ◌++◌, sym, refl, subst, arith, append-nil, inl}
 use Rattle.slotted_theory.proofs.Lists.{Contains-nil}
 use Rattle.slotted_model.specs.Changes.{GoesOn}
 use Rattle.slotted_model.specs.Rest.{AtRest}
@@ -31,6 +31,14 @@ module _ {D : Type 0} (a : Analysis D) where
     low = λ _. (refl, λ i h. absurd (omega arith));
     carried = refl;
     dead = λ i. (λ h. absurd (Contains-nil i h), λ h. let l = h.0 in absurd (omega (arith, l)));
+    counts = record {
+      turns = omega arith;
+      falls = omega arith;
+      after = refl;
+      totals = record { turns_end = omega arith; bound_end = omega arith; total = inl (omega arith) };
+    };
+    still = λ _. refl;
+    high = λ h. absurd cc;
   }
 
   -- a graph at rest, and one that goes on from it
@@ -60,6 +68,9 @@ module _ {D : Type 0} (a : Analysis D) where
     low = rests.low;
     carried = rests.carried;
     dead = rests.dead;
+    counts = rests.counts;
+    still = rests.still;
+    high = rests.high;
   }) rest
 
   -- the classes that waited to be modified wait no more
@@ -80,4 +91,7 @@ module _ {D : Type 0} (a : Analysis D) where
     low = rests.low;
     carried = rests.carried;
     dead = rests.dead;
+    counts = rests.counts;
+    still = rests.still;
+    high = rests.high;
   }

@@ -1,7 +1,8 @@
 -- Turns for data alone, one after another, until nothing waits.
-use Rattle.std.proofs.Common.{◌≡◌, ◌<◌, ◌≤◌, ℕ, suc, ◌+◌, ◌*◌, List, [], ◌∷◌, length, cond, sym, ◌∙◌, ap, refl, subst, inl, inr, arith, None}
-use Rattle.std.specs.Prelude.{Contains, nat_eq, slice_get, slice_index_or}
-use Rattle.std.proofs.Math.Nat.{mul-le-mul_left}
+use Rattle.std.proofs.Common.{◌≡◌, ◌<◌, ◌≤◌, ℕ, zero, suc, ◌+◌, ◌-◌, ◌*◌, List, [], ◌∷◌, length, cond, sym, ◌∙◌, ap, refl, subst, inl, inr, arith, None}
+use Rattle.std.specs.Prelude.{Contains, min, nat_eq, slice_get, slice_index_or}
+use Rattle.std.proofs.Math.Nat.{min-eq_left, min-eq_right, mul-le-mul_left}
+use Rattle.std.proofs.lemmas.Bool.{cases_lt}
 use Rattle.std.proofs.lemmas.List.{set-get_or}
 use Rattle.slotted_theory.proofs.Lists.{Contains-nil, contains_head}
 use Rattle.slotted_model.specs.Correspondence.{AllDifferent}
@@ -11,10 +12,11 @@ use Rattle.slotted_model.specs.Rest.{AtRest, size}
 use Rattle.slotted_model.specs.State.{State}
 use Rattle.slotted_model.proofs.Rows.{of_source}
 use Rattle.slotted_model_analyses.specs.Analysis.{Analysis, IsMerge}
-use Rattle.slotted_model_analyses.specs.DataPart.{HasData, Merges, TakesData, takes, heights_from, made, size_with_data}
+use Rattle.slotted_model_analyses.specs.DataPart.{HasData, Merges, TakesData, heights_from, made, size_with_data, starts, takes, takes_data}
 use Rattle.slotted_model_analyses.specs.RunClaims.{FallsOrTakes}
-use Rattle.slotted_model_analyses.proofs.Counts.{pending-below}
+use Rattle.slotted_model_analyses.proofs.Counts.{counted-with, pending-below, run-with}
 use Rattle.slotted_model_analyses.proofs.Following.{data-followed}
+use Rattle.slotted_store.specs.Counts.{most_turns}
 use Rattle.slotted_store.specs.Kept.{Kept, entries_of}
 use Rattle.slotted_store.proofs.KeptLists.{any_default, length-entries_of}
 use Rattle.slotted_filing.specs.Filed.{filed_of}
@@ -24,7 +26,8 @@ use Rattle.slotted_rebuilding.specs.Filed.{state_in}
 use Rattle.slotted_data.specs.Held.{Held}
 use Rattle.slotted_data.specs.Made.{data_in}
 use Rattle.slotted_data.specs.Users.{found_in}
-use Rattle.slotted_data.specs.Lowering.{quiet, part_of, HasUsers, IsReady, SameUsers, TakesValue}
+use Rattle.slotted_data.specs.Counted.{most_fall}
+use Rattle.slotted_data.specs.Lowering.{quiet, part_of, FallsBy, HasUsers, IsReady, SameUsers, TakesTurns, TakesValue}
 use Rattle.slotted_data.proofs.TakenData.{row-within}
 
 -- the class whose turn it was has filed what it had
@@ -44,6 +47,7 @@ module _ {D : Type 0} (d e f : Held D) where
     entered = n.entered ∙ m.entered;
     carried = n.carried ∙ m.carried;
     tall = n.tall ∙ m.tall;
+    counts = n.counts ∙ m.counts;
   }
 
 pub users-same : {D : Type 0} (k : Kept) (n : ℕ) (d e : Held D) → e.users ≡ d.users → HasUsers k n d → HasUsers k n e
@@ -142,6 +146,63 @@ module _ {D : Type 0} (a : Analysis D) where
     filed-within v o same is =
         let f = is.0 in
         row-within k base rest (row_of_entry (f.0, (o, f.1))) (row-filed base.filed o f.0 f.1 (ap (λ w. filed_of w o) (sym same) ∙ is.1))
+
+-- turns that were counted to an end, and by how much heights fell, counted to the same
+few-counted : (t f r most : ℕ) → t ≤ r * suc f → min t most ≤ r * suc (min f most)
+few-counted t f zero most l = omega (arith, l)
+few-counted t f (suc r) most l = elim (cases_lt most f) [
+  | inl over ↦
+      let e : min f most ≡ most = min-eq_right (omega (arith, over)) in
+      let n : suc r * suc most ≡ suc most + r * suc most = omega arith in
+      subst (λ m. min t most ≤ suc r * suc m) (sym e) (omega (arith, n))
+  | inr within ↦
+      let e : min f most ≡ f = min-eq_left within in
+      subst (λ m. min t most ≤ suc r * suc m) (sym e) (omega (arith, l))
+]
+
+counted-more : (n m k most : ℕ) → n ≡ min m most → min (n + k) most ≡ min (m + k) most
+counted-more n m k most e = omega (arith, e)
+
+module _ {D : Type 0} (a : Analysis D) (k : Kept) (s : Rows) where
+  pub turns-none : (d : Held D) → TakesTurns a k s s d d 0 0
+  turns-none d = record {
+    filed = refl;
+    same = record { count = refl; users = refl; entered = refl; carried = refl; tall = refl; counts = refl };
+    taken = 0;
+    fallen = 0;
+    turns_is = refl;
+    fall_is = refl;
+    runs = λ x. starts;
+    falls = λ x. omega arith;
+  }
+
+  -- one turn more, in which heights fell by n
+  pub turns-next : (m t : Rows) (d e f : Held D) (turns fall more n less : ℕ) → TakesTurns a k s m d e turns fall → t.filed ≡ m.filed → SameUsers e f → FallsBy a k e f n →
+      more ≡ min (turns + 1) most_turns → less ≡ min (fall + n) most_fall →
+      ((x : D) → TakesData a (state_in k (quiet s)) (part_of x e m.waiting) (part_of x f t.waiting)) → TakesTurns a k s t d f more less
+  turns-next m t d e f turns fall more n less so_far filed same falls up down turn = record {
+    filed = filed ∙ so_far.filed;
+    same = same-then d e f so_far.same same;
+    taken = suc so_far.taken;
+    fallen = so_far.fallen + n;
+    turns_is = up ∙ (counted-more turns so_far.taken 1 most_turns so_far.turns_is ∙ ap (λ i. min i most_turns) (omega arith));
+    fall_is = down ∙ counted-more fall so_far.fallen n most_fall so_far.fall_is;
+    runs = λ x. takes_data (so_far.runs x) (turn x);
+    falls = λ x. let p = falls x in let q = so_far.falls x in omega (arith, p, q);
+  }
+
+  -- no more turns than the rows and the fall of heights allow
+  pub turns-few : IsMerge D a → AtRest (state_in k (quiet s)) → (t : Rows) (d e : Held D) (turns fall : ℕ) → TakesTurns a k s t d e turns fall →
+      (x : D) → HasData a (state_in k (quiet s)) (part_of x d s.waiting) → turns ≤ length (rows_in s.filed) * suc fall
+  turns-few law rest t d e turns fall so_far x has =
+      let g : State = state_in k (quiet s) in
+      let few = counted-with a law g rest.sane (run-with a law g rest.sane has (so_far.runs x)) in
+      let falls = so_far.falls x in
+      let same : suc (size_with_data a g (part_of x d s.waiting)) - size_with_data a g (part_of x e t.waiting) ≡ suc so_far.fallen = omega (arith, falls) in
+      let bound : so_far.taken + length t.waiting ≤ length (rows_in s.filed) * suc so_far.fallen =
+      subst (λ n. so_far.taken + length t.waiting ≤ length (rows_in s.filed) * n) same few in
+      let all = few-counted so_far.taken so_far.fallen (length (rows_in s.filed)) most_turns (omega (arith, bound)) in
+      subst (λ n. n ≤ length (rows_in s.filed) * suc fall) (sym so_far.turns_is) (subst (λ n. min so_far.taken most_turns ≤ length (rows_in s.filed) * suc n) (sym so_far.fall_is) all)
 
 pub nobody-first : (w : List ℕ) → slice_get w 0 ≡ None → w ≡ []
 nobody-first [] e = refl

@@ -1,23 +1,22 @@
 -- A graph that made no class and lost none since the data was at rest: the data is at rest as it is.
-use Rattle.std.proofs.Common.{◌≡◌, length, drop, true, false, Bool, [], sym, ◌∙◌, refl, rules, subst, inl, inr}
+use Rattle.std.proofs.Common.{◌≡◌, length, drop, true, false, Bool, [], sym, ◌∙◌, refl, rules, subst, inl, inr, arith}
 use Rattle.std.specs.Prelude.{◌⊎◌}
 use Rattle.std.proofs.Math.Seq.{drop-length}
 use Rattle.slotted_model.specs.Rest.{AtRest}
 use Rattle.slotted_model_analyses.specs.Analysis.{IsMerge}
-use Rattle.slotted_model_analyses.specs.DataPart.{RunsWithData, starts}
+use Rattle.slotted_model_analyses.specs.DataPart.{starts}
 use Rattle.slotted_store.specs.Kept.{Kept, ListsDead, entries_of}
 use Rattle.slotted_filing.specs.FiledRows.{Rows}
 use Rattle.slotted_rebuilding.specs.Filed.{state_in}
 use Rattle.slotted_analyses.specs.Meaning.{Meaning, by_bare_nodes}
 use Rattle.slotted_data.specs.Held.{Held, with_carried}
 use Rattle.slotted_data.specs.Users.{EntersUsers}
-use Rattle.slotted_data.specs.Lowering.{part_of, quiet}
 use Rattle.slotted_data.specs.Burying.{Buries}
 use Rattle.slotted_data.specs.Carrying.{Carried, HasCarriedAll, RestedBefore}
 use Rattle.slotted_data.proofs.NewData.{new-none}
 use Rattle.slotted_data.proofs.Entering.{users-none}
 use Rattle.slotted_data.proofs.Buried.{buries-none}
-use Rattle.slotted_data.proofs.GoingAlong.{drop-begun, since-low, since-tall}
+use Rattle.slotted_data.proofs.GoingAlong.{since-low, since-tall}
 
 bool-cases : (b : Bool) → (b ≡ true) ⊎ (b ≡ false)
 bool-cases true = inl refl
@@ -44,10 +43,22 @@ module _ {D : Type 0} (meaning : Meaning D) (law : IsMerge D (by_bare_nodes mean
           buried_data = d;
           buries = subst (λ cs. Buries (by_bare_nodes meaning) l cs q q d d) (sym none-left) (buries-none (by_bare_nodes meaning) law l q d);
           rises = record {
-            filed = refl;
+            risen = d;
+            turns = 0;
+            fall = 0;
             nothing_waits = nothing;
-            same = record { count = refl; users = refl; entered = refl; carried = refl; tall = refl };
-            runs = λ x. (0, subst (λ w. RunsWithData (by_bare_nodes meaning) (state_in l (quiet q)) (part_of x d q.waiting) 0 (state_in l (quiet q)) (part_of x d w)) nothing starts);
+            takes = record {
+              filed = refl;
+              same = record { count = refl; users = refl; entered = refl; carried = refl; tall = refl; counts = refl };
+              taken = 0;
+              fallen = 0;
+              turns_is = refl;
+              fall_is = refl;
+              runs = λ x. starts;
+              falls = λ x. omega arith;
+            };
+            few = omega arith;
+            notes = refl;
           };
         })
     | inr short ↦ since-low meaning law l deaths q nothing rest k r d before d (new-none meaning l d) all.0 short

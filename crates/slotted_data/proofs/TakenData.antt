@@ -1,5 +1,5 @@
 -- What filed nodes make is merged into the data of their classes, as the model merges it.
-use Rattle.std.proofs.Common.{◌≡◌, ◌<◌, ℕ, List, length, map, true, false, cond, Some, None, sym, ◌∙◌, ap, refl, subst, inl, inr, arith}
+use Rattle.std.proofs.Common.{◌≡◌, ◌<◌, ◌≤◌, ◌+◌, ◌-◌, ℕ, List, length, map, set, true, false, cond, Some, None, sym, ◌∙◌, ap, refl, subst, inl, inr, arith}
 use Rattle.std.specs.Prelude.{Contains, nat_lt, slice_get}
 use Rattle.std.proofs.lemmas.Bool.{cases_eq}
 use Rattle.std.proofs.lemmas.List.{get_or-set_same, get_or-set_other, length-set}
@@ -11,18 +11,18 @@ use Rattle.slotted_nodes.specs.Form.{Form}
 use Rattle.slotted_languages.specs.NodeTerm.{nameless_node}
 use Rattle.slotted_model.specs.Classes.{canonical_node}
 use Rattle.slotted_model.specs.Correspondence.{AllDifferent}
-use Rattle.slotted_model.specs.Find.{Linked, IsLive}
+use Rattle.slotted_model.specs.Find.{Entry, Linked, IsLive, entry_at}
 use Rattle.slotted_model.specs.State.{Row, State, HasTouched, child_classes, normal_node}
 use Rattle.slotted_model.specs.Rest.{AtRest, IsCurrent}
 use Rattle.slotted_model.proofs.Finding.{Leads, leads, find_class-live, found-live, found-in_range}
 use Rattle.slotted_model.proofs.Optimal.{row-classes}
 use Rattle.slotted_model.proofs.Rows.{current-shape, of_source, one_row}
 use Rattle.slotted_model_analyses.specs.Analysis.{Analysis, IsMerge, Absorbs}
-use Rattle.slotted_model_analyses.specs.DataPart.{HasNoted, Merges, absorbed, lowered, made, with_data, with_pending}
+use Rattle.slotted_model_analyses.specs.DataPart.{HasNoted, Merges, absorbed, heights_from, lowered, made, with_data, with_pending}
 use Rattle.slotted_model_analyses.proofs.FiledAgain.{normal-classes}
-use Rattle.slotted_model_analyses.proofs.Heights.{with_data-here, with_data-other}
+use Rattle.slotted_model_analyses.proofs.Heights.{height-live, heights-with, with_data-here, with_data-other}
 use Rattle.slotted_store.specs.Kept.{Kept, nodes_of, entries_of}
-use Rattle.slotted_store.proofs.KeptLists.{length-nodes_of}
+use Rattle.slotted_store.proofs.KeptLists.{length-entries_of, length-nodes_of}
 use Rattle.slotted_filing.specs.Filed.{filed_of}
 use Rattle.slotted_filing.specs.FiledRows.{IsFiled, Rows, key_children, row_of_entry, rows_in, HasChildrenBelow}
 use Rattle.slotted_filing.proofs.CanonicalChildren.{node-is}
@@ -34,7 +34,7 @@ use Rattle.slotted_analyses.specs.Meaning.{Meaning, by_bare_nodes}
 use Rattle.slotted_data.specs.Held.{Held, users_of}
 use Rattle.slotted_data.specs.Made.{data_in, children_at, child_values, source_class}
 use Rattle.slotted_data.specs.Users.{WaitEach, found_in}
-use Rattle.slotted_data.specs.Lowering.{quiet, part_of, Puts, Lowers, HasUsers, SameUsers, MakesValue, TakesValue}
+use Rattle.slotted_data.specs.Lowering.{quiet, part_of, FallsBy, heights_in, Puts, Lowers, HasUsers, SameUsers, MakesValue, TakesValue}
 use Rattle.slotted_data.proofs.NewData.{children-older, map-same, notes-once, notes-there, notes-kept, notes-from}
 
 -- data of height 0 absorbs everything
@@ -43,6 +43,22 @@ zero-absorbs a law x v low = elim (law.decided (a.merge x v) x) [
   | inl e ↦ e
   | inr n ↦ let l = law.lowers x v n in absurd (omega (arith, l, low))
 ]
+
+-- the heights with other data of a live class
+heights-put : {D : Type 0} (a : Analysis D) (found : List Entry) (xs : List D) (c : ℕ) (v y x : D) → c < length found → IsLive found c → slice_get xs c ≡ Some y →
+    heights_from a (data_in x (set xs c v)) 0 found + a.height y ≡ heights_from a (data_in x xs) 0 found + a.height v
+heights-put {D} a found xs c v y x within live at =
+    let δ : ℕ → D = data_in x xs in
+    let place = slice_get_within xs c y at in
+    let each : (j : ℕ) → with_data δ c v j ≡ data_in x (set xs c v) j = λ j. elim (cases_eq j c) [
+      | inl q ↦ subst (λ i. with_data δ c v i ≡ data_in x (set xs c v) i) (sym q) (with_data-here δ c v ∙ sym (get_or-set_same xs c v x place))
+      | inr n ↦ with_data-other δ c v j n ∙ sym (get_or-set_other xs c j v x n)
+    ] in
+    let all : heights_from a (with_data δ c v) 0 found ≡ heights_from a (data_in x (set xs c v)) 0 found = λ i. heights_from a (λ j. each j i) 0 found in
+    let h = heights-with a δ c v 0 c found within (omega arith) in
+    let old = height-live a δ c (entry_at found c) live ∙ ap a.height (get_or_from_slice_get xs c y x at) in
+    let new = height-live a (with_data δ c v) c (entry_at found c) live ∙ ap a.height (with_data-here δ c v) in
+    omega (arith, all, h, old, new)
 
 module _ (k : Kept) (s : Rows) (rest : AtRest (state_in k (quiet s))) where
   linked : Linked (nodes_of k) (entries_of k)
@@ -183,12 +199,12 @@ module _ (k : Kept) (s : Rows) (rest : AtRest (state_in k (quiet s))) where
         ∙ (ap (meaning.make (bare_node f)) same ∙ sym (makes.3 x)))
 
     same-itself : SameUsers d d
-    same-itself = record { count = refl; users = refl; entered = refl; carried = refl; tall = refl }
+    same-itself = record { count = refl; users = refl; entered = refl; carried = refl; tall = refl; counts = refl }
 
     pub puts-same : (c : ℕ) (v : D) (t : Rows) (e : Held D) → Puts c v s t d e → SameUsers d e × (t.filed ≡ s.filed)
     puts-same c v t e (inl h) = (subst (SameUsers d) (sym h.2) same-itself, ap (λ (q : Rows). q.filed) h.1)
     puts-same c v t e (inr o) = (
-      record { count = ap length o.value.values ∙ length-set d.values c v; users = o.value.users; entered = o.value.entered; carried = o.value.carried; tall = o.value.tall },
+      record { count = ap length o.value.values ∙ length-set d.values c v; users = o.value.users; entered = o.value.entered; carried = o.value.carried; tall = o.value.tall; counts = o.value.counts },
       o.waits.filed.same,
     )
 
@@ -214,6 +230,41 @@ module _ (k : Kept) (s : Rows) (rest : AtRest (state_in k (quiet s))) where
           let e = ap (filed_of s.filed) source in
           absurd cc;
     }
+
+    -- the height of what c had was lowered, and no other
+    pub falls-lowered : IsMerge D (by_bare_nodes meaning) → (o c : ℕ) → o < length k.classes → c ≡ found_in k o → (v : D) (t : Rows) (e : Held D) → Lowers meaning c v s t d e →
+        (y z : D) → slice_get d.values c ≡ Some y → slice_get e.values c ≡ Some z →
+        (meaning.height z ≤ meaning.height y) × FallsBy (by_bare_nodes meaning) k d e (meaning.height y - meaning.height z)
+    falls-lowered law o c within class v t e lowers y z had has =
+        let n = length-nodes_of k in
+        let m = length-entries_of k in
+        let in_nodes : o < length (nodes_of k) = omega (arith, within, n) in
+        let live : IsLive (entries_of k) c = subst (IsLive (entries_of k)) (sym class) (found-live (nodes_of k) (entries_of k) led o in_nodes) in
+        let in_range = found-in_range (nodes_of k) (entries_of k) led o in_nodes in
+        let below : c < length (entries_of k) = omega (arith, in_range, class, n, m) in
+        let first : lowers.0 ≡ y = sym (get_or_from_slice_get d.values c lowers.0 y lowers.1) ∙ get_or_from_slice_get d.values c y y had in
+        elim lowers.2 [
+          | inl h ↦
+              let same : y ≡ z = sym (get_or_from_slice_get d.values c y y had) ∙ (ap (λ (f : Held D). data_in y f.values c) (sym h.2) ∙ get_or_from_slice_get e.values c z y has) in
+              let heights = ap meaning.height same in
+              (omega (arith, heights), λ x. let all = ap (heights_in (by_bare_nodes meaning) k x) h.2 in omega (arith, heights, all))
+          | inr p ↦
+              let place = slice_get_within d.values c y had in
+              let w : D = meaning.merge lowers.0 v in
+              let is : z ≡ w = sym (get_or_from_slice_get e.values c z y has) ∙ (ap (λ xs. data_in y xs c) p.value.values ∙ get_or-set_same d.values c w y place) in
+              let small : meaning.height w ≤ meaning.height lowers.0 = elim (law.decided w lowers.0) [
+                | inl q ↦ let l = ap meaning.height q in omega (arith, l)
+                | inr u ↦ let l = law.lowers lowers.0 v u in omega (arith, l)
+              ] in
+              let at_z = ap meaning.height is in
+              let at_y = ap meaning.height first in (
+                omega (arith, small, at_z, at_y),
+                λ x.
+                    let all = ap (λ xs. heights_from (by_bare_nodes meaning) (data_in x xs) 0 (entries_of k)) p.value.values in
+                    let h = heights-put (by_bare_nodes meaning) (entries_of k) d.values c w y x below live had in
+                    omega (arith, all, h, small, at_z, at_y),
+              )
+        ]
 
     pub takes-lowered : HasUsers k (length k.classes) d → length d.values ≡ length k.classes → AllDifferent s.waiting → AllDifferent d.changed →
         (o c : ℕ) (v : D) → o < length k.classes → c ≡ found_in k o → MakesValue meaning k d.values (filed_of s.filed o) v →

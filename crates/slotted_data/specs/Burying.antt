@@ -53,6 +53,7 @@ pub record Buries {D : Type 0} (a : Analysis D) (k : Kept) (cs : List ℕ) (s t 
   pub entered : e.entered ≡ d.entered
   pub carried : e.carried ≡ d.carried
   pub tall : e.tall ≡ d.tall
+  pub counts : e.counts ≡ d.counts
   pub rows : WaitsFiled s t
   pub down : (i : ℕ) (x : D) → Absorbs a (data_in x e.values i) (data_in x d.values i)
   pub merged : (i : ℕ) (x : D) → Contains cs i → Absorbs a (data_in x e.values (found_in k i)) (data_in x d.values i)

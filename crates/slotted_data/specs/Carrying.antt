@@ -1,22 +1,24 @@
 -- Carrying data along, from one graph at rest to a later one.
 --     DataRests a k r d         the graph is at rest with data d for all of its classes
+--     AreCounted a k d          what is noted of its rebuilds fits
 --     RestedBefore a k r l q d  the older graph rested with d, and the newer one goes on from it
 --     HasCarriedAll l d         each class has data, and each death has been carried
 --     Carried a k r l q d e     the newer one is at rest with e, which went down from d; what was made or has changed waits to be modified
 --     CarriesUp a l q t d e     the steps: users are entered, the dead are buried, and what nodes make goes upwards
 --     MergesIn a k q i v d e    v is merged into the data of the class that i finds, and goes upwards
-use Rattle.std.specs.Prelude.{◌≡◌, ◌<◌, ℕ, List, [], ◌++◌, length, drop, false, IsTrue}
+use Rattle.std.specs.Prelude.{◌≡◌, ◌<◌, ℕ, List, [], ◌++◌, length, drop, true, false, IsTrue}
 use Rattle.slotted_model.specs.Changes.{GoesOn}
 use Rattle.slotted_model.specs.Rest.{AtRest}
 use Rattle.slotted_model_analyses.specs.Analysis.{Analysis, Absorbs}
 use Rattle.slotted_model_analyses.specs.DataPart.{DataGoesDown, GoesDown, HasData}
 use Rattle.slotted_model_analyses.specs.DataWrites.{HasNotedAll, MergesInto}
-use Rattle.slotted_store.specs.Kept.{Kept, ListsDead, entries_of}
+use Rattle.slotted_store.specs.Kept.{Kept, ListsDead, entries_of, size_of}
 use Rattle.slotted_filing.specs.FiledRows.{Rows}
+use Rattle.slotted_rebuilding.specs.Counted.{CountsFit, CountsGo}
 use Rattle.slotted_rebuilding.specs.Filed.{state_in}
-use Rattle.slotted_data.specs.Held.{Held}
+use Rattle.slotted_data.specs.Held.{Held, no_turns}
 use Rattle.slotted_analyses.specs.Meaning.{Meaning, by_bare_nodes}
-use Rattle.slotted_data.specs.Made.{AddsNew, data_in}
+use Rattle.slotted_data.specs.Made.{AddsNew, HasHeights, data_in}
 use Rattle.slotted_data.specs.Users.{EntersUsers, found_in}
 use Rattle.slotted_data.specs.Lowering.{HasUsers, RisesTo, part_of}
 use Rattle.slotted_data.specs.Burying.{Buries}
@@ -33,6 +35,18 @@ pub record DataRests {D : Type 0} (a : Analysis D) (k : Kept) (r : Rows) (d : He
   -- each death has been carried
   pub carried : d.carried ≡ length k.deaths
   pub dead : ListsDead k.deaths (entries_of k)
+  -- turns for data were no more than their bounds allow, and none were taken as long as all data had height 0
+  pub counts : CountsFit d.counts.own 0
+  pub still : d.tall ≡ false → d.counts ≡ no_turns
+  pub high : d.tall ≡ true → HasHeights a
+
+-- what is noted of the rebuilds of a graph that has data for all classes, and of its turns for data
+pub record AreCounted {D : Type 0} (a : Analysis D) (k : Kept) (d : Held D) : Type 0 where
+  pub count : length d.values ≡ length k.classes
+  pub rebuilds : CountsFit k.counts (size_of k)
+  pub turns : CountsFit d.counts.own 0
+  pub still : d.tall ≡ false → d.counts ≡ no_turns
+  pub low : d.tall ≡ false → (i : ℕ) → i < length k.classes → (x : D) → a.height (data_in x d.values i) ≡ 0
 
 -- the graph of k and r was at rest with this data, and that of l and q goes on from it
 pub record RestedBefore {D : Type 0} (a : Analysis D) (k : Kept) (r : Rows) (l : Kept) (q : Rows) (d : Held D) : Type 0 where
@@ -54,6 +68,7 @@ pub record Carried {D : Type 0} (a : Analysis D) (k : Kept) (r : Rows) (l : Kept
   pub rests : DataRests a l q e
   pub down : (x : D) → DataGoesDown a (state_in k r) (part_of x d []) (state_in l q) (part_of x e [])
   pub noted : (x : D) → HasNotedAll (state_in k r) (part_of x d []) (state_in l q) (part_of x e [])
+  pub counts : CountsGo d.counts.own e.counts.own
 
 -- and since then each class that was made has got data
 pub record HasNewData {D : Type 0} (meaning : Meaning D) (l : Kept) (q : Rows) (e : Held D) : Type 0 where
@@ -82,3 +97,4 @@ pub record MergesIn {D : Type 0} (a : Analysis D) (k : Kept) (q : Rows) (i : ℕ
   -- merging it again changes nothing
   pub absorbs : (x : D) → Absorbs a (data_in x e.values (found_in k i)) v
   pub down : (x : D) → GoesDown a (part_of x d []) (part_of x e [])
+  pub counts : CountsGo d.counts.own e.counts.own

@@ -1,11 +1,23 @@
 -- The data of classes, with what has to be known to carry it along, and what each write leaves.
+--     DataCounts           what turns for data did
 --     Held D               the lists
 --     FitsValues vs us w   there is a list of users, and a flag, for each class that has data
 --     Notes c cs ds        c waits to be modified: it did, and nothing changed, or it is the last one now
 --     HasNewValue d e v t  from d to e the next class has the data v
 --     HasValue d e c v     from d to e the class c has the data v
 use Rattle.std.specs.Prelude.{◌≡◌, ◌⊎◌, ◌≤◌, ℕ, List, [], ◌∷◌, ◌++◌, length, set, slice_index_or, Bool, false, Contains, ◌||◌}
+use Rattle.slotted_store.specs.Counts.{Counts, no_counts}
 use Rattle.slotted_filing.specs.Waiting.{Waiting}
+
+-- what turns for data did
+pub record DataCounts : Type 0 where
+  -- the last that followed one another, as a rebuild whose sizes are heights, less those that it left; and the totals over all of them
+  pub own : Counts
+  -- the totals over all other rebuilds, as they were at these turns
+  pub rebuilt : ℕ × ℕ
+
+abbrev pub no_turns : DataCounts
+no_turns = record { own = no_counts; rebuilt = (0, 0) }
 
 pub record Held (D : Type 0) : Type 0 where
   -- the data of each class
@@ -20,9 +32,11 @@ pub record Held (D : Type 0) : Type 0 where
   pub carried : ℕ
   -- some class had data of a height above 0 when it was made
   pub tall : Bool
+  -- what turns for data did
+  pub counts : DataCounts
 
 abbrev pub no_values : {D : Type 0} → Held D
-no_values = record { values = []; users = []; entered = 0; changed = []; carried = 0; tall = false }
+no_values = record { values = []; users = []; entered = 0; changed = []; carried = 0; tall = false; counts = no_turns }
 
 pub record FitsValues {D : Type 0} (values : List D) (users : List (List ℕ)) (w : Waiting) : Type 0 where
   pub lists : length values ≤ length users
@@ -43,6 +57,7 @@ pub record HasNewValue {D : Type 0} (d e : Held D) (v : D) (is_tall : Bool) : Ty
   pub changed : Notes (length d.values) d.changed e.changed
   pub carried : e.carried ≡ d.carried
   pub tall : e.tall ≡ (d.tall || is_tall)
+  pub counts : e.counts ≡ d.counts
 
 -- the class has this data, and waits to be modified
 pub record HasValue {D : Type 0} (d e : Held D) (c : ℕ) (v : D) : Type 0 where
@@ -52,6 +67,7 @@ pub record HasValue {D : Type 0} (d e : Held D) (c : ℕ) (v : D) : Type 0 where
   pub changed : Notes c d.changed e.changed
   pub carried : e.carried ≡ d.carried
   pub tall : e.tall ≡ d.tall
+  pub counts : e.counts ≡ d.counts
 
 -- one user more of a class
 abbrev pub with_user : {D : Type 0} → Held D → ℕ → ℕ → Held D

@@ -1,6 +1,7 @@
 pub mod Held
 pub mod Made
 pub mod Users
+pub mod Counted
 pub mod Lowering
 pub mod Burying
 pub mod Carrying

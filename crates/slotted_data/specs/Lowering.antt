@@ -6,14 +6,17 @@
 --     HasUsers k n d       the first n classes are among the users of what their children find, and nobody is besides
 --     IsReady k s d        there is data for each class of a graph at rest, and all its users are known
 --     TakesValue a k o ..  what the filed node of o makes is merged into the data of its class
---     RisesTo a k ..       a run of turns for data alone leads to where nothing waits
-use Rattle.std.specs.Prelude.{◌≡◌, ◌⊎◌, ◌<◌, ℕ, List, [], length, map, Some, Option, Contains, slice_get}
+--     FallsBy a k d e n    from d to e the heights of the data of live classes fell by n
+--     TakesTurns a k ..    a run of turns for data alone
+--     RisesTo a k ..       one that leads to where nothing waits, and is noted
+use Rattle.std.specs.Prelude.{◌≡◌, ◌⊎◌, ◌<◌, ◌≤◌, ℕ, suc, ◌+◌, ◌*◌, min, List, [], length, map, Some, Option, Contains, slice_get}
 use Rattle.slotted_nodes.specs.Form.{Form}
 use Rattle.slotted_model.specs.Rest.{AtRest}
 use Rattle.slotted_model.specs.State.{Row}
 use Rattle.slotted_model_analyses.specs.Analysis.{Analysis}
-use Rattle.slotted_model_analyses.specs.DataPart.{DataPart, Merges, RunsWithData, made}
-use Rattle.slotted_store.specs.Kept.{Kept}
+use Rattle.slotted_model_analyses.specs.DataPart.{DataPart, Merges, RunsWithData, heights_from, made}
+use Rattle.slotted_store.specs.Counts.{most_turns}
+use Rattle.slotted_store.specs.Kept.{Kept, entries_of}
 use Rattle.slotted_filing.specs.Filed.{Filing}
 use Rattle.slotted_filing.specs.FiledRows.{Rows, rows_in}
 use Rattle.slotted_rebuilding.specs.Filed.{state_in}
@@ -22,6 +25,7 @@ use Rattle.slotted_analyses.specs.Meaning.{Meaning}
 use Rattle.slotted_data.specs.Held.{Held, HasValue, users_of}
 use Rattle.slotted_data.specs.Made.{data_in, children_at, child_values}
 use Rattle.slotted_data.specs.Users.{WaitEach, found_in}
+use Rattle.slotted_data.specs.Counted.{most_fall, with_turns}
 
 -- what is filed, where nothing waits
 abbrev pub quiet : Rows → Rows
@@ -62,6 +66,7 @@ pub record SameUsers {D : Type 0} (d e : Held D) : Type 0 where
   pub entered : e.entered ≡ d.entered
   pub carried : e.carried ≡ d.carried
   pub tall : e.tall ≡ d.tall
+  pub counts : e.counts ≡ d.counts
 
 -- what is filed of a class, if anything is, makes v of the data of its children
 abbrev pub MakesValue : {D : Type 0} → Meaning D → Kept → List D → Option Filing → D → Type 0
@@ -75,9 +80,35 @@ pub record TakesValue {D : Type 0} (a : Analysis D) (k : Kept) (o : ℕ) (s t : 
   pub merges : (x : D) (r : Row) → Contains (rows_in s.filed) r → r.source ≡ o →
       Merges a (state_in k (quiet s)) (part_of x d s.waiting) (found_in k o) (made a (part_of x d s.waiting) r.shape) (part_of x e t.waiting)
 
--- turns for data alone lead to where nothing waits; the graph stays
-pub record RisesTo {D : Type 0} (a : Analysis D) (k : Kept) (s t : Rows) (d e : Held D) : Type 0 where
+-- the heights of the data of live classes
+abbrev pub heights_in : {D : Type 0} → Analysis D → Kept → D → Held D → ℕ
+heights_in a k x d = heights_from a (data_in x d.values) 0 (entries_of k)
+
+-- they fell by n
+abbrev pub FallsBy : {D : Type 0} → Analysis D → Kept → Held D → Held D → ℕ → Type 0
+FallsBy {D} a k d e n = (x : D) → heights_in a k x e + n ≡ heights_in a k x d
+
+-- so many turns for data alone, by which heights fell by so much, as far as these are counted; the graph stays
+pub record TakesTurns {D : Type 0} (a : Analysis D) (k : Kept) (s t : Rows) (d e : Held D) (turns fall : ℕ) : Type 0 where
   pub filed : t.filed ≡ s.filed
-  pub nothing_waits : t.waiting ≡ []
   pub same : SameUsers d e
-  pub runs : (x : D) → (n : ℕ) × RunsWithData a (state_in k (quiet s)) (part_of x d s.waiting) n (state_in k (quiet s)) (part_of x e [])
+  pub taken : ℕ
+  pub fallen : ℕ
+  pub turns_is : turns ≡ min taken most_turns
+  pub fall_is : fall ≡ min fallen most_fall
+  pub runs : (x : D) → RunsWithData a (state_in k (quiet s)) (part_of x d s.waiting) taken (state_in k (quiet s)) (part_of x e t.waiting)
+  pub falls : FallsBy a k d e fallen
+
+-- the totals over all rebuilds but those of data
+abbrev pub totals_in : Kept → ℕ × ℕ
+totals_in k = (k.counts.total_turns, k.counts.total_bound)
+
+-- they lead to where nothing waits, and are noted; their bound allows so many
+pub record RisesTo {D : Type 0} (a : Analysis D) (k : Kept) (s t : Rows) (d f : Held D) : Type 0 where
+  pub risen : Held D
+  pub turns : ℕ
+  pub fall : ℕ
+  pub nothing_waits : t.waiting ≡ []
+  pub takes : TakesTurns a k s t d risen turns fall
+  pub few : turns ≤ length (rows_in s.filed) * suc fall
+  pub notes : f ≡ with_turns risen (length (rows_in s.filed)) fall turns (totals_in k)

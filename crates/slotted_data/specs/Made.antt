@@ -3,8 +3,9 @@
 --     children_at k i       the classes of the children of the node of the class i
 --     source_class es n c   what c finds, if that is one of n classes, else c itself
 --     made_in a k x vs i    what the node of the class i makes of the data of these
+--     HasHeights a          some data has a height above 0
 --     AddsNew a k d e       from d to e each class that had no data has what its node made
-use Rattle.std.specs.Prelude.{◌≡◌, ◌⊎◌, ◌<◌, ◌≤◌, ℕ, List, ◌++◌, length, map, Bool, false, cond, nat_lt, Contains, slice_index_or}
+use Rattle.std.specs.Prelude.{◌≡◌, ◌⊎◌, ◌<◌, ◌≤◌, ℕ, List, ◌++◌, length, map, Bool, true, false, cond, nat_lt, Contains, slice_index_or}
 use Rattle.slotted_nodes.specs.Form.{Form}
 use Rattle.slotted_model.specs.Correspondence.{AllDifferent}
 use Rattle.slotted_model.specs.Find.{Entry, find_class}
@@ -36,6 +37,10 @@ HasChildValues {D} k values f xs = (x : D) → xs ≡ child_values k x values (l
 abbrev pub made_in : {D : Type 0} → Meaning D → Kept → D → List D → ℕ → D
 made_in a k x values i = a.make (bare_node (node_at k i)) (child_values k x values i (node_at k i))
 
+-- some data has a height above 0
+abbrev pub HasHeights : {D : Type 0} → Meaning D → Type 0
+HasHeights {D} a = (x : D) × (0 < a.height x)
+
 -- the next class gets what its node makes
 pub record AddsNext {D : Type 0} (a : Meaning D) (k : Kept) (d e : Held D) : Type 0 where
   pub value : D
@@ -43,6 +48,7 @@ pub record AddsNext {D : Type 0} (a : Meaning D) (k : Kept) (d e : Held D) : Typ
   pub new : HasNewValue d e value is_tall
   pub made : (x : D) → value ≡ made_in a k x d.values (length d.values)
   pub low : is_tall ≡ false → a.height value ≡ 0
+  pub high : is_tall ≡ true → 0 < a.height value
 
 -- each class that had no data has what its node made, and waits to be modified; no other data has changed
 pub record AddsNew {D : Type 0} (a : Meaning D) (k : Kept) (d e : Held D) : Type 0 where
@@ -52,9 +58,11 @@ pub record AddsNew {D : Type 0} (a : Meaning D) (k : Kept) (d e : Held D) : Type
   pub users : (c : ℕ) → users_of e c ≡ users_of d c
   pub entered : e.entered ≡ d.entered
   pub carried : e.carried ≡ d.carried
+  pub counts : e.counts ≡ d.counts
   pub once : AllDifferent d.changed → AllDifferent e.changed
   pub kept : (i : ℕ) → Contains d.changed i → Contains e.changed i
   pub new : (i : ℕ) → length d.values ≤ i → i < length e.values → Contains e.changed i
   pub from : (i : ℕ) → Contains e.changed i → Contains d.changed i ⊎ (i < length e.values)
   pub still_low : e.tall ≡ false → d.tall ≡ false
+  pub high : e.tall ≡ true → (d.tall ≡ true) ⊎ HasHeights a
   pub low : e.tall ≡ false → (i : ℕ) → length d.values ≤ i → i < length e.values → (x : D) → a.height (data_in x e.values i) ≡ 0

@@ -1,5 +1,6 @@
 -- What a graph has by its analysis, as callers see it, and what of it stands at rest.
---     Part N D                     the analysis, the limit of rounds, the data of each class, and the classes that wait to be modified
+--     Part N D                     the analysis, the limit of rounds, the data of each class, the classes that wait to be modified, and what
+--                                  turns for data did
 --     part_code codes              what tells such parts apart
 --     part_in n m d                these of what is kept
 --     part_by codes n m d          and as a graph's value has them
@@ -13,7 +14,8 @@ use base.Stored.{Gv}
 use Rattle.slotted_model.specs.Find.{Entry, find_class}
 use Rattle.slotted_model.specs.State.{Row, child_classes}
 use Rattle.slotted_model_analyses.specs.Analysis.{Analysis, Absorbs}
-use Rattle.slotted_data.specs.Held.{Held}
+use Rattle.slotted_store.specs.Counts.{Counts, counts_code}
+use Rattle.slotted_data.specs.Held.{DataCounts, Held}
 use Rattle.slotted_data.specs.Made.{data_in}
 
 pub record Part (N D : Type 0) : Type 0 where
@@ -21,15 +23,20 @@ pub record Part (N D : Type 0) : Type 0 where
   pub rounds : ℕ
   pub values : List D
   pub changed : List ℕ
+  pub counts : DataCounts
+
+abbrev data_counts_code : Coded DataCounts
+data_counts_code = code_by (Counts × (ℕ × ℕ)) (coded× counts_code (coded× coded_ℕ coded_ℕ)) (λ c. (c.own, c.rebuilt)) (λ p. record { own = p.0; rebuilt = p.1 }) (λ _. refl)
 
 -- what tells such parts apart, by what tells analyses and data apart
 abbrev pub part_code : {N D : Type 0} → Coded N × Coded D → Coded (Part N D)
 part_code {N} {D} codes =
-    code_by (N × (ℕ × (List D × List ℕ))) (coded× codes.0 (coded× coded_ℕ (coded× (coded_list codes.1) (coded_list coded_ℕ))))
-    (λ p. (p.analysis, (p.rounds, (p.values, p.changed)))) (λ p. record { analysis = p.0; rounds = p.1.0; values = p.1.1.0; changed = p.1.1.1 }) (λ _. refl)
+    code_by (N × (ℕ × (List D × (List ℕ × DataCounts)))) (coded× codes.0 (coded× coded_ℕ (coded× (coded_list codes.1) (coded× (coded_list coded_ℕ) data_counts_code))))
+    (λ p. (p.analysis, (p.rounds, (p.values, (p.changed, p.counts)))))
+    (λ p. record { analysis = p.0; rounds = p.1.0; values = p.1.1.0; changed = p.1.1.1.0; counts = p.1.1.1.1 }) (λ _. refl)
 
 abbrev pub part_in : {N D : Type 0} → N → ℕ → Held D → Part N D
-part_in n m d = record { analysis = n; rounds = m; values = d.values; changed = d.changed }
+part_in n m d = record { analysis = n; rounds = m; values = d.values; changed = d.changed; counts = d.counts }
 
 -- and as a graph's value has it
 abbrev pub part_by : {N D : Type 0} → Coded N × Coded D → N → ℕ → Held D → Gv

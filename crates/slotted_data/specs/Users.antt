@@ -30,6 +30,7 @@ pub record SameValues {D : Type 0} (d e : Held D) : Type 0 where
   pub changed : e.changed ≡ d.changed
   pub carried : e.carried ≡ d.carried
   pub tall : e.tall ≡ d.tall
+  pub counts : e.counts ≡ d.counts
 
 -- what c finds
 abbrev pub found_in : Kept → ℕ → ℕ

@@ -1,18 +1,22 @@
 //! The data of classes, and what has to be known to carry it along.
-ghost use Rattle.std.specs.Prelude.{◌≡◌, ◌<◌, ◌≤◌, ◌++◌, ◌∷◌, [], length, set, slice_get, slice_index_or, Some, IfOk, IfErr, OnOk};
+ghost use Rattle.std.specs.Prelude.{◌≡◌, ◌<◌, ◌≤◌, ◌^◌, ◌++◌, ◌∷◌, [], length, set, slice_get, slice_index_or, Some, IfOk, IfErr, OnOk};
 ghost use Rattle.slotted_slots.specs.Error.{IsOutOfMemory};
 ghost use Rattle.slotted_data.specs.Held.{HasNewValue, HasValue, no_values, users_of, with_carried, with_entered};
 ghost use Rattle.slotted_data.specs.Held.{with_none_changed, with_user, with_users_taken};
+ghost use Rattle.slotted_data.specs.Counted.{with_turns};
+ghost use Rattle.slotted_store.specs.Counts.{last_count};
 
 use slotted_filing::Worklist;
 use slotted_slots::Error;
+use slotted_store::RebuildCount;
 use std::alloc::Global;
 use std::marker::Model;
 use std::mem;
 
 /// For each class its data, and the sources of nodes with a child that finds the class. Beside them stand what has to be known to carry data
 /// along: how many classes are among the users of their children's classes, and how many deaths have been carried. A flag tells whether some
-/// class had data of a height above 0 when it was made. Some classes wait to be modified. After want of memory nothing is known of all this.
+/// class had data of a height above 0 when it was made. Some classes wait to be modified. Turns that are taken for data are counted. After want
+/// of memory nothing is known of all this.
 #[derive(Drop)]
 pub struct ClassData<D> {
     values: Vec<D>,
@@ -21,10 +25,24 @@ pub struct ClassData<D> {
     changed: Worklist,
     carried: usize,
     tall: bool,
+    // The last turns for data that followed one another. The sizes are heights, less those that were left.
+    count: RebuildCount,
+    total_turns: u64,
+    total_bound: u128,
+    // The totals over all other rebuilds, as they were at these turns.
+    rebuilt: (u64, u128),
+}
+
+/// Turns that were taken for data, and by how much the heights of the data of live classes fell.
+#[derive(Clone, Copy)]
+pub(crate) struct Taken {
+    pub(crate) turns: u64,
+    pub(crate) fall: u64,
 }
 
 impl<D> Model for ClassData<D> {
     ghost use Rattle.std.specs.Prelude.{map};
+    ghost use Rattle.slotted_store.specs.Counts.{counts_of};
     ghost use Rattle.slotted_data.specs.Held.{FitsValues, Held};
 
     ghost Value = { Held D };
@@ -36,6 +54,7 @@ impl<D> Model for ClassData<D> {
       changed = s.changed.queue;
       carried = s.carried;
       tall = s.tall;
+      counts = record { own = counts_of s.count s.total_turns s.total_bound; rebuilt = s.rebuilt };
     } };
 
     ghost invariant = { λ s. FitsValues s.values.items (map (λ v. v.items) s.users.items) s.changed };
@@ -53,12 +72,22 @@ impl<D: Drop> ClassData<D> {
             changed: Worklist::new(alloc),
             carried: 0,
             tall: false,
+            count: RebuildCount {
+                nodes: 0,
+                size_before: 0,
+                size_after: 0,
+                turns: 0,
+            },
+            total_turns: 0,
+            total_bound: 0,
+            rebuilt: (0, 0),
         }
     }
 
     /// Returns how many classes have data.
     pub fn count(&self) -> usize
-        ensures { result ≡ length self.now.values }
+        ensures count { result ≡ length self.now.values }
+        ensures few { result < 2 ^ 63 }
     {
         self.values.len()
     }
@@ -94,7 +123,48 @@ impl<D: Drop> ClassData<D> {
         drain(alloc, &mut self.changed)
     }
 
+    /// Returns what the last turns for data did, as a rebuild whose sizes are heights, less those that were left.
+    pub fn last_turns(&self) -> RebuildCount
+        ensures { result ≡ last_count self.now.counts.own }
+    {
+        self.count
+    }
+
+    /// Returns how many turns for data were taken in all, and how many their bounds allow. A sum that would be too large ends at the largest number.
+    pub fn turn_totals(&self) -> (u64, u128)
+        ensures { result ≡ (self.now.counts.own.total_turns, self.now.counts.own.total_bound) }
+    {
+        (self.total_turns, self.total_bound)
+    }
+
+    /// Returns the totals over all other rebuilds, as they were at the last turns for data.
+    pub fn rebuilt(&self) -> (u64, u128)
+        ensures { result ≡ self.now.counts.rebuilt }
+    {
+        self.rebuilt
+    }
+
     // Single writes, each said exactly.
+
+    // Turns were taken for data, if any were, with so many nodes filed. Other rebuilds had these totals.
+    pub(crate) fn note_turns(&mut self, nodes: usize, taken: Taken, totals: (u64, u128))
+        ensures { self.new ≡ with_turns self.old nodes taken.fall taken.turns totals }
+    {
+        if taken.turns == 0 {
+            return;
+        }
+        let fall = taken.fall as u128;
+        let bound = (nodes as u128).saturating_mul(fall + 1);
+        self.count = RebuildCount {
+            nodes,
+            size_before: fall,
+            size_after: 0,
+            turns: taken.turns,
+        };
+        self.total_turns = self.total_turns.saturating_add(taken.turns);
+        self.total_bound = self.total_bound.saturating_add(bound);
+        self.rebuilt = totals;
+    }
 
     // The next class has this data. No node is over it yet, and it waits to be modified.
     pub(crate) fn add(&mut self, alloc: Global, value: D, is_tall: bool) -> Result<(), Error>

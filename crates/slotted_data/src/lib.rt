@@ -7,6 +7,7 @@
 pub(crate) mod burying;
 pub mod carrying;
 pub mod class_data;
+pub mod counts;
 pub(crate) mod lowering;
 pub(crate) mod making;
 pub mod pending;
@@ -14,4 +15,5 @@ pub(crate) mod users;
 
 pub use carrying::{carry, merge_value};
 pub use class_data::ClassData;
+pub use counts::{last_rebuild, rebuild_totals};
 pub use pending::{pending_count, take_pending};

@@ -1,15 +1,17 @@
 //! Values that are merged into the data of classes, and go upwards.
-ghost use Rattle.std.specs.Prelude.{◌≡◌, ◌<◌, ℕ, length, IfOk, IfErr, IfSome, IfNone, None, OnOk, All};
+ghost use Rattle.std.specs.Prelude.{◌≡◌, ◌<◌, ◌≤◌, ◌*◌, ℕ, suc, [], length, IfOk, IfErr, IfSome, IfNone, None, OnOk, All};
 ghost use Rattle.slotted_slots.specs.Error.{IsOutOfMemory};
 ghost use Rattle.slotted_model.specs.Correspondence.{AllDifferent};
 ghost use Rattle.slotted_model_analyses.specs.DataPart.{HasData};
 ghost use Rattle.slotted_store.specs.Finding.{HasFinds};
 ghost use Rattle.slotted_filing.specs.Filed.{filed_of};
+ghost use Rattle.slotted_filing.specs.FiledRows.{rows_in};
 ghost use Rattle.slotted_rebuilding.specs.Filed.{state_in};
 ghost use Rattle.slotted_analyses.specs.Meaning.{by_bare_nodes};
-ghost use Rattle.slotted_data.specs.Lowering.{IsReady, Lowers, MakesValue, Puts, RisesTo, TakesValue, part_of, quiet};
+ghost use Rattle.slotted_data.specs.Lowering.{FallsBy, IsReady, Lowers, MakesValue, Puts, RisesTo};
+ghost use Rattle.slotted_data.specs.Lowering.{TakesTurns, TakesValue, part_of, quiet};
 
-use crate::class_data::ClassData;
+use crate::class_data::{ClassData, Taken};
 use crate::making::child_data;
 use crate::users::wait_each;
 use slotted_analyses::Analysis;
@@ -80,7 +82,8 @@ fn value_made<L: Language, N: Analysis<L>>(
     Ok(Some(value))
 }
 
-// What the filed node of a class makes is merged into the data of what the class finds. Data of height 0 absorbs everything.
+// What the filed node of a class makes is merged into the data of what the class finds. Data of height 0 absorbs everything. The answer is by
+// how much the height of that data fell.
 fn take_data<L: Language, N: Analysis<L>>(
     store: &Store<L>,
     nodes: &mut Hashcons<L>,
@@ -88,7 +91,7 @@ fn take_data<L: Language, N: Analysis<L>>(
     analysis: &N,
     alloc: Global,
     source: usize,
-) -> Result<(), Error>
+) -> Result<u32, Error>
     requires good { HasFinds store.now }
     requires within { source < length store.now.classes }
     requires ready { IsReady store.now nodes.old «data».old }
@@ -96,20 +99,52 @@ fn take_data<L: Language, N: Analysis<L>>(
     requires changed { AllDifferent «data».old.changed }
     ensures ok { OnOk result
         (TakesValue (by_bare_nodes (N.meaning analysis.now)) store.now source nodes.old nodes.new «data».old «data».new) }
+    ensures falls { IfOk result (FallsBy (by_bare_nodes (N.meaning analysis.now)) store.now «data».old «data».new) }
     ensures err { IfErr result IsOutOfMemory }
 {
     let class = store.find_class(source);
-    if analysis.height(data.value(class)) == 0 {
-        return Ok(());
+    let before = analysis.height(data.value(class));
+    if before == 0 {
+        return Ok(0);
     }
     let Some(value) = value_made(store, nodes, data, analysis, alloc, source)? else {
-        return Ok(());
+        return Ok(0);
     };
     lower(nodes, data, analysis, alloc, class, &value)?;
-    Ok(())
+    let after = analysis.height(data.value(class));
+    Ok(before - after)
 }
 
 // Each class that waits takes what its filed node makes, until none waits.
+fn take_turns<L: Language, N: Analysis<L>>(
+    store: &Store<L>,
+    nodes: &mut Hashcons<L>,
+    data: &mut ClassData<N::Data>,
+    analysis: &N,
+    alloc: Global,
+) -> Result<Taken, Error>
+    requires good { HasFinds store.now }
+    requires ready { IsReady store.now nodes.old «data».old }
+    requires has { (x : N.Data) → HasData (by_bare_nodes (N.meaning analysis.now))
+        (state_in store.now (quiet nodes.old)) (part_of x «data».old nodes.old.waiting) }
+    ensures ok { IfOk result (λ n. TakesTurns
+        (by_bare_nodes (N.meaning analysis.now)) store.now nodes.old nodes.new «data».old «data».new n.turns n.fall) }
+    ensures few { IfOk result (λ n. n.turns ≤ length (rows_in nodes.old.filed) * suc n.fall) }
+    ensures none { OnOk result (nodes.new.waiting ≡ []) }
+    ensures err { IfErr result IsOutOfMemory }
+{
+    let mut turns: u64 = 0;
+    let mut fall: u64 = 0;
+    while let Some(source) = nodes.front() {
+        nodes.leave(source);
+        let less = take_data(store, nodes, data, analysis, alloc, source)?;
+        turns = turns.saturating_add(1);
+        fall = fall.saturating_add(less as u64);
+    }
+    Ok(Taken { turns, fall })
+}
+
+// Each class that waits takes what its filed node makes, until none waits. The turns are noted.
 pub(crate) fn rise<L: Language, N: Analysis<L>>(
     store: &Store<L>,
     nodes: &mut Hashcons<L>,
@@ -125,9 +160,7 @@ pub(crate) fn rise<L: Language, N: Analysis<L>>(
         (RisesTo (by_bare_nodes (N.meaning analysis.now)) store.now nodes.old nodes.new «data».old «data».new) }
     ensures err { IfErr result IsOutOfMemory }
 {
-    while let Some(source) = nodes.front() {
-        nodes.leave(source);
-        take_data(store, nodes, data, analysis, alloc, source)?;
-    }
+    let taken = take_turns(store, nodes, data, analysis, alloc)?;
+    data.note_turns(nodes.len(), taken, store.rebuild_totals());
     Ok(())
 }

@@ -2,17 +2,16 @@
 use Rattle.std.proofs.Common.{◌≡◌, ◌<◌, ℕ, List, Bool, true, false, nat_eq, length, map, Some, sym, ◌∙◌, ap, refl, subst, arith, inl, inr}
 use Rattle.std.proofs.lemmas.Bool.{ltb-true}
 use Rattle.std.proofs.lemmas.Option.{get_or_from_slice_get}
-use Rattle.std.specs.Prelude.{◌↔◌, ◌&&◌, Contains, Result, Ok, Err, IfOk, OnErr, count_by, nat_lt, slice_get, slice_index_or}
+use Rattle.std.specs.Prelude.{◌↔◌, ◌&&◌, Contains, Result, Ok, Err, IfOk, OnErr, count_by, nat_lt, slice_get}
 use Rattle.std.specs.Coded.{Coded}
 use Rattle.std.specs.List.{filter}
 use Rattle.std.specs.List.Sorted.{IsPermutation, IsSorted}
 use Rattle.std.specs.Ordering.{nat_cmp}
-use base.Stored.{Gv}
 use Rattle.slotted_slots.specs.declared.error.Error.{Error}
 use Rattle.slotted_model.specs.Changes.{GoesOn}
 use Rattle.slotted_model.specs.Find.{Entry, find_class}
 use Rattle.slotted_model.specs.Rest.{AtRest}
-use Rattle.slotted_model.specs.State.{Row, child_classes}
+use Rattle.slotted_model.specs.State.{child_classes}
 use Rattle.slotted_model.proofs.GoingOn.{goes_on-same}
 use Rattle.slotted_model_analyses.specs.Analysis.{Absorbs, Analysis, IsMerge}
 use Rattle.slotted_proofs.specs.Entries.{Proven}
@@ -100,6 +99,7 @@ module _ {N D : Type 0} (codes : Coded N × Coded D) (meaning : N → Meaning D)
             carried-falls a k r l q d e rests carried i within-entries x y (ap (slice_get d.values) (sym (class-is i here)) ∙ old) has,
           );
       notes = carried-notes (by_bare_nodes (meaning n)) k r l q d e rests carried;
+      counts = carried.counts;
     }
 
 -- a checked step enters proofs alone
@@ -117,6 +117,7 @@ kept-part codes meaning n m k r d rests l same e still = ap (part_by codes n m) 
 pub merged-carried : {D : Type 0} (a : Analysis D) → IsMerge D a → (k : Kept) (r : Rows) (i : ℕ) (v : D) (d e : Held D) → MergesIn a k r i v d e → Carried a k r k r d e
 merged-carried a law k r i v d e m = record {
   rests = m.rests;
+  counts = m.counts;
   down = λ x c h. (m.down x).lower (find_class (entries_of k) c);
   noted = λ x. record {
     kept = (m.down x).kept;
@@ -153,7 +154,7 @@ and-same : (b x y : Bool) → (b ≡ true → x ≡ y) → (b && x) ≡ (b && y)
 and-same true x y h = h refl
 and-same false x y h = refl
 
-lives-is : (k : Kept) → Good k → (i : ℕ) → lives_in k i ≡ is_live_class (image_of k) i
+pub lives-is : (k : Kept) → Good k → (i : ℕ) → lives_in k i ≡ is_live_class (image_of k) i
 lives-is k good i =
     (λ j. nat_lt i (sym (length-nodes_of k) j) && nat_eq (find_at k i).class i)
     ∙ and-same (nat_lt i (length (nodes_of k))) (nat_eq (find_at k i).class i) (finds_itself (image_of k) i) (λ e.

@@ -1,7 +1,7 @@
 -- What a search over what is kept and filed finds, as a search over the graph.
 use Rattle.std.proofs.Common.{◌≡◌, ◌∙◌, ◌<◌, ◌+◌, ℕ, suc, arith, List, [], ◌∷◌, ◌++◌, Some, length, ap, refl, sym, subst, inl, inr}
 use Rattle.std.proofs.lemmas.Bool.{false≢true}
-use Rattle.std.specs.Prelude.{◌⊎◌, Bool, true, false, cond, slice_index_or, Contains, IsTrue, map, Result, Ok, Err, IfOk}
+use Rattle.std.specs.Prelude.{Bool, true, false, cond, slice_index_or, Contains, map, Result, Ok, Err, IfOk}
 use Rattle.std.proofs.lemmas.List.Elements.{Contains-append_left, Contains-append_right}
 use Rattle.std.proofs.lemmas.List.{get_or_default}
 use Rattle.slotted_slots.specs.declared.error.Error.{Error}

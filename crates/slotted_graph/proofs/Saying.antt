@@ -21,6 +21,7 @@ use Rattle.slotted_model.specs.ProofList.{Equation, equation_of, term_pair}
 use Rattle.slotted_model.proofs.FillingEquations.{filled-equation}
 use Rattle.slotted_proofs.specs.Entries.{Proven, nothing_proven, proven_at}
 use Rattle.slotted_proofs.specs.Equations.{to_applied}
+use Rattle.slotted_rebuilding.proofs.CountedRebuilds.{counts-same, counts-then}
 use Rattle.slotted_core.proofs.CallerLemmas.{term_later}
 use Rattle.slotted_analyses.specs.Meaning.{IsMergeOf, Meaning, by_bare_nodes}
 use Rattle.slotted_analyses.specs.declared.edit.Edit.{Edit}
@@ -45,7 +46,7 @@ merges-through m law z y x down lower = sym (ap (λ w. m.merge w x) down) ∙ (l
 pub carried-lowers : {N D : Type 0} (codes : Coded N × Coded D) (meaning : N → Meaning D) (g h : Graph) → CarriesData codes meaning g h → LowersData codes meaning g h
 carried-lowers {N} {D} codes meaning g h c p keeps =
     let same : c.older ≡ p = (part_code codes).inj c.older p (sym c.before ∙ keeps) in
-    subst (λ (q : Part N D). LowersPart codes meaning g q h) same (record { newer = c.newer; after = c.after; analysis = c.analysis; rounds = c.rounds; falls = c.falls })
+    subst (λ (q : Part N D). LowersPart codes meaning g q h) same (record { newer = c.newer; after = c.after; analysis = c.analysis; rounds = c.rounds; falls = c.falls; counts = c.counts })
 
 -- data that goes down twice goes down
 pub lowers-then : {N D : Type 0} (codes : Coded N × Coded D) (meaning : N → Meaning D) (law : (n : N) → IsMergeOf (meaning n)) (f g h : Graph) → ExtendsTo f g → LowersData codes meaning f g → LowersData codes meaning g h → LowersData codes meaning f h
@@ -57,6 +58,7 @@ lowers-then {N} {D} codes meaning law f g h extends first second p keeps =
       after = b.after;
       analysis = b.analysis ∙ a.analysis;
       rounds = b.rounds ∙ a.rounds;
+      counts = counts-then p.counts.own a.newer.counts.own b.newer.counts.own a.counts b.counts;
       falls = λ i within x has.
           let y = a.falls i within x has in
           let z = b.falls i (extends.canonical.classes i within).0 y.0 y.1 in
@@ -72,6 +74,7 @@ lowers-itself codes meaning law g p keeps = record {
   after = keeps;
   analysis = refl;
   rounds = refl;
+  counts = counts-same p.counts.own;
   falls = λ i within x has. (x, has, (law p.analysis).idempotent x);
 }
 

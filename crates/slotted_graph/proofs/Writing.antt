@@ -15,9 +15,9 @@ use Rattle.slotted_data.specs.Part.{Part, part_code}
 use Rattle.slotted_core.specs.Explaining.{AddsTerms}
 use Rattle.slotted_core.specs.Graph.{Graph, RecordsUnion}
 use Rattle.slotted_core.specs.Image.{AddsClasses, FoundAlike, IsUnion, asserted_in}
-use Rattle.slotted_core.specs.LookUp.{HasSameClasses, IsOneGraph, MakesClassFor, look_up}
+use Rattle.slotted_core.specs.LookUp.{IsOneGraph, MakesClassFor, look_up}
 use Rattle.slotted_core.specs.ValidIds.{IsValidNode}
-use Rattle.slotted_graph.specs.Analysed.{CarriesData, CountsPending, HasRounds, MergesData}
+use Rattle.slotted_graph.specs.Analysed.{CarriesData, CountsPending, HasRounds}
 use Rattle.slotted_graph.specs.Asked.{Asks, IsAskedBetween}
 use Rattle.slotted_graph.specs.Extension.{ExtendsTo}
 use Rattle.slotted_graph.specs.Rounds.{IsModified, LeavesModified, MakesRounds, no_rounds}
@@ -26,7 +26,7 @@ use Rattle.slotted_graph.specs.Writing.{AddsAndModifies, AddsMore, IfUnmodified,
 use Rattle.slotted_graph.proofs.Extending.{extends-added, extends-itself, extends-then, extends-united}
 use Rattle.slotted_graph.proofs.Insides.{given}
 use Rattle.slotted_graph.proofs.Leaving.{asked-longer, extends-kept, leaves-itself}
-use Rattle.slotted_graph.proofs.Saying.{carried-lowers, graph-kept, lowers-itself, lowers-then, no-more, then-more}
+use Rattle.slotted_graph.proofs.Saying.{carried-lowers, graph-kept, lowers-then, no-more, then-more}
 
 -- which classes were made, told of an answer
 pub ok-both : {A : Type 0} (r : Result A Error) (P Q : Type 0) → OnOk r P → OnOk r Q → OnOk r (P × Q)

@@ -19,6 +19,7 @@ use Rattle.slotted_slots.specs.Table.{Table}
 use Rattle.slotted_model.specs.Correspondence.{AllDifferent}
 use Rattle.slotted_model.specs.State.{Row, child_classes}
 use Rattle.slotted_model_analyses.specs.Analysis.{Absorbs}
+use Rattle.slotted_rebuilding.specs.Counted.{CountsGo}
 use Rattle.slotted_analyses.specs.Meaning.{Meaning, by_bare_nodes}
 use Rattle.slotted_data.specs.Held.{no_values}
 use Rattle.slotted_data.specs.Part.{Part, NotesChanges, part_by, part_code}
@@ -95,6 +96,8 @@ pub record LowersPart {N D : Type 0} (codes : Coded N × Coded D) (meaning : N �
   pub analysis : newer.analysis ≡ older.analysis
   pub rounds : newer.rounds ≡ older.rounds
   pub falls : DataFalls meaning g older h newer
+  -- the totals over all turns for data rise, that of turns by no more than that of bounds
+  pub counts : CountsGo older.counts.own newer.counts.own
 
 abbrev pub LowersData : {N D : Type 0} → Coded N × Coded D → (N → Meaning D) → Graph → Graph → Type 0
 LowersData {N} {D} codes meaning g h = (older : Part N D) → KeepsPart codes g older → LowersPart codes meaning g older h
@@ -108,6 +111,7 @@ pub record CarriesData {N D : Type 0} (codes : Coded N × Coded D) (meaning : N 
   pub rounds : newer.rounds ≡ older.rounds
   pub falls : DataFalls meaning g older h newer
   pub notes : D → NotesChanges older.values older.changed newer.values newer.changed
+  pub counts : CountsGo older.counts.own newer.counts.own
 
 pub record MergesData {N D : Type 0} (codes : Coded N × Coded D) (meaning : N → Meaning D) (g h : Graph) (i : ℕ) (v : D) : Type 0 where
   pub carries : CarriesData codes meaning g h

@@ -57,6 +57,8 @@ mod nodes;
 mod patterns;
 mod reports;
 
+pub use counts::totals_rise;
+
 // How many rounds of edits are made at the end of a write, unless the caller says otherwise.
 const USUAL_ROUNDS: usize = 16;
 

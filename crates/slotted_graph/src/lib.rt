@@ -13,8 +13,8 @@ pub mod rounds;
 pub mod uniting;
 
 pub use editing::make_edit;
-pub use egraph::EGraph;
 pub use egraph::steps::Check;
+pub use egraph::{EGraph, totals_rise};
 pub use method::SubstMethod;
 pub use modifying::modify_class;
 pub use rounds::{modify_in_rounds, modify_once};

@@ -1,33 +1,56 @@
 //! What the graph tells of its rebuilds.
-ghost use Rattle.std.specs.Prelude.{◌≡◌, ◌⊎◌, IsTrue};
+ghost use Rattle.std.specs.Prelude.{◌≡◌, ◌⊎◌, ℕ, IsTrue};
 ghost use Rattle.slotted_store.specs.Counts.{last_count};
-ghost use Rattle.slotted_core.specs.Graph.{totals_of};
-ghost use Rattle.slotted_graph.specs.Counted.{IsWithinCounts};
+ghost use Rattle.slotted_core.specs.Graph.{Graph, totals_of};
+ghost use Rattle.slotted_graph.specs.Analysed.{LowersData};
+ghost use Rattle.slotted_graph.specs.Counted.{HasNoHeights, IsWithinCounts, RiseWithin, TellsRebuild, TellsTotals};
+ghost use Rattle.slotted_graph.specs.Extension.{ExtendsTo};
 
 use super::EGraph;
 use slotted_analyses::Analysis;
+use slotted_data::{last_rebuild, rebuild_totals};
 use slotted_languages::Language;
 use slotted_store::RebuildCount;
 
 impl<L: Language, N: Analysis<L>> EGraph<L, N> {
     /// Returns what the last rebuild did: how many e-nodes were filed and which size it found, which size it left, and how many turns it took. A
-    /// turn is one e-node taken from the pending list, and the size of a graph is the number of its live classes and of their slots.
+    /// turn is one e-node taken from the pending list. The size of a graph is the number of its live classes and of their slots, with the heights
+    /// of their data.
     ///
-    /// All is 0 in a new graph. A union that answers false is counted as a rebuild without turns. Takes no memory.
+    /// A write rebuilds the graph, and then its data goes upwards. That is a rebuild of its own if it takes a turn, and then it is the last one.
+    /// The heights that the graph has stand in both sizes, also of a rebuild that looks at no data. All is 0 in a new graph. A union that answers
+    /// false is counted as a rebuild without turns. Takes no memory.
     pub fn last_rebuild(&self) -> RebuildCount
-        ensures count { result ≡ last_count self.now.image.counts }
-
         // The turns are no more than one for each e-node, and once more for each unit by which the size fell. The size that was left is the graph's.
+        ensures told { IsTrue self.now.failed ⊎ TellsRebuild N.codes N.meaning self.now result }
         ensures bound { IsTrue self.now.failed ⊎ IsWithinCounts self.now }
+
+        // If no data has a height above 0, it never goes upwards.
+        ensures still { HasNoHeights N.meaning → result ≡ last_count self.now.image.counts }
     {
-        self.store.last_rebuild()
+        if self.failed {
+            return self.store.last_rebuild();
+        }
+        last_rebuild(&self.store, &self.data, &self.analysis)
     }
 
-    /// Returns the turns of all rebuilds so far, and the sum of their bounds. Each sum stays at the largest number once it is reached. Takes no
-    /// memory.
+    /// Returns the turns of all rebuilds so far, those of data too, and the sum of their bounds. Each sum stays at the largest number once it is
+    /// reached. A failed graph knows no turns of data. Takes no memory.
     pub fn rebuild_totals(&self) -> (u64, u128)
-        ensures { result ≡ totals_of self.now }
+        // The first sum is no more than the second one, unless this is the largest number.
+        ensures totals { IsTrue self.now.failed ⊎ TellsTotals N.codes self.now result }
+        ensures still { HasNoHeights N.meaning → result ≡ totals_of self.now }
     {
-        self.store.rebuild_totals()
+        if self.failed {
+            return self.store.rebuild_totals();
+        }
+        rebuild_totals(&self.store, &self.data)
     }
 }
+
+/// A call that extends a graph, and whose data only goes down, raises the totals over all rebuilds. It raises that of turns by no more than that of
+/// bounds, until this is the largest number.
+pub fn totals_rise<L: Language, N: Analysis<L>>()
+    ensures { (g h : Graph) (t u : ℕ × ℕ) → ExtendsTo g h → LowersData N.codes N.meaning g h
+        → TellsTotals N.codes g t → TellsTotals N.codes h u → RiseWithin t u }
+{}

@@ -6,8 +6,8 @@ use Rattle.slotted_data.proofs.making.add_new.Goals as goal
 pub loop-i-init : goal.loop-i-init
 loop-i-init g c = record {
   new = new-none (g.N.Analysis.meaning c.args.analysis.now) c.args.store.now c.args.data.now;
-  count = sym c.count-i.ensures;
-  within = omega (arith, c.requires.within, c.count-i.ensures, c.class_count-i-end.ensures);
+  count = sym c.count-i.ensures.count;
+  within = omega (arith, c.requires.within, c.count-i.ensures.count, c.class_count-i-end.ensures);
 }
 
 pub loop-i-preserved : goal.loop-i-preserved

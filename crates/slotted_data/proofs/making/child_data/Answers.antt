@@ -17,8 +17,8 @@ value-requires g c =
     let f = g.L.LanguageChildren.form c.args.node.now in
     let within : c.loop-k.k < length (children f.tree) = omega (arith, c.loop-k-test.true, c.applied_id_count-k-end.ensures) in
     let below = c.requires.there (child_id f c.loop-k.k) (child-there f c.loop-k.k within) in
-    let known = c.class_with_data-class.ensures.within (omega (arith, below, c.applied_id.ensures.id, c.count.ensures)) in
-    omega (arith, known, c.count.ensures)
+    let known = c.class_with_data-class.ensures.within (omega (arith, below, c.applied_id.ensures.id, c.count.ensures.count)) in
+    omega (arith, known, c.count.ensures.count)
 
 pub loop-k-preserved : goal.loop-k-preserved
 loop-k-preserved g c =
@@ -26,7 +26,7 @@ loop-k-preserved g c =
     let k = c.args.store.now in
     let within : c.loop-k.k < length (children f.tree) = omega (arith, c.loop-k-test.true, c.applied_id_count-k-end.ensures) in
     let class : c.class_with_data-class.result ≡ source_class (entries_of k) (length c.args.data.now.values) (child_id f c.loop-k.k) =
-    c.class_with_data-class.ensures.class ∙ (λ i. source_class (entries_of k) (c.count.ensures i) (c.applied_id.ensures.id i)) in
+    c.class_with_data-class.ensures.class ∙ (λ i. source_class (entries_of k) (c.count.ensures.count i) (c.applied_id.ensures.id i)) in
     record {
       values = first-next k c.args.data.now.values f c.loop-k.k c.loop-k.each.items c.push.new.self.items c.class_with_data-class.result c.in_ok-copy.field-0
           c.loop-k.invariant.values within class (c.value.ensures ∙ ap Some (sym c.in_ok-copy.ensures.ok)) c.in_ok-push.ensures.items;

@@ -14,7 +14,7 @@ returns-in-Rule-clause-answers g c =
 pub returns-in-Run-clause-answers : goal.returns-in-Run-clause-answers
 returns-in-Run-clause-answers g c =
     let o = c.run_rules-outcome in
-    rw (c.tell_run.ensures, sym c.in-Run.ensures, c.rebuild_totals-before.ensures, c.rebuild_totals-after.ensures)
+    rw (c.tell_run.ensures, sym c.in-Run.ensures, c.rebuild_totals-before.ensures.still (λ n x. refl), c.rebuild_totals-after.ensures.still (λ n x. refl))
     (run-answered g.L.LanguageChildren.read g.L.Printable.written g.L.LanguageChildren.form (state_of c.args.session.now) (state_of o.new.session) _ o.result o.ensures.answers)
 
 pub returns-in-Plain-clause-answers : goal.returns-in-Plain-clause-answers

@@ -2,7 +2,6 @@ use Rattle.std.proofs.Common.{refl, inl, inr}
 use Rattle.slotted_proofs.specs.Equations.{to_applied}
 use Rattle.slotted_graph.specs.Writing.{MakesForNode}
 use Rattle.std.specs.Prelude.{false}
-use Rattle.slotted_core.proofs.CallerLemmas.{term_later}
 use Rattle.slotted_graph.proofs.Extending.{extends-then}
 use Rattle.slotted_graph.proofs.Insides.{given}
 use Rattle.slotted_graph.proofs.Saying.{graph-kept}

@@ -7,7 +7,7 @@ use Rattle.slotted_core.proofs.CallerLemmas.{term_later}
 use Rattle.slotted_graph.proofs.Extending.{extends-then}
 use Rattle.slotted_graph.proofs.Insides.{given}
 use Rattle.slotted_graph.proofs.Saying.{graph-kept}
-use Rattle.slotted_graph.proofs.Writing.{adds-more, node-later, none-pending, none-waits, ok-adds, ok-again, ok-both, was-well}
+use Rattle.slotted_graph.proofs.Writing.{adds-more, none-pending, none-waits, ok-adds, ok-again, ok-both, was-well}
 use Rattle.slotted_graph.proofs.egraph.EGraph.add_expr_and_modify.Goals as goal
 
 pub add_expr_quietly-again-requires : goal.add_expr_quietly-again-requires

@@ -1,7 +1,6 @@
-use Rattle.std.proofs.Common.{◌∙◌, refl, inl}
+use Rattle.std.proofs.Common.{refl, inl}
 use Rattle.slotted_graph.specs.Writing.{MakesForSynNode}
 use Rattle.slotted_proofs.specs.Equations.{to_applied}
-use Rattle.slotted_theory.specs.Nameless.{nameless}
 use Rattle.slotted_graph.proofs.Extending.{full-extends}
 use Rattle.slotted_graph.proofs.Saying.{graph-kept}
 use Rattle.slotted_graph.proofs.Writing.{adds-more}

@@ -1,8 +1,5 @@
-use Rattle.std.proofs.Common.{refl, subst, sym}
-use Rattle.slotted_core.specs.Graph.{Graph}
 use Rattle.slotted_core.specs.LookUp.{HasSameClasses}
 use Rattle.slotted_graph.specs.Analysed.{MergesData}
-use Rattle.slotted_graph.specs.Writing.{MergesAndModifies}
 use Rattle.slotted_graph.proofs.Writing.{merges-asked, still-unmodified}
 use Rattle.slotted_graph.proofs.egraph.EGraph.merge_analysis_data.Goals as goal
 

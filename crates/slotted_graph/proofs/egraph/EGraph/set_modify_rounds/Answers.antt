@@ -1,5 +1,5 @@
 use Rattle.std.proofs.Common.{ap, sym}
-use Rattle.slotted_data.specs.Part.{Part, part_code, part_in}
+use Rattle.slotted_data.specs.Part.{part_code, part_in}
 use Rattle.slotted_core.specs.Graph.{Graph}
 use Rattle.slotted_graph.proofs.egraph.EGraph.set_modify_rounds.Goals as goal
 

@@ -1,18 +1,18 @@
-use Rattle.std.proofs.Common.{◌≡◌, ℕ}
-use Rattle.slotted_model_analyses.specs.DataPart.{HasData, RunsWithData}
+use Rattle.std.proofs.Common.{◌≡◌}
+use Rattle.std.specs.Prelude.{◌⊎◌}
+use Rattle.slotted_model_analyses.specs.DataPart.{HasData}
 use Rattle.slotted_rebuilding.specs.Filed.{state_in}
 use Rattle.slotted_analyses.specs.Meaning.{by_bare_nodes}
-use Rattle.slotted_data.specs.Lowering.{SameUsers, part_of, quiet}
+use Rattle.slotted_data.specs.Lowering.{TakesTurns, part_of, quiet}
 use Rattle.slotted_data.proofs.Rising.{work_left}
-use Rattle.slotted_data.proofs.lowering.rise.Given as goal
+use Rattle.slotted_data.proofs.lowering.take_turns.Given as goal
 
 -- turns for data alone led to what is there
 abbrev pub invariant-loop-source : goal.invariant-loop-source
 invariant-loop-source g l = record {
-  filed : l.nodes.filed ≡ l.fn.nodes.filed;
-  same : SameUsers l.fn.data l.data;
+  takes : TakesTurns (by_bare_nodes (g.N.Analysis.meaning l.analysis)) l.store l.fn.nodes l.nodes l.fn.data l.data l.turns l.fall;
   has : (x : g.row.N-Data.Denot) → HasData (by_bare_nodes (g.N.Analysis.meaning l.analysis)) (state_in l.store (quiet l.fn.nodes)) (part_of x l.data l.nodes.waiting);
-  runs : (x : g.row.N-Data.Denot) → (n : ℕ) × RunsWithData (by_bare_nodes (g.N.Analysis.meaning l.analysis)) (state_in l.store (quiet l.fn.nodes)) (part_of x l.fn.data l.fn.nodes.waiting) n (state_in l.store (quiet l.fn.nodes)) (part_of x l.data l.nodes.waiting);
+  some : (l.turns ≡ 0) ⊎ g.row.N-Data.Denot;
 }
 
 abbrev pub decreases-loop-source : goal.decreases-loop-source
