@@ -1,6 +1,6 @@
 //! An analysis that asks that 1 equals 2 once a class has a variable.
 ghost use Rattle.std.specs.Prelude.{◌≡◌};
-ghost use Rattle.slotted_analyses_tests.specs.Marking.{number_term};
+ghost use Rattle.slotted_const_fold.specs.ConstFold.{number_term};
 
 use slotted_analyses::{Analysis, Edit};
 use slotted_slots::{Error, Slot};

@@ -4,7 +4,7 @@ use crate::graphs::{empty, put, unite};
 use slotted_analyses::Analysis;
 use slotted_const_fold::ConstFold;
 use slotted_graph::EGraph;
-use slotted_rules::{Cond, DataPasses, Rewrite, apply_rewrites, are_valid};
+use slotted_rules::{Cond, DataPasses, Rewrite, RewriteT, apply_rewrites, are_valid};
 use slotted_slots::Error;
 use slotted_small::Small;
 use std::alloc::Global;
@@ -18,6 +18,21 @@ fn is_unit(alloc: Global, variable: &str) -> Result<DataPasses<ComesTo>, Error> 
     })
 }
 
+// Applies one rule, if it can be handed to the graph.
+fn apply_one<R: RewriteT<Small, ConstFold>>(
+    alloc: Global,
+    graph: &mut EGraph<Small, ConstFold>,
+    rule: R,
+) -> Result<bool, Error> {
+    let mut rules = Vec::new(alloc);
+    rules.push(rule)?;
+    if are_valid(graph, &rules) {
+        apply_rewrites(alloc, graph, &rules)
+    } else {
+        Err(Error::Failed)
+    }
+}
+
 // Applies `(mul ?x ?y) => ?x` once, under a condition.
 fn apply_under<C: Cond<Small, ConstFold>>(
     alloc: Global,
@@ -27,12 +42,7 @@ fn apply_under<C: Cond<Small, ConstFold>>(
     let left = graph.parse_pattern("(mul ?x ?y)")?;
     let right = graph.parse_pattern("?x")?;
     let rule = Rewrite::from_patterns(alloc, "unit", left, right, condition)?;
-    let mut rules = Vec::new(alloc);
-    rules.push(rule)?;
-    if !are_valid(graph, &rules) {
-        return Err(Error::Failed);
-    }
-    apply_rewrites(alloc, graph, &rules)
+    apply_one(alloc, graph, rule)
 }
 
 // The same, if the variable comes to 1.
