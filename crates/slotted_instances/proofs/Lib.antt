@@ -2,6 +2,9 @@
 pub mod Growing
 pub mod NodesOver
 pub mod Walking
+pub mod Frames
+pub mod FrameWork
+pub mod FrameStacks
 pub mod SameIds
 pub mod Answering
 pub mod Putting

@@ -42,36 +42,9 @@ use Rattle.slotted_rule_patterns.specs.NodeArguments.{node_arguments}
 use Rattle.slotted_rule_patterns.proofs.NodeArguments.{unnamed-node, ids-node, bound-name}
 use Rattle.slotted_instances.specs.Building.{Builds}
 use Rattle.slotted_instances.specs.Substituting.{Replaces}
+use Rattle.slotted_instances.specs.Frames.{at, IsEntered, IsWalked}
 use Rattle.slotted_instances.proofs.Growing.{graph-canonical, builds-takes, builds-itself, builds-then, full-builds}
 use Rattle.slotted_instances.proofs.NodesOver.{known-over, arguments-over, later-children}
-
--- the id with this number
-abbrev pub at : List Applied → ℕ → Applied
-at bs k = slice_index_or bs k (0, [])
-
--- what is known where the walk enters the id b of the graph g, and h is left: f is its node with fresh binders
-pub record IsEntered (g h : Graph) (x t b : Applied) (f : Form) : Type 0 where
-  pub graph : IsGraph g
-  pub part : IsFullId g x
-  pub value : IsFullId g t
-  pub body : IsFullId g b
-  pub takes : OnlyTakesSlots g h
-  pub node : IsNodeOf g.image.canonical b f
-  pub fresh : HasUnknownBinders g.table f
-  pub valid : IsValidNode h f
-  pub children_full : All (IsFull h.image.canonical) (child_ids f)
-  pub fits : Fits f
-
--- after k children: n is the node over what came of these, and `same` says that each was left as it was
-pub record IsWalked (g h : Graph) (x t : Applied) (f n : Form) (changed : Bool) (k : ℕ) : Type 0 where
-  pub ids : List Applied
-  pub count : length ids ≡ k
-  pub form : n ≡ node_over f ids
-  pub builds : Builds g h
-  pub later : (j : ℕ) → k ≤ j → at (child_ids n) j ≡ at (child_ids f) j
-  pub full : (j : ℕ) → j < k → IsFullId h (at ids j)
-  pub replaced : (j : ℕ) → j < k → IsReplaced h.image.canonical x t (at (child_ids f) j) (at ids j)
-  pub same : changed ≡ false → ids ≡ take k (child_ids f)
 
 module _ (g h : Graph) (x t b : Applied) (f : Form) (entered : IsEntered g h x t b f) where
   entered-builds : Builds g h

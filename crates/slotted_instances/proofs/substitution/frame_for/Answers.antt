@@ -1,0 +1,12 @@
+-- Nothing but slots is made.
+use Rattle.std.proofs.Common.{inr}
+use Rattle.slotted_instances.proofs.Answering.{err-then}
+use Rattle.slotted_instances.proofs.Growing.{builds-itself, builds-takes}
+use Rattle.slotted_instances.proofs.substitution.frame_for.Goals as goal
+
+pub returns-in_err-id-clause-err : goal.returns-in_err-id-clause-err
+returns-in_err-id-clause-err g c = err-then c.from_residual.result (inr (builds-itself c.args.graph.now c.requires.graph))
+
+pub returns-in_err-node-clause-err : goal.returns-in_err-node-clause-err
+returns-in_err-node-clause-err g c =
+    err-then c.from_residual-in_err-node.result (inr (builds-takes c.args.graph.now c.fresh_node.new.self c.requires.graph c.fresh_node.ensures.takes))
