@@ -61,7 +61,12 @@ fn is_older_or_lacks(b: &AppliedId, x: &AppliedId) -> bool
 }
 
 // Returns the answer for an id that need not be entered: itself if `x` stands nowhere in it, and `t` for `x`.
-fn known_answer(alloc: Global, b: &AppliedId, x: &AppliedId, t: &AppliedId) -> Result<Option<AppliedId>, Error>
+fn known_answer(
+    alloc: Global,
+    b: &AppliedId,
+    x: &AppliedId,
+    t: &AppliedId,
+) -> Result<Option<AppliedId>, Error>
     ensures some { IfOk result (λ o. IfSome o
         (λ a. IsKnownAnswer (to_applied x.now) (to_applied t.now) (to_applied b.now) (to_applied a))) }
     ensures none { IfOk result (λ o. o ≡ None → to_applied b.now ≢ to_applied x.now) }
@@ -122,7 +127,13 @@ fn close<L: Language, N: Analysis<L>>(
     ensures err { OnErr result (IsTrue graph.new.failed ⊎ Builds graph.old graph.new) }
     ensures only { IfErr result IsShortage }
 {
-    let Frame { id, node, count: _, next: _, changed } = frame;
+    let Frame {
+        id,
+        node,
+        count: _,
+        next: _,
+        changed,
+    } = frame;
     if changed {
         return add_node(graph, node);
     }
@@ -145,7 +156,11 @@ fn enter_child<L: Language, N: Analysis<L>>(
     ensures err { OnErr result (IsTrue graph.new.failed ⊎ Builds graph.old graph.new) }
     ensures only { IfErr result IsShortage }
 {
-    let child = stack.current.node.applied_id(stack.current.next).copy(alloc)?;
+    let child = stack
+        .current
+        .node
+        .applied_id(stack.current.next)
+        .copy(alloc)?;
     if let Some(answer) = known_answer(alloc, &child, x, t)? {
         take_answer(&mut stack.current, answer);
         return Ok(());
