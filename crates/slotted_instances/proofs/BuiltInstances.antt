@@ -43,7 +43,7 @@ use Rattle.slotted_instances.proofs.Answers.{method-moves, method-more, answer-m
 use Rattle.slotted_instances.proofs.Growing.{graph-canonical, grows-itself, grows-then}
 use Rattle.slotted_instances.proofs.Parts.{pattern_at, all-known, part-at}
 use Rattle.slotted_instances.proofs.Putting.{representatives-longer}
-use Rattle.slotted_instances.proofs.Walking.{at}
+use Rattle.slotted_instances.specs.Frames.{at}
 
 pub makes-itself : (m : Method) (g : Graph) → IsGraph g → Makes m g g
 makes-itself m g is = record { grows = grows-itself g is; asserts = λ k. refl }

@@ -1,5 +1,5 @@
 -- A stack of frames goes on: by an answer for a child, by a frame for it, or by an answer for the frame that waits. Each leaves less work.
-use Rattle.std.proofs.Common.{◌≡◌, ◌<◌, ◌≤◌, ◌+◌, ◌*◌, ◌∙◌, ℕ, suc, List, [], ◌∷◌, ◌++◌, drop, length, ap, sym, subst, arith}
+use Rattle.std.proofs.Common.{◌≡◌, ◌<◌, ◌+◌, ◌*◌, ◌∙◌, ℕ, suc, List, [], ◌∷◌, ◌++◌, length, ap, sym, subst, arith}
 use Rattle.std.specs.List.{sum_by}
 use Rattle.std.proofs.lemmas.List.Sums.{sum_by_push}
 use Rattle.slotted_slots.specs.declared.types.AppliedId.{AppliedId}
@@ -18,7 +18,7 @@ use Rattle.slotted_instances.specs.Building.{Builds}
 use Rattle.slotted_instances.specs.Substituting.{Replaces}
 use Rattle.slotted_instances.specs.Frames.{Closes, IsFrameFor, IsOpen, IsStackFor, Opens, TakesAnswer, Waits, next_child, waiting_work, work_from, work_left}
 use Rattle.slotted_instances.proofs.Growing.{builds-then, graph-canonical}
-use Rattle.slotted_instances.proofs.Frames.{frame-builds, frame-count, frame-lacks, frame-next_earlier, frame-next_full, frame-part, frame-takes, frame-value, opens-frame, waits-below, waits-builds, waits-last, waits-more, WaitsLast}
+use Rattle.slotted_instances.proofs.Frames.{frame-builds, frame-count, frame-lacks, frame-next_earlier, frame-next_full, frame-takes, waits-below, waits-builds, waits-last, waits-more, WaitsLast}
 use Rattle.slotted_instances.proofs.FrameWork.{next-work, opened-nodes, taken-work}
 
 module _ {L : Type 0} (form : L → Form) (x t : Applied) where

@@ -37,7 +37,7 @@ use Rattle.slotted_graph.specs.Graph.{Graph}
 use Rattle.slotted_graph.specs.LookUp.{look_up as look_up_form, look_up_term}
 use Rattle.slotted_graph.specs.States.{IsGraph}
 use Rattle.slotted_graph.specs.ValidIds.{IsValidId, IsValidNode}
-use Rattle.slotted_instances.proofs.Walking.{at}
+use Rattle.slotted_instances.specs.Frames.{at}
 
 -- after i children: n is the node over what they are looked up as
 pub record AreLooked (g : Graph) (f : Form) (us : List Term) (n : Form) (i : ℕ) : Type 0 where

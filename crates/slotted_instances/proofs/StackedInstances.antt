@@ -37,7 +37,7 @@ use Rattle.slotted_instances.proofs.Answers.{instance-wider, makes-then}
 use Rattle.slotted_instances.proofs.BuiltInstances.{built-node, makes-itself, substituted-instance, variable-instance}
 use Rattle.slotted_instances.proofs.NodesOver.{known-over}
 use Rattle.slotted_instances.proofs.Parts.{all-known, known-later, pattern_at, ready-parts, some-is, some-of, values-left, values-right}
-use Rattle.slotted_instances.proofs.Walking.{at}
+use Rattle.slotted_instances.specs.Frames.{at}
 
 module _ (m : Method) (g h : Graph) (s : Values) where
   pub instances-length : (ids : List Applied) (qs : List PatternTree) → AreInstances m g h s ids qs → length ids ≡ length qs

@@ -1,5 +1,5 @@
 -- The walk of a substitution through the children of a node: what holds after some of them, and what it leaves at the end.
-use Rattle.std.proofs.Common.{◌≡◌, ◌≢◌, ℕ, suc, ◌+◌, ◌<◌, ◌≤◌, List, [], ◌∷◌, ◌++◌, length, take, refl, sym, ◌∙◌, ap, subst, arith, inl, inr, length-append}
+use Rattle.std.proofs.Common.{◌≡◌, ◌≢◌, ℕ, suc, ◌+◌, ◌<◌, List, [], ◌∷◌, ◌++◌, length, take, refl, sym, ◌∙◌, ap, subst, arith, inl, inr, length-append}
 use Rattle.std.specs.Prelude.{All, Bool, false, Contains, IsTrue, slice_index_or}
 use Rattle.std.proofs.lemmas.Bool.{cases_eq, false≢true}
 use Rattle.std.proofs.lemmas.List.{get_or_append_left, take_more, take_all}
@@ -29,12 +29,9 @@ use Rattle.slotted_core.proofs.CallerLemmas.{full-valid}
 use Rattle.slotted_core.proofs.CanonicalTerms.{children-below}
 use Rattle.slotted_core.proofs.NodeAddition.{full_children}
 use Rattle.slotted_graph.specs.Adding.{AddsSyn}
-use Rattle.slotted_graph.specs.Graph.{Graph, IsFullId, OnlyTakesSlots}
+use Rattle.slotted_graph.specs.Graph.{Graph, IsFullId}
 use Rattle.slotted_graph.specs.Image.{Image}
-use Rattle.slotted_graph.specs.States.{IsGraph}
-use Rattle.slotted_graph.specs.Syn.{HasUnknownBinders}
-use Rattle.slotted_graph.specs.ValidIds.{IsValidId, IsValidNode}
-use Rattle.slotted_core.specs.Canonical.{IsNodeOf}
+use Rattle.slotted_graph.specs.ValidIds.{IsValidId}
 use Rattle.slotted_model_rules.specs.Matcher.{unnamed, bound_names}
 use Rattle.slotted_model_rules.specs.ReplacedIds.{IsReplaced, HasReplacedIds, ids_of}
 use Rattle.slotted_model_rules.proofs.ReplacedIds.{replaced-stays, replaced-by_number, added-replaced, unchanged-stays}

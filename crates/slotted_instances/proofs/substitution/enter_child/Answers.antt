@@ -1,5 +1,5 @@
 -- The child is answered at once, or entered: then its frame is the current one, and the frame of which it is a child waits.
-use Rattle.std.proofs.Common.{◌≡◌, ◌∙◌, ◌∷◌, ◌++◌, [], ap, inr, refl, subst, sym}
+use Rattle.std.proofs.Common.{◌≡◌, ◌∙◌, inr, refl, subst, sym}
 use Rattle.std.specs.Prelude.{IfSome}
 use Rattle.slotted_proofs.specs.Equations.{to_applied}
 use Rattle.slotted_slots.specs.declared.types.AppliedId.{AppliedId}

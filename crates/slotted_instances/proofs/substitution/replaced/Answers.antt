@@ -1,5 +1,5 @@
 -- The stack begins with the frame of the body. In the end its answer is that for the body.
-use Rattle.std.proofs.Common.{[], ap, inr, refl, subst, sym}
+use Rattle.std.proofs.Common.{inr, refl, subst, sym}
 use Rattle.std.specs.Prelude.{IfSome}
 use Rattle.slotted_model.specs.Applied.{Applied}
 use Rattle.slotted_proofs.specs.Equations.{to_applied}

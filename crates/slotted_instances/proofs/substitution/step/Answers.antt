@@ -2,7 +2,6 @@
 use Rattle.std.proofs.Common.{◌≡◌, refl, subst, sym}
 use Rattle.std.specs.Prelude.{length}
 use Rattle.slotted_nodes.specs.Form.{children}
-use Rattle.slotted_model.specs.Applied.{Applied}
 use Rattle.slotted_proofs.specs.Equations.{to_applied}
 use Rattle.slotted_instances.specs.Frames.{Closes, IsOpen, TakesAnswer}
 use Rattle.slotted_instances.proofs.FrameStacks.{hands-work, stack-count, stack-hands, stack-lacks}

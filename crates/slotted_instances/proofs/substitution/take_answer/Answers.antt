@@ -1,8 +1,7 @@
 -- No child has changed where none had, and the answer is the child.
-use Rattle.std.proofs.Common.{◌∙◌, [], refl, sym, subst, length}
+use Rattle.std.proofs.Common.{◌∙◌, refl, sym, subst, length}
 use Rattle.std.specs.Prelude.{◌<◌}
 use Rattle.slotted_nodes.specs.Form.{Form, children}
-use Rattle.slotted_proofs.specs.Equations.{to_applied}
 use Rattle.slotted_instances.proofs.Frames.{next-read}
 use Rattle.slotted_instances.proofs.SameIds.{neither, not-false, same-ids}
 use Rattle.slotted_instances.proofs.substitution.take_answer.Goals as goal
