@@ -1,6 +1,6 @@
 //! Substitution without capture: a walk over syntactic e-nodes, from the top. Frames on a list stand for the e-nodes
 //! whose children are not all replaced, so nothing recurses.
-ghost use Rattle.std.specs.Prelude.{◌≡◌, ◌≢◌, ◌⊎◌, ◌<◌, None, length, true, false, IsTrue, IfOk, IfErr, IfSome, OnOk, OnErr};
+ghost use Rattle.std.specs.Prelude.{◌≡◌, ◌≢◌, ◌⊎◌, None, false, length, true, IfErr, IfOk, IfSome, IsTrue, OnErr, OnOk};
 ghost use Rattle.slotted_slots.specs.Error.{IsOutOfMemory, IsShortage};
 ghost use Rattle.slotted_slots.specs.Maps.{values};
 ghost use Rattle.slotted_nodes.specs.Form.{children};
@@ -156,11 +156,8 @@ fn enter_child<L: Language, N: Analysis<L>>(
     ensures err { OnErr result (IsTrue graph.new.failed ⊎ Builds graph.old graph.new) }
     ensures only { IfErr result IsShortage }
 {
-    let child = stack
-        .current
-        .node
-        .applied_id(stack.current.next)
-        .copy(alloc)?;
+    let current = &stack.current;
+    let child = current.node.applied_id(current.next).copy(alloc)?;
     if let Some(answer) = known_answer(alloc, &child, x, t)? {
         take_answer(&mut stack.current, answer);
         return Ok(());
@@ -171,8 +168,8 @@ fn enter_child<L: Language, N: Analysis<L>>(
     Ok(())
 }
 
-// Goes to the next child, or hands the answer of the current frame to the frame that waits for it. Returns whether either
-// was possible.
+// Goes to the next child, or hands the answer of the current frame to the frame that waits for it. Returns whether
+// either was possible.
 fn step<L: Language, N: Analysis<L>>(
     alloc: Global,
     graph: &mut EGraph<L, N>,
