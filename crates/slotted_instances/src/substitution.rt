@@ -1,6 +1,6 @@
 //! Substitution without capture: a walk over syntactic e-nodes, from the top. Frames on a list stand for the e-nodes
 //! whose children are not all replaced, so nothing recurses.
-ghost use Rattle.std.specs.Prelude.{◌≡◌, ◌≢◌, ◌⊎◌, ◌<◌, None, length, true, false, IsTrue, IfOk, IfErr, IfSome, OnOk, OnErr};
+ghost use Rattle.std.specs.Prelude.{◌≡◌, ◌≢◌, ◌⊎◌, None, false, length, true, IfErr, IfOk, IfSome, IsTrue, OnErr, OnOk};
 ghost use Rattle.slotted_slots.specs.Error.{IsOutOfMemory, IsShortage};
 ghost use Rattle.slotted_slots.specs.Maps.{values};
 ghost use Rattle.slotted_nodes.specs.Form.{children};
@@ -61,7 +61,12 @@ fn is_older_or_lacks(b: &AppliedId, x: &AppliedId) -> bool
 }
 
 // Returns the answer for an id that need not be entered: itself if `x` stands nowhere in it, and `t` for `x`.
-fn known_answer(alloc: Global, b: &AppliedId, x: &AppliedId, t: &AppliedId) -> Result<Option<AppliedId>, Error>
+fn known_answer(
+    alloc: Global,
+    b: &AppliedId,
+    x: &AppliedId,
+    t: &AppliedId,
+) -> Result<Option<AppliedId>, Error>
     ensures some { IfOk result (λ o. IfSome o
         (λ a. IsKnownAnswer (to_applied x.now) (to_applied t.now) (to_applied b.now) (to_applied a))) }
     ensures none { IfOk result (λ o. o ≡ None → to_applied b.now ≢ to_applied x.now) }
@@ -122,7 +127,13 @@ fn close<L: Language, N: Analysis<L>>(
     ensures err { OnErr result (IsTrue graph.new.failed ⊎ Builds graph.old graph.new) }
     ensures only { IfErr result IsShortage }
 {
-    let Frame { id, node, count: _, next: _, changed } = frame;
+    let Frame {
+        id,
+        node,
+        count: _,
+        next: _,
+        changed,
+    } = frame;
     if changed {
         return add_node(graph, node);
     }
@@ -145,7 +156,8 @@ fn enter_child<L: Language, N: Analysis<L>>(
     ensures err { OnErr result (IsTrue graph.new.failed ⊎ Builds graph.old graph.new) }
     ensures only { IfErr result IsShortage }
 {
-    let child = stack.current.node.applied_id(stack.current.next).copy(alloc)?;
+    let current = &stack.current;
+    let child = current.node.applied_id(current.next).copy(alloc)?;
     if let Some(answer) = known_answer(alloc, &child, x, t)? {
         take_answer(&mut stack.current, answer);
         return Ok(());
@@ -156,8 +168,8 @@ fn enter_child<L: Language, N: Analysis<L>>(
     Ok(())
 }
 
-// Goes to the next child, or hands the answer of the current frame to the frame that waits for it. Returns whether either
-// was possible.
+// Goes to the next child, or hands the answer of the current frame to the frame that waits for it. Returns whether
+// either was possible.
 fn step<L: Language, N: Analysis<L>>(
     alloc: Global,
     graph: &mut EGraph<L, N>,

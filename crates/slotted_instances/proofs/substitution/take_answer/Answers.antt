@@ -21,6 +21,6 @@ returns g c =
           let both = neither r.changed c.ne.result e in (
             both.0,
             same-ids c.args.answer child.result.now (not-false _ (sym c.ne.ensures ∙ both.1))
-            ∙ next-read g.L.LanguageChildren.form r child.result.now lt child.ensures.id child.ensures.keys child.ensures.names,
+                ∙ next-read g.L.LanguageChildren.form r child.result.now lt child.ensures.id child.ensures.keys child.ensures.names,
           );
     }
