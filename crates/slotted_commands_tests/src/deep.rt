@@ -59,7 +59,10 @@ fn rule_lines(alloc: Global) -> io::Result<Vec<u8>> {
     let left = nested(alloc, "b")?;
     let right = nested(alloc, "c")?;
     let mut lines = Vec::new(alloc);
-    writeln!(lines, "add (mul c {left})\nrule deep: (mul ?y {found}) => (add {made} ?x)")?;
+    writeln!(
+        lines,
+        "add (mul c {left})\nrule deep: (mul ?y {found}) => (add {made} ?x)"
+    )?;
     writeln!(lines, "run 0\neq (mul c {left}) == (add {right} b)")?;
     Ok(lines)
 }
@@ -68,11 +71,44 @@ fn rule_lines(alloc: Global) -> io::Result<Vec<u8>> {
 fn check_rule(rt: &impl Abort, alloc: Global) -> io::Result<()> {
     let mut output = Vec::new(alloc);
     answer(alloc, &rule_lines(alloc)?, &mut output)?;
-    assert!(rt; output.starts_with(b"ok\nok\n1 NodeLimit 200005\nturns ") && output.ends_with(b"\nyes\n"));
+    assert!(rt;
+        output.starts_with(b"ok\nok\n1 NodeLimit 200005\nturns ") && output.ends_with(b"\nyes\n")
+    );
     Ok(())
 }
 
 #[test]
 fn deep_patterns_are_matched(rt: HostRuntime) -> io::Result<()> {
     check_rule(&rt, rt.alloc())
+}
+
+// A redex whose body has so many levels, and what it is equal to.
+fn beta_lines(alloc: Global) -> io::Result<Vec<u8>> {
+    let body = nested(alloc, "(var $x)")?;
+    let put_in = nested(alloc, "c")?;
+    let mut lines = Vec::new(alloc);
+    writeln!(
+        lines,
+        "rule beta: (app (lam $x ?b) ?t) => ?b[(var $x) := ?t]"
+    )?;
+    writeln!(
+        lines,
+        "add (app (lam $x {body}) c)\nrun 0\neq (app (lam $x {body}) c) == {put_in}"
+    )?;
+    Ok(lines)
+}
+
+// One turn leaves two e-nodes for each level, two words, a variable, an abstraction and an application.
+fn check_beta(rt: &impl Abort, alloc: Global) -> io::Result<()> {
+    let mut output = Vec::new(alloc);
+    answer(alloc, &beta_lines(alloc)?, &mut output)?;
+    assert!(rt;
+        output.starts_with(b"ok\nok\n1 NodeLimit 200005\nturns ") && output.ends_with(b"\nyes\n")
+    );
+    Ok(())
+}
+
+#[test]
+fn deep_bodies_are_substituted_in(rt: HostRuntime) -> io::Result<()> {
+    check_beta(&rt, rt.alloc())
 }
