@@ -1,5 +1,6 @@
 //! The data of classes, and what has to be known to carry it along.
-ghost use Rattle.std.specs.Prelude.{◌≡◌, ◌<◌, ◌≤◌, ◌^◌, ◌++◌, ◌∷◌, [], length, set, slice_get, slice_index_or, Some, IfOk, IfErr, OnOk};
+ghost use Rattle.std.specs.Prelude.{◌≡◌, ◌<◌, ◌≤◌, ◌^◌, ◌++◌, ◌∷◌, [], length, set, slice_get, slice_index_or, Some};
+ghost use Rattle.std.specs.Prelude.{IfErr, IfOk, OnOk};
 ghost use Rattle.slotted_slots.specs.Error.{IsOutOfMemory};
 ghost use Rattle.slotted_data.specs.Held.{HasNewValue, HasValue, no_values, users_of, with_carried, with_entered};
 ghost use Rattle.slotted_data.specs.Held.{with_none_changed, with_user, with_users_taken};

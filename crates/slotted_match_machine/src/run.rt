@@ -1,5 +1,6 @@
 // The machine's run: depth first, each row in its turn.
-ghost use Rattle.std.specs.Prelude.{◌≡◌, ◌<◌, ◌≤◌, ◌+◌, [], ◌∷◌, ◌++◌, length, IfOk, OnOk, IfSome, MatchOption, IsTrue, if◌then◌else◌};
+ghost use Rattle.std.specs.Prelude.{◌≡◌, ◌<◌, ◌≤◌, ◌+◌, [], ◌∷◌, ◌++◌, length, if◌then◌else◌};
+ghost use Rattle.std.specs.Prelude.{IfOk, IfSome, IsTrue, MatchOption, OnOk};
 ghost use Rattle.slotted_match_machine.specs.Scratch.{IsReadable, scratch_of};
 ghost use Rattle.slotted_match_machine.specs.Answers.{AddsAnswers, answers_in, answers_from, rows_of_outline};
 ghost use Rattle.slotted_match_machine.specs.Choices.{IsChoice, HasChoices, answers_of_choice, answers_left, moves_after, moves_at, moves_left};

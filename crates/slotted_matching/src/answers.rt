@@ -1,5 +1,6 @@
 //! From numbers to slots: the machine's answers as substitutions.
-ghost use Rattle.std.specs.Prelude.{◌≡◌, ◌<◌, ◌++◌, ℕ, List, [], length, map, Contains, string_bytes, slice_index_or, IfOk, IfErr, OnOk, IsErrOf, IsTrue};
+ghost use Rattle.std.specs.Prelude.{◌≡◌, ◌<◌, ◌++◌, ℕ, List, [], length, map, Contains, string_bytes, slice_index_or};
+ghost use Rattle.std.specs.Prelude.{IfErr, IfOk, IsErrOf, IsTrue, OnOk};
 ghost use Rattle.slotted_slots.specs.Error.{IsOutOfMemory, IsShortage};
 ghost use Rattle.slotted_slots.specs.Table.{KnowsMore, is_known};
 ghost use Rattle.slotted_model.specs.Applied.{values};
@@ -11,7 +12,8 @@ ghost use Rattle.slotted_store.specs.Finding.{HasFinds};
 ghost use Rattle.slotted_unions.specs.StateOf.{state_of};
 ghost use Rattle.slotted_adding.specs.Filling.{AllKnown, MakesAtMost, RunsOut};
 ghost use Rattle.slotted_matching.specs.Naming.{Covers, numbers_of, slot_in};
-ghost use Rattle.slotted_matching.specs.Answered.{AddsIds, AreWholeAnswers, HasDifferentPairs, HasWholeIds, InTurn, IsNamedAnswer, NumbersByName, PairSlotsIn, PairSlotsOf, StandOnce, ids_at, number_count};
+ghost use Rattle.slotted_matching.specs.Answered.{AddsIds, AreWholeAnswers, HasDifferentPairs, HasWholeIds, InTurn, IsNamedAnswer};
+ghost use Rattle.slotted_matching.specs.Answered.{NumbersByName, PairSlotsIn, PairSlotsOf, StandOnce, ids_at, number_count};
 
 use crate::compile::Program;
 use crate::matches::Matches;

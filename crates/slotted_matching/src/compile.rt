@@ -9,7 +9,8 @@ ghost use Rattle.slotted_patterns.specs.Tree.{row_of};
 ghost use Rattle.slotted_patterns.specs.View.{tree_of};
 ghost use Rattle.slotted_rule_patterns.specs.PatternCode.{pattern_in};
 ghost use Rattle.slotted_rule_patterns.specs.Variables.{has_substitution};
-ghost use Rattle.slotted_matching.specs.Compiled.{Adds, AddsPattern, AddsSlots, BeginsWith, HoldsSlots, KnowsEach, Compiling, Enters, HasWideNode, nothing, IsCompiled, IsNumber, Numbers, common_names, pattern_names};
+ghost use Rattle.slotted_matching.specs.Compiled.{Adds, AddsPattern, AddsSlots, BeginsWith, Compiling, Enters, HasWideNode, HoldsSlots};
+ghost use Rattle.slotted_matching.specs.Compiled.{IsCompiled, IsNumber, KnowsEach, Numbers, common_names, nothing, pattern_names};
 ghost use Rattle.slotted_matching.specs.Wanted.{Opens, placed_in, wanted};
 ghost use Rattle.slotted_matching.specs.Skeletons.{HasFewPlaces, HasManyPlaces};
 
