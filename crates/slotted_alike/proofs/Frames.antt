@@ -19,8 +19,8 @@ use Rattle.slotted_proofs.specs.Equations.{to_applied}
 use Rattle.slotted_proofs.specs.Steps.{HasInjectiveSides, Matches}
 use Rattle.slotted_outlines.specs.Seen.{owns, stacks, above, owns_seen, AreAlike, AreOutlines}
 use Rattle.slotted_alike.specs.Frames.{under, AreAlikeForms}
-use Rattle.slotted_store.specs.ChildIds.{ids_in, child_ids}
-use Rattle.slotted_store.proofs.ChildIds.{length-ids}
+use Rattle.slotted_classes.specs.ChildIds.{ids_in, child_ids}
+use Rattle.slotted_classes.proofs.ChildIds.{length-ids}
 
 -- at each place of a node's outline the number of an own name, one more, and 0 at children and binders
 abbrev owns_of : List ℕ → Tree → List ℕ → List ℕ

@@ -24,7 +24,7 @@ use Rattle.slotted_proofs.specs.Steps.{IsLarge, Matches, name_count}
 use Rattle.slotted_outlines.specs.Seen as seen
 use Rattle.slotted_alike.specs.Frames.{AreAlikeForms}
 use Rattle.slotted_alike.specs.Sizes.{args_size, node_size}
-use Rattle.slotted_store.proofs.NameMaps.{length-values}
+use Rattle.slotted_classes.proofs.NameMaps.{length-values}
 
 -- names and binders are among names, binders and children
 

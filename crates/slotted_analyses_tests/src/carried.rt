@@ -1,17 +1,17 @@
 //! Data of a graph without classes, which is carried along: what `carry` asks can be met from the beginning.
 ghost use Rattle.std.specs.Prelude.{◌≡◌, IfOk};
-ghost use Rattle.slotted_store.specs.Kept.{nothing};
-ghost use Rattle.slotted_filing.specs.FiledRows.{no_rows};
+ghost use Rattle.slotted_classes.specs.Kept.{nothing};
+ghost use Rattle.slotted_hashcons.specs.FiledRows.{no_rows};
 ghost use Rattle.slotted_analyses.specs.Meaning.{by_bare_nodes};
 ghost use Rattle.slotted_data.specs.Carrying.{DataRests};
 ghost use Rattle.slotted_const_fold.specs.ConstFold.{fold};
 
+use slotted_classes::Store;
 use slotted_const_fold::{ConstFold, Fold};
 use slotted_data::{ClassData, carry};
-use slotted_filing::Hashcons;
+use slotted_hashcons::Hashcons;
 use slotted_slots::Error;
 use slotted_small::Small;
-use slotted_store::Store;
 use std::alloc::Global;
 
 /// The data of no class, carried once.

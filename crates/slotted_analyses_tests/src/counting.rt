@@ -1,10 +1,10 @@
 //! The turns that data takes are counted as a rebuild.
 use crate::graphs::{empty, put, tower};
+use slotted_classes::RebuildCount;
 use slotted_const_fold::ConstFold;
 use slotted_graph::EGraph;
 use slotted_slots::Error;
 use slotted_small::Small;
-use slotted_store::RebuildCount;
 use std::alloc::Global;
 
 // Two terms are equal, and no class is modified.

@@ -19,7 +19,7 @@ use Rattle.slotted_proofs.specs.StepClaims.{IsOfFull}
 use Rattle.slotted_proofs.specs.Steps.{AreEntries, IsEntry, by_step}
 use Rattle.slotted_proofs.proofs.Fitting.{congruent_fits}
 use Rattle.slotted_proofs.proofs.Stepping.{states-entry}
-use Rattle.slotted_store.specs.Kept.{Kept, nodes_of, entries_of, with_proofs, EntersBy}
+use Rattle.slotted_classes.specs.Kept.{Kept, nodes_of, entries_of, with_proofs, EntersBy}
 use Rattle.slotted_unions.specs.Proving.{OnlyProves, Proves, ProvesEqual}
 use Rattle.slotted_unions.specs.StateOf.{state_of}
 use Rattle.slotted_unions.specs.Stored.{Stored}

@@ -22,9 +22,9 @@ use Rattle.slotted_proofs.specs.Entries.{Proven}
 use Rattle.slotted_proofs.specs.Steps.{AreEntries, HasInjectiveSides, IsEntry, Matches}
 use Rattle.slotted_alike.specs.Frames.{AreAlikeForms}
 use Rattle.slotted_congruence.specs.Frames.{IsCongruentIn}
-use Rattle.slotted_store.specs.Kept.{Kept, node_at, nodes_of, no_form, no_entry}
+use Rattle.slotted_classes.specs.Kept.{Kept, node_at, nodes_of, no_form, no_entry}
 use Rattle.slotted_alike.proofs.Frames.{forms_twins, MatchInTurn, match_at, ids_under, injective_before}
-use Rattle.slotted_store.proofs.KeptLists.{at-mapped, any_default}
+use Rattle.slotted_classes.proofs.KeptLists.{at-mapped, any_default}
 
 -- the canonical node of a class is that of its form
 pub canonical-at : (k : Kept) (i : ℕ) → i < length (nodes_of k) → canonical_node (nodes_of k) i ≡ nameless_node (node_at k i)

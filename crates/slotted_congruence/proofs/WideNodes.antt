@@ -17,8 +17,8 @@ use Rattle.slotted_model.specs.Classes.{canonical_node, IsFull}
 use Rattle.slotted_alike.specs.Sizes.{node_size}
 use Rattle.slotted_alike.proofs.WideNodes.{names_fit_size, size-moved}
 use Rattle.slotted_congruence.specs.Named.{IsWideClass}
-use Rattle.slotted_store.proofs.NameCounts.{names_and_binders}
-use Rattle.slotted_store.proofs.NameMaps.{length-keys, length-values}
+use Rattle.slotted_classes.proofs.NameCounts.{names_and_binders}
+use Rattle.slotted_classes.proofs.NameMaps.{length-keys, length-values}
 
 -- where the node of a class has too many places
 pub wide_class : (nodes : List DTerm) (i : ℕ) (f : Form) → Fits f → nameless_node f ≡ canonical_node nodes i → 2 ^ 29 ≤ length f.names → IsWideClass nodes i

@@ -14,8 +14,8 @@ use Rattle.slotted_proofs.specs.AlikeNodes.{AreAlikeNodes}
 use Rattle.slotted_proofs.specs.Entries.{statement_at}
 use Rattle.slotted_proofs.specs.Equations.{to_applied, statement_of}
 use Rattle.slotted_proofs.specs.Steps.{HasInjectiveSides, IsLarge}
-use Rattle.slotted_store.specs.Finding.{FindAlike}
-use Rattle.slotted_store.specs.Kept.{Kept, nodes_of, entries_of}
+use Rattle.slotted_classes.specs.Finding.{FindAlike}
+use Rattle.slotted_classes.specs.Kept.{Kept, nodes_of, entries_of}
 use Rattle.slotted_unions.specs.Proving.{OnlyProves, HasLargeClassOf}
 use Rattle.slotted_unions.specs.StateOf.{state_of}
 use Rattle.slotted_congruence.specs.Named.{HasWideSide, SidesRunOut}

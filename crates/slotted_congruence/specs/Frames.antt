@@ -7,7 +7,7 @@ use Rattle.slotted_proofs.specs.declared.equation.Equation.{Equation as Sides}
 use Rattle.slotted_proofs.specs.AlikeNodes.{AreAlikeNodes}
 use Rattle.slotted_proofs.specs.StepClaims.{IsOfFull}
 use Rattle.slotted_proofs.specs.Steps.{AreEntries, HasInjectiveSides, IsReflexiveStep, IsSymmetricStep, IsTransitiveStep}
-use Rattle.slotted_store.specs.Kept.{Kept, nodes_of}
+use Rattle.slotted_classes.specs.Kept.{Kept, nodes_of}
 
 -- the canonical nodes of the two classes, with the names of the sides put in, agree but for their children, and each part says what the
 -- equation of the children there says

@@ -3,12 +3,12 @@ ghost use Rattle.std.specs.Prelude.{IfOk, IfErr, IsErrOf};
 ghost use Rattle.slotted_slots.specs.Error.{IsShortage};
 ghost use Rattle.slotted_model.specs.Classes.{IsFull};
 ghost use Rattle.slotted_proofs.specs.Equations.{to_applied};
-ghost use Rattle.slotted_store.specs.Kept.{nodes_of};
+ghost use Rattle.slotted_classes.specs.Kept.{nodes_of};
 ghost use Rattle.slotted_congruence.specs.Named.{IsNodeOf, IsWideClass};
 
+use slotted_classes::Store;
 use slotted_languages::Language;
 use slotted_slots::{AppliedId, Error, SlotTable};
-use slotted_store::Store;
 use std::alloc::Global;
 
 /// The canonical node of an id's class, with the names of the id put in. The fresh names at its binders are those of a table of its own.

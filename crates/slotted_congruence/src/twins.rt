@@ -1,17 +1,17 @@
 //! The congruence of two classes whose canonical nodes have one normal form, as an entry of the proof list.
 ghost use Rattle.std.specs.Prelude.{All, IfOk, IfErr, IsErrOf};
 ghost use Rattle.slotted_slots.specs.Error.{IsShortage};
-ghost use Rattle.slotted_store.specs.Kept.{nodes_of};
+ghost use Rattle.slotted_classes.specs.Kept.{nodes_of};
 ghost use Rattle.slotted_unions.specs.Stored.{Stored};
 ghost use Rattle.slotted_congruence.specs.Congruence.{IsOfAlike, AreTwins, AreChildrenOf, HasLargeBridge, ProvesEach, ProvesTwins, TwinsRunOut};
 ghost use Rattle.slotted_congruence.specs.Named.{HasWideSide};
 
 use crate::named::named_node;
 use slotted_alike::alike::child_equations;
+use slotted_classes::Store;
 use slotted_languages::Language;
 use slotted_proofs::{Equation, ProvenEq};
 use slotted_slots::Error;
-use slotted_store::Store;
 use slotted_unions::proving::bridge;
 use std::alloc::Global;
 

@@ -17,9 +17,9 @@ use Rattle.slotted_model.specs.Extraction.{TableEntry, cost_in, costs_in, row_co
 use Rattle.slotted_model.proofs.Options.{None-Some}
 use Rattle.slotted_model.proofs.Tables.{cost-here, none-before, row-kept}
 use Rattle.slotted_model.proofs.Queues.{costs-asked}
-use Rattle.slotted_filing.specs.Filed.{Filing, HasKey, filed_of}
-use Rattle.slotted_filing.specs.FiledRows.{rows_in, row_of_entry, key_children}
-use Rattle.slotted_filing.proofs.FiledRows.{row-children, row-filed, filed-row}
+use Rattle.slotted_hashcons.specs.Filed.{Filing, HasKey, filed_of}
+use Rattle.slotted_hashcons.specs.FiledRows.{rows_in, row_of_entry, key_children}
+use Rattle.slotted_hashcons.proofs.FiledRows.{row-children, row-filed, filed-row}
 use Rattle.slotted_costs.specs.Costs.{costs_by}
 use Rattle.slotted_costs.specs.declared.candidate.Candidate.{Candidate}
 use Rattle.slotted_costs.specs.Prices.{IsCandidateFor, IsOverCheaper, children_of, filing_children, filed_cost, candidate_cmp, pair_of, pairs_of}

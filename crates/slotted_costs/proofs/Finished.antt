@@ -10,9 +10,9 @@ use Rattle.slotted_languages.specs.NodeTerm.{nameless_node}
 use Rattle.slotted_model.specs.State.{Row}
 use Rattle.slotted_model.specs.Extraction.{IsLawfulFor}
 use Rattle.slotted_model.proofs.KnownCosts.{lawful-for}
-use Rattle.slotted_store.specs.Kept.{Kept}
-use Rattle.slotted_filing.specs.FiledRows.{Rows, rows_in}
-use Rattle.slotted_filing.proofs.FiledRows.{filed-row}
+use Rattle.slotted_classes.specs.Kept.{Kept}
+use Rattle.slotted_hashcons.specs.FiledRows.{Rows, rows_in}
+use Rattle.slotted_hashcons.proofs.FiledRows.{filed-row}
 use Rattle.slotted_costs.specs.Costs.{costs_by}
 use Rattle.slotted_costs.specs.Laws.{IsOfLanguage, NeverFalls, CoversChildren, CostLaws}
 use Rattle.slotted_costs.proofs.Lawful.{cost-laws}

@@ -8,9 +8,9 @@ use Rattle.slotted_languages.specs.NodeTerm.{nameless_node}
 use Rattle.slotted_model.specs.Cost.{CostFunction}
 use Rattle.slotted_model.specs.Extraction.{TableEntry, costs_in, row_cost}
 use Rattle.slotted_model.proofs.Options.{option_map-some, None-Some}
-use Rattle.slotted_filing.specs.Filed.{Filing, filed_of}
-use Rattle.slotted_filing.specs.FiledRows.{row_of_entry, key_children}
-use Rattle.slotted_filing.proofs.FiledRows.{row-children}
+use Rattle.slotted_hashcons.specs.Filed.{Filing, filed_of}
+use Rattle.slotted_hashcons.specs.FiledRows.{row_of_entry, key_children}
+use Rattle.slotted_hashcons.proofs.FiledRows.{row-children}
 use Rattle.slotted_costs.specs.Costs.{costs_by}
 use Rattle.slotted_bare_nodes.proofs.Alike.{bare-shape}
 use Rattle.slotted_costs.specs.Prices.{children_of, filing_children, filing_cost, filed_cost}

@@ -10,8 +10,8 @@ use Rattle.slotted_model.specs.Cost.{CostFunction}
 use Rattle.slotted_model.specs.Extraction.{TableEntry, costs_in}
 use Rattle.slotted_model.specs.State.{State}
 use Rattle.slotted_model.proofs.Options.{None-Some}
-use Rattle.slotted_filing.specs.Filed.{Filing, filed_of}
-use Rattle.slotted_filing.specs.FiledRows.{key_children}
+use Rattle.slotted_hashcons.specs.Filed.{Filing, filed_of}
+use Rattle.slotted_hashcons.specs.FiledRows.{key_children}
 use Rattle.slotted_costs.specs.declared.candidate.Candidate.{Candidate}
 use Rattle.slotted_costs.specs.Prices.{IsCandidateFor, Pushes, filing_children, filing_cost, filed_cost, pairs_of, children_of}
 use Rattle.slotted_costs.specs.Counts.{AreCounts}

@@ -10,7 +10,7 @@ use Rattle.slotted_nodes.specs.Form.{Form}
 use Rattle.slotted_model.specs.Extraction.{TableEntry, cost_in, costs_in}
 use Rattle.slotted_model.proofs.Options.{None-Some, Some-same, option_map-some}
 use Rattle.slotted_model.proofs.Tables.{costs-by, costs-append, costs-each}
-use Rattle.slotted_filing.proofs.Places.{at-append_cases, at-set_same, at-set_other}
+use Rattle.slotted_hashcons.proofs.Places.{at-append_cases, at-set_same, at-set_other}
 use Rattle.slotted_costs.specs.declared.entry.CostEntry.{CostEntry}
 use Rattle.slotted_costs.specs.Entries.{entry_of, table_after, table_of, entry_in, classes_in, ArePlaced}
 

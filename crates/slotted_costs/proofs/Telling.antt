@@ -11,7 +11,7 @@ use Rattle.slotted_nodes.specs.Form.{Form}
 use Rattle.slotted_model.specs.Cost.{CostFunction}
 use Rattle.slotted_model.specs.Extraction.{TableEntry}
 use Rattle.slotted_model.proofs.Options.{None-Some, Some-same}
-use Rattle.slotted_filing.specs.Filed.{Filing}
+use Rattle.slotted_hashcons.specs.Filed.{Filing}
 use Rattle.slotted_costs.specs.declared.candidate.Candidate.{Candidate}
 use Rattle.slotted_costs.specs.Prices.{IsCandidateFor, Pushes, filed_cost, pair_of, pairs_of}
 use Rattle.slotted_costs.specs.Counts.{times, one_if, unpriced, one_if_any}

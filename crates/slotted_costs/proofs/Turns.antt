@@ -16,9 +16,9 @@ use Rattle.slotted_model.specs.Find.{find_class}
 use Rattle.slotted_model.specs.State.{State}
 use Rattle.slotted_model.specs.Extraction.{TableEntry, cost_in, IsFinished}
 use Rattle.slotted_model.proofs.Options.{None-Some}
-use Rattle.slotted_store.specs.Kept.{Kept, entries_of}
-use Rattle.slotted_filing.specs.Filed.{Filing, filed_of}
-use Rattle.slotted_filing.specs.FiledRows.{Rows, IsFiled, row_of_entry}
+use Rattle.slotted_classes.specs.Kept.{Kept, entries_of}
+use Rattle.slotted_hashcons.specs.Filed.{Filing, filed_of}
+use Rattle.slotted_hashcons.specs.FiledRows.{Rows, IsFiled, row_of_entry}
 use Rattle.slotted_costs.specs.Costs.{costs_by}
 use Rattle.slotted_costs.specs.declared.candidate.Candidate.{Candidate}
 use Rattle.slotted_costs.specs.declared.entry.CostEntry.{CostEntry}

@@ -8,8 +8,8 @@ use Rattle.std.proofs.Math.ListN.{get_or-append}
 use Rattle.std.proofs.Math.Seq.{get_or-append_seam}
 use Rattle.slotted_nodes.specs.Form.{Form, children}
 use Rattle.slotted_model.proofs.Options.{None-Some}
-use Rattle.slotted_filing.specs.Filed.{Filing, filed_of}
-use Rattle.slotted_filing.proofs.KeyChildren.{key_children-read}
+use Rattle.slotted_hashcons.specs.Filed.{Filing, filed_of}
+use Rattle.slotted_hashcons.proofs.KeyChildren.{key_children-read}
 use Rattle.slotted_costs.specs.Counts.{times, one_if, only_if, UsesMore, AreUsers, AreCounts, AreKeysOf, IsKeyOf}
 use Rattle.slotted_costs.specs.Prices.{children_of, filing_children}
 use Rattle.slotted_costs.proofs.Counting.{one-same, one-other, only-same, only-other, only-one, only-sum, times-append, times-more}

@@ -7,7 +7,7 @@
 use Rattle.std.specs.Prelude.{◌≡◌, ℕ, zero, suc, ◌+◌, ◌<◌, List, [], ◌∷◌, length, Option, Some, None, Bool, true, false, nat_eq, slice_index_or}
 use Rattle.slotted_nodes.specs.Form.{Form}
 use Rattle.slotted_model.specs.Extraction.{TableEntry, cost_in}
-use Rattle.slotted_filing.specs.Filed.{Filing, filed_of}
+use Rattle.slotted_hashcons.specs.Filed.{Filing, filed_of}
 use Rattle.slotted_costs.specs.Prices.{children_of}
 
 abbrev pub one_if : Bool → ℕ

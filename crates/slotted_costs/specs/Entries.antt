@@ -7,8 +7,8 @@
 use Rattle.std.specs.Prelude.{◌≡◌, ℕ, List, [], ◌∷◌, map, Option, Some, None, cond, nat_eq, slice_get}
 use Rattle.slotted_nodes.specs.Form.{Form}
 use Rattle.slotted_model.specs.Extraction.{TableEntry}
-use Rattle.slotted_filing.specs.Filed.{Filing, filed_of}
-use Rattle.slotted_filing.specs.FiledRows.{row_of_entry}
+use Rattle.slotted_hashcons.specs.Filed.{Filing, filed_of}
+use Rattle.slotted_hashcons.specs.FiledRows.{row_of_entry}
 use Rattle.slotted_costs.specs.declared.entry.CostEntry.{CostEntry}
 
 abbrev pub entry_of : {L C : Type 0} → (L → Form) → CostEntry L C → TableEntry C

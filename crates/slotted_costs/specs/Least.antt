@@ -8,7 +8,7 @@ use Rattle.slotted_nodes.specs.Form.{Form}
 use Rattle.slotted_model.specs.Cost.{CostFunction}
 use Rattle.slotted_model.specs.State.{Row, State}
 use Rattle.slotted_model.specs.Extraction.{TableEntry, IsLawfulFor, IsLeastFirst, IsFinished}
-use Rattle.slotted_filing.specs.Filed.{Filing, HasKey}
+use Rattle.slotted_hashcons.specs.Filed.{Filing, HasKey}
 
 -- each entry entered as the least that could, none can any more, and the costs are lawful on what is filed: so at rest the table fits
 pub record IsLeastTable {C : Type 0} (g : State) (k : CostFunction C) (table : List (TableEntry C)) : Type 0 where

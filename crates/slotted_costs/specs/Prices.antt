@@ -13,8 +13,8 @@ use Rattle.slotted_nodes.specs.Form.{Form}
 use Rattle.slotted_languages.specs.NodeTerm.{nameless_node}
 use Rattle.slotted_model.specs.Cost.{AtMost, CostFunction}
 use Rattle.slotted_model.specs.Extraction.{TableEntry, cost_in, costs_in}
-use Rattle.slotted_filing.specs.Filed.{Filing, HasKey, filed_of}
-use Rattle.slotted_filing.specs.FiledRows.{key_children}
+use Rattle.slotted_hashcons.specs.Filed.{Filing, HasKey, filed_of}
+use Rattle.slotted_hashcons.specs.FiledRows.{key_children}
 use Rattle.slotted_costs.specs.declared.candidate.Candidate.{Candidate}
 
 abbrev pub filing_children : Option Filing → List ℕ

@@ -4,7 +4,7 @@ ghost use Rattle.std.specs.Ordering.{is_lt};
 ghost use Rattle.std.specs.BinaryHeap.{heap_items, KeepsHeap};
 ghost use Rattle.slotted_slots.specs.Error.{IsOutOfMemory};
 ghost use Rattle.slotted_model.specs.Extraction.{costs_in};
-ghost use Rattle.slotted_filing.specs.FiledRows.{key_children};
+ghost use Rattle.slotted_hashcons.specs.FiledRows.{key_children};
 ghost use Rattle.slotted_costs.specs.Costs.{costs_by, MayRefuse};
 ghost use Rattle.slotted_costs.specs.Entries.{table_of};
 ghost use Rattle.slotted_costs.specs.Prices.{candidate_cmp, filed_cost, IsCandidateFor, Pushes};
@@ -12,7 +12,7 @@ ghost use Rattle.slotted_costs.specs.Prices.{candidate_cmp, filed_cost, IsCandid
 use crate::candidate::Candidate;
 use crate::cost::CostFunction;
 use crate::table::CostTable;
-use slotted_filing::Hashcons;
+use slotted_hashcons::Hashcons;
 use slotted_languages::Language;
 use slotted_slots::Error;
 use std::alloc::Global;

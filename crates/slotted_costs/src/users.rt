@@ -1,11 +1,11 @@
 //! Which filed e-nodes stand over a class, and how many children they have.
 ghost use Rattle.std.specs.Prelude.{◌≡◌, ◌∷◌, ℕ, List, [], length, map, IfOk, IfErr, OnOk, slice_index_or};
 ghost use Rattle.slotted_slots.specs.Error.{IsOutOfMemory};
-ghost use Rattle.slotted_filing.specs.Filed.{filed_of};
+ghost use Rattle.slotted_hashcons.specs.Filed.{filed_of};
 ghost use Rattle.slotted_costs.specs.Prices.{children_of};
 ghost use Rattle.slotted_costs.specs.Counts.{AreCounts, AreKeysOf, AreUsers, IsKeyOf, UsesMore};
 
-use slotted_filing::{Hashcons, Usages};
+use slotted_hashcons::{Hashcons, Usages};
 use slotted_languages::Language;
 use slotted_slots::{Error, Id};
 use std::alloc::Global;

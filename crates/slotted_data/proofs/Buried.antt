@@ -10,8 +10,8 @@ use Rattle.slotted_model.specs.Correspondence.{AllDifferent}
 use Rattle.slotted_model.specs.Find.{IsLive}
 use Rattle.slotted_model_analyses.specs.Analysis.{Analysis, IsMerge, Absorbs}
 use Rattle.slotted_model_analyses.proofs.Absorbing.{absorbs-same, absorbs-then, merge-absorbs, merge-keeps}
-use Rattle.slotted_store.specs.Kept.{Kept, entries_of}
-use Rattle.slotted_filing.specs.FiledRows.{IsFiled, Rows}
+use Rattle.slotted_classes.specs.Kept.{Kept, entries_of}
+use Rattle.slotted_hashcons.specs.FiledRows.{IsFiled, Rows}
 use Rattle.slotted_data.specs.Held.{Held, users_of, with_user, with_users_taken}
 use Rattle.slotted_data.specs.Made.{data_in}
 use Rattle.slotted_data.specs.Users.{SameValues, WaitsFiled, found_in}

@@ -5,10 +5,10 @@ use Rattle.std.proofs.lemmas.Bool.{cases_eq}
 use Rattle.std.proofs.lemmas.List.{get_or-set_same, get_or-set_other, map-append}
 use Rattle.std.proofs.lemmas.List.Elements.{Contains-append_left, Contains-append_right, Contains-append_cases}
 use Rattle.slotted_theory.proofs.Lists.{contains_head, contains_cases, Contains-nil}
-use Rattle.slotted_store.specs.Kept.{Kept}
-use Rattle.slotted_filing.specs.Filed.{filed_of}
-use Rattle.slotted_filing.specs.FiledRows.{IsFiled, QueuesUp, Rows}
-use Rattle.slotted_filing.proofs.Flags.{different-added}
+use Rattle.slotted_classes.specs.Kept.{Kept}
+use Rattle.slotted_hashcons.specs.Filed.{filed_of}
+use Rattle.slotted_hashcons.specs.FiledRows.{IsFiled, QueuesUp, Rows}
+use Rattle.slotted_hashcons.proofs.Flags.{different-added}
 use Rattle.slotted_data.specs.Held.{Held, users_of, with_user, with_entered}
 use Rattle.slotted_data.specs.Made.{children_at}
 use Rattle.slotted_data.specs.Users.{WaitsFiled, WaitEach, SameValues, found_in, IsOlderOrWaits, EntersChildren, EntersUsers}

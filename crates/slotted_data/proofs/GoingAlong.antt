@@ -21,12 +21,12 @@ use Rattle.slotted_model_analyses.specs.DataWrites.{HasNotedAll}
 use Rattle.slotted_model_analyses.specs.Carried.{CarriesTo, GoesAlong}
 use Rattle.slotted_model_analyses.proofs.Absorbing.{absorbs-both}
 use Rattle.slotted_model_analyses.proofs.CarriedData.{carried-kept, carried-rests, row-made}
-use Rattle.slotted_store.specs.Kept.{Kept, ListsDead, node_at, nodes_of, entries_of}
-use Rattle.slotted_store.proofs.KeptLists.{length-nodes_of, length-entries_of}
-use Rattle.slotted_filing.specs.Filed.{Filing}
-use Rattle.slotted_filing.specs.FiledRows.{IsFiled, Rows, rows_in}
-use Rattle.slotted_filing.proofs.CanonicalChildren.{node-is}
-use Rattle.slotted_filing.proofs.FiledRows.{source-filed}
+use Rattle.slotted_classes.specs.Kept.{Kept, ListsDead, node_at, nodes_of, entries_of}
+use Rattle.slotted_classes.proofs.KeptLists.{length-nodes_of, length-entries_of}
+use Rattle.slotted_hashcons.specs.Filed.{Filing}
+use Rattle.slotted_hashcons.specs.FiledRows.{IsFiled, Rows, rows_in}
+use Rattle.slotted_hashcons.proofs.CanonicalChildren.{node-is}
+use Rattle.slotted_hashcons.proofs.FiledRows.{source-filed}
 use Rattle.slotted_rebuilding.specs.Counted.{CountsFit, CountsGo}
 use Rattle.slotted_rebuilding.specs.Filed.{state_in}
 use Rattle.slotted_rebuilding.proofs.CountedRebuilds.{counts-same}

@@ -7,10 +7,10 @@ use Rattle.slotted_model_analyses.specs.Analysis.{Analysis, IsMerge}
 use Rattle.slotted_model_analyses.specs.DataPart.{HasData, Merges, absorbed, RestsWithData, RunsWithData, starts}
 use Rattle.slotted_model_analyses.specs.DataWrites.{MergesInto, merges_into}
 use Rattle.slotted_model_analyses.proofs.Writing.{merge-has, merging}
-use Rattle.slotted_store.specs.Kept.{Kept, nodes_of, entries_of}
-use Rattle.slotted_store.proofs.KeptLists.{length-nodes_of}
-use Rattle.slotted_filing.specs.Filed.{Filing}
-use Rattle.slotted_filing.specs.FiledRows.{Rows, rows_in}
+use Rattle.slotted_classes.specs.Kept.{Kept, nodes_of, entries_of}
+use Rattle.slotted_classes.proofs.KeptLists.{length-nodes_of}
+use Rattle.slotted_hashcons.specs.Filed.{Filing}
+use Rattle.slotted_hashcons.specs.FiledRows.{Rows, rows_in}
 use Rattle.slotted_rebuilding.specs.Counted.{CountsFit, CountsGo}
 use Rattle.slotted_rebuilding.specs.Filed.{state_in}
 use Rattle.slotted_rebuilding.proofs.CountedRebuilds.{counts-same}

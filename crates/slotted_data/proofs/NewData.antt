@@ -14,13 +14,13 @@ use Rattle.slotted_model.specs.Correspondence.{AllDifferent}
 use Rattle.slotted_model.specs.Find.{Entry, find_class}
 use Rattle.slotted_model.specs.State.{child_classes}
 use Rattle.slotted_model.proofs.KeepingLookUps.{children-below}
-use Rattle.slotted_store.specs.Kept.{Kept, node_at, nodes_of, entries_of}
-use Rattle.slotted_store.proofs.KeptLists.{length-nodes_of}
-use Rattle.slotted_filing.specs.FiledRows.{HasChildrenBelow, key_children}
-use Rattle.slotted_filing.proofs.CanonicalChildren.{node-is}
-use Rattle.slotted_filing.proofs.Places.{at-append_end}
-use Rattle.slotted_filing.proofs.Flags.{different-added}
-use Rattle.slotted_filing.proofs.KeyChildren.{key_children-read}
+use Rattle.slotted_classes.specs.Kept.{Kept, node_at, nodes_of, entries_of}
+use Rattle.slotted_classes.proofs.KeptLists.{length-nodes_of}
+use Rattle.slotted_hashcons.specs.FiledRows.{HasChildrenBelow, key_children}
+use Rattle.slotted_hashcons.proofs.CanonicalChildren.{node-is}
+use Rattle.slotted_hashcons.proofs.Places.{at-append_end}
+use Rattle.slotted_hashcons.proofs.Flags.{different-added}
+use Rattle.slotted_hashcons.proofs.KeyChildren.{key_children-read}
 use Rattle.slotted_bare_nodes.specs.BareNodes.{bare_node}
 use Rattle.slotted_analyses.specs.Meaning.{Meaning}
 use Rattle.slotted_data.specs.Held.{Held, Notes}

@@ -2,9 +2,9 @@
 use Rattle.std.proofs.Common.{◌≡◌, ◌≤◌, ℕ, suc, ◌-◌, ◌*◌, true, false, cond, subst, arith}
 use Rattle.std.specs.Prelude.{nat_eq}
 use Rattle.slotted_model_analyses.specs.Analysis.{Analysis}
-use Rattle.slotted_store.specs.Counts.{noted}
-use Rattle.slotted_store.specs.Kept.{Kept}
-use Rattle.slotted_filing.specs.FiledRows.{Rows}
+use Rattle.slotted_classes.specs.Counts.{noted}
+use Rattle.slotted_classes.specs.Kept.{Kept}
+use Rattle.slotted_hashcons.specs.FiledRows.{Rows}
 use Rattle.slotted_rebuilding.specs.Counted.{CountsFit, CountsGo}
 use Rattle.slotted_rebuilding.proofs.CountedRebuilds.{counts-same, counts-then, noted-fits, noted-goes}
 use Rattle.slotted_data.specs.Held.{DataCounts, Held}

@@ -16,12 +16,12 @@ use Rattle.slotted_model_analyses.specs.DataPart.{HasData, Merges, TakesData, he
 use Rattle.slotted_model_analyses.specs.RunClaims.{FallsOrTakes}
 use Rattle.slotted_model_analyses.proofs.Counts.{counted-with, pending-below, run-with}
 use Rattle.slotted_model_analyses.proofs.Following.{data-followed}
-use Rattle.slotted_store.specs.Counts.{most_turns}
-use Rattle.slotted_store.specs.Kept.{Kept, entries_of}
-use Rattle.slotted_store.proofs.KeptLists.{any_default, length-entries_of}
-use Rattle.slotted_filing.specs.Filed.{filed_of}
-use Rattle.slotted_filing.specs.FiledRows.{IsFiled, Rows, TakesTurn, row_of_entry, rows_in}
-use Rattle.slotted_filing.proofs.FiledRows.{row-filed, source-filed, without-front}
+use Rattle.slotted_classes.specs.Counts.{most_turns}
+use Rattle.slotted_classes.specs.Kept.{Kept, entries_of}
+use Rattle.slotted_classes.proofs.KeptLists.{any_default, length-entries_of}
+use Rattle.slotted_hashcons.specs.Filed.{filed_of}
+use Rattle.slotted_hashcons.specs.FiledRows.{IsFiled, Rows, TakesTurn, row_of_entry, rows_in}
+use Rattle.slotted_hashcons.proofs.FiledRows.{row-filed, source-filed, without-front}
 use Rattle.slotted_rebuilding.specs.Filed.{state_in}
 use Rattle.slotted_data.specs.Held.{Held}
 use Rattle.slotted_data.specs.Made.{data_in}

@@ -21,12 +21,12 @@ use Rattle.slotted_model_analyses.specs.Analysis.{Analysis, IsMerge, Absorbs}
 use Rattle.slotted_model_analyses.specs.DataPart.{HasNoted, Merges, absorbed, heights_from, lowered, made, with_data, with_pending}
 use Rattle.slotted_model_analyses.proofs.FiledAgain.{normal-classes}
 use Rattle.slotted_model_analyses.proofs.Heights.{height-live, heights-with, with_data-here, with_data-other}
-use Rattle.slotted_store.specs.Kept.{Kept, nodes_of, entries_of}
-use Rattle.slotted_store.proofs.KeptLists.{length-entries_of, length-nodes_of}
-use Rattle.slotted_filing.specs.Filed.{filed_of}
-use Rattle.slotted_filing.specs.FiledRows.{IsFiled, Rows, key_children, row_of_entry, rows_in, HasChildrenBelow}
-use Rattle.slotted_filing.proofs.CanonicalChildren.{node-is}
-use Rattle.slotted_filing.proofs.FiledRows.{row-children, row-filed, source-filed, sources-different}
+use Rattle.slotted_classes.specs.Kept.{Kept, nodes_of, entries_of}
+use Rattle.slotted_classes.proofs.KeptLists.{length-entries_of, length-nodes_of}
+use Rattle.slotted_hashcons.specs.Filed.{filed_of}
+use Rattle.slotted_hashcons.specs.FiledRows.{IsFiled, Rows, key_children, row_of_entry, rows_in, HasChildrenBelow}
+use Rattle.slotted_hashcons.proofs.CanonicalChildren.{node-is}
+use Rattle.slotted_hashcons.proofs.FiledRows.{row-children, row-filed, source-filed, sources-different}
 use Rattle.slotted_rebuilding.specs.Filed.{state_in}
 use Rattle.slotted_bare_nodes.specs.BareNodes.{bare_node}
 use Rattle.slotted_bare_nodes.proofs.Alike.{bare-shape}

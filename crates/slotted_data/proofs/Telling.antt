@@ -5,9 +5,9 @@ use Rattle.slotted_theory.proofs.Lists.{Contains-nil}
 use Rattle.slotted_model.specs.Find.{find_class}
 use Rattle.slotted_model.proofs.Finding.{leads, found-in_range}
 use Rattle.slotted_model_analyses.specs.Analysis.{Analysis, Absorbs}
-use Rattle.slotted_store.specs.Kept.{Kept, nodes_of, entries_of}
-use Rattle.slotted_store.proofs.KeptLists.{length-entries_of, length-nodes_of}
-use Rattle.slotted_filing.specs.FiledRows.{Rows, rows_in}
+use Rattle.slotted_classes.specs.Kept.{Kept, nodes_of, entries_of}
+use Rattle.slotted_classes.proofs.KeptLists.{length-entries_of, length-nodes_of}
+use Rattle.slotted_hashcons.specs.FiledRows.{Rows, rows_in}
 use Rattle.slotted_data.specs.Held.{Held}
 use Rattle.slotted_data.specs.Made.{data_in}
 use Rattle.slotted_data.specs.Carrying.{DataRests, Carried}

@@ -4,7 +4,7 @@ use Rattle.std.specs.Prelude.{min, slice_index_or}
 use Rattle.std.proofs.lemmas.Bool.{cases_lt}
 use Rattle.std.proofs.Math.Nat.{min-eq_left, min-eq_right}
 use Rattle.slotted_model_analyses.specs.Analysis.{Analysis}
-use Rattle.slotted_store.specs.Counts.{Counts, last_count, most_bound}
+use Rattle.slotted_classes.specs.Counts.{Counts, last_count, most_bound}
 use Rattle.slotted_rebuilding.specs.Counted.{CountsFit}
 use Rattle.slotted_data.specs.Counted.{IsWithinBound, came_last, heights_of, last_of, most_size, told_at}
 use Rattle.slotted_data.specs.Held.{DataCounts, no_turns}

@@ -12,8 +12,8 @@ use Rattle.slotted_model.specs.Rest.{AtRest}
 use Rattle.slotted_model_analyses.specs.Analysis.{Analysis, Absorbs}
 use Rattle.slotted_model_analyses.specs.DataPart.{DataGoesDown, GoesDown, HasData}
 use Rattle.slotted_model_analyses.specs.DataWrites.{HasNotedAll, MergesInto}
-use Rattle.slotted_store.specs.Kept.{Kept, ListsDead, entries_of, size_of}
-use Rattle.slotted_filing.specs.FiledRows.{Rows}
+use Rattle.slotted_classes.specs.Kept.{Kept, ListsDead, entries_of, size_of}
+use Rattle.slotted_hashcons.specs.FiledRows.{Rows}
 use Rattle.slotted_rebuilding.specs.Counted.{CountsFit, CountsGo}
 use Rattle.slotted_rebuilding.specs.Filed.{state_in}
 use Rattle.slotted_data.specs.Held.{Held, no_turns}

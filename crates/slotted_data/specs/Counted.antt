@@ -10,8 +10,8 @@
 --     heights_of lives a i xs the heights of those data whose class lives, where the first one is that of the class i
 use Rattle.std.specs.Prelude.{◌≤◌, ℕ, suc, ◌+◌, ◌-◌, ◌*◌, ◌^◌, min, List, [], ◌∷◌, Bool, ◌&&◌, cond, nat_eq, nat_lt}
 use Rattle.slotted_model_analyses.specs.Analysis.{Analysis}
-use Rattle.slotted_store.specs.Counts.{Counts, most_bound, most_turns, noted}
-use Rattle.slotted_store.specs.declared.counts.RebuildCount.{RebuildCount}
+use Rattle.slotted_classes.specs.Counts.{Counts, most_bound, most_turns, noted}
+use Rattle.slotted_classes.specs.declared.counts.RebuildCount.{RebuildCount}
 use Rattle.slotted_data.specs.Held.{DataCounts, Held}
 
 abbrev pub most_fall : ℕ

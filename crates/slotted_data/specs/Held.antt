@@ -6,8 +6,8 @@
 --     HasNewValue d e v t  from d to e the next class has the data v
 --     HasValue d e c v     from d to e the class c has the data v
 use Rattle.std.specs.Prelude.{◌≡◌, ◌⊎◌, ◌≤◌, ℕ, List, [], ◌∷◌, ◌++◌, length, set, slice_index_or, Bool, false, Contains, ◌||◌}
-use Rattle.slotted_store.specs.Counts.{Counts, no_counts}
-use Rattle.slotted_filing.specs.Waiting.{Waiting}
+use Rattle.slotted_classes.specs.Counts.{Counts, no_counts}
+use Rattle.slotted_hashcons.specs.Waiting.{Waiting}
 
 -- what turns for data did
 pub record DataCounts : Type 0 where

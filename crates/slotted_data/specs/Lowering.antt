@@ -15,10 +15,10 @@ use Rattle.slotted_model.specs.Rest.{AtRest}
 use Rattle.slotted_model.specs.State.{Row}
 use Rattle.slotted_model_analyses.specs.Analysis.{Analysis}
 use Rattle.slotted_model_analyses.specs.DataPart.{DataPart, Merges, RunsWithData, heights_from, made}
-use Rattle.slotted_store.specs.Counts.{most_turns}
-use Rattle.slotted_store.specs.Kept.{Kept, entries_of}
-use Rattle.slotted_filing.specs.Filed.{Filing}
-use Rattle.slotted_filing.specs.FiledRows.{Rows, rows_in}
+use Rattle.slotted_classes.specs.Counts.{most_turns}
+use Rattle.slotted_classes.specs.Kept.{Kept, entries_of}
+use Rattle.slotted_hashcons.specs.Filed.{Filing}
+use Rattle.slotted_hashcons.specs.FiledRows.{Rows, rows_in}
 use Rattle.slotted_rebuilding.specs.Filed.{state_in}
 use Rattle.slotted_bare_nodes.specs.BareNodes.{bare_node}
 use Rattle.slotted_analyses.specs.Meaning.{Meaning}

@@ -9,8 +9,8 @@ use Rattle.std.specs.Prelude.{◌≡◌, ◌⊎◌, ◌<◌, ◌≤◌, ℕ, Lis
 use Rattle.slotted_nodes.specs.Form.{Form}
 use Rattle.slotted_model.specs.Correspondence.{AllDifferent}
 use Rattle.slotted_model.specs.Find.{Entry, find_class}
-use Rattle.slotted_store.specs.Kept.{Kept, node_at, entries_of}
-use Rattle.slotted_filing.specs.FiledRows.{key_children}
+use Rattle.slotted_classes.specs.Kept.{Kept, node_at, entries_of}
+use Rattle.slotted_hashcons.specs.FiledRows.{key_children}
 use Rattle.slotted_bare_nodes.specs.BareNodes.{bare_node}
 use Rattle.slotted_analyses.specs.Meaning.{Meaning}
 use Rattle.slotted_data.specs.Held.{Held, users_of, HasNewValue}

@@ -14,7 +14,7 @@ use base.Stored.{Gv}
 use Rattle.slotted_model.specs.Find.{Entry, find_class}
 use Rattle.slotted_model.specs.State.{Row, child_classes}
 use Rattle.slotted_model_analyses.specs.Analysis.{Analysis, Absorbs}
-use Rattle.slotted_store.specs.Counts.{Counts, counts_code}
+use Rattle.slotted_classes.specs.Counts.{Counts, counts_code}
 use Rattle.slotted_data.specs.Held.{DataCounts, Held}
 use Rattle.slotted_data.specs.Made.{data_in}
 

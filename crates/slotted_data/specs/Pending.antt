@@ -5,7 +5,7 @@ use Rattle.std.specs.Prelude.{ℕ, List, length, Bool, ◌&&◌, nat_eq, nat_lt}
 use Rattle.std.specs.List.{filter}
 use Rattle.std.specs.List.Sorted.{IsPermutation, IsSorted}
 use Rattle.std.specs.Ordering.{nat_cmp}
-use Rattle.slotted_store.specs.Kept.{Kept, find_at}
+use Rattle.slotted_classes.specs.Kept.{Kept, find_at}
 
 abbrev pub lives_in : Kept → ℕ → Bool
 lives_in k i = nat_lt i (length k.classes) && nat_eq (find_at k i).class i

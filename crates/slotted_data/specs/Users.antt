@@ -7,8 +7,8 @@
 use Rattle.std.specs.Prelude.{◌≡◌, ◌⊎◌, ◌<◌, ◌≤◌, ℕ, List, map, Contains}
 use Rattle.slotted_model.specs.Correspondence.{AllDifferent}
 use Rattle.slotted_model.specs.Find.{find_class}
-use Rattle.slotted_store.specs.Kept.{Kept, entries_of}
-use Rattle.slotted_filing.specs.FiledRows.{IsFiled, Rows}
+use Rattle.slotted_classes.specs.Kept.{Kept, entries_of}
+use Rattle.slotted_hashcons.specs.FiledRows.{IsFiled, Rows}
 use Rattle.slotted_data.specs.Held.{Held, users_of}
 use Rattle.slotted_data.specs.Made.{children_at}
 

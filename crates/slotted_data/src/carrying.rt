@@ -2,9 +2,9 @@
 ghost use Rattle.std.specs.Prelude.{◌≡◌, ◌<◌, ◌↔◌, ℕ, length, IfErr, IsTrue, OnOk};
 ghost use Rattle.slotted_slots.specs.Error.{IsOutOfMemory};
 ghost use Rattle.slotted_model.specs.Rest.{AtRest};
-ghost use Rattle.slotted_store.specs.Finding.{HasFinds};
-ghost use Rattle.slotted_store.specs.Kept.{Kept, ListsDead, entries_of};
-ghost use Rattle.slotted_filing.specs.FiledRows.{Rows};
+ghost use Rattle.slotted_classes.specs.Finding.{HasFinds};
+ghost use Rattle.slotted_classes.specs.Kept.{Kept, ListsDead, entries_of};
+ghost use Rattle.slotted_hashcons.specs.FiledRows.{Rows};
 ghost use Rattle.slotted_rebuilding.specs.Filed.{state_in};
 ghost use Rattle.slotted_analyses.specs.Meaning.{by_bare_nodes};
 ghost use Rattle.slotted_data.specs.Carrying.{Carried, CarriesUp, DataRests, HasCarriedAll, HasNewData};
@@ -16,10 +16,10 @@ use crate::lowering::{lower, rise};
 use crate::making::add_new;
 use crate::users::enter_users;
 use slotted_analyses::Analysis;
-use slotted_filing::Hashcons;
+use slotted_classes::Store;
+use slotted_hashcons::Hashcons;
 use slotted_languages::Language;
 use slotted_slots::Error;
-use slotted_store::Store;
 use std::alloc::Global;
 
 // New classes have data. What the dead had goes to what they find, and values go upwards.

@@ -5,11 +5,11 @@ ghost use Rattle.slotted_slots.specs.Error.{IsOutOfMemory};
 ghost use Rattle.slotted_data.specs.Held.{HasNewValue, HasValue, no_values, users_of, with_carried, with_entered};
 ghost use Rattle.slotted_data.specs.Held.{with_none_changed, with_user, with_users_taken};
 ghost use Rattle.slotted_data.specs.Counted.{with_turns};
-ghost use Rattle.slotted_store.specs.Counts.{last_count};
+ghost use Rattle.slotted_classes.specs.Counts.{last_count};
 
-use slotted_filing::Worklist;
+use slotted_classes::RebuildCount;
+use slotted_hashcons::Worklist;
 use slotted_slots::Error;
-use slotted_store::RebuildCount;
 use std::alloc::Global;
 use std::marker::Model;
 use std::mem;
@@ -43,7 +43,7 @@ pub(crate) struct Taken {
 
 impl<D> Model for ClassData<D> {
     ghost use Rattle.std.specs.Prelude.{map};
-    ghost use Rattle.slotted_store.specs.Counts.{counts_of};
+    ghost use Rattle.slotted_classes.specs.Counts.{counts_of};
     ghost use Rattle.slotted_data.specs.Held.{FitsValues, Held};
 
     ghost Value = { Held D };

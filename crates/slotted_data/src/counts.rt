@@ -1,8 +1,8 @@
 //! What is told of the last rebuild, and of all so far.
 ghost use Rattle.std.specs.Prelude.{◌≡◌, ◌≤◌, ◌<◌, ◌+◌, ◌^◌, ◌*◌, ℕ, length, slice_get, cond, Some, false};
 ghost use Rattle.slotted_model.specs.Rest.{entry_size};
-ghost use Rattle.slotted_store.specs.Kept.{find_at, size_of};
-ghost use Rattle.slotted_store.specs.Counts.{last_count};
+ghost use Rattle.slotted_classes.specs.Kept.{find_at, size_of};
+ghost use Rattle.slotted_classes.specs.Counts.{last_count};
 ghost use Rattle.slotted_data.specs.Counted.{IsWithinBound, came_last, heights_of, last_of, most_size, told_at, totals_with};
 ghost use Rattle.slotted_data.specs.Held.{no_turns};
 ghost use Rattle.slotted_data.specs.Pending.{lives_in};
@@ -10,8 +10,8 @@ ghost use Rattle.slotted_data.specs.Carrying.{AreCounted};
 
 use crate::class_data::ClassData;
 use slotted_analyses::Analysis;
+use slotted_classes::{RebuildCount, Store};
 use slotted_languages::Language;
-use slotted_store::{RebuildCount, Store};
 
 // What a live class counts for: itself, each of its slots, and the height of its data. A dead one counts for nothing.
 fn class_size<L: Language, N: Analysis<L>>(

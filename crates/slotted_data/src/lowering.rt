@@ -3,9 +3,9 @@ ghost use Rattle.std.specs.Prelude.{◌≡◌, ◌<◌, ◌≤◌, ◌*◌, ℕ,
 ghost use Rattle.slotted_slots.specs.Error.{IsOutOfMemory};
 ghost use Rattle.slotted_model.specs.Correspondence.{AllDifferent};
 ghost use Rattle.slotted_model_analyses.specs.DataPart.{HasData};
-ghost use Rattle.slotted_store.specs.Finding.{HasFinds};
-ghost use Rattle.slotted_filing.specs.Filed.{filed_of};
-ghost use Rattle.slotted_filing.specs.FiledRows.{rows_in};
+ghost use Rattle.slotted_classes.specs.Finding.{HasFinds};
+ghost use Rattle.slotted_hashcons.specs.Filed.{filed_of};
+ghost use Rattle.slotted_hashcons.specs.FiledRows.{rows_in};
 ghost use Rattle.slotted_rebuilding.specs.Filed.{state_in};
 ghost use Rattle.slotted_analyses.specs.Meaning.{by_bare_nodes};
 ghost use Rattle.slotted_data.specs.Lowering.{FallsBy, IsReady, Lowers, MakesValue, Puts, RisesTo};
@@ -15,10 +15,10 @@ use crate::class_data::{ClassData, Taken};
 use crate::making::child_data;
 use crate::users::wait_each;
 use slotted_analyses::Analysis;
-use slotted_filing::Hashcons;
+use slotted_classes::Store;
+use slotted_hashcons::Hashcons;
 use slotted_languages::Language;
 use slotted_slots::Error;
-use slotted_store::Store;
 use std::alloc::Global;
 
 // A class has this data. If it had other data, its users wait, and it waits to be modified.

@@ -2,17 +2,17 @@
 ghost use Rattle.std.specs.Prelude.{◌≡◌, ◌≤◌, ◌<◌, ℕ, Contains, length, IfOk, IfErr, OnOk};
 ghost use Rattle.slotted_slots.specs.Error.{IsOutOfMemory};
 ghost use Rattle.slotted_model.specs.Classes.{Canonical};
-ghost use Rattle.slotted_store.specs.Finding.{HasFinds};
-ghost use Rattle.slotted_store.specs.Kept.{entries_of, nodes_of};
-ghost use Rattle.slotted_filing.specs.FiledRows.{HasChildrenBelow, key_children};
+ghost use Rattle.slotted_classes.specs.Finding.{HasFinds};
+ghost use Rattle.slotted_classes.specs.Kept.{entries_of, nodes_of};
+ghost use Rattle.slotted_hashcons.specs.FiledRows.{HasChildrenBelow, key_children};
 ghost use Rattle.slotted_bare_nodes.specs.BareNodes.{HasValuesFor};
 ghost use Rattle.slotted_data.specs.Made.{AddsNew, AddsNext, HasChildValues, source_class};
 
 use crate::class_data::ClassData;
 use slotted_analyses::Analysis;
+use slotted_classes::Store;
 use slotted_languages::Language;
 use slotted_slots::Error;
-use slotted_store::Store;
 use std::alloc::Global;
 
 // The class whose data stands for a class: what this finds, if that has data, else the class itself. It takes no memory.

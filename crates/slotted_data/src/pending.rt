@@ -5,9 +5,9 @@ ghost use Rattle.slotted_data.specs.Held.{with_none_changed};
 ghost use Rattle.slotted_data.specs.Pending.{ArePending, lives_in};
 
 use crate::class_data::ClassData;
+use slotted_classes::Store;
 use slotted_languages::Language;
 use slotted_slots::Error;
-use slotted_store::Store;
 use std::alloc::Global;
 
 // Whether a number is that of a class that leads to itself.

@@ -2,15 +2,15 @@
 ghost use Rattle.std.specs.Prelude.{◌≡◌, ◌≤◌, ◌<◌, ◌∷◌, [], length, IfErr, OnOk};
 ghost use Rattle.slotted_slots.specs.Error.{IsOutOfMemory};
 ghost use Rattle.slotted_model.specs.Classes.{Canonical};
-ghost use Rattle.slotted_store.specs.Finding.{HasFinds};
-ghost use Rattle.slotted_store.specs.Kept.{nodes_of};
+ghost use Rattle.slotted_classes.specs.Finding.{HasFinds};
+ghost use Rattle.slotted_classes.specs.Kept.{nodes_of};
 ghost use Rattle.slotted_data.specs.Users.{EntersClass, EntersUsers, WaitEach};
 
 use crate::class_data::ClassData;
-use slotted_filing::Hashcons;
+use slotted_classes::Store;
+use slotted_hashcons::Hashcons;
 use slotted_languages::Language;
 use slotted_slots::Error;
-use slotted_store::Store;
 
 // A source waits from now on, if a node is filed of it.
 fn wait_if_filed<L: Language>(nodes: &mut Hashcons<L>, source: usize) -> Result<(), Error>

@@ -3,7 +3,7 @@
 use Rattle.std.specs.Prelude.{List, Contains}
 use Rattle.slotted_nodes.specs.Form.{Form}
 use Rattle.slotted_patterns.specs.View.{tree_of}
-use Rattle.slotted_core.specs.Graph.{Graph}
+use Rattle.slotted_operations.specs.Graph.{Graph}
 use Rattle.slotted_rules.specs.EqualInstances.{HasAppliedMatches}
 use Rattle.slotted_rules.specs.declared.rewrite.Rewrite.{Rewrite}
 

@@ -6,11 +6,11 @@ use Rattle.slotted_theory.specs.Term.{Term}
 use Rattle.slotted_model.specs.Applied.{Applied}
 use Rattle.slotted_costs.specs.Costs.{costs_by}
 use Rattle.slotted_costs.specs.Size.{size_cost}
-use Rattle.slotted_core.specs.Explaining.{Explains}
-use Rattle.slotted_core.specs.Graph.{Graph}
+use Rattle.slotted_operations.specs.Explaining.{Explains}
+use Rattle.slotted_operations.specs.Graph.{Graph}
 use Rattle.slotted_graph.specs.Extension.{ExtendsTo}
 use Rattle.slotted_graph.specs.LeastTerms.{IsLeastTerm}
-use Rattle.slotted_core.specs.LookUp.{look_up_term}
+use Rattle.slotted_operations.specs.LookUp.{look_up_term}
 
 pub record IsSimplified (h : Graph) (t u : Term) (p : ℕ) : Type 0 where
   pub explains : Explains h.image t u p

@@ -8,6 +8,7 @@
 pub mod example;
 
 pub use slotted_analyses::{Analysis, Edit};
+pub use slotted_classes::RebuildCount;
 pub use slotted_explain::{Check, EGraph, Explanation, LeastTerms, ProgressMeasure, Symmetry};
 pub use slotted_extract::{AstSize, CostFunction, Extractor, ast_size_extract, extract};
 pub use slotted_graph::{SubstMethod, make_edit, modify_class, modify_in_rounds, modify_once};
@@ -15,6 +16,7 @@ pub use slotted_instances::{
     OwnSubst, lookup_rec_expr, pattern_subst, subst_ids, subst_with, union_instantiations,
 };
 pub use slotted_languages::{Bind, Language, LanguageChildren, ReadBack, Symbol, pair};
+pub use slotted_maps::SmallHashMap;
 pub use slotted_matching::Matches;
 pub use slotted_patterns::Pattern;
 pub use slotted_proofs::{
@@ -36,7 +38,5 @@ pub use slotted_slots::{
     SyntaxElem, Token,
 };
 pub use slotted_small::Small;
-pub use slotted_small_maps::SmallHashMap;
-pub use slotted_store::RebuildCount;
 pub use slotted_terms::expr::printing::Printable;
 pub use slotted_terms::{RecExpr, pattern_to_re, re_to_pattern};

@@ -10,8 +10,8 @@ use Rattle.slotted_model.specs.ProofList.{Equation}
 use Rattle.slotted_proofs.specs.Proving.{IsProved}
 use Rattle.slotted_graph.specs.Image.{Image}
 use Rattle.slotted_graph.specs.Graph.{Graph, IsFullId}
-use Rattle.slotted_store.proofs.KeptLists.{equation_at-of, length-mapped}
-use Rattle.slotted_store.proofs.NameMaps.{numeric-known}
+use Rattle.slotted_classes.proofs.KeptLists.{equation_at-of, length-mapped}
+use Rattle.slotted_classes.proofs.NameMaps.{numeric-known}
 
 pub left_valid : (g : Graph) (p : ℕ) (a b : Applied) → IsProved g.image.canonical g.image.stored → p < length g.image.stored → AreSides (statement_at g.image.stored p) a b → IsFullId g a
 left_valid g p a b proved lt sides =

@@ -12,8 +12,8 @@ use Rattle.slotted_model.specs.Cost.{CostFunction}
 use Rattle.slotted_model.specs.Find.{find_class}
 use Rattle.slotted_model.proofs.Finding.{found-in_range, found-live, leads}
 use Rattle.slotted_model.proofs.Options.{None-Some, option_map-some}
-use Rattle.slotted_store.specs.Finding.{IsFindable}
-use Rattle.slotted_store.specs.Kept.{entries_of, nodes_of}
+use Rattle.slotted_classes.specs.Finding.{IsFindable}
+use Rattle.slotted_classes.specs.Kept.{entries_of, nodes_of}
 use Rattle.slotted_graph.specs.Causes.{class_found}
 use Rattle.slotted_graph.specs.Graph.{Graph}
 use Rattle.slotted_graph.specs.Image.{Image}

@@ -3,7 +3,7 @@ use slotted_costs::CostFunction;
 use slotted_explain::EGraph;
 use slotted_extract::{Extractor, ast_size_extract, extract};
 use slotted_languages::Language;
-use slotted_rows::graphs::{parted, put};
+use slotted_questions::graphs::{parted, put};
 use slotted_slots::{AppliedId, Error, SlotTable};
 use slotted_terms::expr::RecExpr;
 use slotted_terms::expr::printing::Printable;

@@ -15,9 +15,9 @@ use Rattle.slotted_model.specs.State.{child_classes}
 use Rattle.slotted_model.proofs.GoingOn.{goes_on-same}
 use Rattle.slotted_model_analyses.specs.Analysis.{Absorbs, Analysis, IsMerge}
 use Rattle.slotted_proofs.specs.Entries.{Proven}
-use Rattle.slotted_store.specs.Kept.{EntersIn, Kept, entries_of, find_at, nodes_of}
-use Rattle.slotted_store.proofs.KeptLists.{entry_at-of, length-entries_of, length-nodes_of}
-use Rattle.slotted_filing.specs.FiledRows.{Rows, rows_in}
+use Rattle.slotted_classes.specs.Kept.{EntersIn, Kept, entries_of, find_at, nodes_of}
+use Rattle.slotted_classes.proofs.KeptLists.{entry_at-of, length-entries_of, length-nodes_of}
+use Rattle.slotted_hashcons.specs.FiledRows.{Rows, rows_in}
 use Rattle.slotted_rebuilding.specs.Filed.{state_in}
 use Rattle.slotted_analyses.specs.Meaning.{Meaning, by_bare_nodes}
 use Rattle.slotted_data.specs.Held.{Held, with_none_changed}
@@ -30,15 +30,15 @@ use Rattle.slotted_data.proofs.NewData.{map-same}
 use Rattle.slotted_data.proofs.Resting.{rests-proved}
 use Rattle.slotted_data.proofs.TakenData.{row-child, row-within}
 use Rattle.slotted_data.proofs.Telling.{carried-falls, carried-notes, rest-absorbs, rest-has}
-use Rattle.slotted_core.specs.Causes.{class_found}
-use Rattle.slotted_core.specs.Good.{Good, RestsWith, image_of}
-use Rattle.slotted_core.specs.Graph.{Graph}
-use Rattle.slotted_core.specs.Image.{Image}
+use Rattle.slotted_operations.specs.Causes.{class_found}
+use Rattle.slotted_operations.specs.Good.{Good, RestsWith, image_of}
+use Rattle.slotted_operations.specs.Graph.{Graph}
+use Rattle.slotted_operations.specs.Image.{Image}
 use Rattle.slotted_writes.proofs.Since.{carried-same}
-use Rattle.slotted_core.proofs.Images.{class_found-is}
-use Rattle.slotted_core.specs.Reports.{finds_itself}
-use Rattle.slotted_core.proofs.Reports.{compared-alike, live-is}
-use Rattle.slotted_core.proofs.Resting.{at-rest}
+use Rattle.slotted_operations.proofs.Images.{class_found-is}
+use Rattle.slotted_operations.specs.Reports.{finds_itself}
+use Rattle.slotted_operations.proofs.Reports.{compared-alike, live-is}
+use Rattle.slotted_operations.proofs.Resting.{at-rest}
 use Rattle.slotted_graph.specs.Analysed.{AbsorbsMade, CarriesData, CountsPending, HasData, KeepsPart, MergesData, TakesPending, datum_in, is_live_class}
 
 module _ {N D : Type 0} (codes : Coded N × Coded D) (meaning : N → Meaning D) (n : N) (m : ℕ) (k : Kept) (r : Rows) (d : Held D) (g : Graph)

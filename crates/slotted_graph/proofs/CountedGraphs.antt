@@ -5,10 +5,10 @@ use Rattle.std.specs.Coded.{Coded}
 use Rattle.std.proofs.lemmas.Bool.{cases_lt}
 use Rattle.slotted_model.specs.Applied.{Applied}
 use Rattle.slotted_model.specs.State.{Row}
-use Rattle.slotted_store.specs.Counts.{Counts, most_bound}
-use Rattle.slotted_store.specs.Kept.{Kept, size_of}
-use Rattle.slotted_store.specs.declared.counts.RebuildCount.{RebuildCount}
-use Rattle.slotted_filing.specs.FiledRows.{Rows, rows_in}
+use Rattle.slotted_classes.specs.Counts.{Counts, most_bound}
+use Rattle.slotted_classes.specs.Kept.{Kept, size_of}
+use Rattle.slotted_classes.specs.declared.counts.RebuildCount.{RebuildCount}
+use Rattle.slotted_hashcons.specs.FiledRows.{Rows, rows_in}
 use Rattle.slotted_rebuilding.specs.Counted.{CountsFit, CountsGo, TotalsFit}
 use Rattle.slotted_analyses.specs.Meaning.{Meaning, by_bare_nodes}
 use Rattle.slotted_data.specs.Held.{DataCounts, Held}
@@ -16,10 +16,10 @@ use Rattle.slotted_data.specs.Made.{HasHeights}
 use Rattle.slotted_data.specs.Carrying.{AreCounted, DataRests}
 use Rattle.slotted_data.specs.Part.{Part, part_by, part_code, part_in}
 use Rattle.slotted_data.specs.Pending.{lives_in}
-use Rattle.slotted_core.specs.Good.{Good, RestsWith, Unites, image_of}
-use Rattle.slotted_core.specs.Graph.{Graph}
-use Rattle.slotted_core.specs.Image.{Image, live_size}
-use Rattle.slotted_core.proofs.KeptNotes.{size-seen}
+use Rattle.slotted_operations.specs.Good.{Good, RestsWith, Unites, image_of}
+use Rattle.slotted_operations.specs.Graph.{Graph}
+use Rattle.slotted_operations.specs.Image.{Image, live_size}
+use Rattle.slotted_operations.proofs.KeptNotes.{size-seen}
 use Rattle.slotted_graph.specs.Analysed.{LowersData, is_live_class}
 use Rattle.slotted_graph.specs.Extension.{ExtendsTo}
 use Rattle.slotted_graph.specs.Counted.{CountsUnion, HasNoHeights, IsWithinBound, IsWithinCounts, RiseWithin, TellsRebuild, TellsTotals, heights_of, last_of, size_with_data, told_at, totals_with}

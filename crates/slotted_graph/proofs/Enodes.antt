@@ -19,33 +19,33 @@ use Rattle.slotted_model.specs.Applied.{Applied, values}
 use Rattle.slotted_model.specs.Find.{find_class}
 use Rattle.slotted_model.specs.State.{Row}
 use Rattle.slotted_model.proofs.Members.{Contains-In}
-use Rattle.slotted_store.specs.Finding.{IsFindable}
-use Rattle.slotted_store.specs.Kept.{Kept, entries_of}
-use Rattle.slotted_store.specs.ChildIds.{child_ids}
-use Rattle.slotted_store.proofs.ChildIds.{Each, Each-from_All}
-use Rattle.slotted_store.proofs.KeptLists.{length-nodes_of}
-use Rattle.slotted_store.proofs.NameMaps.{In-at}
-use Rattle.slotted_filing.specs.Filed.{filed_of}
-use Rattle.slotted_filing.specs.FiledRows.{IsFiled, Rows, row_of_entry, rows_in}
-use Rattle.slotted_filing.proofs.FiledRows.{row-filed}
-use Rattle.slotted_adding.specs.Enodes.{HasNamesOrNumbers, IsLargeKeyOf, IsLookedUpAs}
-use Rattle.slotted_adding.specs.Reports.{class_sources, is_source}
-use Rattle.slotted_adding.proofs.AppliedNodes.{filed-in_nodes, filed-key}
+use Rattle.slotted_classes.specs.Finding.{IsFindable}
+use Rattle.slotted_classes.specs.Kept.{Kept, entries_of}
+use Rattle.slotted_classes.specs.ChildIds.{child_ids}
+use Rattle.slotted_classes.proofs.ChildIds.{Each, Each-from_All}
+use Rattle.slotted_classes.proofs.KeptLists.{length-nodes_of}
+use Rattle.slotted_classes.proofs.NameMaps.{In-at}
+use Rattle.slotted_hashcons.specs.Filed.{filed_of}
+use Rattle.slotted_hashcons.specs.FiledRows.{IsFiled, Rows, row_of_entry, rows_in}
+use Rattle.slotted_hashcons.proofs.FiledRows.{row-filed}
+use Rattle.slotted_lookup.specs.Enodes.{HasNamesOrNumbers, IsLargeKeyOf, IsLookedUpAs}
+use Rattle.slotted_lookup.specs.Reports.{class_sources, is_source}
+use Rattle.slotted_lookup.proofs.AppliedNodes.{filed-in_nodes, filed-key}
 use Rattle.slotted_reports.specs.Nodes.{HasLargeKey, HasLargeKeyOf, IsAppliedNode, IsClassNode, RunsOutForClasses, RunsOutForKeys, TakesForClasses, TakesForKeys, key_at, key_in, key_of, places_at, slots_of_class}
 use Rattle.slotted_reports.proofs.FiledShapes.{passes, shape_at, shapes_in, shapes-permuted, sources-permuted}
 use Rattle.slotted_reports.proofs.FreshNodes.{runs_out-more}
 use Rattle.slotted_reports.proofs.Sources.{dead-none, each-filed, each-finds}
-use Rattle.slotted_core.specs.Canonical.{place_count}
-use Rattle.slotted_core.specs.Causes.{class_found}
-use Rattle.slotted_core.specs.Good.{Good, RestsWith, image_of}
-use Rattle.slotted_core.specs.Graph.{Graph}
-use Rattle.slotted_core.specs.Image.{Image, found_id}
-use Rattle.slotted_core.specs.ValidIds.{IsValidNode}
-use Rattle.slotted_core.proofs.CanonicalTerms.{places-counted}
-use Rattle.slotted_core.proofs.Images.{class_found-is, found_id-is}
-use Rattle.slotted_core.proofs.LookUps.{looked_up-is}
-use Rattle.slotted_core.proofs.ValidIds.{findable-children, findable-within, node-children_valid}
-use Rattle.slotted_extraction.proofs.Names.{count-moved}
+use Rattle.slotted_operations.specs.Canonical.{place_count}
+use Rattle.slotted_operations.specs.Causes.{class_found}
+use Rattle.slotted_operations.specs.Good.{Good, RestsWith, image_of}
+use Rattle.slotted_operations.specs.Graph.{Graph}
+use Rattle.slotted_operations.specs.Image.{Image, found_id}
+use Rattle.slotted_operations.specs.ValidIds.{IsValidNode}
+use Rattle.slotted_operations.proofs.CanonicalTerms.{places-counted}
+use Rattle.slotted_operations.proofs.Images.{class_found-is, found_id-is}
+use Rattle.slotted_operations.proofs.LookUps.{looked_up-is}
+use Rattle.slotted_operations.proofs.ValidIds.{findable-children, findable-within, node-children_valid}
+use Rattle.slotted_least_terms.proofs.Names.{count-moved}
 use Rattle.slotted_graph.specs.FiledNodes.{CanRunOutForDump, CanRunOutForEnodes, HasEachNode, HasLargeRow, HasLargeRowOf, IsEnode, shapes_found, slots_for_dump, slots_for_enodes}
 
 -- tests that agree on a range let the same numbers through

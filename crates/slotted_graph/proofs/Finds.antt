@@ -29,16 +29,16 @@ use Rattle.slotted_match_machine.specs.Programs.{variables_of, variables_in}
 use Rattle.slotted_matching.specs.Compiled.{KnowsEach}
 use Rattle.slotted_matching.specs.Found.{AreReadings, AreValidFound, HaveVariables, IsFound, IsFoundAt, RunsOutFor, TakesFor}
 use Rattle.slotted_matching.specs.Indexed.{HasWideKey}
-use Rattle.slotted_store.specs.Kept.{Kept}
-use Rattle.slotted_filing.specs.FiledRows.{Rows, row_of_entry, rows_in}
-use Rattle.slotted_filing.proofs.FiledRows.{row-filed}
-use Rattle.slotted_adding.proofs.AppliedNodes.{filed-key}
+use Rattle.slotted_classes.specs.Kept.{Kept}
+use Rattle.slotted_hashcons.specs.FiledRows.{Rows, row_of_entry, rows_in}
+use Rattle.slotted_hashcons.proofs.FiledRows.{row-filed}
+use Rattle.slotted_lookup.proofs.AppliedNodes.{filed-key}
 use Rattle.slotted_bare_nodes.proofs.Alike.{count-node}
 use Rattle.slotted_rebuilding.specs.Filed.{state_in}
-use Rattle.slotted_core.specs.Good.{Good, RestsWith, HasFreshSlots, image_of}
-use Rattle.slotted_core.specs.Graph.{Graph}
-use Rattle.slotted_core.specs.ValidIds.{IsValidId}
-use Rattle.slotted_core.proofs.ValidIds.{to-valid}
+use Rattle.slotted_operations.specs.Good.{Good, RestsWith, HasFreshSlots, image_of}
+use Rattle.slotted_operations.specs.Graph.{Graph}
+use Rattle.slotted_operations.specs.ValidIds.{IsValidId}
+use Rattle.slotted_operations.proofs.ValidIds.{to-valid}
 use Rattle.slotted_graph.specs.Matching.{AreFoundValid, FindsAll, FindsAllAt, HasWideRow}
 use Rattle.slotted_graph.specs.States.{IsStateOf}
 use Rattle.slotted_graph.proofs.Enodes.{places-of_shape}

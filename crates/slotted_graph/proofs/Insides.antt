@@ -4,13 +4,13 @@ use Rattle.std.specs.Prelude.{Bool, IsTrue}
 use Rattle.std.proofs.lemmas.Bool.{false≢true}
 use base.Stored.{Gv}
 use Rattle.slotted_slots.specs.Table.{Table}
-use Rattle.slotted_store.specs.Kept.{Kept}
-use Rattle.slotted_filing.specs.FiledRows.{Rows, rows_in}
+use Rattle.slotted_classes.specs.Kept.{Kept}
+use Rattle.slotted_hashcons.specs.FiledRows.{Rows, rows_in}
 use Rattle.slotted_analyses.specs.Meaning.{Meaning, by_bare_nodes}
 use Rattle.slotted_data.specs.Held.{Held}
 use Rattle.slotted_data.specs.Carrying.{DataRests}
-use Rattle.slotted_core.specs.Good.{Good, HasFreshSlots, RestsWith, graph_of, image_of}
-use Rattle.slotted_core.specs.Graph.{Graph}
+use Rattle.slotted_operations.specs.Good.{Good, HasFreshSlots, RestsWith, graph_of, image_of}
+use Rattle.slotted_operations.specs.Graph.{Graph}
 
 pub record Inside (g : Graph) (t : Table) (k : Kept) (r : Rows) : Type 0 where
   pub good : Good k

@@ -10,13 +10,13 @@ use Rattle.slotted_rebuilding.proofs.CountedRebuilds.{counts-same}
 use Rattle.slotted_analyses.specs.declared.edit.Edit.{Edit}
 use Rattle.slotted_analyses.specs.Meaning.{IsMergeOf, Meaning}
 use Rattle.slotted_data.specs.Part.{Part, part_code}
-use Rattle.slotted_core.specs.LookUp.{HasSameClasses}
+use Rattle.slotted_operations.specs.LookUp.{HasSameClasses}
 use Rattle.slotted_graph.specs.Analysed.{CountsPending, IsAnalysisOf, LowersData, LowersPart, TakesPending, is_live_class}
 use Rattle.slotted_graph.specs.Extension.{ExtendsTo}
-use Rattle.slotted_core.specs.Graph.{Graph}
-use Rattle.slotted_core.specs.Causes.{class_found}
-use Rattle.slotted_core.specs.Image.{Image, asserted_in}
-use Rattle.slotted_core.specs.Reports.{names_slots, slots_used}
+use Rattle.slotted_operations.specs.Graph.{Graph}
+use Rattle.slotted_operations.specs.Causes.{class_found}
+use Rattle.slotted_operations.specs.Image.{Image, asserted_in}
+use Rattle.slotted_operations.specs.Reports.{names_slots, slots_used}
 use Rattle.slotted_graph.specs.States.{IsGraph}
 use Rattle.slotted_graph.proofs.Extending.{between-longer, extends-itself, extends-then}
 use Rattle.slotted_graph.proofs.Insides.{given}

@@ -17,11 +17,11 @@ pub mod KnownPatterns
 pub mod FoundValues
 pub mod Indexes
 -- What the crates above cite, handed on.
-pub use Rattle.slotted_core.proofs.CallerLemmas
-pub use Rattle.slotted_core.proofs.YesesStay
-pub use Rattle.slotted_core.proofs.FilledNames
-pub use Rattle.slotted_core.proofs.Images
-pub use Rattle.slotted_core.proofs.Layers
-pub use Rattle.slotted_core.proofs.Tables
-pub use Rattle.slotted_core.proofs.ValidIds
-pub use Rattle.slotted_extraction.proofs.EntryForms
+pub use Rattle.slotted_operations.proofs.CallerLemmas
+pub use Rattle.slotted_operations.proofs.YesesStay
+pub use Rattle.slotted_operations.proofs.FilledNames
+pub use Rattle.slotted_operations.proofs.Images
+pub use Rattle.slotted_operations.proofs.Layers
+pub use Rattle.slotted_operations.proofs.Tables
+pub use Rattle.slotted_operations.proofs.ValidIds
+pub use Rattle.slotted_least_terms.proofs.EntryForms

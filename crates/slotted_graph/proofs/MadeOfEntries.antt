@@ -13,28 +13,28 @@ use Rattle.slotted_model.specs.State.{Row, State, look_up_tree}
 use Rattle.slotted_model.proofs.NormalIds.{found-again, found-valid}
 use Rattle.slotted_model.proofs.Finding.{found-live, leads}
 use Rattle.slotted_model.proofs.Options.{option_map-some}
-use Rattle.slotted_store.specs.Finding.{IsFindable}
-use Rattle.slotted_store.specs.Kept.{Kept, entries_of, nodes_of}
-use Rattle.slotted_store.proofs.KeptLists.{length-nodes_of}
-use Rattle.slotted_filing.specs.FiledRows.{Rows, rows_in}
+use Rattle.slotted_classes.specs.Finding.{IsFindable}
+use Rattle.slotted_classes.specs.Kept.{Kept, entries_of, nodes_of}
+use Rattle.slotted_classes.proofs.KeptLists.{length-nodes_of}
+use Rattle.slotted_hashcons.specs.FiledRows.{Rows, rows_in}
 use Rattle.slotted_rebuilding.specs.Filed.{state_in}
-use Rattle.slotted_core.specs.Affected.{IsAffected}
-use Rattle.slotted_core.specs.Causes.{class_found}
-use Rattle.slotted_core.specs.Good.{Good, RestsWith, image_of}
-use Rattle.slotted_core.specs.Graph.{Graph}
-use Rattle.slotted_core.specs.Image.{Image, found_id}
-use Rattle.slotted_core.specs.LookUp.{look_up_term}
-use Rattle.slotted_core.specs.ValidIds.{IsValidId}
-use Rattle.slotted_core.proofs.AffectedClasses.{affected-is}
-use Rattle.slotted_core.proofs.Images.{class_found-is, found_id-is}
-use Rattle.slotted_core.proofs.LookUps.{tree-is}
-use Rattle.slotted_core.proofs.Resting.{at-rest}
-use Rattle.slotted_core.proofs.ValidIds.{fills-filling, findable-within, of-valid}
-use Rattle.slotted_extraction.specs.Chosen.{AreChosen, IsChoice}
-use Rattle.slotted_extraction.specs.Least.{AreLeast}
-use Rattle.slotted_extraction.specs.Terms.{IsMade, entry_at}
-use Rattle.slotted_extraction.specs.declared.entry.TermEntry.{TermEntry}
-use Rattle.slotted_extraction.proofs.ExtractedTerms.{made-cost, made-equal, made-least, made-least_equal, made-least_term, made-looked_up}
+use Rattle.slotted_operations.specs.Affected.{IsAffected}
+use Rattle.slotted_operations.specs.Causes.{class_found}
+use Rattle.slotted_operations.specs.Good.{Good, RestsWith, image_of}
+use Rattle.slotted_operations.specs.Graph.{Graph}
+use Rattle.slotted_operations.specs.Image.{Image, found_id}
+use Rattle.slotted_operations.specs.LookUp.{look_up_term}
+use Rattle.slotted_operations.specs.ValidIds.{IsValidId}
+use Rattle.slotted_operations.proofs.AffectedClasses.{affected-is}
+use Rattle.slotted_operations.proofs.Images.{class_found-is, found_id-is}
+use Rattle.slotted_operations.proofs.LookUps.{tree-is}
+use Rattle.slotted_operations.proofs.Resting.{at-rest}
+use Rattle.slotted_operations.proofs.ValidIds.{fills-filling, findable-within, of-valid}
+use Rattle.slotted_least_terms.specs.Chosen.{AreChosen, IsChoice}
+use Rattle.slotted_least_terms.specs.Least.{AreLeast}
+use Rattle.slotted_least_terms.specs.Terms.{IsMade, entry_at}
+use Rattle.slotted_least_terms.specs.declared.entry.TermEntry.{TermEntry}
+use Rattle.slotted_least_terms.proofs.ExtractedTerms.{made-cost, made-equal, made-least, made-least_equal, made-least_term, made-looked_up}
 use Rattle.slotted_graph.specs.LeastTerms.{AreChosenOf, CostsAsEntered, HasEachLiveClass, IsEqualTo, IsExtracted, IsFullBeside, IsLeastTerm}
 
 module _ {L C : Type 0} (form : L → Form) (k : Kept) (r : Rows) (good : Good k) (rests : RestsWith k r) (costs : CostFunction C) (es : List (Option (TermEntry L C)))

@@ -29,20 +29,20 @@ use Rattle.slotted_model_rules.proofs.Readings.{EachSlot-map, slots-named, readi
 use Rattle.slotted_model_rules.proofs.Rewriting.{each-variable}
 use Rattle.slotted_model_rules.proofs.Searching.{match-looked_up, search-finds}
 use Rattle.slotted_match_machine.proofs.Lists.{beside-left, beside-right}
-use Rattle.slotted_store.specs.Finding.{IsFindable}
-use Rattle.slotted_store.specs.Kept.{Kept, entries_of, nodes_of}
-use Rattle.slotted_store.proofs.KeptLists.{length-nodes_of}
+use Rattle.slotted_classes.specs.Finding.{IsFindable}
+use Rattle.slotted_classes.specs.Kept.{Kept, entries_of, nodes_of}
+use Rattle.slotted_classes.proofs.KeptLists.{length-nodes_of}
 use Rattle.slotted_matching.specs.Found.{AreReadings}
-use Rattle.slotted_filing.specs.FiledRows.{Rows, rows_in}
+use Rattle.slotted_hashcons.specs.FiledRows.{Rows, rows_in}
 use Rattle.slotted_rebuilding.specs.Filed.{state_in}
-use Rattle.slotted_core.specs.Causes.{class_found}
-use Rattle.slotted_core.specs.Graph.{Graph}
-use Rattle.slotted_core.specs.Good.{Good, RestsWith, image_of}
-use Rattle.slotted_core.specs.Image.{Image, found_id}
-use Rattle.slotted_core.specs.ValidIds.{IsValidId, slots_left}
-use Rattle.slotted_core.proofs.Images.{class_found-is, found-at, found_id-is}
-use Rattle.slotted_core.proofs.Resting.{at-rest}
-use Rattle.slotted_core.proofs.ValidIds.{of-valid}
+use Rattle.slotted_operations.specs.Causes.{class_found}
+use Rattle.slotted_operations.specs.Graph.{Graph}
+use Rattle.slotted_operations.specs.Good.{Good, RestsWith, image_of}
+use Rattle.slotted_operations.specs.Image.{Image, found_id}
+use Rattle.slotted_operations.specs.ValidIds.{IsValidId, slots_left}
+use Rattle.slotted_operations.proofs.Images.{class_found-is, found-at, found_id-is}
+use Rattle.slotted_operations.proofs.Resting.{at-rest}
+use Rattle.slotted_operations.proofs.ValidIds.{of-valid}
 use Rattle.slotted_graph.specs.Matching.{FindsAll, FindsAllAt, FindsEach, FindsEachAt, HasAllSlots, IsFoundUpTo}
 use Rattle.slotted_graph.specs.PatternLookUps.{IsLookedUpAt, IsLookedUpLive, look_up_pattern}
 use Rattle.slotted_graph.proofs.PatternLookUps.{pattern-is}

@@ -9,18 +9,18 @@ use Rattle.slotted_model.specs.Applied.{Applied, values}
 use Rattle.slotted_model.specs.Find.{Entry, entry_at, find_map}
 use Rattle.slotted_model.specs.Rest.{lives_from, slots_from}
 use Rattle.slotted_model.proofs.Finding.{find_map-live, leads}
-use Rattle.slotted_store.specs.Kept.{Kept, entries_of, no_entry, nodes_of}
-use Rattle.slotted_store.proofs.KeptLists.{length-entries_of, length-mapped, length-nodes_of}
-use Rattle.slotted_adding.specs.Reports.{live_ids, lives}
+use Rattle.slotted_classes.specs.Kept.{Kept, entries_of, no_entry, nodes_of}
+use Rattle.slotted_classes.proofs.KeptLists.{length-entries_of, length-mapped, length-nodes_of}
+use Rattle.slotted_lookup.specs.Reports.{live_ids, lives}
 use Rattle.slotted_reports.specs.declared.measure.ProgressMeasure.{ProgressMeasure}
 use Rattle.slotted_reports.specs.Measure.{entry_slots, live_slots}
-use Rattle.slotted_core.specs.Good.{Good, NeverMore, image_of}
-use Rattle.slotted_core.specs.Image.{Image}
-use Rattle.slotted_core.specs.Reports.{live_classes}
-use Rattle.slotted_core.specs.ValidIds.{slots_left}
-use Rattle.slotted_core.proofs.GoodFinds.{good-finds}
-use Rattle.slotted_core.proofs.Images.{found-at}
-use Rattle.slotted_core.proofs.Reports.{class_count-is, live_ids-are}
+use Rattle.slotted_operations.specs.Good.{Good, NeverMore, image_of}
+use Rattle.slotted_operations.specs.Image.{Image}
+use Rattle.slotted_operations.specs.Reports.{live_classes}
+use Rattle.slotted_operations.specs.ValidIds.{slots_left}
+use Rattle.slotted_operations.proofs.GoodFinds.{good-finds}
+use Rattle.slotted_operations.proofs.Images.{found-at}
+use Rattle.slotted_operations.proofs.Reports.{class_count-is, live_ids-are}
 use Rattle.slotted_graph.specs.Measure.{IsProgress, NeverRises, slots_of_live}
 
 -- sums agree where what is summed does

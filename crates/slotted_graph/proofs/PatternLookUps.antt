@@ -12,18 +12,18 @@ use Rattle.slotted_model.proofs.Children.{EachChild-map}
 use Rattle.slotted_model_rules.specs.Patterns.{Pattern, PatternArgs, EachVariable, EachVariableIn, pattern_node, variable, replacing, no_argument, own_name, child_pattern, binding}
 use Rattle.slotted_model_rules.specs.Patterns as model
 use Rattle.slotted_model_rules.proofs.LookingUp.{IsFoundId, looked-arguments}
-use Rattle.slotted_store.specs.Finding.{IsFindable}
-use Rattle.slotted_store.specs.Kept.{Kept}
-use Rattle.slotted_filing.specs.FiledRows.{Rows, rows_in}
+use Rattle.slotted_classes.specs.Finding.{IsFindable}
+use Rattle.slotted_classes.specs.Kept.{Kept}
+use Rattle.slotted_hashcons.specs.FiledRows.{Rows, rows_in}
 use Rattle.slotted_rebuilding.specs.Filed.{state_in}
-use Rattle.slotted_core.specs.Good.{Good, RestsWith, image_of}
-use Rattle.slotted_core.specs.Graph.{Graph}
-use Rattle.slotted_core.specs.Image.{Image, found_id}
-use Rattle.slotted_core.specs.LookUp.{look_up_nameless}
-use Rattle.slotted_core.proofs.Images.{found_id-is}
-use Rattle.slotted_core.proofs.LookUps.{looked_up-is}
-use Rattle.slotted_core.proofs.Resting.{at-rest}
-use Rattle.slotted_core.proofs.ValidIds.{findable-within, renamed-findable}
+use Rattle.slotted_operations.specs.Good.{Good, RestsWith, image_of}
+use Rattle.slotted_operations.specs.Graph.{Graph}
+use Rattle.slotted_operations.specs.Image.{Image, found_id}
+use Rattle.slotted_operations.specs.LookUp.{look_up_nameless}
+use Rattle.slotted_operations.proofs.Images.{found_id-is}
+use Rattle.slotted_operations.proofs.LookUps.{looked_up-is}
+use Rattle.slotted_operations.proofs.Resting.{at-rest}
+use Rattle.slotted_operations.proofs.ValidIds.{findable-within, renamed-findable}
 use Rattle.slotted_graph.specs.PatternLookUps as graph
 
 module _ (k : Kept) (r : Rows) (good : Good k) (rests : RestsWith k r) (g : Graph) (image : image_of k ≡ g.image) (filed : rows_in r.filed ≡ g.filed) (σ : List ℕ → Applied) where

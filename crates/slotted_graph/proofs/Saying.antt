@@ -22,7 +22,7 @@ use Rattle.slotted_model.proofs.FillingEquations.{filled-equation}
 use Rattle.slotted_proofs.specs.Entries.{Proven, nothing_proven, proven_at}
 use Rattle.slotted_proofs.specs.Equations.{to_applied}
 use Rattle.slotted_rebuilding.proofs.CountedRebuilds.{counts-same, counts-then}
-use Rattle.slotted_core.proofs.CallerLemmas.{term_later}
+use Rattle.slotted_operations.proofs.CallerLemmas.{term_later}
 use Rattle.slotted_analyses.specs.Meaning.{IsMergeOf, Meaning, by_bare_nodes}
 use Rattle.slotted_analyses.specs.declared.edit.Edit.{Edit}
 use Rattle.slotted_analyses.specs.declared.edit.Edit.TheVariants.{Add, Equal, Equate}
@@ -31,10 +31,10 @@ use Rattle.slotted_model_analyses.specs.Analysis.{Absorbs}
 use Rattle.slotted_data.specs.Part.{Part, part_code}
 use Rattle.slotted_graph.specs.Analysed.{CarriesData, LowersData, LowersPart}
 use Rattle.slotted_graph.specs.Extension.{Begins, ExtendsTo}
-use Rattle.slotted_core.specs.Graph.{Graph, IsFullId, RecordsUnion}
-use Rattle.slotted_core.specs.Image.{AddsClasses, FillApart, IsUnion, asserted_in}
+use Rattle.slotted_operations.specs.Graph.{Graph, IsFullId, RecordsUnion}
+use Rattle.slotted_operations.specs.Image.{AddsClasses, FillApart, IsUnion, asserted_in}
 use Rattle.slotted_graph.specs.States.{IsGraph}
-use Rattle.slotted_core.specs.ValidIds.{IsValidId}
+use Rattle.slotted_operations.specs.ValidIds.{IsValidId}
 use Rattle.slotted_graph.proofs.Extending.{between-longer, extends-added, extends-then, extends-united}
 use Rattle.slotted_graph.specs.Edited.{AddsTerm, AssertsMore, HasBareEntry, IsDone, IsIdOf, IsSaid, MakesEdit, UnitesIds}
 

@@ -12,11 +12,11 @@ use Rattle.slotted_model.specs.Applied.{Applied}
 use Rattle.slotted_model.specs.Growth.{Extends}
 use Rattle.slotted_analyses.specs.Meaning.{IsMergeOf, Meaning}
 use Rattle.slotted_data.specs.Part.{Part, part_code}
-use Rattle.slotted_core.specs.Explaining.{AddsTerms}
-use Rattle.slotted_core.specs.Graph.{Graph, RecordsUnion}
-use Rattle.slotted_core.specs.Image.{AddsClasses, FoundAlike, IsUnion, asserted_in}
-use Rattle.slotted_core.specs.LookUp.{IsOneGraph, MakesClassFor, look_up}
-use Rattle.slotted_core.specs.ValidIds.{IsValidNode}
+use Rattle.slotted_operations.specs.Explaining.{AddsTerms}
+use Rattle.slotted_operations.specs.Graph.{Graph, RecordsUnion}
+use Rattle.slotted_operations.specs.Image.{AddsClasses, FoundAlike, IsUnion, asserted_in}
+use Rattle.slotted_operations.specs.LookUp.{IsOneGraph, MakesClassFor, look_up}
+use Rattle.slotted_operations.specs.ValidIds.{IsValidNode}
 use Rattle.slotted_graph.specs.Analysed.{CarriesData, CountsPending, HasRounds}
 use Rattle.slotted_graph.specs.Asked.{Asks, IsAskedBetween}
 use Rattle.slotted_graph.specs.Extension.{ExtendsTo}

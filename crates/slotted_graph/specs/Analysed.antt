@@ -23,10 +23,10 @@ use Rattle.slotted_rebuilding.specs.Counted.{CountsGo}
 use Rattle.slotted_analyses.specs.Meaning.{Meaning, by_bare_nodes}
 use Rattle.slotted_data.specs.Held.{no_values}
 use Rattle.slotted_data.specs.Part.{Part, NotesChanges, part_by, part_code}
-use Rattle.slotted_core.specs.Causes.{class_found}
-use Rattle.slotted_core.specs.Graph.{Graph, empty_graph}
-use Rattle.slotted_core.specs.Image.{Image}
-use Rattle.slotted_core.specs.Reports.{finds_itself}
+use Rattle.slotted_operations.specs.Causes.{class_found}
+use Rattle.slotted_operations.specs.Graph.{Graph, empty_graph}
+use Rattle.slotted_operations.specs.Image.{Image}
+use Rattle.slotted_operations.specs.Reports.{finds_itself}
 
 abbrev pub KeepsPart : {N D : Type 0} → Coded N × Coded D → Graph → Part N D → Type 0
 KeepsPart codes g p = g.part ≡ (part_code codes).code p

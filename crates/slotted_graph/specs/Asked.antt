@@ -7,10 +7,10 @@ use Rattle.std.specs.Coded.{Coded}
 use Rattle.slotted_theory.specs.Nameless.{DTerm}
 use Rattle.slotted_analyses.specs.declared.edit.Edit.{Edit}
 use Rattle.slotted_graph.specs.Analysed.{HasData, IsAnalysisOf}
-use Rattle.slotted_core.specs.Causes.{class_found}
+use Rattle.slotted_operations.specs.Causes.{class_found}
 use Rattle.slotted_graph.specs.Extension.{IsBetween}
-use Rattle.slotted_core.specs.Graph.{Graph}
-use Rattle.slotted_core.specs.Reports.{HasClass, names_slots, slots_used}
+use Rattle.slotted_operations.specs.Graph.{Graph}
+use Rattle.slotted_operations.specs.Reports.{HasClass, names_slots, slots_used}
 use Rattle.slotted_graph.specs.Edited.{IsSaid}
 
 abbrev pub IsLiveIn : Graph → ℕ → Type 0

@@ -7,14 +7,14 @@
 --     RiseWithin t u      from t to u totals rise, that of turns by no more than that of bounds
 use Rattle.std.specs.Prelude.{◌≡◌, ◌⊎◌, ◌≤◌, ◌+◌, ◌-◌, ℕ, length}
 use Rattle.std.specs.Coded.{Coded}
-use Rattle.slotted_store.specs.Counts.{most_bound}
-use Rattle.slotted_store.specs.declared.counts.RebuildCount.{RebuildCount}
+use Rattle.slotted_classes.specs.Counts.{most_bound}
+use Rattle.slotted_classes.specs.declared.counts.RebuildCount.{RebuildCount}
 pub use Rattle.slotted_rebuilding.specs.Counted.{CountsFit, CountsGo}
 use Rattle.slotted_analyses.specs.Meaning.{Meaning}
 use Rattle.slotted_data.specs.Part.{Part}
 pub use Rattle.slotted_data.specs.Counted.{IsWithinBound, heights_of, last_of, told_at, totals_with}
-use Rattle.slotted_core.specs.Graph.{Graph}
-use Rattle.slotted_core.specs.Image.{live_size}
+use Rattle.slotted_operations.specs.Graph.{Graph}
+use Rattle.slotted_operations.specs.Image.{live_size}
 use Rattle.slotted_graph.specs.Analysed.{KeepsPart, is_live_class}
 
 abbrev pub IsWithinCounts : Graph → Type 0

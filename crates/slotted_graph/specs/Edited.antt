@@ -21,8 +21,8 @@ use Rattle.slotted_analyses.specs.declared.edit.Edit.{Edit}
 use Rattle.slotted_analyses.specs.declared.edit.Edit.TheVariants.{Add, Equal, Equate}
 use Rattle.slotted_analyses.specs.Meaning.{Meaning}
 use Rattle.slotted_graph.specs.Analysed.{LowersData}
-use Rattle.slotted_core.specs.Graph.{Graph, IsFullId}
-use Rattle.slotted_core.specs.Image.{StandsIn, asserted_in}
+use Rattle.slotted_operations.specs.Graph.{Graph, IsFullId}
+use Rattle.slotted_operations.specs.Image.{StandsIn, asserted_in}
 use Rattle.slotted_graph.specs.States.{IsGraph}
 use Rattle.slotted_graph.specs.Extension.{ExtendsTo, IsBetween}
 

@@ -6,9 +6,9 @@ use Rattle.std.specs.Prelude.{◌≡◌, List, ◌++◌}
 use Rattle.slotted_slots.specs.Table.{KnowsMore}
 use Rattle.slotted_model.specs.Applied.{Applied}
 use Rattle.slotted_model.specs.Growth.{Extends}
-use Rattle.slotted_core.specs.Graph.{Graph}
-use Rattle.slotted_core.specs.Image.{FoundAlike, asserted_in}
-use Rattle.slotted_core.specs.ValidIds.{IsValidId}
+use Rattle.slotted_operations.specs.Graph.{Graph}
+use Rattle.slotted_operations.specs.Image.{FoundAlike, asserted_in}
+use Rattle.slotted_operations.specs.ValidIds.{IsValidId}
 use Rattle.slotted_rebuilding.specs.Counted.{CountsGo}
 use Rattle.slotted_graph.specs.States.{IsGraph}
 

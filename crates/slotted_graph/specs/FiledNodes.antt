@@ -24,15 +24,15 @@ use Rattle.slotted_nodes.specs.Form.{Form}
 use Rattle.slotted_languages.specs.NodeTerm.{nameless_node}
 use Rattle.slotted_model.specs.Applied.{Applied}
 use Rattle.slotted_model.specs.State.{Row}
-use Rattle.slotted_store.specs.Names.{IsNumeric}
+use Rattle.slotted_classes.specs.Names.{IsNumeric}
 use Rattle.slotted_reports.specs.Nodes.{Ascend, key_in}
-use Rattle.slotted_core.specs.Canonical.{place_count}
-use Rattle.slotted_core.specs.Causes.{class_found}
-use Rattle.slotted_core.specs.Graph.{Graph, RunsOut}
-use Rattle.slotted_core.specs.Image.{Image, found_id}
-use Rattle.slotted_core.specs.LookUp.{look_up}
-use Rattle.slotted_core.specs.Reports.{slots_used}
-use Rattle.slotted_core.specs.ValidIds.{IsValidNode}
+use Rattle.slotted_operations.specs.Canonical.{place_count}
+use Rattle.slotted_operations.specs.Causes.{class_found}
+use Rattle.slotted_operations.specs.Graph.{Graph, RunsOut}
+use Rattle.slotted_operations.specs.Image.{Image, found_id}
+use Rattle.slotted_operations.specs.LookUp.{look_up}
+use Rattle.slotted_operations.specs.Reports.{slots_used}
+use Rattle.slotted_operations.specs.ValidIds.{IsValidNode}
 
 -- whether the class of the filed node finds c
 abbrev pub finds_class : Image → ℕ → Row → Bool

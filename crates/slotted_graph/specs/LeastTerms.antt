@@ -19,20 +19,20 @@ use Rattle.slotted_model.specs.Applied.{Applied}
 use Rattle.slotted_model.specs.Classes.{IsFull, term_of}
 use Rattle.slotted_model.specs.Cost.{AtMost, CostFunction, tree_cost}
 use Rattle.slotted_model.specs.Trees.{IsTree}
-use Rattle.slotted_store.specs.Kept.{Kept}
-use Rattle.slotted_filing.specs.FiledRows.{Rows, rows_in}
+use Rattle.slotted_classes.specs.Kept.{Kept}
+use Rattle.slotted_hashcons.specs.FiledRows.{Rows, rows_in}
 use Rattle.slotted_costs.specs.Costs.{cost_of_term}
-use Rattle.slotted_core.specs.Affected.{IsAffected}
-use Rattle.slotted_core.specs.Causes.{class_found}
-use Rattle.slotted_core.specs.Good.{Good, RestsWith, image_of}
-use Rattle.slotted_core.specs.Graph.{Graph, MakesAtMost}
-use Rattle.slotted_core.specs.Image.{asserted_in, found_id}
-use Rattle.slotted_core.specs.LookUp.{look_up_term}
-use Rattle.slotted_core.specs.ValidIds.{Fills}
-use Rattle.slotted_extraction.specs.Chosen.{AreChosen}
-use Rattle.slotted_extraction.specs.Least.{AreLeast}
-use Rattle.slotted_extraction.specs.Terms.{IsMade, RunsOutWith, entry_at, slots_for}
-pub use Rattle.slotted_extraction.specs.declared.entry.TermEntry.{TermEntry}
+use Rattle.slotted_operations.specs.Affected.{IsAffected}
+use Rattle.slotted_operations.specs.Causes.{class_found}
+use Rattle.slotted_operations.specs.Good.{Good, RestsWith, image_of}
+use Rattle.slotted_operations.specs.Graph.{Graph, MakesAtMost}
+use Rattle.slotted_operations.specs.Image.{asserted_in, found_id}
+use Rattle.slotted_operations.specs.LookUp.{look_up_term}
+use Rattle.slotted_operations.specs.ValidIds.{Fills}
+use Rattle.slotted_least_terms.specs.Chosen.{AreChosen}
+use Rattle.slotted_least_terms.specs.Least.{AreLeast}
+use Rattle.slotted_least_terms.specs.Terms.{IsMade, RunsOutWith, entry_at, slots_for}
+pub use Rattle.slotted_least_terms.specs.declared.entry.TermEntry.{TermEntry}
 
 pub record AreLeastOf {L C : Type 0} (form : L → Form) (g : Graph) (costs : CostFunction C) (es : List (Option (TermEntry L C))) : Type 0 where
   pub kept : Kept

@@ -23,10 +23,10 @@ use Rattle.slotted_model_rules.specs.Conditions.{Values}
 use Rattle.slotted_model_rules.specs.Matcher.{EachSlot}
 use Rattle.slotted_model_rules.specs.Patterns.{Pattern, EachVariable}
 use Rattle.slotted_model_rules.specs.Rules.{Searches, valued}
-use Rattle.slotted_core.specs.Canonical.{place_count}
-use Rattle.slotted_core.specs.Graph.{Graph}
-use Rattle.slotted_core.specs.Image.{found_id}
-use Rattle.slotted_core.specs.ValidIds.{IsValidId, slots_left}
+use Rattle.slotted_operations.specs.Canonical.{place_count}
+use Rattle.slotted_operations.specs.Graph.{Graph}
+use Rattle.slotted_operations.specs.Image.{found_id}
+use Rattle.slotted_operations.specs.ValidIds.{IsValidId, slots_left}
 use Rattle.slotted_graph.specs.PatternLookUps.{IsLookedUpAt, IsLookedUpLive, look_up_pattern}
 use Rattle.slotted_patterns.specs.Tree.{PatternTree}
 use Rattle.slotted_rule_patterns.specs.PatternCode.{pattern_in}

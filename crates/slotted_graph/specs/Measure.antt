@@ -7,9 +7,9 @@ use Rattle.std.specs.Prelude.{◌≡◌, ◌≤◌, ℕ, length}
 use Rattle.std.specs.List.{sum_by}
 use Rattle.slotted_nodes.specs.Form.{counted}
 use Rattle.slotted_reports.specs.declared.measure.ProgressMeasure.{ProgressMeasure}
-use Rattle.slotted_core.specs.ValidIds.{slots_left}
-use Rattle.slotted_core.specs.Image.{Image}
-use Rattle.slotted_core.specs.Reports.{live_classes}
+use Rattle.slotted_operations.specs.ValidIds.{slots_left}
+use Rattle.slotted_operations.specs.Image.{Image}
+use Rattle.slotted_operations.specs.Reports.{live_classes}
 
 abbrev pub slots_of_live : Image → ℕ
 slots_of_live g = sum_by (λ c. length (slots_left g c)) (live_classes g)

@@ -10,10 +10,10 @@ use Rattle.slotted_model.specs.LookUp.{both}
 use Rattle.slotted_model_rules.specs.Conditions.{Values}
 use Rattle.slotted_model_rules.specs.Patterns.{Pattern, PatternArgs, pattern_node, variable, replacing, no_argument, own_name, child_pattern, binding}
 use Rattle.slotted_model_rules.specs.Rules.{valued}
-use Rattle.slotted_core.specs.Causes.{class_found}
-use Rattle.slotted_core.specs.Graph.{Graph}
-use Rattle.slotted_core.specs.Image.{found_id}
-use Rattle.slotted_core.specs.LookUp.{look_up_nameless}
+use Rattle.slotted_operations.specs.Causes.{class_found}
+use Rattle.slotted_operations.specs.Graph.{Graph}
+use Rattle.slotted_operations.specs.Image.{found_id}
+use Rattle.slotted_operations.specs.LookUp.{look_up_nameless}
 
 abbrev mutual
   -- child by child, and then the node over the answers; a variable is looked up as what its value finds, and what is to be replaced as nothing

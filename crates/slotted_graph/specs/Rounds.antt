@@ -11,11 +11,11 @@ use Rattle.std.specs.Coded.{Coded}
 use Rattle.slotted_analyses.specs.declared.edit.Edit.{Edit}
 use Rattle.slotted_analyses.specs.Edits.{AsksNothing}
 use Rattle.slotted_analyses.specs.Meaning.{Meaning}
-use Rattle.slotted_core.specs.LookUp.{HasSameClasses}
+use Rattle.slotted_operations.specs.LookUp.{HasSameClasses}
 use Rattle.slotted_graph.specs.Analysed.{CountsPending, HasRounds, IsAnalysisOf, LowersData, TakesPending}
 use Rattle.slotted_graph.specs.Extension.{ExtendsTo}
-use Rattle.slotted_core.specs.Graph.{Graph}
-use Rattle.slotted_core.specs.Reports.{names_slots}
+use Rattle.slotted_operations.specs.Graph.{Graph}
+use Rattle.slotted_operations.specs.Reports.{names_slots}
 use Rattle.slotted_graph.specs.States.{IsGraph}
 use Rattle.slotted_graph.specs.Asked.{Asks, IsAskedBetween, IsAskedIn, IsLiveIn}
 use Rattle.slotted_graph.specs.Edited.{AssertsMore, MakesEdits}

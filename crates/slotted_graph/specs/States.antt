@@ -3,11 +3,11 @@
 --     IsGraph g         some `EGraph` can be g: it has not failed, and has a state at rest
 use Rattle.std.specs.Prelude.{◌≡◌, false}
 use Rattle.slotted_model.specs.State.{State}
-use Rattle.slotted_store.specs.Kept.{Kept}
-use Rattle.slotted_filing.specs.FiledRows.{Rows, rows_in}
+use Rattle.slotted_classes.specs.Kept.{Kept}
+use Rattle.slotted_hashcons.specs.FiledRows.{Rows, rows_in}
 use Rattle.slotted_rebuilding.specs.Filed.{state_in}
-use Rattle.slotted_core.specs.Good.{Good, HasFreshSlots, RestsWith, image_of}
-use Rattle.slotted_core.specs.Graph.{Graph}
+use Rattle.slotted_operations.specs.Good.{Good, HasFreshSlots, RestsWith, image_of}
+use Rattle.slotted_operations.specs.Graph.{Graph}
 
 -- what is kept and what is filed of some graph with this image and these rows
 pub record IsStateOf (g : Graph) (s : State) : Type 0 where

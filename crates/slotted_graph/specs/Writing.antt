@@ -15,11 +15,11 @@ use Rattle.slotted_nodes.specs.Form.{Form}
 use Rattle.slotted_model.specs.Applied.{Applied}
 use Rattle.slotted_proofs.specs.Equations.{to_applied}
 use Rattle.slotted_analyses.specs.Meaning.{Meaning}
-use Rattle.slotted_core.specs.Adding.{AddsSyn}
-use Rattle.slotted_core.specs.AddingTerms.{FilesOnlyLookedUp}
-use Rattle.slotted_core.specs.Graph.{FilesOnlySubterms, Graph, RecordsUnion, id_of_term}
-use Rattle.slotted_core.specs.Image.{IsUnion, asserted_in}
-use Rattle.slotted_core.specs.LookUp.{HasSameClasses, IsOneGraph, MakesClassFor, look_up, look_up_term}
+use Rattle.slotted_operations.specs.Adding.{AddsSyn}
+use Rattle.slotted_operations.specs.AddingTerms.{FilesOnlyLookedUp}
+use Rattle.slotted_operations.specs.Graph.{FilesOnlySubterms, Graph, RecordsUnion, id_of_term}
+use Rattle.slotted_operations.specs.Image.{IsUnion, asserted_in}
+use Rattle.slotted_operations.specs.LookUp.{HasSameClasses, IsOneGraph, MakesClassFor, look_up, look_up_term}
 use Rattle.slotted_graph.specs.Analysed.{CarriesData, LowersData, MergesData}
 use Rattle.slotted_graph.specs.Asked.{Asks, IsAskedBetween}
 use Rattle.slotted_graph.specs.Edited.{AssertsMore}

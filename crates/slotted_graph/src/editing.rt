@@ -6,7 +6,7 @@ ghost use Rattle.slotted_terms.specs.Valid.{IsValidTerm};
 ghost use Rattle.slotted_analyses.specs.Edits.{IsValidEdit};
 ghost use Rattle.slotted_analyses.specs.declared.edit.Edit.TheVariants.{Equate};
 ghost use Rattle.slotted_graph.specs.States.{IsGraph};
-ghost use Rattle.slotted_core.specs.ValidIds.{IsValidId};
+ghost use Rattle.slotted_operations.specs.ValidIds.{IsValidId};
 ghost use Rattle.slotted_graph.specs.Edited.{AddsTerm, MakesEdit, MakesEdits, UnitesIds};
 
 use crate::egraph::EGraph;

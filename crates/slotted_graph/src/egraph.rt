@@ -13,32 +13,32 @@ ghost use Rattle.slotted_graph.specs.Analysed.{CarriesData, new_graph};
 ghost use Rattle.slotted_graph.specs.Counted.{CountsUnion};
 ghost use Rattle.slotted_graph.specs.Measure.{NeverRises};
 ghost use Rattle.slotted_graph.specs.States.{IsGraph};
-ghost use Rattle.slotted_core.specs.Image.{no_classes, FoundAlike, SaysEqual, SaysDerivable, SaysTerms};
-ghost use Rattle.slotted_core.specs.Image.{AddsClasses, IsUnion, AreSymmetries, AreListedOnce, CountsOpen};
-ghost use Rattle.slotted_store.specs.Kept.{text_bytes, symmetry_entry};
-ghost use Rattle.slotted_core.specs.Affected.{AreRepresented, IsYesIfDerivable, IsYesIfEqual};
-ghost use Rattle.slotted_core.specs.ValidIds.{IsValidId, IsValidNode, SaysFillingsEqual, LackNothing, HaveValidSides};
-ghost use Rattle.slotted_core.specs.Causes.{HasLargeClassIn};
-ghost use Rattle.slotted_core.specs.Graph.{IsFullId, OnlyReads, RecordsUnion};
-ghost use Rattle.slotted_core.specs.LookUp.{AreLookedUp};
+ghost use Rattle.slotted_operations.specs.Image.{no_classes, FoundAlike, SaysEqual, SaysDerivable, SaysTerms};
+ghost use Rattle.slotted_operations.specs.Image.{AddsClasses, IsUnion, AreSymmetries, AreListedOnce, CountsOpen};
+ghost use Rattle.slotted_classes.specs.Kept.{text_bytes, symmetry_entry};
+ghost use Rattle.slotted_operations.specs.Affected.{AreRepresented, IsYesIfDerivable, IsYesIfEqual};
+ghost use Rattle.slotted_operations.specs.ValidIds.{IsValidId, IsValidNode, SaysFillingsEqual, LackNothing, HaveValidSides};
+ghost use Rattle.slotted_operations.specs.Causes.{HasLargeClassIn};
+ghost use Rattle.slotted_operations.specs.Graph.{IsFullId, OnlyReads, RecordsUnion};
+ghost use Rattle.slotted_operations.specs.LookUp.{AreLookedUp};
 ghost use Rattle.slotted_proofs.specs.Equations.{to_applied};
-ghost use Rattle.slotted_core.specs.Reads.{AnswersTerm, NodesAreRead};
-ghost use Rattle.slotted_core.specs.SmallNodes.{IsSmallValidTerm};
+ghost use Rattle.slotted_operations.specs.Reads.{AnswersTerm, NodesAreRead};
+ghost use Rattle.slotted_operations.specs.SmallNodes.{IsSmallValidTerm};
 
 pub mod steps;
 
 use crate::method::SubstMethod;
 use slotted_analyses::Analysis;
-use slotted_core::adding::{is_full_id, is_valid, is_valid_node};
-use slotted_core::terms::is_valid_term;
-use slotted_core::uniting::open_symmetries;
+use slotted_classes::{Store, Symmetry};
 use slotted_data::ClassData;
-use slotted_filing::Hashcons;
+use slotted_hashcons::Hashcons;
 use slotted_languages::Language;
 use slotted_matching::IndexCache;
+use slotted_operations::adding::{is_full_id, is_valid, is_valid_node};
+use slotted_operations::terms::is_valid_term;
+use slotted_operations::uniting::open_symmetries;
 use slotted_proofs::ProvenEq;
 use slotted_slots::{AppliedId, Error, SlotTable};
-use slotted_store::{Store, Symmetry};
 use slotted_terms::expr::RecExpr;
 use slotted_writes::uniting;
 use std::alloc::Global;
@@ -89,12 +89,12 @@ pub struct EGraph<L: Language, N: Analysis<L> = ()> {
 
 impl<L: Language, N: Analysis<L>> Model for EGraph<L, N> {
     ghost use Rattle.std.specs.Prelude.{IfSome, IsTrue, ◌⊎◌};
-    ghost use Rattle.slotted_core.specs.Graph.{Graph, graph_code};
+    ghost use Rattle.slotted_operations.specs.Graph.{Graph, graph_code};
     ghost use Rattle.slotted_analyses.specs.Meaning.{by_bare_nodes};
     ghost use Rattle.slotted_data.specs.Carrying.{DataRests};
     ghost use Rattle.slotted_data.specs.Part.{part_by};
-    ghost use Rattle.slotted_core.specs.Good.{Good, RestsWith, HasFreshSlots, graph_of};
-    ghost use Rattle.slotted_filing.specs.FiledRows.{rows_in};
+    ghost use Rattle.slotted_operations.specs.Good.{Good, RestsWith, HasFreshSlots, graph_of};
+    ghost use Rattle.slotted_hashcons.specs.FiledRows.{rows_in};
     ghost use Rattle.slotted_matching.specs.Indexed.{IsIndexed};
 
     ghost Value = { Graph };

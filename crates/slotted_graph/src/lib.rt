@@ -18,6 +18,6 @@ pub use egraph::{EGraph, totals_rise};
 pub use method::SubstMethod;
 pub use modifying::modify_class;
 pub use rounds::{modify_in_rounds, modify_once};
-pub use slotted_extraction::LeastTerms;
+pub use slotted_classes::Symmetry;
+pub use slotted_least_terms::LeastTerms;
 pub use slotted_reports::ProgressMeasure;
-pub use slotted_store::Symmetry;

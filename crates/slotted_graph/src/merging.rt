@@ -1,7 +1,7 @@
 //! Merging values into the data of classes.
 ghost use Rattle.std.specs.Prelude.{◌≡◌, ◌⊎◌, ◌↔◌, ◌<◌, length, IsTrue, IfErr, IsErr, IsErrOf, OnOk};
 ghost use Rattle.slotted_slots.specs.Error.{IsShortage};
-ghost use Rattle.slotted_core.specs.LookUp.{HasSameClasses};
+ghost use Rattle.slotted_operations.specs.LookUp.{HasSameClasses};
 ghost use Rattle.slotted_graph.specs.Analysed.{MergesData};
 ghost use Rattle.slotted_graph.specs.Writing.{IfUnmodified, LeavesAsked, MergesAndModifies};
 

@@ -1,7 +1,7 @@
 //! Rounds over the classes that wait to be modified.
 ghost use Rattle.std.specs.Prelude.{◌≡◌, ◌⊎◌, ◌↔◌, IsErr, IsErrOf, IsTrue, IfErr, IfOk};
 ghost use Rattle.slotted_slots.specs.Error.{IsShortage};
-ghost use Rattle.slotted_core.specs.Reports.{class_numbers};
+ghost use Rattle.slotted_operations.specs.Reports.{class_numbers};
 ghost use Rattle.slotted_graph.specs.States.{IsGraph};
 ghost use Rattle.slotted_graph.specs.Rounds.{LeavesModified, MakesRounds, Modifies, TakesRound};
 

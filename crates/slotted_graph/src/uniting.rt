@@ -2,11 +2,11 @@
 ghost use Rattle.std.specs.Prelude.{◌≡◌, ◌⊎◌, ◌↔◌, None, false, IsErr, IsErrOf, IsTrue, IfErr, IfOk, OnOk};
 ghost use Rattle.slotted_slots.specs.Error.{IsShortage};
 ghost use Rattle.slotted_proofs.specs.Equations.{to_applied};
-ghost use Rattle.slotted_store.specs.Kept.{text_bytes};
-ghost use Rattle.slotted_core.specs.Causes.{HasLargeClassIn};
-ghost use Rattle.slotted_core.specs.Graph.{RecordsUnion};
-ghost use Rattle.slotted_core.specs.Image.{IsUnion, FoundAlike};
-ghost use Rattle.slotted_core.specs.ValidIds.{IsValidId};
+ghost use Rattle.slotted_classes.specs.Kept.{text_bytes};
+ghost use Rattle.slotted_operations.specs.Causes.{HasLargeClassIn};
+ghost use Rattle.slotted_operations.specs.Graph.{RecordsUnion};
+ghost use Rattle.slotted_operations.specs.Image.{IsUnion, FoundAlike};
+ghost use Rattle.slotted_operations.specs.ValidIds.{IsValidId};
 ghost use Rattle.slotted_graph.specs.Analysed.{CarriesData};
 ghost use Rattle.slotted_graph.specs.Counted.{CountsUnion};
 ghost use Rattle.slotted_graph.specs.Extension.{ExtendsTo};

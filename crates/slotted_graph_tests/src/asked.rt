@@ -2,8 +2,8 @@
 use crate::proofs::{printed, told};
 use slotted_explain::EGraph;
 use slotted_proofs::ProvenEq;
-use slotted_rows::graphs::parted;
-use slotted_rows::rows::answer;
+use slotted_questions::graphs::parted;
+use slotted_questions::rows::answer;
 use slotted_slots::Error;
 use slotted_terms::expr::printing::Printable;
 use std::alloc::Global;

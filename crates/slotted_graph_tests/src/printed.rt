@@ -1,7 +1,7 @@
 //! Tables of printed proofs.
 use crate::asked::is_answered;
 use slotted_explain::EGraph;
-use slotted_rows::graphs::empty;
+use slotted_questions::graphs::empty;
 use slotted_small::Small;
 use slotted_terms::expr::printing::Printable;
 use std::alloc::Global;

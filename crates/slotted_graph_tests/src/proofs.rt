@@ -2,8 +2,8 @@
 use slotted_explain::{EGraph, Explanation};
 use slotted_languages::Language;
 use slotted_proofs::{Proof, ProvenEq};
-use slotted_rows::graphs::{parted, yes};
-use slotted_rows::steps::part;
+use slotted_questions::graphs::{parted, yes};
+use slotted_questions::steps::part;
 use slotted_slots::Error;
 use slotted_terms::expr::printing::Printable;
 use std::alloc::Global;

@@ -3,7 +3,7 @@ use crate::asked::is_answered;
 use crate::failing::{assert_entries_refused, assert_failed};
 use slotted_explain::EGraph;
 use slotted_proofs::ProvenEq;
-use slotted_rows::graphs::empty;
+use slotted_questions::graphs::empty;
 use slotted_slots::{Error, SlotTable};
 use slotted_small::Small;
 use slotted_terms::expr::printing::Printable;

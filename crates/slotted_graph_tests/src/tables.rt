@@ -1,7 +1,7 @@
 //! The table of slots that comes out of a graph.
 use crate::printed::check_in;
 use slotted_explain::EGraph;
-use slotted_rows::graphs::empty;
+use slotted_questions::graphs::empty;
 use slotted_slots::{Error, SlotTable};
 use slotted_small::Small;
 use slotted_terms::expr::printing::Printable;

@@ -13,9 +13,9 @@ use Rattle.slotted_terms.specs.Valid.{AllKnown}
 use Rattle.slotted_model.specs.Applied.{Applied, as_term, renamed_id}
 use Rattle.slotted_model.specs.Classes.{term_of}
 use Rattle.slotted_model.specs.Growth.{Extends}
-use Rattle.slotted_store.proofs.ChildIds.{Each, atom-is, zip-keys_values}
-use Rattle.slotted_adding.specs.Filling.{tree_over, names_over}
-use Rattle.slotted_adding.proofs.NodesOver.{names_fit, over_fits}
+use Rattle.slotted_classes.proofs.ChildIds.{Each, atom-is, zip-keys_values}
+use Rattle.slotted_lookup.specs.Filling.{tree_over, names_over}
+use Rattle.slotted_lookup.proofs.NodesOver.{names_fit, over_fits}
 use Rattle.slotted_graph.specs.Graph.{Graph}
 use Rattle.slotted_model_rules.specs.Conditions.{Values}
 use Rattle.slotted_model_rules.specs.Instances.{IsInstance, IsAnswer, HasAnswers}

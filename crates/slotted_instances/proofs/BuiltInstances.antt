@@ -22,9 +22,9 @@ use Rattle.slotted_model_rules.proofs.Laws.{pattern-laws}
 use Rattle.slotted_model_rules.proofs.ReplacedIds.{filled-stays}
 use Rattle.slotted_patterns.specs.Known.{AreKnown}
 use Rattle.slotted_patterns.specs.Tree.{PatternTree, enode, pvar, substitution, row_of}
-use Rattle.slotted_store.proofs.ChildIds.{Each-from_All}
-use Rattle.slotted_adding.specs.Filling.{node_over}
-use Rattle.slotted_core.proofs.CallerLemmas.{full-valid}
+use Rattle.slotted_classes.proofs.ChildIds.{Each-from_All}
+use Rattle.slotted_lookup.specs.Filling.{node_over}
+use Rattle.slotted_operations.proofs.CallerLemmas.{full-valid}
 use Rattle.slotted_graph.proofs.Extending.{extends-itself}
 use Rattle.slotted_graph.specs.Adding.{AddsSyn}
 use Rattle.slotted_graph.specs.Graph.{Graph, IsFullId}

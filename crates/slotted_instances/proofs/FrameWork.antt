@@ -11,11 +11,11 @@ use Rattle.slotted_model.specs.Applied.{Applied}
 use Rattle.slotted_model.specs.Classes.{Canonical, IsFull}
 use Rattle.slotted_model.specs.Growth.{Extends}
 use Rattle.slotted_proofs.specs.Equations.{to_applied}
-use Rattle.slotted_store.specs.ChildIds.{child_ids}
-use Rattle.slotted_store.proofs.ChildIds.{length-ids}
-use Rattle.slotted_core.specs.Canonical.{IsNodeOf}
-use Rattle.slotted_core.proofs.CanonicalTerms.{child_set, children-below}
-use Rattle.slotted_core.proofs.TermNodes.{children_nodes, ids_nodes}
+use Rattle.slotted_classes.specs.ChildIds.{child_ids}
+use Rattle.slotted_classes.proofs.ChildIds.{length-ids}
+use Rattle.slotted_operations.specs.Canonical.{IsNodeOf}
+use Rattle.slotted_operations.proofs.CanonicalTerms.{child_set, children-below}
+use Rattle.slotted_operations.proofs.TermNodes.{children_nodes, ids_nodes}
 use Rattle.slotted_instances.specs.declared.substitution.Frame.{Frame}
 use Rattle.slotted_instances.specs.Frames.{TakesAnswer, next_child, waiting_work, work_from}
 

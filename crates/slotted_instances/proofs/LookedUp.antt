@@ -19,20 +19,20 @@ use Rattle.slotted_model.specs.State.{look_up_node}
 use Rattle.slotted_model.proofs.LookUps.{Renames}
 use Rattle.slotted_model.proofs.Members.{In}
 use Rattle.slotted_model.proofs.Rows.{look_up_node-moved}
-use Rattle.slotted_store.specs.ChildIds.{child_ids}
-use Rattle.slotted_store.specs.Finding.{IsFindable}
-use Rattle.slotted_store.proofs.ChildIds.{Each, Each-from_All, EachChild-node_args}
-use Rattle.slotted_store.proofs.KeptLists.{any_default}
-use Rattle.slotted_store.proofs.NameMaps.{In-at, at_In}
+use Rattle.slotted_classes.specs.ChildIds.{child_ids}
+use Rattle.slotted_classes.specs.Finding.{IsFindable}
+use Rattle.slotted_classes.proofs.ChildIds.{Each, Each-from_All, EachChild-node_args}
+use Rattle.slotted_classes.proofs.KeptLists.{any_default}
+use Rattle.slotted_classes.proofs.NameMaps.{In-at, at_In}
 use Rattle.slotted_rebuilding.specs.Filed.{state_in}
-use Rattle.slotted_adding.specs.Filling.{node_over}
-use Rattle.slotted_adding.proofs.NodesOver.{child_ids-over, beside-over, length-over}
-use Rattle.slotted_core.proofs.AddedTerms.{places-known}
-use Rattle.slotted_core.proofs.Layers.{each_at}
-use Rattle.slotted_core.proofs.LookUps.{looked_up-is, tree-is}
-use Rattle.slotted_core.proofs.LookedUpParts.{Looked, children_found, looked-args}
-use Rattle.slotted_core.proofs.Resting.{at-rest}
-use Rattle.slotted_core.proofs.ValidIds.{of-valid, renamed-findable}
+use Rattle.slotted_lookup.specs.Filling.{node_over}
+use Rattle.slotted_lookup.proofs.NodesOver.{child_ids-over, beside-over, length-over}
+use Rattle.slotted_operations.proofs.AddedTerms.{places-known}
+use Rattle.slotted_operations.proofs.Layers.{each_at}
+use Rattle.slotted_operations.proofs.LookUps.{looked_up-is, tree-is}
+use Rattle.slotted_operations.proofs.LookedUpParts.{Looked, children_found, looked-args}
+use Rattle.slotted_operations.proofs.Resting.{at-rest}
+use Rattle.slotted_operations.proofs.ValidIds.{of-valid, renamed-findable}
 use Rattle.slotted_graph.specs.Graph.{Graph}
 use Rattle.slotted_graph.specs.LookUp.{look_up as look_up_form, look_up_term}
 use Rattle.slotted_graph.specs.States.{IsGraph}

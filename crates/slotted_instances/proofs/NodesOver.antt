@@ -11,13 +11,13 @@ use Rattle.slotted_languages.specs.Shape.{Fits}
 use Rattle.slotted_languages.proofs.NodeTerms.{own_fits, child_rest_fits, bind_inner_fits, bind_rest_fits}
 use Rattle.slotted_terms.specs.Valid.{AllKnown}
 use Rattle.slotted_model.specs.Applied.{Applied}
-use Rattle.slotted_store.specs.ChildIds.{child_ids}
-use Rattle.slotted_store.proofs.ChildIds.{Each, Each-from_All, zip-keys_values}
-use Rattle.slotted_store.proofs.NameMaps.{length-keys, length-values}
-use Rattle.slotted_adding.specs.Filling.{tree_over, names_over, node_over}
-use Rattle.slotted_adding.proofs.NodesOver.{names_fit, over_fits}
-use Rattle.slotted_core.proofs.ChildReplacement.{plugs}
-use Rattle.slotted_core.proofs.Layers.{each_at}
+use Rattle.slotted_classes.specs.ChildIds.{child_ids}
+use Rattle.slotted_classes.proofs.ChildIds.{Each, Each-from_All, zip-keys_values}
+use Rattle.slotted_classes.proofs.NameMaps.{length-keys, length-values}
+use Rattle.slotted_lookup.specs.Filling.{tree_over, names_over, node_over}
+use Rattle.slotted_lookup.proofs.NodesOver.{names_fit, over_fits}
+use Rattle.slotted_operations.proofs.ChildReplacement.{plugs}
+use Rattle.slotted_operations.proofs.Layers.{each_at}
 use Rattle.slotted_model_rules.specs.Matcher.{an_id, a_binder}
 use Rattle.slotted_model_rules.specs.ReplacedIds.{HasOtherIds}
 use Rattle.slotted_rule_patterns.specs.NodeArguments.{args_of, node_arguments}

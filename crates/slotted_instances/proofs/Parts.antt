@@ -7,7 +7,7 @@ use Rattle.slotted_terms.specs.Valid.{AllKnown}
 use Rattle.slotted_nodes.specs.Form.{Form, children}
 use Rattle.slotted_patterns.specs.Known.{AreKnown, HasKnownNames, HaveKnownNames}
 use Rattle.slotted_patterns.specs.Tree.{PatternTree, enode, pvar, substitution, PatternRow, no_more, one_more, row_of}
-use Rattle.slotted_store.proofs.ChildIds.{Each-from_All, Each-append}
+use Rattle.slotted_classes.proofs.ChildIds.{Each-from_All, Each-append}
 use Rattle.slotted_model_rules.specs.Conditions.{Values}
 use Rattle.slotted_model_rules.specs.Patterns.{Pattern, variable}
 use Rattle.slotted_rule_patterns.specs.PatternCode.{pattern_in, patterns_in}

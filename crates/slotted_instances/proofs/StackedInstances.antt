@@ -22,9 +22,9 @@ use Rattle.slotted_rule_patterns.specs.PatternCode.{pattern_in, patterns_in}
 use Rattle.slotted_rule_patterns.specs.Variables.{has_value, variables_of, variables_of_row}
 use Rattle.slotted_rule_patterns.proofs.Parts.{node-parts, first-parts}
 use Rattle.slotted_proofs.specs.Equations.{to_applied}
-use Rattle.slotted_store.specs.ChildIds.{child_ids}
-use Rattle.slotted_adding.specs.Filling.{node_over}
-use Rattle.slotted_adding.proofs.NodesOver.{child_ids-over, length-over, node_over-more, node_over-none}
+use Rattle.slotted_classes.specs.ChildIds.{child_ids}
+use Rattle.slotted_lookup.specs.Filling.{node_over}
+use Rattle.slotted_lookup.proofs.NodesOver.{child_ids-over, length-over, node_over-more, node_over-none}
 use Rattle.slotted_graph.specs.Adding.{AddsSyn}
 use Rattle.slotted_graph.specs.Graph.{Graph, IsFullId}
 use Rattle.slotted_graph.specs.States.{IsGraph}

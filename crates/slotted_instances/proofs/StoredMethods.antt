@@ -20,12 +20,12 @@ use Rattle.slotted_model_rules.proofs.Representing.{itself-represented, pair-lis
 use Rattle.slotted_model_rules.specs.Representing.{is_listed}
 use Rattle.slotted_model_rules.specs.Substitution.{substituted}
 use Rattle.slotted_proofs.specs.Equations.{to_applied}
-use Rattle.slotted_store.specs.Finding.{IsFindable}
-use Rattle.slotted_store.specs.Kept.{entries_of, nodes_of}
+use Rattle.slotted_classes.specs.Finding.{IsFindable}
+use Rattle.slotted_classes.specs.Kept.{entries_of, nodes_of}
 use Rattle.slotted_costs.specs.Costs.{costs_by}
 use Rattle.slotted_costs.specs.Size.{size_cost}
-use Rattle.slotted_core.proofs.Images.{class_found-is}
-use Rattle.slotted_core.proofs.ValidIds.{findable-within, of-valid}
+use Rattle.slotted_operations.proofs.Images.{class_found-is}
+use Rattle.slotted_operations.proofs.ValidIds.{findable-within, of-valid}
 use Rattle.slotted_graph.specs.Causes.{class_found}
 use Rattle.slotted_graph.specs.Graph.{Graph, IsFullId, OnlyTakesSlots}
 use Rattle.slotted_graph.specs.Image.{AddsClasses, Image}

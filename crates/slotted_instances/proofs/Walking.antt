@@ -20,14 +20,14 @@ use Rattle.slotted_model.specs.Classes.{IsFull, term_of, layer_of}
 use Rattle.slotted_model.specs.Filling.{FillsArgs}
 use Rattle.slotted_model.proofs.Full.{term_of-layer}
 use Rattle.slotted_proofs.specs.Equations.{to_applied}
-use Rattle.slotted_store.specs.ChildIds.{child_ids}
-use Rattle.slotted_store.proofs.ChildIds.{length-ids}
-use Rattle.slotted_store.proofs.KeptLists.{any_default}
-use Rattle.slotted_adding.specs.Filling.{node_over}
-use Rattle.slotted_adding.proofs.NodesOver.{node_over-none, node_over-more, node_over-own, child_ids-over, length-over, over_fits}
-use Rattle.slotted_core.proofs.CallerLemmas.{full-valid}
-use Rattle.slotted_core.proofs.CanonicalTerms.{children-below}
-use Rattle.slotted_core.proofs.NodeAddition.{full_children}
+use Rattle.slotted_classes.specs.ChildIds.{child_ids}
+use Rattle.slotted_classes.proofs.ChildIds.{length-ids}
+use Rattle.slotted_classes.proofs.KeptLists.{any_default}
+use Rattle.slotted_lookup.specs.Filling.{node_over}
+use Rattle.slotted_lookup.proofs.NodesOver.{node_over-none, node_over-more, node_over-own, child_ids-over, length-over, over_fits}
+use Rattle.slotted_operations.proofs.CallerLemmas.{full-valid}
+use Rattle.slotted_operations.proofs.CanonicalTerms.{children-below}
+use Rattle.slotted_operations.proofs.NodeAddition.{full_children}
 use Rattle.slotted_graph.specs.Adding.{AddsSyn}
 use Rattle.slotted_graph.specs.Graph.{Graph, IsFullId}
 use Rattle.slotted_graph.specs.Image.{Image}

@@ -15,7 +15,7 @@ use Rattle.slotted_patterns.specs.Tree.{PatternTree}
 use Rattle.slotted_model.specs.Applied.{Applied}
 use Rattle.slotted_model_rules.specs.Conditions.{Values}
 use Rattle.slotted_rule_patterns.specs.PatternCode.{pattern_in}
-use Rattle.slotted_adding.specs.Filling.{node_over}
+use Rattle.slotted_lookup.specs.Filling.{node_over}
 use Rattle.slotted_graph.specs.Graph.{Graph}
 use Rattle.slotted_graph.specs.States.{IsGraph}
 use Rattle.slotted_instances.specs.Building.{AssertsNothing, Grows}

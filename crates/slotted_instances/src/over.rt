@@ -3,7 +3,7 @@ ghost use Rattle.std.specs.Prelude.{◌≡◌, ◌≤◌, length, map, IfOk, IfE
 ghost use Rattle.slotted_slots.specs.Error.{IsOutOfMemory};
 ghost use Rattle.slotted_nodes.specs.Form.{children};
 ghost use Rattle.slotted_proofs.specs.Equations.{to_applied};
-ghost use Rattle.slotted_adding.specs.Filling.{node_over};
+ghost use Rattle.slotted_lookup.specs.Filling.{node_over};
 ghost use Rattle.slotted_instances.specs.Stacked.{ids_before, over_ids};
 
 use slotted_languages::Language;

@@ -15,10 +15,10 @@ ghost use Rattle.slotted_instances.specs.Substituting.{HasNameBeside, Replaces};
 
 use crate::adding::add_node;
 use slotted_analyses::Analysis;
+use slotted_classes::names::has_value;
 use slotted_graph::EGraph;
 use slotted_languages::Language;
 use slotted_slots::{AppliedId, Error, SlotMap};
-use slotted_store::names::has_value;
 use std::alloc::Global;
 use std::mem;
 

@@ -4,7 +4,7 @@ use Rattle.std.specs.Prelude.{Bool, IsTrue, false, is_ok}
 use Rattle.std.proofs.lemmas.Bool.{false_from_ne_true, false≢true}
 use Rattle.slotted_slots.specs.declared.error.Error.{Error}
 use Rattle.slotted_slots.specs.declared.error.Error.TheVariants.{Failed}
-use Rattle.slotted_core.specs.Graph.{Graph, OnlyReads}
+use Rattle.slotted_operations.specs.Graph.{Graph, OnlyReads}
 
 -- what is answered over a graph says that it has not failed
 pub unfailed : {A : Type 0} (x : A) (b : Bool) → (IsErrOf {T = A} {E = Error} (Ok x) Failed ↔ IsTrue b) → b ≡ false

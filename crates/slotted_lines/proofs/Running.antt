@@ -8,7 +8,7 @@ use Rattle.slotted_slots.specs.declared.error.Error.TheVariants.{Failed}
 use Rattle.slotted_slots.specs.Error.{IsShortage}
 use Rattle.slotted_nodes.specs.Form.{Form}
 use Rattle.slotted_languages.proofs.HandedOn.{error_or}
-use Rattle.slotted_core.specs.Graph.{Graph}
+use Rattle.slotted_operations.specs.Graph.{Graph}
 use Rattle.slotted_graph.specs.Extension.{ExtendsTo}
 use Rattle.slotted_model_rules.specs.Runners.{Stop, saturated, iteration_limit, time_limit, node_limit, other}
 use Rattle.slotted_rules.specs.Applying.{NeverModified}

@@ -12,7 +12,7 @@ use Rattle.slotted_slots.specs.declared.error.Error.{Error}
 use Rattle.slotted_slots.specs.declared.error.Error.TheVariants.{Failed}
 use Rattle.slotted_slots.specs.Syntax.{Element}
 use Rattle.slotted_nodes.specs.Form.{Form}
-use Rattle.slotted_core.specs.Graph.{Graph, OnlyReads, totals_of}
+use Rattle.slotted_operations.specs.Graph.{Graph, OnlyReads, totals_of}
 use Rattle.slotted_commands.specs.Commands.{Command}
 use Rattle.slotted_commands.specs.Sessions.{Answered}
 use Rattle.slotted_commands.specs.declared.answer.Answer.{Answer}

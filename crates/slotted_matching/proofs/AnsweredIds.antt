@@ -10,11 +10,11 @@ use Rattle.slotted_slots.specs.Maps.{keys, values, with_value_at, values-with_va
 use Rattle.slotted_model.specs.Applied.{Applied}
 use Rattle.slotted_model.specs.Find.{used_slots}
 use Rattle.slotted_model.proofs.NormalIds.{used-live}
-use Rattle.slotted_store.specs.Kept.{Kept, find_at, nodes_of, entries_of}
-use Rattle.slotted_store.specs.Finding.{HasFinds}
-use Rattle.slotted_store.proofs.KeptLists.{entry_at-of}
-use Rattle.slotted_store.proofs.ChildIds.{zip-keys_values}
-use Rattle.slotted_store.proofs.NameMaps.{length-keys}
+use Rattle.slotted_classes.specs.Kept.{Kept, find_at, nodes_of, entries_of}
+use Rattle.slotted_classes.specs.Finding.{HasFinds}
+use Rattle.slotted_classes.proofs.KeptLists.{entry_at-of}
+use Rattle.slotted_classes.proofs.ChildIds.{zip-keys_values}
+use Rattle.slotted_classes.proofs.NameMaps.{length-keys}
 use Rattle.slotted_unions.specs.StateOf.{state_of}
 use Rattle.slotted_match_machine.specs.Machine.{Occurrence, no_occurrence}
 use Rattle.slotted_match_machine.specs.Readings.{IsWholeId, read_id}

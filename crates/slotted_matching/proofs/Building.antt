@@ -10,8 +10,8 @@ use Rattle.slotted_languages.proofs.NodeTerms.{own_fits, child_rest_fits, bind_i
 use Rattle.slotted_model.specs.Applied.{Applied, keys, values, renamed_id}
 use Rattle.slotted_model.proofs.Members.{In}
 use Rattle.slotted_model_rules.specs.Goals.{own_names}
-use Rattle.slotted_store.specs.ChildIds.{child_ids}
-use Rattle.slotted_store.proofs.ChildIds.{child_is, child_with_keys, length-ids}
+use Rattle.slotted_classes.specs.ChildIds.{child_ids}
+use Rattle.slotted_classes.proofs.ChildIds.{child_is, child_with_keys, length-ids}
 use Rattle.slotted_nodes.specs.Form.{child_names}
 use Rattle.slotted_rule_patterns.specs.NodeArguments.{args_of}
 use Rattle.slotted_match_machine.specs.Index.{OneByOne}

@@ -11,13 +11,13 @@ use Rattle.slotted_model.specs.State.{Row, State}
 use Rattle.slotted_model.proofs.Finding.{found-in_range, found-live, leads}
 use Rattle.slotted_model.proofs.Members.{In, In-Contains}
 use Rattle.slotted_model_rules.specs.Patterns.{Pattern, PatternArgs, pattern_node}
-use Rattle.slotted_store.specs.Kept.{Kept, entries_of, nodes_of}
-use Rattle.slotted_store.proofs.KeptLists.{length-nodes_of}
-use Rattle.slotted_filing.specs.Filed.{Filing}
-use Rattle.slotted_filing.specs.FiledRows.{Rows}
-use Rattle.slotted_filing.proofs.FiledRows.{filed-row}
+use Rattle.slotted_classes.specs.Kept.{Kept, entries_of, nodes_of}
+use Rattle.slotted_classes.proofs.KeptLists.{length-nodes_of}
+use Rattle.slotted_hashcons.specs.Filed.{Filing}
+use Rattle.slotted_hashcons.specs.FiledRows.{Rows}
+use Rattle.slotted_hashcons.proofs.FiledRows.{filed-row}
 use Rattle.slotted_rebuilding.specs.Filed.{IsWellFiled, state_in}
-use Rattle.slotted_adding.proofs.AppliedNodes.{filed-in_nodes}
+use Rattle.slotted_lookup.proofs.AppliedNodes.{filed-in_nodes}
 use Rattle.slotted_rule_patterns.specs.PatternCode.{filled_pattern, pattern_over}
 use Rattle.slotted_match_machine.specs.declared.index.IndexRow.{IndexRow}
 use Rattle.slotted_match_machine.specs.declared.index.RowIndex.{RowIndex}

@@ -16,15 +16,15 @@ use Rattle.slotted_model.proofs.Finding.{found-in_range, leads}
 use Rattle.slotted_model.proofs.Members.{In, In-append, In-left, In-right, In-map, In-of_map, In-Contains, Contains-In}
 use Rattle.slotted_model.proofs.NormalIds.{used-live}
 use Rattle.slotted_model.proofs.Sets.{below_from_each}
-use Rattle.slotted_store.specs.Kept.{Kept, entries_of, nodes_of}
-use Rattle.slotted_store.proofs.KeptLists.{length-nodes_of}
-use Rattle.slotted_filing.specs.Filed.{Filing, filed_of}
-use Rattle.slotted_filing.specs.FiledRows.{Rows, row_of_entry}
-use Rattle.slotted_filing.proofs.FiledRows.{filed-row, row-filed}
-use Rattle.slotted_filing.proofs.Indexed.{place-within}
+use Rattle.slotted_classes.specs.Kept.{Kept, entries_of, nodes_of}
+use Rattle.slotted_classes.proofs.KeptLists.{length-nodes_of}
+use Rattle.slotted_hashcons.specs.Filed.{Filing, filed_of}
+use Rattle.slotted_hashcons.specs.FiledRows.{Rows, row_of_entry}
+use Rattle.slotted_hashcons.proofs.FiledRows.{filed-row, row-filed}
+use Rattle.slotted_hashcons.proofs.Indexed.{place-within}
 use Rattle.slotted_rebuilding.specs.Filed.{IsWellFiled, state_in}
-use Rattle.slotted_adding.specs.Reports.{class_sources, is_source, live_ids, lives}
-use Rattle.slotted_adding.proofs.AppliedNodes.{filed-in_nodes}
+use Rattle.slotted_lookup.specs.Reports.{class_sources, is_source, live_ids, lives}
+use Rattle.slotted_lookup.proofs.AppliedNodes.{filed-in_nodes}
 use Rattle.slotted_match_machine.specs.declared.index.RowIndex.{RowIndex}
 use Rattle.slotted_match_machine.specs.Index.{IsIndexRow, OneByOne, rows_of_class}
 use Rattle.slotted_match_machine.specs.Machine.{rows_in}

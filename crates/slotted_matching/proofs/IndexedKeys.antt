@@ -20,11 +20,11 @@ use Rattle.slotted_model.proofs.NormalIds.{used-live}
 use Rattle.slotted_model_rules.specs.Matcher.{NodeArgs, no_more, a_name, an_id, a_binder, bound_names, written_names}
 use Rattle.slotted_model_rules.specs.ReplacedIds as rules
 use Rattle.slotted_proofs.proofs.Bridges.{value_of-model}
-use Rattle.slotted_store.specs.Kept.{Kept, nodes_of, entries_of}
-use Rattle.slotted_filing.specs.Filed.{Filing, filed_of}
-use Rattle.slotted_filing.specs.FiledRows.{Rows, row_of_entry}
+use Rattle.slotted_classes.specs.Kept.{Kept, nodes_of, entries_of}
+use Rattle.slotted_hashcons.specs.Filed.{Filing, filed_of}
+use Rattle.slotted_hashcons.specs.FiledRows.{Rows, row_of_entry}
 use Rattle.slotted_rebuilding.specs.Filed.{IsWellFiled, IsKeyed, state_in}
-use Rattle.slotted_adding.proofs.AppliedNodes.{filed-key, filed-in_nodes}
+use Rattle.slotted_lookup.proofs.AppliedNodes.{filed-key, filed-in_nodes}
 use Rattle.slotted_rule_patterns.specs.NodeArguments.{node_arguments}
 use Rattle.slotted_rule_patterns.proofs.NodeArguments.{ids-node, unnamed-node}
 use Rattle.slotted_match_machine.specs.Index.{OneByOne, IsIndexChild, IsIndexRow, IsPositionOf, ids_of}

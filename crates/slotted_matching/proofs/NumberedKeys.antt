@@ -24,12 +24,12 @@ use Rattle.slotted_model.proofs.Sets.{In-ascending}
 use Rattle.slotted_model.proofs.Theory.{free_names-moved, moved-agrees, moved-moved}
 use Rattle.slotted_model_rules.specs.Matcher.{NodeArgs, unnamed, written_names, bound_names}
 use Rattle.slotted_proofs.proofs.Bridges.{ascends}
-use Rattle.slotted_store.specs.Names.{IsNumeric}
-use Rattle.slotted_store.proofs.NamePairs.{In-firsts}
-use Rattle.slotted_store.proofs.PutNames.{AreNumeric, numeric-shape}
-use Rattle.slotted_filing.specs.FiledRows.{row_of_entry}
-use Rattle.slotted_filing.proofs.KeyedNodes.{own-numbers}
-use Rattle.slotted_filing.proofs.NumbersInShapes.{names-beside}
+use Rattle.slotted_classes.specs.Names.{IsNumeric}
+use Rattle.slotted_classes.proofs.NamePairs.{In-firsts}
+use Rattle.slotted_classes.proofs.PutNames.{AreNumeric, numeric-shape}
+use Rattle.slotted_hashcons.specs.FiledRows.{row_of_entry}
+use Rattle.slotted_hashcons.proofs.KeyedNodes.{own-numbers}
+use Rattle.slotted_hashcons.proofs.NumbersInShapes.{names-beside}
 use Rattle.slotted_rebuilding.specs.Filed.{IsKeyed}
 use Rattle.slotted_rule_patterns.specs.NodeArguments.{node_arguments}
 use Rattle.slotted_rule_patterns.proofs.NodeArguments.{unnamed-node}

@@ -10,8 +10,8 @@ use Rattle.slotted_model.proofs.Members.{In, In-Contains, Contains-In}
 use Rattle.slotted_model_rules.specs.Goals.{paired_all}
 use Rattle.slotted_model_rules.specs.Matcher.{paired, paired_with}
 use Rattle.slotted_model_rules.specs.Patterns.{Pattern, PatternArgs}
-use Rattle.slotted_store.specs.Kept.{Kept}
-use Rattle.slotted_filing.specs.FiledRows.{Rows}
+use Rattle.slotted_classes.specs.Kept.{Kept}
+use Rattle.slotted_hashcons.specs.FiledRows.{Rows}
 use Rattle.slotted_rebuilding.specs.Filed.{state_in}
 use Rattle.slotted_match_machine.specs.declared.index.ClassRows.{ClassRows}
 use Rattle.slotted_match_machine.specs.declared.index.IndexRow.{IndexRow}

@@ -9,12 +9,12 @@ use Rattle.std.proofs.Math.ListN.{length-set}
 use Rattle.slotted_nodes.specs.Form.{Form}
 use Rattle.slotted_model.specs.Find.{Entry, entry_at, find_class}
 use Rattle.slotted_model.proofs.Members.{In, In-Contains}
-use Rattle.slotted_store.specs.Kept.{Kept, entries_of}
-use Rattle.slotted_filing.specs.Filed.{Filing, filed_of}
-use Rattle.slotted_filing.specs.FiledRows.{IsFiled, Rows}
-use Rattle.slotted_filing.proofs.Places.{at-append_left}
-use Rattle.slotted_adding.specs.Reports.{class_sources, is_source}
-use Rattle.slotted_adding.proofs.Reported.{next-fails, next-passes}
+use Rattle.slotted_classes.specs.Kept.{Kept, entries_of}
+use Rattle.slotted_hashcons.specs.Filed.{Filing, filed_of}
+use Rattle.slotted_hashcons.specs.FiledRows.{IsFiled, Rows}
+use Rattle.slotted_hashcons.proofs.Places.{at-append_left}
+use Rattle.slotted_lookup.specs.Reports.{class_sources, is_source}
+use Rattle.slotted_lookup.proofs.Reported.{next-fails, next-passes}
 use Rattle.slotted_match_machine.specs.declared.index.ClassRows.{ClassRows}
 use Rattle.slotted_match_machine.specs.declared.index.IndexRow.{IndexRow}
 use Rattle.slotted_match_machine.specs.Index.{OneByOne}

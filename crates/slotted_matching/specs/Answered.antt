@@ -19,8 +19,8 @@ use Rattle.slotted_model.specs.Rest.{AtRest, IsValidIn}
 use Rattle.slotted_model_rules.specs.Conditions.{Values}
 use Rattle.slotted_match_machine.specs.Machine.{Answer, Occurrence, no_occurrence}
 use Rattle.slotted_match_machine.specs.Readings.{ReadsAnswer, IsWholeAnswer, IsWholeId, read_id}
-use Rattle.slotted_store.specs.Kept.{Kept}
-use Rattle.slotted_filing.specs.FiledRows.{Rows}
+use Rattle.slotted_classes.specs.Kept.{Kept}
+use Rattle.slotted_hashcons.specs.FiledRows.{Rows}
 use Rattle.slotted_unions.specs.StateOf.{state_of}
 use Rattle.slotted_rebuilding.specs.Filed.{state_in}
 use Rattle.slotted_matching.specs.Matches.{AscendingNames}

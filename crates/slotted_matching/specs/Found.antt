@@ -26,10 +26,10 @@ use Rattle.slotted_model_rules.specs.Patterns.{Pattern, PatternArgs, pattern_nod
 use Rattle.slotted_model_rules.specs.Rules.{Searches, valued}
 use Rattle.slotted_patterns.specs.Tree.{PatternTree}
 use Rattle.slotted_rule_patterns.specs.PatternCode.{pattern_in}
-use Rattle.slotted_store.specs.Kept.{Kept}
-use Rattle.slotted_filing.specs.FiledRows.{Rows}
+use Rattle.slotted_classes.specs.Kept.{Kept}
+use Rattle.slotted_hashcons.specs.FiledRows.{Rows}
 use Rattle.slotted_rebuilding.specs.Filed.{state_in}
-use Rattle.slotted_adding.specs.Filling.{MakesAtMost, RunsOut}
+use Rattle.slotted_lookup.specs.Filling.{MakesAtMost, RunsOut}
 use Rattle.slotted_match_machine.specs.declared.index.RowIndex.{RowIndex}
 use Rattle.slotted_match_machine.specs.Index.{OneByOne}
 use Rattle.slotted_match_machine.specs.Programs.{variables_of}

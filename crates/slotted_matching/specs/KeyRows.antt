@@ -17,7 +17,7 @@ use Rattle.slotted_nodes.specs.Form.{Form}
 use Rattle.slotted_languages.specs.Outline.{child_mark}
 use Rattle.slotted_model.specs.Applied.{Applied, renamed_id}
 use Rattle.slotted_model_rules.specs.Goals.{own_names}
-use Rattle.slotted_store.specs.ChildIds.{child_ids}
+use Rattle.slotted_classes.specs.ChildIds.{child_ids}
 use Rattle.slotted_rule_patterns.specs.NodeArguments.{node_arguments}
 use Rattle.slotted_match_machine.specs.declared.index.IndexRow.{IndexRow}
 use Rattle.slotted_match_machine.specs.Index.{OneByOne, IsIndexChild}

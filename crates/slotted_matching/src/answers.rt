@@ -8,9 +8,9 @@ ghost use Rattle.slotted_match_machine.specs.Machine.{no_occurrence};
 ghost use Rattle.slotted_match_machine.specs.Readings.{IsWholeId, read_id};
 ghost use Rattle.slotted_match_machine.specs.Answers.{answer_of, answers_in, occurrence_in};
 ghost use Rattle.slotted_proofs.specs.Equations.{to_applied};
-ghost use Rattle.slotted_store.specs.Finding.{HasFinds};
+ghost use Rattle.slotted_classes.specs.Finding.{HasFinds};
 ghost use Rattle.slotted_unions.specs.StateOf.{state_of};
-ghost use Rattle.slotted_adding.specs.Filling.{AllKnown, MakesAtMost, RunsOut};
+ghost use Rattle.slotted_lookup.specs.Filling.{AllKnown, MakesAtMost, RunsOut};
 ghost use Rattle.slotted_matching.specs.Naming.{Covers, numbers_of, slot_in};
 ghost use Rattle.slotted_matching.specs.Answered.{AddsIds, AreWholeAnswers, HasDifferentPairs, HasWholeIds, InTurn, IsNamedAnswer};
 ghost use Rattle.slotted_matching.specs.Answered.{NumbersByName, PairSlotsIn, PairSlotsOf, StandOnce, ids_at, number_count};
@@ -18,10 +18,10 @@ ghost use Rattle.slotted_matching.specs.Answered.{NumbersByName, PairSlotsIn, Pa
 use crate::compile::Program;
 use crate::matches::Matches;
 use crate::naming::{name_of, name_values};
+use slotted_classes::Store;
 use slotted_languages::Language;
 use slotted_match_machine::{Answer, Occurrence};
 use slotted_slots::{AppliedId, Error, Id, Slot, SlotTable};
-use slotted_store::Store;
 use std::alloc::Global;
 use std::collections::BTreeMap;
 

@@ -5,10 +5,10 @@ ghost use Rattle.slotted_rebuilding.specs.Filed.{IsWellFiled};
 ghost use Rattle.slotted_matching.specs.Indexed.{HasWideKey, IsIndexed};
 
 use crate::index::{Indexed, row_index};
-use slotted_filing::Hashcons;
+use slotted_classes::Store;
+use slotted_hashcons::Hashcons;
 use slotted_languages::Language;
 use slotted_slots::Error;
-use slotted_store::Store;
 use std::alloc::Global;
 
 /// An index of filed nodes, if one was made since the nodes last changed.

@@ -3,9 +3,9 @@ ghost use Rattle.std.specs.Prelude.{◌≡◌, ◌<◌, ◌++◌, ◌∷◌, ℕ
 ghost use Rattle.std.specs.Prelude.{All, IfOk, IfErr, OnOk, IsErrOf};
 ghost use Rattle.slotted_slots.specs.Error.{IsOutOfMemory, IsShortage};
 ghost use Rattle.slotted_languages.specs.Outline.{skeleton_form};
-ghost use Rattle.slotted_filing.specs.FiledRows.{IsFiled};
+ghost use Rattle.slotted_hashcons.specs.FiledRows.{IsFiled};
 ghost use Rattle.slotted_rebuilding.specs.Filed.{IsWellFiled};
-ghost use Rattle.slotted_adding.specs.Reports.{live_ids};
+ghost use Rattle.slotted_lookup.specs.Reports.{live_ids};
 ghost use Rattle.slotted_match_machine.specs.Index.{OneByOne};
 ghost use Rattle.slotted_matching.specs.Indexed.{AreClassRows, AreClassSources, AreSourceRows, HasWideKey};
 ghost use Rattle.slotted_matching.specs.Indexed.{IsIndexed, IsSourceRow};
@@ -14,13 +14,13 @@ ghost use Rattle.slotted_matching.specs.Skeletons.{GrowsTo, HasFewPlaces, Stands
 
 use crate::rows::{number_count, number_outline, row_children, row_slots};
 use crate::skeletons::{Skeletons, has_many_places};
-use slotted_adding::finding::found_class;
-use slotted_adding::reports::is_alive;
-use slotted_filing::Hashcons;
+use slotted_classes::Store;
+use slotted_hashcons::Hashcons;
 use slotted_languages::Language;
+use slotted_lookup::finding::found_class;
+use slotted_lookup::reports::is_alive;
 use slotted_match_machine::index::{ClassRows, IndexRow, RowIndex};
 use slotted_slots::{Error, SlotMap};
-use slotted_store::Store;
 use std::alloc::Global;
 
 // Rows.

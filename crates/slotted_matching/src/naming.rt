@@ -3,7 +3,7 @@ ghost use Rattle.std.specs.Prelude.{◌≡◌, length, IsSome, OnOk, IfErr, IsEr
 ghost use Rattle.slotted_theory.specs.FiniteMaps.{value_of};
 ghost use Rattle.slotted_slots.specs.Error.{IsShortage};
 ghost use Rattle.slotted_slots.specs.Table.{KnowsMore};
-ghost use Rattle.slotted_adding.specs.Filling.{MakesAtMost, RunsOut};
+ghost use Rattle.slotted_lookup.specs.Filling.{MakesAtMost, RunsOut};
 ghost use Rattle.slotted_matching.specs.Naming.{Covers, NamesMore, numbers_of};
 
 use slotted_match_machine::Occurrence;

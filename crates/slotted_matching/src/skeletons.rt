@@ -22,7 +22,7 @@ impl<L: Language> Model for Skeletons<L> {
     ghost use Rattle.std.specs.Prelude.{List, map};
     ghost use Rattle.std.specs.Coded.{coded_list};
     ghost use Rattle.slotted_nodes.specs.Form.{Form};
-    ghost use Rattle.slotted_store.specs.FormCode.{form_code};
+    ghost use Rattle.slotted_classes.specs.FormCode.{form_code};
     ghost use Rattle.slotted_matching.specs.Skeletons.{StandOnce};
 
     ghost Value = { List Form };

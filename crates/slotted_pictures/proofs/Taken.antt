@@ -3,8 +3,8 @@ use Rattle.std.proofs.Common.{◌≡◌, ◌∙◌, ◌≤◌, ◌<◌, ◌+◌,
 use Rattle.std.specs.Prelude.{◌⊎◌, Contains}
 use Rattle.std.specs.List.{range_with_len, sum_by}
 use Rattle.slotted_slots.specs.Table.{Table}
-use Rattle.slotted_core.specs.Graph.{Graph, MakesAtMost, OnlyTakesSlots, RunsOut}
-use Rattle.slotted_core.proofs.CallerLemmas.{takes_twice}
+use Rattle.slotted_operations.specs.Graph.{Graph, MakesAtMost, OnlyTakesSlots, RunsOut}
+use Rattle.slotted_operations.proofs.CallerLemmas.{takes_twice}
 use Rattle.slotted_graph.specs.FiledNodes.{CanRunOutForDump, CanRunOutForEnodes, HasLargeRow, HasLargeRowOf, slots_for_dump, slots_for_enodes}
 use Rattle.slotted_reports.proofs.ClassesInTurn.{range-next, range-within}
 use Rattle.slotted_reports.proofs.FreshNodes.{runs_out-after}

@@ -1,7 +1,7 @@
 //! Graphs as pictures.
 ghost use Rattle.std.specs.Prelude.{◌≡◌, ◌<◌, ◌⊎◌, ◌↔◌, false, length, string_bytes, IsTrue, IfErr, IsErrOf, OnErr, OnOk};
 ghost use Rattle.slotted_slots.specs.Error.{IsOutOfMemory, IsShortage};
-ghost use Rattle.slotted_core.specs.Graph.{MakesAtMost, OnlyTakesSlots};
+ghost use Rattle.slotted_operations.specs.Graph.{MakesAtMost, OnlyTakesSlots};
 ghost use Rattle.slotted_graph.specs.FiledNodes.{CanRunOutForDump, CanRunOutForEnodes, IsAppended, slots_for_dump, slots_for_enodes};
 
 use crate::quoting::{push_quoted, push_slot};

@@ -12,13 +12,13 @@ use Rattle.slotted_model.specs.State.{Row, State, child_classes, normal_node}
 use Rattle.slotted_model.proofs.KeepingLookUps.{children-below}
 use Rattle.slotted_model.proofs.Options.{Some-same}
 use Rattle.slotted_model.proofs.Refiling.{row_for-row}
-use Rattle.slotted_store.specs.Kept.{Kept, nodes_of}
-use Rattle.slotted_store.proofs.KeptLists.{length-nodes_of}
-use Rattle.slotted_filing.specs.Filed.{Filing, HasKey, HasKeysOnce, IsNewKey, IsNewToOthers, filed_of}
-use Rattle.slotted_filing.specs.FiledRows.{HasChildrenBelow, Rows, TakesTurn, rows_in, row_of_entry, key_children}
-use Rattle.slotted_filing.proofs.FiledRows.{child_classes-shape, filed-row, row-filed, source-filed}
-use Rattle.slotted_filing.specs.FoundNodes.{IsFoundNode, finds_of}
-use Rattle.slotted_filing.specs.Sides.{HaveOneShape}
+use Rattle.slotted_classes.specs.Kept.{Kept, nodes_of}
+use Rattle.slotted_classes.proofs.KeptLists.{length-nodes_of}
+use Rattle.slotted_hashcons.specs.Filed.{Filing, HasKey, HasKeysOnce, IsNewKey, IsNewToOthers, filed_of}
+use Rattle.slotted_hashcons.specs.FiledRows.{HasChildrenBelow, Rows, TakesTurn, rows_in, row_of_entry, key_children}
+use Rattle.slotted_hashcons.proofs.FiledRows.{child_classes-shape, filed-row, row-filed, source-filed}
+use Rattle.slotted_hashcons.specs.FoundNodes.{IsFoundNode, finds_of}
+use Rattle.slotted_hashcons.specs.Sides.{HaveOneShape}
 use Rattle.slotted_unions.proofs.KeptSlots.{grows-then}
 use Rattle.slotted_rebuilding.specs.Filed.{state_in, IsKeyed, IsWellFiled}
 use Rattle.slotted_rebuilding.specs.Turns.{NarrowsTo, SharesKey, TakesTurns}

@@ -6,9 +6,9 @@ use Rattle.slotted_model.proofs.Turning.{counted, run-no_larger}
 use Rattle.slotted_model.specs.Rebuild.{Runs}
 use Rattle.slotted_model.specs.Rest.{Sane, size}
 use Rattle.slotted_model.specs.State.{State}
-use Rattle.slotted_store.specs.Counts.{Counts, most_bound, most_turns, noted, turn_bound}
-use Rattle.slotted_store.specs.Kept.{Kept, size_of}
-use Rattle.slotted_filing.specs.FiledRows.{Rows, rows_in}
+use Rattle.slotted_classes.specs.Counts.{Counts, most_bound, most_turns, noted, turn_bound}
+use Rattle.slotted_classes.specs.Kept.{Kept, size_of}
+use Rattle.slotted_hashcons.specs.FiledRows.{Rows, rows_in}
 use Rattle.slotted_rebuilding.specs.Counted.{CountsFit, CountsGo, CountsOn, NotesRebuild, TotalsFit}
 
 -- a sum that ends at a largest number

@@ -7,9 +7,9 @@ use Rattle.slotted_model.specs.State.{State}
 use Rattle.slotted_model.proofs.AfterUnions.{lacking-falls}
 use Rattle.slotted_model.proofs.GrowingLists.{proofs-sane}
 use Rattle.slotted_model.proofs.Lacking.{narrow-lacks}
-use Rattle.slotted_store.specs.Kept.{Kept, proofs_of}
-use Rattle.slotted_store.proofs.KeptLists.{length-proofs_of}
-use Rattle.slotted_filing.specs.FiledRows.{Rows, rows_in}
+use Rattle.slotted_classes.specs.Kept.{Kept, proofs_of}
+use Rattle.slotted_classes.proofs.KeptLists.{length-proofs_of}
+use Rattle.slotted_hashcons.specs.FiledRows.{Rows, rows_in}
 use Rattle.slotted_unions.specs.Proving.{OnlyProves, HasLargeSide}
 use Rattle.slotted_unions.specs.StateOf.{state_of}
 use Rattle.slotted_unions.specs.Uniting.{equation_in}

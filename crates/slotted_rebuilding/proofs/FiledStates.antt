@@ -5,14 +5,14 @@ use Rattle.std.specs.Prelude.{slice_get}
 use Rattle.slotted_model.specs.Changes.{HasUnited}
 use Rattle.slotted_model.specs.State.{HasTouched}
 use Rattle.slotted_model.proofs.Unions.{unites}
-use Rattle.slotted_store.specs.Kept.{Kept, node_at}
-use Rattle.slotted_store.proofs.KeptLists.{length-proofs_of}
-use Rattle.slotted_filing.specs.Filed.{filed_of}
-use Rattle.slotted_filing.proofs.Places.{at-append_left}
-use Rattle.slotted_filing.specs.FiledRows.{Rows, WaitsOn, rows_in, rows_state}
+use Rattle.slotted_classes.specs.Kept.{Kept, node_at}
+use Rattle.slotted_classes.proofs.KeptLists.{length-proofs_of}
+use Rattle.slotted_hashcons.specs.Filed.{filed_of}
+use Rattle.slotted_hashcons.proofs.Places.{at-append_left}
+use Rattle.slotted_hashcons.specs.FiledRows.{Rows, WaitsOn, rows_in, rows_state}
 use Rattle.slotted_languages.specs.Shape.{Fits}
 use Rattle.slotted_nodes.specs.Form.{Form}
-use Rattle.slotted_filing.specs.FoundNodes.{HasNoMorePlaces}
+use Rattle.slotted_hashcons.specs.FoundNodes.{HasNoMorePlaces}
 use Rattle.slotted_unions.specs.StateOf.{state_with}
 use Rattle.slotted_unions.specs.Stored.{Grows}
 use Rattle.slotted_unions.proofs.GrownRows.{grown-rows, grown-count}

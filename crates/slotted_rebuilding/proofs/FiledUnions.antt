@@ -4,8 +4,8 @@ use Rattle.std.specs.Prelude.{Result, Ok, Err, OnOk}
 use Rattle.slotted_slots.specs.declared.error.Error.{Error}
 use Rattle.slotted_model.specs.Changes.{Unites}
 use Rattle.slotted_model.specs.State.{HasTouched}
-use Rattle.slotted_store.specs.Kept.{Kept}
-use Rattle.slotted_filing.specs.FiledRows.{Rows, WaitsOn, rows_in, rows_state}
+use Rattle.slotted_classes.specs.Kept.{Kept}
+use Rattle.slotted_hashcons.specs.FiledRows.{Rows, WaitsOn, rows_in, rows_state}
 use Rattle.slotted_unions.specs.declared.uniting.UnionStep.TheVariants.{Done, Dropped, Linked}
 use Rattle.slotted_unions.specs.Uniting.{StepsBy}
 use Rattle.slotted_unions.proofs.ChangedEntries.{untouched}

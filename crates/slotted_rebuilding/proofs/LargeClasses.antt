@@ -8,11 +8,11 @@ use Rattle.slotted_slots.specs.Error.{IsOutOfMemory}
 use Rattle.slotted_slots.specs.Table.{slot_limit}
 use Rattle.slotted_model.specs.Applied.{Applied}
 use Rattle.slotted_model.specs.Classes.{canonical_slots, IsFull}
-use Rattle.slotted_store.proofs.NameMaps.{length-keys}
+use Rattle.slotted_classes.proofs.NameMaps.{length-keys}
 use Rattle.slotted_proofs.specs.declared.equation.Equation.{Equation as Sides}
 use Rattle.slotted_proofs.specs.Equations.{to_applied}
-use Rattle.slotted_store.specs.Kept.{Kept, nodes_of}
-use Rattle.slotted_store.proofs.KeptLists.{length-nodes_of}
+use Rattle.slotted_classes.specs.Kept.{Kept, nodes_of}
+use Rattle.slotted_classes.proofs.KeptLists.{length-nodes_of}
 use Rattle.slotted_unions.specs.Proving.{HasLargeClassOf}
 use Rattle.slotted_unions.specs.Settling.{HasLargeUnaligned}
 use Rattle.slotted_unions.specs.Stored.{Grows}

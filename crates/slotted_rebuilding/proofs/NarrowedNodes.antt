@@ -14,18 +14,18 @@ use Rattle.slotted_model.proofs.Lacking.{missing-cases}
 use Rattle.slotted_model.proofs.Options.{Some-same}
 use Rattle.slotted_theory.proofs.Lists.{contains_head, Contains-of_map}
 use Rattle.slotted_proofs.specs.declared.equation.Equation.{Equation as Sides}
-use Rattle.slotted_store.specs.Kept.{Kept, node_at, nodes_of, entries_of}
-use Rattle.slotted_store.proofs.KeptLists.{length-nodes_of}
-use Rattle.slotted_filing.specs.Filed.{filed_of}
-use Rattle.slotted_filing.specs.FiledRows.{IsFiled, Rows, row_of_entry, rows_in}
-use Rattle.slotted_filing.proofs.FiledRows.{row-filed, source-filed}
+use Rattle.slotted_classes.specs.Kept.{Kept, node_at, nodes_of, entries_of}
+use Rattle.slotted_classes.proofs.KeptLists.{length-nodes_of}
+use Rattle.slotted_hashcons.specs.Filed.{filed_of}
+use Rattle.slotted_hashcons.specs.FiledRows.{IsFiled, Rows, row_of_entry, rows_in}
+use Rattle.slotted_hashcons.proofs.FiledRows.{row-filed, source-filed}
 use Rattle.slotted_unions.proofs.KeptSlots.{grows-then}
 use Rattle.slotted_unions.proofs.EnteredProofs.{only-grows, nothing-proved}
-use Rattle.slotted_filing.specs.FoundNodes.{FilesNode, HasNoMorePlaces, IsFoundNode, finds_of}
-use Rattle.slotted_filing.specs.NormalNodes.{HasFindableChildren}
-use Rattle.slotted_filing.specs.Sides.{AreTwinSides}
-use Rattle.slotted_filing.proofs.CanonicalChildren.{node-is, sane-findable}
-use Rattle.slotted_filing.proofs.KeyedNodes.{no-more-places}
+use Rattle.slotted_hashcons.specs.FoundNodes.{FilesNode, HasNoMorePlaces, IsFoundNode, finds_of}
+use Rattle.slotted_hashcons.specs.NormalNodes.{HasFindableChildren}
+use Rattle.slotted_hashcons.specs.Sides.{AreTwinSides}
+use Rattle.slotted_hashcons.proofs.CanonicalChildren.{node-is, sane-findable}
+use Rattle.slotted_hashcons.proofs.KeyedNodes.{no-more-places}
 use Rattle.slotted_congruence.specs.Congruence.{AreTwins, ProvesTwins}
 use Rattle.slotted_congruence.proofs.WideNodes.{wide_class}
 use Rattle.slotted_rebuilding.specs.Causes.{HasLargeClass}

@@ -16,13 +16,13 @@ use Rattle.slotted_model.specs.Rest.{Sane}
 use Rattle.slotted_model.specs.State.{Row, State, sources, normal_node}
 use Rattle.slotted_model.proofs.QuietTurns.{quiet-run}
 use Rattle.slotted_model.proofs.Rows.{source-in}
-use Rattle.slotted_store.specs.Kept.{Kept, nodes_of, proofs_of, size_of}
-use Rattle.slotted_store.proofs.KeptLists.{length-nodes_of}
-use Rattle.slotted_filing.specs.Filed.{Filing, IsNewKey, filed_of}
-use Rattle.slotted_filing.specs.FiledRows.{IsFiled, QueuesUp, Rows, row_of_entry, rows_in, with_class, with_filed}
-use Rattle.slotted_filing.proofs.FiledRows.{row-filed, rows-added, rows-added_filed, source-filed}
-use Rattle.slotted_filing.proofs.Indexed.{place-added}
-use Rattle.slotted_filing.specs.FoundNodes.{HasNoMorePlaces, IsFoundNode, finds_of}
+use Rattle.slotted_classes.specs.Kept.{Kept, nodes_of, proofs_of, size_of}
+use Rattle.slotted_classes.proofs.KeptLists.{length-nodes_of}
+use Rattle.slotted_hashcons.specs.Filed.{Filing, IsNewKey, filed_of}
+use Rattle.slotted_hashcons.specs.FiledRows.{IsFiled, QueuesUp, Rows, row_of_entry, rows_in, with_class, with_filed}
+use Rattle.slotted_hashcons.proofs.FiledRows.{row-filed, rows-added, rows-added_filed, source-filed}
+use Rattle.slotted_hashcons.proofs.Indexed.{place-added}
+use Rattle.slotted_hashcons.specs.FoundNodes.{HasNoMorePlaces, IsFoundNode, finds_of}
 use Rattle.slotted_unions.specs.Proving.{OnlyProves}
 use Rattle.slotted_unions.specs.StateOf.{state_with}
 use Rattle.slotted_unions.proofs.EnteredProofs.{only-grows, only-state, nothing-proved}

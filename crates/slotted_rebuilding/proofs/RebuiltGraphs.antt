@@ -3,10 +3,10 @@ use Rattle.std.proofs.Common.{◌≡◌, ◌<◌, ◌≤◌, ◌+◌, ℕ, List,
 use Rattle.std.specs.Prelude.{None, slice_get}
 use Rattle.std.proofs.lemmas.Option.{none-some}
 use Rattle.slotted_model.specs.Rebuild.{Runs}
-use Rattle.slotted_store.specs.Counts.{Counts, noted}
-use Rattle.slotted_store.specs.Kept.{Kept, size_of, with_counts}
+use Rattle.slotted_classes.specs.Counts.{Counts, noted}
+use Rattle.slotted_classes.specs.Kept.{Kept, size_of, with_counts}
 use Rattle.slotted_unions.specs.Stored.{Stored}
-use Rattle.slotted_filing.specs.FiledRows.{Rows, rows_in}
+use Rattle.slotted_hashcons.specs.FiledRows.{Rows, rows_in}
 use Rattle.slotted_unions.proofs.KeptSlots.{grows-then, grows-uncounted}
 use Rattle.slotted_rebuilding.specs.Filed.{state_in, IsWellFiled, SettlesFiled}
 use Rattle.slotted_rebuilding.specs.Turns.{Rebuilds, RebuildsAll, RebuildsSoFar, TakesTurns}

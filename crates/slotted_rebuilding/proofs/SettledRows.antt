@@ -4,10 +4,10 @@ use Rattle.slotted_model.specs.Changes.{Unites}
 use Rattle.slotted_model.specs.Rebuild.{Acts, acts, Runs, starts, takes_act}
 use Rattle.slotted_model.specs.Rest.{Sane}
 use Rattle.slotted_languages.specs.Shape.{Fits}
-use Rattle.slotted_store.specs.Kept.{Kept, node_at, rows_from, with_settled}
-use Rattle.slotted_filing.specs.Filed.{Filing, filed_of}
-use Rattle.slotted_filing.specs.FiledRows.{Rows}
-use Rattle.slotted_filing.specs.FoundNodes.{HasNoMorePlaces}
+use Rattle.slotted_classes.specs.Kept.{Kept, node_at, rows_from, with_settled}
+use Rattle.slotted_hashcons.specs.Filed.{Filing, filed_of}
+use Rattle.slotted_hashcons.specs.FiledRows.{Rows}
+use Rattle.slotted_hashcons.specs.FoundNodes.{HasNoMorePlaces}
 use Rattle.slotted_unions.specs.Settling.{AreAligned, IsUnaligned}
 use Rattle.slotted_unions.proofs.EnteredProofs.{only-grows, nothing-proved}
 use Rattle.slotted_unions.proofs.KeptSlots.{grows-then}

@@ -30,13 +30,13 @@ use Rattle.slotted_model.proofs.RenamedIds.{valid-renamed}
 use Rattle.slotted_model.proofs.Sets.{IsAscending-ascending, In-ascending, In-of_ascending}
 use Rattle.slotted_model.proofs.Theory.{moved-agrees, moved-moved, free_names-moved}
 use Rattle.slotted_proofs.proofs.Bridges.{ascends}
-use Rattle.slotted_store.specs.Kept.{Kept, nodes_of, entries_of}
-use Rattle.slotted_store.proofs.NamePairs.{In-firsts}
-use Rattle.slotted_filing.specs.FoundNodes.{FilesNode, finds_of, IsFoundNode}
-use Rattle.slotted_filing.specs.NormalNodes.{HasFindableChildren}
-use Rattle.slotted_filing.specs.FiledRows.{row_of_entry}
-use Rattle.slotted_filing.proofs.KeyedNodes.{own-numbers}
-use Rattle.slotted_filing.proofs.NumbersInShapes.{names-shape}
+use Rattle.slotted_classes.specs.Kept.{Kept, nodes_of, entries_of}
+use Rattle.slotted_classes.proofs.NamePairs.{In-firsts}
+use Rattle.slotted_hashcons.specs.FoundNodes.{FilesNode, finds_of, IsFoundNode}
+use Rattle.slotted_hashcons.specs.NormalNodes.{HasFindableChildren}
+use Rattle.slotted_hashcons.specs.FiledRows.{row_of_entry}
+use Rattle.slotted_hashcons.proofs.KeyedNodes.{own-numbers}
+use Rattle.slotted_hashcons.proofs.NumbersInShapes.{names-shape}
 use Rattle.slotted_rebuilding.proofs.CurrentRows.{row-itself}
 
 -- a map with other numbers for its keys

@@ -11,12 +11,12 @@ use Rattle.slotted_model.specs.Correspondence.{AllDifferent}
 use Rattle.slotted_model.specs.Rebuild.{IsCongruence, IsCovered, Turn, refiled_state, removed_state, row_for, with_row, without, without_row, starts, takes_turn, refiles, unites_parents}
 use Rattle.slotted_model.specs.Rest.{Sane}
 use Rattle.slotted_model.specs.State.{Row, State, normal_node}
-use Rattle.slotted_filing.specs.FoundNodes.{HasNoMorePlaces, finds_of}
+use Rattle.slotted_hashcons.specs.FoundNodes.{HasNoMorePlaces, finds_of}
 use Rattle.slotted_model.proofs.Options.{Some-same}
-use Rattle.slotted_store.specs.Kept.{Kept}
-use Rattle.slotted_filing.specs.Filed.{Filing, filed_of}
-use Rattle.slotted_filing.specs.FiledRows.{Rows, rows_in, row_of_entry, TakesTurn}
-use Rattle.slotted_filing.proofs.FiledRows.{row-filed, rows-removed, rows-refiled, without-front}
+use Rattle.slotted_classes.specs.Kept.{Kept}
+use Rattle.slotted_hashcons.specs.Filed.{Filing, filed_of}
+use Rattle.slotted_hashcons.specs.FiledRows.{Rows, rows_in, row_of_entry, TakesTurn}
+use Rattle.slotted_hashcons.proofs.FiledRows.{row-filed, rows-removed, rows-refiled, without-front}
 use Rattle.slotted_unions.specs.Proving.{OnlyProves}
 use Rattle.slotted_unions.specs.StateOf.{state_with}
 use Rattle.slotted_unions.proofs.EnteredProofs.{only-grows, nothing-proved}

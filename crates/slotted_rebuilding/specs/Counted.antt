@@ -5,9 +5,9 @@
 --     CountsOn k l         where what was noted of k fits, it goes on, and what was noted of l fits
 --     NotesRebuild k r l n a rebuild of n turns was noted
 use Rattle.std.specs.Prelude.{◌≡◌, ◌⊎◌, ◌≤◌, ◌-◌, ◌*◌, ℕ, suc, length}
-use Rattle.slotted_store.specs.Counts.{Counts, most_bound, most_turns, noted}
-use Rattle.slotted_store.specs.Kept.{Kept, size_of}
-use Rattle.slotted_filing.specs.FiledRows.{Rows, rows_in}
+use Rattle.slotted_classes.specs.Counts.{Counts, most_bound, most_turns, noted}
+use Rattle.slotted_classes.specs.Kept.{Kept, size_of}
+use Rattle.slotted_hashcons.specs.FiledRows.{Rows, rows_in}
 
 -- both totals are within their ends, and that of turns is no more than that of bounds, unless this is at its end
 pub record TotalsFit (c : Counts) : Type 0 where

@@ -10,10 +10,10 @@ use Rattle.slotted_model.specs.Rebuild.{Runs}
 use Rattle.slotted_model.specs.Rest.{Sane}
 use Rattle.slotted_model.specs.State.{State}
 use Rattle.slotted_languages.specs.Shape.{Fits, shape}
-use Rattle.slotted_store.specs.Kept.{Kept, node_at, rows_from}
-use Rattle.slotted_filing.specs.Filed.{Filing, filed_of}
-use Rattle.slotted_filing.specs.FoundNodes.{HasNoMorePlaces}
-use Rattle.slotted_filing.specs.FiledRows.{Rows, WaitsOn, rows_in}
+use Rattle.slotted_classes.specs.Kept.{Kept, node_at, rows_from}
+use Rattle.slotted_hashcons.specs.Filed.{Filing, filed_of}
+use Rattle.slotted_hashcons.specs.FoundNodes.{HasNoMorePlaces}
+use Rattle.slotted_hashcons.specs.FiledRows.{Rows, WaitsOn, rows_in}
 use Rattle.slotted_unions.specs.StateOf.{state_with}
 use Rattle.slotted_unions.specs.Stored.{Stored, Grows}
 use Rattle.slotted_unions.specs.Uniting.{UnitesBy}

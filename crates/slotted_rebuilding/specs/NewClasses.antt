@@ -10,10 +10,10 @@ use Rattle.slotted_model.specs.Rebuild.{HasNothingLeft, Runs}
 use Rattle.slotted_model.specs.Rest.{Sane}
 use Rattle.slotted_model.specs.State.{State}
 use Rattle.slotted_languages.specs.Shape.{Fits}
-use Rattle.slotted_store.specs.Kept.{Kept, node_at, rows_from, size_of}
-use Rattle.slotted_filing.specs.Filed.{Filing, filed_of}
-use Rattle.slotted_filing.specs.FiledRows.{Rows, with_class}
-use Rattle.slotted_filing.specs.FoundNodes.{HasNoMorePlaces}
+use Rattle.slotted_classes.specs.Kept.{Kept, node_at, rows_from, size_of}
+use Rattle.slotted_hashcons.specs.Filed.{Filing, filed_of}
+use Rattle.slotted_hashcons.specs.FiledRows.{Rows, with_class}
+use Rattle.slotted_hashcons.specs.FoundNodes.{HasNoMorePlaces}
 use Rattle.slotted_unions.specs.Stored.{Stored, Grows, GrowsUncounted}
 use Rattle.slotted_rebuilding.specs.Counted.{CountsFit, CountsGo, TotalsFit}
 use Rattle.slotted_rebuilding.specs.Filed.{state_in, IsKeyed, IsWellFiled}

@@ -17,10 +17,10 @@ use Rattle.slotted_model.specs.Rest.{size}
 use Rattle.slotted_model.specs.State.{normal_node}
 use Rattle.slotted_nodes.specs.Form.{Form}
 use Rattle.slotted_languages.specs.Shape.{Fits}
-use Rattle.slotted_filing.specs.Filed.{HasKey}
-use Rattle.slotted_filing.specs.FoundNodes.{IsFoundNode, finds_of}
-use Rattle.slotted_store.specs.Kept.{Kept}
-use Rattle.slotted_filing.specs.FiledRows.{Rows, WaitsOn}
+use Rattle.slotted_hashcons.specs.Filed.{HasKey}
+use Rattle.slotted_hashcons.specs.FoundNodes.{IsFoundNode, finds_of}
+use Rattle.slotted_classes.specs.Kept.{Kept}
+use Rattle.slotted_hashcons.specs.FiledRows.{Rows, WaitsOn}
 use Rattle.slotted_unions.specs.Proving.{OnlyProves}
 use Rattle.slotted_unions.specs.StateOf.{state_of}
 use Rattle.slotted_unions.specs.Stored.{Grows, GrowsUncounted}

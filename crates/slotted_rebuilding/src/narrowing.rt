@@ -1,24 +1,24 @@
 //! A class whose node in normal form lacks one of its slots is united with itself, until it has each.
 ghost use Rattle.std.specs.Prelude.{◌≡◌, ◌<◌, length, IfOk, IfErr, IsErrOf, OnOk};
 ghost use Rattle.slotted_slots.specs.Error.{IsShortage};
-ghost use Rattle.slotted_filing.specs.FoundNodes.{HasFoundNode, IsFoundNode};
-ghost use Rattle.slotted_filing.specs.Sides.{HaveOneShape};
-ghost use Rattle.slotted_store.specs.Kept.{rows_from};
+ghost use Rattle.slotted_hashcons.specs.FoundNodes.{HasFoundNode, IsFoundNode};
+ghost use Rattle.slotted_hashcons.specs.Sides.{HaveOneShape};
+ghost use Rattle.slotted_classes.specs.Kept.{rows_from};
 ghost use Rattle.slotted_unions.specs.Stored.{Stored};
 ghost use Rattle.slotted_rebuilding.specs.Causes.{HasLargeClass};
 ghost use Rattle.slotted_rebuilding.specs.Filed.{IsWellFiled};
 ghost use Rattle.slotted_rebuilding.specs.Turns.{IsFirst, LacksSlot, NarrowsOnce, NarrowsTo, ProvesCongruence};
 
 use crate::uniting::unite;
+use slotted_classes::Store;
 use slotted_congruence::twins::congruence;
-use slotted_filing::covered::is_covered;
-use slotted_filing::found::refound_node;
-use slotted_filing::sides::sides;
-use slotted_filing::{FoundNode, Hashcons};
+use slotted_hashcons::covered::is_covered;
+use slotted_hashcons::found::refound_node;
+use slotted_hashcons::sides::sides;
+use slotted_hashcons::{FoundNode, Hashcons};
 use slotted_languages::Language;
 use slotted_proofs::ProvenEq;
 use slotted_slots::{Error, SlotMap};
-use slotted_store::Store;
 use std::alloc::Global;
 
 /// The proof that two classes are equal, since their nodes have one shape in normal form: the names have the slots for its numbers.

@@ -1,8 +1,8 @@
 //! The filing of a class that was just made.
 ghost use Rattle.std.specs.Prelude.{IfErr, IsErrOf, OnOk};
 ghost use Rattle.slotted_slots.specs.Error.{IsOutOfMemory, IsShortage};
-ghost use Rattle.slotted_filing.specs.Filed.{IsNewKey};
-ghost use Rattle.slotted_filing.specs.FoundNodes.{IsFoundNode};
+ghost use Rattle.slotted_hashcons.specs.Filed.{IsNewKey};
+ghost use Rattle.slotted_hashcons.specs.FoundNodes.{IsFoundNode};
 ghost use Rattle.slotted_rebuilding.specs.Causes.{HasLargeClass};
 ghost use Rattle.slotted_rebuilding.specs.NewClasses.{BeginsAdding, FilesNewest, HasNewest, IsUnfiled};
 ghost use Rattle.slotted_rebuilding.specs.Turns.{SharesKey};
@@ -10,12 +10,12 @@ ghost use Rattle.slotted_rebuilding.specs.Turns.{SharesKey};
 use crate::rebuilding::rebuild;
 use crate::turning::collision;
 use crate::uniting::unite;
-use slotted_filing::covered::is_covered;
-use slotted_filing::found::found_node;
-use slotted_filing::{FoundNode, Hashcons};
+use slotted_classes::Store;
+use slotted_hashcons::covered::is_covered;
+use slotted_hashcons::found::found_node;
+use slotted_hashcons::{FoundNode, Hashcons};
 use slotted_languages::Language;
 use slotted_slots::{Error, SlotMap};
-use slotted_store::Store;
 use std::alloc::Global;
 
 // The newest class is united with another one, of which the shape of its node is filed.

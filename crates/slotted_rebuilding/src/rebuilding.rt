@@ -7,10 +7,10 @@ ghost use Rattle.slotted_rebuilding.specs.Turns.{Rebuilds, RebuildsAll};
 
 use crate::settling::settle_all;
 use crate::turning::take_turn;
-use slotted_filing::Hashcons;
+use slotted_classes::Store;
+use slotted_hashcons::Hashcons;
 use slotted_languages::Language;
 use slotted_slots::Error;
-use slotted_store::Store;
 use std::alloc::Global;
 
 // Each class that waits takes its turn, and symmetries that are not aligned are acted on, until nothing is left to do. The answer counts the

@@ -5,10 +5,10 @@ ghost use Rattle.slotted_unions.specs.Settling.{HasLargeUnaligned};
 ghost use Rattle.slotted_rebuilding.specs.Filed.{IsWellFiled, SettlesFiled};
 
 use crate::uniting::unite;
-use slotted_filing::Hashcons;
+use slotted_classes::Store;
+use slotted_hashcons::Hashcons;
 use slotted_languages::Language;
 use slotted_slots::Error;
-use slotted_store::Store;
 use slotted_unions::settling::next_unaligned;
 use std::alloc::Global;
 

@@ -7,11 +7,11 @@ ghost use Rattle.slotted_rebuilding.specs.Turns.{IsFirst, ProvesCongruence, Shar
 
 use crate::narrowing::{narrowed, twin_proof};
 use crate::uniting::unite;
-use slotted_filing::Hashcons;
+use slotted_classes::Store;
+use slotted_hashcons::Hashcons;
 use slotted_languages::Language;
 use slotted_proofs::ProvenEq;
 use slotted_slots::{Error, SlotMap};
-use slotted_store::Store;
 use std::alloc::Global;
 
 /// The proof that a class equals another one, of which the shape of its node is filed.

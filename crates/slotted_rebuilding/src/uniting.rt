@@ -6,11 +6,11 @@ ghost use Rattle.slotted_unions.specs.Stored.{Stored};
 ghost use Rattle.slotted_unions.specs.Uniting.{equation_in};
 ghost use Rattle.slotted_rebuilding.specs.Filed.{UnitesFiled};
 
-use slotted_filing::Hashcons;
+use slotted_classes::Store;
+use slotted_hashcons::Hashcons;
 use slotted_languages::Language;
 use slotted_proofs::ProvenEq;
 use slotted_slots::Error;
-use slotted_store::Store;
 use slotted_unions::uniting::{UnionStep, unite_once};
 use std::alloc::Global;
 

@@ -14,13 +14,13 @@ use Rattle.slotted_model.specs.Applied.{Applied}
 use Rattle.slotted_model.specs.Correspondence.{AllDifferent}
 use Rattle.slotted_model.proofs.Correspondences.Listing.{different-filter}
 use Rattle.slotted_model.proofs.Members.{Contains-In, In, In-Contains, In-map, In-of_map}
-use Rattle.slotted_store.specs.Kept.{Kept}
-use Rattle.slotted_store.proofs.NameMaps.{In-at}
-use Rattle.slotted_filing.specs.Filed.{HasKey, HasKeysOnce}
-use Rattle.slotted_filing.specs.FiledRows.{IsFiled, Rows, row_of_entry}
-use Rattle.slotted_filing.proofs.FiledRows.{row-filed}
+use Rattle.slotted_classes.specs.Kept.{Kept}
+use Rattle.slotted_classes.proofs.NameMaps.{In-at}
+use Rattle.slotted_hashcons.specs.Filed.{HasKey, HasKeysOnce}
+use Rattle.slotted_hashcons.specs.FiledRows.{IsFiled, Rows, row_of_entry}
+use Rattle.slotted_hashcons.proofs.FiledRows.{row-filed}
 use Rattle.slotted_rebuilding.specs.Filed.{IsWellFiled}
-use Rattle.slotted_adding.specs.Reports.{class_sources, is_source}
+use Rattle.slotted_lookup.specs.Reports.{class_sources, is_source}
 use Rattle.slotted_reports.specs.Nodes.{AreClassNodes, IsClassNode, key_at, key_in, key_of}
 
 -- the sources of a class are different

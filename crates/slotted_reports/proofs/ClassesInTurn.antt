@@ -3,9 +3,9 @@ use Rattle.std.proofs.Common.{◌≡◌, ◌≤◌, ◌<◌, ◌+◌, ℕ, zero,
 use Rattle.std.specs.List.{range_with_len, sum_by}
 use Rattle.std.proofs.lemmas.Bool.{cases_lt}
 use Rattle.slotted_slots.specs.Table.{KnowsMore, Table}
-use Rattle.slotted_store.specs.Kept.{Kept}
-use Rattle.slotted_filing.specs.FiledRows.{Rows}
-use Rattle.slotted_adding.specs.Reports.{class_sources}
+use Rattle.slotted_classes.specs.Kept.{Kept}
+use Rattle.slotted_hashcons.specs.FiledRows.{Rows}
+use Rattle.slotted_lookup.specs.Reports.{class_sources}
 use Rattle.slotted_reports.specs.Nodes.{KnowsClassSlots, RunsOutForClasses, RunsOutForKeys, TakesForClasses, TakesForKeys, slots_of_class}
 use Rattle.slotted_reports.proofs.FreshNodes.{runs_out-after, sum-range}
 

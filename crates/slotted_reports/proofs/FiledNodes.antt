@@ -28,20 +28,20 @@ use Rattle.slotted_model.proofs.Events.{normal-found}
 use Rattle.slotted_model.proofs.Members.{Contains-In, In, In-Contains}
 use Rattle.slotted_model.proofs.Refiling.{canonical-valid}
 use Rattle.slotted_model.proofs.RenamedIds.{valid-renamed}
-use Rattle.slotted_store.specs.ChildIds.{child_ids}
-use Rattle.slotted_store.specs.Finding.{IsFindable}
-use Rattle.slotted_store.specs.Kept.{Kept, nodes_of, entries_of}
-use Rattle.slotted_store.proofs.ChildIds.{Each, EachChild-node_args}
-use Rattle.slotted_store.proofs.NameMaps.{In-at, at_In}
-use Rattle.slotted_store.proofs.PutNames.{AreNumeric, numeric-shape}
-use Rattle.slotted_filing.specs.Filed.{HasKey, filed_of}
-use Rattle.slotted_filing.specs.FiledRows.{Rows}
-use Rattle.slotted_filing.specs.FoundNodes.{IsFoundNode}
-use Rattle.slotted_filing.proofs.FoundChildren.{child_ids-valid, each-child, valid-back}
+use Rattle.slotted_classes.specs.ChildIds.{child_ids}
+use Rattle.slotted_classes.specs.Finding.{IsFindable}
+use Rattle.slotted_classes.specs.Kept.{Kept, nodes_of, entries_of}
+use Rattle.slotted_classes.proofs.ChildIds.{Each, EachChild-node_args}
+use Rattle.slotted_classes.proofs.NameMaps.{In-at, at_In}
+use Rattle.slotted_classes.proofs.PutNames.{AreNumeric, numeric-shape}
+use Rattle.slotted_hashcons.specs.Filed.{HasKey, filed_of}
+use Rattle.slotted_hashcons.specs.FiledRows.{Rows}
+use Rattle.slotted_hashcons.specs.FoundNodes.{IsFoundNode}
+use Rattle.slotted_hashcons.proofs.FoundChildren.{child_ids-valid, each-child, valid-back}
 use Rattle.slotted_rebuilding.specs.Filed.{IsKeyed, IsWellFiled, state_in}
-use Rattle.slotted_adding.specs.Enodes.{AllKnownTo}
+use Rattle.slotted_lookup.specs.Enodes.{AllKnownTo}
 use Rattle.slotted_reports.specs.Nodes.{key_of}
-use Rattle.slotted_adding.proofs.AppliedNodes.{filed-in_nodes, filed-key, filed-node}
+use Rattle.slotted_lookup.proofs.AppliedNodes.{filed-in_nodes, filed-key, filed-node}
 
 pub among-in : (xs : List ℕ) (x : ℕ) → is_among x xs ≡ true → In x xs
 among-in [] x h = absurd (false≢true h)

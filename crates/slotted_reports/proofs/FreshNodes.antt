@@ -30,15 +30,15 @@ use Rattle.slotted_model.proofs.Correspondences.Pairs.{Contains-value, Contains-
 use Rattle.slotted_model.proofs.Members.{In, In-Contains, In-of_map}
 use Rattle.slotted_model.proofs.Theory.{free_names-moved}
 use Rattle.slotted_proofs.proofs.Bridges.{value_of-model}
-use Rattle.slotted_store.specs.Finding.{IsFindable}
-use Rattle.slotted_store.specs.Kept.{Kept, entries_of}
-use Rattle.slotted_filing.specs.Filed.{HasKey, filed_of}
-use Rattle.slotted_filing.specs.FiledRows.{Rows}
+use Rattle.slotted_classes.specs.Finding.{IsFindable}
+use Rattle.slotted_classes.specs.Kept.{Kept, entries_of}
+use Rattle.slotted_hashcons.specs.Filed.{HasKey, filed_of}
+use Rattle.slotted_hashcons.specs.FiledRows.{Rows}
 use Rattle.slotted_rebuilding.specs.Filed.{IsWellFiled}
-use Rattle.slotted_adding.specs.Enodes.{AllKnownTo, IsLargeKeyOf, IsMet, names_beside_of}
-use Rattle.slotted_adding.specs.Filling.{RunsOut}
-use Rattle.slotted_adding.proofs.EnodeNames.{beside-key, beside-looked_up}
-use Rattle.slotted_adding.proofs.Reported.{In-among}
+use Rattle.slotted_lookup.specs.Enodes.{AllKnownTo, IsLargeKeyOf, IsMet, names_beside_of}
+use Rattle.slotted_lookup.specs.Filling.{RunsOut}
+use Rattle.slotted_lookup.proofs.EnodeNames.{beside-key, beside-looked_up}
+use Rattle.slotted_lookup.proofs.Reported.{In-among}
 use Rattle.slotted_reports.specs.Nodes.{AreAppliedNodes, HasLargeKeyOf, IsAppliedNode, RunsOutForKeys, TakesForKeys, key_at, key_in, key_of, places_at}
 use Rattle.slotted_reports.proofs.FiledNodes.{among-in, filed-children, filed-names_known, filed-places, name-of, names-known, same-key}
 use Rattle.slotted_reports.proofs.Sorted.{mapped-more}

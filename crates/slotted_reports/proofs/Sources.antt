@@ -8,13 +8,13 @@ use Rattle.std.proofs.lemmas.List.Sorted.{All-permutation}
 use Rattle.slotted_model.specs.Applied.{Applied}
 use Rattle.slotted_model.specs.Find.{find_class}
 use Rattle.slotted_model.proofs.Finding.{find_class-live, found-live, found-in_range, leads}
-use Rattle.slotted_store.specs.Kept.{Kept, entries_of, nodes_of}
-use Rattle.slotted_store.proofs.ChildIds.{Each}
-use Rattle.slotted_filing.specs.Filed.{Filing, filed_of}
-use Rattle.slotted_filing.specs.FiledRows.{IsFiled, Rows}
+use Rattle.slotted_classes.specs.Kept.{Kept, entries_of, nodes_of}
+use Rattle.slotted_classes.proofs.ChildIds.{Each}
+use Rattle.slotted_hashcons.specs.Filed.{Filing, filed_of}
+use Rattle.slotted_hashcons.specs.FiledRows.{IsFiled, Rows}
 use Rattle.slotted_rebuilding.specs.Filed.{IsWellFiled}
-use Rattle.slotted_adding.specs.Reports.{class_sources, is_source}
-use Rattle.slotted_adding.proofs.AppliedNodes.{filed-in_nodes}
+use Rattle.slotted_lookup.specs.Reports.{class_sources, is_source}
+use Rattle.slotted_lookup.proofs.AppliedNodes.{filed-in_nodes}
 use Rattle.slotted_reports.specs.Nodes.{IsSourceOf}
 use Rattle.slotted_reports.proofs.FiledNodes.{All-from_Each}
 

@@ -2,8 +2,8 @@
 --     HasKeyed r i        what is filed of the class i is filed by its own shape, with a slot for each number
 --     HasKeyedEach r      so it is of each class
 use Rattle.std.specs.Prelude.{◌≡◌, ℕ, Some}
-use Rattle.slotted_filing.specs.Filed.{Filing, filed_of}
-use Rattle.slotted_filing.specs.FiledRows.{Rows}
+use Rattle.slotted_hashcons.specs.Filed.{Filing, filed_of}
+use Rattle.slotted_hashcons.specs.FiledRows.{Rows}
 use Rattle.slotted_rebuilding.specs.Filed.{IsKeyed}
 
 abbrev pub HasKeyed : Rows → ℕ → Type 0

@@ -4,8 +4,8 @@
 use Rattle.std.specs.Prelude.{ℕ, length}
 use Rattle.std.specs.List.{sum_by}
 use Rattle.slotted_model.specs.Find.{entry_at}
-use Rattle.slotted_store.specs.Kept.{Kept, entries_of}
-use Rattle.slotted_adding.specs.Reports.{live_ids}
+use Rattle.slotted_classes.specs.Kept.{Kept, entries_of}
+use Rattle.slotted_lookup.specs.Reports.{live_ids}
 
 abbrev pub entry_slots : Kept → ℕ → ℕ
 entry_slots k c = length (entry_at (entries_of k) c).pairs

@@ -33,14 +33,14 @@ use Rattle.slotted_languages.specs.NodeTerm.{free_names_of}
 use Rattle.slotted_languages.specs.Shape.{shape}
 use Rattle.slotted_model.specs.Applied.{Applied, values}
 use Rattle.slotted_model.specs.Find.{used_slots}
-use Rattle.slotted_store.specs.ChildIds.{child_ids}
-use Rattle.slotted_store.specs.Finding.{IsFindable}
-use Rattle.slotted_store.specs.Kept.{Kept, entries_of}
-use Rattle.slotted_filing.specs.Filed.{Filing, HasKey, filed_of, no_row}
-use Rattle.slotted_filing.specs.FiledRows.{IsFiled, Rows}
-use Rattle.slotted_adding.specs.Enodes.{AllKnownTo, HasNamesOrNumbers, IsLargeKeyOf, IsLookedUpAs, IsMet}
-use Rattle.slotted_adding.specs.Filling.{RunsOut}
-use Rattle.slotted_adding.specs.Reports.{class_sources}
+use Rattle.slotted_classes.specs.ChildIds.{child_ids}
+use Rattle.slotted_classes.specs.Finding.{IsFindable}
+use Rattle.slotted_classes.specs.Kept.{Kept, entries_of}
+use Rattle.slotted_hashcons.specs.Filed.{Filing, HasKey, filed_of, no_row}
+use Rattle.slotted_hashcons.specs.FiledRows.{IsFiled, Rows}
+use Rattle.slotted_lookup.specs.Enodes.{AllKnownTo, HasNamesOrNumbers, IsLargeKeyOf, IsLookedUpAs, IsMet}
+use Rattle.slotted_lookup.specs.Filling.{RunsOut}
+use Rattle.slotted_lookup.specs.Reports.{class_sources}
 
 -- the key, if something is filed
 abbrev pub key_of : Option Filing → Form

@@ -1,17 +1,17 @@
 //! The check of what a graph stores: that its parts fit together.
 ghost use Rattle.std.specs.Prelude.{◌≡◌, IsTrue, IfOk, IfErr, IsErrOf};
 ghost use Rattle.slotted_slots.specs.Error.{IsShortage};
-ghost use Rattle.slotted_filing.specs.Filed.{HasKey};
+ghost use Rattle.slotted_hashcons.specs.Filed.{HasKey};
 ghost use Rattle.slotted_rebuilding.specs.Filed.{IsWellFiled};
-ghost use Rattle.slotted_store.specs.Finding.{HasFinds};
+ghost use Rattle.slotted_classes.specs.Finding.{HasFinds};
 ghost use Rattle.slotted_reports.specs.Checking.{HasKeyed, HasKeyedEach};
 ghost use Rattle.slotted_reports.specs.Nodes.{HasLargeKey};
 
-use slotted_adding::reports::is_alive;
-use slotted_filing::Hashcons;
+use slotted_classes::Store;
+use slotted_hashcons::Hashcons;
 use slotted_languages::Language;
+use slotted_lookup::reports::is_alive;
 use slotted_slots::Error;
-use slotted_store::Store;
 use std::alloc::Global;
 
 // Returns whether each class leads to a live class.

@@ -5,17 +5,17 @@ ghost use Rattle.slotted_slots.specs.Error.{IsOutOfMemory, IsShortage};
 ghost use Rattle.slotted_slots.specs.Table.{KnowsMore};
 ghost use Rattle.slotted_nodes.specs.Form.{IsSmall};
 ghost use Rattle.slotted_rebuilding.specs.Filed.{IsWellFiled};
-ghost use Rattle.slotted_adding.specs.Reports.{class_sources};
+ghost use Rattle.slotted_lookup.specs.Reports.{class_sources};
 ghost use Rattle.slotted_reports.specs.Nodes.{KnowsClassSlots, IsAppended};
 ghost use Rattle.slotted_reports.specs.Nodes.{RunsOutForClasses, RunsOutForKeys, TakesForClasses, TakesForKeys};
 
 use crate::nodes::enodes_applied;
-use slotted_adding::reports;
-use slotted_filing::Hashcons;
+use slotted_classes::Store;
+use slotted_hashcons::Hashcons;
 use slotted_languages::Language;
+use slotted_lookup::reports;
 use slotted_patterns::show::node_text;
 use slotted_slots::{Error, Show, Slot, SlotTable, SmallHashSet};
-use slotted_store::Store;
 use std::alloc::Global;
 use std::fmt::Write;
 

@@ -1,12 +1,12 @@
 //! The progress of a graph. Nothing in this module takes memory.
 ghost use Rattle.std.specs.Prelude.{◌≡◌, length};
 ghost use Rattle.slotted_nodes.specs.Form.{counted};
-ghost use Rattle.slotted_adding.specs.Reports.{live_ids};
+ghost use Rattle.slotted_lookup.specs.Reports.{live_ids};
 ghost use Rattle.slotted_reports.specs.Measure.{live_slots};
 
-use slotted_adding::reports::is_alive;
+use slotted_classes::Store;
 use slotted_languages::Language;
-use slotted_store::Store;
+use slotted_lookup::reports::is_alive;
 
 /// How far a graph has come. No call lowers the number of classes. While this number stays the same, the number of live
 /// classes never rises; while both stay the same, the sum of slots never rises.

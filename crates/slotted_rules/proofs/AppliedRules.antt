@@ -10,7 +10,7 @@ use Rattle.slotted_slots.specs.declared.error.Error.TheVariants.{Failed}
 use Rattle.slotted_slots.specs.Error.{IsShortage}
 use Rattle.slotted_model_rules.specs.Runners.{AppliesAll, SearchesAll, none_applied, none_searched, one_applied, one_searched}
 use Rattle.slotted_languages.proofs.HandedOn.{handed_on}
-use Rattle.slotted_core.specs.Graph.{Graph}
+use Rattle.slotted_operations.specs.Graph.{Graph}
 use Rattle.slotted_graph.specs.Extension.{ExtendsTo}
 use Rattle.slotted_graph.proofs.Extending.{extends-then}
 use Rattle.slotted_rules.specs.Applying.{AreRefusedBy, CanApplyAll}

@@ -3,7 +3,7 @@ use Rattle.std.proofs.Common.{◌≡◌, ◌∙◌, ◌↔◌, ℕ, Bool, true, 
 use Rattle.std.specs.Prelude.{IsTrue, nat_eq, not, ◌&&◌}
 use Rattle.std.proofs.lemmas.Bool.{false≢true}
 use Rattle.slotted_reports.specs.declared.measure.ProgressMeasure.{ProgressMeasure}
-use Rattle.slotted_core.specs.Image.{Image}
+use Rattle.slotted_operations.specs.Image.{Image}
 use Rattle.slotted_graph.specs.Measure.{IsProgress}
 use Rattle.slotted_rules.specs.Applying.{HasProgressed}
 

@@ -8,8 +8,8 @@ use Rattle.slotted_model.specs.ProofList.{ProofEntry, explicit, step_at}
 use Rattle.slotted_model.proofs.Members.{In, Contains-In}
 use Rattle.slotted_model_rules.specs.Conditions.{Values}
 use Rattle.slotted_model_rules.specs.Runners.{AppliesAll, AppliesRules, SearchesAll, none_applied, none_searched, one_applied, one_searched}
-use Rattle.slotted_core.specs.Graph.{Graph}
-use Rattle.slotted_core.specs.Image.{Image}
+use Rattle.slotted_operations.specs.Graph.{Graph}
+use Rattle.slotted_operations.specs.Image.{Image}
 use Rattle.slotted_graph.specs.Extension.{ExtendsTo}
 use Rattle.slotted_graph.proofs.Extending.{extends-itself, extends-takes, extends-then}
 use Rattle.slotted_instances.proofs.InstanceEquations.{stored-length}

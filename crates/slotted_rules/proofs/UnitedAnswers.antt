@@ -10,7 +10,7 @@ use Rattle.slotted_model_rules.specs.Conditions.{Values}
 use Rattle.slotted_rule_patterns.specs.PatternCode.{pattern_in}
 use Rattle.slotted_rule_patterns.specs.Variables.{first_lacking, first_missing}
 use Rattle.slotted_rule_patterns.proofs.KnownVariables.{missing-lacking}
-use Rattle.slotted_core.specs.Graph.{Graph}
+use Rattle.slotted_operations.specs.Graph.{Graph}
 use Rattle.slotted_instances.specs.Refusals.{AreMissing, IsEitherNotWhole, IsFailedOrShort, IsRefusedBefore, RefusesInstances}
 use Rattle.slotted_rules.specs.Rewriting.{IsNotATerm}
 

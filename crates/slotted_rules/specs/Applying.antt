@@ -9,8 +9,8 @@ use Rattle.std.specs.Prelude.{◌≢◌, List, [], ◌∷◌, Bool, Contains, fa
 use Rattle.std.specs.Coded.{Coded}
 use Rattle.slotted_slots.specs.declared.error.Error.{Error}
 use Rattle.slotted_reports.specs.declared.measure.ProgressMeasure.{ProgressMeasure}
-use Rattle.slotted_core.specs.Graph.{Graph}
-use Rattle.slotted_core.specs.Image.{Image}
+use Rattle.slotted_operations.specs.Graph.{Graph}
+use Rattle.slotted_operations.specs.Image.{Image}
 use Rattle.slotted_analyses.specs.Meaning.{Meaning, no_data, unit_code}
 use Rattle.slotted_graph.specs.Asked.{Asks}
 use Rattle.slotted_graph.specs.Measure.{IsProgress}

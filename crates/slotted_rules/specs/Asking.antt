@@ -17,7 +17,7 @@ use Rattle.slotted_model.specs.Applied.{Applied, values}
 use Rattle.slotted_model.specs.Correspondence.{has_slot}
 use Rattle.slotted_model_rules.specs.Conditions.{Values}
 use Rattle.slotted_model_rules.specs.Matcher.{value_at}
-use Rattle.slotted_core.specs.Graph.{Graph}
+use Rattle.slotted_operations.specs.Graph.{Graph}
 use Rattle.slotted_graph.specs.Analysed.{HasData}
 use Rattle.slotted_graph.proofs.Analysed.{one-datum}
 

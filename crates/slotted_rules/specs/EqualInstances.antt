@@ -13,8 +13,8 @@ use Rattle.slotted_model_rules.specs.Conditions.{Values}
 use Rattle.slotted_model_rules.specs.Instances.{IsInstance}
 use Rattle.slotted_model_rules.specs.Rules.{Rule, valued}
 use Rattle.slotted_rule_patterns.specs.PatternCode.{pattern_in}
-use Rattle.slotted_core.specs.Graph.{Graph}
-use Rattle.slotted_core.specs.Image.{asserted_in}
+use Rattle.slotted_operations.specs.Graph.{Graph}
+use Rattle.slotted_operations.specs.Image.{asserted_in}
 use Rattle.slotted_graph.specs.declared.method.SubstMethod.{SubstMethod}
 use Rattle.slotted_graph.specs.Extension.{ExtendsTo}
 use Rattle.slotted_instances.specs.Methods.{AreRepresentatives, method_of, represented}

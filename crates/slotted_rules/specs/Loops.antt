@@ -9,7 +9,7 @@ use Rattle.slotted_patterns.specs.Tree.{PatternTree}
 use Rattle.slotted_graph.specs.States.{IsGraph}
 use Rattle.slotted_rules.specs.Rewriting.{AppliesEach, AreFromRule, IsSettled}
 use Rattle.slotted_model_rules.specs.Runners.{AppliesAll, SearchesAll}
-use Rattle.slotted_core.specs.Graph.{Graph}
+use Rattle.slotted_operations.specs.Graph.{Graph}
 use Rattle.slotted_graph.specs.Extension.{ExtendsTo}
 use Rattle.slotted_rules.specs.Applying.{CanApplyAll}
 

@@ -27,7 +27,7 @@ use Rattle.slotted_rule_patterns.specs.PatternCode.{pattern_in}
 use Rattle.slotted_rule_patterns.specs.Variables.{first_missing}
 use Rattle.slotted_matching.specs.Found.{HaveFreshNames, HaveVariables, RunsOutFor, name_count}
 use Rattle.slotted_matching.specs.Compiled.{HasWideNode}
-use Rattle.slotted_core.specs.Graph.{Graph, MakesAtMost, OnlyTakesSlots}
+use Rattle.slotted_operations.specs.Graph.{Graph, MakesAtMost, OnlyTakesSlots}
 use Rattle.slotted_graph.specs.declared.method.SubstMethod.{SubstMethod}
 use Rattle.slotted_graph.specs.Extension.{ExtendsTo, IsBetween}
 use Rattle.slotted_graph.specs.Matching.{AreFoundValid, FindsAll, FindsAllOf, FindsEachOf, FindsLookedUp, HasWideRow}

@@ -19,7 +19,7 @@ use Rattle.slotted_patterns.specs.Parsed.{TextReadsPattern}
 use Rattle.slotted_patterns.specs.Tree.{PatternTree}
 use Rattle.slotted_patterns.specs.View.{tree_of}
 use Rattle.slotted_rule_patterns.specs.Variables.{first_lacking, has_substitution}
-use Rattle.slotted_core.specs.Graph.{Graph}
+use Rattle.slotted_operations.specs.Graph.{Graph}
 use Rattle.slotted_graph.specs.KnownPatterns.{HasSmallNodes}
 use Rattle.slotted_rules.specs.Asking.{IsMissing}
 use Rattle.slotted_rules.specs.declared.rewrite.Rewrite.{Rewrite}

@@ -11,7 +11,7 @@ use Rattle.slotted_patterns.specs.View.{tree_of}
 use Rattle.slotted_model_rules.specs.Conditions.{Values}
 use Rattle.slotted_model_rules.specs.Patterns.{Pattern}
 use Rattle.slotted_rule_patterns.specs.PatternCode.{pattern_in}
-use Rattle.slotted_core.specs.Graph.{Graph}
+use Rattle.slotted_operations.specs.Graph.{Graph}
 use Rattle.slotted_graph.specs.Extension.{ExtendsTo}
 use Rattle.slotted_graph.proofs.FoundValues.{none-missing}
 use Rattle.slotted_graph.proofs.KnownPatterns.{pattern-later}

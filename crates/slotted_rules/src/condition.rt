@@ -22,7 +22,7 @@ use std::alloc::Global;
 pub trait Cond<L: Language, N: Analysis<L>>: Drop {
     ghost use Rattle.std.specs.Prelude.{Bool};
     ghost use Rattle.slotted_model_rules.specs.Conditions.{Values};
-    ghost use Rattle.slotted_core.specs.Graph.{Graph};
+    ghost use Rattle.slotted_operations.specs.Graph.{Graph};
     ghost use Rattle.slotted_slots.specs.declared.error.Error.{Error};
     ghost use Rattle.slotted_slots.specs.declared.error.Error.TheVariants.{Failed};
     ghost use Rattle.slotted_rules.specs.Asking.{IsOneAnswer};

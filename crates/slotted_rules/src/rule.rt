@@ -14,7 +14,7 @@ use std::alloc::Global;
 /// A rule type states what its search may find, what its apply may leave, and which errors both may return. A search
 /// and an apply only extend the graph. If the graph fails in one of them, memory or slots ran out.
 pub trait RewriteT<L: Language, N: Analysis<L>>: Drop {
-    ghost use Rattle.slotted_core.specs.Graph.{Graph};
+    ghost use Rattle.slotted_operations.specs.Graph.{Graph};
     ghost use Rattle.slotted_slots.specs.declared.error.Error.{Error};
     ghost use Rattle.slotted_slots.specs.declared.error.Error.TheVariants.{Failed};
 

@@ -5,7 +5,7 @@ ghost use Rattle.slotted_patterns.specs.Known.{HasKnownNames};
 ghost use Rattle.slotted_patterns.specs.View.{tree_of};
 ghost use Rattle.slotted_rule_patterns.specs.Values.{values_of};
 ghost use Rattle.slotted_rule_patterns.specs.Variables.{has_substitution};
-ghost use Rattle.slotted_core.specs.Graph.{OnlyTakesSlots};
+ghost use Rattle.slotted_operations.specs.Graph.{OnlyTakesSlots};
 ghost use Rattle.slotted_matching.specs.Found.{TakesFor};
 ghost use Rattle.slotted_graph.specs.Matching.{FindsAll};
 ghost use Rattle.slotted_rules.specs.Rewriting.{IsSearched, LacksSlots};

@@ -13,7 +13,7 @@ ghost use Rattle.slotted_instances.specs.Refusals.{HavePassed};
 ghost use Rattle.slotted_instances.specs.Uniting.{UnitesInstances};
 ghost use Rattle.slotted_rules.specs.Rewriting.{AppliesOne, AreFromRule, CanBeApplied, IsNotATerm, IsRefusedRewrite};
 ghost use Rattle.slotted_rules.specs.Rewriting.{IsSearched, LacksSlots, LeavesApplied, LeavesUnited};
-ghost use Rattle.slotted_core.specs.Graph.{OnlyTakesSlots};
+ghost use Rattle.slotted_operations.specs.Graph.{OnlyTakesSlots};
 ghost use Rattle.slotted_rules.specs.Written.{CanBeSearched, PassesTests};
 
 use crate::condition::Cond;

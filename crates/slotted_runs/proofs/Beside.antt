@@ -6,8 +6,8 @@ use Rattle.slotted_nodes.specs.Form.{counted}
 use Rattle.slotted_theory.specs.Decided.{numbers_eq}
 use Rattle.slotted_theory.proofs.Decides.{numbers_eq-true, numbers_eq-same}
 use Rattle.slotted_reports.specs.declared.measure.ProgressMeasure.{ProgressMeasure}
-use Rattle.slotted_core.specs.Image.{Image}
-use Rattle.slotted_core.specs.Reports.{live_classes}
+use Rattle.slotted_operations.specs.Image.{Image}
+use Rattle.slotted_operations.specs.Reports.{live_classes}
 use Rattle.slotted_graph.specs.Measure.{IsProgress, slots_of_live}
 use Rattle.slotted_rules.specs.Applying.{HasProgressed}
 use Rattle.slotted_runs.specs.Turning.{progress_of}

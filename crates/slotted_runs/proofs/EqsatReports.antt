@@ -2,8 +2,8 @@
 use Rattle.std.proofs.Common.{◌≡◌, ◌∙◌, ℕ, suc, ◌+◌, ◌-◌, [], ◌∷◌, ◌++◌, length, length-append, Option, Result, ap, sym, subst, inl, inr, arith}
 use Rattle.std.specs.Prelude.{IsTrue}
 use Rattle.slotted_slots.specs.declared.error.Error.{Error}
-use Rattle.slotted_core.specs.Graph.{Graph}
-use Rattle.slotted_core.specs.Reports.{live_classes}
+use Rattle.slotted_operations.specs.Graph.{Graph}
+use Rattle.slotted_operations.specs.Reports.{live_classes}
 use Rattle.slotted_model_rules.specs.Runners.{EqsatRuns}
 use Rattle.slotted_runs.specs.declared.report.StopReason.{StopReason}
 use Rattle.slotted_runs.specs.Eqsat.{EqsatRefuses, HasBroken, HasEnded, HasEqsatReported, HasRefusedEqsat, eqsat_refused_later, eqsat_refused_now}

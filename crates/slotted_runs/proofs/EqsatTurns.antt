@@ -2,7 +2,7 @@
 use Rattle.std.proofs.Common.{◌≡◌, ◌∙◌, ℕ, suc, ◌+◌, ◌-◌, ◌*◌, ◌/◌, ◌<◌, ◌≤◌, [], ◌∷◌, ◌++◌, length, Option, Some, None, Bool, false, ap, refl, sym, subst, arith}
 use Rattle.std.specs.Prelude.{◌⊎◌, IsTrue, cond}
 use Rattle.std.proofs.lemmas.Bool.{lt-ltb}
-use Rattle.slotted_core.specs.Graph.{Graph}
+use Rattle.slotted_operations.specs.Graph.{Graph}
 use Rattle.slotted_graph.specs.Extension.{ExtendsTo}
 use Rattle.slotted_graph.proofs.Extending.{extends-itself, extends-then}
 use Rattle.slotted_model_rules.specs.Runners.{EqsatRuns, Stop, after_time, eqsat_goes_on, eqsat_stop, eqsat_stops, second, time_limit}

@@ -8,7 +8,7 @@ use Rattle.slotted_model_rules.specs.Conditions.{Values}
 use Rattle.slotted_model_rules.specs.Runners.{EqsatAnswers, EqsatRuns, Iteration, Limits, Measures, RunnerAnswers, RunnerRuns, Stop}
 use Rattle.slotted_model_rules.specs.Runners.{again, eqsat_goes_on, eqsat_stops, goes_on, starts, stops_now, takes_up}
 use Rattle.slotted_model_rules.specs.Runners as model
-use Rattle.slotted_core.specs.Graph.{Graph}
+use Rattle.slotted_operations.specs.Graph.{Graph}
 use Rattle.slotted_graph.specs.Extension.{ExtendsTo}
 use Rattle.slotted_graph.proofs.Extending.{extends-itself, extends-then}
 use Rattle.slotted_rules.specs.declared.rewrite.Rewrite.{Rewrite}

@@ -1,7 +1,7 @@
 -- Runners that have stopped, or that a turn was refused to.
 use Rattle.std.proofs.Common.{◌≡◌, ◌∙◌, ℕ, ◌+◌, ◌*◌, [], ◌++◌, length, Option, Some, None, ap, refl, sym, subst, arith}
 use Rattle.std.specs.Prelude.{false}
-use Rattle.slotted_core.specs.Graph.{Graph}
+use Rattle.slotted_operations.specs.Graph.{Graph}
 use Rattle.slotted_graph.specs.Extension.{ExtendsTo}
 use Rattle.slotted_graph.proofs.Extending.{extends-itself}
 use Rattle.slotted_model_rules.specs.Runners.{Measures, Runner, RunnerAnswers, RunnerRefuses, RunnerRuns, Stop, again, runner_report, starts, takes_up}

@@ -1,7 +1,7 @@
 -- Turns, and turns one after another.
 use Rattle.std.proofs.Common.{◌≡◌, ◌∙◌, ℕ, ◌+◌, ◌-◌, List, [], ◌∷◌, ◌++◌, length, Option, Some, None, Bool, ap, refl, sym, subst, arith}
 use Rattle.std.specs.Prelude.{◌≤◌, ◌⊎◌, IsTrue, false}
-use Rattle.slotted_core.specs.Graph.{Graph}
+use Rattle.slotted_operations.specs.Graph.{Graph}
 use Rattle.slotted_graph.specs.Extension.{ExtendsTo}
 use Rattle.slotted_graph.proofs.Extending.{extends-itself, extends-then}
 use Rattle.slotted_model_rules.specs.Runners.{Iteration, Limits, Measures, RunnerRefuses, RunnerTurn, Stop, after_check, goes_on, refused_later, refused_now, runner_stop, stops_now}

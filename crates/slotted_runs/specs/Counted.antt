@@ -6,7 +6,7 @@
 use Rattle.std.specs.Prelude.{◌≡◌, ◌⊎◌, ◌↔◌, ◌<◌, ℕ, List, [], ◌∷◌, ◌++◌, length, Bool, true, false, IsTrue}
 use Rattle.slotted_nodes.specs.Form.{Form}
 use Rattle.slotted_model_rules.specs.Conditions.{Values}
-use Rattle.slotted_core.specs.Graph.{Graph}
+use Rattle.slotted_operations.specs.Graph.{Graph}
 use Rattle.slotted_rules.specs.Applying.{HasProgressed}
 use Rattle.slotted_rules.specs.Counting.{CountsAndModifies}
 use Rattle.slotted_rules.specs.declared.counting.TurnCounts.{TurnCounts}

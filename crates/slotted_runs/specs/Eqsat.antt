@@ -10,7 +10,7 @@
 --     HasEnded           the run has ended
 --     HasBroken          a turn was refused, whatever was read before
 use Rattle.std.specs.Prelude.{◌≡◌, ℕ, suc, ◌+◌, ◌-◌, ◌≤◌, List, length, Option, None, Bool, false}
-use Rattle.slotted_core.specs.Graph.{Graph}
+use Rattle.slotted_operations.specs.Graph.{Graph}
 use Rattle.slotted_graph.specs.Extension.{ExtendsTo}
 use Rattle.slotted_model_rules.specs.Runners.{EqsatAnswers, EqsatRuns, EqsatTurn, Measures, Stop, after_time, eqsat_stop}
 use Rattle.slotted_model_rules.specs.Runners as model

@@ -15,7 +15,7 @@
 --     IsReportOf      the report of a runner that has stopped
 use Rattle.std.specs.Prelude.{◌≡◌, ℕ, suc, ◌+◌, ◌-◌, List, length, Option, Some, None, Bool, false, option_map}
 use Rattle.slotted_theory.specs.Decided.{numbers_eq}
-use Rattle.slotted_core.specs.Graph.{Graph}
+use Rattle.slotted_operations.specs.Graph.{Graph}
 use Rattle.slotted_graph.specs.Extension.{ExtendsTo}
 use Rattle.slotted_model_rules.specs.Runners.{Stop, Limits, Measures, Iteration, runner_stop, after_check, RunnerTurn, RunnerRuns, RunnerRefuses, runner_report}
 use Rattle.slotted_slots.specs.declared.error.Error.{Error}

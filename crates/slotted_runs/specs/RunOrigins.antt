@@ -6,7 +6,7 @@ use Rattle.std.specs.Prelude.{◌≡◌, ◌⊎◌, ◌<◌, ◌≤◌, ℕ, Lis
 use Rattle.slotted_nodes.specs.Form.{Form}
 use Rattle.slotted_model.specs.ProofList.{explicit, step_at}
 use Rattle.slotted_model_rules.specs.Conditions.{Values}
-use Rattle.slotted_core.specs.Graph.{Graph}
+use Rattle.slotted_operations.specs.Graph.{Graph}
 use Rattle.slotted_graph.specs.Extension.{ExtendsTo}
 use Rattle.slotted_rules.specs.declared.rewrite.Rewrite.{Rewrite}
 use Rattle.slotted_rules.specs.RuleOrigins.{ComesFromEdits, ComesFromRules}

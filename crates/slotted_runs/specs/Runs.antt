@@ -8,7 +8,7 @@
 use Rattle.std.specs.Prelude.{◌≡◌, ◌⊎◌, ℕ, ◌+◌, ◌*◌, List, length, Option, Some, None, true}
 use Rattle.slotted_slots.specs.declared.error.Error.{Error}
 use Rattle.slotted_slots.specs.declared.error.Error.TheVariants.{OutOfMemory}
-use Rattle.slotted_core.specs.Graph.{Graph}
+use Rattle.slotted_operations.specs.Graph.{Graph}
 use Rattle.slotted_rules.specs.Applying.{AreRefusedBy}
 use Rattle.slotted_model_rules.specs.RunnerClaims.{unread}
 use Rattle.slotted_model_rules.specs.Runners.{Measures, RunnerAnswers, RunnerRefuses, Stop}

@@ -14,12 +14,12 @@ use Rattle.slotted_slots.specs.declared.types.AppliedId.{AppliedId}
 use Rattle.slotted_theory.specs.Term.{Term}
 use Rattle.slotted_model.specs.Growth.{Extends}
 use Rattle.slotted_proofs.specs.Equations.{to_applied}
-use Rattle.slotted_core.specs.AddingTerms.{AddsNodes, FilesOnlyLookedUp, IsEqualToTerm, TakesForTerm}
-use Rattle.slotted_core.specs.Adding.{term_nodes}
-use Rattle.slotted_core.specs.Graph.{Graph}
-use Rattle.slotted_core.specs.Image.{AddsClasses}
-use Rattle.slotted_core.specs.LookUp.{IsOneGraph, KeepsLookUps, look_up_term}
-use Rattle.slotted_core.specs.Reports.{IsFound}
+use Rattle.slotted_operations.specs.AddingTerms.{AddsNodes, FilesOnlyLookedUp, IsEqualToTerm, TakesForTerm}
+use Rattle.slotted_operations.specs.Adding.{term_nodes}
+use Rattle.slotted_operations.specs.Graph.{Graph}
+use Rattle.slotted_operations.specs.Image.{AddsClasses}
+use Rattle.slotted_operations.specs.LookUp.{IsOneGraph, KeepsLookUps, look_up_term}
+use Rattle.slotted_operations.specs.Reports.{IsFound}
 use Rattle.slotted_model_rules.specs.Runners.{Stop, saturated, iteration_limit, time_limit, node_limit, other, Limits, usual_limits, Iteration}
 use Rattle.slotted_model_rules.specs.Runners as model
 use Rattle.slotted_runs.specs.declared.report.StopReason.{StopReason}

@@ -12,9 +12,9 @@
 --     IsReportClone is_clone r s         the report s is that of the model, r, with a clone of its reason
 use Rattle.std.specs.Prelude.{◌≡◌, ◌⊎◌, ℕ, suc, List, [], ◌∷◌, length, Option, Some, None, IsTrue, slice_index_or}
 use Rattle.slotted_nodes.specs.Form.{counted}
-use Rattle.slotted_core.specs.Graph.{Graph}
-use Rattle.slotted_core.specs.Image.{Image}
-use Rattle.slotted_core.specs.Reports.{live_classes}
+use Rattle.slotted_operations.specs.Graph.{Graph}
+use Rattle.slotted_operations.specs.Image.{Image}
+use Rattle.slotted_operations.specs.Reports.{live_classes}
 use Rattle.slotted_graph.specs.Extension.{ExtendsTo}
 use Rattle.slotted_graph.specs.Measure.{slots_of_live}
 use Rattle.slotted_model_rules.specs.Runners.{AppliesRules, Measures, Stop, saturated, iteration_limit, time_limit, node_limit, other}

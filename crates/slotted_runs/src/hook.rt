@@ -25,7 +25,7 @@ pub enum HookStop<T> {
 /// slots ran out.
 pub trait Hook<L: Language, N: Analysis<L>, T>: Drop {
     ghost use Rattle.std.specs.Prelude.{ℕ, Option};
-    ghost use Rattle.slotted_core.specs.Graph.{Graph};
+    ghost use Rattle.slotted_operations.specs.Graph.{Graph};
     ghost use Rattle.slotted_slots.specs.declared.error.Error.{Error};
     ghost use Rattle.slotted_slots.specs.declared.error.Error.TheVariants.{Failed};
 

@@ -24,7 +24,7 @@ pub struct Iteration<D> {
 /// It is a function of the graph after the turn and of how many turns came before.
 pub trait IterationData<L: Language, N: Analysis<L>>: Drop {
     ghost use Rattle.std.specs.Prelude.{ℕ};
-    ghost use Rattle.slotted_core.specs.Graph.{Graph};
+    ghost use Rattle.slotted_operations.specs.Graph.{Graph};
     ghost use Rattle.slotted_slots.specs.declared.error.Error.{Error};
     ghost use Rattle.slotted_slots.specs.declared.error.Error.TheVariants.{Failed};
 

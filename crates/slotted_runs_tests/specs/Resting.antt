@@ -4,7 +4,7 @@ use Rattle.std.specs.Prelude.{◌⊎◌, Contains}
 use Rattle.slotted_theory.proofs.Lists.{Contains-nil}
 use Rattle.slotted_patterns.specs.Tree.{PatternTree}
 use Rattle.slotted_model_rules.specs.Conditions.{Values}
-use Rattle.slotted_core.specs.Graph.{Graph, OnlyTakesSlots}
+use Rattle.slotted_operations.specs.Graph.{Graph, OnlyTakesSlots}
 use Rattle.slotted_rules.specs.Rewriting.{CanBeApplied, IsSearched}
 use Rattle.slotted_rules.specs.WrittenLaws.{found-applies}
 

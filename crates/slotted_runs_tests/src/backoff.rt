@@ -1,6 +1,6 @@
 //! A scheduler of one's own: a rule around another, which rests after a search that found too much.
 ghost use Rattle.std.specs.Prelude.{◌≡◌, ◌⊎◌, [], string_bytes};
-ghost use Rattle.slotted_core.specs.Graph.{OnlyTakesSlots};
+ghost use Rattle.slotted_operations.specs.Graph.{OnlyTakesSlots};
 ghost use Rattle.slotted_patterns.specs.View.{tree_of};
 ghost use Rattle.slotted_rules.specs.Rewriting.{CanBeApplied, IsRefusedRewrite, IsSearched, LeavesApplied};
 ghost use Rattle.slotted_rules.specs.Written.{CanBeSearched, PassesTests};

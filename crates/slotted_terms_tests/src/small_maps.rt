@@ -1,5 +1,5 @@
 //! Small maps: each call once. A value that is not there counts as 0.
-use slotted_small_maps::SmallHashMap;
+use slotted_maps::SmallHashMap;
 use std::process::Abort;
 
 // Puts an entry in, and answers the old value.

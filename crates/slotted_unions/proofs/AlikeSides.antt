@@ -15,9 +15,9 @@ use Rattle.slotted_theory.specs.Nameless.{DTerm}
 use Rattle.slotted_proofs.specs.Entries.{statement_at}
 use Rattle.slotted_proofs.specs.Equations.{AreSides}
 use Rattle.slotted_proofs.specs.Proving.{IsCanonical}
-use Rattle.slotted_store.specs.Finding.{IsFindable}
-use Rattle.slotted_store.specs.Kept.{Kept, nodes_of, entries_of, proofs_of}
-use Rattle.slotted_store.proofs.KeptLists.{equation_at-of}
+use Rattle.slotted_classes.specs.Finding.{IsFindable}
+use Rattle.slotted_classes.specs.Kept.{Kept, nodes_of, entries_of, proofs_of}
+use Rattle.slotted_classes.proofs.KeptLists.{equation_at-of}
 use Rattle.slotted_unions.specs.StateOf.{state_of}
 use Rattle.slotted_unions.specs.Stored.{Stored}
 use Rattle.slotted_unions.specs.Uniting.{SaysNothing}

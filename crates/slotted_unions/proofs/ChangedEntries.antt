@@ -15,8 +15,8 @@ use Rattle.slotted_model.proofs.Aligned.{link-aligned}
 use Rattle.slotted_model.proofs.Events.{link-sane, link-goes_on}
 use Rattle.slotted_model.proofs.Linking.{link-later}
 use Rattle.slotted_proofs.specs.Proving.{IsProved}
-use Rattle.slotted_store.specs.Kept.{Kept, nodes_of, entries_of, proofs_of, with_linked}
-use Rattle.slotted_store.proofs.Writes.{written, written-nodes, written-entries, written-form}
+use Rattle.slotted_classes.specs.Kept.{Kept, nodes_of, entries_of, proofs_of, with_linked}
+use Rattle.slotted_classes.proofs.Writes.{written, written-nodes, written-entries, written-form}
 use Rattle.slotted_unions.specs.StateOf.{state_of, symmetry_of_entry}
 use Rattle.slotted_unions.specs.Stored.{Stored, Grows}
 use Rattle.slotted_unions.specs.Uniting.{IsOfLive, HasLinked, equation_in, heir_in}

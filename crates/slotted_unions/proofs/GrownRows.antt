@@ -3,8 +3,8 @@ use Rattle.std.proofs.Common.{◌≡◌, ℕ, suc, List, [], ◌∷◌, length, 
 use Rattle.std.specs.Prelude.{slice_index_or}
 use Rattle.slotted_nodes.specs.Form.{Form}
 use Rattle.slotted_languages.specs.Shape.{shape}
-use Rattle.slotted_store.specs.Kept.{Kept, ClassEntry, no_form, no_entry, rows_from}
-use Rattle.slotted_store.proofs.KeptLists.{length-nodes_of}
+use Rattle.slotted_classes.specs.Kept.{Kept, ClassEntry, no_form, no_entry, rows_from}
+use Rattle.slotted_classes.proofs.KeptLists.{length-nodes_of}
 use Rattle.slotted_unions.specs.Stored.{Grows}
 
 abbrev node_in : List ClassEntry → ℕ → Form

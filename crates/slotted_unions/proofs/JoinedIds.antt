@@ -28,10 +28,10 @@ use Rattle.slotted_proofs.proofs.Entering.{entry-over}
 use Rattle.slotted_proofs.proofs.Fitting.{transitive_fits}
 use Rattle.slotted_proofs.proofs.Stepping.{transitive_told}
 use Rattle.slotted_proofs.proofs.Written.{stated}
-use Rattle.slotted_store.specs.Finding.{FindAlike}
-use Rattle.slotted_store.specs.Kept.{Kept, nodes_of, entries_of, EntersBy}
-use Rattle.slotted_store.proofs.KeptLists.{length-nodes_of}
-use Rattle.slotted_store.proofs.NameMaps.{length-keys}
+use Rattle.slotted_classes.specs.Finding.{FindAlike}
+use Rattle.slotted_classes.specs.Kept.{Kept, nodes_of, entries_of, EntersBy}
+use Rattle.slotted_classes.proofs.KeptLists.{length-nodes_of}
+use Rattle.slotted_classes.proofs.NameMaps.{length-keys}
 use Rattle.slotted_unions.specs.Proving.{Proves, ProvesEqual, HasLargeClassOf}
 use Rattle.slotted_unions.specs.Stored.{Stored}
 use Rattle.slotted_unions.proofs.EnteredProofs.{entering-proves, only-nodes, then-proves}

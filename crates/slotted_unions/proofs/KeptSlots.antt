@@ -14,7 +14,7 @@ use Rattle.slotted_model.proofs.Dropping.{kept-composite, kept-can_drop, drop-la
 use Rattle.slotted_model.proofs.Events.{drop-sane, drop-goes_on}
 use Rattle.slotted_proofs.specs.Entries.{statement_at, turned_entry, composite_entry}
 use Rattle.slotted_proofs.specs.Equations.{Meets}
-use Rattle.slotted_store.specs.Kept.{Kept, nodes_of, entries_of, EntersIn, HasManySlots, with_counts, with_fewer}
+use Rattle.slotted_classes.specs.Kept.{Kept, nodes_of, entries_of, EntersIn, HasManySlots, with_counts, with_fewer}
 use Rattle.slotted_unions.specs.Proving.{OnlyProves, Proves, HasLargeSide}
 use Rattle.slotted_unions.specs.StateOf.{state_of}
 use Rattle.slotted_unions.specs.Stored.{Stored, Grows, GrowsUncounted}

@@ -19,7 +19,7 @@ use Rattle.slotted_model.proofs.Members.{In-Contains, Contains-In}
 use Rattle.slotted_model.proofs.NormalIds.{found-renamed, valid-map, Contains-ascending, Contains-of_ascending}
 use Rattle.slotted_model.proofs.Ordered.{in_order-ascending}
 use Rattle.slotted_model.proofs.Sets.{same_members}
-use Rattle.slotted_store.specs.Kept.{Kept, SymmetryEntry, nodes_of, entries_of}
+use Rattle.slotted_classes.specs.Kept.{Kept, SymmetryEntry, nodes_of, entries_of}
 use Rattle.slotted_unions.specs.StateOf.{state_of, symmetry_of_entry}
 use Rattle.slotted_unions.specs.Stored.{Stored, IsOverOneClass}
 

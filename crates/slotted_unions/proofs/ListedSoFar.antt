@@ -4,8 +4,8 @@ use Rattle.std.specs.Prelude.{Contains, map, slice_index_or}
 use Rattle.std.proofs.lemmas.Bool.{cases_eq}
 use Rattle.slotted_theory.proofs.Lists.{Contains-map, Contains-of_map}
 use Rattle.slotted_model.specs.State.{Symmetry}
-use Rattle.slotted_store.specs.Kept.{SymmetryEntry}
-use Rattle.slotted_store.proofs.KeptLists.{any_default}
+use Rattle.slotted_classes.specs.Kept.{SymmetryEntry}
+use Rattle.slotted_classes.proofs.KeptLists.{any_default}
 use Rattle.slotted_unions.specs.StateOf.{symmetry_of_entry}
 
 -- what holds of the elements so far, and of the next one, holds of one more

@@ -10,8 +10,8 @@ use Rattle.slotted_model.specs.Rebuild.{Acts, acts}
 use Rattle.slotted_model.specs.Rest.{size}
 use Rattle.slotted_model.specs.State.{Symmetry}
 use Rattle.slotted_model.proofs.Turning.{acted}
-use Rattle.slotted_store.specs.Kept.{Kept, nodes_of, entries_of, with_settled}
-use Rattle.slotted_store.proofs.KeptLists.{equation_at-of, length-nodes_of, length-proofs_of}
+use Rattle.slotted_classes.specs.Kept.{Kept, nodes_of, entries_of, with_settled}
+use Rattle.slotted_classes.proofs.KeptLists.{equation_at-of, length-nodes_of, length-proofs_of}
 use Rattle.slotted_unions.specs.Proving.{FindsEither, HasLargeSide}
 use Rattle.slotted_unions.specs.Settling.{IsUnaligned, AreAligned, HasLargeUnaligned}
 use Rattle.slotted_unions.specs.StateOf.{state_of}

@@ -21,8 +21,8 @@ use Rattle.slotted_model.proofs.Ordered.{in_order-once}
 use Rattle.slotted_model.proofs.Sets.{IsAscending-ascending}
 use Rattle.slotted_model.proofs.Touching.{different-length}
 use Rattle.slotted_proofs.specs.Entries.{turned_entry}
-use Rattle.slotted_store.specs.Kept.{Kept, find_at, nodes_of, entries_of, EntersIn, HasManySlots}
-use Rattle.slotted_store.proofs.KeptLists.{entry_at-of, length-mapped}
+use Rattle.slotted_classes.specs.Kept.{Kept, find_at, nodes_of, entries_of, EntersIn, HasManySlots}
+use Rattle.slotted_classes.proofs.KeptLists.{entry_at-of, length-mapped}
 use Rattle.slotted_unions.specs.Proving.{OnlyProves, Proves, HasLargeSide}
 use Rattle.slotted_unions.specs.StateOf.{state_of}
 use Rattle.slotted_unions.specs.Stored.{Stored}

@@ -17,8 +17,8 @@ use Rattle.slotted_model.proofs.Dropping.{kept-can_drop}
 use Rattle.slotted_model.proofs.Events.{drop-size}
 use Rattle.slotted_model.proofs.FoundEntries.{says-over, says-left_lives, says-right_lives, says-left_used, says-right_used}
 use Rattle.slotted_proofs.specs.Entries.{Proven, nothing_proven, statement_at}
-use Rattle.slotted_store.specs.Kept.{Kept, nodes_of, entries_of, proofs_of}
-use Rattle.slotted_store.proofs.KeptLists.{equation_at-of, length-nodes_of}
+use Rattle.slotted_classes.specs.Kept.{Kept, nodes_of, entries_of, proofs_of}
+use Rattle.slotted_classes.proofs.KeptLists.{equation_at-of, length-nodes_of}
 use Rattle.slotted_unions.specs.Proving.{OnlyProves, ProvesFound, FindsEither, HasLargeSide}
 use Rattle.slotted_unions.specs.StateOf.{state_of, state_with}
 use Rattle.slotted_unions.specs.Stored.{Stored, Grows}

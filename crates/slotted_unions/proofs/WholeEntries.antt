@@ -16,8 +16,8 @@ use Rattle.slotted_model.proofs.Members.{Contains-In, In-Contains}
 use Rattle.slotted_model.proofs.NormalIds.{used-live, values-identity}
 use Rattle.slotted_model.proofs.Ordered.{in_order-ascending}
 use Rattle.slotted_model.proofs.Sets.{IsAscending-ascending}
-use Rattle.slotted_store.proofs.AscendingLists.{ascending-within}
-use Rattle.slotted_store.proofs.KeptLists.{length-mapped}
+use Rattle.slotted_classes.proofs.AscendingLists.{ascending-within}
+use Rattle.slotted_classes.proofs.KeptLists.{length-mapped}
 
 module _ (nodes : List DTerm) (found : List Entry) (linked : Linked nodes found) (i : ℕ) (h : i < length nodes) (lives : IsLive found (entry_at found i).class)
     (many : length (entry_at found (entry_at found i).class).pairs ≡ length (entry_at found i).pairs) where

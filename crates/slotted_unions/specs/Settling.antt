@@ -5,7 +5,7 @@
 use Rattle.std.specs.Prelude.{◌≡◌, ℕ, Contains}
 use Rattle.slotted_model.specs.Rest.{IsAligned}
 use Rattle.slotted_model.specs.State.{Symmetry}
-use Rattle.slotted_store.specs.Kept.{Kept}
+use Rattle.slotted_classes.specs.Kept.{Kept}
 use Rattle.slotted_unions.specs.Proving.{HasLargeClassOf}
 use Rattle.slotted_unions.specs.StateOf.{state_of}
 

@@ -6,7 +6,7 @@ use Rattle.std.specs.Prelude.{ℕ, List, [], map}
 use Rattle.slotted_model.specs.Applied.{keys}
 use Rattle.slotted_model.specs.Correspondence.{same_names}
 use Rattle.slotted_model.specs.State.{State, Symmetry, Row}
-use Rattle.slotted_store.specs.Kept.{Kept, SymmetryEntry, nodes_of, entries_of, proofs_of}
+use Rattle.slotted_classes.specs.Kept.{Kept, SymmetryEntry, nodes_of, entries_of, proofs_of}
 
 -- a listed symmetry, by the slots that carry one name
 abbrev pub symmetry_of_entry : SymmetryEntry → Symmetry

@@ -11,8 +11,8 @@ use Rattle.slotted_model.specs.Rest.{Sane, IsAligned}
 use Rattle.slotted_model.specs.State.{Symmetry}
 use Rattle.slotted_proofs.specs.Entries.{Proven}
 use Rattle.slotted_proofs.specs.Proving.{IsProved}
-use Rattle.slotted_store.specs.Finding.{IsFindable}
-use Rattle.slotted_store.specs.Kept.{Kept, SymmetryEntry, node_at, nodes_of, entries_of, with_counts}
+use Rattle.slotted_classes.specs.Finding.{IsFindable}
+use Rattle.slotted_classes.specs.Kept.{Kept, SymmetryEntry, node_at, nodes_of, entries_of, with_counts}
 use Rattle.slotted_unions.specs.StateOf.{state_of}
 
 -- each table of slots knows the names of the id: they are numeric

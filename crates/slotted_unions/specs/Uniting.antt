@@ -18,8 +18,8 @@ use Rattle.slotted_model.specs.ProofList.{Equation, turned_equation}
 use Rattle.slotted_model.specs.Rest.{size}
 use Rattle.slotted_model.specs.State.{State, Symmetry, Row, HasTouched}
 use Rattle.slotted_proofs.specs.Entries.{statement_at}
-use Rattle.slotted_store.specs.declared.store.Symmetry.{Symmetry as SymmetryOfCode}
-use Rattle.slotted_store.specs.Kept.{Kept, nodes_of, entries_of, symmetry_entry}
+use Rattle.slotted_classes.specs.declared.store.Symmetry.{Symmetry as SymmetryOfCode}
+use Rattle.slotted_classes.specs.Kept.{Kept, nodes_of, entries_of, symmetry_entry}
 use Rattle.slotted_unions.specs.Proving.{OnlyProves}
 use Rattle.slotted_unions.specs.declared.uniting.UnionStep.{UnionStep}
 use Rattle.slotted_unions.specs.declared.uniting.UnionStep.TheVariants.{Done, Dropped, Linked}

@@ -6,10 +6,10 @@ ghost use Rattle.slotted_unions.specs.Proving.{HasLargeSide};
 ghost use Rattle.slotted_unions.specs.Stored.{Stored};
 ghost use Rattle.slotted_unions.specs.Uniting.{IsOfLive, IsLackedBy, PairsLeft, HasDropped, DropsLeft, equation_in};
 
+use slotted_classes::Store;
 use slotted_languages::Language;
 use slotted_proofs::ProvenEq;
 use slotted_slots::{Error, Slot, SlotMap};
-use slotted_store::Store;
 use std::alloc::Global;
 
 // The first value of a map that is no key of the other.

@@ -7,10 +7,10 @@ ghost use Rattle.slotted_unions.specs.StateOf.{state_of};
 ghost use Rattle.slotted_unions.specs.Stored.{Stored};
 ghost use Rattle.slotted_unions.specs.Uniting.{HasLinked, IsOfLive, heir_in, equation_in};
 
+use slotted_classes::Store;
 use slotted_languages::Language;
 use slotted_proofs::ProvenEq;
 use slotted_slots::{AppliedId, Error};
-use slotted_store::Store;
 use std::alloc::Global;
 
 // What the left class of an entry leads to once it is dead: the right class, with the slot of the left one that has the same name for

@@ -3,17 +3,17 @@ ghost use Rattle.std.specs.Prelude.{◌≡◌, ◌<◌, length, IsTrue, IfOk, If
 ghost use Rattle.slotted_slots.specs.Error.{IsOutOfMemory, IsShortage};
 ghost use Rattle.slotted_model.specs.Classes.{IsFull, canonical_slots};
 ghost use Rattle.slotted_proofs.specs.Equations.{to_applied};
-ghost use Rattle.slotted_store.specs.Finding.{FindAlike};
-ghost use Rattle.slotted_store.specs.Kept.{nodes_of, entries_of};
+ghost use Rattle.slotted_classes.specs.Finding.{FindAlike};
+ghost use Rattle.slotted_classes.specs.Kept.{nodes_of, entries_of};
 ghost use Rattle.slotted_unions.specs.Proving.{FindsByEntry, FindsWhole, ProvesFind, ProvesBack, ProvesHalf, ProvesFound, ProvesEqual};
 ghost use Rattle.slotted_unions.specs.Proving.{HasLargeClassOf, HasLargeSide};
 ghost use Rattle.slotted_unions.specs.Stored.{Stored};
 ghost use Rattle.slotted_unions.specs.Uniting.{equation_in};
 
+use slotted_classes::Store;
 use slotted_languages::Language;
 use slotted_proofs::{Equation, ProvenEq};
 use slotted_slots::{AppliedId, Error};
-use slotted_store::Store;
 use std::alloc::Global;
 
 // Whether the class that a class leads to lives, and has as many slots left as the entry has pairs: so the find of the class says what

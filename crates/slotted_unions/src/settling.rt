@@ -2,16 +2,16 @@
 ghost use Rattle.std.specs.Prelude.{◌↔◌, Contains, IsTrue, IfErr, IfOk, IfSome, IfNone};
 ghost use Rattle.slotted_slots.specs.Error.{IsOutOfMemory};
 ghost use Rattle.slotted_model.specs.Rest.{IsAligned};
-ghost use Rattle.slotted_store.specs.Kept.{symmetry_entry};
+ghost use Rattle.slotted_classes.specs.Kept.{symmetry_entry};
 ghost use Rattle.slotted_unions.specs.Settling.{IsUnaligned, AreAligned};
 ghost use Rattle.slotted_unions.specs.StateOf.{state_of, symmetry_of_entry};
 ghost use Rattle.slotted_unions.specs.Stored.{Stored};
 
+use slotted_classes::names::have_same_values;
+use slotted_classes::{Store, Symmetry};
 use slotted_languages::Language;
 use slotted_proofs::ProvenEq;
 use slotted_slots::Error;
-use slotted_store::names::have_same_values;
-use slotted_store::{Store, Symmetry};
 use std::alloc::Global;
 
 // Whether the two sides of a listed symmetry find the same names.

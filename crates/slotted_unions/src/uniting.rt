@@ -2,7 +2,7 @@
 ghost use Rattle.std.specs.Prelude.{◌≡◌, ◌↔◌, ◌<◌, length, IsTrue, IfErr, IsErrOf, IfOk, ◌≢◌};
 ghost use Rattle.slotted_slots.specs.Error.{IsShortage};
 ghost use Rattle.slotted_model.specs.Changes.{PairsAll, found_entry};
-ghost use Rattle.slotted_store.specs.Kept.{find_at};
+ghost use Rattle.slotted_classes.specs.Kept.{find_at};
 ghost use Rattle.slotted_unions.specs.Proving.{HasLargeSide};
 ghost use Rattle.slotted_unions.specs.StateOf.{state_of};
 ghost use Rattle.slotted_unions.specs.Stored.{Stored};
@@ -12,10 +12,10 @@ use crate::dropping::drop_left;
 use crate::linking::link;
 use crate::listing::list_once;
 use crate::proving::found_proof;
+use slotted_classes::Store;
 use slotted_languages::Language;
 use slotted_proofs::ProvenEq;
 use slotted_slots::Error;
-use slotted_store::Store;
 use std::alloc::Global;
 
 /// What one step of a union did.

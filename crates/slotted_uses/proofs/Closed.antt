@@ -4,10 +4,10 @@ use Rattle.std.specs.Prelude.{◌<◌, Contains, false}
 use Rattle.std.proofs.lemmas.Bool.{false≢true}
 use Rattle.std.proofs.lemmas.List.Elements.{Contains-append_left, Contains-push, Contains-push_cases}
 use Rattle.slotted_theory.specs.Term.{Term}
-use Rattle.slotted_core.specs.Affected.{IsAffected, by_affected_child, by_open_symmetry}
-use Rattle.slotted_core.specs.Explaining.{FindsApart}
-use Rattle.slotted_core.specs.Graph.{Graph}
-use Rattle.slotted_core.specs.Image.{AreClosed, CountsOpen, FoundAlike, Image, SymmetryEntry, none, one_closed, one_open}
+use Rattle.slotted_operations.specs.Affected.{IsAffected, by_affected_child, by_open_symmetry}
+use Rattle.slotted_operations.specs.Explaining.{FindsApart}
+use Rattle.slotted_operations.specs.Graph.{Graph}
+use Rattle.slotted_operations.specs.Image.{AreClosed, CountsOpen, FoundAlike, Image, SymmetryEntry, none, one_closed, one_open}
 use Rattle.slotted_workspace.specs.Asked.{Compares}
 use Rattle.slotted_uses.specs.Questions.{NeverFollows}
 

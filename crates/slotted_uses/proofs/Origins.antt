@@ -3,7 +3,7 @@ use Rattle.std.proofs.Common.{◌≡◌, ℕ, List, subst, sym}
 use Rattle.std.specs.Prelude.{Bool, None, Option, Some, String}
 use Rattle.std.specs.declared.alloc.Global.{Global}
 use Rattle.slotted_nodes.specs.Form.{Form}
-use Rattle.slotted_core.specs.Graph.{Graph}
+use Rattle.slotted_operations.specs.Graph.{Graph}
 use Rattle.slotted_graph.specs.Extension.{ExtendsTo}
 use Rattle.slotted_graph.proofs.Extending.{extends-itself}
 use Rattle.slotted_rules.specs.Applying.{NeverModified}

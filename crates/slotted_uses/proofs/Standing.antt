@@ -5,7 +5,7 @@ use Rattle.slotted_slots.specs.Syntax.{Element}
 use Rattle.slotted_theory.specs.Term.{Term}
 use Rattle.slotted_nodes.specs.Form.{Form}
 use Rattle.slotted_model.proofs.Options.{None-Some, Some-same}
-use Rattle.slotted_core.specs.Image.{asserted_in}
+use Rattle.slotted_operations.specs.Image.{asserted_in}
 use Rattle.slotted_workspace.specs.Asked.{AddsTerm, ChangesGraph, OfBoth}
 use Rattle.slotted_workspace.specs.Spaces.{Space, term_at}
 use Rattle.slotted_workspace.specs.declared.handle.Handle.{Handle}

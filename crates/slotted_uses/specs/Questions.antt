@@ -15,9 +15,9 @@ use Rattle.slotted_slots.specs.Syntax.{Element}
 use Rattle.slotted_theory.specs.Term.{Term}
 use Rattle.slotted_theory.specs.Derives.{Derives, nameless_pair}
 use Rattle.slotted_nodes.specs.Form.{Form}
-use Rattle.slotted_core.specs.Explaining.{FindsApart}
-use Rattle.slotted_core.specs.Graph.{Graph}
-use Rattle.slotted_core.specs.Image.{AreClosed, Image, asserted_in}
+use Rattle.slotted_operations.specs.Explaining.{FindsApart}
+use Rattle.slotted_operations.specs.Graph.{Graph}
+use Rattle.slotted_operations.specs.Image.{AreClosed, Image, asserted_in}
 use Rattle.slotted_rules.specs.RuleOrigins.{AreFromRules}
 use Rattle.slotted_rules.specs.TreeAnswers.{AnswersTree}
 use Rattle.slotted_rules.specs.declared.condition_tree.CondTree.{CondTree}

@@ -13,10 +13,10 @@ use Rattle.slotted_languages.proofs.HandedOn.{error_or}
 use Rattle.slotted_model.proofs.Options.{Some-same}
 use Rattle.slotted_model.specs.ProofList.{equation_of}
 use Rattle.slotted_proofs.specs.Equations.{to_applied}
-use Rattle.slotted_core.specs.Explaining.{AddsTerms, Explains, FilesOnlyTerms, FindsApart, KeepsKnown, RunsOutForTerms}
-use Rattle.slotted_core.specs.Graph.{Graph, MakesAtMost, OnlyTakesSlots}
-use Rattle.slotted_core.specs.Image.{Image, asserted_in}
-use Rattle.slotted_core.specs.Places.{term_slots}
+use Rattle.slotted_operations.specs.Explaining.{AddsTerms, Explains, FilesOnlyTerms, FindsApart, KeepsKnown, RunsOutForTerms}
+use Rattle.slotted_operations.specs.Graph.{Graph, MakesAtMost, OnlyTakesSlots}
+use Rattle.slotted_operations.specs.Image.{Image, asserted_in}
+use Rattle.slotted_operations.specs.Places.{term_slots}
 use Rattle.slotted_explain.specs.Printed.{IsProofText, MakesForProof, ProofRunsOut}
 use Rattle.slotted_graph.specs.Extension.{ExtendsTo}
 use Rattle.slotted_graph.specs.States.{IsGraph}

@@ -18,8 +18,8 @@ use Rattle.slotted_model.specs.Applied.{Applied}
 use Rattle.slotted_model.specs.Cost.{AtMost, tree_cost}
 use Rattle.slotted_costs.specs.Costs.{MayRefuse, cost_of_term}
 use Rattle.slotted_proofs.specs.Equations.{to_applied}
-use Rattle.slotted_core.specs.Graph.{Graph, OnlyTakesSlots}
-use Rattle.slotted_core.specs.Image.{asserted_in}
+use Rattle.slotted_operations.specs.Graph.{Graph, OnlyTakesSlots}
+use Rattle.slotted_operations.specs.Image.{asserted_in}
 use Rattle.slotted_explain.proofs.CallerLemmas.{fills-itself}
 use Rattle.slotted_graph.specs.LeastTerms.{IsLeastTerm, MakesForLeast, RunsOutForLeast}
 use Rattle.slotted_commands.specs.Extracted.{sizes}

@@ -9,7 +9,7 @@ use Rattle.slotted_slots.specs.Syntax.{Element}
 use Rattle.slotted_theory.specs.Term.{Term}
 use Rattle.slotted_nodes.specs.Form.{Form}
 use Rattle.slotted_model.specs.Applied.{Applied}
-use Rattle.slotted_core.specs.Graph.{Graph, OnlyReads}
+use Rattle.slotted_operations.specs.Graph.{Graph, OnlyReads}
 use Rattle.slotted_graph.proofs.Extending.{extends-read}
 use Rattle.slotted_rules.specs.Written.{CanBeSearched}
 use Rattle.slotted_rules.specs.WrittenLaws.{valid-later}

@@ -7,8 +7,8 @@ use Rattle.slotted_slots.specs.Syntax.{Element}
 use Rattle.slotted_theory.specs.Term.{Term}
 use Rattle.slotted_nodes.specs.Form.{Form}
 use Rattle.slotted_languages.proofs.HandedOn.{error_or}
-use Rattle.slotted_core.specs.Graph.{Graph, OnlyReads}
-use Rattle.slotted_core.specs.Reads.{AnswersTerm}
+use Rattle.slotted_operations.specs.Graph.{Graph, OnlyReads}
+use Rattle.slotted_operations.specs.Reads.{AnswersTerm}
 use Rattle.slotted_graph.specs.Extension.{ExtendsTo}
 use Rattle.slotted_graph.proofs.Extending.{extends-added, extends-read, extends-then}
 use Rattle.slotted_model.specs.Applied.{Applied}

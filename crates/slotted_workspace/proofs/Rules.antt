@@ -10,8 +10,8 @@ use Rattle.slotted_patterns.specs.Known.{HasKnownNames}
 use Rattle.slotted_patterns.specs.View.{tree_of}
 use Rattle.slotted_patterns.specs.declared.pattern.Pattern.{Pattern}
 use Rattle.slotted_rule_patterns.specs.Variables.{first_lacking, has_substitution}
-use Rattle.slotted_core.specs.Graph.{Graph, OnlyReads}
-use Rattle.slotted_core.specs.Reads.{AnswersPattern}
+use Rattle.slotted_operations.specs.Graph.{Graph, OnlyReads}
+use Rattle.slotted_operations.specs.Reads.{AnswersPattern}
 use Rattle.slotted_explain.proofs.CallerLemmas.{reads_twice}
 use Rattle.slotted_graph.proofs.KnownPatterns.{pattern-later}
 use Rattle.slotted_rules.specs.Written.{CanBeSearched, IsRefusedRule, IsRule, ReadsAs, left_refused, right_refused, rule_refused}

@@ -16,12 +16,12 @@ use Rattle.slotted_model.specs.Classes.{IsFull, term_of}
 use Rattle.slotted_model.specs.ProofList.{HoldsFrom, equation_at}
 use Rattle.slotted_model.proofs.FindProofs.{proved-holds}
 use Rattle.slotted_proofs.specs.Equations.{to_applied}
-use Rattle.slotted_core.specs.Affected.{IsYesIfDerivable}
-use Rattle.slotted_core.specs.Explaining.{HasIds}
-use Rattle.slotted_core.specs.Good.{image_of}
-use Rattle.slotted_core.specs.Graph.{Graph, RecordsUnion}
-use Rattle.slotted_core.specs.Image.{FoundAlike, Image, IsUnion, SaysEqual, asserted_in}
-use Rattle.slotted_core.specs.ValidIds.{IsValidId}
+use Rattle.slotted_operations.specs.Affected.{IsYesIfDerivable}
+use Rattle.slotted_operations.specs.Explaining.{HasIds}
+use Rattle.slotted_operations.specs.Good.{image_of}
+use Rattle.slotted_operations.specs.Graph.{Graph, RecordsUnion}
+use Rattle.slotted_operations.specs.Image.{FoundAlike, Image, IsUnion, SaysEqual, asserted_in}
+use Rattle.slotted_operations.specs.ValidIds.{IsValidId}
 use Rattle.slotted_explain.proofs.CallerLemmas.{asserts-full, fills-itself, full-valid}
 use Rattle.slotted_graph.specs.States.{IsGraph}
 use Rattle.slotted_graph.proofs.Extending.{extends-united}

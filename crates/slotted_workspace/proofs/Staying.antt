@@ -4,7 +4,7 @@ use Rattle.std.specs.Prelude.{All, IsTrue}
 use Rattle.std.proofs.lemmas.List.Elements.{All-nil, All-push, All-weaker}
 use Rattle.slotted_theory.specs.Nameless.{nameless}
 use Rattle.slotted_nodes.specs.Form.{Form}
-use Rattle.slotted_core.specs.Graph.{Graph}
+use Rattle.slotted_operations.specs.Graph.{Graph}
 use Rattle.slotted_proofs.specs.Equations.{to_applied}
 use Rattle.slotted_explain.proofs.CallerLemmas.{term_later}
 use Rattle.slotted_graph.specs.Extension.{ExtendsTo}

@@ -26,11 +26,11 @@ use Rattle.slotted_terms.specs.Valid.{IsValidTerm}
 use Rattle.slotted_model.specs.Applied.{Applied}
 use Rattle.slotted_model.specs.Cost.{AtMost}
 use Rattle.slotted_costs.specs.Costs.{cost_of_term}
-use Rattle.slotted_core.specs.Affected.{AreAffected}
-use Rattle.slotted_core.specs.Causes.{HasLargeClassIn}
-use Rattle.slotted_core.specs.Explaining.{HasIds, KeepsClasses}
-use Rattle.slotted_core.specs.Graph.{Graph, OnlyReads, OnlyTakesSlots, id_of_term}
-use Rattle.slotted_core.specs.Image.{Image, FoundAlike, IsUnion, RecordsFilled, asserted_in}
+use Rattle.slotted_operations.specs.Affected.{AreAffected}
+use Rattle.slotted_operations.specs.Causes.{HasLargeClassIn}
+use Rattle.slotted_operations.specs.Explaining.{HasIds, KeepsClasses}
+use Rattle.slotted_operations.specs.Graph.{Graph, OnlyReads, OnlyTakesSlots, id_of_term}
+use Rattle.slotted_operations.specs.Image.{Image, FoundAlike, IsUnion, RecordsFilled, asserted_in}
 use Rattle.slotted_graph.specs.Extension.{ExtendsTo}
 use Rattle.slotted_graph.specs.LeastTerms.{IsLeastTerm, MakesForLeast, RunsOutForLeast}
 use Rattle.slotted_explain.specs.Printed.{IsProofText}

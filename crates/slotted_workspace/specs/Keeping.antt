@@ -10,7 +10,7 @@ use Rattle.slotted_nodes.specs.Form.{Form}
 use Rattle.slotted_terms.specs.Valid.{IsValidTerm}
 use Rattle.slotted_model.specs.Classes.{term_of}
 use Rattle.slotted_proofs.specs.Equations.{to_applied}
-use Rattle.slotted_core.specs.Graph.{Graph, IsFullId, id_of_term}
+use Rattle.slotted_operations.specs.Graph.{Graph, IsFullId, id_of_term}
 use Rattle.slotted_rules.specs.Written.{CanBeSearched}
 use Rattle.slotted_rules.specs.declared.condition_tree.CondTree.{CondTree}
 use Rattle.slotted_rules.specs.declared.rewrite.Rewrite.{Rewrite}

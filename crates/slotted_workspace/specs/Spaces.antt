@@ -11,7 +11,7 @@ use Rattle.slotted_theory.specs.Term.{Term, term_code}
 use Rattle.slotted_nodes.specs.Form.{Form}
 use Rattle.slotted_patterns.specs.Tree.{PatternTree}
 use Rattle.slotted_patterns.specs.View.{tree_of}
-use Rattle.slotted_core.specs.Graph.{Graph, graph_code}
+use Rattle.slotted_operations.specs.Graph.{Graph, graph_code}
 use Rattle.slotted_graph.specs.Analysed.{new_graph}
 use Rattle.slotted_analyses.specs.Meaning.{unit_code}
 use Rattle.slotted_rules.specs.declared.condition_tree.CondTree.{CondTree}

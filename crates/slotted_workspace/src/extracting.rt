@@ -1,6 +1,6 @@
 //! Smallest terms, as texts.
 ghost use Rattle.std.specs.Prelude.{◌≡◌, ◌⊎◌, Some, IfOk, IfErr, IsTrue};
-ghost use Rattle.slotted_core.specs.Graph.{IsFullId, id_of_term};
+ghost use Rattle.slotted_operations.specs.Graph.{IsFullId, id_of_term};
 ghost use Rattle.slotted_graph.specs.Extension.{ExtendsTo};
 ghost use Rattle.slotted_model.specs.Classes.{term_of};
 ghost use Rattle.slotted_proofs.specs.Equations.{to_applied};

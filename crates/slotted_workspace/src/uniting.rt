@@ -1,7 +1,7 @@
 //! Unions of kept terms.
 ghost use Rattle.std.specs.Prelude.{◌≡◌, ◌⊎◌, Some, IfOk, IfErr, IsTrue};
 ghost use Rattle.slotted_graph.specs.Extension.{ExtendsTo};
-ghost use Rattle.slotted_store.specs.Kept.{text_bytes};
+ghost use Rattle.slotted_classes.specs.Kept.{text_bytes};
 ghost use Rattle.slotted_workspace.specs.Asked.{UnitesTerms, UnionRefused};
 ghost use Rattle.slotted_workspace.specs.Keeping.{IsKept};
 

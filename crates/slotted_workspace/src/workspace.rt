@@ -1,7 +1,7 @@
 //! The workspace.
 ghost use Rattle.std.specs.Prelude.{◌≡◌, ◌⊎◌, ◌++◌, [], ◌∷◌, None, Some, length, IsOk, IfOk, IfErr, IsTrue, OnOk};
-ghost use Rattle.slotted_core.specs.Image.{CountsOpen};
-ghost use Rattle.slotted_core.specs.Graph.{OnlyReads};
+ghost use Rattle.slotted_operations.specs.Image.{CountsOpen};
+ghost use Rattle.slotted_operations.specs.Graph.{OnlyReads};
 ghost use Rattle.slotted_workspace.specs.Asked.{AddsKept, AddRefused, ChangesGraph, Compares, ExplainsTerms};
 ghost use Rattle.slotted_workspace.specs.Asked.{ExplainRefused, ExtractsTerm, ExtractRefused, HadFailed};
 ghost use Rattle.slotted_workspace.specs.Asked.{OfBoth, OfOne, Refuses, RefusesBoth, RefusesOne, UnitesTerms};

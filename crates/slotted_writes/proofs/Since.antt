@@ -5,13 +5,13 @@ use Rattle.slotted_theory.specs.Term.{Term}
 use Rattle.slotted_model.specs.Applied.{Applied}
 use Rattle.slotted_model.specs.Changes.{GoesOn}
 use Rattle.slotted_model_analyses.specs.Analysis.{Analysis}
-use Rattle.slotted_store.specs.Kept.{Kept}
-use Rattle.slotted_filing.specs.FiledRows.{Rows}
+use Rattle.slotted_classes.specs.Kept.{Kept}
+use Rattle.slotted_hashcons.specs.FiledRows.{Rows}
 use Rattle.slotted_rebuilding.specs.Filed.{state_in}
 use Rattle.slotted_data.specs.Held.{Held}
 use Rattle.slotted_data.specs.Carrying.{DataRests, HasCarriedAll, RestedBefore}
 use Rattle.slotted_data.proofs.Resting.{rested-before}
-use Rattle.slotted_core.specs.Good.{KeepsNotes}
+use Rattle.slotted_operations.specs.Good.{KeepsNotes}
 
 module _ {D : Type 0} (a : Analysis D) (k : Kept) (r : Rows) (d : Held D) (rests : DataRests a k r d) where
   pub rested-since : (l : Kept) (q : Rows) → GoesOn (state_in k r) (state_in l q) → KeepsNotes k l → RestedBefore a k r l q d

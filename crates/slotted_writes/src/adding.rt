@@ -2,26 +2,26 @@
 ghost use Rattle.std.specs.Prelude.{◌≡◌, IfErr, IfOk, IsErrOf, OnOk};
 ghost use Rattle.slotted_slots.specs.Error.{IsShortage};
 ghost use Rattle.slotted_slots.specs.Table.{KnowsMore};
-ghost use Rattle.slotted_filing.specs.NormalNodes.{HasFindableChildren};
+ghost use Rattle.slotted_hashcons.specs.NormalNodes.{HasFindableChildren};
 ghost use Rattle.slotted_proofs.specs.Equations.{to_applied};
 ghost use Rattle.slotted_terms.specs.Valid.{AllKnown, IsValidTerm, IsWhole};
-ghost use Rattle.slotted_store.specs.Kept.{nodes_of};
+ghost use Rattle.slotted_classes.specs.Kept.{nodes_of};
 ghost use Rattle.slotted_analyses.specs.Meaning.{by_bare_nodes};
 ghost use Rattle.slotted_data.specs.Carrying.{Carried, DataRests, HasCarriedAll};
-ghost use Rattle.slotted_core.specs.Adding.{RunsOutForFilled, slots_needed};
-ghost use Rattle.slotted_core.specs.Causes.{CanRunOutForTerm, IsUnknownIfFull, IsUnknownTerm};
-ghost use Rattle.slotted_core.specs.Good.{AddsFilled, AddsFound, AddsFoundTerm, AddsTerm, Good, HasFreshSlots, RestsWith};
-ghost use Rattle.slotted_core.specs.Good.{LacksForTermIn, RunsOutForUnknownIn, TakesForTermIn, image_of};
-ghost use Rattle.slotted_core.specs.Graph.{MakesAtMost};
-ghost use Rattle.slotted_core.specs.Places.{term_slots};
+ghost use Rattle.slotted_operations.specs.Adding.{RunsOutForFilled, slots_needed};
+ghost use Rattle.slotted_operations.specs.Causes.{CanRunOutForTerm, IsUnknownIfFull, IsUnknownTerm};
+ghost use Rattle.slotted_operations.specs.Good.{AddsFilled, AddsFound, AddsFoundTerm, AddsTerm, Good, HasFreshSlots, RestsWith};
+ghost use Rattle.slotted_operations.specs.Good.{LacksForTermIn, RunsOutForUnknownIn, TakesForTermIn, image_of};
+ghost use Rattle.slotted_operations.specs.Graph.{MakesAtMost};
+ghost use Rattle.slotted_operations.specs.Places.{term_slots};
 
 use slotted_analyses::Analysis;
-use slotted_core::{adding, looking_up};
+use slotted_classes::Store;
 use slotted_data::{ClassData, carry};
-use slotted_filing::Hashcons;
+use slotted_hashcons::Hashcons;
 use slotted_languages::Language;
+use slotted_operations::{adding, looking_up};
 use slotted_slots::{AppliedId, Error, SlotTable};
-use slotted_store::Store;
 use slotted_terms::expr::RecExpr;
 use std::alloc::Global;
 

@@ -5,19 +5,19 @@ ghost use Rattle.slotted_slots.specs.Table.{KnowsMore};
 ghost use Rattle.slotted_terms.specs.Valid.{IsWhole};
 ghost use Rattle.slotted_analyses.specs.Meaning.{by_bare_nodes};
 ghost use Rattle.slotted_data.specs.Carrying.{Carried, DataRests, HasCarriedAll};
-ghost use Rattle.slotted_core.specs.Explaining.{ExplainsTerms, RunsOutForTerms};
-ghost use Rattle.slotted_core.specs.Good.{Good, RestsWith, HasFreshSlots, image_of};
-ghost use Rattle.slotted_core.specs.Graph.{MakesAtMost};
-ghost use Rattle.slotted_core.specs.Places.{term_slots};
+ghost use Rattle.slotted_operations.specs.Explaining.{ExplainsTerms, RunsOutForTerms};
+ghost use Rattle.slotted_operations.specs.Good.{Good, RestsWith, HasFreshSlots, image_of};
+ghost use Rattle.slotted_operations.specs.Graph.{MakesAtMost};
+ghost use Rattle.slotted_operations.specs.Places.{term_slots};
 
 use slotted_analyses::Analysis;
-use slotted_core::explaining;
+use slotted_classes::Store;
 use slotted_data::{ClassData, carry};
-use slotted_filing::Hashcons;
+use slotted_hashcons::Hashcons;
 use slotted_languages::Language;
+use slotted_operations::explaining;
 use slotted_proofs::ProvenEq;
 use slotted_slots::{Error, SlotTable};
-use slotted_store::Store;
 use slotted_terms::expr::RecExpr;
 use std::alloc::Global;
 

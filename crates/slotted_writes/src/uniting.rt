@@ -2,20 +2,20 @@
 ghost use Rattle.std.specs.Prelude.{◌≡◌, false, IfErr, IfOk, IsErrOf, OnOk};
 ghost use Rattle.slotted_slots.specs.Error.{IsShortage};
 ghost use Rattle.slotted_proofs.specs.Equations.{to_applied};
-ghost use Rattle.slotted_store.specs.Finding.{IsFindable};
-ghost use Rattle.slotted_store.specs.Kept.{text_bytes};
+ghost use Rattle.slotted_classes.specs.Finding.{IsFindable};
+ghost use Rattle.slotted_classes.specs.Kept.{text_bytes};
 ghost use Rattle.slotted_analyses.specs.Meaning.{by_bare_nodes};
 ghost use Rattle.slotted_data.specs.Carrying.{Carried, DataRests, HasCarriedAll};
-ghost use Rattle.slotted_core.specs.Causes.{HasLargeClassIn};
-ghost use Rattle.slotted_core.specs.Good.{Good, RestsWith, UnitesSides, image_of};
+ghost use Rattle.slotted_operations.specs.Causes.{HasLargeClassIn};
+ghost use Rattle.slotted_operations.specs.Good.{Good, RestsWith, UnitesSides, image_of};
 
 use slotted_analyses::Analysis;
-use slotted_core::uniting;
+use slotted_classes::Store;
 use slotted_data::{ClassData, carry};
-use slotted_filing::Hashcons;
+use slotted_hashcons::Hashcons;
 use slotted_languages::Language;
+use slotted_operations::uniting;
 use slotted_slots::{AppliedId, Error};
-use slotted_store::Store;
 use std::alloc::Global;
 
 /// Two ids are equal, because the caller says so, with a text or without one. True if they did not find alike.

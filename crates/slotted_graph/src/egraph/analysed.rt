@@ -1,8 +1,8 @@
 //! The analysis of a graph, and the data of its classes.
 ghost use Rattle.std.specs.Prelude.{◌≡◌, ◌⊎◌, ◌↔◌, ◌<◌, false, length, IsTrue, IfErr, IfOk, IsErr, IsErrOf, OnOk};
 ghost use Rattle.slotted_slots.specs.Error.{IsOutOfMemory, IsShortage};
-ghost use Rattle.slotted_core.specs.Reports.{HasClass, class_numbers};
-ghost use Rattle.slotted_core.specs.LookUp.{HasSameClasses};
+ghost use Rattle.slotted_operations.specs.Reports.{HasClass, class_numbers};
+ghost use Rattle.slotted_operations.specs.LookUp.{HasSameClasses};
 ghost use Rattle.slotted_graph.specs.Analysed.{AbsorbsMade, CountsPending, HasData, HasRounds, IsAnalysisOf, MergesData, SetsRounds, TakesPending};
 ghost use Rattle.slotted_graph.specs.Rounds.{IsModified};
 

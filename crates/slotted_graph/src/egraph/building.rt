@@ -3,17 +3,17 @@ ghost use Rattle.std.specs.Prelude.{All, ◌≡◌, ◌⊎◌, ◌↔◌, IsTrue
 ghost use Rattle.slotted_slots.specs.Error.{IsShortage};
 ghost use Rattle.slotted_model.specs.Classes.{IsFull};
 ghost use Rattle.slotted_proofs.specs.Equations.{to_applied};
-ghost use Rattle.slotted_core.specs.Canonical.{IsNodeOf};
-ghost use Rattle.slotted_core.specs.Graph.{IsFullId, MakesAtMost, OnlyTakesSlots, RunsOut};
-ghost use Rattle.slotted_core.specs.Nodes.{child_ids};
-ghost use Rattle.slotted_core.specs.Syn.{FillsFresh, HasUnknownBinders, MakesForFreshNode, RunsOutForFreshNode, names_lacking};
-ghost use Rattle.slotted_core.specs.ValidIds.{IsValidId, IsValidNode};
+ghost use Rattle.slotted_operations.specs.Canonical.{IsNodeOf};
+ghost use Rattle.slotted_operations.specs.Graph.{IsFullId, MakesAtMost, OnlyTakesSlots, RunsOut};
+ghost use Rattle.slotted_operations.specs.Nodes.{child_ids};
+ghost use Rattle.slotted_operations.specs.Syn.{FillsFresh, HasUnknownBinders, MakesForFreshNode, RunsOutForFreshNode, names_lacking};
+ghost use Rattle.slotted_operations.specs.ValidIds.{IsValidId, IsValidNode};
 
 use super::EGraph;
-use slotted_adding::filling::fill_id;
 use slotted_analyses::Analysis;
-use slotted_core::syn;
 use slotted_languages::Language;
+use slotted_lookup::filling::fill_id;
+use slotted_operations::syn;
 use slotted_slots::{AppliedId, Error};
 
 impl<L: Language, N: Analysis<L>> EGraph<L, N> {

@@ -1,16 +1,16 @@
 //! What the graph tells of its rebuilds.
 ghost use Rattle.std.specs.Prelude.{◌≡◌, ◌⊎◌, ℕ, IsTrue};
-ghost use Rattle.slotted_store.specs.Counts.{last_count};
-ghost use Rattle.slotted_core.specs.Graph.{Graph, totals_of};
+ghost use Rattle.slotted_classes.specs.Counts.{last_count};
+ghost use Rattle.slotted_operations.specs.Graph.{Graph, totals_of};
 ghost use Rattle.slotted_graph.specs.Analysed.{LowersData};
 ghost use Rattle.slotted_graph.specs.Counted.{HasNoHeights, IsWithinCounts, RiseWithin, TellsRebuild, TellsTotals};
 ghost use Rattle.slotted_graph.specs.Extension.{ExtendsTo};
 
 use super::EGraph;
 use slotted_analyses::Analysis;
+use slotted_classes::RebuildCount;
 use slotted_data::{last_rebuild, rebuild_totals};
 use slotted_languages::Language;
-use slotted_store::RebuildCount;
 
 impl<L: Language, N: Analysis<L>> EGraph<L, N> {
     /// Returns what the last rebuild did: how many e-nodes were filed and which size it found, which size it left, and how many turns it took. A

@@ -1,7 +1,7 @@
 //! What a graph holds, as a text.
 ghost use Rattle.std.specs.Prelude.{◌≡◌, ◌⊎◌, ◌↔◌, string_bytes, IsTrue, OnOk, OnErr, IfErr, IsErrOf};
 ghost use Rattle.slotted_slots.specs.Error.{IsShortage};
-ghost use Rattle.slotted_core.specs.Graph.{MakesAtMost, OnlyTakesSlots};
+ghost use Rattle.slotted_operations.specs.Graph.{MakesAtMost, OnlyTakesSlots};
 ghost use Rattle.slotted_graph.specs.FiledNodes.{CanRunOutForDump, IsAppended, slots_for_dump};
 
 use super::EGraph;

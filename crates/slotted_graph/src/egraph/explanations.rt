@@ -3,9 +3,9 @@ ghost use Rattle.std.specs.Prelude.{◌≡◌, ◌⊎◌, ◌↔◌, ◌+◌, Is
 ghost use Rattle.slotted_slots.specs.Error.{IsShortage};
 ghost use Rattle.slotted_slots.specs.Table.{KnowsMore};
 ghost use Rattle.slotted_terms.specs.Valid.{IsValidTerm};
-ghost use Rattle.slotted_core.specs.Explaining.{AddsTerms, Explains, FilesOnlyTerms, FindsApart, KeepsKnown, RunsOutForTerms};
-ghost use Rattle.slotted_core.specs.Graph.{MakesAtMost};
-ghost use Rattle.slotted_core.specs.Places.{term_slots};
+ghost use Rattle.slotted_operations.specs.Explaining.{AddsTerms, Explains, FilesOnlyTerms, FindsApart, KeepsKnown, RunsOutForTerms};
+ghost use Rattle.slotted_operations.specs.Graph.{MakesAtMost};
+ghost use Rattle.slotted_operations.specs.Places.{term_slots};
 ghost use Rattle.slotted_graph.specs.Analysed.{CarriesData};
 
 use super::EGraph;

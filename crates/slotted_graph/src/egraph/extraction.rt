@@ -5,17 +5,17 @@ ghost use Rattle.slotted_slots.specs.Maps.{values};
 ghost use Rattle.slotted_terms.specs.Valid.{IsValidTerm};
 ghost use Rattle.slotted_costs.specs.Costs.{costs_by, MayRefuse};
 ghost use Rattle.slotted_proofs.specs.Equations.{to_applied};
-ghost use Rattle.slotted_core.specs.Graph.{OnlyTakesSlots};
-ghost use Rattle.slotted_core.specs.ValidIds.{IsValidId};
-ghost use Rattle.slotted_extraction.specs.Terms.{IsFreshTerm};
+ghost use Rattle.slotted_operations.specs.Graph.{OnlyTakesSlots};
+ghost use Rattle.slotted_operations.specs.ValidIds.{IsValidId};
+ghost use Rattle.slotted_least_terms.specs.Terms.{IsFreshTerm};
 ghost use Rattle.slotted_graph.specs.LeastTerms.{AreChosenOf, AreLeastOf, HasEachLiveClass, IsExtracted, IsMadeOf};
 ghost use Rattle.slotted_graph.specs.LeastTerms.{LacksEntry, MakesForExtracted, RunsOutForExtracted};
 
 use super::EGraph;
 use slotted_analyses::Analysis;
 use slotted_costs::CostFunction;
-use slotted_extraction::{LeastTerms, extracting, terms};
 use slotted_languages::Language;
+use slotted_least_terms::{LeastTerms, extracting, terms};
 use slotted_slots::{AppliedId, Error};
 use slotted_terms::expr::RecExpr;
 

@@ -8,9 +8,9 @@ ghost use Rattle.slotted_rule_patterns.specs.PatternCode.{pattern_in};
 ghost use Rattle.slotted_rule_patterns.specs.Variables.{has_substitution};
 ghost use Rattle.slotted_matching.specs.Compiled.{HasWideNode};
 ghost use Rattle.slotted_matching.specs.Found.{HaveFreshNames, HaveVariables, RunsOutFor, TakesFor, name_count};
-ghost use Rattle.slotted_core.specs.Causes.{class_found};
-ghost use Rattle.slotted_core.specs.Graph.{MakesAtMost, OnlyTakesSlots};
-ghost use Rattle.slotted_core.specs.ValidIds.{IsValidId};
+ghost use Rattle.slotted_operations.specs.Causes.{class_found};
+ghost use Rattle.slotted_operations.specs.Graph.{MakesAtMost, OnlyTakesSlots};
+ghost use Rattle.slotted_operations.specs.ValidIds.{IsValidId};
 ghost use Rattle.slotted_graph.specs.Matching.{AreFoundValid, FindsAll, FindsAllOf, FindsEachOf, FindsLookedUp, HasWideRow};
 ghost use Rattle.slotted_graph.specs.Matching.{FindsAllAt, FindsAllAtOf, FindsEachAtOf, FindsLookedUpAt};
 

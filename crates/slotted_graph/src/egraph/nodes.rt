@@ -3,16 +3,16 @@ ghost use Rattle.std.specs.Prelude.{◌≡◌, ◌⊎◌, ◌↔◌, ◌<◌, le
 ghost use Rattle.slotted_slots.specs.Error.{IsShortage};
 ghost use Rattle.slotted_slots.specs.Maps.{values};
 ghost use Rattle.slotted_proofs.specs.Equations.{to_applied};
-ghost use Rattle.slotted_core.specs.ValidIds.{IsValidId};
-ghost use Rattle.slotted_core.specs.Graph.{MakesAtMost, OnlyTakesSlots};
-ghost use Rattle.slotted_core.specs.Reports.{names_slots};
+ghost use Rattle.slotted_operations.specs.ValidIds.{IsValidId};
+ghost use Rattle.slotted_operations.specs.Graph.{MakesAtMost, OnlyTakesSlots};
+ghost use Rattle.slotted_operations.specs.Reports.{names_slots};
 ghost use Rattle.slotted_graph.specs.FiledNodes.{AscendByShape, CanRunOutForEnodes, HasEachNode, HasFreshNames};
 ghost use Rattle.slotted_graph.specs.FiledNodes.{HasLargeRow, HasLargeRowOf, HasOwnNames, IsEnode, IsNoneIfDead, slots_for_enodes};
 
 use super::EGraph;
-use slotted_adding::reports;
 use slotted_analyses::Analysis;
 use slotted_languages::Language;
+use slotted_lookup::reports;
 use slotted_reports::{checking, nodes};
 use slotted_slots::{AppliedId, Error, Id};
 use std::collections::HashSet;

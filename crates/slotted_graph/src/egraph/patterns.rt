@@ -2,14 +2,14 @@
 ghost use Rattle.std.specs.Prelude.{◌≡◌, ◌↔◌, IsTrue, IfOk, IsErrOf, false};
 ghost use Rattle.slotted_patterns.specs.Known.{HasKnownNames};
 ghost use Rattle.slotted_patterns.specs.View.{tree_of};
-ghost use Rattle.slotted_core.specs.Graph.{OnlyReads};
-ghost use Rattle.slotted_core.specs.Reads.{AnswersPattern};
+ghost use Rattle.slotted_operations.specs.Graph.{OnlyReads};
+ghost use Rattle.slotted_operations.specs.Reads.{AnswersPattern};
 ghost use Rattle.slotted_graph.specs.KnownPatterns.{is_unknown, knows_node, knows_pattern, HasSmallNodes};
 
 use super::EGraph;
 use slotted_analyses::Analysis;
-use slotted_core::names::{PLACES, places_are_known};
 use slotted_languages::Language;
+use slotted_operations::names::{PLACES, places_are_known};
 use slotted_patterns::Pattern;
 use slotted_rule_patterns::inside::{Question, first_such};
 use slotted_slots::{Error, SlotTable};

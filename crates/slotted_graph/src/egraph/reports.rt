@@ -1,26 +1,26 @@
 //! What the graph tells of its classes, and slots of its table.
 ghost use Rattle.std.specs.Prelude.{◌≡◌, ◌⊎◌, ◌↔◌, ◌+◌, ◌<◌, length, false, IsTrue, IfOk, IfErr, IsErrOf, OnErr, OnOk};
-ghost use Rattle.slotted_adding.specs.Reports.{live_ids};
+ghost use Rattle.slotted_lookup.specs.Reports.{live_ids};
 ghost use Rattle.slotted_slots.specs.Error.{IsOutOfMemory};
 ghost use Rattle.slotted_slots.specs.Naming.{IsNamingRefusal};
 ghost use Rattle.slotted_slots.specs.Table.{IsNewName, PrintsWord, fresh_slot, gives, is_known, named_of, no_place};
 ghost use Rattle.slotted_slots.specs.Table.{slot_limit, too_large};
 ghost use Rattle.slotted_terms.specs.Valid.{AllKnown};
 ghost use Rattle.slotted_proofs.specs.Equations.{to_applied};
-ghost use Rattle.slotted_core.specs.Causes.{class_found};
-ghost use Rattle.slotted_core.specs.ValidIds.{IsValidId};
-ghost use Rattle.slotted_core.specs.Graph.{OnlyReads, OnlyTakesSlots};
-ghost use Rattle.slotted_core.specs.Image.{found_id};
-ghost use Rattle.slotted_core.specs.Reports.{HasClass, IsFoundFor, class_numbers, live_classes, names_slots, slots_used};
+ghost use Rattle.slotted_operations.specs.Causes.{class_found};
+ghost use Rattle.slotted_operations.specs.ValidIds.{IsValidId};
+ghost use Rattle.slotted_operations.specs.Graph.{OnlyReads, OnlyTakesSlots};
+ghost use Rattle.slotted_operations.specs.Image.{found_id};
+ghost use Rattle.slotted_operations.specs.Reports.{HasClass, IsFoundFor, class_numbers, live_classes, names_slots, slots_used};
 ghost use Rattle.slotted_graph.specs.Measure.{IsProgress, no_progress};
 
 use super::EGraph;
-use slotted_adding::{finding, reports};
 use slotted_analyses::Analysis;
+use slotted_classes::Store;
 use slotted_languages::Language;
+use slotted_lookup::{finding, reports};
 use slotted_reports::{ProgressMeasure, measure};
 use slotted_slots::{AppliedId, Error, Id, Slot, SmallHashSet};
-use slotted_store::Store;
 use std::alloc::Global;
 
 // The classes that find themselves, ascending.

@@ -2,12 +2,12 @@
 ghost use Rattle.std.specs.Prelude.{◌≡◌, ◌⊎◌, ◌↔◌, IsTrue, IfOk, OnErr, IfErr, IsErrOf};
 ghost use Rattle.slotted_model.specs.ProofList.{Step, reflexive, symmetric, transitive, congruent};
 ghost use Rattle.slotted_proofs.specs.Steps.{IsRefusal};
-ghost use Rattle.slotted_core.specs.Checks.{Fits, CanRunOut, Accepts, IsDerivable, FollowsFromEntry, entry_by};
+ghost use Rattle.slotted_operations.specs.Checks.{Fits, CanRunOut, Accepts, IsDerivable, FollowsFromEntry, entry_by};
 
 use crate::egraph::EGraph;
 use slotted_analyses::Analysis;
-use slotted_core::checking;
 use slotted_languages::Language;
+use slotted_operations::checking;
 use slotted_proofs::{
     CongruenceProof, Equation, ProvenEq, ReflexivityProof, SymmetryProof, TransitivityProof,
 };

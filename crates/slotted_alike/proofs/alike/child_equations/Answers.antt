@@ -4,9 +4,9 @@ use Rattle.std.proofs.lemmas.Bool.{false≢true}
 use Rattle.slotted_nodes.specs.Form.{children}
 use Rattle.slotted_outlines.specs.Seen.{lefts, rights, above, AreAlike, AreOutlines, owns_seen}
 use Rattle.slotted_proofs.specs.Equations.{to_applied}
-use Rattle.slotted_store.proofs.ChildIds.{child_is}
+use Rattle.slotted_classes.proofs.ChildIds.{child_is}
 use Rattle.slotted_alike.proofs.Frames.{ids_under, first_match-pushed, forms_alike, forms_owns, same_count, frames_alike, child_matches, left_apart, right_apart, more_apart, first_match-none}
-use Rattle.slotted_store.proofs.NameMaps.{all_differ-iff}
+use Rattle.slotted_classes.proofs.NameMaps.{all_differ-iff}
 use Rattle.slotted_alike.proofs.WideNodes.{child_fits_size, one_is_wide, outline_fits_size}
 use Rattle.slotted_alike.proofs.alike.child_equations.Goals as goal
 

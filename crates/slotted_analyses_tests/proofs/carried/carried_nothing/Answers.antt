@@ -1,8 +1,8 @@
 use Rattle.std.proofs.Common.{◌≡◌, sym, subst}
 use Rattle.slotted_model.specs.Rest.{AtRest}
 use Rattle.slotted_model.proofs.Asserting.{nothing-rests}
-use Rattle.slotted_store.specs.Kept.{Kept, nothing}
-use Rattle.slotted_filing.specs.FiledRows.{Rows, no_rows}
+use Rattle.slotted_classes.specs.Kept.{Kept, nothing}
+use Rattle.slotted_hashcons.specs.FiledRows.{Rows, no_rows}
 use Rattle.slotted_rebuilding.specs.Filed.{state_in}
 use Rattle.slotted_analyses.specs.Meaning.{by_bare_nodes}
 use Rattle.slotted_data.specs.Held.{Held, no_values}

@@ -2,9 +2,9 @@ use Rattle.std.proofs.Common.{◌∙◌, ap, arith, sym, subst}
 use Rattle.std.proofs.lemmas.Result.{IfOk-weaker}
 use Rattle.slotted_languages.specs.NewNames.{IsRenamedBy, LacksPerBinder}
 use Rattle.slotted_languages.specs.NodeTerm.{nameless_node}
-use Rattle.slotted_store.specs.Kept.{nodes_of}
+use Rattle.slotted_classes.specs.Kept.{nodes_of}
 use Rattle.slotted_proofs.specs.Equations.{to_applied}
-use Rattle.slotted_store.proofs.KeptLists.{length-nodes_of}
+use Rattle.slotted_classes.proofs.KeptLists.{length-nodes_of}
 use Rattle.slotted_congruence.specs.Named.{IsNodeOf}
 use Rattle.slotted_congruence.proofs.Naming.{names_all, named, canonical-at}
 use Rattle.slotted_congruence.proofs.WideNodes.{own_table_wide}

@@ -2,7 +2,7 @@ use Rattle.std.proofs.Common.{subst, inl, inr, rules}
 use Rattle.std.specs.Prelude.{IfSome, IfNone, All}
 use Rattle.slotted_proofs.specs.Equations.{to_applied}
 use Rattle.slotted_proofs.specs.Steps.{HasInjectiveSides}
-use Rattle.slotted_store.specs.Kept.{nodes_of}
+use Rattle.slotted_classes.specs.Kept.{nodes_of}
 use Rattle.slotted_alike.specs.Frames.{AreAlikeForms, AreNeverAlike}
 use Rattle.slotted_congruence.proofs.ChildrenOfTwins.{not_never, twin-children}
 use Rattle.slotted_congruence.proofs.WideNodes.{wide_at}

@@ -1,5 +1,5 @@
 use Rattle.std.proofs.Common.{◌∙◌, sym, subst, rules, arith}
-use Rattle.slotted_store.proofs.KeptLists.{any_default}
+use Rattle.slotted_classes.proofs.KeptLists.{any_default}
 use Rattle.slotted_unions.proofs.EnteredProofs.{only-large}
 use Rattle.slotted_congruence.specs.Congruence.{IsOfAlike}
 use Rattle.slotted_congruence.proofs.BridgedParts.{alike-still, first-none, first-more, first-all}

@@ -3,7 +3,7 @@ use Rattle.std.specs.Prelude.{All}
 use Rattle.std.proofs.lemmas.Result.{IfOk-weaker}
 use Rattle.slotted_model.specs.ProofList.{congruent}
 use Rattle.slotted_proofs.specs.Steps.{AreEntries, HasInjectiveSides, IsLarge}
-use Rattle.slotted_store.specs.Kept.{EntersBy}
+use Rattle.slotted_classes.specs.Kept.{EntersBy}
 use Rattle.slotted_congruence.specs.Congruence.{HasLargeBridge, IsOfAlike, ProvesEach, ProvesTwins}
 use Rattle.slotted_congruence.proofs.BridgedParts.{parts-entries, step-proves}
 use Rattle.slotted_unions.proofs.JoinedIds.{no_bad_step}

@@ -5,9 +5,9 @@ use Rattle.std.specs.Ordering.{is_lt}
 use Rattle.slotted_nodes.specs.Form.{children}
 use Rattle.slotted_model.specs.Extraction.{costs_in}
 use Rattle.slotted_model.proofs.Tables.{costs-length}
-use Rattle.slotted_filing.specs.Filed.{filed_of}
-use Rattle.slotted_filing.specs.FiledRows.{key_children}
-use Rattle.slotted_filing.proofs.KeyChildren.{key_children-read}
+use Rattle.slotted_hashcons.specs.Filed.{filed_of}
+use Rattle.slotted_hashcons.specs.FiledRows.{key_children}
+use Rattle.slotted_hashcons.proofs.KeyChildren.{key_children-read}
 use Rattle.slotted_costs.specs.Costs.{bare_node, costs_by}
 use Rattle.slotted_costs.specs.Entries.{table_of}
 use Rattle.slotted_costs.specs.Prices.{children_of, filing_children}

@@ -2,7 +2,7 @@ use Rattle.std.proofs.Common.{◌<◌, ◌≤◌, ℕ, List, [], length, Some, a
 use Rattle.std.proofs.lemmas.List.{take_all}
 use Rattle.slotted_nodes.specs.Form.{children}
 use Rattle.slotted_model.specs.Extraction.{cost_in, costs_in}
-use Rattle.slotted_filing.proofs.KeyChildren.{key_children-read}
+use Rattle.slotted_hashcons.proofs.KeyChildren.{key_children-read}
 use Rattle.slotted_costs.specs.Entries.{table_of}
 use Rattle.slotted_costs.proofs.Tables.{costs-step, costs-missed}
 use Rattle.slotted_costs.proofs.pricing.child_costs.Goals as goal

@@ -1,6 +1,6 @@
 use Rattle.std.proofs.Common.{map, ap, sym, subst, ◌∙◌}
 use Rattle.std.proofs.lemmas.Result.{on_ok_weaker}
-use Rattle.slotted_filing.proofs.KeyChildren.{key_children-read}
+use Rattle.slotted_hashcons.proofs.KeyChildren.{key_children-read}
 use Rattle.slotted_costs.specs.Prices.{filing_children}
 use Rattle.slotted_costs.specs.Counts.{UsesMore}
 use Rattle.slotted_costs.proofs.users.add_row.Goals as goal

@@ -1,7 +1,7 @@
 -- The counts so far.
 use Rattle.std.proofs.Common.{◌≡◌, ◌<◌, ℕ, length}
 use Rattle.std.specs.Prelude.{slice_index_or}
-use Rattle.slotted_filing.specs.Filed.{filed_of}
+use Rattle.slotted_hashcons.specs.Filed.{filed_of}
 use Rattle.slotted_costs.specs.Prices.{children_of}
 use Rattle.slotted_costs.specs.Counts.{IsKeyOf}
 use Rattle.slotted_costs.proofs.users.child_counts.Given as goal

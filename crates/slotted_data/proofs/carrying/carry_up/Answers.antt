@@ -1,7 +1,7 @@
 use Rattle.std.proofs.Common.{◌∙◌, subst, arith}
 use Rattle.std.specs.Prelude.{Contains}
 use Rattle.slotted_model_analyses.specs.Analysis.{IsMerge}
-use Rattle.slotted_store.proofs.KeptLists.{length-entries_of}
+use Rattle.slotted_classes.proofs.KeptLists.{length-entries_of}
 use Rattle.slotted_analyses.specs.Meaning.{by_bare_nodes}
 use Rattle.slotted_analyses.proofs.Merging.{merge-decided}
 use Rattle.slotted_data.specs.Burying.{Buries}

@@ -1,8 +1,8 @@
 use Rattle.std.proofs.Common.{◌≡◌, ◌<◌, ◌≤◌, ◌+◌, ◌*◌, ◌-◌, ◌^◌, false, suc, sym, ◌∙◌, ap, subst, arith, rules}
 use Rattle.std.specs.Prelude.{min}
-use Rattle.slotted_store.specs.Counts.{most_bound}
-use Rattle.slotted_store.specs.Kept.{size_of}
-use Rattle.slotted_store.specs.declared.counts.RebuildCount.{RebuildCount}
+use Rattle.slotted_classes.specs.Counts.{most_bound}
+use Rattle.slotted_classes.specs.Kept.{size_of}
+use Rattle.slotted_classes.specs.declared.counts.RebuildCount.{RebuildCount}
 use Rattle.slotted_data.specs.Counted.{heights_of}
 use Rattle.slotted_data.specs.Pending.{lives_in}
 use Rattle.slotted_data.proofs.Told.{heights-low, last-few, told-still, told-within}

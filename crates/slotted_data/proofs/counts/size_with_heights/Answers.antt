@@ -1,8 +1,8 @@
 use Rattle.std.proofs.Common.{◌≡◌, ◌<◌, ◌+◌, suc, length, drop, ap, arith}
 use Rattle.slotted_model.specs.Find.{entry_at}
 use Rattle.slotted_model.specs.Rest.{entry_size, size_from}
-use Rattle.slotted_store.specs.Kept.{entries_of, find_at}
-use Rattle.slotted_store.proofs.KeptLists.{entry_at-of, length-entries_of}
+use Rattle.slotted_classes.specs.Kept.{entries_of, find_at}
+use Rattle.slotted_classes.proofs.KeptLists.{entry_at-of, length-entries_of}
 use Rattle.slotted_data.specs.Counted.{heights_of}
 use Rattle.slotted_data.specs.Pending.{lives_in}
 use Rattle.slotted_data.proofs.Sizes.{heights-next, size-next}

@@ -1,6 +1,6 @@
 use Rattle.std.proofs.Common.{◌≡◌, ◌≤◌, ◌+◌, ◌*◌, ◌^◌, drop}
 use Rattle.slotted_model.specs.Rest.{size_from}
-use Rattle.slotted_store.specs.Kept.{entries_of, size_of}
+use Rattle.slotted_classes.specs.Kept.{entries_of, size_of}
 use Rattle.slotted_data.specs.Counted.{heights_of}
 use Rattle.slotted_data.specs.Pending.{lives_in}
 use Rattle.slotted_data.proofs.counts.size_with_heights.Given as goal

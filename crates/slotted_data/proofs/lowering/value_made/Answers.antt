@@ -1,5 +1,5 @@
 use Rattle.std.proofs.Common.{sym, subst}
-use Rattle.slotted_filing.specs.FiledRows.{HasChildrenBelow}
+use Rattle.slotted_hashcons.specs.FiledRows.{HasChildrenBelow}
 use Rattle.slotted_data.proofs.TakenData.{key-within}
 use Rattle.slotted_data.proofs.lowering.value_made.Goals as goal
 

@@ -1,6 +1,6 @@
 use Rattle.std.proofs.Common.{length, sym, subst, arith}
-use Rattle.slotted_filing.specs.FiledRows.{HasChildrenBelow}
-use Rattle.slotted_store.specs.Kept.{node_at}
+use Rattle.slotted_hashcons.specs.FiledRows.{HasChildrenBelow}
+use Rattle.slotted_classes.specs.Kept.{node_at}
 use Rattle.slotted_data.proofs.NewData.{children-older}
 use Rattle.slotted_data.proofs.making.add_next.Goals as goal
 

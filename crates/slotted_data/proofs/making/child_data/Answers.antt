@@ -1,7 +1,7 @@
 use Rattle.std.proofs.Common.{◌≡◌, ◌<◌, length, Some, sym, ◌∙◌, ap, subst, arith}
 use Rattle.slotted_nodes.specs.Form.{children, child_id}
-use Rattle.slotted_store.specs.Kept.{entries_of}
-use Rattle.slotted_filing.proofs.KeyChildren.{child-there}
+use Rattle.slotted_classes.specs.Kept.{entries_of}
+use Rattle.slotted_hashcons.proofs.KeyChildren.{child-there}
 use Rattle.slotted_data.specs.Made.{source_class}
 use Rattle.slotted_data.proofs.NewData.{first-next, first-all}
 use Rattle.slotted_data.proofs.making.child_data.Goals as goal

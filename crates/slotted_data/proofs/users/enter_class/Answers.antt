@@ -2,8 +2,8 @@ use Rattle.std.proofs.Common.{◌≡◌, ◌<◌, ◌∷◌, ◌++◌, [], lengt
 use Rattle.std.specs.Prelude.{◌⊎◌}
 use Rattle.std.proofs.lemmas.List.{take_all}
 use Rattle.slotted_nodes.specs.Form.{children, child_id}
-use Rattle.slotted_filing.specs.FiledRows.{HasChildrenBelow, Rows, key_children}
-use Rattle.slotted_filing.proofs.KeyChildren.{child-there}
+use Rattle.slotted_hashcons.specs.FiledRows.{HasChildrenBelow, Rows, key_children}
+use Rattle.slotted_hashcons.proofs.KeyChildren.{child-there}
 use Rattle.slotted_data.specs.Held.{with_user}
 use Rattle.slotted_data.specs.Made.{children_at}
 use Rattle.slotted_data.specs.Users.{EntersChildren, WaitEach, found_in}

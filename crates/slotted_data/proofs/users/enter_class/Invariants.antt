@@ -1,5 +1,5 @@
 use Rattle.std.proofs.Common.{take}
-use Rattle.slotted_filing.specs.FiledRows.{key_children}
+use Rattle.slotted_hashcons.specs.FiledRows.{key_children}
 use Rattle.slotted_data.specs.Users.{EntersChildren}
 use Rattle.slotted_data.proofs.users.enter_class.Given as goal
 

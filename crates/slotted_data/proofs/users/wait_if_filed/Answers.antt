@@ -1,6 +1,6 @@
 use Rattle.std.proofs.Common.{◌≡◌, None, rules}
-use Rattle.slotted_filing.specs.Filed.{filed_of}
-use Rattle.slotted_filing.specs.FiledRows.{IsFiled}
+use Rattle.slotted_hashcons.specs.Filed.{filed_of}
+use Rattle.slotted_hashcons.specs.FiledRows.{IsFiled}
 use Rattle.slotted_data.proofs.Entering.{each-unfiled, each-queued}
 use Rattle.slotted_data.proofs.users.wait_if_filed.Goals as goal
 

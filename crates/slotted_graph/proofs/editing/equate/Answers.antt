@@ -1,4 +1,4 @@
-use Rattle.slotted_core.proofs.CallerLemmas.{full-valid, term_later}
+use Rattle.slotted_operations.proofs.CallerLemmas.{full-valid, term_later}
 use Rattle.slotted_proofs.specs.Equations.{to_applied}
 use Rattle.slotted_graph.proofs.Extending.{full-extends}
 use Rattle.slotted_graph.proofs.Saying.{if-ok, makes-equate}

@@ -1,5 +1,5 @@
 use Rattle.std.proofs.Common.{◌∙◌, subst, sym}
-use Rattle.slotted_core.proofs.CallerLemmas.{full-valid}
+use Rattle.slotted_operations.proofs.CallerLemmas.{full-valid}
 use Rattle.slotted_proofs.specs.Equations.{to_applied}
 use Rattle.slotted_graph.proofs.Insides.{given}
 use Rattle.slotted_graph.specs.Edited.{MakesEdit}

@@ -4,7 +4,7 @@ use Rattle.slotted_terms.specs.Valid.{AllKnown}
 use Rattle.slotted_analyses.specs.Edits.{IsValidEdit}
 use Rattle.slotted_analyses.proofs.ValidEdits.{edit-valid}
 use Rattle.slotted_proofs.specs.Equations.{to_applied}
-use Rattle.slotted_core.specs.Reports.{names_slots}
+use Rattle.slotted_operations.specs.Reports.{names_slots}
 use Rattle.slotted_graph.specs.Asked.{IsAskedIn}
 use Rattle.slotted_graph.specs.Edited.{MakesEdits}
 use Rattle.slotted_graph.specs.Rounds.{modified}

@@ -1,5 +1,5 @@
 use Rattle.std.proofs.Common.{take}
-use Rattle.slotted_core.specs.Reports.{class_numbers}
+use Rattle.slotted_operations.specs.Reports.{class_numbers}
 use Rattle.slotted_graph.specs.Rounds.{HasModified}
 use Rattle.slotted_graph.proofs.rounds.modify_each.Given as goal
 

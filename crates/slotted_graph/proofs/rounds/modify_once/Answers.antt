@@ -1,5 +1,5 @@
 use Rattle.std.proofs.Common.{subst}
-use Rattle.slotted_core.specs.Reports.{class_numbers}
+use Rattle.slotted_operations.specs.Reports.{class_numbers}
 use Rattle.slotted_graph.specs.Rounds.{LeavesModified, Modifies}
 use Rattle.slotted_graph.proofs.Leaving.{round-leaves}
 use Rattle.slotted_graph.proofs.Saying.{graph-kept, if-ok}

@@ -2,7 +2,7 @@ use Rattle.std.proofs.Common.{◌≡◌, ◌-◌, length, map, take, drop, ap, s
 use Rattle.std.proofs.lemmas.List.{drop-map, length-map, take-map}
 use Rattle.slotted_nodes.specs.Form.{Form, children}
 use Rattle.slotted_proofs.specs.Equations.{to_applied}
-use Rattle.slotted_adding.specs.Filling.{node_over}
+use Rattle.slotted_lookup.specs.Filling.{node_over}
 use Rattle.slotted_instances.proofs.over.over_last.Goals as goal
 
 pub overflow_sub-len : goal.overflow_sub-len

@@ -1,7 +1,7 @@
 use Rattle.std.proofs.Common.{sym, subst, rules}
 use Rattle.std.specs.Prelude.{IsSome, OnOk}
 use Rattle.slotted_patterns.specs.View.{tree_of}
-use Rattle.slotted_store.specs.Kept.{text_bytes}
+use Rattle.slotted_classes.specs.Kept.{text_bytes}
 use Rattle.slotted_rule_patterns.specs.PatternCode.{pattern_in}
 use Rattle.slotted_rule_patterns.specs.Values.{values_of}
 use Rattle.slotted_instances.specs.Refusals.{AreMissing, HavePassed}

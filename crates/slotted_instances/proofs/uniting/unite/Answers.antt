@@ -2,7 +2,7 @@ use Rattle.std.proofs.Common.{inr}
 use Rattle.slotted_patterns.specs.View.{tree_of}
 use Rattle.slotted_proofs.specs.Equations.{to_applied}
 use Rattle.slotted_rule_patterns.specs.Values.{values_of}
-use Rattle.slotted_store.specs.Kept.{text_bytes}
+use Rattle.slotted_classes.specs.Kept.{text_bytes}
 use Rattle.slotted_instances.proofs.Parts.{known-later}
 use Rattle.slotted_instances.proofs.UnitedInstances.{ok-united}
 use Rattle.slotted_instances.proofs.uniting.unite.Goals as goal

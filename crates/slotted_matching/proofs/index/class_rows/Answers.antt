@@ -4,9 +4,9 @@ use Rattle.std.specs.Prelude.{All}
 use Rattle.std.proofs.lemmas.List.{get_or-map, length-map}
 use Rattle.slotted_model.specs.Applied.{Applied}
 use Rattle.slotted_model.specs.Find.{Entry}
-use Rattle.slotted_store.proofs.KeptLists.{entry_at-of}
-use Rattle.slotted_filing.specs.FiledRows.{IsFiled}
-use Rattle.slotted_adding.specs.Reports.{class_sources}
+use Rattle.slotted_classes.proofs.KeptLists.{entry_at-of}
+use Rattle.slotted_hashcons.specs.FiledRows.{IsFiled}
+use Rattle.slotted_lookup.specs.Reports.{class_sources}
 use Rattle.slotted_matching.specs.Indexed.{AreClassRows, AreSourceRows}
 use Rattle.slotted_matching.proofs.SourceRows.{classes-more, each-filed}
 use Rattle.slotted_matching.proofs.index.class_rows.Goals as goal

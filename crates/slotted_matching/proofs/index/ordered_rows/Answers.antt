@@ -3,7 +3,7 @@ use Rattle.std.proofs.Common.{map, sym, subst}
 use Rattle.std.specs.Prelude.{All}
 use Rattle.std.specs.List.Sorted.{IsPermutation}
 use Rattle.std.proofs.lemmas.List.Sorted.{All-permutation, IsPermutation-map}
-use Rattle.slotted_filing.specs.FiledRows.{IsFiled}
+use Rattle.slotted_hashcons.specs.FiledRows.{IsFiled}
 use Rattle.slotted_match_machine.specs.Index.{OneByOne}
 use Rattle.slotted_matching.specs.Indexed.{IsSourceRow}
 use Rattle.slotted_matching.proofs.index.ordered_rows.Goals as goal

@@ -1,6 +1,6 @@
 use Rattle.std.proofs.Common.{◌<◌, length, map, sym, subst, arith}
 use Rattle.std.proofs.lemmas.List.{get_or-map, length-map}
-use Rattle.slotted_filing.specs.FiledRows.{IsFiled}
+use Rattle.slotted_hashcons.specs.FiledRows.{IsFiled}
 use Rattle.slotted_match_machine.specs.Index.{OneByOne}
 use Rattle.slotted_matching.specs.Indexed.{IsSourceRow}
 use Rattle.slotted_matching.proofs.SourceRows.{grows-then, rows-more}

@@ -3,8 +3,8 @@ use Rattle.std.proofs.lemmas.List.{take_all, length-map}
 use Rattle.slotted_nodes.specs.Form.{Form, children}
 use Rattle.slotted_model.specs.Applied.{renamed_id}
 use Rattle.slotted_proofs.specs.Equations.{to_applied}
-use Rattle.slotted_store.specs.ChildIds.{child_ids}
-use Rattle.slotted_store.proofs.ChildIds.{length-ids}
+use Rattle.slotted_classes.specs.ChildIds.{child_ids}
+use Rattle.slotted_classes.proofs.ChildIds.{length-ids}
 use Rattle.slotted_match_machine.specs.Index.{IsIndexChild, OneByOne}
 use Rattle.slotted_matching.specs.KeyRows.{slot_number, numbered_ids}
 use Rattle.slotted_matching.proofs.Building.{ids-more}

@@ -1,6 +1,6 @@
 -- The classes in turn.
 use Rattle.std.proofs.Common.{rules, ap, length, subst, sym, arith, ◌<◌, ◌≤◌, ◌+◌, ◌∙◌}
-use Rattle.slotted_core.specs.Image.{Image}
+use Rattle.slotted_operations.specs.Image.{Image}
 use Rattle.slotted_pictures.proofs.Taken.{HasTaken, all-taken, class-full, class-passed, class-taken, none-taken}
 use Rattle.slotted_pictures.proofs.graphs.push_classes.Goals.{then-is_alive+in_ok-push_class, else-is_alive}
 use Rattle.slotted_pictures.proofs.graphs.push_classes.Goals as goal

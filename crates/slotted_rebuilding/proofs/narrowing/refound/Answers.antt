@@ -3,7 +3,7 @@ use Rattle.std.proofs.Common.{ℕ, ◌∙◌, ap, sym}
 use Rattle.std.specs.Prelude.{option_map}
 use Rattle.std.proofs.lemmas.Option.{none-some}
 use Rattle.std.proofs.lemmas.Result.{IfOk-weaker}
-use Rattle.slotted_filing.specs.FoundNodes.{FilesNode, IsFoundNode}
+use Rattle.slotted_hashcons.specs.FoundNodes.{FilesNode, IsFoundNode}
 use Rattle.slotted_rebuilding.proofs.NarrowedNodes.{filed-files, filed-find, first-filed, first-waits, key-large, waiting-within}
 use Rattle.slotted_rebuilding.proofs.narrowing.refound.Goals as goal
 

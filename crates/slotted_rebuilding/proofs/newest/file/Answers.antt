@@ -1,5 +1,5 @@
 use Rattle.indexmap.proofs.MapLemmas.{OnOk-map}
-use Rattle.slotted_filing.specs.FiledRows.{QueuesUp}
+use Rattle.slotted_hashcons.specs.FiledRows.{QueuesUp}
 use Rattle.slotted_rebuilding.specs.NewClasses.{BeginsAdding}
 use Rattle.slotted_rebuilding.proofs.Collisions.{children-within}
 use Rattle.slotted_rebuilding.proofs.NewestClasses.{filed-quietly, filed-waiting, is-filed, newest-place, newest-unfiled, newest-within}

@@ -1,6 +1,6 @@
 use Rattle.std.proofs.Common.{subst}
 use Rattle.std.specs.Prelude.{IfNone, IfSome}
-use Rattle.slotted_filing.specs.Filed.{HasKey, IsNewKey}
+use Rattle.slotted_hashcons.specs.Filed.{HasKey, IsNewKey}
 use Rattle.slotted_proofs.proofs.Refusals.{slots_left}
 use Rattle.slotted_rebuilding.proofs.LargeClasses.{same-error}
 use Rattle.slotted_rebuilding.proofs.NarrowedNodes.{findable, too-large}

@@ -1,6 +1,6 @@
 use Rattle.std.proofs.Common.{◌∙◌}
-use Rattle.slotted_store.specs.Counts.{noted}
-use Rattle.slotted_store.specs.Kept.{size_of, with_counts}
+use Rattle.slotted_classes.specs.Counts.{noted}
+use Rattle.slotted_classes.specs.Kept.{size_of, with_counts}
 use Rattle.slotted_rebuilding.proofs.RebuiltGraphs.{all-noted}
 use Rattle.slotted_rebuilding.proofs.rebuilding.rebuild.Goals as goal
 

@@ -1,6 +1,6 @@
 use Rattle.std.proofs.Common.{◌∙◌, sym, Some}
 use Rattle.indexmap.proofs.MapLemmas.{OnOk-map}
-use Rattle.slotted_filing.specs.FiledRows.{TakesTurn}
+use Rattle.slotted_hashcons.specs.FiledRows.{TakesTurn}
 use Rattle.slotted_rebuilding.specs.Turns.{TakesTurns}
 use Rattle.slotted_rebuilding.proofs.FiledStates.{first-still}
 use Rattle.slotted_proofs.proofs.Refusals.{slots_left}

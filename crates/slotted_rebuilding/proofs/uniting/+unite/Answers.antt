@@ -3,7 +3,7 @@ use Rattle.indexmap.proofs.MapLemmas.{OnOk-map}
 use Rattle.slotted_unions.specs.Uniting.{StepsBy}
 use Rattle.slotted_unions.proofs.GrownRows.{grown-count}
 use Rattle.slotted_unions.proofs.UniteSteps.{lost-large}
-use Rattle.slotted_filing.specs.FiledRows.{Rows}
+use Rattle.slotted_hashcons.specs.FiledRows.{Rows}
 use Rattle.slotted_rebuilding.specs.Filed.{UnitesFiled}
 use Rattle.slotted_proofs.proofs.Refusals.{slots_left}
 use Rattle.slotted_rebuilding.proofs.LargeClasses.{had-slots, same-error}

@@ -4,7 +4,7 @@ use Rattle.std.specs.Prelude.{option_map}
 use Rattle.std.proofs.lemmas.Bool.{eq-eqb}
 use Rattle.slotted_slots.specs.Maps.{keys}
 use Rattle.slotted_nodes.specs.Form.{Form}
-use Rattle.slotted_store.proofs.KeptLists.{length-mapped}
+use Rattle.slotted_classes.proofs.KeptLists.{length-mapped}
 use Rattle.slotted_rebuilding.specs.Filed.{IsKeyed}
 use Rattle.slotted_reports.proofs.checking.node_fits.Goals as goal
 

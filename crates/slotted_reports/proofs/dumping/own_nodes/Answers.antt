@@ -2,9 +2,9 @@ use Rattle.std.proofs.Common.{rules, ap, sym, subst}
 use Rattle.slotted_model.specs.Applied.{Applied, values}
 use Rattle.slotted_model.specs.Find.{used_slots}
 use Rattle.slotted_model.proofs.NormalIds.{values-identity}
-use Rattle.slotted_store.specs.Kept.{entries_of}
-use Rattle.slotted_adding.specs.Enodes.{AllKnownTo}
-use Rattle.slotted_adding.specs.Reports.{class_sources}
+use Rattle.slotted_classes.specs.Kept.{entries_of}
+use Rattle.slotted_lookup.specs.Enodes.{AllKnownTo}
+use Rattle.slotted_lookup.specs.Reports.{class_sources}
 use Rattle.slotted_reports.specs.Nodes.{RunsOutForKeys, TakesForKeys}
 use Rattle.slotted_reports.proofs.dumping.own_nodes.Goals as goal
 

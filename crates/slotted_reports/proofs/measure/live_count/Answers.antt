@@ -3,9 +3,9 @@ use Rattle.std.proofs.Common.{◌+◌, ◌∙◌, ap, sym, arith}
 use Rattle.std.proofs.lemmas.Bool.{eq-eqb, ne_eqb, false≢true}
 use Rattle.std.specs.Prelude.{length}
 use Rattle.slotted_model.specs.Find.{entry_at}
-use Rattle.slotted_store.specs.Kept.{entries_of}
-use Rattle.slotted_adding.specs.Reports.{lives}
-use Rattle.slotted_adding.proofs.Reported.{next-fails}
+use Rattle.slotted_classes.specs.Kept.{entries_of}
+use Rattle.slotted_lookup.specs.Reports.{lives}
+use Rattle.slotted_lookup.proofs.Reported.{next-fails}
 use Rattle.slotted_reports.proofs.Measured.{counts-one}
 use Rattle.slotted_reports.proofs.measure.live_count.Goals.{then-is_alive, else-is_alive}
 use Rattle.slotted_reports.proofs.measure.live_count.Goals as goal

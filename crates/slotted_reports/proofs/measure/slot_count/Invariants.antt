@@ -1,8 +1,8 @@
 use Rattle.std.proofs.Common.{◌≡◌}
 use Rattle.std.specs.List.{filter, range_with_len, sum_by}
 use Rattle.slotted_nodes.specs.Form.{counted}
-use Rattle.slotted_store.specs.Kept.{entries_of}
-use Rattle.slotted_adding.specs.Reports.{lives}
+use Rattle.slotted_classes.specs.Kept.{entries_of}
+use Rattle.slotted_lookup.specs.Reports.{lives}
 use Rattle.slotted_reports.specs.Measure.{entry_slots}
 use Rattle.slotted_reports.proofs.measure.slot_count.Given as goal
 

@@ -2,7 +2,7 @@
 use Rattle.std.proofs.Common.{rules, ◌∙◌, sym, subst}
 use Rattle.std.specs.Prelude.{All}
 use Rattle.std.specs.List.Sorted.{IsPermutation}
-use Rattle.slotted_filing.specs.FiledRows.{IsFiled}
+use Rattle.slotted_hashcons.specs.FiledRows.{IsFiled}
 use Rattle.slotted_proofs.specs.Equations.{to_applied}
 use Rattle.slotted_reports.specs.Nodes.{AreAppliedNodes, Ascend, IsSourceOf, RunsOutForKeys}
 use Rattle.slotted_reports.proofs.FreshNodes.{runs_out-ordered}

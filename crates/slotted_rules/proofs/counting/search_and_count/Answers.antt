@@ -4,7 +4,7 @@ use Rattle.slotted_slots.specs.declared.error.Error.{Error}
 use Rattle.slotted_slots.specs.Error.{IsShortage}
 use Rattle.slotted_languages.proofs.HandedOn.{handed_err}
 use Rattle.slotted_model_rules.specs.Runners.{SearchesAll}
-use Rattle.slotted_core.specs.Graph.{Graph}
+use Rattle.slotted_operations.specs.Graph.{Graph}
 use Rattle.slotted_graph.specs.Extension.{ExtendsTo}
 use Rattle.slotted_graph.proofs.Extending.{extends-then}
 use Rattle.slotted_rules.specs.Applying.{AreRefusedBy}

@@ -3,7 +3,7 @@ use Rattle.std.proofs.Common.{ℕ, ◌+◌, refl, subst, sym, inl, inr, arith}
 use Rattle.std.specs.Prelude.{string_bytes}
 use Rattle.slotted_patterns.specs.Tree.{PatternTree}
 use Rattle.slotted_patterns.specs.View.{tree_of}
-use Rattle.slotted_core.specs.Graph.{Graph}
+use Rattle.slotted_operations.specs.Graph.{Graph}
 use Rattle.slotted_rules.specs.Loops.{HasAppliedSome}
 use Rattle.slotted_rules.specs.Rewriting.{AreFromRule}
 use Rattle.slotted_rules.specs.WrittenLaws.{apply-later, valid-later}

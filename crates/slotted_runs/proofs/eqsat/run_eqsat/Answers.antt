@@ -3,7 +3,7 @@ use Rattle.std.proofs.Common.{◌≡◌, ◌∙◌, false, Result, Ok, Err, IfOk
 use Rattle.std.specs.Prelude.{IsErrAnd, OnErr}
 use Rattle.slotted_slots.specs.declared.error.Error.{Error}
 use Rattle.slotted_slots.specs.Error.{IsShortage}
-use Rattle.slotted_core.specs.Graph.{Graph}
+use Rattle.slotted_operations.specs.Graph.{Graph}
 use Rattle.slotted_graph.specs.Measure.{IsProgress}
 use Rattle.slotted_rules.proofs.AppliedRules.{not-failed-so, ok-well}
 use Rattle.slotted_rules.specs.Applying.{AreModified}

@@ -3,7 +3,7 @@ use Rattle.std.proofs.lemmas.Result.{on_ok_weaker}
 use Rattle.slotted_model.specs.Applied.{Applied}
 use Rattle.slotted_model.specs.Find.{IsLive}
 use Rattle.slotted_proofs.specs.Equations.{to_applied}
-use Rattle.slotted_store.specs.Kept.{entries_of}
+use Rattle.slotted_classes.specs.Kept.{entries_of}
 use Rattle.slotted_unions.proofs.ChangedEntries.{linked-left}
 use Rattle.slotted_unions.proofs.EnteredProofs.{entry-left}
 use Rattle.slotted_unions.proofs.WrittenEntries.{left-in_range}

@@ -1,6 +1,6 @@
 use Rattle.std.proofs.Common.{◌≡◌, ◌≢◌, ◌<◌, length, sym, subst, arith, rules}
-use Rattle.slotted_store.specs.Kept.{Kept, find_at}
-use Rattle.slotted_store.proofs.Chasing.{moments_left, next_within, nearer}
+use Rattle.slotted_classes.specs.Kept.{Kept, find_at}
+use Rattle.slotted_classes.proofs.Chasing.{moments_left, next_within, nearer}
 use Rattle.slotted_unions.specs.Proving.{ProvesFind}
 use Rattle.slotted_unions.proofs.EnteredProofs.{stored-finds}
 use Rattle.slotted_unions.proofs.ProofsOfFinds.{entry-proves, next-class_of, live-proves, next-first, next-meets, next-among, next-large}

@@ -1,4 +1,4 @@
-use Rattle.slotted_store.proofs.Chasing.{moments_left}
+use Rattle.slotted_classes.proofs.Chasing.{moments_left}
 use Rattle.slotted_unions.proofs.proving.+find_proof.Given as goal
 
 abbrev pub decreases-find_proof : goal.decreases-find_proof

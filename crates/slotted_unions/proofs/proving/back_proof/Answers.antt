@@ -1,6 +1,6 @@
 use Rattle.std.proofs.Common.{rules}
 use Rattle.slotted_model.specs.ProofList.{find_equation}
-use Rattle.slotted_store.specs.Kept.{nodes_of, entries_of}
+use Rattle.slotted_classes.specs.Kept.{nodes_of, entries_of}
 use Rattle.slotted_unions.proofs.EnteredProofs.{then-turned}
 use Rattle.slotted_unions.proofs.ProofsOfFinds.{back-large}
 use Rattle.slotted_unions.proofs.proving.back_proof.Goals as goal

@@ -4,8 +4,8 @@ use Rattle.slotted_model.specs.ProofList.{find_equation, transitive, turned_equa
 use Rattle.slotted_proofs.specs.declared.equation.Equation.{Equation as Sides}
 use Rattle.slotted_proofs.specs.Equations.{to_applied}
 use Rattle.slotted_slots.specs.declared.types.AppliedId.{AppliedId}
-use Rattle.slotted_store.specs.Kept.{Kept, EntersBy, nodes_of, entries_of}
-use Rattle.slotted_store.proofs.KeptLists.{length-nodes_of}
+use Rattle.slotted_classes.specs.Kept.{Kept, EntersBy, nodes_of, entries_of}
+use Rattle.slotted_classes.proofs.KeptLists.{length-nodes_of}
 use Rattle.slotted_theory.specs.FiniteMaps.{IsInjectiveMap}
 use Rattle.slotted_unions.specs.Proving.{Proves, ProvesEqual}
 use Rattle.slotted_unions.proofs.EnteredProofs.{proves-still, only-large}

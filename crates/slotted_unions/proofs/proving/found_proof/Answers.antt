@@ -2,7 +2,7 @@
 use Rattle.std.proofs.Common.{◌<◌, length, rules, subst, sym}
 use Rattle.std.proofs.lemmas.Result.{IfOk-weaker}
 use Rattle.slotted_proofs.specs.Entries.{composite_entry}
-use Rattle.slotted_store.specs.Kept.{EntersIn}
+use Rattle.slotted_classes.specs.Kept.{EntersIn}
 use Rattle.slotted_unions.specs.Proving.{ProvesFound}
 use Rattle.slotted_unions.proofs.EnteredProofs.{entry-right}
 use Rattle.slotted_unions.proofs.ProofsOfFinds.{found-itself, right-large, still-right, still-stands, whole-first, whole-large, whole-meets, whole-proves}

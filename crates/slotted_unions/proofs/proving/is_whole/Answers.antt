@@ -4,8 +4,8 @@ use Rattle.std.proofs.lemmas.Bool.{eqb-true}
 use Rattle.slotted_model.specs.Applied.{Applied}
 use Rattle.slotted_model.specs.Classes.{canonical_slots}
 use Rattle.slotted_model.specs.Find.{Entry, IsLive, entry_at}
-use Rattle.slotted_store.specs.Kept.{entries_of, nodes_of}
-use Rattle.slotted_store.proofs.KeptLists.{entry_at-of, length-nodes_of}
+use Rattle.slotted_classes.specs.Kept.{entries_of, nodes_of}
+use Rattle.slotted_classes.proofs.KeptLists.{entry_at-of, length-nodes_of}
 use Rattle.slotted_unions.proofs.WholeEntries.{finds-whole}
 use Rattle.slotted_unions.proofs.proving.is_whole.Goals as goal
 

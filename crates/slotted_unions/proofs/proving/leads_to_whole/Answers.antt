@@ -3,9 +3,9 @@ use Rattle.std.proofs.Common.{◌≡◌, ◌<◌, ◌∙◌, ap, arith, length, 
 use Rattle.std.proofs.lemmas.Bool.{eqb-true}
 use Rattle.slotted_model.specs.Applied.{Applied}
 use Rattle.slotted_model.specs.Find.{Entry, IsLive, entry_at}
-use Rattle.slotted_store.specs.Kept.{entries_of, nodes_of}
-use Rattle.slotted_store.proofs.Chasing.{next_within}
-use Rattle.slotted_store.proofs.KeptLists.{entry_at-of, length-nodes_of}
+use Rattle.slotted_classes.specs.Kept.{entries_of, nodes_of}
+use Rattle.slotted_classes.proofs.Chasing.{next_within}
+use Rattle.slotted_classes.proofs.KeptLists.{entry_at-of, length-nodes_of}
 use Rattle.slotted_unions.proofs.EnteredProofs.{stored-finds}
 use Rattle.slotted_unions.proofs.ProofsOfFinds.{next-class_of}
 use Rattle.slotted_unions.proofs.WholeEntries.{whole-says}

@@ -1,5 +1,5 @@
 use Rattle.std.proofs.Common.{◌≡◌, ◌<◌, length, rules, subst, sym}
-use Rattle.slotted_store.specs.Kept.{Kept, find_at}
+use Rattle.slotted_classes.specs.Kept.{Kept, find_at}
 use Rattle.slotted_unions.proofs.EnteredProofs.{entry-left, entry-right}
 use Rattle.slotted_unions.proofs.TurnedEntries.{still-large, still-within, after-stored, after-within, after-live, after-large}
 use Rattle.slotted_unions.proofs.TurnedEntries.{as-many-keeps, left-drops, after-drops, after-keeps, none-dropped}

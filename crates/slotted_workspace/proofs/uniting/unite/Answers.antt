@@ -1,6 +1,6 @@
 use Rattle.std.proofs.Common.{inr}
 use Rattle.std.proofs.lemmas.Bool.{false≢true}
-use Rattle.slotted_store.specs.Kept.{text_bytes}
+use Rattle.slotted_classes.specs.Kept.{text_bytes}
 use Rattle.slotted_graph.proofs.Extending.{extends-united}
 use Rattle.slotted_workspace.proofs.Saying.{can-ask, kept-answered, unites}
 use Rattle.slotted_workspace.proofs.uniting.unite.Goals as goal

@@ -1,7 +1,7 @@
 use Rattle.std.proofs.Common.{◌≡◌, ◌∙◌, ap, sym, [], ◌∷◌, ◌++◌, length, map, arith}
 use Rattle.std.specs.Prelude.{set, slice_index_or}
 use Rattle.std.proofs.lemmas.List.{map-set, get_or-map, length-map}
-use Rattle.slotted_store.specs.Counts.{counts_of}
+use Rattle.slotted_classes.specs.Counts.{counts_of}
 use Rattle.slotted_data.specs.Held.{Held, with_user}
 use Rattle.slotted_data.proofs.class_data.ClassData.add_user.Goals as goal
 

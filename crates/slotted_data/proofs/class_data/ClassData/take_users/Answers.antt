@@ -1,7 +1,7 @@
 use Rattle.std.proofs.Common.{◌≡◌, ◌∙◌, ap, [], map}
 use Rattle.std.specs.Prelude.{set}
 use Rattle.std.proofs.lemmas.List.{map-set}
-use Rattle.slotted_store.specs.Counts.{counts_of}
+use Rattle.slotted_classes.specs.Counts.{counts_of}
 use Rattle.slotted_data.specs.Held.{Held, with_users_taken}
 use Rattle.slotted_data.proofs.class_data.ClassData.take_users.Goals as goal
 

@@ -3,7 +3,7 @@ use Rattle.std.proofs.Common.{◌∙◌, List, length, ap, sym, subst, arith, ru
 use Rattle.std.proofs.lemmas.Bool.{false≢true}
 use Rattle.slotted_proofs.specs.Entries.{Proven, entry_of}
 use Rattle.slotted_proofs.specs.Lines.{PartsAreEarlier}
-use Rattle.slotted_store.proofs.KeptLists.{length-mapped}
+use Rattle.slotted_classes.proofs.KeptLists.{length-mapped}
 use Rattle.slotted_explain.specs.Chain.{AreWithin, IsChain}
 use Rattle.slotted_explain.proofs.explanation.ProvenEqExplanation.to_flat_string.Goals as goal
 

@@ -3,7 +3,7 @@ use Rattle.std.proofs.Common.{◌<◌, ◌∙◌, List, [], ◌∷◌, length, a
 use Rattle.std.proofs.lemmas.Bool.{false≢true}
 use Rattle.slotted_proofs.specs.Entries.{Proven, entry_of}
 use Rattle.slotted_proofs.specs.Lines.{Lines, PartsAreEarlier}
-use Rattle.slotted_store.proofs.KeptLists.{length-mapped}
+use Rattle.slotted_classes.proofs.KeptLists.{length-mapped}
 use Rattle.slotted_graph.proofs.Layers.{each_at}
 use Rattle.slotted_explain.proofs.LinesBelow.{lines_below}
 use Rattle.slotted_explain.proofs.explanation.ProvenEqExplanation.to_string.Goals as goal

@@ -1,7 +1,7 @@
 use Rattle.std.proofs.Common.{◌∙◌, sym}
 use Rattle.std.specs.Prelude.{IsSome}
-use Rattle.slotted_core.specs.LookUp.{IsOneGraph, look_up_term}
-use Rattle.slotted_core.specs.AddingTerms.{FilesOnlyLookedUp}
+use Rattle.slotted_operations.specs.LookUp.{IsOneGraph, look_up_term}
+use Rattle.slotted_operations.specs.AddingTerms.{FilesOnlyLookedUp}
 use Rattle.slotted_graph.specs.Writing.{MakesForTerm}
 use Rattle.slotted_graph.proofs.Writing.{is-modified, ok-adds, ok-alone, ok-asked, ok-both, ok-extends, unmodified}
 use Rattle.slotted_graph.proofs.egraph.EGraph.add_expr.Goals as goal

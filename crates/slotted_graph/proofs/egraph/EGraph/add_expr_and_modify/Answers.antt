@@ -1,9 +1,9 @@
 use Rattle.std.proofs.Common.{refl, inl, inr}
-use Rattle.slotted_core.specs.LookUp.{IsOneGraph, look_up_term}
-use Rattle.slotted_core.specs.AddingTerms.{FilesOnlyLookedUp}
+use Rattle.slotted_operations.specs.LookUp.{IsOneGraph, look_up_term}
+use Rattle.slotted_operations.specs.AddingTerms.{FilesOnlyLookedUp}
 use Rattle.slotted_graph.specs.Writing.{MakesForTerm}
 use Rattle.std.specs.Prelude.{IsSome, false}
-use Rattle.slotted_core.proofs.CallerLemmas.{term_later}
+use Rattle.slotted_operations.proofs.CallerLemmas.{term_later}
 use Rattle.slotted_graph.proofs.Extending.{extends-then}
 use Rattle.slotted_graph.proofs.Insides.{given}
 use Rattle.slotted_graph.proofs.Saying.{graph-kept}

@@ -3,15 +3,15 @@ use Rattle.std.proofs.lemmas.Bool.{false≢true}
 use Rattle.slotted_slots.specs.Table.{Table}
 use Rattle.slotted_model.specs.Growth.{Extends}
 use Rattle.slotted_proofs.specs.Equations.{to_applied}
-use Rattle.slotted_store.specs.Kept.{nodes_of}
+use Rattle.slotted_classes.specs.Kept.{nodes_of}
 use Rattle.slotted_terms.specs.Valid.{IsValidTerm}
 use Rattle.slotted_data.specs.Part.{part_by}
-use Rattle.slotted_core.specs.Good.{image_of}
-use Rattle.slotted_core.specs.Graph.{Graph}
-use Rattle.slotted_core.specs.Image.{AddsClasses}
-use Rattle.slotted_core.specs.Adding.{term_nodes}
-use Rattle.slotted_core.proofs.AddedTerms.{reached}
-use Rattle.slotted_core.proofs.GraphTerms.{term-answers, term-equal, term-filed, term-found, term-id, term-kept, term-lacks, term-nodes, term-reached, term-takes}
+use Rattle.slotted_operations.specs.Good.{image_of}
+use Rattle.slotted_operations.specs.Graph.{Graph}
+use Rattle.slotted_operations.specs.Image.{AddsClasses}
+use Rattle.slotted_operations.specs.Adding.{term_nodes}
+use Rattle.slotted_operations.proofs.AddedTerms.{reached}
+use Rattle.slotted_operations.proofs.GraphTerms.{term-answers, term-equal, term-filed, term-found, term-id, term-kept, term-lacks, term-nodes, term-reached, term-takes}
 use Rattle.slotted_graph.proofs.Indexes.{no-index}
 use Rattle.slotted_graph.proofs.Analysed.{carries-data, kept-part}
 use Rattle.slotted_graph.proofs.Insides.{data-inside, inside-of, told-by}

@@ -2,17 +2,17 @@ use Rattle.std.proofs.Common.{◌∙◌, false, ap, arith, refl, rules, sym, sub
 use Rattle.std.proofs.lemmas.Bool.{false≢true}
 use Rattle.slotted_slots.specs.Table.{Table}
 use Rattle.slotted_proofs.specs.Equations.{to_applied}
-use Rattle.slotted_filing.specs.FiledRows.{rows_in}
+use Rattle.slotted_hashcons.specs.FiledRows.{rows_in}
 use Rattle.slotted_terms.specs.Valid.{AllKnown}
-use Rattle.slotted_core.specs.ValidIds.{IsValidNode}
+use Rattle.slotted_operations.specs.ValidIds.{IsValidNode}
 use Rattle.slotted_data.specs.Part.{part_by}
-use Rattle.slotted_core.specs.Good.{graph_of}
-use Rattle.slotted_core.specs.Graph.{Graph}
+use Rattle.slotted_operations.specs.Good.{graph_of}
+use Rattle.slotted_operations.specs.Graph.{Graph}
 use Rattle.slotted_languages.specs.NodeTerm.{nameless_node}
-use Rattle.slotted_core.specs.Adding.{RunsOutForFilled}
-use Rattle.slotted_core.proofs.LookUps.{looked_up-is}
-use Rattle.slotted_core.proofs.ValidIds.{findable-children}
-use Rattle.slotted_core.proofs.AddedNodes.{added-answers, added-equal, added-found, added-id, added-kept, added-made}
+use Rattle.slotted_operations.specs.Adding.{RunsOutForFilled}
+use Rattle.slotted_operations.proofs.LookUps.{looked_up-is}
+use Rattle.slotted_operations.proofs.ValidIds.{findable-children}
+use Rattle.slotted_operations.proofs.AddedNodes.{added-answers, added-equal, added-found, added-id, added-kept, added-made}
 use Rattle.slotted_graph.proofs.Analysed.{carries-data, kept-part}
 use Rattle.slotted_graph.proofs.Insides.{data-inside, given, inside-of}
 use Rattle.slotted_graph.proofs.egraph.EGraph.add_quietly.Goals as goal

@@ -1,6 +1,6 @@
 use Rattle.std.proofs.Common.{◌∙◌, sym}
 use Rattle.slotted_proofs.specs.Equations.{to_applied}
-use Rattle.slotted_core.specs.Adding.{AddsSyn}
+use Rattle.slotted_operations.specs.Adding.{AddsSyn}
 use Rattle.slotted_graph.specs.Writing.{AddsSynBefore, MakesForSynNode}
 use Rattle.slotted_graph.proofs.Extending.{extends-itself}
 use Rattle.slotted_graph.proofs.Saying.{if-ok}

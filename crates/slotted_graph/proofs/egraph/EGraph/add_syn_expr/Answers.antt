@@ -1,7 +1,7 @@
 use Rattle.std.proofs.Common.{◌∙◌, sym}
 use Rattle.std.specs.Prelude.{IsSome}
-use Rattle.slotted_core.specs.LookUp.{IsOneGraph}
-use Rattle.slotted_core.specs.Graph.{FilesOnlySubterms, id_of_term}
+use Rattle.slotted_operations.specs.LookUp.{IsOneGraph}
+use Rattle.slotted_operations.specs.Graph.{FilesOnlySubterms, id_of_term}
 use Rattle.slotted_graph.specs.Writing.{MakesForSynTerm}
 use Rattle.slotted_graph.proofs.Writing.{is-modified, ok-adds, ok-alone, ok-asked, ok-both, ok-extends, unmodified}
 use Rattle.slotted_graph.proofs.egraph.EGraph.add_syn_expr.Goals as goal

@@ -3,17 +3,17 @@ use Rattle.std.proofs.lemmas.Bool.{false≢true}
 use Rattle.slotted_slots.specs.Table.{Table}
 use Rattle.slotted_model.proofs.Ids.{id_of-iff}
 use Rattle.slotted_terms.specs.Valid.{IsValidTerm}
-use Rattle.slotted_core.specs.Causes.{CanRunOutForTerm, IsUnknownTerm}
-use Rattle.slotted_core.specs.Good.{image_of}
-use Rattle.slotted_core.specs.Graph.{Graph}
-use Rattle.slotted_core.specs.Image.{Image}
-use Rattle.slotted_filing.specs.FiledRows.{Rows, rows_in}
+use Rattle.slotted_operations.specs.Causes.{CanRunOutForTerm, IsUnknownTerm}
+use Rattle.slotted_operations.specs.Good.{image_of}
+use Rattle.slotted_operations.specs.Graph.{Graph}
+use Rattle.slotted_operations.specs.Image.{Image}
+use Rattle.slotted_hashcons.specs.FiledRows.{Rows, rows_in}
 use Rattle.slotted_model.specs.Ids.{id_of}
 use Rattle.std.specs.Prelude.{IsSome}
-use Rattle.slotted_store.specs.Kept.{nodes_of}
+use Rattle.slotted_classes.specs.Kept.{nodes_of}
 use Rattle.slotted_proofs.specs.Equations.{to_applied}
 use Rattle.slotted_theory.specs.Nameless.{nameless}
-use Rattle.slotted_core.proofs.KnownNames.{term_known}
+use Rattle.slotted_operations.proofs.KnownNames.{term_known}
 use Rattle.slotted_graph.proofs.Insides.{data-inside, inside-of}
 use Rattle.slotted_graph.proofs.Analysed.{carries-data, kept-part}
 use Rattle.slotted_graph.proofs.egraph.EGraph.add_syn_expr_quietly.Goals as goal

@@ -7,16 +7,16 @@ use Rattle.slotted_model.specs.Applied.{Applied, values}
 use Rattle.slotted_model.specs.Find.{used_slots}
 use Rattle.slotted_model.proofs.NormalIds.{values-identity}
 use Rattle.slotted_proofs.specs.Equations.{to_applied}
-use Rattle.slotted_store.specs.Kept.{entries_of}
+use Rattle.slotted_classes.specs.Kept.{entries_of}
 use Rattle.slotted_terms.specs.Valid.{AllKnown}
-use Rattle.slotted_adding.specs.Enodes.{HasNamesOrNumbers}
-use Rattle.slotted_adding.specs.Reports.{class_sources}
+use Rattle.slotted_lookup.specs.Enodes.{HasNamesOrNumbers}
+use Rattle.slotted_lookup.specs.Reports.{class_sources}
 use Rattle.slotted_reports.specs.Nodes.{AreClassNodes, HasLargeKeyOf}
-use Rattle.slotted_core.specs.Good.{HasFreshSlots}
-use Rattle.slotted_core.specs.Graph.{Graph}
-use Rattle.slotted_core.specs.Reports.{names_slots}
-use Rattle.slotted_core.proofs.GoodFinds.{good-finds}
-use Rattle.slotted_core.proofs.Reports.{names-are, names-known, slots-are, used-fresh, within}
+use Rattle.slotted_operations.specs.Good.{HasFreshSlots}
+use Rattle.slotted_operations.specs.Graph.{Graph}
+use Rattle.slotted_operations.specs.Reports.{names_slots}
+use Rattle.slotted_operations.proofs.GoodFinds.{good-finds}
+use Rattle.slotted_operations.proofs.Reports.{names-are, names-known, slots-are, used-fresh, within}
 use Rattle.slotted_graph.specs.FiledNodes.{HasEachNode, HasOwnNames, IsEnode, IsNoneIfDead}
 use Rattle.slotted_graph.proofs.Enodes.{class-enodes, each-node, large-of_class, none-dead}
 use Rattle.slotted_graph.proofs.Insides.{inside-of, given}

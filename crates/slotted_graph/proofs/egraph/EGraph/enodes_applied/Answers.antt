@@ -6,14 +6,14 @@ use Rattle.slotted_slots.specs.Table.{Table}
 use Rattle.slotted_terms.specs.Valid.{AllKnown}
 use Rattle.slotted_model.specs.Applied.{values}
 use Rattle.slotted_proofs.specs.Equations.{to_applied}
-use Rattle.slotted_store.specs.Finding.{IsFindable}
-use Rattle.slotted_adding.specs.Reports.{class_sources}
+use Rattle.slotted_classes.specs.Finding.{IsFindable}
+use Rattle.slotted_lookup.specs.Reports.{class_sources}
 use Rattle.slotted_reports.specs.Nodes.{AreEnodes, HasFreshNames, RunsOutForKeys}
-use Rattle.slotted_core.specs.Graph.{Graph, MakesAtMost}
-use Rattle.slotted_core.specs.ValidIds.{IsValidId}
-use Rattle.slotted_core.proofs.FreshSlots.{fresh_slots-more}
-use Rattle.slotted_core.proofs.Reports.{within}
-use Rattle.slotted_core.proofs.ValidIds.{of-valid}
+use Rattle.slotted_operations.specs.Graph.{Graph, MakesAtMost}
+use Rattle.slotted_operations.specs.ValidIds.{IsValidId}
+use Rattle.slotted_operations.proofs.FreshSlots.{fresh_slots-more}
+use Rattle.slotted_operations.proofs.Reports.{within}
+use Rattle.slotted_operations.proofs.ValidIds.{of-valid}
 use Rattle.slotted_graph.specs.FiledNodes.{AscendByShape, HasEachNode, IsNoneIfDead, slots_for_enodes}
 use Rattle.slotted_graph.proofs.Enodes.{each-node, enodes, none-dead, permuted-same, runs-out_of, takes-found}
 use Rattle.slotted_graph.proofs.Insides.{inside-of, given}

@@ -1,5 +1,5 @@
 use Rattle.std.proofs.Common.{inr}
-use Rattle.slotted_core.proofs.CallerLemmas.{term_later}
+use Rattle.slotted_operations.proofs.CallerLemmas.{term_later}
 use Rattle.slotted_graph.proofs.Extending.{extends-then}
 use Rattle.slotted_graph.proofs.Insides.{given}
 use Rattle.slotted_graph.proofs.Writing.{asked-then, explained-after, explained-asked, was-well}

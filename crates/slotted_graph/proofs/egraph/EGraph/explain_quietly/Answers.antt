@@ -1,8 +1,8 @@
 use Rattle.std.proofs.Common.{◌∙◌, sym, subst, rules, inl, inr, ap, refl}
 use Rattle.std.proofs.lemmas.Bool.{false≢true}
-use Rattle.slotted_core.specs.Explaining.{Answers, RunsOutForTerms}
-use Rattle.slotted_core.specs.Good.{image_of}
-use Rattle.slotted_core.specs.Graph.{Graph}
+use Rattle.slotted_operations.specs.Explaining.{Answers, RunsOutForTerms}
+use Rattle.slotted_operations.specs.Good.{image_of}
+use Rattle.slotted_operations.specs.Graph.{Graph}
 use Rattle.slotted_graph.proofs.Analysed.{carries-data}
 use Rattle.slotted_graph.proofs.Insides.{data-inside, inside-of}
 use Rattle.slotted_graph.proofs.egraph.EGraph.explain_quietly.Goals as goal

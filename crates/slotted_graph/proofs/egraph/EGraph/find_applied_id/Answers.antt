@@ -3,12 +3,12 @@ use Rattle.std.proofs.lemmas.Bool.{false≢true}
 use Rattle.std.proofs.lemmas.Result.{IfOk-weaker}
 use Rattle.slotted_slots.specs.declared.types.AppliedId.{AppliedId}
 use Rattle.slotted_proofs.specs.Equations.{to_applied}
-use Rattle.slotted_core.specs.ValidIds.{IsValidId}
-use Rattle.slotted_core.specs.Image.{found_id}
-use Rattle.slotted_core.specs.Reports.{IsFoundFor}
-use Rattle.slotted_core.proofs.ValidIds.{of-valid}
-use Rattle.slotted_core.proofs.GoodFinds.{good-finds}
-use Rattle.slotted_core.proofs.Reports.{found-for, found_id-finds}
+use Rattle.slotted_operations.specs.ValidIds.{IsValidId}
+use Rattle.slotted_operations.specs.Image.{found_id}
+use Rattle.slotted_operations.specs.Reports.{IsFoundFor}
+use Rattle.slotted_operations.proofs.ValidIds.{of-valid}
+use Rattle.slotted_operations.proofs.GoodFinds.{good-finds}
+use Rattle.slotted_operations.proofs.Reports.{found-for, found_id-finds}
 use Rattle.slotted_graph.proofs.Insides.{inside-of, given}
 use Rattle.slotted_graph.proofs.egraph.EGraph.find_applied_id.Goals as goal
 

@@ -1,13 +1,13 @@
 -- A search over what is kept and filed has what the graph is asked for.
 use Rattle.std.proofs.Common.{◌∙◌, ap, subst, sym, refl, inl, inr}
 use Rattle.std.proofs.lemmas.Bool.{false≢true}
-use Rattle.slotted_filing.specs.FiledRows.{rows_in}
+use Rattle.slotted_hashcons.specs.FiledRows.{rows_in}
 use Rattle.slotted_data.specs.Part.{part_by}
-use Rattle.slotted_core.specs.Good.{graph_of}
-use Rattle.slotted_core.specs.Graph.{Graph}
-use Rattle.slotted_core.proofs.FreshSlots.{fresh_slots-more}
-use Rattle.slotted_core.proofs.GoodFinds.{good-finds}
-use Rattle.slotted_core.proofs.Resting.{at-rest}
+use Rattle.slotted_operations.specs.Good.{graph_of}
+use Rattle.slotted_operations.specs.Graph.{Graph}
+use Rattle.slotted_operations.proofs.FreshSlots.{fresh_slots-more}
+use Rattle.slotted_operations.proofs.GoodFinds.{good-finds}
+use Rattle.slotted_operations.proofs.Resting.{at-rest}
 use Rattle.slotted_patterns.specs.View.{tree_of}
 use Rattle.slotted_patterns.specs.Known.{HasKnownNames}
 use Rattle.slotted_matching.specs.Found.{IsFound, RunsOutFor, TakesFor}

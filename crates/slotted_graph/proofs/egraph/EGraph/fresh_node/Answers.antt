@@ -7,13 +7,13 @@ use Rattle.slotted_terms.specs.Valid.{AllKnown}
 use Rattle.slotted_model.specs.Applied.{values}
 use Rattle.slotted_model.specs.Classes.{IsFull}
 use Rattle.slotted_proofs.specs.Equations.{to_applied}
-use Rattle.slotted_core.specs.Canonical.{IsNodeOf}
-use Rattle.slotted_core.specs.Good.{IsNodeOver, image_of}
-use Rattle.slotted_core.specs.Graph.{Graph, MakesAtMost}
-use Rattle.slotted_core.specs.Image.{Image}
-use Rattle.slotted_core.specs.Syn.{FreshNodeRunsOut, HasUnknownBinders, node_binders}
-use Rattle.slotted_core.proofs.ValidIds.{node-children_valid}
-use Rattle.slotted_core.proofs.FreshSlots.{fresh_slots-more}
+use Rattle.slotted_operations.specs.Canonical.{IsNodeOf}
+use Rattle.slotted_operations.specs.Good.{IsNodeOver, image_of}
+use Rattle.slotted_operations.specs.Graph.{Graph, MakesAtMost}
+use Rattle.slotted_operations.specs.Image.{Image}
+use Rattle.slotted_operations.specs.Syn.{FreshNodeRunsOut, HasUnknownBinders, node_binders}
+use Rattle.slotted_operations.proofs.ValidIds.{node-children_valid}
+use Rattle.slotted_operations.proofs.FreshSlots.{fresh_slots-more}
 use Rattle.slotted_graph.proofs.Insides.{inside-of}
 use Rattle.slotted_graph.proofs.egraph.EGraph.fresh_node.Goals as goal
 

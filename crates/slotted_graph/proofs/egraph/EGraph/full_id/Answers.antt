@@ -7,14 +7,14 @@ use Rattle.slotted_languages.proofs.TakenNames.{both_ok}
 use Rattle.slotted_terms.specs.Valid.{AllKnown}
 use Rattle.slotted_model.specs.Applied.{values}
 use Rattle.slotted_proofs.specs.Equations.{to_applied}
-use Rattle.slotted_adding.specs.Filling.{FillsId, filled_id, missing, with_fresh}
-use Rattle.slotted_core.specs.Good.{image_of}
-use Rattle.slotted_core.specs.Graph.{Graph, IsFullId}
-use Rattle.slotted_core.specs.Syn.{FillsFresh}
-use Rattle.slotted_core.proofs.FilledNames.{filled-full, fills-fresh}
-use Rattle.slotted_core.proofs.FreshSlots.{fresh_slots-more}
-use Rattle.slotted_core.proofs.GivenNodes.{ok-three}
-use Rattle.slotted_core.proofs.ValidIds.{of-valid}
+use Rattle.slotted_lookup.specs.Filling.{FillsId, filled_id, missing, with_fresh}
+use Rattle.slotted_operations.specs.Good.{image_of}
+use Rattle.slotted_operations.specs.Graph.{Graph, IsFullId}
+use Rattle.slotted_operations.specs.Syn.{FillsFresh}
+use Rattle.slotted_operations.proofs.FilledNames.{filled-full, fills-fresh}
+use Rattle.slotted_operations.proofs.FreshSlots.{fresh_slots-more}
+use Rattle.slotted_operations.proofs.GivenNodes.{ok-three}
+use Rattle.slotted_operations.proofs.ValidIds.{of-valid}
 use Rattle.slotted_graph.proofs.Insides.{inside-of}
 use Rattle.slotted_graph.proofs.egraph.EGraph.full_id.Goals as goal
 

@@ -5,10 +5,10 @@ use Rattle.slotted_slots.specs.Table.{Table}
 use Rattle.slotted_terms.specs.Valid.{AllKnown}
 use Rattle.slotted_model.specs.Applied.{values}
 use Rattle.slotted_proofs.specs.Equations.{to_applied}
-use Rattle.slotted_core.specs.Graph.{Graph, MakesAtMost}
-use Rattle.slotted_core.specs.Syn.{FilledTermRunsOut, GivesTerm, IsFilledTerm, IsTermWhereFull, slots_for_term}
-use Rattle.slotted_core.proofs.ValidIds.{of-valid}
-use Rattle.slotted_core.proofs.FreshSlots.{fresh_slots-more}
+use Rattle.slotted_operations.specs.Graph.{Graph, MakesAtMost}
+use Rattle.slotted_operations.specs.Syn.{FilledTermRunsOut, GivesTerm, IsFilledTerm, IsTermWhereFull, slots_for_term}
+use Rattle.slotted_operations.proofs.ValidIds.{of-valid}
+use Rattle.slotted_operations.proofs.FreshSlots.{fresh_slots-more}
 use Rattle.slotted_graph.proofs.Insides.{inside-of}
 use Rattle.slotted_graph.proofs.egraph.EGraph.get_syn_expr.Goals as goal
 

@@ -2,13 +2,13 @@ use Rattle.std.proofs.Common.{◌≡◌, ◌∙◌, ap, sym, subst, inl, inr}
 use Rattle.std.specs.Prelude.{◌↔◌}
 use Rattle.std.proofs.lemmas.Bool.{false≢true}
 use Rattle.slotted_model.specs.Find.{IsLive}
-use Rattle.slotted_store.specs.Kept.{entries_of}
-use Rattle.slotted_core.specs.Causes.{class_found}
-use Rattle.slotted_core.specs.Good.{Good, image_of}
-use Rattle.slotted_core.specs.Graph.{Graph}
-use Rattle.slotted_core.specs.Image.{Image}
-use Rattle.slotted_core.specs.Reports.{HasClass}
-use Rattle.slotted_core.proofs.Reports.{live-is, within}
+use Rattle.slotted_classes.specs.Kept.{entries_of}
+use Rattle.slotted_operations.specs.Causes.{class_found}
+use Rattle.slotted_operations.specs.Good.{Good, image_of}
+use Rattle.slotted_operations.specs.Graph.{Graph}
+use Rattle.slotted_operations.specs.Image.{Image}
+use Rattle.slotted_operations.specs.Reports.{HasClass}
+use Rattle.slotted_operations.proofs.Reports.{live-is, within}
 use Rattle.slotted_graph.proofs.egraph.EGraph.is_alive.Goals as goal
 
 pub is_alive-requires : goal.is_alive-requires

@@ -4,10 +4,10 @@ use Rattle.std.proofs.lemmas.Bool.{false≢true}
 use Rattle.slotted_slots.specs.Table.{Table}
 use Rattle.slotted_terms.specs.Valid.{AllKnown}
 use Rattle.slotted_model.specs.Applied.{values}
-use Rattle.slotted_core.specs.Good.{Good, image_of}
-use Rattle.slotted_core.specs.Graph.{Graph}
+use Rattle.slotted_operations.specs.Good.{Good, image_of}
+use Rattle.slotted_operations.specs.Graph.{Graph}
 use Rattle.slotted_proofs.specs.Equations.{to_applied}
-use Rattle.slotted_core.proofs.ValidIds.{to-valid, of-valid}
+use Rattle.slotted_operations.proofs.ValidIds.{to-valid, of-valid}
 use Rattle.slotted_graph.proofs.egraph.EGraph.is_valid.Goals as goal
 
 pub returns-then-not-self : goal.returns-then-not-self

@@ -2,7 +2,7 @@ use Rattle.std.proofs.Common.{◌≡◌, ◌∙◌, ap, sym}
 use Rattle.slotted_slots.specs.Table.{Table}
 use Rattle.slotted_patterns.specs.Tree.{PatternTree}
 use Rattle.slotted_patterns.specs.View.{tree_of}
-use Rattle.slotted_core.specs.Graph.{Graph}
+use Rattle.slotted_operations.specs.Graph.{Graph}
 use Rattle.slotted_graph.specs.KnownPatterns.{knows_pattern}
 use Rattle.slotted_graph.proofs.KnownPatterns.{known-knows, knows-known}
 use Rattle.slotted_graph.proofs.egraph.EGraph.is_valid_pattern.Goals as goal

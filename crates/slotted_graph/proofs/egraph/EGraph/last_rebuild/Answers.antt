@@ -1,6 +1,6 @@
 use Rattle.std.proofs.Common.{◌∙◌, ap, sym, inl, inr}
-use Rattle.slotted_store.specs.Counts.{last_count}
-use Rattle.slotted_core.specs.Graph.{Graph}
+use Rattle.slotted_classes.specs.Counts.{last_count}
+use Rattle.slotted_operations.specs.Graph.{Graph}
 use Rattle.slotted_graph.proofs.CountedGraphs.{is-within, low-data, tells-rebuild}
 use Rattle.slotted_graph.proofs.Insides.{data-inside, inside-of}
 use Rattle.slotted_graph.proofs.egraph.EGraph.last_rebuild.Goals as goal

@@ -4,16 +4,16 @@ use Rattle.std.proofs.lemmas.Result.{IfOk-weaker}
 use Rattle.slotted_slots.specs.Maps.{values}
 use Rattle.slotted_model.specs.Find.{find, find_class}
 use Rattle.slotted_proofs.specs.Equations.{to_applied}
-use Rattle.slotted_store.specs.Finding.{IsFindable}
-use Rattle.slotted_store.specs.Kept.{entries_of}
-use Rattle.slotted_core.specs.Causes.{class_found}
-use Rattle.slotted_core.specs.Graph.{Graph, MakesAtMost}
-use Rattle.slotted_core.specs.Image.{Image, found_id}
-use Rattle.slotted_core.specs.ValidIds.{IsValidId}
-use Rattle.slotted_core.proofs.FreshSlots.{fresh_slots-more}
-use Rattle.slotted_core.proofs.Images.{class_found-is, found_id-is}
-use Rattle.slotted_core.proofs.ValidIds.{findable-within, of-valid}
-use Rattle.slotted_extraction.specs.Terms.{IsFreshTerm, IsMade, RunsOutWith, entry_at, slots_for}
+use Rattle.slotted_classes.specs.Finding.{IsFindable}
+use Rattle.slotted_classes.specs.Kept.{entries_of}
+use Rattle.slotted_operations.specs.Causes.{class_found}
+use Rattle.slotted_operations.specs.Graph.{Graph, MakesAtMost}
+use Rattle.slotted_operations.specs.Image.{Image, found_id}
+use Rattle.slotted_operations.specs.ValidIds.{IsValidId}
+use Rattle.slotted_operations.proofs.FreshSlots.{fresh_slots-more}
+use Rattle.slotted_operations.proofs.Images.{class_found-is, found_id-is}
+use Rattle.slotted_operations.proofs.ValidIds.{findable-within, of-valid}
+use Rattle.slotted_least_terms.specs.Terms.{IsFreshTerm, IsMade, RunsOutWith, entry_at, slots_for}
 use Rattle.slotted_graph.specs.LeastTerms.{IsExtracted}
 use Rattle.slotted_graph.proofs.MadeOfEntries.{made-extracted}
 use Rattle.slotted_graph.proofs.Insides.{inside-of, given}

@@ -2,13 +2,13 @@ use Rattle.std.proofs.Common.{subst}
 use Rattle.std.proofs.lemmas.Result.{IfOk-weaker}
 use Rattle.slotted_costs.specs.Costs.{costs_by}
 use Rattle.slotted_data.specs.Part.{part_by}
-use Rattle.slotted_core.specs.Good.{graph_of}
-use Rattle.slotted_core.specs.Graph.{Graph}
+use Rattle.slotted_operations.specs.Good.{graph_of}
+use Rattle.slotted_operations.specs.Graph.{Graph}
 use Rattle.slotted_model.specs.Find.{find_class}
-use Rattle.slotted_store.specs.Kept.{entries_of}
-use Rattle.slotted_filing.specs.FiledRows.{rows_in}
-use Rattle.slotted_extraction.specs.Chosen.{AreChosen}
-use Rattle.slotted_extraction.specs.Least.{AreLeast}
+use Rattle.slotted_classes.specs.Kept.{entries_of}
+use Rattle.slotted_hashcons.specs.FiledRows.{rows_in}
+use Rattle.slotted_least_terms.specs.Chosen.{AreChosen}
+use Rattle.slotted_least_terms.specs.Least.{AreLeast}
 use Rattle.slotted_graph.specs.LeastTerms.{AreChosenOf, HasEachLiveClass}
 use Rattle.slotted_graph.proofs.MadeOfEntries.{seen-chosen, seen-each}
 use Rattle.slotted_graph.proofs.Insides.{inside-of}

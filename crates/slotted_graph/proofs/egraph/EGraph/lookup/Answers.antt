@@ -4,12 +4,12 @@ use Rattle.std.proofs.lemmas.Bool.{false≢true}
 use Rattle.std.proofs.lemmas.Result.{IfOk-weaker}
 use Rattle.slotted_slots.specs.declared.types.AppliedId.{AppliedId}
 use Rattle.slotted_proofs.specs.Equations.{to_applied}
-use Rattle.slotted_core.specs.Adding.{IsEqualToNode}
-use Rattle.slotted_core.specs.ValidIds.{IsValidNode}
-use Rattle.slotted_core.specs.LookUp.{look_up}
-use Rattle.slotted_core.specs.Reports.{IsFound}
-use Rattle.slotted_core.proofs.ValidIds.{findable-children}
-use Rattle.slotted_core.proofs.LookedUp.{node-equal_to, node-found, node-id}
+use Rattle.slotted_operations.specs.Adding.{IsEqualToNode}
+use Rattle.slotted_operations.specs.ValidIds.{IsValidNode}
+use Rattle.slotted_operations.specs.LookUp.{look_up}
+use Rattle.slotted_operations.specs.Reports.{IsFound}
+use Rattle.slotted_operations.proofs.ValidIds.{findable-children}
+use Rattle.slotted_operations.proofs.LookedUp.{node-equal_to, node-found, node-id}
 use Rattle.slotted_graph.proofs.Insides.{inside-of, given}
 use Rattle.slotted_graph.proofs.egraph.EGraph.lookup.Goals as goal
 

@@ -1,4 +1,4 @@
-use Rattle.slotted_core.specs.LookUp.{HasSameClasses}
+use Rattle.slotted_operations.specs.LookUp.{HasSameClasses}
 use Rattle.slotted_graph.specs.Analysed.{MergesData}
 use Rattle.slotted_graph.proofs.Writing.{merges-asked, still-unmodified}
 use Rattle.slotted_graph.proofs.egraph.EGraph.merge_analysis_data.Goals as goal

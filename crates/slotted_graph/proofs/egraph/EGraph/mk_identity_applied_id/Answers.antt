@@ -2,11 +2,11 @@ use Rattle.std.proofs.Common.{◌<◌, ◌∙◌, length, sym, subst, inl, inr}
 use Rattle.std.proofs.lemmas.Bool.{false≢true}
 use Rattle.slotted_model.specs.Applied.{Applied, values}
 use Rattle.slotted_terms.specs.Valid.{AllKnown}
-use Rattle.slotted_core.specs.Good.{HasFreshSlots}
-use Rattle.slotted_core.specs.Graph.{Graph}
-use Rattle.slotted_core.proofs.ValidIds.{to-valid}
-use Rattle.slotted_core.proofs.GoodFinds.{good-finds}
-use Rattle.slotted_core.proofs.Reports.{names-are, names-known, within}
+use Rattle.slotted_operations.specs.Good.{HasFreshSlots}
+use Rattle.slotted_operations.specs.Graph.{Graph}
+use Rattle.slotted_operations.proofs.ValidIds.{to-valid}
+use Rattle.slotted_operations.proofs.GoodFinds.{good-finds}
+use Rattle.slotted_operations.proofs.Reports.{names-are, names-known, within}
 use Rattle.slotted_proofs.specs.Equations.{to_applied}
 use Rattle.slotted_graph.proofs.Insides.{inside-of, given}
 use Rattle.slotted_graph.proofs.egraph.EGraph.mk_identity_applied_id.Goals as goal

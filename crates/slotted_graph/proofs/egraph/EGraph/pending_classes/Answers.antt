@@ -1,5 +1,5 @@
 use Rattle.std.proofs.Common.{ap, inr, sym}
-use Rattle.slotted_core.specs.Graph.{Graph}
+use Rattle.slotted_operations.specs.Graph.{Graph}
 use Rattle.slotted_graph.proofs.Analysed.{counts-pending}
 use Rattle.slotted_graph.proofs.Insides.{inside-of}
 use Rattle.slotted_graph.proofs.egraph.EGraph.pending_classes.Goals as goal

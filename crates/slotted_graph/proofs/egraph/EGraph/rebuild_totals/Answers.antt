@@ -1,5 +1,5 @@
 use Rattle.std.proofs.Common.{◌∙◌, ap, sym, inr}
-use Rattle.slotted_core.specs.Graph.{Graph, totals_of}
+use Rattle.slotted_operations.specs.Graph.{Graph, totals_of}
 use Rattle.slotted_graph.proofs.CountedGraphs.{low-data, tells-totals}
 use Rattle.slotted_graph.proofs.Insides.{data-inside, inside-of}
 use Rattle.slotted_graph.proofs.egraph.EGraph.rebuild_totals.Goals as goal

@@ -1,6 +1,6 @@
 use Rattle.std.proofs.Common.{ap, sym}
 use Rattle.slotted_data.specs.Part.{part_code, part_in}
-use Rattle.slotted_core.specs.Graph.{Graph}
+use Rattle.slotted_operations.specs.Graph.{Graph}
 use Rattle.slotted_graph.proofs.egraph.EGraph.set_modify_rounds.Goals as goal
 
 pub returns : goal.returns

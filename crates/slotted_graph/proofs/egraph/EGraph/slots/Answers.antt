@@ -2,11 +2,11 @@ use Rattle.std.proofs.Common.{◌≡◌, ◌<◌, ◌∙◌, List, ℕ, length, 
 use Rattle.std.proofs.lemmas.Bool.{false≢true}
 use Rattle.std.proofs.lemmas.Result.{IfOk-weaker}
 use Rattle.slotted_terms.specs.Valid.{AllKnown}
-use Rattle.slotted_core.specs.Good.{HasFreshSlots}
-use Rattle.slotted_core.specs.Graph.{Graph}
-use Rattle.slotted_core.specs.Reports.{slots_used}
-use Rattle.slotted_core.proofs.GoodFinds.{good-finds}
-use Rattle.slotted_core.proofs.Reports.{slots-are, used-known, within}
+use Rattle.slotted_operations.specs.Good.{HasFreshSlots}
+use Rattle.slotted_operations.specs.Graph.{Graph}
+use Rattle.slotted_operations.specs.Reports.{slots_used}
+use Rattle.slotted_operations.proofs.GoodFinds.{good-finds}
+use Rattle.slotted_operations.proofs.Reports.{slots-are, used-known, within}
 use Rattle.slotted_graph.proofs.Insides.{inside-of, given}
 use Rattle.slotted_graph.proofs.egraph.EGraph.slots.Goals as goal
 

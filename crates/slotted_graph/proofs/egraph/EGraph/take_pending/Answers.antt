@@ -3,7 +3,7 @@ use Rattle.slotted_analyses.specs.Meaning.{by_bare_nodes}
 use Rattle.slotted_data.specs.Carrying.{DataRests}
 use Rattle.slotted_data.specs.Held.{Held}
 use Rattle.slotted_data.proofs.Resting.{rests-taken}
-use Rattle.slotted_core.specs.Graph.{Graph}
+use Rattle.slotted_operations.specs.Graph.{Graph}
 use Rattle.slotted_graph.proofs.Analysed.{takes-pending}
 use Rattle.slotted_graph.proofs.Insides.{data-inside, given, inside-of}
 use Rattle.slotted_graph.proofs.egraph.EGraph.take_pending.Goals as goal

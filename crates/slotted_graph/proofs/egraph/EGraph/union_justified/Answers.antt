@@ -1,5 +1,5 @@
 use Rattle.std.proofs.Common.{◌∙◌, sym}
-use Rattle.slotted_store.specs.Kept.{text_bytes}
+use Rattle.slotted_classes.specs.Kept.{text_bytes}
 use Rattle.slotted_graph.proofs.Writing.{is-modified, ok-answer, ok-united, ok-unites, unmodified}
 use Rattle.slotted_graph.proofs.egraph.EGraph.union_justified.Goals as goal
 

@@ -1,15 +1,15 @@
 use Rattle.std.specs.Prelude.{false}
-use Rattle.slotted_filing.specs.FiledRows.{rows_in}
+use Rattle.slotted_hashcons.specs.FiledRows.{rows_in}
 use Rattle.slotted_data.specs.Part.{part_by}
-use Rattle.slotted_core.specs.Graph.{Graph}
+use Rattle.slotted_operations.specs.Graph.{Graph}
 use Rattle.slotted_graph.proofs.CountedGraphs.{counts-union}
 use Rattle.std.proofs.Common.{◌∙◌, refl, sym, inl, inr, ap}
 use Rattle.std.proofs.lemmas.Bool.{false≢true}
 use Rattle.slotted_proofs.specs.Equations.{to_applied}
-use Rattle.slotted_core.specs.ValidIds.{IsValidId}
-use Rattle.slotted_core.specs.Good.{graph_of, image_of}
-use Rattle.slotted_core.proofs.FiledClasses.{grown-fresh}
-use Rattle.slotted_core.proofs.ValidIds.{of-valid}
+use Rattle.slotted_operations.specs.ValidIds.{IsValidId}
+use Rattle.slotted_operations.specs.Good.{graph_of, image_of}
+use Rattle.slotted_operations.proofs.FiledClasses.{grown-fresh}
+use Rattle.slotted_operations.proofs.ValidIds.{of-valid}
 use Rattle.slotted_graph.proofs.Measured.{never-rises}
 use Rattle.slotted_graph.proofs.Indexes.{no-index}
 use Rattle.slotted_graph.proofs.Insides.{data-inside, given, inside-of}

@@ -1,5 +1,5 @@
 use Rattle.std.proofs.Common.{◌≡◌, take}
-use Rattle.slotted_core.specs.Reports.{class_numbers}
+use Rattle.slotted_operations.specs.Reports.{class_numbers}
 use Rattle.slotted_graph.proofs.egraph.analysed.ids_of.Given as goal
 
 -- those so far

@@ -1,8 +1,8 @@
 use Rattle.std.proofs.Common.{◌≡◌}
 use Rattle.std.specs.List.{filter, range_with_len}
-use Rattle.slotted_store.specs.Kept.{entries_of}
-use Rattle.slotted_adding.specs.Reports.{lives}
-use Rattle.slotted_core.specs.Reports.{class_numbers}
+use Rattle.slotted_classes.specs.Kept.{entries_of}
+use Rattle.slotted_lookup.specs.Reports.{lives}
+use Rattle.slotted_operations.specs.Reports.{class_numbers}
 use Rattle.slotted_graph.proofs.egraph.reports.live_ids.Given as goal
 
 -- the live ones so far

@@ -1,4 +1,4 @@
-use Rattle.slotted_core.proofs.CallerLemmas.{full-valid}
+use Rattle.slotted_operations.proofs.CallerLemmas.{full-valid}
 use Rattle.slotted_proofs.specs.Equations.{to_applied}
 use Rattle.slotted_instances.proofs.Answering.{ok-mapped}
 use Rattle.slotted_instances.proofs.StoredMethods.{canonical-answers}

@@ -4,7 +4,7 @@ use Rattle.slotted_slots.specs.declared.error.Error.TheVariants.{Failed, Unknown
 use Rattle.std.specs.Prelude.{IsTrue}
 use Rattle.std.specs.Ordering.{nat_cmp}
 use Rattle.std.proofs.lemmas.Bool.{false≢true}
-use Rattle.slotted_core.proofs.CallerLemmas.{full-valid}
+use Rattle.slotted_operations.proofs.CallerLemmas.{full-valid}
 use Rattle.slotted_proofs.specs.Equations.{to_applied}
 use Rattle.slotted_costs.specs.Costs.{costs_by}
 use Rattle.slotted_costs.specs.Size.{size_cost}

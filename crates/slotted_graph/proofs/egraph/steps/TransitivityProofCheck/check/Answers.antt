@@ -1,12 +1,12 @@
 use Rattle.std.proofs.Common.{◌∙◌, sym, inl, inr}
 use Rattle.std.proofs.lemmas.Bool.{false≢true}
 use Rattle.slotted_model.specs.ProofList.{transitive}
-use Rattle.slotted_core.specs.Good.{Good, RestsWith, HasFreshSlots}
-use Rattle.slotted_store.specs.Kept.{EntersIn, nodes_of}
+use Rattle.slotted_operations.specs.Good.{Good, RestsWith, HasFreshSlots}
+use Rattle.slotted_classes.specs.Kept.{EntersIn, nodes_of}
 use Rattle.slotted_proofs.specs.Equations.{statement_of}
 use Rattle.slotted_proofs.specs.Steps.{IsTransitiveStep, by_step}
 use Rattle.slotted_proofs.specs.StepClaims.{IsOfFull}
-use Rattle.slotted_core.proofs.AcceptedSteps.{both_ok, Checked, transitive_checked, transitive_refused, kept_good, says_refused, says_fits, says_accepted, says_derivable, says_leaves}
+use Rattle.slotted_operations.proofs.AcceptedSteps.{both_ok, Checked, transitive_checked, transitive_refused, kept_good, says_refused, says_fits, says_accepted, says_derivable, says_leaves}
 use Rattle.slotted_graph.proofs.Analysed.{data-checked}
 use Rattle.slotted_graph.proofs.Indexes.{no-index}
 use Rattle.slotted_graph.proofs.Insides.{data-inside}

@@ -1,0 +1,152 @@
+//! What ids find: the live class at the end of the entries, with the id's names at its slots.
+ghost use Rattle.std.specs.Prelude.{◌≡◌, ◌<◌, ◌↔◌, length, IsTrue, IfOk, IfErr};
+ghost use Rattle.slotted_slots.specs.Error.{IsOutOfMemory};
+ghost use Rattle.slotted_theory.specs.FiniteMaps.{value_of};
+ghost use Rattle.slotted_model.specs.Find.{IsLive, find_class, find_map, find};
+ghost use Rattle.slotted_classes.specs.Kept.{entries_of};
+ghost use Rattle.slotted_proofs.specs.Equations.{to_applied};
+ghost use Rattle.slotted_classes.specs.Finding.{HasFinds, HasFoundName, HasFoundNames, IsFindable, FindAlike};
+
+use crate::store::Store;
+use slotted_languages::Language;
+use slotted_slots::{AppliedId, Error, Id, Slot, SlotMap};
+use std::alloc::Global;
+
+impl<L: Language> Store<L> {
+    // Without memory.
+
+    /// The live class that a class finds.
+    pub fn find_class(&self, id: usize) -> usize
+        requires good { HasFinds self.now }
+        requires within { id < length self.now.classes }
+        ensures class { result ≡ find_class (entries_of self.now) id }
+        ensures within { result < length self.now.classes }
+        ensures live { IsLive (entries_of self.now) result }
+    {
+        let next = self.entry(id).id.0;
+        if next == id {
+            return id;
+        }
+        self.find_class(next)
+    }
+
+    /// The slot of a class that a slot of the class that it finds stands for.
+    pub fn found_slot(&self, id: usize, slot: Slot) -> Option<Slot>
+        requires good { HasFinds self.now }
+        requires within { id < length self.now.classes }
+        ensures { result ≡ value_of (find_map (entries_of self.now) id) slot }
+    {
+        let entry = self.entry(id);
+        if entry.id.0 == id {
+            return entry.m.get(slot);
+        }
+        match self.found_slot(entry.id.0, slot) {
+            Some(next) => entry.m.get(next),
+            None => None,
+        }
+    }
+
+    // The name of an id at a slot of the class that it finds.
+    fn found_name(&self, a: &AppliedId, slot: Slot) -> Option<Slot>
+        requires good { HasFinds self.now }
+        requires findable { IsFindable self.now (to_applied a.now) }
+        ensures { result ≡ value_of (find (entries_of self.now) (to_applied a.now)).1 slot }
+    {
+        match self.found_slot(a.id.0, slot) {
+            Some(own) => a.m.get(own),
+            None => None,
+        }
+    }
+
+    // Whether two ids that find this class have the same names at its slots.
+    fn have_same_names(&self, class: usize, a: &AppliedId, b: &AppliedId) -> bool
+        requires good { HasFinds self.now }
+        requires left { IsFindable self.now (to_applied a.now) }
+        requires right { IsFindable self.now (to_applied b.now) }
+        requires left_class { class ≡ find_class (entries_of self.now) a.now.id.0 }
+        requires right_class { class ≡ find_class (entries_of self.now) b.now.id.0 }
+        requires within { class < length self.now.classes }
+        ensures { IsTrue result ↔ FindAlike (entries_of self.now) (to_applied a.now) (to_applied b.now) }
+    {
+        let slots = &self.entry(class).m;
+        for i in 0..slots.len() {
+            let slot = slots.value_at(i);
+            if self.found_name(a, slot) != self.found_name(b, slot) {
+                return false;
+            }
+        }
+        true
+    }
+
+    /// Whether two valid ids find the same. It takes no memory.
+    pub fn eq(&self, a: &AppliedId, b: &AppliedId) -> bool
+        requires good { HasFinds self.now }
+        requires left { IsFindable self.now (to_applied a.now) }
+        requires right { IsFindable self.now (to_applied b.now) }
+        ensures { IsTrue result ↔ FindAlike (entries_of self.now) (to_applied a.now) (to_applied b.now) }
+    {
+        let class = self.find_class(a.id.0);
+        if self.find_class(b.id.0) != class {
+            return false;
+        }
+        self.have_same_names(class, a, b)
+    }
+
+    // Whether an id has a name for what a slot of the class that it finds stands for.
+    fn has_found_name(&self, a: &AppliedId, slot: Slot) -> bool
+        requires good { HasFinds self.now }
+        requires within { a.now.id.0 < length self.now.classes }
+        ensures { IsTrue result ↔ HasFoundName self.now (to_applied a.now) slot }
+    {
+        match self.found_slot(a.id.0, slot) {
+            Some(own) => a.m.contains_key(own),
+            None => true,
+        }
+    }
+
+    /// Whether an id has a name for each slot that its class finds. It takes no memory.
+    pub fn has_found_names(&self, a: &AppliedId) -> bool
+        requires good { HasFinds self.now }
+        requires within { a.now.id.0 < length self.now.classes }
+        ensures { IsTrue result ↔ HasFoundNames self.now (to_applied a.now) }
+    {
+        let slots = &self.entry(self.find_class(a.id.0)).m;
+        for i in 0..slots.len() {
+            if !self.has_found_name(a, slots.value_at(i)) {
+                return false;
+            }
+        }
+        true
+    }
+
+    // With memory.
+
+    // The slots of a class that the slots of the class that it finds stand for.
+    fn found_map(&self, alloc: Global, id: usize) -> Result<SlotMap, Error>
+        requires good { HasFinds self.now }
+        requires within { id < length self.now.classes }
+        ensures ok { IfOk result (λ m. m ≡ find_map (entries_of self.now) id) }
+        ensures err { IfErr result IsOutOfMemory }
+    {
+        let entry = self.entry(id);
+        if entry.id.0 == id {
+            return entry.m.copy(alloc);
+        }
+        let map = self.found_map(alloc, entry.id.0)?;
+        map.compose_partial(alloc, &entry.m)
+    }
+
+    /// What a valid id finds.
+    pub fn found_id(&self, alloc: Global, a: &AppliedId) -> Result<AppliedId, Error>
+        requires good { HasFinds self.now }
+        requires findable { IsFindable self.now (to_applied a.now) }
+        ensures ok { IfOk result (λ b. to_applied b ≡ find (entries_of self.now) (to_applied a.now)) }
+        ensures err { IfErr result IsOutOfMemory }
+    {
+        let map = self.found_map(alloc, a.id.0)?;
+        Ok(AppliedId {
+            id: Id(self.find_class(a.id.0)),
+            m: map.compose_partial(alloc, &a.m)?,
+        })
+    }
+}

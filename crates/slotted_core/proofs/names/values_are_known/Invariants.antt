@@ -1,7 +1,0 @@
-use Rattle.std.proofs.Common.{◌<◌, IsTrue, ℕ, slice_index_or}
-use Rattle.slotted_slots.specs.Maps.{values}
-use Rattle.slotted_slots.specs.Table.{is_known}
-use Rattle.slotted_core.proofs.names.values_are_known.Given as goal
-
-abbrev pub invariant-loop-i : goal.invariant-loop-i
-invariant-loop-i l = (k d : ℕ) → k < l.i → IsTrue (is_known l.table (slice_index_or (values l.map) k d))

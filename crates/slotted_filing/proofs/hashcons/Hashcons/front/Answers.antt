@@ -1,6 +1,0 @@
-use Rattle.std.proofs.Common.{ℕ, Contains, subst}
-use Rattle.slotted_filing.specs.FiledRows.{Rows, IsFiled}
-use Rattle.slotted_filing.proofs.hashcons.Hashcons.front.Goals as goal
-
-pub returns-clause-filed : goal.returns-clause-filed
-returns-clause-filed g c = subst (λ (s : Rows). (i : ℕ) → Contains s.waiting i → IsFiled s.filed i) c.self.view_is c.self.invariant.filed

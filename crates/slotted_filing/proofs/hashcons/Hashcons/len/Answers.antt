@@ -1,7 +1,0 @@
-use Rattle.std.proofs.Common.{◌∙◌, ap, length}
-use Rattle.slotted_filing.specs.FiledRows.{Rows, rows_in}
-use Rattle.slotted_filing.proofs.CountedPlaces.{rows-counted}
-use Rattle.slotted_filing.proofs.hashcons.Hashcons.len.Goals as goal
-
-pub returns : goal.returns
-returns g c = c.len.ensures ∙ (rows-counted c.self.inside.nodes ∙ ap (λ (r : Rows). length (rows_in r.filed)) c.self.view_is)

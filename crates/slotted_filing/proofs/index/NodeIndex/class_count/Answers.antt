@@ -1,6 +1,0 @@
-use Rattle.std.proofs.Common.{◌∙◌, length, ap, sym}
-use Rattle.slotted_filing.proofs.JoinedNames.{length-joined}
-use Rattle.slotted_filing.proofs.index.NodeIndex.class_count.Goals as goal
-
-pub returns : goal.returns
-returns g c = c.class_count.ensures ∙ sym (length-joined c.self.inside.keys c.self.inside.names c.self.invariant) ∙ ap length c.self.view_is

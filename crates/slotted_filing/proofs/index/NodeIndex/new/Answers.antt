@@ -1,5 +1,0 @@
-use Rattle.slotted_filing.specs.Filed.{joined}
-use Rattle.slotted_filing.proofs.index.NodeIndex.new.Goals as goal
-
-pub returns : goal.returns
-returns g c = λ i. joined (c.new.ensures i) (c.new-2.ensures i)

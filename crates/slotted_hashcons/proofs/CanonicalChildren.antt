@@ -1,0 +1,34 @@
+-- Canonical nodes are over ids that find.
+use Rattle.std.proofs.Common.{◌≡◌, ◌<◌, ℕ, length, ◌∙◌, sym, subst, arith, []}
+use Rattle.slotted_theory.specs.Nameless.{DTerm, stop}
+use Rattle.slotted_theory.proofs.Values.{node}
+use Rattle.slotted_languages.specs.NodeTerm.{nameless_node}
+use Rattle.slotted_model.specs.Applied.{EachChild}
+use Rattle.slotted_model.specs.Classes.{Canonical, IsFull, canonical_node}
+use Rattle.slotted_model.specs.Find.{Linked}
+use Rattle.slotted_model.specs.Rest.{Sane}
+use Rattle.slotted_model.specs.State.{State}
+use Rattle.slotted_model.proofs.Children.{EachChild-map}
+use Rattle.slotted_model.proofs.NormalIds.{full-is_valid}
+use Rattle.slotted_classes.specs.Finding.{IsFindable}
+use Rattle.slotted_classes.specs.Kept.{Kept, ClassEntry, node_at, nodes_of, entries_of, no_form, no_entry}
+use Rattle.slotted_classes.proofs.KeptLists.{any_default, at-mapped, length-nodes_of}
+use Rattle.slotted_hashcons.specs.NormalNodes.{HasFindableChildren}
+
+-- the canonical node of a class, without bound names
+pub node-is : (k : Kept) (i : ℕ) → i < length k.classes → nameless_node (node_at k i) ≡ canonical_node (nodes_of k) i
+node-is k i h =
+    sym (any_default (nodes_of k) i (node 0 [] stop) (nameless_node no_form) (omega (arith, h, length-nodes_of k))
+    ∙ at-mapped (λ (c : ClassEntry). nameless_node c.0) k.classes i (no_form, no_entry))
+
+-- its children find
+pub canonical-findable : (k : Kept) → Canonical (nodes_of k) → Linked (nodes_of k) (entries_of k) → (i : ℕ) → i < length k.classes → HasFindableChildren k (node_at k i)
+canonical-findable k canonical linked i h =
+    subst (λ (d : DTerm). EachChild (IsFindable k) d.args) (sym (node-is k i h))
+    (EachChild-map (λ a. (a.0 < i) × IsFull (nodes_of k) a) (IsFindable k) (λ a f. full-is_valid (nodes_of k) (entries_of k) linked a f.1) (canonical_node (nodes_of k) i).args
+    (canonical.children i (omega (arith, h, length-nodes_of k))))
+
+-- so it is in a graph that is sane, whatever waits there
+pub sane-findable : (k : Kept) (g : State) → Sane g → g.nodes ≡ nodes_of k → g.found ≡ entries_of k → (i : ℕ) → i < length k.classes → HasFindableChildren k (node_at k i)
+sane-findable k g sane n f i h =
+    canonical-findable k (subst Canonical n sane.sound.canonical) (subst (Linked (nodes_of k)) f (subst (λ ns. Linked ns g.found) n sane.sound.linked)) i h

@@ -1,0 +1,93 @@
+//! The equation of two classes whose nodes have one shape in normal form.
+ghost use Rattle.std.specs.Prelude.{◌≡◌, ◌<◌, length, IfOk, IfErr, IsErrOf};
+ghost use Rattle.slotted_theory.specs.FiniteMaps.{IsInjectiveMap};
+ghost use Rattle.slotted_slots.specs.Error.{IsOutOfMemory, IsShortage};
+ghost use Rattle.slotted_model.specs.Applied.{keys};
+ghost use Rattle.slotted_model.specs.Classes.{Canonical, canonical_slots};
+ghost use Rattle.slotted_model.specs.Correspondence.{IsPartialInjection, identity};
+ghost use Rattle.slotted_proofs.specs.Equations.{HaveManyNames, IsWritten, partnered_statement, to_applied};
+ghost use Rattle.slotted_classes.specs.Kept.{nodes_of, rows_from};
+ghost use Rattle.slotted_hashcons.specs.Sides.{AreTwinSides, HaveManySlots, HaveOneShape, number_partners};
+
+use slotted_classes::Store;
+use slotted_classes::names::map_between;
+use slotted_languages::Language;
+use slotted_proofs::Equation;
+use slotted_slots::{AppliedId, Error, Id, SlotMap};
+use std::alloc::Global;
+
+// The class with each of its canonical slots as its name.
+fn own_id<L: Language>(store: &Store<L>, alloc: Global, class: usize) -> Result<AppliedId, Error>
+    requires rows { store.now.rows ≡ rows_from 0 store.now.classes }
+    requires within { class < length store.now.classes }
+    ensures ok { IfOk result (λ a. to_applied a ≡ (class, identity (canonical_slots (nodes_of store.now) class))) }
+    ensures err { IfErr result IsOutOfMemory }
+{
+    let slots = store.names_of(class);
+    Ok(AppliedId {
+        id: Id(class),
+        m: map_between(alloc, slots, slots)?,
+    })
+}
+
+// For each slot of the right id that has a number the slot of the left class with the number.
+fn partners(
+    alloc: Global,
+    names: &SlotMap,
+    others: &SlotMap,
+    right: &SlotMap,
+) -> Result<SlotMap, Error>
+    requires { IsInjectiveMap others.now }
+    ensures ok { IfOk result (λ m. m ≡ number_partners names.now others.now right.now) }
+    ensures err { IfErr result IsOutOfMemory }
+{
+    let numbers = others.inverse(alloc)?;
+    let numbered = right.compose_partial(alloc, &numbers)?;
+    numbered.compose_partial(alloc, names)
+}
+
+// The equation of two ids in which slots share a name where they have one number.
+fn numbered_equation(
+    alloc: Global,
+    left: &AppliedId,
+    names: &SlotMap,
+    right: &AppliedId,
+    others: &SlotMap,
+) -> Result<Equation, Error>
+    requires different { IsInjectiveMap others.now }
+    requires partners { IsPartialInjection
+        (keys right.now.m) (keys left.now.m) (number_partners names.now others.now right.now.m) }
+    ensures ok { IfOk result
+        (IsWritten (partnered_statement left.now right.now (number_partners names.now others.now right.now.m))) }
+    ensures full { IsErrOf result Error.OutOfSlots → HaveManyNames left.now.m right.now.m }
+    ensures err { IfErr result IsShortage }
+{
+    let partners = partners(alloc, names, others, &right.m)?;
+    let equation = Equation::by_partners(alloc, left, right, &partners)?;
+    Ok(equation)
+}
+
+/// The equation of two classes over all their canonical slots, in which two slots share a name where they have one number in the
+/// shape that the nodes of both classes have in normal form.
+pub fn sides<L: Language>(
+    store: &Store<L>,
+    alloc: Global,
+    left: usize,
+    names: &SlotMap,
+    right: usize,
+    others: &SlotMap,
+) -> Result<Equation, Error>
+    requires rows { store.now.rows ≡ rows_from 0 store.now.classes }
+    requires canonical { Canonical (nodes_of store.now) }
+    requires left { left < length store.now.classes }
+    requires right { right < length store.now.classes }
+    requires shape { HaveOneShape store.now left names.now right others.now }
+    ensures ok { IfOk result (AreTwinSides store.now left right) }
+    ensures full { IsErrOf result Error.OutOfSlots → HaveManySlots store.now left right }
+    ensures err { IfErr result IsShortage }
+{
+    let l = own_id(store, alloc, left)?;
+    let r = own_id(store, alloc, right)?;
+    let equation = numbered_equation(alloc, &l, names, &r, others)?;
+    Ok(equation)
+}

@@ -1,0 +1,151 @@
+//! The equation that a union asserts: that of its two ids, whatever names are filled in for those that they lack.
+ghost use Rattle.std.specs.Prelude.{◌≡◌, ◌↔◌, IsTrue, IfErr, IfOk, IsErrOf};
+ghost use Rattle.slotted_theory.specs.FiniteMaps.{IsInjectiveMap};
+ghost use Rattle.slotted_slots.specs.Error.{IsOutOfMemory, IsShortage};
+ghost use Rattle.slotted_model.specs.Applied.{keys};
+ghost use Rattle.slotted_model.specs.Classes.{IsFull, canonical_slots};
+ghost use Rattle.slotted_model.specs.Correspondence.{IsPartialInjection, identity, same_names};
+ghost use Rattle.slotted_proofs.specs.Equations.{HaveManyNames, IsWritten, partnered_statement, to_applied};
+ghost use Rattle.slotted_classes.specs.Finding.{IsFindable};
+ghost use Rattle.slotted_classes.specs.Kept.{nodes_of, text_bytes};
+ghost use Rattle.slotted_operations.specs.Causes.{HasLargeClassIn};
+ghost use Rattle.slotted_operations.specs.Good.{Good, image_of};
+ghost use Rattle.slotted_operations.specs.Sides.{AreSidesOf, EntersFilled};
+
+use slotted_classes::Store;
+use slotted_classes::names::map_between;
+use slotted_languages::Language;
+use slotted_proofs::{Equation, ProvenEq};
+use slotted_slots::{AppliedId, Error, SlotMap};
+use std::alloc::Global;
+
+// Whether an id has a name for each canonical slot of its class.
+fn has_all_names<L: Language>(store: &Store<L>, a: &AppliedId) -> bool
+    requires good { Good store.now }
+    requires findable { IsFindable store.now (to_applied a.now) }
+    ensures { IsTrue result ↔ IsFull (nodes_of store.now) (to_applied a.now) }
+{
+    a.m.len() == store.names_of(a.id.0).len()
+}
+
+// Whether both of two ids have.
+fn have_all_names<L: Language>(store: &Store<L>, l: &AppliedId, r: &AppliedId) -> bool
+    requires good { Good store.now }
+    requires left { IsFindable store.now (to_applied l.now) }
+    requires right { IsFindable store.now (to_applied r.now) }
+    ensures left { IsTrue result → IsFull (nodes_of store.now) (to_applied l.now) }
+    ensures right { IsTrue result → IsFull (nodes_of store.now) (to_applied r.now) }
+{
+    has_all_names(store, l) && has_all_names(store, r)
+}
+
+// The class of an id, with each of its canonical slots as its name.
+fn own_id<L: Language>(store: &Store<L>, alloc: Global, a: &AppliedId) -> Result<AppliedId, Error>
+    requires good { Good store.now }
+    requires findable { IsFindable store.now (to_applied a.now) }
+    ensures ok { IfOk result
+        (λ o. to_applied o ≡ (a.now.id.0, identity (canonical_slots (nodes_of store.now) a.now.id.0))) }
+    ensures err { IfErr result IsOutOfMemory }
+{
+    let slots = store.names_of(a.id.0);
+    Ok(AppliedId {
+        id: a.id,
+        m: map_between(alloc, slots, slots)?,
+    })
+}
+
+// For each slot on the right the slot on the left that has its name.
+fn partners(alloc: Global, l: &SlotMap, r: &SlotMap) -> Result<SlotMap, Error>
+    requires { IsInjectiveMap l.now }
+    ensures ok { IfOk result (λ m. m ≡ same_names r.now l.now) }
+    ensures err { IfErr result IsOutOfMemory }
+{
+    let slots = l.inverse(alloc)?;
+    let partners = r.compose_partial(alloc, &slots)?;
+    Ok(partners)
+}
+
+// The equation over the slots of two ids in which those share a name that have one name in two maps.
+fn equation_over(
+    alloc: Global,
+    left: &AppliedId,
+    right: &AppliedId,
+    l: &SlotMap,
+    r: &SlotMap,
+) -> Result<Equation, Error>
+    requires different { IsInjectiveMap l.now }
+    requires partners { IsPartialInjection (keys right.now.m) (keys left.now.m) (same_names r.now l.now) }
+    ensures ok { IfOk result (IsWritten (partnered_statement left.now right.now (same_names r.now l.now))) }
+    ensures full { IsErrOf result Error.OutOfSlots → HaveManyNames left.now.m right.now.m }
+    ensures err { IfErr result IsShortage }
+{
+    let partners = partners(alloc, l, r)?;
+    let equation = Equation::by_partners(alloc, left, right, &partners)?;
+    Ok(equation)
+}
+
+// The equation of the classes of two ids over all their canonical slots, in which two slots share a name where the ids have one name
+// at both.
+fn class_equation<L: Language>(
+    store: &Store<L>,
+    alloc: Global,
+    l: &AppliedId,
+    r: &AppliedId,
+) -> Result<Equation, Error>
+    requires good { Good store.now }
+    requires left { IsFindable store.now (to_applied l.now) }
+    requires right { IsFindable store.now (to_applied r.now) }
+    ensures ok { IfOk result (AreSidesOf (nodes_of store.now) (to_applied l.now) (to_applied r.now)) }
+    ensures full { IsErrOf result Error.OutOfSlots → HasLargeClassIn (image_of store.now) }
+    ensures err { IfErr result IsShortage }
+{
+    let left = own_id(store, alloc, l)?;
+    let right = own_id(store, alloc, r)?;
+    let equation = equation_over(alloc, &left, &right, &l.m, &r.m)?;
+    Ok(equation)
+}
+
+// That two ids are equal, where one of them lacks a name: the equation of their classes.
+fn assert_classes<L: Language>(
+    store: &mut Store<L>,
+    alloc: Global,
+    l: &AppliedId,
+    r: &AppliedId,
+    text: Option<String>,
+) -> Result<ProvenEq, Error>
+    requires good { Good store.old }
+    requires left { IsFindable store.old (to_applied l.now) }
+    requires right { IsFindable store.old (to_applied r.now) }
+    ensures ok { IfOk result
+        (EntersFilled store.old store.new (to_applied l.now) (to_applied r.now) (text_bytes text)) }
+    ensures full { IsErrOf result Error.OutOfSlots → HasLargeClassIn (image_of store.old) }
+    ensures err { IfErr result IsShortage }
+{
+    let equation = class_equation(store, alloc, l, r)?;
+    let p = store.assert_equal(alloc, &equation.l, &equation.r, text)?;
+    Ok(p)
+}
+
+/// Two ids are equal because the caller says so. What is entered is the equation of any two ids that fill them by names apart: these
+/// have one equation, and need not be made.
+pub(crate) fn assert_sides<L: Language>(
+    store: &mut Store<L>,
+    alloc: Global,
+    l: &AppliedId,
+    r: &AppliedId,
+    text: Option<String>,
+) -> Result<ProvenEq, Error>
+    requires good { Good store.old }
+    requires left { IsFindable store.old (to_applied l.now) }
+    requires right { IsFindable store.old (to_applied r.now) }
+    ensures ok { IfOk result
+        (EntersFilled store.old store.new (to_applied l.now) (to_applied r.now) (text_bytes text)) }
+    ensures full { IsErrOf result Error.OutOfSlots → HasLargeClassIn (image_of store.old) }
+    ensures err { IfErr result IsShortage }
+{
+    if have_all_names(store, l, r) {
+        store.assert_equal(alloc, l, r, text)
+    } else {
+        assert_classes(store, alloc, l, r, text)
+    }
+}
