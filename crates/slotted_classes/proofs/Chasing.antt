@@ -14,10 +14,10 @@ use Rattle.slotted_model.specs.Find.{Entry, entry_at, IsLive, find_class, find_m
 use Rattle.slotted_model.proofs.Correspondences.Pairs.{Contains-composite, Contains-of_value, Contains-value, Contains-value_of, same_options}
 use Rattle.slotted_model.proofs.Correspondences.PartialInjections.{value_of-in_order, composite-in_order, composite-over}
 use Rattle.slotted_model.proofs.Correspondences.FullMaps.{full-in_order, full-ext, full-slot}
-use Rattle.slotted_model.proofs.Options.{None-Some, Some-same}
-use Rattle.slotted_model.proofs.Finding.{leads, find_class-live, find_map-live, find_class-follows, find_map-follows, find_map-partial, found-live, found_keys, find_map-full}
-use Rattle.slotted_model.proofs.NormalIds.{values-identity, valid-map, found-full, used-by, of_used}
-use Rattle.slotted_model.proofs.Members.{In-Contains, Contains-In}
+use Rattle.slotted_model.proofs.Data.Options.{None-Some, Some-same}
+use Rattle.slotted_model.proofs.Finds.Finding.{leads, find_class-live, find_map-live, find_class-follows, find_map-follows, find_map-partial, found-live, found_keys, find_map-full}
+use Rattle.slotted_model.proofs.Finds.NormalIds.{values-identity, valid-map, found-full, used-by, of_used}
+use Rattle.slotted_model.proofs.Data.Members.{In-Contains, Contains-In}
 use Rattle.slotted_proofs.proofs.Bridges.{value_of-model}
 use Rattle.slotted_classes.specs.Finding.{HasFinds, HasFoundName, HasFoundNames, IsFindable}
 use Rattle.slotted_classes.specs.Kept.{Kept, find_at, nodes_of, entries_of}

@@ -5,13 +5,13 @@ use Rattle.std.proofs.lemmas.Bool.{cases_lt, lt-ltb, le-ltb, ne_eqb}
 use Rattle.slotted_theory.specs.FiniteMaps.{HasValue, IsInjectiveMap}
 use Rattle.slotted_model.specs.Ascending.{with_name, ascending}
 use Rattle.slotted_model.specs.Applied.{values}
-use Rattle.slotted_model.proofs.Members.{In}
-use Rattle.slotted_model.proofs.Sets.{IsAscending-ascending, In-ascending, In-of_ascending}
+use Rattle.slotted_model.proofs.Data.Members.{In}
+use Rattle.slotted_model.proofs.Data.Sets.{IsAscending-ascending, In-ascending, In-of_ascending}
 use Rattle.slotted_model.specs.Correspondence.{identity, AllDifferent}
 use Rattle.slotted_model.proofs.Correspondences.PartialInjections.{identity-pair}
 use Rattle.slotted_model.proofs.Correspondences.FullMaps.{injective_map-from}
 use Rattle.slotted_model.proofs.Correspondences.FullIds.{ascending-different}
-use Rattle.slotted_model.proofs.NormalIds.{keys-identity}
+use Rattle.slotted_model.proofs.Finds.NormalIds.{keys-identity}
 use Rattle.slotted_slots.specs.Ascending.{IsAscending}
 use Rattle.slotted_slots.specs.Maps.{keys, value_of}
 use Rattle.slotted_classes.specs.Names.{between}

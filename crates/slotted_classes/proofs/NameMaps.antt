@@ -12,7 +12,7 @@ use Rattle.slotted_slots.proofs.TableLaws.{is_known-numeric_slot}
 use Rattle.slotted_nodes.specs.Form.{Form, with_name}
 use Rattle.slotted_languages.specs.Shape.{with_names}
 use Rattle.slotted_model.specs.Ascending as model
-use Rattle.slotted_model.proofs.Members.{In}
+use Rattle.slotted_model.proofs.Data.Members.{In}
 use Rattle.slotted_proofs.proofs.Bridges.{differ_injective, injective_differ}
 use Rattle.slotted_classes.specs.Names.{with_pairs, fresh_slots, put}
 

@@ -11,9 +11,9 @@ use Rattle.slotted_languages.specs.Shape.{shape, added, firsts}
 use Rattle.slotted_languages.proofs.Shapes.{values-shape}
 use Rattle.slotted_model.specs.Ascending.{with_name, ascending, names}
 use Rattle.slotted_model.specs.Applied.{map_on}
-use Rattle.slotted_model.proofs.Members.{In}
-use Rattle.slotted_model.proofs.Sets.{ascending-same}
-use Rattle.slotted_model.proofs.Maps.{values-with_values}
+use Rattle.slotted_model.proofs.Data.Members.{In}
+use Rattle.slotted_model.proofs.Data.Sets.{ascending-same}
+use Rattle.slotted_model.proofs.Data.Maps.{values-with_values}
 use Rattle.slotted_classes.specs.Names.{with_pairs, between}
 
 -- a pair put into the map of a function on some keys

@@ -20,11 +20,11 @@ use Rattle.slotted_languages.proofs.NodeTerms.{own_fits, child_rest_fits, bind_i
 use Rattle.slotted_languages.proofs.Shapes.{keys-shape, injective-shape, shape-renamed, shape-same}
 use Rattle.slotted_model.specs.Ascending.{ascending}
 use Rattle.slotted_model.specs.Ascending as model
-use Rattle.slotted_model.proofs.Theory.{past, past-key, past-other, filled-past}
+use Rattle.slotted_model.proofs.Data.Theory.{past, past-key, past-other, filled-past}
 use Rattle.slotted_model.specs.Applied.{map_on}
-use Rattle.slotted_model.proofs.Members.{In, In-left, In-right, In-append}
-use Rattle.slotted_model.proofs.Sets.{IsAscending-ascending, In-ascending, In-of_ascending}
-use Rattle.slotted_model.proofs.Maps.{In-values, keys-with_values, map_on-agrees, map_on-filled, filled-map_on, IsInjectiveMap-map_on}
+use Rattle.slotted_model.proofs.Data.Members.{In, In-left, In-right, In-append}
+use Rattle.slotted_model.proofs.Data.Sets.{IsAscending-ascending, In-ascending, In-of_ascending}
+use Rattle.slotted_model.proofs.Data.Maps.{In-values, keys-with_values, map_on-agrees, map_on-filled, filled-map_on, IsInjectiveMap-map_on}
 use Rattle.slotted_classes.specs.Names.{put, with_put, IsNumeric}
 use Rattle.slotted_proofs.proofs.Bridges.{ascends}
 

@@ -12,12 +12,12 @@ use Rattle.slotted_model.specs.Classes.{IsFull}
 use Rattle.slotted_model.specs.Find.{Entry, find}
 use Rattle.slotted_model.specs.Normal.{normal, normal_args}
 use Rattle.slotted_model.specs.ProofList.{node_of}
-use Rattle.slotted_model.proofs.Children.{EachChild-map}
-use Rattle.slotted_model.proofs.Congruence.{child-applied}
-use Rattle.slotted_model.proofs.Folds.{as_term-same}
-use Rattle.slotted_model.proofs.Full.{full-children, full-renamed}
-use Rattle.slotted_model.proofs.NormalIds.{found-renamed}
-use Rattle.slotted_model.proofs.Parts.{kind, first_name, first_child, first_scope, after_first}
+use Rattle.slotted_model.proofs.Represented.Children.{EachChild-map}
+use Rattle.slotted_model.proofs.Finds.Congruence.{child-applied}
+use Rattle.slotted_model.proofs.Represented.Folds.{as_term-same}
+use Rattle.slotted_model.proofs.Represented.Full.{full-children, full-renamed}
+use Rattle.slotted_model.proofs.Finds.NormalIds.{found-renamed}
+use Rattle.slotted_model.proofs.Data.Parts.{kind, first_name, first_child, first_scope, after_first}
 use Rattle.slotted_proofs.specs.declared.equation.Equation.{Equation as Sides}
 use Rattle.slotted_proofs.specs.AlikeNodes.{AreAlikeArgs}
 use Rattle.slotted_proofs.specs.Equations.{to_applied}

@@ -11,7 +11,7 @@ use Rattle.slotted_languages.specs.NodeTerm.{nameless_node, free_names_of}
 use Rattle.slotted_model.specs.Applied.{Applied, keys}
 use Rattle.slotted_model.specs.Ascending.{names}
 use Rattle.slotted_model.specs.Classes.{canonical_node, IsFull}
-use Rattle.slotted_model.proofs.NormalIds.{Contains-ascending}
+use Rattle.slotted_model.proofs.Finds.NormalIds.{Contains-ascending}
 use Rattle.slotted_model.specs.Correspondence.{AllDifferent, IsFullMap}
 use Rattle.slotted_model.proofs.Correspondences.FullMaps.{with_values-keys}
 use Rattle.slotted_proofs.proofs.Stepping.{matches-state, entry-states, states-entry, left_full, middle_full}

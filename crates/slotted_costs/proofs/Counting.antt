@@ -4,8 +4,8 @@ use Rattle.std.specs.Prelude.{◌≢◌, Bool, true, false, nat_eq, set, Contain
 use Rattle.std.proofs.lemmas.Bool.{cases_eq, eq-eqb, ne_eqb}
 use Rattle.slotted_theory.proofs.Lists.{contains_head, contains_tail, contains_cases, Contains-nil}
 use Rattle.slotted_model.specs.Extraction.{TableEntry, cost_in, costs_in}
-use Rattle.slotted_model.proofs.Options.{both-some}
-use Rattle.slotted_model.proofs.Tables.{cost-here, cost-later}
+use Rattle.slotted_model.proofs.Data.Options.{both-some}
+use Rattle.slotted_model.proofs.LeastTerms.Tables.{cost-here, cost-later}
 use Rattle.slotted_costs.specs.Counts.{times, one_if, only_if, lacks, missing, one_if_any, unpriced}
 
 pub one-same : (x y : ℕ) → y ≡ x → one_if (nat_eq y x) ≡ 1

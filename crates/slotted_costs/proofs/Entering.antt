@@ -14,9 +14,9 @@ use Rattle.slotted_model.specs.Cost.{CostFunction, AtMost}
 use Rattle.slotted_model.specs.Find.{find_class}
 use Rattle.slotted_model.specs.State.{Row, State, child_classes}
 use Rattle.slotted_model.specs.Extraction.{TableEntry, cost_in, costs_in, row_cost, IsCandidate, BreaksTies, CanEnterTable, IsLeast, IsFinished}
-use Rattle.slotted_model.proofs.Options.{None-Some}
-use Rattle.slotted_model.proofs.Tables.{cost-here, none-before, row-kept}
-use Rattle.slotted_model.proofs.Queues.{costs-asked}
+use Rattle.slotted_model.proofs.Data.Options.{None-Some}
+use Rattle.slotted_model.proofs.LeastTerms.Tables.{cost-here, none-before, row-kept}
+use Rattle.slotted_model.proofs.LeastTerms.Queues.{costs-asked}
 use Rattle.slotted_hashcons.specs.Filed.{Filing, HasKey, filed_of}
 use Rattle.slotted_hashcons.specs.FiledRows.{rows_in, row_of_entry, key_children}
 use Rattle.slotted_hashcons.proofs.FiledRows.{row-children, row-filed, filed-row}

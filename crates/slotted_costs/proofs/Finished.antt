@@ -9,7 +9,7 @@ use Rattle.slotted_nodes.specs.Form.{Form}
 use Rattle.slotted_languages.specs.NodeTerm.{nameless_node}
 use Rattle.slotted_model.specs.State.{Row}
 use Rattle.slotted_model.specs.Extraction.{IsLawfulFor}
-use Rattle.slotted_model.proofs.KnownCosts.{lawful-for}
+use Rattle.slotted_model.proofs.LeastTerms.KnownCosts.{lawful-for}
 use Rattle.slotted_classes.specs.Kept.{Kept}
 use Rattle.slotted_hashcons.specs.FiledRows.{Rows, rows_in}
 use Rattle.slotted_hashcons.proofs.FiledRows.{filed-row}

@@ -7,7 +7,7 @@ use Rattle.slotted_nodes.specs.Form.{Form}
 use Rattle.slotted_languages.specs.NodeTerm.{nameless_node}
 use Rattle.slotted_model.specs.Cost.{CostFunction}
 use Rattle.slotted_model.specs.Extraction.{TableEntry, costs_in, row_cost}
-use Rattle.slotted_model.proofs.Options.{option_map-some, None-Some}
+use Rattle.slotted_model.proofs.Data.Options.{option_map-some, None-Some}
 use Rattle.slotted_hashcons.specs.Filed.{Filing, filed_of}
 use Rattle.slotted_hashcons.specs.FiledRows.{row_of_entry, key_children}
 use Rattle.slotted_hashcons.proofs.FiledRows.{row-children}

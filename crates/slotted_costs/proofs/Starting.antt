@@ -9,7 +9,7 @@ use Rattle.slotted_languages.specs.NodeTerm.{nameless_node}
 use Rattle.slotted_model.specs.Cost.{CostFunction}
 use Rattle.slotted_model.specs.Extraction.{TableEntry, costs_in}
 use Rattle.slotted_model.specs.State.{State}
-use Rattle.slotted_model.proofs.Options.{None-Some}
+use Rattle.slotted_model.proofs.Data.Options.{None-Some}
 use Rattle.slotted_hashcons.specs.Filed.{Filing, filed_of}
 use Rattle.slotted_hashcons.specs.FiledRows.{key_children}
 use Rattle.slotted_costs.specs.declared.candidate.Candidate.{Candidate}

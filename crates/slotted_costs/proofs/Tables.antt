@@ -8,8 +8,8 @@ use Rattle.std.proofs.lemmas.List.Elements.{Contains-get_or}
 use Rattle.slotted_theory.proofs.Lists.{Contains-map}
 use Rattle.slotted_nodes.specs.Form.{Form}
 use Rattle.slotted_model.specs.Extraction.{TableEntry, cost_in, costs_in}
-use Rattle.slotted_model.proofs.Options.{None-Some, Some-same, option_map-some}
-use Rattle.slotted_model.proofs.Tables.{costs-by, costs-append, costs-each}
+use Rattle.slotted_model.proofs.Data.Options.{None-Some, Some-same, option_map-some}
+use Rattle.slotted_model.proofs.LeastTerms.Tables.{costs-by, costs-append, costs-each}
 use Rattle.slotted_hashcons.proofs.Places.{at-append_cases, at-set_same, at-set_other}
 use Rattle.slotted_costs.specs.declared.entry.CostEntry.{CostEntry}
 use Rattle.slotted_costs.specs.Entries.{entry_of, table_after, table_of, entry_in, classes_in, ArePlaced}

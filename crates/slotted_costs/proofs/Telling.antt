@@ -10,7 +10,7 @@ use Rattle.slotted_theory.proofs.Lists.{contains_head, contains_tail, contains_c
 use Rattle.slotted_nodes.specs.Form.{Form}
 use Rattle.slotted_model.specs.Cost.{CostFunction}
 use Rattle.slotted_model.specs.Extraction.{TableEntry}
-use Rattle.slotted_model.proofs.Options.{None-Some, Some-same}
+use Rattle.slotted_model.proofs.Data.Options.{None-Some, Some-same}
 use Rattle.slotted_hashcons.specs.Filed.{Filing}
 use Rattle.slotted_costs.specs.declared.candidate.Candidate.{Candidate}
 use Rattle.slotted_costs.specs.Prices.{IsCandidateFor, Pushes, filed_cost, pair_of, pairs_of}

@@ -12,8 +12,8 @@ use Rattle.slotted_theory.proofs.Lists.{contains_head, contains_tail, contains_c
 use Rattle.slotted_nodes.specs.Form.{Form}
 use Rattle.slotted_model.specs.Cost.{CostFunction}
 use Rattle.slotted_model.specs.Extraction.{TableEntry, cost_in, costs_in}
-use Rattle.slotted_model.proofs.Options.{both-some, Some-same}
-use Rattle.slotted_model.proofs.Tables.{cost-kept, costs-each}
+use Rattle.slotted_model.proofs.Data.Options.{both-some, Some-same}
+use Rattle.slotted_model.proofs.LeastTerms.Tables.{cost-kept, costs-each}
 use Rattle.slotted_hashcons.specs.Filed.{Filing, HasKey}
 use Rattle.slotted_costs.specs.Costs.{costs_by}
 use Rattle.slotted_costs.specs.declared.candidate.Candidate.{Candidate}

@@ -7,7 +7,7 @@ use Rattle.std.proofs.lemmas.List.{length-map}
 use Rattle.std.proofs.Math.ListN.{get_or-append}
 use Rattle.std.proofs.Math.Seq.{get_or-append_seam}
 use Rattle.slotted_nodes.specs.Form.{Form, children}
-use Rattle.slotted_model.proofs.Options.{None-Some}
+use Rattle.slotted_model.proofs.Data.Options.{None-Some}
 use Rattle.slotted_hashcons.specs.Filed.{Filing, filed_of}
 use Rattle.slotted_hashcons.proofs.KeyChildren.{key_children-read}
 use Rattle.slotted_costs.specs.Counts.{times, one_if, only_if, UsesMore, AreUsers, AreCounts, AreKeysOf, IsKeyOf}

@@ -12,7 +12,7 @@ use Rattle.slotted_theory.specs.Nameless.{DArgs, stop, sub}
 use Rattle.slotted_theory.proofs.Values.{node}
 use Rattle.slotted_nodes.specs.Form.{Form}
 use Rattle.slotted_model.specs.Cost.{EachAtMost, child_count, limited_size}
-use Rattle.slotted_model.proofs.Sizes.{size-lawful}
+use Rattle.slotted_model.proofs.LeastTerms.Sizes.{size-lawful}
 use Rattle.slotted_costs.specs.Costs.{costs_by, bare_node}
 use Rattle.slotted_costs.specs.Laws.{NeverFalls, CoversChildren}
 use Rattle.slotted_costs.specs.Size.{largest, size_cost}

@@ -13,8 +13,8 @@ use Rattle.slotted_model.specs.Correspondence.{AllDifferent, identity}
 use Rattle.slotted_model.specs.Find.{IsLive, entry_at, used_slots}
 use Rattle.slotted_model.specs.Rest.{AtRest}
 use Rattle.slotted_model.specs.State.{Row, State, child_classes, sources}
-use Rattle.slotted_model.proofs.Finding.{Leads, leads, find_class-live, found-live, found-in_range}
-use Rattle.slotted_model.proofs.GoingOn.{used-valid}
+use Rattle.slotted_model.proofs.Finds.Finding.{Leads, leads, find_class-live, found-live, found-in_range}
+use Rattle.slotted_model.proofs.Rebuilding.GoingOn.{used-valid}
 use Rattle.slotted_model_analyses.specs.Analysis.{Analysis, IsMerge, Absorbs}
 use Rattle.slotted_model_analyses.specs.DataPart.{HasData, DataGoesDown, RestsWithData, RunsWithData, made}
 use Rattle.slotted_model_analyses.specs.DataWrites.{HasNotedAll}

@@ -2,7 +2,7 @@
 use Rattle.std.proofs.Common.{◌≡◌, ◌<◌, ℕ, List, [], length, true, false, Option, sym, ◌∙◌, refl, subst, arith}
 use Rattle.slotted_model.specs.Find.{IsLive}
 use Rattle.slotted_model.specs.State.{State}
-use Rattle.slotted_model.proofs.Finding.{Leads, leads, found-live, found-in_range}
+use Rattle.slotted_model.proofs.Finds.Finding.{Leads, leads, found-live, found-in_range}
 use Rattle.slotted_model_analyses.specs.Analysis.{Analysis, IsMerge}
 use Rattle.slotted_model_analyses.specs.DataPart.{HasData, Merges, absorbed, RestsWithData, RunsWithData, starts}
 use Rattle.slotted_model_analyses.specs.DataWrites.{MergesInto, merges_into}

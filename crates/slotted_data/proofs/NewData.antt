@@ -13,7 +13,7 @@ use Rattle.slotted_model.specs.Classes.{Canonical, IsFull, canonical_node}
 use Rattle.slotted_model.specs.Correspondence.{AllDifferent}
 use Rattle.slotted_model.specs.Find.{Entry, find_class}
 use Rattle.slotted_model.specs.State.{child_classes}
-use Rattle.slotted_model.proofs.KeepingLookUps.{children-below}
+use Rattle.slotted_model.proofs.Rebuilding.KeepingLookUps.{children-below}
 use Rattle.slotted_classes.specs.Kept.{Kept, node_at, nodes_of, entries_of}
 use Rattle.slotted_classes.proofs.KeptLists.{length-nodes_of}
 use Rattle.slotted_hashcons.specs.FiledRows.{HasChildrenBelow, key_children}

@@ -3,8 +3,8 @@ use Rattle.std.proofs.Common.{◌≡◌, ℕ, List, [], ◌++◌, sym, refl, sub
 use Rattle.slotted_theory.proofs.Lists.{Contains-nil}
 use Rattle.slotted_model.specs.Changes.{GoesOn}
 use Rattle.slotted_model.specs.Rest.{AtRest}
-use Rattle.slotted_model.proofs.Asserting.{nothing-rests}
-use Rattle.slotted_model.proofs.GoingOn.{goes_on-same}
+use Rattle.slotted_model.proofs.Rebuilding.Asserting.{nothing-rests}
+use Rattle.slotted_model.proofs.Rebuilding.GoingOn.{goes_on-same}
 use Rattle.slotted_model_analyses.specs.Analysis.{Analysis}
 use Rattle.slotted_model_analyses.proofs.Writing.{nothing-rests-with}
 use Rattle.slotted_proofs.specs.Entries.{Proven}

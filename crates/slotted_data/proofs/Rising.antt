@@ -10,7 +10,7 @@ use Rattle.slotted_model.specs.Find.{Entry}
 use Rattle.slotted_model.specs.Rebuild.{without}
 use Rattle.slotted_model.specs.Rest.{AtRest, size}
 use Rattle.slotted_model.specs.State.{State}
-use Rattle.slotted_model.proofs.Rows.{of_source}
+use Rattle.slotted_model.proofs.Rebuilding.Rows.{of_source}
 use Rattle.slotted_model_analyses.specs.Analysis.{Analysis, IsMerge}
 use Rattle.slotted_model_analyses.specs.DataPart.{HasData, Merges, TakesData, heights_from, made, size_with_data, starts, takes, takes_data}
 use Rattle.slotted_model_analyses.specs.RunClaims.{FallsOrTakes}

@@ -14,9 +14,9 @@ use Rattle.slotted_model.specs.Correspondence.{AllDifferent}
 use Rattle.slotted_model.specs.Find.{Entry, Linked, IsLive, entry_at}
 use Rattle.slotted_model.specs.State.{Row, State, HasTouched, child_classes, normal_node}
 use Rattle.slotted_model.specs.Rest.{AtRest, IsCurrent}
-use Rattle.slotted_model.proofs.Finding.{Leads, leads, find_class-live, found-live, found-in_range}
-use Rattle.slotted_model.proofs.Optimal.{row-classes}
-use Rattle.slotted_model.proofs.Rows.{current-shape, of_source, one_row}
+use Rattle.slotted_model.proofs.Finds.Finding.{Leads, leads, find_class-live, found-live, found-in_range}
+use Rattle.slotted_model.proofs.LeastTerms.Optimal.{row-classes}
+use Rattle.slotted_model.proofs.Rebuilding.Rows.{current-shape, of_source, one_row}
 use Rattle.slotted_model_analyses.specs.Analysis.{Analysis, IsMerge, Absorbs}
 use Rattle.slotted_model_analyses.specs.DataPart.{HasNoted, Merges, absorbed, heights_from, lowered, made, with_data, with_pending}
 use Rattle.slotted_model_analyses.proofs.FiledAgain.{normal-classes}

@@ -3,7 +3,7 @@ use Rattle.std.proofs.Common.{◌≡◌, ◌<◌, ℕ, length, Some, sym, ◌∙
 use Rattle.std.proofs.lemmas.Option.{get_or_from_slice_get, slice_get_within, slice_get-get_or}
 use Rattle.slotted_theory.proofs.Lists.{Contains-nil}
 use Rattle.slotted_model.specs.Find.{find_class}
-use Rattle.slotted_model.proofs.Finding.{leads, found-in_range}
+use Rattle.slotted_model.proofs.Finds.Finding.{leads, found-in_range}
 use Rattle.slotted_model_analyses.specs.Analysis.{Analysis, Absorbs}
 use Rattle.slotted_classes.specs.Kept.{Kept, nodes_of, entries_of}
 use Rattle.slotted_classes.proofs.KeptLists.{length-entries_of, length-nodes_of}

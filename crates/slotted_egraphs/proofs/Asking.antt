@@ -11,7 +11,7 @@ use Rattle.slotted_slots.specs.declared.types.AppliedId.{AppliedId}
 use Rattle.slotted_nodes.specs.Form.{Form}
 use Rattle.slotted_model.specs.Applied.{Applied}
 use Rattle.slotted_model.specs.Ids.{id_of}
-use Rattle.slotted_model.proofs.Options.{Some-same}
+use Rattle.slotted_model.proofs.Data.Options.{Some-same}
 use Rattle.slotted_explain.specs.Adding.{IsEqualToNode}
 use Rattle.slotted_explain.specs.ValidIds.{SaysFillingsEqual}
 use Rattle.slotted_explain.specs.Graph.{Graph, id_of_term}

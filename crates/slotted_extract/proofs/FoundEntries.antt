@@ -10,8 +10,8 @@ use Rattle.slotted_nodes.specs.Form.{Form}
 use Rattle.slotted_model.specs.Applied.{Applied}
 use Rattle.slotted_model.specs.Cost.{CostFunction}
 use Rattle.slotted_model.specs.Find.{find_class}
-use Rattle.slotted_model.proofs.Finding.{found-in_range, found-live, leads}
-use Rattle.slotted_model.proofs.Options.{None-Some, option_map-some}
+use Rattle.slotted_model.proofs.Finds.Finding.{found-in_range, found-live, leads}
+use Rattle.slotted_model.proofs.Data.Options.{None-Some, option_map-some}
 use Rattle.slotted_classes.specs.Finding.{IsFindable}
 use Rattle.slotted_classes.specs.Kept.{entries_of, nodes_of}
 use Rattle.slotted_graph.specs.Causes.{class_found}

@@ -12,7 +12,7 @@ use Rattle.slotted_model.specs.Changes.{GoesOn}
 use Rattle.slotted_model.specs.Find.{Entry, find_class}
 use Rattle.slotted_model.specs.Rest.{AtRest}
 use Rattle.slotted_model.specs.State.{child_classes}
-use Rattle.slotted_model.proofs.GoingOn.{goes_on-same}
+use Rattle.slotted_model.proofs.Rebuilding.GoingOn.{goes_on-same}
 use Rattle.slotted_model_analyses.specs.Analysis.{Absorbs, Analysis, IsMerge}
 use Rattle.slotted_proofs.specs.Entries.{Proven}
 use Rattle.slotted_classes.specs.Kept.{EntersIn, Kept, entries_of, find_at, nodes_of}

@@ -18,7 +18,7 @@ use Rattle.slotted_terms.specs.Valid.{AllKnown}
 use Rattle.slotted_model.specs.Applied.{Applied, values}
 use Rattle.slotted_model.specs.Find.{find_class}
 use Rattle.slotted_model.specs.State.{Row}
-use Rattle.slotted_model.proofs.Members.{Contains-In}
+use Rattle.slotted_model.proofs.Data.Members.{Contains-In}
 use Rattle.slotted_classes.specs.Finding.{IsFindable}
 use Rattle.slotted_classes.specs.Kept.{Kept, entries_of}
 use Rattle.slotted_classes.specs.ChildIds.{child_ids}

@@ -7,7 +7,7 @@ use Rattle.slotted_slots.specs.Table.{KnowsMore, Table}
 use Rattle.slotted_theory.specs.Nameless.{DTerm}
 use Rattle.slotted_model.specs.Applied.{Applied}
 use Rattle.slotted_model.specs.Growth.{Extends}
-use Rattle.slotted_model.proofs.Growing.{Extends-same, Extends-then}
+use Rattle.slotted_model.proofs.Represented.Growing.{Extends-same, Extends-then}
 use Rattle.slotted_proofs.specs.Equations.{to_applied}
 use Rattle.slotted_operations.specs.Graph.{Graph, IsFullId, OnlyReads, OnlyTakesSlots, RecordsUnion}
 use Rattle.slotted_operations.specs.Image.{AddsClasses, FillApart, FoundAlike, Image, IsUnion, asserted_in}

@@ -16,13 +16,13 @@ use Rattle.slotted_theory.specs.Shape.{free_names, number_in, shape}
 use Rattle.slotted_model.specs.Cost.{child_count}
 use Rattle.slotted_model.specs.State.{Row}
 use Rattle.slotted_model.specs.Applied.{values}
-use Rattle.slotted_model.proofs.Members.{In, In-Contains, Contains-In}
+use Rattle.slotted_model.proofs.Data.Members.{In, In-Contains, Contains-In}
 use Rattle.slotted_model_rules.specs.Conditions.{Values}
 use Rattle.slotted_model_rules.specs.Matcher.{value_at}
 use Rattle.slotted_model_rules.specs.Patterns.{Pattern, PatternArgs, EachVariable, EachVariableIn, pattern_node, variable, replacing, no_argument, own_name, child_pattern, binding}
 use Rattle.slotted_model_rules.specs.Rules.{id_or_none, valued}
 use Rattle.slotted_theory.proofs.Decides.{numbers_eq-same}
-use Rattle.slotted_model_rules.proofs.Rewriting.{each-variable}
+use Rattle.slotted_model_rules.proofs.Rules.Rewriting.{each-variable}
 use Rattle.slotted_patterns.specs.Tree.{PatternTree}
 use Rattle.slotted_rule_patterns.specs.PatternCode.{pattern_in}
 use Rattle.slotted_match_machine.specs.Programs.{variables_of, variables_in}

@@ -9,7 +9,7 @@ use Rattle.slotted_theory.specs.Decided.{numbers_eq}
 use Rattle.slotted_theory.proofs.Decides.{numbers_eq-same}
 use Rattle.slotted_nodes.specs.Form.{Tree, leaf, own, child, bind, scopes, children}
 use Rattle.slotted_patterns.specs.Tree.{PatternTree, enode, pvar, substitution, PatternRow, no_more, one_more}
-use Rattle.slotted_model.proofs.Members.{In, In-Contains}
+use Rattle.slotted_model.proofs.Data.Members.{In, In-Contains}
 use Rattle.slotted_model_rules.specs.Conditions.{Values}
 use Rattle.slotted_model_rules.specs.Matcher.{value_at}
 use Rattle.slotted_model_rules.specs.Patterns.{Pattern, variable, EachVariable, EachVariableIn}

@@ -10,9 +10,9 @@ use Rattle.slotted_model.specs.Cost.{CostFunction}
 use Rattle.slotted_model.specs.Find.{IsLive, find, find_class}
 use Rattle.slotted_model.specs.Rest.{AtRest}
 use Rattle.slotted_model.specs.State.{Row, State, look_up_tree}
-use Rattle.slotted_model.proofs.NormalIds.{found-again, found-valid}
-use Rattle.slotted_model.proofs.Finding.{found-live, leads}
-use Rattle.slotted_model.proofs.Options.{option_map-some}
+use Rattle.slotted_model.proofs.Finds.NormalIds.{found-again, found-valid}
+use Rattle.slotted_model.proofs.Finds.Finding.{found-live, leads}
+use Rattle.slotted_model.proofs.Data.Options.{option_map-some}
 use Rattle.slotted_classes.specs.Finding.{IsFindable}
 use Rattle.slotted_classes.specs.Kept.{Kept, entries_of, nodes_of}
 use Rattle.slotted_classes.proofs.KeptLists.{length-nodes_of}

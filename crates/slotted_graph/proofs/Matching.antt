@@ -11,10 +11,10 @@ use Rattle.slotted_model.specs.Ascending.{ascending}
 use Rattle.slotted_model.specs.Find.{IsLive, find, find_class, find_map}
 use Rattle.slotted_model.specs.Rest.{AtRest, IsValidIn}
 use Rattle.slotted_model.specs.State.{Row, State}
-use Rattle.slotted_model.proofs.Finding.{find_class-live, found-live, leads}
-use Rattle.slotted_model.proofs.Lacking.{same-ascending}
-use Rattle.slotted_model.proofs.Members.{In-Contains, Contains-In}
-use Rattle.slotted_model.proofs.NormalIds.{Contains-ascending, Contains-of_ascending}
+use Rattle.slotted_model.proofs.Finds.Finding.{find_class-live, found-live, leads}
+use Rattle.slotted_model.proofs.Rebuilding.Lacking.{same-ascending}
+use Rattle.slotted_model.proofs.Data.Members.{In-Contains, Contains-In}
+use Rattle.slotted_model.proofs.Finds.NormalIds.{Contains-ascending, Contains-of_ascending}
 use Rattle.slotted_model_rules.specs.Complete as model
 use Rattle.slotted_model_rules.specs.Conditions.{Values}
 use Rattle.slotted_model_rules.specs.Complete.{HasOwnBinders}
@@ -22,12 +22,12 @@ use Rattle.slotted_model_rules.specs.Matcher.{EachSlot, MatchState, Reads, class
 use Rattle.slotted_model_rules.specs.Patterns.{Pattern, PatternArgs, EachVariable, EachVariableIn, pattern_node, variable, replacing, no_argument, own_name, child_pattern, binding}
 use Rattle.slotted_model_rules.specs.Rules.{IsMatch, IsRead, Searches, valued}
 use Rattle.slotted_model_rules.specs.Patterns.{look_up_pattern as model_look_up}
-use Rattle.slotted_model_rules.proofs.Answering.{found-values}
-use Rattle.slotted_model_rules.proofs.ClassIds.{class-valid}
-use Rattle.slotted_model_rules.proofs.Completing.{finds-all}
-use Rattle.slotted_model_rules.proofs.Readings.{EachSlot-map, slots-named, readings-renamed}
-use Rattle.slotted_model_rules.proofs.Rewriting.{each-variable}
-use Rattle.slotted_model_rules.proofs.Searching.{match-looked_up, search-finds}
+use Rattle.slotted_model_rules.proofs.Matching.Answering.{found-values}
+use Rattle.slotted_model_rules.proofs.Matching.ClassIds.{class-valid}
+use Rattle.slotted_model_rules.proofs.Matching.Completing.{finds-all}
+use Rattle.slotted_model_rules.proofs.Matching.Readings.{EachSlot-map, slots-named, readings-renamed}
+use Rattle.slotted_model_rules.proofs.Rules.Rewriting.{each-variable}
+use Rattle.slotted_model_rules.proofs.Rules.Searching.{match-looked_up, search-finds}
 use Rattle.slotted_match_machine.proofs.Lists.{beside-left, beside-right}
 use Rattle.slotted_classes.specs.Finding.{IsFindable}
 use Rattle.slotted_classes.specs.Kept.{Kept, entries_of, nodes_of}

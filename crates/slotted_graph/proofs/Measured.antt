@@ -8,7 +8,7 @@ use Rattle.slotted_nodes.specs.Form.{counted}
 use Rattle.slotted_model.specs.Applied.{Applied, values}
 use Rattle.slotted_model.specs.Find.{Entry, entry_at, find_map}
 use Rattle.slotted_model.specs.Rest.{lives_from, slots_from}
-use Rattle.slotted_model.proofs.Finding.{find_map-live, leads}
+use Rattle.slotted_model.proofs.Finds.Finding.{find_map-live, leads}
 use Rattle.slotted_classes.specs.Kept.{Kept, entries_of, no_entry, nodes_of}
 use Rattle.slotted_classes.proofs.KeptLists.{length-entries_of, length-mapped, length-nodes_of}
 use Rattle.slotted_lookup.specs.Reports.{live_ids, lives}

@@ -8,10 +8,10 @@ use Rattle.slotted_theory.proofs.Values.{node, child_before}
 use Rattle.slotted_model.specs.Applied.{Applied, EachChild, as_term, renamed_id}
 use Rattle.slotted_model.specs.LookUp.{both}
 use Rattle.slotted_model.specs.State.{State, look_up_node}
-use Rattle.slotted_model.proofs.Children.{EachChild-map}
+use Rattle.slotted_model.proofs.Represented.Children.{EachChild-map}
 use Rattle.slotted_model_rules.specs.Patterns.{Pattern, PatternArgs, EachVariable, EachVariableIn, pattern_node, variable, replacing, no_argument, own_name, child_pattern, binding}
 use Rattle.slotted_model_rules.specs.Patterns as model
-use Rattle.slotted_model_rules.proofs.LookingUp.{IsFoundId, looked-arguments}
+use Rattle.slotted_model_rules.proofs.Patterns.LookingUp.{IsFoundId, looked-arguments}
 use Rattle.slotted_classes.specs.Finding.{IsFindable}
 use Rattle.slotted_classes.specs.Kept.{Kept}
 use Rattle.slotted_hashcons.specs.FiledRows.{Rows, rows_in}

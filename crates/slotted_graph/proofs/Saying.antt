@@ -18,7 +18,7 @@ use Rattle.slotted_model.specs.Classes.{term_of}
 use Rattle.slotted_model.specs.Filling.{IsValid}
 use Rattle.slotted_model.specs.Growth.{Extends}
 use Rattle.slotted_model.specs.ProofList.{Equation, equation_of, term_pair}
-use Rattle.slotted_model.proofs.FillingEquations.{filled-equation}
+use Rattle.slotted_model.proofs.Represented.FillingEquations.{filled-equation}
 use Rattle.slotted_proofs.specs.Entries.{Proven, nothing_proven, proven_at}
 use Rattle.slotted_proofs.specs.Equations.{to_applied}
 use Rattle.slotted_rebuilding.proofs.CountedRebuilds.{counts-same, counts-then}

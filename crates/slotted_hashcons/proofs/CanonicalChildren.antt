@@ -8,8 +8,8 @@ use Rattle.slotted_model.specs.Classes.{Canonical, IsFull, canonical_node}
 use Rattle.slotted_model.specs.Find.{Linked}
 use Rattle.slotted_model.specs.Rest.{Sane}
 use Rattle.slotted_model.specs.State.{State}
-use Rattle.slotted_model.proofs.Children.{EachChild-map}
-use Rattle.slotted_model.proofs.NormalIds.{full-is_valid}
+use Rattle.slotted_model.proofs.Represented.Children.{EachChild-map}
+use Rattle.slotted_model.proofs.Finds.NormalIds.{full-is_valid}
 use Rattle.slotted_classes.specs.Finding.{IsFindable}
 use Rattle.slotted_classes.specs.Kept.{Kept, ClassEntry, node_at, nodes_of, entries_of, no_form, no_entry}
 use Rattle.slotted_classes.proofs.KeptLists.{any_default, at-mapped, length-nodes_of}

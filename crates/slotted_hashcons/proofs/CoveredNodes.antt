@@ -8,7 +8,7 @@ use Rattle.slotted_model.specs.Correspondence.{flipped}
 use Rattle.slotted_model.specs.Find.{find_class, find_map}
 use Rattle.slotted_model.specs.Rebuild.{IsCovered}
 use Rattle.slotted_model.proofs.Correspondences.Pairs.{Contains-value_of}
-use Rattle.slotted_model.proofs.Members.{In-Contains}
+use Rattle.slotted_model.proofs.Data.Members.{In-Contains}
 use Rattle.slotted_classes.specs.Finding.{HasFinds, HasFoundName, HasFoundNames}
 use Rattle.slotted_classes.specs.Kept.{Kept, entries_of, find_at}
 use Rattle.slotted_classes.proofs.Chasing.{has-name, no-name, each-name, all-names}

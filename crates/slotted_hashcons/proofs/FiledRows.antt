@@ -13,7 +13,7 @@ use Rattle.slotted_languages.specs.NodeTerm.{nameless_node}
 use Rattle.slotted_model.specs.Correspondence.{AllDifferent}
 use Rattle.slotted_model.specs.State.{Row, child_classes, sources}
 use Rattle.slotted_model.specs.Rebuild.{without, without_row, with_row}
-use Rattle.slotted_model.proofs.Marks.{child_classes-moved}
+use Rattle.slotted_model.proofs.Complete.Marks.{child_classes-moved}
 use Rattle.slotted_classes.specs.Kept.{RowEntry}
 use Rattle.slotted_hashcons.specs.Filed.{Filing, filed_of}
 use Rattle.slotted_hashcons.specs.FiledRows.{row_of_entry, row_at, rows_from, rows_in, key_children, IsFiled}

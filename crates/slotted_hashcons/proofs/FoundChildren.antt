@@ -16,13 +16,13 @@ use Rattle.slotted_model.specs.Ascending.{IsAscending}
 use Rattle.slotted_model.specs.Filling.{IsValid}
 use Rattle.slotted_model.specs.Find.{Entry, Linked, find, used_slots}
 use Rattle.slotted_model.specs.Normal.{normal, normal_args}
-use Rattle.slotted_model.proofs.Children.{zip-places}
-use Rattle.slotted_model.proofs.Congruence.{child-applied}
+use Rattle.slotted_model.proofs.Represented.Children.{zip-places}
+use Rattle.slotted_model.proofs.Finds.Congruence.{child-applied}
 use Rattle.slotted_model.proofs.Correspondences.Listing.{injective-different}
-use Rattle.slotted_model.proofs.Maps.{keys-with_values}
-use Rattle.slotted_model.proofs.Members.{In, In-append, In-map, In-of_map, In-Contains, Contains-In}
-use Rattle.slotted_model.proofs.NormalIds.{found-renamed, found-valid, found-name}
-use Rattle.slotted_model.proofs.Touching.{different-length}
+use Rattle.slotted_model.proofs.Data.Maps.{keys-with_values}
+use Rattle.slotted_model.proofs.Data.Members.{In, In-append, In-map, In-of_map, In-Contains, Contains-In}
+use Rattle.slotted_model.proofs.Finds.NormalIds.{found-renamed, found-valid, found-name}
+use Rattle.slotted_model.proofs.Rebuilding.Touching.{different-length}
 use Rattle.slotted_classes.specs.ChildIds.{ids_in, child_ids}
 use Rattle.slotted_hashcons.specs.NormalNodes.{HasNoOtherNames}
 use Rattle.slotted_classes.proofs.ChildIds.{Each, Each-append, atom-is, zip-keys_values}

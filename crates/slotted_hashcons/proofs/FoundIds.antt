@@ -10,10 +10,10 @@ use Rattle.slotted_model.proofs.Correspondences.FullIds.{ascending-different}
 use Rattle.slotted_model.proofs.Correspondences.FullMaps.{full-partial}
 use Rattle.slotted_model.proofs.Correspondences.Pairs.{Contains-value}
 use Rattle.slotted_model.proofs.Correspondences.PartialInjections.{identity-composite}
-use Rattle.slotted_model.proofs.Finding.{Leads, find_class-live, find_map-live, leads}
-use Rattle.slotted_model.proofs.Members.{Contains-In, In, In-Contains}
-use Rattle.slotted_model.proofs.NormalIds.{found-class_live, found-slots, used-live}
-use Rattle.slotted_model.proofs.Sets.{IsAscending-ascending}
+use Rattle.slotted_model.proofs.Finds.Finding.{Leads, find_class-live, find_map-live, leads}
+use Rattle.slotted_model.proofs.Data.Members.{Contains-In, In, In-Contains}
+use Rattle.slotted_model.proofs.Finds.NormalIds.{found-class_live, found-slots, used-live}
+use Rattle.slotted_model.proofs.Data.Sets.{IsAscending-ascending}
 use Rattle.slotted_classes.specs.Finding.{HasFinds, IsFindable}
 use Rattle.slotted_classes.specs.Kept.{Kept, entries_of, nodes_of}
 use Rattle.slotted_classes.proofs.AscendingLists.{ascending-within}

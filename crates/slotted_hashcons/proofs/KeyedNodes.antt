@@ -18,11 +18,11 @@ use Rattle.slotted_model.specs.Ascending.{IsAscending}
 use Rattle.slotted_model.specs.Find.{find, used_slots}
 use Rattle.slotted_model.specs.Normal.{normal}
 use Rattle.slotted_model.specs.State.{normal_node}
-use Rattle.slotted_model.proofs.Congruence.{normal_args-names}
-use Rattle.slotted_model.proofs.Maps.{IsInjectiveMap-with_values, filled-pair, keys-with_values, map_on-filled, pair-filled, values-map_on, values-with_values}
-use Rattle.slotted_model.proofs.Members.{In, In-map}
-use Rattle.slotted_model.proofs.RenamedIds.{normal-moves}
-use Rattle.slotted_model.proofs.Theory.{free_names-moved, moved-agrees, moved-moved}
+use Rattle.slotted_model.proofs.Finds.Congruence.{normal_args-names}
+use Rattle.slotted_model.proofs.Data.Maps.{IsInjectiveMap-with_values, filled-pair, keys-with_values, map_on-filled, pair-filled, values-map_on, values-with_values}
+use Rattle.slotted_model.proofs.Data.Members.{In, In-map}
+use Rattle.slotted_model.proofs.Represented.RenamedIds.{normal-moves}
+use Rattle.slotted_model.proofs.Data.Theory.{free_names-moved, moved-agrees, moved-moved}
 use Rattle.slotted_proofs.proofs.Bridges.{ascends}
 use Rattle.slotted_classes.specs.Finding.{HasFinds, IsFindable}
 use Rattle.slotted_classes.specs.Kept.{Kept, node_at, nodes_of, entries_of}

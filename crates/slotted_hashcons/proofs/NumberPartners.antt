@@ -22,13 +22,13 @@ use Rattle.slotted_model.proofs.Correspondences.FullIds.{ascending-different, fu
 use Rattle.slotted_model.proofs.Correspondences.FullMaps.{full-from, full-partial, same_names-by, same_names-over, same_names-partial}
 use Rattle.slotted_model.proofs.Correspondences.Pairs.{Contains-value, Contains-of_value}
 use Rattle.slotted_model.proofs.Correspondences.PartialInjections.{composite-by, composite-over, composite-partial, identity-by, identity-pair, in_order-ext, turned-by, turned-pair, turned-partial}
-use Rattle.slotted_model.proofs.Maps.{filled-pair}
-use Rattle.slotted_model.proofs.Members.{In, In-of_map, In-Contains, Contains-In}
-use Rattle.slotted_model.proofs.NormalIds.{keys-identity}
-use Rattle.slotted_model.proofs.Sets.{In-of_ascending}
-use Rattle.slotted_model.proofs.Theory.{free_names-moved}
-use Rattle.slotted_model.proofs.Twins.{normal-slots, shape-twin}
-use Rattle.slotted_model.proofs.TwinNumbers.{twins-move, twins-pair}
+use Rattle.slotted_model.proofs.Data.Maps.{filled-pair}
+use Rattle.slotted_model.proofs.Data.Members.{In, In-of_map, In-Contains, Contains-In}
+use Rattle.slotted_model.proofs.Finds.NormalIds.{keys-identity}
+use Rattle.slotted_model.proofs.Data.Sets.{In-of_ascending}
+use Rattle.slotted_model.proofs.Data.Theory.{free_names-moved}
+use Rattle.slotted_model.proofs.Finds.Twins.{normal-slots, shape-twin}
+use Rattle.slotted_model.proofs.Finds.TwinNumbers.{twins-move, twins-pair}
 use Rattle.slotted_proofs.proofs.Bridges.{ascends}
 use Rattle.slotted_classes.specs.Kept.{Kept, nodes_of, entries_of}
 use Rattle.slotted_hashcons.specs.FoundNodes.{finds_of, IsFoundNode}

@@ -14,10 +14,10 @@ use Rattle.slotted_languages.specs.Shape.{added, firsts}
 use Rattle.slotted_model.specs.Applied.{map_on}
 use Rattle.slotted_model.specs.Ascending.{IsAscending, ascending, names}
 use Rattle.slotted_model.specs.State.{name_numbered}
-use Rattle.slotted_model.proofs.Members.{In, In-append, In-left, In-right, In-map, In-of_map}
-use Rattle.slotted_model.proofs.Rows.{name_numbered-at}
-use Rattle.slotted_model.proofs.Sets.{In-ascending, In-of_ascending, IsAscending-ascending, below_each, below_from_each, same_members}
-use Rattle.slotted_model.proofs.Theory.{free_names-moved}
+use Rattle.slotted_model.proofs.Data.Members.{In, In-append, In-left, In-right, In-map, In-of_map}
+use Rattle.slotted_model.proofs.Rebuilding.Rows.{name_numbered-at}
+use Rattle.slotted_model.proofs.Data.Sets.{In-ascending, In-of_ascending, IsAscending-ascending, below_each, below_from_each, same_members}
+use Rattle.slotted_model.proofs.Data.Theory.{free_names-moved}
 use Rattle.slotted_classes.proofs.NamePairs.{In-firsts}
 
 -- a name that did not stand before has the number of names before it

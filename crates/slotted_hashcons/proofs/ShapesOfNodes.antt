@@ -14,9 +14,9 @@ use Rattle.slotted_languages.proofs.Shapes.{injective-shape, shape-same, shape_b
 use Rattle.slotted_model.specs.Applied.{keys, values, map_on}
 use Rattle.slotted_model.specs.Ascending.{names}
 use Rattle.slotted_model.specs.State.{Row, name_numbered, normal_node}
-use Rattle.slotted_model.proofs.Maps.{keys-with_values}
-use Rattle.slotted_model.proofs.Members.{In, In-Contains, Contains-In}
-use Rattle.slotted_model.proofs.Sets.{In-ascending, In-of_ascending}
+use Rattle.slotted_model.proofs.Data.Maps.{keys-with_values}
+use Rattle.slotted_model.proofs.Data.Members.{In, In-Contains, Contains-In}
+use Rattle.slotted_model.proofs.Data.Sets.{In-ascending, In-of_ascending}
 use Rattle.slotted_classes.specs.Kept.{Kept}
 use Rattle.slotted_classes.proofs.NamePairs.{In-firsts}
 use Rattle.slotted_hashcons.specs.FoundNodes.{finds_of, IsFoundNode}

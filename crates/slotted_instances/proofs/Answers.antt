@@ -22,8 +22,8 @@ use Rattle.slotted_model_rules.specs.Instances.{IsInstance, IsAnswer, HasAnswers
 use Rattle.slotted_model_rules.specs.PatternClaims.{MovesWithNames}
 use Rattle.slotted_model_rules.specs.Patterns.{Pattern}
 use Rattle.slotted_model_rules.specs.Rules.{valued}
-use Rattle.slotted_model_rules.proofs.Instantiating.{instance-stays}
-use Rattle.slotted_model_rules.proofs.Representing.{listed-moves, represented-moves, listed-more, answer-represented}
+use Rattle.slotted_model_rules.proofs.Patterns.Instantiating.{instance-stays}
+use Rattle.slotted_model_rules.proofs.Substitutions.Representing.{listed-moves, represented-moves, listed-more, answer-represented}
 use Rattle.slotted_patterns.specs.Tree.{PatternTree}
 use Rattle.slotted_rule_patterns.specs.PatternCode.{filled_pattern}
 use Rattle.slotted_instances.specs.Methods.{Method, unknown, canonical, extracted, represented}

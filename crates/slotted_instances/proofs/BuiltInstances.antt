@@ -17,9 +17,9 @@ use Rattle.slotted_model_rules.specs.Instances.{IsAnswer, HasAnswers}
 use Rattle.slotted_model_rules.specs.Matcher.{value_at}
 use Rattle.slotted_model_rules.specs.Patterns.{Pattern, variable}
 use Rattle.slotted_model_rules.specs.Rules.{valued, id_or_none}
-use Rattle.slotted_model_rules.proofs.Instantiating.{built-nodes}
+use Rattle.slotted_model_rules.proofs.Patterns.Instantiating.{built-nodes}
 use Rattle.slotted_model_rules.proofs.Laws.{pattern-laws}
-use Rattle.slotted_model_rules.proofs.ReplacedIds.{filled-stays}
+use Rattle.slotted_model_rules.proofs.Substitutions.ReplacedIds.{filled-stays}
 use Rattle.slotted_patterns.specs.Known.{AreKnown}
 use Rattle.slotted_patterns.specs.Tree.{PatternTree, enode, pvar, substitution, row_of}
 use Rattle.slotted_classes.proofs.ChildIds.{Each-from_All}

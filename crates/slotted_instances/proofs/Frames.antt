@@ -15,7 +15,7 @@ use Rattle.slotted_graph.specs.Graph.{Graph, IsFullId}
 use Rattle.slotted_graph.specs.States.{IsGraph}
 use Rattle.slotted_graph.specs.ValidIds.{IsValidId}
 use Rattle.slotted_model_rules.specs.ReplacedIds.{IsReplaced}
-use Rattle.slotted_model_rules.proofs.ReplacedIds.{older-stays, whole-replaced}
+use Rattle.slotted_model_rules.proofs.Substitutions.ReplacedIds.{older-stays, whole-replaced}
 use Rattle.slotted_instances.specs.declared.substitution.Frame.{Frame}
 use Rattle.slotted_instances.specs.Building.{Builds}
 use Rattle.slotted_instances.specs.Substituting.{Replaces}

@@ -12,11 +12,11 @@ use Rattle.slotted_proofs.specs.Entries.{Proven, entry_of, entries_of, nothing_p
 use Rattle.slotted_model.specs.Applied.{Applied, values}
 use Rattle.slotted_model.specs.Filling.{IsFilling}
 use Rattle.slotted_model.specs.ProofList.{ProofEntry, equation_of, equation_at, explicit, step_at, term_pair}
-use Rattle.slotted_model.proofs.Fillings.{a_filling}
+use Rattle.slotted_model.proofs.Represented.Fillings.{a_filling}
 use Rattle.slotted_model_rules.specs.Conditions.{Values}
 use Rattle.slotted_model_rules.specs.Instances.{IsAnswer}
 use Rattle.slotted_model_rules.specs.Rules.{IsEquationOfInstances, Rule, valued}
-use Rattle.slotted_model_rules.proofs.Instantiating.{answer-instances}
+use Rattle.slotted_model_rules.proofs.Patterns.Instantiating.{answer-instances}
 use Rattle.slotted_graph.specs.Graph.{Graph}
 use Rattle.slotted_graph.specs.Image.{FillApart, Image, asserted_in}
 use Rattle.slotted_graph.specs.States.{IsGraph}

@@ -16,9 +16,9 @@ use Rattle.slotted_terms.specs.Valid.{AllKnown, HasKnownNames}
 use Rattle.slotted_model.specs.Applied.{Applied, EachChild}
 use Rattle.slotted_model.specs.LookUp.{look_up}
 use Rattle.slotted_model.specs.State.{look_up_node}
-use Rattle.slotted_model.proofs.LookUps.{Renames}
-use Rattle.slotted_model.proofs.Members.{In}
-use Rattle.slotted_model.proofs.Rows.{look_up_node-moved}
+use Rattle.slotted_model.proofs.Represented.LookUps.{Renames}
+use Rattle.slotted_model.proofs.Data.Members.{In}
+use Rattle.slotted_model.proofs.Rebuilding.Rows.{look_up_node-moved}
 use Rattle.slotted_classes.specs.ChildIds.{child_ids}
 use Rattle.slotted_classes.specs.Finding.{IsFindable}
 use Rattle.slotted_classes.proofs.ChildIds.{Each, Each-from_All, EachChild-node_args}

@@ -14,9 +14,9 @@ use Rattle.slotted_model.specs.Classes.{term_of}
 use Rattle.slotted_model.specs.Cost.{CostFunction}
 use Rattle.slotted_model.specs.Find.{find_class}
 use Rattle.slotted_model.specs.Growth.{Extends}
-use Rattle.slotted_model.proofs.Finding.{found-in_range, found-live, leads}
-use Rattle.slotted_model.proofs.Options.{None-Some, option_map-some}
-use Rattle.slotted_model_rules.proofs.Representing.{itself-represented, pair-listed}
+use Rattle.slotted_model.proofs.Finds.Finding.{found-in_range, found-live, leads}
+use Rattle.slotted_model.proofs.Data.Options.{None-Some, option_map-some}
+use Rattle.slotted_model_rules.proofs.Substitutions.Representing.{itself-represented, pair-listed}
 use Rattle.slotted_model_rules.specs.Representing.{is_listed}
 use Rattle.slotted_model_rules.specs.Substitution.{substituted}
 use Rattle.slotted_proofs.specs.Equations.{to_applied}

@@ -18,7 +18,7 @@ use Rattle.slotted_terms.specs.Valid.{AllKnown}
 use Rattle.slotted_model.specs.Applied.{Applied}
 use Rattle.slotted_model.specs.Classes.{IsFull, term_of, layer_of}
 use Rattle.slotted_model.specs.Filling.{FillsArgs}
-use Rattle.slotted_model.proofs.Full.{term_of-layer}
+use Rattle.slotted_model.proofs.Represented.Full.{term_of-layer}
 use Rattle.slotted_proofs.specs.Equations.{to_applied}
 use Rattle.slotted_classes.specs.ChildIds.{child_ids}
 use Rattle.slotted_classes.proofs.ChildIds.{length-ids}
@@ -34,7 +34,7 @@ use Rattle.slotted_graph.specs.Image.{Image}
 use Rattle.slotted_graph.specs.ValidIds.{IsValidId}
 use Rattle.slotted_model_rules.specs.Matcher.{unnamed, bound_names}
 use Rattle.slotted_model_rules.specs.ReplacedIds.{IsReplaced, HasReplacedIds, ids_of}
-use Rattle.slotted_model_rules.proofs.ReplacedIds.{replaced-stays, replaced-by_number, added-replaced, unchanged-stays}
+use Rattle.slotted_model_rules.proofs.Substitutions.ReplacedIds.{replaced-stays, replaced-by_number, added-replaced, unchanged-stays}
 use Rattle.slotted_rule_patterns.specs.NodeArguments.{node_arguments}
 use Rattle.slotted_rule_patterns.proofs.NodeArguments.{unnamed-node, ids-node, bound-name}
 use Rattle.slotted_instances.specs.Building.{Builds}

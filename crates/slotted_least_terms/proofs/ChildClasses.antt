@@ -9,7 +9,7 @@ use Rattle.slotted_languages.specs.NodeTerm.{nameless_node}
 use Rattle.slotted_slots.specs.Table.{Table}
 use Rattle.slotted_model.specs.Applied.{Applied}
 use Rattle.slotted_model.specs.State.{child_classes}
-use Rattle.slotted_model.proofs.Marks.{child_classes-moved}
+use Rattle.slotted_model.proofs.Complete.Marks.{child_classes-moved}
 use Rattle.slotted_classes.specs.ChildIds.{child_ids}
 use Rattle.slotted_classes.proofs.ChildIds.{ids-at}
 use Rattle.slotted_hashcons.specs.FiledRows.{key_children}

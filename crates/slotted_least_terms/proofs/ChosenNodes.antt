@@ -9,7 +9,7 @@ use Rattle.slotted_model.specs.Extraction.{HasCheaperChildren, HasTiesBroken, Ta
 use Rattle.slotted_model.specs.Find.{find_class}
 use Rattle.slotted_model.specs.LookUp.{both}
 use Rattle.slotted_model.specs.State.{Row, child_classes}
-use Rattle.slotted_model.proofs.Ties.{first-of_ties}
+use Rattle.slotted_model.proofs.LeastTerms.Ties.{first-of_ties}
 use Rattle.slotted_classes.specs.Kept.{Kept, entries_of}
 use Rattle.slotted_hashcons.specs.Filed.{HasKey, filed_of}
 use Rattle.slotted_hashcons.specs.FiledRows.{Rows, row_of_entry, rows_in}

@@ -8,8 +8,8 @@ use Rattle.slotted_nodes.specs.Form.{Form}
 use Rattle.slotted_model.specs.Cost.{CostFunction}
 use Rattle.slotted_model.specs.State.{State, child_classes}
 use Rattle.slotted_model.specs.Extraction.{CanEnterTable, IsInOrder, TableEntry, cost_in, costs_in}
-use Rattle.slotted_model.proofs.Options.{None-Some, Some-same, option_map-some}
-use Rattle.slotted_model.proofs.Tables.{cost-here, cost-later, costs-each, entry-new}
+use Rattle.slotted_model.proofs.Data.Options.{None-Some, Some-same, option_map-some}
+use Rattle.slotted_model.proofs.LeastTerms.Tables.{cost-here, cost-later, costs-each, entry-new}
 use Rattle.slotted_hashcons.specs.FiledRows.{key_children}
 use Rattle.slotted_hashcons.proofs.FiledRows.{row-children}
 use Rattle.slotted_hashcons.proofs.Places.{at-take}

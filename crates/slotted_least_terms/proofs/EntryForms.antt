@@ -8,7 +8,7 @@ use Rattle.slotted_slots.specs.Table.{Table}
 use Rattle.slotted_nodes.specs.Form.{Form}
 use Rattle.slotted_model.specs.Cost.{CostFunction}
 use Rattle.slotted_model.specs.Extraction.{TableEntry}
-use Rattle.slotted_model.proofs.Options.{option_map-some}
+use Rattle.slotted_model.proofs.Data.Options.{option_map-some}
 use Rattle.slotted_classes.specs.Kept.{Kept}
 use Rattle.slotted_hashcons.specs.FiledRows.{Rows, key_children}
 use Rattle.slotted_lookup.specs.Filling.{RunsOut}

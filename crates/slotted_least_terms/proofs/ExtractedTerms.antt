@@ -15,11 +15,11 @@ use Rattle.slotted_model.specs.ProofList.{asserted}
 use Rattle.slotted_model.specs.Rest.{AtRest, IsAffected, IsValidIn}
 use Rattle.slotted_model.specs.State.{State, look_up_tree}
 use Rattle.slotted_model.specs.Trees.{IsTree}
-use Rattle.slotted_model.proofs.Cheapest.{least-equal, least-represented, least-term}
-use Rattle.slotted_model.proofs.Extracting.{extracted-cost, extracted-look_up, extracted-tree}
-use Rattle.slotted_model.proofs.LookUpsAreEqual.{found-equal}
-use Rattle.slotted_model.proofs.NormalIds.{filling-found}
-use Rattle.slotted_model.proofs.Options.{Some-same}
+use Rattle.slotted_model.proofs.LeastTerms.Cheapest.{least-equal, least-represented, least-term}
+use Rattle.slotted_model.proofs.LeastTerms.Extracting.{extracted-cost, extracted-look_up, extracted-tree}
+use Rattle.slotted_model.proofs.Complete.LookUpsAreEqual.{found-equal}
+use Rattle.slotted_model.proofs.Finds.NormalIds.{filling-found}
+use Rattle.slotted_model.proofs.Data.Options.{Some-same}
 use Rattle.slotted_classes.specs.Finding.{IsFindable}
 use Rattle.slotted_classes.specs.Kept.{Kept, entries_of}
 use Rattle.slotted_hashcons.specs.FiledRows.{Rows}

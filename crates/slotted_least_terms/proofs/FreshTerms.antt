@@ -22,8 +22,8 @@ use Rattle.slotted_languages.proofs.NodeTerms.{child_rest_fits}
 use Rattle.slotted_languages.proofs.Shapes.{shape-same}
 use Rattle.slotted_model.specs.Applied.{values}
 use Rattle.slotted_model.specs.Correspondence.{composite}
-use Rattle.slotted_model.proofs.Members.{In}
-use Rattle.slotted_model.proofs.Theory.{moved-id}
+use Rattle.slotted_model.proofs.Data.Members.{In}
+use Rattle.slotted_model.proofs.Data.Theory.{moved-id}
 use Rattle.slotted_classes.proofs.NameMaps.{at_In}
 use Rattle.slotted_lookup.proofs.Reported.{In-among}
 use Rattle.slotted_operations.proofs.Layers.{length-parts}

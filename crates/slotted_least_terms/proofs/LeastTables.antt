@@ -8,9 +8,9 @@ use Rattle.slotted_languages.specs.Shape.{Fits, shape}
 use Rattle.slotted_model.specs.Cost.{CostFunction}
 use Rattle.slotted_model.specs.Extraction.{Fits as TableFits, IsInOrder, TableEntry, cost_in}
 use Rattle.slotted_model.specs.Find.{find_class}
-use Rattle.slotted_model.proofs.Finding.{found-in_range, leads}
-use Rattle.slotted_model.proofs.Options.{None-Some, option_map-some}
-use Rattle.slotted_model.proofs.Tables.{least-in_order}
+use Rattle.slotted_model.proofs.Finds.Finding.{found-in_range, leads}
+use Rattle.slotted_model.proofs.Data.Options.{None-Some, option_map-some}
+use Rattle.slotted_model.proofs.LeastTerms.Tables.{least-in_order}
 use Rattle.slotted_classes.specs.Kept.{Kept, entries_of, nodes_of}
 use Rattle.slotted_classes.proofs.KeptLists.{length-nodes_of}
 use Rattle.slotted_hashcons.specs.Filed.{filed_of}

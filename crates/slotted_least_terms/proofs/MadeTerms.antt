@@ -28,12 +28,12 @@ use Rattle.slotted_model.specs.Find.{Entry, IsLive, entry_at, find, find_class, 
 use Rattle.slotted_model.specs.ProofList.{node_of}
 use Rattle.slotted_model.specs.Rest.{AtRest}
 use Rattle.slotted_model.specs.State.{Row, State}
-use Rattle.slotted_model.proofs.Congruence.{child-applied}
-use Rattle.slotted_model.proofs.Events.{normal-found}
-use Rattle.slotted_model.proofs.ExtractedParts.{extracted-moved}
-use Rattle.slotted_model.proofs.Maps.{keys-with_values}
-use Rattle.slotted_model.proofs.NormalIds.{found-class_live, found-full}
-use Rattle.slotted_model.proofs.RowNodes.{node-valid, row-normal}
+use Rattle.slotted_model.proofs.Finds.Congruence.{child-applied}
+use Rattle.slotted_model.proofs.Rebuilding.Events.{normal-found}
+use Rattle.slotted_model.proofs.LeastTerms.ExtractedParts.{extracted-moved}
+use Rattle.slotted_model.proofs.Data.Maps.{keys-with_values}
+use Rattle.slotted_model.proofs.Finds.NormalIds.{found-class_live, found-full}
+use Rattle.slotted_model.proofs.Rebuilding.RowNodes.{node-valid, row-normal}
 use Rattle.slotted_classes.specs.ChildIds.{ids_in, child_ids}
 use Rattle.slotted_classes.specs.Finding.{HasFinds, IsFindable}
 use Rattle.slotted_classes.specs.Kept.{Kept, entries_of, nodes_of}

@@ -4,7 +4,7 @@ use Rattle.std.specs.Prelude.{◌≢◌, All, set, slice_get, unwrap_or}
 use Rattle.std.proofs.lemmas.Bool.{cases_eq}
 use Rattle.std.proofs.lemmas.List.{length-set, length_push, take_all}
 use Rattle.std.proofs.lemmas.Option.{get_or_from_slice_get, slice_get_within, unwrap_or-slice_get}
-use Rattle.slotted_model.proofs.Options.{None-Some, Some-same}
+use Rattle.slotted_model.proofs.Data.Options.{None-Some, Some-same}
 use Rattle.slotted_classes.specs.Kept.{Kept}
 use Rattle.slotted_hashcons.proofs.Places.{at-append_end, at-set_other, at-set_same, at-take}
 use Rattle.slotted_costs.specs.declared.entry.CostEntry.{CostEntry}

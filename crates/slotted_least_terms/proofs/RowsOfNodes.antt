@@ -14,12 +14,12 @@ use Rattle.slotted_model.specs.Extraction.{row_class}
 use Rattle.slotted_model.specs.Find.{find_class, find}
 use Rattle.slotted_model.specs.Rest.{IsValidIn, IsRow, AtRest}
 use Rattle.slotted_model.specs.State.{Row, State, filed_node, look_up_node}
-use Rattle.slotted_model.proofs.Full.{full-renamed}
-use Rattle.slotted_model.proofs.NormalIds.{found-renamed}
-use Rattle.slotted_model.proofs.Options.{Some-same}
-use Rattle.slotted_model.proofs.RenamedIds.{normal-renamed}
-use Rattle.slotted_model.proofs.RowNodes.{row_node, row-normal, row-looked_up, row-id}
-use Rattle.slotted_model.proofs.Rows.{look_up_node-moved}
+use Rattle.slotted_model.proofs.Represented.Full.{full-renamed}
+use Rattle.slotted_model.proofs.Finds.NormalIds.{found-renamed}
+use Rattle.slotted_model.proofs.Data.Options.{Some-same}
+use Rattle.slotted_model.proofs.Represented.RenamedIds.{normal-renamed}
+use Rattle.slotted_model.proofs.Rebuilding.RowNodes.{row_node, row-normal, row-looked_up, row-id}
+use Rattle.slotted_model.proofs.Rebuilding.Rows.{look_up_node-moved}
 
 -- d is the node of the row r with the names of a full id of its source that finds what a finds
 abbrev pub IsNodeOfRow : State → Row → Applied → DTerm → Type 0

@@ -20,13 +20,13 @@ use Rattle.slotted_model.specs.Normal.{normal}
 use Rattle.slotted_model.specs.Rest.{IsCurrent}
 use Rattle.slotted_model.specs.State.{State, look_up_normal, normal_node}
 use Rattle.slotted_model.proofs.Correspondences.Pairs.{Contains-of_value, Contains-value, value_of-other, value_of-same}
-use Rattle.slotted_model.proofs.Finding.{find_map-full}
-use Rattle.slotted_model.proofs.Maps.{keys-map_on, keys-with_values, map_on-filled, values-map_on, values-with_values}
-use Rattle.slotted_model.proofs.Members.{In, In-Contains, In-map}
-use Rattle.slotted_model.proofs.NormalIds.{found-full, used-by}
-use Rattle.slotted_model.proofs.Refiling.{canonical-valid, normal-again}
-use Rattle.slotted_model.proofs.RenamedIds.{normal-moves}
-use Rattle.slotted_model.proofs.Sets.{below_each}
+use Rattle.slotted_model.proofs.Finds.Finding.{find_map-full}
+use Rattle.slotted_model.proofs.Data.Maps.{keys-map_on, keys-with_values, map_on-filled, values-map_on, values-with_values}
+use Rattle.slotted_model.proofs.Data.Members.{In, In-Contains, In-map}
+use Rattle.slotted_model.proofs.Finds.NormalIds.{found-full, used-by}
+use Rattle.slotted_model.proofs.Rebuilding.Refiling.{canonical-valid, normal-again}
+use Rattle.slotted_model.proofs.Represented.RenamedIds.{normal-moves}
+use Rattle.slotted_model.proofs.Data.Sets.{below_each}
 use Rattle.slotted_proofs.proofs.Bridges.{ascends, injective_differ}
 use Rattle.slotted_classes.specs.Finding.{IsFindable}
 use Rattle.slotted_classes.specs.Kept.{Kept, nodes_of, entries_of}

@@ -21,11 +21,11 @@ use Rattle.slotted_model.specs.Find.{Entry, find, find_map}
 use Rattle.slotted_model.proofs.Correspondences.FullMaps.{full-in_order, full-partial, same_names-by, same_names-over, same_names-partial}
 use Rattle.slotted_model.proofs.Correspondences.Pairs.{Contains-key, Contains-of_key, Contains-of_value, Contains-value, Contains-value_of}
 use Rattle.slotted_model.proofs.Correspondences.PartialInjections.{composite-by, composite-over, composite-partial, value_of-in_order}
-use Rattle.slotted_model.proofs.Finding.{find_map-full, found_keys}
-use Rattle.slotted_model.proofs.Maps.{IsInjectiveMap-map_on, filled-map_on, keys-map_on}
-use Rattle.slotted_model.proofs.Members.{Contains-In, In, In-Contains, In-right}
-use Rattle.slotted_model.proofs.NormalIds.{found-full, found-name}
-use Rattle.slotted_model.proofs.Theory.{moved-agrees}
+use Rattle.slotted_model.proofs.Finds.Finding.{find_map-full, found_keys}
+use Rattle.slotted_model.proofs.Data.Maps.{IsInjectiveMap-map_on, filled-map_on, keys-map_on}
+use Rattle.slotted_model.proofs.Data.Members.{Contains-In, In, In-Contains, In-right}
+use Rattle.slotted_model.proofs.Finds.NormalIds.{found-full, found-name}
+use Rattle.slotted_model.proofs.Data.Theory.{moved-agrees}
 use Rattle.slotted_proofs.proofs.Bridges.{ascends, own_full, value_of-model}
 use Rattle.slotted_classes.specs.Finding.{IsFindable}
 use Rattle.slotted_classes.specs.Kept.{Kept, nodes_of, entries_of}

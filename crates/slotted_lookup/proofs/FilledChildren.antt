@@ -17,10 +17,10 @@ use Rattle.slotted_model.specs.Classes.{IsFull}
 use Rattle.slotted_model.specs.Filling.{IsFilling, FillsArgs, FillsNode}
 use Rattle.slotted_model.specs.Find.{find, used_slots}
 use Rattle.slotted_model.specs.Normal.{EqualInTurn}
-use Rattle.slotted_model.proofs.Congruence.{child-applied}
-use Rattle.slotted_model.proofs.FilledNodes.{in_turn-normal}
-use Rattle.slotted_model.proofs.Members.{In, In-append, In-of_map}
-use Rattle.slotted_model.proofs.NormalIds.{found-renamed}
+use Rattle.slotted_model.proofs.Finds.Congruence.{child-applied}
+use Rattle.slotted_model.proofs.Represented.FilledNodes.{in_turn-normal}
+use Rattle.slotted_model.proofs.Data.Members.{In, In-append, In-of_map}
+use Rattle.slotted_model.proofs.Finds.NormalIds.{found-renamed}
 use Rattle.slotted_classes.specs.ChildIds.{ids_in, child_ids}
 use Rattle.slotted_classes.specs.Finding.{IsFindable}
 use Rattle.slotted_classes.specs.Kept.{Kept, nodes_of, entries_of}

@@ -19,13 +19,13 @@ use Rattle.slotted_model.specs.Filling.{IsFilling}
 use Rattle.slotted_model.specs.Find.{find, find_class, find_map}
 use Rattle.slotted_model.proofs.Correspondences.FullMaps.{injective_map-keys}
 use Rattle.slotted_model.proofs.Correspondences.Pairs.{Contains-value_of}
-use Rattle.slotted_model.proofs.Fillings.{slots-ascending}
-use Rattle.slotted_model.proofs.Full.{full-renamed, full-ascending}
-use Rattle.slotted_model.proofs.Maps.{keys-with_values}
-use Rattle.slotted_model.proofs.Members.{In, In-map, In-of_map, In-Contains, Contains-In}
-use Rattle.slotted_model.proofs.NormalIds.{used-by}
-use Rattle.slotted_model.proofs.OtherFillings.{with_values-same}
-use Rattle.slotted_model.proofs.Sets.{below_each}
+use Rattle.slotted_model.proofs.Represented.Fillings.{slots-ascending}
+use Rattle.slotted_model.proofs.Represented.Full.{full-renamed, full-ascending}
+use Rattle.slotted_model.proofs.Data.Maps.{keys-with_values}
+use Rattle.slotted_model.proofs.Data.Members.{In, In-map, In-of_map, In-Contains, Contains-In}
+use Rattle.slotted_model.proofs.Finds.NormalIds.{used-by}
+use Rattle.slotted_model.proofs.Represented.OtherFillings.{with_values-same}
+use Rattle.slotted_model.proofs.Data.Sets.{below_each}
 use Rattle.slotted_proofs.proofs.Bridges.{value_of-model}
 use Rattle.slotted_classes.specs.Finding.{IsFindable}
 use Rattle.slotted_classes.specs.Kept.{Kept, nodes_of, entries_of}

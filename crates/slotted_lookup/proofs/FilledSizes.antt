@@ -13,8 +13,8 @@ use Rattle.slotted_languages.proofs.NodeTerms.{own_fits, length-child, child_key
 use Rattle.slotted_model.specs.Applied.{Applied}
 use Rattle.slotted_model.specs.Ascending.{IsBelowAll, IsAscending}
 use Rattle.slotted_model.specs.Classes.{canonical_slots, IsFull}
-use Rattle.slotted_model.proofs.Fillings.{slots-ascending}
-use Rattle.slotted_model.proofs.Members.{In}
+use Rattle.slotted_model.proofs.Represented.Fillings.{slots-ascending}
+use Rattle.slotted_model.proofs.Data.Members.{In}
 use Rattle.slotted_classes.specs.ChildIds.{ids_in, child_ids}
 use Rattle.slotted_classes.specs.Kept.{Kept, nodes_of}
 use Rattle.slotted_classes.proofs.ChildIds.{Each, Each-from_All, length-ids}

@@ -9,8 +9,8 @@ use Rattle.slotted_languages.specs.Shape.{Fits}
 use Rattle.slotted_model.specs.Applied.{Applied, EachChild, as_term, renamed_id}
 use Rattle.slotted_model.specs.Find.{Entry, find}
 use Rattle.slotted_model.specs.Normal.{normal, normal_args}
-use Rattle.slotted_model.proofs.Congruence.{child-applied}
-use Rattle.slotted_model.proofs.NormalIds.{found-renamed}
+use Rattle.slotted_model.proofs.Finds.Congruence.{child-applied}
+use Rattle.slotted_model.proofs.Finds.NormalIds.{found-renamed}
 use Rattle.slotted_classes.specs.ChildIds.{child_ids}
 use Rattle.slotted_classes.proofs.ChildIds.{Each-from_All, EachChild-node_args}
 

@@ -10,12 +10,12 @@ use Rattle.slotted_model.specs.Classes.{canonical_slots}
 use Rattle.slotted_model.specs.Correspondence.{identity}
 use Rattle.slotted_model.specs.Find.{Entry, IsLive, entry_at, find, find_class, find_map, used_slots}
 use Rattle.slotted_model.proofs.Correspondences.Pairs.{Contains-of_value}
-use Rattle.slotted_model.proofs.Finding.{Leads, find_map-full, find_map-partial, found-in_range, found-live, leads, slots-ascending}
-use Rattle.slotted_model.proofs.Maps.{IsInjectiveMap-map_on}
-use Rattle.slotted_model.proofs.NormalIds.{found-again, found-class_live, found-renamed, found-slots, found-valid, keys-identity, of_used, values-identity}
-use Rattle.slotted_model.proofs.Ordered.{in_order-ascending}
-use Rattle.slotted_model.proofs.RenamedIds.{valid-renamed}
-use Rattle.slotted_model.proofs.Sets.{IsAscending-ascending}
+use Rattle.slotted_model.proofs.Finds.Finding.{Leads, find_map-full, find_map-partial, found-in_range, found-live, leads, slots-ascending}
+use Rattle.slotted_model.proofs.Data.Maps.{IsInjectiveMap-map_on}
+use Rattle.slotted_model.proofs.Finds.NormalIds.{found-again, found-class_live, found-renamed, found-slots, found-valid, keys-identity, of_used, values-identity}
+use Rattle.slotted_model.proofs.Data.Ordered.{in_order-ascending}
+use Rattle.slotted_model.proofs.Represented.RenamedIds.{valid-renamed}
+use Rattle.slotted_model.proofs.Data.Sets.{IsAscending-ascending}
 use Rattle.slotted_classes.specs.Finding.{HasFinds, IsFindable}
 use Rattle.slotted_classes.specs.Kept.{Kept, find_at, nodes_of, entries_of}
 use Rattle.slotted_classes.proofs.KeptLists.{entry_at-of, length-nodes_of}

@@ -6,7 +6,7 @@ use Rattle.slotted_slots.specs.Maps.{value_of, with_pair}
 use Rattle.slotted_slots.proofs.MapLemmas.{with_pair-after}
 use Rattle.slotted_model.specs.Applied.{keys}
 use Rattle.slotted_model.specs.Ascending.{IsAscending, IsBelowAll}
-use Rattle.slotted_model.proofs.Options.{None-Some, Some-same}
+use Rattle.slotted_model.proofs.Data.Options.{None-Some, Some-same}
 
 below-at : (x : ℕ) (ys : List ℕ) (i t : ℕ) → IsBelowAll x ys → slice_get ys i ≡ Some t → x < t
 below-at x [] i t b e = absurd (None-Some t e)

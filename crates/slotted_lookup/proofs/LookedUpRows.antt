@@ -18,8 +18,8 @@ use Rattle.slotted_model.specs.Ascending.{names}
 use Rattle.slotted_model.specs.Find.{find}
 use Rattle.slotted_model.specs.Rest.{IsRow}
 use Rattle.slotted_model.specs.State.{Row, look_up_normal, name_numbered, row_of, source_with_names}
-use Rattle.slotted_model.proofs.Maps.{keys-with_values}
-use Rattle.slotted_model.proofs.Rows.{one_row, row_of-some, row_of-there}
+use Rattle.slotted_model.proofs.Data.Maps.{keys-with_values}
+use Rattle.slotted_model.proofs.Rebuilding.Rows.{one_row, row_of-some, row_of-there}
 use Rattle.slotted_proofs.proofs.Bridges.{injective_differ}
 use Rattle.slotted_classes.specs.Kept.{Kept, entries_of}
 use Rattle.slotted_classes.specs.Names.{between}

@@ -11,8 +11,8 @@ use Rattle.slotted_slots.specs.Sets.{set_of}
 use Rattle.slotted_slots.proofs.Ascending.{is_among-set_of, IsAscending-set_of}
 use Rattle.slotted_slots.proofs.MapLaws.{is_among-cons, is_among-first, is_among-more}
 use Rattle.slotted_model.specs.Ascending.{ascending}
-use Rattle.slotted_model.proofs.Members.{In}
-use Rattle.slotted_model.proofs.Sets.{IsAscending-ascending, In-ascending, In-of_ascending, same_members}
+use Rattle.slotted_model.proofs.Data.Members.{In}
+use Rattle.slotted_model.proofs.Data.Sets.{IsAscending-ascending, In-ascending, In-of_ascending, same_members}
 use Rattle.slotted_proofs.proofs.Bridges.{ascends}
 
 -- the set of some numbers is the numbers, ascending

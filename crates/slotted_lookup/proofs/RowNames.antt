@@ -11,8 +11,8 @@ use Rattle.slotted_model.specs.Applied.{keys, values}
 use Rattle.slotted_model.specs.Ascending.{names}
 use Rattle.slotted_model.specs.Find.{Entry, find, find_class, find_map}
 use Rattle.slotted_model.specs.State.{name_numbered}
-use Rattle.slotted_model.proofs.Members.{In}
-use Rattle.slotted_model.proofs.Rows.{name_numbered-at}
+use Rattle.slotted_model.proofs.Data.Members.{In}
+use Rattle.slotted_model.proofs.Rebuilding.Rows.{name_numbered-at}
 use Rattle.slotted_proofs.proofs.Bridges.{composite-agrees, value_of-model}
 use Rattle.slotted_classes.specs.Names.{between, with_pairs}
 use Rattle.slotted_classes.proofs.NamePairs.{In-firsts}

@@ -20,13 +20,13 @@ use Rattle.slotted_model.specs.Find.{IsLive, find_class, find}
 use Rattle.slotted_model.specs.Ids.{term_eq}
 use Rattle.slotted_model.specs.State.{Row, State}
 use Rattle.slotted_model.specs.Rest.{AtRest}
-use Rattle.slotted_model.proofs.Ids.{term_eq-true, term_eq-same}
-use Rattle.slotted_model.proofs.Members.{In, In-append, In-Contains, Contains-In, In-left, In-right}
+use Rattle.slotted_model.proofs.Represented.Ids.{term_eq-true, term_eq-same}
+use Rattle.slotted_model.proofs.Data.Members.{In, In-append, In-Contains, Contains-In, In-left, In-right}
 use Rattle.slotted_model_rules.specs.Patterns.{Pattern, PatternArgs, pattern_node, variable}
 use Rattle.slotted_model_rules.specs.Matcher.{NodeArgs, written_names, MatchState, value_at, walked, IsRowFor, Gives, IfThere}
 use Rattle.slotted_model_rules.specs.Goals.{FoundAll, goals_of, AtRow, after_walk, own_slots, own_names, paired_all, outlines_agree, has_outline}
-use Rattle.slotted_model_rules.proofs.FlatWalks.{walk-paired, passed-over}
-use Rattle.slotted_model_rules.proofs.Goals.{new-value, same-value, other-value}
+use Rattle.slotted_model_rules.proofs.Matching.FlatWalks.{walk-paired, passed-over}
+use Rattle.slotted_model_rules.proofs.Matching.Goals.{new-value, same-value, other-value}
 use Rattle.slotted_match_machine.specs.declared.index.ClassRows.{ClassRows}
 use Rattle.slotted_match_machine.specs.declared.index.IndexRow.{IndexRow}
 use Rattle.slotted_match_machine.specs.declared.index.RowIndex.{RowIndex}

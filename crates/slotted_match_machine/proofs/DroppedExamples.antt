@@ -6,10 +6,10 @@ use Rattle.slotted_theory.specs.FiniteMaps.{filled}
 use Rattle.slotted_theory.proofs.Lists.{contains_head, contains_cases, Contains-nil}
 use Rattle.slotted_model.specs.Find.{IsLive, find_map, used_slots}
 use Rattle.slotted_model.specs.State.{Row}
-use Rattle.slotted_model.proofs.CompletenessExamples.{one_of}
+use Rattle.slotted_model.proofs.Examples.CompletenessExamples.{one_of}
 use Rattle.slotted_model_rules.specs.Patterns.{Pattern, PatternArgs, pattern_node, no_argument, own_name, child_pattern}
 use Rattle.slotted_model_rules.specs.Matcher.{no_more, a_name, an_id, MatchState, Found, class_id, start_at}
-use Rattle.slotted_model_rules.proofs.HiddenExamples as hidden
+use Rattle.slotted_model_rules.proofs.Examples.HiddenExamples as hidden
 use Rattle.slotted_match_machine.specs.declared.index.ClassRows.{ClassRows}
 use Rattle.slotted_match_machine.specs.declared.index.IndexChild.{IndexChild}
 use Rattle.slotted_match_machine.specs.declared.index.IndexRow.{IndexRow}

@@ -2,7 +2,7 @@
 use Rattle.std.proofs.Common.{◌≡◌, List, [], ◌∷◌, ◌++◌, length, map, Bool, true, false, sym, ◌∙◌, ap, refl, subst, inl, inr, arith}
 use Rattle.std.specs.Prelude.{cond, filter, ◌&&◌}
 use Rattle.std.specs.List.{zip, flat_map}
-use Rattle.slotted_model.proofs.Members.{In, In-left, In-right, In-append}
+use Rattle.slotted_model.proofs.Data.Members.{In, In-left, In-right, In-append}
 use Rattle.slotted_model_rules.specs.Matcher.{Gives}
 use Rattle.slotted_match_machine.specs.Index.{OneByOne}
 

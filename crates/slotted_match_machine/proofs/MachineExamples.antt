@@ -6,13 +6,13 @@ use denote.RawPtr.{null_ptr}
 use Rattle.slotted_theory.proofs.Lists.{contains_head, contains_cases, Contains-nil}
 use Rattle.slotted_model.specs.Find.{IsLive, used_slots}
 use Rattle.slotted_model.specs.State.{Row}
-use Rattle.slotted_model.proofs.CompletenessExamples.{one_of}
+use Rattle.slotted_model.proofs.Examples.CompletenessExamples.{one_of}
 use Rattle.slotted_theory.specs.FiniteMaps.{filled}
 use Rattle.slotted_model_rules.specs.Patterns.{PatternArgs, variable, no_argument, child_pattern, binding}
 use Rattle.slotted_model_rules.specs.Matcher.{no_more, a_name, an_id, a_binder, MatchState, Found, class_id, start_at}
 use Rattle.slotted_model_rules.specs.Conditions.{Values}
 use Rattle.slotted_model_rules.specs.Rules.{valued, Searches}
-use Rattle.slotted_model_rules.proofs.PatternExamples as small
+use Rattle.slotted_model_rules.proofs.Examples.PatternExamples as small
 use Rattle.slotted_match_machine.specs.declared.index.ClassRows.{ClassRows}
 use Rattle.slotted_match_machine.specs.declared.index.IndexChild.{IndexChild}
 use Rattle.slotted_match_machine.specs.declared.index.IndexRow.{IndexRow}

@@ -7,17 +7,17 @@ use Rattle.slotted_model.specs.Applied.{Applied}
 use Rattle.slotted_model.specs.Find.{IsLive}
 use Rattle.slotted_model.specs.State.{Row, State, filed_node}
 use Rattle.slotted_model.specs.Rest.{AtRest}
-use Rattle.slotted_model.proofs.Members.{In, In-Contains}
-use Rattle.slotted_model.proofs.Options.{None-Some}
+use Rattle.slotted_model.proofs.Data.Members.{In, In-Contains}
+use Rattle.slotted_model.proofs.Data.Options.{None-Some}
 use Rattle.slotted_model_rules.specs.Patterns.{Pattern, PatternArgs, pattern_node, variable, replacing, no_argument, own_name, child_pattern, binding}
 use Rattle.slotted_model_rules.specs.Matcher.{NodeArgs, written_names, rest_of, id_of_first, inside_first, MatchState, IsNodeOf, Found, FoundIn, class_id, start_at}
 use Rattle.slotted_model_rules.specs.Goals.{outlines_agree, has_outline}
 use Rattle.slotted_model_rules.specs.Rules.{IsRead, Searches}
-use Rattle.slotted_model_rules.proofs.Answering.{AtRow, at_row}
-use Rattle.slotted_model_rules.proofs.ClassIds.{class-valid}
-use Rattle.slotted_model_rules.proofs.FlatWalks.{no-walk, outline-unnamed, outline-moved}
-use Rattle.slotted_model_rules.proofs.Running.{a-run}
-use Rattle.slotted_model_rules.proofs.Walking.{member-given}
+use Rattle.slotted_model_rules.proofs.Matching.Answering.{AtRow, at_row}
+use Rattle.slotted_model_rules.proofs.Matching.ClassIds.{class-valid}
+use Rattle.slotted_model_rules.proofs.Matching.FlatWalks.{no-walk, outline-unnamed, outline-moved}
+use Rattle.slotted_model_rules.proofs.Matching.Running.{a-run}
+use Rattle.slotted_model_rules.proofs.Matching.Walking.{member-given}
 use Rattle.slotted_match_machine.specs.Index.{HasOutline, LacksRow, LacksRowIn}
 
 -- a node of the matcher's has the outline of its row

@@ -10,13 +10,13 @@ use Rattle.slotted_theory.proofs.Names.{extend-same, extend-other}
 use Rattle.slotted_theory.proofs.Values.{child_before}
 use Rattle.slotted_model.specs.Applied.{Applied, values, renamed_id, as_term}
 use Rattle.slotted_model.specs.Correspondence.{AllDifferent}
-use Rattle.slotted_model.proofs.Children.{free_names-places, moved-as_term}
-use Rattle.slotted_model.proofs.Maps.{values-with_values}
-use Rattle.slotted_model.proofs.Members.{In, In-left, In-right, In-append, In-map, In-of_map, In-outside, In-inside, In-Contains, Contains-In}
+use Rattle.slotted_model.proofs.Represented.Children.{free_names-places, moved-as_term}
+use Rattle.slotted_model.proofs.Data.Maps.{values-with_values}
+use Rattle.slotted_model.proofs.Data.Members.{In, In-left, In-right, In-append, In-map, In-of_map, In-outside, In-inside, In-Contains, Contains-In}
 use Rattle.slotted_model_rules.specs.Matcher.{NodeArgs, no_more, a_name, an_id, a_binder, unnamed, written_names, bound_names}
 use Rattle.slotted_model_rules.specs.Goals.{own_names}
-use Rattle.slotted_model_rules.proofs.AllSlots.{renamed-agrees}
-use Rattle.slotted_model_rules.proofs.Renamed.{renamed-twice}
+use Rattle.slotted_model_rules.proofs.Matching.AllSlots.{renamed-agrees}
+use Rattle.slotted_model_rules.proofs.Substitutions.Renamed.{renamed-twice}
 use Rattle.slotted_match_machine.specs.Index.{ids_of}
 
 abbrev pub node_with : (ℕ → ℕ) → NodeArgs → NodeArgs

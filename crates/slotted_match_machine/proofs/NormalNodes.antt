@@ -9,15 +9,15 @@ use Rattle.slotted_model.specs.Find.{find}
 use Rattle.slotted_model.specs.ProofList.{node_of}
 use Rattle.slotted_model.specs.State.{Row, State}
 use Rattle.slotted_model.specs.Rest.{IsValidIn, AtRest}
-use Rattle.slotted_model.proofs.Children.{EachChild-map, moved-as_term}
-use Rattle.slotted_model.proofs.Events.{normal-found}
-use Rattle.slotted_model.proofs.Folds.{as_term-same}
-use Rattle.slotted_model.proofs.Members.{In, In-append}
-use Rattle.slotted_model.proofs.NormalIds.{found-renamed}
-use Rattle.slotted_model.proofs.RowNodes.{row_node, row-normal, node-valid}
+use Rattle.slotted_model.proofs.Represented.Children.{EachChild-map, moved-as_term}
+use Rattle.slotted_model.proofs.Rebuilding.Events.{normal-found}
+use Rattle.slotted_model.proofs.Represented.Folds.{as_term-same}
+use Rattle.slotted_model.proofs.Data.Members.{In, In-append}
+use Rattle.slotted_model.proofs.Finds.NormalIds.{found-renamed}
+use Rattle.slotted_model.proofs.Rebuilding.RowNodes.{row_node, row-normal, node-valid}
 use Rattle.slotted_model_rules.specs.Matcher.{NodeArgs, no_more, a_name, an_id, a_binder, unnamed, IsNodeOf}
-use Rattle.slotted_model_rules.proofs.LookingUp.{IsFoundId}
-use Rattle.slotted_model_rules.proofs.ValidValues.{IdsValid, ids-valid}
+use Rattle.slotted_model_rules.proofs.Patterns.LookingUp.{IsFoundId}
+use Rattle.slotted_model_rules.proofs.Matching.ValidValues.{IdsValid, ids-valid}
 use Rattle.slotted_match_machine.specs.Index.{ids_of}
 
 renamed-apart : (f : ℕ → ℕ) → IsInjective f → (a b : Applied) → renamed_id f a ≡ renamed_id f b → a ≡ b

@@ -14,7 +14,7 @@ use Rattle.slotted_model.specs.Find.{IsLive, used_slots, find, Linked}
 use Rattle.slotted_model.specs.State.{State}
 use Rattle.slotted_model.specs.Rest.{IsValidIn, AtRest}
 use Rattle.slotted_model.proofs.Correspondences.Listing.{injective-different}
-use Rattle.slotted_model.proofs.NormalIds.{found-slots, found-class_live}
+use Rattle.slotted_model.proofs.Finds.NormalIds.{found-slots, found-class_live}
 use Rattle.slotted_match_machine.specs.Machine.{Occurrence, same_occurrence}
 use Rattle.slotted_match_machine.specs.Readings.{read_id, IsWholeId}
 

@@ -12,9 +12,9 @@ use Rattle.slotted_model.specs.Find.{IsLive, used_slots, find}
 use Rattle.slotted_model.specs.State.{Row, State}
 use Rattle.slotted_model.specs.Rest.{AtRest}
 use Rattle.slotted_model.proofs.Correspondences.Matching.{Takes, IsOneToOne, takes_pairs}
-use Rattle.slotted_model.proofs.Members.{In, In-left, In-right, In-map, In-of_map, In-Contains, Contains-In}
-use Rattle.slotted_model.proofs.NormalIds.{found-renamed}
-use Rattle.slotted_model.proofs.Options.{Some-same}
+use Rattle.slotted_model.proofs.Data.Members.{In, In-left, In-right, In-map, In-of_map, In-Contains, Contains-In}
+use Rattle.slotted_model.proofs.Finds.NormalIds.{found-renamed}
+use Rattle.slotted_model.proofs.Data.Options.{Some-same}
 use Rattle.slotted_model_rules.specs.Conditions.{Values}
 use Rattle.slotted_model_rules.specs.Patterns.{Pattern}
 use Rattle.slotted_model_rules.specs.Matcher.{MatchState, value_at, Reads}

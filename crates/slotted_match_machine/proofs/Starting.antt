@@ -8,14 +8,14 @@ use Rattle.slotted_model.specs.Find.{IsLive, find_map, used_slots, find, Linked}
 use Rattle.slotted_model.specs.State.{Row, State}
 use Rattle.slotted_model.specs.Rest.{AtRest}
 use Rattle.slotted_model.proofs.Correspondences.FullIds.{ascending-different}
-use Rattle.slotted_model.proofs.Members.{In, In-of_map}
-use Rattle.slotted_model.proofs.NormalIds.{keys-identity, values-identity}
-use Rattle.slotted_model.proofs.Options.{None-Some}
-use Rattle.slotted_model.proofs.Sets.{IsAscending-ascending}
+use Rattle.slotted_model.proofs.Data.Members.{In, In-of_map}
+use Rattle.slotted_model.proofs.Finds.NormalIds.{keys-identity, values-identity}
+use Rattle.slotted_model.proofs.Data.Options.{None-Some}
+use Rattle.slotted_model.proofs.Data.Sets.{IsAscending-ascending}
 use Rattle.slotted_model_rules.specs.Patterns.{Pattern}
 use Rattle.slotted_model_rules.specs.Matcher.{MatchState, Found, class_id, start_at}
-use Rattle.slotted_model_rules.proofs.ClassIds.{class-valid}
-use Rattle.slotted_model_rules.proofs.Goals.{one-goal}
+use Rattle.slotted_model_rules.proofs.Matching.ClassIds.{class-valid}
+use Rattle.slotted_model_rules.proofs.Matching.Goals.{one-goal}
 use Rattle.slotted_match_machine.specs.declared.index.RowIndex.{RowIndex}
 use Rattle.slotted_match_machine.specs.declared.program.Step.{Step}
 use Rattle.slotted_match_machine.specs.Index.{OneByOne, IsIndexOf, IsOutlineIn}

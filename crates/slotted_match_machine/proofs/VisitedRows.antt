@@ -18,12 +18,12 @@ use Rattle.slotted_model.specs.State.{Row, State}
 use Rattle.slotted_model.specs.Rest.{IsRow, AtRest}
 use Rattle.slotted_model.proofs.Correspondences.Pairs.{Contains-value}
 use Rattle.slotted_model.proofs.Correspondences.PartialInjections.{one_partner}
-use Rattle.slotted_model.proofs.Finding.{leads, find_map-partial}
-use Rattle.slotted_model.proofs.Members.{In, In-map, In-of_map, In-Contains, Contains-In}
+use Rattle.slotted_model.proofs.Finds.Finding.{leads, find_map-partial}
+use Rattle.slotted_model.proofs.Data.Members.{In, In-map, In-of_map, In-Contains, Contains-In}
 use Rattle.slotted_model_rules.specs.Matcher.{NodeArgs, unnamed, written_names, bound_names, IsNodeOf}
 use Rattle.slotted_model_rules.specs.Goals.{outlines_agree, has_outline}
-use Rattle.slotted_model_rules.proofs.FlatWalks.{outline-unnamed, outline-moved}
-use Rattle.slotted_model_rules.proofs.NamedRows.{named-node}
+use Rattle.slotted_model_rules.proofs.Matching.FlatWalks.{outline-unnamed, outline-moved}
+use Rattle.slotted_model_rules.proofs.Matching.NamedRows.{named-node}
 use Rattle.slotted_match_machine.specs.declared.index.IndexRow.{IndexRow}
 use Rattle.slotted_match_machine.specs.Index.{IsPositionOf, IsIndexRow}
 use Rattle.slotted_match_machine.specs.Machine.{Occurrence, names_for, new_names}

@@ -8,9 +8,9 @@ use Rattle.slotted_model.specs.Correspondence.{AllDifferent, has_slot}
 use Rattle.slotted_model.specs.State.{Row, State}
 use Rattle.slotted_model.specs.Rest.{AtRest}
 use Rattle.slotted_model.proofs.Correspondences.Pairs.{Contains-of_key, value_of-found}
-use Rattle.slotted_model.proofs.Members.{In, In-Contains, Contains-In}
-use Rattle.slotted_model.proofs.Options.{None-Some}
-use Rattle.slotted_model.proofs.Spreading.{in-has_slot}
+use Rattle.slotted_model.proofs.Data.Members.{In, In-Contains, Contains-In}
+use Rattle.slotted_model.proofs.Data.Options.{None-Some}
+use Rattle.slotted_model.proofs.Complete.Spreading.{in-has_slot}
 use Rattle.slotted_model_rules.specs.Matcher.{paired_with, paired}
 use Rattle.slotted_model_rules.specs.Goals.{paired_all}
 use Rattle.slotted_model_rules.specs.Patterns.{Pattern}

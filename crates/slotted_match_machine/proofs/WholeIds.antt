@@ -14,13 +14,13 @@ use Rattle.slotted_model.specs.Rest.{IsValidIn, AtRest}
 use Rattle.slotted_model.proofs.Correspondences.FullMaps.{full-partial}
 use Rattle.slotted_model.proofs.Correspondences.PartialInjections.{identity-composite}
 use Rattle.slotted_model.proofs.Correspondences.Pairs.{Contains-value}
-use Rattle.slotted_model.proofs.Finding.{leads, find_class-live, find_map-live}
-use Rattle.slotted_model.proofs.Maps.{In-values}
-use Rattle.slotted_model.proofs.Members.{Contains-In}
-use Rattle.slotted_model.proofs.NormalIds.{keys-identity, used-live, valid-map}
-use Rattle.slotted_model.proofs.Sets.{IsAscending-ascending}
+use Rattle.slotted_model.proofs.Finds.Finding.{leads, find_class-live, find_map-live}
+use Rattle.slotted_model.proofs.Data.Maps.{In-values}
+use Rattle.slotted_model.proofs.Data.Members.{Contains-In}
+use Rattle.slotted_model.proofs.Finds.NormalIds.{keys-identity, used-live, valid-map}
+use Rattle.slotted_model.proofs.Data.Sets.{IsAscending-ascending}
 use Rattle.slotted_model_rules.specs.Matcher.{class_id}
-use Rattle.slotted_model_rules.proofs.ClassIds.{class-valid}
+use Rattle.slotted_model_rules.proofs.Matching.ClassIds.{class-valid}
 use Rattle.slotted_match_machine.specs.Machine.{Occurrence}
 use Rattle.slotted_match_machine.specs.Readings.{read_id, IsWholeId}
 use Rattle.slotted_match_machine.proofs.NamedNodes.{different-with}

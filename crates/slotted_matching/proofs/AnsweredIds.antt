@@ -9,7 +9,7 @@ use Rattle.std.proofs.lemmas.List.{take_more, take_more_set, map-append, get_or_
 use Rattle.slotted_slots.specs.Maps.{keys, values, with_value_at, values-with_value_at}
 use Rattle.slotted_model.specs.Applied.{Applied}
 use Rattle.slotted_model.specs.Find.{used_slots}
-use Rattle.slotted_model.proofs.NormalIds.{used-live}
+use Rattle.slotted_model.proofs.Finds.NormalIds.{used-live}
 use Rattle.slotted_classes.specs.Kept.{Kept, find_at, nodes_of, entries_of}
 use Rattle.slotted_classes.specs.Finding.{HasFinds}
 use Rattle.slotted_classes.proofs.KeptLists.{entry_at-of}

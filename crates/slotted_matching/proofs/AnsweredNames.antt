@@ -13,7 +13,7 @@ use Rattle.slotted_model.specs.Applied.{Applied, values}
 use Rattle.slotted_model.specs.Correspondence.{AllDifferent, IsInjectiveOn}
 use Rattle.slotted_model.specs.Find.{used_slots}
 use Rattle.slotted_model.specs.Rest.{IsValidIn}
-use Rattle.slotted_model.proofs.Members.{In-Contains, Contains-In, In-append, In-right}
+use Rattle.slotted_model.proofs.Data.Members.{In-Contains, Contains-In, In-append, In-right}
 use Rattle.slotted_model.proofs.Correspondences.Pairs.{Contains-value_of, value_of-only}
 use Rattle.slotted_model_rules.specs.Conditions.{Values}
 use Rattle.slotted_model_rules.specs.Matcher.{value_at}

@@ -7,7 +7,7 @@ use Rattle.std.proofs.Math.Seq.{set-append_seam}
 use Rattle.slotted_nodes.specs.Form.{Form, Tree, leaf, own, child, bind, scopes, with_name}
 use Rattle.slotted_languages.specs.Outline.{child_mark, marks, outlined, outlined_form, outlined_names, skeleton_form}
 use Rattle.slotted_languages.proofs.NodeTerms.{own_fits, child_rest_fits, bind_inner_fits, bind_rest_fits}
-use Rattle.slotted_model.proofs.Members.{In}
+use Rattle.slotted_model.proofs.Data.Members.{In}
 use Rattle.slotted_matching.specs.KeyRows.{blanked, blanked_form}
 use Rattle.slotted_matching.proofs.KeyNames.{In-drop, In-first, In-take}
 

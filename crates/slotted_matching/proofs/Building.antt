@@ -8,7 +8,7 @@ use Rattle.slotted_nodes.specs.Form.{Form, Tree, leaf, own, child, bind, scopes,
 use Rattle.slotted_languages.specs.Outline.{outlined_names}
 use Rattle.slotted_languages.proofs.NodeTerms.{own_fits, child_rest_fits, bind_inner_fits, bind_rest_fits}
 use Rattle.slotted_model.specs.Applied.{Applied, keys, values, renamed_id}
-use Rattle.slotted_model.proofs.Members.{In}
+use Rattle.slotted_model.proofs.Data.Members.{In}
 use Rattle.slotted_model_rules.specs.Goals.{own_names}
 use Rattle.slotted_classes.specs.ChildIds.{child_ids}
 use Rattle.slotted_classes.proofs.ChildIds.{child_is, child_with_keys, length-ids}

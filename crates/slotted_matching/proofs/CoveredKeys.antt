@@ -8,7 +8,7 @@ use Rattle.slotted_slots.specs.Table.{numeric_slot}
 use Rattle.slotted_nodes.specs.Form.{Form}
 use Rattle.slotted_languages.specs.NodeTerm.{nameless_node}
 use Rattle.slotted_languages.specs.Shape.{Numbers, number_of, free_number, number_at, past_binder, numbered, no_numbers, names_in, shape}
-use Rattle.slotted_model.proofs.Members.{In, In-append, In-Contains}
+use Rattle.slotted_model.proofs.Data.Members.{In, In-append, In-Contains}
 use Rattle.slotted_matching.specs.KeyRows.{AreCovered}
 
 -- below the slot of the number n

@@ -10,7 +10,7 @@ use Rattle.slotted_nodes.specs.Form.{Form}
 use Rattle.slotted_model.specs.Applied.{Applied, values}
 use Rattle.slotted_model.specs.Find.{IsLive}
 use Rattle.slotted_model.specs.Rest.{AtRest, IsValidIn}
-use Rattle.slotted_model.proofs.Members.{In, In-Contains, Contains-In}
+use Rattle.slotted_model.proofs.Data.Members.{In, In-Contains, Contains-In}
 use Rattle.slotted_model_rules.specs.Conditions.{Values}
 use Rattle.slotted_model_rules.specs.Patterns.{Pattern}
 use Rattle.slotted_patterns.specs.Tree.{PatternTree}

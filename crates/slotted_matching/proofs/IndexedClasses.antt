@@ -12,10 +12,10 @@ use Rattle.slotted_model.specs.Ascending.{IsAscending}
 use Rattle.slotted_model.specs.Extraction.{row_class}
 use Rattle.slotted_model.specs.Find.{Entry, IsLive, entry_at, find_class}
 use Rattle.slotted_model.specs.State.{Row, State}
-use Rattle.slotted_model.proofs.Finding.{found-in_range, leads}
-use Rattle.slotted_model.proofs.Members.{In, In-append, In-left, In-right, In-map, In-of_map, In-Contains, Contains-In}
-use Rattle.slotted_model.proofs.NormalIds.{used-live}
-use Rattle.slotted_model.proofs.Sets.{below_from_each}
+use Rattle.slotted_model.proofs.Finds.Finding.{found-in_range, leads}
+use Rattle.slotted_model.proofs.Data.Members.{In, In-append, In-left, In-right, In-map, In-of_map, In-Contains, Contains-In}
+use Rattle.slotted_model.proofs.Finds.NormalIds.{used-live}
+use Rattle.slotted_model.proofs.Data.Sets.{below_from_each}
 use Rattle.slotted_classes.specs.Kept.{Kept, entries_of, nodes_of}
 use Rattle.slotted_classes.proofs.KeptLists.{length-nodes_of}
 use Rattle.slotted_hashcons.specs.Filed.{Filing, filed_of}

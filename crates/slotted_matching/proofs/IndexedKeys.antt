@@ -14,9 +14,9 @@ use Rattle.slotted_model.specs.Applied.{keys, renamed_id}
 use Rattle.slotted_model.specs.Find.{find_class, find_map, used_slots, Linked}
 use Rattle.slotted_model.specs.State.{Row, State}
 use Rattle.slotted_model.proofs.Correspondences.Pairs.{Contains-key, Contains-value_of, value_of-found}
-use Rattle.slotted_model.proofs.Finding.{find_map-full, found-in_range, found-live, leads}
-use Rattle.slotted_model.proofs.Members.{In, In-Contains, Contains-In}
-use Rattle.slotted_model.proofs.NormalIds.{used-live}
+use Rattle.slotted_model.proofs.Finds.Finding.{find_map-full, found-in_range, found-live, leads}
+use Rattle.slotted_model.proofs.Data.Members.{In, In-Contains, Contains-In}
+use Rattle.slotted_model.proofs.Finds.NormalIds.{used-live}
 use Rattle.slotted_model_rules.specs.Matcher.{NodeArgs, no_more, a_name, an_id, a_binder, bound_names, written_names}
 use Rattle.slotted_model_rules.specs.ReplacedIds as rules
 use Rattle.slotted_proofs.proofs.Bridges.{value_of-model}

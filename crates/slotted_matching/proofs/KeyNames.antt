@@ -8,7 +8,7 @@ use Rattle.slotted_languages.specs.Shape.{Fits}
 use Rattle.slotted_languages.proofs.NodeTerms.{own_fits, child_rest_fits, bind_inner_fits, bind_rest_fits}
 use Rattle.slotted_model.specs.Applied.{values}
 use Rattle.slotted_model.specs.Correspondence.{AllDifferent}
-use Rattle.slotted_model.proofs.Members.{In, In-append, In-Contains}
+use Rattle.slotted_model.proofs.Data.Members.{In, In-append, In-Contains}
 use Rattle.slotted_model_rules.specs.Matcher.{written_names, bound_names}
 use Rattle.slotted_rule_patterns.specs.NodeArguments.{args_of, node_arguments}
 

@@ -10,7 +10,7 @@ use Rattle.slotted_theory.proofs.Decides.{numbers_eq-true, numbers_eq-same}
 use Rattle.slotted_model.specs.Applied.{Applied, values}
 use Rattle.slotted_model.specs.Find.{used_slots}
 use Rattle.slotted_model.specs.State.{State}
-use Rattle.slotted_model.proofs.Members.{In, In-Contains}
+use Rattle.slotted_model.proofs.Data.Members.{In, In-Contains}
 use Rattle.slotted_model_rules.specs.Conditions.{Values}
 use Rattle.slotted_model_rules.specs.Matcher.{value_at}
 use Rattle.slotted_model_rules.specs.Rules.{id_or_none, valued}

@@ -17,11 +17,11 @@ use Rattle.slotted_model.specs.Applied.{keys, values, map_on}
 use Rattle.slotted_model.specs.Ascending.{IsAscending, names}
 use Rattle.slotted_model.specs.Correspondence.{AllDifferent, IsInjectiveOn}
 use Rattle.slotted_model.specs.State.{Row, name_numbered}
-use Rattle.slotted_model.proofs.Maps.{filled-map_on, map_on-filled, pair-filled, values-map_on}
-use Rattle.slotted_model.proofs.Members.{In, In-of_map, In-Contains}
-use Rattle.slotted_model.proofs.Rows.{name_numbered-at}
-use Rattle.slotted_model.proofs.Sets.{In-ascending}
-use Rattle.slotted_model.proofs.Theory.{free_names-moved, moved-agrees, moved-moved}
+use Rattle.slotted_model.proofs.Data.Maps.{filled-map_on, map_on-filled, pair-filled, values-map_on}
+use Rattle.slotted_model.proofs.Data.Members.{In, In-of_map, In-Contains}
+use Rattle.slotted_model.proofs.Rebuilding.Rows.{name_numbered-at}
+use Rattle.slotted_model.proofs.Data.Sets.{In-ascending}
+use Rattle.slotted_model.proofs.Data.Theory.{free_names-moved, moved-agrees, moved-moved}
 use Rattle.slotted_model_rules.specs.Matcher.{NodeArgs, unnamed, written_names, bound_names}
 use Rattle.slotted_proofs.proofs.Bridges.{ascends}
 use Rattle.slotted_classes.specs.Names.{IsNumeric}

@@ -6,7 +6,7 @@ use Rattle.slotted_theory.specs.FiniteMaps.{value_of}
 use Rattle.slotted_nodes.specs.Form.{Form}
 use Rattle.slotted_model.specs.Applied.{values}
 use Rattle.slotted_model.specs.Correspondence.{has_slot}
-use Rattle.slotted_model.proofs.Members.{In, In-Contains, Contains-In}
+use Rattle.slotted_model.proofs.Data.Members.{In, In-Contains, Contains-In}
 use Rattle.slotted_model_rules.specs.Goals.{paired_all}
 use Rattle.slotted_model_rules.specs.Matcher.{paired, paired_with}
 use Rattle.slotted_model_rules.specs.Patterns.{Pattern, PatternArgs}

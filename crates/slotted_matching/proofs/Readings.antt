@@ -5,7 +5,7 @@ use Rattle.slotted_theory.specs.Renaming.{IsInjective}
 use Rattle.slotted_model.specs.Find.{IsLive, used_slots}
 use Rattle.slotted_model.specs.State.{Row, State}
 use Rattle.slotted_model.specs.Rest.{AtRest}
-use Rattle.slotted_model.proofs.Members.{In, Contains-In}
+use Rattle.slotted_model.proofs.Data.Members.{In, Contains-In}
 use Rattle.slotted_model_rules.specs.Conditions.{Values}
 use Rattle.slotted_model_rules.specs.Matcher.{MatchState, Gives, Reads}
 use Rattle.slotted_model_rules.specs.Patterns.{Pattern}

@@ -10,7 +10,7 @@ use Rattle.slotted_languages.specs.Outline.{outlined, marks, skeleton_form}
 use Rattle.slotted_languages.proofs.Outlines.{marks-outlined}
 use Rattle.slotted_model_rules.specs.Patterns.{Pattern, PatternArgs}
 use Rattle.slotted_model_rules.specs.Goals.{has_outline}
-use Rattle.slotted_model_rules.proofs.FlatWalks.{outline-moved}
+use Rattle.slotted_model_rules.proofs.Matching.FlatWalks.{outline-moved}
 use Rattle.slotted_hashcons.specs.FiledRows.{row_of_entry}
 use Rattle.slotted_rule_patterns.specs.PatternCode.{filled_pattern}
 use Rattle.slotted_match_machine.specs.Index.{HasOutline}

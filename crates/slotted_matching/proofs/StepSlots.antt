@@ -7,7 +7,7 @@ use Rattle.slotted_slots.specs.Table.{Table, is_known}
 use Rattle.slotted_nodes.specs.Form.{Form, Tree, leaf, own, child, bind, scopes}
 use Rattle.slotted_languages.specs.Outline.{outlined_names}
 use Rattle.slotted_languages.proofs.NodeTerms.{own_fits, child_rest_fits, bind_inner_fits, bind_rest_fits}
-use Rattle.slotted_model.proofs.Members.{In, In-append, In-Contains}
+use Rattle.slotted_model.proofs.Data.Members.{In, In-append, In-Contains}
 use Rattle.slotted_patterns.specs.Known.{AreKnown}
 use Rattle.slotted_match_machine.specs.declared.program.Source.{Source}
 use Rattle.slotted_match_machine.specs.declared.program.Step.{Step}

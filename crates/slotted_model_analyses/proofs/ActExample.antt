@@ -18,14 +18,14 @@ use Rattle.slotted_model.specs.Rest.{IsAligned, Sane, Represents}
 use Rattle.slotted_model.specs.Changes.{ProofsGrow, with_proofs, found_entry, Unites, proves, drops_left, finds_alike, lists, dropped_state}
 use Rattle.slotted_model.specs.Rebuild.{IsCongruence, refiled_state, Turn, enters, narrows, refiles, Acts, acts}
 use Rattle.slotted_model.specs.Adding.{with_assertion}
-use Rattle.slotted_model.proofs.Asserting.{entry-sane, entry-represents, can_assert}
-use Rattle.slotted_model.proofs.CompletenessExamples.{one_of}
-use Rattle.slotted_model.proofs.Entering.{entered-proved}
-use Rattle.slotted_model.proofs.GrowingLists.{proofs-sane}
-use Rattle.slotted_model.proofs.Touching.{touching, touched-is}
-use Rattle.slotted_model.proofs.TurnExamples.{with_h, h_rests, f_7_8, f_7_9, f_full, redundant, exchanged, symmetric, exchange, not_identity, both_slots, not_zero, not_exchanged, not_redundant_too, narrowed, narrowed_sane, not_aligned}
-use Rattle.slotted_model.proofs.Unions.{unites}
-use Rattle.slotted_model.proofs.AfterUnions.{united-represents}
+use Rattle.slotted_model.proofs.Rebuilding.Asserting.{entry-sane, entry-represents, can_assert}
+use Rattle.slotted_model.proofs.Examples.CompletenessExamples.{one_of}
+use Rattle.slotted_model.proofs.Finds.Entering.{entered-proved}
+use Rattle.slotted_model.proofs.Rebuilding.GrowingLists.{proofs-sane}
+use Rattle.slotted_model.proofs.Rebuilding.Touching.{touching, touched-is}
+use Rattle.slotted_model.proofs.Examples.TurnExamples.{with_h, h_rests, f_7_8, f_7_9, f_full, redundant, exchanged, symmetric, exchange, not_identity, both_slots, not_zero, not_exchanged, not_redundant_too, narrowed, narrowed_sane, not_aligned}
+use Rattle.slotted_model.proofs.Rebuilding.Unions.{unites}
+use Rattle.slotted_model.proofs.Rebuilding.AfterUnions.{united-represents}
 use Rattle.slotted_model_analyses.specs.Analysis.{Analysis, IsMerge, Absorbs}
 use Rattle.slotted_model_analyses.specs.DataPart.{DataPart, with_pending, made, Carries, absorbed, Follows, FollowsAct, RunsWithData, starts, takes_act, HasData, size_with_data, GoesDown, DataGoesDown, RestsWithData}
 use Rattle.slotted_model_analyses.specs.DataPart as with

@@ -10,8 +10,8 @@ use Rattle.slotted_model.specs.ProofList.{asserted}
 use Rattle.slotted_model.specs.State.{State, look_up_tree}
 use Rattle.slotted_model.specs.Rest.{IsValidIn}
 use Rattle.slotted_model.specs.Changes.{GoesOn}
-use Rattle.slotted_model.proofs.GoingOn.{goes_on-then}
-use Rattle.slotted_model.proofs.LookUpsAreEqual.{tree-equal, filled-equal}
+use Rattle.slotted_model.proofs.Rebuilding.GoingOn.{goes_on-then}
+use Rattle.slotted_model.proofs.Complete.LookUpsAreEqual.{tree-equal, filled-equal}
 use Rattle.slotted_model_analyses.proofs.Writing.{merging}
 use Rattle.slotted_model_analyses.specs.DataWrites.{MergesInto}
 use Rattle.slotted_model_analyses.specs.Analysis.{Analysis, IsMerge, Absorbs}

@@ -13,15 +13,15 @@ use Rattle.slotted_model.specs.State.{State, look_up_normal, look_up_node, look_
 use Rattle.slotted_model.specs.Rest.{IsValidIn, IsAnswer}
 use Rattle.slotted_model.specs.Trees.{HasNoIds, IsTree}
 use Rattle.slotted_model.specs.Adding.{HasAdded, KeepsLookUps}
-use Rattle.slotted_model.proofs.Adding.{adds}
-use Rattle.slotted_model.proofs.Answers.{answer-found}
-use Rattle.slotted_model.proofs.Asserting.{not_looked_up-new}
-use Rattle.slotted_model.proofs.Children.{EachChild-map}
-use Rattle.slotted_model.proofs.FilledNodes.{a_filled_node, filled-full, filled-normal}
-use Rattle.slotted_model.proofs.GoingOn.{still-normal}
-use Rattle.slotted_model.proofs.KeepingTrees.{keeps-look_ups}
-use Rattle.slotted_model.proofs.NormalIds.{found-valid, full-is_valid}
-use Rattle.slotted_model.proofs.Options.{option_map-some, both-some}
+use Rattle.slotted_model.proofs.Rebuilding.Adding.{adds}
+use Rattle.slotted_model.proofs.Rebuilding.Answers.{answer-found}
+use Rattle.slotted_model.proofs.Rebuilding.Asserting.{not_looked_up-new}
+use Rattle.slotted_model.proofs.Represented.Children.{EachChild-map}
+use Rattle.slotted_model.proofs.Represented.FilledNodes.{a_filled_node, filled-full, filled-normal}
+use Rattle.slotted_model.proofs.Rebuilding.GoingOn.{still-normal}
+use Rattle.slotted_model.proofs.Rebuilding.KeepingTrees.{keeps-look_ups}
+use Rattle.slotted_model.proofs.Finds.NormalIds.{found-valid, full-is_valid}
+use Rattle.slotted_model.proofs.Data.Options.{option_map-some, both-some}
 use Rattle.slotted_model_analyses.specs.Analysis.{Analysis, IsMerge}
 use Rattle.slotted_model_analyses.specs.DataPart.{DataPart, RestsWithData}
 use Rattle.slotted_model_analyses.specs.DataWrites.{AddsWithData}

@@ -13,11 +13,11 @@ use Rattle.slotted_model.specs.Ids.{term_eq, class_with_names}
 use Rattle.slotted_model.specs.State.{State}
 use Rattle.slotted_model.specs.Trees.{HasNoIds, IsTree}
 use Rattle.slotted_model.specs.Adding.{HasAdded}
-use Rattle.slotted_model.proofs.Adding.{adds}
-use Rattle.slotted_model.proofs.Children.{EachChild-map, expand-as_term}
-use Rattle.slotted_model.proofs.Full.{term_of-layer}
-use Rattle.slotted_model.proofs.Growing.{added}
-use Rattle.slotted_model.proofs.Ids.{term_eq-true, term_eq-same, Stands, class-stands}
+use Rattle.slotted_model.proofs.Rebuilding.Adding.{adds}
+use Rattle.slotted_model.proofs.Represented.Children.{EachChild-map, expand-as_term}
+use Rattle.slotted_model.proofs.Represented.Full.{term_of-layer}
+use Rattle.slotted_model.proofs.Represented.Growing.{added}
+use Rattle.slotted_model.proofs.Represented.Ids.{term_eq-true, term_eq-same, Stands, class-stands}
 use Rattle.slotted_model_analyses.specs.Analysis.{Analysis, IsMerge}
 use Rattle.slotted_model_analyses.specs.DataPart.{DataPart, RestsWithData}
 use Rattle.slotted_model_analyses.specs.DataWrites.{AddsWithData}

@@ -15,9 +15,9 @@ use Rattle.slotted_model.specs.State.{Row, State, look_up_tree}
 use Rattle.slotted_model.specs.Trees.{IsTree}
 use Rattle.slotted_model.specs.Changes.{Unites, left_dies, finds_alike, linked_state}
 use Rattle.slotted_model.specs.Adding.{with_assertion}
-use Rattle.slotted_model.proofs.CompletenessExamples.{one_of}
-use Rattle.slotted_model.proofs.RestExamples.{p, q, with_q, q_rests}
-use Rattle.slotted_model.proofs.Touching.{touching, touched-is}
+use Rattle.slotted_model.proofs.Examples.CompletenessExamples.{one_of}
+use Rattle.slotted_model.proofs.Examples.RestExamples.{p, q, with_q, q_rests}
+use Rattle.slotted_model.proofs.Rebuilding.Touching.{touching, touched-is}
 use Rattle.slotted_model_analyses.specs.Analysis.{Analysis, IsMerge, Absorbs}
 use Rattle.slotted_model_analyses.specs.DataPart.{DataPart, with_data, with_pending, made, absorbed, lowered, Carries, starts, RestsWithData}
 use Rattle.slotted_model_analyses.specs.DataWrites.{AssertsWithData, is_new, stands, MergesInto, merges_into}

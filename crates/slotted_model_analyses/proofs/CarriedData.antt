@@ -12,9 +12,9 @@ use Rattle.slotted_model.specs.State.{Row, State, normal_node, child_classes}
 use Rattle.slotted_model.specs.Rest.{IsCurrent, AtRest}
 use Rattle.slotted_model.specs.Changes.{GoesOn}
 use Rattle.slotted_model.specs.Extraction.{row_class}
-use Rattle.slotted_model.proofs.Costs.{child_classes-count}
-use Rattle.slotted_model.proofs.Optimal.{row-classes, row-alike}
-use Rattle.slotted_model.proofs.Rows.{current-shape}
+use Rattle.slotted_model.proofs.LeastTerms.Costs.{child_classes-count}
+use Rattle.slotted_model.proofs.LeastTerms.Optimal.{row-classes, row-alike}
+use Rattle.slotted_model.proofs.Rebuilding.Rows.{current-shape}
 use Rattle.slotted_model_analyses.specs.Analysis.{Analysis, IsMerge, MakesAlike, Absorbs}
 use Rattle.slotted_model_analyses.specs.DataPart.{DataPart, made, RunsWithData, HasData, RestsWithData}
 use Rattle.slotted_model_analyses.specs.DataWrites.{HasNotedAll}

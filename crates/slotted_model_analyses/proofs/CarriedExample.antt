@@ -12,11 +12,11 @@ use Rattle.slotted_model.specs.State.{Row, State, child_classes}
 use Rattle.slotted_model.specs.Changes.{GoesOn, left_dies}
 use Rattle.slotted_model.specs.Rebuild.{starts}
 use Rattle.slotted_model.specs.Adding.{with_assertion, Asserts, is_new}
-use Rattle.slotted_model.proofs.Asserting.{asserts}
-use Rattle.slotted_model.proofs.CongruenceExample.{words, n, id, n_a_rests, sides, stands_nowhere, is_later}
-use Rattle.slotted_model.proofs.JoiningExample.{united, united_rests, row_n_a}
-use Rattle.slotted_model.proofs.RestExamples.{made as made_of}
-use Rattle.slotted_model.proofs.Touching.{touching, touched-is}
+use Rattle.slotted_model.proofs.Rebuilding.Asserting.{asserts}
+use Rattle.slotted_model.proofs.Examples.CongruenceExample.{words, n, id, n_a_rests, sides, stands_nowhere, is_later}
+use Rattle.slotted_model.proofs.Examples.JoiningExample.{united, united_rests, row_n_a}
+use Rattle.slotted_model.proofs.Examples.RestExamples.{made as made_of}
+use Rattle.slotted_model.proofs.Rebuilding.Touching.{touching, touched-is}
 use Rattle.slotted_model_analyses.specs.Analysis.{Analysis, IsMerge, MakesAlike, Absorbs}
 use Rattle.slotted_model_analyses.specs.DataPart.{DataPart, with_data, with_pending, taken, made, lowered, takes, RunsWithData, takes_data, HasData, RestsWithData}
 use Rattle.slotted_model_analyses.specs.DataPart as with

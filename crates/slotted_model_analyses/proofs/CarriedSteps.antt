@@ -8,9 +8,9 @@ use Rattle.slotted_model.specs.Growth.{IsNew}
 use Rattle.slotted_model.specs.State.{State}
 use Rattle.slotted_model.specs.Changes.{GoesOn}
 use Rattle.slotted_model.specs.Adding.{Adds, HasAdded, Asserts, HasAsserted}
-use Rattle.slotted_model.proofs.Adding.{adds}
-use Rattle.slotted_model.proofs.Asserting.{asserts}
-use Rattle.slotted_model.proofs.GoingOn.{goes_on-same, goes_on-then}
+use Rattle.slotted_model.proofs.Rebuilding.Adding.{adds}
+use Rattle.slotted_model.proofs.Rebuilding.Asserting.{asserts}
+use Rattle.slotted_model.proofs.Rebuilding.GoingOn.{goes_on-same, goes_on-then}
 use Rattle.slotted_model_analyses.specs.Analysis.{Analysis, IsMerge}
 use Rattle.slotted_model_analyses.specs.DataPart.{DataPart, GoesDown, DataGoesDown, RestsWithData}
 use Rattle.slotted_model_analyses.specs.DataWrites.{MergesInto, AddsWithData, AssertsWithData, HasNotedAll}

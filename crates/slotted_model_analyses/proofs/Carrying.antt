@@ -10,13 +10,13 @@ use Rattle.slotted_model.specs.State.{Row, State, sources, HasTouched}
 use Rattle.slotted_model.specs.Rest.{Sane, size, size_from}
 use Rattle.slotted_model.specs.Changes.{GoesOn, linked_state, dropped_state, with_proofs, found_entry, StandsAt, Unites, finds_alike, proves, drops_left, drops_right, left_dies, right_dies, lists, is_listed}
 use Rattle.slotted_model.specs.Extraction.{row_class}
-use Rattle.slotted_model.proofs.Events.{link-size, drop-sane, drop-size}
-use Rattle.slotted_model.proofs.GrowingLists.{proofs-go_on, proofs-sane}
-use Rattle.slotted_model.proofs.Replacing.{live-stays}
-use Rattle.slotted_model.proofs.Linking.{link-replaces}
-use Rattle.slotted_model.proofs.Linking as linking
-use Rattle.slotted_model.proofs.Rows.{source-in}
-use Rattle.slotted_model.proofs.Unions.{can_drop-left, can_drop-right, can_link-left, can_link-right, back-key}
+use Rattle.slotted_model.proofs.Rebuilding.Events.{link-size, drop-sane, drop-size}
+use Rattle.slotted_model.proofs.Rebuilding.GrowingLists.{proofs-go_on, proofs-sane}
+use Rattle.slotted_model.proofs.Finds.Replacing.{live-stays}
+use Rattle.slotted_model.proofs.Finds.Linking.{link-replaces}
+use Rattle.slotted_model.proofs.Finds.Linking as linking
+use Rattle.slotted_model.proofs.Rebuilding.Rows.{source-in}
+use Rattle.slotted_model.proofs.Rebuilding.Unions.{can_drop-left, can_drop-right, can_link-left, can_link-right, back-key}
 use Rattle.slotted_model_analyses.specs.Analysis.{Analysis, IsMerge, Absorbs}
 use Rattle.slotted_model_analyses.specs.DataPart.{DataPart, made, with_pending, CarriesLink, Carries, HasData, heights_from, size_with_data, GoesDown, DataGoesDown}
 use Rattle.slotted_model_analyses.proofs.Absorbing.{absorbs-same, absorbs-then}

@@ -7,8 +7,8 @@ use Rattle.slotted_model.specs.Find.{find_class}
 use Rattle.slotted_model.specs.State.{Row, State, sources}
 use Rattle.slotted_model.specs.Rest.{Sane, Represents}
 use Rattle.slotted_model.specs.Rebuild.{Runs, starts, takes_turn, takes_act, IsRebuilt}
-use Rattle.slotted_model.proofs.Touching.{different-length}
-use Rattle.slotted_model.proofs.Turning.{run, turned, ended}
+use Rattle.slotted_model.proofs.Rebuilding.Touching.{different-length}
+use Rattle.slotted_model.proofs.Rebuilding.Turning.{run, turned, ended}
 use Rattle.slotted_model_analyses.specs.Analysis.{Analysis, IsMerge}
 use Rattle.slotted_model_analyses.specs.DataPart.{DataPart, TakesData, takes, RunsWithData, HasData, size_with_data, GoesDown, DataGoesDown, HasNothingLeftWithData, RestsWithData}
 use Rattle.slotted_model_analyses.specs.DataPart as with

@@ -18,8 +18,8 @@ use Rattle.slotted_model.specs.State.{Row, State, normal_node, child_classes}
 use Rattle.slotted_model.specs.Changes.{Unites, left_dies, linked_state}
 use Rattle.slotted_model.specs.Rebuild.{row_for, with_row, refiled_state, refiles}
 use Rattle.slotted_model.specs.Adding.{with_new_class, with_assertion, with_new_row, with_quiet_row}
-use Rattle.slotted_model.proofs.RestExamples.{empty, made, p}
-use Rattle.slotted_model.proofs.Touching.{touching, touched-is}
+use Rattle.slotted_model.proofs.Examples.RestExamples.{empty, made, p}
+use Rattle.slotted_model.proofs.Rebuilding.Touching.{touching, touched-is}
 use Rattle.slotted_model_analyses.proofs.Showing.{proofs-keep, shortcut-keeps}
 use Rattle.slotted_model_analyses.proofs.QuietData.{new-row-same, quiet-run-with}
 use Rattle.slotted_model_analyses.specs.Analysis.{Analysis, IsMerge, MakesAlike}

@@ -18,13 +18,13 @@ use Rattle.slotted_model.specs.Normal.{normal_args, normal}
 use Rattle.slotted_model.specs.State.{Row, State, normal_node, name_numbered, child_classes}
 use Rattle.slotted_model.specs.Rest.{IsRow, IsCurrent, Sane, LookedUp}
 use Rattle.slotted_model.specs.Rebuild.{with_row, row_for, IsCovered}
-use Rattle.slotted_model.proofs.Members.{In}
-use Rattle.slotted_model.proofs.Sets.{IsAscending-ascending}
-use Rattle.slotted_model.proofs.Maps.{map_on-agrees, map_on-filled}
-use Rattle.slotted_model.proofs.Costs.{null_children-normal, child_classes-count}
-use Rattle.slotted_model.proofs.Optimal.{row-classes, row-alike}
-use Rattle.slotted_model.proofs.Rows.{name_numbered-moved, name_numbered-shape, current-shape, one_row, rest-nodes}
-use Rattle.slotted_model.proofs.Growing.{identity-full}
+use Rattle.slotted_model.proofs.Data.Members.{In}
+use Rattle.slotted_model.proofs.Data.Sets.{IsAscending-ascending}
+use Rattle.slotted_model.proofs.Data.Maps.{map_on-agrees, map_on-filled}
+use Rattle.slotted_model.proofs.LeastTerms.Costs.{null_children-normal, child_classes-count}
+use Rattle.slotted_model.proofs.LeastTerms.Optimal.{row-classes, row-alike}
+use Rattle.slotted_model.proofs.Rebuilding.Rows.{name_numbered-moved, name_numbered-shape, current-shape, one_row, rest-nodes}
+use Rattle.slotted_model.proofs.Represented.Growing.{identity-full}
 use Rattle.slotted_model_analyses.specs.Analysis.{Analysis, MakesAlike, Absorbs}
 use Rattle.slotted_model_analyses.specs.DataPart.{DataPart, RestsWithData}
 

@@ -8,13 +8,13 @@ use Rattle.slotted_model.specs.Rest.{Sane, size, size_from}
 use Rattle.slotted_model.specs.Changes.{with_proofs}
 use Rattle.slotted_model.specs.Rebuild.{without, without_row, row_for, removed_state, refiled_state, Turn, enters, narrows, unites_parents, refiles, Acts, acts}
 use Rattle.slotted_model.specs.Extraction.{row_class}
-use Rattle.slotted_model.proofs.AfterUnions.{lacking-falls}
+use Rattle.slotted_model.proofs.Rebuilding.AfterUnions.{lacking-falls}
 use Rattle.slotted_model.proofs.Correspondences.Listing.{different-filter}
-use Rattle.slotted_model.proofs.Finding.{leads, found-in_range, found-live}
-use Rattle.slotted_model.proofs.GrowingLists.{proofs-sane}
-use Rattle.slotted_model.proofs.Lacking.{narrow-lacks, unaligned-lacks}
-use Rattle.slotted_model.proofs.Refiling.{filter-keeps, filter-from, without-keeps, without-from, without-length, sources-with_row, with_row-from}
-use Rattle.slotted_model.proofs.Rows.{source-in, of_source, one_row}
+use Rattle.slotted_model.proofs.Finds.Finding.{leads, found-in_range, found-live}
+use Rattle.slotted_model.proofs.Rebuilding.GrowingLists.{proofs-sane}
+use Rattle.slotted_model.proofs.Rebuilding.Lacking.{narrow-lacks, unaligned-lacks}
+use Rattle.slotted_model.proofs.Rebuilding.Refiling.{filter-keeps, filter-from, without-keeps, without-from, without-length, sources-with_row, with_row-from}
+use Rattle.slotted_model.proofs.Rebuilding.Rows.{source-in, of_source, one_row}
 use Rattle.slotted_model_analyses.specs.Analysis.{Analysis, IsMerge, Absorbs}
 use Rattle.slotted_model_analyses.specs.DataPart.{DataPart, made, taken, Merges, Follows, FollowsAct, TakesData, takes, HasData, heights_from, size_with_data, GoesDown, DataGoesDown}
 use Rattle.slotted_model_analyses.proofs.Absorbing.{absorbs-then}

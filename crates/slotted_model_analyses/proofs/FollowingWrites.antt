@@ -12,12 +12,12 @@ use Rattle.slotted_model.specs.Rebuild.{Runs, HasNothingLeft}
 use Rattle.slotted_model.specs.Rebuild as plain
 use Rattle.slotted_model.specs.Adding.{with_new_class, with_new_row, with_assertion, Adds, Asserts}
 use Rattle.slotted_model.specs.Adding as write
-use Rattle.slotted_model.proofs.Adding.{class-sane, filed-ready, adds}
-use Rattle.slotted_model.proofs.Asserting.{entry-sane, can_assert, asserts}
-use Rattle.slotted_model.proofs.Entering.{longer-length}
-use Rattle.slotted_model.proofs.GrowingLists.{proofs-sane}
-use Rattle.slotted_model.proofs.Touching.{with_waiting}
-use Rattle.slotted_model.proofs.Unions.{unites}
+use Rattle.slotted_model.proofs.Rebuilding.Adding.{class-sane, filed-ready, adds}
+use Rattle.slotted_model.proofs.Rebuilding.Asserting.{entry-sane, can_assert, asserts}
+use Rattle.slotted_model.proofs.Finds.Entering.{longer-length}
+use Rattle.slotted_model.proofs.Rebuilding.GrowingLists.{proofs-sane}
+use Rattle.slotted_model.proofs.Rebuilding.Touching.{with_waiting}
+use Rattle.slotted_model.proofs.Rebuilding.Unions.{unites}
 use Rattle.slotted_model_analyses.specs.Analysis.{Analysis, IsMerge}
 use Rattle.slotted_model_analyses.specs.DataPart.{DataPart, RunsWithData, starts, takes_turn, takes_act, HasData, HasNothingLeftWithData, RestsWithData}
 use Rattle.slotted_model_analyses.specs.DataWrites.{with_new_data, with_new_pending, AddsWithData, joins_row, files_row, AssertsWithData, is_new, stands}

@@ -6,12 +6,12 @@ use Rattle.slotted_theory.specs.Nameless.{DTerm}
 use Rattle.slotted_model.specs.Find.{Entry, IsLive, find_class, Linked}
 use Rattle.slotted_model.specs.Link.{CanLink, IsLater, CanDrop, with_link, with_slots}
 use Rattle.slotted_model.specs.ProofList.{Equation}
-use Rattle.slotted_model.proofs.Finding.{leads, find_class-live, found-live, found-in_range}
-use Rattle.slotted_model.proofs.Replacing.{Factors, replaced-factors, live-stays, new_leads}
-use Rattle.slotted_model.proofs.Linking.{link-replaces, left-class}
-use Rattle.slotted_model.proofs.Linking as linking
-use Rattle.slotted_model.proofs.Dropping.{drop-replaces, drop-lives}
-use Rattle.slotted_model.proofs.Dropping as dropping
+use Rattle.slotted_model.proofs.Finds.Finding.{leads, find_class-live, found-live, found-in_range}
+use Rattle.slotted_model.proofs.Finds.Replacing.{Factors, replaced-factors, live-stays, new_leads}
+use Rattle.slotted_model.proofs.Finds.Linking.{link-replaces, left-class}
+use Rattle.slotted_model.proofs.Finds.Linking as linking
+use Rattle.slotted_model.proofs.Finds.Dropping.{drop-replaces, drop-lives}
+use Rattle.slotted_model.proofs.Finds.Dropping as dropping
 
 module _ (nodes : List DTerm) (found : List Entry) (linked : Linked nodes found) where
   -- after a link the classes that found the left class find the right one, and the others what they found

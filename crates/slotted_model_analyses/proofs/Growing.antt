@@ -13,12 +13,12 @@ use Rattle.slotted_model.specs.Rest.{IsValidIn, Sane}
 use Rattle.slotted_model.specs.Rebuild.{row_for}
 use Rattle.slotted_model.specs.Adding.{with_new_class, with_new_row}
 use Rattle.slotted_model.specs.Extraction.{row_class}
-use Rattle.slotted_model.proofs.Adding.{class-sane, last-in_range}
-use Rattle.slotted_model.proofs.Finding.{leads, find_class-live, found-in_range}
-use Rattle.slotted_model.proofs.Growing.{added}
-use Rattle.slotted_model.proofs.KeepingLookUps.{children-below}
-use Rattle.slotted_model.proofs.NewClasses.{find_class-same}
-use Rattle.slotted_model.proofs.Rows.{of_source}
+use Rattle.slotted_model.proofs.Rebuilding.Adding.{class-sane, last-in_range}
+use Rattle.slotted_model.proofs.Finds.Finding.{leads, find_class-live, found-in_range}
+use Rattle.slotted_model.proofs.Represented.Growing.{added}
+use Rattle.slotted_model.proofs.Rebuilding.KeepingLookUps.{children-below}
+use Rattle.slotted_model.proofs.Finds.NewClasses.{find_class-same}
+use Rattle.slotted_model.proofs.Rebuilding.Rows.{of_source}
 use Rattle.slotted_model_analyses.specs.Analysis.{Analysis, IsMerge, Absorbs}
 use Rattle.slotted_model_analyses.specs.DataPart.{DataPart, made, HasNoted, HasData}
 use Rattle.slotted_model_analyses.specs.DataWrites.{made_of_found, with_new_data, with_new_pending}

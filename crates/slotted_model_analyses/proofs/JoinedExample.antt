@@ -8,9 +8,9 @@ use Rattle.slotted_model.specs.Extraction.{row_class}
 use Rattle.slotted_model.specs.Find.{find_class}
 use Rattle.slotted_model.specs.State.{Row}
 use Rattle.slotted_model.specs.Changes.{Unites, left_dies}
-use Rattle.slotted_model.proofs.CongruenceExample.{words, n, is_later}
-use Rattle.slotted_model.proofs.JoiningExample.{united, united_rests, n_b_new, entered, n_grow, n_congruence, joined, row_n_a}
-use Rattle.slotted_model.proofs.Touching.{touching, touched-is}
+use Rattle.slotted_model.proofs.Examples.CongruenceExample.{words, n, is_later}
+use Rattle.slotted_model.proofs.Examples.JoiningExample.{united, united_rests, n_b_new, entered, n_grow, n_congruence, joined, row_n_a}
+use Rattle.slotted_model.proofs.Rebuilding.Touching.{touching, touched-is}
 use Rattle.slotted_model_analyses.specs.Analysis.{Analysis, IsMerge, Absorbs}
 use Rattle.slotted_model_analyses.specs.DataPart.{DataPart, with_data, with_pending, made, absorbed, Carries, starts, RestsWithData}
 use Rattle.slotted_model_analyses.specs.DataWrites.{AddsWithData, joins_row, with_new_data}

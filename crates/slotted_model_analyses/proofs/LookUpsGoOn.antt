@@ -9,13 +9,13 @@ use Rattle.slotted_model.specs.ProofList.{node_of}
 use Rattle.slotted_model.specs.State.{State, look_up_normal, look_up_node}
 use Rattle.slotted_model.specs.Rest.{IsValidIn, found_alike, joined, AtRest, IsAnswer, LookedUp, FoundTogether}
 use Rattle.slotted_model.specs.Changes.{GoesOn}
-use Rattle.slotted_model.proofs.Answers.{answer-found}
-use Rattle.slotted_model.proofs.Children.{EachChild-map}
-use Rattle.slotted_model.proofs.Full.{full-children}
-use Rattle.slotted_model.proofs.GoingOn.{still-full, still-node, still-normal}
-use Rattle.slotted_model.proofs.NormalIds.{found-valid, full-is_valid}
-use Rattle.slotted_model.proofs.Rows.{rest-nodes}
-use Rattle.slotted_model.proofs.UpTo.{upto-together}
+use Rattle.slotted_model.proofs.Rebuilding.Answers.{answer-found}
+use Rattle.slotted_model.proofs.Represented.Children.{EachChild-map}
+use Rattle.slotted_model.proofs.Represented.Full.{full-children}
+use Rattle.slotted_model.proofs.Rebuilding.GoingOn.{still-full, still-node, still-normal}
+use Rattle.slotted_model.proofs.Finds.NormalIds.{found-valid, full-is_valid}
+use Rattle.slotted_model.proofs.Rebuilding.Rows.{rest-nodes}
+use Rattle.slotted_model.proofs.Rebuilding.UpTo.{upto-together}
 
 -- the id that is looked up then is found together with that which was looked up
 pub look_up-goes_on : (g : State) → AtRest g → (h : State) → AtRest h → GoesOn g h → (d : DTerm) → EachChild (IsValidIn g) d.args → (x : Applied) → look_up_node g d ≡ Some x →

@@ -9,12 +9,12 @@ use Rattle.slotted_model.specs.Correspondence.{identity}
 use Rattle.slotted_model.specs.Find.{entry_at, IsLive, used_slots}
 use Rattle.slotted_model.specs.State.{State}
 use Rattle.slotted_model.specs.Rest.{IsValidIn}
-use Rattle.slotted_model.proofs.Ending.{one-or-none}
-use Rattle.slotted_model.proofs.Fillings.{a_filling}
-use Rattle.slotted_model.proofs.GoingOn.{used-valid}
-use Rattle.slotted_model.proofs.Members.{In-Contains, Contains-In}
-use Rattle.slotted_model.proofs.Refiling.{filter-keeps, filter-from}
-use Rattle.slotted_model.proofs.Sets.{IsAscending-ascending, In-ascending, In-of_ascending}
+use Rattle.slotted_model.proofs.Rebuilding.Ending.{one-or-none}
+use Rattle.slotted_model.proofs.Represented.Fillings.{a_filling}
+use Rattle.slotted_model.proofs.Rebuilding.GoingOn.{used-valid}
+use Rattle.slotted_model.proofs.Data.Members.{In-Contains, Contains-In}
+use Rattle.slotted_model.proofs.Rebuilding.Refiling.{filter-keeps, filter-from}
+use Rattle.slotted_model.proofs.Data.Sets.{IsAscending-ascending, In-ascending, In-of_ascending}
 use Rattle.slotted_model_analyses.specs.Analysis.{Analysis, IsMerge}
 use Rattle.slotted_model_analyses.specs.DataPart.{DataPart, RestsWithData}
 use Rattle.slotted_model_analyses.specs.Rounds.{Edit, adds, equals, equates, Modify, Answers, IsOfTrees, AnswersTrees, MakesEdit, makes_add, makes_equal, makes_equate, MakesEdits, all_made, then_edit, Modifies, all_modified, modified, passed_over, TakesRound, TakesRounds, no_rounds, one_round, Rounds}

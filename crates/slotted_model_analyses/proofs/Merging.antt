@@ -6,8 +6,8 @@ use Rattle.slotted_theory.proofs.Lists.{contains_head, contains_tail}
 use Rattle.slotted_model.specs.Correspondence.{AllDifferent}
 use Rattle.slotted_model.specs.Find.{Entry, entry_at, IsLive}
 use Rattle.slotted_model.specs.State.{Row, State, sources, child_classes}
-use Rattle.slotted_model.proofs.Rows.{source-in}
-use Rattle.slotted_model.proofs.Touching.{with_waiting, waiting-has, waiting-keeps, waiting-from, waiting-once, touching, touched-is}
+use Rattle.slotted_model.proofs.Rebuilding.Rows.{source-in}
+use Rattle.slotted_model.proofs.Rebuilding.Touching.{with_waiting, waiting-has, waiting-keeps, waiting-from, waiting-once, touching, touched-is}
 use Rattle.slotted_model_analyses.specs.Analysis.{Analysis, IsMerge, Absorbs}
 use Rattle.slotted_model_analyses.specs.DataPart.{DataPart, with_data, made, with_pending, HasNoted, Merges, absorbed, lowered, heights_from, GoesDown}
 use Rattle.slotted_model_analyses.proofs.Absorbing.{absorbs-same, absorbs-then, absorbs-both, merge-keeps, merge-absorbs, absorbs-cases}

@@ -16,10 +16,10 @@ use Rattle.slotted_model.specs.State.{Row, State, normal_node, child_classes}
 use Rattle.slotted_model.specs.Rest.{Sane}
 use Rattle.slotted_model.specs.Rebuild.{without, with_row, row_for, refiled_state, IsCovered, Turn, refiles}
 use Rattle.slotted_model.specs.Adding.{with_new_class, with_new_row, with_quiet_row}
-use Rattle.slotted_model.proofs.Costs.{alike-moved, child_classes-count}
-use Rattle.slotted_model.proofs.KeepingLookUps.{children-below}
-use Rattle.slotted_model.proofs.Terms.{term_at-seam}
-use Rattle.slotted_model.proofs.Touching.{child_classes-moved}
+use Rattle.slotted_model.proofs.LeastTerms.Costs.{alike-moved, child_classes-count}
+use Rattle.slotted_model.proofs.Rebuilding.KeepingLookUps.{children-below}
+use Rattle.slotted_model.proofs.Represented.Terms.{term_at-seam}
+use Rattle.slotted_model.proofs.Rebuilding.Touching.{child_classes-moved}
 use Rattle.slotted_model_analyses.specs.Analysis.{Analysis, IsMerge, MakesAlike, Absorbs}
 use Rattle.slotted_model_analyses.specs.DataPart.{DataPart, made, taken, HasNoted, absorbed, RunsWithData, starts, takes_turn}
 use Rattle.slotted_model_analyses.specs.DataWrites.{made_of_found, with_new_data}

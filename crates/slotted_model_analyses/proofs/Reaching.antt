@@ -10,9 +10,9 @@ use Rattle.slotted_model.specs.Changes.{found_entry, Unites, finds_alike, proves
 use Rattle.slotted_model.specs.Rebuild.{row_for, refiled_state, Turn, enters, narrows, unites_parents, refiles, Acts, acts}
 use Rattle.slotted_model.specs.Extraction.{row_class}
 use Rattle.slotted_model.proofs.Correspondences.Listing.{different-filter}
-use Rattle.slotted_model.proofs.Ending.{next-step}
-use Rattle.slotted_model.proofs.Rows.{of_source}
-use Rattle.slotted_model.proofs.Touching.{touching, touched-is}
+use Rattle.slotted_model.proofs.Rebuilding.Ending.{next-step}
+use Rattle.slotted_model.proofs.Rebuilding.Rows.{of_source}
+use Rattle.slotted_model.proofs.Rebuilding.Touching.{touching, touched-is}
 use Rattle.slotted_model_analyses.specs.Analysis.{Analysis, IsMerge}
 use Rattle.slotted_model_analyses.specs.DataPart.{DataPart, made, with_pending, taken, CarriesLink, Carries, Follows, FollowsAct, TakesData, takes, RunsWithData, starts, takes_turn, takes_data, takes_act, HasData, size_with_data, HasNothingLeftWithData, RestsWithData}
 use Rattle.slotted_model_analyses.proofs.Merging.{merges-by}

@@ -13,11 +13,11 @@ use Rattle.slotted_model.specs.State.{State}
 use Rattle.slotted_model.specs.Rest.{AtRest}
 use Rattle.slotted_model.specs.Changes.{GoesOn}
 use Rattle.slotted_model.specs.Adding.{HasAdded, Asserts, HasAsserted}
-use Rattle.slotted_model.proofs.Adding.{adds}
-use Rattle.slotted_model.proofs.Asserting.{asserts}
-use Rattle.slotted_model.proofs.Children.{EachChild-map}
-use Rattle.slotted_model.proofs.GoingOn.{goes_on-same, goes_on-then}
-use Rattle.slotted_model.proofs.Growing.{added}
+use Rattle.slotted_model.proofs.Rebuilding.Adding.{adds}
+use Rattle.slotted_model.proofs.Rebuilding.Asserting.{asserts}
+use Rattle.slotted_model.proofs.Represented.Children.{EachChild-map}
+use Rattle.slotted_model.proofs.Rebuilding.GoingOn.{goes_on-same, goes_on-then}
+use Rattle.slotted_model.proofs.Represented.Growing.{added}
 use Rattle.slotted_model_analyses.specs.Analysis.{Analysis, IsMerge}
 use Rattle.slotted_model_analyses.specs.DataPart.{DataPart, DataGoesDown, RestsWithData}
 use Rattle.slotted_model_analyses.specs.Carried.{CarriesTo}

@@ -9,8 +9,8 @@ use Rattle.slotted_model.specs.ProofList.{ProofEntry, equation_at, find_equation
 use Rattle.slotted_model.specs.State.{State, sources}
 use Rattle.slotted_model.specs.Changes.{ProofsGrow, with_proofs}
 use Rattle.slotted_model.specs.Adding.{SameAnswers}
-use Rattle.slotted_model.proofs.GoingOn.{used-valid}
-use Rattle.slotted_model.proofs.Quiet.{proofs-quiet, shortcut-quiet}
+use Rattle.slotted_model.proofs.Rebuilding.GoingOn.{used-valid}
+use Rattle.slotted_model.proofs.Rebuilding.Quiet.{proofs-quiet, shortcut-quiet}
 use Rattle.slotted_model_analyses.specs.Analysis.{Analysis, Absorbs}
 use Rattle.slotted_model_analyses.specs.DataPart.{DataPart, made, RestsWithData}
 

@@ -19,17 +19,17 @@ use Rattle.slotted_model.specs.Rest.{IsAligned, Sane, AtRest, IsValidIn, FoundTo
 use Rattle.slotted_model.specs.Changes.{ProofsGrow, with_proofs, symmetry_of, with_symmetry, found_entry, PairsAll, Unites, proves, left_dies, lists, linked_state}
 use Rattle.slotted_model.specs.Rebuild.{removed_state, IsCongruence, Turn, enters, unites_parents, refiles, takes_turn, starts}
 use Rattle.slotted_model.specs.Adding.{with_new_class, with_assertion, Adds, files_row, Asserts, is_new}
-use Rattle.slotted_model.proofs.Adding.{adds}
-use Rattle.slotted_model.proofs.Asserting.{entry-sane, can_assert, asserts}
-use Rattle.slotted_model.proofs.CompletenessExamples.{one_of}
-use Rattle.slotted_model.proofs.CongruenceExample.{stands_nowhere, is_later}
-use Rattle.slotted_model.proofs.Entering.{entered-proved}
-use Rattle.slotted_model.proofs.GrowingLists.{proofs-go_on, proofs-sane}
-use Rattle.slotted_model.proofs.NormalIds.{full-is_valid}
-use Rattle.slotted_model.proofs.Preparing.{Prepared, prepare}
-use Rattle.slotted_model.proofs.RestExamples.{made, p, q, with_q, q_rests}
-use Rattle.slotted_model.proofs.Touching.{touching, touched-is}
-use Rattle.slotted_model.proofs.Unions.{unites}
+use Rattle.slotted_model.proofs.Rebuilding.Adding.{adds}
+use Rattle.slotted_model.proofs.Rebuilding.Asserting.{entry-sane, can_assert, asserts}
+use Rattle.slotted_model.proofs.Examples.CompletenessExamples.{one_of}
+use Rattle.slotted_model.proofs.Examples.CongruenceExample.{stands_nowhere, is_later}
+use Rattle.slotted_model.proofs.Finds.Entering.{entered-proved}
+use Rattle.slotted_model.proofs.Rebuilding.GrowingLists.{proofs-go_on, proofs-sane}
+use Rattle.slotted_model.proofs.Finds.NormalIds.{full-is_valid}
+use Rattle.slotted_model.proofs.Rebuilding.Preparing.{Prepared, prepare}
+use Rattle.slotted_model.proofs.Examples.RestExamples.{made, p, q, with_q, q_rests}
+use Rattle.slotted_model.proofs.Rebuilding.Touching.{touching, touched-is}
+use Rattle.slotted_model.proofs.Rebuilding.Unions.{unites}
 use Rattle.slotted_model_analyses.specs.Analysis.{Analysis, IsMerge}
 use Rattle.slotted_model_analyses.specs.DataPart.{DataPart, with_data, with_pending, taken, absorbed, Carries, RunsWithData, RestsWithData}
 use Rattle.slotted_model_analyses.specs.DataPart as with

@@ -18,14 +18,14 @@ use Rattle.slotted_model.specs.Adding.{with_new_class, with_new_row, with_assert
 use Rattle.slotted_model.specs.Adding as plain
 use Rattle.slotted_model.specs.Extraction.{row_class}
 use Rattle.slotted_model.specs.Sessions.{nothing}
-use Rattle.slotted_model.proofs.Adding.{class-sane, last-in_range, filed-ready, adds}
-use Rattle.slotted_model.proofs.Asserting.{entry-sane, can_assert, asserts, asserting-ends, adding-ends, nothing-rests}
-use Rattle.slotted_model.proofs.Entering.{longer-length}
-use Rattle.slotted_model.proofs.Finding.{leads, found-in_range, found-live}
-use Rattle.slotted_model.proofs.GrowingLists.{proofs-sane}
-use Rattle.slotted_model.proofs.Touching.{with_waiting}
-use Rattle.slotted_model.proofs.Turning.{turned}
-use Rattle.slotted_model.proofs.Unions.{unites}
+use Rattle.slotted_model.proofs.Rebuilding.Adding.{class-sane, last-in_range, filed-ready, adds}
+use Rattle.slotted_model.proofs.Rebuilding.Asserting.{entry-sane, can_assert, asserts, asserting-ends, adding-ends, nothing-rests}
+use Rattle.slotted_model.proofs.Finds.Entering.{longer-length}
+use Rattle.slotted_model.proofs.Finds.Finding.{leads, found-in_range, found-live}
+use Rattle.slotted_model.proofs.Rebuilding.GrowingLists.{proofs-sane}
+use Rattle.slotted_model.proofs.Rebuilding.Touching.{with_waiting}
+use Rattle.slotted_model.proofs.Rebuilding.Turning.{turned}
+use Rattle.slotted_model.proofs.Rebuilding.Unions.{unites}
 use Rattle.slotted_model_analyses.specs.Analysis.{Analysis, IsMerge, Absorbs}
 use Rattle.slotted_model_analyses.specs.DataPart.{DataPart, made, HasNoted, Merges, absorbed, lowered, takes, RunsWithData, starts, takes_turn, takes_data, takes_act, HasData, heights_from, size_with_data, GoesDown, DataGoesDown, RestsWithData}
 use Rattle.slotted_model_analyses.specs.DataWrites.{MergesInto, merges_into, made_of_found, with_new_data, with_new_pending, AddsWithData, joins_row, files_row, AssertsWithData, is_new, stands, HasNotedAll}

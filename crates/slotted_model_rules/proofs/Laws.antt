@@ -6,7 +6,7 @@ use Rattle.slotted_theory.proofs.Values.{node}
 use Rattle.slotted_model.specs.Applied.{Applied}
 use Rattle.slotted_model.specs.Classes.{term_of}
 use Rattle.slotted_model.specs.State.{State}
-use Rattle.slotted_model.proofs.Members.{In-Contains, Contains-In}
+use Rattle.slotted_model.proofs.Data.Members.{In-Contains, Contains-In}
 use Rattle.slotted_model_rules.specs.Substitution.{substituted_args}
 use Rattle.slotted_model_rules.specs.SubstitutionClaims.{SubstitutionLaws}
 use Rattle.slotted_model_rules.specs.PatternClaims.{PatternLaws}
@@ -18,46 +18,46 @@ use Rattle.slotted_model_rules.specs.Complete.{IsFreeInPattern}
 use Rattle.slotted_model_rules.specs.RuleClaims.{ConditionLaws, RuleLaws}
 use Rattle.slotted_model_rules.specs.Runners.{AppliesRules}
 use Rattle.slotted_model_rules.specs.RunnerClaims.{RunnerLaws}
-use Rattle.slotted_model_rules.proofs.Substituting.{put-same, put-other, nothing-substituted, itself-substituted}
-use Rattle.slotted_model_rules.proofs.Substituting.{moved-substituted}
-use Rattle.slotted_model_rules.proofs.Substituting.{names-substituted, kept-substituted, substituted-equal}
-use Rattle.slotted_model_rules.proofs.Substituting.{trees-substituted}
-use Rattle.slotted_model_rules.proofs.Replacing.{replaced-substituted, with_others_bound}
-use Rattle.slotted_model_rules.proofs.ReplacedIds.{part-names, part-older, part-values, stands-nowhere, older-stays, older-inside}
-use Rattle.slotted_model_rules.proofs.ReplacedIds.{whole-replaced, other-searched, names-seen, named-searched, unchanged-stays}
-use Rattle.slotted_model_rules.proofs.ReplacedIds.{replaced-stays, replaced_ids-stay, filled-stays, added-replaced}
-use Rattle.slotted_model_rules.proofs.ReplacedIds.{replaced-by_number}
-use Rattle.slotted_model_rules.proofs.LookingUp.{pattern-moved, term-pattern, matches-look_ups}
-use Rattle.slotted_model_rules.proofs.Instantiating.{instance-moved, built-nodes, answer-instances, instance-stays}
-use Rattle.slotted_model_rules.proofs.Instantiating.{an-instance}
-use Rattle.slotted_model_rules.proofs.Instantiating.{one-instance, term-instances}
-use Rattle.slotted_model_rules.proofs.EqualInstances.{filled-instance_equal}
-use Rattle.slotted_model_rules.proofs.Representing.{listed-moves, represented-moves, pair-listed, listed-represented}
-use Rattle.slotted_model_rules.proofs.Representing.{itself-represented, listed_iff, represented_iff, listed-more, represented-more}
-use Rattle.slotted_model_rules.proofs.Representing.{instance-represented, answer-represented}
-use Rattle.slotted_model_rules.proofs.Answering.{found-look_up, found-values, found-grows}
-use Rattle.slotted_model_rules.proofs.Completing.{finds-all, names-free}
-use Rattle.slotted_model_rules.proofs.Readings.{slots-named, a-reading, readings-renamed}
-use Rattle.slotted_model_rules.proofs.ClassIds.{class-valid}
-use Rattle.slotted_model_rules.proofs.Running as running
-use Rattle.slotted_model_rules.proofs.Goals.{one-goal, goals-append, variable-goal, new-value, same-value, other-value}
-use Rattle.slotted_model_rules.proofs.Goals.{node-goal, replacing-goal}
-use Rattle.slotted_model_rules.proofs.HiddenNames.{names-stand, hidden-new, standing-names}
-use Rattle.slotted_model_rules.proofs.NamedRows.{row-named, named-node}
-use Rattle.slotted_model_rules.proofs.FlatWalks.{flat-walk, outline-unnamed, outline-moved, passed-over, row-goals-valid}
-use Rattle.slotted_model_rules.proofs.ValidValues.{values-valid}
-use Rattle.slotted_model_rules.proofs.Asking.{tables, asked-decides, values-stay}
-use Rattle.slotted_model_rules.proofs.Extending.{extension-same, extension-then}
-use Rattle.slotted_model_rules.proofs.Calling.{calls-extend, calls-enter, calls-classes, calls-counts, calls-then}
-use Rattle.slotted_model_rules.proofs.Calling.{no-progress}
-use Rattle.slotted_model_rules.proofs.Applying.{applies-extend, applies-calls, held-applied, entries-come, saturated}
-use Rattle.slotted_model_rules.proofs.Rewriting.{extension-equal, rewrites-equal}
-use Rattle.slotted_model_rules.proofs.Searching.{match-looked_up, search-finds}
-use Rattle.slotted_model_rules.proofs.Stopping.{runner-first, eqsat-first}
-use Rattle.slotted_model_rules.proofs.Turns.{last-turn, bounded, read-twice, last-reported, reports-again, a-run}
-use Rattle.slotted_model_rules.proofs.Turns.{eqsat-bounded}
-use Rattle.slotted_model_rules.proofs.Turns.{eqsat-last, an-eqsat, rules-extend, run-extends, eqsat-extends}
-use Rattle.slotted_model_rules.proofs.Turns.{refusals-extend, not-stored}
+use Rattle.slotted_model_rules.proofs.Substitutions.Substituting.{put-same, put-other, nothing-substituted, itself-substituted}
+use Rattle.slotted_model_rules.proofs.Substitutions.Substituting.{moved-substituted}
+use Rattle.slotted_model_rules.proofs.Substitutions.Substituting.{names-substituted, kept-substituted, substituted-equal}
+use Rattle.slotted_model_rules.proofs.Substitutions.Substituting.{trees-substituted}
+use Rattle.slotted_model_rules.proofs.Substitutions.Replacing.{replaced-substituted, with_others_bound}
+use Rattle.slotted_model_rules.proofs.Substitutions.ReplacedIds.{part-names, part-older, part-values, stands-nowhere, older-stays, older-inside}
+use Rattle.slotted_model_rules.proofs.Substitutions.ReplacedIds.{whole-replaced, other-searched, names-seen, named-searched, unchanged-stays}
+use Rattle.slotted_model_rules.proofs.Substitutions.ReplacedIds.{replaced-stays, replaced_ids-stay, filled-stays, added-replaced}
+use Rattle.slotted_model_rules.proofs.Substitutions.ReplacedIds.{replaced-by_number}
+use Rattle.slotted_model_rules.proofs.Patterns.LookingUp.{pattern-moved, term-pattern, matches-look_ups}
+use Rattle.slotted_model_rules.proofs.Patterns.Instantiating.{instance-moved, built-nodes, answer-instances, instance-stays}
+use Rattle.slotted_model_rules.proofs.Patterns.Instantiating.{an-instance}
+use Rattle.slotted_model_rules.proofs.Patterns.Instantiating.{one-instance, term-instances}
+use Rattle.slotted_model_rules.proofs.Patterns.EqualInstances.{filled-instance_equal}
+use Rattle.slotted_model_rules.proofs.Substitutions.Representing.{listed-moves, represented-moves, pair-listed, listed-represented}
+use Rattle.slotted_model_rules.proofs.Substitutions.Representing.{itself-represented, listed_iff, represented_iff, listed-more, represented-more}
+use Rattle.slotted_model_rules.proofs.Substitutions.Representing.{instance-represented, answer-represented}
+use Rattle.slotted_model_rules.proofs.Matching.Answering.{found-look_up, found-values, found-grows}
+use Rattle.slotted_model_rules.proofs.Matching.Completing.{finds-all, names-free}
+use Rattle.slotted_model_rules.proofs.Matching.Readings.{slots-named, a-reading, readings-renamed}
+use Rattle.slotted_model_rules.proofs.Matching.ClassIds.{class-valid}
+use Rattle.slotted_model_rules.proofs.Matching.Running as running
+use Rattle.slotted_model_rules.proofs.Matching.Goals.{one-goal, goals-append, variable-goal, new-value, same-value, other-value}
+use Rattle.slotted_model_rules.proofs.Matching.Goals.{node-goal, replacing-goal}
+use Rattle.slotted_model_rules.proofs.Matching.HiddenNames.{names-stand, hidden-new, standing-names}
+use Rattle.slotted_model_rules.proofs.Matching.NamedRows.{row-named, named-node}
+use Rattle.slotted_model_rules.proofs.Matching.FlatWalks.{flat-walk, outline-unnamed, outline-moved, passed-over, row-goals-valid}
+use Rattle.slotted_model_rules.proofs.Matching.ValidValues.{values-valid}
+use Rattle.slotted_model_rules.proofs.Rules.Asking.{tables, asked-decides, values-stay}
+use Rattle.slotted_model_rules.proofs.Rules.Extending.{extension-same, extension-then}
+use Rattle.slotted_model_rules.proofs.Rules.Calling.{calls-extend, calls-enter, calls-classes, calls-counts, calls-then}
+use Rattle.slotted_model_rules.proofs.Rules.Calling.{no-progress}
+use Rattle.slotted_model_rules.proofs.Rules.Applying.{applies-extend, applies-calls, held-applied, entries-come, saturated}
+use Rattle.slotted_model_rules.proofs.Rules.Rewriting.{extension-equal, rewrites-equal}
+use Rattle.slotted_model_rules.proofs.Rules.Searching.{match-looked_up, search-finds}
+use Rattle.slotted_model_rules.proofs.Rules.Stopping.{runner-first, eqsat-first}
+use Rattle.slotted_model_rules.proofs.Rules.Turns.{last-turn, bounded, read-twice, last-reported, reports-again, a-run}
+use Rattle.slotted_model_rules.proofs.Rules.Turns.{eqsat-bounded}
+use Rattle.slotted_model_rules.proofs.Rules.Turns.{eqsat-last, an-eqsat, rules-extend, run-extends, eqsat-extends}
+use Rattle.slotted_model_rules.proofs.Rules.Turns.{refusals-extend, not-stored}
 
 pub substitution-laws : SubstitutionLaws
 substitution-laws = record {

@@ -10,7 +10,7 @@ use Rattle.slotted_model.specs.Extraction.{row_class}
 use Rattle.slotted_model.specs.Find.{find_class, find_map, find}
 use Rattle.slotted_model.specs.State.{Row, State}
 use Rattle.slotted_model.specs.Rest.{IsValidIn, AtRest}
-use Rattle.slotted_model.proofs.RowNodes.{row_node}
+use Rattle.slotted_model.proofs.Rebuilding.RowNodes.{row_node}
 use Rattle.slotted_model_rules.specs.Patterns.{Pattern, PatternArgs, pattern_node, variable, replacing, IsOfRow}
 use Rattle.slotted_model_rules.specs.Matcher.{NodeArgs, unnamed, bound_names, MatchState, value_at, walked, IsRowFor, IsNodeOf, Gives, with_value, Found}
 use Rattle.slotted_model_rules.specs.Goals.{FoundAll, goals_of, AtRow, own_slots, own_names, paired_all, outlines_agree, has_outline}

@@ -18,7 +18,7 @@ use Rattle.slotted_model.specs.Correspondence.{AllDifferent, identity, has_slot}
 use Rattle.slotted_model.specs.Extraction.{row_class}
 use Rattle.slotted_model.specs.Find.{find_class, used_slots, find}
 use Rattle.slotted_model.specs.State.{Row, State}
-use Rattle.slotted_model.proofs.RowNodes.{row_node}
+use Rattle.slotted_model.proofs.Rebuilding.RowNodes.{row_node}
 use Rattle.slotted_model_rules.specs.Patterns.{Pattern, PatternArgs, pattern_node, variable, replacing, no_argument, own_name, child_pattern, binding, IsOfRow}
 
 -- a list of arguments: a name, an id, or a bound name with the arguments under it

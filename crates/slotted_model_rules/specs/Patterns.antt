@@ -13,7 +13,7 @@ use Rattle.slotted_model.specs.Classes.{IsFull}
 use Rattle.slotted_model.specs.Find.{find}
 use Rattle.slotted_model.specs.LookUp.{both}
 use Rattle.slotted_model.specs.State.{Row, State, look_up_node}
-use Rattle.slotted_model.proofs.RowNodes.{row_node}
+use Rattle.slotted_model.proofs.Rebuilding.RowNodes.{row_node}
 
 mutual
   -- an operator with payloads and arguments, a variable by its name, or body with value in the place of part

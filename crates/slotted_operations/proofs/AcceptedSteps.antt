@@ -16,8 +16,8 @@ use Rattle.slotted_model.specs.Correspondence.{AllDifferent, IsFullMap}
 use Rattle.slotted_model.specs.ProofList.{Equation, Step, explicit, reflexive, symmetric, transitive, congruent, equation_of, equation_at, IsOver, HoldsFrom, asserted}
 use Rattle.slotted_model.specs.State.{Row}
 use Rattle.slotted_model.proofs.Correspondences.FullMaps.{with_values-keys}
-use Rattle.slotted_model.proofs.FindProofs.{proved-holds}
-use Rattle.slotted_model.proofs.Steps.{Equal-between}
+use Rattle.slotted_model.proofs.Finds.FindProofs.{proved-holds}
+use Rattle.slotted_model.proofs.Finds.Steps.{Equal-between}
 use Rattle.slotted_proofs.specs.declared.equation.Equation.{Equation as Sides}
 use Rattle.slotted_proofs.specs.Equations.{Statement, to_applied, statement_of}
 use Rattle.slotted_proofs.specs.Entries.{Proven, entry_of, statement_at}

@@ -18,12 +18,12 @@ use Rattle.slotted_model.specs.Ids.{id_of_node}
 use Rattle.slotted_model.specs.Normal.{normal}
 use Rattle.slotted_model.specs.Rest.{AtRest, LookedUp}
 use Rattle.slotted_model.specs.State.{State, look_up_node, look_up_normal}
-use Rattle.slotted_model.proofs.Adding.{normal_args-agree}
-use Rattle.slotted_model.proofs.Children.{EachChild-map}
-use Rattle.slotted_model.proofs.Ids.{id_of_node-some}
-use Rattle.slotted_model.proofs.KeepingTrees.{keeps-look_ups}
-use Rattle.slotted_model.proofs.Options.{None-Some, Some-same, option_map-none}
-use Rattle.slotted_model.proofs.Rows.{look_up_node-moved, rest-nodes}
+use Rattle.slotted_model.proofs.Rebuilding.Adding.{normal_args-agree}
+use Rattle.slotted_model.proofs.Represented.Children.{EachChild-map}
+use Rattle.slotted_model.proofs.Represented.Ids.{id_of_node-some}
+use Rattle.slotted_model.proofs.Rebuilding.KeepingTrees.{keeps-look_ups}
+use Rattle.slotted_model.proofs.Data.Options.{None-Some, Some-same, option_map-none}
+use Rattle.slotted_model.proofs.Rebuilding.Rows.{look_up_node-moved, rest-nodes}
 use Rattle.slotted_classes.specs.Finding.{IsFindable}
 use Rattle.slotted_classes.specs.Kept.{Kept, entries_of, nodes_of}
 use Rattle.slotted_hashcons.specs.FiledRows.{Rows}
@@ -35,7 +35,7 @@ use Rattle.slotted_operations.proofs.KeptNotes.{notes-none}
 use Rattle.slotted_operations.proofs.GoodFinds.{full-findable}
 use Rattle.slotted_operations.proofs.NodeAddition.{full_children}
 use Rattle.slotted_operations.proofs.Resting.{at-rest}
-use Rattle.slotted_model.proofs.Growing.{Extends-same}
+use Rattle.slotted_model.proofs.Represented.Growing.{Extends-same}
 
 -- slots that are new later are new
 pub fresh-later : (t u v : Table) (s : ℕ) → t.fresh ≤ u.fresh → IsFreshBetween u v s → IsFreshBetween t v s

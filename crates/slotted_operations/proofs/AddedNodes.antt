@@ -10,7 +10,7 @@ use Rattle.slotted_terms.specs.Valid.{AllKnown}
 use Rattle.slotted_model.specs.Applied.{Applied, EachChild}
 use Rattle.slotted_model.specs.Classes.{IsFull}
 use Rattle.slotted_model.specs.State.{look_up_node}
-use Rattle.slotted_model.proofs.Children.{EachChild-map}
+use Rattle.slotted_model.proofs.Represented.Children.{EachChild-map}
 use Rattle.slotted_classes.specs.Finding.{IsFindable}
 use Rattle.slotted_classes.specs.Kept.{Kept, nodes_of}
 use Rattle.slotted_hashcons.specs.FiledRows.{Rows, rows_in}

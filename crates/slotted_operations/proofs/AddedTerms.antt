@@ -20,12 +20,12 @@ use Rattle.slotted_model.specs.Changes.{GoesOn}
 use Rattle.slotted_model.specs.Correspondence.{AllDifferent}
 use Rattle.slotted_model.specs.Growth.{Extends}
 use Rattle.slotted_model.specs.LookUp.{Renames, look_up}
-use Rattle.slotted_model.proofs.Children.{EachChild-map}
-use Rattle.slotted_model.proofs.GoingOn.{goes_on-then}
-use Rattle.slotted_model.proofs.Growing.{Extends-same, Extends-then}
-use Rattle.slotted_model.proofs.LookUps.{look_up-moved}
-use Rattle.slotted_model.proofs.Members.{Contains-In, In, In-Contains}
-use Rattle.slotted_model.proofs.Touching.{different-length}
+use Rattle.slotted_model.proofs.Represented.Children.{EachChild-map}
+use Rattle.slotted_model.proofs.Rebuilding.GoingOn.{goes_on-then}
+use Rattle.slotted_model.proofs.Represented.Growing.{Extends-same, Extends-then}
+use Rattle.slotted_model.proofs.Represented.LookUps.{look_up-moved}
+use Rattle.slotted_model.proofs.Data.Members.{Contains-In, In, In-Contains}
+use Rattle.slotted_model.proofs.Rebuilding.Touching.{different-length}
 use Rattle.slotted_classes.specs.Finding.{IsFindable}
 use Rattle.slotted_classes.specs.Kept.{Kept, nodes_of}
 use Rattle.slotted_classes.proofs.ChildIds.{Each, Each-append}

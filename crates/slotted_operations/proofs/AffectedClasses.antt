@@ -13,10 +13,10 @@ use Rattle.slotted_model.specs.Normal.{normal_args}
 use Rattle.slotted_model.specs.Rest as model
 use Rattle.slotted_model.specs.Rest.{Sane, AtRest, IsRow, IsCurrent, LookedUp, by_symmetry, by_child}
 use Rattle.slotted_model.specs.State.{Symmetry, State, left_of, right_of, child_classes, normal_node}
-use Rattle.slotted_model.proofs.Growing.{identity-full}
-use Rattle.slotted_model.proofs.Marks.{child_classes-moved}
-use Rattle.slotted_model.proofs.Optimal.{row-classes}
-use Rattle.slotted_model.proofs.Rows.{rest-gives}
+use Rattle.slotted_model.proofs.Represented.Growing.{identity-full}
+use Rattle.slotted_model.proofs.Complete.Marks.{child_classes-moved}
+use Rattle.slotted_model.proofs.LeastTerms.Optimal.{row-classes}
+use Rattle.slotted_model.proofs.Rebuilding.Rows.{rest-gives}
 use Rattle.slotted_classes.specs.Kept.{Kept, SymmetryEntry, nodes_of, entries_of}
 use Rattle.slotted_classes.proofs.KeptLists.{length-nodes_of}
 use Rattle.slotted_unions.specs.StateOf.{symmetry_of_entry}

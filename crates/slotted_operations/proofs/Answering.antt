@@ -7,9 +7,9 @@ use Rattle.slotted_model.specs.Applied.{Applied}
 use Rattle.slotted_model.specs.Classes.{term_of}
 use Rattle.slotted_model.specs.Filling.{IsFilling}
 use Rattle.slotted_model.specs.Find.{find, used_slots}
-use Rattle.slotted_model.proofs.FindProofs.{found_alike-equal, found_alike-derivable}
-use Rattle.slotted_model.proofs.Fillings.{term_of-filling}
-use Rattle.slotted_model.proofs.NothingAsserted.{nothing-alpha, nothing-full}
+use Rattle.slotted_model.proofs.Finds.FindProofs.{found_alike-equal, found_alike-derivable}
+use Rattle.slotted_model.proofs.Represented.Fillings.{term_of-filling}
+use Rattle.slotted_model.proofs.Finds.NothingAsserted.{nothing-alpha, nothing-full}
 use Rattle.slotted_operations.specs.ValidIds.{IsValidId, SaysFillingsEqual, LackNothing}
 use Rattle.slotted_operations.specs.Graph.{Graph}
 use Rattle.slotted_operations.specs.Image.{Image, found_id, FoundAlike, asserted_in, AreDerivable}

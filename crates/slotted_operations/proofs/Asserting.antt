@@ -13,9 +13,9 @@ use Rattle.slotted_model.specs.ProofList.{ProofEntry, equation_of, asserted, ter
 use Rattle.slotted_model.specs.Rebuild.{Runs, HasNothingLeft}
 use Rattle.slotted_model.specs.Rest.{Sane}
 use Rattle.slotted_model.specs.State.{Row, State}
-use Rattle.slotted_model.proofs.Asserting.{entry-goes_on, entry-sane}
-use Rattle.slotted_model.proofs.Entering.{entered-asserted}
-use Rattle.slotted_model.proofs.GoingOn.{goes_on-same}
+use Rattle.slotted_model.proofs.Rebuilding.Asserting.{entry-goes_on, entry-sane}
+use Rattle.slotted_model.proofs.Finds.Entering.{entered-asserted}
+use Rattle.slotted_model.proofs.Rebuilding.GoingOn.{goes_on-same}
 use Rattle.slotted_proofs.specs.Equations.{Statement}
 use Rattle.slotted_proofs.specs.Entries.{Proven, entry_of, Stands, IsNew, Enters, asserted_entry}
 use Rattle.slotted_proofs.specs.Proving.{IsProvable}

@@ -11,7 +11,7 @@ use Rattle.slotted_languages.specs.NodeTerm.{own_names, node_args, nameless_node
 use Rattle.slotted_languages.specs.Shape.{Fits}
 use Rattle.slotted_model.specs.Applied.{Applied, applied_of}
 use Rattle.slotted_model.specs.Classes.{canonical_node, canonical_term, term_at, term_of, terms, layer_of, stands, IsFull, Canonical}
-use Rattle.slotted_model.proofs.Full.{canonical_term-layer, term_of-layer}
+use Rattle.slotted_model.proofs.Represented.Full.{canonical_term-layer, term_of-layer}
 use Rattle.slotted_operations.specs.Canonical.{args_binders, binder_count, IsNodeOf}
 use Rattle.slotted_classes.proofs.NameCounts.{binders_placed, binding-append, keys_bind_nothing, places_binding}
 use Rattle.slotted_operations.specs.Nodes.{ids_in, child_ids}

@@ -19,10 +19,10 @@ use Rattle.slotted_model.proofs.Correspondences.FullIds.{full_id, slots-differen
 use Rattle.slotted_model.proofs.Correspondences.FullMaps.{full-from}
 use Rattle.slotted_model.proofs.Correspondences.Pairs.{Contains-of_value, Contains-value}
 use Rattle.slotted_model.proofs.Correspondences.PartialInjections.{composite-by, composite-over, identity-by, identity-in_order, identity-pair}
-use Rattle.slotted_model.proofs.FillingEquations.{filled-equation}
-use Rattle.slotted_model.proofs.Fillings.{a_filling, filling-iff}
-use Rattle.slotted_model.proofs.Full.{full-ascending}
-use Rattle.slotted_model.proofs.NormalIds.{keys-identity}
+use Rattle.slotted_model.proofs.Represented.FillingEquations.{filled-equation}
+use Rattle.slotted_model.proofs.Represented.Fillings.{a_filling, filling-iff}
+use Rattle.slotted_model.proofs.Represented.Full.{full-ascending}
+use Rattle.slotted_model.proofs.Finds.NormalIds.{keys-identity}
 use Rattle.slotted_proofs.specs.Entries.{asserted_entry}
 use Rattle.slotted_proofs.specs.Equations.{to_applied}
 use Rattle.slotted_lookup.proofs.FilledIds.{full-lacks_none}

@@ -17,11 +17,11 @@ use Rattle.slotted_languages.proofs.NodeTerms.{own_fits, length-child, child_key
 use Rattle.slotted_model.specs.Applied.{Applied, renamed_id, EachChild}
 use Rattle.slotted_model.specs.Ascending.{names}
 use Rattle.slotted_model.specs.Classes.{canonical_node, canonical_slots, term_of, layer_of, terms, IsFull, Canonical}
-use Rattle.slotted_model.proofs.Members.{In}
-use Rattle.slotted_model.proofs.Sets.{In-ascending}
-use Rattle.slotted_model.proofs.Folds.{as_term-same}
-use Rattle.slotted_model.proofs.Full.{term_of-layer, full-children}
-use Rattle.slotted_model.proofs.Maps.{keys-with_values}
+use Rattle.slotted_model.proofs.Data.Members.{In}
+use Rattle.slotted_model.proofs.Data.Sets.{In-ascending}
+use Rattle.slotted_model.proofs.Represented.Folds.{as_term-same}
+use Rattle.slotted_model.proofs.Represented.Full.{term_of-layer, full-children}
+use Rattle.slotted_model.proofs.Data.Maps.{keys-with_values}
 use Rattle.slotted_classes.specs.Kept.{Kept, nodes_of, node_at}
 use Rattle.slotted_operations.specs.Nodes.{ids_in, child_ids}
 use Rattle.slotted_operations.specs.Canonical.{args_count, place_count, IsBeside}

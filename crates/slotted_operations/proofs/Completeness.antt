@@ -6,7 +6,7 @@ use Rattle.slotted_model.specs.Applied.{Applied}
 use Rattle.slotted_model.specs.Find.{find, find_class}
 use Rattle.slotted_model.specs.Rest as model
 use Rattle.slotted_model.specs.Rest.{AtRest}
-use Rattle.slotted_model.proofs.AtRest.{rest-alike, rest-derivable}
+use Rattle.slotted_model.proofs.Complete.AtRest.{rest-alike, rest-derivable}
 use Rattle.slotted_classes.specs.Finding.{IsFindable}
 use Rattle.slotted_classes.specs.Kept.{Kept, entries_of}
 use Rattle.slotted_hashcons.specs.FiledRows.{Rows}

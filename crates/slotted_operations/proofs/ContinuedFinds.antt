@@ -7,7 +7,7 @@ use Rattle.slotted_model.specs.Classes.{IsFull}
 use Rattle.slotted_model.specs.Find.{find, find_class}
 use Rattle.slotted_model.specs.ProofList.{asserted}
 use Rattle.slotted_model.specs.Rest.{IsValidIn}
-use Rattle.slotted_model.proofs.NormalIds.{full-is_valid, found-valid}
+use Rattle.slotted_model.proofs.Finds.NormalIds.{full-is_valid, found-valid}
 use Rattle.slotted_proofs.specs.Entries.{Proven, entry_of}
 use Rattle.slotted_classes.specs.Kept.{Kept, SymmetryEntry, nodes_of, entries_of, proofs_of}
 use Rattle.slotted_classes.proofs.KeptLists.{length-nodes_of}

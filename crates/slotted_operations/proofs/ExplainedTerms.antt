@@ -12,11 +12,11 @@ use Rattle.slotted_model.specs.Classes.{IsFull}
 use Rattle.slotted_model.specs.Find.{find}
 use Rattle.slotted_model.specs.Growth.{Extends}
 use Rattle.slotted_model.specs.ProofList.{asserted}
-use Rattle.slotted_model.proofs.GoingOn.{goes_on-then}
-use Rattle.slotted_model.proofs.Growing.{Extends-same, Extends-then}
-use Rattle.slotted_model.proofs.GrowingLists.{proofs-go_on}
+use Rattle.slotted_model.proofs.Rebuilding.GoingOn.{goes_on-then}
+use Rattle.slotted_model.proofs.Represented.Growing.{Extends-same, Extends-then}
+use Rattle.slotted_model.proofs.Rebuilding.GrowingLists.{proofs-go_on}
 use Rattle.slotted_model.specs.Ids.{id_of}
-use Rattle.slotted_model.proofs.Ids.{id_of-iff}
+use Rattle.slotted_model.proofs.Represented.Ids.{id_of-iff}
 use Rattle.slotted_classes.specs.Kept.{Kept, nodes_of, entries_of, proofs_of, with_proofs}
 use Rattle.slotted_classes.proofs.KeptLists.{equation_at-of, length-nodes_of, length-proofs_of}
 use Rattle.slotted_hashcons.specs.FiledRows.{Rows, rows_in}

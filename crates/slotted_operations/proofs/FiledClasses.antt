@@ -15,10 +15,10 @@ use Rattle.slotted_model.specs.Growth.{Extends}
 use Rattle.slotted_model.specs.Ids.{id_of_node}
 use Rattle.slotted_model.specs.Rest.{Sane}
 use Rattle.slotted_model.specs.State.{State}
-use Rattle.slotted_model.proofs.Adding.{adds, class-sane}
-use Rattle.slotted_model.proofs.GoingOn.{goes_on-same}
-use Rattle.slotted_model.proofs.Growing.{node-old}
-use Rattle.slotted_model.proofs.Theory.{moved-id}
+use Rattle.slotted_model.proofs.Rebuilding.Adding.{adds, class-sane}
+use Rattle.slotted_model.proofs.Rebuilding.GoingOn.{goes_on-same}
+use Rattle.slotted_model.proofs.Represented.Growing.{node-old}
+use Rattle.slotted_model.proofs.Data.Theory.{moved-id}
 use Rattle.slotted_proofs.specs.Entries.{Proven}
 use Rattle.slotted_classes.specs.Kept.{Kept, SymmetryEntry, node_at, nodes_of, size_of, with_counts}
 use Rattle.slotted_classes.specs.Names.{HasNumberedBinders}

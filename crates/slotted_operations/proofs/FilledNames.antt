@@ -7,7 +7,7 @@ use Rattle.slotted_terms.specs.Valid.{AllKnown}
 use Rattle.slotted_model.specs.Applied.{Applied, keys, values}
 use Rattle.slotted_model.specs.Classes.{IsFull}
 use Rattle.slotted_model.specs.Filling.{IsFilling}
-use Rattle.slotted_model.proofs.Members.{In-Contains, Contains-In}
+use Rattle.slotted_model.proofs.Data.Members.{In-Contains, Contains-In}
 use Rattle.slotted_classes.specs.Kept.{Kept, nodes_of}
 use Rattle.slotted_lookup.specs.Filling.{FillsId, filled_id, missing, with_fresh}
 use Rattle.slotted_lookup.proofs.FilledIds.{filled-fresh}

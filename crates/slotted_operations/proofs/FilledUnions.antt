@@ -7,8 +7,8 @@ use Rattle.slotted_model.specs.Classes.{IsFull}
 use Rattle.slotted_model.specs.Filling.{IsFilling}
 use Rattle.slotted_model.specs.Find.{Linked, find, find_class, used_slots}
 use Rattle.slotted_model.specs.ProofList.{equation_of}
-use Rattle.slotted_model.proofs.FillingEquations.{filled-equation}
-use Rattle.slotted_model.proofs.NormalIds.{filling-found, full-is_valid}
+use Rattle.slotted_model.proofs.Represented.FillingEquations.{filled-equation}
+use Rattle.slotted_model.proofs.Finds.NormalIds.{filling-found, full-is_valid}
 use Rattle.slotted_proofs.specs.Entries.{asserted_entry}
 use Rattle.slotted_classes.specs.Finding.{IsFindable}
 use Rattle.slotted_classes.specs.Kept.{Kept, nodes_of, entries_of, EntersIn, with_counts}

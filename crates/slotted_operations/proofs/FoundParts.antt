@@ -6,7 +6,7 @@ use Rattle.slotted_theory.specs.Nameless.{DTerm}
 use Rattle.slotted_model.specs.Applied.{Applied, EachChild}
 use Rattle.slotted_model.specs.Classes.{Canonical, IsFull, layer_of}
 use Rattle.slotted_model.specs.Ids.{id_of_node, id_of}
-use Rattle.slotted_model.proofs.Ids.{id_of-iff, id_of_node-iff}
+use Rattle.slotted_model.proofs.Represented.Ids.{id_of-iff, id_of_node-iff}
 
 -- where the children of a node are ids, and it stands for a tree that has an id, it has that id
 pub node_has_id : (nodes : List DTerm) → Canonical nodes → (d : DTerm) → EachChild (IsFull nodes) d.args → (t : DTerm) → layer_of nodes d ≡ t → IsSome (id_of nodes t) → IsSome (id_of_node nodes d)

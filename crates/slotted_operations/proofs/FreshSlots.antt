@@ -6,7 +6,7 @@ use Rattle.slotted_slots.specs.Table.{Table, is_known, fresh_slot, KnowsMore}
 use Rattle.slotted_slots.proofs.TableLaws.{is_known-fresh_slot, is_known-numeric_slot}
 use Rattle.slotted_theory.specs.Nameless.{DTerm}
 use Rattle.slotted_model.specs.Ascending.{names}
-use Rattle.slotted_model.proofs.Members.{Contains-In}
+use Rattle.slotted_model.proofs.Data.Members.{Contains-In}
 use Rattle.slotted_terms.specs.Valid.{AllKnown}
 use Rattle.slotted_classes.specs.Kept.{Kept, node_at}
 use Rattle.slotted_operations.specs.Good.{Good, HasFreshSlots}

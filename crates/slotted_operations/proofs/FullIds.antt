@@ -10,9 +10,9 @@ use Rattle.slotted_model.specs.Ascending.{ascending, names}
 use Rattle.slotted_model.specs.Applied.{Applied}
 use Rattle.slotted_model.specs.Classes.{canonical_slots, IsFull}
 use Rattle.slotted_model.specs.Correspondence.{identity}
-use Rattle.slotted_model.proofs.FillingEquations.{keys-identity}
-use Rattle.slotted_model.proofs.Fillings.{slots-ascending}
-use Rattle.slotted_model.proofs.Members.{In, In-Contains, Contains-In}
+use Rattle.slotted_model.proofs.Represented.FillingEquations.{keys-identity}
+use Rattle.slotted_model.proofs.Represented.Fillings.{slots-ascending}
+use Rattle.slotted_model.proofs.Data.Members.{In, In-Contains, Contains-In}
 use Rattle.slotted_classes.specs.Finding.{IsFindable}
 use Rattle.slotted_classes.specs.Kept.{Kept, ClassEntry, RowEntry, no_form, names_at, nodes_of, rows_from}
 use Rattle.slotted_classes.proofs.DistinctValues.{length-ascending_values}

@@ -3,7 +3,7 @@ use Rattle.std.proofs.Common.{◌≢◌, ℕ, sym, refl, subst}
 use Rattle.slotted_model.specs.Applied.{Applied}
 use Rattle.slotted_model.specs.Classes.{IsFull}
 use Rattle.slotted_model.specs.ProofList.{explicit}
-use Rattle.slotted_model.proofs.NormalIds.{full-is_valid}
+use Rattle.slotted_model.proofs.Finds.NormalIds.{full-is_valid}
 use Rattle.slotted_proofs.specs.Entries.{Proven}
 use Rattle.slotted_proofs.specs.Proving.{IsProvable}
 use Rattle.slotted_classes.specs.Finding.{HasFinds, IsFindable}

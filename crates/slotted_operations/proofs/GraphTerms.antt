@@ -10,7 +10,7 @@ use Rattle.slotted_languages.specs.Shape.{Fits}
 use Rattle.slotted_terms.specs.Valid.{AllKnown}
 use Rattle.slotted_model.specs.Applied.{Applied, EachChild}
 use Rattle.slotted_model.specs.State.{look_up_node, look_up_tree}
-use Rattle.slotted_model.proofs.LookUpsAreEqual.{filled-equal}
+use Rattle.slotted_model.proofs.Complete.LookUpsAreEqual.{filled-equal}
 use Rattle.slotted_classes.specs.Finding.{IsFindable}
 use Rattle.slotted_classes.specs.Kept.{Kept}
 use Rattle.slotted_hashcons.specs.FiledRows.{Rows, rows_in}

@@ -15,12 +15,12 @@ use Rattle.slotted_languages.proofs.NodeTerms.{own_fits, child_rest_fits, bind_i
 use Rattle.slotted_model.specs.Applied.{Applied, keys, values}
 use Rattle.slotted_model.specs.Classes.{canonical_node, IsFull, Canonical, term_of, layer_of}
 use Rattle.slotted_model.specs.Ids.{id_of_node}
-use Rattle.slotted_model.proofs.Members.{In, In-append, In-map, In-of_map, In-inside}
-use Rattle.slotted_model.proofs.Sets.{In-ascending, In-of_ascending}
-use Rattle.slotted_model.proofs.Maps.{values-map_on, map_on-filled}
-use Rattle.slotted_model.proofs.Theory.{free_names-moved}
-use Rattle.slotted_model.proofs.Full.{full-ascending, term_of-layer, term_of-names}
-use Rattle.slotted_model.proofs.Ids.{id_of_node-some}
+use Rattle.slotted_model.proofs.Data.Members.{In, In-append, In-map, In-of_map, In-inside}
+use Rattle.slotted_model.proofs.Data.Sets.{In-ascending, In-of_ascending}
+use Rattle.slotted_model.proofs.Data.Maps.{values-map_on, map_on-filled}
+use Rattle.slotted_model.proofs.Data.Theory.{free_names-moved}
+use Rattle.slotted_model.proofs.Represented.Full.{full-ascending, term_of-layer, term_of-names}
+use Rattle.slotted_model.proofs.Represented.Ids.{id_of_node-some}
 use Rattle.slotted_slots.specs.Table.{Table, is_known}
 use Rattle.slotted_model.specs.Ascending.{names}
 use Rattle.slotted_terms.specs.Valid.{AllKnown, HasKnownNames}

@@ -10,8 +10,8 @@ use Rattle.slotted_model.specs.ProofList.{Equation, equation_of, explicit}
 use Rattle.slotted_model.proofs.Correspondences.FullIds.{ascending-different, full_map}
 use Rattle.slotted_model.proofs.Correspondences.FullMaps.{same_names-by, same_names-over, same_names-partial}
 use Rattle.slotted_model.proofs.Correspondences.PartialInjections.{in_order-ext, turned-by, turned-pair, turned-partial}
-use Rattle.slotted_model.proofs.FillingEquations.{filled-equation}
-use Rattle.slotted_model.proofs.Fillings.{a_filling}
+use Rattle.slotted_model.proofs.Represented.FillingEquations.{filled-equation}
+use Rattle.slotted_model.proofs.Represented.Fillings.{a_filling}
 use Rattle.slotted_proofs.specs.Entries.{asserted_entry}
 
 module _ (nodes : List DTerm) (lefts rights : ℕ → List ℕ) (a b : Applied) (left : IsValid lefts nodes a) (right : IsValid rights nodes b) where

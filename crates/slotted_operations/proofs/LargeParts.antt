@@ -8,7 +8,7 @@ use Rattle.slotted_languages.specs.NodeTerm.{node_args}
 use Rattle.slotted_theory.specs.FiniteMaps.{filled}
 use Rattle.slotted_model.specs.Applied.{Applied}
 use Rattle.slotted_model.specs.Classes.{canonical_node}
-use Rattle.slotted_model.proofs.Members.{In, In-append}
+use Rattle.slotted_model.proofs.Data.Members.{In, In-append}
 use Rattle.slotted_operations.specs.Canonical.{IsNodeOf}
 use Rattle.slotted_operations.specs.Causes.{HasChildOf, HasLargePart}
 use Rattle.slotted_operations.specs.Nodes.{ids_in, child_ids}

@@ -14,8 +14,8 @@ use Rattle.slotted_languages.specs.NodeTerm.{own_names, node_args}
 use Rattle.slotted_languages.proofs.NodeTerms.{own_fits, child_keys_fit, child_rest_fits, bind_inner_fits, bind_rest_fits}
 use Rattle.slotted_model.specs.Applied.{Applied, renamed_id}
 use Rattle.slotted_model.specs.Classes.{terms, stands, term_by, term_of, IsFull, Canonical}
-use Rattle.slotted_model.proofs.Children.{KeysAreNames, expand-as_term, term_by-renamed}
-use Rattle.slotted_model.proofs.Full.{full-keys}
+use Rattle.slotted_model.proofs.Represented.Children.{KeysAreNames, expand-as_term, term_by-renamed}
+use Rattle.slotted_model.proofs.Represented.Full.{full-keys}
 use Rattle.slotted_terms.specs.Valid.{IsWhole}
 use Rattle.slotted_operations.specs.Nodes.{ids_in}
 use Rattle.slotted_classes.proofs.ChildIds.{length-ids, atom-is, Each}

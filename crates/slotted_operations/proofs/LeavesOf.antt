@@ -2,8 +2,8 @@
 use Rattle.std.specs.Prelude.{map}
 use Rattle.slotted_theory.specs.Derives.{nameless_pair}
 use Rattle.slotted_theory.proofs.Backward.{Equal-derives}
-use Rattle.slotted_model.proofs.FindProofs.{leaves-enough}
-use Rattle.slotted_model.proofs.Steps.{Equal-between}
+use Rattle.slotted_model.proofs.Finds.FindProofs.{leaves-enough}
+use Rattle.slotted_model.proofs.Finds.Steps.{Equal-between}
 use Rattle.slotted_classes.specs.Kept.{Kept, nodes_of, proofs_of}
 use Rattle.slotted_operations.specs.Good.{Good, image_of}
 use Rattle.slotted_operations.specs.Leaves.{EntriesFollow}

@@ -4,7 +4,7 @@ use Rattle.std.specs.Prelude.{nat_eq}
 use Rattle.std.proofs.lemmas.Bool.{cases_eq, eq-eqb, ne_eqb}
 use Rattle.slotted_model.specs.Find.{Entry, entry_at, IsLive, find_class, find_map}
 use Rattle.slotted_model.specs.Rest.{entry_size, size_from, size}
-use Rattle.slotted_model.proofs.Finding.{leads, find_class-live, find_map-live, found-live}
+use Rattle.slotted_model.proofs.Finds.Finding.{leads, find_class-live, find_map-live, found-live}
 use Rattle.slotted_classes.specs.Kept.{Kept, no_entry, nodes_of, entries_of}
 use Rattle.slotted_classes.proofs.KeptLists.{length-nodes_of, length-entries_of}
 use Rattle.slotted_unions.specs.StateOf.{state_of}

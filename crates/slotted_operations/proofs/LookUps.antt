@@ -9,10 +9,10 @@ use Rattle.slotted_model.specs.Find.{find}
 use Rattle.slotted_model.specs.LookUp.{both, look_up, look_up_args}
 use Rattle.slotted_model.specs.Normal.{normal, normal_args}
 use Rattle.slotted_model.specs.State.{Row, State, look_up_node, look_up_tree, row_of, source_with_names}
-use Rattle.slotted_model.proofs.Congruence.{child-applied}
-use Rattle.slotted_model.proofs.LookUpsAreEqual.{node-equal}
-use Rattle.slotted_model.proofs.Options.{Some-same, and_then-some, both-some, option_map-some}
-use Rattle.slotted_model.proofs.Rows.{row_of-some}
+use Rattle.slotted_model.proofs.Finds.Congruence.{child-applied}
+use Rattle.slotted_model.proofs.Complete.LookUpsAreEqual.{node-equal}
+use Rattle.slotted_model.proofs.Data.Options.{Some-same, and_then-some, both-some, option_map-some}
+use Rattle.slotted_model.proofs.Rebuilding.Rows.{row_of-some}
 use Rattle.slotted_classes.specs.Finding.{IsFindable}
 use Rattle.slotted_classes.specs.Kept.{Kept, entries_of, nodes_of}
 use Rattle.slotted_classes.proofs.KeptLists.{length-nodes_of}

@@ -21,14 +21,14 @@ use Rattle.slotted_model.specs.Normal.{normal}
 use Rattle.slotted_model.specs.ProofList.{asserted}
 use Rattle.slotted_model.specs.Rest.{AtRest, IsAnswer}
 use Rattle.slotted_model.specs.State.{State, look_up_node, look_up_normal, look_up_tree}
-use Rattle.slotted_model.proofs.Answers.{answer-found}
-use Rattle.slotted_model.proofs.Children.{EachChild-map}
-use Rattle.slotted_model.proofs.FilledNodes.{filled-full, filled-normal}
-use Rattle.slotted_model.proofs.LookUpsAreEqual.{filled-node_equal, node-equal}
-use Rattle.slotted_model.proofs.Members.{In}
-use Rattle.slotted_model.proofs.NormalIds.{found-again, full-is_valid}
-use Rattle.slotted_model.proofs.Options.{and_then-some}
-use Rattle.slotted_model.proofs.Rows.{look_up_node-moved}
+use Rattle.slotted_model.proofs.Rebuilding.Answers.{answer-found}
+use Rattle.slotted_model.proofs.Represented.Children.{EachChild-map}
+use Rattle.slotted_model.proofs.Represented.FilledNodes.{filled-full, filled-normal}
+use Rattle.slotted_model.proofs.Complete.LookUpsAreEqual.{filled-node_equal, node-equal}
+use Rattle.slotted_model.proofs.Data.Members.{In}
+use Rattle.slotted_model.proofs.Finds.NormalIds.{found-again, full-is_valid}
+use Rattle.slotted_model.proofs.Data.Options.{and_then-some}
+use Rattle.slotted_model.proofs.Rebuilding.Rows.{look_up_node-moved}
 use Rattle.slotted_classes.specs.Finding.{IsFindable}
 use Rattle.slotted_classes.specs.Kept.{Kept, entries_of, nodes_of, proofs_of}
 use Rattle.slotted_classes.proofs.NameMaps.{In-at, at_In}

@@ -5,9 +5,9 @@ use Rattle.slotted_model.specs.Applied.{EachChild}
 use Rattle.slotted_model.specs.Classes.{IsFull}
 use Rattle.slotted_model.specs.ProofList.{node_of}
 use Rattle.slotted_model.specs.Rest.{LookedUp}
-use Rattle.slotted_model.proofs.Children.{EachChild-map}
-use Rattle.slotted_model.proofs.Full.{full-children}
-use Rattle.slotted_model.proofs.Rows.{rest-nodes}
+use Rattle.slotted_model.proofs.Represented.Children.{EachChild-map}
+use Rattle.slotted_model.proofs.Represented.Full.{full-children}
+use Rattle.slotted_model.proofs.Rebuilding.Rows.{rest-nodes}
 use Rattle.slotted_classes.specs.Finding.{IsFindable}
 use Rattle.slotted_classes.specs.Kept.{Kept, nodes_of}
 use Rattle.slotted_hashcons.specs.FiledRows.{Rows, rows_in}

@@ -18,11 +18,11 @@ use Rattle.slotted_languages.specs.NodeTerm.{node_args, own_names}
 use Rattle.slotted_languages.proofs.NodeTerms.{own_fits, child_keys_fit, child_rest_fits, bind_inner_fits, bind_rest_fits}
 use Rattle.slotted_model.specs.Applied.{Applied, as_term, renamed_id, values}
 use Rattle.slotted_model.specs.LookUp.{Renames, both, look_up, look_up_args}
-use Rattle.slotted_model.proofs.LookUps.{look_up-moved}
-use Rattle.slotted_model.proofs.Maps.{values-with_values}
-use Rattle.slotted_model.proofs.Members.{In}
-use Rattle.slotted_model.proofs.Options.{Some-same}
-use Rattle.slotted_model.proofs.Theory.{moved-agrees, moved-id}
+use Rattle.slotted_model.proofs.Represented.LookUps.{look_up-moved}
+use Rattle.slotted_model.proofs.Data.Maps.{values-with_values}
+use Rattle.slotted_model.proofs.Data.Members.{In}
+use Rattle.slotted_model.proofs.Data.Options.{Some-same}
+use Rattle.slotted_model.proofs.Data.Theory.{moved-agrees, moved-id}
 use Rattle.slotted_classes.proofs.ChildIds.{Each, atom-is, length-ids}
 use Rattle.slotted_operations.specs.Nodes.{ids_in}
 use Rattle.slotted_operations.proofs.Layers.{Each-parts, length-parts}

@@ -17,10 +17,10 @@ use Rattle.slotted_terms.proofs.TermFolds.{TermFolds, TermStep, term_folds-end, 
 use Rattle.slotted_model.specs.Applied.{Applied, EachChild}
 use Rattle.slotted_model.specs.LookUp.{Renames, look_up}
 use Rattle.slotted_model.specs.State.{look_up_node, look_up_tree}
-use Rattle.slotted_model.proofs.Children.{EachChild-map}
-use Rattle.slotted_model.proofs.LookUpsAreEqual.{tree-equal}
-use Rattle.slotted_model.proofs.Members.{In}
-use Rattle.slotted_model.proofs.Rows.{look_up_node-moved}
+use Rattle.slotted_model.proofs.Represented.Children.{EachChild-map}
+use Rattle.slotted_model.proofs.Complete.LookUpsAreEqual.{tree-equal}
+use Rattle.slotted_model.proofs.Data.Members.{In}
+use Rattle.slotted_model.proofs.Rebuilding.Rows.{look_up_node-moved}
 use Rattle.slotted_classes.specs.Finding.{IsFindable}
 use Rattle.slotted_classes.specs.Kept.{Kept, nodes_of}
 use Rattle.slotted_classes.proofs.ChildIds.{Each, Each-from_All, EachChild-node_args, length-ids}

@@ -31,17 +31,17 @@ use Rattle.slotted_model.specs.State.{Row, State, left_of, right_of}
 use Rattle.slotted_model.specs.Growth.{Extends, Added}
 use Rattle.slotted_model.specs.Growth as growth
 use Rattle.slotted_model.specs.Ids.{id_of_node}
-use Rattle.slotted_model.proofs.Members.{In, In-Contains, Contains-In}
-use Rattle.slotted_model.proofs.Sets.{In-ascending, In-of_ascending}
-use Rattle.slotted_model.proofs.Maps.{In-values}
-use Rattle.slotted_model.proofs.Children.{EachChild-moved}
-use Rattle.slotted_model.proofs.Full.{full-renamed}
-use Rattle.slotted_model.proofs.NormalIds.{keys-identity}
-use Rattle.slotted_model.proofs.Growing.{added, node-new, Extends-same}
-use Rattle.slotted_model.proofs.Adding.{finds-same, class-goes_on, class-sane}
-use Rattle.slotted_model.proofs.Keeping.{new_class-asserted}
-use Rattle.slotted_model.proofs.NewClasses.{later-newer}
-use Rattle.slotted_model.proofs.UpTo.{left-valid, right-valid}
+use Rattle.slotted_model.proofs.Data.Members.{In, In-Contains, Contains-In}
+use Rattle.slotted_model.proofs.Data.Sets.{In-ascending, In-of_ascending}
+use Rattle.slotted_model.proofs.Data.Maps.{In-values}
+use Rattle.slotted_model.proofs.Represented.Children.{EachChild-moved}
+use Rattle.slotted_model.proofs.Represented.Full.{full-renamed}
+use Rattle.slotted_model.proofs.Finds.NormalIds.{keys-identity}
+use Rattle.slotted_model.proofs.Represented.Growing.{added, node-new, Extends-same}
+use Rattle.slotted_model.proofs.Rebuilding.Adding.{finds-same, class-goes_on, class-sane}
+use Rattle.slotted_model.proofs.Finds.Keeping.{new_class-asserted}
+use Rattle.slotted_model.proofs.Finds.NewClasses.{later-newer}
+use Rattle.slotted_model.proofs.Rebuilding.UpTo.{left-valid, right-valid}
 use Rattle.slotted_proofs.specs.Equations.{Statement}
 use Rattle.slotted_proofs.specs.Entries.{Proven, entry_of, IsNew, Enters, reflexive_entry}
 use Rattle.slotted_proofs.specs.Proving.{IsProvable, IsProved}

@@ -13,7 +13,7 @@ use Rattle.slotted_languages.specs.Filled.{term_of}
 use Rattle.slotted_terms.specs.Valid.{AllKnown}
 use Rattle.slotted_model.specs.Applied.{Applied}
 use Rattle.slotted_model.specs.Classes.{Canonical, IsFull}
-use Rattle.slotted_model.proofs.Members.{In}
+use Rattle.slotted_model.proofs.Data.Members.{In}
 use Rattle.slotted_proofs.specs.Equations.{to_applied}
 use Rattle.slotted_classes.specs.Kept.{Kept, node_at, nodes_of}
 use Rattle.slotted_classes.proofs.ChildIds.{Each, Each-append, length-ids}

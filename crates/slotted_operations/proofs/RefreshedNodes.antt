@@ -10,7 +10,7 @@ use Rattle.slotted_languages.specs.Shape.{Fits}
 use Rattle.slotted_languages.proofs.Renamings.{unknown_before}
 use Rattle.slotted_languages.proofs.Shapes.{shape-same}
 use Rattle.slotted_theory.specs.FiniteMaps.{filled}
-use Rattle.slotted_model.proofs.Theory.{moved-id}
+use Rattle.slotted_model.proofs.Data.Theory.{moved-id}
 use Rattle.slotted_model.specs.Applied.{Applied}
 use Rattle.slotted_theory.specs.Nameless.{DTerm}
 use Rattle.slotted_model.specs.Classes.{canonical_node}

@@ -14,9 +14,9 @@ use Rattle.slotted_model.specs.Correspondence.{composite, identity}
 use Rattle.slotted_model.specs.Find.{Entry, IsLive, entry_at, find, find_class, find_map, used_slots}
 use Rattle.slotted_model.proofs.Correspondences.Pairs.{Contains-of_value, Contains-value}
 use Rattle.slotted_model.proofs.Correspondences.PartialInjections.{composite-over}
-use Rattle.slotted_model.proofs.Finding.{Leads, find_class-live, find_map-partial, found-live, leads}
-use Rattle.slotted_model.proofs.Members.{Contains-In, In, In-Contains}
-use Rattle.slotted_model.proofs.NormalIds.{of_used, values-identity}
+use Rattle.slotted_model.proofs.Finds.Finding.{Leads, find_class-live, find_map-partial, found-live, leads}
+use Rattle.slotted_model.proofs.Data.Members.{Contains-In, In, In-Contains}
+use Rattle.slotted_model.proofs.Finds.NormalIds.{of_used, values-identity}
 use Rattle.slotted_classes.specs.Kept.{Kept, entries_of, nodes_of}
 use Rattle.slotted_classes.proofs.KeptLists.{length-nodes_of}
 use Rattle.slotted_classes.proofs.NameMaps.{In-at, at_In}

@@ -7,8 +7,8 @@ use Rattle.slotted_model.specs.Find.{find_class}
 use Rattle.slotted_model.specs.Rest as model
 use Rattle.slotted_model.specs.Rest.{AtRest}
 use Rattle.slotted_model.specs.State.{look_up_tree}
-use Rattle.slotted_model.proofs.AtRest.{rest-look_up}
-use Rattle.slotted_model.proofs.Trees.{term_of-tree}
+use Rattle.slotted_model.proofs.Complete.AtRest.{rest-look_up}
+use Rattle.slotted_model.proofs.Represented.Trees.{term_of-tree}
 use Rattle.slotted_theory.specs.Derives.{reflexive}
 use Rattle.slotted_classes.specs.Kept.{Kept, entries_of, nodes_of}
 use Rattle.slotted_hashcons.specs.FiledRows.{Rows, rows_in}

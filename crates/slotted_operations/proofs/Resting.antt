@@ -2,7 +2,7 @@
 use Rattle.std.proofs.Common.{◌≢◌, ℕ, sym, subst}
 use Rattle.slotted_model.specs.Rest.{AtRest, Represents}
 use Rattle.slotted_model.specs.ProofList.{explicit}
-use Rattle.slotted_model.proofs.Quiet.{proofs-quiet}
+use Rattle.slotted_model.proofs.Rebuilding.Quiet.{proofs-quiet}
 use Rattle.slotted_proofs.specs.Entries.{Proven}
 use Rattle.slotted_proofs.specs.Proving.{IsProvable}
 use Rattle.slotted_classes.specs.Kept.{Kept, nodes_of, proofs_of, size_of, EntersIn}

@@ -19,11 +19,11 @@ use Rattle.slotted_model.specs.Applied.{Applied, map_on}
 use Rattle.slotted_model.specs.Classes.{term_at, canonical_node}
 use Rattle.slotted_model.specs.Ascending.{names}
 use Rattle.slotted_model.specs.Ids.{term_eq, first_shaped, name_for, class_with_names, id_of_node}
-use Rattle.slotted_model.proofs.Members.{In}
-use Rattle.slotted_model.proofs.Options.{None-Some, Some-same, option_map-some}
-use Rattle.slotted_model.proofs.Sets.{In-of_ascending}
-use Rattle.slotted_model.proofs.Maps.{map_on-agrees}
-use Rattle.slotted_model.proofs.Theory.{free_names-moved, get_or-number_in}
+use Rattle.slotted_model.proofs.Data.Members.{In}
+use Rattle.slotted_model.proofs.Data.Options.{None-Some, Some-same, option_map-some}
+use Rattle.slotted_model.proofs.Data.Sets.{In-of_ascending}
+use Rattle.slotted_model.proofs.Data.Maps.{map_on-agrees}
+use Rattle.slotted_model.proofs.Data.Theory.{free_names-moved, get_or-number_in}
 use Rattle.slotted_classes.specs.FormCode.{form_is, form_Decides}
 use Rattle.slotted_classes.specs.Names.{between}
 use Rattle.slotted_classes.specs.Kept.{Kept, ClassEntry, no_form, no_entry, found, rows_from, nodes_of}

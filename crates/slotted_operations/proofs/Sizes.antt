@@ -15,8 +15,8 @@ use Rattle.slotted_languages.proofs.NodeTerms.{own_fits, child_keys_fit, child_r
 use Rattle.slotted_model.specs.Ascending.{ascending}
 use Rattle.slotted_model.specs.Applied.{Applied}
 use Rattle.slotted_model.specs.Classes.{canonical_term, term_of, IsFull, Canonical}
-use Rattle.slotted_model.proofs.Full.{canonical_term-names}
-use Rattle.slotted_model.proofs.Theory.{free_names-moved}
+use Rattle.slotted_model.proofs.Represented.Full.{canonical_term-names}
+use Rattle.slotted_model.proofs.Data.Theory.{free_names-moved}
 use Rattle.slotted_congruence.specs.Named.{args_size, node_size}
 use Rattle.slotted_alike.proofs.WideNodes.{names_in}
 use Rattle.slotted_operations.specs.Nodes.{ids_in, child_ids}

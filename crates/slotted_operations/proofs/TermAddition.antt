@@ -15,11 +15,11 @@ use Rattle.slotted_model.specs.Applied.{Applied}
 use Rattle.slotted_model.specs.Changes.{GoesOn}
 use Rattle.slotted_model.specs.Classes.{terms, term_of, layer_of, IsFull}
 use Rattle.slotted_model.specs.Growth.{Extends}
-use Rattle.slotted_model.proofs.GoingOn.{goes_on-then}
-use Rattle.slotted_model.proofs.Growing.{Extends-same, Extends-then}
+use Rattle.slotted_model.proofs.Rebuilding.GoingOn.{goes_on-then}
+use Rattle.slotted_model.proofs.Represented.Growing.{Extends-same, Extends-then}
 use Rattle.slotted_model.specs.Ids.{id_of, id_of_node}
-use Rattle.slotted_model.proofs.LookUps.{id_of_node-moved}
-use Rattle.slotted_model.proofs.Ids.{id_of-iff}
+use Rattle.slotted_model.proofs.Represented.LookUps.{id_of_node-moved}
+use Rattle.slotted_model.proofs.Represented.Ids.{id_of-iff}
 use Rattle.slotted_operations.specs.Image.{AddsClasses}
 use Rattle.slotted_classes.specs.Kept.{Kept, nodes_of}
 use Rattle.slotted_hashcons.specs.FiledRows.{Rows}

@@ -8,7 +8,7 @@ use Rattle.slotted_nodes.specs.Form.{Form, Tree, leaf, own, child, bind, scopes}
 use Rattle.slotted_languages.specs.NodeTerm.{own_names, node_args, nameless_node}
 use Rattle.slotted_model.specs.Applied.{Applied, applied_of}
 use Rattle.slotted_model.specs.Classes.{canonical_term, term_at, term_of, terms, layer_of, stands, IsFull, Canonical}
-use Rattle.slotted_model.proofs.Full.{term_of-layer}
+use Rattle.slotted_model.proofs.Represented.Full.{term_of-layer}
 use Rattle.slotted_operations.specs.Canonical.{IsNodeOf}
 use Rattle.slotted_operations.specs.Nodes.{ids_in, child_ids}
 

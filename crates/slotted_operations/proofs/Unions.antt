@@ -13,12 +13,12 @@ use Rattle.slotted_model.specs.ProofList.{Equation, equation_at, equation_of}
 use Rattle.slotted_model.specs.Rebuild.{IsRebuilt}
 use Rattle.slotted_model.specs.Rest as model
 use Rattle.slotted_model.specs.Rest.{FoundTogether, id_names, size, size_from}
-use Rattle.slotted_model.proofs.Asserting as laws
-use Rattle.slotted_model.proofs.EndsGrow.{assertion-exact}
-use Rattle.slotted_model.proofs.NormalIds.{Contains-ascending, Contains-of_ascending, full-is_valid}
-use Rattle.slotted_model.proofs.Turning.{run}
-use Rattle.slotted_model.proofs.Unions.{unites}
-use Rattle.slotted_model.proofs.AfterUnions.{united-no_larger}
+use Rattle.slotted_model.proofs.Rebuilding.Asserting as laws
+use Rattle.slotted_model.proofs.Rebuilding.EndsGrow.{assertion-exact}
+use Rattle.slotted_model.proofs.Finds.NormalIds.{Contains-ascending, Contains-of_ascending, full-is_valid}
+use Rattle.slotted_model.proofs.Rebuilding.Turning.{run}
+use Rattle.slotted_model.proofs.Rebuilding.Unions.{unites}
+use Rattle.slotted_model.proofs.Rebuilding.AfterUnions.{united-no_larger}
 use Rattle.slotted_proofs.specs.Entries.{Proven, entry_of, nothing_proven, statement_at, asserted_entry}
 use Rattle.slotted_classes.specs.Counts.{Counts}
 use Rattle.slotted_classes.specs.Kept.{Kept, nodes_of, entries_of, proofs_of, size_of, EntersIn}

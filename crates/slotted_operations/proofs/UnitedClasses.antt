@@ -10,11 +10,11 @@ use Rattle.slotted_model.specs.Link.{CanDrop, CanLink, IsLater, found_equation, 
 use Rattle.slotted_model.specs.ProofList.{Equation, equation_at, equation_of, turned_equation}
 use Rattle.slotted_model.specs.Rest.{Sane}
 use Rattle.slotted_model.specs.State.{State}
-use Rattle.slotted_model.proofs.Events.{drop-sane}
-use Rattle.slotted_model.proofs.FoundEntries.{says-turned}
-use Rattle.slotted_model.proofs.GrowingLists.{proofs-go_on, proofs-sane}
-use Rattle.slotted_model.proofs.Unions.{can_drop-left, can_drop-right, can_link-left, can_link-right}
-use Rattle.slotted_model.proofs.Uniting.{linked-alike}
+use Rattle.slotted_model.proofs.Rebuilding.Events.{drop-sane}
+use Rattle.slotted_model.proofs.Rebuilding.FoundEntries.{says-turned}
+use Rattle.slotted_model.proofs.Rebuilding.GrowingLists.{proofs-go_on, proofs-sane}
+use Rattle.slotted_model.proofs.Rebuilding.Unions.{can_drop-left, can_drop-right, can_link-left, can_link-right}
+use Rattle.slotted_model.proofs.Finds.Uniting.{linked-alike}
 use Rattle.slotted_unions.proofs.JoinedClasses.{drop-class}
 
 -- the sides of an equation find different classes

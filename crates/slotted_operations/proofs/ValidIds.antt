@@ -13,10 +13,10 @@ use Rattle.slotted_model.specs.Applied.{Applied, EachChild, renamed_id, values}
 use Rattle.slotted_model.specs.Filling.{IsFilling}
 use Rattle.slotted_model.specs.Find.{Entry, find_map, used_slots}
 use Rattle.slotted_model.proofs.Correspondences.Pairs.{Contains-of_value}
-use Rattle.slotted_model.proofs.Finding.{leads, find_map-partial}
-use Rattle.slotted_model.proofs.Members.{In}
-use Rattle.slotted_model.proofs.NormalIds.{used-by, of_used}
-use Rattle.slotted_model.proofs.RenamedIds.{valid-renamed}
+use Rattle.slotted_model.proofs.Finds.Finding.{leads, find_map-partial}
+use Rattle.slotted_model.proofs.Data.Members.{In}
+use Rattle.slotted_model.proofs.Finds.NormalIds.{used-by, of_used}
+use Rattle.slotted_model.proofs.Represented.RenamedIds.{valid-renamed}
 use Rattle.slotted_terms.specs.Valid.{AllKnown}
 use Rattle.slotted_classes.specs.Finding.{IsFindable}
 use Rattle.slotted_classes.specs.Kept.{Kept, nodes_of, entries_of}

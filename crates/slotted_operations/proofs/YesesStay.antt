@@ -13,8 +13,8 @@ use Rattle.slotted_model.specs.Growth.{Extends}
 use Rattle.slotted_model.proofs.Correspondences.FullIds.{full_map}
 use Rattle.slotted_model.proofs.Correspondences.FullMaps.{full-one_name}
 use Rattle.slotted_model.proofs.Correspondences.Pairs.{Contains-key, Contains-of_key, Contains-value_of, value_of-found}
-use Rattle.slotted_model.proofs.Members.{Contains-In, In}
-use Rattle.slotted_model.proofs.Options.{None-Some}
+use Rattle.slotted_model.proofs.Data.Members.{Contains-In, In}
+use Rattle.slotted_model.proofs.Data.Options.{None-Some}
 use Rattle.slotted_operations.specs.Graph.{Graph}
 use Rattle.slotted_operations.specs.Image.{AddsClasses, FoundAlike, IsUnion, found_id}
 use Rattle.slotted_operations.specs.ValidIds.{Fills, IsValidId}

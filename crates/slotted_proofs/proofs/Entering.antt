@@ -18,8 +18,8 @@ use Rattle.slotted_model.proofs.Correspondences.FullIds.{full_map}
 use Rattle.slotted_model.proofs.Correspondences.FullMaps.{same_names-partial}
 use Rattle.slotted_model.proofs.Correspondences.PartialInjections.{identity-partial, turned-partial, turned-turned, composite-partial}
 use Rattle.slotted_model.proofs.Correspondences.Joining.{composite-can_join}
-use Rattle.slotted_model.proofs.Entering.{entered-proved, entered-exact, entered-asserted}
-use Rattle.slotted_model.proofs.NewClasses.{proved-newer}
+use Rattle.slotted_model.proofs.Finds.Entering.{entered-proved, entered-exact, entered-asserted}
+use Rattle.slotted_model.proofs.Finds.NewClasses.{proved-newer}
 use Rattle.slotted_proofs.specs.Equations.{Statement, Meets}
 use Rattle.slotted_proofs.specs.Entries.{Proven, entry_of, entries_of, statement_at, Stands, IsNew, Grows, Enters, asserted_entry, reflexive_entry, turned_entry, composite_entry}
 use Rattle.slotted_proofs.specs.Proving.{IsCanonical, IsProvable, IsProved}

@@ -11,10 +11,10 @@ use Rattle.slotted_model.specs.Classes.{canonical_slots, IsFull}
 use Rattle.slotted_model.specs.Correspondence.{IsFullMap, CanJoin, same_names, turned}
 use Rattle.slotted_model.specs.ProofList.{Equation, equation_of, AreCongruent, no_more, one_name, one_child, one_binder, node_of, IsCongruent, congruent, step_at, IsOver, IsTransitive, IsStepFor, Step, reflexive, symmetric, transitive, equation_at}
 use Rattle.slotted_model.specs.Leaves.{parts_of}
-use Rattle.slotted_model.proofs.Leaves.{parts-earlier}
-use Rattle.slotted_model.proofs.Children.{EachChild-map}
-use Rattle.slotted_model.proofs.Congruence.{child-applied}
-use Rattle.slotted_model.proofs.Full.{full-children}
+use Rattle.slotted_model.proofs.Finds.Leaves.{parts-earlier}
+use Rattle.slotted_model.proofs.Represented.Children.{EachChild-map}
+use Rattle.slotted_model.proofs.Finds.Congruence.{child-applied}
+use Rattle.slotted_model.proofs.Represented.Full.{full-children}
 use Rattle.slotted_model.proofs.Correspondences.FullIds.{full_map}
 use Rattle.slotted_model.proofs.Correspondences.FullMaps.{same_names-partial, same_names-itself, same_names-turned}
 use Rattle.slotted_model.proofs.Correspondences.Middle.{can_join_from}

@@ -5,7 +5,7 @@ use Rattle.std.proofs.lemmas.Bool.{false≢true}
 use Rattle.slotted_theory.proofs.Lists.{contains_head, contains_tail, contains_cases, Contains-nil}
 use Rattle.slotted_model.specs.Leaves.{parts_of, IsLeaf, here, through}
 use Rattle.slotted_model.specs.ProofList.{ProofEntry, explicit, step_at}
-use Rattle.slotted_model.proofs.Leaves.{leaf-explicit}
+use Rattle.slotted_model.proofs.Finds.Leaves.{leaf-explicit}
 use Rattle.slotted_proofs.specs.Entries.{Proven, entries_of, proven_at, is_explicit, explicit_from}
 use Rattle.slotted_proofs.specs.Lines.{Lines, all, passed, next, PartsAreEarlier, has_line, parts_at}
 use Rattle.slotted_proofs.specs.StepClaims.{ExplicitLinesAreLeaves, LeavesAreNumbered}

@@ -9,9 +9,9 @@ use Rattle.slotted_model.specs.Applied.{keys}
 use Rattle.slotted_model.specs.Rebuild.{IsCovered, row_for}
 use Rattle.slotted_model.specs.Rest.{IsRow, IsValidIn}
 use Rattle.slotted_model.specs.State.{Row, State, child_classes, normal_node}
-use Rattle.slotted_model.proofs.KeepingLookUps.{children-below}
-use Rattle.slotted_model.proofs.Options.{Some-same}
-use Rattle.slotted_model.proofs.Refiling.{row_for-row}
+use Rattle.slotted_model.proofs.Rebuilding.KeepingLookUps.{children-below}
+use Rattle.slotted_model.proofs.Data.Options.{Some-same}
+use Rattle.slotted_model.proofs.Rebuilding.Refiling.{row_for-row}
 use Rattle.slotted_classes.specs.Kept.{Kept, nodes_of}
 use Rattle.slotted_classes.proofs.KeptLists.{length-nodes_of}
 use Rattle.slotted_hashcons.specs.Filed.{Filing, HasKey, HasKeysOnce, IsNewKey, IsNewToOthers, filed_of}

@@ -2,7 +2,7 @@
 use Rattle.std.proofs.Common.{◌≡◌, ◌≤◌, ◌+◌, ◌-◌, ◌*◌, ◌⊎◌, ℕ, zero, suc, length, arith, inl, inr, refl, subst, sym}
 use Rattle.std.specs.Prelude.{min}
 use Rattle.std.proofs.Math.Nat.{min-eq_left, min-eq_right}
-use Rattle.slotted_model.proofs.Turning.{counted, run-no_larger}
+use Rattle.slotted_model.proofs.Rebuilding.Turning.{counted, run-no_larger}
 use Rattle.slotted_model.specs.Rebuild.{Runs}
 use Rattle.slotted_model.specs.Rest.{Sane, size}
 use Rattle.slotted_model.specs.State.{State}

@@ -10,10 +10,10 @@ use Rattle.slotted_model.specs.Ascending.{IsAscending, names}
 use Rattle.slotted_model.specs.State.{Row, State, filed_node, normal_node, name_numbered}
 use Rattle.slotted_model.specs.Rest.{IsRow}
 use Rattle.slotted_model.specs.Rebuild.{row_for}
-use Rattle.slotted_model.proofs.Maps.{map_on-agrees, map_on-filled}
-use Rattle.slotted_model.proofs.Members.{In}
-use Rattle.slotted_model.proofs.Rows.{name_numbered-moved, name_numbered-shape}
-use Rattle.slotted_model.proofs.Sets.{IsAscending-ascending}
+use Rattle.slotted_model.proofs.Data.Maps.{map_on-agrees, map_on-filled}
+use Rattle.slotted_model.proofs.Data.Members.{In}
+use Rattle.slotted_model.proofs.Rebuilding.Rows.{name_numbered-moved, name_numbered-shape}
+use Rattle.slotted_model.proofs.Data.Sets.{IsAscending-ascending}
 
 pub row-itself : (g : State) (r : Row) → IsRow g r → filed_node r ≡ normal_node g r.source → r ≡ row_for g r.source
 row-itself g r row e =

@@ -4,9 +4,9 @@ use Rattle.std.specs.Prelude.{Contains}
 use Rattle.slotted_model.specs.Rebuild.{IsCongruence, Turn, enters, narrows}
 use Rattle.slotted_model.specs.Rest.{Sane, size}
 use Rattle.slotted_model.specs.State.{State}
-use Rattle.slotted_model.proofs.AfterUnions.{lacking-falls}
-use Rattle.slotted_model.proofs.GrowingLists.{proofs-sane}
-use Rattle.slotted_model.proofs.Lacking.{narrow-lacks}
+use Rattle.slotted_model.proofs.Rebuilding.AfterUnions.{lacking-falls}
+use Rattle.slotted_model.proofs.Rebuilding.GrowingLists.{proofs-sane}
+use Rattle.slotted_model.proofs.Rebuilding.Lacking.{narrow-lacks}
 use Rattle.slotted_classes.specs.Kept.{Kept, proofs_of}
 use Rattle.slotted_classes.proofs.KeptLists.{length-proofs_of}
 use Rattle.slotted_hashcons.specs.FiledRows.{Rows, rows_in}

@@ -4,7 +4,7 @@ use Rattle.std.proofs.lemmas.List.{append-nil}
 use Rattle.std.specs.Prelude.{slice_get}
 use Rattle.slotted_model.specs.Changes.{HasUnited}
 use Rattle.slotted_model.specs.State.{HasTouched}
-use Rattle.slotted_model.proofs.Unions.{unites}
+use Rattle.slotted_model.proofs.Rebuilding.Unions.{unites}
 use Rattle.slotted_classes.specs.Kept.{Kept, node_at}
 use Rattle.slotted_classes.proofs.KeptLists.{length-proofs_of}
 use Rattle.slotted_hashcons.specs.Filed.{filed_of}

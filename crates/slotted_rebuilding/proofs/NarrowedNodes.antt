@@ -10,8 +10,8 @@ use Rattle.slotted_model.specs.Find.{used_slots}
 use Rattle.slotted_model.specs.Rebuild.{IsCovered, starts, takes_turn}
 use Rattle.slotted_model.specs.Rest.{IsRow}
 use Rattle.slotted_model.specs.State.{Row, normal_node}
-use Rattle.slotted_model.proofs.Lacking.{missing-cases}
-use Rattle.slotted_model.proofs.Options.{Some-same}
+use Rattle.slotted_model.proofs.Rebuilding.Lacking.{missing-cases}
+use Rattle.slotted_model.proofs.Data.Options.{Some-same}
 use Rattle.slotted_theory.proofs.Lists.{contains_head, Contains-of_map}
 use Rattle.slotted_proofs.specs.declared.equation.Equation.{Equation as Sides}
 use Rattle.slotted_classes.specs.Kept.{Kept, node_at, nodes_of, entries_of}

@@ -8,9 +8,9 @@ use Rattle.slotted_model.specs.Changes.{GoesOn}
 use Rattle.slotted_model.specs.Rebuild.{row_for}
 use Rattle.slotted_model.specs.Rest.{IsRow, IsCurrent, Sane}
 use Rattle.slotted_model.specs.State.{Row, State, sources, normal_node}
-use Rattle.slotted_model.proofs.GoingOn.{still-row, still-listed}
-use Rattle.slotted_model.proofs.NormalIds.{found-again}
-use Rattle.slotted_model.proofs.Refiling.{row_for-row}
+use Rattle.slotted_model.proofs.Rebuilding.GoingOn.{still-row, still-listed}
+use Rattle.slotted_model.proofs.Finds.NormalIds.{found-again}
+use Rattle.slotted_model.proofs.Rebuilding.Refiling.{row_for-row}
 
 -- no row has the shape of the node of the class in normal form
 abbrev pub HasNoTwinRow : State → ℕ → Type 0

@@ -14,8 +14,8 @@ use Rattle.slotted_model.specs.ProofList.{ProofEntry}
 use Rattle.slotted_model.specs.Rebuild.{HasNothingLeft, IsCongruence, IsCovered, Runs, row_for}
 use Rattle.slotted_model.specs.Rest.{Sane}
 use Rattle.slotted_model.specs.State.{Row, State, sources, normal_node}
-use Rattle.slotted_model.proofs.QuietTurns.{quiet-run}
-use Rattle.slotted_model.proofs.Rows.{source-in}
+use Rattle.slotted_model.proofs.Rebuilding.QuietTurns.{quiet-run}
+use Rattle.slotted_model.proofs.Rebuilding.Rows.{source-in}
 use Rattle.slotted_classes.specs.Kept.{Kept, nodes_of, proofs_of, size_of}
 use Rattle.slotted_classes.proofs.KeptLists.{length-nodes_of}
 use Rattle.slotted_hashcons.specs.Filed.{Filing, IsNewKey, filed_of}

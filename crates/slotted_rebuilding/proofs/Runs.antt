@@ -5,8 +5,8 @@ use Rattle.slotted_model.specs.State.{State}
 use Rattle.slotted_model.specs.Rest.{Sane, size}
 use Rattle.slotted_model.specs.Changes.{Unites}
 use Rattle.slotted_model.specs.Rebuild.{Turn, Acts, Runs, starts, takes_turn, takes_act, HasTurned, HasActed}
-use Rattle.slotted_model.proofs.Turning.{turned, acted, waits-below, run}
-use Rattle.slotted_model.proofs.Unions.{unites}
+use Rattle.slotted_model.proofs.Rebuilding.Turning.{turned, acted, waits-below, run}
+use Rattle.slotted_model.proofs.Rebuilding.Unions.{unites}
 use Rattle.slotted_rebuilding.specs.Work.{work}
 
 -- one run after another

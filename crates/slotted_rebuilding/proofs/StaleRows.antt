@@ -22,13 +22,13 @@ use Rattle.slotted_model.specs.State.{Row, State, filed_node, normal_node, name_
 use Rattle.slotted_model.specs.Filling.{IsValid}
 use Rattle.slotted_model.specs.Find.{used_slots}
 use Rattle.slotted_model.specs.Rest.{IsRow, IsValidIn, Sane}
-use Rattle.slotted_model.proofs.Children.{EachChild-moved}
-use Rattle.slotted_model.proofs.Congruences.{row-normal}
-use Rattle.slotted_model.proofs.Maps.{map_on-filled, filled-pair, pair-filled, values-map_on}
-use Rattle.slotted_model.proofs.Members.{In, In-map, In-of_map, In-Contains, Contains-In}
-use Rattle.slotted_model.proofs.RenamedIds.{valid-renamed}
-use Rattle.slotted_model.proofs.Sets.{IsAscending-ascending, In-ascending, In-of_ascending}
-use Rattle.slotted_model.proofs.Theory.{moved-agrees, moved-moved, free_names-moved}
+use Rattle.slotted_model.proofs.Represented.Children.{EachChild-moved}
+use Rattle.slotted_model.proofs.Rebuilding.Congruences.{row-normal}
+use Rattle.slotted_model.proofs.Data.Maps.{map_on-filled, filled-pair, pair-filled, values-map_on}
+use Rattle.slotted_model.proofs.Data.Members.{In, In-map, In-of_map, In-Contains, Contains-In}
+use Rattle.slotted_model.proofs.Represented.RenamedIds.{valid-renamed}
+use Rattle.slotted_model.proofs.Data.Sets.{IsAscending-ascending, In-ascending, In-of_ascending}
+use Rattle.slotted_model.proofs.Data.Theory.{moved-agrees, moved-moved, free_names-moved}
 use Rattle.slotted_proofs.proofs.Bridges.{ascends}
 use Rattle.slotted_classes.specs.Kept.{Kept, nodes_of, entries_of}
 use Rattle.slotted_classes.proofs.NamePairs.{In-firsts}

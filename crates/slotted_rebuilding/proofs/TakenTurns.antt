@@ -12,7 +12,7 @@ use Rattle.slotted_model.specs.Rebuild.{IsCongruence, IsCovered, Turn, refiled_s
 use Rattle.slotted_model.specs.Rest.{Sane}
 use Rattle.slotted_model.specs.State.{Row, State, normal_node}
 use Rattle.slotted_hashcons.specs.FoundNodes.{HasNoMorePlaces, finds_of}
-use Rattle.slotted_model.proofs.Options.{Some-same}
+use Rattle.slotted_model.proofs.Data.Options.{Some-same}
 use Rattle.slotted_classes.specs.Kept.{Kept}
 use Rattle.slotted_hashcons.specs.Filed.{Filing, filed_of}
 use Rattle.slotted_hashcons.specs.FiledRows.{Rows, rows_in, row_of_entry, TakesTurn}

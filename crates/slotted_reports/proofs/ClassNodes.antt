@@ -13,7 +13,7 @@ use Rattle.slotted_languages.specs.Shape.{shape}
 use Rattle.slotted_model.specs.Applied.{Applied}
 use Rattle.slotted_model.specs.Correspondence.{AllDifferent}
 use Rattle.slotted_model.proofs.Correspondences.Listing.{different-filter}
-use Rattle.slotted_model.proofs.Members.{Contains-In, In, In-Contains, In-map, In-of_map}
+use Rattle.slotted_model.proofs.Data.Members.{Contains-In, In, In-Contains, In-map, In-of_map}
 use Rattle.slotted_classes.specs.Kept.{Kept}
 use Rattle.slotted_classes.proofs.NameMaps.{In-at}
 use Rattle.slotted_hashcons.specs.Filed.{HasKey, HasKeysOnce}

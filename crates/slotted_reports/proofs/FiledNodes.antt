@@ -21,13 +21,13 @@ use Rattle.slotted_model.specs.Correspondence.{composite}
 use Rattle.slotted_model.specs.Find.{Entry, find, find_map, used_slots}
 use Rattle.slotted_model.specs.Rest.{IsValidIn}
 use Rattle.slotted_model.specs.State.{State, normal_node}
-use Rattle.slotted_model.proofs.Children.{EachChild-map, EachChild-moved}
+use Rattle.slotted_model.proofs.Represented.Children.{EachChild-map, EachChild-moved}
 use Rattle.slotted_model.proofs.Correspondences.Pairs.{Contains-of_value, Contains-value}
 use Rattle.slotted_model.proofs.Correspondences.PartialInjections.{composite-over}
-use Rattle.slotted_model.proofs.Events.{normal-found}
-use Rattle.slotted_model.proofs.Members.{Contains-In, In, In-Contains}
-use Rattle.slotted_model.proofs.Refiling.{canonical-valid}
-use Rattle.slotted_model.proofs.RenamedIds.{valid-renamed}
+use Rattle.slotted_model.proofs.Rebuilding.Events.{normal-found}
+use Rattle.slotted_model.proofs.Data.Members.{Contains-In, In, In-Contains}
+use Rattle.slotted_model.proofs.Rebuilding.Refiling.{canonical-valid}
+use Rattle.slotted_model.proofs.Represented.RenamedIds.{valid-renamed}
 use Rattle.slotted_classes.specs.ChildIds.{child_ids}
 use Rattle.slotted_classes.specs.Finding.{IsFindable}
 use Rattle.slotted_classes.specs.Kept.{Kept, nodes_of, entries_of}

@@ -27,8 +27,8 @@ use Rattle.slotted_model.specs.Applied.{Applied, values}
 use Rattle.slotted_model.specs.Correspondence.{same_names}
 use Rattle.slotted_model.specs.Find.{find, find_map}
 use Rattle.slotted_model.proofs.Correspondences.Pairs.{Contains-value, Contains-value_of}
-use Rattle.slotted_model.proofs.Members.{In, In-Contains, In-of_map}
-use Rattle.slotted_model.proofs.Theory.{free_names-moved}
+use Rattle.slotted_model.proofs.Data.Members.{In, In-Contains, In-of_map}
+use Rattle.slotted_model.proofs.Data.Theory.{free_names-moved}
 use Rattle.slotted_proofs.proofs.Bridges.{value_of-model}
 use Rattle.slotted_classes.specs.Finding.{IsFindable}
 use Rattle.slotted_classes.specs.Kept.{Kept, entries_of}

@@ -7,7 +7,7 @@ use Rattle.std.proofs.lemmas.Bool.{cases_Bool, eqb-true, false≢true}
 use Rattle.std.proofs.lemmas.List.Sorted.{All-permutation}
 use Rattle.slotted_model.specs.Applied.{Applied}
 use Rattle.slotted_model.specs.Find.{find_class}
-use Rattle.slotted_model.proofs.Finding.{find_class-live, found-live, found-in_range, leads}
+use Rattle.slotted_model.proofs.Finds.Finding.{find_class-live, found-live, found-in_range, leads}
 use Rattle.slotted_classes.specs.Kept.{Kept, entries_of, nodes_of}
 use Rattle.slotted_classes.proofs.ChildIds.{Each}
 use Rattle.slotted_hashcons.specs.Filed.{Filing, filed_of}

@@ -11,7 +11,7 @@ use Rattle.slotted_languages.specs.NodeTerm.{node_args, nameless_node}
 use Rattle.slotted_languages.specs.Shape.{Fits}
 use Rattle.slotted_languages.specs.Children.{IsBound}
 use Rattle.slotted_languages.proofs.NodeTerms.{own_fits, child_keys_fit, child_rest_fits, bind_inner_fits, bind_rest_fits}
-use Rattle.slotted_model.proofs.Members.{In, In-append, In-Contains}
+use Rattle.slotted_model.proofs.Data.Members.{In, In-append, In-Contains}
 use Rattle.slotted_classes.specs.ChildIds.{ids_in, child_ids}
 use Rattle.slotted_classes.proofs.ChildIds.{atom-is}
 use Rattle.slotted_model_rules.specs.Matcher.{unnamed, bound_names}

@@ -5,7 +5,7 @@ use Rattle.std.proofs.lemmas.Bool.{cases_lt}
 use Rattle.slotted_nodes.specs.Form.{Form}
 use Rattle.slotted_patterns.specs.View.{tree_of}
 use Rattle.slotted_model.specs.ProofList.{ProofEntry, explicit, step_at}
-use Rattle.slotted_model.proofs.Members.{In, Contains-In}
+use Rattle.slotted_model.proofs.Data.Members.{In, Contains-In}
 use Rattle.slotted_model_rules.specs.Conditions.{Values}
 use Rattle.slotted_model_rules.specs.Runners.{AppliesAll, AppliesRules, SearchesAll, none_applied, none_searched, one_applied, one_searched}
 use Rattle.slotted_operations.specs.Graph.{Graph}

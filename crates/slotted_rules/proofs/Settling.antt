@@ -14,7 +14,7 @@ use Rattle.slotted_model.specs.ProofList.{Equation, ProofEntry, equation_at, exp
 use Rattle.slotted_proofs.specs.Entries.{Proven, nothing_proven}
 use Rattle.slotted_model_rules.specs.Conditions.{Values, always}
 use Rattle.slotted_model_rules.specs.Rules.{IsEquationOfInstances, Rule, valued}
-use Rattle.slotted_model_rules.proofs.Instantiating.{instance-stays}
+use Rattle.slotted_model_rules.proofs.Patterns.Instantiating.{instance-stays}
 use Rattle.slotted_graph.specs.Graph.{Graph}
 use Rattle.slotted_graph.specs.Extension.{Begins, ExtendsTo}
 use Rattle.slotted_graph.specs.States.{IsGraph}

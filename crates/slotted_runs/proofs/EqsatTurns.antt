@@ -6,7 +6,7 @@ use Rattle.slotted_operations.specs.Graph.{Graph}
 use Rattle.slotted_graph.specs.Extension.{ExtendsTo}
 use Rattle.slotted_graph.proofs.Extending.{extends-itself, extends-then}
 use Rattle.slotted_model_rules.specs.Runners.{EqsatRuns, Stop, after_time, eqsat_goes_on, eqsat_stop, eqsat_stops, second, time_limit}
-use Rattle.slotted_model_rules.proofs.Stopping.{eqsat-first}
+use Rattle.slotted_model_rules.proofs.Rules.Stopping.{eqsat-first}
 use Rattle.slotted_runs.specs.Eqsat.{EqsatGoOn, GivesEqsatReason, HasBroken, HasCounted, HasEnded, IsEqsatTurn, eqsat_refused_later, eqsat_refused_now}
 use Rattle.slotted_runs.specs.Loops.{HasCalled}
 use Rattle.slotted_runs.specs.Turning.{TellsAll, progress_of, reading_in}

@@ -5,7 +5,7 @@ use Rattle.slotted_slots.specs.declared.error.Error.{Error}
 use Rattle.slotted_slots.specs.declared.error.Error.TheVariants.{OutOfMemory, OutOfSlots}
 use Rattle.slotted_slots.specs.Error.{IsShortage, number_of}
 use Rattle.slotted_operations.specs.Graph.{Graph}
-use Rattle.slotted_model.proofs.Options.{Some-same}
+use Rattle.slotted_model.proofs.Data.Options.{Some-same}
 use Rattle.slotted_model_rules.specs.Runners.{Iteration, Limits, Measures, RunnerRefuses, refused_later, refused_now, runner_report}
 use Rattle.slotted_runs.specs.declared.report.Report.{Report}
 use Rattle.slotted_runs.specs.Loops.{HasStopped, IsRefusedWithin, IsReportOf, report_refused_within, turn_refused_within}

@@ -6,7 +6,7 @@ use Rattle.slotted_graph.specs.Extension.{ExtendsTo}
 use Rattle.slotted_graph.proofs.Extending.{extends-itself}
 use Rattle.slotted_model_rules.specs.Runners.{Measures, Runner, RunnerAnswers, RunnerRefuses, RunnerRuns, Stop, again, runner_report, starts, takes_up}
 use Rattle.slotted_model_rules.specs.RunnerClaims.{unread}
-use Rattle.slotted_model_rules.proofs.Turns.{read-twice}
+use Rattle.slotted_model_rules.proofs.Rules.Turns.{read-twice}
 use Rattle.slotted_runs.specs.Loops.{HasRefused, HasStopped, HasTaken, IsBegun, Leads}
 use Rattle.slotted_runs.specs.Runs.{CountsReadings, HasRefusedTurn}
 use Rattle.slotted_runs.specs.Seen.{Parts, seen}

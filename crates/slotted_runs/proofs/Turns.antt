@@ -5,7 +5,7 @@ use Rattle.slotted_operations.specs.Graph.{Graph}
 use Rattle.slotted_graph.specs.Extension.{ExtendsTo}
 use Rattle.slotted_graph.proofs.Extending.{extends-itself, extends-then}
 use Rattle.slotted_model_rules.specs.Runners.{Iteration, Limits, Measures, RunnerRefuses, RunnerTurn, Stop, after_check, goes_on, refused_later, refused_now, runner_stop, stops_now}
-use Rattle.slotted_model_rules.proofs.Stopping.{runner-first}
+use Rattle.slotted_model_rules.proofs.Rules.Stopping.{runner-first}
 use Rattle.slotted_runs.specs.Loops.{GivesReason, GoOn, HasCalled, HasRefused, HasTaken, IsBegun, IsTurn, Leads}
 use Rattle.slotted_runs.specs.Seen.{Parts}
 use Rattle.slotted_runs.specs.Turning.{IsStart, ReadsFrom, Spoils, TellsAll, measures, reading_in}

@@ -8,9 +8,9 @@ use Rattle.slotted_model.specs.Link.{found_equation}
 use Rattle.slotted_model.specs.ProofList.{Equation, equation_of, equation_at, IsOver}
 use Rattle.slotted_model.specs.Changes.{found_entry}
 use Rattle.slotted_model.proofs.Correspondences.FullMaps.{same_names-itself}
-use Rattle.slotted_model.proofs.FoundEntries.{found-used, identity-alike}
-use Rattle.slotted_model.proofs.NormalIds.{found-full, full-is_valid}
-use Rattle.slotted_model.proofs.Uniting.{found_equation-shares}
+use Rattle.slotted_model.proofs.Rebuilding.FoundEntries.{found-used, identity-alike}
+use Rattle.slotted_model.proofs.Finds.NormalIds.{found-full, full-is_valid}
+use Rattle.slotted_model.proofs.Finds.Uniting.{found_equation-shares}
 use Rattle.slotted_theory.specs.Nameless.{DTerm}
 use Rattle.slotted_proofs.specs.Entries.{statement_at}
 use Rattle.slotted_proofs.specs.Equations.{AreSides}

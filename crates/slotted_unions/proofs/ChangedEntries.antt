@@ -11,9 +11,9 @@ use Rattle.slotted_model.specs.Link.{CanLink, IsLater}
 use Rattle.slotted_model.specs.ProofList.{Equation}
 use Rattle.slotted_model.specs.Rest.{Sane, IsAligned}
 use Rattle.slotted_model.specs.State.{State, Symmetry, HasTouched}
-use Rattle.slotted_model.proofs.Aligned.{link-aligned}
-use Rattle.slotted_model.proofs.Events.{link-sane, link-goes_on}
-use Rattle.slotted_model.proofs.Linking.{link-later}
+use Rattle.slotted_model.proofs.Rebuilding.Aligned.{link-aligned}
+use Rattle.slotted_model.proofs.Rebuilding.Events.{link-sane, link-goes_on}
+use Rattle.slotted_model.proofs.Finds.Linking.{link-later}
 use Rattle.slotted_proofs.specs.Proving.{IsProved}
 use Rattle.slotted_classes.specs.Kept.{Kept, nodes_of, entries_of, proofs_of, with_linked}
 use Rattle.slotted_classes.proofs.Writes.{written, written-nodes, written-entries, written-form}

@@ -12,7 +12,7 @@ use Rattle.slotted_model.specs.ProofList.{Equation, ProofEntry, explicit, IsOver
 use Rattle.slotted_model.specs.Changes.{ProofsGrow, StandsAt}
 use Rattle.slotted_model.specs.Changes as model
 use Rattle.slotted_model.specs.State.{Row}
-use Rattle.slotted_model.proofs.GrowingLists.{proofs-sane}
+use Rattle.slotted_model.proofs.Rebuilding.GrowingLists.{proofs-sane}
 use Rattle.slotted_proofs.specs.Equations.{Statement, Meets, IsWritten}
 use Rattle.slotted_proofs.specs.declared.equation.Equation.{Equation as Sides}
 use Rattle.slotted_proofs.specs.Entries.{Proven, entry_of, nothing_proven, statement_at, Enters, turned_entry}

@@ -15,19 +15,19 @@ use Rattle.slotted_model.specs.Rest.{IsValidIn, IsAligned, IsListed, Sane, id_na
 use Rattle.slotted_model.specs.State.{State, Symmetry, HasTouched, left_of, right_of}
 use Rattle.slotted_model.specs.Changes.{Unites, finds_alike, proves, drops_left, drops_right, left_dies, right_dies, lists, is_listed}
 use Rattle.slotted_model.specs.Changes.{GoesOn, StandsAt, dropped_state, linked_state, with_proofs, symmetry_of, found_entry}
-use Rattle.slotted_model.proofs.Aligned.{link-aligned}
-use Rattle.slotted_model.proofs.Dropping as dropping
-use Rattle.slotted_model.proofs.Dropping.{drop-replaces, drop-linked, drop-lives}
-use Rattle.slotted_model.proofs.Events.{drop-sane, drop-goes_on}
-use Rattle.slotted_model.proofs.Finding.{leads, found-in_range, found-live, find_class-live, find_map-live}
-use Rattle.slotted_model.proofs.FoundEntries.{says-over, says-left_used, says-right_used}
-use Rattle.slotted_model.proofs.GrowingLists.{proofs-go_on, proofs-sane}
-use Rattle.slotted_model.proofs.Linking as linking
-use Rattle.slotted_model.proofs.Linking.{link-replaces, link-linked, left-class}
-use Rattle.slotted_model.proofs.NormalIds.{found-valid, found-again, found-class_live}
-use Rattle.slotted_model.proofs.Replacing.{Factors, at-other, live-stays, replaced-factors}
-use Rattle.slotted_model.proofs.Unions.{can_drop-left, can_drop-right, can_link-left, can_link-right}
-use Rattle.slotted_model.proofs.UpTo.{left-valid, right-valid}
+use Rattle.slotted_model.proofs.Rebuilding.Aligned.{link-aligned}
+use Rattle.slotted_model.proofs.Finds.Dropping as dropping
+use Rattle.slotted_model.proofs.Finds.Dropping.{drop-replaces, drop-linked, drop-lives}
+use Rattle.slotted_model.proofs.Rebuilding.Events.{drop-sane, drop-goes_on}
+use Rattle.slotted_model.proofs.Finds.Finding.{leads, found-in_range, found-live, find_class-live, find_map-live}
+use Rattle.slotted_model.proofs.Rebuilding.FoundEntries.{says-over, says-left_used, says-right_used}
+use Rattle.slotted_model.proofs.Rebuilding.GrowingLists.{proofs-go_on, proofs-sane}
+use Rattle.slotted_model.proofs.Finds.Linking as linking
+use Rattle.slotted_model.proofs.Finds.Linking.{link-replaces, link-linked, left-class}
+use Rattle.slotted_model.proofs.Finds.NormalIds.{found-valid, found-again, found-class_live}
+use Rattle.slotted_model.proofs.Finds.Replacing.{Factors, at-other, live-stays, replaced-factors}
+use Rattle.slotted_model.proofs.Rebuilding.Unions.{can_drop-left, can_drop-right, can_link-left, can_link-right}
+use Rattle.slotted_model.proofs.Rebuilding.UpTo.{left-valid, right-valid}
 use Rattle.slotted_unions.specs.Proving.{FindsEither}
 use Rattle.slotted_unions.proofs.LargeClasses.{found-twice}
 use Rattle.slotted_unions.proofs.NewSymmetries.{one-more}

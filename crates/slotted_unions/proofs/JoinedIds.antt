@@ -17,7 +17,7 @@ use Rattle.slotted_model.specs.ProofList.{Equation, IsOver, transitive, equation
 use Rattle.slotted_model.proofs.Correspondences.FullIds.{full_map, slots-different}
 use Rattle.slotted_model.proofs.Correspondences.FullMaps.{with_values-full, same_names-with_values}
 use Rattle.slotted_model.proofs.Correspondences.Numbers.{numbered-form}
-use Rattle.slotted_model.proofs.FindProofs.{found_alike-join}
+use Rattle.slotted_model.proofs.Finds.FindProofs.{found_alike-join}
 use Rattle.slotted_proofs.specs.declared.equation.Equation.{Equation as Sides}
 use Rattle.slotted_proofs.specs.Equations.{Statement, to_applied, statement_of, numbered_left, numbered_right, AreSides}
 use Rattle.slotted_proofs.specs.Entries.{Proven, statement_at}

@@ -10,8 +10,8 @@ use Rattle.slotted_model.specs.Find.{Entry, IsLive, find_class}
 use Rattle.slotted_model.specs.Link.{CanDrop, kept_equation}
 use Rattle.slotted_model.specs.ProofList.{Equation, IsOver, turned_equation}
 use Rattle.slotted_model.specs.State.{State}
-use Rattle.slotted_model.proofs.Dropping.{kept-composite, kept-can_drop, drop-later}
-use Rattle.slotted_model.proofs.Events.{drop-sane, drop-goes_on}
+use Rattle.slotted_model.proofs.Finds.Dropping.{kept-composite, kept-can_drop, drop-later}
+use Rattle.slotted_model.proofs.Rebuilding.Events.{drop-sane, drop-goes_on}
 use Rattle.slotted_proofs.specs.Entries.{statement_at, turned_entry, composite_entry}
 use Rattle.slotted_proofs.specs.Equations.{Meets}
 use Rattle.slotted_classes.specs.Kept.{Kept, nodes_of, entries_of, EntersIn, HasManySlots, with_counts, with_fewer}

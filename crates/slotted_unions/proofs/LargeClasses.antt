@@ -2,7 +2,7 @@
 use Rattle.std.proofs.Common.{◌≡◌, ℕ, ◌<◌, List, length, ◌∙◌, inl, inr}
 use Rattle.slotted_theory.specs.Nameless.{DTerm}
 use Rattle.slotted_model.specs.Find.{Entry, find_class, Linked}
-use Rattle.slotted_model.proofs.Finding.{leads, found-live, found-in_range, find_class-live}
+use Rattle.slotted_model.proofs.Finds.Finding.{leads, found-live, found-in_range, find_class-live}
 use Rattle.slotted_classes.specs.Kept.{Kept, entries_of}
 use Rattle.slotted_unions.specs.Proving.{FindsEither, HasLargeClassOf}
 

@@ -13,12 +13,12 @@ use Rattle.slotted_model.proofs.Correspondences.FullIds.{ascending-different}
 use Rattle.slotted_model.proofs.Correspondences.FullMaps.{full-ext, full-from, same_names-over, with_values-pair, with_values-by, with_values-full}
 use Rattle.slotted_model.proofs.Correspondences.Pairs.{Contains-key, Contains-value, Contains-of_key, Contains-of_value}
 use Rattle.slotted_model.proofs.Correspondences.PartialInjections.{turned-partial, turned-pair, turned-by, key_in_order}
-use Rattle.slotted_model.proofs.Lacking.{same-ascending}
-use Rattle.slotted_model.proofs.Maps.{map_on-filled, filled-pair}
-use Rattle.slotted_model.proofs.Members.{In-Contains, Contains-In}
-use Rattle.slotted_model.proofs.NormalIds.{found-renamed, valid-map, Contains-ascending, Contains-of_ascending}
-use Rattle.slotted_model.proofs.Ordered.{in_order-ascending}
-use Rattle.slotted_model.proofs.Sets.{same_members}
+use Rattle.slotted_model.proofs.Rebuilding.Lacking.{same-ascending}
+use Rattle.slotted_model.proofs.Data.Maps.{map_on-filled, filled-pair}
+use Rattle.slotted_model.proofs.Data.Members.{In-Contains, Contains-In}
+use Rattle.slotted_model.proofs.Finds.NormalIds.{found-renamed, valid-map, Contains-ascending, Contains-of_ascending}
+use Rattle.slotted_model.proofs.Data.Ordered.{in_order-ascending}
+use Rattle.slotted_model.proofs.Data.Sets.{same_members}
 use Rattle.slotted_classes.specs.Kept.{Kept, SymmetryEntry, nodes_of, entries_of}
 use Rattle.slotted_unions.specs.StateOf.{state_of, symmetry_of_entry}
 use Rattle.slotted_unions.specs.Stored.{Stored, IsOverOneClass}

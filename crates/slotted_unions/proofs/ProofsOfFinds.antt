@@ -9,9 +9,9 @@ use Rattle.slotted_model.specs.Find.{Entry, entry_at, find_class, find_map}
 use Rattle.slotted_model.specs.ProofList.{Equation, IsOver, equation_at, turned_equation, entry_equation, find_equation}
 use Rattle.slotted_model.specs.Link.{found_equation, half_found_equation}
 use Rattle.slotted_model.proofs.Correspondences.PartialInjections.{composite-identity, composite-partial, identity-composite, identity-partial, turned-turned}
-use Rattle.slotted_model.proofs.Dropping.{turned-identity}
-use Rattle.slotted_model.proofs.Finding.{leads, find_class-follows, find_map-partial}
-use Rattle.slotted_model.proofs.FindProofs.{find_equation-live, find_equation-composite}
+use Rattle.slotted_model.proofs.Finds.Dropping.{turned-identity}
+use Rattle.slotted_model.proofs.Finds.Finding.{leads, find_class-follows, find_map-partial}
+use Rattle.slotted_model.proofs.Finds.FindProofs.{find_equation-live, find_equation-composite}
 use Rattle.slotted_proofs.specs.Equations.{Statement, Meets, to_applied}
 use Rattle.slotted_proofs.specs.Entries.{statement_at, composite_entry}
 use Rattle.slotted_classes.specs.Kept.{Kept, find_at, nodes_of, entries_of, proofs_of, EntersIn, HasManySlots}

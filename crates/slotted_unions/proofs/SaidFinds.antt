@@ -12,7 +12,7 @@ use Rattle.slotted_model.proofs.Correspondences.FullIds.{full_map}
 use Rattle.slotted_model.proofs.Correspondences.FullMaps.{full-in_order, full-name, full-one_slot, full-partial, same_names-is}
 use Rattle.slotted_model.proofs.Correspondences.Pairs.{Contains-value}
 use Rattle.slotted_model.proofs.Correspondences.PartialInjections.{composite-by, composite-over, identity-composite, turned-by, turned-pair, turned-partial}
-use Rattle.slotted_model.proofs.Finding.{find_map-partial, leads}
+use Rattle.slotted_model.proofs.Finds.Finding.{find_map-partial, leads}
 use Rattle.slotted_proofs.specs.Entries.{statement_at}
 use Rattle.slotted_proofs.specs.Equations.{AreSides}
 use Rattle.slotted_classes.specs.Kept.{Kept, nodes_of, entries_of}

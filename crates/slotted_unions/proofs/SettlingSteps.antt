@@ -9,7 +9,7 @@ use Rattle.slotted_model.specs.ProofList.{Equation, equation_at}
 use Rattle.slotted_model.specs.Rebuild.{Acts, acts}
 use Rattle.slotted_model.specs.Rest.{size}
 use Rattle.slotted_model.specs.State.{Symmetry}
-use Rattle.slotted_model.proofs.Turning.{acted}
+use Rattle.slotted_model.proofs.Rebuilding.Turning.{acted}
 use Rattle.slotted_classes.specs.Kept.{Kept, nodes_of, entries_of, with_settled}
 use Rattle.slotted_classes.proofs.KeptLists.{equation_at-of, length-nodes_of, length-proofs_of}
 use Rattle.slotted_unions.specs.Proving.{FindsEither, HasLargeSide}

@@ -15,11 +15,11 @@ use Rattle.slotted_model.proofs.Correspondences.PartialInjections.{turned-pair, 
 use Rattle.slotted_model.proofs.Correspondences.FullIds.{ascending-different}
 use Rattle.slotted_model.proofs.Correspondences.FullMaps.{full-from}
 use Rattle.slotted_model.proofs.Correspondences.Listing.{injective-different}
-use Rattle.slotted_model.proofs.Finding.{slots-ascending}
-use Rattle.slotted_model.proofs.NormalIds.{used-live}
-use Rattle.slotted_model.proofs.Ordered.{in_order-once}
-use Rattle.slotted_model.proofs.Sets.{IsAscending-ascending}
-use Rattle.slotted_model.proofs.Touching.{different-length}
+use Rattle.slotted_model.proofs.Finds.Finding.{slots-ascending}
+use Rattle.slotted_model.proofs.Finds.NormalIds.{used-live}
+use Rattle.slotted_model.proofs.Data.Ordered.{in_order-once}
+use Rattle.slotted_model.proofs.Data.Sets.{IsAscending-ascending}
+use Rattle.slotted_model.proofs.Rebuilding.Touching.{different-length}
 use Rattle.slotted_proofs.specs.Entries.{turned_entry}
 use Rattle.slotted_classes.specs.Kept.{Kept, find_at, nodes_of, entries_of, EntersIn, HasManySlots}
 use Rattle.slotted_classes.proofs.KeptLists.{entry_at-of, length-mapped}

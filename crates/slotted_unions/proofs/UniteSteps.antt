@@ -13,9 +13,9 @@ use Rattle.slotted_model.specs.ProofList.{Equation, IsOver, turned_equation}
 use Rattle.slotted_model.specs.Rest.{size}
 use Rattle.slotted_model.specs.State.{State, Symmetry, Row, HasTouched}
 use Rattle.slotted_model.proofs.Correspondences.PartialInjections.{turned-partial}
-use Rattle.slotted_model.proofs.Dropping.{kept-can_drop}
-use Rattle.slotted_model.proofs.Events.{drop-size}
-use Rattle.slotted_model.proofs.FoundEntries.{says-over, says-left_lives, says-right_lives, says-left_used, says-right_used}
+use Rattle.slotted_model.proofs.Finds.Dropping.{kept-can_drop}
+use Rattle.slotted_model.proofs.Rebuilding.Events.{drop-size}
+use Rattle.slotted_model.proofs.Rebuilding.FoundEntries.{says-over, says-left_lives, says-right_lives, says-left_used, says-right_used}
 use Rattle.slotted_proofs.specs.Entries.{Proven, nothing_proven, statement_at}
 use Rattle.slotted_classes.specs.Kept.{Kept, nodes_of, entries_of, proofs_of}
 use Rattle.slotted_classes.proofs.KeptLists.{equation_at-of, length-nodes_of}

@@ -11,11 +11,11 @@ use Rattle.slotted_model.specs.ProofList.{entry_equation, find_equation}
 use Rattle.slotted_model.proofs.Correspondences.FullMaps.{full-partial}
 use Rattle.slotted_model.proofs.Correspondences.Pairs.{Contains-of_value, Contains-value}
 use Rattle.slotted_model.proofs.Correspondences.PartialInjections.{identity-composite}
-use Rattle.slotted_model.proofs.Finding.{Leads, find_class-follows, find_class-live, find_map-follows, find_map-live, leads, live-full, slots-ascending}
-use Rattle.slotted_model.proofs.Members.{Contains-In, In-Contains}
-use Rattle.slotted_model.proofs.NormalIds.{used-live, values-identity}
-use Rattle.slotted_model.proofs.Ordered.{in_order-ascending}
-use Rattle.slotted_model.proofs.Sets.{IsAscending-ascending}
+use Rattle.slotted_model.proofs.Finds.Finding.{Leads, find_class-follows, find_class-live, find_map-follows, find_map-live, leads, live-full, slots-ascending}
+use Rattle.slotted_model.proofs.Data.Members.{Contains-In, In-Contains}
+use Rattle.slotted_model.proofs.Finds.NormalIds.{used-live, values-identity}
+use Rattle.slotted_model.proofs.Data.Ordered.{in_order-ascending}
+use Rattle.slotted_model.proofs.Data.Sets.{IsAscending-ascending}
 use Rattle.slotted_classes.proofs.AscendingLists.{ascending-within}
 use Rattle.slotted_classes.proofs.KeptLists.{length-mapped}
 

@@ -10,7 +10,7 @@ use Rattle.slotted_model.specs.Correspondence.{turned}
 use Rattle.slotted_model.specs.Find.{Entry, IsLive, used_slots}
 use Rattle.slotted_model.specs.ProofList.{Equation, equation_of}
 use Rattle.slotted_model.proofs.Correspondences.FullMaps.{same_names-turned}
-use Rattle.slotted_model.proofs.NormalIds.{used-live, values-identity}
+use Rattle.slotted_model.proofs.Finds.NormalIds.{used-live, values-identity}
 use Rattle.slotted_proofs.specs.declared.equation.Equation.{Equation as Sides}
 use Rattle.slotted_proofs.specs.Entries.{Proven, statement_at}
 use Rattle.slotted_proofs.specs.Equations.{Statement, IsWritten, to_applied}

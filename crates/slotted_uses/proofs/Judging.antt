@@ -4,7 +4,7 @@ use Rattle.std.specs.Prelude.{◌<◌, Bool, false, IsTrue, List, String}
 use Rattle.std.specs.declared.alloc.Global.{Global}
 use Rattle.slotted_slots.specs.Syntax.{Element}
 use Rattle.slotted_theory.specs.Term.{Term}
-use Rattle.slotted_model.proofs.Options.{Some-same}
+use Rattle.slotted_model.proofs.Data.Options.{Some-same}
 use Rattle.slotted_operations.specs.Image.{CountsOpen}
 use Rattle.slotted_workspace.specs.Asked.{Compares, ExplainRefused, ExplainsTerms, HadFailed, OfBoth, Refuses, RefusesBoth}
 use Rattle.slotted_workspace.specs.Spaces.{Space}

@@ -4,7 +4,7 @@ use Rattle.std.specs.Prelude.{Bool, true, false, IfOk, OnOk, Result, Ok, Err, Op
 use Rattle.slotted_slots.specs.Syntax.{Element}
 use Rattle.slotted_theory.specs.Term.{Term}
 use Rattle.slotted_nodes.specs.Form.{Form}
-use Rattle.slotted_model.proofs.Options.{None-Some, Some-same}
+use Rattle.slotted_model.proofs.Data.Options.{None-Some, Some-same}
 use Rattle.slotted_operations.specs.Image.{asserted_in}
 use Rattle.slotted_workspace.specs.Asked.{AddsTerm, ChangesGraph, OfBoth}
 use Rattle.slotted_workspace.specs.Spaces.{Space, term_at}

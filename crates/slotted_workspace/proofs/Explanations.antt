@@ -10,7 +10,7 @@ use Rattle.slotted_slots.specs.Syntax.{Element}
 use Rattle.slotted_slots.specs.Table.{KnowsMore}
 use Rattle.slotted_theory.specs.Term.{Term}
 use Rattle.slotted_languages.proofs.HandedOn.{error_or}
-use Rattle.slotted_model.proofs.Options.{Some-same}
+use Rattle.slotted_model.proofs.Data.Options.{Some-same}
 use Rattle.slotted_model.specs.ProofList.{equation_of}
 use Rattle.slotted_proofs.specs.Equations.{to_applied}
 use Rattle.slotted_operations.specs.Explaining.{AddsTerms, Explains, FilesOnlyTerms, FindsApart, KeepsKnown, RunsOutForTerms}

@@ -2,7 +2,7 @@
 use Rattle.std.proofs.Common.{◌≡◌, ◌∙◌, ◌++◌, ℕ, zero, suc, List, [], ◌∷◌, length, ap, subst, refl, arith}
 use Rattle.std.specs.Prelude.{All, Bool, true, false, Option, None, Some, if◌then◌else◌, map, nat_eq, option_map, slice_get}
 use Rattle.std.proofs.lemmas.Bool.{eq-eqb}
-use Rattle.slotted_model.proofs.Options.{Some-same, None-Some}
+use Rattle.slotted_model.proofs.Data.Options.{Some-same, None-Some}
 use Rattle.slotted_theory.specs.Term.{Term}
 use Rattle.slotted_workspace.specs.Keeping.{found_in, terms_of}
 use Rattle.slotted_workspace.specs.Spaces.{Space, term_at}

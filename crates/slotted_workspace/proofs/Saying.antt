@@ -14,7 +14,7 @@ use Rattle.slotted_terms.specs.Valid.{IsValidTerm}
 use Rattle.slotted_model.specs.Applied.{Applied}
 use Rattle.slotted_model.specs.Classes.{IsFull, term_of}
 use Rattle.slotted_model.specs.ProofList.{HoldsFrom, equation_at}
-use Rattle.slotted_model.proofs.FindProofs.{proved-holds}
+use Rattle.slotted_model.proofs.Finds.FindProofs.{proved-holds}
 use Rattle.slotted_proofs.specs.Equations.{to_applied}
 use Rattle.slotted_operations.specs.Affected.{IsYesIfDerivable}
 use Rattle.slotted_operations.specs.Explaining.{HasIds}

@@ -8,7 +8,7 @@ use Rattle.slotted_model.specs.Ascending.{IsBelowAll, IsAscending}
 use Rattle.slotted_model.specs.Applied.{Applied}
 use Rattle.slotted_model.specs.Classes.{canonical_node, canonical_slots, IsFull}
 use Rattle.slotted_model.specs.Correspondence.{AllDifferent, IsFullMap}
-use Rattle.slotted_model.proofs.Sets.{IsAscending-ascending}
+use Rattle.slotted_model.proofs.Data.Sets.{IsAscending-ascending}
 
 below_contained : (x : ℕ) (ys : List ℕ) (y : ℕ) → IsBelowAll x ys → Contains ys y → x < y
 below_contained x [] y b c = absurd (Contains-nil y c)

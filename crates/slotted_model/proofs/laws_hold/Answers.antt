@@ -1,12 +1,12 @@
-use Rattle.slotted_model.proofs.Full.{canonical_term-names, term_of-names, full-renamed, term_of-renamed, term_of-layer}
-use Rattle.slotted_model.proofs.Unique.{term_of-same}
-use Rattle.slotted_model.proofs.Ids.{id_of_node-iff, id_of_node-none, id_of-iff}
-use Rattle.slotted_model.proofs.Trees.{term_of-tree, IsNode-full}
-use Rattle.slotted_model.proofs.LookUps.{id_of-moved}
-use Rattle.slotted_model.proofs.Folds.{id_of-iff_value}
-use Rattle.slotted_model.proofs.Growing.{added, IsNew-renamed}
-use Rattle.slotted_model.proofs.Fillings.{valid-iff, filling-iff, a_filling, term_of-filling, valid-same}
-use Rattle.slotted_model.proofs.OtherFillings.{renamed_filling, renamed_together, some_is_every}
+use Rattle.slotted_model.proofs.Represented.Full.{canonical_term-names, term_of-names, full-renamed, term_of-renamed, term_of-layer}
+use Rattle.slotted_model.proofs.Represented.Unique.{term_of-same}
+use Rattle.slotted_model.proofs.Represented.Ids.{id_of_node-iff, id_of_node-none, id_of-iff}
+use Rattle.slotted_model.proofs.Represented.Trees.{term_of-tree, IsNode-full}
+use Rattle.slotted_model.proofs.Represented.LookUps.{id_of-moved}
+use Rattle.slotted_model.proofs.Represented.Folds.{id_of-iff_value}
+use Rattle.slotted_model.proofs.Represented.Growing.{added, IsNew-renamed}
+use Rattle.slotted_model.proofs.Represented.Fillings.{valid-iff, filling-iff, a_filling, term_of-filling, valid-same}
+use Rattle.slotted_model.proofs.Represented.OtherFillings.{renamed_filling, renamed_together, some_is_every}
 use Rattle.slotted_model.proofs.laws_hold.Goals as goal
 
 pub returns : goal.returns

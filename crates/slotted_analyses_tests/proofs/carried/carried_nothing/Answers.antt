@@ -1,6 +1,6 @@
 use Rattle.std.proofs.Common.{◌≡◌, sym, subst}
 use Rattle.slotted_model.specs.Rest.{AtRest}
-use Rattle.slotted_model.proofs.Asserting.{nothing-rests}
+use Rattle.slotted_model.proofs.Rebuilding.Asserting.{nothing-rests}
 use Rattle.slotted_classes.specs.Kept.{Kept, nothing}
 use Rattle.slotted_hashcons.specs.FiledRows.{Rows, no_rows}
 use Rattle.slotted_rebuilding.specs.Filed.{state_in}

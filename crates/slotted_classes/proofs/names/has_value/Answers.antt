@@ -3,7 +3,7 @@ use Rattle.std.specs.Cmp.{unsigned_Decides}
 use Rattle.std.proofs.lemmas.Bool.{false≢true}
 use Rattle.std.proofs.lemmas.Option.{get_or_from_slice_get}
 use Rattle.slotted_slots.specs.Maps.{values}
-use Rattle.slotted_model.proofs.Members.{In, In-Contains, Contains-In}
+use Rattle.slotted_model.proofs.Data.Members.{In, In-Contains, Contains-In}
 use Rattle.slotted_classes.proofs.NameMaps.{In-at, at_In, length-values, below_next}
 use Rattle.slotted_classes.proofs.names.has_value.Goals as goal
 

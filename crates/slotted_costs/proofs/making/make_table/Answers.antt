@@ -1,4 +1,4 @@
-use Rattle.slotted_model.proofs.Optimal.{finished-fits}
+use Rattle.slotted_model.proofs.LeastTerms.Optimal.{finished-fits}
 use Rattle.slotted_costs.specs.Entries.{table_of}
 use Rattle.slotted_costs.specs.Making.{table_state}
 use Rattle.slotted_costs.specs.Costs.{costs_by}

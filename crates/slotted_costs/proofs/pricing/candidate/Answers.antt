@@ -4,7 +4,7 @@ use Rattle.std.proofs.lemmas.List.{length-map}
 use Rattle.std.specs.Ordering.{is_lt}
 use Rattle.slotted_nodes.specs.Form.{children}
 use Rattle.slotted_model.specs.Extraction.{costs_in}
-use Rattle.slotted_model.proofs.Tables.{costs-length}
+use Rattle.slotted_model.proofs.LeastTerms.Tables.{costs-length}
 use Rattle.slotted_hashcons.specs.Filed.{filed_of}
 use Rattle.slotted_hashcons.specs.FiledRows.{key_children}
 use Rattle.slotted_hashcons.proofs.KeyChildren.{key_children-read}

@@ -3,7 +3,7 @@ use Rattle.std.specs.Prelude.{Contains, slice_index_or}
 use Rattle.std.proofs.lemmas.List.{take_more}
 use Rattle.std.proofs.lemmas.List.Elements.{Contains-get_or}
 use Rattle.slotted_model.specs.Find.{IsLive}
-use Rattle.slotted_model.proofs.Finding.{leads, find_class-live, found-live}
+use Rattle.slotted_model.proofs.Finds.Finding.{leads, find_class-live, found-live}
 use Rattle.slotted_model_analyses.specs.Analysis.{IsMerge}
 use Rattle.slotted_classes.specs.Kept.{nodes_of, entries_of}
 use Rattle.slotted_classes.proofs.KeptLists.{length-nodes_of}

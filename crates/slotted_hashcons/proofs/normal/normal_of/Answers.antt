@@ -8,7 +8,7 @@ use Rattle.slotted_nodes.specs.Form.{Form, with_child, children}
 use Rattle.slotted_model.specs.Applied.{Applied, EachChild}
 use Rattle.slotted_model.specs.Find.{find, used_slots}
 use Rattle.slotted_model.specs.Normal.{IsFound}
-use Rattle.slotted_model.proofs.Congruence.{normal_args-live}
+use Rattle.slotted_model.proofs.Finds.Congruence.{normal_args-live}
 use Rattle.slotted_proofs.specs.Equations.{to_applied}
 use Rattle.slotted_classes.specs.Finding.{IsFindable}
 use Rattle.slotted_classes.specs.Kept.{Kept, nodes_of, entries_of}

@@ -7,7 +7,7 @@ use Rattle.slotted_model.specs.Correspondence.{IsFullMap, IsPartialInjection, id
 use Rattle.slotted_model.specs.Normal.{HasOneNumber}
 use Rattle.slotted_model.specs.ProofList.{Equation}
 use Rattle.slotted_model.proofs.Correspondences.FullIds.{full_id}
-use Rattle.slotted_model.proofs.NormalIds.{keys-identity}
+use Rattle.slotted_model.proofs.Finds.NormalIds.{keys-identity}
 use Rattle.slotted_proofs.specs.Equations.{to_applied, pairs_of}
 use Rattle.slotted_classes.specs.Kept.{nodes_of, entries_of}
 use Rattle.slotted_classes.proofs.KeptLists.{length-nodes_of}

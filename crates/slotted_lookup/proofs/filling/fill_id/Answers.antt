@@ -5,7 +5,7 @@ use Rattle.slotted_slots.specs.Table.{Table}
 use Rattle.slotted_model.specs.Applied.{Applied}
 use Rattle.slotted_model.specs.Classes.{canonical_slots}
 use Rattle.slotted_model.specs.Correspondence.{identity}
-use Rattle.slotted_model.proofs.NormalIds.{keys-identity, values-identity}
+use Rattle.slotted_model.proofs.Finds.NormalIds.{keys-identity, values-identity}
 use Rattle.slotted_proofs.specs.Equations.{to_applied}
 use Rattle.slotted_classes.specs.Finding.{IsFindable}
 use Rattle.slotted_classes.specs.Kept.{Kept, nodes_of, names_at, rows_from}

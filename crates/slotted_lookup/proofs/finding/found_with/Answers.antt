@@ -3,7 +3,7 @@ use Rattle.std.proofs.Common.{◌≡◌, ◌<◌, ◌∙◌, ap, arith, length, 
 use Rattle.slotted_model.specs.Applied.{Applied}
 use Rattle.slotted_model.specs.Correspondence.{composite}
 use Rattle.slotted_model.specs.Find.{Entry, IsLive, find_map}
-use Rattle.slotted_model.proofs.Finding.{find_class-live, find_map-live, leads}
+use Rattle.slotted_model.proofs.Finds.Finding.{find_class-live, find_map-live, leads}
 use Rattle.slotted_proofs.proofs.Bridges.{composed-model}
 use Rattle.slotted_classes.specs.Kept.{entries_of, find_at, nodes_of}
 use Rattle.slotted_classes.proofs.KeptLists.{entry_at-of, length-nodes_of}

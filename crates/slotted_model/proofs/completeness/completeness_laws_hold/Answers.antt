@@ -4,18 +4,18 @@ use Rattle.slotted_theory.proofs.Forward.{Derives-equal}
 use Rattle.slotted_theory.proofs.Values.{complete}
 use Rattle.slotted_theory.specs.Derives.{reflexive, nameless_pair}
 use Rattle.slotted_model.specs.Value.{step}
-use Rattle.slotted_model.proofs.Steps.{Equal-between}
-use Rattle.slotted_model.proofs.Marks.{step-moved, value-moved, id_value-same}
+use Rattle.slotted_model.proofs.Finds.Steps.{Equal-between}
+use Rattle.slotted_model.proofs.Complete.Marks.{step-moved, value-moved, id_value-same}
 use Rattle.slotted_model.specs.Classes.{term_of}
-use Rattle.slotted_model.proofs.Trees.{term_of-tree}
-use Rattle.slotted_model.proofs.LookedUpTrees.{value-look_up, look_up-value}
-use Rattle.slotted_model.proofs.CanonicalValues.{value-full, value-pair, full-alike, filled-alike, congruent-alike, equal-look_up, equal_trees-alike, alike-iff}
-use Rattle.slotted_model.proofs.Spreading.{is_affected-covers, is_affected-iff}
-use Rattle.slotted_model.proofs.LookUpsAreEqual.{node-equal, filled-node_equal, found-node_equal, tree-equal, filled-equal, found-equal}
-use Rattle.slotted_model.proofs.AtRest.{rest-represented, rest-closed, rest-alike, rest-derivable, rest-iff, rest-congruent, rest-look_up, rest-look_up_node, rest-trees, rest-alike_iff, rest-same_classes, rest-same_slots}
-use Rattle.slotted_model.proofs.Corresponding.{each-corresponds, alike-or_affected}
-use Rattle.slotted_model.proofs.SameCounts.{agree}
-use Rattle.slotted_model.proofs.HoldingTrees.{session-holds, sessions-terms, sessions-agree}
+use Rattle.slotted_model.proofs.Represented.Trees.{term_of-tree}
+use Rattle.slotted_model.proofs.Complete.LookedUpTrees.{value-look_up, look_up-value}
+use Rattle.slotted_model.proofs.Complete.CanonicalValues.{value-full, value-pair, full-alike, filled-alike, congruent-alike, equal-look_up, equal_trees-alike, alike-iff}
+use Rattle.slotted_model.proofs.Complete.Spreading.{is_affected-covers, is_affected-iff}
+use Rattle.slotted_model.proofs.Complete.LookUpsAreEqual.{node-equal, filled-node_equal, found-node_equal, tree-equal, filled-equal, found-equal}
+use Rattle.slotted_model.proofs.Complete.AtRest.{rest-represented, rest-closed, rest-alike, rest-derivable, rest-iff, rest-congruent, rest-look_up, rest-look_up_node, rest-trees, rest-alike_iff, rest-same_classes, rest-same_slots}
+use Rattle.slotted_model.proofs.Complete.Corresponding.{each-corresponds, alike-or_affected}
+use Rattle.slotted_model.proofs.Complete.SameCounts.{agree}
+use Rattle.slotted_model.proofs.Complete.HoldingTrees.{session-holds, sessions-terms, sessions-agree}
 use Rattle.slotted_model.proofs.completeness.completeness_laws_hold.Goals as goal
 
 pub returns : goal.returns

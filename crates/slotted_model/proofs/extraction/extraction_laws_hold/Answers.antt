@@ -1,13 +1,13 @@
-use Rattle.slotted_model.proofs.Tables.{never-falls, least-closed}
-use Rattle.slotted_model.proofs.Queues.{popped-enters, queue-after, passed_over, empty-finished}
-use Rattle.slotted_model.proofs.TableMaking.{made}
-use Rattle.slotted_model.proofs.Optimal.{finished-covers, finished-fits, tree-at_most, term-at_most}
-use Rattle.slotted_model.proofs.Extracting.{extracts, extracted-tree, extracted-look_up, extracted-cost}
-use Rattle.slotted_model.proofs.ExtractedParts.{extracted-moved, extracted-made}
-use Rattle.slotted_model.proofs.AgreeingCosts.{costs-agree}
-use Rattle.slotted_model.proofs.Cheapest.{extracted-equal, least-represented, least-term, least-equal, least-table}
-use Rattle.slotted_model.proofs.KnownCosts.{lawful-everywhere}
-use Rattle.slotted_model.proofs.Sizes.{size-lawful, size-total, size-within}
+use Rattle.slotted_model.proofs.LeastTerms.Tables.{never-falls, least-closed}
+use Rattle.slotted_model.proofs.LeastTerms.Queues.{popped-enters, queue-after, passed_over, empty-finished}
+use Rattle.slotted_model.proofs.LeastTerms.TableMaking.{made}
+use Rattle.slotted_model.proofs.LeastTerms.Optimal.{finished-covers, finished-fits, tree-at_most, term-at_most}
+use Rattle.slotted_model.proofs.LeastTerms.Extracting.{extracts, extracted-tree, extracted-look_up, extracted-cost}
+use Rattle.slotted_model.proofs.LeastTerms.ExtractedParts.{extracted-moved, extracted-made}
+use Rattle.slotted_model.proofs.LeastTerms.AgreeingCosts.{costs-agree}
+use Rattle.slotted_model.proofs.LeastTerms.Cheapest.{extracted-equal, least-represented, least-term, least-equal, least-table}
+use Rattle.slotted_model.proofs.LeastTerms.KnownCosts.{lawful-everywhere}
+use Rattle.slotted_model.proofs.LeastTerms.Sizes.{size-lawful, size-total, size-within}
 use Rattle.slotted_model.proofs.extraction.extraction_laws_hold.Goals as goal
 
 pub returns : goal.returns

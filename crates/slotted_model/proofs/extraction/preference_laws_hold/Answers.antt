@@ -1,6 +1,6 @@
-use Rattle.slotted_model.proofs.KnownCosts.{lawful-for}
-use Rattle.slotted_model.proofs.Queues.{queue-breaks_ties}
-use Rattle.slotted_model.proofs.Ties.{first-of_ties}
+use Rattle.slotted_model.proofs.LeastTerms.KnownCosts.{lawful-for}
+use Rattle.slotted_model.proofs.LeastTerms.Queues.{queue-breaks_ties}
+use Rattle.slotted_model.proofs.LeastTerms.Ties.{first-of_ties}
 use Rattle.slotted_model.proofs.extraction.preference_laws_hold.Goals as goal
 
 pub returns : goal.returns

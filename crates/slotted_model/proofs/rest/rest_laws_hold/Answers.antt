@@ -2,29 +2,29 @@ use Rattle.std.proofs.Common.{ap}
 use Rattle.slotted_model.specs.Link.{CanEnter}
 use Rattle.slotted_model.specs.State.{look_up_normal}
 use Rattle.slotted_model.specs.ProofList.{ProofEntry, explicit, equation_of}
-use Rattle.slotted_model.proofs.UpTo.{upto-renamed, upto-valid, upto-class, upto-alike, upto-together, linked_to-same, linked_to-turned, linked_to-joined}
-use Rattle.slotted_model.proofs.Rows.{look_up_node-moved, look_up_tree-moved, rest-gives, rest-congruent}
-use Rattle.slotted_model.proofs.EndsGrow.{assertion-exact}
-use Rattle.slotted_model.proofs.QuietTurns.{quiet-run}
-use Rattle.slotted_model.proofs.FilledNodes.{in_turn-normal}
-use Rattle.slotted_model.proofs.RowNodes.{row-looked_up, row-id}
-use Rattle.slotted_model.proofs.Answers.{answer-found}
-use Rattle.slotted_model.proofs.Affected.{affected-marked, unmarked-closed}
-use Rattle.slotted_model.proofs.GoingOn.{goes_on-same, goes_on-then, still-alike, still-equal, still-normal, still-same, still-linked, still-row, still-listed, still-represents}
-use Rattle.slotted_model.proofs.Events.{link-sane, link-goes_on, link-size, drop-sane, drop-goes_on, drop-size, size-live, size-dead}
-use Rattle.slotted_model.proofs.GrowingLists.{proofs-sane, proofs-go_on, symmetry-sane, symmetry-goes_on}
-use Rattle.slotted_model.proofs.Unions.{can_drop-left, can_drop-right, can_link-left, can_link-right, can_list, unites}
-use Rattle.slotted_model.proofs.AfterUnions.{lacking-falls, united-represents}
-use Rattle.slotted_model.proofs.Congruences.{row-shape, congruence-entered}
-use Rattle.slotted_model.proofs.Turning.{turned, acted, waits-below, run, run-no_larger, counted, ended}
-use Rattle.slotted_model.proofs.Ending.{union-ends, next-step, rebuilding-ends}
-use Rattle.slotted_model.proofs.Adding.{adds, filed-sane_on, class-sane, class-goes_on}
-use Rattle.slotted_model.proofs.Asserting.{can_assert, entry-sane, entry-goes_on, entry-represents, asserts, asserting-ends, adding-ends, not_looked_up-new, nothing-rests}
-use Rattle.slotted_model.proofs.KeepingLookUps.{not_looked_up-unfiled}
-use Rattle.slotted_model.proofs.KeepingTrees.{keeps-look_ups}
-use Rattle.slotted_model.proofs.Quiet.{proofs-quiet, shortcut-quiet}
-use Rattle.slotted_model.proofs.Counting.{unites-counts, size-counts, run-lives, run-slots}
-use Rattle.slotted_model.proofs.Aligned.{link-aligned, listed-aligned}
+use Rattle.slotted_model.proofs.Rebuilding.UpTo.{upto-renamed, upto-valid, upto-class, upto-alike, upto-together, linked_to-same, linked_to-turned, linked_to-joined}
+use Rattle.slotted_model.proofs.Rebuilding.Rows.{look_up_node-moved, look_up_tree-moved, rest-gives, rest-congruent}
+use Rattle.slotted_model.proofs.Rebuilding.EndsGrow.{assertion-exact}
+use Rattle.slotted_model.proofs.Rebuilding.QuietTurns.{quiet-run}
+use Rattle.slotted_model.proofs.Represented.FilledNodes.{in_turn-normal}
+use Rattle.slotted_model.proofs.Rebuilding.RowNodes.{row-looked_up, row-id}
+use Rattle.slotted_model.proofs.Rebuilding.Answers.{answer-found}
+use Rattle.slotted_model.proofs.Rebuilding.Affected.{affected-marked, unmarked-closed}
+use Rattle.slotted_model.proofs.Rebuilding.GoingOn.{goes_on-same, goes_on-then, still-alike, still-equal, still-normal, still-same, still-linked, still-row, still-listed, still-represents}
+use Rattle.slotted_model.proofs.Rebuilding.Events.{link-sane, link-goes_on, link-size, drop-sane, drop-goes_on, drop-size, size-live, size-dead}
+use Rattle.slotted_model.proofs.Rebuilding.GrowingLists.{proofs-sane, proofs-go_on, symmetry-sane, symmetry-goes_on}
+use Rattle.slotted_model.proofs.Rebuilding.Unions.{can_drop-left, can_drop-right, can_link-left, can_link-right, can_list, unites}
+use Rattle.slotted_model.proofs.Rebuilding.AfterUnions.{lacking-falls, united-represents}
+use Rattle.slotted_model.proofs.Rebuilding.Congruences.{row-shape, congruence-entered}
+use Rattle.slotted_model.proofs.Rebuilding.Turning.{turned, acted, waits-below, run, run-no_larger, counted, ended}
+use Rattle.slotted_model.proofs.Rebuilding.Ending.{union-ends, next-step, rebuilding-ends}
+use Rattle.slotted_model.proofs.Rebuilding.Adding.{adds, filed-sane_on, class-sane, class-goes_on}
+use Rattle.slotted_model.proofs.Rebuilding.Asserting.{can_assert, entry-sane, entry-goes_on, entry-represents, asserts, asserting-ends, adding-ends, not_looked_up-new, nothing-rests}
+use Rattle.slotted_model.proofs.Rebuilding.KeepingLookUps.{not_looked_up-unfiled}
+use Rattle.slotted_model.proofs.Rebuilding.KeepingTrees.{keeps-look_ups}
+use Rattle.slotted_model.proofs.Rebuilding.Quiet.{proofs-quiet, shortcut-quiet}
+use Rattle.slotted_model.proofs.Rebuilding.Counting.{unites-counts, size-counts, run-lives, run-slots}
+use Rattle.slotted_model.proofs.Rebuilding.Aligned.{link-aligned, listed-aligned}
 use Rattle.slotted_model.proofs.rest.rest_laws_hold.Goals as goal
 
 pub returns : goal.returns

@@ -1,26 +1,26 @@
 use Rattle.slotted_model.specs.Find.{find_class, find}
 use Rattle.slotted_model.proofs.Correspondences.Pairs.{Contains-value, Contains-of_value}
-use Rattle.slotted_model.proofs.Finding.{leads, find_class-live, find_map-live, find_class-follows, find_map-follows}
-use Rattle.slotted_model.proofs.NormalIds.{found-class_live, found-slots, found-valid, found-again, found-renamed, found-same, found-name, full-is_valid, filling-found}
-use Rattle.slotted_model.proofs.FillingEquations.{filled-equation}
-use Rattle.slotted_model.proofs.NothingAsserted.{nothing-full, nothing-alpha}
-use Rattle.slotted_model.proofs.TwinNumbers.{twins-pair, twins-move}
-use Rattle.slotted_model.proofs.FilledNodes.{a_filled_node, filled-full, filled-normal}
-use Rattle.slotted_model.proofs.Steps.{one_is_enough, reflexive-sound, symmetric-sound, transitive-sound, congruent-sound}
-use Rattle.slotted_model.proofs.Leaves.{leaves-listed, leaves-stay}
-use Rattle.slotted_model.proofs.FindProofs.{left_side-full, right_side-full, sides-equation, entry-holds, leaves-enough, asserted-leaves, proved-holds, find_equation-live, find_equation-follows, find_equation-composite, found_alike-join, found_alike-equal, found_alike-derivable}
-use Rattle.slotted_model.proofs.Entering.{entered-asserted, equation-last, equation-earlier}
-use Rattle.slotted_model.proofs.NewClasses.{later-newer, valid-newer, find-same}
-use Rattle.slotted_model.proofs.Explaining.{found_alike-explained, find_equation-explained, found_equation-explained, by_finds-explained}
-use Rattle.slotted_model.proofs.Shortcuts.{shortcut-sound, shortcut-find, shortcut-later}
-use Rattle.slotted_model.proofs.Keeping.{nothing-sound, entered-sound, link-sound, drop-sound, new_class-sound, new_class-asserted, united}
-use Rattle.slotted_model.proofs.Linking.{link-refines, link-later}
-use Rattle.slotted_model.proofs.Dropping.{kept-over, kept-step, kept-can_drop, drop-later, drop-lives, drop-slots, drop-refines}
-use Rattle.slotted_model.proofs.Replacing.{refined-alike, refines-then}
-use Rattle.slotted_model.proofs.Uniting.{half-over, found_equation-over, half-step, found-step, found_equation-shares, can_link, linked-alike}
+use Rattle.slotted_model.proofs.Finds.Finding.{leads, find_class-live, find_map-live, find_class-follows, find_map-follows}
+use Rattle.slotted_model.proofs.Finds.NormalIds.{found-class_live, found-slots, found-valid, found-again, found-renamed, found-same, found-name, full-is_valid, filling-found}
+use Rattle.slotted_model.proofs.Represented.FillingEquations.{filled-equation}
+use Rattle.slotted_model.proofs.Finds.NothingAsserted.{nothing-full, nothing-alpha}
+use Rattle.slotted_model.proofs.Finds.TwinNumbers.{twins-pair, twins-move}
+use Rattle.slotted_model.proofs.Represented.FilledNodes.{a_filled_node, filled-full, filled-normal}
+use Rattle.slotted_model.proofs.Finds.Steps.{one_is_enough, reflexive-sound, symmetric-sound, transitive-sound, congruent-sound}
+use Rattle.slotted_model.proofs.Finds.Leaves.{leaves-listed, leaves-stay}
+use Rattle.slotted_model.proofs.Finds.FindProofs.{left_side-full, right_side-full, sides-equation, entry-holds, leaves-enough, asserted-leaves, proved-holds, find_equation-live, find_equation-follows, find_equation-composite, found_alike-join, found_alike-equal, found_alike-derivable}
+use Rattle.slotted_model.proofs.Finds.Entering.{entered-asserted, equation-last, equation-earlier}
+use Rattle.slotted_model.proofs.Finds.NewClasses.{later-newer, valid-newer, find-same}
+use Rattle.slotted_model.proofs.Finds.Explaining.{found_alike-explained, find_equation-explained, found_equation-explained, by_finds-explained}
+use Rattle.slotted_model.proofs.Finds.Shortcuts.{shortcut-sound, shortcut-find, shortcut-later}
+use Rattle.slotted_model.proofs.Finds.Keeping.{nothing-sound, entered-sound, link-sound, drop-sound, new_class-sound, new_class-asserted, united}
+use Rattle.slotted_model.proofs.Finds.Linking.{link-refines, link-later}
+use Rattle.slotted_model.proofs.Finds.Dropping.{kept-over, kept-step, kept-can_drop, drop-later, drop-lives, drop-slots, drop-refines}
+use Rattle.slotted_model.proofs.Finds.Replacing.{refined-alike, refines-then}
+use Rattle.slotted_model.proofs.Finds.Uniting.{half-over, found_equation-over, half-step, found-step, found_equation-shares, can_link, linked-alike}
 use Rattle.slotted_model.specs.Applied.{IsMap}
-use Rattle.slotted_model.proofs.Congruence.{same_normal-congruent, normal-moved, refined-normal, normal_args-live}
-use Rattle.slotted_model.proofs.Twins.{shape-twin, by_finds-holds}
+use Rattle.slotted_model.proofs.Finds.Congruence.{same_normal-congruent, normal-moved, refined-normal, normal_args-live}
+use Rattle.slotted_model.proofs.Finds.Twins.{shape-twin, by_finds-holds}
 use Rattle.slotted_model.proofs.soundness.soundness_laws_hold.Goals as goal
 
 pub returns : goal.returns

@@ -1,7 +1,7 @@
 use Rattle.std.proofs.Common.{◌≡◌, ◌<◌, ◌∙◌, ℕ, List, length, ap, arith, sym, subst}
 use Rattle.std.specs.Prelude.{Contains}
 use Rattle.std.proofs.lemmas.Bool.{false≢true}
-use Rattle.slotted_model.proofs.NormalIds.{Contains-ascending, Contains-of_ascending}
+use Rattle.slotted_model.proofs.Finds.NormalIds.{Contains-ascending, Contains-of_ascending}
 use Rattle.slotted_slots.specs.Maps.{values}
 use Rattle.slotted_classes.specs.Kept.{names_at}
 use Rattle.slotted_classes.proofs.NameMaps.{all_differ-iff}

@@ -1,8 +1,8 @@
 use Rattle.std.proofs.Common.{◌∙◌, ap, inl, inr, rules, sym}
 use Rattle.std.specs.Prelude.{option_map}
 use Rattle.slotted_languages.specs.NodeTerm.{nameless_node}
-use Rattle.slotted_model.proofs.Children.{EachChild-map}
-use Rattle.slotted_model.proofs.Options.{None-Some}
+use Rattle.slotted_model.proofs.Represented.Children.{EachChild-map}
+use Rattle.slotted_model.proofs.Data.Options.{None-Some}
 use Rattle.slotted_classes.specs.Finding.{IsFindable}
 use Rattle.slotted_proofs.specs.Equations.{to_applied}
 use Rattle.slotted_operations.proofs.AddedByLookUp.{found, found-known, found-made}

@@ -5,7 +5,7 @@ use Rattle.slotted_model.specs.Correspondence.{IsFullMap, IsPartialInjection, id
 use Rattle.slotted_model.specs.Find.{used_slots}
 use Rattle.slotted_model.specs.ProofList.{Equation}
 use Rattle.slotted_model.proofs.Correspondences.FullIds.{full_id}
-use Rattle.slotted_model.proofs.FillingEquations.{keys-identity}
+use Rattle.slotted_model.proofs.Represented.FillingEquations.{keys-identity}
 use Rattle.slotted_proofs.specs.Equations.{to_applied}
 use Rattle.slotted_classes.specs.Kept.{nodes_of, entries_of}
 use Rattle.slotted_classes.proofs.NameMaps.{length-keys}

@@ -1,7 +1,7 @@
 use Rattle.std.proofs.Common.{rules, ap, sym, subst}
 use Rattle.slotted_model.specs.Applied.{Applied, values}
 use Rattle.slotted_model.specs.Find.{used_slots}
-use Rattle.slotted_model.proofs.NormalIds.{values-identity}
+use Rattle.slotted_model.proofs.Finds.NormalIds.{values-identity}
 use Rattle.slotted_classes.specs.Kept.{entries_of}
 use Rattle.slotted_lookup.specs.Enodes.{AllKnownTo}
 use Rattle.slotted_lookup.specs.Reports.{class_sources}

@@ -1,7 +1,7 @@
 use Rattle.std.proofs.Common.{◌∙◌, sym, []}
 use Rattle.slotted_theory.specs.Nameless.{stop}
 use Rattle.slotted_theory.proofs.Values.{node}
-use Rattle.slotted_model.proofs.Sizes.{size-within}
+use Rattle.slotted_model.proofs.LeastTerms.Sizes.{size-within}
 use Rattle.slotted_costs.specs.Size.{largest}
 use Rattle.slotted_costs.proofs.Within.{each-within}
 use Rattle.slotted_costs.proofs.ast_size.AstSizeCostFunction.cost.Goals as goal

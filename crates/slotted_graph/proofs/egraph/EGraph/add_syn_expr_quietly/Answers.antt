@@ -1,7 +1,7 @@
 use Rattle.std.proofs.Common.{rules, ◌≡◌, ◌∙◌, ap, sym, subst, inl, inr, refl}
 use Rattle.std.proofs.lemmas.Bool.{false≢true}
 use Rattle.slotted_slots.specs.Table.{Table}
-use Rattle.slotted_model.proofs.Ids.{id_of-iff}
+use Rattle.slotted_model.proofs.Represented.Ids.{id_of-iff}
 use Rattle.slotted_terms.specs.Valid.{IsValidTerm}
 use Rattle.slotted_operations.specs.Causes.{CanRunOutForTerm, IsUnknownTerm}
 use Rattle.slotted_operations.specs.Good.{image_of}

@@ -5,7 +5,7 @@ use Rattle.std.proofs.lemmas.List.Sorted.{IsPermutation-refl}
 use Rattle.std.proofs.lemmas.Result.{IfOk-weaker}
 use Rattle.slotted_model.specs.Applied.{Applied, values}
 use Rattle.slotted_model.specs.Find.{used_slots}
-use Rattle.slotted_model.proofs.NormalIds.{values-identity}
+use Rattle.slotted_model.proofs.Finds.NormalIds.{values-identity}
 use Rattle.slotted_proofs.specs.Equations.{to_applied}
 use Rattle.slotted_classes.specs.Kept.{entries_of}
 use Rattle.slotted_terms.specs.Valid.{AllKnown}

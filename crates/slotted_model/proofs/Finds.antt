@@ -1,0 +1,19 @@
+-- Finds, and the proof entries that they rest on.
+pub mod Finding
+pub mod NormalIds
+pub mod Steps
+pub mod Leaves
+pub mod FindProofs
+pub mod Entering
+pub mod Linking
+pub mod Uniting
+pub mod Congruence
+pub mod Twins
+pub mod TwinNumbers
+pub mod NothingAsserted
+pub mod Replacing
+pub mod Dropping
+pub mod NewClasses
+pub mod Keeping
+pub mod Explaining
+pub mod Shortcuts
