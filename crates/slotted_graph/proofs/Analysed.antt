@@ -35,10 +35,10 @@ use Rattle.slotted_operations.specs.Good.{Good, RestsWith, image_of}
 use Rattle.slotted_operations.specs.Graph.{Graph}
 use Rattle.slotted_operations.specs.Image.{Image}
 use Rattle.slotted_writes.proofs.Since.{carried-same}
-use Rattle.slotted_operations.proofs.Images.{class_found-is}
+use Rattle.slotted_operations.proofs.Graphs.Images.{class_found-is}
 use Rattle.slotted_operations.specs.Reports.{finds_itself}
-use Rattle.slotted_operations.proofs.Reports.{compared-alike, live-is}
-use Rattle.slotted_operations.proofs.Resting.{at-rest}
+use Rattle.slotted_operations.proofs.Graphs.Reports.{compared-alike, live-is}
+use Rattle.slotted_operations.proofs.Graphs.AtRest.{at-rest}
 use Rattle.slotted_graph.specs.Analysed.{AbsorbsMade, CarriesData, CountsPending, HasData, KeepsPart, MergesData, TakesPending, datum_in, is_live_class}
 
 module _ {N D : Type 0} (codes : Coded N × Coded D) (meaning : N → Meaning D) (n : N) (m : ℕ) (k : Kept) (r : Rows) (d : Held D) (g : Graph)

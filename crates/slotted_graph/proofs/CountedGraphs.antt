@@ -19,7 +19,7 @@ use Rattle.slotted_data.specs.Pending.{lives_in}
 use Rattle.slotted_operations.specs.Good.{Good, RestsWith, Unites, image_of}
 use Rattle.slotted_operations.specs.Graph.{Graph}
 use Rattle.slotted_operations.specs.Image.{Image, live_size}
-use Rattle.slotted_operations.proofs.KeptNotes.{size-seen}
+use Rattle.slotted_operations.proofs.Graphs.Notes.{size-seen}
 use Rattle.slotted_graph.specs.Analysed.{LowersData, is_live_class}
 use Rattle.slotted_graph.specs.Extension.{ExtendsTo}
 use Rattle.slotted_graph.specs.Counted.{CountsUnion, HasNoHeights, IsWithinBound, IsWithinCounts, RiseWithin, TellsRebuild, TellsTotals, heights_of, last_of, size_with_data, told_at, totals_with}

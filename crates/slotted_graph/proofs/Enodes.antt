@@ -41,10 +41,10 @@ use Rattle.slotted_operations.specs.Good.{Good, RestsWith, image_of}
 use Rattle.slotted_operations.specs.Graph.{Graph}
 use Rattle.slotted_operations.specs.Image.{Image, found_id}
 use Rattle.slotted_operations.specs.ValidIds.{IsValidNode}
-use Rattle.slotted_operations.proofs.CanonicalTerms.{places-counted}
-use Rattle.slotted_operations.proofs.Images.{class_found-is, found_id-is}
-use Rattle.slotted_operations.proofs.LookUps.{looked_up-is}
-use Rattle.slotted_operations.proofs.ValidIds.{findable-children, findable-within, node-children_valid}
+use Rattle.slotted_operations.proofs.Ids.CanonicalTerms.{places-counted}
+use Rattle.slotted_operations.proofs.Graphs.Images.{class_found-is, found_id-is}
+use Rattle.slotted_operations.proofs.LookUps.States.{looked_up-is}
+use Rattle.slotted_operations.proofs.Ids.ValidIds.{findable-children, findable-within, node-children_valid}
 use Rattle.slotted_least_terms.proofs.Names.{count-moved}
 use Rattle.slotted_graph.specs.FiledNodes.{CanRunOutForDump, CanRunOutForEnodes, HasEachNode, HasLargeRow, HasLargeRowOf, IsEnode, shapes_found, slots_for_dump, slots_for_enodes}
 

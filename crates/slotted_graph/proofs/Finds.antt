@@ -38,7 +38,7 @@ use Rattle.slotted_rebuilding.specs.Filed.{state_in}
 use Rattle.slotted_operations.specs.Good.{Good, RestsWith, HasFreshSlots, image_of}
 use Rattle.slotted_operations.specs.Graph.{Graph}
 use Rattle.slotted_operations.specs.ValidIds.{IsValidId}
-use Rattle.slotted_operations.proofs.ValidIds.{to-valid}
+use Rattle.slotted_operations.proofs.Ids.ValidIds.{to-valid}
 use Rattle.slotted_graph.specs.Matching.{AreFoundValid, FindsAll, FindsAllAt, HasWideRow}
 use Rattle.slotted_graph.specs.States.{IsStateOf}
 use Rattle.slotted_graph.proofs.Enodes.{places-of_shape}

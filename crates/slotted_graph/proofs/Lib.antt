@@ -19,9 +19,9 @@ pub mod Indexes
 -- What the crates above cite, handed on.
 pub use Rattle.slotted_operations.proofs.CallerLemmas
 pub use Rattle.slotted_operations.proofs.YesesStay
-pub use Rattle.slotted_operations.proofs.FilledNames
-pub use Rattle.slotted_operations.proofs.Images
-pub use Rattle.slotted_operations.proofs.Layers
-pub use Rattle.slotted_operations.proofs.Tables
-pub use Rattle.slotted_operations.proofs.ValidIds
+pub use Rattle.slotted_operations.proofs.Ids.FilledNames
+pub use Rattle.slotted_operations.proofs.Graphs.Images
+pub use Rattle.slotted_operations.proofs.Terms.Layers
+pub use Rattle.slotted_operations.proofs.Additions.Tables
+pub use Rattle.slotted_operations.proofs.Ids.ValidIds
 pub use Rattle.slotted_least_terms.proofs.EntryForms

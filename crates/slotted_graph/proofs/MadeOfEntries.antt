@@ -25,11 +25,11 @@ use Rattle.slotted_operations.specs.Graph.{Graph}
 use Rattle.slotted_operations.specs.Image.{Image, found_id}
 use Rattle.slotted_operations.specs.LookUp.{look_up_term}
 use Rattle.slotted_operations.specs.ValidIds.{IsValidId}
-use Rattle.slotted_operations.proofs.AffectedClasses.{affected-is}
-use Rattle.slotted_operations.proofs.Images.{class_found-is, found_id-is}
-use Rattle.slotted_operations.proofs.LookUps.{tree-is}
-use Rattle.slotted_operations.proofs.Resting.{at-rest}
-use Rattle.slotted_operations.proofs.ValidIds.{fills-filling, findable-within, of-valid}
+use Rattle.slotted_operations.proofs.Unions.AffectedClasses.{affected-is}
+use Rattle.slotted_operations.proofs.Graphs.Images.{class_found-is, found_id-is}
+use Rattle.slotted_operations.proofs.LookUps.States.{tree-is}
+use Rattle.slotted_operations.proofs.Graphs.AtRest.{at-rest}
+use Rattle.slotted_operations.proofs.Ids.ValidIds.{fills-filling, findable-within, of-valid}
 use Rattle.slotted_least_terms.specs.Chosen.{AreChosen, IsChoice}
 use Rattle.slotted_least_terms.specs.Least.{AreLeast}
 use Rattle.slotted_least_terms.specs.Terms.{IsMade, entry_at}

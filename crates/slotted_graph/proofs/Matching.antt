@@ -40,9 +40,9 @@ use Rattle.slotted_operations.specs.Graph.{Graph}
 use Rattle.slotted_operations.specs.Good.{Good, RestsWith, image_of}
 use Rattle.slotted_operations.specs.Image.{Image, found_id}
 use Rattle.slotted_operations.specs.ValidIds.{IsValidId, slots_left}
-use Rattle.slotted_operations.proofs.Images.{class_found-is, found-at, found_id-is}
-use Rattle.slotted_operations.proofs.Resting.{at-rest}
-use Rattle.slotted_operations.proofs.ValidIds.{of-valid}
+use Rattle.slotted_operations.proofs.Graphs.Images.{class_found-is, found-at, found_id-is}
+use Rattle.slotted_operations.proofs.Graphs.AtRest.{at-rest}
+use Rattle.slotted_operations.proofs.Ids.ValidIds.{of-valid}
 use Rattle.slotted_graph.specs.Matching.{FindsAll, FindsAllAt, FindsEach, FindsEachAt, HasAllSlots, IsFoundUpTo}
 use Rattle.slotted_graph.specs.PatternLookUps.{IsLookedUpAt, IsLookedUpLive, look_up_pattern}
 use Rattle.slotted_graph.proofs.PatternLookUps.{pattern-is}

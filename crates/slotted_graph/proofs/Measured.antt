@@ -18,9 +18,9 @@ use Rattle.slotted_operations.specs.Good.{Good, NeverMore, image_of}
 use Rattle.slotted_operations.specs.Image.{Image}
 use Rattle.slotted_operations.specs.Reports.{live_classes}
 use Rattle.slotted_operations.specs.ValidIds.{slots_left}
-use Rattle.slotted_operations.proofs.GoodFinds.{good-finds}
-use Rattle.slotted_operations.proofs.Images.{found-at}
-use Rattle.slotted_operations.proofs.Reports.{class_count-is, live_ids-are}
+use Rattle.slotted_operations.proofs.Graphs.Finds.{good-finds}
+use Rattle.slotted_operations.proofs.Graphs.Images.{found-at}
+use Rattle.slotted_operations.proofs.Graphs.Reports.{class_count-is, live_ids-are}
 use Rattle.slotted_graph.specs.Measure.{IsProgress, NeverRises, slots_of_live}
 
 -- sums agree where what is summed does

@@ -20,10 +20,10 @@ use Rattle.slotted_operations.specs.Good.{Good, RestsWith, image_of}
 use Rattle.slotted_operations.specs.Graph.{Graph}
 use Rattle.slotted_operations.specs.Image.{Image, found_id}
 use Rattle.slotted_operations.specs.LookUp.{look_up_nameless}
-use Rattle.slotted_operations.proofs.Images.{found_id-is}
-use Rattle.slotted_operations.proofs.LookUps.{looked_up-is}
-use Rattle.slotted_operations.proofs.Resting.{at-rest}
-use Rattle.slotted_operations.proofs.ValidIds.{findable-within, renamed-findable}
+use Rattle.slotted_operations.proofs.Graphs.Images.{found_id-is}
+use Rattle.slotted_operations.proofs.LookUps.States.{looked_up-is}
+use Rattle.slotted_operations.proofs.Graphs.AtRest.{at-rest}
+use Rattle.slotted_operations.proofs.Ids.ValidIds.{findable-within, renamed-findable}
 use Rattle.slotted_graph.specs.PatternLookUps as graph
 
 module _ (k : Kept) (r : Rows) (good : Good k) (rests : RestsWith k r) (g : Graph) (image : image_of k ≡ g.image) (filed : rows_in r.filed ≡ g.filed) (σ : List ℕ → Applied) where

@@ -9,7 +9,7 @@ use Rattle.slotted_languages.specs.Shape.{Fits}
 use Rattle.slotted_model.specs.Applied.{Applied}
 use Rattle.slotted_proofs.specs.Equations.{to_applied}
 use Rattle.slotted_classes.specs.ChildIds.{child_ids}
-use Rattle.slotted_operations.proofs.TermNodes.{ids_nodes}
+use Rattle.slotted_operations.proofs.Ids.NodeCounts.{ids_nodes}
 use Rattle.slotted_graph.specs.Graph.{Graph, IsFullId}
 use Rattle.slotted_graph.specs.States.{IsGraph}
 use Rattle.slotted_instances.specs.declared.substitution.Frame.{Frame}

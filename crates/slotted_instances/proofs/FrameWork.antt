@@ -14,8 +14,8 @@ use Rattle.slotted_proofs.specs.Equations.{to_applied}
 use Rattle.slotted_classes.specs.ChildIds.{child_ids}
 use Rattle.slotted_classes.proofs.ChildIds.{length-ids}
 use Rattle.slotted_operations.specs.Canonical.{IsNodeOf}
-use Rattle.slotted_operations.proofs.CanonicalTerms.{child_set, children-below}
-use Rattle.slotted_operations.proofs.TermNodes.{children_nodes, ids_nodes}
+use Rattle.slotted_operations.proofs.Ids.CanonicalTerms.{child_set, children-below}
+use Rattle.slotted_operations.proofs.Ids.NodeCounts.{children_nodes, ids_nodes}
 use Rattle.slotted_instances.specs.declared.substitution.Frame.{Frame}
 use Rattle.slotted_instances.specs.Frames.{TakesAnswer, next_child, waiting_work, work_from}
 

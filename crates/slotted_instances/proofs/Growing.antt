@@ -5,7 +5,7 @@ use Rattle.slotted_slots.specs.Table.{KnowsMore}
 use Rattle.slotted_model.specs.Applied.{Applied}
 use Rattle.slotted_model.specs.Classes.{Canonical}
 use Rattle.slotted_model.specs.Growth.{Extends}
-use Rattle.slotted_operations.proofs.FreshSlots.{fresh_slots-more}
+use Rattle.slotted_operations.proofs.Graphs.FreshSlots.{fresh_slots-more}
 use Rattle.slotted_graph.specs.Graph.{Graph, IsFullId, OnlyTakesSlots}
 use Rattle.slotted_graph.specs.Image.{AddsClasses, Image, asserted_in}
 use Rattle.slotted_graph.specs.States.{IsGraph}

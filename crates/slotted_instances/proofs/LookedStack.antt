@@ -18,8 +18,8 @@ use Rattle.slotted_terms.specs.Valid.{IsValidTerm}
 use Rattle.slotted_model.specs.Applied.{Applied}
 use Rattle.slotted_proofs.specs.Equations.{to_applied}
 use Rattle.slotted_lookup.proofs.NodesOver.{over_fits}
-use Rattle.slotted_operations.proofs.AddedTerms.{valid-child, valid-count}
-use Rattle.slotted_operations.proofs.AnswerLists.{Both, Both-at, Both-length, Both-more, Both-split}
+use Rattle.slotted_operations.proofs.Additions.TermNodes.{valid-child, valid-count}
+use Rattle.slotted_operations.proofs.Additions.IdStacks.{Both, Both-at, Both-length, Both-more, Both-split}
 use Rattle.slotted_graph.specs.Graph.{Graph}
 use Rattle.slotted_graph.specs.LookUp.{look_up, look_up_term}
 use Rattle.slotted_graph.specs.Reports.{IsFound}

@@ -27,12 +27,12 @@ use Rattle.slotted_classes.proofs.NameMaps.{In-at, at_In}
 use Rattle.slotted_rebuilding.specs.Filed.{state_in}
 use Rattle.slotted_lookup.specs.Filling.{node_over}
 use Rattle.slotted_lookup.proofs.NodesOver.{child_ids-over, beside-over, length-over}
-use Rattle.slotted_operations.proofs.AddedTerms.{places-known}
-use Rattle.slotted_operations.proofs.Layers.{each_at}
-use Rattle.slotted_operations.proofs.LookUps.{looked_up-is, tree-is}
-use Rattle.slotted_operations.proofs.LookedUpParts.{Looked, children_found, looked-args}
-use Rattle.slotted_operations.proofs.Resting.{at-rest}
-use Rattle.slotted_operations.proofs.ValidIds.{of-valid, renamed-findable}
+use Rattle.slotted_operations.proofs.Additions.TermNodes.{places-known}
+use Rattle.slotted_operations.proofs.Terms.Layers.{each_at}
+use Rattle.slotted_operations.proofs.LookUps.States.{looked_up-is, tree-is}
+use Rattle.slotted_operations.proofs.LookUps.Subterms.{Looked, children_found, looked-args}
+use Rattle.slotted_operations.proofs.Graphs.AtRest.{at-rest}
+use Rattle.slotted_operations.proofs.Ids.ValidIds.{of-valid, renamed-findable}
 use Rattle.slotted_graph.specs.Graph.{Graph}
 use Rattle.slotted_graph.specs.LookUp.{look_up as look_up_form, look_up_term}
 use Rattle.slotted_graph.specs.States.{IsGraph}

@@ -24,8 +24,8 @@ use Rattle.slotted_classes.specs.Finding.{IsFindable}
 use Rattle.slotted_classes.specs.Kept.{entries_of, nodes_of}
 use Rattle.slotted_costs.specs.Costs.{costs_by}
 use Rattle.slotted_costs.specs.Size.{size_cost}
-use Rattle.slotted_operations.proofs.Images.{class_found-is}
-use Rattle.slotted_operations.proofs.ValidIds.{findable-within, of-valid}
+use Rattle.slotted_operations.proofs.Graphs.Images.{class_found-is}
+use Rattle.slotted_operations.proofs.Ids.ValidIds.{findable-within, of-valid}
 use Rattle.slotted_graph.specs.Causes.{class_found}
 use Rattle.slotted_graph.specs.Graph.{Graph, IsFullId, OnlyTakesSlots}
 use Rattle.slotted_graph.specs.Image.{AddsClasses, Image}

@@ -26,8 +26,8 @@ use Rattle.slotted_classes.proofs.KeptLists.{any_default}
 use Rattle.slotted_lookup.specs.Filling.{node_over}
 use Rattle.slotted_lookup.proofs.NodesOver.{node_over-none, node_over-more, node_over-own, child_ids-over, length-over, over_fits}
 use Rattle.slotted_operations.proofs.CallerLemmas.{full-valid}
-use Rattle.slotted_operations.proofs.CanonicalTerms.{children-below}
-use Rattle.slotted_operations.proofs.NodeAddition.{full_children}
+use Rattle.slotted_operations.proofs.Ids.CanonicalTerms.{children-below}
+use Rattle.slotted_operations.proofs.Additions.NodeAddition.{full_children}
 use Rattle.slotted_graph.specs.Adding.{AddsSyn}
 use Rattle.slotted_graph.specs.Graph.{Graph, IsFullId}
 use Rattle.slotted_graph.specs.Image.{Image}

@@ -19,7 +19,7 @@ use Rattle.slotted_proofs.specs.Equations.{to_applied}
 use Rattle.slotted_classes.specs.ChildIds.{child_ids}
 use Rattle.slotted_lookup.specs.Filling.{node_over}
 use Rattle.slotted_operations.specs.Canonical.{IsNodeOf}
-use Rattle.slotted_operations.proofs.TermNodes.{ids_nodes}
+use Rattle.slotted_operations.proofs.Ids.NodeCounts.{ids_nodes}
 use Rattle.slotted_graph.specs.Graph.{Graph, IsFullId, OnlyTakesSlots}
 use Rattle.slotted_graph.specs.States.{IsGraph}
 use Rattle.slotted_graph.specs.Syn.{HasUnknownBinders}

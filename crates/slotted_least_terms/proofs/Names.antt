@@ -18,7 +18,7 @@ use Rattle.slotted_lookup.specs.Enodes.{AllKnownTo}
 use Rattle.slotted_reports.proofs.FiledNodes.{name-of}
 use Rattle.slotted_reports.proofs.FreshNodes.{lacked-beside, made-beside, runs_out-more}
 use Rattle.slotted_operations.specs.Canonical.{args_count}
-use Rattle.slotted_operations.proofs.CanonicalTerms.{places-counted}
+use Rattle.slotted_operations.proofs.Ids.CanonicalTerms.{places-counted}
 use Rattle.slotted_least_terms.specs.Frames.{RunsOutForKey}
 
 -- a map to names of an id has names that are known

@@ -17,10 +17,10 @@ use Rattle.slotted_operations.specs.ValidIds.{IsValidId}
 use Rattle.slotted_operations.specs.Good.{Good, RestsWith, image_of}
 use Rattle.slotted_operations.specs.Graph.{Graph}
 use Rattle.slotted_operations.specs.Image.{Image}
-use Rattle.slotted_operations.proofs.AffectedClasses.{affected-is}
-use Rattle.slotted_operations.proofs.ValidIds.{of-valid, findable-within, fills-filling}
-use Rattle.slotted_operations.proofs.Images.{class_found-is}
-use Rattle.slotted_operations.proofs.Resting.{at-rest}
+use Rattle.slotted_operations.proofs.Unions.AffectedClasses.{affected-is}
+use Rattle.slotted_operations.proofs.Ids.ValidIds.{of-valid, findable-within, fills-filling}
+use Rattle.slotted_operations.proofs.Graphs.Images.{class_found-is}
+use Rattle.slotted_operations.proofs.Graphs.AtRest.{at-rest}
 
 module _ (k : Kept) (good : Good k) (r : Rows) (rest : AtRest (state_in k r)) (a b : Applied) (fa : IsFindable k a) (fb : IsFindable k b) (y : Bool) (says : IsTrue y ↔ (find (entries_of k) a ≡ find (entries_of k) b)) where
   -- a findable id of an affected class

@@ -1,7 +1,7 @@
 use Rattle.std.proofs.Common.{◌∙◌, ◌+◌, ap, sym, take}
 use Rattle.std.specs.Prelude.{◌||◌}
 use Rattle.std.proofs.lemmas.List.{take_more}
-use Rattle.slotted_operations.proofs.Reports.{numbers-then}
+use Rattle.slotted_operations.proofs.Graphs.Reports.{numbers-then}
 use Rattle.slotted_operations.specs.Reports.{class_numbers}
 use Rattle.slotted_graph.specs.Rounds.{all_modified}
 use Rattle.slotted_graph.proofs.Leaving.{each-then}

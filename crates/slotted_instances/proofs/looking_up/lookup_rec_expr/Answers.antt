@@ -15,7 +15,7 @@ use Rattle.slotted_graph.specs.Graph.{Graph}
 use Rattle.slotted_graph.specs.LookUp.{look_up_term}
 use Rattle.slotted_graph.specs.Reports.{IsFound}
 use Rattle.slotted_graph.specs.States.{IsGraph}
-use Rattle.slotted_operations.proofs.AnswerLists.{Both-length}
+use Rattle.slotted_operations.proofs.Additions.IdStacks.{Both-length}
 use Rattle.slotted_instances.proofs.LookedStack.{IsLooked, Looks, looked-last, looks-end, looks-enough, looks-node, looks-none, looks-start, looks-step}
 use Rattle.slotted_instances.proofs.looking_up.lookup_rec_expr.Goals as goal
 

@@ -11,7 +11,7 @@ use Rattle.slotted_nodes.specs.Form.{Form, child_names, children}
 use Rattle.slotted_model.specs.Applied.{Applied}
 use Rattle.slotted_proofs.specs.Equations.{to_applied}
 use Rattle.slotted_classes.proofs.ChildIds.{length-ids}
-use Rattle.slotted_operations.proofs.GivenNodes.{child_names-known}
+use Rattle.slotted_operations.proofs.Ids.NodesOfIds.{child_names-known}
 use Rattle.slotted_least_terms.specs.Terms.{IsFreshTerm, IsGivenOrNew, entry_at, slots_at, slots_of}
 use Rattle.slotted_least_terms.specs.Frames.{IsFrameFor, IsFreshFrame, IsKnownFrame, IsOpen, Waits, made_count, next_child, rest_from, waiting_rest, waiting_work, work_for, work_from}
 use Rattle.slotted_least_terms.proofs.FreshTerms.{all-new, fresh-before}

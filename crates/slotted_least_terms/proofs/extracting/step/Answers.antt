@@ -9,8 +9,8 @@ use Rattle.slotted_theory.specs.Term.{Term}
 use Rattle.slotted_nodes.specs.Form.{Form, children}
 use Rattle.slotted_languages.specs.Filled.{term_of}
 use Rattle.slotted_terms.specs.Valid.{IsValidTerm}
-use Rattle.slotted_operations.proofs.CanonicalTerms.{beside-itself}
-use Rattle.slotted_operations.proofs.GivenNodes.{valid-beside}
+use Rattle.slotted_operations.proofs.Ids.CanonicalTerms.{beside-itself}
+use Rattle.slotted_operations.proofs.Ids.NodesOfIds.{valid-beside}
 use Rattle.slotted_hashcons.specs.FiledRows.{key_children}
 use Rattle.slotted_reports.specs.Nodes.{HasFreshNames}
 use Rattle.slotted_least_terms.specs.Terms.{IsFreshTerm, IsMade, slots_of, sum_for}

@@ -6,8 +6,8 @@ use Rattle.std.proofs.lemmas.List.Elements.{All-nil}
 use Rattle.slotted_slots.specs.Maps.{values}
 use Rattle.slotted_terms.specs.Valid.{IsValidTerm}
 use Rattle.slotted_proofs.specs.Equations.{to_applied}
-use Rattle.slotted_operations.proofs.CanonicalTerms.{beside-itself}
-use Rattle.slotted_operations.proofs.GivenNodes.{valid-beside}
+use Rattle.slotted_operations.proofs.Ids.CanonicalTerms.{beside-itself}
+use Rattle.slotted_operations.proofs.Ids.NodesOfIds.{valid-beside}
 use Rattle.slotted_least_terms.specs.Terms.{IsFreshTerm, IsMade, entry_at, slots_at, slots_for, slots_of}
 use Rattle.slotted_least_terms.specs.Frames.{IsFreshFrame, IsKnownFrame, Waits, slots_left, waiting_rest}
 use Rattle.slotted_least_terms.proofs.FreshTerms.{fresh-term}

@@ -1,7 +1,7 @@
 use Rattle.std.proofs.Common.{arith, rules}
 use Rattle.slotted_operations.specs.Good.{MakesOne}
 use Rattle.slotted_proofs.specs.Equations.{to_applied}
-use Rattle.slotted_operations.proofs.FiledClasses.{adds-made, one-made, unfiled, adds-filed, rebuild-runs_out, unknown-made}
+use Rattle.slotted_operations.proofs.Additions.NewClasses.{adds-made, one-made, unfiled, adds-filed, rebuild-runs_out, unknown-made}
 use Rattle.slotted_operations.proofs.adding.add_syn.Goals as goal
 
 pub returns-then-class_count-clause-ok : goal.returns-then-class_count-clause-ok

@@ -8,9 +8,9 @@ use Rattle.slotted_terms.specs.Flat.{flat_of}
 use Rattle.slotted_terms.proofs.FlatTrees.{flat_last}
 use Rattle.slotted_terms.proofs.TermFolds.{term_folds-start}
 use Rattle.slotted_operations.specs.Places.{term_slots}
-use Rattle.slotted_operations.proofs.AnswerLists.{alone}
-use Rattle.slotted_operations.proofs.Tables.{makes-none}
-use Rattle.slotted_operations.proofs.TermAddition.{IsAdded, added-end, added-start, enough, next-added, next-full, next-lacks, next-makes, next-unknown, now-makes, one-id}
+use Rattle.slotted_operations.proofs.Additions.IdStacks.{alone}
+use Rattle.slotted_operations.proofs.Additions.Tables.{makes-none}
+use Rattle.slotted_operations.proofs.Additions.TermAddition.{IsAdded, added-end, added-start, enough, next-added, next-full, next-lacks, next-makes, next-unknown, now-makes, one-id}
 use Rattle.slotted_operations.proofs.adding.add_syn_expr.Goals as goal
 
 pub returns-in_err-left-clause-takes : goal.returns-in_err-left-clause-takes

@@ -2,7 +2,7 @@
 use Rattle.std.proofs.Common.{length, map}
 use Rattle.slotted_proofs.specs.Equations.{to_applied}
 use Rattle.slotted_terms.specs.Flat.{flat_of}
-use Rattle.slotted_operations.proofs.TermAddition.{IsAdded}
+use Rattle.slotted_operations.proofs.Additions.TermAddition.{IsAdded}
 use Rattle.slotted_operations.proofs.adding.add_syn_expr.Given as goal
 
 abbrev pub invariant-loop-next : goal.invariant-loop-next

@@ -5,8 +5,8 @@ use Rattle.slotted_model.proofs.Finds.NormalIds.{Contains-ascending, Contains-of
 use Rattle.slotted_slots.specs.Maps.{values}
 use Rattle.slotted_classes.specs.Kept.{names_at}
 use Rattle.slotted_classes.proofs.NameMaps.{all_differ-iff}
-use Rattle.slotted_operations.proofs.FullIds.{length-classes, length-rows, row-values}
-use Rattle.slotted_operations.proofs.GoodFinds.{good-finds}
+use Rattle.slotted_operations.proofs.Ids.FullIds.{length-classes, length-rows, row-values}
+use Rattle.slotted_operations.proofs.Graphs.Finds.{good-finds}
 use Rattle.slotted_operations.proofs.adding.can_be_found.Goals as goal
 
 pub names_of-requires : goal.names_of-requires

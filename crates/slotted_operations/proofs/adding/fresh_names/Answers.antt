@@ -4,7 +4,7 @@ use Rattle.slotted_slots.specs.Table.{Table}
 use Rattle.slotted_classes.specs.Names.{fresh_slots}
 use Rattle.slotted_classes.proofs.NameMaps.{length-keys}
 use Rattle.slotted_operations.specs.Graph.{MakesAtMost, RunsOut}
-use Rattle.slotted_operations.proofs.Tables.{makes-none}
+use Rattle.slotted_operations.proofs.Additions.Tables.{makes-none}
 use Rattle.slotted_operations.proofs.adding.fresh_names.Goals as goal
 
 pub map_between-requires : goal.map_between-requires

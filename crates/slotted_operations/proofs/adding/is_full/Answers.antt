@@ -5,7 +5,7 @@ use Rattle.slotted_model.specs.Ascending.{ascending}
 use Rattle.slotted_slots.specs.Maps.{values}
 use Rattle.slotted_proofs.specs.Equations.{to_applied}
 use Rattle.slotted_classes.specs.Kept.{names_at}
-use Rattle.slotted_operations.proofs.FullIds.{length-rows, row-differ, other_keys, full_iff}
+use Rattle.slotted_operations.proofs.Ids.FullIds.{length-rows, row-differ, other_keys, full_iff}
 use Rattle.slotted_classes.proofs.NameMaps.{all_differ-iff}
 use Rattle.slotted_operations.proofs.adding.is_full.Goals as goal
 

@@ -4,10 +4,10 @@ use Rattle.slotted_classes.specs.Names.{between}
 use Rattle.slotted_classes.proofs.NameMaps.{length-keys}
 use Rattle.slotted_proofs.specs.Equations.{to_applied}
 use Rattle.slotted_operations.specs.Good.{Makes}
-use Rattle.slotted_operations.proofs.GivenNodes.{memory-no_slots}
-use Rattle.slotted_operations.proofs.RowLookUps.{row-names}
-use Rattle.slotted_operations.proofs.NodeAddition.{absent-unknown, fresh_injective, row_makes, class_makes, shape-places}
-use Rattle.slotted_operations.proofs.Tables.{makes-more, makes-none, runs_out-more}
+use Rattle.slotted_operations.proofs.Ids.NodesOfIds.{memory-no_slots}
+use Rattle.slotted_operations.proofs.LookUps.Rows.{row-names}
+use Rattle.slotted_operations.proofs.Additions.NodeAddition.{absent-unknown, fresh_injective, row_makes, class_makes, shape-places}
+use Rattle.slotted_operations.proofs.Additions.Tables.{makes-more, makes-none, runs_out-more}
 use Rattle.slotted_operations.proofs.adding.made.Goals as goal
 
 pub class_of_row-requires : goal.class_of_row-requires

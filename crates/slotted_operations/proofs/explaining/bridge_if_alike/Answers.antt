@@ -1,7 +1,7 @@
 use Rattle.std.proofs.Common.{◌∙◌, refl, rules, sym}
 use Rattle.std.proofs.lemmas.Bool.{false≢true}
 use Rattle.slotted_proofs.specs.Equations.{to_applied}
-use Rattle.slotted_operations.proofs.GoodFinds.{full-findable}
+use Rattle.slotted_operations.proofs.Graphs.Finds.{full-findable}
 use Rattle.slotted_operations.proofs.explaining.bridge_if_alike.Goals as goal
 
 pub eq-requires-clause-left : goal.eq-requires-clause-left

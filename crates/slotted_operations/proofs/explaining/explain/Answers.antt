@@ -2,7 +2,7 @@ use Rattle.std.proofs.Common.{rules}
 use Rattle.std.proofs.lemmas.Result.{IfOk-weaker}
 use Rattle.slotted_proofs.specs.Equations.{to_applied}
 use Rattle.slotted_operations.specs.Explaining.{ExplainsTerms, ProvesIfAlike}
-use Rattle.slotted_operations.proofs.ExplainedTerms.{left-full, explains, runs-large, runs-left, runs-right}
+use Rattle.slotted_operations.proofs.Unions.Explanations.{left-full, explains, runs-large, runs-left, runs-right}
 use Rattle.slotted_operations.proofs.explaining.explain.Goals as goal
 
 pub bridge_if_alike-requires-clause-left : goal.bridge_if_alike-requires-clause-left

@@ -5,8 +5,8 @@ use Rattle.slotted_model.proofs.Represented.Children.{EachChild-map}
 use Rattle.slotted_model.proofs.Data.Options.{None-Some}
 use Rattle.slotted_classes.specs.Finding.{IsFindable}
 use Rattle.slotted_proofs.specs.Equations.{to_applied}
-use Rattle.slotted_operations.proofs.AddedByLookUp.{found, found-known, found-made}
-use Rattle.slotted_operations.proofs.FilledNodes.{none-taken, runs_out-large}
+use Rattle.slotted_operations.proofs.Additions.MissingNodes.{found, found-known, found-made}
+use Rattle.slotted_operations.proofs.Additions.NodeFillings.{none-taken, runs_out-large}
 use Rattle.slotted_operations.proofs.looking_up.add.Goals as goal
 
 pub look_up-requires-clause-good : goal.look_up-requires-clause-good

@@ -7,8 +7,8 @@ use Rattle.slotted_proofs.specs.Equations.{to_applied}
 use Rattle.slotted_terms.specs.Flat.{flat_of}
 use Rattle.slotted_terms.proofs.FlatTrees.{flat_last}
 use Rattle.slotted_terms.proofs.TermFolds.{term_folds-start}
-use Rattle.slotted_operations.proofs.AnswerLists.{alone}
-use Rattle.slotted_operations.proofs.LookedUpTerms.{IsFolded, enough, folded-end, folded-start, next-children, next-folded, next-known, next-lacks, next-takes, none-taken, now-taken, one-id, so-far}
+use Rattle.slotted_operations.proofs.Additions.IdStacks.{alone}
+use Rattle.slotted_operations.proofs.Additions.TermLookUps.{IsFolded, enough, folded-end, folded-start, next-children, next-folded, next-known, next-lacks, next-takes, none-taken, now-taken, one-id, so-far}
 use Rattle.slotted_operations.proofs.looking_up.add_expr.Goals as goal
 
 pub returns-in_err-left-clause-takes : goal.returns-in_err-left-clause-takes

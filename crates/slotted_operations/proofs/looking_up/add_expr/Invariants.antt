@@ -2,7 +2,7 @@
 use Rattle.std.proofs.Common.{length, map}
 use Rattle.slotted_proofs.specs.Equations.{to_applied}
 use Rattle.slotted_terms.specs.Flat.{flat_of}
-use Rattle.slotted_operations.proofs.LookedUpTerms.{IsFolded}
+use Rattle.slotted_operations.proofs.Additions.TermLookUps.{IsFolded}
 use Rattle.slotted_operations.proofs.looking_up.add_expr.Given as goal
 
 abbrev pub invariant-loop-next : goal.invariant-loop-next

@@ -2,8 +2,8 @@ use Rattle.std.proofs.Common.{rules, subst}
 use Rattle.slotted_proofs.specs.Equations.{to_applied}
 use Rattle.slotted_classes.specs.Kept.{nodes_of}
 use Rattle.slotted_operations.specs.Causes.{IsUnknownNode}
-use Rattle.slotted_operations.proofs.FilledNodes.{filled-adds, full-enough, makes-both, makes-missing, runs_out-missing, runs_out-node}
-use Rattle.slotted_operations.proofs.FreshSlots.{fresh_slots-more}
+use Rattle.slotted_operations.proofs.Additions.NodeFillings.{filled-adds, full-enough, makes-both, makes-missing, runs_out-missing, runs_out-node}
+use Rattle.slotted_operations.proofs.Graphs.FreshSlots.{fresh_slots-more}
 use Rattle.slotted_operations.proofs.looking_up.add_filled.Goals as goal
 
 pub fill_node-requires-clause-rows : goal.fill_node-requires-clause-rows

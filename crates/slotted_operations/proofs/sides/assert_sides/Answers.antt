@@ -3,8 +3,8 @@ use Rattle.std.proofs.lemmas.Result.{IfOk-weaker}
 use Rattle.slotted_proofs.specs.Equations.{to_applied}
 use Rattle.slotted_classes.specs.Kept.{EntersAsserted, text_bytes}
 use Rattle.slotted_operations.specs.Sides.{EntersFilled}
-use Rattle.slotted_operations.proofs.FilledUnions.{enters-filled}
-use Rattle.slotted_operations.proofs.Unions.{large-side}
+use Rattle.slotted_operations.proofs.Unions.UnionsOfFillings.{enters-filled}
+use Rattle.slotted_operations.proofs.Unions.WholeUnions.{large-side}
 use Rattle.slotted_operations.proofs.sides.assert_sides.Goals as goal
 
 pub assert_equal-requires-clause-left : goal.assert_equal-requires-clause-left

@@ -9,8 +9,8 @@ use Rattle.slotted_model.proofs.Represented.FillingEquations.{keys-identity}
 use Rattle.slotted_proofs.specs.Equations.{to_applied}
 use Rattle.slotted_classes.specs.Kept.{nodes_of, entries_of}
 use Rattle.slotted_classes.proofs.NameMaps.{length-keys}
-use Rattle.slotted_operations.proofs.LackingNames.{pairs-partial, pairs-turned}
-use Rattle.slotted_operations.proofs.Unions.{large-slots}
+use Rattle.slotted_operations.proofs.Ids.MissingNames.{pairs-partial, pairs-turned}
+use Rattle.slotted_operations.proofs.Unions.WholeUnions.{large-slots}
 use Rattle.slotted_operations.proofs.sides.class_equation.Goals as goal
 
 -- the slots of a class that is its own id

@@ -1,7 +1,7 @@
 use Rattle.std.proofs.Common.{◌∙◌, arith, sym}
 use Rattle.std.proofs.lemmas.Bool.Decides.{Decides-eqb}
 use Rattle.slotted_proofs.specs.Equations.{to_applied}
-use Rattle.slotted_operations.proofs.FullIds.{full-by_count, length-classes, length-rows}
+use Rattle.slotted_operations.proofs.Ids.FullIds.{full-by_count, length-classes, length-rows}
 use Rattle.slotted_operations.proofs.sides.has_all_names.Goals as goal
 
 pub names_of-requires : goal.names_of-requires

@@ -1,6 +1,6 @@
 use Rattle.std.proofs.Common.{◌∙◌, arith}
 use Rattle.slotted_hashcons.proofs.OwnIds.{own-map}
-use Rattle.slotted_operations.proofs.FullIds.{length-classes, length-rows}
+use Rattle.slotted_operations.proofs.Ids.FullIds.{length-classes, length-rows}
 use Rattle.slotted_operations.proofs.sides.own_id.Goals as goal
 
 pub names_of-slots-requires : goal.names_of-slots-requires

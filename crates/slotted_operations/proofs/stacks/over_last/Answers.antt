@@ -7,8 +7,8 @@ use Rattle.slotted_patterns.proofs.PieceTexts.{length_last}
 use Rattle.slotted_classes.proofs.ChildIds.{length-ids}
 use Rattle.slotted_operations.specs.Canonical.{IsBeside}
 use Rattle.slotted_operations.specs.Nodes.{child_ids, to_applied}
-use Rattle.slotted_operations.proofs.AnswerLists.{taken-more}
-use Rattle.slotted_operations.proofs.CanonicalTerms.{beside-itself, beside-step, child_set}
+use Rattle.slotted_operations.proofs.Additions.IdStacks.{taken-more}
+use Rattle.slotted_operations.proofs.Ids.CanonicalTerms.{beside-itself, beside-step, child_set}
 use Rattle.slotted_operations.proofs.stacks.over_last.Goals as goal
 
 pub loop-k-init : goal.loop-k-init

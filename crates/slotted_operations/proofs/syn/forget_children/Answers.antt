@@ -2,7 +2,7 @@ use Rattle.std.proofs.Common.{arith, sym, subst}
 use Rattle.slotted_nodes.specs.Form.{Form}
 use Rattle.slotted_operations.specs.Canonical.{IsBeside}
 use Rattle.slotted_proofs.specs.Equations.{to_applied}
-use Rattle.slotted_operations.proofs.CanonicalTerms.{beside-itself, beside-step}
+use Rattle.slotted_operations.proofs.Ids.CanonicalTerms.{beside-itself, beside-step}
 use Rattle.slotted_operations.proofs.syn.forget_children.Goals as goal
 
 pub loop-k-init : goal.loop-k-init

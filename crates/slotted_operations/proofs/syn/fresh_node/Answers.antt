@@ -15,10 +15,10 @@ use Rattle.slotted_classes.specs.Kept.{nodes_of}
 use Rattle.slotted_operations.specs.Good.{IsNodeOver}
 use Rattle.slotted_operations.specs.Nodes.{child_ids}
 use Rattle.slotted_operations.specs.Syn.{HasUnknownBinders, KnowsSlotsAnd, node_binders}
-use Rattle.slotted_operations.proofs.GivenNodes.{children-full, lacked-by_binders, made-by_binders}
-use Rattle.slotted_operations.proofs.GoodFinds.{full-findable}
-use Rattle.slotted_operations.proofs.RefreshedNodes.{as-many_places, binders-of_class, binders-unknown}
-use Rattle.slotted_operations.proofs.Tables.{makes-then, runs_out-then}
+use Rattle.slotted_operations.proofs.Ids.NodesOfIds.{children-full, lacked-by_binders, made-by_binders}
+use Rattle.slotted_operations.proofs.Graphs.Finds.{full-findable}
+use Rattle.slotted_operations.proofs.Ids.FreshBinders.{as-many_places, binders-of_class, binders-unknown}
+use Rattle.slotted_operations.proofs.Additions.Tables.{makes-then, runs_out-then}
 use Rattle.slotted_operations.proofs.syn.fresh_node.Goals as goal
 
 pub returns-clause-fresh : goal.returns-clause-fresh

@@ -10,9 +10,9 @@ use Rattle.slotted_classes.specs.Kept.{nodes_of}
 use Rattle.slotted_operations.specs.Causes.{HasLargePart}
 use Rattle.slotted_operations.specs.Good.{image_of}
 use Rattle.slotted_operations.specs.Syn.{FillsFresh, GivesTerm, KnowsSlotsAnd, names_lacking, term_binders, slots_for_term}
-use Rattle.slotted_operations.proofs.FilledNames.{filled-full, fills-fresh}
-use Rattle.slotted_operations.proofs.FreshSlots.{fresh_slots-more}
-use Rattle.slotted_operations.proofs.Tables.{makes-more, makes-then, runs_out-more, runs_out-then}
+use Rattle.slotted_operations.proofs.Ids.FilledNames.{filled-full, fills-fresh}
+use Rattle.slotted_operations.proofs.Graphs.FreshSlots.{fresh_slots-more}
+use Rattle.slotted_operations.proofs.Additions.Tables.{makes-more, makes-then, runs_out-more, runs_out-then}
 use Rattle.slotted_operations.proofs.syn.syn_expr_of.Goals as goal
 
 pub syn_expr-requires-clause-full : goal.syn_expr-requires-clause-full

@@ -13,11 +13,11 @@ use Rattle.slotted_operations.specs.Nodes.{child_ids}
 use Rattle.slotted_operations.specs.Causes.{IsLargeNode}
 use Rattle.slotted_operations.specs.Good.{IsNodeOver, image_of}
 use Rattle.slotted_operations.specs.Syn.{FillsFresh, GivesNode, KnowsSlotsAnd, names_lacking, node_binders, slots_for_node}
-use Rattle.slotted_operations.proofs.FilledNames.{filled-full, fills-fresh}
-use Rattle.slotted_operations.proofs.FreshSlots.{fresh_slots-more}
-use Rattle.slotted_operations.proofs.GivenNodes.{ok-three}
-use Rattle.slotted_operations.proofs.GoodFinds.{full-findable}
-use Rattle.slotted_operations.proofs.Tables.{makes-more, makes-then, runs_out-more, runs_out-then}
+use Rattle.slotted_operations.proofs.Ids.FilledNames.{filled-full, fills-fresh}
+use Rattle.slotted_operations.proofs.Graphs.FreshSlots.{fresh_slots-more}
+use Rattle.slotted_operations.proofs.Ids.NodesOfIds.{ok-three}
+use Rattle.slotted_operations.proofs.Graphs.Finds.{full-findable}
+use Rattle.slotted_operations.proofs.Additions.Tables.{makes-more, makes-then, runs_out-more, runs_out-then}
 use Rattle.slotted_operations.proofs.syn.syn_node_of.Goals as goal
 
 pub syn_node-requires-clause-full : goal.syn_node-requires-clause-full

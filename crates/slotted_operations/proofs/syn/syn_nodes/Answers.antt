@@ -6,8 +6,8 @@ use Rattle.slotted_patterns.proofs.PieceTexts.{nothing}
 use Rattle.slotted_proofs.specs.Equations.{to_applied}
 use Rattle.slotted_classes.specs.Kept.{nodes_of}
 use Rattle.slotted_terms.specs.Flat.{flat_of}
-use Rattle.slotted_operations.proofs.OpenedIds.{IsOpening, next-fewer, next-full, next-lacks, next-makes, next-opening, opening-end, opening-makes, opening-start}
-use Rattle.slotted_operations.proofs.TermNodes.{ids_nodes}
+use Rattle.slotted_operations.proofs.Ids.TermsOfIds.{IsOpening, next-fewer, next-full, next-lacks, next-makes, next-opening, opening-end, opening-makes, opening-start}
+use Rattle.slotted_operations.proofs.Ids.NodeCounts.{ids_nodes}
 use Rattle.slotted_operations.proofs.syn.syn_nodes.Goals as goal
 
 pub loop-next-init : goal.loop-next-init

@@ -3,8 +3,8 @@ use Rattle.std.proofs.Common.{map}
 use Rattle.slotted_proofs.specs.Equations.{to_applied}
 use Rattle.slotted_classes.specs.Kept.{nodes_of}
 use Rattle.slotted_terms.specs.Flat.{flat_of}
-use Rattle.slotted_operations.proofs.OpenedIds.{IsOpening}
-use Rattle.slotted_operations.proofs.TermNodes.{ids_nodes}
+use Rattle.slotted_operations.proofs.Ids.TermsOfIds.{IsOpening}
+use Rattle.slotted_operations.proofs.Ids.NodeCounts.{ids_nodes}
 use Rattle.slotted_operations.proofs.syn.syn_nodes.Given as goal
 
 abbrev pub invariant-loop-next : goal.invariant-loop-next

@@ -4,8 +4,8 @@ use Rattle.slotted_classes.specs.Kept.{SymmetryEntry, symmetry_entry}
 use Rattle.slotted_unions.proofs.ListedSoFar.{contained-map}
 use Rattle.slotted_operations.specs.Good.{image_of}
 use Rattle.slotted_operations.specs.Image.{CountsOpen}
-use Rattle.slotted_operations.proofs.GoodFinds.{good-finds}
-use Rattle.slotted_operations.proofs.Symmetries.{counted-open, counted-closed, map-take, map-all, none-counted}
+use Rattle.slotted_operations.proofs.Graphs.Finds.{good-finds}
+use Rattle.slotted_operations.proofs.Unions.Symmetries.{counted-open, counted-closed, map-take, map-all, none-counted}
 use Rattle.slotted_operations.proofs.uniting.open_symmetries.Goals as goal
 use Rattle.slotted_operations.proofs.uniting.open_symmetries.Goals.{then-not-eq, else-not-eq}
 

@@ -4,8 +4,8 @@ use Rattle.slotted_classes.specs.Kept.{text_bytes}
 use Rattle.slotted_proofs.specs.Equations.{to_applied}
 use Rattle.slotted_unions.proofs.GrownRows.{grown-count}
 use Rattle.slotted_rebuilding.proofs.FiledStates.{united-well}
-use Rattle.slotted_operations.proofs.FilledUnions.{said, filled-filed, stays-filled, unites-filled, large-uniting, large-rebuilding}
-use Rattle.slotted_operations.proofs.GoodFinds.{good-finds}
+use Rattle.slotted_operations.proofs.Unions.UnionsOfFillings.{said, filled-filed, stays-filled, unites-filled, large-uniting, large-rebuilding}
+use Rattle.slotted_operations.proofs.Graphs.Finds.{good-finds}
 use Rattle.slotted_operations.proofs.uniting.union.Goals as goal
 
 pub eq-found_alike-requires-clause-good : goal.eq-found_alike-requires-clause-good

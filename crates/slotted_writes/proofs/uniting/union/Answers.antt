@@ -2,8 +2,8 @@ use Rattle.std.proofs.Common.{subst, sym}
 use Rattle.slotted_hashcons.specs.FiledRows.{Rows}
 use Rattle.slotted_analyses.specs.Meaning.{by_bare_nodes}
 use Rattle.slotted_data.specs.Carrying.{Carried}
-use Rattle.slotted_operations.proofs.GoodFinds.{good-finds}
-use Rattle.slotted_operations.proofs.Resting.{at-rest}
+use Rattle.slotted_operations.proofs.Graphs.Finds.{good-finds}
+use Rattle.slotted_operations.proofs.Graphs.AtRest.{at-rest}
 use Rattle.slotted_writes.proofs.Since.{rested-since}
 use Rattle.slotted_writes.proofs.uniting.union.Goals as goal
 

@@ -10,8 +10,8 @@ use Rattle.slotted_operations.specs.Good.{image_of}
 use Rattle.slotted_operations.specs.Graph.{Graph}
 use Rattle.slotted_operations.specs.Image.{AddsClasses}
 use Rattle.slotted_operations.specs.Adding.{term_nodes}
-use Rattle.slotted_operations.proofs.AddedTerms.{reached}
-use Rattle.slotted_operations.proofs.GraphTerms.{term-answers, term-equal, term-filed, term-found, term-id, term-kept, term-lacks, term-nodes, term-reached, term-takes}
+use Rattle.slotted_operations.proofs.Additions.TermNodes.{reached}
+use Rattle.slotted_operations.proofs.Additions.GraphsWithTerms.{term-answers, term-equal, term-filed, term-found, term-id, term-kept, term-lacks, term-nodes, term-reached, term-takes}
 use Rattle.slotted_graph.proofs.Indexes.{no-index}
 use Rattle.slotted_graph.proofs.Analysed.{carries-data, kept-part}
 use Rattle.slotted_graph.proofs.Insides.{data-inside, inside-of, told-by}

@@ -10,9 +10,9 @@ use Rattle.slotted_operations.specs.Good.{graph_of}
 use Rattle.slotted_operations.specs.Graph.{Graph}
 use Rattle.slotted_languages.specs.NodeTerm.{nameless_node}
 use Rattle.slotted_operations.specs.Adding.{RunsOutForFilled}
-use Rattle.slotted_operations.proofs.LookUps.{looked_up-is}
-use Rattle.slotted_operations.proofs.ValidIds.{findable-children}
-use Rattle.slotted_operations.proofs.AddedNodes.{added-answers, added-equal, added-found, added-id, added-kept, added-made}
+use Rattle.slotted_operations.proofs.LookUps.States.{looked_up-is}
+use Rattle.slotted_operations.proofs.Ids.ValidIds.{findable-children}
+use Rattle.slotted_operations.proofs.Additions.GraphsWithNodes.{added-answers, added-equal, added-found, added-id, added-kept, added-made}
 use Rattle.slotted_graph.proofs.Analysed.{carries-data, kept-part}
 use Rattle.slotted_graph.proofs.Insides.{data-inside, given, inside-of}
 use Rattle.slotted_graph.proofs.egraph.EGraph.add_quietly.Goals as goal

@@ -13,7 +13,7 @@ use Rattle.std.specs.Prelude.{IsSome}
 use Rattle.slotted_classes.specs.Kept.{nodes_of}
 use Rattle.slotted_proofs.specs.Equations.{to_applied}
 use Rattle.slotted_theory.specs.Nameless.{nameless}
-use Rattle.slotted_operations.proofs.KnownNames.{term_known}
+use Rattle.slotted_operations.proofs.LookUps.FoundNames.{term_known}
 use Rattle.slotted_graph.proofs.Insides.{data-inside, inside-of}
 use Rattle.slotted_graph.proofs.Analysed.{carries-data, kept-part}
 use Rattle.slotted_graph.proofs.egraph.EGraph.add_syn_expr_quietly.Goals as goal

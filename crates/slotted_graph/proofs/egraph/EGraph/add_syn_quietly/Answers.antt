@@ -9,8 +9,8 @@ use Rattle.slotted_data.specs.Part.{part_by}
 use Rattle.slotted_operations.specs.Adding.{RunsOutForFilled}
 use Rattle.slotted_operations.specs.Good.{graph_of}
 use Rattle.slotted_operations.specs.Graph.{Graph}
-use Rattle.slotted_operations.proofs.ValidIds.{findable-children}
-use Rattle.slotted_operations.proofs.AddedNodes.{syn-adds, syn-valid}
+use Rattle.slotted_operations.proofs.Ids.ValidIds.{findable-children}
+use Rattle.slotted_operations.proofs.Additions.GraphsWithNodes.{syn-adds, syn-valid}
 use Rattle.slotted_graph.proofs.Analysed.{carries-data, kept-part}
 use Rattle.slotted_graph.proofs.Insides.{data-inside, given, inside-of}
 use Rattle.slotted_graph.proofs.egraph.EGraph.add_syn_quietly.Goals as goal

@@ -1,7 +1,7 @@
 use Rattle.std.proofs.Common.{◌≡◌, ap, subst, sym, ◌∙◌}
 use Rattle.std.specs.Prelude.{Some, slice_get}
 use Rattle.slotted_operations.specs.Graph.{Graph}
-use Rattle.slotted_operations.proofs.Reports.{within}
+use Rattle.slotted_operations.proofs.Graphs.Reports.{within}
 use Rattle.slotted_graph.proofs.Analysed.{absorbs-made, has-data}
 use Rattle.slotted_graph.proofs.Insides.{data-inside, inside-of}
 use Rattle.slotted_graph.proofs.egraph.EGraph.analysis_data.Goals as goal

@@ -4,8 +4,8 @@ use Rattle.std.proofs.lemmas.Bool.{false≢true}
 use Rattle.slotted_slots.specs.Table.{Table}
 use Rattle.slotted_reports.specs.Nodes.{RunsOutForClasses}
 use Rattle.slotted_operations.specs.Graph.{Graph}
-use Rattle.slotted_operations.proofs.FreshSlots.{fresh_slots-more}
-use Rattle.slotted_operations.proofs.Reports.{used-known}
+use Rattle.slotted_operations.proofs.Graphs.FreshSlots.{fresh_slots-more}
+use Rattle.slotted_operations.proofs.Graphs.Reports.{used-known}
 use Rattle.slotted_graph.specs.FiledNodes.{slots_for_dump}
 use Rattle.slotted_graph.proofs.Enodes.{dump-runs_out, dump-takes}
 use Rattle.slotted_graph.proofs.Insides.{inside-of}

@@ -15,8 +15,8 @@ use Rattle.slotted_reports.specs.Nodes.{AreClassNodes, HasLargeKeyOf}
 use Rattle.slotted_operations.specs.Good.{HasFreshSlots}
 use Rattle.slotted_operations.specs.Graph.{Graph}
 use Rattle.slotted_operations.specs.Reports.{names_slots}
-use Rattle.slotted_operations.proofs.GoodFinds.{good-finds}
-use Rattle.slotted_operations.proofs.Reports.{names-are, names-known, slots-are, used-fresh, within}
+use Rattle.slotted_operations.proofs.Graphs.Finds.{good-finds}
+use Rattle.slotted_operations.proofs.Graphs.Reports.{names-are, names-known, slots-are, used-fresh, within}
 use Rattle.slotted_graph.specs.FiledNodes.{HasEachNode, HasOwnNames, IsEnode, IsNoneIfDead}
 use Rattle.slotted_graph.proofs.Enodes.{class-enodes, each-node, large-of_class, none-dead}
 use Rattle.slotted_graph.proofs.Insides.{inside-of, given}

@@ -11,9 +11,9 @@ use Rattle.slotted_lookup.specs.Reports.{class_sources}
 use Rattle.slotted_reports.specs.Nodes.{AreEnodes, HasFreshNames, RunsOutForKeys}
 use Rattle.slotted_operations.specs.Graph.{Graph, MakesAtMost}
 use Rattle.slotted_operations.specs.ValidIds.{IsValidId}
-use Rattle.slotted_operations.proofs.FreshSlots.{fresh_slots-more}
-use Rattle.slotted_operations.proofs.Reports.{within}
-use Rattle.slotted_operations.proofs.ValidIds.{of-valid}
+use Rattle.slotted_operations.proofs.Graphs.FreshSlots.{fresh_slots-more}
+use Rattle.slotted_operations.proofs.Graphs.Reports.{within}
+use Rattle.slotted_operations.proofs.Ids.ValidIds.{of-valid}
 use Rattle.slotted_graph.specs.FiledNodes.{AscendByShape, HasEachNode, IsNoneIfDead, slots_for_enodes}
 use Rattle.slotted_graph.proofs.Enodes.{each-node, enodes, none-dead, permuted-same, runs-out_of, takes-found}
 use Rattle.slotted_graph.proofs.Insides.{inside-of, given}

@@ -3,9 +3,9 @@ use Rattle.std.proofs.lemmas.Bool.{false≢true}
 use Rattle.slotted_operations.specs.ValidIds.{IsValidId}
 use Rattle.slotted_operations.specs.Good.{RestsWith}
 use Rattle.slotted_proofs.specs.Equations.{to_applied}
-use Rattle.slotted_operations.proofs.Answering.{says-of}
+use Rattle.slotted_operations.proofs.Unions.Equality.{says-of}
 use Rattle.slotted_operations.proofs.Completeness.{complete-of}
-use Rattle.slotted_operations.proofs.ValidIds.{of-valid}
+use Rattle.slotted_operations.proofs.Ids.ValidIds.{of-valid}
 use Rattle.slotted_graph.proofs.Insides.{inside-of, given}
 use Rattle.slotted_graph.proofs.egraph.EGraph.eq.Goals as goal
 

@@ -6,9 +6,9 @@ use Rattle.slotted_proofs.specs.Equations.{to_applied}
 use Rattle.slotted_operations.specs.ValidIds.{IsValidId}
 use Rattle.slotted_operations.specs.Image.{found_id}
 use Rattle.slotted_operations.specs.Reports.{IsFoundFor}
-use Rattle.slotted_operations.proofs.ValidIds.{of-valid}
-use Rattle.slotted_operations.proofs.GoodFinds.{good-finds}
-use Rattle.slotted_operations.proofs.Reports.{found-for, found_id-finds}
+use Rattle.slotted_operations.proofs.Ids.ValidIds.{of-valid}
+use Rattle.slotted_operations.proofs.Graphs.Finds.{good-finds}
+use Rattle.slotted_operations.proofs.Graphs.Reports.{found-for, found_id-finds}
 use Rattle.slotted_graph.proofs.Insides.{inside-of, given}
 use Rattle.slotted_graph.proofs.egraph.EGraph.find_applied_id.Goals as goal
 

@@ -5,9 +5,9 @@ use Rattle.slotted_hashcons.specs.FiledRows.{rows_in}
 use Rattle.slotted_data.specs.Part.{part_by}
 use Rattle.slotted_operations.specs.Good.{graph_of}
 use Rattle.slotted_operations.specs.Graph.{Graph}
-use Rattle.slotted_operations.proofs.FreshSlots.{fresh_slots-more}
-use Rattle.slotted_operations.proofs.GoodFinds.{good-finds}
-use Rattle.slotted_operations.proofs.Resting.{at-rest}
+use Rattle.slotted_operations.proofs.Graphs.FreshSlots.{fresh_slots-more}
+use Rattle.slotted_operations.proofs.Graphs.Finds.{good-finds}
+use Rattle.slotted_operations.proofs.Graphs.AtRest.{at-rest}
 use Rattle.slotted_patterns.specs.View.{tree_of}
 use Rattle.slotted_patterns.specs.Known.{HasKnownNames}
 use Rattle.slotted_matching.specs.Found.{IsFound, RunsOutFor, TakesFor}

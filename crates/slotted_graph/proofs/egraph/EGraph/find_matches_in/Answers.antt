@@ -5,17 +5,17 @@ use Rattle.slotted_hashcons.specs.FiledRows.{rows_in}
 use Rattle.slotted_data.specs.Part.{part_by}
 use Rattle.slotted_operations.specs.Good.{graph_of, image_of}
 use Rattle.slotted_operations.specs.Graph.{Graph}
-use Rattle.slotted_operations.proofs.FreshSlots.{fresh_slots-more}
-use Rattle.slotted_operations.proofs.GoodFinds.{good-finds}
-use Rattle.slotted_operations.proofs.Resting.{at-rest}
+use Rattle.slotted_operations.proofs.Graphs.FreshSlots.{fresh_slots-more}
+use Rattle.slotted_operations.proofs.Graphs.Finds.{good-finds}
+use Rattle.slotted_operations.proofs.Graphs.AtRest.{at-rest}
 use Rattle.slotted_patterns.specs.View.{tree_of}
 use Rattle.slotted_patterns.specs.Known.{HasKnownNames}
 use Rattle.slotted_proofs.specs.Equations.{to_applied}
 use Rattle.slotted_classes.proofs.KeptLists.{length-nodes_of}
 use Rattle.slotted_operations.specs.Causes.{class_found}
 use Rattle.slotted_operations.specs.ValidIds.{IsValidId}
-use Rattle.slotted_operations.proofs.Images.{class_found-is}
-use Rattle.slotted_operations.proofs.ValidIds.{findable-within, of-valid}
+use Rattle.slotted_operations.proofs.Graphs.Images.{class_found-is}
+use Rattle.slotted_operations.proofs.Ids.ValidIds.{findable-within, of-valid}
 use Rattle.slotted_matching.specs.Found.{IsFoundAt, RunsOutFor, TakesFor}
 use Rattle.slotted_graph.specs.Matching.{FindsAllAt}
 use Rattle.slotted_graph.proofs.Matching.{live-class, readings-each, readings-looked_up}

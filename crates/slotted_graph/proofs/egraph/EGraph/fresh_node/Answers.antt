@@ -12,8 +12,8 @@ use Rattle.slotted_operations.specs.Good.{IsNodeOver, image_of}
 use Rattle.slotted_operations.specs.Graph.{Graph, MakesAtMost}
 use Rattle.slotted_operations.specs.Image.{Image}
 use Rattle.slotted_operations.specs.Syn.{FreshNodeRunsOut, HasUnknownBinders, node_binders}
-use Rattle.slotted_operations.proofs.ValidIds.{node-children_valid}
-use Rattle.slotted_operations.proofs.FreshSlots.{fresh_slots-more}
+use Rattle.slotted_operations.proofs.Ids.ValidIds.{node-children_valid}
+use Rattle.slotted_operations.proofs.Graphs.FreshSlots.{fresh_slots-more}
 use Rattle.slotted_graph.proofs.Insides.{inside-of}
 use Rattle.slotted_graph.proofs.egraph.EGraph.fresh_node.Goals as goal
 

@@ -11,10 +11,10 @@ use Rattle.slotted_lookup.specs.Filling.{FillsId, filled_id, missing, with_fresh
 use Rattle.slotted_operations.specs.Good.{image_of}
 use Rattle.slotted_operations.specs.Graph.{Graph, IsFullId}
 use Rattle.slotted_operations.specs.Syn.{FillsFresh}
-use Rattle.slotted_operations.proofs.FilledNames.{filled-full, fills-fresh}
-use Rattle.slotted_operations.proofs.FreshSlots.{fresh_slots-more}
-use Rattle.slotted_operations.proofs.GivenNodes.{ok-three}
-use Rattle.slotted_operations.proofs.ValidIds.{of-valid}
+use Rattle.slotted_operations.proofs.Ids.FilledNames.{filled-full, fills-fresh}
+use Rattle.slotted_operations.proofs.Graphs.FreshSlots.{fresh_slots-more}
+use Rattle.slotted_operations.proofs.Ids.NodesOfIds.{ok-three}
+use Rattle.slotted_operations.proofs.Ids.ValidIds.{of-valid}
 use Rattle.slotted_graph.proofs.Insides.{inside-of}
 use Rattle.slotted_graph.proofs.egraph.EGraph.full_id.Goals as goal
 

@@ -7,8 +7,8 @@ use Rattle.slotted_model.specs.Applied.{values}
 use Rattle.slotted_proofs.specs.Equations.{to_applied}
 use Rattle.slotted_operations.specs.Graph.{Graph, MakesAtMost}
 use Rattle.slotted_operations.specs.Syn.{FilledTermRunsOut, GivesTerm, IsFilledTerm, IsTermWhereFull, slots_for_term}
-use Rattle.slotted_operations.proofs.ValidIds.{of-valid}
-use Rattle.slotted_operations.proofs.FreshSlots.{fresh_slots-more}
+use Rattle.slotted_operations.proofs.Ids.ValidIds.{of-valid}
+use Rattle.slotted_operations.proofs.Graphs.FreshSlots.{fresh_slots-more}
 use Rattle.slotted_graph.proofs.Insides.{inside-of}
 use Rattle.slotted_graph.proofs.egraph.EGraph.get_syn_expr.Goals as goal
 

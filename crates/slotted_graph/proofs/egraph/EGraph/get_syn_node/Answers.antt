@@ -7,8 +7,8 @@ use Rattle.slotted_model.specs.Applied.{values}
 use Rattle.slotted_proofs.specs.Equations.{to_applied}
 use Rattle.slotted_operations.specs.Graph.{Graph, MakesAtMost}
 use Rattle.slotted_operations.specs.Syn.{FilledNodeRunsOut, GivesNode, IsFilledNode, IsNodeWhereFull, slots_for_node}
-use Rattle.slotted_operations.proofs.ValidIds.{node-children_valid, of-valid}
-use Rattle.slotted_operations.proofs.FreshSlots.{fresh_slots-more}
+use Rattle.slotted_operations.proofs.Ids.ValidIds.{node-children_valid, of-valid}
+use Rattle.slotted_operations.proofs.Graphs.FreshSlots.{fresh_slots-more}
 use Rattle.slotted_graph.proofs.Insides.{inside-of}
 use Rattle.slotted_graph.proofs.egraph.EGraph.get_syn_node.Goals as goal
 

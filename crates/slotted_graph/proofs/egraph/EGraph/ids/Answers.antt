@@ -1,7 +1,7 @@
 use Rattle.std.proofs.Common.{◌∙◌, ap}
 use Rattle.slotted_operations.specs.Graph.{Graph}
 use Rattle.slotted_operations.specs.Reports.{live_classes}
-use Rattle.slotted_operations.proofs.Reports.{live_ids-are}
+use Rattle.slotted_operations.proofs.Graphs.Reports.{live_ids-are}
 use Rattle.slotted_graph.proofs.Insides.{inside-of}
 use Rattle.slotted_graph.proofs.egraph.EGraph.ids.Goals as goal
 

@@ -8,7 +8,7 @@ use Rattle.slotted_operations.specs.Good.{Good, image_of}
 use Rattle.slotted_operations.specs.Graph.{Graph}
 use Rattle.slotted_operations.specs.Image.{Image}
 use Rattle.slotted_operations.specs.Reports.{HasClass}
-use Rattle.slotted_operations.proofs.Reports.{live-is, within}
+use Rattle.slotted_operations.proofs.Graphs.Reports.{live-is, within}
 use Rattle.slotted_graph.proofs.egraph.EGraph.is_alive.Goals as goal
 
 pub is_alive-requires : goal.is_alive-requires

@@ -4,8 +4,8 @@ use Rattle.slotted_slots.specs.Table.{Table}
 use Rattle.slotted_rebuilding.specs.Filed.{state_in}
 use Rattle.slotted_operations.specs.Good.{Good, HasFreshSlots, RestsWith}
 use Rattle.slotted_operations.specs.Graph.{Graph}
-use Rattle.slotted_operations.proofs.LookedUpClasses.{are-looked_up}
-use Rattle.slotted_operations.proofs.RepresentedTerms.{are-represented}
+use Rattle.slotted_operations.proofs.LookUps.ClassNodes.{are-looked_up}
+use Rattle.slotted_operations.proofs.LookUps.ClassTerms.{are-represented}
 use Rattle.slotted_graph.specs.States.{IsGraph}
 use Rattle.slotted_graph.proofs.egraph.EGraph.is_failed.Goals as goal
 

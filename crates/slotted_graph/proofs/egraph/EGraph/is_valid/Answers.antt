@@ -7,7 +7,7 @@ use Rattle.slotted_model.specs.Applied.{values}
 use Rattle.slotted_operations.specs.Good.{Good, image_of}
 use Rattle.slotted_operations.specs.Graph.{Graph}
 use Rattle.slotted_proofs.specs.Equations.{to_applied}
-use Rattle.slotted_operations.proofs.ValidIds.{to-valid, of-valid}
+use Rattle.slotted_operations.proofs.Ids.ValidIds.{to-valid, of-valid}
 use Rattle.slotted_graph.proofs.egraph.EGraph.is_valid.Goals as goal
 
 pub returns-then-not-self : goal.returns-then-not-self

@@ -5,7 +5,7 @@ use Rattle.slotted_slots.specs.Table.{Table}
 use Rattle.slotted_terms.specs.Valid.{AllKnown}
 use Rattle.slotted_operations.specs.Good.{Good, image_of}
 use Rattle.slotted_operations.specs.Graph.{Graph}
-use Rattle.slotted_operations.proofs.ValidIds.{node-children_find, node-children_valid}
+use Rattle.slotted_operations.proofs.Ids.ValidIds.{node-children_find, node-children_valid}
 use Rattle.slotted_graph.proofs.egraph.EGraph.is_valid_node.Goals as goal
 
 pub returns-then-not-self : goal.returns-then-not-self

@@ -8,8 +8,8 @@ use Rattle.slotted_operations.specs.Adding.{IsEqualToNode}
 use Rattle.slotted_operations.specs.ValidIds.{IsValidNode}
 use Rattle.slotted_operations.specs.LookUp.{look_up}
 use Rattle.slotted_operations.specs.Reports.{IsFound}
-use Rattle.slotted_operations.proofs.ValidIds.{findable-children}
-use Rattle.slotted_operations.proofs.LookedUp.{node-equal_to, node-found, node-id}
+use Rattle.slotted_operations.proofs.Ids.ValidIds.{findable-children}
+use Rattle.slotted_operations.proofs.LookUps.FoundIds.{node-equal_to, node-found, node-id}
 use Rattle.slotted_graph.proofs.Insides.{inside-of, given}
 use Rattle.slotted_graph.proofs.egraph.EGraph.lookup.Goals as goal
 

@@ -3,7 +3,7 @@ use Rattle.slotted_model_analyses.specs.Analysis.{IsMerge}
 use Rattle.slotted_analyses.specs.Meaning.{by_bare_nodes}
 use Rattle.slotted_analyses.proofs.Merging.{merge-decided}
 use Rattle.slotted_operations.specs.Graph.{Graph}
-use Rattle.slotted_operations.proofs.Reports.{within}
+use Rattle.slotted_operations.proofs.Graphs.Reports.{within}
 use Rattle.slotted_graph.proofs.Analysed.{merges-data}
 use Rattle.slotted_graph.proofs.Insides.{data-inside, given, inside-of}
 use Rattle.slotted_graph.proofs.egraph.EGraph.merge_data_quietly.Goals as goal

@@ -4,9 +4,9 @@ use Rattle.slotted_model.specs.Applied.{Applied, values}
 use Rattle.slotted_terms.specs.Valid.{AllKnown}
 use Rattle.slotted_operations.specs.Good.{HasFreshSlots}
 use Rattle.slotted_operations.specs.Graph.{Graph}
-use Rattle.slotted_operations.proofs.ValidIds.{to-valid}
-use Rattle.slotted_operations.proofs.GoodFinds.{good-finds}
-use Rattle.slotted_operations.proofs.Reports.{names-are, names-known, within}
+use Rattle.slotted_operations.proofs.Ids.ValidIds.{to-valid}
+use Rattle.slotted_operations.proofs.Graphs.Finds.{good-finds}
+use Rattle.slotted_operations.proofs.Graphs.Reports.{names-are, names-known, within}
 use Rattle.slotted_proofs.specs.Equations.{to_applied}
 use Rattle.slotted_graph.proofs.Insides.{inside-of, given}
 use Rattle.slotted_graph.proofs.egraph.EGraph.mk_identity_applied_id.Goals as goal

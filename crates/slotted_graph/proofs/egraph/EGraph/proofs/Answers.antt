@@ -3,7 +3,7 @@ use Rattle.slotted_proofs.specs.Lines.{PartsAreEarlier}
 use Rattle.slotted_operations.specs.Graph.{Graph}
 use Rattle.slotted_classes.specs.Kept.{nodes_of}
 use Rattle.slotted_operations.specs.Leaves.{EntriesFollow}
-use Rattle.slotted_operations.proofs.LeavesOf.{good-entries_follow}
+use Rattle.slotted_operations.proofs.Graphs.Leaves.{good-entries_follow}
 use Rattle.slotted_proofs.proofs.Fitting.{parts_earlier}
 use Rattle.slotted_graph.proofs.egraph.EGraph.proofs.Goals as goal
 

@@ -5,8 +5,8 @@ use Rattle.slotted_terms.specs.Valid.{AllKnown}
 use Rattle.slotted_operations.specs.Good.{HasFreshSlots}
 use Rattle.slotted_operations.specs.Graph.{Graph}
 use Rattle.slotted_operations.specs.Reports.{slots_used}
-use Rattle.slotted_operations.proofs.GoodFinds.{good-finds}
-use Rattle.slotted_operations.proofs.Reports.{slots-are, used-known, within}
+use Rattle.slotted_operations.proofs.Graphs.Finds.{good-finds}
+use Rattle.slotted_operations.proofs.Graphs.Reports.{slots-are, used-known, within}
 use Rattle.slotted_graph.proofs.Insides.{inside-of, given}
 use Rattle.slotted_graph.proofs.egraph.EGraph.slots.Goals as goal
 

@@ -1,8 +1,8 @@
 use Rattle.std.proofs.Common.{◌∙◌, ap, sym, subst, inl, inr}
 use Rattle.slotted_operations.specs.Graph.{Graph}
 use Rattle.slotted_operations.specs.Image.{AreSymmetries, AreListedOnce}
-use Rattle.slotted_operations.proofs.ListedOnce.{listed_once}
-use Rattle.slotted_operations.proofs.Symmetries.{are_symmetries, findable-sides}
+use Rattle.slotted_operations.proofs.Unions.DistinctSymmetries.{listed_once}
+use Rattle.slotted_operations.proofs.Unions.Symmetries.{are_symmetries, findable-sides}
 use Rattle.slotted_graph.proofs.egraph.EGraph.symmetries_met.Goals as goal
 
 pub returns-clause-each : goal.returns-clause-each

@@ -8,8 +8,8 @@ use Rattle.std.proofs.lemmas.Bool.{false≢true}
 use Rattle.slotted_proofs.specs.Equations.{to_applied}
 use Rattle.slotted_operations.specs.ValidIds.{IsValidId}
 use Rattle.slotted_operations.specs.Good.{graph_of, image_of}
-use Rattle.slotted_operations.proofs.FiledClasses.{grown-fresh}
-use Rattle.slotted_operations.proofs.ValidIds.{of-valid}
+use Rattle.slotted_operations.proofs.Additions.NewClasses.{grown-fresh}
+use Rattle.slotted_operations.proofs.Ids.ValidIds.{of-valid}
 use Rattle.slotted_graph.proofs.Measured.{never-rises}
 use Rattle.slotted_graph.proofs.Indexes.{no-index}
 use Rattle.slotted_graph.proofs.Insides.{data-inside, given, inside-of}

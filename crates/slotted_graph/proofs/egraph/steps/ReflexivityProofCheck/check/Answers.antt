@@ -6,7 +6,7 @@ use Rattle.slotted_classes.specs.Kept.{EntersIn, nodes_of}
 use Rattle.slotted_proofs.specs.Equations.{statement_of}
 use Rattle.slotted_proofs.specs.Steps.{IsReflexiveStep, by_step}
 use Rattle.slotted_proofs.specs.StepClaims.{IsOfFull}
-use Rattle.slotted_operations.proofs.AcceptedSteps.{both_ok, Checked, reflexive_checked, kept_good, says_accepted, says_derivable, says_leaves}
+use Rattle.slotted_operations.proofs.Graphs.ProofSteps.{both_ok, Checked, reflexive_checked, kept_good, says_accepted, says_derivable, says_leaves}
 use Rattle.slotted_graph.proofs.Analysed.{data-checked}
 use Rattle.slotted_graph.proofs.Indexes.{no-index}
 use Rattle.slotted_graph.proofs.Insides.{data-inside}
