@@ -12,10 +12,10 @@ use Rattle.slotted_theory.proofs.Lists.{contains_cases, Contains-nil}
 use Rattle.slotted_slots.specs.Maps.{values}
 use Rattle.slotted_nodes.specs.Form.{Form, Tree, leaf, own, child, bind, scopes, child_names, child_place, width}
 use Rattle.slotted_languages.specs.NodeTerm.{node_args, nameless_node}
-use Rattle.slotted_languages.specs.NodeTerm as node
 use Rattle.slotted_languages.specs.Outline.{outlined}
 use Rattle.slotted_languages.specs.Shape.{Fits}
-use Rattle.slotted_languages.proofs.NodeTerms.{own_fits, length-child, child_keys_fit, child_rest_fits, bind_inner_fits, bind_rest_fits}
+use Rattle.slotted_languages.specs.Sizes.{args_size, node_size}
+use Rattle.slotted_languages.proofs.NodeSizes.{names_fit_size}
 use Rattle.slotted_model.specs.Applied.{applied_of, own_names}
 use Rattle.slotted_proofs.specs.declared.equation.Equation.{Equation as Sides}
 use Rattle.slotted_proofs.specs.AlikeNodes.{AreAlikeArgs}
@@ -23,26 +23,7 @@ use Rattle.slotted_proofs.specs.Equations.{to_applied}
 use Rattle.slotted_proofs.specs.Steps.{IsLarge, Matches, name_count}
 use Rattle.slotted_outlines.specs.Seen as seen
 use Rattle.slotted_alike.specs.Frames.{AreAlikeForms}
-use Rattle.slotted_alike.specs.Sizes.{args_size, node_size}
 use Rattle.slotted_classes.proofs.NameMaps.{length-values}
-
--- names and binders are among names, binders and children
-
-pub names_in : (ρ : ℕ → ℕ) (xs : List ℕ) → args_size (nameless_args ρ (node.own_names xs)) ≡ length xs
-names_in ρ [] = refl
-names_in ρ (x ∷ xs) = omega (arith, names_in ρ xs)
-
-places_in : (ρ : ℕ → ℕ) (t : Tree) (xs : List ℕ) → length xs ≡ length (scopes t) → length xs ≤ args_size (nameless_args ρ (node_args t xs))
-places_in ρ leaf xs n = omega (arith, n)
-places_in ρ (own r) xs n = omega (arith, n, own_fits r xs n, places_in ρ r (drop 1 xs) (own_fits r xs n))
-places_in ρ (child i ks r) xs n =
-    omega (arith, n, length-child i ks r, names_in ρ (take (length ks) xs), child_keys_fit i ks r xs n, child_rest_fits i ks r xs n, places_in ρ r (drop (length ks) xs) (child_rest_fits i ks r xs n))
-places_in ρ (bind u r) xs n =
-    let m = length (scopes u) in
-    omega (arith, n, length-append (scopes u) (scopes r), bind_inner_fits u r xs n, bind_rest_fits u r xs n, places_in (extend (slice_index xs 0) ρ) u (take m (drop 1 xs)) (bind_inner_fits u r xs n), places_in ρ r (drop m (drop 1 xs)) (bind_rest_fits u r xs n))
-
-pub names_fit_size : (f : Form) → Fits f → length f.names ≤ node_size (nameless_node f)
-names_fit_size f fits = places_in (λ x. x) f.tree f.names fits
 
 length-taken : (n p : ℕ) (xs : List ℕ) → length (take n (drop p xs)) ≤ length xs
 length-taken n p xs = omega (arith, length-take n (drop p xs), length-drop p xs)

@@ -1,3 +1,2 @@
 -- Nodes side by side, and how large they are.
 pub mod Frames
-pub mod Sizes

@@ -4,7 +4,7 @@ ghost use Rattle.slotted_theory.specs.FiniteMaps.{IsInjectiveMap};
 ghost use Rattle.slotted_slots.specs.Error.{IsOutOfMemory, IsShortage};
 ghost use Rattle.slotted_proofs.specs.Equations.{HaveManyNames};
 ghost use Rattle.slotted_proofs.specs.Steps.{HasInjectiveSides};
-ghost use Rattle.slotted_alike.specs.Sizes.{IsWideNode};
+ghost use Rattle.slotted_languages.specs.Sizes.{IsWideNode};
 ghost use Rattle.slotted_alike.specs.Frames.{AreAlikeForms, AreNeverAlike, MatchesBelow, partner_of, partners_of};
 
 use slotted_languages::Language;

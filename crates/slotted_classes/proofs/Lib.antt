@@ -12,3 +12,4 @@ mod DeadClasses
 mod Sizes
 mod CountedClasses
 pub mod Chasing
+pub mod StoredFinds

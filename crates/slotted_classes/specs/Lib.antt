@@ -5,3 +5,5 @@ pub mod ChildIds
 pub mod Counts
 pub mod Kept
 pub mod Finding
+pub mod StateOf
+pub mod Stored

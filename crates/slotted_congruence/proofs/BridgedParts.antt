@@ -21,8 +21,8 @@ use Rattle.slotted_proofs.proofs.Fitting.{congruent_fits}
 use Rattle.slotted_proofs.proofs.Stepping.{states-entry}
 use Rattle.slotted_classes.specs.Kept.{Kept, nodes_of, entries_of, with_proofs, EntersBy}
 use Rattle.slotted_unions.specs.Proving.{OnlyProves, Proves, ProvesEqual}
-use Rattle.slotted_unions.specs.StateOf.{state_of}
-use Rattle.slotted_unions.specs.Stored.{Stored}
+use Rattle.slotted_classes.specs.StateOf.{state_of}
+use Rattle.slotted_classes.specs.Stored.{Stored}
 use Rattle.slotted_unions.proofs.EnteredProofs.{entering-proves, nothing-proved, only-nodes, only-stands, proved-then, proves-stands}
 use Rattle.slotted_unions.proofs.JoinedIds.{own_map, written_sides}
 use Rattle.slotted_congruence.specs.Congruence.{IsOfAlike, AreTwins, AreChildrenOf, ProvesSides, ProvesEach, ProvesTwins}

@@ -23,7 +23,7 @@ use Rattle.slotted_proofs.specs.AlikeNodes.{AreAlikeArgs}
 use Rattle.slotted_proofs.specs.Equations.{to_applied}
 use Rattle.slotted_proofs.specs.Steps.{HasInjectiveSides, Matches}
 use Rattle.slotted_classes.specs.Kept.{Kept, nodes_of, entries_of}
-use Rattle.slotted_unions.specs.Stored.{Stored}
+use Rattle.slotted_classes.specs.Stored.{Stored}
 use Rattle.slotted_congruence.specs.Congruence.{IsOfAlike, AreTwins, AreChildrenOf}
 use Rattle.slotted_alike.specs.Frames.{AreAlikeForms, AreNeverAlike}
 use Rattle.slotted_congruence.proofs.Naming.{alike_nodes}

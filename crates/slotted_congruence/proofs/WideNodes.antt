@@ -14,8 +14,9 @@ use Rattle.slotted_languages.specs.Shape.{Fits}
 use Rattle.slotted_model.specs.Applied.{Applied}
 use Rattle.slotted_model.specs.Ascending.{names}
 use Rattle.slotted_model.specs.Classes.{canonical_node, IsFull}
-use Rattle.slotted_alike.specs.Sizes.{node_size}
-use Rattle.slotted_alike.proofs.WideNodes.{names_fit_size, size-moved}
+use Rattle.slotted_languages.specs.Sizes.{node_size}
+use Rattle.slotted_languages.proofs.NodeSizes.{names_fit_size}
+use Rattle.slotted_alike.proofs.WideNodes.{size-moved}
 use Rattle.slotted_congruence.specs.Named.{IsWideClass}
 use Rattle.slotted_classes.proofs.NameCounts.{names_and_binders}
 use Rattle.slotted_classes.proofs.NameMaps.{length-keys, length-values}

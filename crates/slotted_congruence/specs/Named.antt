@@ -1,4 +1,4 @@
--- Canonical nodes with the names of an id put in, and those that are wide. How large a node is `slotted_alike` says.
+-- Canonical nodes with the names of an id put in, and those that are wide. How large a node is `slotted_languages` says.
 --     IsNodeOf nodes a f      f is the canonical node of an id's class, with the names of the id put in
 --     IsWideClass nodes i     the canonical node of a class is wide
 --     HasWideSide nodes e     that of a side of an equation is
@@ -7,11 +7,11 @@ use Rattle.slotted_theory.specs.FiniteMaps as maps
 use Rattle.slotted_theory.specs.Nameless.{DTerm, moved}
 use Rattle.slotted_nodes.specs.Form.{Form}
 use Rattle.slotted_languages.specs.NodeTerm.{nameless_node}
+use Rattle.slotted_languages.specs.Sizes.{node_size}
 use Rattle.slotted_model.specs.Applied.{Applied}
 use Rattle.slotted_model.specs.Classes.{canonical_node}
 use Rattle.slotted_proofs.specs.declared.equation.Equation.{Equation as Sides}
 use Rattle.slotted_proofs.specs.Equations.{HasManyNames}
-pub use Rattle.slotted_alike.specs.Sizes.{args_size, node_size, IsWideNode}
 
 -- the canonical node of the id's class, with the names of the id put in
 abbrev pub IsNodeOf : List DTerm → Applied → Form → Type 0

@@ -2,7 +2,7 @@
 ghost use Rattle.std.specs.Prelude.{All, IfOk, IfErr, IsErrOf};
 ghost use Rattle.slotted_slots.specs.Error.{IsShortage};
 ghost use Rattle.slotted_classes.specs.Kept.{nodes_of};
-ghost use Rattle.slotted_unions.specs.Stored.{Stored};
+ghost use Rattle.slotted_classes.specs.Stored.{Stored};
 ghost use Rattle.slotted_congruence.specs.Congruence.{IsOfAlike, AreTwins, AreChildrenOf, HasLargeBridge, ProvesEach, ProvesTwins, TwinsRunOut};
 ghost use Rattle.slotted_congruence.specs.Named.{HasWideSide};
 

@@ -18,7 +18,7 @@ use Rattle.slotted_model.specs.Extraction.{TableEntry, cost_in, HasTiesBroken, I
 use Rattle.slotted_classes.specs.Kept.{Kept}
 use Rattle.slotted_hashcons.specs.Filed.{Filing, filed_of}
 use Rattle.slotted_hashcons.specs.FiledRows.{Rows, rows_in}
-use Rattle.slotted_unions.specs.StateOf.{state_with}
+use Rattle.slotted_classes.specs.StateOf.{state_with}
 use Rattle.slotted_costs.specs.Costs.{costs_by}
 use Rattle.slotted_costs.specs.Entries.{IsFiledAs, table_of}
 use Rattle.slotted_costs.specs.Prices.{IsCandidateFor, Pushes, candidate_cmp, children_of, filed_cost, pairs_of}

@@ -28,7 +28,7 @@ use Rattle.slotted_hashcons.specs.FiledRows.{IsFiled, Rows, rows_in}
 use Rattle.slotted_hashcons.proofs.CanonicalChildren.{node-is}
 use Rattle.slotted_hashcons.proofs.FiledRows.{source-filed}
 use Rattle.slotted_rebuilding.specs.Counted.{CountsFit, CountsGo}
-use Rattle.slotted_rebuilding.specs.Filed.{state_in}
+use Rattle.slotted_hashcons.specs.WellFiled.{state_in}
 use Rattle.slotted_rebuilding.proofs.CountedRebuilds.{counts-same}
 use Rattle.slotted_analyses.specs.Meaning.{Meaning, by_bare_nodes}
 use Rattle.slotted_analyses.proofs.Merging.{makes-alike}

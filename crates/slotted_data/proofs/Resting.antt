@@ -10,7 +10,7 @@ use Rattle.slotted_model_analyses.proofs.Writing.{nothing-rests-with}
 use Rattle.slotted_proofs.specs.Entries.{Proven}
 use Rattle.slotted_classes.specs.Kept.{Kept, nothing, with_proofs}
 use Rattle.slotted_hashcons.specs.FiledRows.{Rows, no_rows}
-use Rattle.slotted_rebuilding.specs.Filed.{state_in}
+use Rattle.slotted_hashcons.specs.WellFiled.{state_in}
 use Rattle.slotted_data.specs.Held.{Held, no_values, with_none_changed}
 use Rattle.slotted_data.specs.Made.{data_in}
 use Rattle.slotted_data.specs.Carrying.{DataRests, RestedBefore}

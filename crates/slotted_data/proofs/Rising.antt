@@ -22,7 +22,7 @@ use Rattle.slotted_classes.proofs.KeptLists.{any_default, length-entries_of}
 use Rattle.slotted_hashcons.specs.Filed.{filed_of}
 use Rattle.slotted_hashcons.specs.FiledRows.{IsFiled, Rows, TakesTurn, row_of_entry, rows_in}
 use Rattle.slotted_hashcons.proofs.FiledRows.{row-filed, source-filed, without-front}
-use Rattle.slotted_rebuilding.specs.Filed.{state_in}
+use Rattle.slotted_hashcons.specs.WellFiled.{state_in}
 use Rattle.slotted_data.specs.Held.{Held}
 use Rattle.slotted_data.specs.Made.{data_in}
 use Rattle.slotted_data.specs.Users.{found_in}

@@ -15,7 +15,7 @@ use Rattle.slotted_model_analyses.specs.DataWrites.{HasNotedAll, MergesInto}
 use Rattle.slotted_classes.specs.Kept.{Kept, ListsDead, entries_of, size_of}
 use Rattle.slotted_hashcons.specs.FiledRows.{Rows}
 use Rattle.slotted_rebuilding.specs.Counted.{CountsFit, CountsGo}
-use Rattle.slotted_rebuilding.specs.Filed.{state_in}
+use Rattle.slotted_hashcons.specs.WellFiled.{state_in}
 use Rattle.slotted_data.specs.Held.{Held, no_turns}
 use Rattle.slotted_analyses.specs.Meaning.{Meaning, by_bare_nodes}
 use Rattle.slotted_data.specs.Made.{AddsNew, HasHeights, data_in}

@@ -19,7 +19,7 @@ use Rattle.slotted_classes.specs.Counts.{most_turns}
 use Rattle.slotted_classes.specs.Kept.{Kept, entries_of}
 use Rattle.slotted_hashcons.specs.Filed.{Filing}
 use Rattle.slotted_hashcons.specs.FiledRows.{Rows, rows_in}
-use Rattle.slotted_rebuilding.specs.Filed.{state_in}
+use Rattle.slotted_hashcons.specs.WellFiled.{state_in}
 use Rattle.slotted_bare_nodes.specs.BareNodes.{bare_node}
 use Rattle.slotted_analyses.specs.Meaning.{Meaning}
 use Rattle.slotted_data.specs.Held.{Held, HasValue, users_of}

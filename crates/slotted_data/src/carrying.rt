@@ -5,7 +5,7 @@ ghost use Rattle.slotted_model.specs.Rest.{AtRest};
 ghost use Rattle.slotted_classes.specs.Finding.{HasFinds};
 ghost use Rattle.slotted_classes.specs.Kept.{Kept, ListsDead, entries_of};
 ghost use Rattle.slotted_hashcons.specs.FiledRows.{Rows};
-ghost use Rattle.slotted_rebuilding.specs.Filed.{state_in};
+ghost use Rattle.slotted_hashcons.specs.WellFiled.{state_in};
 ghost use Rattle.slotted_analyses.specs.Meaning.{by_bare_nodes};
 ghost use Rattle.slotted_data.specs.Carrying.{Carried, CarriesUp, DataRests, HasCarriedAll, HasNewData};
 ghost use Rattle.slotted_data.specs.Carrying.{MergesIn, RestedBefore, RestedOnce};

@@ -6,7 +6,7 @@ ghost use Rattle.slotted_model_analyses.specs.DataPart.{HasData};
 ghost use Rattle.slotted_classes.specs.Finding.{HasFinds};
 ghost use Rattle.slotted_hashcons.specs.Filed.{filed_of};
 ghost use Rattle.slotted_hashcons.specs.FiledRows.{rows_in};
-ghost use Rattle.slotted_rebuilding.specs.Filed.{state_in};
+ghost use Rattle.slotted_hashcons.specs.WellFiled.{state_in};
 ghost use Rattle.slotted_analyses.specs.Meaning.{by_bare_nodes};
 ghost use Rattle.slotted_data.specs.Lowering.{FallsBy, IsReady, Lowers, MakesValue, Puts, RisesTo};
 ghost use Rattle.slotted_data.specs.Lowering.{TakesTurns, TakesValue, part_of, quiet};

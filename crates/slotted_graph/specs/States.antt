@@ -5,7 +5,7 @@ use Rattle.std.specs.Prelude.{◌≡◌, false}
 use Rattle.slotted_model.specs.State.{State}
 use Rattle.slotted_classes.specs.Kept.{Kept}
 use Rattle.slotted_hashcons.specs.FiledRows.{Rows, rows_in}
-use Rattle.slotted_rebuilding.specs.Filed.{state_in}
+use Rattle.slotted_hashcons.specs.WellFiled.{state_in}
 use Rattle.slotted_operations.specs.Good.{Good, HasFreshSlots, RestsWith, image_of}
 use Rattle.slotted_operations.specs.Graph.{Graph}
 

@@ -17,3 +17,4 @@ pub mod CanonicalChildren
 pub mod OwnIds
 pub mod NumberPartners
 pub mod CoveredNodes
+pub mod StaleRows

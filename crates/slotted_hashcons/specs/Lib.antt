@@ -5,3 +5,4 @@ pub mod Over
 pub mod FoundNodes
 pub mod NormalNodes
 pub mod Sides
+pub mod WellFiled

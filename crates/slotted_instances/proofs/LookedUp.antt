@@ -24,7 +24,7 @@ use Rattle.slotted_classes.specs.Finding.{IsFindable}
 use Rattle.slotted_classes.proofs.ChildIds.{Each, Each-from_All, EachChild-node_args}
 use Rattle.slotted_classes.proofs.KeptLists.{any_default}
 use Rattle.slotted_classes.proofs.NameMaps.{In-at, at_In}
-use Rattle.slotted_rebuilding.specs.Filed.{state_in}
+use Rattle.slotted_hashcons.specs.WellFiled.{state_in}
 use Rattle.slotted_lookup.specs.Filling.{node_over}
 use Rattle.slotted_lookup.proofs.NodesOver.{child_ids-over, beside-over, length-over}
 use Rattle.slotted_operations.proofs.Additions.TermNodes.{places-known}

@@ -27,3 +27,5 @@ pub mod Counting
 pub mod HandedOn
 pub mod Chosen
 pub mod BelowNext
+pub mod KeysByShapes
+pub mod NodeSizes

@@ -9,3 +9,4 @@ pub mod Children
 pub mod Occurrences
 pub mod Fresh
 pub mod NewNames
+pub mod Sizes

@@ -14,8 +14,8 @@ use Rattle.slotted_classes.specs.Kept.{Kept, entries_of}
 use Rattle.slotted_hashcons.specs.Filed.{HasKey, filed_of}
 use Rattle.slotted_hashcons.specs.FiledRows.{Rows, row_of_entry, rows_in}
 use Rattle.slotted_hashcons.proofs.FiledRows.{filed-row, row-children}
-use Rattle.slotted_rebuilding.specs.Filed.{IsWellFiled, state_in}
-use Rattle.slotted_rebuilding.proofs.KeysByShapes.{one-key}
+use Rattle.slotted_hashcons.specs.WellFiled.{IsWellFiled, state_in}
+use Rattle.slotted_languages.proofs.KeysByShapes.{one-key}
 use Rattle.slotted_costs.specs.Entries.{IsFiledAs, table_of}
 use Rattle.slotted_costs.specs.Least.{IsLeastTable, comes_first}
 use Rattle.slotted_costs.specs.declared.entry.CostEntry.{CostEntry}

@@ -23,7 +23,7 @@ use Rattle.slotted_model.proofs.Data.Options.{Some-same}
 use Rattle.slotted_classes.specs.Finding.{IsFindable}
 use Rattle.slotted_classes.specs.Kept.{Kept, entries_of}
 use Rattle.slotted_hashcons.specs.FiledRows.{Rows}
-use Rattle.slotted_rebuilding.specs.Filed.{IsWellFiled, state_in}
+use Rattle.slotted_hashcons.specs.WellFiled.{IsWellFiled, state_in}
 use Rattle.slotted_least_terms.specs.declared.entry.TermEntry.{TermEntry}
 use Rattle.slotted_least_terms.specs.Least.{AreLeast}
 use Rattle.slotted_least_terms.specs.Terms.{IsMade, entry_at}

@@ -16,7 +16,7 @@ use Rattle.slotted_classes.proofs.KeptLists.{length-nodes_of}
 use Rattle.slotted_hashcons.specs.Filed.{filed_of}
 use Rattle.slotted_hashcons.specs.FiledRows.{Rows, key_children, row_of_entry}
 use Rattle.slotted_hashcons.proofs.Indexed.{place-within}
-use Rattle.slotted_rebuilding.specs.Filed.{IsWellFiled, state_in}
+use Rattle.slotted_hashcons.specs.WellFiled.{IsWellFiled, state_in}
 use Rattle.slotted_costs.specs.Entries.{IsFiledAs, table_of}
 use Rattle.slotted_costs.specs.Least.{IsLeastTable}
 use Rattle.slotted_costs.specs.declared.entry.CostEntry.{CostEntry}

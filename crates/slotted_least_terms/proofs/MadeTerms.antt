@@ -42,9 +42,9 @@ use Rattle.slotted_classes.proofs.KeptLists.{length-mapped}
 use Rattle.slotted_hashcons.specs.Filed.{HasKey}
 use Rattle.slotted_hashcons.specs.FiledRows.{Rows, row_of_entry}
 use Rattle.slotted_hashcons.proofs.FiledRows.{row-filed}
-use Rattle.slotted_unions.proofs.EnteredProofs.{stored-finds}
+use Rattle.slotted_classes.proofs.StoredFinds.{stored-finds}
 use Rattle.slotted_hashcons.proofs.FoundChildren.{each-child, valid-back}
-use Rattle.slotted_rebuilding.specs.Filed.{IsWellFiled, state_in}
+use Rattle.slotted_hashcons.specs.WellFiled.{IsWellFiled, state_in}
 use Rattle.slotted_lookup.specs.Enodes.{IsLookedUpAs, IsMet, names_beside_of}
 use Rattle.slotted_lookup.proofs.EnodeNames.{beside-key, beside-looked_up}
 use Rattle.slotted_hashcons.proofs.FoundIds.{found-itself}

@@ -10,7 +10,7 @@ use Rattle.slotted_model.specs.Find.{find_class, find_map}
 use Rattle.slotted_classes.specs.Kept.{Kept, entries_of}
 use Rattle.slotted_hashcons.specs.Filed.{filed_of}
 use Rattle.slotted_hashcons.specs.FiledRows.{Rows, row_of_entry}
-use Rattle.slotted_rebuilding.specs.Filed.{state_in}
+use Rattle.slotted_hashcons.specs.WellFiled.{state_in}
 use Rattle.slotted_least_terms.specs.declared.entry.TermEntry.{TermEntry}
 use Rattle.slotted_least_terms.specs.Terms.{entry_at}
 

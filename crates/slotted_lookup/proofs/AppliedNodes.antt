@@ -37,9 +37,9 @@ use Rattle.slotted_hashcons.specs.Filed.{filed_of}
 use Rattle.slotted_hashcons.specs.FiledRows.{Rows, row_of_entry}
 use Rattle.slotted_hashcons.proofs.FiledRows.{row-filed}
 use Rattle.slotted_hashcons.specs.FoundNodes.{IsFoundNode}
-use Rattle.slotted_rebuilding.specs.Filed.{IsKeyed, IsWellFiled, state_in}
+use Rattle.slotted_hashcons.specs.WellFiled.{IsKeyed, IsWellFiled, state_in}
 use Rattle.slotted_hashcons.proofs.KeyedNodes.{own-numbers}
-use Rattle.slotted_rebuilding.proofs.StaleRows.{current-found}
+use Rattle.slotted_hashcons.proofs.StaleRows.{current-found}
 use Rattle.slotted_lookup.specs.Enodes.{IsMet}
 use Rattle.slotted_lookup.specs.LookUp.{looked_up}
 use Rattle.slotted_lookup.proofs.LookedUpRows.{some-looked_up}

@@ -35,7 +35,7 @@ use Rattle.slotted_classes.proofs.PutNames.{AreNumeric, IsPutApart, fresh-apart,
 use Rattle.slotted_hashcons.specs.Filed.{HasKey, filed_of}
 use Rattle.slotted_hashcons.specs.FiledRows.{Rows}
 use Rattle.slotted_hashcons.specs.FoundNodes.{IsFoundNode}
-use Rattle.slotted_rebuilding.specs.Filed.{IsKeyed, IsWellFiled}
+use Rattle.slotted_hashcons.specs.WellFiled.{IsKeyed, IsWellFiled}
 use Rattle.slotted_hashcons.proofs.KeyedNodes.{own-numbers}
 use Rattle.slotted_lookup.specs.Enodes.{AllKnownTo, IsLookedUpAs, IsMet, names_beside_of}
 use Rattle.slotted_lookup.proofs.AppliedNodes.{filed-in_nodes, filed-key, filed-node, named-looked_up, same-keys, shape-named}

@@ -27,8 +27,8 @@ use Rattle.slotted_classes.proofs.KeptLists.{length-mapped}
 use Rattle.slotted_hashcons.specs.Filed.{IsNewKey, filed_of}
 use Rattle.slotted_hashcons.specs.FiledRows.{Rows, rows_in, row_of_entry}
 use Rattle.slotted_hashcons.proofs.FiledRows.{filed-row, row-filed}
-use Rattle.slotted_rebuilding.specs.Filed.{IsKeyed, IsWellFiled, state_in}
-use Rattle.slotted_rebuilding.proofs.KeysByShapes.{one-key}
+use Rattle.slotted_hashcons.specs.WellFiled.{IsKeyed, IsWellFiled, state_in}
+use Rattle.slotted_languages.proofs.KeysByShapes.{one-key}
 use Rattle.slotted_lookup.proofs.RowNames.{find-beside, numbered-names, slots-named, values-beside}
 
 -- the shape of a node is the shape of itself, with the same numbers

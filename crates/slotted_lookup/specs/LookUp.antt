@@ -21,7 +21,7 @@ use Rattle.slotted_classes.specs.Kept.{Kept, entries_of}
 use Rattle.slotted_classes.specs.Names.{between}
 use Rattle.slotted_hashcons.specs.Filed.{Filing, filed_of}
 use Rattle.slotted_hashcons.specs.FiledRows.{Rows}
-use Rattle.slotted_rebuilding.specs.Filed.{state_in}
+use Rattle.slotted_hashcons.specs.WellFiled.{state_in}
 
 pub record IsFoundFor (k : Kept) (a b : Applied) : Type 0 where
   -- a live class, with names for just the slots that it uses

@@ -7,7 +7,7 @@ ghost use Rattle.slotted_languages.specs.Shape.{shape};
 ghost use Rattle.slotted_proofs.specs.Equations.{to_applied};
 ghost use Rattle.slotted_hashcons.specs.Filed.{HasKey};
 ghost use Rattle.slotted_hashcons.specs.FiledRows.{IsFiled};
-ghost use Rattle.slotted_rebuilding.specs.Filed.{IsWellFiled};
+ghost use Rattle.slotted_hashcons.specs.WellFiled.{IsWellFiled};
 ghost use Rattle.slotted_classes.specs.Finding.{HasFinds, IsFindable};
 ghost use Rattle.slotted_lookup.specs.Enodes.{AreFresh, HasNamesOrNumbers, IsLargeKeyOf, IsLookedUpAs, IsMet, names_beside_of};
 

@@ -8,7 +8,7 @@ ghost use Rattle.slotted_classes.specs.Finding.{HasFinds};
 ghost use Rattle.slotted_classes.specs.Kept.{entries_of};
 ghost use Rattle.slotted_hashcons.specs.NormalNodes.{HasFindableChildren};
 ghost use Rattle.slotted_proofs.specs.Equations.{to_applied};
-ghost use Rattle.slotted_rebuilding.specs.Filed.{IsWellFiled};
+ghost use Rattle.slotted_hashcons.specs.WellFiled.{IsWellFiled};
 ghost use Rattle.slotted_lookup.specs.LookUp.{HasNamesFor, IsNormalShape, found_named, looked_up};
 
 use crate::finding::found_with;

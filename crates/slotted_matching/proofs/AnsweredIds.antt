@@ -15,7 +15,7 @@ use Rattle.slotted_classes.specs.Finding.{HasFinds}
 use Rattle.slotted_classes.proofs.KeptLists.{entry_at-of}
 use Rattle.slotted_classes.proofs.ChildIds.{zip-keys_values}
 use Rattle.slotted_classes.proofs.NameMaps.{length-keys}
-use Rattle.slotted_unions.specs.StateOf.{state_of}
+use Rattle.slotted_classes.specs.StateOf.{state_of}
 use Rattle.slotted_match_machine.specs.Machine.{Occurrence, no_occurrence}
 use Rattle.slotted_match_machine.specs.Readings.{IsWholeId, read_id}
 use Rattle.slotted_matching.specs.Naming.{slot_in, numbers_of}

@@ -11,7 +11,7 @@ use Rattle.slotted_model_rules.specs.Conditions.{Values}
 use Rattle.slotted_match_machine.specs.Machine.{Answer, Occurrence, no_occurrence}
 use Rattle.slotted_match_machine.specs.Readings.{read_id}
 use Rattle.slotted_classes.specs.Kept.{Kept}
-use Rattle.slotted_unions.specs.StateOf.{state_of}
+use Rattle.slotted_classes.specs.StateOf.{state_of}
 use Rattle.slotted_matching.specs.Matches.{answers_over}
 use Rattle.slotted_matching.specs.Answered.{NumbersByName, StandOnce, IsNamedAnswer, InTurn, HasWholeIds, HasDifferentPairs, AddsIds, AreWholeAnswers, ids_at, number_count}
 use Rattle.slotted_matching.specs.Naming.{slot_in}

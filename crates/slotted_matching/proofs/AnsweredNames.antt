@@ -23,8 +23,8 @@ use Rattle.slotted_match_machine.specs.Readings.{IsWholeId, names_of, read_id}
 use Rattle.slotted_match_machine.proofs.Lists.{In-flat_map}
 use Rattle.slotted_match_machine.proofs.WholeIds.{values-zip, whole-valid}
 use Rattle.slotted_classes.specs.Kept.{Kept, entries_of}
-use Rattle.slotted_unions.specs.StateOf.{state_of}
-use Rattle.slotted_rebuilding.specs.Filed.{state_in}
+use Rattle.slotted_classes.specs.StateOf.{state_of}
+use Rattle.slotted_hashcons.specs.WellFiled.{state_in}
 use Rattle.slotted_matching.proofs.AnsweredIds.{contains-at}
 use Rattle.slotted_matching.specs.Matches.{AscendingNames}
 use Rattle.slotted_matching.specs.Naming.{IsNaming, slot_in}

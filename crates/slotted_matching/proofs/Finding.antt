@@ -18,7 +18,7 @@ use Rattle.slotted_rule_patterns.specs.PatternCode.{pattern_in}
 use Rattle.slotted_classes.specs.Kept.{Kept, entries_of}
 use Rattle.slotted_classes.proofs.KeptLists.{length-nodes_of}
 use Rattle.slotted_hashcons.specs.FiledRows.{Rows}
-use Rattle.slotted_rebuilding.specs.Filed.{state_in}
+use Rattle.slotted_hashcons.specs.WellFiled.{state_in}
 use Rattle.slotted_lookup.specs.Filling.{MakesAtMost, RunsOut}
 use Rattle.slotted_match_machine.specs.declared.index.RowIndex.{RowIndex}
 use Rattle.slotted_match_machine.specs.declared.program.Step.{Step}

@@ -16,7 +16,7 @@ use Rattle.slotted_classes.proofs.KeptLists.{length-nodes_of}
 use Rattle.slotted_hashcons.specs.Filed.{Filing}
 use Rattle.slotted_hashcons.specs.FiledRows.{Rows}
 use Rattle.slotted_hashcons.proofs.FiledRows.{filed-row}
-use Rattle.slotted_rebuilding.specs.Filed.{IsWellFiled, state_in}
+use Rattle.slotted_hashcons.specs.WellFiled.{IsWellFiled, state_in}
 use Rattle.slotted_lookup.proofs.AppliedNodes.{filed-in_nodes}
 use Rattle.slotted_rule_patterns.specs.PatternCode.{filled_pattern, pattern_over}
 use Rattle.slotted_match_machine.specs.declared.index.IndexRow.{IndexRow}

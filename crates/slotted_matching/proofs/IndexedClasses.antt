@@ -22,7 +22,7 @@ use Rattle.slotted_hashcons.specs.Filed.{Filing, filed_of}
 use Rattle.slotted_hashcons.specs.FiledRows.{Rows, row_of_entry}
 use Rattle.slotted_hashcons.proofs.FiledRows.{filed-row, row-filed}
 use Rattle.slotted_hashcons.proofs.Indexed.{place-within}
-use Rattle.slotted_rebuilding.specs.Filed.{IsWellFiled, state_in}
+use Rattle.slotted_hashcons.specs.WellFiled.{IsWellFiled, state_in}
 use Rattle.slotted_lookup.specs.Reports.{class_sources, is_source, live_ids, lives}
 use Rattle.slotted_lookup.proofs.AppliedNodes.{filed-in_nodes}
 use Rattle.slotted_match_machine.specs.declared.index.RowIndex.{RowIndex}

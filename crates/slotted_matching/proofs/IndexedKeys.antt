@@ -23,7 +23,7 @@ use Rattle.slotted_proofs.proofs.Bridges.{value_of-model}
 use Rattle.slotted_classes.specs.Kept.{Kept, nodes_of, entries_of}
 use Rattle.slotted_hashcons.specs.Filed.{Filing, filed_of}
 use Rattle.slotted_hashcons.specs.FiledRows.{Rows, row_of_entry}
-use Rattle.slotted_rebuilding.specs.Filed.{IsWellFiled, IsKeyed, state_in}
+use Rattle.slotted_hashcons.specs.WellFiled.{IsWellFiled, IsKeyed, state_in}
 use Rattle.slotted_lookup.proofs.AppliedNodes.{filed-key, filed-in_nodes}
 use Rattle.slotted_rule_patterns.specs.NodeArguments.{node_arguments}
 use Rattle.slotted_rule_patterns.proofs.NodeArguments.{ids-node, unnamed-node}

@@ -30,7 +30,7 @@ use Rattle.slotted_classes.proofs.PutNames.{AreNumeric, numeric-shape}
 use Rattle.slotted_hashcons.specs.FiledRows.{row_of_entry}
 use Rattle.slotted_hashcons.proofs.KeyedNodes.{own-numbers}
 use Rattle.slotted_hashcons.proofs.NumbersInShapes.{names-beside}
-use Rattle.slotted_rebuilding.specs.Filed.{IsKeyed}
+use Rattle.slotted_hashcons.specs.WellFiled.{IsKeyed}
 use Rattle.slotted_rule_patterns.specs.NodeArguments.{node_arguments}
 use Rattle.slotted_rule_patterns.proofs.NodeArguments.{unnamed-node}
 use Rattle.slotted_match_machine.proofs.NamedNodes.{node_with, bound-with, bound-written, different-with, unnamed-with, written-with}

@@ -12,7 +12,7 @@ use Rattle.slotted_model_rules.specs.Matcher.{paired, paired_with}
 use Rattle.slotted_model_rules.specs.Patterns.{Pattern, PatternArgs}
 use Rattle.slotted_classes.specs.Kept.{Kept}
 use Rattle.slotted_hashcons.specs.FiledRows.{Rows}
-use Rattle.slotted_rebuilding.specs.Filed.{state_in}
+use Rattle.slotted_hashcons.specs.WellFiled.{state_in}
 use Rattle.slotted_match_machine.specs.declared.index.ClassRows.{ClassRows}
 use Rattle.slotted_match_machine.specs.declared.index.IndexRow.{IndexRow}
 use Rattle.slotted_match_machine.specs.declared.index.RowIndex.{RowIndex}

@@ -21,8 +21,8 @@ use Rattle.slotted_match_machine.specs.Machine.{Answer, Occurrence, no_occurrenc
 use Rattle.slotted_match_machine.specs.Readings.{ReadsAnswer, IsWholeAnswer, IsWholeId, read_id}
 use Rattle.slotted_classes.specs.Kept.{Kept}
 use Rattle.slotted_hashcons.specs.FiledRows.{Rows}
-use Rattle.slotted_unions.specs.StateOf.{state_of}
-use Rattle.slotted_rebuilding.specs.Filed.{state_in}
+use Rattle.slotted_classes.specs.StateOf.{state_of}
+use Rattle.slotted_hashcons.specs.WellFiled.{state_in}
 use Rattle.slotted_matching.specs.Matches.{AscendingNames}
 use Rattle.slotted_matching.specs.Naming.{IsNaming, slot_in}
 

@@ -20,7 +20,7 @@ use Rattle.slotted_model.specs.State.{Row}
 use Rattle.slotted_classes.specs.Kept.{Kept, entries_of}
 use Rattle.slotted_hashcons.specs.Filed.{Filing, filed_of, HasKey}
 use Rattle.slotted_hashcons.specs.FiledRows.{Rows, row_of_entry}
-use Rattle.slotted_rebuilding.specs.Filed.{state_in}
+use Rattle.slotted_hashcons.specs.WellFiled.{state_in}
 use Rattle.slotted_lookup.specs.Reports.{class_sources, is_source}
 use Rattle.slotted_match_machine.specs.declared.index.ClassRows.{ClassRows}
 use Rattle.slotted_match_machine.specs.declared.index.IndexRow.{IndexRow}

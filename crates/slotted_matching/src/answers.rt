@@ -9,7 +9,7 @@ ghost use Rattle.slotted_match_machine.specs.Readings.{IsWholeId, read_id};
 ghost use Rattle.slotted_match_machine.specs.Answers.{answer_of, answers_in, occurrence_in};
 ghost use Rattle.slotted_proofs.specs.Equations.{to_applied};
 ghost use Rattle.slotted_classes.specs.Finding.{HasFinds};
-ghost use Rattle.slotted_unions.specs.StateOf.{state_of};
+ghost use Rattle.slotted_classes.specs.StateOf.{state_of};
 ghost use Rattle.slotted_lookup.specs.Filling.{AllKnown, MakesAtMost, RunsOut};
 ghost use Rattle.slotted_matching.specs.Naming.{Covers, numbers_of, slot_in};
 ghost use Rattle.slotted_matching.specs.Answered.{AddsIds, AreWholeAnswers, HasDifferentPairs, HasWholeIds, InTurn, IsNamedAnswer};

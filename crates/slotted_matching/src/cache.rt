@@ -1,7 +1,7 @@
 //! The index of a graph's filed nodes, which is made when it is first asked for.
 ghost use Rattle.std.specs.Prelude.{◌≡◌, None, IsSome, IfSome, IfErr, IsErrOf, OnOk};
 ghost use Rattle.slotted_slots.specs.Error.{IsShortage};
-ghost use Rattle.slotted_rebuilding.specs.Filed.{IsWellFiled};
+ghost use Rattle.slotted_hashcons.specs.WellFiled.{IsWellFiled};
 ghost use Rattle.slotted_matching.specs.Indexed.{HasWideKey, IsIndexed};
 
 use crate::index::{Indexed, row_index};

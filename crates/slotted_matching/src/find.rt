@@ -9,7 +9,7 @@ ghost use Rattle.slotted_patterns.specs.Known.{HasKnownNames};
 ghost use Rattle.slotted_patterns.specs.View.{tree_of};
 ghost use Rattle.slotted_classes.specs.Finding.{HasFinds};
 ghost use Rattle.slotted_hashcons.specs.FiledRows.{Rows};
-ghost use Rattle.slotted_rebuilding.specs.Filed.{IsWellFiled, state_in};
+ghost use Rattle.slotted_hashcons.specs.WellFiled.{IsWellFiled, state_in};
 ghost use Rattle.slotted_rule_patterns.specs.PatternCode.{pattern_in};
 ghost use Rattle.slotted_rule_patterns.specs.Variables.{has_substitution};
 ghost use Rattle.slotted_lookup.specs.Filling.{MakesAtMost};

@@ -4,7 +4,7 @@ ghost use Rattle.std.specs.Prelude.{All, IfOk, IfErr, OnOk, IsErrOf};
 ghost use Rattle.slotted_slots.specs.Error.{IsOutOfMemory, IsShortage};
 ghost use Rattle.slotted_languages.specs.Outline.{skeleton_form};
 ghost use Rattle.slotted_hashcons.specs.FiledRows.{IsFiled};
-ghost use Rattle.slotted_rebuilding.specs.Filed.{IsWellFiled};
+ghost use Rattle.slotted_hashcons.specs.WellFiled.{IsWellFiled};
 ghost use Rattle.slotted_lookup.specs.Reports.{live_ids};
 ghost use Rattle.slotted_match_machine.specs.Index.{OneByOne};
 ghost use Rattle.slotted_matching.specs.Indexed.{AreClassRows, AreClassSources, AreSourceRows, HasWideKey};

@@ -26,3 +26,4 @@ pub mod Counting
 pub mod EndsGrow
 pub mod QuietTurns
 pub mod RowNodes
+pub mod CurrentRows

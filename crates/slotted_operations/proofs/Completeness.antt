@@ -10,7 +10,7 @@ use Rattle.slotted_model.proofs.Complete.AtRest.{rest-alike, rest-derivable}
 use Rattle.slotted_classes.specs.Finding.{IsFindable}
 use Rattle.slotted_classes.specs.Kept.{Kept, entries_of}
 use Rattle.slotted_hashcons.specs.FiledRows.{Rows}
-use Rattle.slotted_rebuilding.specs.Filed.{state_in}
+use Rattle.slotted_hashcons.specs.WellFiled.{state_in}
 use Rattle.slotted_operations.specs.Affected.{IsAffected, AreAffected, IsYesIfEqual, IsYesIfDerivable}
 use Rattle.slotted_operations.specs.Causes.{class_found}
 use Rattle.slotted_operations.specs.ValidIds.{IsValidId}

@@ -20,7 +20,7 @@ use Rattle.slotted_model.specs.Applied.{Applied}
 use Rattle.slotted_model.specs.Classes.{canonical_slots, IsFull, term_of, layer_of}
 use Rattle.slotted_model.specs.Filling.{FillsNode}
 use Rattle.slotted_model.specs.Ids.{id_of_node}
-use Rattle.slotted_congruence.specs.Named.{node_size}
+use Rattle.slotted_languages.specs.Sizes.{node_size}
 use Rattle.slotted_lookup.specs.Filling.{lacked}
 use Rattle.slotted_operations.specs.Causes.{HasLargeClassIn}
 use Rattle.slotted_operations.specs.ValidIds.{Fills}

@@ -21,7 +21,7 @@ use Rattle.slotted_classes.specs.Finding.{FindAlike}
 use Rattle.slotted_classes.specs.Kept.{Kept, entries_of, nodes_of}
 use Rattle.slotted_unions.specs.Proving.{ProvesEqual}
 use Rattle.slotted_hashcons.specs.FiledRows.{Rows}
-use Rattle.slotted_rebuilding.specs.Filed.{state_in}
+use Rattle.slotted_hashcons.specs.WellFiled.{state_in}
 use Rattle.slotted_operations.specs.Causes.{HasLargeClassIn, HasLargeClassOf}
 use Rattle.slotted_operations.specs.Good.{Good, KeepsNotes, RestsWith, HasFreshSlots, image_of}
 use Rattle.slotted_operations.specs.Graph.{Graph, RunsOut, id_of_term}

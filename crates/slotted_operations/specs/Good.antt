@@ -35,10 +35,10 @@ use Rattle.slotted_classes.specs.Finding.{IsFindable}
 use Rattle.slotted_classes.specs.Kept.{Kept, node_at, nodes_of, entries_of, proofs_of, rows_from, size_of, with_counts}
 use Rattle.slotted_classes.specs.Names.{HasNumberedBinders}
 use Rattle.slotted_hashcons.specs.FiledRows.{Rows, rows_in}
-use Rattle.slotted_unions.specs.StateOf.{state_with}
-use Rattle.slotted_unions.specs.Stored.{Stored}
+use Rattle.slotted_classes.specs.StateOf.{state_with}
+use Rattle.slotted_classes.specs.Stored.{Stored}
 use Rattle.slotted_rebuilding.specs.Counted.{CountsFit, CountsOn}
-use Rattle.slotted_rebuilding.specs.Filed.{state_in, IsWellFiled}
+use Rattle.slotted_hashcons.specs.WellFiled.{state_in, IsWellFiled}
 use Rattle.slotted_operations.specs.Adding.{HasChildrenFilled, HasLargeClassOrFilled, children_lack, IsOfTerm, MakesFilledClass, RunsOutForFilled, slots_needed, term_nodes}
 use Rattle.slotted_operations.specs.Causes.{HasLargeClassIn, HasLargeClassOrNode, HasLargeClassOrTerm}
 use Rattle.slotted_operations.specs.Graph.{Graph, IsFreshBetween, HasNewClass, MakesAtMost}

@@ -20,12 +20,12 @@ use Rattle.slotted_hashcons.proofs.FiledRows.{child_classes-shape, filed-row, ro
 use Rattle.slotted_hashcons.specs.FoundNodes.{IsFoundNode, finds_of}
 use Rattle.slotted_hashcons.specs.Sides.{HaveOneShape}
 use Rattle.slotted_unions.proofs.KeptSlots.{grows-then}
-use Rattle.slotted_rebuilding.specs.Filed.{state_in, IsKeyed, IsWellFiled}
+use Rattle.slotted_hashcons.specs.WellFiled.{state_in, IsKeyed, IsWellFiled}
 use Rattle.slotted_rebuilding.specs.Turns.{NarrowsTo, SharesKey, TakesTurns}
-use Rattle.slotted_rebuilding.proofs.KeysByShapes.{one-key}
+use Rattle.slotted_languages.proofs.KeysByShapes.{one-key}
 use Rattle.slotted_rebuilding.proofs.NarrowedNodes.{filed-places, waiting-within}
 use Rattle.slotted_rebuilding.proofs.Runs.{runs-join}
-use Rattle.slotted_rebuilding.proofs.StaleRows.{stale-found}
+use Rattle.slotted_hashcons.proofs.StaleRows.{stale-found}
 use Rattle.slotted_rebuilding.proofs.TakenTurns.{refiles-node}
 
 -- the shape of the node in normal form, in the words of the model

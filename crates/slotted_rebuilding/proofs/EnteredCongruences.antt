@@ -11,13 +11,14 @@ use Rattle.slotted_classes.specs.Kept.{Kept, proofs_of}
 use Rattle.slotted_classes.proofs.KeptLists.{length-proofs_of}
 use Rattle.slotted_hashcons.specs.FiledRows.{Rows, rows_in}
 use Rattle.slotted_unions.specs.Proving.{OnlyProves, HasLargeSide}
-use Rattle.slotted_unions.specs.StateOf.{state_of}
+use Rattle.slotted_classes.specs.StateOf.{state_of}
 use Rattle.slotted_unions.specs.Uniting.{equation_in}
 use Rattle.slotted_unions.proofs.EnteredProofs.{only-state, only-grows}
 use Rattle.slotted_unions.proofs.GrownRows.{grown-rows, grown-count}
 use Rattle.slotted_unions.proofs.KeptSlots.{grows-then}
 use Rattle.slotted_rebuilding.specs.Causes.{HasLargeClass}
-use Rattle.slotted_rebuilding.specs.Filed.{state_in, IsWellFiled, UnitesFiled}
+use Rattle.slotted_hashcons.specs.WellFiled.{state_in, IsWellFiled}
+use Rattle.slotted_rebuilding.specs.Filed.{UnitesFiled}
 use Rattle.slotted_rebuilding.specs.Turns.{LacksSlot, NarrowsOnce, ProvesCongruence}
 use Rattle.slotted_rebuilding.proofs.FiledStates.{fits-grown, places-grown, united-well}
 use Rattle.slotted_rebuilding.proofs.LargeClasses.{large-grown, large-of}

@@ -13,10 +13,11 @@ use Rattle.slotted_hashcons.specs.FiledRows.{Rows, WaitsOn, rows_in, rows_state}
 use Rattle.slotted_languages.specs.Shape.{Fits}
 use Rattle.slotted_nodes.specs.Form.{Form}
 use Rattle.slotted_hashcons.specs.FoundNodes.{HasNoMorePlaces}
-use Rattle.slotted_unions.specs.StateOf.{state_with}
-use Rattle.slotted_unions.specs.Stored.{Grows}
+use Rattle.slotted_classes.specs.StateOf.{state_with}
+use Rattle.slotted_unions.specs.Grows.{Grows}
 use Rattle.slotted_unions.proofs.GrownRows.{grown-rows, grown-count}
-use Rattle.slotted_rebuilding.specs.Filed.{state_in, IsWellFiled, UnitesFiled}
+use Rattle.slotted_hashcons.specs.WellFiled.{state_in, IsWellFiled}
+use Rattle.slotted_rebuilding.specs.Filed.{UnitesFiled}
 use Rattle.slotted_rebuilding.specs.Turns.{IsFirst}
 
 -- which classes wait is told by the rows alone

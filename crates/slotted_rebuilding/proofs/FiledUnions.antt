@@ -10,7 +10,8 @@ use Rattle.slotted_unions.specs.declared.uniting.UnionStep.TheVariants.{Done, Dr
 use Rattle.slotted_unions.specs.Uniting.{StepsBy}
 use Rattle.slotted_unions.proofs.ChangedEntries.{untouched}
 use Rattle.slotted_unions.proofs.UniteSteps.{lost-unites}
-use Rattle.slotted_rebuilding.specs.Filed.{state_in, UnitesFiled}
+use Rattle.slotted_hashcons.specs.WellFiled.{state_in}
+use Rattle.slotted_rebuilding.specs.Filed.{UnitesFiled}
 use Rattle.slotted_rebuilding.proofs.FiledStates.{same-rows, touched-in, waits-nothing, waits-then}
 
 -- nothing is left to do

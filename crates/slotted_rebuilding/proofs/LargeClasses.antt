@@ -15,7 +15,7 @@ use Rattle.slotted_classes.specs.Kept.{Kept, nodes_of}
 use Rattle.slotted_classes.proofs.KeptLists.{length-nodes_of}
 use Rattle.slotted_unions.specs.Proving.{HasLargeClassOf}
 use Rattle.slotted_unions.specs.Settling.{HasLargeUnaligned}
-use Rattle.slotted_unions.specs.Stored.{Grows}
+use Rattle.slotted_unions.specs.Grows.{Grows}
 use Rattle.slotted_unions.proofs.GrownRows.{grown-count}
 use Rattle.slotted_congruence.specs.Congruence.{AreTwins, TwinsRunOut}
 use Rattle.slotted_congruence.specs.Named.{IsWideClass}

@@ -1,8 +1,5 @@
 -- Lemmas of rebuilding.
 pub mod Runs
-pub mod CurrentRows
-pub mod StaleRows
-pub mod KeysByShapes
 pub mod FiledStates
 pub mod LargeClasses
 pub mod EnteredCongruences

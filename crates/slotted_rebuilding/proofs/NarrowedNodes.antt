@@ -29,11 +29,11 @@ use Rattle.slotted_hashcons.proofs.KeyedNodes.{no-more-places}
 use Rattle.slotted_congruence.specs.Congruence.{AreTwins, ProvesTwins}
 use Rattle.slotted_congruence.proofs.WideNodes.{wide_class}
 use Rattle.slotted_rebuilding.specs.Causes.{HasLargeClass}
-use Rattle.slotted_rebuilding.specs.Filed.{state_in, IsKeyed, IsWellFiled}
+use Rattle.slotted_hashcons.specs.WellFiled.{state_in, IsKeyed, IsWellFiled}
 use Rattle.slotted_rebuilding.specs.Turns.{IsFirst, LacksSlot, NarrowsOnce, NarrowsTo, ProvesCongruence}
 use Rattle.slotted_rebuilding.proofs.FiledStates.{waits-nothing, waits-then}
 use Rattle.slotted_rebuilding.proofs.Runs.{runs-join}
-use Rattle.slotted_rebuilding.proofs.StaleRows.{children-find, files-node}
+use Rattle.slotted_hashcons.proofs.StaleRows.{children-find, files-node}
 
 first-in : (w : List ℕ) (o : ℕ) → slice_get w 0 ≡ Some o → Contains w o
 first-in [] o e = absurd (none-some o e)

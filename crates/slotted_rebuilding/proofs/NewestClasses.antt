@@ -24,11 +24,12 @@ use Rattle.slotted_hashcons.proofs.FiledRows.{row-filed, rows-added, rows-added_
 use Rattle.slotted_hashcons.proofs.Indexed.{place-added}
 use Rattle.slotted_hashcons.specs.FoundNodes.{HasNoMorePlaces, IsFoundNode, finds_of}
 use Rattle.slotted_unions.specs.Proving.{OnlyProves}
-use Rattle.slotted_unions.specs.StateOf.{state_with}
+use Rattle.slotted_classes.specs.StateOf.{state_with}
 use Rattle.slotted_unions.proofs.EnteredProofs.{only-grows, only-state, nothing-proved}
 use Rattle.slotted_unions.proofs.KeptSlots.{grows-then, uncounted-then}
 use Rattle.slotted_rebuilding.specs.Counted.{CountsFit, CountsGo, TotalsFit}
-use Rattle.slotted_rebuilding.specs.Filed.{state_in, IsKeyed, IsWellFiled, UnitesFiled}
+use Rattle.slotted_hashcons.specs.WellFiled.{state_in, IsKeyed, IsWellFiled}
+use Rattle.slotted_rebuilding.specs.Filed.{UnitesFiled}
 use Rattle.slotted_rebuilding.specs.NewClasses.{BeginsAdding, FilesNewest, HasNewest, IsUnfiled}
 use Rattle.slotted_rebuilding.specs.Turns.{ProvesCongruence, Rebuilds, SharesKey}
 use Rattle.slotted_rebuilding.proofs.Collisions.{found-shape, has-key}

@@ -5,10 +5,11 @@ use Rattle.std.proofs.lemmas.Option.{none-some}
 use Rattle.slotted_model.specs.Rebuild.{Runs}
 use Rattle.slotted_classes.specs.Counts.{Counts, noted}
 use Rattle.slotted_classes.specs.Kept.{Kept, size_of, with_counts}
-use Rattle.slotted_unions.specs.Stored.{Stored}
+use Rattle.slotted_classes.specs.Stored.{Stored}
 use Rattle.slotted_hashcons.specs.FiledRows.{Rows, rows_in}
 use Rattle.slotted_unions.proofs.KeptSlots.{grows-then, grows-uncounted}
-use Rattle.slotted_rebuilding.specs.Filed.{state_in, IsWellFiled, SettlesFiled}
+use Rattle.slotted_hashcons.specs.WellFiled.{state_in, IsWellFiled}
+use Rattle.slotted_rebuilding.specs.Filed.{SettlesFiled}
 use Rattle.slotted_rebuilding.specs.Turns.{Rebuilds, RebuildsAll, RebuildsSoFar, TakesTurns}
 use Rattle.slotted_rebuilding.specs.Work.{work}
 use Rattle.slotted_rebuilding.proofs.CountedRebuilds.{run-counted}

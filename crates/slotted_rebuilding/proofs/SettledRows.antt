@@ -12,7 +12,8 @@ use Rattle.slotted_unions.specs.Settling.{AreAligned, IsUnaligned}
 use Rattle.slotted_unions.proofs.EnteredProofs.{only-grows, nothing-proved}
 use Rattle.slotted_unions.proofs.KeptSlots.{grows-then}
 use Rattle.slotted_unions.proofs.SettlingSteps.{settled-grows, settled-stored, unaligned-within}
-use Rattle.slotted_rebuilding.specs.Filed.{state_in, IsWellFiled, UnitesFiled, SettlesFiled}
+use Rattle.slotted_hashcons.specs.WellFiled.{state_in, IsWellFiled}
+use Rattle.slotted_rebuilding.specs.Filed.{UnitesFiled, SettlesFiled}
 use Rattle.slotted_rebuilding.proofs.FiledStates.{united-well, waits-nothing, waits-then}
 use Rattle.slotted_rebuilding.proofs.Runs.{runs-join}
 

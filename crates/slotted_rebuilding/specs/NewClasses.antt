@@ -14,9 +14,10 @@ use Rattle.slotted_classes.specs.Kept.{Kept, node_at, rows_from, size_of}
 use Rattle.slotted_hashcons.specs.Filed.{Filing, filed_of}
 use Rattle.slotted_hashcons.specs.FiledRows.{Rows, with_class}
 use Rattle.slotted_hashcons.specs.FoundNodes.{HasNoMorePlaces}
-use Rattle.slotted_unions.specs.Stored.{Stored, Grows, GrowsUncounted}
+use Rattle.slotted_classes.specs.Stored.{Stored}
+use Rattle.slotted_unions.specs.Grows.{Grows, GrowsUncounted}
 use Rattle.slotted_rebuilding.specs.Counted.{CountsFit, CountsGo, TotalsFit}
-use Rattle.slotted_rebuilding.specs.Filed.{state_in, IsKeyed, IsWellFiled}
+use Rattle.slotted_hashcons.specs.WellFiled.{state_in, IsKeyed, IsWellFiled}
 
 -- one class was made since the rest of r: it is not filed yet, nothing waits, and the state is sane
 pub record IsUnfiled (k : Kept) (r : Rows) : Type 0 where

@@ -22,10 +22,10 @@ use Rattle.slotted_hashcons.specs.FoundNodes.{IsFoundNode, finds_of}
 use Rattle.slotted_classes.specs.Kept.{Kept}
 use Rattle.slotted_hashcons.specs.FiledRows.{Rows, WaitsOn}
 use Rattle.slotted_unions.specs.Proving.{OnlyProves}
-use Rattle.slotted_unions.specs.StateOf.{state_of}
-use Rattle.slotted_unions.specs.Stored.{Grows, GrowsUncounted}
+use Rattle.slotted_classes.specs.StateOf.{state_of}
+use Rattle.slotted_unions.specs.Grows.{Grows, GrowsUncounted}
 use Rattle.slotted_rebuilding.specs.Counted.{NotesRebuild}
-use Rattle.slotted_rebuilding.specs.Filed.{state_in, IsWellFiled}
+use Rattle.slotted_hashcons.specs.WellFiled.{state_in, IsWellFiled}
 
 -- the class is the first one that waits
 abbrev pub IsFirst : Rows → ℕ → Type 0

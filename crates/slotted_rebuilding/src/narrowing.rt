@@ -4,9 +4,9 @@ ghost use Rattle.slotted_slots.specs.Error.{IsShortage};
 ghost use Rattle.slotted_hashcons.specs.FoundNodes.{HasFoundNode, IsFoundNode};
 ghost use Rattle.slotted_hashcons.specs.Sides.{HaveOneShape};
 ghost use Rattle.slotted_classes.specs.Kept.{rows_from};
-ghost use Rattle.slotted_unions.specs.Stored.{Stored};
+ghost use Rattle.slotted_classes.specs.Stored.{Stored};
 ghost use Rattle.slotted_rebuilding.specs.Causes.{HasLargeClass};
-ghost use Rattle.slotted_rebuilding.specs.Filed.{IsWellFiled};
+ghost use Rattle.slotted_hashcons.specs.WellFiled.{IsWellFiled};
 ghost use Rattle.slotted_rebuilding.specs.Turns.{IsFirst, LacksSlot, NarrowsOnce, NarrowsTo, ProvesCongruence};
 
 use crate::uniting::unite;

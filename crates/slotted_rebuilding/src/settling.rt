@@ -2,7 +2,8 @@
 ghost use Rattle.std.specs.Prelude.{IfErr, IsErrOf, OnOk};
 ghost use Rattle.slotted_slots.specs.Error.{IsShortage};
 ghost use Rattle.slotted_unions.specs.Settling.{HasLargeUnaligned};
-ghost use Rattle.slotted_rebuilding.specs.Filed.{IsWellFiled, SettlesFiled};
+ghost use Rattle.slotted_hashcons.specs.WellFiled.{IsWellFiled};
+ghost use Rattle.slotted_rebuilding.specs.Filed.{SettlesFiled};
 
 use crate::uniting::unite;
 use slotted_classes::Store;

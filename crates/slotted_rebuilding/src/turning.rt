@@ -2,7 +2,7 @@
 ghost use Rattle.std.specs.Prelude.{◌≢◌, ◌<◌, length, IfOk, IfErr, IsErrOf, OnOk};
 ghost use Rattle.slotted_slots.specs.Error.{IsShortage};
 ghost use Rattle.slotted_rebuilding.specs.Causes.{HasLargeClass};
-ghost use Rattle.slotted_rebuilding.specs.Filed.{IsWellFiled};
+ghost use Rattle.slotted_hashcons.specs.WellFiled.{IsWellFiled};
 ghost use Rattle.slotted_rebuilding.specs.Turns.{IsFirst, ProvesCongruence, SharesKey, TakesTurns};
 
 use crate::narrowing::{narrowed, twin_proof};

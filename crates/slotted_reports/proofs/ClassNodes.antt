@@ -19,7 +19,7 @@ use Rattle.slotted_classes.proofs.NameMaps.{In-at}
 use Rattle.slotted_hashcons.specs.Filed.{HasKey, HasKeysOnce}
 use Rattle.slotted_hashcons.specs.FiledRows.{IsFiled, Rows, row_of_entry}
 use Rattle.slotted_hashcons.proofs.FiledRows.{row-filed}
-use Rattle.slotted_rebuilding.specs.Filed.{IsWellFiled}
+use Rattle.slotted_hashcons.specs.WellFiled.{IsWellFiled}
 use Rattle.slotted_lookup.specs.Reports.{class_sources, is_source}
 use Rattle.slotted_reports.specs.Nodes.{AreClassNodes, IsClassNode, key_at, key_in, key_of}
 

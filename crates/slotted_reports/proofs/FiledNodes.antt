@@ -38,7 +38,7 @@ use Rattle.slotted_hashcons.specs.Filed.{HasKey, filed_of}
 use Rattle.slotted_hashcons.specs.FiledRows.{Rows}
 use Rattle.slotted_hashcons.specs.FoundNodes.{IsFoundNode}
 use Rattle.slotted_hashcons.proofs.FoundChildren.{child_ids-valid, each-child, valid-back}
-use Rattle.slotted_rebuilding.specs.Filed.{IsKeyed, IsWellFiled, state_in}
+use Rattle.slotted_hashcons.specs.WellFiled.{IsKeyed, IsWellFiled, state_in}
 use Rattle.slotted_lookup.specs.Enodes.{AllKnownTo}
 use Rattle.slotted_reports.specs.Nodes.{key_of}
 use Rattle.slotted_lookup.proofs.AppliedNodes.{filed-in_nodes, filed-key, filed-node}

@@ -34,7 +34,7 @@ use Rattle.slotted_classes.specs.Finding.{IsFindable}
 use Rattle.slotted_classes.specs.Kept.{Kept, entries_of}
 use Rattle.slotted_hashcons.specs.Filed.{HasKey, filed_of}
 use Rattle.slotted_hashcons.specs.FiledRows.{Rows}
-use Rattle.slotted_rebuilding.specs.Filed.{IsWellFiled}
+use Rattle.slotted_hashcons.specs.WellFiled.{IsWellFiled}
 use Rattle.slotted_lookup.specs.Enodes.{AllKnownTo, IsLargeKeyOf, IsMet, names_beside_of}
 use Rattle.slotted_lookup.specs.Filling.{RunsOut}
 use Rattle.slotted_lookup.proofs.EnodeNames.{beside-key, beside-looked_up}

@@ -12,7 +12,7 @@ use Rattle.slotted_classes.specs.Kept.{Kept, entries_of, nodes_of}
 use Rattle.slotted_classes.proofs.ChildIds.{Each}
 use Rattle.slotted_hashcons.specs.Filed.{Filing, filed_of}
 use Rattle.slotted_hashcons.specs.FiledRows.{IsFiled, Rows}
-use Rattle.slotted_rebuilding.specs.Filed.{IsWellFiled}
+use Rattle.slotted_hashcons.specs.WellFiled.{IsWellFiled}
 use Rattle.slotted_lookup.specs.Reports.{class_sources, is_source}
 use Rattle.slotted_lookup.proofs.AppliedNodes.{filed-in_nodes}
 use Rattle.slotted_reports.specs.Nodes.{IsSourceOf}

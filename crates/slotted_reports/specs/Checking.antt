@@ -4,7 +4,7 @@
 use Rattle.std.specs.Prelude.{◌≡◌, ℕ, Some}
 use Rattle.slotted_hashcons.specs.Filed.{Filing, filed_of}
 use Rattle.slotted_hashcons.specs.FiledRows.{Rows}
-use Rattle.slotted_rebuilding.specs.Filed.{IsKeyed}
+use Rattle.slotted_hashcons.specs.WellFiled.{IsKeyed}
 
 abbrev pub HasKeyed : Rows → ℕ → Type 0
 HasKeyed r i = (e : Filing) → filed_of r.filed i ≡ Some e → IsKeyed e

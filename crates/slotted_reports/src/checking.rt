@@ -2,7 +2,7 @@
 ghost use Rattle.std.specs.Prelude.{◌≡◌, IsTrue, IfOk, IfErr, IsErrOf};
 ghost use Rattle.slotted_slots.specs.Error.{IsShortage};
 ghost use Rattle.slotted_hashcons.specs.Filed.{HasKey};
-ghost use Rattle.slotted_rebuilding.specs.Filed.{IsWellFiled};
+ghost use Rattle.slotted_hashcons.specs.WellFiled.{IsWellFiled};
 ghost use Rattle.slotted_classes.specs.Finding.{HasFinds};
 ghost use Rattle.slotted_reports.specs.Checking.{HasKeyed, HasKeyedEach};
 ghost use Rattle.slotted_reports.specs.Nodes.{HasLargeKey};

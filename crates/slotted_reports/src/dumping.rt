@@ -4,7 +4,7 @@ ghost use Rattle.std.specs.List.{range_with_len};
 ghost use Rattle.slotted_slots.specs.Error.{IsOutOfMemory, IsShortage};
 ghost use Rattle.slotted_slots.specs.Table.{KnowsMore};
 ghost use Rattle.slotted_nodes.specs.Form.{IsSmall};
-ghost use Rattle.slotted_rebuilding.specs.Filed.{IsWellFiled};
+ghost use Rattle.slotted_hashcons.specs.WellFiled.{IsWellFiled};
 ghost use Rattle.slotted_lookup.specs.Reports.{class_sources};
 ghost use Rattle.slotted_reports.specs.Nodes.{KnowsClassSlots, IsAppended};
 ghost use Rattle.slotted_reports.specs.Nodes.{RunsOutForClasses, RunsOutForKeys, TakesForClasses, TakesForKeys};

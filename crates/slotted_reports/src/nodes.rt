@@ -10,7 +10,7 @@ ghost use Rattle.slotted_model.specs.Correspondence.{AllDifferent};
 ghost use Rattle.slotted_proofs.specs.Equations.{to_applied};
 ghost use Rattle.slotted_hashcons.specs.Filed.{HasKey};
 ghost use Rattle.slotted_hashcons.specs.FiledRows.{IsFiled};
-ghost use Rattle.slotted_rebuilding.specs.Filed.{IsWellFiled};
+ghost use Rattle.slotted_hashcons.specs.WellFiled.{IsWellFiled};
 ghost use Rattle.slotted_classes.specs.Finding.{IsFindable};
 ghost use Rattle.slotted_lookup.specs.Enodes.{AllKnownTo, AreFresh};
 ghost use Rattle.slotted_lookup.specs.Reports.{class_sources};

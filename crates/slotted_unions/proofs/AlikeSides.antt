@@ -18,8 +18,8 @@ use Rattle.slotted_proofs.specs.Proving.{IsCanonical}
 use Rattle.slotted_classes.specs.Finding.{IsFindable}
 use Rattle.slotted_classes.specs.Kept.{Kept, nodes_of, entries_of, proofs_of}
 use Rattle.slotted_classes.proofs.KeptLists.{equation_at-of}
-use Rattle.slotted_unions.specs.StateOf.{state_of}
-use Rattle.slotted_unions.specs.Stored.{Stored}
+use Rattle.slotted_classes.specs.StateOf.{state_of}
+use Rattle.slotted_classes.specs.Stored.{Stored}
 use Rattle.slotted_unions.specs.Uniting.{SaysNothing}
 use Rattle.slotted_unions.proofs.EnteredProofs.{stored-over}
 

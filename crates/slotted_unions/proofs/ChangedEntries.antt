@@ -17,8 +17,9 @@ use Rattle.slotted_model.proofs.Finds.Linking.{link-later}
 use Rattle.slotted_proofs.specs.Proving.{IsProved}
 use Rattle.slotted_classes.specs.Kept.{Kept, nodes_of, entries_of, proofs_of, with_linked}
 use Rattle.slotted_classes.proofs.Writes.{written, written-nodes, written-entries, written-form}
-use Rattle.slotted_unions.specs.StateOf.{state_of, symmetry_of_entry}
-use Rattle.slotted_unions.specs.Stored.{Stored, Grows}
+use Rattle.slotted_classes.specs.StateOf.{state_of, symmetry_of_entry}
+use Rattle.slotted_classes.specs.Stored.{Stored}
+use Rattle.slotted_unions.specs.Grows.{Grows}
 use Rattle.slotted_unions.specs.Uniting.{IsOfLive, HasLinked, equation_in, heir_in}
 use Rattle.slotted_unions.proofs.EnteredProofs.{stored-over, stands-at}
 

@@ -20,16 +20,12 @@ use Rattle.slotted_proofs.specs.Entries.{composite_entry}
 use Rattle.slotted_proofs.specs.Proving.{IsProvable, IsProved}
 use Rattle.slotted_proofs.proofs.Entering.{entry-over, entries_meet, turned_provable, composite_provable}
 use Rattle.slotted_proofs.proofs.Entering.{entering_proved, others_assert_nothing}
-use Rattle.slotted_classes.specs.Finding.{HasFinds}
 use Rattle.slotted_classes.specs.Kept.{Kept, nodes_of, entries_of, proofs_of, with_proofs, EntersIn, HasManySlots}
 use Rattle.slotted_classes.proofs.KeptLists.{equation_at-of, length-nodes_of, length-proofs_of}
 use Rattle.slotted_unions.specs.Proving.{OnlyProves, Proves, HasLargeClassOf}
-use Rattle.slotted_unions.specs.StateOf.{state_of, state_with}
-use Rattle.slotted_unions.specs.Stored.{Stored, Grows, IsOverOneClass}
-
--- finds can be followed
-pub stored-finds : (k : Kept) → Stored k → HasFinds k
-stored-finds k stored = record { linked = stored.sane.sound.linked; later = stored.later }
+use Rattle.slotted_classes.specs.StateOf.{state_of, state_with}
+use Rattle.slotted_classes.specs.Stored.{Stored, IsOverOneClass}
+use Rattle.slotted_unions.specs.Grows.{Grows}
 
 -- the classes of an entry, as the code reads them
 pub entry-left : (k : Kept) (ps : List Proven) (p : ℕ) (e : Sides) → ps ≡ k.proofs → IsWritten (statement_at ps p) e →

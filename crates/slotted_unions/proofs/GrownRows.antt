@@ -5,7 +5,7 @@ use Rattle.slotted_nodes.specs.Form.{Form}
 use Rattle.slotted_languages.specs.Shape.{shape}
 use Rattle.slotted_classes.specs.Kept.{Kept, ClassEntry, no_form, no_entry, rows_from}
 use Rattle.slotted_classes.proofs.KeptLists.{length-nodes_of}
-use Rattle.slotted_unions.specs.Stored.{Grows}
+use Rattle.slotted_unions.specs.Grows.{Grows}
 
 abbrev node_in : List ClassEntry → ℕ → Form
 node_in cs i = (slice_index_or cs i (no_form, no_entry)).0

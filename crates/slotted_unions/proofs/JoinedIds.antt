@@ -33,7 +33,7 @@ use Rattle.slotted_classes.specs.Kept.{Kept, nodes_of, entries_of, EntersBy}
 use Rattle.slotted_classes.proofs.KeptLists.{length-nodes_of}
 use Rattle.slotted_classes.proofs.NameMaps.{length-keys}
 use Rattle.slotted_unions.specs.Proving.{Proves, ProvesEqual, HasLargeClassOf}
-use Rattle.slotted_unions.specs.Stored.{Stored}
+use Rattle.slotted_classes.specs.Stored.{Stored}
 use Rattle.slotted_unions.proofs.EnteredProofs.{entering-proves, only-nodes, then-proves}
 
 -- a full id has a full map over its own keys

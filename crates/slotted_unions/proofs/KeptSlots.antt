@@ -16,8 +16,9 @@ use Rattle.slotted_proofs.specs.Entries.{statement_at, turned_entry, composite_e
 use Rattle.slotted_proofs.specs.Equations.{Meets}
 use Rattle.slotted_classes.specs.Kept.{Kept, nodes_of, entries_of, EntersIn, HasManySlots, with_counts, with_fewer}
 use Rattle.slotted_unions.specs.Proving.{OnlyProves, Proves, HasLargeSide}
-use Rattle.slotted_unions.specs.StateOf.{state_of}
-use Rattle.slotted_unions.specs.Stored.{Stored, Grows, GrowsUncounted}
+use Rattle.slotted_classes.specs.StateOf.{state_of}
+use Rattle.slotted_classes.specs.Stored.{Stored}
+use Rattle.slotted_unions.specs.Grows.{Grows, GrowsUncounted}
 use Rattle.slotted_unions.specs.Uniting.{IsOfLive, IsLackedBy, HasDropped, equation_in}
 use Rattle.slotted_unions.proofs.EnteredProofs.{stored-over, stored-meet, only-stands, only-says, only-grows}
 use Rattle.slotted_unions.proofs.EnteredProofs.{turned-only, then-chained, then-large, proves-stands}

@@ -20,8 +20,8 @@ use Rattle.slotted_model.proofs.Finds.NormalIds.{found-renamed, valid-map, Conta
 use Rattle.slotted_model.proofs.Data.Ordered.{in_order-ascending}
 use Rattle.slotted_model.proofs.Data.Sets.{same_members}
 use Rattle.slotted_classes.specs.Kept.{Kept, SymmetryEntry, nodes_of, entries_of}
-use Rattle.slotted_unions.specs.StateOf.{state_of, symmetry_of_entry}
-use Rattle.slotted_unions.specs.Stored.{Stored, IsOverOneClass}
+use Rattle.slotted_classes.specs.StateOf.{state_of, symmetry_of_entry}
+use Rattle.slotted_classes.specs.Stored.{Stored, IsOverOneClass}
 
 -- the identity with names put in
 identity-names : (f : ℕ → ℕ) (S : List ℕ) → with_values f (identity S) ≡ map_on f S

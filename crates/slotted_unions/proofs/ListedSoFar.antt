@@ -6,7 +6,7 @@ use Rattle.slotted_theory.proofs.Lists.{Contains-map, Contains-of_map}
 use Rattle.slotted_model.specs.State.{Symmetry}
 use Rattle.slotted_classes.specs.Kept.{SymmetryEntry}
 use Rattle.slotted_classes.proofs.KeptLists.{any_default}
-use Rattle.slotted_unions.specs.StateOf.{symmetry_of_entry}
+use Rattle.slotted_classes.specs.StateOf.{symmetry_of_entry}
 
 -- what holds of the elements so far, and of the next one, holds of one more
 pub so_far-next : {X : Type 0} (P : X → Type 0) (xs : List X) (i : ℕ) (x : X) → i < length xs → x ≡ slice_index_or xs i x → P x → ((j : ℕ) (d : X) → j < i → P (slice_index_or xs j d)) → (j : ℕ) (d : X) → j < i + 1 → P (slice_index_or xs j d)

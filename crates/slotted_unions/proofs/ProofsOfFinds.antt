@@ -17,7 +17,7 @@ use Rattle.slotted_proofs.specs.Entries.{statement_at, composite_entry}
 use Rattle.slotted_classes.specs.Kept.{Kept, find_at, nodes_of, entries_of, proofs_of, EntersIn, HasManySlots}
 use Rattle.slotted_classes.proofs.KeptLists.{equation_at-of, entry_at-of, length-nodes_of, length-proofs_of}
 use Rattle.slotted_unions.specs.Proving.{FindsByEntry, FindsWhole, OnlyProves, Proves, ProvesFind, ProvesBack, ProvesHalf, ProvesFound, HasLargeClassOf, HasLargeSide}
-use Rattle.slotted_unions.specs.Stored.{Stored}
+use Rattle.slotted_classes.specs.Stored.{Stored}
 use Rattle.slotted_unions.proofs.EnteredProofs.{nothing-proved, only-nodes, only-entries, only-stands}
 use Rattle.slotted_unions.proofs.EnteredProofs.{then-proves, proves-still, stored-over, stored-meet, chained_equation}
 use Rattle.slotted_unions.proofs.EnteredProofs.{then-chained, only-large, then-large}

@@ -17,7 +17,7 @@ use Rattle.slotted_proofs.specs.Entries.{statement_at}
 use Rattle.slotted_proofs.specs.Equations.{AreSides}
 use Rattle.slotted_classes.specs.Kept.{Kept, nodes_of, entries_of}
 use Rattle.slotted_unions.specs.Proving.{FindsWhole, ProvesFind}
-use Rattle.slotted_unions.specs.Stored.{Stored}
+use Rattle.slotted_classes.specs.Stored.{Stored}
 use Rattle.slotted_unions.proofs.AlikeSides.{left-is_full, right-is_full}
 use Rattle.slotted_unions.proofs.EnteredProofs.{nothing-proved}
 

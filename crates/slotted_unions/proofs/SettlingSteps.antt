@@ -14,8 +14,9 @@ use Rattle.slotted_classes.specs.Kept.{Kept, nodes_of, entries_of, with_settled}
 use Rattle.slotted_classes.proofs.KeptLists.{equation_at-of, length-nodes_of, length-proofs_of}
 use Rattle.slotted_unions.specs.Proving.{FindsEither, HasLargeSide}
 use Rattle.slotted_unions.specs.Settling.{IsUnaligned, AreAligned, HasLargeUnaligned}
-use Rattle.slotted_unions.specs.StateOf.{state_of}
-use Rattle.slotted_unions.specs.Stored.{Stored, Grows}
+use Rattle.slotted_classes.specs.StateOf.{state_of}
+use Rattle.slotted_classes.specs.Stored.{Stored}
+use Rattle.slotted_unions.specs.Grows.{Grows}
 use Rattle.slotted_unions.specs.Uniting.{UnitesBy, equation_in}
 use Rattle.slotted_unions.proofs.JoinedClasses.{KeepsApart, unites-keeps}
 use Rattle.slotted_unions.proofs.LargeClasses.{finds-among}

@@ -24,8 +24,8 @@ use Rattle.slotted_proofs.specs.Entries.{turned_entry}
 use Rattle.slotted_classes.specs.Kept.{Kept, find_at, nodes_of, entries_of, EntersIn, HasManySlots}
 use Rattle.slotted_classes.proofs.KeptLists.{entry_at-of, length-mapped}
 use Rattle.slotted_unions.specs.Proving.{OnlyProves, Proves, HasLargeSide}
-use Rattle.slotted_unions.specs.StateOf.{state_of}
-use Rattle.slotted_unions.specs.Stored.{Stored}
+use Rattle.slotted_classes.specs.StateOf.{state_of}
+use Rattle.slotted_classes.specs.Stored.{Stored}
 use Rattle.slotted_unions.specs.Uniting.{IsOfLive, PairsLeft, HasDropped, DropsLeft, DropsSide, HasLinked, LinksEither}
 use Rattle.slotted_unions.specs.Uniting.{equation_in}
 use Rattle.slotted_unions.proofs.EnteredProofs.{nothing-proved, stored-over, turned-only, stands-at, proves-stands, only-large, many-large}

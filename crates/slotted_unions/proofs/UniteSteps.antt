@@ -20,8 +20,9 @@ use Rattle.slotted_proofs.specs.Entries.{Proven, nothing_proven, statement_at}
 use Rattle.slotted_classes.specs.Kept.{Kept, nodes_of, entries_of, proofs_of}
 use Rattle.slotted_classes.proofs.KeptLists.{equation_at-of, length-nodes_of}
 use Rattle.slotted_unions.specs.Proving.{OnlyProves, ProvesFound, FindsEither, HasLargeSide}
-use Rattle.slotted_unions.specs.StateOf.{state_of, state_with}
-use Rattle.slotted_unions.specs.Stored.{Stored, Grows}
+use Rattle.slotted_classes.specs.StateOf.{state_of, state_with}
+use Rattle.slotted_classes.specs.Stored.{Stored}
+use Rattle.slotted_unions.specs.Grows.{Grows}
 use Rattle.slotted_unions.specs.Uniting.{equation_in, IsOfLive, HasDropped, DropsRight, DropsNothing, DropsSide, HasLinked, LinksTurned, ListsOnce, SaysNothing, ActsOn, UnitesBy, IsDone, StepsBy}
 use Rattle.slotted_unions.specs.declared.uniting.UnionStep.{UnionStep}
 use Rattle.slotted_unions.specs.declared.uniting.UnionStep.TheVariants.{Done, Dropped, Linked}

@@ -17,7 +17,7 @@ use Rattle.slotted_proofs.specs.Equations.{Statement, IsWritten, to_applied}
 use Rattle.slotted_proofs.proofs.Bridges.{injective_differ, shared-model}
 use Rattle.slotted_classes.specs.Kept.{Kept, find_at, nodes_of, entries_of}
 use Rattle.slotted_classes.proofs.KeptLists.{length-mapped, length-nodes_of, entry_at-of}
-use Rattle.slotted_unions.specs.Stored.{Stored}
+use Rattle.slotted_classes.specs.Stored.{Stored}
 use Rattle.slotted_unions.specs.Uniting.{IsOfLive, IsLackedBy, PairsLeft, equation_in, heir_in}
 use Rattle.slotted_unions.proofs.EnteredProofs.{stored-over, entry-left, entry-right}
 

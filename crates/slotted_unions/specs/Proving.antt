@@ -16,8 +16,8 @@ use Rattle.slotted_model.specs.Link.{half_found_equation}
 use Rattle.slotted_model.specs.ProofList.{Equation, entry_equation, equation_of, find_equation, turned_equation}
 use Rattle.slotted_proofs.specs.Entries.{Proven, statement_at}
 use Rattle.slotted_classes.specs.Kept.{Kept, nodes_of, entries_of, proofs_of, with_proofs}
-use Rattle.slotted_unions.specs.StateOf.{state_of}
-use Rattle.slotted_unions.specs.Stored.{Stored}
+use Rattle.slotted_classes.specs.StateOf.{state_of}
+use Rattle.slotted_classes.specs.Stored.{Stored}
 
 pub record OnlyProves (k l : Kept) : Type 0 where
   pub stored : Stored l

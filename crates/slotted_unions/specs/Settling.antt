@@ -7,7 +7,7 @@ use Rattle.slotted_model.specs.Rest.{IsAligned}
 use Rattle.slotted_model.specs.State.{Symmetry}
 use Rattle.slotted_classes.specs.Kept.{Kept}
 use Rattle.slotted_unions.specs.Proving.{HasLargeClassOf}
-use Rattle.slotted_unions.specs.StateOf.{state_of}
+use Rattle.slotted_classes.specs.StateOf.{state_of}
 
 -- p is the proof of a listed symmetry whose sides find different sets of names
 pub record IsUnaligned (k : Kept) (p : ℕ) : Type 0 where

@@ -23,8 +23,9 @@ use Rattle.slotted_classes.specs.Kept.{Kept, nodes_of, entries_of, symmetry_entr
 use Rattle.slotted_unions.specs.Proving.{OnlyProves}
 use Rattle.slotted_unions.specs.declared.uniting.UnionStep.{UnionStep}
 use Rattle.slotted_unions.specs.declared.uniting.UnionStep.TheVariants.{Done, Dropped, Linked}
-use Rattle.slotted_unions.specs.StateOf.{state_of, state_with, symmetry_of_entry}
-use Rattle.slotted_unions.specs.Stored.{Stored, Grows, IsOverOneClass}
+use Rattle.slotted_classes.specs.StateOf.{state_of, state_with, symmetry_of_entry}
+use Rattle.slotted_classes.specs.Stored.{Stored, IsOverOneClass}
+use Rattle.slotted_unions.specs.Grows.{Grows}
 
 -- the equation of an entry
 abbrev pub equation_in : Kept → ℕ → Equation

@@ -3,7 +3,7 @@ ghost use Rattle.std.specs.Prelude.{◌≡◌, ◌<◌, ℕ, length, Contains, I
 ghost use Rattle.slotted_slots.specs.Error.{IsShortage};
 ghost use Rattle.slotted_slots.specs.Maps.{keys, values};
 ghost use Rattle.slotted_unions.specs.Proving.{HasLargeSide};
-ghost use Rattle.slotted_unions.specs.Stored.{Stored};
+ghost use Rattle.slotted_classes.specs.Stored.{Stored};
 ghost use Rattle.slotted_unions.specs.Uniting.{IsOfLive, IsLackedBy, PairsLeft, HasDropped, DropsLeft, equation_in};
 
 use slotted_classes::Store;

@@ -3,8 +3,8 @@ ghost use Rattle.std.specs.Prelude.{◌≡◌, ◌≢◌, ◌<◌, length, IfOk,
 ghost use Rattle.slotted_slots.specs.Error.{IsOutOfMemory};
 ghost use Rattle.slotted_model.specs.Changes.{PairsAll};
 ghost use Rattle.slotted_proofs.specs.Equations.{to_applied};
-ghost use Rattle.slotted_unions.specs.StateOf.{state_of};
-ghost use Rattle.slotted_unions.specs.Stored.{Stored};
+ghost use Rattle.slotted_classes.specs.StateOf.{state_of};
+ghost use Rattle.slotted_classes.specs.Stored.{Stored};
 ghost use Rattle.slotted_unions.specs.Uniting.{HasLinked, IsOfLive, heir_in, equation_in};
 
 use slotted_classes::Store;

@@ -7,7 +7,7 @@ ghost use Rattle.slotted_classes.specs.Finding.{FindAlike};
 ghost use Rattle.slotted_classes.specs.Kept.{nodes_of, entries_of};
 ghost use Rattle.slotted_unions.specs.Proving.{FindsByEntry, FindsWhole, ProvesFind, ProvesBack, ProvesHalf, ProvesFound, ProvesEqual};
 ghost use Rattle.slotted_unions.specs.Proving.{HasLargeClassOf, HasLargeSide};
-ghost use Rattle.slotted_unions.specs.Stored.{Stored};
+ghost use Rattle.slotted_classes.specs.Stored.{Stored};
 ghost use Rattle.slotted_unions.specs.Uniting.{equation_in};
 
 use slotted_classes::Store;

@@ -4,8 +4,8 @@ ghost use Rattle.slotted_slots.specs.Error.{IsOutOfMemory};
 ghost use Rattle.slotted_model.specs.Rest.{IsAligned};
 ghost use Rattle.slotted_classes.specs.Kept.{symmetry_entry};
 ghost use Rattle.slotted_unions.specs.Settling.{IsUnaligned, AreAligned};
-ghost use Rattle.slotted_unions.specs.StateOf.{state_of, symmetry_of_entry};
-ghost use Rattle.slotted_unions.specs.Stored.{Stored};
+ghost use Rattle.slotted_classes.specs.StateOf.{state_of, symmetry_of_entry};
+ghost use Rattle.slotted_classes.specs.Stored.{Stored};
 
 use slotted_classes::names::have_same_values;
 use slotted_classes::{Store, Symmetry};

@@ -4,8 +4,8 @@ ghost use Rattle.slotted_slots.specs.Error.{IsShortage};
 ghost use Rattle.slotted_model.specs.Changes.{PairsAll, found_entry};
 ghost use Rattle.slotted_classes.specs.Kept.{find_at};
 ghost use Rattle.slotted_unions.specs.Proving.{HasLargeSide};
-ghost use Rattle.slotted_unions.specs.StateOf.{state_of};
-ghost use Rattle.slotted_unions.specs.Stored.{Stored};
+ghost use Rattle.slotted_classes.specs.StateOf.{state_of};
+ghost use Rattle.slotted_classes.specs.Stored.{Stored};
 ghost use Rattle.slotted_unions.specs.Uniting.{ActsOn, DropsSide, LinksEither, SaysNothing, StepsBy, IsOfLive, equation_in};
 
 use crate::dropping::drop_left;

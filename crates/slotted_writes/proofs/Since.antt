@@ -7,7 +7,7 @@ use Rattle.slotted_model.specs.Changes.{GoesOn}
 use Rattle.slotted_model_analyses.specs.Analysis.{Analysis}
 use Rattle.slotted_classes.specs.Kept.{Kept}
 use Rattle.slotted_hashcons.specs.FiledRows.{Rows}
-use Rattle.slotted_rebuilding.specs.Filed.{state_in}
+use Rattle.slotted_hashcons.specs.WellFiled.{state_in}
 use Rattle.slotted_data.specs.Held.{Held}
 use Rattle.slotted_data.specs.Carrying.{DataRests, HasCarriedAll, RestedBefore}
 use Rattle.slotted_data.proofs.Resting.{rested-before}

@@ -14,7 +14,7 @@ use Rattle.slotted_model.proofs.Represented.Children.{EachChild-map}
 use Rattle.slotted_classes.specs.Finding.{IsFindable}
 use Rattle.slotted_classes.specs.Kept.{Kept, nodes_of}
 use Rattle.slotted_hashcons.specs.FiledRows.{Rows, rows_in}
-use Rattle.slotted_rebuilding.specs.Filed.{state_in}
+use Rattle.slotted_hashcons.specs.WellFiled.{state_in}
 use Rattle.slotted_operations.specs.Adding.{AddsSyn, IsEqualToNode, MakesFilledClass, children_lack}
 use Rattle.slotted_operations.specs.Good.{AddsFilled, AddsFound, Good, RestsWith, image_of}
 use Rattle.slotted_operations.specs.Graph.{Graph, HasNewClass, IsFullId, MakesAtMost}

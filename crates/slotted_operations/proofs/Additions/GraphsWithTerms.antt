@@ -14,7 +14,7 @@ use Rattle.slotted_model.proofs.Complete.LookUpsAreEqual.{filled-equal}
 use Rattle.slotted_classes.specs.Finding.{IsFindable}
 use Rattle.slotted_classes.specs.Kept.{Kept}
 use Rattle.slotted_hashcons.specs.FiledRows.{Rows, rows_in}
-use Rattle.slotted_rebuilding.specs.Filed.{state_in}
+use Rattle.slotted_hashcons.specs.WellFiled.{state_in}
 use Rattle.slotted_operations.specs.Adding.{term_nodes}
 use Rattle.slotted_operations.specs.AddingTerms.{AddsNode, AddsNodes, FilesOnlyLookedUp, IsEqualToTerm, IsOver, LacksForTerm, TakesForTerm, none_added, one_added}
 use Rattle.slotted_operations.specs.Good.{graph_of, AddsFoundTerm, AddsNodeIn, AddsNodesIn, Good, HasFreshSlots, IsFoundIn, LacksForTermIn, RestsWith, TakesForTermIn, image_of}

@@ -27,7 +27,7 @@ use Rattle.slotted_model.proofs.Rebuilding.Rows.{look_up_node-moved, rest-nodes}
 use Rattle.slotted_classes.specs.Finding.{IsFindable}
 use Rattle.slotted_classes.specs.Kept.{Kept, entries_of, nodes_of}
 use Rattle.slotted_hashcons.specs.FiledRows.{Rows}
-use Rattle.slotted_rebuilding.specs.Filed.{state_in}
+use Rattle.slotted_hashcons.specs.WellFiled.{state_in}
 use Rattle.slotted_operations.specs.Good.{Good, RestsWith, HasFreshSlots, AddsFilled, AddsFound, KeepsAnswers, MakesClassOf}
 use Rattle.slotted_operations.specs.Graph.{HasNewClass, IsFreshBetween}
 use Rattle.slotted_operations.proofs.Additions.NewClasses.{same-goes_on, adds-none}

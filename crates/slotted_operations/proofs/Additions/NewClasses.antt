@@ -29,12 +29,13 @@ use Rattle.slotted_hashcons.proofs.FiledRows.{row-filed}
 use Rattle.slotted_hashcons.specs.FoundNodes.{HasNoMorePlaces}
 use Rattle.slotted_hashcons.proofs.CanonicalChildren.{node-is}
 use Rattle.slotted_hashcons.proofs.KeyedNodes.{same-places}
-use Rattle.slotted_unions.specs.Stored.{Stored, GrowsUncounted}
+use Rattle.slotted_classes.specs.Stored.{Stored}
+use Rattle.slotted_unions.specs.Grows.{GrowsUncounted}
 use Rattle.slotted_unions.proofs.GrownRows.{grown-count, grown-rows}
 use Rattle.slotted_rebuilding.specs.Causes.{HasLargeClass}
 use Rattle.slotted_rebuilding.specs.Counted.{CountsFit, CountsGo, CountsOn, TotalsFit}
 use Rattle.slotted_rebuilding.proofs.CountedRebuilds.{counts-same}
-use Rattle.slotted_rebuilding.specs.Filed.{state_in}
+use Rattle.slotted_hashcons.specs.WellFiled.{state_in}
 use Rattle.slotted_rebuilding.specs.NewClasses.{IsUnfiled, FilesNewest}
 use Rattle.slotted_rebuilding.proofs.FiledStates.{fits-grown}
 use Rattle.slotted_operations.specs.Causes.{HasLargeClassIn, CanRunOutForNode, IsLargeClass, IsUnknownNode, IsWideClass}

@@ -47,8 +47,8 @@ use Rattle.slotted_proofs.specs.Entries.{Proven, entry_of, IsNew, Enters, reflex
 use Rattle.slotted_proofs.specs.Proving.{IsProvable, IsProved}
 use Rattle.slotted_proofs.proofs.Entering.{entering_proved, proved_newer, reflexive_provable}
 use Rattle.slotted_classes.specs.FormCode.{form_is, form_Decides}
-use Rattle.slotted_unions.specs.StateOf.{state_of, state_with}
-use Rattle.slotted_unions.specs.Stored.{Stored, IsOverOneClass}
+use Rattle.slotted_classes.specs.StateOf.{state_of, state_with}
+use Rattle.slotted_classes.specs.Stored.{Stored, IsOverOneClass}
 use Rattle.slotted_operations.specs.Causes.{HasLargeClassIn, HasLargeClassOrNode}
 use Rattle.slotted_operations.specs.Graph.{IsFreshBetween}
 use Rattle.slotted_classes.specs.Kept.{Kept, ClassEntry, RowEntry, no_form, no_entry, found, rows_from, node_at, nodes_of, entries_of, proofs_of, with_proofs, with_new_class, MakesClass}

@@ -12,7 +12,7 @@ use Rattle.slotted_model.specs.Applied.{Applied}
 use Rattle.slotted_model.specs.Classes.{IsFull}
 use Rattle.slotted_classes.specs.Kept.{Kept, nodes_of}
 use Rattle.slotted_hashcons.specs.FiledRows.{Rows}
-use Rattle.slotted_congruence.specs.Named.{node_size}
+use Rattle.slotted_languages.specs.Sizes.{node_size}
 use Rattle.slotted_lookup.specs.Filling as filling
 use Rattle.slotted_lookup.specs.Filling.{FillsChildren, HasOneNormalForm, MakesFull, filled_node, missing_in, missing_of, with_fresh}
 use Rattle.slotted_lookup.proofs.FilledSizes.{filled_node-places, filled_node-size, missing_of-full}

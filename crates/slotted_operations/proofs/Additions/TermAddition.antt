@@ -23,8 +23,8 @@ use Rattle.slotted_model.proofs.Represented.Ids.{id_of-iff}
 use Rattle.slotted_operations.specs.Image.{AddsClasses}
 use Rattle.slotted_classes.specs.Kept.{Kept, nodes_of}
 use Rattle.slotted_hashcons.specs.FiledRows.{Rows}
-use Rattle.slotted_congruence.specs.Named.{node_size}
-use Rattle.slotted_rebuilding.specs.Filed.{state_in}
+use Rattle.slotted_languages.specs.Sizes.{node_size}
+use Rattle.slotted_hashcons.specs.WellFiled.{state_in}
 use Rattle.slotted_operations.specs.Causes.{HasLargeClassIn, CanRunOutForNode, CanRunOutForTerm, HasLargeClassOrTerm, IsUnknownNode, IsUnknownTerm}
 use Rattle.slotted_operations.specs.Good.{image_of, Good, RestsWith, HasFreshSlots, Adds, AddsTerm, KeepsNotes}
 use Rattle.slotted_operations.specs.Canonical.{IsBeside}

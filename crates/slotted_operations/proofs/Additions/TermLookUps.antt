@@ -26,7 +26,7 @@ use Rattle.slotted_classes.specs.Kept.{Kept, nodes_of}
 use Rattle.slotted_classes.proofs.ChildIds.{Each, Each-from_All, EachChild-node_args, length-ids}
 use Rattle.slotted_classes.proofs.NameMaps.{In-at, at_In}
 use Rattle.slotted_hashcons.specs.FiledRows.{Rows}
-use Rattle.slotted_rebuilding.specs.Filed.{state_in}
+use Rattle.slotted_hashcons.specs.WellFiled.{state_in}
 use Rattle.slotted_operations.specs.Adding.{IsOfTerm, MakesFilledClass, slots_needed, term_nodes}
 use Rattle.slotted_operations.specs.Good.{AddsFound, AddsFoundTerm, AddsNodesIn, FilesSubterms, Good, HasFreshSlots, IsFoundIn, LacksForTermIn, RestsWith, RunsOutForUnknownIn, TakesForTermIn, image_of, none_added, one_added}
 use Rattle.slotted_operations.specs.Canonical.{IsBeside}

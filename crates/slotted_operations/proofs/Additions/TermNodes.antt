@@ -30,7 +30,7 @@ use Rattle.slotted_classes.specs.Finding.{IsFindable}
 use Rattle.slotted_classes.specs.Kept.{Kept, nodes_of}
 use Rattle.slotted_classes.proofs.ChildIds.{Each, Each-append}
 use Rattle.slotted_hashcons.specs.FiledRows.{Rows}
-use Rattle.slotted_rebuilding.specs.Filed.{state_in}
+use Rattle.slotted_hashcons.specs.WellFiled.{state_in}
 use Rattle.slotted_operations.specs.Adding.{IsOfTerm, args_nodes, term_nodes}
 use Rattle.slotted_operations.specs.Good.{AddsNodeIn, AddsNodesIn, Good, HasFreshSlots, KeepsAnswers, KeepsNotes, RestsWith, image_of, none_added, one_added}
 use Rattle.slotted_operations.specs.Image.{AddsClasses}

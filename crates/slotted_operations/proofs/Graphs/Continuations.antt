@@ -12,7 +12,7 @@ use Rattle.slotted_proofs.specs.Entries.{Proven, entry_of}
 use Rattle.slotted_classes.specs.Kept.{Kept, SymmetryEntry, nodes_of, entries_of, proofs_of}
 use Rattle.slotted_classes.proofs.KeptLists.{length-nodes_of}
 use Rattle.slotted_hashcons.specs.FiledRows.{Rows}
-use Rattle.slotted_rebuilding.specs.Filed.{state_in}
+use Rattle.slotted_hashcons.specs.WellFiled.{state_in}
 use Rattle.slotted_rebuilding.specs.Counted.{CountsGo}
 use Rattle.slotted_operations.specs.Good.{Good, image_of}
 use Rattle.slotted_operations.specs.Image.{AddsClasses, FoundAlike, found_id}

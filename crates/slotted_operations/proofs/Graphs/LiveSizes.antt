@@ -7,8 +7,8 @@ use Rattle.slotted_model.specs.Rest.{entry_size, size_from, size}
 use Rattle.slotted_model.proofs.Finds.Finding.{leads, find_class-live, find_map-live, found-live}
 use Rattle.slotted_classes.specs.Kept.{Kept, no_entry, nodes_of, entries_of}
 use Rattle.slotted_classes.proofs.KeptLists.{length-nodes_of, length-entries_of}
-use Rattle.slotted_unions.specs.StateOf.{state_of}
-use Rattle.slotted_unions.specs.Stored.{Stored}
+use Rattle.slotted_classes.specs.StateOf.{state_of}
+use Rattle.slotted_classes.specs.Stored.{Stored}
 use Rattle.slotted_operations.specs.Good.{image_of, finds_from}
 use Rattle.slotted_operations.specs.Image.{live_size, live_size_from}
 

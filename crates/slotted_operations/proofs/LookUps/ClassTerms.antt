@@ -12,7 +12,7 @@ use Rattle.slotted_model.proofs.Represented.Trees.{term_of-tree}
 use Rattle.slotted_theory.specs.Derives.{reflexive}
 use Rattle.slotted_classes.specs.Kept.{Kept, entries_of, nodes_of}
 use Rattle.slotted_hashcons.specs.FiledRows.{Rows, rows_in}
-use Rattle.slotted_rebuilding.specs.Filed.{state_in}
+use Rattle.slotted_hashcons.specs.WellFiled.{state_in}
 use Rattle.slotted_operations.specs.Affected.{AreRepresented, IsAffected}
 use Rattle.slotted_operations.specs.Causes.{class_found}
 use Rattle.slotted_operations.specs.Good.{Good, RestsWith, image_of}

@@ -34,7 +34,7 @@ use Rattle.slotted_classes.specs.Kept.{Kept, entries_of, nodes_of, proofs_of}
 use Rattle.slotted_classes.proofs.NameMaps.{In-at, at_In}
 use Rattle.slotted_proofs.specs.Equations.{to_applied}
 use Rattle.slotted_hashcons.specs.FiledRows.{Rows, rows_in}
-use Rattle.slotted_rebuilding.specs.Filed.{state_in}
+use Rattle.slotted_hashcons.specs.WellFiled.{state_in}
 use Rattle.slotted_lookup.specs.LookUp as adding
 use Rattle.slotted_lookup.proofs.FoundIds.{found-for}
 use Rattle.slotted_operations.specs.Adding.{IsEqualToNode}

@@ -9,7 +9,7 @@ use Rattle.slotted_model.specs.Ascending.{names}
 use Rattle.slotted_model.specs.Classes.{canonical_node}
 use Rattle.slotted_model.specs.Growth.{Extends}
 use Rattle.slotted_classes.proofs.NameCounts.{length-ascending, length-outside}
-use Rattle.slotted_congruence.specs.Named.{args_size, node_size}
+use Rattle.slotted_languages.specs.Sizes.{args_size, node_size}
 use Rattle.slotted_alike.proofs.WideNodes.{size-moved}
 use Rattle.slotted_operations.specs.Causes.{IsLargeClass, IsWideClass, IsWideNode}
 

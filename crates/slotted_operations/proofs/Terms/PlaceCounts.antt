@@ -17,8 +17,8 @@ use Rattle.slotted_model.specs.Applied.{Applied}
 use Rattle.slotted_model.specs.Classes.{canonical_term, term_of, IsFull, Canonical}
 use Rattle.slotted_model.proofs.Represented.Full.{canonical_term-names}
 use Rattle.slotted_model.proofs.Data.Theory.{free_names-moved}
-use Rattle.slotted_congruence.specs.Named.{args_size, node_size}
-use Rattle.slotted_alike.proofs.WideNodes.{names_in}
+use Rattle.slotted_languages.specs.Sizes.{args_size, node_size}
+use Rattle.slotted_languages.proofs.NodeSizes.{names_in}
 use Rattle.slotted_operations.specs.Nodes.{ids_in, child_ids}
 use Rattle.slotted_operations.specs.Places.{args_places, term_places}
 use Rattle.slotted_classes.proofs.ChildIds.{length-ids}

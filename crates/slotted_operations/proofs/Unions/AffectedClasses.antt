@@ -19,9 +19,9 @@ use Rattle.slotted_model.proofs.LeastTerms.Optimal.{row-classes}
 use Rattle.slotted_model.proofs.Rebuilding.Rows.{rest-gives}
 use Rattle.slotted_classes.specs.Kept.{Kept, SymmetryEntry, nodes_of, entries_of}
 use Rattle.slotted_classes.proofs.KeptLists.{length-nodes_of}
-use Rattle.slotted_unions.specs.StateOf.{symmetry_of_entry}
+use Rattle.slotted_classes.specs.StateOf.{symmetry_of_entry}
 use Rattle.slotted_hashcons.specs.FiledRows.{Rows}
-use Rattle.slotted_rebuilding.specs.Filed.{state_in}
+use Rattle.slotted_hashcons.specs.WellFiled.{state_in}
 use Rattle.slotted_operations.specs.Affected.{IsAffected, by_open_symmetry, by_affected_child}
 use Rattle.slotted_operations.specs.Causes.{class_of, HasChildOf, class_found}
 use Rattle.slotted_operations.specs.Good.{Good, image_of}

@@ -24,10 +24,11 @@ use Rattle.slotted_operations.specs.Image.{StandsIn, Asserts, Records, asserted_
 use Rattle.slotted_classes.specs.Kept.{Kept, nodes_of, entries_of, proofs_of, with_proofs, EntersIn}
 use Rattle.slotted_classes.proofs.KeptLists.{equation_at-of, length-proofs_of}
 use Rattle.slotted_hashcons.specs.FiledRows.{Rows, rows_in}
-use Rattle.slotted_unions.specs.StateOf.{state_of, state_with}
-use Rattle.slotted_unions.specs.Stored.{Stored, Grows, IsOverOneClass}
+use Rattle.slotted_classes.specs.StateOf.{state_of, state_with}
+use Rattle.slotted_classes.specs.Stored.{Stored, IsOverOneClass}
+use Rattle.slotted_unions.specs.Grows.{Grows}
 use Rattle.slotted_unions.proofs.GrownRows.{grown-count, grown-rows}
-use Rattle.slotted_rebuilding.specs.Filed.{state_in, IsWellFiled}
+use Rattle.slotted_hashcons.specs.WellFiled.{state_in, IsWellFiled}
 use Rattle.slotted_rebuilding.proofs.FiledStates.{fits-grown, places-grown}
 use Rattle.slotted_operations.specs.Good.{image_of, Good}
 use Rattle.slotted_operations.proofs.Graphs.EntryTexts.{records-stood, records-last}

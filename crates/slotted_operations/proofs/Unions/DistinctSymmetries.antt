@@ -5,7 +5,7 @@ use Rattle.slotted_theory.proofs.Lists.{contains_head, contains_tail}
 use Rattle.slotted_model.specs.Correspondence.{AllDifferent}
 use Rattle.slotted_classes.specs.Kept.{Kept, SymmetryEntry}
 use Rattle.slotted_classes.proofs.KeptLists.{at-mapped, length-mapped}
-use Rattle.slotted_unions.specs.Stored.{proofs_listed}
+use Rattle.slotted_classes.specs.Stored.{proofs_listed}
 use Rattle.slotted_operations.specs.Good.{Good, image_of}
 use Rattle.slotted_operations.specs.Image.{IsSymmetry, AreListedOnce, no_symmetry}
 use Rattle.slotted_operations.proofs.Unions.Symmetries.{is_symmetry}

@@ -24,7 +24,7 @@ use Rattle.slotted_unions.specs.Proving as unions
 use Rattle.slotted_unions.specs.Proving.{OnlyProves, ProvesEqual}
 use Rattle.slotted_unions.proofs.KeptSlots.{grows-uncounted}
 use Rattle.slotted_unions.proofs.EnteredProofs.{only-nodes, only-proofs, only-state, only-grows}
-use Rattle.slotted_rebuilding.specs.Filed.{state_in}
+use Rattle.slotted_hashcons.specs.WellFiled.{state_in}
 use Rattle.slotted_rebuilding.specs.Counted.{CountsGo}
 use Rattle.slotted_rebuilding.proofs.CountedRebuilds.{counts-same}
 use Rattle.slotted_operations.specs.Causes.{CanRunOutForTerm, IsUnknownTerm}

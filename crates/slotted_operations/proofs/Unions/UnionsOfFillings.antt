@@ -15,10 +15,11 @@ use Rattle.slotted_classes.specs.Kept.{Kept, nodes_of, entries_of, EntersIn, wit
 use Rattle.slotted_classes.proofs.KeptLists.{length-nodes_of}
 use Rattle.slotted_hashcons.specs.FiledRows.{Rows}
 use Rattle.slotted_unions.specs.Proving.{HasLargeSide}
-use Rattle.slotted_unions.specs.Stored.{Grows}
+use Rattle.slotted_unions.specs.Grows.{Grows}
 use Rattle.slotted_unions.specs.Uniting.{equation_in}
 use Rattle.slotted_rebuilding.specs.Causes.{HasLargeClass}
-use Rattle.slotted_rebuilding.specs.Filed.{IsWellFiled, UnitesFiled}
+use Rattle.slotted_hashcons.specs.WellFiled.{IsWellFiled}
+use Rattle.slotted_rebuilding.specs.Filed.{UnitesFiled}
 use Rattle.slotted_rebuilding.specs.Turns.{Rebuilds}
 use Rattle.slotted_rebuilding.proofs.LargeClasses.{large-grown, large-of}
 use Rattle.slotted_operations.specs.Causes.{HasLargeClassIn}

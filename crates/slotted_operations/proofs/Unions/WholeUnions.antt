@@ -26,11 +26,12 @@ use Rattle.slotted_classes.proofs.KeptLists.{equation_at-of, length-nodes_of, le
 use Rattle.slotted_classes.proofs.NameMaps.{length-keys}
 use Rattle.slotted_hashcons.specs.FiledRows.{Rows, rows_in}
 use Rattle.slotted_unions.specs.Proving as unions
-use Rattle.slotted_unions.specs.StateOf.{state_of}
-use Rattle.slotted_unions.specs.Stored.{GrowsUncounted}
+use Rattle.slotted_classes.specs.StateOf.{state_of}
+use Rattle.slotted_unions.specs.Grows.{GrowsUncounted}
 use Rattle.slotted_unions.proofs.KeptSlots.{uncounted-then}
 use Rattle.slotted_rebuilding.specs.Counted.{CountsFit, CountsGo, TotalsFit}
-use Rattle.slotted_rebuilding.specs.Filed.{state_in, IsWellFiled, UnitesFiled}
+use Rattle.slotted_hashcons.specs.WellFiled.{state_in, IsWellFiled}
+use Rattle.slotted_rebuilding.specs.Filed.{UnitesFiled}
 use Rattle.slotted_rebuilding.specs.Turns.{Rebuilds}
 use Rattle.slotted_rebuilding.proofs.CountedRebuilds.{rebuild-fits}
 use Rattle.slotted_operations.specs.Causes.{HasLargeClassIn, HasLargeClassOf, class_found}

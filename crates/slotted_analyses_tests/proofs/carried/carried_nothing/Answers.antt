@@ -3,7 +3,7 @@ use Rattle.slotted_model.specs.Rest.{AtRest}
 use Rattle.slotted_model.proofs.Rebuilding.Asserting.{nothing-rests}
 use Rattle.slotted_classes.specs.Kept.{Kept, nothing}
 use Rattle.slotted_hashcons.specs.FiledRows.{Rows, no_rows}
-use Rattle.slotted_rebuilding.specs.Filed.{state_in}
+use Rattle.slotted_hashcons.specs.WellFiled.{state_in}
 use Rattle.slotted_analyses.specs.Meaning.{by_bare_nodes}
 use Rattle.slotted_data.specs.Held.{Held, no_values}
 use Rattle.slotted_data.specs.Carrying.{DataRests, RestedBefore}

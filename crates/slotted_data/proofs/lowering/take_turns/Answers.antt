@@ -4,7 +4,7 @@ use Rattle.slotted_theory.proofs.Lists.{contains_head}
 use Rattle.slotted_model_analyses.specs.Analysis.{IsMerge}
 use Rattle.slotted_model_analyses.specs.DataPart.{TakesData}
 use Rattle.slotted_hashcons.specs.FiledRows.{IsFiled}
-use Rattle.slotted_rebuilding.specs.Filed.{state_in}
+use Rattle.slotted_hashcons.specs.WellFiled.{state_in}
 use Rattle.slotted_analyses.specs.Meaning.{by_bare_nodes}
 use Rattle.slotted_analyses.proofs.Merging.{merge-decided}
 use Rattle.slotted_data.specs.Lowering.{part_of, quiet}

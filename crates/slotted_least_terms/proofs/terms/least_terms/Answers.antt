@@ -5,7 +5,7 @@ use Rattle.slotted_costs.specs.Costs.{costs_by}
 use Rattle.slotted_costs.specs.Entries.{IsFiledAs, table_of}
 use Rattle.slotted_costs.specs.Least.{IsLeastTable, comes_first}
 use Rattle.slotted_model.specs.Extraction.{Fits, HasTiesBroken}
-use Rattle.slotted_rebuilding.specs.Filed.{state_in}
+use Rattle.slotted_hashcons.specs.WellFiled.{state_in}
 use Rattle.slotted_operations.proofs.Graphs.AtRest.{at-rest}
 use Rattle.slotted_least_terms.proofs.ChosenNodes.{chosen-entries}
 use Rattle.slotted_least_terms.proofs.LeastTables.{table-differs, table-least, table-ordered, table-within}

@@ -8,7 +8,7 @@ use Rattle.slotted_proofs.specs.Equations.{to_applied}
 use Rattle.slotted_classes.specs.Names.{with_put}
 use Rattle.slotted_hashcons.specs.Filed.{HasKey}
 use Rattle.slotted_hashcons.proofs.Indexed.{place-within}
-use Rattle.slotted_unions.proofs.EnteredProofs.{stored-finds}
+use Rattle.slotted_classes.proofs.StoredFinds.{stored-finds}
 use Rattle.slotted_lookup.specs.Enodes.{HasNamesOrNumbers, IsLookedUpAs}
 use Rattle.slotted_lookup.proofs.EnodeNames.{put-key, put-looked_up, put-names}
 use Rattle.slotted_lookup.proofs.enodes.class_node.Goals as goal

@@ -8,7 +8,7 @@ use Rattle.slotted_hashcons.proofs.Indexed.{place-within}
 use Rattle.slotted_classes.specs.Kept.{entries_of}
 use Rattle.slotted_classes.specs.Names.{between}
 use Rattle.slotted_classes.proofs.KeptLists.{length-mapped}
-use Rattle.slotted_unions.proofs.EnteredProofs.{stored-finds}
+use Rattle.slotted_classes.proofs.StoredFinds.{stored-finds}
 use Rattle.slotted_lookup.specs.LookUp.{slots_beside}
 use Rattle.slotted_lookup.proofs.lookup.found_source.Goals as goal
 

@@ -4,8 +4,8 @@ use Rattle.slotted_model.specs.Find.{find}
 use Rattle.slotted_model.specs.State.{look_up_normal}
 use Rattle.slotted_classes.specs.Kept.{entries_of}
 use Rattle.slotted_classes.specs.Names.{between}
-use Rattle.slotted_unions.proofs.EnteredProofs.{stored-finds}
-use Rattle.slotted_rebuilding.specs.Filed.{state_in}
+use Rattle.slotted_classes.proofs.StoredFinds.{stored-finds}
+use Rattle.slotted_hashcons.specs.WellFiled.{state_in}
 use Rattle.slotted_lookup.specs.LookUp.{slots_beside}
 use Rattle.slotted_lookup.proofs.LookedUpRows.{none-looked_up, numbers-are, some-looked_up}
 use Rattle.slotted_lookup.proofs.lookup.look_up.Goals as goal

@@ -1,7 +1,7 @@
 use Rattle.std.proofs.Common.{◌≡◌, ◌<◌, ◌∷◌, [], ap, sym, ◌∙◌, subst, arith, length, map, get_or, List}
 use Rattle.std.proofs.lemmas.List.{length-map, get_or-map, map-append}
 use Rattle.slotted_proofs.specs.Equations.{to_applied}
-use Rattle.slotted_unions.specs.StateOf.{state_of}
+use Rattle.slotted_classes.specs.StateOf.{state_of}
 use Rattle.slotted_match_machine.specs.declared.answer.Occurrence.{Occurrence as OccurrenceRead}
 use Rattle.slotted_match_machine.specs.Machine.{no_occurrence}
 use Rattle.slotted_match_machine.specs.Answers.{occurrence_in}

@@ -1,7 +1,7 @@
 use Rattle.std.proofs.Common.{◌≡◌, ◌∙◌, ℕ, List, map, string_bytes, ap, subst, arith, inr}
 use Rattle.std.specs.Prelude.{Contains}
 use Rattle.slotted_patterns.specs.View.{tree_of}
-use Rattle.slotted_rebuilding.specs.Filed.{state_in}
+use Rattle.slotted_hashcons.specs.WellFiled.{state_in}
 use Rattle.slotted_match_machine.specs.Answers.{answers_in}
 use Rattle.slotted_match_machine.specs.Index.{OneByOne}
 use Rattle.slotted_match_machine.specs.Machine.{Answer, answers_at}

@@ -1,7 +1,7 @@
 use Rattle.std.proofs.Common.{◌∙◌, sym, arith, rules}
 use Rattle.std.proofs.lemmas.Bool.{false≢true}
 use Rattle.std.proofs.lemmas.Result.{IfOk-weaker}
-use Rattle.slotted_unions.proofs.EnteredProofs.{stored-finds}
+use Rattle.slotted_classes.proofs.StoredFinds.{stored-finds}
 use Rattle.slotted_rebuilding.specs.Turns.{NarrowsTo}
 use Rattle.slotted_rebuilding.proofs.FiledStates.{first-still}
 use Rattle.slotted_rebuilding.proofs.LargeClasses.{large-grown, same-error}

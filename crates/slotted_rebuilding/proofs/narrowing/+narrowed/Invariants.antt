@@ -1,5 +1,5 @@
 use Rattle.slotted_model.specs.Rest.{size}
-use Rattle.slotted_unions.specs.StateOf.{state_of}
+use Rattle.slotted_classes.specs.StateOf.{state_of}
 use Rattle.slotted_rebuilding.proofs.narrowing.+narrowed.Given as goal
 
 abbrev pub decreases-narrowed : goal.decreases-narrowed

@@ -1,4 +1,4 @@
-use Rattle.slotted_rebuilding.specs.Filed.{state_in}
+use Rattle.slotted_hashcons.specs.WellFiled.{state_in}
 use Rattle.slotted_rebuilding.specs.Turns.{RebuildsSoFar}
 use Rattle.slotted_rebuilding.specs.Work.{work}
 use Rattle.slotted_rebuilding.proofs.rebuilding.take_turns.Given as goal

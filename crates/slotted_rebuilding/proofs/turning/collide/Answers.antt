@@ -1,6 +1,6 @@
 use Rattle.std.proofs.Common.{◌∙◌, ap, sym, subst, length}
 use Rattle.slotted_hashcons.specs.FiledRows.{Rows}
-use Rattle.slotted_unions.proofs.EnteredProofs.{stored-finds}
+use Rattle.slotted_classes.proofs.StoredFinds.{stored-finds}
 use Rattle.slotted_rebuilding.specs.Filed.{UnitesFiled}
 use Rattle.slotted_rebuilding.specs.Turns.{IsFirst}
 use Rattle.slotted_rebuilding.proofs.Collisions.{found-shape}

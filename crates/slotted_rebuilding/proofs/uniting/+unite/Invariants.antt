@@ -1,5 +1,5 @@
 use Rattle.slotted_model.specs.Rest.{size}
-use Rattle.slotted_unions.specs.StateOf.{state_of}
+use Rattle.slotted_classes.specs.StateOf.{state_of}
 use Rattle.slotted_rebuilding.proofs.uniting.+unite.Given as goal
 
 abbrev pub decreases-unite : goal.decreases-unite

@@ -1,4 +1,4 @@
-use Rattle.slotted_unions.proofs.EnteredProofs.{stored-finds}
+use Rattle.slotted_classes.proofs.StoredFinds.{stored-finds}
 use Rattle.slotted_reports.proofs.checking.check.Goals as goal
 
 pub classes_fit-requires : goal.classes_fit-requires

@@ -5,7 +5,7 @@ use Rattle.std.proofs.lemmas.Bool.{eq-eqb}
 use Rattle.slotted_slots.specs.Maps.{keys}
 use Rattle.slotted_nodes.specs.Form.{Form}
 use Rattle.slotted_classes.proofs.KeptLists.{length-mapped}
-use Rattle.slotted_rebuilding.specs.Filed.{IsKeyed}
+use Rattle.slotted_hashcons.specs.WellFiled.{IsKeyed}
 use Rattle.slotted_reports.proofs.checking.node_fits.Goals as goal
 
 pub is_found-requires : goal.is_found-requires

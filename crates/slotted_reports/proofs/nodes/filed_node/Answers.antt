@@ -6,7 +6,7 @@ use Rattle.slotted_theory.proofs.Lists.{Contains-nil}
 use Rattle.slotted_slots.specs.Table.{slot_limit}
 use Rattle.slotted_proofs.specs.Equations.{to_applied}
 use Rattle.slotted_hashcons.proofs.Indexed.{place-within}
-use Rattle.slotted_unions.proofs.EnteredProofs.{stored-finds}
+use Rattle.slotted_classes.proofs.StoredFinds.{stored-finds}
 use Rattle.slotted_reports.proofs.FreshNodes.{key-takes, refreshed-is, refreshed-key, refreshed-lacks, refreshed-takes, renamed-lacks, renamed-takes}
 use Rattle.slotted_reports.proofs.nodes.filed_node.Goals as goal
 

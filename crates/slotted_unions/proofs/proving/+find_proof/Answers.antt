@@ -2,7 +2,7 @@ use Rattle.std.proofs.Common.{◌≡◌, ◌≢◌, ◌<◌, length, sym, subst,
 use Rattle.slotted_classes.specs.Kept.{Kept, find_at}
 use Rattle.slotted_classes.proofs.Chasing.{moments_left, next_within, nearer}
 use Rattle.slotted_unions.specs.Proving.{ProvesFind}
-use Rattle.slotted_unions.proofs.EnteredProofs.{stored-finds}
+use Rattle.slotted_classes.proofs.StoredFinds.{stored-finds}
 use Rattle.slotted_unions.proofs.ProofsOfFinds.{entry-proves, next-class_of, live-proves, next-first, next-meets, next-among, next-large}
 use Rattle.slotted_unions.proofs.ProofsOfFinds.{next-proves}
 use Rattle.slotted_unions.proofs.proving.+find_proof.Goals as goal

@@ -6,7 +6,7 @@ use Rattle.slotted_model.specs.Find.{Entry, IsLive, entry_at}
 use Rattle.slotted_classes.specs.Kept.{entries_of, nodes_of}
 use Rattle.slotted_classes.proofs.Chasing.{next_within}
 use Rattle.slotted_classes.proofs.KeptLists.{entry_at-of, length-nodes_of}
-use Rattle.slotted_unions.proofs.EnteredProofs.{stored-finds}
+use Rattle.slotted_classes.proofs.StoredFinds.{stored-finds}
 use Rattle.slotted_unions.proofs.ProofsOfFinds.{next-class_of}
 use Rattle.slotted_unions.proofs.WholeEntries.{whole-says}
 use Rattle.slotted_unions.proofs.proving.leads_to_whole.Goals as goal

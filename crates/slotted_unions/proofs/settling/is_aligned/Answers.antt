@@ -3,7 +3,7 @@ use Rattle.std.specs.Prelude.{Contains}
 use Rattle.slotted_theory.proofs.Lists.{Contains-map}
 use Rattle.slotted_model.specs.Applied.{Applied, values}
 use Rattle.slotted_classes.specs.Kept.{symmetry_entry}
-use Rattle.slotted_unions.specs.StateOf.{symmetry_of_entry}
+use Rattle.slotted_classes.specs.StateOf.{symmetry_of_entry}
 use Rattle.slotted_unions.proofs.ListedSides.{aligned-iff}
 use Rattle.slotted_unions.proofs.settling.is_aligned.Goals as goal
 

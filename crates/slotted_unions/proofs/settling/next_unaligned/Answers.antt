@@ -3,7 +3,7 @@ use Rattle.std.proofs.lemmas.Bool.{false≢true}
 use Rattle.slotted_theory.proofs.Lists.{Contains-map}
 use Rattle.slotted_model.specs.Rest.{IsAligned}
 use Rattle.slotted_classes.specs.Kept.{symmetry_entry}
-use Rattle.slotted_unions.specs.StateOf.{state_of, symmetry_of_entry}
+use Rattle.slotted_classes.specs.StateOf.{state_of, symmetry_of_entry}
 use Rattle.slotted_unions.proofs.ListedSoFar.{so_far-next, contained-map, each-symmetry}
 use Rattle.slotted_unions.proofs.settling.next_unaligned.Goals as goal
 

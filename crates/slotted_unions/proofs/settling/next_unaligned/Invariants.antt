@@ -2,7 +2,7 @@ use Rattle.std.proofs.Common.{◌<◌, ℕ, slice_index_or}
 use Rattle.slotted_model.specs.Rest.{IsAligned}
 use Rattle.slotted_classes.specs.Kept.{symmetry_entry}
 use Rattle.slotted_classes.specs.declared.store.Symmetry.{Symmetry as SymmetryOfCode}
-use Rattle.slotted_unions.specs.StateOf.{state_of, symmetry_of_entry}
+use Rattle.slotted_classes.specs.StateOf.{state_of, symmetry_of_entry}
 use Rattle.slotted_unions.proofs.settling.next_unaligned.Given as goal
 
 -- the symmetries so far are aligned

@@ -2,7 +2,7 @@ use Rattle.std.proofs.Common.{◌∙◌, sym, rules}
 use Rattle.std.proofs.lemmas.Bool.{false≢true}
 use Rattle.std.proofs.lemmas.Result.{IfOk-weaker}
 use Rattle.slotted_model.specs.Changes.{found_entry}
-use Rattle.slotted_unions.specs.StateOf.{state_of}
+use Rattle.slotted_classes.specs.StateOf.{state_of}
 use Rattle.slotted_unions.specs.Uniting.{ActsOn, StepsBy, equation_in}
 use Rattle.slotted_unions.specs.declared.uniting.UnionStep.{UnionStep}
 use Rattle.slotted_unions.proofs.EnteredProofs.{nothing-proved}

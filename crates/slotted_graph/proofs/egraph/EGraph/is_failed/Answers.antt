@@ -1,7 +1,7 @@
 use Rattle.std.proofs.Common.{◌≡◌, ◌∙◌, ◌⊎◌, Bool, true, false, ap, refl, subst, sym, inl, inr}
 use Rattle.std.specs.Prelude.{IsTrue}
 use Rattle.slotted_slots.specs.Table.{Table}
-use Rattle.slotted_rebuilding.specs.Filed.{state_in}
+use Rattle.slotted_hashcons.specs.WellFiled.{state_in}
 use Rattle.slotted_operations.specs.Good.{Good, HasFreshSlots, RestsWith}
 use Rattle.slotted_operations.specs.Graph.{Graph}
 use Rattle.slotted_operations.proofs.LookUps.ClassNodes.{are-looked_up}

@@ -37,7 +37,7 @@ use Rattle.slotted_hashcons.specs.NormalNodes.{HasFindableChildren}
 use Rattle.slotted_hashcons.specs.FiledRows.{row_of_entry}
 use Rattle.slotted_hashcons.proofs.KeyedNodes.{own-numbers}
 use Rattle.slotted_hashcons.proofs.NumbersInShapes.{names-shape}
-use Rattle.slotted_rebuilding.proofs.CurrentRows.{row-itself}
+use Rattle.slotted_model.proofs.Rebuilding.CurrentRows.{row-itself}
 
 -- a map with other numbers for its keys
 

@@ -1,19 +1,16 @@
 -- What holds of what is kept between all inner steps of a union.
 --     Stored k     the state is sane, its proof list is proved, and each listed symmetry is written over ids that find; no proof is listed twice
---     Grows k l    classes and rows are as they were, and the proof list, the listed symmetries and those that died grew at their ends
---     GrowsUncounted k l   the same, but that rebuilds may have been noted
-use Rattle.std.specs.Prelude.{◌≡◌, ℕ, List, ◌++◌, All, Contains, IsTrue, false, map}
+use Rattle.std.specs.Prelude.{◌≡◌, ℕ, List, All, Contains, IsTrue, false, map}
 use Rattle.slotted_slots.specs.Table.{Table, is_known}
 use Rattle.slotted_model.specs.Applied.{Applied, keys, values}
 use Rattle.slotted_model.specs.Correspondence.{AllDifferent}
 use Rattle.slotted_model.specs.Link.{IsLater}
 use Rattle.slotted_model.specs.Rest.{Sane, IsAligned}
 use Rattle.slotted_model.specs.State.{Symmetry}
-use Rattle.slotted_proofs.specs.Entries.{Proven}
 use Rattle.slotted_proofs.specs.Proving.{IsProved}
 use Rattle.slotted_classes.specs.Finding.{IsFindable}
-use Rattle.slotted_classes.specs.Kept.{Kept, SymmetryEntry, node_at, nodes_of, entries_of, with_counts}
-use Rattle.slotted_unions.specs.StateOf.{state_of}
+use Rattle.slotted_classes.specs.Kept.{Kept, SymmetryEntry, nodes_of, entries_of}
+use Rattle.slotted_classes.specs.StateOf.{state_of}
 
 -- each table of slots knows the names of the id: they are numeric
 abbrev pub IsKnownToEach : Applied → Type 0
@@ -39,19 +36,3 @@ pub record Stored (k : Kept) : Type 0 where
   pub sides : (y : SymmetryEntry) → Contains k.symmetries y → IsOverOneClass k y
   pub once : AllDifferent (proofs_listed k)
   pub settled : k.dropped ≡ false → (y : Symmetry) → Contains (state_of k).symmetries y → IsAligned (state_of k) y
-
--- from k to l no class is made and none gets another node, entries and symmetries stay, with their texts, and classes that died stay dead
-pub record Grows (k l : Kept) : Type 0 where
-  pub nodes : nodes_of l ≡ nodes_of k
-  pub forms : (i : ℕ) → node_at l i ≡ node_at k i
-  pub rows : l.rows ≡ k.rows
-  pub more : List Proven
-  pub proofs : l.proofs ≡ k.proofs ++ more
-  pub listed : List SymmetryEntry
-  pub symmetries : l.symmetries ≡ k.symmetries ++ listed
-  pub gone : List ℕ
-  pub deaths : l.deaths ≡ k.deaths ++ gone
-  pub counts : l.counts ≡ k.counts
-
-abbrev pub GrowsUncounted : Kept → Kept → Type 0
-GrowsUncounted k l = Grows k (with_counts l k.counts)
