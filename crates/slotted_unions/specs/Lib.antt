@@ -3,3 +3,4 @@ pub mod Stored
 pub mod Proving
 pub mod Uniting
 pub mod Settling
+pub mod Shortcuts
