@@ -62,3 +62,4 @@ pub mod YesesStay
 pub mod LookedUpClasses
 pub mod RepresentedTerms
 pub mod RefreshedNodes
+pub mod ShortenedPaths
