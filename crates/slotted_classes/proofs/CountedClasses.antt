@@ -8,7 +8,7 @@ use Rattle.std.proofs.lemmas.List.Elements.{Contains-append_left, Contains-appen
 use Rattle.slotted_model.specs.Find.{Entry, IsLive, entry_at}
 use Rattle.slotted_model.specs.Rest.{entry_size, size_from}
 use Rattle.slotted_classes.specs.Kept.{Kept, ClassEntry, AreNarrow, IsCounted, ListsDead, entries_in, entries_of, find_at}
-use Rattle.slotted_classes.proofs.DeadClasses.{dead-kept, dead-linked, dead-more}
+use Rattle.slotted_classes.proofs.DeadClasses.{dead-again, dead-kept, dead-linked, dead-more}
 use Rattle.slotted_classes.proofs.KeptLists.{entry_at-of, length-entries_of, length-mapped}
 use Rattle.slotted_classes.proofs.Sizes.{entry_size-live, entry_size-dead, size-set, size-within, size-more, size-few}
 use Rattle.slotted_classes.proofs.Writes.{written, written-entries}
@@ -98,6 +98,18 @@ dead-same es ds i x l live lives lists j = (
       (lists j).1 (omega (arith, d.0, length-set es i x), λ y. d.1 (live-beside_back es i j x n y)),
 )
 
+dead-stays : (es : List Entry) (ds : List ℕ) (i : ℕ) (x : Entry) → i < length es → ¬ IsLive es i → x.class ≢ i → ListsDead ds es → ListsDead ds (set es i x)
+dead-stays es ds i x l dead led lists j = (
+  λ c. let d = (lists j).0 c in elim (cases_eq j i) [
+    | inl e ↦ (omega (arith, d.0, length-set es i x), λ y. led (subst (λ (z : Entry). z.class ≡ i) (at_set es i x l) (subst (IsLive (set es i x)) e y)))
+    | inr n ↦ (omega (arith, d.0, length-set es i x), λ y. d.1 (live-beside es i j x n y))
+  ],
+  λ d. elim (cases_eq j i) [
+    | inl e ↦ (lists j).1 (omega (arith, d.0, length-set es i x), λ y. dead (subst (IsLive es) e y))
+    | inr n ↦ (lists j).1 (omega (arith, d.0, length-set es i x), λ y. d.1 (live-beside_back es i j x n y))
+  ],
+)
+
 dead-new : (es : List Entry) (ds : List ℕ) (x : Entry) → x.class ≡ length es → ListsDead ds es → ListsDead ds (es ++ x ∷ [])
 dead-new es ds x lives lists j = (
   λ c.
@@ -144,6 +156,19 @@ module _ (k : Kept) (size : ℕ) (is : IsCounted k.moment size k.deaths k.classe
     narrow = subst AreNarrow (sym (written-entries k i x)) (narrow-set (entries_of k) i x inside (omega (arith, entry_size-live i x lives, few)) is.narrow);
     dead = subst (ListsDead k.deaths) (sym (written-entries k i x)) (dead-same (entries_of k) k.deaths i x inside live lives is.dead);
   }
+
+-- the dead class i gets another entry by which it stays dead
+pub counted-shortcut : (k : Kept) (size : ℕ) → IsCounted k.moment size k.deaths k.classes → (i : ℕ) → i < length k.classes → ¬ IsLive (entries_of k) i → (x : Entry) → x.class ≢ i →
+    IsCounted k.moment size k.deaths (written k i x)
+counted-shortcut k size is i within dead x led =
+    let inside : i < length (entries_of k) = omega (arith, within, length-entries_of k) in
+    let none_now : entry_size i x ≡ 0 = entry_size-dead i x led in
+    record {
+      links = omega (arith, is.links, dead-again k i within dead x led);
+      sized = omega (arith, size-set 0 i i (entries_of k) x (omega arith) inside, entry_size-dead i (entry_at (entries_of k) i) dead, none_now, is.sized, ap (size_from 0) (written-entries k i x));
+      narrow = subst AreNarrow (sym (written-entries k i x)) (narrow-set (entries_of k) i x inside (omega (arith, none_now)) is.narrow);
+      dead = subst (ListsDead k.deaths) (sym (written-entries k i x)) (dead-stays (entries_of k) k.deaths i x inside dead led is.dead);
+    }
 
 -- one more class
 pub counted-more : (k : Kept) (size : ℕ) → IsCounted k.moment size k.deaths k.classes → (c : ClassEntry) → c.1.class ≡ length k.classes → suc (length c.1.pairs) ≤ 2 ^ 64 →

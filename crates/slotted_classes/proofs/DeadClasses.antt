@@ -1,5 +1,5 @@
 -- How many classes lead to another class: at most as many as there are, one more after a link, and as many after a drop of slots.
-use Rattle.std.proofs.Common.{◌≡◌, ◌≢◌, ◌<◌, ◌≤◌, ◌+◌, ℕ, zero, suc, List, [], ◌∷◌, ◌++◌, length, set, get_or, cond, ap, subst, arith, inl, inr}
+use Rattle.std.proofs.Common.{◌≡◌, ◌≢◌, ◌<◌, ◌≤◌, ◌+◌, ℕ, zero, suc, List, [], ◌∷◌, ◌++◌, length, set, get_or, cond, ap, subst, sym, arith, inl, inr}
 use Rattle.std.proofs.lemmas.Bool.{cases_eq, eq-eqb, ne_eqb}
 use Rattle.slotted_model.specs.Find.{Entry, IsLive}
 use Rattle.slotted_classes.specs.Kept.{Kept, ClassEntry, no_form, no_entry, find_at, node_at, entries_of, dead_at, dead_from}
@@ -55,3 +55,10 @@ module _ (k : Kept) (i : ℕ) (within : i < length k.classes) (live : IsLive (en
   pub dead-kept : (x : Entry) → x.class ≡ i → dead_from 0 (written k i x) ≡ dead_from 0 k.classes
   dead-kept x lives =
       omega (arith, dead-set 0 i i k.classes (node_at k i, x) (no_form, no_entry) (omega arith) within, dead_at-live i (get_or k.classes i (no_form, no_entry)) leads, dead_at-live i (node_at k i, x) lives)
+
+-- and so does an entry by which a dead class stays dead
+pub dead-again : (k : Kept) (i : ℕ) → i < length k.classes → ¬ IsLive (entries_of k) i → (x : Entry) → x.class ≢ i →
+    dead_from 0 (written k i x) ≡ dead_from 0 k.classes
+dead-again k i within dead x led =
+    let led_before : (find_at k i).class ≢ i = λ e. dead (subst (λ (y : Entry). y.class ≡ i) (sym (entry_at-of k i)) e) in
+    omega (arith, dead-set 0 i i k.classes (node_at k i, x) (no_form, no_entry) (omega arith) within, dead_at-led i (get_or k.classes i (no_form, no_entry)) led_before, dead_at-led i (node_at k i, x) led)

@@ -193,6 +193,19 @@ with_linked k i c m p = record {
   counts = k.counts;
 }
 
+-- the dead class i leads to the class c with these pairs, by the proof p, and keeps the moment of its death
+abbrev pub with_shortcut : Kept → ℕ → ℕ → List (ℕ × ℕ) → ℕ → Kept
+with_shortcut k i c m p = record {
+  classes = set k.classes i (node_at k i, record { class = c; pairs = m; proof = p; died = (find_at k i).died });
+  rows = k.rows;
+  symmetries = k.symmetries;
+  dropped = k.dropped;
+  proofs = k.proofs;
+  moment = k.moment;
+  deaths = k.deaths;
+  counts = k.counts;
+}
+
 -- the live class i keeps the slots of these pairs alone, by the proof p
 abbrev pub with_fewer : Kept → ℕ → List (ℕ × ℕ) → ℕ → Kept
 with_fewer k i m p = record {

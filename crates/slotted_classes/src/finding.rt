@@ -121,8 +121,8 @@ impl<L: Language> Store<L> {
 
     // With memory.
 
-    // The slots of a class that the slots of the class that it finds stand for.
-    fn found_map(&self, alloc: Global, id: usize) -> Result<SlotMap, Error>
+    /// Returns the slots of a class that the slots of the class that it finds stand for.
+    pub fn found_map(&self, alloc: Global, id: usize) -> Result<SlotMap, Error>
         requires good { HasFinds self.now }
         requires within { id < length self.now.classes }
         ensures ok { IfOk result (λ m. m ≡ find_map (entries_of self.now) id) }

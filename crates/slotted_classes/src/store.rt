@@ -15,7 +15,7 @@ ghost use Rattle.slotted_classes.specs.Kept.{MakesClass, EntersIn, EntersAsserte
 ghost use Rattle.slotted_classes.specs.Kept.{nothing, node_at, find_at, names_at, entries_of, proofs_of, found, symmetry_entry};
 ghost use Rattle.slotted_classes.specs.Counts.{last_count, noted};
 ghost use Rattle.slotted_classes.specs.Kept.{ListsDead, size_of, with_counts};
-ghost use Rattle.slotted_classes.specs.Kept.{with_class, with_linked, with_fewer, with_listed, with_settled};
+ghost use Rattle.slotted_classes.specs.Kept.{with_class, with_linked, with_shortcut, with_fewer, with_listed, with_settled};
 
 use crate::counts::RebuildCount;
 use crate::names::{map_between, put_at_places};
@@ -25,6 +25,7 @@ use slotted_proofs::{Equation, ProofList, ProvenEq};
 use slotted_slots::{AppliedId, Error, Id, SlotMap};
 use std::alloc::Global;
 use std::marker::Model;
+use std::mem;
 
 /// A class: the class that it leads to, with a slot of its own for each slot of that, the proof of this, the node that it was made with, over
 /// its own slots, and the moment of its link. A live class leads to itself. Beside them an entry of the proof list, which no clause speaks of:
@@ -54,7 +55,8 @@ pub struct Symmetry {
 
 /// The classes by their ids, the filed nodes by their shapes, the symmetries in the order in which they were met, whether a slot was
 /// dropped since all of them were found aligned, the proved equations, and the number of links. Beside them the classes that died, in order,
-/// how many live classes and slots of them there are, and what rebuilds did.
+/// how many live classes and slots of them there are, and what rebuilds did; and the classes whose finds were proved step by step since paths
+/// were compressed last, which no clause speaks of.
 #[derive(Drop)]
 pub struct Store<L: Language> {
     classes: Vec<Class<L>>,
@@ -64,6 +66,7 @@ pub struct Store<L: Language> {
     proofs: ProofList,
     moment: usize,
     deaths: Vec<usize>,
+    walked: Vec<usize>,
     size: u128,
     count: RebuildCount,
     total_turns: u64,
@@ -114,6 +117,7 @@ impl<L: Language> Store<L> {
             proofs: ProofList::new(alloc),
             moment: 0,
             deaths: Vec::new(alloc),
+            walked: Vec::new(alloc),
             size: 0,
             count: RebuildCount {
                 nodes: 0,
@@ -276,6 +280,34 @@ impl<L: Language> Store<L> {
         self.moment = moment + 1;
         self.size -= less;
         Ok(())
+    }
+
+    /// A dead class leads at once to the class that it finds, by this proof. The moment of its death stays.
+    pub fn set_shortcut(&mut self, dead: usize, find: AppliedId, proof: ProvenEq)
+        requires within { dead < length self.old.classes }
+        requires dead { ¬ IsLive (entries_of self.old) dead }
+        requires different { find.id.0 ≢ dead }
+        ensures { self.new ≡ with_shortcut self.old dead find.id.0 find.m proof }
+    {
+        let class = &mut self.classes[dead];
+        class.find = find;
+        class.proof = proof;
+    }
+
+    /// Notes that the find of a class was proved step by step. `take_walked` hands these classes out.
+    pub fn note_walk(&mut self, id: usize) -> Result<(), Error>
+        ensures same { self.new ≡ self.old }
+        ensures err { IfErr result IsOutOfMemory }
+    {
+        self.walked.push(id)?;
+        Ok(())
+    }
+
+    /// Returns the classes that `note_walk` noted, in order, and forgets them.
+    pub fn take_walked(&mut self, alloc: Global) -> Vec<usize>
+        ensures { self.new ≡ self.old }
+    {
+        mem::replace(&mut self.walked, Vec::new(alloc))
     }
 
     /// The classes that died, in order.

@@ -9,3 +9,4 @@ pub mod UnionsOfFillings
 pub mod Explanations
 pub mod DistinctSymmetries
 pub mod AffectedClasses
+pub mod CompressedPaths

@@ -21,9 +21,11 @@ use slotted_proofs::ProvenEq;
 use slotted_slots::{AppliedId, Error, SlotTable};
 use slotted_terms::expr::RecExpr;
 use slotted_unions::proving::bridge;
+use slotted_unions::shortening::compress_paths;
 use std::alloc::Global;
 
-/// The proof that two terms, which are added first, are equal. There is none where their ids do not find alike.
+/// Adds two terms, and returns the proof that they are equal, or `None` if their ids do not find alike. Paths of finds are compressed at the
+/// end.
 pub fn explain<L: Language>(
     store: &mut Store<L>,
     nodes: &mut Hashcons<L>,
@@ -47,7 +49,9 @@ pub fn explain<L: Language>(
 {
     let a = add_syn_expr(store, nodes, alloc, table, left)?;
     let b = add_syn_expr(store, nodes, alloc, table, right)?;
-    bridge_if_alike(store, alloc, &a, &b)
+    let answer = bridge_if_alike(store, alloc, &a, &b)?;
+    compress_paths(store, alloc)?;
+    Ok(answer)
 }
 
 // The proof that two full ids are equal, where they find alike.

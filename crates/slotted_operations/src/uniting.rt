@@ -15,10 +15,12 @@ use slotted_languages::Language;
 use slotted_rebuilding::rebuilding::rebuild;
 use slotted_rebuilding::uniting::unite;
 use slotted_slots::{AppliedId, Error};
+use slotted_unions::shortening::compress_paths;
 use std::alloc::Global;
 
-/// Two ids are equal, because the caller says so, with a text or without one, and all is rebuilt. True if they did not find alike. They may
-/// lack names for slots that unions dropped.
+/// Asserts that two ids are equal, with a text that says why or without one, and rebuilds. Returns whether they did not find alike. They may
+/// lack names for slots that unions dropped. Finds that were proved step by step are compressed at the end: their classes lead at once to
+/// what they find.
 pub fn union<L: Language>(
     store: &mut Store<L>,
     nodes: &mut Hashcons<L>,
@@ -44,6 +46,7 @@ pub fn union<L: Language>(
     }
     unite(store, nodes, alloc, p)?;
     rebuild(store, nodes, alloc)?;
+    compress_paths(store, alloc)?;
     Ok(true)
 }
 

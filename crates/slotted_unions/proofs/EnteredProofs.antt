@@ -160,7 +160,7 @@ module _ (k l : Kept) (only : OnlyProves k l) where
   only-large a b = subst (λ (m : Kept). HasLargeClassOf m a b) only.kept
 
 -- the model's list grows first, and then
-grow-then : (nodes : List DTerm) (a b c : List ProofEntry) → ProofsGrow nodes a b → ProofsGrow nodes b c →
+pub grow-then : (nodes : List DTerm) (a b c : List ProofEntry) → ProofsGrow nodes a b → ProofsGrow nodes b c →
     ProofsGrow nodes a c
 grow-then nodes a b c f g = record {
   more = f.more ++ g.more;

@@ -17,3 +17,4 @@ pub mod JoinedIds
 pub mod LargeClasses
 pub mod JoinedClasses
 pub mod GrownRows
+pub mod ShortPaths

@@ -2,3 +2,4 @@ pub mod Proving
 pub mod Uniting
 pub mod Settling
 pub mod Grows
+pub mod Shortcuts

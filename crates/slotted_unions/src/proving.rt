@@ -56,8 +56,8 @@ fn says_find<L: Language>(store: &Store<L>, id: usize, p: ProvenEq) -> bool
     store.eq(&equation.l, &equation.r)
 }
 
-/// The proof of what the find of a class says. Of a live class it is that of its own entry. Where the one that was given last says what
-/// the class finds now, it is given again.
+/// Returns the proof of what the find of a class says. That of a live class is the proof of its own entry. If the proof that was given last
+/// says what the class finds now, it is given again. A find that has to be proved step by step is noted, so that its path is compressed.
 pub fn find_proof<L: Language>(
     store: &mut Store<L>,
     alloc: Global,
@@ -84,6 +84,7 @@ pub fn find_proof<L: Language>(
     let rest = find_proof(store, alloc, next)?;
     let answer = store.chain(alloc, proof, rest)?;
     store.set_last_proof(id, answer);
+    store.note_walk(id)?;
     Ok(answer)
 }
 

@@ -5,14 +5,14 @@ use Rattle.std.specs.Map.{keys_of}
 use Rattle.std.proofs.lemmas.Bool.{cases_eq, eq-eqb, ne_eqb}
 use Rattle.slotted_model.specs.Correspondence.{identity, turned}
 use Rattle.slotted_model.specs.Classes.{canonical_slots}
-use Rattle.slotted_model.specs.Find.{Entry, entry_at}
+use Rattle.slotted_model.specs.Find.{Entry, IsLive, entry_at}
 use Rattle.slotted_model.specs.Link.{CanLink, CanDrop, with_link, with_slots}
 use Rattle.slotted_model.specs.ProofList.{Equation, turned_equation}
 use Rattle.slotted_model.specs.State.{State}
 use Rattle.slotted_model.specs.Rest.{Sane, size, size_from, entry_size, lives_from, slots_from}
 use Rattle.slotted_model.specs.Changes.{GoesOn, linked_state, dropped_state, with_proofs, found_entry, Unites, finds_alike, proves, drops_left, drops_right, left_dies, right_dies, lists, is_listed}
 use Rattle.slotted_model.specs.Rebuild.{Turn, enters, narrows, unites_parents, refiles, Acts, acts, Runs, starts, takes_turn, takes_act}
-use Rattle.slotted_model.proofs.Rebuilding.Events.{drop-sane}
+use Rattle.slotted_model.proofs.Rebuilding.Events.{drop-sane, size-set, entry_size-dead}
 use Rattle.slotted_model.proofs.Rebuilding.GrowingLists.{proofs-go_on, proofs-sane}
 use Rattle.slotted_model.proofs.Rebuilding.Unions.{can_drop-left, can_drop-right, can_link-left, can_link-right, unites}
 use Rattle.slotted_model.proofs.Rebuilding.Turning.{run, run-no_larger, HasRun}
@@ -65,6 +65,18 @@ lives-set i zero j (y ∷ found) x h e =
 lives-set i (suc k) j (y ∷ found) x h e =
     let r : lives_from (suc i) (set found k x) + lives j (entry_at found k) ≡ lives_from (suc i) found + lives j x = lives-set (suc i) k j found x (omega arith) (omega arith) in
     omega arith
+
+-- the entry of a dead class counts for nothing, and so does another one by which the class stays dead
+pub dead-counts : (i : ℕ) (found : List Entry) (x : Entry) → i < length found → ¬ IsLive found i → x.class ≢ i →
+    (lives_from 0 (set found i x) ≡ lives_from 0 found) × (slots_from 0 (set found i x) ≡ slots_from 0 found)
+dead-counts i found x h dead led =
+    let a = lives-set 0 i i found x h (omega arith) in
+    let b = size-set 0 i i found x h (omega arith) in
+    let old = entry_at found i in
+    let same : lives_from 0 (set found i x) ≡ lives_from 0 found = omega (arith, a, lives-dead i old dead, lives-dead i x led) in (
+      same,
+      omega (arith, b, same, entry_size-dead i old dead, entry_size-dead i x led, size-counts 0 found, size-counts 0 (set found i x)),
+    )
 
 abbrev lives_in : State → ℕ
 lives_in g = lives_from 0 g.found

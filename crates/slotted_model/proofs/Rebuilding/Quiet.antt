@@ -14,8 +14,8 @@ use Rattle.slotted_model.specs.Link.{with_shortcut}
 use Rattle.slotted_model.specs.Normal.{normal}
 use Rattle.slotted_model.specs.ProofList.{ProofEntry, equation_at, find_equation}
 use Rattle.slotted_model.specs.Sound.{Sound}
-use Rattle.slotted_model.specs.State.{Row, State, normal_node, row_of, source_with_names, look_up_normal, left_of, right_of}
-use Rattle.slotted_model.specs.Rest.{IsValidIn, id_names, IsCurrent, Sane, AtRest, size, entry_size}
+use Rattle.slotted_model.specs.State.{Row, State, normal_node, row_of, source_with_names, look_up_normal, left_of, right_of, Symmetry}
+use Rattle.slotted_model.specs.Rest.{IsValidIn, id_names, IsAligned, IsCurrent, Sane, AtRest, size, entry_size}
 use Rattle.slotted_model.specs.Changes.{GoesOn, ProofsGrow, with_proofs}
 use Rattle.slotted_model.specs.Adding.{SameAnswers}
 use Rattle.slotted_model.proofs.Represented.Children.{EachChild-map}
@@ -44,11 +44,8 @@ proofs-quiet g rest proofs grow = record {
 }
 
 -- other entries by which each class finds what it found
-module _ (g : State) (rest : AtRest g) (found : List Entry) (sound : Sound g.nodes found g.proofs)
+module _ (g : State) (sane : Sane g) (found : List Entry) (sound : Sound g.nodes found g.proofs)
     (same : (i : ℕ) → i < length g.nodes → (find_class found i ≡ find_class g.found i) × (find_map found i ≡ find_map g.found i)) where
-  abbrev sane : Sane g
-  sane = rest.sane
-
   abbrev newer : State
   newer = record g { found = found }
 
@@ -58,7 +55,7 @@ module _ (g : State) (rest : AtRest g) (found : List Entry) (sound : Sound g.nod
   same-used : (i : ℕ) → i < length g.nodes → used_slots found i ≡ used_slots g.found i
   same-used i h = ap (λ (m : List (ℕ × ℕ)). ascending (values_of m)) (same i h).1
 
-  still-valid : (a : Applied) → IsValidIn g a → IsValidIn newer a
+  pub still-valid : (a : Applied) → IsValidIn g a → IsValidIn newer a
   still-valid a v = record {
     in_range = v.in_range;
     ascending = v.ascending;
@@ -67,7 +64,7 @@ module _ (g : State) (rest : AtRest g) (found : List Entry) (sound : Sound g.nod
     within = v.within;
   }
 
-  refound-on : GoesOn g newer
+  pub refound-on : GoesOn g newer
   refound-on = record {
     classes = λ i h. (h, refl);
     finds = λ a v. (
@@ -88,7 +85,7 @@ module _ (g : State) (rest : AtRest g) (found : List Entry) (sound : Sound g.nod
       same-normal (canonical_node g.nodes o)
       (EachChild-map (λ a. (a.0 < o) × IsFull g.nodes a) (IsValidIn g) (λ a k. full-is_valid g.nodes g.found sane.sound.linked a k.1) (canonical_node g.nodes o).args (sane.sound.canonical.children o h))
 
-  refound-sane : Sane newer
+  pub refound-sane : Sane newer
   refound-sane = record {
     sound = sound;
     filed = record {
@@ -109,14 +106,16 @@ module _ (g : State) (rest : AtRest g) (found : List Entry) (sound : Sound g.nod
     listed_once = sane.listed_once;
   }
 
-  refound-rests : AtRest newer
-  refound-rests = record {
+  -- what was aligned is so still
+  pub refound-aligned : (y : Symmetry) → y.class < length g.nodes → IsAligned g y → IsAligned newer y
+  refound-aligned y h aligned = ap id_names (same-found (left_of y) h) ∙ (aligned ∙ ap id_names (sym (same-found (right_of y) h)))
+
+  refound-rests : AtRest g → AtRest newer
+  refound-rests rest = record {
     sane = refound-sane;
     represents = still-represents g newer sane refound-on refl (λ o c. c) (λ p h e. (h, e)) rest.represents;
     nothing_waits = rest.nothing_waits;
-    aligned = λ y c.
-        let h : y.class < length g.nodes = (sane.each_listed y c).in_range in
-        ap id_names (same-found (left_of y) h) ∙ (rest.aligned y c ∙ ap id_names (sym (same-found (right_of y) h)));
+    aligned = λ y c. refound-aligned y (sane.each_listed y c).in_range (rest.aligned y c);
   }
 
   -- a row found for a node is of a class of the graph
@@ -124,9 +123,9 @@ module _ (g : State) (rest : AtRest g) (found : List Entry) (sound : Sound g.nod
   same-answer d None e = refl
   same-answer d (Some r) e = ap Some (same-found (source_with_names d r) (sane.filed.each r (row_of-some (shape d) g.rows r e).0).in_range)
 
-  refound-quiet : size newer ≡ size g → SameAnswers g newer
-  refound-quiet s = record {
-    rest = refound-rests;
+  pub refound-quiet : AtRest g → size newer ≡ size g → SameAnswers g newer
+  refound-quiet rest s = record {
+    rest = refound-rests rest;
     goes_on = refound-on;
     finds = λ a v. same-found a v.in_range;
     look_ups = λ d v. ap (look_up_normal newer) (same-normal d v) ∙ same-answer (normal g.found d) (row_of (shape (normal g.found d)) g.rows) refl;
@@ -143,6 +142,6 @@ shortcut-quiet g rest i proof h dead k e =
     let still_dead : entry_size i new ≡ 0 = entry_size-dead i new (λ p. dead (subst (IsLive g.found) p (found-live g.nodes g.found (leads g.nodes g.found sane.sound.linked) i h))) in
     let was_dead : entry_size i (entry_at g.found i) ≡ 0 = size-dead g sane i h dead in
     let r = size-set 0 i i g.found new (omega (arith, l, h)) (omega arith) in
-    refound-quiet g rest (with_shortcut g.found i proof) (shortcut-sound g.nodes g.found g.proofs i proof sane.sound h dead k e)
+    refound-quiet g sane (with_shortcut g.found i proof) (shortcut-sound g.nodes g.found g.proofs i proof sane.sound h dead k e)
     (λ j m. shortcut-same g.nodes g.found sane.sound.linked i proof h dead j m)
-    (omega (arith, still_dead, was_dead, r))
+    rest (omega (arith, still_dead, was_dead, r))

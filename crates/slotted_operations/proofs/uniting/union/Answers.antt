@@ -1,4 +1,4 @@
-use Rattle.std.proofs.Common.{◌∙◌, false, sym, rules}
+use Rattle.std.proofs.Common.{◌∙◌, false, true, sym, rules}
 use Rattle.std.proofs.lemmas.Bool.{false≢true}
 use Rattle.slotted_classes.specs.Kept.{text_bytes}
 use Rattle.slotted_proofs.specs.Equations.{to_applied}
@@ -6,6 +6,7 @@ use Rattle.slotted_unions.proofs.GrownRows.{grown-count}
 use Rattle.slotted_rebuilding.proofs.FiledStates.{united-well}
 use Rattle.slotted_operations.proofs.Unions.UnionsOfFillings.{said, filled-filed, stays-filled, unites-filled, large-uniting, large-rebuilding}
 use Rattle.slotted_operations.proofs.Graphs.Finds.{good-finds}
+use Rattle.slotted_operations.proofs.Unions.CompressedPaths.{large-found, unites-shortened}
 use Rattle.slotted_operations.proofs.uniting.union.Goals as goal
 
 pub eq-found_alike-requires-clause-good : goal.eq-found_alike-requires-clause-good
@@ -44,11 +45,29 @@ returns-then-found_alike-clause-ok g c =
     stays-filled c.args.store.now c.requires.good (to_applied c.args.l.now) (to_applied c.args.r.now) c.requires.left c.requires.right (text_bytes c.args.text) c.assert_sides.new.store c.in_ok-p.p c.in_ok-p.ensures.ok
     c.args.nodes.now c.requires.rests (c.eq-found_alike.ensures.0 c.if-found_alike.true) c.note_rest.new.store c.note_rest.ensures
 
+pub compress_paths-requires : goal.compress_paths-requires
+compress_paths-requires g c =
+    record {
+      good = (unites-filled c.args.store.now c.requires.good (to_applied c.args.l.now) (to_applied c.args.r.now) c.requires.left c.requires.right (text_bytes c.args.text) c.assert_sides.new.store c.in_ok-p.p c.in_ok-p.ensures.ok
+          c.args.nodes.now c.requires.rests c.unite.new.store c.unite.new.nodes c.in_ok-unite.ensures.ok c.rebuild.new.store c.rebuild.new.nodes c.in_ok-rebuild.field-0 c.in_ok-rebuild.ensures.ok
+          false (λ y. absurd (false≢true y), λ e. absurd (false≢true (sym c.if-found_alike.false ∙ c.eq-found_alike.ensures.1 e))) (λ y. absurd (false≢true y))).good.stored;
+    }
+
 pub returns-clause-ok : goal.returns-clause-ok
 returns-clause-ok g c =
-    unites-filled c.args.store.now c.requires.good (to_applied c.args.l.now) (to_applied c.args.r.now) c.requires.left c.requires.right (text_bytes c.args.text) c.assert_sides.new.store c.in_ok-p.p c.in_ok-p.ensures.ok
+    unites-shortened c.args.store.now c.args.nodes.now c.requires.good c.rebuild.new.store c.rebuild.new.nodes (to_applied c.args.l.now) (to_applied c.args.r.now) (text_bytes c.args.text) true
+    (unites-filled c.args.store.now c.requires.good (to_applied c.args.l.now) (to_applied c.args.r.now) c.requires.left c.requires.right (text_bytes c.args.text) c.assert_sides.new.store c.in_ok-p.p c.in_ok-p.ensures.ok
     c.args.nodes.now c.requires.rests c.unite.new.store c.unite.new.nodes c.in_ok-unite.ensures.ok c.rebuild.new.store c.rebuild.new.nodes c.in_ok-rebuild.field-0 c.in_ok-rebuild.ensures.ok
-    false (λ y. absurd (false≢true y), λ e. absurd (false≢true (sym c.if-found_alike.false ∙ c.eq-found_alike.ensures.1 e))) (λ y. absurd (false≢true y))
+    false (λ y. absurd (false≢true y), λ e. absurd (false≢true (sym c.if-found_alike.false ∙ c.eq-found_alike.ensures.1 e))) (λ y. absurd (false≢true y)))
+    c.compress_paths.new.store c.in_ok-compress_paths.ensures.ok
+
+pub returns-in_err-compress_paths-clause-full : goal.returns-in_err-compress_paths-clause-full
+returns-in_err-compress_paths-clause-full g c e =
+    large-found c.args.store.now c.rebuild.new.store
+    (unites-filled c.args.store.now c.requires.good (to_applied c.args.l.now) (to_applied c.args.r.now) c.requires.left c.requires.right (text_bytes c.args.text) c.assert_sides.new.store c.in_ok-p.p c.in_ok-p.ensures.ok
+    c.args.nodes.now c.requires.rests c.unite.new.store c.unite.new.nodes c.in_ok-unite.ensures.ok c.rebuild.new.store c.rebuild.new.nodes c.in_ok-rebuild.field-0 c.in_ok-rebuild.ensures.ok
+    false (λ y. absurd (false≢true y), λ e. absurd (false≢true (sym c.if-found_alike.false ∙ c.eq-found_alike.ensures.1 e))) (λ y. absurd (false≢true y))).nodes
+    (c.in_err-compress_paths.ensures.full (search rules))
 
 -- a class that is too large was so
 

@@ -1,4 +1,4 @@
-use Rattle.std.proofs.Common.{◌≡◌, ◌≢◌, ◌<◌, length, sym, subst, arith, rules}
+use Rattle.std.proofs.Common.{◌≡◌, ◌≢◌, ◌<◌, length, sym, ◌∙◌, subst, arith, rules}
 use Rattle.slotted_classes.specs.Kept.{Kept, find_at}
 use Rattle.slotted_classes.proofs.Chasing.{moments_left, next_within, nearer}
 use Rattle.slotted_unions.specs.Proving.{ProvesFind}
@@ -59,7 +59,7 @@ returns-in_err-answer-clause-full g t c e =
 
 pub returns-clause-ok : goal.returns-clause-ok
 returns-clause-ok g t c =
-    subst (λ l. ProvesFind c.args.store.now l c.args.id c.in_ok-answer.answer) (sym c.set_last_proof.ensures)
+    subst (λ l. ProvesFind c.args.store.now l c.args.id c.in_ok-answer.answer) (sym (c.note_walk.ensures.same ∙ c.set_last_proof.ensures))
     (next-proves c.args.store.now c.requires.good c.args.id c.requires.within c.proof_of-proof.result
     c.proof_of-proof.ensures c.find_proof.new.store c.in_ok-rest.rest c.entry.result.now.id.0
     (next-class_of c.args.store.now c.args.id c.entry.result.now c.entry.ensures) c.in_ok-rest.ensures.ok
