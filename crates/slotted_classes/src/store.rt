@@ -289,9 +289,9 @@ impl<L: Language> Store<L> {
         requires different { find.id.0 ≢ dead }
         ensures { self.new ≡ with_shortcut self.old dead find.id.0 find.m proof }
     {
-        let class = &mut self.classes[dead];
-        class.find = find;
-        class.proof = proof;
+        let entry = &mut self.classes[dead];
+        entry.find = find;
+        entry.proof = proof;
     }
 
     /// Notes that the find of a class was proved step by step. `take_walked` hands these classes out.
