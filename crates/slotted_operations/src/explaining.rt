@@ -1,4 +1,4 @@
-//! Explanations: the proof that two terms are equal.
+//! Explanations: proofs that two terms are equal.
 ghost use Rattle.std.specs.Prelude.{◌+◌, IfErr, IfOk, IsErrOf};
 ghost use Rattle.slotted_slots.specs.Error.{IsShortage};
 ghost use Rattle.slotted_slots.specs.Table.{KnowsMore};
@@ -23,7 +23,7 @@ use slotted_terms::expr::RecExpr;
 use slotted_unions::proving::bridge;
 use std::alloc::Global;
 
-/// The proof that two terms, which are added first, are equal. There is none where their ids do not find alike.
+/// Returns the proof that two terms are equal, or `None` if their ids are not found equal. The terms are added first.
 pub fn explain<L: Language>(
     store: &mut Store<L>,
     nodes: &mut Hashcons<L>,
@@ -50,7 +50,7 @@ pub fn explain<L: Language>(
     bridge_if_alike(store, alloc, &a, &b)
 }
 
-// The proof that two full ids are equal, where they find alike.
+// Returns the proof that two full ids are equal, or `None` if they are not found equal.
 fn bridge_if_alike<L: Language>(
     store: &mut Store<L>,
     alloc: Global,

@@ -1,4 +1,4 @@
-//! Two ids are equal because the caller says so.
+//! Union: two ids are equal because the caller says so.
 ghost use Rattle.std.specs.Prelude.{◌≡◌, false, IfErr, IfOk, IsErrOf};
 ghost use Rattle.slotted_slots.specs.Error.{IsShortage};
 ghost use Rattle.slotted_proofs.specs.Equations.{to_applied};
@@ -17,8 +17,10 @@ use slotted_rebuilding::uniting::unite;
 use slotted_slots::{AppliedId, Error};
 use std::alloc::Global;
 
-/// Two ids are equal, because the caller says so, with a text or without one, and all is rebuilt. True if they did not find alike. They may
-/// lack names for slots that unions dropped.
+/// Asserts that two ids are equal, with a text or without one, and rebuilds. Returns true if they were not found
+/// equal before.
+///
+/// The ids may omit names of redundant slots.
 pub fn union<L: Language>(
     store: &mut Store<L>,
     nodes: &mut Hashcons<L>,
@@ -47,7 +49,7 @@ pub fn union<L: Language>(
     Ok(true)
 }
 
-// There was nothing to rebuild, which is noted.
+// Notes that there was nothing to rebuild.
 fn note_rest<L: Language>(store: &mut Store<L>, nodes: &Hashcons<L>)
     ensures { store.new ≡ with_rest_noted store.old nodes.now }
 {
@@ -55,7 +57,7 @@ fn note_rest<L: Language>(store: &mut Store<L>, nodes: &Hashcons<L>)
     store.note(nodes.len(), size, 0);
 }
 
-/// How many of the listed symmetries are open. It takes no memory.
+/// Returns how many of the listed symmetries are open. Takes no memory.
 pub fn open_symmetries<L: Language>(store: &Store<L>) -> usize
     requires { Good store.now }
     ensures { CountsOpen (image_of store.now) store.now.symmetries result }
