@@ -63,7 +63,7 @@ pub trait CostFunction<L: Language>: Drop {
     ghost never_failed: { ¬ refuses Failed };
 }
 
-// The costs of the last terms, so many, give way to that of a node over them.
+// Replaces the costs of the last `node.count` terms by the cost of the node over them.
 fn close<L: Language, F: CostFunction<L>>(
     costs: &F,
     alloc: Global,
