@@ -1,4 +1,4 @@
-//! The slots of classes for the numbers of the shapes that are filed of them.
+//! The slots of classes for the numbers of the shapes that are filed for them.
 ghost use Rattle.std.specs.Prelude.{◌≡◌, ◌<◌, ◌++◌, ◌∷◌, [], length, set, slice_index_or, IfErr, OnOk, OnErr};
 ghost use Rattle.slotted_slots.specs.Error.{IsOutOfMemory};
 

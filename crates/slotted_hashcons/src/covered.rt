@@ -9,7 +9,7 @@ use slotted_classes::names::has_value;
 use slotted_languages::Language;
 use slotted_slots::{Slot, SlotMap};
 
-// Returns whether the map has a value for a slot of the live class: the slot of the class for which that stands.
+// Returns whether a slot of the live class stands for a slot of the class that is a value of the map.
 fn has_slot<L: Language>(store: &Store<L>, class: usize, names: &SlotMap, slot: Slot) -> bool
     requires good { HasFinds store.now }
     requires within { class < length store.now.classes }

@@ -40,7 +40,7 @@ pub fn found_node<L: Language>(
     Ok(FoundNode { key, names })
 }
 
-/// Returns the canonical e-node of a class as `found_node` does, from what is filed of the class: a shape, and the
+/// Returns the canonical e-node of a class as `found_node` does, from what is filed for the class: a shape, and the
 /// slot of the class for each number.
 ///
 /// The shape may have been filed before later unions. Its children are nearer to their live classes than those of the

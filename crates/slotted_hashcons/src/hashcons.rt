@@ -71,7 +71,7 @@ impl<L: Language> Hashcons<L> {
         self.nodes.len()
     }
 
-    /// Adds a class, of which nothing is filed.
+    /// Adds a class, for which nothing is filed.
     pub fn add_class(&mut self, alloc: Global) -> Result<(), Error>
         ensures ok { OnOk result (self.new ≡ with_class self.old) }
         ensures err { IfErr result IsOutOfMemory }
@@ -97,7 +97,7 @@ impl<L: Language> Hashcons<L> {
         self.sizes.move_nodes(from, to);
     }
 
-    /// Stops counting the e-node that is filed of a class, both as one of `owner` and over the classes of its
+    /// Stops counting the e-node that is filed for a class, both as one of `owner` and over the classes of its
     /// children.
     pub fn uncount(&mut self, class: usize, owner: usize)
         ensures { self.new ≡ self.old }
@@ -106,14 +106,14 @@ impl<L: Language> Hashcons<L> {
         self.sizes.take_node(owner);
     }
 
-    /// Returns what is filed of a class: a shape, and the slot of the class for each number of it.
+    /// Returns what is filed for a class: a shape, and the slot of the class for each number of it.
     pub fn node(&self, class: usize) -> Option<(&L, &SlotMap)>
         ensures { option_map (λ p. (L.form p.0.now, p.1.now)) result ≡ filed_of self.now.filed class }
     {
         self.nodes.node(class)
     }
 
-    /// Returns the class of which a shape is filed. No shape is filed of two classes.
+    /// Returns the class for which a shape is filed. No shape is filed for two classes.
     pub fn source_of(&self, key: &L) -> Option<usize>
         ensures some { IfSome result (λ i. HasKey self.now.filed i (L.form key.now)) }
         ensures none { IfNone result (IsNewKey self.now.filed (L.form key.now)) }
@@ -122,7 +122,7 @@ impl<L: Language> Hashcons<L> {
         self.nodes.source_of(key)
     }
 
-    /// Returns the class whose turn is next. Each is pending once, and something is filed of it.
+    /// Returns the class whose turn is next. Each is pending once, and something is filed for it.
     pub fn front(&self) -> Option<usize>
         ensures front { result ≡ slice_get self.now.waiting 0 }
         ensures once { AllDifferent self.now.waiting }
@@ -149,7 +149,7 @@ impl<L: Language> Hashcons<L> {
         Ok(())
     }
 
-    /// Files a shape of a live class that has none, and counts it.
+    /// Files a shape for a live class that has none, and counts it.
     pub fn file(&mut self, class: usize, key: L, names: SlotMap) -> Result<(), Error>
         requires within { class < length self.old.filed }
         requires free { filed_of self.old.filed class ≡ None }
@@ -165,7 +165,7 @@ impl<L: Language> Hashcons<L> {
         Ok(())
     }
 
-    /// Makes a class pending of which something is filed. It goes to the end, if it was not pending.
+    /// Makes a class pending for which something is filed. It goes to the end, if it was not pending.
     pub fn wait(&mut self, class: usize) -> Result<(), Error>
         requires { IsFiled self.old.filed class }
         ensures ok { OnOk result (QueuesUp self.old self.new class) }
@@ -175,7 +175,7 @@ impl<L: Language> Hashcons<L> {
         Ok(())
     }
 
-    /// Files another shape of the class whose turn it is, in place of the one that it had, and ends the turn.
+    /// Files another shape for the class whose turn it is, in place of the one that it had, and ends the turn.
     pub fn refile(&mut self, class: usize, key: L, names: SlotMap) -> Result<(), Error>
         requires front { slice_get self.old.waiting 0 ≡ Some class }
         requires new_key { IsNewToOthers self.old.filed class (L.form key) }
@@ -191,7 +191,7 @@ impl<L: Language> Hashcons<L> {
         Ok(())
     }
 
-    /// Ends the turn of a class, and keeps what is filed of it.
+    /// Ends the turn of a class, and keeps what is filed for it.
     pub fn leave(&mut self, class: usize)
         requires { slice_get self.old.waiting 0 ≡ Some class }
         ensures { TakesTurn self.old self.new class (filed_of self.old.filed class) }
@@ -199,7 +199,7 @@ impl<L: Language> Hashcons<L> {
         end_turn(&mut self.waiting, class);
     }
 
-    /// Removes what is filed of the class whose turn it is, and ends the turn. Its e-node has to be uncounted before.
+    /// Removes what is filed for the class whose turn it is, and ends the turn. Its e-node has to be uncounted before.
     pub fn remove(&mut self, class: usize)
         requires { slice_get self.old.waiting 0 ≡ Some class }
         ensures { TakesTurn self.old self.new class None }
@@ -221,7 +221,7 @@ fn has_child<L: Language>(node: &L, class: usize) -> bool
     false
 }
 
-// Returns whether a child of the e-node that is filed of a source is of a class.
+// Returns whether a child of the e-node that is filed for a source is of a class.
 fn is_over<L: Language>(nodes: &NodeIndex<L>, source: usize, class: usize) -> bool
     ensures { IsTrue result ↔ HasChild nodes.now source class }
 {
@@ -254,7 +254,7 @@ fn wait_over<L: Language>(
 }
 
 // Enters a source into the usages of the class of each child of an e-node. It stands in those of the e-node that is
-// filed of it.
+// filed for it.
 fn use_children<L: Language>(
     usages: &mut Usages,
     nodes: &NodeIndex<L>,
@@ -308,7 +308,7 @@ fn count_parent<L: Language>(sizes: &mut Sizes, node: &L) {
     }
 }
 
-// Stops counting the e-node that is filed of a class over the class of each child.
+// Stops counting the e-node that is filed for a class over the class of each child.
 fn uncount_parent<L: Language>(sizes: &mut Sizes, nodes: &NodeIndex<L>, class: usize) {
     let Some((key, _)) = nodes.node(class) else {
         return;

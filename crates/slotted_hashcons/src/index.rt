@@ -12,7 +12,7 @@ use slotted_slots::{Error, SlotMap};
 use std::alloc::Global;
 use std::marker::Model;
 
-/// For each class the e-node that is filed of it, if there is one.
+/// For each class the e-node that is filed for it, if there is one.
 ///
 /// It is a shape, which is filed once, with the slot of the class for each number of the shape. It is found by its
 /// shape and by its class.
@@ -61,7 +61,7 @@ impl<L: Language> NodeIndex<L> {
         self.keys.len()
     }
 
-    /// Adds a class, of which nothing is filed.
+    /// Adds a class, for which nothing is filed.
     pub fn add_class(&mut self, alloc: Global) -> Result<(), Error>
         ensures ok { OnOk result (self.new ≡ self.old ++ None ∷ []) }
         ensures unchanged { OnErr result (self.new ≡ self.old) }
@@ -72,7 +72,7 @@ impl<L: Language> NodeIndex<L> {
         Ok(())
     }
 
-    /// Returns what is filed of a class: a shape, and the slot of the class for each number of it.
+    /// Returns what is filed for a class: a shape, and the slot of the class for each number of it.
     pub fn node(&self, class: usize) -> Option<(&L, &SlotMap)>
         ensures { option_map (λ p. (L.form p.0.now, p.1.now)) result ≡ filed_of self.now class }
     {
@@ -82,7 +82,7 @@ impl<L: Language> NodeIndex<L> {
         }
     }
 
-    /// Returns the class of which a shape is filed. No shape is filed of two classes.
+    /// Returns the class for which a shape is filed. No shape is filed for two classes.
     pub fn source_of(&self, key: &L) -> Option<usize>
         ensures some { IfSome result (λ i. HasKey self.now i (L.form key.now)) }
         ensures none { IfNone result (IsNewKey self.now (L.form key.now)) }
@@ -91,7 +91,7 @@ impl<L: Language> NodeIndex<L> {
         self.keys.source_of(key)
     }
 
-    /// Files a shape of a class that has none.
+    /// Files a shape for a class that has none.
     pub fn file(&mut self, class: usize, key: L, names: SlotMap) -> Result<(), Error>
         requires within { class < length self.old }
         requires free { filed_of self.old class ≡ None }
@@ -105,7 +105,7 @@ impl<L: Language> NodeIndex<L> {
         Ok(())
     }
 
-    /// Removes what is filed of a class.
+    /// Removes what is filed for a class.
     pub fn unfile(&mut self, class: usize)
         requires { class < length self.old }
         ensures { self.new ≡ set self.old class None }
@@ -113,7 +113,7 @@ impl<L: Language> NodeIndex<L> {
         self.keys.unfile(class);
     }
 
-    /// Files a shape of a class in place of the one that it had. If memory is refused, nothing is filed of the class.
+    /// Files a shape for a class in place of the one that it had. If memory is refused, nothing is filed for the class.
     pub fn refile(&mut self, class: usize, key: L, names: SlotMap) -> Result<(), Error>
         requires within { class < length self.old }
         requires new_key { IsNewToOthers self.old class (L.form key) }

@@ -1,4 +1,4 @@
-//! The shapes that are filed, and the classes that they are filed of.
+//! The shapes that are filed, and the classes that they are filed for.
 ghost use Rattle.std.specs.Prelude.{◌≡◌, ◌<◌, ◌++◌, ◌∷◌, [], length, None, Some, set, option_map, slice_get};
 ghost use Rattle.std.specs.List.{count_by};
 ghost use Rattle.std.specs.Prelude.{is_some, swap_remove, IfSome, IfNone, IfOk, IfErr, OnOk, OnErr};
@@ -11,7 +11,7 @@ use slotted_slots::Error;
 use std::alloc::Global;
 use std::marker::Model;
 
-/// For each class the shape that is filed of it, if there is one. It is filed once, and is found by itself and by its
+/// For each class the shape that is filed for it, if there is one. It is filed once, and is found by itself and by its
 /// class.
 #[derive(Drop)]
 pub struct KeyIndex<L: Language> {
@@ -57,7 +57,7 @@ impl<L: Language> KeyIndex<L> {
         self.nodes.len()
     }
 
-    /// Adds a class, of which nothing is filed.
+    /// Adds a class, for which nothing is filed.
     pub fn add_class(&mut self) -> Result<(), Error>
         ensures ok { OnOk result (self.new ≡ self.old ++ None ∷ []) }
         ensures unchanged { OnErr result (self.new ≡ self.old) }
@@ -67,7 +67,7 @@ impl<L: Language> KeyIndex<L> {
         Ok(())
     }
 
-    /// Returns the shape that is filed of a class.
+    /// Returns the shape that is filed for a class.
     pub fn key(&self, class: usize) -> Option<&L>
         ensures { option_map (λ k. (L.form k.now, [])) result ≡ filed_of self.now class }
     {
@@ -76,7 +76,7 @@ impl<L: Language> KeyIndex<L> {
         Some(key)
     }
 
-    /// Returns the class of which a shape is filed. No shape is filed of two classes.
+    /// Returns the class for which a shape is filed. No shape is filed for two classes.
     pub fn source_of(&self, key: &L) -> Option<usize>
         ensures some { IfSome result (λ i. HasKey self.now i (L.form key.now)) }
         ensures none { IfNone result (IsNewKey self.now (L.form key.now)) }
@@ -88,7 +88,7 @@ impl<L: Language> KeyIndex<L> {
         }
     }
 
-    /// Files a shape of a class that has none.
+    /// Files a shape for a class that has none.
     pub fn file(&mut self, class: usize, key: L) -> Result<(), Error>
         requires within { class < length self.old }
         requires free { filed_of self.old class ≡ None }
@@ -104,7 +104,7 @@ impl<L: Language> KeyIndex<L> {
         Ok(())
     }
 
-    /// Removes the shape that is filed of a class. The last shape moves into its place.
+    /// Removes the shape that is filed for a class. The last shape moves into its place.
     pub fn unfile(&mut self, class: usize)
         requires { class < length self.old }
         ensures { self.new ≡ set self.old class None }

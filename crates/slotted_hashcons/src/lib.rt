@@ -1,6 +1,6 @@
 //! The hashcons of a graph, and canonical e-nodes.
 //!
-//! The hashcons holds the e-node that is *filed* of each class: its shape, when it was last made canonical. The class
+//! The hashcons holds the e-node that is *filed* for each class: its shape, when it was last made canonical. The class
 //! whose syntactic e-node a filed one was made of is its *source*. A class is *pending* if its e-node waits to be
 //! filed anew.
 //!
