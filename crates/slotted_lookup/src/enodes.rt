@@ -43,7 +43,7 @@ pub fn names_beside<L: Language>(
     Ok(names)
 }
 
-/// Returns the e-node that is filed of a class, with the names of an id of the same live class, which are fresh
+/// Returns the e-node that is filed for a class, with the names of an id of the same live class, which are fresh
 /// slots.
 ///
 /// A number that stands for none of them stays as it is, and so does each binder: so no table is needed. The class

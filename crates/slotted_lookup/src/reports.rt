@@ -64,7 +64,7 @@ pub fn mk_identity_applied_id<L: Language>(
 
 // Filed e-nodes.
 
-// Returns whether an e-node is filed of a class.
+// Returns whether an e-node is filed for a class.
 fn is_filed<L: Language>(nodes: &Hashcons<L>, class: usize) -> bool
     ensures { result ≡ is_some (filed_of nodes.now.filed class) }
 {
