@@ -51,7 +51,7 @@ fn key_row<L: Language>(
     })
 }
 
-/// Returns the row of what is filed of a class. Adds the skeleton of its shape if that is new.
+/// Returns the row of what is filed for a class. Adds the skeleton of its shape if that is new.
 pub fn index_row<L: Language>(
     store: &Store<L>,
     nodes: &Hashcons<L>,

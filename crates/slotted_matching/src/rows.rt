@@ -65,7 +65,8 @@ fn number_position(names: &SlotMap, found: &SlotMap, number: usize) -> usize
     }
 }
 
-/// Returns for each number below `count` 1 more than the position of the class's slot that it stands for, or 0 if it stands for none.
+/// Returns for each number below `count` 1 more than the position of the class's slot that it stands for, or 0 if it
+/// stands for none.
 ///
 /// `names` has the source's slot for each number, and `found` has for each slot of the class the source's slot.
 pub(crate) fn row_slots(
