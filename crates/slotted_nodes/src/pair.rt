@@ -1,7 +1,7 @@
 //! Two fields of one node, read as one list of places and one list of children: first those of `a`, then those of `b`.
 //!
-//! These are the calls of [`LanguageChildren`] for a variant with two fields. What has three fields pairs the first with
-//! a struct of the other two.
+//! These are the calls of [`LanguageChildren`] for a variant with two fields. What has three fields pairs the first
+//! with a struct of the other two.
 ghost use Rattle.std.specs.Prelude.{◌≡◌, ◌↔◌, ◌<◌, IsSome, IfSome, length, slice_index};
 ghost use Rattle.slotted_slots.specs.Maps.{keys, values};
 ghost use Rattle.slotted_nodes.specs.Form.{IsPlace, counted, counted_end, children, child_id, child_keys};
