@@ -64,7 +64,7 @@ fn narrow<L: Language>(
     unite(store, nodes, alloc, p)
 }
 
-// Returns the canonical e-node of the first pending class, made from what is filed of the class. Few unions came
+// Returns the canonical e-node of the first pending class, made from what is filed for the class. Few unions came
 // after that was filed.
 fn refound<L: Language>(
     store: &Store<L>,

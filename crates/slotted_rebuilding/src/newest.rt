@@ -18,7 +18,7 @@ use slotted_languages::Language;
 use slotted_slots::{Error, SlotMap};
 use std::alloc::Global;
 
-// Unites the newest class with another one, of which the shape of its e-node is filed.
+// Unites the newest class with another one, for which the shape of its e-node is filed.
 fn join<L: Language>(
     store: &mut Store<L>,
     nodes: &mut Hashcons<L>,

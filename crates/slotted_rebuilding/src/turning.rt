@@ -14,7 +14,7 @@ use slotted_proofs::ProvenEq;
 use slotted_slots::{Error, SlotMap};
 use std::alloc::Global;
 
-/// Returns the proof that a class equals another one, of which the shape of its e-node is filed.
+/// Returns the proof that a class equals another one, for which the shape of its e-node is filed.
 pub(crate) fn collision<L: Language>(
     store: &mut Store<L>,
     nodes: &Hashcons<L>,
@@ -36,7 +36,7 @@ pub(crate) fn collision<L: Language>(
     }
 }
 
-// Unites the first pending class with another one, of which the shape of its e-node is filed. Its own e-node is filed
+// Unites the first pending class with another one, for which the shape of its e-node is filed. Its own e-node is filed
 // no more, nor counted for the union.
 fn collide<L: Language>(
     store: &mut Store<L>,
