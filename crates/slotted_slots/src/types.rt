@@ -68,8 +68,9 @@ impl AppliedId {
         Ok(AppliedId::new(self.id, self.m.compose_partial(alloc, m)?))
     }
 
-    /// Returns the same class with each name sent through `m`, and omits the names that `m` lacks. It keeps the
-    /// others apart.
+    /// Returns the same class with each name sent through `m`, without the names that `m` lacks.
+    ///
+    /// `m` keeps those names apart that it has as keys.
     pub fn apply_slotmap_partial(&self, alloc: Global, m: &SlotMap) -> Result<AppliedId, Error>
         requires { IsTrue (all_differ (values (composed self.now.m m.now))) }
         ensures id { IfOk result (λ a. a.id ≡ self.now.id) }
