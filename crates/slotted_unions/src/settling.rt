@@ -1,4 +1,4 @@
-//! Listed symmetries that are not aligned: `find` leaves different names on their two sides.
+//! Listed symmetries that are not aligned: `find` leaves different sets of names on their two sides.
 ghost use Rattle.std.specs.Prelude.{◌↔◌, Contains, IsTrue, IfErr, IfOk, IfSome, IfNone};
 ghost use Rattle.slotted_slots.specs.Error.{IsOutOfMemory};
 ghost use Rattle.slotted_model.specs.Rest.{IsAligned};
@@ -14,7 +14,7 @@ use slotted_proofs::ProvenEq;
 use slotted_slots::Error;
 use std::alloc::Global;
 
-// Returns whether a listed symmetry is aligned: `find` leaves the same names on its two sides.
+// Returns whether a listed symmetry is aligned: `find` leaves the same set of names on its two sides.
 fn is_aligned<L: Language>(
     store: &Store<L>,
     alloc: Global,
