@@ -29,8 +29,9 @@ use std::marker::Model;
 
 /// An e-class.
 ///
-/// It has an entry: the class that it leads to, with a slot of its own for each slot of that, and the proof of this.
-/// A live class leads to itself. It also has its syntactic e-node, over its own slots, and the moment of its link.
+/// A class has an entry: the class that it leads to, with a slot of its own for each slot of that, and the proof of
+/// this. A live class leads to itself. A class also has its syntactic e-node, over its own slots, and the moment of
+/// its link.
 ///
 /// Beside them stands an entry of the proof list that no clause speaks of: the one that was last found to say what
 /// `find` maps the class to. The fields that `find` and its proofs read stand together.
