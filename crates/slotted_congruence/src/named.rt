@@ -11,8 +11,8 @@ use slotted_languages::Language;
 use slotted_slots::{AppliedId, Error, SlotTable};
 use std::alloc::Global;
 
-/// Returns the syntactic e-node of an id's class, with the names of the id put in. Its binders get fresh names of a
-/// table of their own.
+/// Returns the syntactic e-node of an id's class, with the names of the id put in. The fresh names at its binders
+/// come from a table of the call's own.
 pub fn named_node<L: Language>(store: &Store<L>, alloc: Global, a: &AppliedId) -> Result<L, Error>
     requires { IsFull (nodes_of store.now) (to_applied a.now) }
     ensures ok { IfOk result (λ n. IsNodeOf (nodes_of store.now) (to_applied a.now) (L.form n)) }

@@ -57,8 +57,8 @@ fn alike_children<L: Language>(
 
 /// Returns the proof that two classes are equal, since their canonical e-nodes have one shape.
 ///
-/// It is a step of congruence over the bridges of their children. The equation says which names the two have in
-/// common.
+/// The proof is a step of congruence over the bridges of their children. The equation says which names the two have
+/// in common.
 pub fn congruence<L: Language>(
     store: &mut Store<L>,
     alloc: Global,
