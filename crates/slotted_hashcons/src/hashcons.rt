@@ -85,7 +85,7 @@ impl<L: Language> Hashcons<L> {
 
     /// Returns the size of each class: how many filed e-nodes it has, and how many have it as a child.
     ///
-    /// No clause speaks of these sizes. They decide which class a union keeps.
+    /// No clause speaks of these sizes, which decide which class a union keeps.
     pub fn sizes(&self) -> &[u32] {
         self.sizes.all()
     }
@@ -165,7 +165,7 @@ impl<L: Language> Hashcons<L> {
         Ok(())
     }
 
-    /// Makes a class pending for which something is filed. It goes to the end, if it was not pending.
+    /// Makes a class pending for which something is filed. A class that was not pending goes to the end.
     pub fn wait(&mut self, class: usize) -> Result<(), Error>
         requires { IsFiled self.old.filed class }
         ensures ok { OnOk result (QueuesUp self.old self.new class) }
@@ -199,7 +199,8 @@ impl<L: Language> Hashcons<L> {
         end_turn(&mut self.waiting, class);
     }
 
-    /// Removes what is filed for the class whose turn it is, and ends the turn. Its e-node has to be uncounted before.
+    /// Removes what is filed for the class whose turn it is, and ends the turn. The caller has to uncount the e-node
+    /// before.
     pub fn remove(&mut self, class: usize)
         requires { slice_get self.old.waiting 0 ≡ Some class }
         ensures { TakesTurn self.old self.new class None }
@@ -253,8 +254,8 @@ fn wait_over<L: Language>(
     Ok(())
 }
 
-// Enters a source into the usages of the class of each child of an e-node. It stands in those of the e-node that is
-// filed for it.
+// Enters a source into the usages of the class of each child of an e-node. The source stands already in those of the
+// e-node that is filed for it.
 fn use_children<L: Language>(
     usages: &mut Usages,
     nodes: &NodeIndex<L>,

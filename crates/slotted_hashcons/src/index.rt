@@ -14,8 +14,8 @@ use std::marker::Model;
 
 /// For each class the e-node that is filed for it, if there is one.
 ///
-/// It is a shape, which is filed once, with the slot of the class for each number of the shape. It is found by its
-/// shape and by its class.
+/// The e-node is kept as its shape, with the slot of the class for each number of the shape. No shape is filed twice.
+/// An e-node is found by its shape and by its class.
 #[derive(Drop)]
 pub struct NodeIndex<L: Language> {
     keys: KeyIndex<L>,

@@ -11,8 +11,8 @@ use slotted_slots::Error;
 use std::alloc::Global;
 use std::marker::Model;
 
-/// For each class the shape that is filed for it, if there is one. It is filed once, and is found by itself and by its
-/// class.
+/// For each class the shape that is filed for it, if there is one. A shape is filed once, and is found by itself and
+/// by its class.
 #[derive(Drop)]
 pub struct KeyIndex<L: Language> {
     nodes: IndexMap<L, u32>,

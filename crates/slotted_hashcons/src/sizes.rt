@@ -8,7 +8,7 @@ use std::alloc::Global;
 /// For each class the number of its filed e-nodes, and its size: these e-nodes, and the filed ones that have it as a
 /// child.
 ///
-/// No clause speaks of sizes. They decide which class a union keeps. A size that is too large for its number is the
+/// No clause speaks of sizes, which decide which class a union keeps. A size that is too large for its number is the
 /// largest one.
 #[derive(Drop)]
 pub struct Sizes {

@@ -89,7 +89,7 @@ impl Worklist {
         self.queue.len()
     }
 
-    /// Makes a class pending. It goes to the end, if it was not pending.
+    /// Makes a class pending. A class that was not pending goes to the end.
     pub fn push(&mut self, class: usize) -> Result<(), Error>
         requires { class < self.old.count }
         ensures ok { OnOk result (Pushes self.old self.new class) }
