@@ -1,4 +1,4 @@
-//! Languages: the calls on whole nodes. They make shapes, rename and refresh nodes, and list names and children.
+//! Languages: the calls on whole nodes, which make shapes, rename and refresh nodes, and list names and children.
 ghost use Rattle.std.specs.Prelude.{◌≡◌, ◌↔◌, ◌⊎◌, ℕ, [], map, IsTrue, IfOk, IfErr, OnErr, IsErrOf};
 ghost use Rattle.slotted_slots.specs.Ascending.{IsAscending};
 ghost use Rattle.slotted_slots.specs.Error.{IsOutOfMemory, IsShortage};
@@ -88,7 +88,7 @@ pub trait Language: LanguageChildren + Ord {
         Ok(known)
     }
 
-    /// Returns this node with its free slots renamed by `m`, which has each of them as a key.
+    /// Returns this node with its free slots renamed by `m`, which must have each of them as a key.
     ///
     /// Nothing is captured: a bound slot that a new free name would meet is refreshed.
     final fn apply_slotmap(
@@ -128,7 +128,8 @@ pub trait Language: LanguageChildren + Ord {
         rename(self, numbered, alloc, &names, &avoid, table)
     }
 
-    /// Returns this node with its free slots renamed by `m`, as `apply_slotmap` does. `m` has each of them as a key.
+    /// Returns this node with its free slots renamed by `m`, as `apply_slotmap` does. `m` must have each of them as a
+    /// key.
     final fn apply_slotmap_partial(
         &self,
         alloc: Global,
