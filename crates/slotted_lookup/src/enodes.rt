@@ -20,7 +20,7 @@ use slotted_languages::shape::PLACES;
 use slotted_slots::{AppliedId, Error, SlotMap};
 use std::alloc::Global;
 
-/// Returns the map from numbers to names of an id. It has the numbers whose slots stand for slots of what `find` maps
+/// Returns the map from numbers to names of an id, for the numbers whose slots stand for slots of what `find` maps
 /// the id to.
 pub fn names_beside<L: Language>(
     store: &Store<L>,
