@@ -16,9 +16,9 @@ pub struct IndexChild {
 pub struct IndexRow {
     /// The outline of the e-node. Two rows have one outline if they differ in names and children alone.
     pub outline: usize,
-    /// For each number 1 more than the position of the class's slot that it stands for.
+    /// For each number 1 more than the position of the class's slot that it stands for, or 0 if it stands for none.
     ///
-    /// It is 0 for a number that stands for none, as that of a binder or of a redundant slot does.
+    /// The number of a binder or of a redundant slot stands for none.
     pub slots: Vec<usize>,
     /// The numbers at own names and binders, from the left.
     pub owns: Vec<usize>,
