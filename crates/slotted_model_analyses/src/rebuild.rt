@@ -15,8 +15,8 @@ pub trait Known {
 ///
 /// What is not pending absorbs what its e-node makes of its children's data. So in a rebuilt graph all data does.
 ///
-/// A run has no more turns, those for data alone included, than the size with the heights of all data allows. It
-/// always leads to a rebuilt graph.
+/// A run has no more turns, those for data alone included, than the size with the heights of all data allows. Each
+/// run leads to a rebuilt graph.
 pub fn run_laws_hold<D, P: Known>()
     ensures { RunLaws D P.is_known }
 {}
