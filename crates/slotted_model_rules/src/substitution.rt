@@ -6,7 +6,7 @@ ghost use Rattle.slotted_model_rules.specs.SubstitutionClaims.{SubstitutionLaws}
 /// Proves the laws of substitution.
 ///
 /// Substitution compares from the top, before it looks inside, and never looks into what it put in. If nothing is to
-/// be replaced, nothing changes. It moves with the names of all three terms.
+/// be replaced, nothing changes. Substitution moves with the names of all three terms.
 ///
 /// Each free name of what is put in stays free, whatever binders it comes to stand under.
 ///
