@@ -278,7 +278,8 @@ impl LanguageChildren for AppliedId {
 
 /// A binder and the part under it: `slot` is bound in `elem`.
 ///
-/// The first place is the binder, and its scope is all that `elem` has. It is written as the slot, then the element.
+/// The first place is the binder, and its scope is all that `elem` has. A binder is written as the slot, then the
+/// element.
 #[derive(Drop, Debug, Clone, PartialEq, Eq, PartialOrd, Ord, Hash)]
 pub struct Bind<T> {
     /// The bound slot.

@@ -11,7 +11,7 @@
 //! # Writing a language
 //!
 //! A language is written out by hand against [`LanguageChildren`] and `Language` of `slotted_languages`, which
-//! numbers the operators. `Small` in `slotted_small` is one. It goes in four steps.
+//! numbers the operators. `Small` in `slotted_small` is one. There are four steps.
 //!
 //! 1. The enum, with `#[derive(Drop, Debug, Clone, PartialEq, Eq, PartialOrd, Ord, Hash)]`. The variants in their order
 //!    are the first key of `Ord`, and `operator` numbers them from 0.
