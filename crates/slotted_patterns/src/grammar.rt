@@ -1,5 +1,5 @@
-//! The parser of patterns over tokens. It is a loop over a stack of open parts, so that no text exhausts the
-//! machine's stack.
+//! The parser of patterns over tokens: a loop over a stack of open parts, so that no text exhausts the machine's
+//! stack.
 ghost use Rattle.std.specs.Prelude.{◌≡◌, ◌<◌, ◌+◌, ◌∷◌, ◌++◌, false, length, map, string_bytes, List, IsTrue, IfOk, OnOk, IfErr, IfSome, IfNone};
 ghost use Rattle.std.specs.Option.{option_to_list};
 ghost use Rattle.slotted_slots.specs.Error.{IsOutOfMemory};
