@@ -54,8 +54,8 @@ impl Equation {
         Ok(slots)
     }
 
-    /// Returns the equation with each name sent through `m`, which has all of them as keys and keeps those of each
-    /// side apart.
+    /// Returns the equation with each name sent through `m`, which must have all of them as keys and keep those of
+    /// each side apart.
     pub fn apply_slotmap(&self, alloc: Global, m: &SlotMap) -> Result<Equation, Error>
         requires left_known { KnowsAll m.now (values self.now.l.m) }
         requires right_known { KnowsAll m.now (values self.now.r.m) }

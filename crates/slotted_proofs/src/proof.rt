@@ -115,7 +115,7 @@ impl Proof {
     }
 }
 
-/// An entry of a proof list by itself. It is compared and hashed by its equation.
+/// An entry of a proof list by itself, compared and hashed by its equation.
 #[derive(Clone, Debug, Drop)]
 #[derive_where(PartialEq, Eq, Hash)]
 pub struct ProvenEqRaw {
