@@ -151,7 +151,7 @@ fn allocator<L: Language>(pattern: &Pattern<L>) -> Global {
 /// Returns the first pattern inside this one, or this one itself, for which the answer is yes. Each pattern comes
 /// after its parts, and these from the left.
 ///
-/// The call goes along a list of the patterns. It calls itself only if memory for the list is refused.
+/// The call goes along a list of the patterns, and calls itself only if memory for the list is refused.
 pub fn first_such<'a, L: Language, Q: Question>(
     pattern: &'a Pattern<L>,
     question: &Q,
