@@ -85,7 +85,7 @@ impl SlotTable {
         ensures slot { IfOk result (λ s. s ≡ fresh_slot self.old.fresh) }
         ensures moved { IfOk result (λ s. self.new ≡ record self.old { fresh = self.old.fresh + 1 }) }
 
-        // The slot was not known before. It is known from now on, as is all that was known.
+        // The slot was unknown before and is known from now on, as is all that was known.
         ensures unused { IfOk result (λ s. is_known self.old s ≡ false) }
         ensures known { IfOk result (λ s. IsTrue (is_known self.new s)) }
         ensures more { KnowsMore self.old self.new }
@@ -184,7 +184,7 @@ impl SlotTable {
         }
     }
 
-    // Returns the fresh slot `$fn`. It counts as made from now on.
+    // Returns the fresh slot `$fn`, which counts as made from now on.
     fn fresh_at(&mut self, n: u32) -> Result<Slot, Error>
         ensures follows { Follows (fresh_outcome self.old n) self.old self.new result }
         ensures only { IsOkUnless result Error.NumberTooLarge }

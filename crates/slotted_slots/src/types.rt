@@ -56,7 +56,7 @@ impl AppliedId {
         self.m.values(alloc)
     }
 
-    /// Returns the same class with each name sent through `m`, which has all of them as keys and keeps them apart.
+    /// Returns the same class with each name sent through `m`, which must have all of them as keys and keep them apart.
     pub fn apply_slotmap(&self, alloc: Global, m: &SlotMap) -> Result<AppliedId, Error>
         requires known { KnowsAll m.now (values self.now.m) }
         requires apart { IsTrue (all_differ (values (composed self.now.m m.now))) }
@@ -70,7 +70,7 @@ impl AppliedId {
 
     /// Returns the same class with each name sent through `m`, without the names that `m` lacks.
     ///
-    /// `m` keeps those names apart that it has as keys.
+    /// `m` must keep those names apart that it has as keys.
     pub fn apply_slotmap_partial(&self, alloc: Global, m: &SlotMap) -> Result<AppliedId, Error>
         requires { IsTrue (all_differ (values (composed self.now.m m.now))) }
         ensures id { IfOk result (λ a. a.id ≡ self.now.id) }
@@ -83,7 +83,7 @@ impl AppliedId {
 
     /// Returns the same class with each name sent through `m`, and a fresh slot for each name that `m` lacks.
     ///
-    /// `m` keeps those names apart that it has as keys.
+    /// `m` must keep those names apart that it has as keys.
     pub fn apply_slotmap_fresh(
         &self,
         alloc: Global,
@@ -119,7 +119,7 @@ impl AppliedId {
         self.m.set_value_at(i, s);
     }
 
-    /// Returns the null id: class 0 with the empty map. It stands where a child is not read.
+    /// Returns the null id, class 0 with the empty map, which stands where a child is not read.
     pub fn null(alloc: Global) -> AppliedId
         ensures id { result.id.0 ≡ 0 }
         ensures map { result.m ≡ [] }

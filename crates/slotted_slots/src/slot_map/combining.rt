@@ -12,7 +12,7 @@ use crate::{Error, Slot, SlotTable, SmallHashSet};
 use std::alloc::Global;
 
 impl SlotMap {
-    /// Returns the composition: this map first, then the other, whose keys are this map's values.
+    /// Returns the composition: this map first, then the other, whose keys must be this map's values.
     pub fn compose(&self, alloc: Global, other: &SlotMap) -> Result<SlotMap, Error>
         requires { HaveTheSame (values self.now) (keys other.now) }
         ensures ok { IfOk result (λ m. m ≡ composed self.now other.now) }
