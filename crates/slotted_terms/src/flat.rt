@@ -55,7 +55,7 @@ pub fn flatten<L: Language>(alloc: Global, term: &RecExpr<L>) -> Result<Vec<Flat
     Ok(nodes)
 }
 
-// Returns the node that the pattern is, and adds the patterns under it to those that are left. It is an error if
+// Returns the node that the pattern is, and adds the patterns under it to those that are left. Returns `NotATerm` if
 // these are not as many as the node's children.
 fn open<L: Language>(pattern: Pattern<L>, left: &mut Vec<Pattern<L>>) -> Result<FlatNode<L>, Error>
     ensures ok { IfOk result (λ n. Opens L.form (tree_of L.form pattern) n

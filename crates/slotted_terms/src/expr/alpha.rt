@@ -13,8 +13,8 @@ use slotted_outlines::outlines::{Binders, Outlines};
 use slotted_slots::Error;
 use std::alloc::Global;
 
-// Two terms that are to be compared. They stand below the first `depth` of the open binders, and below the binders
-// `above` besides.
+// Two terms that are to be compared, below the first `depth` of the open binders and below the binders `above`
+// besides.
 #[derive(Drop)]
 struct Pair<'a, L: Language> {
     one: &'a RecExpr<L>,

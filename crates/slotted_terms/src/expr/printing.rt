@@ -20,7 +20,7 @@ pub trait Printable: Language {
     // What the uppermost node of a term is written as; which ids stand for its children is open.
     ghost written: { Term → List Element };
 
-    // It is what the node is written as, over whatever children, and writes each child once.
+    // This is what the node is written as, over whatever children, with each child once.
     ghost written_as: { (a : Self) (us : List Term) → IsWrittenAs (Self.form a) (Self.shown a) (written (term_of (Self.form a) us)) };
 }
 
