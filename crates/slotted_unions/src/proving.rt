@@ -164,7 +164,7 @@ fn equation_between(alloc: Global, a: &AppliedId, b: &AppliedId) -> Result<Equat
 
 /// Returns the bridge of two full ids that are found equal: the proof that they are equal.
 ///
-/// It goes from the one to what `find` maps both to, and back from there to the other.
+/// The bridge goes from the one to what `find` maps both to, and back from there to the other.
 pub fn bridge<L: Language>(
     store: &mut Store<L>,
     alloc: Global,
