@@ -103,7 +103,7 @@ fn term_cost<L: Language, F: CostFunction<L>>(
     }
 }
 
-/// States that the costs of each cost function are lawful on the e-nodes of its language, in a total order.
+/// Proves that the costs of each cost function are lawful on the e-nodes of its language, in a total order.
 pub fn costs_are_lawful<L: Language, F: CostFunction<L>>()
     ensures { (k : F) → CostLaws L.form (costs_by F.Cost.cmp (F.node_cost k)) }
 {}
