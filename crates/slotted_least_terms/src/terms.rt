@@ -105,7 +105,7 @@ fn place<L: Language, C: Drop>(
     Ok(placed)
 }
 
-/// Returns the entries of a rebuilt graph. Each live class has one.
+/// Returns the e-nodes of least cost of a rebuilt graph. Each live class has one.
 pub fn least_terms<L: Language, F: CostFunction<L>>(
     store: &Store<L>,
     nodes: &Hashcons<L>,
