@@ -1,4 +1,4 @@
-//! Nodes that agree but for their children, and the equations of the children.
+//! E-nodes that agree up to their children, and the equations of the children.
 ghost use Rattle.std.specs.Prelude.{◌≡◌, ◌⊎◌, All, IfOk, IfErr, IfSome, IfNone, IsErrOf};
 ghost use Rattle.slotted_theory.specs.FiniteMaps.{IsInjectiveMap};
 ghost use Rattle.slotted_slots.specs.Error.{IsOutOfMemory, IsShortage};
@@ -13,7 +13,7 @@ use slotted_proofs::Equation;
 use slotted_slots::{AppliedId, Error, Slot, SlotMap};
 use std::alloc::Global;
 
-// The slot of the left child whose name is this one of the right child, below the binders.
+// Returns the slot of the left child whose name is this one of the right child, below the binders.
 fn partner(binders: &[(Slot, Slot)], left: &SlotMap, name: Slot) -> Option<Slot>
     ensures { result ≡ partner_of binders.now left.now name }
 {
@@ -25,7 +25,8 @@ fn partner(binders: &[(Slot, Slot)], left: &SlotMap, name: Slot) -> Option<Slot>
     None
 }
 
-// For each slot of the right child the one of the left child with the same name, below the binders.
+// Returns the map from slots of the right child to the slots of the left child with the same names, below the
+// binders.
 fn partners(
     alloc: Global,
     binders: &[(Slot, Slot)],
@@ -44,7 +45,7 @@ fn partners(
     Ok(map)
 }
 
-// The equation of two children below the binders of their nodes, with numbered names.
+// Returns the equation of two children below the binders of their e-nodes, with numbered names.
 fn child_equation(
     alloc: Global,
     binders: &[(Slot, Slot)],
@@ -65,7 +66,8 @@ fn child_equation(
     Ok(equation)
 }
 
-/// The equations of the children of two nodes, if the nodes agree but for their children and no name stands twice in a child.
+/// Returns the equations of the children of two e-nodes, if the e-nodes agree up to their children and no name stands
+/// twice in a child.
 pub fn child_equations<L: Language>(
     alloc: Global,
     left: &L,

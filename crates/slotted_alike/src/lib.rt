@@ -1,4 +1,4 @@
-//! Two nodes that agree but for their children, and the equations of these: what a congruent step rests on.
+//! Two e-nodes that agree up to their children, and the equations of these. A step of congruence rests on them.
 #![tactic(auto)]
 
 pub mod alike;

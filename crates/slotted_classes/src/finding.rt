@@ -1,4 +1,4 @@
-//! What ids find: the live class at the end of the entries, with the id's names at its slots.
+//! `find`: the live class that an applied id belongs to, with the names that it keeps.
 ghost use Rattle.std.specs.Prelude.{◌≡◌, ◌<◌, ◌↔◌, length, IsTrue, IfOk, IfErr};
 ghost use Rattle.slotted_slots.specs.Error.{IsOutOfMemory};
 ghost use Rattle.slotted_theory.specs.FiniteMaps.{value_of};
@@ -13,9 +13,9 @@ use slotted_slots::{AppliedId, Error, Id, Slot, SlotMap};
 use std::alloc::Global;
 
 impl<L: Language> Store<L> {
-    // Without memory.
+    // Calls that take no memory.
 
-    /// The live class that a class finds.
+    /// Returns the live class to which `find` maps a class.
     pub fn find_class(&self, id: usize) -> usize
         requires good { HasFinds self.now }
         requires within { id < length self.now.classes }
@@ -30,7 +30,7 @@ impl<L: Language> Store<L> {
         self.find_class(next)
     }
 
-    /// The slot of a class that a slot of the class that it finds stands for.
+    /// Returns the slot of a class for which a slot of its live class stands.
     pub fn found_slot(&self, id: usize, slot: Slot) -> Option<Slot>
         requires good { HasFinds self.now }
         requires within { id < length self.now.classes }
@@ -46,7 +46,7 @@ impl<L: Language> Store<L> {
         }
     }
 
-    // The name of an id at a slot of the class that it finds.
+    // Returns the name that an id has for a slot of its live class.
     fn found_name(&self, a: &AppliedId, slot: Slot) -> Option<Slot>
         requires good { HasFinds self.now }
         requires findable { IsFindable self.now (to_applied a.now) }
@@ -58,7 +58,7 @@ impl<L: Language> Store<L> {
         }
     }
 
-    // Whether two ids that find this class have the same names at its slots.
+    // Returns whether two ids of one live class have the same names for its slots.
     fn have_same_names(&self, class: usize, a: &AppliedId, b: &AppliedId) -> bool
         requires good { HasFinds self.now }
         requires left { IsFindable self.now (to_applied a.now) }
@@ -78,7 +78,8 @@ impl<L: Language> Store<L> {
         true
     }
 
-    /// Whether two valid ids find the same. It takes no memory.
+    /// Returns whether two valid ids are found equal: `find` maps them to one class with the same names. Takes no
+    /// memory.
     pub fn eq(&self, a: &AppliedId, b: &AppliedId) -> bool
         requires good { HasFinds self.now }
         requires left { IsFindable self.now (to_applied a.now) }
@@ -92,7 +93,7 @@ impl<L: Language> Store<L> {
         self.have_same_names(class, a, b)
     }
 
-    // Whether an id has a name for what a slot of the class that it finds stands for.
+    // Returns whether an id has a name for a slot of its live class.
     fn has_found_name(&self, a: &AppliedId, slot: Slot) -> bool
         requires good { HasFinds self.now }
         requires within { a.now.id.0 < length self.now.classes }
@@ -104,7 +105,7 @@ impl<L: Language> Store<L> {
         }
     }
 
-    /// Whether an id has a name for each slot that its class finds. It takes no memory.
+    /// Returns whether an id has a name for each slot of its live class. Takes no memory.
     pub fn has_found_names(&self, a: &AppliedId) -> bool
         requires good { HasFinds self.now }
         requires within { a.now.id.0 < length self.now.classes }
@@ -119,9 +120,9 @@ impl<L: Language> Store<L> {
         true
     }
 
-    // With memory.
+    // Calls that take memory.
 
-    /// Returns the slots of a class that the slots of the class that it finds stand for.
+    /// Returns the map from the slots of its live class to the slots of a class for which they stand.
     pub fn found_map(&self, alloc: Global, id: usize) -> Result<SlotMap, Error>
         requires good { HasFinds self.now }
         requires within { id < length self.now.classes }
@@ -136,7 +137,7 @@ impl<L: Language> Store<L> {
         map.compose_partial(alloc, &entry.m)
     }
 
-    /// What a valid id finds.
+    /// Returns what `find` maps a valid id to: its live class, with the names that it keeps.
     pub fn found_id(&self, alloc: Global, a: &AppliedId) -> Result<AppliedId, Error>
         requires good { HasFinds self.now }
         requires findable { IsFindable self.now (to_applied a.now) }

@@ -1,4 +1,4 @@
-//! Maps of names that a new class takes, and their values.
+//! Maps of names for a new class, and their values.
 ghost use Rattle.std.specs.Prelude.{◌≡◌, ◌↔◌, ℕ, length, Contains, IsTrue, IfOk, IfErr};
 ghost use Rattle.slotted_slots.specs.Error.{IsOutOfMemory};
 ghost use Rattle.slotted_slots.specs.Maps.{values};
@@ -9,7 +9,7 @@ use slotted_languages::Language;
 use slotted_slots::{Error, Slot, SlotMap};
 use std::alloc::Global;
 
-/// The map from the values of one map to those of another, place by place.
+/// Returns the map from the values of one map to those of another, place by place.
 pub fn map_between(alloc: Global, from: &SlotMap, to: &SlotMap) -> Result<SlotMap, Error>
     requires { length from.now ≡ length to.now }
     ensures ok { IfOk result (λ m. m ≡ between from.now to.now) }
@@ -33,7 +33,7 @@ pub fn put_at_places<L: Language>(node: &mut L, map: &SlotMap)
     }
 }
 
-/// Whether the slot is a value of the map.
+/// Returns whether the slot is a value of the map.
 pub fn has_value(map: &SlotMap, slot: Slot) -> bool
     ensures { IsTrue result ↔ Contains (values map.now) slot }
 {
@@ -45,7 +45,7 @@ pub fn has_value(map: &SlotMap, slot: Slot) -> bool
     false
 }
 
-// Whether each value of the first map is one of the other.
+// Returns whether each value of the first map is one of the other.
 fn has_values_of(map: &SlotMap, other: &SlotMap) -> bool
     ensures { IsTrue result ↔ ((x : ℕ) → Contains (values map.now) x → Contains (values other.now) x) }
 {
@@ -57,7 +57,7 @@ fn has_values_of(map: &SlotMap, other: &SlotMap) -> bool
     true
 }
 
-/// Whether two maps have the same values.
+/// Returns whether two maps have the same values.
 pub fn have_same_values(left: &SlotMap, right: &SlotMap) -> bool
     ensures { IsTrue result ↔ ((x : ℕ) → Contains (values left.now) x ↔ Contains (values right.now) x) }
 {

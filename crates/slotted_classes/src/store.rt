@@ -1,4 +1,5 @@
-//! The lists of a graph: its classes, the filed nodes by shape, the listed symmetries and the proved equations, each write by itself.
+//! The lists of a graph: its e-classes, their syntactic e-nodes by shape, the listed symmetries and the proved
+//! equations. There is a call for each single write.
 ghost use Rattle.std.specs.Prelude.{◌≡◌, ◌≢◌, ◌+◌, ◌≤◌, ◌<◌, length, map, IfOk, IfErr, OnOk, OnErr, IsErrOf, None, All, ◌⊎◌};
 ghost use Rattle.std.specs.Prelude.{option_map, ◌↔◌, suc, ◌^◌};
 ghost use Rattle.slotted_theory.specs.FiniteMaps.{IsInjectiveMap};
@@ -27,9 +28,14 @@ use std::alloc::Global;
 use std::marker::Model;
 use std::mem;
 
-/// A class: the class that it leads to, with a slot of its own for each slot of that, the proof of this, the node that it was made with, over
-/// its own slots, and the moment of its link. A live class leads to itself. Beside them an entry of the proof list, which no clause speaks of:
-/// the one that was last found to say what the class finds. What finds and their proofs read stands together.
+/// An e-class.
+///
+/// A class has an entry: the class that it leads to, with a slot of its own for each slot of that, and the proof of
+/// this. A live class leads to itself. A class also has its syntactic e-node, over its own slots, and the moment of
+/// its link.
+///
+/// Beside them stands an entry of the proof list that no clause speaks of: the one that was last found to say what
+/// `find` maps the class to. The fields that `find` and its proofs read stand together.
 #[derive(Drop)]
 pub struct Class<L> {
     find: AppliedId,
@@ -39,24 +45,33 @@ pub struct Class<L> {
     died: usize,
 }
 
-/// A filed node's source class, and the slot of that class for each number of the shape.
+/// A row: the source class of an e-node, and the slot of that class for each number of the e-node's shape.
 #[derive(Drop)]
 pub struct Row {
+    /// The class whose syntactic e-node this is.
     pub source: Id,
+    /// The slot of the class for each number of the shape.
     pub names: SlotMap,
 }
 
 /// A symmetry that was met: a class equals itself with the slots that it had then in another order, by a proof.
 #[derive(Drop)]
 pub struct Symmetry {
+    /// The equation of the class with itself.
     pub equation: Equation,
+    /// The proof of the equation.
     pub proof: ProvenEq,
 }
 
-/// The classes by their ids, the filed nodes by their shapes, the symmetries in the order in which they were met, whether a slot was
-/// dropped since all of them were found aligned, the proved equations, and the number of links. Beside them the classes that died, in order,
-/// how many live classes and slots of them there are, and what rebuilds did; and the classes whose finds were proved step by step since paths
-/// were compressed last, which no clause speaks of.
+/// The lists of a graph.
+///
+/// They are the classes by their ids, their syntactic e-nodes by shape, the symmetries in the order in which they
+/// were met, and the proved equations. A flag says whether a slot became redundant since all symmetries were found
+/// aligned.
+///
+/// Beside them stand the number of links, the classes that died, in order, the size of the graph, and counts of
+/// rebuilds. No clause speaks of one list: the classes whose finds were proved step by step since paths were compressed
+/// last.
 #[derive(Drop)]
 pub struct Store<L: Language> {
     classes: Vec<Class<L>>,
@@ -96,7 +111,7 @@ impl<L: Language> Model for Store<L> {
     ghost invariant = { λ c. IsCounted c.moment c.size c.deaths.items (map (class_entry L.form) c.classes.items) };
 }
 
-// What a live class counts for: itself, and each of its slots.
+// Returns the size of a live class: one for itself, and one for each of its slots.
 fn map_size(slots: &SlotMap) -> u128
     ensures value { result ≡ suc (length slots.now) }
     ensures bound { result ≤ 2 ^ 64 }
@@ -105,7 +120,7 @@ fn map_size(slots: &SlotMap) -> u128
 }
 
 impl<L: Language> Store<L> {
-    /// The lists of a graph without classes.
+    /// Returns the lists of a graph without classes.
     pub fn new(alloc: Global) -> Self
         ensures { result ≡ nothing }
     {
@@ -130,15 +145,16 @@ impl<L: Language> Store<L> {
         }
     }
 
-    // Reads and single writes, each said exactly.
+    // Reads and single writes, each with an exact contract.
 
+    /// Returns the number of classes, dead ones included.
     pub fn class_count(&self) -> usize
         ensures { result ≡ length self.now.classes }
     {
         self.classes.len()
     }
 
-    /// The node that a class was made with.
+    /// Returns the syntactic e-node of a class.
     pub fn node_of(&self, id: usize) -> &L
         requires { id < length self.now.classes }
         ensures { L.form result.now ≡ node_at self.now id }
@@ -146,7 +162,7 @@ impl<L: Language> Store<L> {
         &self.classes[id].node
     }
 
-    /// The class that a class leads to, with a slot of its own for each slot of that.
+    /// Returns the class that a class leads to, with a slot of its own for each slot of that.
     pub fn entry(&self, id: usize) -> &AppliedId
         requires { id < length self.now.classes }
         ensures { to_applied result.now ≡ ((find_at self.now id).class, (find_at self.now id).pairs) }
@@ -154,7 +170,7 @@ impl<L: Language> Store<L> {
         &self.classes[id].find
     }
 
-    /// The proof of what a class's entry says.
+    /// Returns the proof of what a class leads to.
     pub fn proof_of(&self, id: usize) -> ProvenEq
         requires { id < length self.now.classes }
         ensures { result ≡ (find_at self.now id).proof }
@@ -162,14 +178,15 @@ impl<L: Language> Store<L> {
         self.classes[id].proof
     }
 
-    /// The entry that was kept beside a class. Whether it says what the class finds now is for the caller to see.
+    /// Returns the entry of the proof list that was kept beside a class. The caller checks whether it says what
+    /// `find` maps the class to now.
     pub fn last_proof(&self, id: usize) -> ProvenEq
         requires { id < length self.now.classes }
     {
         self.classes[id].last_proof
     }
 
-    /// Keeps an entry beside a class.
+    /// Keeps an entry of the proof list beside a class.
     pub fn set_last_proof(&mut self, id: usize, p: ProvenEq)
         requires { id < length self.old.classes }
         ensures { self.new ≡ self.old }
@@ -177,14 +194,15 @@ impl<L: Language> Store<L> {
         self.classes[id].last_proof = p;
     }
 
-    /// The row of a shape.
+    /// Returns the row of a shape.
     pub fn row(&self, shape: &L) -> Option<&Row>
         ensures { option_map (λ r. (r.now.source.0, r.now.names)) result ≡ found self.now.rows (L.form shape.now) }
     {
         self.rows.get(shape)
     }
 
-    /// The slots of the class that a row files, one for each number of the shape. The rows of classes stand in the order of their ids.
+    /// Returns the slots of the class of a row, one for each number of the shape. The rows stand in the order of the
+    /// class ids.
     pub fn names_of(&self, id: usize) -> &SlotMap
         requires { id < length self.now.rows }
         ensures { result.now ≡ names_at self.now id }
@@ -195,21 +213,21 @@ impl<L: Language> Store<L> {
         }
     }
 
-    /// The listed symmetries, in the order in which they were met.
+    /// Returns the listed symmetries, in the order in which they were met.
     pub fn symmetries(&self) -> &[Symmetry]
         ensures { map symmetry_entry result.now ≡ self.now.symmetries }
     {
         &self.symmetries
     }
 
-    /// Whether a slot was dropped since all symmetries were found aligned.
+    /// Returns whether a slot became redundant since all symmetries were found aligned.
     pub fn is_dropped(&self) -> bool
         ensures { result ≡ self.now.dropped }
     {
         self.dropped
     }
 
-    // A class, and the row that files its node.
+    // Adds a class, and the row of its syntactic e-node.
     fn file(&mut self, shape: L, row: Row, class: Class<L>) -> Result<(), Error>
         requires absent { found self.old.rows (L.form shape) ≡ None }
         requires live { class.find.id.0 ≡ length self.old.classes }
@@ -223,7 +241,7 @@ impl<L: Language> Store<L> {
         Ok(())
     }
 
-    /// Two ids are equal because the caller says so.
+    /// Enters that two ids are equal because the caller says so, and returns the number of the equation.
     pub fn assert_equal(
         &mut self,
         alloc: Global,
@@ -240,7 +258,7 @@ impl<L: Language> Store<L> {
         self.proofs.enter_explicit(alloc, l, r, text)
     }
 
-    /// The equation of a proof turned round.
+    /// Enters the equation of a proof, turned round.
     pub fn turn(&mut self, alloc: Global, p: ProvenEq) -> Result<ProvenEq, Error>
         requires { p < length self.old.proofs }
         ensures ok { IfOk result (EntersIn self.old self.new (turned_entry self.old.proofs p)) }
@@ -250,7 +268,7 @@ impl<L: Language> Store<L> {
         self.proofs.enter_symmetric(alloc, p)
     }
 
-    /// The equations of two proofs, one after the other.
+    /// Enters the equations of two proofs, put together one after the other.
     pub fn chain(&mut self, alloc: Global, p: ProvenEq, q: ProvenEq) -> Result<ProvenEq, Error>
         requires first { p < length self.old.proofs }
         requires second { q < length self.old.proofs }
@@ -262,7 +280,8 @@ impl<L: Language> Store<L> {
         self.proofs.enter_transitive(alloc, p, q)
     }
 
-    /// A class dies, and leads to another one with a slot of its own for each slot of that, by this proof.
+    /// Links a live class to another one, with a slot of its own for each slot of that, by this proof. The class is
+    /// dead from now on.
     pub fn set_link(&mut self, dead: usize, find: AppliedId, proof: ProvenEq) -> Result<(), Error>
         requires within { dead < length self.old.classes }
         requires live { IsLive (entries_of self.old) dead }
@@ -282,7 +301,7 @@ impl<L: Language> Store<L> {
         Ok(())
     }
 
-    /// A dead class leads at once to the class that it finds, by this proof. The moment of its death stays.
+    /// Makes a dead class lead at once to the class that it finds, by this proof. The moment of its death stays.
     pub fn set_shortcut(&mut self, dead: usize, find: AppliedId, proof: ProvenEq)
         requires within { dead < length self.old.classes }
         requires dead { ¬ IsLive (entries_of self.old) dead }
@@ -310,7 +329,7 @@ impl<L: Language> Store<L> {
         mem::replace(&mut self.walked, Vec::new(alloc))
     }
 
-    /// The classes that died, in order.
+    /// Returns the classes that died, in order.
     pub fn deaths(&self) -> &[usize]
         ensures list { result.now ≡ self.now.deaths }
         ensures just { ListsDead self.now.deaths (entries_of self.now) }
@@ -318,14 +337,15 @@ impl<L: Language> Store<L> {
         &self.deaths
     }
 
-    /// How many live classes and slots of them there are.
+    /// Returns the size of the graph: the number of its live classes and of their slots.
     pub fn size(&self) -> u128
         ensures { result ≡ size_of self.now }
     {
         self.size
     }
 
-    /// Notes what a rebuild did: how many filed nodes and which size it found, and how many turns it took. It left the size that is now.
+    /// Notes what a rebuild did: the number of filed e-nodes and the size that it found, and its turns. The size that
+    /// it left is the present one.
     pub fn note(&mut self, nodes: usize, size_before: u128, turns: u64)
         ensures { self.new ≡ with_counts self.old (noted self.old.counts nodes size_before (size_of self.old) turns) }
     {
@@ -341,42 +361,43 @@ impl<L: Language> Store<L> {
         self.total_bound = self.total_bound.saturating_add(bound);
     }
 
-    /// What the last rebuild did.
+    /// Returns what the last rebuild did.
     pub fn last_rebuild(&self) -> RebuildCount
         ensures { result ≡ last_count self.now.counts }
     {
         self.count
     }
 
-    /// How many turns all rebuilds took, and how many their bounds allow. A sum that would be too large ends at the largest number.
+    /// Returns how many turns all rebuilds took, and how many their bounds allow. A sum that would be too large stays
+    /// at the largest number.
     pub fn rebuild_totals(&self) -> (u64, u128)
         ensures { result ≡ (self.now.counts.total_turns, self.now.counts.total_bound) }
     {
         (self.total_turns, self.total_bound)
     }
 
-    /// The proved equations.
+    /// Returns the proof list.
     pub fn proofs(&self) -> &ProofList
         ensures { result.now ≡ self.now.proofs }
     {
         &self.proofs
     }
 
-    /// The number of proved equations.
+    /// Returns the number of proved equations.
     pub fn proof_count(&self) -> usize
         ensures { result ≡ length self.now.proofs }
     {
         self.proofs.len()
     }
 
-    /// The numbers of the asserted equations, in order.
+    /// Returns the numbers of the asserted equations, in order.
     pub fn asserted(&self) -> &[ProvenEq]
         ensures { result.now ≡ explicit_numbers (proofs_of self.now) }
     {
         self.proofs.asserted()
     }
 
-    /// A class of its own for a shape, with these slots for its numbers, and the entry that it equals itself.
+    /// Adds a class for a shape, with these slots for its numbers, and the entry that the class equals itself.
     pub fn make_class(&mut self, alloc: Global, shape: L, slots: SlotMap) -> Result<(), Error>
         requires few { IsSmall (L.form shape) }
         requires absent { found self.old.rows (L.form shape) ≡ None }
@@ -408,7 +429,7 @@ impl<L: Language> Store<L> {
         Ok(())
     }
 
-    /// A live class keeps fewer slots, by this proof.
+    /// Shrinks a live class to fewer slots, by this proof.
     pub fn set_slots(&mut self, live: usize, slots: SlotMap, proof: ProvenEq)
         requires within { live < length self.old.classes }
         requires live { IsLive (entries_of self.old) live }
@@ -427,7 +448,7 @@ impl<L: Language> Store<L> {
         self.size = self.size - less + more;
     }
 
-    /// A symmetry is listed.
+    /// Lists a symmetry.
     pub fn list(&mut self, symmetry: Symmetry) -> Result<(), Error>
         ensures ok { OnOk result (self.new ≡ with_listed self.old (symmetry_entry symmetry)) }
         ensures err { IfErr result IsOutOfMemory }
@@ -436,16 +457,16 @@ impl<L: Language> Store<L> {
         Ok(())
     }
 
-    /// All symmetries are known to be aligned.
+    /// Notes that all symmetries are aligned.
     pub fn settle(&mut self)
         ensures { self.new ≡ with_settled self.old }
     {
         self.dropped = false;
     }
 
-    // Steps that are asked for: the proof list alone changes, and a refusal leaves it.
+    // Steps that a caller asks for. Each changes the proof list alone, and changes nothing on an error.
 
-    /// The equation, if both of its sides are equal.
+    /// Enters the equation if both of its sides are equal, and returns its number.
     pub fn prove_reflexive(&mut self, alloc: Global, equation: &Equation) -> Result<ProvenEq, Error>
         requires left { IsInjectiveMap equation.now.l.m }
         requires right { IsInjectiveMap equation.now.r.m }
@@ -459,7 +480,7 @@ impl<L: Language> Store<L> {
         self.proofs.prove_reflexive(alloc, equation)
     }
 
-    /// The equation, if that of the part, turned round, matches it.
+    /// Enters the equation if that of the part, turned round, matches it, and returns its number.
     pub fn prove_symmetric(
         &mut self,
         alloc: Global,
@@ -478,7 +499,8 @@ impl<L: Language> Store<L> {
         self.proofs.prove_symmetric(alloc, equation, p)
     }
 
-    /// The equation, if those of the two parts, one after the other, give it by some names for the middle.
+    /// Enters the equation if those of the two parts, one after the other, give it by some names for the middle.
+    /// Returns its number.
     pub fn prove_transitive(
         &mut self,
         alloc: Global,
@@ -498,7 +520,7 @@ impl<L: Language> Store<L> {
         self.proofs.prove_transitive(alloc, equation, p, q)
     }
 
-    /// The equation, if the equation of each part matches that of the children there.
+    /// Enters the equation if the equation of each part matches that of the children there, and returns its number.
     pub fn prove_congruent(
         &mut self,
         alloc: Global,

@@ -1,4 +1,5 @@
-//! Congruence of classes: their canonical nodes with the names of two ids put in, and the proofs of the equations of their children.
+//! Congruence of classes: their syntactic e-nodes with the names of two ids put in, and the proofs of the equations
+//! of their children.
 #![tactic(auto)]
 
 pub mod named;

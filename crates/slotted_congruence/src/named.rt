@@ -1,4 +1,4 @@
-//! The canonical node of a class with the names of an id put in.
+//! The syntactic e-node of a class with the names of an id put in.
 ghost use Rattle.std.specs.Prelude.{IfOk, IfErr, IsErrOf};
 ghost use Rattle.slotted_slots.specs.Error.{IsShortage};
 ghost use Rattle.slotted_model.specs.Classes.{IsFull};
@@ -11,7 +11,8 @@ use slotted_languages::Language;
 use slotted_slots::{AppliedId, Error, SlotTable};
 use std::alloc::Global;
 
-/// The canonical node of an id's class, with the names of the id put in. The fresh names at its binders are those of a table of its own.
+/// Returns the syntactic e-node of an id's class, with the names of the id put in. The fresh names at its binders
+/// come from a table of the call's own.
 pub fn named_node<L: Language>(store: &Store<L>, alloc: Global, a: &AppliedId) -> Result<L, Error>
     requires { IsFull (nodes_of store.now) (to_applied a.now) }
     ensures ok { IfOk result (λ n. IsNodeOf (nodes_of store.now) (to_applied a.now) (L.form n)) }

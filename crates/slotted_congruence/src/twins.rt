@@ -1,4 +1,4 @@
-//! The congruence of two classes whose canonical nodes have one normal form, as an entry of the proof list.
+//! The congruence of two classes whose canonical e-nodes have one shape, as an entry of the proof list.
 ghost use Rattle.std.specs.Prelude.{All, IfOk, IfErr, IsErrOf};
 ghost use Rattle.slotted_slots.specs.Error.{IsShortage};
 ghost use Rattle.slotted_classes.specs.Kept.{nodes_of};
@@ -15,7 +15,7 @@ use slotted_slots::Error;
 use slotted_unions::proving::bridge;
 use std::alloc::Global;
 
-/// The proofs of equations of full ids that find alike, one for each.
+/// Returns the proofs of equations of full ids that are found equal, one for each equation.
 pub fn bridges<L: Language>(
     store: &mut Store<L>,
     alloc: Global,
@@ -35,7 +35,7 @@ pub fn bridges<L: Language>(
     Ok(parts)
 }
 
-// The equations of the children of the two canonical nodes, with the names of the sides put in.
+// Returns the equations of the children of the two syntactic e-nodes, with the names of the sides put in.
 fn alike_children<L: Language>(
     store: &Store<L>,
     alloc: Global,
@@ -55,8 +55,10 @@ fn alike_children<L: Language>(
     }
 }
 
-/// The proof that two classes are equal, since their canonical nodes have one normal form: by a congruent step over the bridges of their
-/// children. The equation says which names the two have in common.
+/// Returns the proof that two classes are equal, since their canonical e-nodes have one shape.
+///
+/// The proof is a step of congruence over the bridges of their children. The equation says which names the two have
+/// in common.
 pub fn congruence<L: Language>(
     store: &mut Store<L>,
     alloc: Global,

@@ -63,7 +63,7 @@ pub trait CostFunction<L: Language>: Drop {
     ghost never_failed: { ¬ refuses Failed };
 }
 
-// The costs of the last terms, so many, give way to that of a node over them.
+// Replaces the costs of the last `node.count` terms by the cost of the node over them.
 fn close<L: Language, F: CostFunction<L>>(
     costs: &F,
     alloc: Global,
@@ -103,7 +103,7 @@ fn term_cost<L: Language, F: CostFunction<L>>(
     }
 }
 
-/// States that the costs of each cost function are lawful on the e-nodes of its language, in a total order.
+/// Proves that the costs of each cost function are lawful on the e-nodes of its language, in a total order.
 pub fn costs_are_lawful<L: Language, F: CostFunction<L>>()
     ensures { (k : F) → CostLaws L.form (costs_by F.Cost.cmp (F.node_cost k)) }
 {}

@@ -28,7 +28,8 @@ use std::alloc::Global;
 use std::cmp::Reverse;
 use std::collections::BinaryHeap;
 
-// The table so far, the filed e-nodes that wait for their turn, and for each source how many children have no cost yet.
+/// The state of a table that is being made: the table so far, the filed e-nodes that wait for their turn, and for
+/// each source how many children have no cost yet.
 #[derive(Drop)]
 pub(crate) struct Making<'a, L: Ord, C: Ord> {
     pub table: CostTable<L, C>,
@@ -91,7 +92,7 @@ fn tell<'a, L: Language, F: CostFunction<L>>(
     Ok(())
 }
 
-// Notes this for each of the sources.
+// Notes for each of the sources that one more child of its filed e-node has a cost.
 fn tell_all<'a, L: Language, F: CostFunction<L>>(
     making: &mut Making<'a, L, F::Cost>,
     nodes: &'a Hashcons<L>,

@@ -77,7 +77,7 @@ fn candidate<'a, L: Language, F: CostFunction<L>>(
     }))
 }
 
-// Lets the filed e-node of a source wait for its turn, if all of its children have costs.
+/// Lets the filed e-node of a source wait for its turn, if all of its children have costs.
 pub fn push_row<'a, L: Language, F: CostFunction<L>>(
     nodes: &'a Hashcons<L>,
     table: &CostTable<L, F::Cost>,

@@ -9,10 +9,12 @@ use slotted_languages::Language;
 use slotted_slots::Error;
 use std::alloc::Global;
 
-/// The entries in the order in which they entered, at most one for each class. The children of each e-node belong to
-/// classes of earlier entries.
+/// A table of costs: the entries in the order in which they entered, at most one for each class.
+///
+/// The children of each e-node belong to classes of earlier entries.
 #[derive(Drop)]
 pub struct CostTable<L, C> {
+    /// The entries, in the order in which they entered.
     pub entries: Vec<CostEntry<L, C>>,
     places: Vec<usize>,
     ghost placed: { ArePlaced (classes_in entries.items) places.items },

@@ -1,4 +1,4 @@
-//! Which filed e-nodes stand over a class, and how many children they have.
+//! The users of classes: for each class the sources whose filed e-nodes have the class as a child.
 ghost use Rattle.std.specs.Prelude.{◌≡◌, ◌∷◌, ℕ, List, [], length, map, IfOk, IfErr, OnOk, slice_index_or};
 ghost use Rattle.slotted_slots.specs.Error.{IsOutOfMemory};
 ghost use Rattle.slotted_hashcons.specs.Filed.{filed_of};
@@ -65,7 +65,8 @@ fn add_row<L: Language>(
     add_to_each(users, nodes.class_count(), &ids, source)
 }
 
-// Returns for each class the sources whose filed e-nodes have the class as a child, each as often as the class is one.
+/// Returns for each class the sources whose filed e-nodes have the class as a child, each as often as the class is
+/// one.
 pub fn users_of<L: Language>(nodes: &Hashcons<L>, alloc: Global) -> Result<Usages, Error>
     ensures ok { IfOk result (λ u. AreUsers nodes.now.filed u) }
     ensures err { IfErr result IsOutOfMemory }
@@ -88,7 +89,7 @@ fn child_count<L: Language>(nodes: &Hashcons<L>, source: usize) -> usize
     }
 }
 
-// Returns how many children the filed e-node of each source has.
+/// Returns how many children the filed e-node of each source has.
 pub fn child_counts<L: Language>(nodes: &Hashcons<L>, alloc: Global) -> Result<Vec<usize>, Error>
     ensures ok { IfOk result (λ n. AreCounts nodes.now.filed n.items) }
     ensures keys { OnOk result (AreKeysOf L.form nodes.now.filed) }

@@ -1,4 +1,4 @@
-//! The slots of classes for the numbers of the keys that are filed of them.
+//! The slots of classes for the numbers of the shapes that are filed for them.
 ghost use Rattle.std.specs.Prelude.{◌≡◌, ◌<◌, ◌++◌, ◌∷◌, [], length, set, slice_index_or, IfErr, OnOk, OnErr};
 ghost use Rattle.slotted_slots.specs.Error.{IsOutOfMemory};
 
@@ -6,7 +6,7 @@ use slotted_slots::{Error, SlotMap};
 use std::alloc::Global;
 use std::marker::Model;
 
-/// For each class a map. Most are empty, which a flag tells, so that nothing else of them is read.
+/// A map for each class. Most maps are empty. A flag says so, so that nothing else of such a map is read.
 #[derive(Drop)]
 pub struct ClassNames {
     flags: Vec<bool>,
@@ -29,7 +29,7 @@ impl Model for ClassNames {
 }
 
 impl ClassNames {
-    /// No class.
+    /// Returns the maps of no classes.
     pub fn new(alloc: Global) -> Self
         ensures { result ≡ [] }
     {
@@ -40,7 +40,7 @@ impl ClassNames {
         }
     }
 
-    /// One class more, with an empty map.
+    /// Adds a class, with an empty map.
     pub fn add_class(&mut self, alloc: Global) -> Result<(), Error>
         ensures ok { OnOk result (self.new ≡ self.old ++ [] ∷ []) }
         ensures unchanged { OnErr result (self.new ≡ self.old) }
@@ -52,7 +52,7 @@ impl ClassNames {
         Ok(())
     }
 
-    /// The map of a class.
+    /// Returns the map of a class.
     pub fn of(&self, class: usize) -> &SlotMap
         requires { class < length self.now }
         ensures { result.now ≡ slice_index_or self.now class [] }
@@ -63,7 +63,7 @@ impl ClassNames {
         &self.empty
     }
 
-    /// A class has another map.
+    /// Replaces the map of a class.
     pub fn put(&mut self, class: usize, names: SlotMap)
         requires { class < length self.old }
         ensures { self.new ≡ set self.old class names }

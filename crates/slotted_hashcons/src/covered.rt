@@ -1,4 +1,4 @@
-//! Whether the node of a class in normal form has each slot that the class uses.
+//! Whether the canonical e-node of a class has each slot that the class uses.
 ghost use Rattle.std.specs.Prelude.{◌≡◌, ◌<◌, ◌↔◌, length, IsTrue};
 ghost use Rattle.slotted_model.specs.Rebuild.{IsCovered};
 ghost use Rattle.slotted_classes.specs.Finding.{HasFinds};
@@ -9,7 +9,7 @@ use slotted_classes::names::has_value;
 use slotted_languages::Language;
 use slotted_slots::{Slot, SlotMap};
 
-// Whether what a slot of the class that a class finds stands for is a value of the map.
+// Returns whether a slot of the live class stands for a slot of the class that is a value of the map.
 fn has_slot<L: Language>(store: &Store<L>, class: usize, names: &SlotMap, slot: Slot) -> bool
     requires good { HasFinds store.now }
     requires within { class < length store.now.classes }
@@ -21,7 +21,7 @@ fn has_slot<L: Language>(store: &Store<L>, class: usize, names: &SlotMap, slot: 
     }
 }
 
-/// Whether each slot that a class uses stands in its node in normal form. It takes no memory.
+/// Returns whether each slot that a class uses stands in its canonical e-node. Takes no memory.
 pub fn is_covered<L: Language>(store: &Store<L>, class: usize, names: &SlotMap) -> bool
     requires good { HasFinds store.now }
     requires within { class < length store.now.classes }

@@ -1,4 +1,4 @@
-//! The canonical node of a class in normal form, by its shape.
+//! The canonical e-node of a class, by its shape.
 ghost use Rattle.std.specs.Prelude.{◌<◌, ℕ, length, IfOk, IfErr, IsErrOf};
 ghost use Rattle.slotted_slots.specs.Error.{IsShortage};
 ghost use Rattle.slotted_languages.specs.NewNames.{IsTooLarge};
@@ -13,14 +13,16 @@ use slotted_languages::Language;
 use slotted_slots::{Error, SlotMap};
 use std::alloc::Global;
 
-/// The shape of a class's node in normal form, and the canonical slot of the class for each number of it.
+/// The shape of the canonical e-node of a class, and the canonical slot of the class for each number of the shape.
 #[derive(Drop)]
 pub struct FoundNode<L> {
+    /// The shape.
     pub key: L,
+    /// The canonical slot of the class for each number of the shape.
     pub names: SlotMap,
 }
 
-/// The node that a class was made with in normal form, by its shape.
+/// Returns the canonical e-node of a class, by its shape: the syntactic e-node over what `find` maps its children to.
 pub fn found_node<L: Language>(
     store: &Store<L>,
     alloc: Global,
@@ -38,8 +40,11 @@ pub fn found_node<L: Language>(
     Ok(FoundNode { key, names })
 }
 
-/// The same from what is filed of a class, whose children are nearer to what they find: a key, and the slot of the class for each number
-/// of it. It may have been filed before finds went on.
+/// Returns the canonical e-node of a class as `found_node` does, from what is filed for the class: a shape, and the
+/// slot of the class for each number.
+///
+/// The shape may have been filed before later unions. Its children are nearer to their live classes than those of the
+/// syntactic e-node.
 pub fn refound_node<L: Language>(
     store: &Store<L>,
     alloc: Global,

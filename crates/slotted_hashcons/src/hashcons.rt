@@ -1,4 +1,4 @@
-//! The filed nodes, who stands over a class, which classes wait to be filed anew, and how large each class is.
+//! The hashcons of a graph, with the usages of classes, the pending list, and the sizes of classes.
 ghost use Rattle.std.specs.Prelude.{◌≡◌, ◌≤◌, ◌<◌, ◌↔◌, ℕ, length, None, Some, option_map, slice_get};
 ghost use Rattle.std.specs.Prelude.{IsTrue, IfSome, IfNone, IfErr, OnOk, Contains};
 ghost use Rattle.slotted_slots.specs.Error.{IsOutOfMemory};
@@ -19,8 +19,10 @@ use slotted_slots::{Error, SlotMap};
 use std::alloc::Global;
 use std::marker::Model;
 
-/// The filed nodes, who stands over a class, which classes wait to be filed anew, in turn, and how large each class is. After want of
-/// memory nothing is known of what is filed and of what waits.
+/// The hashcons: the filed e-nodes, by their shapes and by their source classes.
+///
+/// With it stand the usages of classes, the classes that are pending, in turn, and the sizes of classes. After memory
+/// was refused, nothing is known of what is filed and of what is pending.
 #[derive(Drop)]
 pub struct Hashcons<L: Language> {
     nodes: NodeIndex<L>,
@@ -43,7 +45,7 @@ impl<L: Language> Model for Hashcons<L> {
 }
 
 impl<L: Language> Hashcons<L> {
-    /// No class.
+    /// Returns the hashcons without classes.
     pub fn new(alloc: Global) -> Self
         ensures { result ≡ no_rows }
     {
@@ -55,20 +57,21 @@ impl<L: Language> Hashcons<L> {
         }
     }
 
+    /// Returns the number of classes, dead ones included.
     pub fn class_count(&self) -> usize
         ensures { result ≡ length self.now.filed }
     {
         self.nodes.class_count()
     }
 
-    /// The number of filed nodes. It takes no memory, and the same time however many they are.
+    /// Returns the number of filed e-nodes. Takes no memory, and the same time however many they are.
     pub fn len(&self) -> usize
         ensures { result ≡ length (rows_in self.now.filed) }
     {
         self.nodes.len()
     }
 
-    /// One class more, of which nothing is filed.
+    /// Adds a class, for which nothing is filed.
     pub fn add_class(&mut self, alloc: Global) -> Result<(), Error>
         ensures ok { OnOk result (self.new ≡ with_class self.old) }
         ensures err { IfErr result IsOutOfMemory }
@@ -80,20 +83,22 @@ impl<L: Language> Hashcons<L> {
         Ok(())
     }
 
-    /// For each class how many filed nodes it has and how many have it as a child. No contract speaks of these sizes: they decide which
-    /// class a union keeps.
+    /// Returns the size of each class: how many filed e-nodes it has, and how many have it as a child.
+    ///
+    /// No clause speaks of these sizes, which decide which class a union keeps.
     pub fn sizes(&self) -> &[u32] {
         self.sizes.all()
     }
 
-    /// The filed nodes that one class has another one has from now on.
+    /// Counts the filed e-nodes of one class as those of another from now on.
     pub fn move_nodes(&mut self, from: usize, to: usize)
         ensures { self.new ≡ self.old }
     {
         self.sizes.move_nodes(from, to);
     }
 
-    /// The node that is filed of a class is counted no more, neither as one that `owner` has nor over the classes of its children.
+    /// Stops counting the e-node that is filed for a class, both as one of `owner` and over the classes of its
+    /// children.
     pub fn uncount(&mut self, class: usize, owner: usize)
         ensures { self.new ≡ self.old }
     {
@@ -101,14 +106,14 @@ impl<L: Language> Hashcons<L> {
         self.sizes.take_node(owner);
     }
 
-    /// What is filed of a class: a key, and the slot of the class for each number of it.
+    /// Returns what is filed for a class: a shape, and the slot of the class for each number of it.
     pub fn node(&self, class: usize) -> Option<(&L, &SlotMap)>
         ensures { option_map (λ p. (L.form p.0.now, p.1.now)) result ≡ filed_of self.now.filed class }
     {
         self.nodes.node(class)
     }
 
-    /// The class of which a key is filed. No key is filed of two classes.
+    /// Returns the class for which a shape is filed. No shape is filed for two classes.
     pub fn source_of(&self, key: &L) -> Option<usize>
         ensures some { IfSome result (λ i. HasKey self.now.filed i (L.form key.now)) }
         ensures none { IfNone result (IsNewKey self.now.filed (L.form key.now)) }
@@ -117,7 +122,7 @@ impl<L: Language> Hashcons<L> {
         self.nodes.source_of(key)
     }
 
-    /// The class whose turn is next. Each waits once, and something is filed of it.
+    /// Returns the class whose turn is next. Each is pending once, and something is filed for it.
     pub fn front(&self) -> Option<usize>
         ensures front { result ≡ slice_get self.now.waiting 0 }
         ensures once { AllDifferent self.now.waiting }
@@ -126,14 +131,14 @@ impl<L: Language> Hashcons<L> {
         self.waiting.front()
     }
 
-    /// Whether a class waits. It takes no memory.
+    /// Returns whether a class is pending. Takes no memory.
     pub fn waits(&self, class: usize) -> bool
         ensures { IsTrue result ↔ Contains self.now.waiting class }
     {
         self.waiting.waits(class)
     }
 
-    /// Each class whose filed node has a child of this class waits from now on.
+    /// Makes each class pending whose filed e-node has a child of this class.
     pub fn touch(&mut self, class: usize) -> Result<(), Error>
         requires { class < length self.old.filed }
         ensures waits { OnOk result (WaitsOn self.old self.new) }
@@ -144,7 +149,7 @@ impl<L: Language> Hashcons<L> {
         Ok(())
     }
 
-    /// Files a key of a live class that has none, and counts it.
+    /// Files a shape for a live class that has none, and counts it.
     pub fn file(&mut self, class: usize, key: L, names: SlotMap) -> Result<(), Error>
         requires within { class < length self.old.filed }
         requires free { filed_of self.old.filed class ≡ None }
@@ -160,7 +165,7 @@ impl<L: Language> Hashcons<L> {
         Ok(())
     }
 
-    /// A class of which something is filed waits from now on: at the end, if it did not wait.
+    /// Makes a class pending for which something is filed. A class that was not pending goes to the end.
     pub fn wait(&mut self, class: usize) -> Result<(), Error>
         requires { IsFiled self.old.filed class }
         ensures ok { OnOk result (QueuesUp self.old self.new class) }
@@ -170,7 +175,7 @@ impl<L: Language> Hashcons<L> {
         Ok(())
     }
 
-    /// The class whose turn it is has another key filed, in the place of the one that it had, and waits no more.
+    /// Files another shape for the class whose turn it is, in place of the one that it had, and ends the turn.
     pub fn refile(&mut self, class: usize, key: L, names: SlotMap) -> Result<(), Error>
         requires front { slice_get self.old.waiting 0 ≡ Some class }
         requires new_key { IsNewToOthers self.old.filed class (L.form key) }
@@ -186,7 +191,7 @@ impl<L: Language> Hashcons<L> {
         Ok(())
     }
 
-    /// The class whose turn it is waits no more, and has filed what it had.
+    /// Ends the turn of a class, and keeps what is filed for it.
     pub fn leave(&mut self, class: usize)
         requires { slice_get self.old.waiting 0 ≡ Some class }
         ensures { TakesTurn self.old self.new class (filed_of self.old.filed class) }
@@ -194,7 +199,8 @@ impl<L: Language> Hashcons<L> {
         end_turn(&mut self.waiting, class);
     }
 
-    /// The class whose turn it is has nothing filed from now on, and waits no more. Its node has to be uncounted before.
+    /// Removes what is filed for the class whose turn it is, and ends the turn. The caller has to uncount the e-node
+    /// before.
     pub fn remove(&mut self, class: usize)
         requires { slice_get self.old.waiting 0 ≡ Some class }
         ensures { TakesTurn self.old self.new class None }
@@ -204,7 +210,7 @@ impl<L: Language> Hashcons<L> {
     }
 }
 
-// Whether a child of a node is of a class.
+// Returns whether a child of an e-node is of a class.
 fn has_child<L: Language>(node: &L, class: usize) -> bool
     ensures { IsTrue result ↔ Contains (key_children (L.form node.now)) class }
 {
@@ -216,7 +222,7 @@ fn has_child<L: Language>(node: &L, class: usize) -> bool
     false
 }
 
-// Whether a child of the node that is filed of a source is of a class.
+// Returns whether a child of the e-node that is filed for a source is of a class.
 fn is_over<L: Language>(nodes: &NodeIndex<L>, source: usize, class: usize) -> bool
     ensures { IsTrue result ↔ HasChild nodes.now source class }
 {
@@ -226,7 +232,7 @@ fn is_over<L: Language>(nodes: &NodeIndex<L>, source: usize, class: usize) -> bo
     }
 }
 
-// Those of the sources wait from now on whose nodes have a child of a class.
+// Makes those of the sources pending whose e-nodes have a child of a class.
 fn wait_over<L: Language>(
     sources: &[u32],
     nodes: &NodeIndex<L>,
@@ -248,7 +254,8 @@ fn wait_over<L: Language>(
     Ok(())
 }
 
-// A source stands over the class of each child of a node from now on. It does already over those of the node that is filed of it.
+// Enters a source into the usages of the class of each child of an e-node. The source stands already in those of the
+// e-node that is filed for it.
 fn use_children<L: Language>(
     usages: &mut Usages,
     nodes: &NodeIndex<L>,
@@ -270,7 +277,7 @@ fn use_children<L: Language>(
     Ok(())
 }
 
-// The class whose turn it is waits no more.
+// Ends the turn of a class.
 fn end_turn(waiting: &mut Worklist, class: usize)
     requires { slice_get waiting.old.queue 0 ≡ Some class }
     ensures { Pops waiting.old waiting.new class }
@@ -278,12 +285,12 @@ fn end_turn(waiting: &mut Worklist, class: usize)
     waiting.pop();
 }
 
-// The class of a child, if there is one.
+// Returns the class of a child, if there is one.
 fn child_class<L: Language>(node: &L, k: usize) -> Option<usize> {
     Some(node.get_applied_id(k)?.id.0)
 }
 
-// Whether no earlier child has the class of this one.
+// Returns whether no earlier child has the class of this one.
 fn is_first_child<L: Language>(node: &L, k: usize) -> bool {
     for i in 0..k {
         if child_class(node, i) == child_class(node, k) {
@@ -293,7 +300,7 @@ fn is_first_child<L: Language>(node: &L, k: usize) -> bool {
     true
 }
 
-// One node more stands over the class of each child of a node, once where two have it.
+// Counts one more e-node over the class of each child of an e-node, once if two children have it.
 fn count_parent<L: Language>(sizes: &mut Sizes, node: &L) {
     for k in 0..node.applied_id_count() {
         if is_first_child(node, k) {
@@ -302,7 +309,7 @@ fn count_parent<L: Language>(sizes: &mut Sizes, node: &L) {
     }
 }
 
-// The node that is filed of a class stands no more over the class of each child.
+// Stops counting the e-node that is filed for a class over the class of each child.
 fn uncount_parent<L: Language>(sizes: &mut Sizes, nodes: &NodeIndex<L>, class: usize) {
     let Some((key, _)) = nodes.node(class) else {
         return;

@@ -1,4 +1,4 @@
-//! The filed nodes, by their keys and by the classes that they come from.
+//! The filed e-nodes, by their shapes and by their source classes.
 ghost use Rattle.std.specs.Prelude.{◌≡◌, ◌<◌, ◌++◌, ◌∷◌, [], length, None, Some, set, option_map};
 ghost use Rattle.std.specs.List.{count_by};
 ghost use Rattle.std.specs.Prelude.{is_some, IfSome, IfNone, IfErr, OnOk, OnErr};
@@ -12,8 +12,10 @@ use slotted_slots::{Error, SlotMap};
 use std::alloc::Global;
 use std::marker::Model;
 
-/// For each class the node that is filed of it, if there is one: a key, which is filed once, and the slot of the class for each number
-/// of the key. It is found by its key and by its class.
+/// For each class the e-node that is filed for it, if there is one.
+///
+/// The e-node is kept as its shape, with the slot of the class for each number of the shape. No shape is filed twice.
+/// An e-node is found by its shape and by its class.
 #[derive(Drop)]
 pub struct NodeIndex<L: Language> {
     keys: KeyIndex<L>,
@@ -30,12 +32,12 @@ impl<L: Language> Model for NodeIndex<L> {
 
     ghost view = { λ s. joined s.keys s.names };
 
-    // After want of memory there may be maps of classes that are not there.
+    // After memory was refused, there may be maps of classes that are not there.
     ghost invariant = { λ s. length s.keys ≤ length s.names };
 }
 
 impl<L: Language> NodeIndex<L> {
-    /// No class.
+    /// Returns the index without classes.
     pub fn new(alloc: Global) -> Self
         ensures { result ≡ [] }
     {
@@ -45,20 +47,21 @@ impl<L: Language> NodeIndex<L> {
         }
     }
 
+    /// Returns the number of classes.
     pub fn class_count(&self) -> usize
         ensures { result ≡ length self.now }
     {
         self.keys.class_count()
     }
 
-    /// The number of filed nodes.
+    /// Returns the number of filed e-nodes.
     pub fn len(&self) -> usize
         ensures { result ≡ count_by is_some self.now }
     {
         self.keys.len()
     }
 
-    /// One class more, of which nothing is filed.
+    /// Adds a class, for which nothing is filed.
     pub fn add_class(&mut self, alloc: Global) -> Result<(), Error>
         ensures ok { OnOk result (self.new ≡ self.old ++ None ∷ []) }
         ensures unchanged { OnErr result (self.new ≡ self.old) }
@@ -69,7 +72,7 @@ impl<L: Language> NodeIndex<L> {
         Ok(())
     }
 
-    /// What is filed of a class: a key, and the slot of the class for each number of it.
+    /// Returns what is filed for a class: a shape, and the slot of the class for each number of it.
     pub fn node(&self, class: usize) -> Option<(&L, &SlotMap)>
         ensures { option_map (λ p. (L.form p.0.now, p.1.now)) result ≡ filed_of self.now class }
     {
@@ -79,7 +82,7 @@ impl<L: Language> NodeIndex<L> {
         }
     }
 
-    /// The class of which a key is filed. No key is filed of two classes.
+    /// Returns the class for which a shape is filed. No shape is filed for two classes.
     pub fn source_of(&self, key: &L) -> Option<usize>
         ensures some { IfSome result (λ i. HasKey self.now i (L.form key.now)) }
         ensures none { IfNone result (IsNewKey self.now (L.form key.now)) }
@@ -88,7 +91,7 @@ impl<L: Language> NodeIndex<L> {
         self.keys.source_of(key)
     }
 
-    /// Files a key of a class that has none.
+    /// Files a shape for a class that has none.
     pub fn file(&mut self, class: usize, key: L, names: SlotMap) -> Result<(), Error>
         requires within { class < length self.old }
         requires free { filed_of self.old class ≡ None }
@@ -102,7 +105,7 @@ impl<L: Language> NodeIndex<L> {
         Ok(())
     }
 
-    /// What is filed of a class is taken out.
+    /// Removes what is filed for a class.
     pub fn unfile(&mut self, class: usize)
         requires { class < length self.old }
         ensures { self.new ≡ set self.old class None }
@@ -110,7 +113,7 @@ impl<L: Language> NodeIndex<L> {
         self.keys.unfile(class);
     }
 
-    /// Files a key of a class in the place of the one that it had. After want of memory nothing is filed of the class.
+    /// Files a shape for a class in place of the one that it had. If memory is refused, nothing is filed for the class.
     pub fn refile(&mut self, class: usize, key: L, names: SlotMap) -> Result<(), Error>
         requires within { class < length self.old }
         requires new_key { IsNewToOthers self.old class (L.form key) }

@@ -1,4 +1,4 @@
-//! The keys that are filed, and the classes that they are filed of.
+//! The shapes that are filed, and the classes that they are filed for.
 ghost use Rattle.std.specs.Prelude.{◌≡◌, ◌<◌, ◌++◌, ◌∷◌, [], length, None, Some, set, option_map, slice_get};
 ghost use Rattle.std.specs.List.{count_by};
 ghost use Rattle.std.specs.Prelude.{is_some, swap_remove, IfSome, IfNone, IfOk, IfErr, OnOk, OnErr};
@@ -11,7 +11,8 @@ use slotted_slots::Error;
 use std::alloc::Global;
 use std::marker::Model;
 
-/// For each class the key that is filed of it, if there is one, which is filed once. It is found by itself and by its class.
+/// For each class the shape that is filed for it, if there is one. A shape is filed once, and is found by itself and
+/// by its class.
 #[derive(Drop)]
 pub struct KeyIndex<L: Language> {
     nodes: IndexMap<L, u32>,
@@ -32,7 +33,7 @@ impl<L: Language> Model for KeyIndex<L> {
 }
 
 impl<L: Language> KeyIndex<L> {
-    /// No class.
+    /// Returns the index without classes.
     pub fn new(alloc: Global) -> Self
         ensures { result ≡ [] }
     {
@@ -42,20 +43,21 @@ impl<L: Language> KeyIndex<L> {
         }
     }
 
+    /// Returns the number of classes.
     pub fn class_count(&self) -> usize
         ensures { result ≡ length self.now }
     {
         self.places.len()
     }
 
-    /// The number of filed keys.
+    /// Returns the number of filed shapes.
     pub fn len(&self) -> usize
         ensures { result ≡ count_by is_some self.now }
     {
         self.nodes.len()
     }
 
-    /// One class more, of which nothing is filed.
+    /// Adds a class, for which nothing is filed.
     pub fn add_class(&mut self) -> Result<(), Error>
         ensures ok { OnOk result (self.new ≡ self.old ++ None ∷ []) }
         ensures unchanged { OnErr result (self.new ≡ self.old) }
@@ -65,7 +67,7 @@ impl<L: Language> KeyIndex<L> {
         Ok(())
     }
 
-    /// The key that is filed of a class.
+    /// Returns the shape that is filed for a class.
     pub fn key(&self, class: usize) -> Option<&L>
         ensures { option_map (λ k. (L.form k.now, [])) result ≡ filed_of self.now class }
     {
@@ -74,7 +76,7 @@ impl<L: Language> KeyIndex<L> {
         Some(key)
     }
 
-    /// The class of which a key is filed. No key is filed of two classes.
+    /// Returns the class for which a shape is filed. No shape is filed for two classes.
     pub fn source_of(&self, key: &L) -> Option<usize>
         ensures some { IfSome result (λ i. HasKey self.now i (L.form key.now)) }
         ensures none { IfNone result (IsNewKey self.now (L.form key.now)) }
@@ -86,7 +88,7 @@ impl<L: Language> KeyIndex<L> {
         }
     }
 
-    /// Files a key of a class that has none.
+    /// Files a shape for a class that has none.
     pub fn file(&mut self, class: usize, key: L) -> Result<(), Error>
         requires within { class < length self.old }
         requires free { filed_of self.old class ≡ None }
@@ -102,7 +104,7 @@ impl<L: Language> KeyIndex<L> {
         Ok(())
     }
 
-    /// What is filed of a class is taken out. The last node moves into its place.
+    /// Removes the shape that is filed for a class. The last shape moves into its place.
     pub fn unfile(&mut self, class: usize)
         requires { class < length self.old }
         ensures { self.new ≡ set self.old class None }
@@ -121,7 +123,7 @@ impl<L: Language> KeyIndex<L> {
     }
 }
 
-/// A class or a place as it is kept. Memory for more classes than have such a number is not given.
+/// Returns the number of a class or a place as it is kept. `OutOfMemory` if the number is too large for that.
 pub(crate) fn as_small(number: usize) -> Result<u32, Error>
     ensures ok { IfOk result (λ n. n ≡ number) }
     ensures err { IfErr result IsOutOfMemory }
@@ -132,7 +134,7 @@ pub(crate) fn as_small(number: usize) -> Result<u32, Error>
     }
 }
 
-// Takes out the node at a place. The last one moves there.
+// Removes the shape at a place. The last one moves there.
 fn remove_at<L: Language>(nodes: &mut IndexMap<L, u32>, place: usize)
     requires { place < length (rows_of L.form nodes.old) }
     ensures { (d : FiledRow) → rows_of L.form nodes.new ≡ swap_remove (rows_of L.form nodes.old) place d }
@@ -140,7 +142,7 @@ fn remove_at<L: Language>(nodes: &mut IndexMap<L, u32>, place: usize)
     nodes.swap_remove_index(place);
 }
 
-// The class of the node at a place, if there is one.
+// Returns the class of the shape at a place, if there is one.
 fn source_at<L: Language>(nodes: &IndexMap<L, u32>, place: usize) -> Option<usize>
     ensures { result ≡ option_map (λ r. r.1.0) (slice_get (rows_of L.form nodes.now) place) }
 {

@@ -1,6 +1,11 @@
-//! What a graph keeps of its filed nodes: which node is filed of each class, which classes wait to be filed anew, which sources stand over
-//! a class, and how large each class is. Beside it nodes in normal form: each child of a node is what it finds, and the node is known by its
-//! shape then. Nothing of that writes a graph.
+//! The hashcons of a graph, and canonical e-nodes.
+//!
+//! The hashcons holds the e-node that is *filed* for each class: its shape, when it was last made canonical. The class
+//! whose syntactic e-node a filed one was made of is its *source*. A class is *pending* if its e-node waits to be
+//! filed anew.
+//!
+//! The usages say which sources stand over a class, and the sizes how large each class is. In a canonical e-node each
+//! child is what `find` maps it to. Making one writes nothing.
 #![tactic(auto)]
 
 pub mod class_names;

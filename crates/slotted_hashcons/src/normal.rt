@@ -1,4 +1,4 @@
-//! A node with what its children find in their places.
+//! Canonical e-nodes: e-nodes over what `find` maps their children to.
 ghost use Rattle.std.specs.Prelude.{◌≡◌, ◌≤◌, ◌↔◌, length, IfOk, IfErr, IsTrue};
 ghost use Rattle.slotted_slots.specs.Error.{IsOutOfMemory};
 ghost use Rattle.slotted_languages.specs.NodeTerm.{nameless_node};
@@ -15,7 +15,8 @@ use slotted_languages::Language;
 use slotted_slots::{AppliedId, Error};
 use std::alloc::Global;
 
-/// Whether an id is what it finds: whether its class lives and has as many slots left as it has names. It takes no memory.
+/// Returns whether an id is canonical: its class is live, and has as many slots left as the id has names. Takes no
+/// memory.
 pub fn is_found<L: Language>(store: &Store<L>, a: &AppliedId) -> bool
     requires good { HasFinds store.now }
     requires findable { IsFindable store.now (to_applied a.now) }
@@ -25,7 +26,9 @@ pub fn is_found<L: Language>(store: &Store<L>, a: &AppliedId) -> bool
     entry.id.0 == a.id.0 && entry.m.len() == a.m.len()
 }
 
-/// A copy of the node in normal form: each child is what it finds, so it is live, and has names for just the slots of its class.
+/// Returns the canonical e-node of an e-node: each child is what `find` maps it to.
+///
+/// So each child is live, and has names for just the slots of its class.
 pub fn normal_of<L: Language>(store: &Store<L>, alloc: Global, node: &L) -> Result<L, Error>
     requires good { HasFinds store.now }
     requires children { HasFindableChildren store.now (L.form node.now) }

@@ -1,4 +1,4 @@
-//! The equation of two classes whose nodes have one shape in normal form.
+//! The equation of two classes whose canonical e-nodes have one shape.
 ghost use Rattle.std.specs.Prelude.{◌≡◌, ◌<◌, length, IfOk, IfErr, IsErrOf};
 ghost use Rattle.slotted_theory.specs.FiniteMaps.{IsInjectiveMap};
 ghost use Rattle.slotted_slots.specs.Error.{IsOutOfMemory, IsShortage};
@@ -16,7 +16,7 @@ use slotted_proofs::Equation;
 use slotted_slots::{AppliedId, Error, Id, SlotMap};
 use std::alloc::Global;
 
-// The class with each of its canonical slots as its name.
+// Returns the class with each of its canonical slots as its name.
 fn own_id<L: Language>(store: &Store<L>, alloc: Global, class: usize) -> Result<AppliedId, Error>
     requires rows { store.now.rows ≡ rows_from 0 store.now.classes }
     requires within { class < length store.now.classes }
@@ -30,7 +30,7 @@ fn own_id<L: Language>(store: &Store<L>, alloc: Global, class: usize) -> Result<
     })
 }
 
-// For each slot of the right id that has a number the slot of the left class with the number.
+// Returns the map from slots of the right id that have a number to the slots of the left class with that number.
 fn partners(
     alloc: Global,
     names: &SlotMap,
@@ -46,7 +46,7 @@ fn partners(
     numbered.compose_partial(alloc, names)
 }
 
-// The equation of two ids in which slots share a name where they have one number.
+// Returns the equation of two ids in which slots share a name if they have one number.
 fn numbered_equation(
     alloc: Global,
     left: &AppliedId,
@@ -67,8 +67,9 @@ fn numbered_equation(
     Ok(equation)
 }
 
-/// The equation of two classes over all their canonical slots, in which two slots share a name where they have one number in the
-/// shape that the nodes of both classes have in normal form.
+/// Returns the equation of two classes over all their canonical slots.
+///
+/// Two slots share a name if they have one number in the shape that the canonical e-nodes of both classes have.
 pub fn sides<L: Language>(
     store: &Store<L>,
     alloc: Global,

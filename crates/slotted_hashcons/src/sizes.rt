@@ -1,12 +1,15 @@
-//! How large each class is: how many filed nodes it has, and how many stand over it.
+//! The sizes of classes: how many filed e-nodes a class has, and how many stand over it.
 ghost use Rattle.std.specs.Prelude.{IfErr};
 ghost use Rattle.slotted_slots.specs.Error.{IsOutOfMemory};
 
 use slotted_slots::Error;
 use std::alloc::Global;
 
-/// For each class how many filed nodes it has, and its size: these nodes and the filed ones that have it as a child, as they are filed.
-/// No contract speaks of sizes: they decide which class a union keeps. A size that is too large for its number is the largest one.
+/// For each class the number of its filed e-nodes, and its size: these e-nodes, and the filed ones that have it as a
+/// child.
+///
+/// No clause speaks of sizes, which decide which class a union keeps. A size that is too large for its number is the
+/// largest one.
 #[derive(Drop)]
 pub struct Sizes {
     nodes: Vec<u32>,
@@ -14,7 +17,7 @@ pub struct Sizes {
 }
 
 impl Sizes {
-    /// No class.
+    /// Returns the sizes of no classes.
     pub fn new(alloc: Global) -> Self {
         Sizes {
             nodes: Vec::new(alloc),
@@ -22,7 +25,7 @@ impl Sizes {
         }
     }
 
-    /// One class more, without nodes.
+    /// Adds a class without e-nodes.
     pub fn grow(&mut self) -> Result<(), Error>
         ensures err { IfErr result IsOutOfMemory }
     {
@@ -31,34 +34,34 @@ impl Sizes {
         Ok(())
     }
 
-    /// The size of each class.
+    /// Returns the size of each class.
     pub fn all(&self) -> &[u32] {
         &self.sizes
     }
 
-    /// A class has one node more.
+    /// Counts one more e-node of a class.
     pub fn add_node(&mut self, class: usize) {
         raise(&mut self.nodes, class, 1);
         raise(&mut self.sizes, class, 1);
     }
 
-    /// A class has one node less.
+    /// Counts one e-node less of a class.
     pub fn take_node(&mut self, class: usize) {
         lower(&mut self.nodes, class, 1);
         lower(&mut self.sizes, class, 1);
     }
 
-    /// One node more stands over a class.
+    /// Counts one more e-node over a class.
     pub fn add_parent(&mut self, class: usize) {
         raise(&mut self.sizes, class, 1);
     }
 
-    /// One node less stands over a class.
+    /// Counts one e-node less over a class.
     pub fn take_parent(&mut self, class: usize) {
         lower(&mut self.sizes, class, 1);
     }
 
-    /// All nodes of a class are in another one from now on.
+    /// Counts all e-nodes of a class as those of another one from now on.
     pub fn move_nodes(&mut self, from: usize, to: usize) {
         let moved = self.nodes.get(from).copied().unwrap_or(0);
         lower(&mut self.nodes, from, moved);
@@ -68,14 +71,14 @@ impl Sizes {
     }
 }
 
-// The number of a class grows.
+// Raises the number of a class.
 fn raise(numbers: &mut [u32], class: usize, more: u32) {
     if let Some(number) = numbers.get_mut(class) {
         *number = number.saturating_add(more);
     }
 }
 
-// The number of a class falls.
+// Lowers the number of a class.
 fn lower(numbers: &mut [u32], class: usize, less: u32) {
     if let Some(number) = numbers.get_mut(class) {
         *number = number.saturating_sub(less);

@@ -1,4 +1,4 @@
-//! For each class the sources of the filed nodes over it.
+//! Usages: for each class the sources of the filed e-nodes over it.
 ghost use Rattle.std.specs.Prelude.{◌≡◌, ◌<◌, ◌++◌, ◌∷◌, [], length, set, slice_index_or, IfErr, OnOk, OnErr};
 ghost use Rattle.slotted_slots.specs.Error.{IsOutOfMemory};
 
@@ -7,8 +7,10 @@ use slotted_slots::Error;
 use std::alloc::Global;
 use std::marker::Model;
 
-/// For each class a list of the sources of nodes that have or had it as a child. A source stays there when it is over the class no more,
-/// and can stand there twice: whoever reads the list looks at the nodes.
+/// For each class a list of the sources of e-nodes that have or had it as a child.
+///
+/// A source stays in the list when its e-node is over the class no more, and it may stand there twice. So a reader of
+/// the list looks at the e-nodes.
 #[derive(Drop)]
 pub struct Usages {
     sources: Vec<Vec<u32>>,
@@ -24,7 +26,7 @@ impl Model for Usages {
 }
 
 impl Usages {
-    /// No class.
+    /// Returns the usages of no classes.
     pub fn new(alloc: Global) -> Self
         ensures { result ≡ [] }
     {
@@ -33,7 +35,7 @@ impl Usages {
         }
     }
 
-    /// One class more, which no node is over.
+    /// Adds a class, which no e-node is over.
     pub fn add_class(&mut self, alloc: Global) -> Result<(), Error>
         ensures ok { OnOk result (self.new ≡ self.old ++ [] ∷ []) }
         ensures unchanged { OnErr result (self.new ≡ self.old) }
@@ -43,7 +45,7 @@ impl Usages {
         Ok(())
     }
 
-    /// A source stands over a class.
+    /// Adds a source over a class.
     pub fn add(&mut self, class: usize, source: usize) -> Result<(), Error>
         requires { class < length self.old }
         ensures ok { OnOk result (self.new ≡ set self.old class (slice_index_or self.old class [] ++ source ∷ [])) }
@@ -55,7 +57,7 @@ impl Usages {
         Ok(())
     }
 
-    /// The sources over a class.
+    /// Returns the sources over a class.
     pub fn of(&self, class: usize) -> &[u32]
         requires { class < length self.now }
         ensures { result.now ≡ slice_index_or self.now class [] }

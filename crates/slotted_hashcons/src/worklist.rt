@@ -1,4 +1,4 @@
-//! Classes that wait, in the order in which they came, each once.
+//! The pending list: classes that wait for their turn, in the order in which they came, each once.
 ghost use Rattle.std.specs.Prelude.{◌≡◌, ◌<◌, ◌↔◌, [], length, IsTrue, IfSome, IfNone, IfErr, OnOk, OnErr, Contains, slice_get};
 ghost use Rattle.slotted_model.specs.Correspondence.{AllDifferent};
 ghost use Rattle.slotted_slots.specs.Error.{IsOutOfMemory};
@@ -9,7 +9,7 @@ use std::alloc::Global;
 use std::collections::VecDeque;
 use std::marker::Model;
 
-/// Classes that wait for their turn, first in, first out, each once. A flag for each class tells whether it waits.
+/// The pending classes, first in, first out, each once. A flag for each class says whether it is pending.
 #[derive(Drop)]
 pub struct Worklist {
     queue: VecDeque<usize>,
@@ -30,7 +30,7 @@ impl Model for Worklist {
 }
 
 impl Worklist {
-    /// No class, and none that waits.
+    /// Returns the list without classes.
     pub fn new(alloc: Global) -> Self
         ensures { result ≡ nobody }
     {
@@ -40,14 +40,14 @@ impl Worklist {
         }
     }
 
-    /// How many classes there are.
+    /// Returns the number of classes, pending or not.
     pub fn count(&self) -> usize
         ensures { result ≡ self.now.count }
     {
         self.waits.len()
     }
 
-    /// One class more, which does not wait.
+    /// Adds a class that is not pending.
     pub fn add_class(&mut self) -> Result<(), Error>
         ensures ok { OnOk result (self.new ≡ with_one_more self.old) }
         ensures unchanged { OnErr result (self.new ≡ self.old) }
@@ -57,7 +57,7 @@ impl Worklist {
         Ok(())
     }
 
-    /// Whether a class waits. It takes no memory.
+    /// Returns whether a class is pending. Takes no memory.
     pub fn waits(&self, class: usize) -> bool
         ensures { IsTrue result ↔ Contains self.now.queue class }
     {
@@ -67,7 +67,7 @@ impl Worklist {
         self.waits[class]
     }
 
-    /// The class whose turn is next. Each waits once.
+    /// Returns the class whose turn is next. Each is pending once.
     pub fn front(&self) -> Option<usize>
         ensures front { result ≡ slice_get self.now.queue 0 }
         ensures once { AllDifferent self.now.queue }
@@ -75,21 +75,21 @@ impl Worklist {
         self.queue.front().copied()
     }
 
-    /// The class at a place among those that wait.
+    /// Returns the class at a place among the pending ones.
     pub fn get(&self, k: usize) -> Option<usize>
         ensures { result ≡ slice_get self.now.queue k }
     {
         self.queue.get(k).copied()
     }
 
-    /// How many classes wait.
+    /// Returns the number of pending classes.
     pub fn len(&self) -> usize
         ensures { result ≡ length self.now.queue }
     {
         self.queue.len()
     }
 
-    /// A class waits from now on: at the end, if it did not wait.
+    /// Makes a class pending. A class that was not pending goes to the end.
     pub fn push(&mut self, class: usize) -> Result<(), Error>
         requires { class < self.old.count }
         ensures ok { OnOk result (Pushes self.old self.new class) }
@@ -104,7 +104,7 @@ impl Worklist {
         Ok(())
     }
 
-    /// The class whose turn is next waits no more.
+    /// Removes the class whose turn is next, and returns it.
     pub fn pop(&mut self) -> Option<usize>
         ensures some { IfSome result (Pops self.old self.new) }
         ensures none { IfNone result ((self.old.queue ≡ []) × (self.new ≡ self.old)) }

@@ -1,4 +1,4 @@
-//! Fresh slots in the place of a node's names.
+//! Fresh slots in place of a node's names.
 ghost use Rattle.std.specs.Prelude.{◌≡◌, [], ◌∷◌, IfOk, IfErr, OnOk, IsErrOf};
 ghost use Rattle.slotted_slots.specs.Ascending.{IsAscending};
 ghost use Rattle.slotted_slots.specs.Error.{IsOutOfMemory, IsShortage};
@@ -14,7 +14,7 @@ use crate::renaming::fresh_apart;
 use slotted_slots::{Error, Slot, SlotMap, SlotTable, SmallHashSet};
 use std::alloc::Global;
 
-// The names of the node that are in the set.
+// Returns the names of the node that are in the set.
 pub(crate) fn names_within<L: Language>(
     node: &L,
     alloc: Global,
@@ -34,7 +34,7 @@ pub(crate) fn names_within<L: Language>(
     Ok(within)
 }
 
-// The names of the node that are not in the set.
+// Returns the names of the node that are not in the set.
 pub(crate) fn names_outside<L: Language>(
     node: &L,
     alloc: Global,
@@ -54,7 +54,7 @@ pub(crate) fn names_outside<L: Language>(
     Ok(outside)
 }
 
-// Gives a name that the map lacks a fresh slot.
+// Gives a fresh slot to a name that the map lacks.
 fn fill_name<L: Language>(
     node: &L,
     name: Slot,
@@ -82,7 +82,7 @@ fn fill_name<L: Language>(
     Ok(())
 }
 
-// Gives each of some names that the map lacks a fresh slot.
+// Gives a fresh slot to each of some names that the map lacks.
 pub(crate) fn fill_names<L: Language>(
     node: &L,
     wanted: &SmallHashSet<Slot>,
@@ -106,7 +106,7 @@ pub(crate) fn fill_names<L: Language>(
     Ok(())
 }
 
-// The node with the values of a map in the place of its keys.
+// Returns the node with the values of a map in place of its keys.
 fn replace_names<L: Language>(node: &L, alloc: Global, names: &SlotMap) -> Result<L, Error>
     requires small { IsSmall (L.form node.now) }
     ensures ok { IfOk result (λ r. L.form r ≡ with_replaced names.now (L.form node.now)) }
@@ -120,7 +120,7 @@ fn replace_names<L: Language>(node: &L, alloc: Global, names: &SlotMap) -> Resul
     Ok(answer)
 }
 
-// The node with a fresh slot for each of some names of its own.
+// Returns the node with a fresh slot for each of some names of its own.
 pub(crate) fn refresh_names<L: Language>(
     node: &L,
     alloc: Global,

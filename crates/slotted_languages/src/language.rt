@@ -1,4 +1,4 @@
-// Nodes of a language.
+//! Languages: the calls on whole nodes, which make shapes, rename and refresh nodes, and list names and children.
 ghost use Rattle.std.specs.Prelude.{◌≡◌, ◌↔◌, ◌⊎◌, ℕ, [], map, IsTrue, IfOk, IfErr, OnErr, IsErrOf};
 ghost use Rattle.slotted_slots.specs.Ascending.{IsAscending};
 ghost use Rattle.slotted_slots.specs.Error.{IsOutOfMemory, IsShortage};
@@ -23,21 +23,25 @@ use slotted_nodes::LanguageChildren;
 use slotted_slots::{AppliedId, Error, Id, Slot, SlotMap, SlotTable, SmallHashSet};
 use std::alloc::Global;
 
-/// The type of nodes of a language.
+/// The type of the nodes of a language.
 pub trait Language: LanguageChildren + Ord {
-    /// The number of the variant.
+    /// Returns the number of the variant.
     fn operator(&self) -> u32
         ensures { result ≡ (Self.form self.now).operator };
 
-    /// The shape of this node, and the free name of each number: names are numbered from `$0` in the order in which they
-    /// first stand, and a binder always gets a new number, which holds in its scope alone. Two nodes have equal shapes
-    /// exactly where a bijection of names takes the one to the other, up to bound names (`shapes_decide`).
+    /// Returns the shape of this node, and the map from numbers to free names.
+    ///
+    /// Names are numbered from `$0` in the order in which they first stand. A binder always gets a new number, which
+    /// holds in its scope alone.
+    ///
+    /// Two nodes have equal shapes if and only if a bijection of names takes the one to the other, up to bound names
+    /// (`shapes_decide`).
     final fn weak_shape(&self, alloc: Global) -> Result<(Self, SlotMap), Error>
     where
         Self: Sized,
         ensures shape { IfOk result (λ r. (Self.form r.0, r.1) ≡ shape (Self.form self.now)) }
 
-        // The map has the free names, each once, and put back they give the node, up to bound names.
+        // The map has each free name once. The shape with these names put back is this node, up to bound names.
         ensures keys { IfOk result (λ r. IsAscending (keys r.1)) }
         ensures names { IfOk result (λ r. values r.1 ≡ firsts (free_names_of (Self.form self.now))) }
         ensures back { IfOk result (λ r. GivesBack r.1 (Self.form r.0) (Self.form self.now)) }
@@ -53,7 +57,8 @@ pub trait Language: LanguageChildren + Ord {
         Ok((node, free))
     }
 
-    /// Puts the shape in the place of this node, and answers the free name of each number. A node that is refused stays.
+    /// Replaces this node by its shape, and returns the map from numbers to free names. On an error the node stays as
+    /// it is.
     final fn weak_shape_inplace(&mut self, alloc: Global) -> Result<SlotMap, Error>
     where
         Self: Sized,
@@ -70,7 +75,7 @@ pub trait Language: LanguageChildren + Ord {
         Ok(free)
     }
 
-    /// Whether `m` knows each free slot, as `apply_slotmap` needs it.
+    /// Returns whether `m` has each free slot as a key, as `apply_slotmap` requires.
     final fn is_known_by(&self, alloc: Global, m: &SlotMap) -> Result<bool, Error>
     where
         Self: Sized,
@@ -83,8 +88,9 @@ pub trait Language: LanguageChildren + Ord {
         Ok(known)
     }
 
-    /// This node with its free slots renamed by `m`, which has to know each of them. Nothing is captured: a bound slot that a
-    /// new free name would meet is refreshed.
+    /// Returns this node with its free slots renamed by `m`, which must have each of them as a key.
+    ///
+    /// Nothing is captured: a bound slot that a new free name would meet is refreshed.
     final fn apply_slotmap(
         &self,
         alloc: Global,
@@ -96,19 +102,19 @@ pub trait Language: LanguageChildren + Ord {
         requires { KnowsAll m.now (free_names_of (Self.form self.now)) }
         ensures renamed { IfOk result (λ r. IsRenamedBy m.now (Self.form self.now) (Self.form r)) }
 
-        // A bound slot that is no free one of the answer stays.
+        // A bound slot stays if it is not free in the result.
         ensures stays { IfOk result (λ r. BindersStay (Self.form self.now) (Self.form r)) }
 
-        // No free name of the answer is that of a binder, wherever that stands.
+        // No free name of the result is the name of a binder, wherever the binder stands.
         ensures checked { IfOk result (λ r. NoneFreeAndBound (Self.form r)) }
 
-        // A name that is put in is known to the table, or a value of the map.
+        // A new name is known to the table, or a value of the map.
         ensures known { IfOk result (λ r. PutsIn table.new (values m.now) (Self.form self.now) (Self.form r)) }
 
-        // The table knows nothing new but what stands in the answer, or stood in the node.
+        // A slot that the table knows in addition stands in the result, or stood in the node.
         ensures taken { IfOk result (λ r. Takes table.old table.new (StandsIn (Self.form self.now) (Self.form r))) }
 
-        // Slots run out for a node with too many places, or where the table has no fresh slot left.
+        // The error is `OutOfSlots` if the node has too many places, or if the table has too few fresh slots left.
         ensures large { IsTooLarge (Self.form self.now) → IsErrOf result Error.OutOfSlots }
         ensures count { TakesPerBinder m.now (Self.form self.now) table.old table.new }
         ensures full { IsErrOf result Error.OutOfSlots → LacksPerBinder m.now (Self.form self.now) table.old table.new }
@@ -122,7 +128,8 @@ pub trait Language: LanguageChildren + Ord {
         rename(self, numbered, alloc, &names, &avoid, table)
     }
 
-    /// This node with its free slots renamed by `m`, as `apply_slotmap` answers it: `m` has to know each of them.
+    /// Returns this node with its free slots renamed by `m`, as `apply_slotmap` does. `m` must have each of them as a
+    /// key.
     final fn apply_slotmap_partial(
         &self,
         alloc: Global,
@@ -134,16 +141,16 @@ pub trait Language: LanguageChildren + Ord {
         requires { KnowsAll m.now (free_names_of (Self.form self.now)) }
         ensures renamed { IfOk result (λ r. IsRenamedBy m.now (Self.form self.now) (Self.form r)) }
 
-        // A bound slot that is no free one of the answer stays.
+        // A bound slot stays if it is not free in the result.
         ensures stays { IfOk result (λ r. BindersStay (Self.form self.now) (Self.form r)) }
 
-        // No free name of the answer is that of a binder, wherever that stands.
+        // No free name of the result is the name of a binder, wherever the binder stands.
         ensures checked { IfOk result (λ r. NoneFreeAndBound (Self.form r)) }
 
-        // A name that is put in is known to the table, or a value of the map.
+        // A new name is known to the table, or a value of the map.
         ensures known { IfOk result (λ r. PutsIn table.new (values m.now) (Self.form self.now) (Self.form r)) }
 
-        // The table knows nothing new but what stands in the answer, or stood in the node.
+        // A slot that the table knows in addition stands in the result, or stood in the node.
         ensures taken { IfOk result (λ r. Takes table.old table.new (StandsIn (Self.form self.now) (Self.form r))) }
         ensures large { IsTooLarge (Self.form self.now) → IsErrOf result Error.OutOfSlots }
         ensures count { TakesPerBinder m.now (Self.form self.now) table.old table.new }
@@ -155,7 +162,8 @@ pub trait Language: LanguageChildren + Ord {
         self.apply_slotmap(alloc, m, table)
     }
 
-    /// This node with its free slots renamed by `m`, and with one fresh slot in the place of each free slot that `m` lacks.
+    /// Returns this node with its free slots renamed by `m`, and one fresh slot in place of each free slot that `m`
+    /// lacks.
     final fn apply_slotmap_fresh(
         &self,
         alloc: Global,
@@ -166,16 +174,16 @@ pub trait Language: LanguageChildren + Ord {
         Self: Sized,
         ensures renamed { IfOk result (λ r. IsRenamedFresh table.old m.now (Self.form self.now) (Self.form r)) }
 
-        // A bound slot that is no free one of the answer stays.
+        // A bound slot stays if it is not free in the result.
         ensures stays { IfOk result (λ r. BindersStay (Self.form self.now) (Self.form r)) }
 
-        // No free name of the answer is that of a binder, wherever that stands.
+        // No free name of the result is the name of a binder, wherever the binder stands.
         ensures checked { IfOk result (λ r. NoneFreeAndBound (Self.form r)) }
 
-        // A name that is put in is known to the table, or a value of the map.
+        // A new name is known to the table, or a value of the map.
         ensures known { IfOk result (λ r. PutsIn table.new (values m.now) (Self.form self.now) (Self.form r)) }
 
-        // The table knows nothing new but what stands in the answer, in the map, or stood in the node.
+        // A slot that the table knows in addition stands in the result or in the map, or stood in the node.
         ensures taken { IfOk result (λ r. Takes table.old table.new (IsFrom m.now (Self.form self.now) (Self.form r))) }
         ensures large { IsTooLarge (Self.form self.now) → IsErrOf result Error.OutOfSlots }
         ensures count { TakesPerPlace m.now (Self.form self.now) table.old table.new }
@@ -190,8 +198,9 @@ pub trait Language: LanguageChildren + Ord {
         self.apply_slotmap(alloc, &names, table)
     }
 
-    /// This node with a fresh slot for each binder, in the place of those that it binds too. It is the same node, up to bound
-    /// names.
+    /// Returns this node with a fresh slot for each binder, which also replaces the slots that it binds.
+    ///
+    /// The result equals this node up to bound names.
     final fn refresh_private(&self, alloc: Global, table: &mut SlotTable) -> Result<Self, Error>
     where
         Self: Sized,
@@ -201,13 +210,13 @@ pub trait Language: LanguageChildren + Ord {
         ensures apart { IfOk result (λ r. BindersDiffer (Self.form self.now) (Self.form r)) }
         ensures differ { IfOk result (λ r. BindersMeetAsBefore (Self.form self.now) (Self.form r)) }
 
-        // No free name of the answer is that of a binder, wherever that stands.
+        // No free name of the result is the name of a binder, wherever the binder stands.
         ensures checked { IfOk result (λ r. NoneFreeAndBound (Self.form r)) }
 
-        // A name that is put in is known to the table.
+        // A new name is known to the table.
         ensures known { IfOk result (λ r. PutsIn table.new [] (Self.form self.now) (Self.form r)) }
 
-        // The table knows nothing new but what stands in the answer, or stood in the node.
+        // A slot that the table knows in addition stands in the result, or stood in the node.
         ensures taken { IfOk result (λ r. Takes table.old table.new (StandsIn (Self.form self.now) (Self.form r))) }
         ensures large { IsTooLarge (Self.form self.now) → IsErrOf result Error.OutOfSlots }
         ensures count { TakesPerBinder [] (Self.form self.now) table.old table.new }
@@ -222,7 +231,7 @@ pub trait Language: LanguageChildren + Ord {
         rename(self, numbered, alloc, &free, &avoid, table)
     }
 
-    /// This node with one fresh slot in the place of each slot of the set, where it is free and where it is bound.
+    /// Returns this node with one fresh slot in place of each slot of the set, whether that is free or bound.
     final fn refresh_slots(
         &self,
         alloc: Global,
@@ -233,13 +242,13 @@ pub trait Language: LanguageChildren + Ord {
         Self: Sized,
         ensures refreshed { IfOk result (λ r. IsRefreshedAt table.old set.now (Self.form self.now) (Self.form r)) }
 
-        // Where no free name is that of a binder, that stays so.
+        // If no free name is the name of a binder, that stays so.
         ensures checked { IfOk result (λ r. NoneFreeAndBound (Self.form self.now) → NoneFreeAndBound (Self.form r)) }
 
-        // A name that is put in is known to the table.
+        // A new name is known to the table.
         ensures known { IfOk result (λ r. PutsIn table.new [] (Self.form self.now) (Self.form r)) }
 
-        // The table knows nothing new but what stands in the answer, or stood in the node.
+        // A slot that the table knows in addition stands in the result, or stood in the node.
         ensures taken { IfOk result (λ r. Takes table.old table.new (StandsIn (Self.form self.now) (Self.form r))) }
         ensures large { IsTooLarge (Self.form self.now) → IsErrOf result Error.OutOfSlots }
         ensures count { TakesPerPlace [] (Self.form self.now) table.old table.new }
@@ -253,7 +262,7 @@ pub trait Language: LanguageChildren + Ord {
         refresh_names(self, alloc, &within, table)
     }
 
-    /// This node with one fresh slot in the place of each slot that is not in `public`, where it is free and where it is
+    /// Returns this node with one fresh slot in place of each slot that is not in `public`, whether that is free or
     /// bound.
     final fn refresh_internals(
         &self,
@@ -265,13 +274,13 @@ pub trait Language: LanguageChildren + Ord {
         Self: Sized,
         ensures refreshed { IfOk result (λ r. IsRefreshedBut table.old public.now (Self.form self.now) (Self.form r)) }
 
-        // Where no free name is that of a binder, that stays so.
+        // If no free name is the name of a binder, that stays so.
         ensures checked { IfOk result (λ r. NoneFreeAndBound (Self.form self.now) → NoneFreeAndBound (Self.form r)) }
 
-        // A name that is put in is known to the table.
+        // A new name is known to the table.
         ensures known { IfOk result (λ r. PutsIn table.new [] (Self.form self.now) (Self.form r)) }
 
-        // The table knows nothing new but what stands in the answer, or stood in the node.
+        // A slot that the table knows in addition stands in the result, or stood in the node.
         ensures taken { IfOk result (λ r. Takes table.old table.new (StandsIn (Self.form self.now) (Self.form r))) }
         ensures large { IsTooLarge (Self.form self.now) → IsErrOf result Error.OutOfSlots }
         ensures count { TakesPerPlace [] (Self.form self.now) table.old table.new }
@@ -285,7 +294,7 @@ pub trait Language: LanguageChildren + Ord {
         refresh_names(self, alloc, &outside, table)
     }
 
-    /// The free slots.
+    /// Returns the set of the free slots.
     final fn slots(&self, alloc: Global) -> Result<SmallHashSet<Slot>, Error>
     where
         Self: Sized,
@@ -297,7 +306,7 @@ pub trait Language: LanguageChildren + Ord {
         Ok(free.values(alloc)?)
     }
 
-    /// The names at all places from the left.
+    /// Returns the names at all places, from the left.
     final fn all_slot_occurrences(&self, alloc: Global) -> Result<Vec<Slot>, Error>
     where
         Self: Sized,
@@ -309,7 +318,7 @@ pub trait Language: LanguageChildren + Ord {
         all_names(self, alloc)
     }
 
-    /// The names at public places from the left. They are the free names, each as often as it stands.
+    /// Returns the names at public places, from the left. These are the free names, each as often as it stands.
     final fn public_slot_occurrences(&self, alloc: Global) -> Result<Vec<Slot>, Error>
     where
         Self: Sized,
@@ -322,7 +331,7 @@ pub trait Language: LanguageChildren + Ord {
         seen_names(self, alloc)
     }
 
-    /// The names at private places, which are those that are not public, from the left.
+    /// Returns the names at private places, from the left. A place is private if it is not public.
     final fn private_slot_occurrences(&self, alloc: Global) -> Result<Vec<Slot>, Error>
     where
         Self: Sized,
@@ -334,7 +343,7 @@ pub trait Language: LanguageChildren + Ord {
         hidden_names(self, alloc)
     }
 
-    /// The names at private places. A name can stand at public ones too.
+    /// Returns the set of the names at private places. A name may stand at public places too.
     final fn private_slots(&self, alloc: Global) -> Result<SmallHashSet<Slot>, Error>
     where
         Self: Sized,
@@ -346,7 +355,7 @@ pub trait Language: LanguageChildren + Ord {
         name_set(alloc, hidden.as_slice())
     }
 
-    /// The children from the left.
+    /// Returns the children, from the left.
     final fn applied_id_occurrences(&self, alloc: Global) -> Result<Vec<&AppliedId>, Error>
         ensures ok { IfOk result (λ v. map (λ a. child_value a.now) v.items ≡ all_children (Self.form self.now)) }
         ensures only { IfErr result IsOutOfMemory }
@@ -358,7 +367,7 @@ pub trait Language: LanguageChildren + Ord {
         Ok(all)
     }
 
-    /// The ids of the children from the left.
+    /// Returns the e-classes of the children, from the left.
     final fn ids(&self, alloc: Global) -> Result<Vec<Id>, Error>
         ensures ok { IfOk result (λ v. map (λ i. i.0) v.items ≡ map (λ p. p.0) (children (Self.form self.now).tree)) }
         ensures only { IfErr result IsOutOfMemory }
@@ -370,7 +379,7 @@ pub trait Language: LanguageChildren + Ord {
         Ok(all)
     }
 
-    /// This node with each child replaced, in turn, by what `f` answers for it. A refusal of `f` is handed on.
+    /// Returns this node with each child replaced, in turn, by what `f` returns for it. An error of `f` is returned.
     final fn map_applied_ids<F: FnMut(AppliedId) -> Result<AppliedId, Error>>(
         &self,
         alloc: Global,
@@ -391,7 +400,7 @@ pub trait Language: LanguageChildren + Ord {
         Ok(node)
     }
 
-    /// Whether no free slot is a bound one too.
+    /// Returns whether no free slot is a bound one too.
     final fn check(&self) -> bool
         requires small { IsSmall (Self.form self.now) }
         ensures { IsTrue result ↔ NoneFreeAndBound (Self.form self.now) }
@@ -405,7 +414,7 @@ pub trait Language: LanguageChildren + Ord {
     }
 }
 
-// Whether some binder of the node has the name.
+// Returns whether some binder of the node has the name.
 fn is_bound<L: Language>(node: &L, name: Slot) -> bool
     requires small { IsSmall (L.form node.now) }
     ensures { IsTrue result ↔ IsBound (L.form node.now) name }
@@ -418,7 +427,7 @@ fn is_bound<L: Language>(node: &L, name: Slot) -> bool
     false
 }
 
-// Whether the map has each value of the other as a key.
+// Returns whether the map has each value of the other map as a key.
 fn knows_values(m: &SlotMap, other: &SlotMap) -> bool
     ensures { IsTrue result ↔ KnowsAll m.now (values other.now) }
 {

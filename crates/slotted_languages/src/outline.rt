@@ -1,4 +1,4 @@
-//! Outlines of nodes: what is left of a node where each child has a single place.
+//! Outlines of nodes: nodes in which each child has a single place.
 ghost use Rattle.std.specs.Prelude.{◌≡◌, IfOk, IfErr};
 ghost use Rattle.slotted_slots.specs.Error.{IsOutOfMemory};
 ghost use Rattle.slotted_nodes.specs.Form.{IsSmall};
@@ -8,7 +8,7 @@ use crate::language::Language;
 use slotted_slots::{AppliedId, Error, Id, Slot, SlotMap};
 use std::alloc::Global;
 
-// The id 0 with a name under the one key `$0`.
+// Returns the id 0 with a name under the single key `$0`.
 fn only_child(alloc: Global, name: Slot) -> Result<AppliedId, Error>
     ensures ok { IfOk result (λ a. IsOnlyChild name a.id.0 a.m) }
     ensures err { IfErr result IsOutOfMemory }
@@ -18,8 +18,9 @@ fn only_child(alloc: Global, name: Slot) -> Result<AppliedId, Error>
     Ok(AppliedId { id: Id(0), m })
 }
 
-/// A copy of the node with another child in the place of each child, the id 0 with `name` under the one key `$0`. Its places
-/// are the node's own names, children and binders in a row.
+/// Returns the outline of a node: a copy in which each child is the id 0 with `name` under the single key `$0`.
+///
+/// The places of an outline are the node's own names, children and binders in a row.
 pub fn outline<L: Language>(alloc: Global, node: &L, name: Slot) -> Result<L, Error>
     ensures ok { IfOk result (λ n. L.form n ≡ outlined_form name (L.form node.now)) }
     ensures err { IfErr result IsOutOfMemory }
@@ -41,8 +42,10 @@ fn blank<L: Language>(node: &mut L)
     }
 }
 
-/// The outline without the node's own names: `$1` at each child, and `$0` elsewhere. Two nodes have equal skeletons exactly
-/// where they agree but for names and children.
+/// Returns the skeleton of a node: the outline without the node's own names, with `$1` at each child and `$0`
+/// elsewhere.
+///
+/// Two nodes have equal skeletons if and only if they agree up to names and children.
 pub fn skeleton<L: Language>(alloc: Global, node: &L) -> Result<L, Error>
     requires { IsSmall (outlined_form 0 (L.form node.now)) }
     ensures ok { IfOk result (λ n. L.form n ≡ skeleton_form (L.form node.now)) }

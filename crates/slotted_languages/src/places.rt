@@ -12,7 +12,7 @@ use crate::shape::PLACES;
 use slotted_slots::{Error, Slot, SmallHashSet};
 use std::alloc::Global;
 
-// Refuses a node that has too many places.
+// Returns `OutOfSlots` if a node has too many places.
 pub(crate) fn check_count<L: Language>(node: &L) -> Result<(), Error>
     ensures full { IsErrOf result Error.OutOfSlots ↔ IsTooLarge (L.form node.now) }
     ensures only { IsOkUnless result Error.OutOfSlots }
@@ -23,7 +23,7 @@ pub(crate) fn check_count<L: Language>(node: &L) -> Result<(), Error>
     Ok(())
 }
 
-// The names at all places.
+// Returns the names at all places.
 pub(crate) fn all_names<L: Language>(node: &L, alloc: Global) -> Result<Vec<Slot>, Error>
     requires small { IsSmall (L.form node.now) }
     ensures ok { IfOk result (λ v. v.items ≡ (L.form node.now).names) }
@@ -36,7 +36,7 @@ pub(crate) fn all_names<L: Language>(node: &L, alloc: Global) -> Result<Vec<Slot
     Ok(names)
 }
 
-// The names at public places.
+// Returns the names at public places.
 pub(crate) fn seen_names<L: Language>(node: &L, alloc: Global) -> Result<Vec<Slot>, Error>
     requires small { IsSmall (L.form node.now) }
     ensures ok { IfOk result (λ v. v.items ≡ public_names (L.form node.now)) }
@@ -52,7 +52,7 @@ pub(crate) fn seen_names<L: Language>(node: &L, alloc: Global) -> Result<Vec<Slo
     Ok(seen)
 }
 
-// The names at private places.
+// Returns the names at private places.
 pub(crate) fn hidden_names<L: Language>(node: &L, alloc: Global) -> Result<Vec<Slot>, Error>
     requires small { IsSmall (L.form node.now) }
     ensures ok { IfOk result (λ v. v.items ≡ private_names (L.form node.now)) }
@@ -67,7 +67,7 @@ pub(crate) fn hidden_names<L: Language>(node: &L, alloc: Global) -> Result<Vec<S
     Ok(hidden)
 }
 
-// Each of some names once.
+// Returns the set of some names.
 pub(crate) fn name_set(alloc: Global, names: &[Slot]) -> Result<SmallHashSet<Slot>, Error>
     ensures members { IfOk result (λ s. (x : ℕ) → is_among x s ≡ is_among x names.now) }
     ensures err { IfErr result IsOutOfMemory }

@@ -1,4 +1,4 @@
-//! Renaming of nodes without capture: bound slots are refreshed where a new free name would meet one.
+//! Renaming of nodes without capture: a bound slot is refreshed if a new free name would meet it.
 ghost use Rattle.std.specs.Prelude.{◌≡◌, ℕ, true, false, Some, None, IsSome, IfOk, IfErr, OnOk, IsErrOf, IsOkUnless};
 ghost use Rattle.slotted_slots.specs.Error.{IsOutOfMemory, IsShortage};
 ghost use Rattle.slotted_slots.specs.Maps.{IsInEither, is_among, keys, value_of, values};
@@ -12,7 +12,7 @@ use crate::language::Language;
 use slotted_slots::{Error, Slot, SlotMap, SlotTable, SmallHashSet};
 use std::alloc::Global;
 
-// Whether some place of the node has the name.
+// Returns whether some place of the node has the name.
 fn has_name<L: Language>(node: &L, name: Slot) -> bool
     requires small { IsSmall (L.form node.now) }
     ensures { result ≡ is_among name (L.form node.now).names }
@@ -25,7 +25,7 @@ fn has_name<L: Language>(node: &L, name: Slot) -> bool
     false
 }
 
-// Whether the name is a value of the map.
+// Returns whether the name is a value of the map.
 fn has_value(map: &SlotMap, name: Slot) -> bool
     ensures { result ≡ is_among name (values map.now) }
 {
@@ -37,7 +37,7 @@ fn has_value(map: &SlotMap, name: Slot) -> bool
     false
 }
 
-// A fresh slot that is no name of the node, no value of the map, and not to be avoided.
+// Returns a fresh slot that is no name of the node, no value of the map, and not to be avoided.
 pub(crate) fn fresh_apart<L: Language>(
     node: &L,
     names: &SlotMap,
@@ -66,7 +66,8 @@ pub(crate) fn fresh_apart<L: Language>(
     }
 }
 
-// A new name for a number that has none: that of its free name, or a binder's own name, if it is not to be avoided.
+// Returns a new name for a number that has none: its free name, or the binder's own name if that is not to be
+// avoided. Else the name is fresh.
 fn choose_name<L: Language>(
     node: &L,
     name: Slot,
@@ -98,7 +99,7 @@ fn choose_name<L: Language>(
     fresh_apart(node, names, avoid, table)
 }
 
-// The new name of a number, which it has from now on.
+// Returns the new name of a number, and enters it in the map.
 fn new_name<L: Language>(
     node: &L,
     name: Slot,
@@ -129,8 +130,8 @@ fn new_name<L: Language>(
     Ok(new)
 }
 
-// The node with new names: `free` has those of the numbers that stand for free names in its shape `numbered`, and a bound
-// slot that is among `avoid` is refreshed.
+// Returns the node with new names. `free` has those for the numbers of free names in its shape `numbered`, and a
+// bound slot that is in `avoid` is refreshed.
 pub(crate) fn rename<L: Language>(
     node: &L,
     mut numbered: L,
@@ -161,7 +162,7 @@ pub(crate) fn rename<L: Language>(
     Ok(numbered)
 }
 
-// Puts all names of the node into the set.
+// Adds all names of the node to the set.
 pub(crate) fn add_names<L: Language>(node: &L, set: &mut SmallHashSet<Slot>) -> Result<(), Error>
     requires small { IsSmall (L.form node.now) }
     ensures kept { OnOk result (KeepsAll set.old set.new) }

@@ -11,7 +11,7 @@ use slotted_slots::{Error, Slot, SlotMap};
 use smallvec::SmallVec;
 use std::alloc::Global;
 
-// A binder that was passed: its scope ends before the place `until`.
+// A binder that was passed. Its scope ends before the place `until`.
 #[derive(Clone, Copy, Default)]
 struct Binder {
     name: Slot,
@@ -19,7 +19,7 @@ struct Binder {
     number: Slot,
 }
 
-// What is known of the places so far: the binders, and the free names by name and by number.
+// The state of the numbering up to a place: the binders so far, and the free names by name and by number.
 #[derive(Drop)]
 struct Numbering {
     next: u32,
@@ -41,7 +41,7 @@ impl Numbering {
         }
     }
 
-    // The number of the innermost binder of this name whose scope has the place.
+    // Returns the number of the innermost binder of this name whose scope has the place.
     fn bound(&self, name: Slot, place: usize) -> Option<Slot>
         ensures { result ≡ bound_number self.now.binders.items name place None }
     {
@@ -54,7 +54,7 @@ impl Numbering {
         found
     }
 
-    // A binder always gets the next number.
+    // Gives a binder the next number, which it always gets, and returns that number.
     fn number_binder(&mut self, name: Slot, until: usize) -> Result<Slot, Error>
         requires few { self.old.next < slot_limit }
         requires good { IsNumbering self.old }
@@ -72,7 +72,7 @@ impl Numbering {
         Ok(number)
     }
 
-    // A free name keeps the number that it has, and gets the next one where it first stands.
+    // Returns the number of a free name, which gets the next one if it stands for the first time.
     fn number_free(&mut self, name: Slot) -> Result<Slot, Error>
         requires few { self.old.next < slot_limit }
         requires good { IsNumbering self.old }
@@ -90,7 +90,7 @@ impl Numbering {
         Ok(number)
     }
 
-    // The number of a name at a place.
+    // Returns the number of a name at a place.
     fn number(&mut self, name: Slot, place: usize, scope_end: Option<usize>) -> Result<Slot, Error>
         requires few { self.old.next < slot_limit }
         requires good { IsNumbering self.old }
@@ -108,16 +108,18 @@ impl Numbering {
     }
 }
 
-/// The laws of shapes: equal shapes exactly for nodes that a bijection of names takes to one another, and what a renaming
-/// does to the map.
+/// Proves the laws of shapes, which are the contract.
+///
+/// Two nodes have equal shapes if and only if a bijection of names takes the one to the other. The laws also say what
+/// a renaming does to the map.
 pub fn shapes_decide()
     ensures { ShapeLaws }
 {}
 
-/// As many places as a shape can number.
+/// The number of places from which on a node has no shape.
 pub const PLACES: usize = 1 << 30;
 
-// Puts its number at each place, and answers the names of the numbers that stand for free names.
+// Puts its number at each place, and returns the names of the numbers that stand for free names.
 pub(crate) fn number_places<L: Language>(node: &mut L, alloc: Global) -> Result<SlotMap, Error>
     requires small { IsSmall (L.form node.old) }
     ensures ok { IfOk result (λ m. (L.form node.new, m) ≡ shape (L.form node.old)) }

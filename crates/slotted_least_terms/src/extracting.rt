@@ -29,14 +29,14 @@ use slotted_terms::expr::RecExpr;
 use std::alloc::Global;
 use std::mem;
 
-// An e-node with the terms of its first children.
+/// An e-node with the terms of its first children.
 #[derive(Drop)]
 pub(crate) struct Frame<L: Language> {
     pub node: L,
     pub children: Vec<RecExpr<L>>,
 }
 
-// The frame whose children are being made, and the frames that wait for it, from the root on.
+/// The frame whose children are being made, and the frames that wait for it, from the root on.
 #[derive(Drop)]
 pub(crate) struct Stack<L: Language> {
     pub waiting: Vec<Frame<L>>,

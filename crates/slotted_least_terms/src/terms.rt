@@ -21,10 +21,12 @@ use slotted_lookup::finding::found_class;
 use slotted_slots::Error;
 use std::alloc::Global;
 
-/// An entry for each class that has a cost. The children of each e-node belong to classes that got their entries
-/// earlier.
+/// The e-nodes of least cost of a graph, one for each class that has a cost.
+///
+/// The children of each e-node belong to classes that got their e-nodes earlier.
 #[derive(Drop)]
 pub struct LeastTerms<L: Language, C> {
+    /// The entry of each class, by its number.
     pub entries: Vec<Option<TermEntry<L, C>>>,
     ghost ordered: { IsOrdered L.form entries.items },
 }
@@ -103,7 +105,7 @@ fn place<L: Language, C: Drop>(
     Ok(placed)
 }
 
-/// Returns the entries of a rebuilt graph. Each live class has one.
+/// Returns the e-nodes of least cost of a rebuilt graph. Each live class has one.
 pub fn least_terms<L: Language, F: CostFunction<L>>(
     store: &Store<L>,
     nodes: &Hashcons<L>,

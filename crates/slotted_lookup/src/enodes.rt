@@ -1,4 +1,4 @@
-//! The filed nodes of a class, with the names of an id.
+//! The filed e-nodes of a class, with the names of an id.
 ghost use Rattle.std.specs.Prelude.{◌≡◌, ◌<◌, length, Contains, IfOk, IfErr, IsErrOf};
 ghost use Rattle.slotted_slots.specs.Error.{IsOutOfMemory, IsShortage};
 ghost use Rattle.slotted_slots.specs.Maps.{values};
@@ -20,7 +20,8 @@ use slotted_languages::shape::PLACES;
 use slotted_slots::{AppliedId, Error, SlotMap};
 use std::alloc::Global;
 
-/// For each number whose slot stands for one of what an id finds the name that it has.
+/// Returns the map from numbers to names of an id, for the numbers whose slots stand for slots of what `find` maps
+/// the id to.
 pub fn names_beside<L: Language>(
     store: &Store<L>,
     alloc: Global,
@@ -42,8 +43,11 @@ pub fn names_beside<L: Language>(
     Ok(names)
 }
 
-/// The node that is filed of a class, with the names of an id that finds the same class, which are fresh slots. Each number that stands for
-/// none of them stays as it is, and so does each binder: so no table is needed. The class does not wait.
+/// Returns the e-node that is filed for a class, with the names of an id of the same live class, which are fresh
+/// slots.
+///
+/// A number that stands for none of them stays as it is, and so does each binder: so no table is needed. The class
+/// may not be pending.
 pub fn class_node<L: Language>(
     store: &Store<L>,
     nodes: &Hashcons<L>,
@@ -58,7 +62,7 @@ pub fn class_node<L: Language>(
     requires met { IsMet store.now source (to_applied a.now) }
     requires fresh { AreFresh (values a.now.m) }
 
-    // It has the filed key as its shape, and is looked up as what the id finds.
+    // The e-node has the filed shape, and is looked up as what `find` maps the id to.
     ensures key { IfOk result (λ n. HasKey nodes.now.filed source (shape (L.form n)).0) }
     ensures found { IfOk result (λ n. IsLookedUpAs store.now nodes.now (to_applied a.now) (L.form n)) }
     ensures names { IfOk result (λ n. HasNamesOrNumbers (values a.now.m) (L.form n)) }

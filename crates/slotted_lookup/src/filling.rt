@@ -1,4 +1,4 @@
-//! Filling: an id gets fresh slots for the names that it lacks, and so does each child of a node.
+//! Filling: an id gets fresh slots for the names that it omits, and so does each child of an e-node.
 ghost use Rattle.std.specs.Prelude.{◌≡◌, unwrap_or, IfOk, IfErr, OnOk, OnErr, IsErrOf, IsOkUnless};
 ghost use Rattle.slotted_slots.specs.Error.{IsShortage};
 ghost use Rattle.slotted_slots.specs.Maps.{keys, values, value_of};
@@ -19,7 +19,7 @@ use slotted_languages::Language;
 use slotted_slots::{AppliedId, Error, Slot, SlotMap, SlotTable};
 use std::alloc::Global;
 
-// The name of a slot, or a fresh slot where it has none.
+// Returns the name of a slot, or a fresh slot if it has none.
 fn name_or_fresh(names: &SlotMap, slot: Slot, table: &mut SlotTable) -> Result<Slot, Error>
     ensures name { IfOk result (λ x. x ≡ unwrap_or (value_of names.now slot) (fresh_slot table.old.fresh)) }
     ensures made { OnOk result (table.new ≡ with_fresh (lack (value_of names.now slot)) table.old) }
@@ -34,7 +34,7 @@ fn name_or_fresh(names: &SlotMap, slot: Slot, table: &mut SlotTable) -> Result<S
     }
 }
 
-// Puts the name of each value in its place, or a fresh slot where it has none.
+// Replaces each value by its name, or by a fresh slot if it has none.
 fn name_values(slots: &mut SlotMap, names: &SlotMap, table: &mut SlotTable) -> Result<(), Error>
     ensures keys { OnOk result (keys slots.new ≡ keys slots.old) }
     ensures values { OnOk result (values slots.new ≡ named table.old.fresh names.now (values slots.old)) }
@@ -51,8 +51,10 @@ fn name_values(slots: &mut SlotMap, names: &SlotMap, table: &mut SlotTable) -> R
     Ok(())
 }
 
-/// The id with a fresh slot for each canonical slot of its class that it has no name for, in the order of these slots.
-/// An id that lacks no name is answered as it is.
+/// Returns the full id of an id: with a fresh slot for each canonical slot of its class for which it omits the name,
+/// in the order of these slots.
+///
+/// A full id is returned as it is.
 pub fn fill_id<L: Language>(
     store: &Store<L>,
     alloc: Global,
@@ -66,7 +68,7 @@ pub fn fill_id<L: Language>(
     ensures same { IfOk result (λ b. IsFull (nodes_of store.now) (to_applied a.now) → to_applied b ≡ to_applied a.now) }
     ensures known { IfOk result (λ b. KeepsKnown table.old table.new (values a.now.m) (values b.m)) }
 
-    // A fresh slot is made for each name that is missing, and the table keeps its names.
+    // One fresh slot is made for each missing name, and the table keeps its names.
     ensures made { OnOk result (table.new ≡ with_fresh (missing store.now (to_applied a.now)) table.old) }
     ensures takes { MakesAtMost (missing store.now (to_applied a.now)) table.old table.new }
     ensures more { KnowsMore table.old table.new }
@@ -79,7 +81,7 @@ pub fn fill_id<L: Language>(
     Ok(AppliedId { id: a.id, m: names })
 }
 
-/// A copy of the node with each child filled, from the left. A node whose children lack no name is answered as it is.
+/// Returns a copy of the e-node with each child filled, from the left. An e-node over full ids is returned as it is.
 pub fn fill_node<L: Language>(
     store: &Store<L>,
     alloc: Global,
@@ -96,7 +98,7 @@ pub fn fill_node<L: Language>(
     ensures same { IfOk result (λ n. HasFullChildren store.now (L.form node.now) → L.form n ≡ L.form node.now) }
     ensures known { IfOk result (λ n. KeepsKnown table.old table.new (L.form node.now).names (L.form n).names) }
 
-    // A fresh slot is made for each name that a child lacks, and the table keeps its names.
+    // One fresh slot is made for each name that a child omits, and the table keeps its names.
     ensures made { OnOk result (table.new ≡ with_fresh (missing_of store.now (L.form node.now)) table.old) }
     ensures takes { MakesAtMost (missing_of store.now (L.form node.now)) table.old table.new }
     ensures more { KnowsMore table.old table.new }

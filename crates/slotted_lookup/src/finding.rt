@@ -1,4 +1,4 @@
-//! What ids find, also those that lack names of slots that their classes use.
+//! `find`, also for ids that omit names of slots that their classes use.
 ghost use Rattle.std.specs.Prelude.{◌≡◌, ◌<◌, length, IfOk, IfErr};
 ghost use Rattle.slotted_slots.specs.Error.{IsOutOfMemory};
 ghost use Rattle.slotted_model.specs.Find.{find};
@@ -12,7 +12,7 @@ use slotted_languages::Language;
 use slotted_slots::{AppliedId, Error, Id, SlotMap};
 use std::alloc::Global;
 
-/// What a valid id finds.
+/// Returns what `find` maps a valid id to.
 pub fn find_applied_id<L: Language>(
     store: &Store<L>,
     alloc: Global,
@@ -28,7 +28,7 @@ pub fn find_applied_id<L: Language>(
     Ok(found)
 }
 
-/// The class that a class finds, and the slot of the class that each slot of it stands for.
+/// Returns the live class of a class, with the slot of the class for which each of its slots stands.
 pub fn found_class<L: Language>(
     store: &Store<L>,
     alloc: Global,
@@ -51,8 +51,9 @@ pub fn found_class<L: Language>(
     Ok(AppliedId { id: Id(found), m })
 }
 
-/// What a class finds with these names for its slots. They may lack slots that the class uses: then what is found
-/// lacks them too.
+/// Returns what `find` maps a class to, with these names for its slots.
+///
+/// Names of slots that the class uses may be missing. Then the result omits them too.
 pub fn found_with<L: Language>(
     store: &Store<L>,
     alloc: Global,

@@ -1,5 +1,4 @@
-//! Adding by look-up: a node is looked up by its normal form, over ids that may lack names for slots that
-//! unions dropped.
+//! Look-up: an e-node is looked up by its canonical e-node, over ids that may omit names of redundant slots.
 #![tactic(auto)]
 
 pub mod enodes;

@@ -1,4 +1,4 @@
-//! The id of a node, by the shape of its normal form.
+//! The id of an e-node, by the shape of its canonical e-node.
 ghost use Rattle.std.specs.Prelude.{◌≡◌, option_map, IfOk, IfErr, IsErrOf, IsTrue};
 ghost use Rattle.slotted_slots.specs.Error.{IsOutOfMemory, IsShortage};
 ghost use Rattle.slotted_languages.specs.NewNames.{IsTooLarge};
@@ -20,8 +20,8 @@ use slotted_languages::Language;
 use slotted_slots::{AppliedId, Error, SlotMap};
 use std::alloc::Global;
 
-// What the class of a filed node finds, with these names for the numbers of the node's key. A class whose node waits
-// may use slots that the node lacks.
+// Returns what `find` maps the class of a filed e-node to, with these names for the numbers of its shape. A pending
+// class may use slots that its e-node lacks.
 fn found_source<L: Language>(
     store: &Store<L>,
     nodes: &Hashcons<L>,
@@ -44,7 +44,7 @@ fn found_source<L: Language>(
     }
 }
 
-// Whether each child of a node is what it finds. It takes no memory.
+// Returns whether each child of an e-node is canonical. Takes no memory.
 fn is_normal<L: Language>(store: &Store<L>, node: &L) -> bool
     requires good { HasFinds store.now }
     requires children { HasFindableChildren store.now (L.form node.now) }
@@ -59,7 +59,8 @@ fn is_normal<L: Language>(store: &Store<L>, node: &L) -> bool
     true
 }
 
-// The shape of a node in normal form, and the node's name for each number. A node that is in normal form is not copied first.
+// Returns the shape of the canonical e-node of an e-node, and its name for each number. An e-node that is canonical
+// is not copied first.
 fn normal_shape<L: Language>(
     store: &Store<L>,
     alloc: Global,
@@ -80,8 +81,10 @@ fn normal_shape<L: Language>(
     Ok(shape)
 }
 
-/// The id of a node: what the class of the filed node with the shape of its normal form finds, with the node's names
-/// put in.
+/// Returns the id of an e-node, or `None` if the hashcons has no equal one.
+///
+/// The e-node is looked up by the shape of its canonical e-node. The id is what `find` maps the class of that shape
+/// to, with the e-node's names put in.
 pub fn look_up<L: Language>(
     store: &Store<L>,
     nodes: &Hashcons<L>,

@@ -1,4 +1,4 @@
-//! What a graph tells of its classes and of its filed nodes. Nothing here writes.
+//! What a graph tells of its classes and of its filed e-nodes. Nothing here writes.
 ghost use Rattle.std.specs.Prelude.{◌≡◌, ◌<◌, ◌↔◌, length, is_some, IsTrue, IfOk, IfErr};
 ghost use Rattle.slotted_slots.specs.Error.{IsOutOfMemory};
 ghost use Rattle.slotted_model.specs.Correspondence.{identity};
@@ -19,7 +19,7 @@ use std::alloc::Global;
 
 // Classes.
 
-/// Whether a class finds itself. It takes no memory.
+/// Returns whether a class is live. Takes no memory.
 pub fn is_alive<L: Language>(store: &Store<L>, class: usize) -> bool
     requires { class < length store.now.classes }
     ensures { IsTrue result ↔ IsLive (entries_of store.now) class }
@@ -27,7 +27,7 @@ pub fn is_alive<L: Language>(store: &Store<L>, class: usize) -> bool
     store.entry(class).id.0 == class
 }
 
-/// The slots of a class that finds still use: of a live class, those that it has left.
+/// Returns the slots of a class that are in use: of a live class, those that are not redundant.
 pub fn slots_of<L: Language>(
     store: &Store<L>,
     alloc: Global,
@@ -43,7 +43,7 @@ pub fn slots_of<L: Language>(
     Ok(slots)
 }
 
-/// A class with each of these slots as its name.
+/// Returns a class with each slot that is in use as its own name.
 pub fn mk_identity_applied_id<L: Language>(
     store: &Store<L>,
     alloc: Global,
@@ -62,23 +62,23 @@ pub fn mk_identity_applied_id<L: Language>(
     })
 }
 
-// Filed nodes.
+// Filed e-nodes.
 
-// Whether a node is filed of a class.
+// Returns whether an e-node is filed for a class.
 fn is_filed<L: Language>(nodes: &Hashcons<L>, class: usize) -> bool
     ensures { result ≡ is_some (filed_of nodes.now.filed class) }
 {
     nodes.node(class).is_some()
 }
 
-/// The number of filed nodes. It takes no memory.
+/// Returns the number of filed e-nodes. Takes no memory.
 pub fn filed_count<L: Language>(nodes: &Hashcons<L>) -> usize
     ensures { result ≡ length (rows_in nodes.now.filed) }
 {
     nodes.len()
 }
 
-/// The classes of which a node is filed and that find this class, ascending: its filed nodes, by their sources.
+/// Returns the sources of the filed e-nodes of a live class, ascending.
 pub fn class_nodes<L: Language>(
     store: &Store<L>,
     nodes: &Hashcons<L>,

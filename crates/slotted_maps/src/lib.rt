@@ -1,4 +1,4 @@
-//! Short maps, for callers who bring the order of their keys: nothing else of the library needs them.
+//! Short maps for callers who bring the order of their keys. Nothing else of the library needs them.
 #![tactic(auto)]
 
 pub mod small_map;

@@ -1,4 +1,4 @@
-//! Short maps, which keep up to eight entries inline.
+//! Maps that keep up to eight entries inline.
 ghost use Rattle.std.specs.Prelude.{◌≡◌, ◌<◌, [], ◌∷◌, ◌↔◌, length, slice_set, slice_index_or, is_some, IsTrue, IsSome, OnOk, OnErr, IfOk, IfErr, IsOk, MatchOption};
 ghost use Rattle.std.specs.Iterator.{item_count};
 ghost use Rattle.std.specs.List.Sorted.{IsStrictlySortedBy};
@@ -33,7 +33,7 @@ impl<K: Ord, V> Model for SmallHashMap<K, V> {
 }
 
 impl<K: Ord, V> SmallHashMap<K, V> {
-    /// The number of entries.
+    /// Returns the number of entries.
     pub fn len(&self) -> usize
         ensures len { result ≡ length self.now }
         ensures ascending { IsStrictlySortedBy K.cmp (keys_of self.now) }
@@ -42,7 +42,7 @@ impl<K: Ord, V> SmallHashMap<K, V> {
         self.keys.len()
     }
 
-    /// Whether there are no entries.
+    /// Returns whether the map has no entries.
     pub fn is_empty(&self) -> bool
         ensures { IsTrue result ↔ (self.now ≡ []) }
     {
@@ -50,7 +50,7 @@ impl<K: Ord, V> SmallHashMap<K, V> {
         self.keys.is_empty()
     }
 
-    /// The value at the key that compares equal to `k`.
+    /// Returns the value at the key that compares equal to `k`.
     pub fn get(&self, k: &K) -> Option<&V>
         ensures { option_copied result ≡ entry_value K.cmp self.now k.now }
     {
@@ -60,14 +60,14 @@ impl<K: Ord, V> SmallHashMap<K, V> {
         }
     }
 
-    /// Whether a key compares equal to `k`.
+    /// Returns whether a key compares equal to `k`.
     pub fn contains_key(&self, k: &K) -> bool
         ensures { result ≡ is_some (entry_value K.cmp self.now k.now) }
     {
         self.get(k).is_some()
     }
 
-    /// The entries, in ascending order of their keys.
+    /// Returns an iterator over the entries, in ascending order of their keys.
     pub fn iter(&self) -> Iter<'_, K, V>
         ensures entries { result ≡ self.now }
         ensures ascending { IsStrictlySortedBy K.cmp (keys_of self.now) }
@@ -80,7 +80,7 @@ impl<K: Ord, V> SmallHashMap<K, V> {
 }
 
 impl<K: Ord + MadeWith<Global> + Drop, V: MadeWith<Global> + Drop> SmallHashMap<K, V> {
-    /// The map without entries. It takes no memory.
+    /// Returns the map without entries. Takes no memory.
     pub fn new(alloc: Global) -> SmallHashMap<K, V>
         ensures { result ≡ [] }
     {
@@ -90,8 +90,9 @@ impl<K: Ord + MadeWith<Global> + Drop, V: MadeWith<Global> + Drop> SmallHashMap<
         }
     }
 
-    /// Puts `v` at the key `k`, and answers the value that was there. A key that compares equal to `k` stays, and takes no
-    /// memory.
+    /// Puts `v` at the key `k`, and returns the value that was there.
+    ///
+    /// A key that compares equal to `k` stays, and then the call takes no memory.
     pub fn insert(&mut self, k: K, v: V) -> Result<Option<V>, Error>
         ensures ok { OnOk result (self.new ≡ insert_entry K.cmp self.old k v) }
         ensures before { IfOk result (λ before. before ≡ entry_value K.cmp self.old k) }
@@ -110,7 +111,7 @@ impl<K: Ord + MadeWith<Global> + Drop, V: MadeWith<Global> + Drop> SmallHashMap<
         }
     }
 
-    /// Takes the entry of the key that compares equal to `k` out, and answers its value. It takes no memory.
+    /// Removes the entry of the key that compares equal to `k`, and returns its value. Takes no memory.
     pub fn remove(&mut self, k: &K) -> Option<V>
         ensures map { self.new ≡ without_entry K.cmp self.old k.now }
         ensures value { result ≡ entry_value K.cmp self.old k.now }
@@ -125,7 +126,7 @@ impl<K: Ord + MadeWith<Global> + Drop, V: MadeWith<Global> + Drop> SmallHashMap<
     }
 }
 
-// Puts another value at a place, and answers the one that was there.
+// Replaces the value at a position, and returns the value that was there.
 fn replace_value<V>(values: &mut SmallVec<V, 8>, at: usize, v: V) -> V
     requires { at < length values.old.items }
     ensures items { values.new.items ≡ slice_set values.old.items at v }
@@ -134,7 +135,7 @@ fn replace_value<V>(values: &mut SmallVec<V, 8>, at: usize, v: V) -> V
     mem::replace(&mut values[at], v)
 }
 
-// Where the key that compares equal to `k` is, or where `k` would go.
+// Returns the position of the key that compares equal to `k`, or the position where `k` would go.
 fn search<K: Ord>(keys: &[K], k: &K) -> Result<usize, usize>
     requires { IsStrictlySortedBy K.cmp keys.now }
     ensures found { IfOk result (IsPlaceOf K.cmp keys.now k.now) }
@@ -143,7 +144,7 @@ fn search<K: Ord>(keys: &[K], k: &K) -> Result<usize, usize>
     keys.binary_search(k)
 }
 
-/// The entries of a map in ascending order of their keys, seen as the list of those that are left.
+/// An iterator over the entries of a map in ascending order of their keys, seen as the list of those that are left.
 #[derive(Drop)]
 pub struct Iter<'a, K, V> {
     keys: &'a [K],

@@ -1,7 +1,9 @@
-//! The matcher as a machine over numbers: a pattern is a list of steps, and filed nodes are rows of numbers. No slot and no language is named.
+//! The matcher as a machine over numbers. A pattern is a list of steps, and filed e-nodes are rows of numbers. No
+//! slot and no language is named.
 //!
-//! A name is a number here. What stands for a slot of a pattern, and which class and names each variable stands for, is what the machine answers:
-//! [`search`] at all live classes, [`search_class`] at one. It visits rows depth first, and copies nothing but answers.
+//! A name is a number here. An answer says what stands for the slots of a pattern, and which class and names each
+//! variable stands for. [`search`] answers at all live classes, and [`search_class`] at one. The machine visits rows
+//! depth first, and copies nothing but answers.
 #![tactic(auto)]
 
 pub mod answer;

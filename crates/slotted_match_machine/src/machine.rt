@@ -1,4 +1,4 @@
-// What the machine holds as it runs: what was entered, paired and taken so far.
+//! The state of the machine as it runs: what was entered, paired and taken so far.
 ghost use Rattle.std.specs.Prelude.{◌≡◌, IfOk, OnOk, Some, None, if◌then◌else◌, IsTrue};
 ghost use Rattle.slotted_match_machine.specs.Machine.{started, after_row, occurrence_at, with_variable};
 ghost use Rattle.slotted_match_machine.specs.Views.{IsIn, names_at, occurrence_of};
@@ -13,7 +13,8 @@ use crate::program::{Source, Step};
 use crate::view::{Register, View, occurrences};
 use std::alloc::{AllocError, Global};
 
-// The lists grow where a row is entered or a variable takes a value, and are cut where the machine backtracks.
+/// The machine. Its lists grow when a row is entered or a variable takes a value, and are cut when the machine
+/// backtracks.
 #[derive(Drop)]
 pub struct Machine<'a> {
     pub alloc: Global,
@@ -27,7 +28,7 @@ pub struct Machine<'a> {
     pub choices: Vec<Choice<'a>>,
 }
 
-// How long the lists were before a row was entered.
+/// The lengths of the lists before a row was entered.
 #[derive(Clone, Copy)]
 pub struct Mark {
     pub registers: usize,
@@ -37,7 +38,7 @@ pub struct Mark {
     pub count: usize,
 }
 
-// A choice point: rows of a class that are still to be visited for a node of the pattern, and the steps after it.
+/// A choice point: rows of a class that are still to be visited for a node of the pattern, and the steps after it.
 #[derive(Clone, Copy)]
 pub struct Choice<'a> {
     pub mark: Mark,
@@ -49,7 +50,7 @@ pub struct Choice<'a> {
 }
 
 impl<'a> Machine<'a> {
-    // A machine that holds nothing.
+    /// Returns a machine that holds nothing.
     pub fn new(alloc: Global, index: &'a RowIndex) -> Self
         ensures { (scratch_of result).classes ≡ index.now.classes.items }
     {
@@ -66,7 +67,7 @@ impl<'a> Machine<'a> {
         }
     }
 
-    // Forgets what it held, and looks at a class under names of its slots.
+    /// Forgets what the machine held, and begins at a class under names of its slots.
     pub fn start(&mut self, class: usize) -> Result<(), AllocError>
         ensures started { OnOk result (state_of (scratch_of self.new) ≡ started (scratch_of self.old).classes class) }
         ensures readable { OnOk result (IsReadable (scratch_of self.new)) }
@@ -86,7 +87,7 @@ impl<'a> Machine<'a> {
         Ok(())
     }
 
-    // The occurrence that a step looks at.
+    /// Returns the occurrence at which a step looks.
     pub fn view(&self, from: Source) -> View<'a>
         requires { IsReadable (scratch_of self.now) }
         ensures reads { occurrence_of self.now.frames.items result ≡ occurrence_at (state_of (scratch_of self.now)) from }
@@ -105,7 +106,7 @@ impl<'a> Machine<'a> {
         }
     }
 
-    // Copies what was paired and taken.
+    /// Returns a copy of what was paired and taken.
     pub fn answer(&self) -> Result<Answer, AllocError>
         requires { IsReadable (scratch_of self.now) }
         ensures { IfOk result (λ a. answer_of a ≡ answered (state_of (scratch_of self.now))) }
@@ -116,7 +117,7 @@ impl<'a> Machine<'a> {
         })
     }
 
-    // A mark to come back to.
+    /// Returns a mark to come back to.
     pub fn mark(&self) -> Mark
         ensures { result ≡ mark_of (scratch_of self.now) }
     {
@@ -129,7 +130,7 @@ impl<'a> Machine<'a> {
         }
     }
 
-    // Backtracks to where the mark was made.
+    /// Backtracks to where the mark was made.
     pub fn backtrack(&mut self, mark: Mark)
         ensures cut { scratch_of self.new ≡ cut_to mark (scratch_of self.old) }
         ensures choices { self.new.choices.items ≡ self.old.choices.items }
@@ -141,8 +142,9 @@ impl<'a> Machine<'a> {
         self.count = mark.count;
     }
 
-    // Names the numbers of a row, and pairs its own names and binders with slots of the pattern.
-    // Returns whether they can be paired. Then the row is in the next register.
+    /// Names the numbers of a row, and pairs its own names and binders with slots of the pattern.
+    ///
+    /// Returns whether they can be paired. If so, the row is in the next register.
     pub fn enter(
         &mut self,
         row: &'a IndexRow,
@@ -177,7 +179,7 @@ impl<'a> Machine<'a> {
         Ok(true)
     }
 
-    // The variable takes the occurrence, if it took none before. Returns whether it has this occurrence then.
+    /// Lets the variable take the occurrence, if it took none before. Returns whether it has this occurrence then.
     pub fn take_value(&mut self, number: usize, from: &View<'a>) -> Result<bool, AllocError>
         requires readable { IsReadable (scratch_of self.old) }
         requires names { IsIn self.old.frames.items from.now.names.frame }

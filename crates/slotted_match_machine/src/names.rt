@@ -1,4 +1,4 @@
-// Names as they stand in frames.
+//! Names as they stand in frames.
 ghost use Rattle.std.specs.Prelude.{◌≡◌, ◌+◌, ◌≤◌, ◌++◌, ℕ, List, length, slice_index, IfOk, OnOk};
 ghost use Rattle.std.specs.List.{range_with_len};
 ghost use Rattle.slotted_theory.specs.Decided.{numbers_eq};
@@ -7,14 +7,14 @@ ghost use Rattle.slotted_match_machine.specs.Views.{IsIn, names_at, number_at};
 
 use std::alloc::{AllocError, Global};
 
-// Where the names of a row stand, one for each of its numbers.
+/// The place of the names of a row, one for each of its numbers.
 #[derive(Clone, Copy)]
 pub struct Frame {
     pub start: usize,
     pub count: usize,
 }
 
-// The names of a frame: all of them in order, or those of these numbers.
+/// The names of a frame: all of them in order, or those of these numbers.
 #[derive(Clone, Copy)]
 pub struct Names<'a> {
     pub numbers: Option<&'a [usize]>,
@@ -22,7 +22,7 @@ pub struct Names<'a> {
 }
 
 impl Names<'_> {
-    // How many names there are.
+    /// Returns the number of names.
     pub fn len(&self) -> usize
         ensures { (frames : List ℕ) → IsIn frames self.now.frame → result ≡ length (names_at frames self.now) }
     {
@@ -32,7 +32,7 @@ impl Names<'_> {
         }
     }
 
-    // The number of the name at a position, and one past the frame if there is none.
+    // Returns the number of the name at a position, and one past the frame if there is none.
     fn number(&self, position: usize) -> usize
         ensures { result ≡ number_at self.now position }
     {
@@ -42,7 +42,7 @@ impl Names<'_> {
         }
     }
 
-    // The name at a position, and 0 past the end.
+    /// Returns the name at a position, and 0 past the end.
     pub fn get(&self, frames: &[usize], position: usize) -> usize
         requires { IsIn frames.now self.now.frame }
         ensures { result ≡ slice_index (names_at frames.now self.now) position }
@@ -55,7 +55,7 @@ impl Names<'_> {
         }
     }
 
-    // Whether the names are the same, one after another.
+    /// Returns whether the names are the same, one after another.
     pub fn are_same(&self, frames: &[usize], other: &Names<'_>) -> bool
         requires own { IsIn frames.now self.now.frame }
         requires other { IsIn frames.now other.now.frame }
@@ -72,7 +72,7 @@ impl Names<'_> {
         true
     }
 
-    // Returns a copy of the names.
+    /// Returns a copy of the names.
     pub fn to_vec(&self, alloc: Global, frames: &[usize]) -> Result<Vec<usize>, AllocError>
         requires { IsIn frames.now self.now.frame }
         ensures { IfOk result (λ v. v.items ≡ names_at frames.now self.now) }
@@ -85,7 +85,7 @@ impl Names<'_> {
     }
 }
 
-// Forgets all frames but one, in which 0, 1 and so on are the names.
+/// Forgets all frames but one, in which 0, 1 and so on are the names.
 pub fn name_slots(frames: &mut Vec<usize>, count: usize) -> Result<(), AllocError>
     ensures { OnOk result (frames.new.items ≡ range_with_len 0 count) }
 {
@@ -96,8 +96,9 @@ pub fn name_slots(frames: &mut Vec<usize>, count: usize) -> Result<(), AllocErro
     Ok(())
 }
 
-// Adds a frame for a row, whose numbers stand for these slots of a class, or for none: then the name is a new one.
-// Returns how many names there are then.
+/// Adds a frame for a row. Its numbers stand for these slots of a class, or for none: then the name is a new one.
+///
+/// Returns how many names there are then.
 pub fn name_numbers(
     frames: &mut Vec<usize>,
     names: &Names<'_>,

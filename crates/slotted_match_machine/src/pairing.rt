@@ -1,4 +1,4 @@
-// Which name stands for which slot of the pattern: at most one slot for a name, and one name for a slot.
+//! Pairs of names and slots of the pattern: at most one slot for a name, and one name for a slot.
 ghost use Rattle.std.specs.Prelude.{◌≡◌, ◌==◌, option_map, reverse, Some, None, IfOk, OnOk, if◌then◌else◌};
 ghost use Rattle.std.specs.List.{find, list_any};
 ghost use Rattle.slotted_model_rules.specs.Matcher.{paired};
@@ -9,7 +9,7 @@ ghost use Rattle.slotted_match_machine.specs.Views.{IsIn, names_at};
 use crate::names::Names;
 use std::alloc::AllocError;
 
-// The slot that the name stands for.
+// Returns the slot that the name stands for.
 fn slot_of(pairs: &[(usize, usize)], name: usize) -> Option<usize>
     ensures { result ≡ option_map (λ p. p.1) (find (λ p. name == p.0) (reverse pairs.now)) }
 {
@@ -20,14 +20,14 @@ fn slot_of(pairs: &[(usize, usize)], name: usize) -> Option<usize>
         .map(|pair| pair.1)
 }
 
-// Whether a name stands for the slot.
+// Returns whether a name stands for the slot.
 fn is_taken(pairs: &[(usize, usize)], slot: usize) -> bool
     ensures { result ≡ list_any (λ p. slot == p.1) pairs.now }
 {
     pairs.iter().any(|pair| slot == pair.1)
 }
 
-// The name is to stand for the slot. Returns whether it may.
+// Pairs the name with the slot. Returns whether they may be paired.
 fn pair(pairs: &mut Vec<(usize, usize)>, name: usize, slot: usize) -> Result<bool, AllocError>
     ensures paired { IfOk result (λ y. paired (reverse pairs.old.items) name slot
         ≡ (if y then Some (reverse pairs.new.items) else None)) }
@@ -43,7 +43,7 @@ fn pair(pairs: &mut Vec<(usize, usize)>, name: usize, slot: usize) -> Result<boo
     Ok(true)
 }
 
-// The names are to stand for the slots, one after another. Returns whether they may.
+/// Pairs the names with the slots, one after another. Returns whether they may be paired.
 pub fn pair_all(
     pairs: &mut Vec<(usize, usize)>,
     frames: &[usize],

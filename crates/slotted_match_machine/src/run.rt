@@ -1,4 +1,4 @@
-// The machine's run: depth first, each row in its turn.
+//! The run of the machine: depth first, each row in its turn.
 ghost use Rattle.std.specs.Prelude.{◌≡◌, ◌<◌, ◌≤◌, ◌+◌, [], ◌∷◌, ◌++◌, length, if◌then◌else◌};
 ghost use Rattle.std.specs.Prelude.{IfOk, IfSome, IsTrue, MatchOption, OnOk};
 ghost use Rattle.slotted_match_machine.specs.Scratch.{IsReadable, scratch_of};
@@ -11,7 +11,7 @@ use crate::machine::{Choice, Machine};
 use crate::program::Step;
 use std::alloc::AllocError;
 
-// The first of the rows that has the outline, and the rows after it.
+// Returns the first of the rows that has the outline, and the rows after it.
 fn first_of_outline(rows: &[IndexRow], outline: usize) -> Option<(&IndexRow, &[IndexRow])>
     ensures rows { MatchOption result
         (rows_of_outline outline rows.now ≡ [])
@@ -29,7 +29,7 @@ fn first_of_outline(rows: &[IndexRow], outline: usize) -> Option<(&IndexRow, &[I
 }
 
 impl<'a> Machine<'a> {
-    // Takes the steps in turn, and adds what there is to answer.
+    /// Takes the steps in turn, and adds the answers.
     pub fn run(&mut self, steps: &'a [Step], answers: &mut Vec<Answer>) -> Result<(), AllocError>
         requires { IsReadable (scratch_of self.old) }
         ensures answers { OnOk result (AddsAnswers
@@ -48,7 +48,7 @@ impl<'a> Machine<'a> {
         Ok(())
     }
 
-    // Takes the steps as long as they can be taken, and answers where none is left.
+    // Takes the steps as long as they can be taken, and answers if none is left.
     fn descend(&mut self, steps: &'a [Step], answers: &mut Vec<Answer>) -> Result<(), AllocError>
         requires readable { IsReadable (scratch_of self.old) }
         requires choices { HasChoices self.old }

@@ -1,4 +1,4 @@
-// Occurrences as they are read: their names stand in frames.
+//! Occurrences as they are read: their names stand in frames.
 ghost use Rattle.std.specs.Prelude.{◌≡◌, ◌+◌, ◌≤◌, ℕ, List, slice_index_or, map, IfOk};
 ghost use Rattle.std.specs.List.{All};
 ghost use Rattle.slotted_match_machine.specs.Machine.{no_occurrence, same_occurrence};
@@ -10,7 +10,7 @@ use crate::index::IndexChild;
 use crate::names::{Frame, Names};
 use std::alloc::{AllocError, Global};
 
-// A class with a name for each of its slots.
+/// A class with a name for each of its slots.
 #[derive(Clone, Copy)]
 pub struct View<'a> {
     pub class: usize,
@@ -18,7 +18,7 @@ pub struct View<'a> {
 }
 
 impl View<'_> {
-    // A class with all names of a frame.
+    /// Returns a class with all names of a frame.
     pub fn of_frame(class: usize, frame: Frame) -> Self
         ensures { result ≡ record { class = class; names = record { numbers = None; frame = frame } } }
     {
@@ -29,7 +29,7 @@ impl View<'_> {
         View { class, names }
     }
 
-    // What is read past the end of a list.
+    /// Returns what is read past the end of a list.
     pub fn nothing() -> Self
         ensures reads { (frames : List ℕ) → occurrence_of frames result ≡ no_occurrence }
         ensures frame { result.names.frame.start + result.names.frame.count ≡ 0 }
@@ -37,7 +37,7 @@ impl View<'_> {
         View::of_frame(0, Frame { start: 0, count: 0 })
     }
 
-    // Whether both are one occurrence.
+    /// Returns whether both are one occurrence.
     pub fn is_same(&self, frames: &[usize], other: &View<'_>) -> bool
         requires own { IsIn frames.now self.now.names.frame }
         requires other { IsIn frames.now other.now.names.frame }
@@ -58,7 +58,7 @@ impl View<'_> {
     }
 }
 
-// The children of a row that was entered, and the frame in which their names stand.
+/// The children of a row that was entered, and the frame in which their names stand.
 #[derive(Clone, Copy)]
 pub struct Register<'a> {
     pub children: &'a [IndexChild],
@@ -66,7 +66,7 @@ pub struct Register<'a> {
 }
 
 impl<'a> Register<'a> {
-    // The occurrence at a child.
+    /// Returns the occurrence at a child.
     pub fn child(&self, number: usize) -> View<'a>
         ensures reads { (frames : List ℕ) → occurrence_of frames result
             ≡ slice_index_or (occurrences_in frames self.now) number no_occurrence }
@@ -86,7 +86,7 @@ impl<'a> Register<'a> {
     }
 }
 
-// Returns copies of the occurrences.
+/// Returns copies of the occurrences.
 pub fn occurrences(
     alloc: Global,
     frames: &[usize],

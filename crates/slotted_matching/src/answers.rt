@@ -1,4 +1,4 @@
-//! From numbers to slots: the machine's answers as substitutions.
+//! The answers of the machine as matches: slots take the place of numbers.
 ghost use Rattle.std.specs.Prelude.{◌≡◌, ◌<◌, ◌++◌, ℕ, List, [], length, map, Contains, string_bytes, slice_index_or};
 ghost use Rattle.std.specs.Prelude.{IfErr, IfOk, IsErrOf, IsTrue, OnOk};
 ghost use Rattle.slotted_slots.specs.Error.{IsOutOfMemory, IsShortage};
@@ -67,7 +67,7 @@ fn names_in_order(alloc: Global, numbers: &BTreeMap<String, usize>) -> Result<Ve
 
 // Answers.
 
-// The slot with this raw number among some slots.
+// Returns the slot with this raw number among some slots.
 fn slot_with(slots: &[Slot], raw: usize) -> Slot
     requires { Contains slots.now raw }
     ensures { result ≡ raw }
@@ -98,7 +98,7 @@ fn paired_names(
     Ok(names)
 }
 
-// The slot that names a number.
+// Returns the slot that names a number.
 fn slot_of(names: &[(usize, Slot)], number: usize) -> Slot
     ensures { result ≡ slot_in names.now number }
 {
@@ -180,8 +180,8 @@ fn answer_ids<L: Language>(
 
 /// Returns the answers with slots for numbers.
 ///
-/// A number that an answer pairs with a slot of the pattern has this slot for a name. Each other number gets a fresh slot, which all values of the
-/// answer share, and no two answers.
+/// A number that an answer pairs with a slot of the pattern has this slot for a name. Each other number gets a fresh
+/// slot, which all values of the answer share, and no other answer has.
 pub fn answers_with_slots<L: Language>(
     alloc: Global,
     table: &mut SlotTable,
@@ -197,7 +197,7 @@ pub fn answers_with_slots<L: Language>(
     ensures ok { IfOk result (λ m. InTurn (IsNamedAnswer store.now (map string_bytes program.now.variables.items))
         table.old table.new m (answers_in answers.now)) }
 
-    // Fresh slots are made, at most as many as there are numbers.
+    // Only fresh slots are made, at most as many as there are numbers.
     ensures takes { MakesAtMost (number_count (answers_in answers.now)) table.old table.new }
     ensures more { KnowsMore table.old table.new }
     ensures full { IsErrOf result Error.OutOfSlots → RunsOut (number_count (answers_in answers.now)) table.old table.new }

@@ -1,4 +1,4 @@
-//! The index of a graph's filed nodes, which is made when it is first asked for.
+//! The index of a graph's filed e-nodes, which is made when it is first needed.
 ghost use Rattle.std.specs.Prelude.{◌≡◌, None, IsSome, IfSome, IfErr, IsErrOf, OnOk};
 ghost use Rattle.slotted_slots.specs.Error.{IsShortage};
 ghost use Rattle.slotted_hashcons.specs.WellFiled.{IsWellFiled};
@@ -11,28 +11,29 @@ use slotted_languages::Language;
 use slotted_slots::Error;
 use std::alloc::Global;
 
-/// An index of filed nodes, if one was made since the nodes last changed.
+/// The index of filed e-nodes, if one was made since they last changed.
 #[derive(Drop)]
 pub struct IndexCache<L: Language> {
+    /// The index, if there is one.
     pub indexed: Option<Indexed<L>>,
 }
 
 impl<L: Language> IndexCache<L> {
-    /// Returns a cache without an index. It takes no memory.
+    /// Returns a cache without an index. Takes no memory.
     pub fn new() -> Self
         ensures { result.indexed ≡ None }
     {
         IndexCache { indexed: None }
     }
 
-    /// Drops the index, as each change of classes or filed nodes asks for.
+    /// Drops the index. Each change of classes or filed e-nodes has to call this.
     pub fn clear(&mut self)
         ensures { self.new.indexed ≡ None }
     {
         self.indexed = None;
     }
 
-    /// Makes the index of the filed nodes if there is none. A refusal leaves none.
+    /// Makes the index of the filed e-nodes if there is none. After an error there is none.
     pub fn fill(
         &mut self,
         alloc: Global,

@@ -23,16 +23,18 @@ use slotted_slots::{Error, Slot};
 use std::alloc::Global;
 use std::marker::Model;
 
-/// A pattern as a list of steps. The name of each variable stands at its number.
+/// A pattern as a list of steps.
 #[derive(Drop)]
 pub struct Program {
+    /// The steps, in order.
     pub steps: Vec<Step>,
+    /// The name of each variable, at its number.
     pub variables: Vec<String>,
     /// The slots of the pattern, which the steps know by their raw numbers.
     pub slots: Vec<Slot>,
 }
 
-// What was compiled so far, and which register the next node fills.
+// The state of a compilation: what was compiled so far, and the register that the next node fills.
 #[derive(Drop)]
 struct Compiler {
     steps: Vec<Step>,
@@ -80,7 +82,7 @@ fn push_children<'a, L: Language>(
     Ok(())
 }
 
-// The slots at the places where both nodes have the same one.
+// Returns the slots at the places where both nodes have the same one.
 fn common_slots<L: Language>(alloc: Global, first: &L, second: &L) -> Result<Vec<Slot>, Error>
     requires small { IsSmall (L.form first.now) }
     requires same { length (L.form first.now).names ≡ length (L.form second.now).names }
@@ -97,7 +99,7 @@ fn common_slots<L: Language>(alloc: Global, first: &L, second: &L) -> Result<Vec
     Ok(slots)
 }
 
-// The own names and binders of a node.
+// Returns the own names and binders of a node.
 fn own_slots<L: Language>(alloc: Global, node: &L) -> Result<Vec<Slot>, Error>
     requires { HasFewPlaces (L.form node.now) }
     ensures ok { IfOk result (λ v. v.items ≡ pattern_names (L.form node.now)) }
@@ -123,7 +125,7 @@ fn raw_slots(alloc: Global, slots: &[Slot], all: &mut Vec<Slot>) -> Result<Vec<u
     Ok(numbers)
 }
 
-// The number of a variable that was seen.
+// Returns the number of a variable that was seen.
 fn number_of(variables: &[String], name: &str) -> Option<usize>
     ensures { IsNumber (map string_bytes variables.now) name.now result }
 {
@@ -136,7 +138,7 @@ fn number_of(variables: &[String], name: &str) -> Option<usize>
 }
 
 impl Compiler {
-    // Nothing but the register in which the class stands.
+    // Returns the state in which nothing is compiled, and the first register holds the class.
     fn new(alloc: Global) -> Self
         ensures { result ≡ nothing }
     {
@@ -255,7 +257,10 @@ impl Compiler {
     }
 }
 
-/// Returns the program that finds a pattern, where the outline of each node is the place of its skeleton, or the number of all skeletons if it is none of them.
+/// Returns the program that finds a pattern.
+///
+/// The outline of each node is the number of its skeleton. If the skeleton is none of these, the outline is the
+/// number of all skeletons.
 pub fn compile<L: Language>(
     alloc: Global,
     pattern: &Pattern<L>,

@@ -47,14 +47,14 @@ pub fn find_indexed<L: Language>(
     requires whole { IsSome (pattern_in (tree_of L.form pattern.now)) }
     requires plain { has_substitution (tree_of L.form pattern.now) ≡ false }
 
-    // It is found over any filed nodes that the index is made of.
+    // This holds over any filed e-nodes that the index is made of.
     ensures finds { (r : Rows) → IsIndexFor store.now r indexed.now.skeletons indexed.now.index
         → IfOk result (Finds store.now r (tree_of L.form pattern.now)) }
     ensures valid { (r : Rows) → IsIndexFor store.now r indexed.now.skeletons indexed.now.index
         → IfOk result (AreValidFound table.new store.now r) }
     ensures variables { IfOk result (HaveVariables (tree_of L.form pattern.now)) }
 
-    // Fresh slots are made, at most as many as the values have names.
+    // Only fresh slots are made, at most as many as the values have names.
     ensures fresh { IfOk result (HaveFreshNames table.old (tree_of L.form pattern.now)) }
     ensures count { IfOk result (λ found. MakesAtMost (name_count found) table.old table.new) }
     ensures takes { (r : Rows) → IsIndexFor store.now r indexed.now.skeletons indexed.now.index
@@ -62,7 +62,7 @@ pub fn find_indexed<L: Language>(
     ensures names { table.new.names ≡ table.old.names }
     ensures more { KnowsMore table.old table.new }
 
-    // They run out where fewer are left, or where a node of the pattern has too many places for a skeleton.
+    // They run out if fewer are left, or if a node of the pattern has too many places for a skeleton.
     ensures full { (r : Rows) → IsIndexFor store.now r indexed.now.skeletons indexed.now.index
         → IsErrOf result Error.OutOfSlots → HasWideNode (tree_of L.form pattern.now)
         ⊎ RunsOutFor (tree_of L.form pattern.now) (IsFound store.now r) table.old table.new }
@@ -92,14 +92,14 @@ pub fn find_indexed_at<L: Language>(
     requires whole { IsSome (pattern_in (tree_of L.form pattern.now)) }
     requires plain { has_substitution (tree_of L.form pattern.now) ≡ false }
 
-    // It is found over any filed nodes that the index is made of.
+    // This holds over any filed e-nodes that the index is made of.
     ensures finds { (r : Rows) → IsIndexFor store.now r indexed.now.skeletons indexed.now.index
         → IfOk result (FindsAt store.now r class (tree_of L.form pattern.now)) }
     ensures valid { (r : Rows) → IsIndexFor store.now r indexed.now.skeletons indexed.now.index
         → IfOk result (AreValidFound table.new store.now r) }
     ensures variables { IfOk result (HaveVariables (tree_of L.form pattern.now)) }
 
-    // Fresh slots are made, at most as many as the values have names.
+    // Only fresh slots are made, at most as many as the values have names.
     ensures fresh { IfOk result (HaveFreshNames table.old (tree_of L.form pattern.now)) }
     ensures count { IfOk result (λ found. MakesAtMost (name_count found) table.old table.new) }
     ensures takes { (r : Rows) → IsIndexFor store.now r indexed.now.skeletons indexed.now.index
@@ -107,7 +107,7 @@ pub fn find_indexed_at<L: Language>(
     ensures names { table.new.names ≡ table.old.names }
     ensures more { KnowsMore table.old table.new }
 
-    // They run out where fewer are left, or where a node of the pattern has too many places for a skeleton.
+    // They run out if fewer are left, or if a node of the pattern has too many places for a skeleton.
     ensures full { (r : Rows) → IsIndexFor store.now r indexed.now.skeletons indexed.now.index
         → IsErrOf result Error.OutOfSlots → HasWideNode (tree_of L.form pattern.now)
         ⊎ RunsOutFor (tree_of L.form pattern.now) (IsFoundAt store.now r class) table.old table.new }
@@ -118,7 +118,8 @@ pub fn find_indexed_at<L: Language>(
     answers_with_slots(alloc, table, store, &program, &answers)
 }
 
-/// Returns what is found for a pattern at the live classes, one class after another. The index of the filed nodes is made if there is none.
+/// Returns what is found for a pattern at the live classes, one class after another. Makes the index of the filed
+/// e-nodes if there is none.
 ///
 /// A name of a value that stands for no slot of the pattern is a fresh slot, which all values of the answer share.
 pub fn find_matches<L: Language>(
@@ -141,7 +142,7 @@ pub fn find_matches<L: Language>(
     ensures variables { IfOk result (HaveVariables (tree_of L.form pattern.now)) }
     ensures index { IfSome cache.new.indexed (λ x. IsIndexed store.now nodes.now x.skeletons x.index) }
 
-    // Fresh slots are made, at most as many as the values have names.
+    // Only fresh slots are made, at most as many as the values have names.
     ensures fresh { IfOk result (HaveFreshNames table.old (tree_of L.form pattern.now)) }
     ensures count { IfOk result (λ found. MakesAtMost (name_count found) table.old table.new) }
     ensures takes { (table.new ≡ table.old)
@@ -149,7 +150,8 @@ pub fn find_matches<L: Language>(
     ensures names { table.new.names ≡ table.old.names }
     ensures more { KnowsMore table.old table.new }
 
-    // They run out where fewer are left, or where a filed node or one of the pattern has too many places for a skeleton.
+    // They run out if fewer are left, or if a filed e-node or a node of the pattern has too many places for a
+    // skeleton.
     ensures full { IsErrOf result Error.OutOfSlots → HasWideKey nodes.now ⊎ (HasWideNode (tree_of L.form pattern.now)
         ⊎ RunsOutFor (tree_of L.form pattern.now) (IsFound store.now nodes.now) table.old table.new) }
     ensures err { IfErr result IsShortage }
@@ -161,7 +163,7 @@ pub fn find_matches<L: Language>(
     }
 }
 
-/// Returns what is found for a pattern at one live class. The index of the filed nodes is made if there is none.
+/// Returns what is found for a pattern at one live class. Makes the index of the filed e-nodes if there is none.
 ///
 /// A name of a value that stands for no slot of the pattern is a fresh slot, which all values of the answer share.
 pub fn find_matches_at<L: Language>(
@@ -187,7 +189,7 @@ pub fn find_matches_at<L: Language>(
     ensures variables { IfOk result (HaveVariables (tree_of L.form pattern.now)) }
     ensures index { IfSome cache.new.indexed (λ x. IsIndexed store.now nodes.now x.skeletons x.index) }
 
-    // Fresh slots are made, at most as many as the values have names.
+    // Only fresh slots are made, at most as many as the values have names.
     ensures fresh { IfOk result (HaveFreshNames table.old (tree_of L.form pattern.now)) }
     ensures count { IfOk result (λ found. MakesAtMost (name_count found) table.old table.new) }
     ensures takes { (table.new ≡ table.old)
@@ -195,7 +197,8 @@ pub fn find_matches_at<L: Language>(
     ensures names { table.new.names ≡ table.old.names }
     ensures more { KnowsMore table.old table.new }
 
-    // They run out where fewer are left, or where a filed node or one of the pattern has too many places for a skeleton.
+    // They run out if fewer are left, or if a filed e-node or a node of the pattern has too many places for a
+    // skeleton.
     ensures full { IsErrOf result Error.OutOfSlots → HasWideKey nodes.now ⊎ (HasWideNode (tree_of L.form pattern.now)
         ⊎ RunsOutFor (tree_of L.form pattern.now) (IsFoundAt store.now nodes.now class) table.old table.new) }
     ensures err { IfErr result IsShortage }

@@ -1,4 +1,4 @@
-//! The index of a graph's filed nodes: rows of numbers, class by class.
+//! The index of a graph's filed e-nodes: rows of numbers, class by class.
 ghost use Rattle.std.specs.Prelude.{◌≡◌, ◌<◌, ◌++◌, ◌∷◌, ℕ, [], length, map, set, slice_index_or};
 ghost use Rattle.std.specs.Prelude.{All, IfOk, IfErr, OnOk, IsErrOf};
 ghost use Rattle.slotted_slots.specs.Error.{IsOutOfMemory, IsShortage};
@@ -25,7 +25,7 @@ use std::alloc::Global;
 
 // Rows.
 
-// The row of a key, whose skeleton is added if it is new.
+// Returns the row of a filed shape. Adds its skeleton if that is new.
 fn key_row<L: Language>(
     alloc: Global,
     key: &L,
@@ -51,7 +51,7 @@ fn key_row<L: Language>(
     })
 }
 
-/// Returns the row of what is filed of a class. The skeleton of its key is added if it is new.
+/// Returns the row of what is filed for a class. Adds the skeleton of its shape if that is new.
 pub fn index_row<L: Language>(
     store: &Store<L>,
     nodes: &Hashcons<L>,
@@ -81,7 +81,7 @@ pub fn index_row<L: Language>(
 
 // The sources of classes.
 
-// An empty list for each of so many classes.
+// Returns an empty list for each of so many classes.
 fn no_sources(alloc: Global, count: usize) -> Result<Vec<Vec<usize>>, Error>
     ensures count { IfOk result (λ v. length v.items ≡ count) }
     ensures none { IfOk result (λ v. (c : ℕ) → slice_index_or (map (λ b. b.items) v.items) c [] ≡ []) }
@@ -106,7 +106,7 @@ fn add_source(sources: &mut Vec<Vec<usize>>, class: usize, source: usize) -> Res
     Ok(())
 }
 
-// For each class the classes that find it and of which a node is filed, ascending.
+// Returns for each class the sources of its filed e-nodes, ascending. A dead class has none.
 fn sources_by_class<L: Language>(
     store: &Store<L>,
     nodes: &Hashcons<L>,
@@ -125,7 +125,7 @@ fn sources_by_class<L: Language>(
     Ok(sources)
 }
 
-// Sources with their keys.
+// Returns sources with their filed shapes.
 fn keyed_sources<'a, L: Language>(
     nodes: &'a Hashcons<L>,
     alloc: Global,
@@ -144,7 +144,7 @@ fn keyed_sources<'a, L: Language>(
     Ok(pairs)
 }
 
-// The rows of sources.
+// Returns the rows of sources.
 fn rows_of_sources<L: Language>(
     store: &Store<L>,
     nodes: &Hashcons<L>,
@@ -168,7 +168,7 @@ fn rows_of_sources<L: Language>(
     Ok(rows)
 }
 
-// The rows of sources, ascending by their keys.
+// Returns the rows of sources, ascending by their shapes.
 fn ordered_rows<L: Language>(
     store: &Store<L>,
     nodes: &Hashcons<L>,
@@ -191,7 +191,7 @@ fn ordered_rows<L: Language>(
 
 // Classes.
 
-// For each class its rows, and how many slots it has.
+// Returns for each class its rows, and how many slots it has.
 fn class_rows<L: Language>(
     store: &Store<L>,
     nodes: &Hashcons<L>,
@@ -215,7 +215,7 @@ fn class_rows<L: Language>(
     Ok(classes)
 }
 
-// The classes that find themselves, ascending.
+// Returns the live classes, ascending.
 fn live_classes<L: Language>(store: &Store<L>, alloc: Global) -> Result<Vec<usize>, Error>
     ensures ok { IfOk result (λ v. v.items ≡ live_ids store.now) }
     ensures err { IfErr result IsOutOfMemory }
@@ -229,14 +229,16 @@ fn live_classes<L: Language>(store: &Store<L>, alloc: Global) -> Result<Vec<usiz
     Ok(live)
 }
 
-/// The index of a graph's filed nodes, and the skeletons that stand in it by their numbers.
+/// The index of a graph's filed e-nodes, and the skeletons that stand in it by their numbers.
 #[derive(Drop)]
 pub struct Indexed<L: Language> {
+    /// The rows of each class, and the live classes.
     pub index: RowIndex,
+    /// The skeletons, by number.
     pub skeletons: Skeletons<L>,
 }
 
-/// Returns the index of the filed nodes. The rows of a class ascend by their keys.
+/// Returns the index of the filed e-nodes. The rows of a class ascend by their shapes.
 pub fn row_index<L: Language>(
     store: &Store<L>,
     nodes: &Hashcons<L>,

@@ -1,5 +1,7 @@
-//! Matching patterns against the classes of a graph: an index of its filed nodes as rows of numbers, patterns as programs of the machine, and answers
-//! with slots for numbers.
+//! E-matching: patterns are matched against the classes of a graph.
+//!
+//! An index has the filed e-nodes as rows of numbers. Patterns become programs of the machine, and its answers get
+//! slots for numbers.
 #![tactic(auto)]
 
 pub mod answers;

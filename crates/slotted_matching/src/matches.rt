@@ -1,4 +1,4 @@
-//! What was found for a pattern.
+//! The matches of a pattern.
 ghost use Rattle.std.specs.Prelude.{◌≡◌, ◌<◌, ◌↔◌, [], List, length, map, slice_index_or, string_bytes, Contains, IsTrue, IfOk, IfErr};
 ghost use Rattle.slotted_slots.specs.Error.{IsOutOfMemory};
 ghost use Rattle.slotted_model_rules.specs.Conditions.{Values};
@@ -11,9 +11,9 @@ use slotted_slots::{AppliedId, Error};
 use std::alloc::Global;
 use std::marker::Model;
 
-/// The answers for a pattern: each has an id for each variable.
+/// The matches of a pattern: each has an id for each variable.
 ///
-/// The names of the variables are kept once, in ascending order, and the ids of all answers one after another.
+/// The names of the variables are kept once, in ascending order, and the ids of all matches one after another.
 #[derive(Drop)]
 pub struct Matches {
     variables: Vec<String>,
@@ -35,7 +35,7 @@ impl Model for Matches {
 }
 
 impl Matches {
-    /// Makes answers of their ids, which stand in the order of the variables.
+    /// Returns the matches with these ids, which stand in the order of the variables.
     pub fn new(variables: Vec<String>, ids: Vec<AppliedId>, count: usize) -> Self
         requires { AreWhole (map string_bytes variables.items) (map to_applied ids.items) count }
         ensures { result ≡ answers_over (map string_bytes variables.items) (map to_applied ids.items) count }
@@ -47,28 +47,28 @@ impl Matches {
         }
     }
 
-    /// Returns no answers.
+    /// Returns no matches.
     pub fn none(alloc: Global) -> Self
         ensures { result ≡ [] }
     {
         Matches::new(Vec::new(alloc), Vec::new(alloc), 0)
     }
 
-    /// The number of answers.
+    /// Returns the number of matches.
     pub fn len(&self) -> usize
         ensures { result ≡ length self.now }
     {
         self.count
     }
 
-    /// Whether nothing was found.
+    /// Returns whether there are no matches.
     pub fn is_empty(&self) -> bool
         ensures { IsTrue result ↔ (self.now ≡ []) }
     {
         self.count == 0
     }
 
-    /// The names of the variables, in ascending order.
+    /// Returns the names of the variables, in ascending order.
     pub fn variables(&self) -> &[String]
         ensures ascending { AscendingNames (map string_bytes result.now) }
         ensures each { (s : Values) → Contains self.now s → map (λ e. e.0) s ≡ map string_bytes result.now }
@@ -76,7 +76,7 @@ impl Matches {
         &self.variables
     }
 
-    /// The id of a variable in an answer, both by their places.
+    /// Returns the id of a variable in a match, both by their places.
     pub fn value(&self, answer: usize, variable: usize) -> &AppliedId
         requires answer { answer < length self.now }
         requires variable { variable < length (slice_index_or self.now answer []) }
@@ -87,7 +87,7 @@ impl Matches {
         &ids[answer * variables.len() + variable]
     }
 
-    /// Returns an answer as a substitution.
+    /// Returns a match as a substitution.
     pub fn substitution(&self, alloc: Global, answer: usize) -> Result<Subst, Error>
         requires { answer < length self.now }
         ensures ok { IfOk result (λ s. values_of s ≡ slice_index_or self.now answer []) }

@@ -1,4 +1,5 @@
-// Slots as names for the numbers of an answer: those that it pairs with slots of the pattern have these, and all others get fresh ones.
+//! Slots as names for the numbers of an answer. A number that is paired with a slot of the pattern has that slot, and
+//! each other number a fresh one.
 ghost use Rattle.std.specs.Prelude.{◌≡◌, length, IsSome, OnOk, IfErr, IsErrOf};
 ghost use Rattle.slotted_theory.specs.FiniteMaps.{value_of};
 ghost use Rattle.slotted_slots.specs.Error.{IsShortage};
@@ -9,7 +10,7 @@ ghost use Rattle.slotted_matching.specs.Naming.{Covers, NamesMore, numbers_of};
 use slotted_match_machine::Occurrence;
 use slotted_slots::{Error, Slot, SlotTable};
 
-// The slot that names a number, if there is one.
+/// Returns the slot that names a number, if there is one.
 pub fn name_of(names: &[(usize, Slot)], number: usize) -> Option<Slot>
     ensures { result ≡ value_of names.now number }
 {
@@ -61,7 +62,7 @@ fn name_numbers(
     Ok(())
 }
 
-// Gives each number of the occurrences that has no name a fresh slot.
+/// Gives each number of the occurrences that has no name a fresh slot.
 pub fn name_values(
     names: &mut Vec<(usize, Slot)>,
     table: &mut SlotTable,

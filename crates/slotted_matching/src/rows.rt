@@ -1,4 +1,4 @@
-//! The rows of the index: filed keys by the numbers of their names.
+//! The rows of the index: filed shapes by the numbers of their names.
 ghost use Rattle.std.specs.Prelude.{◌≡◌, ◌<◌, ◌≤◌, ℕ, Contains, map, IfOk, IfErr, IsTrue};
 ghost use Rattle.slotted_slots.specs.Error.{IsOutOfMemory};
 ghost use Rattle.slotted_slots.specs.Maps.{value_of, values};
@@ -19,7 +19,7 @@ use slotted_match_machine::index::IndexChild;
 use slotted_slots::{AppliedId, Error, Slot, SlotMap};
 use std::alloc::Global;
 
-// The number of a numeric slot.
+// Returns the number of a numeric slot.
 fn slot_number(slot: Slot) -> usize
     ensures { result ≡ keys.slot_number slot }
 {
@@ -54,7 +54,7 @@ fn class_position(found: &SlotMap, slot: Slot) -> usize
     0
 }
 
-// The position of the slot that a number stands for, or 0 if it stands for none.
+// Returns the position of the slot that a number stands for, or 0 if it stands for none.
 fn number_position(names: &SlotMap, found: &SlotMap, number: usize) -> usize
     requires { number < slot_limit }
     ensures { result ≡ position_if found.now (value_of names.now (numeric_slot number)) }
@@ -65,7 +65,8 @@ fn number_position(names: &SlotMap, found: &SlotMap, number: usize) -> usize
     }
 }
 
-/// Returns for each number below `count` 1 more than the position of the class's slot that it stands for, or 0 if it stands for none.
+/// Returns for each number below `count` 1 more than the position of the class's slot that it stands for, or 0 if it
+/// stands for none.
 ///
 /// `names` has the source's slot for each number, and `found` has for each slot of the class the source's slot.
 pub(crate) fn row_slots(
@@ -85,7 +86,7 @@ pub(crate) fn row_slots(
     Ok(slots)
 }
 
-// The numbers at the places of an outline but for those of children, where `mark` stands.
+// Returns the numbers at the places of an outline, without those of children, where `mark` stands.
 fn unmarked_numbers<L: Language>(
     alloc: Global,
     outline: &L,
@@ -105,7 +106,7 @@ fn unmarked_numbers<L: Language>(
     Ok(numbers)
 }
 
-// `$1` for the mark of a child, and `$0` for any other name.
+// Returns `$1` for the mark of a child, and `$0` for any other name.
 fn blanked(mark: Slot, slot: Slot) -> Slot
     ensures { result ≡ keys.blanked mark slot }
 {
@@ -127,7 +128,8 @@ fn blank<L: Language>(outline: &mut L, mark: Slot)
     }
 }
 
-/// Returns the number of a node's skeleton, and the numbers at the node's own names and binders. The skeleton is added if it is new.
+/// Returns the number of a node's skeleton, and the numbers at the node's own names and binders. Adds the skeleton if
+/// it is new.
 pub(crate) fn number_outline<L: Language>(
     alloc: Global,
     node: &L,
@@ -148,7 +150,7 @@ pub(crate) fn number_outline<L: Language>(
     Ok((number, owns))
 }
 
-// The numbers of a child's names.
+// Returns the numbers of a child's names.
 fn child_numbers(alloc: Global, m: &SlotMap) -> Result<Vec<usize>, Error>
     ensures ok { IfOk result (λ v. v.items ≡ map keys.slot_number (values m.now)) }
     ensures err { IfErr result IsOutOfMemory }
@@ -160,7 +162,7 @@ fn child_numbers(alloc: Global, m: &SlotMap) -> Result<Vec<usize>, Error>
     Ok(numbers)
 }
 
-// A child by its class and the numbers of its names.
+// Returns a child by its class and the numbers of its names.
 fn index_child(alloc: Global, child: &AppliedId) -> Result<IndexChild, Error>
     ensures ok { IfOk result (IsIndexChild (renamed_id keys.slot_number (to_applied child.now))) }
     ensures err { IfErr result IsOutOfMemory }

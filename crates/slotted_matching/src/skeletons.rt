@@ -1,4 +1,4 @@
-//! The skeletons of nodes by number: what is left of a node without its names and children.
+//! The skeletons of nodes by number. A skeleton is a node without its names and children.
 ghost use Rattle.std.specs.Prelude.{◌≡◌, ◌↔◌, [], length, IsTrue, IfOk, IfErr, IsErrOf};
 ghost use Rattle.slotted_slots.specs.Error.{IsOutOfMemory, IsShortage};
 ghost use Rattle.slotted_languages.specs.Outline.{skeleton_form};
@@ -35,7 +35,7 @@ impl<L: Language> Model for Skeletons<L> {
 }
 
 impl<L: Language> Skeletons<L> {
-    /// No skeletons.
+    /// Returns the set without skeletons.
     pub fn new(alloc: Global) -> Self
         ensures { result ≡ [] }
     {
@@ -61,7 +61,7 @@ impl<L: Language> Skeletons<L> {
         Ok(number)
     }
 
-    /// Returns the number of a node's skeleton, or how many there are if it is none of them.
+    /// Returns the number of a node's skeleton, or how many skeletons there are if it is none of them.
     pub fn find(&self, alloc: Global, node: &L) -> Result<usize, Error>
         ensures ok { IfOk result (IsPlaceOf self.now (skeleton_form (L.form node.now))) }
         ensures full { IsErrOf result Error.OutOfSlots → HasManyPlaces (L.form node.now) }
@@ -75,7 +75,7 @@ impl<L: Language> Skeletons<L> {
     }
 }
 
-/// Whether a node has too many places and children for a skeleton.
+/// Returns whether a node has too many places and children for a skeleton.
 pub(crate) fn has_many_places<L: Language>(node: &L) -> bool
     ensures { IsTrue result ↔ HasManyPlaces (L.form node.now) }
 {
@@ -83,7 +83,7 @@ pub(crate) fn has_many_places<L: Language>(node: &L) -> bool
     places >= PLACES || node.applied_id_count() >= PLACES - places
 }
 
-// The skeleton of a node, if it has few enough places.
+// Returns the skeleton of a node, or `OutOfSlots` if it has too many places.
 fn small_skeleton<L: Language>(alloc: Global, node: &L) -> Result<L, Error>
     ensures ok { IfOk result (λ n. L.form n ≡ skeleton_form (L.form node.now)) }
     ensures full { IsErrOf result Error.OutOfSlots → HasManyPlaces (L.form node.now) }

@@ -1,5 +1,7 @@
-//! The abstract graph: classes by their canonical nodes, the terms that applied ids stand for, and which id stands for a term.
-//! The definitions stand in `specs`. This crate has no program: its functions owe their laws.
+//! The abstract graph: classes by their syntactic e-nodes, the terms that applied ids stand for, and the id that
+//! stands for a term.
+//!
+//! The definitions stand in `specs`. The crate has no program: its functions prove the laws.
 #![tactic(auto)]
 
 ghost use Rattle.slotted_model.specs.Claims.{Laws};
@@ -10,11 +12,13 @@ pub mod extraction;
 pub mod rest;
 pub mod soundness;
 
-/// The laws that show the definitions to mean what they say.
+/// Proves the laws that show the definitions to mean what they say.
 ///
 /// A full id stands for one term, which has the id's names, moves with them, and tells the id apart from all others.
-/// A tree is looked up exactly if some full id stands for it. A new class changes nothing of what was there.
-/// Of an id that lacks names it does not matter by which names it is filled, as long as they are new.
+///
+/// A tree is looked up if and only if some full id stands for it. A new class changes nothing of what was there.
+///
+/// If an id omits names, it does not matter by which names it is filled, as long as they are new.
 pub fn laws_hold()
     ensures { Laws }
 {}

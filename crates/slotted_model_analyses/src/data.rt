@@ -2,8 +2,8 @@
 
 ghost use Rattle.slotted_model_analyses.specs.DataClaims.{DataLaws};
 
-/// The laws of data alone, of any type, whose merge is commutative, associative, idempotent, and lowers what it
-/// changes.
+/// Proves the laws of data alone, of any type, whose merge is commutative, associative, idempotent, and lowers what
+/// it changes.
 ///
 /// Data is ordered by what it absorbs, and a merge is the greatest that absorbs both. So merging a value again
 /// changes nothing, and the order in which values are merged does not matter.

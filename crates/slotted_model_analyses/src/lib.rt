@@ -1,5 +1,6 @@
 //! Analyses: data for each class of the abstract graph, which goes along with its changes and is merged upwards.
-//! The definitions stand in `specs`. This crate has no program: its functions owe their laws.
+//!
+//! The definitions stand in `specs`. The crate has no program: its functions prove the laws.
 #![tactic(auto)]
 
 pub mod carry;

@@ -1,5 +1,7 @@
-//! Substitution without capture, instances of patterns, matching, rules and runs: what rewriting stands on, over the
-//! abstract graph. The definitions stand in `specs`. This crate has no program: its functions owe their laws.
+//! Substitution without capture, instances of patterns, matching, rules and runs: the mathematics of rewriting, over
+//! the abstract graph.
+//!
+//! The definitions stand in `specs`. The crate has no program: its functions prove the laws.
 #![tactic(auto)]
 
 pub mod matcher;

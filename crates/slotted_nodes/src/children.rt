@@ -22,83 +22,88 @@ use std::hash::Hash;
 
 /// A part of a node, or a whole node, read by its places.
 ///
-/// The *places* are where slots stand, from the left: a slot is one place, a child has one place for each value of its
-/// map in key order, and a binder is a place before those of what stands under it. The *children* are the applied ids,
-/// from the left. Places and children are counted from 0, and a call that is handed the number of a place needs it to be
-/// below `slot_count`.
+/// The *places* are the positions of slots, from the left. A slot is one place. A child has one place for each value
+/// of its map, in key order. A binder is a place before those under it.
 ///
-/// What a part is, apart from how it is stored, is its `form`: an operator, its payloads, the tree of its arguments
+/// The *children* are the applied ids, from the left. Places and children are counted from 0, and a call that takes a
+/// place needs it to be below `slot_count`.
+///
+/// The `form` is what a part is, apart from how it is stored: an operator, its payloads, the tree of its arguments
 /// without names, and the names at its places. Each call says what it reads of the form, or which form it leaves.
-/// From that alone it follows that a call that writes a place or a child changes nothing else, that scopes nest or lie
-/// apart and hold whole children, and that they do not depend on names.
+///
+/// So a call that writes a place or a child changes nothing else. Scopes nest or lie apart, hold whole children, and
+/// do not depend on names.
 pub trait LanguageChildren: Debug + Clone + Hash + Eq + Drop {
-    // What the part is.
+    // The form of a part.
     ghost form: { Self → Form };
 
-    // What it is written as.
+    // The elements that a part is written as.
     ghost shown: { Self → List Element };
 
-    // What a list of elements writes.
+    // The form that a list of elements writes.
     ghost read: { List Element → Option Form };
 
-    /// A part that equals this one.
+    /// Returns a part that equals this one.
     fn copy(&self, alloc: Global) -> Result<Self, Error>
         ensures ok { IfOk result (λ c. c ≡ self.now) }
         ensures err { IfErr result IsOutOfMemory };
 
-    /// How many places there are, or the largest number where there are more.
+    /// Returns the number of places, or the largest `usize` if there are more.
     fn slot_count(&self) -> usize
         ensures { result ≡ counted (length (form self.now).names) };
 
-    /// The name at a place.
+    /// Returns the name at a place.
     fn slot(&self, i: usize) -> Slot
         requires { IsPlace (form self.now) i }
         ensures { result ≡ slice_index (form self.now).names i };
 
-    /// Puts another name at a place.
+    /// Replaces the name at a place.
     fn set_slot(&mut self, i: usize, s: Slot)
         requires { IsPlace (form self.old) i }
         ensures { form self.new ≡ with_name (form self.old) i s };
 
-    /// The place after the scope of a binder, which begins right after the binder, or the largest number where it is a larger
-    /// one. It is None for what is no binder.
+    /// Returns the place after the scope of a binder, or `None` if the place is no binder.
+    ///
+    /// The scope begins right after the binder. If its end is above the largest `usize`, that number is returned.
     fn scope_end(&self, i: usize) -> Option<usize>
         requires { IsPlace (form self.now) i }
         ensures { result ≡ counted_end (scope_end_of (scopes (form self.now).tree) i) };
 
-    /// How many children there are.
+    /// Returns the number of children.
     fn applied_id_count(&self) -> usize
         ensures { result ≡ length (children (form self.now).tree) };
 
-    /// A child, or None past the last one.
+    /// Returns a child, or `None` past the last one.
     fn get_applied_id(&self, k: usize) -> Option<&AppliedId>
         ensures some { IsSome result ↔ (k < length (children (form self.now).tree)) }
         ensures id { IfSome result (λ a. a.now.id.0 ≡ child_id (form self.now) k) }
         ensures keys { IfSome result (λ a. keys a.now.m ≡ child_keys (form self.now) k) }
         ensures names { IfSome result (λ a. values a.now.m ≡ child_names (form self.now) k) };
 
-    /// The first place of a child, or the largest number where it is a larger one. Where the child has no places, it is the
-    /// place that its first one would have.
+    /// Returns the first place of a child. If the child has no places, this is the place that its first one would
+    /// have.
+    ///
+    /// If the place is above the largest `usize`, that number is returned.
     fn applied_id_place(&self, k: usize) -> usize
         requires { k < length (children (form self.now).tree) }
         ensures { result ≡ counted (child_place (form self.now).tree k) };
 
-    /// Puts another child in the place of a child.
+    /// Replaces a child.
     fn set_applied_id(&mut self, k: usize, a: AppliedId)
         requires { k < length (children (form self.old).tree) }
         ensures { form self.new ≡ with_applied (form self.old) k a };
 
-    /// The syntax: texts, slots and children as they are written, from the left.
+    /// Returns the syntax: texts, slots and children as they are written, from the left.
     fn to_syntax(&self, alloc: Global) -> Result<Vec<SyntaxElem>, Error>
         ensures ok { IfOk result (λ v. map element_of v.items ≡ shown self.now) }
         ensures err { IfErr result IsOutOfMemory };
 
-    /// The part that these elements write, or None where they write none.
+    /// Returns the part that these elements write, or `None` if they write none.
     fn from_syntax(alloc: Global, elements: &[SyntaxElem]) -> Result<Option<Self>, Error>
         ensures ok { IfOk result (λ o. option_map form o ≡ read (map element_of elements.now)) }
         ensures err { IfErr result IsOutOfMemory };
 
-    /// A child.
+    /// Returns a child.
     final fn applied_id(&self, k: usize) -> &AppliedId
         requires { k < length (children (form self.now).tree) }
         ensures id { result.now.id.0 ≡ child_id (form self.now) k }
@@ -108,7 +113,7 @@ pub trait LanguageChildren: Debug + Clone + Hash + Eq + Drop {
         self.get_applied_id(k).unwrap()
     }
 
-    /// Whether a place is public: it is no binder, and no binder that scopes it has its name.
+    /// Returns whether a place is public: it is no binder, and no binder that scopes it has its name.
     final fn is_public(&self, i: usize) -> bool
         requires { IsPlace (form self.now) i }
         ensures test { result ≡ is_public (form self.now) i }
@@ -129,16 +134,16 @@ pub trait LanguageChildren: Debug + Clone + Hash + Eq + Drop {
         true
     }
 
-    // There are as many names as the tree has places.
+    // A part has as many names as its tree has places.
     ghost fits: { (a : Self) → length (form a).names ≡ length (scopes (form a).tree) };
 
     // The children can be counted.
     ghost few: { (a : Self) → length (children (form a).tree) < slot_limit };
 
-    // Two parts are equal exactly if operator, payloads, places and children are.
+    // Two parts are equal if and only if operator, payloads, places and children are.
     ghost same: { (a b : Self) → IsTrue (Self.eq a b) ↔ form a ≡ form b };
 
-    // What is read makes up neither slots nor children: it has those of the elements.
+    // A part that is read has the slots and the children of its elements, and no others.
     ghost faithful: { (es : List Element) → IfSome (read es) (IsReadFrom es) };
 }
 
@@ -185,7 +190,7 @@ impl LanguageChildren for Slot {
         None
     }
 
-    // A slot has no children: what is asked of one is answered without a condition.
+    // A slot has no children, so calls that write or place one need no condition.
     fn applied_id_place(&self, k: usize) -> usize
         ensures { result ≡ 0 }
     {
@@ -271,12 +276,15 @@ impl LanguageChildren for AppliedId {
     }
 }
 
-/// A binder and what stands under it: the slot `slot` is bound in `elem`.
+/// A binder and the part under it: `slot` is bound in `elem`.
 ///
-/// Its first place is the binder, and its scope is all that `elem` has. It is written as the slot, then the element.
+/// The first place is the binder, and its scope is all that `elem` has. A binder is written as the slot, then the
+/// element.
 #[derive(Drop, Debug, Clone, PartialEq, Eq, PartialOrd, Ord, Hash)]
 pub struct Bind<T> {
+    /// The bound slot.
     pub slot: Slot,
+    /// The part under the binder.
     pub elem: T,
 }
 

@@ -1,7 +1,7 @@
 //! Two fields of one node, read as one list of places and one list of children: first those of `a`, then those of `b`.
 //!
-//! These are the calls of [`LanguageChildren`] for a variant with two fields. What has three fields pairs the first with
-//! a struct of the other two.
+//! These are the calls of [`LanguageChildren`] for a variant with two fields. What has three fields pairs the first
+//! with a struct of the other two.
 ghost use Rattle.std.specs.Prelude.{◌≡◌, ◌↔◌, ◌<◌, IsSome, IfSome, length, slice_index};
 ghost use Rattle.slotted_slots.specs.Maps.{keys, values};
 ghost use Rattle.slotted_nodes.specs.Form.{IsPlace, counted, counted_end, children, child_id, child_keys};
@@ -11,14 +11,14 @@ ghost use Rattle.slotted_nodes.specs.Form.{with_applied};
 use crate::children::LanguageChildren;
 use slotted_slots::{AppliedId, Slot};
 
-/// How many places there are, or the largest number where there are more.
+/// Returns the number of places, or the largest `usize` if there are more.
 pub fn slot_count<A: LanguageChildren, B: LanguageChildren>(a: &A, b: &B) -> usize
     ensures { result ≡ counted (length (join_form (A.form a.now) (B.form b.now)).names) }
 {
     a.slot_count().saturating_add(b.slot_count())
 }
 
-/// The name at a place.
+/// Returns the name at a place.
 pub fn slot<A: LanguageChildren, B: LanguageChildren>(a: &A, b: &B, i: usize) -> Slot
     requires { IsPlace (join_form (A.form a.now) (B.form b.now)) i }
     ensures { result ≡ slice_index (join_form (A.form a.now) (B.form b.now)).names i }
@@ -27,7 +27,7 @@ pub fn slot<A: LanguageChildren, B: LanguageChildren>(a: &A, b: &B, i: usize) ->
     if i < n { a.slot(i) } else { b.slot(i - n) }
 }
 
-/// Puts another name at a place.
+/// Replaces the name at a place.
 pub fn set_slot<A: LanguageChildren, B: LanguageChildren>(a: &mut A, b: &mut B, i: usize, s: Slot)
     requires { IsPlace (join_form (A.form a.old) (B.form b.old)) i }
     ensures { join_form (A.form a.new) (B.form b.new) ≡ with_name (join_form (A.form a.old) (B.form b.old)) i s }
@@ -40,7 +40,9 @@ pub fn set_slot<A: LanguageChildren, B: LanguageChildren>(a: &mut A, b: &mut B, 
     }
 }
 
-/// The place after the scope of a binder, or the largest number where it is a larger one. It is None for what is no binder.
+/// Returns the place after the scope of a binder, or `None` if the place is no binder.
+///
+/// If the place is above the largest `usize`, that number is returned.
 pub fn scope_end<A: LanguageChildren, B: LanguageChildren>(a: &A, b: &B, i: usize) -> Option<usize>
     requires { IsPlace (join_form (A.form a.now) (B.form b.now)) i }
     ensures { result ≡ counted_end (scope_end_of (scopes (join_form (A.form a.now) (B.form b.now)).tree) i) }
@@ -56,14 +58,14 @@ pub fn scope_end<A: LanguageChildren, B: LanguageChildren>(a: &A, b: &B, i: usiz
     }
 }
 
-/// How many children there are.
+/// Returns the number of children.
 pub fn applied_id_count<A: LanguageChildren, B: LanguageChildren>(a: &A, b: &B) -> usize
     ensures { result ≡ length (children (join_form (A.form a.now) (B.form b.now)).tree) }
 {
     a.applied_id_count() + b.applied_id_count()
 }
 
-/// A child, or None past the last one.
+/// Returns a child, or `None` past the last one.
 pub fn get_applied_id<'a, A: LanguageChildren, B: LanguageChildren>(
     a: &'a A,
     b: &'a B,
@@ -82,7 +84,7 @@ pub fn get_applied_id<'a, A: LanguageChildren, B: LanguageChildren>(
     }
 }
 
-/// The first place of a child, or the largest number where it is a larger one.
+/// Returns the first place of a child. If the place is above the largest `usize`, that number is returned.
 pub fn applied_id_place<A: LanguageChildren, B: LanguageChildren>(a: &A, b: &B, k: usize) -> usize
     requires { k < length (children (join_form (A.form a.now) (B.form b.now)).tree) }
     ensures { result ≡ counted (child_place (join_form (A.form a.now) (B.form b.now)).tree k) }
@@ -95,7 +97,7 @@ pub fn applied_id_place<A: LanguageChildren, B: LanguageChildren>(a: &A, b: &B, 
     }
 }
 
-/// Puts another child in the place of a child.
+/// Replaces a child.
 pub fn set_applied_id<A: LanguageChildren, B: LanguageChildren>(
     a: &mut A,
     b: &mut B,

@@ -1,7 +1,7 @@
 //! Payloads: parts of a node with neither places nor children, as numbers and words. Each is written as one text.
 //!
-//! Each payload has an implementation of its own, since one implementation for all of them would hide, from a proof
-//! over a concrete language, which implementation a call has.
+//! Each payload has an implementation of its own. One for all of them would hide, from a proof over a concrete
+//! language, which implementation a call has.
 ghost use Rattle.std.specs.Prelude.{◌≡◌, ◌↔◌, ℕ, List, [], ◌∷◌, Option, Some, None, option_map};
 ghost use Rattle.std.specs.Prelude.{decimal, nat_eq, IsTrue, IfOk, IfErr, MatchResult, refl};
 ghost use Rattle.std.specs.Cmp.Lexicographic.{pointwise, slice_cmp, lists_per, lists_equiv, lists_total, lists_ties};
@@ -34,11 +34,11 @@ pub(crate) mod texts;
 pub mod truth;
 pub mod unsigned;
 
-/// A word. It is seen as its bytes, and ordered by them. A word of up to 22 bytes takes no memory of its own.
+/// A word, seen as its bytes and ordered by them. A word of up to 22 bytes takes no memory of its own.
 #[derive(Drop)]
 pub struct Symbol(Text);
 
-// Where the text of a word stands.
+// The text of a word, which is kept inline if it is short.
 #[derive(Drop)]
 enum Text {
     Short(ArrayString<22>),
@@ -56,7 +56,7 @@ impl Model for Symbol {
 }
 
 impl Symbol {
-    /// The word of these bytes.
+    /// Returns the word with the bytes of a text.
     pub fn from_text(alloc: Global, text: &str) -> Result<Symbol, Error>
         ensures ok { IfOk result (λ w. w ≡ text.now) }
         ensures err { IfErr result IsOutOfMemory }
@@ -67,7 +67,7 @@ impl Symbol {
         }
     }
 
-    /// The text of the word.
+    /// Returns the text of the word.
     pub fn as_str(&self) -> &str
         ensures { result.now ≡ self.now }
     {
@@ -78,7 +78,7 @@ impl Symbol {
     }
 }
 
-// It prints as a struct around its text.
+// Prints a struct around the text.
 impl fmt::Debug for Symbol {
     fn fmt<W: fmt::Write>(&self, f: &mut fmt::Formatter<W>) -> fmt::Result {
         f.debug_tuple("Symbol").field(&self.as_str()).finish()
@@ -169,7 +169,7 @@ impl LanguageChildren for Symbol {
         0
     }
 
-    // A payload has neither places nor children: what is asked of one is answered without a condition.
+    // A payload has neither places nor children, so calls about one need no condition.
     fn slot(&self, i: usize) -> Slot
         ensures { result ≡ 0 }
     {

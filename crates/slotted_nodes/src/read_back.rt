@@ -1,4 +1,4 @@
-//! Languages whose nodes read back from what they are written as.
+//! Languages whose nodes are read back from what they are written as.
 ghost use Rattle.std.specs.Prelude.{◌≡◌, List, [], ◌∷◌, Some, IfSome, option_map, decimal, encode_utf8, refl};
 ghost use Rattle.std.proofs.Common.{lit<};
 ghost use Rattle.slotted_slots.specs.Syntax.{Element};
@@ -13,19 +13,20 @@ use crate::children::{Bind, LanguageChildren};
 use crate::payload::Symbol;
 use slotted_slots::{AppliedId, Slot};
 
-/// A language, or a part of its nodes, that reads back: what was read from elements whose texts are identifier tokens is
-/// written as such elements again, and these read as the same.
+/// A language, or a part of its nodes, that is read back as it was written.
 ///
-/// So what a parsed term prints can be parsed again. A language is no such one if what it writes of a node reads as
-/// another node, or as none.
+/// Let a node be read from elements whose texts are identifier tokens. Then the node is written as such elements
+/// again, and these are read as the same node. So a parsed term can be parsed again from what it prints.
+///
+/// A language is not of this kind if it writes a node as elements that are read as another node, or as none.
 pub trait ReadBack: LanguageChildren {
     // Its texts are identifier tokens too.
     ghost words: { WritesIdentifiers Self.form Self.shown Self.read };
 
-    // It reads as the same.
+    // What is written is read as the same node.
     ghost back: { ReadsAgain Self.form Self.shown Self.read };
 
-    // Its children are null where the applied ids of the elements are.
+    // Its children are null if the applied ids of the elements are.
     ghost null: { (es : List Element) → HasNullIds es → IfSome (Self.read es) HasNullChildren };
 }
 

@@ -1,4 +1,4 @@
-//! Which ids and nodes are of the graph, and adding by canonical nodes.
+//! Tests of which ids and e-nodes are of the graph, and adding by syntactic e-nodes.
 ghost use Rattle.std.specs.Prelude.{◌≡◌, ◌↔◌, ◌+◌, length, IsTrue, IfOk, IfErr, OnOk, IsErrOf, All};
 ghost use Rattle.slotted_slots.specs.Error.{IsOutOfMemory, IsShortage};
 ghost use Rattle.slotted_slots.specs.Maps.{keys, values};
@@ -30,9 +30,9 @@ use slotted_terms::expr::RecExpr;
 use slotted_terms::flat::flatten;
 use std::alloc::Global;
 
-// Testing.
+// Tests.
 
-/// Whether the id is one of a class, with different names for exactly its slots.
+/// Returns whether the id is full: it has different names for exactly the canonical slots of its class.
 pub fn is_full<L: Language>(store: &Store<L>, a: &AppliedId) -> bool
     requires { Good store.now }
     ensures { IsTrue result ↔ IsFull (nodes_of store.now) (to_applied a.now) }
@@ -46,7 +46,7 @@ pub fn is_full<L: Language>(store: &Store<L>, a: &AppliedId) -> bool
     a.m.is_bijection()
 }
 
-/// Whether the id is one of a class, with different known names for exactly its slots.
+/// Returns whether the id is full, and the table knows its names.
 pub fn is_full_id<L: Language>(store: &Store<L>, table: &SlotTable, a: &AppliedId) -> bool
     requires { Good store.now }
     ensures { IsTrue result ↔ IsFullOver table.now store.now a.now }
@@ -54,7 +54,8 @@ pub fn is_full_id<L: Language>(store: &Store<L>, table: &SlotTable, a: &AppliedI
     is_full(store, a) && values_are_known(table, &a.m)
 }
 
-// Whether the id is one of a class, with different names for canonical slots of it, among them all that its class finds.
+// Returns whether the id has different names for canonical slots of its class, among them all slots that the class
+// uses.
 fn can_be_found<L: Language>(store: &Store<L>, a: &AppliedId) -> bool
     requires { Good store.now }
     ensures { IsTrue result ↔ IsFindable store.now (to_applied a.now) }
@@ -68,7 +69,8 @@ fn can_be_found<L: Language>(store: &Store<L>, a: &AppliedId) -> bool
     store.has_found_names(a) && a.m.is_bijection()
 }
 
-/// The same, with known names.
+/// Returns whether the id is valid: it has different known names for canonical slots of its class, among them all
+/// slots that the class uses.
 pub fn is_valid<L: Language>(store: &Store<L>, table: &SlotTable, a: &AppliedId) -> bool
     requires { Good store.now }
     ensures { IsTrue result ↔ IsIdOver table.now store.now a.now }
@@ -76,7 +78,7 @@ pub fn is_valid<L: Language>(store: &Store<L>, table: &SlotTable, a: &AppliedId)
     can_be_found(store, a) && values_are_known(table, &a.m)
 }
 
-// Whether each child of the node is an id that finds.
+// Returns whether `find` can map each child of the e-node.
 fn children_can_be_found<L: Language>(store: &Store<L>, node: &L) -> bool
     requires { Good store.now }
     ensures { IsTrue result ↔ All (IsFindable store.now) (child_ids (L.form node.now)) }
@@ -89,7 +91,7 @@ fn children_can_be_found<L: Language>(store: &Store<L>, node: &L) -> bool
     true
 }
 
-/// Whether the node has fewer than 2^30 places, known slots, and children that find.
+/// Returns whether the e-node has fewer than 2^30 places, known slots, and children that `find` can map.
 pub fn is_valid_node<L: Language>(store: &Store<L>, table: &SlotTable, node: &L) -> bool
     requires { Good store.now }
     ensures { IsTrue result ↔ IsNodeOver table.now store.now (L.form node.now) }
@@ -101,7 +103,8 @@ pub fn is_valid_node<L: Language>(store: &Store<L>, table: &SlotTable, node: &L)
 
 // Adding.
 
-// The class that holds the node's shape, or a new one, which is not filed yet, with the node's names put in.
+// Returns the class that was made with an e-node of this shape, with the e-node's names put in. If there is none,
+// makes a class, which is not filed yet.
 fn made<L: Language>(
     store: &mut Store<L>,
     alloc: Global,
@@ -128,7 +131,7 @@ fn made<L: Language>(
     Ok(AppliedId { id, m })
 }
 
-// The names with a fresh slot in the place of each value, and the map from these slots to the values.
+// Returns the names with a fresh slot in place of each value, and the map from these slots to the values.
 fn fresh_names(
     alloc: Global,
     table: &mut SlotTable,
@@ -149,7 +152,8 @@ fn fresh_names(
     Ok((slots, m))
 }
 
-/// The class that holds the node's shape, or a new one, with the node's names put in. A new one is filed, and all is rebuilt.
+/// Returns the class that was made with an e-node of this shape, with the e-node's names put in. If there is none,
+/// adds a class, files it, and rebuilds.
 pub fn add_syn<L: Language>(
     store: &mut Store<L>,
     nodes: &mut Hashcons<L>,
@@ -178,7 +182,7 @@ pub fn add_syn<L: Language>(
     Ok(answer)
 }
 
-/// The id of the term, whose nodes are added from below.
+/// Returns the id of the term. Its e-nodes are added from below, as `add_syn` does.
 pub fn add_syn_expr<L: Language>(
     store: &mut Store<L>,
     nodes: &mut Hashcons<L>,
@@ -212,7 +216,7 @@ pub fn add_syn_expr<L: Language>(
     }
 }
 
-// The class of a row, with these names for the numbers of the row's shape.
+// Returns the class of a row, with these names for the numbers of the row's shape.
 fn class_of_row(alloc: Global, row: &Row, names: &SlotMap) -> Result<AppliedId, Error>
     requires { length row.now.names ≡ length names.now }
     ensures ok { IfOk result (λ a. to_applied a ≡ (row.now.source.0, between row.now.names names.now)) }

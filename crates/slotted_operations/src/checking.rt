@@ -18,7 +18,7 @@ use slotted_proofs::{Equation, ProvenEq};
 use slotted_slots::Error;
 use std::alloc::Global;
 
-// Whether both sides are ids of classes, with different names for exactly their slots.
+// Returns whether both sides of an equation are full ids.
 fn is_of_full<L: Language>(store: &Store<L>, equation: &Equation) -> bool
     requires { Good store.now }
     ensures { IsTrue result ↔ IsOfFull (nodes_of store.now) equation.now }
@@ -26,7 +26,7 @@ fn is_of_full<L: Language>(store: &Store<L>, equation: &Equation) -> bool
     is_full(store, &equation.l) && is_full(store, &equation.r)
 }
 
-/// The equation, if it is one of full ids, and both sides are equal.
+/// Enters the equation if it is one of full ids, and both sides are equal. Returns its number.
 pub fn check_reflexive<L: Language>(
     store: &mut Store<L>,
     alloc: Global,
@@ -46,7 +46,7 @@ pub fn check_reflexive<L: Language>(
     store.prove_reflexive(alloc, equation)
 }
 
-/// The equation, if it is one of full ids, and that of the part, turned round, matches it.
+/// Enters the equation if it is one of full ids, and that of the part, turned round, matches it. Returns its number.
 pub fn check_symmetric<L: Language>(
     store: &mut Store<L>,
     alloc: Global,
@@ -67,8 +67,8 @@ pub fn check_symmetric<L: Language>(
     store.prove_symmetric(alloc, equation, p)
 }
 
-/// The equation, if it is one of full ids, and those of the two parts, one after the other, give it by some names for the
-/// middle.
+/// Enters the equation if it is one of full ids, and those of the two parts, one after the other, give it by some
+/// names for the middle. Returns its number.
 pub fn check_transitive<L: Language>(
     store: &mut Store<L>,
     alloc: Global,
@@ -90,8 +90,10 @@ pub fn check_transitive<L: Language>(
     store.prove_transitive(alloc, equation, p, q)
 }
 
-/// The equation, if it is one of full ids whose canonical nodes, with the names of the sides put in, agree but for their
-/// children, and that of each part matches the equation of the children there.
+/// Enters the equation if it is one of full ids whose syntactic e-nodes agree up to their children, and each part
+/// matches the equation of the children there. Returns its number.
+///
+/// The syntactic e-nodes have the names of the sides put in.
 pub fn check_congruent<L: Language>(
     store: &mut Store<L>,
     alloc: Global,

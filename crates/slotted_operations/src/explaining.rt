@@ -1,4 +1,4 @@
-//! Explanations: the proof that two terms are equal.
+//! Explanations: proofs that two terms are equal.
 ghost use Rattle.std.specs.Prelude.{◌+◌, IfErr, IfOk, IsErrOf};
 ghost use Rattle.slotted_slots.specs.Error.{IsShortage};
 ghost use Rattle.slotted_slots.specs.Table.{KnowsMore};
@@ -24,8 +24,8 @@ use slotted_unions::proving::bridge;
 use slotted_unions::shortening::compress_paths;
 use std::alloc::Global;
 
-/// Adds two terms, and returns the proof that they are equal, or `None` if their ids do not find alike. Paths of finds are compressed at the
-/// end.
+/// Returns the proof that two terms are equal, or `None` if their ids are not found equal. The terms are added first.
+/// Paths that were walked are compressed at the end.
 pub fn explain<L: Language>(
     store: &mut Store<L>,
     nodes: &mut Hashcons<L>,
@@ -54,7 +54,7 @@ pub fn explain<L: Language>(
     Ok(answer)
 }
 
-// The proof that two full ids are equal, where they find alike.
+// Returns the proof that two full ids are equal, or `None` if they are not found equal.
 fn bridge_if_alike<L: Language>(
     store: &mut Store<L>,
     alloc: Global,

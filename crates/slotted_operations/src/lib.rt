@@ -1,5 +1,7 @@
-//! What a graph is made of: which ids, nodes and terms are its own, adding, uniting, explaining, canonical nodes and terms, and checked steps,
-//! as functions over what is kept. `EGraph` of `slotted_graph` calls them.
+//! The operations of a graph, as functions over its parts. `EGraph` of `slotted_graph` calls them.
+//!
+//! They test ids, e-nodes and terms, add, unite and explain, give syntactic e-nodes and canonical terms, and check
+//! steps.
 #![tactic(auto)]
 
 pub mod adding;

@@ -1,4 +1,4 @@
-//! Adding by look-up, over ids that may lack names.
+//! Adding by look-up, over ids that may omit names of redundant slots.
 ghost use Rattle.std.specs.Prelude.{IfErr, IfOk, IsErrOf};
 ghost use Rattle.slotted_slots.specs.Error.{IsShortage};
 ghost use Rattle.slotted_slots.specs.Table.{KnowsMore};
@@ -24,7 +24,8 @@ use slotted_terms::expr::RecExpr;
 use slotted_terms::flat::flatten;
 use std::alloc::Global;
 
-/// The class that was made with the node, whose children are filled first, or a new one, with the node's names put in.
+/// Returns the class that was made with the e-node, whose children are filled first, with the e-node's names put in.
+/// If there is none, adds a class.
 pub fn add_filled<L: Language>(
     store: &mut Store<L>,
     nodes: &mut Hashcons<L>,
@@ -51,7 +52,8 @@ pub fn add_filled<L: Language>(
     Ok(answer)
 }
 
-/// What the node is looked up as. Where it is not, a class is made of it, whose children are filled first.
+/// Returns what the e-node is looked up as. If there is no answer, adds a class of the e-node, whose children are
+/// filled first.
 pub fn add<L: Language>(
     store: &mut Store<L>,
     nodes: &mut Hashcons<L>,
@@ -82,7 +84,8 @@ pub fn add<L: Language>(
     }
 }
 
-/// What the term is looked up as, from its innermost nodes on. Classes are made of the nodes that are not.
+/// Returns what the term is looked up as, from its innermost e-nodes on. Adds a class for each e-node for which there
+/// is no answer.
 pub fn add_expr<L: Language>(
     store: &mut Store<L>,
     nodes: &mut Hashcons<L>,

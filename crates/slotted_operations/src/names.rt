@@ -1,4 +1,4 @@
-//! Maps of names that a new class takes, and what ids and nodes are tested for.
+//! Maps of names for a new class, and tests of the names of ids and e-nodes.
 ghost use Rattle.std.specs.Prelude.{◌≡◌, ◌↔◌, ◌+◌, ◌≤◌, ◌^◌, ℕ, length, Contains, IsTrue, IfErr, OnOk};
 ghost use Rattle.slotted_theory.specs.FiniteMaps.{IsInjectiveMap};
 ghost use Rattle.slotted_terms.specs.Valid.{AllKnown};
@@ -13,10 +13,10 @@ use slotted_classes::names::has_value;
 use slotted_languages::Language;
 use slotted_slots::{Error, SlotMap, SlotTable};
 
-/// Nodes with as many places or more are refused.
+/// The number of places from which on an e-node cannot be numbered.
 pub const PLACES: usize = 1 << 30;
 
-/// Puts a fresh slot in the place of each value.
+/// Replaces each value by a fresh slot.
 pub fn renew_values(map: &mut SlotMap, table: &mut SlotTable) -> Result<(), Error>
     ensures keys { OnOk result (keys map.new ≡ keys map.old) }
     ensures values { OnOk result (values map.new ≡ fresh_slots table.old.fresh (length map.old)) }
@@ -33,7 +33,7 @@ pub fn renew_values(map: &mut SlotMap, table: &mut SlotTable) -> Result<(), Erro
     Ok(())
 }
 
-/// Whether the values of one map, which are all different, are the keys of the other.
+/// Returns whether the values of one map, which are all different, are the keys of the other.
 pub fn values_are_keys(slots: &SlotMap, map: &SlotMap) -> bool
     requires { IsInjectiveMap slots.now }
     ensures { IsTrue result ↔ (keys map.now ≡ ascending (values slots.now)) }
@@ -49,7 +49,7 @@ pub fn values_are_keys(slots: &SlotMap, map: &SlotMap) -> bool
     true
 }
 
-/// Whether each key of one map is a value of the other. The keys ascend.
+/// Returns whether each key of one map is a value of the other. The keys ascend.
 pub fn keys_are_values(map: &SlotMap, slots: &SlotMap) -> bool
     ensures within { IsTrue result ↔ ((s : ℕ) → Contains (keys map.now) s → Contains (values slots.now) s) }
     ensures ascending { IsAscending (keys map.now) }
@@ -62,7 +62,7 @@ pub fn keys_are_values(map: &SlotMap, slots: &SlotMap) -> bool
     true
 }
 
-/// Whether the table knows each value of the map.
+/// Returns whether the table knows each value of the map.
 pub fn values_are_known(table: &SlotTable, map: &SlotMap) -> bool
     ensures { IsTrue result ↔ AllKnown table.now (values map.now) }
 {
@@ -74,7 +74,7 @@ pub fn values_are_known(table: &SlotTable, map: &SlotMap) -> bool
     true
 }
 
-/// Whether the table knows the slot at each place of the node.
+/// Returns whether the table knows the slot at each place of the e-node.
 pub fn places_are_known<L: Language>(table: &SlotTable, node: &L) -> bool
     requires { IsSmall (L.form node.now) }
     ensures { IsTrue result ↔ AllKnown table.now (L.form node.now).names }

@@ -1,4 +1,4 @@
-//! The equation that a union asserts: that of its two ids, whatever names are filled in for those that they lack.
+//! The equation that a union asserts: that of its two ids, whatever names are filled in for those that they omit.
 ghost use Rattle.std.specs.Prelude.{◌≡◌, ◌↔◌, IsTrue, IfErr, IfOk, IsErrOf};
 ghost use Rattle.slotted_theory.specs.FiniteMaps.{IsInjectiveMap};
 ghost use Rattle.slotted_slots.specs.Error.{IsOutOfMemory, IsShortage};
@@ -19,7 +19,7 @@ use slotted_proofs::{Equation, ProvenEq};
 use slotted_slots::{AppliedId, Error, SlotMap};
 use std::alloc::Global;
 
-// Whether an id has a name for each canonical slot of its class.
+// Returns whether an id has a name for each canonical slot of its class.
 fn has_all_names<L: Language>(store: &Store<L>, a: &AppliedId) -> bool
     requires good { Good store.now }
     requires findable { IsFindable store.now (to_applied a.now) }
@@ -28,7 +28,7 @@ fn has_all_names<L: Language>(store: &Store<L>, a: &AppliedId) -> bool
     a.m.len() == store.names_of(a.id.0).len()
 }
 
-// Whether both of two ids have.
+// Returns whether each of two ids has a name for each canonical slot of its class.
 fn have_all_names<L: Language>(store: &Store<L>, l: &AppliedId, r: &AppliedId) -> bool
     requires good { Good store.now }
     requires left { IsFindable store.now (to_applied l.now) }
@@ -39,7 +39,7 @@ fn have_all_names<L: Language>(store: &Store<L>, l: &AppliedId, r: &AppliedId) -
     has_all_names(store, l) && has_all_names(store, r)
 }
 
-// The class of an id, with each of its canonical slots as its name.
+// Returns the class of an id, with each of its canonical slots as its name.
 fn own_id<L: Language>(store: &Store<L>, alloc: Global, a: &AppliedId) -> Result<AppliedId, Error>
     requires good { Good store.now }
     requires findable { IsFindable store.now (to_applied a.now) }
@@ -54,7 +54,7 @@ fn own_id<L: Language>(store: &Store<L>, alloc: Global, a: &AppliedId) -> Result
     })
 }
 
-// For each slot on the right the slot on the left that has its name.
+// Returns the map from slots on the right to the slots on the left that have the same names.
 fn partners(alloc: Global, l: &SlotMap, r: &SlotMap) -> Result<SlotMap, Error>
     requires { IsInjectiveMap l.now }
     ensures ok { IfOk result (λ m. m ≡ same_names r.now l.now) }
@@ -65,7 +65,7 @@ fn partners(alloc: Global, l: &SlotMap, r: &SlotMap) -> Result<SlotMap, Error>
     Ok(partners)
 }
 
-// The equation over the slots of two ids in which those share a name that have one name in two maps.
+// Returns the equation over the slots of two ids in which those slots share a name that have one name in two maps.
 fn equation_over(
     alloc: Global,
     left: &AppliedId,
@@ -84,8 +84,8 @@ fn equation_over(
     Ok(equation)
 }
 
-// The equation of the classes of two ids over all their canonical slots, in which two slots share a name where the ids have one name
-// at both.
+// Returns the equation of the classes of two ids over all their canonical slots. Two slots share a name if the ids
+// have one name for both.
 fn class_equation<L: Language>(
     store: &Store<L>,
     alloc: Global,
@@ -105,7 +105,7 @@ fn class_equation<L: Language>(
     Ok(equation)
 }
 
-// That two ids are equal, where one of them lacks a name: the equation of their classes.
+// Enters that two ids are equal, one of which omits a name, by the equation of their classes.
 fn assert_classes<L: Language>(
     store: &mut Store<L>,
     alloc: Global,
@@ -126,8 +126,10 @@ fn assert_classes<L: Language>(
     Ok(p)
 }
 
-/// Two ids are equal because the caller says so. What is entered is the equation of any two ids that fill them by names apart: these
-/// have one equation, and need not be made.
+/// Enters that two ids are equal because the caller says so.
+///
+/// The equation is that of any two full ids that fill them by different names. All such ids have one equation, and
+/// need not be made.
 pub(crate) fn assert_sides<L: Language>(
     store: &mut Store<L>,
     alloc: Global,

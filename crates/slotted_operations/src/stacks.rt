@@ -1,4 +1,4 @@
-//! Nodes over the ids and the terms on a stack.
+//! E-nodes over the ids and the terms on a stack.
 ghost use Rattle.std.specs.Prelude.{◌≡◌, ◌≤◌, ◌-◌, ◌++◌, [], ◌∷◌, length, map, take, drop, reverse, IfOk, IfErr, OnOk};
 ghost use Rattle.slotted_slots.specs.Error.{IsOutOfMemory};
 ghost use Rattle.slotted_nodes.specs.Form.{children};
@@ -14,7 +14,7 @@ use slotted_terms::expr::RecExpr;
 use slotted_terms::flat::FlatNode;
 use std::alloc::Global;
 
-/// The node over as many of the last ids as it has children. They are taken from the list.
+/// Returns the e-node over as many of the last ids as it has children, and removes these from the list.
 pub fn over_last<L: Language>(node: FlatNode<L>, ids: &mut Vec<AppliedId>) -> L
     requires { length (children (L.form node.node).tree) ≤ length ids.old.items }
     ensures beside { IsBeside (L.form node.node) (L.form result) }
@@ -32,7 +32,7 @@ pub fn over_last<L: Language>(node: FlatNode<L>, ids: &mut Vec<AppliedId>) -> L
     node
 }
 
-/// Adds the node's children to the ids that are left, the last one first.
+/// Adds the e-node's children to the ids that are left, the last one first.
 pub fn push_children<L: Language>(
     alloc: Global,
     node: &L,
@@ -51,7 +51,8 @@ pub fn push_children<L: Language>(
     Ok(())
 }
 
-// The term of the node over as many of the last terms as stand under it, of which the last one comes first. They are taken from the list.
+// Returns the term of the e-node over as many of the last terms as stand under it, of which the last one comes first.
+// Removes these from the list.
 fn over_first<L: Language>(
     node: FlatNode<L>,
     done: &mut Vec<RecExpr<L>>,
@@ -67,7 +68,7 @@ fn over_first<L: Language>(
     Ok(RecExpr { node, children })
 }
 
-/// The term of a list of nodes, each before those of the terms under it, which follow from the left.
+/// Returns the term of a list of e-nodes, each before those of the terms under it, which follow from the left.
 pub fn assemble<L: Language>(
     alloc: Global,
     mut nodes: Vec<FlatNode<L>>,

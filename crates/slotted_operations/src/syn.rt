@@ -1,4 +1,5 @@
-//! Canonical nodes and terms, with the names of an id put in. Names that the id lacks are filled in first, by fresh slots.
+//! Syntactic e-nodes and canonical terms, with the names of an id put in. Names that the id omits are filled in
+//! first, by fresh slots.
 ghost use Rattle.std.specs.Prelude.{◌≡◌, ◌<◌, ◌*◌, map, IfOk, IfErr, IsErrOf, All};
 ghost use Rattle.slotted_theory.specs.Nameless.{nameless};
 ghost use Rattle.slotted_slots.specs.Error.{IsShortage};
@@ -27,7 +28,7 @@ use slotted_terms::expr::RecExpr;
 use slotted_terms::flat::FlatNode;
 use std::alloc::Global;
 
-/// The canonical node of an id, which may lack names.
+/// Returns the syntactic e-node of an id, which may omit names of redundant slots.
 pub fn syn_node_of<L: Language>(
     store: &Store<L>,
     alloc: Global,
@@ -47,7 +48,7 @@ pub fn syn_node_of<L: Language>(
     syn_node(store, alloc, table, &filled)
 }
 
-/// The canonical term of an id, which may lack names.
+/// Returns the canonical term of an id, which may omit names of redundant slots.
 pub fn syn_expr_of<L: Language>(
     store: &Store<L>,
     alloc: Global,
@@ -67,7 +68,7 @@ pub fn syn_expr_of<L: Language>(
     syn_expr(store, alloc, table, &filled)
 }
 
-/// The canonical node of an id that lacks no name, with a fresh slot for each binder.
+/// Returns the syntactic e-node of a full id, with a fresh slot for each binder.
 pub fn fresh_node<L: Language>(
     store: &Store<L>,
     alloc: Global,
@@ -90,7 +91,7 @@ pub fn fresh_node<L: Language>(
     node.refresh_private(alloc, table)
 }
 
-// The node that a class was made with, with the id's names put in.
+// Returns the syntactic e-node of the class of a full id, with the id's names put in.
 fn syn_node<L: Language>(
     store: &Store<L>,
     alloc: Global,
@@ -101,7 +102,8 @@ fn syn_node<L: Language>(
     requires full { IsFull (nodes_of store.now) (to_applied a.now) }
     ensures node { IfOk result (λ n. IsNodeOf (nodes_of store.now) (to_applied a.now) (L.form n)) }
 
-    // Its children are full, its places can be numbered, and the table knows its names if it knew those that are put in.
+    // The children of the result are full, and its places can be numbered. The table knows its names if it knew those
+    // that are put in.
     ensures children { IfOk result (λ n. All (IsFull (nodes_of store.now)) (child_ids (L.form n))) }
     ensures small { IfOk result (λ n. IsSmall (L.form n)) }
     ensures known { IfOk result (λ n. KnowsSlotsAnd table.old store.now a.now.m → AllKnown table.new (L.form n).names) }
@@ -115,7 +117,7 @@ fn syn_node<L: Language>(
     store.node_of(a.id.0).apply_slotmap(alloc, &a.m, table)
 }
 
-// The term that an id stands for: the node that its class was made with, over the terms of its children.
+// Returns the canonical term of a full id: the syntactic e-node of its class, over the terms of its children.
 fn syn_expr<L: Language>(
     store: &Store<L>,
     alloc: Global,
@@ -126,7 +128,7 @@ fn syn_expr<L: Language>(
     requires full { IsFull (nodes_of store.now) (to_applied a.now) }
     ensures term { IfOk result (λ t. nameless t ≡ term_of (nodes_of store.now) (to_applied a.now)) }
 
-    // It can be added to a graph over the table, if that knew the names that are put in.
+    // The term can be added to a graph over the table, if the table knew the names that are put in.
     ensures operator { IfOk result (λ t. 0 < t.op) }
     ensures valid { IfOk result (λ t. KnowsSlotsAnd table.old store.now a.now.m → IsValidTerm table.new t) }
 
@@ -141,7 +143,8 @@ fn syn_expr<L: Language>(
     Ok(term)
 }
 
-// The nodes of the term that an id stands for, each before those of the terms under it, which follow from the left.
+// Returns the e-nodes of the canonical term of a full id, each before those of the terms under it, which follow from
+// the left.
 fn syn_nodes<L: Language>(
     store: &Store<L>,
     alloc: Global,
@@ -168,7 +171,8 @@ fn syn_nodes<L: Language>(
     Ok(nodes)
 }
 
-// The node that a class was made with, with the id's names put in. Its children are added to the ids that are left, the last one first.
+// Returns the syntactic e-node of the class of a full id, with the id's names put in. Adds its children to the ids
+// that are left, the last one first.
 fn open_id<L: Language>(
     store: &Store<L>,
     alloc: Global,
@@ -193,7 +197,7 @@ fn open_id<L: Language>(
     Ok(FlatNode { node, count })
 }
 
-/// Puts the null id in the place of each child.
+/// Replaces each child by the null id.
 pub fn forget_children<L: Language>(alloc: Global, node: &mut L)
     ensures { IsBeside (L.form node.old) (L.form node.new) }
 {

@@ -1,4 +1,4 @@
-//! Which terms a graph can take in.
+//! Tests of which terms a graph can take in.
 ghost use Rattle.std.specs.Prelude.{◌↔◌, ◌<◌, ◌≤◌, ◌+◌, length, map, IsTrue, All};
 ghost use Rattle.slotted_theory.specs.Term.{term_size};
 ghost use Rattle.slotted_nodes.specs.Form.{IsSmall};
@@ -11,7 +11,7 @@ use slotted_languages::Language;
 use slotted_slots::SlotTable;
 use slotted_terms::expr::RecExpr;
 
-// Whether the place is one of a child.
+// Returns whether the place is one of a child.
 fn is_child_place<L: Language>(node: &L, i: usize) -> bool
     requires { IsSmall (L.form node.now) }
     ensures { IsTrue result ↔ IsChildPlace (L.form node.now).tree i }
@@ -25,7 +25,7 @@ fn is_child_place<L: Language>(node: &L, i: usize) -> bool
     false
 }
 
-// Whether the place is one of a child, or has a slot that the table knows.
+// Returns whether the place is one of a child, or has a slot that the table knows.
 fn is_known_place<L: Language>(table: &SlotTable, node: &L, i: usize) -> bool
     requires small { IsSmall (L.form node.now) }
     requires within { i < length (L.form node.now).names }
@@ -37,7 +37,7 @@ fn is_known_place<L: Language>(table: &SlotTable, node: &L, i: usize) -> bool
     table.knows(node.slot(i))
 }
 
-// Whether the table knows the slots at the node's own places and binders. Children are not looked at.
+// Returns whether the table knows the slots at the e-node's own places and binders. Children are not read.
 fn own_places_are_known<L: Language>(table: &SlotTable, node: &L) -> bool
     requires { IsSmall (L.form node.now) }
     ensures { IsTrue result ↔ HasKnownPlaces table.now (L.form node.now) }
@@ -50,7 +50,7 @@ fn own_places_are_known<L: Language>(table: &SlotTable, node: &L) -> bool
     true
 }
 
-// Whether the node has so many children, fewer than 2^30 places, and known slots at its own places.
+// Returns whether the e-node has so many children, fewer than 2^30 places, and known slots at its own places.
 fn is_node_over<L: Language>(table: &SlotTable, node: &L, count: usize) -> bool
     ensures { IsTrue result ↔ IsValidOver table.now (L.form node.now) count }
 {
@@ -60,8 +60,10 @@ fn is_node_over<L: Language>(table: &SlotTable, node: &L, count: usize) -> bool
     own_places_are_known(table, node)
 }
 
-/// Whether at each node of the term the number of children is right and the own slots are known. The child ids inside the
-/// nodes are not looked at. A node with 2^30 places or more cannot be read, and is not valid.
+/// Returns whether each e-node of the term has the right number of children, and own slots that the table knows.
+///
+/// The child ids inside the e-nodes are not read. An e-node with 2^30 places or more cannot be numbered, and is not
+/// valid.
 #[cycle(valid)]
 pub fn is_valid_term<L: Language>(table: &SlotTable, term: &RecExpr<L>) -> bool
     ensures operator { 0 < term.now.op }
@@ -84,7 +86,8 @@ pub fn is_valid_term<L: Language>(table: &SlotTable, term: &RecExpr<L>) -> bool
     }
 }
 
-// Adds the term to those that are left. One that finds no memory is asked at once, and only so does the test call itself.
+// Adds the term to those that are left. If memory for this is refused, the term is tested at once: only then does the
+// test call itself.
 #[cycle(valid)]
 fn push_or_ask<'a, L: Language>(
     table: &SlotTable,
@@ -105,7 +108,7 @@ fn push_or_ask<'a, L: Language>(
     }
 }
 
-// The same with some terms in turn.
+// Adds some terms to those that are left, in turn, as `push_or_ask` does.
 #[cycle(valid)]
 fn push_or_ask_all<'a, L: Language>(
     table: &SlotTable,

@@ -1,4 +1,4 @@
-//! Two ids are equal because the caller says so.
+//! Union: two ids are equal because the caller says so.
 ghost use Rattle.std.specs.Prelude.{◌≡◌, false, IfErr, IfOk, IsErrOf};
 ghost use Rattle.slotted_slots.specs.Error.{IsShortage};
 ghost use Rattle.slotted_proofs.specs.Equations.{to_applied};
@@ -18,9 +18,10 @@ use slotted_slots::{AppliedId, Error};
 use slotted_unions::shortening::compress_paths;
 use std::alloc::Global;
 
-/// Asserts that two ids are equal, with a text that says why or without one, and rebuilds. Returns whether they did not find alike. They may
-/// lack names for slots that unions dropped. Finds that were proved step by step are compressed at the end: their classes lead at once to
-/// what they find.
+/// Asserts that two ids are equal, with a text or without one, and rebuilds. Returns true if they were not found
+/// equal before. Paths that were walked are compressed at the end.
+///
+/// The ids may omit names of redundant slots.
 pub fn union<L: Language>(
     store: &mut Store<L>,
     nodes: &mut Hashcons<L>,
@@ -50,7 +51,7 @@ pub fn union<L: Language>(
     Ok(true)
 }
 
-// There was nothing to rebuild, which is noted.
+// Notes that there was nothing to rebuild.
 fn note_rest<L: Language>(store: &mut Store<L>, nodes: &Hashcons<L>)
     ensures { store.new ≡ with_rest_noted store.old nodes.now }
 {
@@ -58,7 +59,7 @@ fn note_rest<L: Language>(store: &mut Store<L>, nodes: &Hashcons<L>)
     store.note(nodes.len(), size, 0);
 }
 
-/// How many of the listed symmetries are open. It takes no memory.
+/// Returns how many of the listed symmetries are open. Takes no memory.
 pub fn open_symmetries<L: Language>(store: &Store<L>) -> usize
     requires { Good store.now }
     ensures { CountsOpen (image_of store.now) store.now.symmetries result }

@@ -13,18 +13,23 @@ use slotted_languages::shape::PLACES;
 use slotted_slots::{Error, Slot};
 use std::alloc::Global;
 
-/// Names of binders on the left and on the right that bind alike, the innermost last.
+/// Pairs of binders that correspond, one of the left node and one of the right. The innermost pair is last.
 pub type Binders = Vec<(Slot, Slot)>;
 
-/// The outlines of two nodes that agree but for names and children, with the skeleton that they have in common.
+/// The outlines of two nodes that agree up to names and children, with the skeleton that they have in common.
 #[derive(Drop)]
 pub struct Outlines<L: Language> {
+    /// The outline of the first node.
     pub one: L,
+    /// The outline of the second node.
     pub two: L,
+    /// The skeleton of both nodes.
     pub skeleton: L,
 }
 
-/// Whether the innermost of the binders that bind either name bind both, or no binder binds one and the names are equal.
+/// Returns whether two names correspond below pairs of binders.
+///
+/// They do if the innermost pair that has one of them has both, or if no pair has one of them and they are equal.
 pub fn same_name(binders: &[(Slot, Slot)], x: Slot, y: Slot) -> bool
     ensures { IsTrue result ↔ (number_in (lefts binders.now) x ≡ number_in (rights binders.now) y) }
 {
@@ -39,7 +44,7 @@ pub fn same_name(binders: &[(Slot, Slot)], x: Slot, y: Slot) -> bool
     x == y
 }
 
-// The outline of a node, where it has few enough places.
+// Returns the outline of a node, or `OutOfSlots` if the outline has too many places.
 fn small_outline<L: Language>(alloc: Global, node: &L) -> Result<L, Error>
     ensures ok { IfOk result (λ n. L.form n ≡ outlined_form 0 (L.form node.now)) }
     ensures small { IfOk result (λ n. IsSmall (L.form n)) }
@@ -55,7 +60,7 @@ fn small_outline<L: Language>(alloc: Global, node: &L) -> Result<L, Error>
 }
 
 impl<L: Language> Outlines<L> {
-    /// The outlines of two nodes that agree but for names and children, and None where they do not agree.
+    /// Returns the outlines of two nodes that agree up to names and children, or `None` if they do not agree.
     #[inline(never)]
     pub fn new(alloc: Global, one: &L, two: &L) -> Result<Option<Outlines<L>>, Error>
         ensures outlines { IfOk result (λ o. IfSome o (λ p. AreOutlinesBy L.form one.now two.now p.one p.two)) }
@@ -80,7 +85,7 @@ impl<L: Language> Outlines<L> {
         }
     }
 
-    // Whether the place `i` is a binder whose scope has the place `at`.
+    // Returns whether the place `i` is a binder whose scope has the place `at`.
     fn is_open(&self, i: usize, at: usize) -> bool
         requires small { IsSmall (L.form self.now.one) }
         requires within { i < length (L.form self.now.one).names }
@@ -111,7 +116,7 @@ impl<L: Language> Outlines<L> {
         Ok(())
     }
 
-    /// Pushes the binders of the two nodes that are above the child `k`: for a child that is too many, none.
+    /// Pushes the binders of the two nodes that are above the child `k`. Pushes none if there is no such child.
     #[inline(never)]
     pub fn push_above(&self, k: usize, binders: &mut Binders) -> Result<(), Error>
         requires { AreMatchedBy L.form self.now.one self.now.two self.now.skeleton }
@@ -129,7 +134,7 @@ impl<L: Language> Outlines<L> {
         }
     }
 
-    // Whether the names at the place `i` have one number there.
+    // Returns whether the names at the place `i` have one number there.
     fn same_own(&self, i: usize, binders: &mut Binders) -> Result<bool, Error>
         requires matched { AreMatchedBy L.form self.now.one self.now.two self.now.skeleton }
         requires within { i < length (L.form self.now.one).names }
@@ -145,7 +150,7 @@ impl<L: Language> Outlines<L> {
         Ok(same)
     }
 
-    // Whether the place `i` has neither a child nor a binder.
+    // Returns whether the place `i` has neither a child nor a binder.
     fn is_own(&self, i: usize) -> bool
         requires matched { AreMatchedBy L.form self.now.one self.now.two self.now.skeleton }
         requires within { i < length (L.form self.now.one).names }
@@ -154,7 +159,7 @@ impl<L: Language> Outlines<L> {
         self.skeleton.slot(i) == Slot::numeric_at(0) && self.one.scope_end(i).is_none()
     }
 
-    // Whether the place `i` is seen alike on both sides.
+    // Returns whether the two nodes agree at the place `i`.
     fn same_place(&self, i: usize, binders: &mut Binders) -> Result<bool, Error>
         requires matched { AreMatchedBy L.form self.now.one self.now.two self.now.skeleton }
         requires within { i < length (L.form self.now.one).names }
@@ -170,7 +175,7 @@ impl<L: Language> Outlines<L> {
         }
     }
 
-    /// Whether the nodes' own names have the same numbers below the binders.
+    /// Returns whether the nodes' own names have the same numbers below the binders.
     #[inline(never)]
     pub fn same_owns(&self, binders: &mut Binders) -> Result<bool, Error>
         requires { AreMatchedBy L.form self.now.one self.now.two self.now.skeleton }

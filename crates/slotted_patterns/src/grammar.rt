@@ -1,4 +1,5 @@
-//! Patterns from their tokens, without recursion, so that no text runs the machine out of stack.
+//! The parser of patterns over tokens: a loop over a stack of open parts, so that no text exhausts the machine's
+//! stack.
 ghost use Rattle.std.specs.Prelude.{◌≡◌, ◌<◌, ◌+◌, ◌∷◌, ◌++◌, false, length, map, string_bytes, List, IsTrue, IfOk, OnOk, IfErr, IfSome, IfNone};
 ghost use Rattle.std.specs.Option.{option_to_list};
 ghost use Rattle.slotted_slots.specs.Error.{IsOutOfMemory};
@@ -27,23 +28,25 @@ pub(crate) struct Open<L: Language> {
     children: Vec<Pattern<L>>,
 }
 
-/// A part of a pattern whose end was not read yet. What was read of it lies apart, so that little is moved with a part.
+/// A part of a pattern whose end was not read yet. The patterns that were read of it are boxed, so that little is
+/// moved with a part.
 #[derive(Drop)]
 pub(crate) enum Part<L: Language> {
     Node(Open<L>),
-    /// What stands before a `[`.
+    /// The pattern before a `[`.
     Place(Box<Pattern<L>>),
-    /// What stands before a `[`, and before the `:=` after it.
+    /// The pattern before a `[`, and that before the `:=` after it.
     Value(Box<Pattern<L>>, Box<Pattern<L>>),
 }
 
-/// How far a pattern is read.
+/// The point up to which a pattern was read.
 #[derive(Drop)]
 pub(crate) enum Point<L: Language> {
-    /// A base is due, or a slot or the end in a bracket.
+    /// A base is expected, or a slot or the end in a bracket.
     Due,
     /// A base was read, which substitutions may follow.
     Base(Pattern<L>),
+    /// A pattern was read to its end.
     Whole(Pattern<L>),
 }
 
@@ -79,7 +82,7 @@ impl<L: Language> Open<L> {
         Ok(())
     }
 
-    /// The node of the bracket over its children.
+    /// Returns the node of the bracket over its children.
     fn build(self, alloc: Global) -> Result<Pattern<L>, Error>
         ensures ok { IfOk result (λ p. (ls : List Lexeme)
             → node L.read (found (bracket_of L.form self) ls) ≡ found (tree_of L.form p) ls) }
@@ -94,7 +97,7 @@ impl<L: Language> Open<L> {
     }
 }
 
-/// These tokens and all that follow.
+/// Returns these tokens and all that follow.
 fn remaining(
     alloc: Global,
     first: Option<Token>,
@@ -113,7 +116,7 @@ fn remaining(
     Ok(tokens)
 }
 
-/// The refusal of tokens that no pattern begins with.
+/// Returns the error of tokens with which no pattern begins.
 fn no_pattern(alloc: Global, first: Option<Token>, rest: &mut VecDeque<Token>) -> Error
     ensures { Refuses (HasFault (no_pattern (map lexeme_of (option_to_list first ++ rest.old.items)))) result }
 {
@@ -123,7 +126,7 @@ fn no_pattern(alloc: Global, first: Option<Token>, rest: &mut VecDeque<Token>) -
     }
 }
 
-/// The refusal of tokens among which a `:=` was due.
+/// Returns the error of tokens among which a `:=` was expected.
 fn no_colon_equals(alloc: Global, rest: &mut VecDeque<Token>) -> Error
     ensures { Refuses (HasFault (no_colon_equals (map lexeme_of rest.old.items))) result }
 {
@@ -133,7 +136,7 @@ fn no_colon_equals(alloc: Global, rest: &mut VecDeque<Token>) -> Error
     }
 }
 
-/// The refusal of tokens among which a `]` was due.
+/// Returns the error of tokens among which a `]` was expected.
 fn no_right_bracket(alloc: Global, rest: &mut VecDeque<Token>) -> Error
     ensures { Refuses (HasFault (no_right_bracket (map lexeme_of rest.old.items))) result }
 {
@@ -143,7 +146,7 @@ fn no_right_bracket(alloc: Global, rest: &mut VecDeque<Token>) -> Error
     }
 }
 
-/// The operator of a bracket.
+/// Returns the operator of a bracket.
 fn next_operator(alloc: Global, tokens: &mut VecDeque<Token>) -> Result<String, Error>
     ensures ok { IfOk result
         (λ w. map lexeme_of tokens.old.items ≡ word (string_bytes w) ∷ map lexeme_of tokens.new.items) }
@@ -160,7 +163,7 @@ fn next_operator(alloc: Global, tokens: &mut VecDeque<Token>) -> Result<String, 
     }
 }
 
-/// Drops a `[` that stands first.
+/// Removes a `[` that stands first. Returns whether there was one.
 fn skip_left_bracket(tokens: &mut VecDeque<Token>) -> bool
     ensures found { IsTrue result → map lexeme_of tokens.old.items ≡ left_bracket ∷ map lexeme_of tokens.new.items }
     ensures none { result ≡ false → (tokens.new.items ≡ tokens.old.items)
@@ -173,7 +176,7 @@ fn skip_left_bracket(tokens: &mut VecDeque<Token>) -> bool
     true
 }
 
-/// Drops a `:=` that stands first.
+/// Removes a `:=` that stands first. Returns whether there was one.
 fn skip_colon_equals(tokens: &mut VecDeque<Token>) -> bool
     ensures found { IsTrue result → map lexeme_of tokens.old.items ≡ colon_equals ∷ map lexeme_of tokens.new.items }
     ensures none { result ≡ false → (tokens.new.items ≡ tokens.old.items)
@@ -186,7 +189,7 @@ fn skip_colon_equals(tokens: &mut VecDeque<Token>) -> bool
     true
 }
 
-/// Drops a `]` that stands first.
+/// Removes a `]` that stands first. Returns whether there was one.
 fn skip_right_bracket(tokens: &mut VecDeque<Token>) -> bool
     ensures found { IsTrue result → map lexeme_of tokens.old.items ≡ right_bracket ∷ map lexeme_of tokens.new.items }
     ensures none { result ≡ false → (tokens.new.items ≡ tokens.old.items)
@@ -199,7 +202,7 @@ fn skip_right_bracket(tokens: &mut VecDeque<Token>) -> bool
     true
 }
 
-/// Takes the innermost part, if that is a bracket.
+/// Removes the innermost part and returns it, if it is a bracket.
 fn pop_bracket<L: Language>(stack: &mut Vec<Part<L>>) -> Option<Open<L>>
     ensures some { IfSome result (λ b. parts_of L.form stack.old.items
         ≡ in_bracket (bracket_of L.form b) ∷ parts_of L.form stack.new.items) }
@@ -381,7 +384,7 @@ fn read_pattern<L: Language>(
     }
 }
 
-/// The pattern that tokens write.
+/// Returns the pattern that tokens write.
 pub(crate) fn parse_tokens<L: Language>(
     alloc: Global,
     tokens: Vec<Token>,

@@ -14,11 +14,13 @@ use slotted_slots::{Error, SlotTable};
 use std::alloc::Global;
 
 impl<L: Language> Pattern<L> {
-    /// The pattern that a text writes: a variable as `?x`, a word, or a word in round brackets with slots and patterns after
-    /// it, each with any number of substitutions `[x := t]` after it, as in `(lam $x (app ?f (var $x)))[(var $x) := ?t]`.
+    /// Returns the pattern that a text writes.
     ///
-    /// All tokens are read before the grammar is applied, and each slot's name is looked up or kept in the table as its
-    /// token is read. A refusal leaves in the table the names that were read before it.
+    /// A pattern is a variable as `?x`, a word, or a word in round brackets with slots and patterns after it. Any
+    /// number of substitutions `[x := t]` may follow, as in `(lam $x (app ?f (var $x)))[(var $x) := ?t]`.
+    ///
+    /// All tokens are read before the grammar is applied. A slot's name is looked up in the table, or kept there,
+    /// when its token is read. After an error the table keeps the names that were read before it.
     pub fn parse(alloc: Global, text: &str, table: &mut SlotTable) -> Result<Pattern<L>, Error>
         ensures answer { Answers (tree_of L.form) (TextReadsPattern L.read table.old text.now table.new) result }
         ensures known { IfOk result (λ p. HasKnownNames table.new (tree_of L.form p)) }
@@ -29,7 +31,8 @@ impl<L: Language> Pattern<L> {
     }
 }
 
-/// A text reads in just one way: the language, the table and the characters determine the outcome and the table after it.
+/// Proves that each text is read in one way: the language, the table and the characters determine the outcome and the
+/// table after it.
 pub fn each_text_reads_in_one_way()
     ensures one { ReadsOneWay }
     ensures some { ReadsSomeWay }

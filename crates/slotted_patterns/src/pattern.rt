@@ -47,7 +47,7 @@ impl<L: Language> Drop for Pattern<L> {
 }
 
 impl<L: Language> Pattern<L> {
-    // Where the pattern's memory comes from.
+    // Returns the allocator of the pattern's memory.
     fn allocator(&self) -> Global {
         match self {
             Pattern::ENode(_, children) => *children.allocator(),
@@ -56,7 +56,7 @@ impl<L: Language> Pattern<L> {
         }
     }
 
-    /// The node and the patterns that stand under it, if the pattern is a node.
+    /// Returns the node and the patterns under it, or `None` if the pattern is no node.
     pub fn into_node(self) -> Option<(L, Vec<Pattern<L>>)>
         ensures some { IfSome result (λ r. tree_of L.form self ≡ enode (L.form r.0) (row_of (map (tree_of L.form) r.1.items))) }
         ensures none { IfNone result (¬ (IsNode (tree_of L.form self))) }
@@ -68,7 +68,7 @@ impl<L: Language> Pattern<L> {
         }
     }
 
-    /// A pattern that equals this one.
+    /// Returns a pattern that equals this one.
     pub fn copy(&self, alloc: Global) -> Result<Pattern<L>, Error>
         ensures ok { IfOk result (λ c. tree_of L.form c ≡ tree_of L.form self.now) }
         ensures err { IfErr result IsOutOfMemory }
@@ -122,7 +122,7 @@ fn push_parts<'a, L: Language>(
     }
 }
 
-// The pattern and those inside it, each before its parts.
+// Returns the pattern and those inside it, each before its parts.
 fn all_inside<'a, L: Language>(
     alloc: Global,
     pattern: &'a Pattern<L>,
@@ -140,7 +140,7 @@ fn all_inside<'a, L: Language>(
     Ok(found)
 }
 
-// A copy of the pattern over copies of its parts, which are taken from the end of the list.
+// Returns a copy of the pattern over copies of its parts, which are taken from the end of the list.
 fn copy_over<L: Language>(
     alloc: Global,
     pattern: &Pattern<L>,
@@ -163,7 +163,7 @@ fn copy_over<L: Language>(
     }
 }
 
-// A substitution over the last three patterns of the list.
+// Returns a substitution over the last three patterns of the list.
 fn copy_substitution<L: Language>(
     alloc: Global,
     copies: &mut Vec<Pattern<L>>,

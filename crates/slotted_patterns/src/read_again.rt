@@ -1,11 +1,13 @@
-//! What a pattern prints reads as that pattern.
+//! What a pattern prints is read as that pattern.
 ghost use Rattle.slotted_patterns.specs.ReadAgain.{IsWordAndPlaces, ReadsAsItself};
 
 use slotted_languages::{Language, ReadBack};
 
-/// A pattern that was read from a text prints, with the table that this left, as a text that reads as the same pattern and
-/// leaves the table as it is: in each language that reads back, and writes a node as one word with the node's slots and
-/// children after it.
+/// Proves that a pattern which was read from a text prints a text that is read as the same pattern.
+///
+/// The pattern prints with the table that the first reading left, and the second reading leaves this table as it is.
+/// This holds in each language that is read back, and writes a node as one word with the node's slots and children
+/// after it.
 pub fn each_print_reads_as_itself<L: Language + ReadBack>()
     requires plain { (a : L) → IsWordAndPlaces (L.form a) (L.shown a) }
     ensures { ReadsAsItself L.form L.shown L.read }

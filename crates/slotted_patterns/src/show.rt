@@ -8,8 +8,10 @@ use slotted_slots::{Error, Show, SlotTable, SyntaxElem};
 use std::alloc::Global;
 use std::fmt::Write;
 
-/// The text of a node: its elements as they are written, with the text of each child in its place, and `_` where there is
-/// none. One element stands alone; several, or none, stand in round brackets, parted by one space.
+/// Returns the text of a node: its elements as they are written, with the text of each child in its place.
+///
+/// `_` stands for a child that is missing. One element stands alone. Several elements, or none, stand in round
+/// brackets, separated by one space.
 pub fn node_text(
     alloc: Global,
     elements: &[SyntaxElem],
@@ -35,7 +37,7 @@ pub fn node_text(
     Ok(format!(in alloc; "({text})")?)
 }
 
-// The text of a child, or `_` where there is none.
+// Returns the text of a child, or `_` if there is none.
 fn child_text(children: &[String], k: usize) -> &str
     ensures { result.now ≡ slice_index_or (map string_bytes children.now) k (codes "_") }
 {
@@ -45,7 +47,7 @@ fn child_text(children: &[String], k: usize) -> &str
     }
 }
 
-// How many children stand in the place of an element.
+// Returns how many children stand in the place of an element.
 pub(crate) fn child_count(element: &SyntaxElem) -> usize
     ensures count { result ≡ width (element_of element.now) }
     ensures one { result ≤ 1 }
@@ -56,7 +58,7 @@ pub(crate) fn child_count(element: &SyntaxElem) -> usize
     }
 }
 
-// Appends the text of an element, where the child that stands in its place has this text.
+// Appends the text of an element. The child that stands in the place of the element has the text `child`.
 pub(crate) fn push_part(
     text: &mut String,
     element: &SyntaxElem,

@@ -52,7 +52,7 @@ fn text_of(alloc: Global, chars: &[char]) -> Result<String, Error>
     Ok(text)
 }
 
-/// A variable, after its `?`.
+/// Returns the token of a variable after its `?`, and what follows.
 fn variable_token<'a>(alloc: Global, chars: &'a [char]) -> Result<(Token, &'a [char]), Error>
     ensures ok { IfOk result
         (λ p. (t : Table) → variable_token t (run chars.now) (after_run chars.now) ≡ token (lexeme_of p.0) p.1.now t) }
@@ -67,7 +67,7 @@ fn variable_token<'a>(alloc: Global, chars: &'a [char]) -> Result<(Token, &'a [c
     Ok((Token::PVar(text_of(alloc, name)?), rest))
 }
 
-/// A slot, after its `$`.
+/// Returns the token of a slot after its `$`, and what follows.
 fn slot_token<'a>(
     alloc: Global,
     chars: &'a [char],
@@ -96,7 +96,7 @@ fn is_colon_equals(first: char, rest: &[char]) -> bool
     first == ':' && !rest.is_empty() && rest[0] == '='
 }
 
-/// What begins with `first` and goes on with `rest`, where `first` is neither white space nor a bracket.
+/// Returns the token that begins with `first` and goes on with `rest`. `first` is neither white space nor a bracket.
 #[tactic(auto, unfolding(crate::specs::Tokens::sign_or_word))]
 fn sign_or_word<'a>(
     alloc: Global,
@@ -125,7 +125,7 @@ fn sign_or_word<'a>(
     Ok((Token::Ident(text_of(alloc, word)?), rest))
 }
 
-/// The token at the front of a text with what follows it, or None where only white space is left.
+/// Returns the token at the front of a text with what follows it, or `None` if only white space is left.
 #[tactic(auto, unfolding(crate::specs::Tokens::next_token))]
 fn next_token<'a>(
     alloc: Global,
@@ -151,7 +151,7 @@ fn next_token<'a>(
     Ok(Some(found))
 }
 
-/// The tokens of a text. Where one is refused, the table keeps the names that stand before it.
+/// Returns the tokens of a text. On an error the table keeps the names that stand before the token.
 pub(crate) fn tokenize(
     alloc: Global,
     text: &str,

@@ -18,15 +18,19 @@ use std::alloc::Global;
 
 mod showing;
 
-/// Two applied ids that are equal. An equation is read up to renaming: it says which slots of the two classes carry one name.
+/// An equation of two applied ids.
+///
+/// Equations are read up to renaming: an equation says which slots of the two classes have one name.
 #[derive(Drop, Debug, Clone, PartialEq, Eq, Hash)]
 pub struct Equation {
+    /// The left side.
     pub l: AppliedId,
+    /// The right side.
     pub r: AppliedId,
 }
 
 impl Equation {
-    /// An equation that equals this one.
+    /// Returns an equation that equals this one.
     pub fn copy(&self, alloc: Global) -> Result<Equation, Error>
         ensures ok { IfOk result (λ e. e ≡ self.now) }
         ensures err { IfErr result IsOutOfMemory }
@@ -37,7 +41,7 @@ impl Equation {
         })
     }
 
-    /// The names that stand on either side.
+    /// Returns the set of the names on both sides.
     pub fn slots(&self, alloc: Global) -> Result<SmallHashSet<Slot>, Error>
         ensures ok { IfOk result (λ s. s ≡ set_of nat_cmp (values self.now.l.m ++ values self.now.r.m)) }
         ensures members { IfOk result (λ s. HaveTheSame s (values self.now.l.m ++ values self.now.r.m)) }
@@ -50,7 +54,8 @@ impl Equation {
         Ok(slots)
     }
 
-    /// The equation with each name sent on by `m`, which knows them all and keeps those of each side apart.
+    /// Returns the equation with each name sent through `m`, which must have all of them as keys and keep those of
+    /// each side apart.
     pub fn apply_slotmap(&self, alloc: Global, m: &SlotMap) -> Result<Equation, Error>
         requires left_known { KnowsAll m.now (values self.now.l.m) }
         requires right_known { KnowsAll m.now (values self.now.r.m) }
@@ -63,7 +68,7 @@ impl Equation {
         self.over(alloc, m)
     }
 
-    // Each name that stands on either side, with itself.
+    // Returns the map from each name of either side to itself.
     fn own_names(&self, alloc: Global) -> Result<SlotMap, Error>
         ensures ok { IfOk result (λ own. own ≡ doubled (names_of self.now)) }
         ensures err { IfErr result IsOutOfMemory }
@@ -72,7 +77,7 @@ impl Equation {
         SlotMap::identity(alloc, &names)
     }
 
-    // Each name that stands on either side, with what `m` has for it, or else with a slot that was never made before.
+    // Returns the map from each name of either side to what `m` has for it, or else to a fresh slot.
     fn sent_names(
         &self,
         alloc: Global,
@@ -92,7 +97,7 @@ impl Equation {
         own.compose_fresh(alloc, m, table)
     }
 
-    // Both sides, each with its names sent on by a map.
+    // Returns both sides with their names sent through a map.
     fn over(&self, alloc: Global, names: &SlotMap) -> Result<Equation, Error>
         ensures ok { IfOk result (IsSentBy names.now self.now) }
         ensures err { IfErr result IsOutOfMemory }
@@ -111,8 +116,9 @@ impl Equation {
         })
     }
 
-    /// The equation with each name sent on by `m`. Those that it lacks become slots that were never made before: one for each name,
-    /// the same on both sides.
+    /// Returns the equation with each name sent through `m`, and a fresh slot for each name that `m` lacks.
+    ///
+    /// A name that stands on both sides gets one slot for both.
     pub fn apply_slotmap_fresh(
         &self,
         alloc: Global,
@@ -124,11 +130,11 @@ impl Equation {
         ensures right_injective { StaysInjective self.now.r.m m.now → IfOk result (λ e. IsInjectiveMap e.r.m) }
         ensures known { IfOk result (λ e. AreKnownOr table.new (values m.now) (side_names e)) }
 
-        // The table went on to make slots, and is else as it was. What it knows in addition is a name of the answer, or one of the
-        // equation or of the map.
+        // Only fresh slots are made. A slot that is known in addition is a name of the result, of the equation or of
+        // the map.
         ensures taken { IfOk result (λ e. TakesFor table.old table.new self.now m.now (side_names e)) }
 
-        // Also where it refuses, it makes a slot at most for each name that the map lacks.
+        // Even on an error, at most one slot is made for each name that the map lacks.
         ensures count { TakesToSend self.now m.now table.old table.new }
         ensures names { table.new.names ≡ table.old.names }
         ensures more { KnowsMore table.old table.new }
@@ -140,7 +146,7 @@ impl Equation {
         self.over(alloc, &names)
     }
 
-    /// The slot of the right class, for each slot of the left one that carries one name with it.
+    /// Returns the map from slots of the left class to the slots of the right class that have the same names.
     pub fn correspondence(&self, alloc: Global) -> Result<SlotMap, Error>
         requires { IsInjectiveMap self.now.r.m }
         ensures ok { IfOk result (λ m. m ≡ same_names self.now.l.m self.now.r.m) }
@@ -149,7 +155,8 @@ impl Equation {
         shared_names(alloc, &self.l.m, &self.r.m)
     }
 
-    /// The same equation with the names `$0`, `$1` and so on as they first occur, left side first.
+    /// Returns the same equation with the names `$0`, `$1` and so on, in the order in which they first occur, left
+    /// side first.
     pub fn numbered(&self, alloc: Global) -> Result<Equation, Error>
         requires left { IsInjectiveMap self.now.l.m }
         requires right { IsInjectiveMap self.now.r.m }
@@ -160,7 +167,7 @@ impl Equation {
         numbered(alloc, &self.l, &self.r)
     }
 
-    /// The equation turned round, with numbered names.
+    /// Returns the equation turned round, with numbered names.
     pub fn turned(&self, alloc: Global) -> Result<Equation, Error>
         requires left { IsInjectiveMap self.now.l.m }
         requires right { IsInjectiveMap self.now.r.m }
@@ -171,8 +178,9 @@ impl Equation {
         numbered(alloc, &self.r, &self.l)
     }
 
-    /// From the left side of this equation to the right side of the other, with numbered names: slots share a name where
-    /// they share one with the same slot in the middle, and nowhere else.
+    /// Returns the equation from the left side of this one to the right side of the other, with numbered names.
+    ///
+    /// Two slots share a name if and only if they share one with the same slot in the middle.
     pub fn composite(&self, alloc: Global, other: &Equation) -> Result<Equation, Error>
         requires left { IsInjectiveMap self.now.l.m }
         requires middle { IsInjectiveMap self.now.r.m }
@@ -191,8 +199,9 @@ impl Equation {
         number_sides(alloc, &self.l, &other.r, &partners)
     }
 
-    /// The equation of two classes over the slots of two ids of them, with numbered names: a slot of the right class carries one name
-    /// with its partner of the left class, and with no other slot.
+    /// Returns the equation of two classes over the slots of two ids of them, with numbered names.
+    ///
+    /// A slot of the right class shares its name with its partner in the left class, and with no other slot.
     pub fn by_partners(
         alloc: Global,
         l: &AppliedId,

@@ -1,4 +1,4 @@
-//! Equations of applied ids, and the list of proved ones.
+//! Equations of applied ids, and the proof list.
 #![tactic(auto)]
 
 pub mod equation;

@@ -10,7 +10,7 @@ use slotted_slots::Error;
 use std::alloc::Global;
 use std::marker::Model;
 
-/// The entries of a printed proof in the order of their lines, parts first, each once.
+/// The entries of a printed proof in the order of their lines. Parts come first, and each entry has one line.
 #[derive(Drop)]
 pub struct ProofLines {
     entries: IndexSet<ProvenEq>,
@@ -33,35 +33,35 @@ impl ProofLines {
         }
     }
 
-    /// The number of lines.
+    /// Returns the number of lines.
     pub fn len(&self) -> usize
         ensures { result ≡ length self.now }
     {
         self.entries.len()
     }
 
-    /// Whether there are no lines.
+    /// Returns whether there are no lines.
     pub fn is_empty(&self) -> bool
         ensures { IsTrue result ↔ (self.now ≡ []) }
     {
         self.entries.len() == 0
     }
 
-    /// Whether the entry has a line.
+    /// Returns whether the entry has a line.
     pub fn has(&self, p: ProvenEq) -> bool
         ensures { result ≡ has_line self.now p }
     {
         self.entries.contains(&p)
     }
 
-    /// The number of an entry's line.
+    /// Returns the number of an entry's line, from 0 on.
     pub fn line_of(&self, p: ProvenEq) -> Option<usize>
         ensures { result ≡ position (nat_eq p) self.now }
     {
         self.entries.get_index_of(&p)
     }
 
-    /// The entry of a line.
+    /// Returns the entry of a line.
     pub fn get(&self, i: usize) -> Option<ProvenEq>
         ensures { result ≡ slice_get self.now i }
     {
@@ -71,7 +71,7 @@ impl ProofLines {
         }
     }
 
-    // The next line is that of the entry.
+    // Gives the entry the next line.
     fn push(&mut self, p: ProvenEq) -> Result<(), Error>
         requires { has_line self.old p ≡ false }
         ensures ok { OnOk result (self.new ≡ self.old ++ p ∷ []) }
@@ -81,7 +81,7 @@ impl ProofLines {
         Ok(())
     }
 
-    // The first of some entries that has no line.
+    // Returns the first of some entries that has no line.
     fn first_new(&self, parts: &[ProvenEq]) -> Option<ProvenEq>
         ensures { result ≡ first_new self.now parts.now }
     {
@@ -95,7 +95,7 @@ impl ProofLines {
 }
 
 impl ProofList {
-    // The first part of an entry that has no line.
+    // Returns the first part of an entry that has no line.
     fn first_part(&self, lines: &ProofLines, p: ProvenEq) -> Option<ProvenEq>
         requires { p < length self.now }
         ensures { result ≡ first_new lines.now (parts_at self.now p) }
@@ -109,7 +109,7 @@ impl ProofList {
         }
     }
 
-    // Whether the parts of an entry stand at earlier numbers.
+    // Returns whether the parts of an entry stand at earlier numbers.
     fn stands_on_earlier(&self, p: ProvenEq) -> bool
         requires { p < length self.now }
         ensures { IsTrue result ↔ All (λ q. q < p) (parts_at self.now p) }
@@ -123,7 +123,9 @@ impl ProofList {
         }
     }
 
-    /// Whether the parts of each entry stand at earlier numbers, as it is in a list into which only proved steps were entered.
+    /// Returns whether the parts of each entry stand at earlier numbers.
+    ///
+    /// They do in a list into which only proved steps were entered.
     pub fn has_earlier_parts(&self) -> bool
         ensures { IsTrue result ↔ PartsAreEarlier self.now }
     {
@@ -135,7 +137,7 @@ impl ProofList {
         true
     }
 
-    // The entry from the top of a stack gets its line, or goes back below its first part that has none.
+    // Gives the entry from the top of a stack its line, or puts it back below its first part that has none.
     fn take_turn(
         &self,
         lines: &mut ProofLines,
@@ -157,8 +159,9 @@ impl ProofList {
         }
     }
 
-    /// The lines of an entry's proof: one for each entry that it stands on, parts first, depth first from the first part that has
-    /// no line yet.
+    /// Returns the lines of an entry's proof: one for each entry that it stands on, parts first.
+    ///
+    /// The order is depth first, from the first part that has no line yet.
     pub fn lines(&self, alloc: Global, p: ProvenEq) -> Result<ProofLines, Error>
         requires within { p < length self.now }
         requires earlier { PartsAreEarlier self.now }
@@ -175,7 +178,7 @@ impl ProofList {
     }
 }
 
-// Whether all entries stand before the one.
+// Returns whether all entries stand before the one.
 fn are_before(parts: &[ProvenEq], p: ProvenEq) -> bool
     ensures { IsTrue result ↔ All (λ q. q < p) parts.now }
 {

@@ -1,4 +1,4 @@
-//! The list of proved equations.
+//! The proof list: numbered equations, each with the step that proves it.
 ghost use Rattle.std.specs.Prelude.{◌≡◌, ◌<◌, ◌≤◌, ◌↔◌, ◌++◌, ◌∷◌, ℕ, [], false, length, IsTrue, IfSome, IfNone, IfOk, IfErr, OnOk, OnErr, IsErrOf, option_map, string_bytes};
 ghost use Rattle.indexmap.specs.IndexMap.{insert_entry};
 ghost use Rattle.slotted_theory.specs.FiniteMaps.{IsInjectiveMap};
@@ -19,10 +19,10 @@ use std::alloc::Global;
 use std::hash::Hash;
 use std::marker::Model;
 
-/// The proved equations, each once, in the order in which they were entered.
+/// The proof list: the proved equations, each once, in the order in which they were entered.
 ///
-/// It is seen as the list of its entries: an entry has its equation up to renaming, the slots of its two classes, its step,
-/// and the text of an asserted one. The equations that it holds have numbered names.
+/// The list is seen as its entries. An entry has its equation up to renaming, the slots of its two classes, its step,
+/// and the text of an asserted one. The equations that the list holds have numbered names.
 #[derive(Drop)]
 pub struct ProofList {
     entries: IndexMap<Equation, Proof>,
@@ -42,7 +42,7 @@ impl Model for ProofList {
 }
 
 impl ProofList {
-    /// The list without entries. It takes no memory.
+    /// Returns the list without entries. Takes no memory.
     pub fn new(alloc: Global) -> ProofList
         ensures { result ≡ [] }
     {
@@ -52,28 +52,28 @@ impl ProofList {
         }
     }
 
-    /// The number of entries.
+    /// Returns the number of entries.
     pub fn len(&self) -> usize
         ensures { result ≡ length self.now }
     {
         self.entries.len()
     }
 
-    /// Whether there are no entries.
+    /// Returns whether there are no entries.
     pub fn is_empty(&self) -> bool
         ensures { IsTrue result ↔ (self.now ≡ []) }
     {
         self.entries.is_empty()
     }
 
-    /// Whether the number is that of an entry.
+    /// Returns whether the number is that of an entry.
     pub fn is_valid(&self, p: ProvenEq) -> bool
         ensures { IsTrue result ↔ (p < length self.now) }
     {
         p.number() < self.len()
     }
 
-    /// The equation of an entry, with numbered names.
+    /// Returns the equation of an entry, with numbered names.
     pub fn equ(&self, p: ProvenEq) -> &Equation
         requires { p < length self.now }
         ensures { IsWritten (statement_at self.now p) result.now }
@@ -84,7 +84,7 @@ impl ProofList {
         }
     }
 
-    /// How an entry was proved.
+    /// Returns the step by which an entry was proved.
     pub fn proof(&self, p: ProvenEq) -> &Proof
         requires { p < length self.now }
         ensures step { step_of result.now ≡ (proven_at self.now p).step }
@@ -96,7 +96,7 @@ impl ProofList {
         }
     }
 
-    /// A copy of an entry.
+    /// Returns a copy of an entry.
     pub fn entry(&self, alloc: Global, p: ProvenEq) -> Result<ProvenEqRaw, Error>
         requires { p < length self.now }
         ensures equation { IfOk result (λ x. IsWritten (statement_at self.now p) x.equ) }
@@ -107,7 +107,7 @@ impl ProofList {
         ProvenEqRaw::of(alloc, self.equ(p), self.proof(p))
     }
 
-    /// The number of the entry with this equation, whose names are numbered.
+    /// Returns the number of the entry with this equation, whose names are numbered.
     pub fn number_of(&self, equation: &Equation) -> Option<ProvenEq>
         requires { IsWritten (statement_of equation.now) equation.now }
         ensures found { IfSome result (Stands self.now (statement_of equation.now)) }
@@ -119,8 +119,10 @@ impl ProofList {
         }
     }
 
-    /// The number of the entry with this equation, whose names are numbered. If there is none yet, it is entered with this
-    /// proof: it is the caller's to see that the proof proves it.
+    /// Returns the number of the entry with this equation, whose names are numbered. Enters it with this proof if
+    /// there is none.
+    ///
+    /// The caller sees to it that the proof proves the equation.
     pub fn enter(&mut self, equation: Equation, proof: Proof) -> Result<ProvenEq, Error>
         requires { IsWritten (statement_of equation) equation }
         ensures ok { IfOk result (Enters self.old self.new (proven_of equation proof)) }
@@ -140,7 +142,7 @@ impl ProofList {
         Ok(last)
     }
 
-    // A new equation at the end, which is asserted.
+    // Adds a new equation, which is asserted, at the end.
     fn push_asserted(&mut self, equation: Equation, proof: Proof) -> Result<ProvenEq, Error>
         requires written { IsWritten (statement_of equation) equation }
         requires new { IsNew self.old (statement_of equation) }
@@ -157,15 +159,16 @@ impl ProofList {
         Ok(last)
     }
 
-    /// The numbers of the asserted entries, in the order in which they were entered.
+    /// Returns the numbers of the asserted entries, in the order in which they were entered.
     pub fn asserted(&self) -> &[ProvenEq]
         ensures { result.now ≡ explicit_numbers (entries_of self.now) }
     {
         &self.asserted
     }
 
-    /// The number of the entry that two applied ids are equal. If there is none yet, it is entered with this proof: it is the
-    /// caller's to see that the proof proves it.
+    /// Returns the number of the entry that two applied ids are equal. Enters it with this proof if there is none.
+    ///
+    /// The caller sees to it that the proof proves the equation.
     pub fn enter_equality(
         &mut self,
         alloc: Global,
@@ -184,9 +187,9 @@ impl ProofList {
         self.enter(equation, proof)
     }
 
-    // The steps. Each answers the number at which its equation stands from now on, and enters it where it is new.
+    // The steps. Each returns the number at which its equation stands from now on, and enters it if it is new.
 
-    /// Two applied ids are equal because the caller says so, with a text or without one.
+    /// Enters that two applied ids are equal because the caller says so, with a text or without one.
     pub fn enter_explicit(
         &mut self,
         alloc: Global,
@@ -204,7 +207,7 @@ impl ProofList {
         self.enter_equality(alloc, l, r, Proof::Explicit(ExplicitProof(text)))
     }
 
-    /// An applied id equals itself.
+    /// Enters that an applied id equals itself.
     pub fn enter_reflexive(&mut self, alloc: Global, a: &AppliedId) -> Result<ProvenEq, Error>
         requires { IsInjectiveMap a.now.m }
         ensures ok { IfOk result (Enters self.old self.new (reflexive_entry a.now.id.0 (keys a.now.m))) }
@@ -216,7 +219,7 @@ impl ProofList {
         self.enter(equation, Proof::Reflexivity(ReflexivityProof))
     }
 
-    /// The equation of an entry turned round.
+    /// Enters the equation of an entry, turned round.
     pub fn enter_symmetric(&mut self, alloc: Global, p: ProvenEq) -> Result<ProvenEq, Error>
         requires { p < length self.old }
         ensures ok { IfOk result (Enters self.old self.new (turned_entry self.old p)) }
@@ -228,8 +231,9 @@ impl ProofList {
         self.enter(equation, Proof::Symmetry(SymmetryProof(p)))
     }
 
-    /// The equations of two entries, one after the other: slots share a name where they share one with the same slot in the
-    /// middle, and nowhere else.
+    /// Enters the equations of two entries, put together one after the other.
+    ///
+    /// Two slots share a name if and only if they share one with the same slot in the middle.
     pub fn enter_transitive(
         &mut self,
         alloc: Global,
@@ -249,7 +253,7 @@ impl ProofList {
     }
 }
 
-// Puts a value at a key, and lets go of what stood there.
+// Puts a value at a key, and drops the value that was there.
 fn put<K: Eq + Hash + Drop, V: Drop>(
     map: &mut IndexMap<K, V>,
     key: K,

@@ -1,4 +1,4 @@
-//! The form of an equation whose names are numbered as they first occur.
+//! Equations with numbered names: the names are numbered in the order in which they first occur.
 ghost use Rattle.std.specs.Prelude.{◌≡◌, ◌+◌, ◌<◌, ◌≤◌, ◌↔◌, length, cond, is_some, unwrap_or, IsTrue, IfOk, IfErr, IsErrOf};
 ghost use Rattle.slotted_theory.specs.FiniteMaps.{IsInjectiveMap, with_values};
 ghost use Rattle.slotted_slots.specs.Ascending.{IsAscending};
@@ -13,10 +13,10 @@ use crate::equation::Equation;
 use slotted_slots::{AppliedId, Error, Slot, SlotMap};
 use std::alloc::Global;
 
-/// Equations with as many places or more are refused.
+/// The number of places from which on an equation cannot be numbered.
 const PLACES: usize = 1 << 30;
 
-// The slots of the one map with the slots of the other that have the same name.
+// Returns the map from slots of the one map to the slots of the other that have the same names.
 pub(crate) fn shared_names(alloc: Global, from: &SlotMap, to: &SlotMap) -> Result<SlotMap, Error>
     requires { IsInjectiveMap to.now }
     ensures ok { IfOk result (λ m. m ≡ same_names from.now to.now) }
@@ -26,7 +26,7 @@ pub(crate) fn shared_names(alloc: Global, from: &SlotMap, to: &SlotMap) -> Resul
     from.compose_partial(alloc, &back)
 }
 
-// Pairs whose second slots are sent on: a slot of the one map to that of the other with the same name.
+// Returns the pairs with their second slots sent on, each to the slot of the other map that has the same name.
 pub(crate) fn sent_along(
     alloc: Global,
     pairs: &SlotMap,
@@ -41,7 +41,8 @@ pub(crate) fn sent_along(
     pairs.compose_partial(alloc, &names)
 }
 
-// From the slots of a map to those of another with the same name, and on from there between two more maps.
+// Returns the map from slots of a map to those of another with the same name, and on from there between two more
+// maps.
 pub(crate) fn shared_over(
     alloc: Global,
     from: &SlotMap,
@@ -58,7 +59,7 @@ pub(crate) fn shared_over(
     sent_along(alloc, &shared, next, last)
 }
 
-// Whether the two sides have fewer places than an equation may have.
+// Returns whether the two sides have few enough places for an equation.
 pub(crate) fn is_short(l: &AppliedId, r: &AppliedId) -> bool
     ensures short { IsTrue result ↔ (length l.now.m + length r.now.m < slot_limit) }
     ensures left_ascends { IsAscending (keys l.now.m) }
@@ -69,7 +70,7 @@ pub(crate) fn is_short(l: &AppliedId, r: &AppliedId) -> bool
     left < PLACES && right < PLACES - left
 }
 
-// The left side: its slots with the names `$0`, `$1` and so on.
+// Returns the left side: its slots with the names `$0`, `$1` and so on.
 fn number_left(alloc: Global, map: &SlotMap) -> Result<SlotMap, Error>
     requires { length map.now < slot_limit }
     ensures ok { IfOk result (λ m. m ≡ with_values numeric_slot (numbered_from 0 (keys map.now))) }
@@ -82,7 +83,7 @@ fn number_left(alloc: Global, map: &SlotMap) -> Result<SlotMap, Error>
     Ok(side)
 }
 
-// The name that a map has for a slot, or else that of the next number, which is then taken.
+// Returns the name that a map has for a slot. If there is none, the name is the next number, which is then taken.
 fn name_or_next(known: &SlotMap, slot: Slot, next: &mut u32) -> Slot
     requires { next.old < slot_limit }
     ensures name { result ≡ unwrap_or (found_at known.now slot) (numeric_slot next.old) }
@@ -98,7 +99,7 @@ fn name_or_next(known: &SlotMap, slot: Slot, next: &mut u32) -> Slot
     }
 }
 
-// The slots of a map with the names that they are known by, and the next numbers for the rest.
+// Returns the slots of a map with the names that they are known by, and with the next numbers for the rest.
 fn name_slots(alloc: Global, map: &SlotMap, known: &SlotMap, first: u32) -> Result<SlotMap, Error>
     requires { first + length map.now < slot_limit }
     ensures ok { IfOk result (λ m. m ≡ named_after known.now first (keys map.now)) }
@@ -113,7 +114,8 @@ fn name_slots(alloc: Global, map: &SlotMap, known: &SlotMap, first: u32) -> Resu
     Ok(side)
 }
 
-// The right side: its slots with the names of their partners on the left side, and the next numbers for the rest.
+// Returns the right side: its slots with the names of their partners on the left side, and with the next numbers for
+// the rest.
 fn number_right(
     alloc: Global,
     map: &SlotMap,
@@ -129,7 +131,7 @@ fn number_right(
     name_slots(alloc, map, &known, left.len() as u32)
 }
 
-// The equation between the classes of two sides, over their slots, where the partners of right slots are given.
+// Returns the equation of the classes of two sides, over their slots. `partners` has the partners of right slots.
 pub(crate) fn number_sides(
     alloc: Global,
     l: &AppliedId,
@@ -151,7 +153,7 @@ pub(crate) fn number_sides(
     })
 }
 
-// The equality of two applied ids, with numbered names.
+// Returns the equation of two applied ids, with numbered names.
 pub(crate) fn numbered(alloc: Global, l: &AppliedId, r: &AppliedId) -> Result<Equation, Error>
     requires left { IsInjectiveMap l.now.m }
     requires right { IsInjectiveMap r.now.m }
@@ -166,7 +168,7 @@ pub(crate) fn numbered(alloc: Global, l: &AppliedId, r: &AppliedId) -> Result<Eq
     number_sides(alloc, l, r, &partners)
 }
 
-// A class with these slots equals itself, with numbered names.
+// Returns the equation of a class with itself over these slots, with numbered names.
 pub(crate) fn numbered_itself(alloc: Global, a: &AppliedId) -> Result<Equation, Error>
     requires { IsInjectiveMap a.now.m }
     ensures ok { IfOk result (IsWritten (reflexive_statement a.now.id.0 (keys a.now.m))) }

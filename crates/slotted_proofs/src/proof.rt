@@ -8,7 +8,7 @@ use slotted_slots::Error;
 use std::alloc::Global;
 use std::marker::Model;
 
-/// A number in a proof list, seen as that number.
+/// The number of an entry of a proof list, seen as that number.
 #[derive(Clone, Copy, Debug, PartialEq, Eq, PartialOrd, Ord, Hash)]
 pub struct ProvenEq(usize);
 
@@ -23,14 +23,14 @@ impl Model for ProvenEq {
 }
 
 impl ProvenEq {
-    // The entry of this number.
+    // Returns the entry of this number.
     pub(crate) const fn at(number: usize) -> ProvenEq
         ensures { result ≡ number }
     {
         ProvenEq(number)
     }
 
-    /// The number, from 0 on.
+    /// Returns the number, from 0 on.
     pub const fn number(self) -> usize
         ensures { result ≡ self }
     {
@@ -38,27 +38,27 @@ impl ProvenEq {
     }
 }
 
-/// The equation was asserted, with a text or without one.
+/// The step of an equation that was asserted, with a text or without one.
 #[derive(Clone, Debug, Drop)]
 pub struct ExplicitProof(pub Option<String>);
 
-/// Both sides are equal.
+/// The step of an equation whose sides are equal.
 #[derive(Clone, Copy, Debug)]
 pub struct ReflexivityProof;
 
-/// The equation of the part turned round.
+/// The step that turns the equation of its part round.
 #[derive(Clone, Copy, Debug)]
 pub struct SymmetryProof(pub ProvenEq);
 
-/// The equations of the two parts, one after the other.
+/// The step that puts the equations of its two parts together, one after the other.
 #[derive(Clone, Copy, Debug)]
 pub struct TransitivityProof(pub ProvenEq, pub ProvenEq);
 
-/// The sides have alike nodes, with a part for each child.
+/// The step of congruence: the e-nodes of the two sides agree, with a part for each child.
 #[derive(Clone, Debug, Drop)]
 pub struct CongruenceProof(pub Vec<ProvenEq>);
 
-/// How an equation was proved.
+/// The step by which an equation was proved.
 #[derive(Clone, Debug, Drop)]
 pub enum Proof {
     Explicit(ExplicitProof),
@@ -69,7 +69,7 @@ pub enum Proof {
 }
 
 impl ExplicitProof {
-    /// A proof with the same text.
+    /// Returns a proof with the same text.
     pub fn copy(&self, alloc: Global) -> Result<ExplicitProof, Error>
         ensures ok { IfOk result (λ c. option_map string_bytes c.0 ≡ option_map string_bytes self.now.0) }
         ensures err { IfErr result IsOutOfMemory }
@@ -82,7 +82,7 @@ impl ExplicitProof {
 }
 
 impl CongruenceProof {
-    /// A proof with the same parts.
+    /// Returns a proof with the same parts.
     pub fn copy(&self, alloc: Global) -> Result<CongruenceProof, Error>
         ensures ok { IfOk result (λ c. c.0.items ≡ self.now.0.items) }
         ensures err { IfErr result IsOutOfMemory }
@@ -92,14 +92,14 @@ impl CongruenceProof {
 }
 
 impl Proof {
-    /// Whether the equation was asserted.
+    /// Returns whether the equation was asserted.
     pub const fn is_explicit(&self) -> bool
         ensures { result ≡ is_explicit (step_of self.now) }
     {
         matches!(self, Proof::Explicit(_))
     }
 
-    /// A proof by the same step, with the same text.
+    /// Returns a proof by the same step, with the same text.
     pub fn copy(&self, alloc: Global) -> Result<Proof, Error>
         ensures step { IfOk result (λ c. step_of c ≡ step_of self.now) }
         ensures text { IfOk result (λ c. text_of c ≡ text_of self.now) }
@@ -119,13 +119,15 @@ impl Proof {
 #[derive(Clone, Debug, Drop)]
 #[derive_where(PartialEq, Eq, Hash)]
 pub struct ProvenEqRaw {
+    /// The equation.
     pub equ: Equation,
+    /// The step by which the equation was proved.
     #[derive_where(skip(EqHashOrd))]
     pub proof: Proof,
 }
 
 impl ProvenEqRaw {
-    // An entry with copies of an equation and of a proof.
+    // Returns an entry with copies of an equation and of a proof.
     pub(crate) fn of(alloc: Global, equ: &Equation, proof: &Proof) -> Result<ProvenEqRaw, Error>
         ensures equation { IfOk result (λ c. c.equ ≡ equ.now) }
         ensures step { IfOk result (λ c. step_of c.proof ≡ step_of proof.now) }
@@ -137,7 +139,7 @@ impl ProvenEqRaw {
         Ok(ProvenEqRaw { equ, proof })
     }
 
-    /// An entry with the same equation, by the same step, with the same text.
+    /// Returns an entry with the same equation, by the same step, with the same text.
     pub fn copy(&self, alloc: Global) -> Result<ProvenEqRaw, Error>
         ensures equation { IfOk result (λ c. c.equ ≡ self.now.equ) }
         ensures step { IfOk result (λ c. step_of c.proof ≡ step_of self.now.proof) }

@@ -1,4 +1,4 @@
-//! How an entry was proved, as its line in a printed proof says it.
+//! The reason of an entry, as its line in a printed proof says it.
 ghost use Rattle.std.specs.Prelude.{◌≡◌, ◌++◌, [], string_bytes, codes, IfOk, OnOk, IfErr, IfSome, Option};
 ghost use Rattle.slotted_slots.specs.Error.{IsOutOfMemory};
 ghost use Rattle.slotted_proofs.specs.Reasons.{number_text, numbers_text, step_text, reason_of};
@@ -9,7 +9,9 @@ use slotted_slots::Error;
 use std::alloc::Global;
 use std::fmt::Write;
 
-/// The reason in the line of an entry with this proof: the debug form of the optional text, `refl`, or `symmetry`,
+/// Returns the reason in the line of an entry with this proof.
+///
+/// For an asserted equation the reason is the debug form of the optional text. Else it is `refl`, or `symmetry`,
 /// `transitivity` or `congruence` with the numbers of the parts' lines.
 pub fn reason(alloc: Global, proof: &Proof, lines: &ProofLines) -> Result<String, Error>
     ensures ok { IfOk result (λ s. IfSome (reason_of lines.now proof.now) (λ bs. string_bytes s ≡ bs)) }
@@ -29,7 +31,7 @@ pub fn reason(alloc: Global, proof: &Proof, lines: &ProofLines) -> Result<String
     }
 }
 
-// The name of a step with the lines of its parts.
+// Returns the name of a step with the lines of its parts.
 fn step_text(
     alloc: Global,
     name: &str,
@@ -44,7 +46,7 @@ fn step_text(
     Ok(text)
 }
 
-// Appends the lines of some parts, with a comma between two, and a bracket.
+// Appends the lines of some parts, separated by commas, and a bracket.
 fn push_parts(text: &mut String, parts: &[ProvenEq], lines: &ProofLines) -> Result<(), Error>
     ensures ok { OnOk result (string_bytes text.new ≡ string_bytes text.old ++ (numbers_text lines.now [] parts.now ++ codes ")")) }
     ensures err { IfErr result IsOutOfMemory }
@@ -59,7 +61,7 @@ fn push_parts(text: &mut String, parts: &[ProvenEq], lines: &ProofLines) -> Resu
     Ok(())
 }
 
-// Appends the number of a line, or `?` where there is none.
+// Appends the number of a line, or `?` if there is none.
 fn push_number(text: &mut String, line: Option<usize>) -> Result<(), Error>
     ensures ok { OnOk result (string_bytes text.new ≡ string_bytes text.old ++ number_text line) }
     ensures err { IfErr result IsOutOfMemory }

@@ -1,4 +1,4 @@
-//! Steps that callers ask for: an equation is entered by a step only where the step fits it.
+//! Steps that callers ask for. An equation is entered by a step only if the step fits it.
 ghost use Rattle.std.specs.Prelude.{All, ◌≡◌, ◌⊎◌, ◌≤◌, ◌↔◌, length, IsTrue, IfOk, IfErr, OnErr, IsErrOf};
 ghost use Rattle.slotted_theory.specs.FiniteMaps.{IsInjectiveMap};
 ghost use Rattle.slotted_slots.specs.Error.{IsOutOfMemory, IsShortage};
@@ -20,7 +20,7 @@ use std::alloc::Global;
 
 // Joining two halves.
 
-// Whether two maps have the same slots.
+// Returns whether two maps have the same slots.
 fn have_same_slots(a: &SlotMap, b: &SlotMap) -> bool
     ensures { IsTrue result ↔ (keys a.now ≡ keys b.now) }
 {
@@ -34,14 +34,14 @@ fn have_same_slots(a: &SlotMap, b: &SlotMap) -> bool
     others.next().is_none()
 }
 
-// Whether two applied ids are of one class, over the same slots.
+// Returns whether two applied ids are of one class, over the same slots.
 fn have_one_class(a: &AppliedId, b: &AppliedId) -> bool
     ensures { IsTrue result ↔ ((a.now.id.0 ≡ b.now.id.0) × (keys a.now.m ≡ keys b.now.m)) }
 {
     a.id.0 == b.id.0 && have_same_slots(&a.m, &b.m)
 }
 
-// Whether the halves begin, meet and end at the classes of the equation.
+// Returns whether the halves begin, meet and end at the classes of the equation.
 fn goes_over(whole: &Equation, first: &Equation, second: &Equation) -> bool
     ensures { IsTrue result ↔ HalvesGoOver whole.now first.now second.now }
 {
@@ -50,7 +50,7 @@ fn goes_over(whole: &Equation, first: &Equation, second: &Equation) -> bool
         && have_one_class(&whole.r, &second.r)
 }
 
-// What the asked pairs say of the slots that the first half knows.
+// Returns what the asked pairs say of the slots that the first half knows.
 fn known_pairs(alloc: Global, first: &Equation, asked: &SlotMap) -> Result<SlotMap, Error>
     requires left { IsInjectiveMap first.now.l.m }
     requires right { IsInjectiveMap first.now.r.m }
@@ -61,7 +61,7 @@ fn known_pairs(alloc: Global, first: &Equation, asked: &SlotMap) -> Result<SlotM
     known.compose_partial(alloc, asked)
 }
 
-// What the asked pairs say of the slots that the second half reaches.
+// Returns what the asked pairs say of the slots that the second half reaches.
 fn reached_pairs(alloc: Global, asked: &SlotMap, second: &Equation) -> Result<SlotMap, Error>
     requires left { IsInjectiveMap second.now.l.m }
     requires right { IsInjectiveMap second.now.r.m }
@@ -72,7 +72,7 @@ fn reached_pairs(alloc: Global, asked: &SlotMap, second: &Equation) -> Result<Sl
     sent_along(alloc, &reached, &second.l.m, &second.r.m)
 }
 
-// Whether these pairs are what the asked ones say of the slots that the first half knows.
+// Returns whether these pairs are what the asked ones say of the slots that the first half knows.
 fn are_known(
     alloc: Global,
     over: &SlotMap,
@@ -88,7 +88,7 @@ fn are_known(
     Ok(*over == known)
 }
 
-// Whether they are what the asked ones say of the slots that the second half reaches.
+// Returns whether these pairs are what the asked ones say of the slots that the second half reaches.
 fn are_reached(
     alloc: Global,
     over: &SlotMap,
@@ -104,7 +104,7 @@ fn are_reached(
     Ok(*over == reached)
 }
 
-// Whether they are both.
+// Returns whether these pairs are what the asked ones say, both of the first half and of the second.
 fn are_asked(
     alloc: Global,
     over: &SlotMap,
@@ -123,7 +123,8 @@ fn are_asked(
     are_reached(alloc, over, asked, second)
 }
 
-// Whether the two halves, one after the other, say what the asked pairs say of the slots that either half knows.
+// Returns whether the two halves, one after the other, say what the asked pairs say of the slots that either half
+// knows.
 fn joins_as(
     alloc: Global,
     first: &Equation,
@@ -139,7 +140,7 @@ fn joins_as(
     are_asked(alloc, &over, first, second, asked)
 }
 
-// Whether names for the middle can be chosen by which the halves give the equation.
+// Returns whether the halves give the equation by some choice of names for the middle.
 fn can_join(
     alloc: Global,
     whole: &Equation,
@@ -157,7 +158,7 @@ fn can_join(
     joins_as(alloc, first, second, &asked)
 }
 
-// Whether the halves give the equation.
+// Returns whether the halves give the equation.
 fn is_joined(
     alloc: Global,
     whole: &Equation,
@@ -178,7 +179,7 @@ fn is_joined(
 
 // Equations over the slots of their classes.
 
-// Whether a map has these slots.
+// Returns whether a map has these slots.
 fn has_slots(map: &SlotMap, slots: &SmallHashSet<Slot>) -> bool
     ensures { IsTrue result ↔ (keys map.now ≡ slots.now) }
 {
@@ -192,14 +193,14 @@ fn has_slots(map: &SlotMap, slots: &SmallHashSet<Slot>) -> bool
     pairs.next().is_none()
 }
 
-// Whether a side is over these slots of its class, with different names.
+// Returns whether a side is over these slots of its class, with different names.
 fn is_side_over(side: &AppliedId, slots: &SmallHashSet<Slot>) -> bool
     ensures { IsTrue result ↔ IsSideOver (to_applied side.now) slots.now }
 {
     side.m.is_bijection() && has_slots(&side.m, slots)
 }
 
-// Whether both sides are.
+// Returns whether both sides of an equation are over these slots of their classes, with different names.
 fn is_over(equation: &Equation, left: &SmallHashSet<Slot>, right: &SmallHashSet<Slot>) -> bool
     ensures { IsTrue result ↔ IsOver equation.now left.now right.now }
 {
@@ -207,7 +208,7 @@ fn is_over(equation: &Equation, left: &SmallHashSet<Slot>, right: &SmallHashSet<
 }
 
 impl ProofList {
-    // Whether the entry with this number has this equation, whose names are numbered.
+    // Returns whether the entry with this number has this equation, whose names are numbered.
     fn has_at(&self, p: ProvenEq, equation: &Equation) -> bool
         requires { IsWritten (statement_of equation.now) equation.now }
         ensures { IsTrue result ↔ Stands self.now (statement_of equation.now) p }
@@ -215,7 +216,7 @@ impl ProofList {
         self.is_valid(p) && *self.equ(p) == *equation
     }
 
-    /// Whether the entry with this number says, up to renaming, that two applied ids are equal.
+    /// Returns whether the entry with this number says, up to renaming, that two applied ids are equal.
     pub fn is_entry(
         &self,
         alloc: Global,
@@ -233,9 +234,9 @@ impl ProofList {
         Ok(self.has_at(p, &asked))
     }
 
-    // The steps. Each enters its equation only where it fits.
+    // The steps. Each enters its equation only if the step fits it.
 
-    /// The equation, if both sides are equal.
+    /// Enters the equation if both of its sides are equal, and returns its number.
     pub fn prove_reflexive(&mut self, alloc: Global, equation: &Equation) -> Result<ProvenEq, Error>
         requires left { IsInjectiveMap equation.now.l.m }
         requires right { IsInjectiveMap equation.now.r.m }
@@ -253,7 +254,7 @@ impl ProofList {
         self.enter(asked, Proof::Reflexivity(ReflexivityProof))
     }
 
-    /// The equation, if that of the part, turned round, matches it.
+    /// Enters the equation if that of the part, turned round, matches it, and returns its number.
     pub fn prove_symmetric(
         &mut self,
         alloc: Global,
@@ -276,7 +277,8 @@ impl ProofList {
         self.enter_equality(alloc, &equation.l, &equation.r, proof)
     }
 
-    /// The equation, if those of the two parts, one after the other, give it by some names for the middle.
+    /// Enters the equation if those of the two parts, one after the other, give it by some names for the middle.
+    /// Returns its number.
     pub fn prove_transitive(
         &mut self,
         alloc: Global,
@@ -303,7 +305,7 @@ impl ProofList {
         self.enter_equality(alloc, &equation.l, &equation.r, proof)
     }
 
-    // Whether each part says, up to renaming, what the equation of its children says.
+    // Returns whether each part says, up to renaming, what the equation of its children says.
     fn are_entries(
         &self,
         alloc: Global,
@@ -327,8 +329,10 @@ impl ProofList {
         Ok(true)
     }
 
-    /// The equation of two nodes that are alike, if each part says, up to renaming, what the equation of its children says. The
-    /// children's equations are those of the two nodes with the names of the sides put in.
+    /// Enters the equation of two e-nodes that agree, if each part says, up to renaming, what the equation of its
+    /// children says. Returns its number.
+    ///
+    /// The children's equations are those of the two e-nodes with the names of the sides put in.
     pub fn prove_congruent(
         &mut self,
         alloc: Global,
@@ -353,9 +357,10 @@ impl ProofList {
         self.enter_equality(alloc, &equation.l, &equation.r, proof)
     }
 
-    // The same over the slots of the two classes.
+    // The same steps, which also check that the equation is over the slots of its two classes.
 
-    /// The equation, if it is over these slots of its classes, with different names on each side, and both sides are equal.
+    /// Enters the equation if it is over these slots of its classes, with different names on each side, and if both
+    /// sides are equal.
     pub fn check_reflexive(
         &mut self,
         alloc: Global,
@@ -376,8 +381,8 @@ impl ProofList {
         self.prove_reflexive(alloc, equation)
     }
 
-    /// The equation, if it is over these slots of its classes, with different names on each side, and that of the part, turned
-    /// round, matches it.
+    /// Enters the equation if it is over these slots of its classes, with different names on each side, and if that
+    /// of the part, turned round, matches it.
     pub fn check_symmetric(
         &mut self,
         alloc: Global,
@@ -399,8 +404,10 @@ impl ProofList {
         self.prove_symmetric(alloc, equation, p)
     }
 
-    /// The equation, if it is over these slots of its classes, with different names on each side, and those of the two parts, one
-    /// after the other, give it by some names for the middle.
+    /// Enters the equation if it is over these slots of its classes, with different names on each side, and if the
+    /// parts give it.
+    ///
+    /// The parts give it if their equations, one after the other, are this equation by some names for the middle.
     pub fn check_transitive(
         &mut self,
         alloc: Global,

@@ -1,4 +1,4 @@
-//! Rebuilding: the nodes of classes that wait take their turns, until equal nodes stand for one class.
+//! Rebuilding: pending classes take their turns, until equal e-nodes are of one class.
 #![tactic(auto)]
 
 pub mod narrowing;

@@ -1,4 +1,4 @@
-//! A class whose node in normal form lacks one of its slots is united with itself, until it has each.
+//! Shrinking: a class whose canonical e-node lacks one of its slots is united with itself, until the e-node has each.
 ghost use Rattle.std.specs.Prelude.{◌≡◌, ◌<◌, length, IfOk, IfErr, IsErrOf, OnOk};
 ghost use Rattle.slotted_slots.specs.Error.{IsShortage};
 ghost use Rattle.slotted_hashcons.specs.FoundNodes.{HasFoundNode, IsFoundNode};
@@ -21,7 +21,8 @@ use slotted_proofs::ProvenEq;
 use slotted_slots::{Error, SlotMap};
 use std::alloc::Global;
 
-/// The proof that two classes are equal, since their nodes have one shape in normal form: the names have the slots for its numbers.
+/// Returns the proof that two classes are equal, since their canonical e-nodes have one shape. The two maps have the
+/// slots for the numbers of the shape.
 pub fn twin_proof<L: Language>(
     store: &mut Store<L>,
     alloc: Global,
@@ -43,7 +44,7 @@ pub fn twin_proof<L: Language>(
     congruence(store, alloc, &equation)
 }
 
-// The class is united with itself by its node, which lacks a slot.
+// Unites the class with itself by its e-node, which lacks a slot.
 fn narrow<L: Language>(
     store: &mut Store<L>,
     nodes: &mut Hashcons<L>,
@@ -63,7 +64,8 @@ fn narrow<L: Language>(
     unite(store, nodes, alloc, p)
 }
 
-// The node of the first class that waits in normal form, made from what is filed of it: since that was filed few finds have gone on.
+// Returns the canonical e-node of the first pending class, made from what is filed for the class. Few unions came
+// after that was filed.
 fn refound<L: Language>(
     store: &Store<L>,
     nodes: &Hashcons<L>,
@@ -82,7 +84,8 @@ fn refound<L: Language>(
     }
 }
 
-/// The node of a class in normal form, once it has each slot that the class uses: as long as it lacks one, the class loses it.
+/// Returns the canonical e-node of a class, once it has each slot that the class uses. As long as it lacks one, the
+/// class loses that slot.
 pub fn narrowed<L: Language>(
     store: &mut Store<L>,
     nodes: &mut Hashcons<L>,

@@ -1,4 +1,4 @@
-//! The filing of a class that was just made.
+//! Filing a class that was just made.
 ghost use Rattle.std.specs.Prelude.{IfErr, IsErrOf, OnOk};
 ghost use Rattle.slotted_slots.specs.Error.{IsOutOfMemory, IsShortage};
 ghost use Rattle.slotted_hashcons.specs.Filed.{IsNewKey};
@@ -18,7 +18,7 @@ use slotted_languages::Language;
 use slotted_slots::{Error, SlotMap};
 use std::alloc::Global;
 
-// The newest class is united with another one, of which the shape of its node is filed.
+// Unites the newest class with another one, for which the shape of its e-node is filed.
 fn join<L: Language>(
     store: &mut Store<L>,
     nodes: &mut Hashcons<L>,
@@ -37,8 +37,8 @@ fn join<L: Language>(
     unite(store, nodes, alloc, p)
 }
 
-// The node of the newest class is filed by its key, which no class has. Where it lacks a slot of the class, the class
-// waits to be narrowed.
+// Files the e-node of the newest class by its shape, which no class has filed. If the e-node lacks a slot of the
+// class, the class is pending, so that it will be shrunk.
 fn file<L: Language>(
     store: &Store<L>,
     nodes: &mut Hashcons<L>,
@@ -59,7 +59,7 @@ fn file<L: Language>(
     nodes.wait(class)
 }
 
-// The newest class is united with the one that has its node, or, where none has, its node is filed.
+// Unites the newest class with the one that has its e-node filed. If there is none, files the e-node.
 fn join_or_file<L: Language>(
     store: &mut Store<L>,
     nodes: &mut Hashcons<L>,
@@ -78,8 +78,8 @@ fn join_or_file<L: Language>(
     }
 }
 
-/// The newest class is filed by its node in normal form, so that it is found by it; where another class has that
-/// node, the two are united. Then all is rebuilt.
+/// Files the newest class by its canonical e-node, so that it is looked up by that. If another class has that e-node
+/// filed, unites the two instead. Then rebuilds.
 pub fn file_newest<L: Language>(
     store: &mut Store<L>,
     nodes: &mut Hashcons<L>,

@@ -1,4 +1,4 @@
-//! Rebuilding: turns and acts until nothing waits and each listed symmetry is aligned.
+//! Rebuilding: it goes on until nothing is pending and each listed symmetry is aligned.
 ghost use Rattle.std.specs.Prelude.{IfOk, IfErr, IsErrOf};
 ghost use Rattle.slotted_slots.specs.Error.{IsShortage};
 ghost use Rattle.slotted_rebuilding.specs.Causes.{HasLargeClass};
@@ -13,8 +13,8 @@ use slotted_languages::Language;
 use slotted_slots::Error;
 use std::alloc::Global;
 
-// Each class that waits takes its turn, and symmetries that are not aligned are acted on, until nothing is left to do. The answer counts the
-// classes that took their turn.
+// Lets each pending class take its turn, and acts on symmetries that are not aligned, until nothing is left to do.
+// Returns the number of turns.
 fn take_turns<L: Language>(
     store: &mut Store<L>,
     nodes: &mut Hashcons<L>,
@@ -35,8 +35,10 @@ fn take_turns<L: Language>(
     Ok(turns)
 }
 
-/// Equal nodes stand for one class from now on, up to listed symmetries: each class that waits takes its turn, and symmetries that are not
-/// aligned are acted on. The answer counts the classes that took their turn, and it is noted.
+/// Restores congruence: equal e-nodes are of one class from now on, up to listed symmetries.
+///
+/// Each pending class takes its turn, and symmetries that are not aligned are acted on. Returns the number of turns,
+/// and notes it in the store.
 pub fn rebuild<L: Language>(
     store: &mut Store<L>,
     nodes: &mut Hashcons<L>,

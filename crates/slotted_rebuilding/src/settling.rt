@@ -1,4 +1,5 @@
-//! Listed symmetries that are not aligned are acted on, and the nodes over the classes that this changes wait.
+//! Listed symmetries that are not aligned are acted on, and the e-nodes over the classes that this changes are
+//! pending.
 ghost use Rattle.std.specs.Prelude.{IfErr, IsErrOf, OnOk};
 ghost use Rattle.slotted_slots.specs.Error.{IsShortage};
 ghost use Rattle.slotted_unions.specs.Settling.{HasLargeUnaligned};
@@ -13,8 +14,9 @@ use slotted_slots::Error;
 use slotted_unions::settling::next_unaligned;
 use std::alloc::Global;
 
-/// Each listed symmetry is aligned from now on: those that are not are acted on, one after another. Nothing is done where no slot was
-/// dropped since this was last so.
+/// Acts on listed symmetries that are not aligned, one after another, until each is aligned.
+///
+/// Does nothing if no slot became redundant since this was last so.
 pub fn settle_all<L: Language>(
     store: &mut Store<L>,
     nodes: &mut Hashcons<L>,

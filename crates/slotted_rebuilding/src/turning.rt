@@ -1,4 +1,4 @@
-//! The turn of a class whose node waits to be filed anew.
+//! The turn of a pending class, whose e-node is filed anew.
 ghost use Rattle.std.specs.Prelude.{◌≢◌, ◌<◌, length, IfOk, IfErr, IsErrOf, OnOk};
 ghost use Rattle.slotted_slots.specs.Error.{IsShortage};
 ghost use Rattle.slotted_rebuilding.specs.Causes.{HasLargeClass};
@@ -14,7 +14,7 @@ use slotted_proofs::ProvenEq;
 use slotted_slots::{Error, SlotMap};
 use std::alloc::Global;
 
-/// The proof that a class equals another one, of which the shape of its node is filed.
+/// Returns the proof that a class equals another one, for which the shape of its e-node is filed.
 pub(crate) fn collision<L: Language>(
     store: &mut Store<L>,
     nodes: &Hashcons<L>,
@@ -36,8 +36,8 @@ pub(crate) fn collision<L: Language>(
     }
 }
 
-// The first class that waits is united with another one, of which the shape of its node is filed, and its own node is filed no more,
-// nor counted for the union.
+// Unites the first pending class with another one, for which the shape of its e-node is filed. Its own e-node is filed
+// no more, nor counted for the union.
 fn collide<L: Language>(
     store: &mut Store<L>,
     nodes: &mut Hashcons<L>,
@@ -62,8 +62,8 @@ fn collide<L: Language>(
     Ok(())
 }
 
-/// The first class that waits takes its turn: its node is filed by what its children find now, or, where another class has that node,
-/// the two are united.
+/// Lets the first pending class take its turn: files its e-node as the present canonical one. If another class has
+/// that e-node filed, unites the two instead.
 pub fn take_turn<L: Language>(
     store: &mut Store<L>,
     nodes: &mut Hashcons<L>,

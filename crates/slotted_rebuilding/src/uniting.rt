@@ -1,4 +1,4 @@
-//! Union by an entry, after which the nodes over each class that changed wait.
+//! Union by an entry, after which the e-nodes over each class that changed are pending.
 ghost use Rattle.std.specs.Prelude.{◌≡◌, ◌<◌, length, IfErr, IsErrOf, OnOk};
 ghost use Rattle.slotted_slots.specs.Error.{IsShortage};
 ghost use Rattle.slotted_unions.specs.Proving.{HasLargeSide};
@@ -14,8 +14,11 @@ use slotted_slots::Error;
 use slotted_unions::uniting::{UnionStep, unite_once};
 use std::alloc::Global;
 
-/// What an entry says of the classes that its sides find holds from now on, up to listed symmetries. The nodes over each class that dies
-/// or loses slots wait to be filed anew. Of two classes with as many canonical slots the larger one is kept.
+/// Unites the live classes of the sides of an entry: what the entry says of them holds from now on, up to listed
+/// symmetries.
+///
+/// The e-nodes over each class that dies or loses slots are pending from now on. Of two classes with as many
+/// canonical slots the larger one is kept.
 pub fn unite<L: Language>(
     store: &mut Store<L>,
     nodes: &mut Hashcons<L>,

@@ -204,10 +204,10 @@ fn push_live<L: Language>(
     Ok(())
 }
 
-/// Appends a text of all live classes, in ascending order. If the call is refused, the text stays as it was.
+/// Appends a text of all live classes, in ascending order. On an error the text stays as it was.
 ///
-/// A line feed comes first and last. Each class has an empty line, a line with its number and slots, a line `>> ` with
-/// its syntactic e-node, and for each filed e-node a line ` - ` with the class that has filed it.
+/// A line feed comes first and last. Each class has an empty line, a line with its number and slots, and a line `>> `
+/// with its syntactic e-node. For each filed e-node follows a line ` - ` with the class that has filed it.
 pub fn append_live<L: Language>(
     alloc: Global,
     out: &mut String,

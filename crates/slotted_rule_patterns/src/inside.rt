@@ -1,4 +1,5 @@
-//! The patterns inside a pattern, gone through by loops, and the first of them of which something holds.
+//! The patterns inside a pattern, which loops go through, and the first of them for which the answer to a question is
+//! yes.
 ghost use Rattle.std.specs.Prelude.{◌≡◌, ◌++◌, Bool, map, reverse, option_map, IfOk, IfErr, OnOk};
 ghost use Rattle.std.specs.List.{find};
 ghost use Rattle.slotted_slots.specs.Error.{IsOutOfMemory};
@@ -12,11 +13,11 @@ use slotted_patterns::Pattern;
 use slotted_slots::Error;
 use std::alloc::Global;
 
-/// A question about a pattern, which sees its parts but not what stands inside these.
+/// A question about a pattern. The answer may depend on the pattern's parts, but not on what stands inside these.
 pub trait Question {
     ghost holds: { Self → PatternTree → Bool };
 
-    /// Whether the answer is yes.
+    /// Returns whether the answer is yes.
     fn holds<L: Language>(&self, pattern: &Pattern<L>) -> bool
         ensures { result ≡ holds self.now (tree_of L.form pattern.now) };
 }
@@ -57,8 +58,9 @@ fn push_parts<'a, L: Language>(
     }
 }
 
-/// The pattern and those inside it, each before its parts, which follow from the right. Where they are taken from the end, the parts of each come
-/// before it, from the left.
+/// Returns the pattern and those inside it, each before its parts, which follow from the right.
+///
+/// If they are taken from the end, the parts of a pattern come before the pattern, from the left.
 pub fn subpatterns<'a, L: Language>(
     alloc: Global,
     pattern: &'a Pattern<L>,
@@ -76,7 +78,7 @@ pub fn subpatterns<'a, L: Language>(
     Ok(found)
 }
 
-// The last of the patterns for which the answer is yes.
+// Returns the last of the patterns for which the answer is yes.
 fn last_such<'a, L: Language, Q: Question>(
     mut patterns: Vec<&'a Pattern<L>>,
     question: &Q,
@@ -92,7 +94,7 @@ fn last_such<'a, L: Language, Q: Question>(
     None
 }
 
-// The pattern itself, if the answer is yes.
+// Returns the pattern itself, if the answer is yes.
 fn itself<'a, L: Language, Q: Question>(
     pattern: &'a Pattern<L>,
     question: &Q,
@@ -105,7 +107,7 @@ fn itself<'a, L: Language, Q: Question>(
     None
 }
 
-// The first pattern for which the answer is yes, by calls of itself.
+// Returns the first pattern for which the answer is yes, by calling itself.
 fn first_by_calls<'a, L: Language, Q: Question>(
     pattern: &'a Pattern<L>,
     question: &Q,
@@ -137,7 +139,7 @@ fn first_by_calls<'a, L: Language, Q: Question>(
     }
 }
 
-// Where the pattern's memory comes from.
+// Returns the allocator of the pattern's memory.
 fn allocator<L: Language>(pattern: &Pattern<L>) -> Global {
     match pattern {
         Pattern::ENode(_, children) => *children.allocator(),
@@ -146,9 +148,10 @@ fn allocator<L: Language>(pattern: &Pattern<L>) -> Global {
     }
 }
 
-/// The first pattern inside this one, or itself, for which the answer is yes. Each comes after its parts, and these from the left.
+/// Returns the first pattern inside this one, or this one itself, for which the answer is yes. Each pattern comes
+/// after its parts, and these from the left.
 ///
-/// It goes along a list of them, and calls itself only where memory for that is refused.
+/// The call goes along a list of the patterns, and calls itself only if memory for the list is refused.
 pub fn first_such<'a, L: Language, Q: Question>(
     pattern: &'a Pattern<L>,
     question: &Q,

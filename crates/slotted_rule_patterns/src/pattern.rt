@@ -1,4 +1,4 @@
-//! What rules ask of patterns before anything is matched or built.
+//! Tests of patterns before anything is matched or built.
 ghost use Rattle.std.specs.Prelude.{◌≡◌, ◌↔◌, ℕ, List, Bool, IsSome, IsTrue, option_map};
 ghost use Rattle.slotted_patterns.specs.View.{tree_of};
 ghost use Rattle.slotted_rule_patterns.specs.Inside.{is_miscounted, is_named, is_outside, is_substitution, name_in};
@@ -12,7 +12,7 @@ use crate::subst::{Subst, value};
 use slotted_languages::language::Language;
 use slotted_patterns::Pattern;
 
-// Is it a node with more or fewer child patterns than children?
+// The question whether a pattern is a node with more or fewer child patterns than children.
 #[derive(Drop)]
 struct Miscounted {}
 
@@ -28,14 +28,14 @@ impl Question for Miscounted {
     }
 }
 
-/// Whether each node has as many child patterns as children.
+/// Returns whether each node has as many child patterns as children.
 pub fn is_whole<L: Language>(pattern: &Pattern<L>) -> bool
     ensures { IsTrue result ↔ IsSome (pattern_in (tree_of L.form pattern.now)) }
 {
     first_such(pattern, &Miscounted {}).is_none()
 }
 
-// Is it a substitution?
+// The question whether a pattern is a substitution.
 #[derive(Drop)]
 struct Substitutes {}
 
@@ -51,14 +51,14 @@ impl Question for Substitutes {
     }
 }
 
-/// Whether a substitution stands in the pattern.
+/// Returns whether a substitution stands in the pattern.
 pub fn has_substitution<L: Language>(pattern: &Pattern<L>) -> bool
     ensures { result ≡ has_substitution (tree_of L.form pattern.now) }
 {
     first_such(pattern, &Substitutes {}).is_some()
 }
 
-// Is it the variable of this name?
+// The question whether a pattern is the variable of this name.
 #[derive(Drop)]
 struct Named<'a> {
     name: &'a str,
@@ -76,14 +76,14 @@ impl<'a> Question for Named<'a> {
     }
 }
 
-/// Whether a variable of this name stands in the pattern.
+/// Returns whether a variable of this name stands in the pattern.
 pub fn has_variable<L: Language>(pattern: &Pattern<L>, name: &str) -> bool
     ensures { result ≡ has_variable (tree_of L.form pattern.now) name.now }
 {
     first_such(pattern, &Named { name }).is_some()
 }
 
-// What knows some variables.
+// A value that knows some variables.
 trait Known {
     ghost knows: { Self → List ℕ → Bool };
 
@@ -109,7 +109,7 @@ impl<L: Language> Known for Pattern<L> {
     }
 }
 
-// Is it a variable that is not known?
+// The question whether a pattern is a variable that is not known.
 #[derive(Drop)]
 struct Outside<'a, K: Known> {
     known: &'a K,
@@ -127,7 +127,7 @@ impl<'a, K: Known> Question for Outside<'a, K> {
     }
 }
 
-// The name of a pattern that is a variable.
+// Returns the name of a pattern that is a variable.
 fn name_of<L: Language>(pattern: &Pattern<L>) -> Option<&str>
     ensures { option_map (λ v. v.now) result ≡ name_in (tree_of L.form pattern.now) }
 {
@@ -138,7 +138,7 @@ fn name_of<L: Language>(pattern: &Pattern<L>) -> Option<&str>
     }
 }
 
-// The first variable, from the left, that is not known.
+// Returns the first variable, from the left, that is not known.
 fn first_outside<'a, L: Language, K: Known>(pattern: &'a Pattern<L>, known: &K) -> Option<&'a str>
     ensures { option_map (λ v. v.now) result ≡ first_outside (K.knows known.now) (tree_of L.form pattern.now) }
 {
@@ -148,14 +148,16 @@ fn first_outside<'a, L: Language, K: Known>(pattern: &'a Pattern<L>, known: &K) 
     }
 }
 
-/// The first variable, from the left, that has no value. In `b[x := t]` the variables of `b` come first, then those of `x`, and then those of `t`.
+/// Returns the first variable, from the left, that has no value.
+///
+/// In `b[x := t]` the variables of `b` come first, then those of `x`, and then those of `t`.
 pub fn first_missing<'a, L: Language>(pattern: &'a Pattern<L>, subst: &Subst) -> Option<&'a str>
     ensures { option_map (λ v. v.now) result ≡ first_missing (tree_of L.form pattern.now) (values_of subst.now) }
 {
     first_outside(pattern, subst)
 }
 
-/// The first variable of `right`, from the left, that does not stand in `left`.
+/// Returns the first variable of `right`, from the left, that does not stand in `left`.
 pub fn first_lacking<'a, L: Language>(right: &'a Pattern<L>, left: &Pattern<L>) -> Option<&'a str>
     ensures { option_map (λ v. v.now) result ≡ first_lacking (tree_of L.form right.now) (tree_of L.form left.now) }
 {

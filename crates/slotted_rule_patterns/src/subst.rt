@@ -7,10 +7,10 @@ ghost use Rattle.slotted_rule_patterns.specs.Values.{values_of};
 use slotted_slots::AppliedId;
 use std::collections::BTreeMap;
 
-/// For each variable, by its name without the `?`, the id that stands for it.
+/// A substitution: for each variable, by its name without the `?`, the id that stands for it.
 pub type Subst = BTreeMap<String, AppliedId>;
 
-/// The id of a variable, or None where it has none.
+/// Returns the id of a variable, or `None` if it has none.
 pub fn value<'a>(subst: &'a Subst, variable: &str) -> Option<&'a AppliedId>
     ensures { option_map (λ a. to_applied a.now) result ≡ value_at (values_of subst.now) variable.now }
 {

@@ -1,4 +1,4 @@
-//! What a call may refuse with.
+//! The errors of the library.
 ghost use Rattle.std.specs.Prelude.{◌≡◌};
 ghost use Rattle.slotted_slots.specs.declared.error.Error.TheVariants.{OutOfMemory};
 ghost use Rattle.slotted_slots.specs.Error.{number_of, name_of};
@@ -7,37 +7,37 @@ use crate::ParseError;
 use std::alloc::{AllocError, AllocFailed};
 use thiserror::Error;
 
-/// Why a call was refused. The cases stand in the order of their numbers.
+/// The error that a call returns. The cases stand in the order of their numbers.
 #[derive(Debug, Drop, Error)]
 pub enum Error {
-    /// A growth was refused.
+    /// Memory was refused.
     #[error("out of memory")]
     OutOfMemory,
-    /// No fresh index or no place for a name is left, or what is at hand has too many slot places.
+    /// The table has no fresh slot or no place for a name left, or a node has too many places to be numbered.
     #[error("out of slots")]
     OutOfSlots,
-    /// The graph ran out in an earlier write.
+    /// An earlier write of the graph ran out of memory or of slots.
     #[error("the graph has failed")]
     Failed,
-    /// A text is outside the grammar.
+    /// The text is outside the grammar.
     #[error("the text is outside the grammar: {0:?}")]
     Parse(ParseError),
-    /// A variable, a substitution or a wrong number of child patterns stands where a term is asked.
+    /// A variable, a substitution or a wrong number of child patterns stands where a term is needed.
     #[error("not a term")]
     NotATerm,
     /// A pattern to match holds a substitution.
     #[error("a pattern to match holds a substitution")]
     SubstInSearch,
-    /// A variable has no value.
+    /// The variable of this name has no value in the substitution.
     #[error("the variable {0} has no value")]
     MissingVariable(String),
     /// The terms to explain are not equal.
     #[error("the terms are not equal")]
     NotEqual,
-    /// A proof step does not fit its equation.
+    /// The proof step does not prove its equation.
     #[error("the proof step does not fit its equation")]
     BadStep,
-    /// The table of an extractor lacks the class.
+    /// The table of an extractor has no entry for the class.
     #[error("the extractor lacks the class")]
     UnknownClass,
     /// The number of a slot is 2^30 or more.
@@ -46,7 +46,7 @@ pub enum Error {
 }
 
 impl Error {
-    /// The number of the case, from 1 on.
+    /// Returns the number of the case, from 1 on.
     pub fn number(&self) -> u8
         ensures { result ≡ number_of self.now }
     {
@@ -65,7 +65,7 @@ impl Error {
         }
     }
 
-    /// The name of the case, without what the case carries.
+    /// Returns the name of the case, without what the case carries.
     pub fn name(&self) -> &'static str
         ensures { result.now ≡ name_of self.now }
     {

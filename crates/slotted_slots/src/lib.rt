@@ -1,4 +1,4 @@
-//! Slots and their table, slot maps, small sets, ids and applied ids, tokens, and what a call may refuse with.
+//! Slots and their table, slot maps, small sets, ids and applied ids, tokens, and the errors of the library.
 #![tactic(auto)]
 
 pub mod error;

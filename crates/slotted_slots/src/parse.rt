@@ -1,4 +1,4 @@
-//! Tokens of a text, syntax elements of a node, and how a text may be outside the grammar.
+//! Tokens of a text, syntax elements of a node, and the errors of parsing.
 ghost use Rattle.std.specs.Prelude.{◌≡◌, IfOk, IfErr};
 ghost use Rattle.slotted_slots.specs.Error.{IsOutOfMemory};
 ghost use Rattle.slotted_slots.specs.Syntax.{lexeme_of, element_of};
@@ -9,7 +9,7 @@ use std::alloc::Global;
 /// A token of a text.
 #[derive(Clone, Debug, Drop, PartialEq, Eq)]
 pub enum Token {
-    /// `$42`, `$f3` or `$x`.
+    /// A slot: `$42`, `$f3` or `$x`.
     Slot(Slot),
     /// An operator or a payload.
     Ident(String),
@@ -28,7 +28,7 @@ pub enum Token {
 }
 
 impl Token {
-    /// A token with the same text or slot.
+    /// Returns a token with the same text or slot.
     pub fn copy(&self, alloc: Global) -> Result<Token, Error>
         ensures ok { IfOk result (λ t. lexeme_of t ≡ lexeme_of self.now) }
         ensures memory { IfErr result IsOutOfMemory }
@@ -53,12 +53,12 @@ pub enum SyntaxElem {
     String(String),
     /// A child.
     AppliedId(AppliedId),
-    /// An own slot or a binder.
+    /// A slot of the node itself, or a binder.
     Slot(Slot),
 }
 
 impl SyntaxElem {
-    /// An element with the same text, child or slot.
+    /// Returns an element with the same text, child or slot.
     pub fn copy(&self, alloc: Global) -> Result<SyntaxElem, Error>
         ensures ok { IfOk result (λ e. element_of e ≡ element_of self.now) }
         ensures memory { IfErr result IsOutOfMemory }
@@ -74,19 +74,19 @@ impl SyntaxElem {
     }
 }
 
-/// Why a text is outside the grammar, with what was left of it.
+/// The way in which a text is outside the grammar, with what was left of the text.
 #[derive(Debug, Drop, PartialEq, Eq)]
 pub enum ParseError {
-    /// An empty run follows a sign; the text after that sign.
+    /// No name follows a sign. Carries the text after the sign.
     TokenState(String),
-    /// A pattern or an operator was due; the tokens that remain.
+    /// A pattern or an operator was expected. Carries the tokens that remain.
     ParseState(Vec<Token>),
-    /// The text goes on after its pattern; the tokens that remain.
+    /// The text goes on after its pattern. Carries the tokens that remain.
     RemainingRest(Vec<Token>),
-    /// The language has no node of these elements.
+    /// The language has no node with these elements.
     FromSyntaxFailed(Vec<SyntaxElem>),
-    /// A `:=` was due; the tokens that remain.
+    /// A `:=` was expected. Carries the tokens that remain.
     ExpectedColonEquals(Vec<Token>),
-    /// A `]` was due; the tokens that remain.
+    /// A `]` was expected. Carries the tokens that remain.
     ExpectedRBracket(Vec<Token>),
 }

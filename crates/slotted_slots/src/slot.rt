@@ -1,6 +1,7 @@
 //! Slots, and the table that makes them.
 //!
-//! A slot is a number: a multiple of four is numeric (`$3`), one more is fresh (`$f3`), two more has a name (`$x`).
+//! A slot is a number. A multiple of four is a numeric slot (`$3`), one more is a fresh slot (`$f3`), and two more
+//! has a name (`$x`).
 ghost use Rattle.std.specs.Prelude.{◌≡◌, ℕ, ◌+◌, ◌^◌, ◌<◌, ◌≤◌, ◌↔◌, IsTrue, IfOk, IfErr, OnErr, IsErrOf, IsOkUnless, false, None, Some, Option, List, ◌++◌, slice_get, codes};
 ghost use Rattle.std.specs.Fmt.{DisplaysOnOk};
 ghost use Rattle.std.specs.Option.{option_copied};
@@ -13,7 +14,7 @@ use std::alloc::Global;
 use std::fmt;
 use std::marker::Model;
 
-/// A name of a parameter or a bound variable, seen as its raw number. It is made by a `SlotTable`.
+/// The name of a free or a bound variable, seen as its raw number. Slots are made by a `SlotTable`.
 #[derive(Clone, Copy, Debug, Default, PartialEq, Eq, PartialOrd, Ord, Hash)]
 pub struct Slot(u32);
 
@@ -27,18 +28,20 @@ impl Model for Slot {
     ghost inverse = { λ n. record { 0 = n } };
 }
 
-/// Numbers of numeric and fresh slots, and places of names, are below this.
+/// The bound of the numbers of numeric and fresh slots, and of the places of names.
 const LIMIT: u32 = 1 << 30;
 
 impl Slot {
-    /// The raw number, by which slots are ordered.
+    /// Returns the raw number, by which slots are ordered.
     pub const fn raw(self) -> u32
         ensures { result ≡ self }
     {
         self.0
     }
 
-    /// The numeric slot `$n`, where the number is known to be small. For the crates of this repository: a user asks the table.
+    /// Returns the numeric slot `$n` of a number that is known to be small.
+    ///
+    /// Only the crates of this library call it: users call `SlotTable::numeric`.
     pub const fn numeric_at(n: u32) -> Slot
         requires { n < slot_limit }
         ensures { result ≡ numeric_slot n }
@@ -47,7 +50,7 @@ impl Slot {
     }
 }
 
-/// The slots of one graph: which fresh ones were made, and which names are kept.
+/// The table of the slots of one graph: the number of fresh slots that were made, and the names.
 #[derive(Debug, Drop)]
 pub struct SlotTable {
     fresh: u32,
@@ -66,7 +69,7 @@ impl Model for SlotTable {
 }
 
 impl SlotTable {
-    /// A table that knows the numeric slots alone. It takes no memory.
+    /// Returns a table that knows the numeric slots alone. Takes no memory.
     pub fn new(alloc: Global) -> SlotTable
         ensures empty { result ≡ empty_table }
         ensures table { IsTable result }
@@ -77,12 +80,12 @@ impl SlotTable {
         }
     }
 
-    /// A slot that was never made before. It takes no memory.
+    /// Returns a slot that was never made before. Takes no memory.
     pub fn fresh(&mut self) -> Result<Slot, Error>
         ensures slot { IfOk result (λ s. s ≡ fresh_slot self.old.fresh) }
         ensures moved { IfOk result (λ s. self.new ≡ record self.old { fresh = self.old.fresh + 1 }) }
 
-        // It was not known, and is known from now on, as is all that was known.
+        // The slot was unknown before and is known from now on, as is all that was known.
         ensures unused { IfOk result (λ s. is_known self.old s ≡ false) }
         ensures known { IfOk result (λ s. IsTrue (is_known self.new s)) }
         ensures more { KnowsMore self.old self.new }
@@ -100,7 +103,7 @@ impl SlotTable {
         Ok(slot)
     }
 
-    /// The slot `$u`.
+    /// Returns the numeric slot `$u`.
     pub fn numeric(&self, u: u32) -> Result<Slot, Error>
         ensures slot { IfOk result (λ s. s ≡ numeric_slot u) }
         ensures known { IfOk result (λ s. IsTrue (is_known self.now s)) }
@@ -116,8 +119,10 @@ impl SlotTable {
         }
     }
 
-    /// The slot of the text after a `$`. A number that Rust reads as a `u32` is numeric, `f` and such a number is fresh, and
-    /// all else is a name, which is kept once. Only a new name takes memory.
+    /// Returns the slot of the text after a `$`, and keeps a new name.
+    ///
+    /// A number that Rust reads as a `u32` is a numeric slot, and an `f` before such a number is a fresh slot. All
+    /// else is a name, which the table keeps once. Only a new name takes memory.
     pub fn named(&mut self, s: &str) -> Result<Slot, Error>
         ensures slot { IfOk result (λ slot. named_of self.old s.now ≡ gives slot self.new) }
         ensures large { IsErrOf result Error.NumberTooLarge ↔ (named_of self.old s.now ≡ too_large) }
@@ -137,12 +142,12 @@ impl SlotTable {
         self.make_named(s)
     }
 
-    /// Whether the slot is numeric, a fresh one that was made, or that of a kept name.
+    /// Returns whether the table knows a slot: it is numeric, a fresh slot that was made, or a name of the table.
     pub fn knows(&self, s: Slot) -> bool
         ensures known { result ≡ is_known self.now s }
         ensures table { IsTable self.now }
 
-        // A known slot is read back from what it prints.
+        // A known slot is read back from the text that it prints.
         ensures reads_back { IsTrue result → ReadsBack self.now s }
     {
         let _ = &self.fresh;
@@ -154,7 +159,7 @@ impl SlotTable {
         }
     }
 
-    // The kept name at a place.
+    // Returns the name at a place of the table.
     fn name(&self, i: u32) -> Option<&str>
         ensures { option_copied result ≡ slice_get self.now.names i }
     {
@@ -164,7 +169,7 @@ impl SlotTable {
         }
     }
 
-    // What `named` does, as one fact.
+    // Returns the slot that `named` returns, with one fact as the contract.
     fn make_named(&mut self, s: &str) -> Result<Slot, Error>
         ensures follows { Follows (named_of self.old s.now) self.old self.new result }
         ensures memory { IsErrOf result Error.OutOfMemory → IsNewName self.old s.now }
@@ -179,7 +184,7 @@ impl SlotTable {
         }
     }
 
-    // The fresh slot `$fn`, which is used from now on.
+    // Returns the fresh slot `$fn`, which counts as made from now on.
     fn fresh_at(&mut self, n: u32) -> Result<Slot, Error>
         ensures follows { Follows (fresh_outcome self.old n) self.old self.new result }
         ensures only { IsOkUnless result Error.NumberTooLarge }
@@ -193,7 +198,7 @@ impl SlotTable {
         Ok(Slot(4 * n + 1))
     }
 
-    // The slot of a name, which is kept from now on.
+    // Returns the slot of a name, and keeps a new name.
     fn keep_name(&mut self, s: &str) -> Result<Slot, Error>
         requires { reading_of s.now ≡ as_word }
         ensures follows { Follows (kept_outcome self.old s.now) self.old self.new result }
@@ -206,7 +211,7 @@ impl SlotTable {
         }
     }
 
-    // The slot of a name that was not kept before.
+    // Keeps a new name, and returns its slot.
     fn push_name(&mut self, s: &str) -> Result<Slot, Error>
         requires word { reading_of s.now ≡ as_word }
         requires absent { place_of self.old.names s.now ≡ None }
@@ -223,12 +228,12 @@ impl SlotTable {
     }
 }
 
-/// What prints with the names of a table.
+/// A value that prints with the names of a table.
 pub trait Show {
     // The bytes that the value prints, or `None` if the impl does not specify them.
     ghost shown: { Table → Self → Option (List ℕ) };
 
-    /// Writes the value with the names of `table`. Where a growth is refused it is a `fmt::Error`.
+    /// Writes the value with the names of `table`. Returns `fmt::Error` if memory is refused.
     fn write_shown<W: fmt::Write>(
         &self,
         table: &SlotTable,
@@ -238,7 +243,7 @@ pub trait Show {
         Self: Sized,
         ensures { DisplaysOnOk W.write_str_gives f.old result (shown table.now self.now) f.new };
 
-    /// The value beside the table whose names it prints with.
+    /// Returns the value beside the table whose names it prints with.
     final fn show<'a>(&'a self, table: &'a SlotTable) -> Shown<'a, Self>
     where
         Self: Sized,
@@ -271,7 +276,7 @@ impl<'a, T: Show> fmt::Display for Shown<'a, T> {
     }
 }
 
-/// `$3`, `$f3`, or `$` and the name; `$?` where the table lacks the name.
+/// Prints `$3`, `$f3`, or `$` and the name. Prints `$?` if the table has no such name.
 impl Show for Slot {
     ghost shown = { λ t s. Some (shown_slot t s) };
 
@@ -293,14 +298,14 @@ impl Show for Slot {
     }
 }
 
-// The number that a text writes.
+// Returns the number that a text writes.
 fn read_u32(s: &str) -> Option<u32>
     ensures { result ≡ reads_u32 s.now }
 {
     s.parse().ok()
 }
 
-// The number that a text writes after an `f`.
+// Returns the number that a text writes after an `f`.
 fn read_fresh(s: &str) -> Option<u32>
     ensures { result ≡ reads_fresh s.now }
 {

@@ -1,4 +1,4 @@
-//! Finite maps of slots, kept in the order of their keys.
+//! Finite maps from slots to slots, in the order of their keys.
 ghost use Rattle.std.specs.Prelude.{◌≡◌, ℕ, List, [], ◌<◌, length, Some, OnOk, OnErr, IfOk, IfErr, slice_get, MatchResult, IsSome, IsOk, IsTrue, ◌↔◌, flat_map, is_some};
 ghost use Rattle.std.specs.Iterator.{YieldsFirst, item_count};
 ghost use Rattle.std.specs.Ordering.{nat_cmp};
@@ -22,7 +22,9 @@ use std::cmp::Ordering;
 use std::hash::{Hash, Hasher};
 use std::marker::Model;
 
-/// A finite map from slots to slots, seen as the list of its pairs in key order. It is ordered and compared as that list, and hashed by its pairs.
+/// A finite map from slots to slots, seen as the list of its pairs in key order.
+///
+/// Maps are ordered and compared as these lists, and hashed by their pairs.
 #[derive(Drop, Debug)]
 pub struct SlotMap {
     pairs: Vec<(Slot, Slot)>,
@@ -42,7 +44,7 @@ impl Model for SlotMap {
 
 type Pairs = Vec<(Slot, Slot)>;
 
-// Puts another value beside a key.
+// Replaces the value of the pair at a position.
 fn write_value(pairs: &mut Pairs, i: usize, r: Slot)
     requires { i < length pairs.old.items }
     ensures { pairs.new.items ≡ with_value_at pairs.old.items i r }
@@ -51,7 +53,7 @@ fn write_value(pairs: &mut Pairs, i: usize, r: Slot)
 }
 
 impl SlotMap {
-    /// The map without keys. It takes no memory.
+    /// Returns the map without keys. Takes no memory.
     pub fn new(alloc: Global) -> SlotMap
         ensures { result ≡ [] }
     {
@@ -60,7 +62,7 @@ impl SlotMap {
         }
     }
 
-    /// The number of keys.
+    /// Returns the number of keys.
     pub fn len(&self) -> usize
         ensures len { result ≡ length self.now }
         ensures ascending { IsAscending (keys self.now) }
@@ -68,21 +70,21 @@ impl SlotMap {
         self.pairs.len()
     }
 
-    /// Whether there are no keys.
+    /// Returns whether the map has no keys.
     pub fn is_empty(&self) -> bool
         ensures { IsTrue result ↔ (self.now ≡ []) }
     {
         self.pairs.is_empty()
     }
 
-    /// Whether the map has a value at the key.
+    /// Returns whether the map has a value for a key.
     pub fn contains_key(&self, k: Slot) -> bool
         ensures { result ≡ is_some (value_of self.now k) }
     {
         self.get(k).is_some()
     }
 
-    /// The value at a key.
+    /// Returns the value of a key.
     pub fn get(&self, k: Slot) -> Option<Slot>
         ensures { result ≡ value_of self.now k }
     {
@@ -92,7 +94,7 @@ impl SlotMap {
         }
     }
 
-    /// Puts `r` at the key `l`, over what was there. A key that is there already takes no memory.
+    /// Puts the value `r` at the key `l`, in place of a value that the key had. Takes memory only if the key is new.
     pub fn insert(&mut self, l: Slot, r: Slot) -> Result<(), Error>
         ensures ok { OnOk result (self.new ≡ with_pair self.old l r) }
         ensures err { OnErr result (self.new ≡ self.old) }
@@ -106,7 +108,7 @@ impl SlotMap {
         Ok(())
     }
 
-    /// Takes a key and its value out. An absent key is no fault.
+    /// Removes a key and its value. Does nothing if the map has no such key.
     pub fn remove(&mut self, k: Slot)
         ensures { self.new ≡ without_key self.old k }
     {
@@ -115,7 +117,7 @@ impl SlotMap {
         }
     }
 
-    /// The pairs, in key order.
+    /// Returns an iterator over the pairs, in key order.
     pub fn iter(&self) -> Iter<'_>
         ensures pairs { result ≡ self.now }
         ensures ascending { IsAscending (keys self.now) }
@@ -125,7 +127,7 @@ impl SlotMap {
         }
     }
 
-    /// The keys.
+    /// Returns the set of the keys.
     pub fn keys(&self, alloc: Global) -> Result<SmallHashSet<Slot>, Error>
         ensures ok { IfOk result (λ s. s ≡ keys self.now) }
         ensures memory { IfErr result IsOutOfMemory }
@@ -137,7 +139,7 @@ impl SlotMap {
         Ok(set)
     }
 
-    /// The values, each once.
+    /// Returns the set of the values.
     pub fn values(&self, alloc: Global) -> Result<SmallHashSet<Slot>, Error>
         ensures ok { IfOk result (λ s. s ≡ set_of nat_cmp (values self.now)) }
         ensures members { IfOk result (λ s. (v : ℕ) → is_among v s ≡ is_among v (values self.now)) }
@@ -150,7 +152,7 @@ impl SlotMap {
         Ok(set)
     }
 
-    /// Whether no value stands twice. It takes no memory.
+    /// Returns whether no value stands twice. Takes no memory.
     pub fn is_bijection(&self) -> bool
         ensures { result ≡ all_differ (values self.now) }
     {
@@ -163,7 +165,7 @@ impl SlotMap {
         true
     }
 
-    /// The map from each value to its key.
+    /// Returns the map from each value to its key.
     pub fn inverse(&self, alloc: Global) -> Result<SlotMap, Error>
         requires { IsTrue (all_differ (values self.now)) }
         ensures ok { IfOk result (λ n. n ≡ map_of (turned self.now)) }
@@ -177,7 +179,7 @@ impl SlotMap {
         Ok(inverse)
     }
 
-    /// The map from each slot of a set to itself.
+    /// Returns the map from each slot of a set to itself.
     pub fn identity(alloc: Global, set: &SmallHashSet<Slot>) -> Result<SlotMap, Error>
         ensures ok { IfOk result (λ m. m ≡ doubled set.now) }
         ensures memory { IfErr result IsOutOfMemory }
@@ -189,7 +191,8 @@ impl SlotMap {
         Ok(SlotMap { pairs })
     }
 
-    /// First this map, then the other: it keeps the keys whose value the other knows.
+    /// Returns the composition: this map first, then the other. Only keys whose value is a key of the other map
+    /// remain.
     pub fn compose_partial(&self, alloc: Global, other: &SlotMap) -> Result<SlotMap, Error>
         ensures ok { IfOk result (λ m. m ≡ composed self.now other.now) }
         ensures memory { IfErr result IsOutOfMemory }
@@ -203,7 +206,7 @@ impl SlotMap {
         Ok(SlotMap { pairs })
     }
 
-    /// The map of some pairs. Of two with one key the later counts.
+    /// Returns the map of some pairs. If two pairs have one key, the later pair counts.
     pub fn from_pairs(alloc: Global, pairs: &[(Slot, Slot)]) -> Result<SlotMap, Error>
         ensures ok { IfOk result (λ m. m ≡ map_of pairs.now) }
         ensures memory { IfErr result IsOutOfMemory }
@@ -215,7 +218,7 @@ impl SlotMap {
         Ok(map)
     }
 
-    /// The value at a position in key order.
+    /// Returns the value at a position in key order.
     pub fn value_at(&self, i: usize) -> Slot
         requires { i < length self.now }
         ensures { slice_get (values self.now) i ≡ Some result }
@@ -223,7 +226,7 @@ impl SlotMap {
         self.pairs[i].1
     }
 
-    /// Puts another value at a position in key order.
+    /// Replaces the value at a position in key order.
     pub fn set_value_at(&mut self, i: usize, r: Slot)
         requires { i < length self.old }
         ensures { self.new ≡ with_value_at self.old i r }
@@ -231,7 +234,7 @@ impl SlotMap {
         write_value(&mut self.pairs, i, r);
     }
 
-    /// A map that equals this one.
+    /// Returns a map that equals this one.
     pub fn copy(&self, alloc: Global) -> Result<SlotMap, Error>
         ensures ok { IfOk result (λ c. c ≡ self.now) }
         ensures memory { IfErr result IsOutOfMemory }
@@ -241,7 +244,7 @@ impl SlotMap {
         })
     }
 
-    // Where the key is, or where it would go.
+    // Returns the position of a key, or the position where it would go.
     fn search(&self, k: Slot) -> Result<usize, usize>
         ensures found { IfOk result (IsAt self.now k) }
         ensures absent { IfErr result (IsGapFor self.now k) }
@@ -255,7 +258,8 @@ impl SlotMap {
             .binary_search_by_key(&k, |pair| pair.0)
     }
 
-    // Whether each key is below this one. Most maps are made from the first key to the last, and so most pairs are put in at the end.
+    // Returns whether each key is below this one. Most maps are made in key order, so most pairs are put in at the
+    // end.
     fn ends_before(&self, k: Slot) -> bool
         ensures { IsTrue result → IsGapFor self.now k (length self.now) }
     {
@@ -266,7 +270,7 @@ impl SlotMap {
     }
 }
 
-// Whether a value stands among the pairs.
+// Returns whether a value stands among the pairs.
 fn has_value(pairs: &[(Slot, Slot)], v: Slot) -> bool
     ensures { result ≡ is_among v (values pairs.now) }
 {
@@ -278,7 +282,7 @@ fn has_value(pairs: &[(Slot, Slot)], v: Slot) -> bool
     false
 }
 
-/// The pairs of a map in key order, seen as the list of those that are left.
+/// An iterator over the pairs of a map in key order, seen as the list of those that are left.
 #[derive(Debug, Drop)]
 pub struct Iter<'a> {
     pairs: &'a [(Slot, Slot)],

@@ -1,4 +1,4 @@
-//! Short sets, which keep up to eight elements inline.
+//! Sets that keep up to eight elements inline.
 ghost use Rattle.std.specs.Prelude.{◌≡◌, [], ◌↔◌, not, length, IsTrue, OnOk, OnErr, IfOk, IfErr, IsOk};
 ghost use Rattle.std.specs.List.Sorted.{IsStrictlySortedBy};
 ghost use Rattle.std.specs.Slice.Iter.{iter_rest};
@@ -34,7 +34,7 @@ impl<T: Ord> Model for SmallHashSet<T> {
 }
 
 impl<T: Ord> SmallHashSet<T> {
-    /// The number of elements.
+    /// Returns the number of elements.
     pub fn len(&self) -> usize
         ensures len { result ≡ length self.now }
         ensures ascending { IsStrictlySortedBy T.cmp self.now }
@@ -42,21 +42,21 @@ impl<T: Ord> SmallHashSet<T> {
         self.items.len()
     }
 
-    /// Whether there are no elements.
+    /// Returns whether the set has no elements.
     pub fn is_empty(&self) -> bool
         ensures { IsTrue result ↔ (self.now ≡ []) }
     {
         self.items.is_empty()
     }
 
-    /// Whether an element compares equal to `t`.
+    /// Returns whether an element compares equal to `t`.
     pub fn contains(&self, t: &T) -> bool
         ensures { result ≡ has T.cmp self.now t.now }
     {
         self.search(t).is_ok()
     }
 
-    /// The elements, in ascending order.
+    /// Returns the elements, in ascending order.
     pub fn as_slice(&self) -> &[T]
         ensures elements { result.now ≡ self.now }
         ensures ascending { IsStrictlySortedBy T.cmp self.now }
@@ -64,7 +64,7 @@ impl<T: Ord> SmallHashSet<T> {
         self.items.as_slice()
     }
 
-    /// An iterator over the elements, in ascending order.
+    /// Returns an iterator over the elements, in ascending order.
     pub fn iter(&self) -> slice::Iter<'_, T>
         ensures rest { iter_rest result ≡ self.now }
         ensures runs { IterYieldsInOrder T }
@@ -73,7 +73,7 @@ impl<T: Ord> SmallHashSet<T> {
         self.as_slice().iter()
     }
 
-    // Where an element that compares equal to `t` is, or where `t` would go.
+    // Returns the position of the element that compares equal to `t`, or the position where `t` would go.
     fn search(&self, t: &T) -> Result<usize, usize>
         ensures found { IfOk result (IsPlaceOf T.cmp self.now t.now) }
         ensures absent { IfErr result (IsGap T.cmp self.now t.now) }
@@ -84,7 +84,7 @@ impl<T: Ord> SmallHashSet<T> {
 }
 
 impl<T: Ord + MadeWith<Global> + Drop> SmallHashSet<T> {
-    /// The set without elements. It takes no memory.
+    /// Returns the set without elements. Takes no memory.
     pub fn new(alloc: Global) -> SmallHashSet<T>
         ensures { result ≡ [] }
     {
@@ -93,7 +93,7 @@ impl<T: Ord + MadeWith<Global> + Drop> SmallHashSet<T> {
         }
     }
 
-    /// Puts `t` in, and answers whether it was new. An element that compares equal to one that is there takes no memory.
+    /// Adds `t`, and returns whether it was new. Takes memory only if it was new.
     pub fn insert(&mut self, t: T) -> Result<bool, Error>
         ensures ok { OnOk result (self.new ≡ insert_key T.cmp self.old t) }
         ensures added { IfOk result (λ added. added ≡ not (has T.cmp self.old t)) }
@@ -110,7 +110,7 @@ impl<T: Ord + MadeWith<Global> + Drop> SmallHashSet<T> {
         }
     }
 
-    /// Takes the element that compares equal to `t` out, and answers whether there was one. It takes no memory.
+    /// Removes the element that compares equal to `t`, and returns whether there was one. Takes no memory.
     pub fn remove(&mut self, t: &T) -> bool
         ensures set { self.new ≡ without T.cmp self.old t.now }
         ensures removed { result ≡ has T.cmp self.old t.now }

@@ -1,4 +1,4 @@
-//! Ids of classes, and ids that are applied to slots.
+//! Ids of e-classes, and applied ids.
 ghost use Rattle.std.specs.Prelude.{◌≡◌, ◌<◌, ◌++◌, ℕ, [], Some, length, codes, decimal, IsTrue, IfOk, IfErr, IsErrOf};
 ghost use Rattle.std.specs.Ordering.{nat_cmp};
 ghost use Rattle.slotted_slots.specs.Combining.{both_values, IsCompleted, TakesToComplete, LacksToComplete};
@@ -12,11 +12,11 @@ use crate::{Error, Show, Slot, SlotMap, SlotTable, SmallHashSet};
 use std::alloc::Global;
 use std::fmt;
 
-/// The number of a class.
+/// The number of an e-class.
 #[derive(Clone, Copy, PartialEq, Eq, PartialOrd, Ord, Hash)]
 pub struct Id(pub usize);
 
-/// `id5`.
+/// Prints `id5`.
 impl fmt::Debug for Id {
     ghost debug_output = { λ id. Some (codes "id" ++ decimal id.0) };
 
@@ -26,15 +26,19 @@ impl fmt::Debug for Id {
     }
 }
 
-/// A class with a slot for each of its parameters: the map goes from the class's slots to those put in.
+/// An applied id: an e-class, and a map from its slots to names. No name stands twice.
+///
+/// The map may omit names of redundant slots.
 #[derive(Drop, Debug, Clone, PartialEq, Eq, PartialOrd, Ord, Hash)]
 pub struct AppliedId {
+    /// The e-class.
     pub id: Id,
+    /// The map from the slots of the class to names.
     pub m: SlotMap,
 }
 
 impl AppliedId {
-    /// A class with what the map puts in for its parameters, no slot twice.
+    /// Returns the applied id of a class and a map from its slots to names. No name may stand twice.
     pub fn new(id: Id, m: SlotMap) -> AppliedId
         requires { IsTrue (all_differ (values m)) }
         ensures id { result.id ≡ id }
@@ -43,7 +47,7 @@ impl AppliedId {
         AppliedId { id, m }
     }
 
-    /// The slots that are put in.
+    /// Returns the set of the names.
     pub fn slots(&self, alloc: Global) -> Result<SmallHashSet<Slot>, Error>
         ensures ok { IfOk result (λ s. s ≡ set_of nat_cmp (values self.now.m)) }
         ensures members { IfOk result (λ s. (v : ℕ) → is_among v s ≡ is_among v (values self.now.m)) }
@@ -52,7 +56,7 @@ impl AppliedId {
         self.m.values(alloc)
     }
 
-    /// The same class with each slot that is put in sent on by `m`, which knows them all and keeps them apart.
+    /// Returns the same class with each name sent through `m`, which must have all of them as keys and keep them apart.
     pub fn apply_slotmap(&self, alloc: Global, m: &SlotMap) -> Result<AppliedId, Error>
         requires known { KnowsAll m.now (values self.now.m) }
         requires apart { IsTrue (all_differ (values (composed self.now.m m.now))) }
@@ -64,7 +68,9 @@ impl AppliedId {
         Ok(AppliedId::new(self.id, self.m.compose_partial(alloc, m)?))
     }
 
-    /// The same class with each slot that is put in sent on by `m`, without those that `m` lacks. The rest it keeps apart.
+    /// Returns the same class with each name sent through `m`, without the names that `m` lacks.
+    ///
+    /// `m` must keep those names apart that it has as keys.
     pub fn apply_slotmap_partial(&self, alloc: Global, m: &SlotMap) -> Result<AppliedId, Error>
         requires { IsTrue (all_differ (values (composed self.now.m m.now))) }
         ensures id { IfOk result (λ a. a.id ≡ self.now.id) }
@@ -75,8 +81,9 @@ impl AppliedId {
         Ok(AppliedId::new(self.id, sent))
     }
 
-    /// The same class with each slot that is put in sent on by `m`, which keeps apart those that it knows. The others become
-    /// slots that were never made before.
+    /// Returns the same class with each name sent through `m`, and a fresh slot for each name that `m` lacks.
+    ///
+    /// `m` must keep those names apart that it has as keys.
     pub fn apply_slotmap_fresh(
         &self,
         alloc: Global,
@@ -88,10 +95,10 @@ impl AppliedId {
         ensures completed { IfOk result (λ a. IsCompleted table.old table.new self.now.m m.now a.m) }
         ensures injective { IfOk result (λ a. IsTrue (all_differ (values a.m))) }
 
-        // The table went on to make slots, and is else as it was. What it knows in addition is a value of one of the three maps.
+        // Only fresh slots are made. A slot that is known in addition is a value of one of the three maps.
         ensures taken { IfOk result (λ a. TakesAmong table.old table.new (values a.m) (both_values self.now.m m.now)) }
 
-        // Also where it refuses, it makes a slot at most for each that `m` lacks.
+        // Even on an error, at most one slot is made for each name that `m` lacks.
         ensures count { TakesToComplete self.now.m m.now table.old table.new }
         ensures names { table.new.names ≡ table.old.names }
         ensures more { KnowsMore table.old table.new }
@@ -103,7 +110,7 @@ impl AppliedId {
         Ok(AppliedId::new(self.id, completed))
     }
 
-    /// Puts another slot in at a position in the order of the parameters.
+    /// Replaces the name at a position in the order of the slots of the class.
     pub fn set_slot_at(&mut self, i: usize, s: Slot)
         requires { i < length self.old.m }
         ensures id { self.new.id ≡ self.old.id }
@@ -112,7 +119,7 @@ impl AppliedId {
         self.m.set_value_at(i, s);
     }
 
-    /// The id 0 with the empty map, which stands where a child is not looked at.
+    /// Returns the null id, class 0 with the empty map, which stands where a child is not read.
     pub fn null(alloc: Global) -> AppliedId
         ensures id { result.id.0 ≡ 0 }
         ensures map { result.m ≡ [] }
@@ -123,7 +130,7 @@ impl AppliedId {
         }
     }
 
-    /// An applied id that equals this one.
+    /// Returns an applied id that equals this one.
     pub fn copy(&self, alloc: Global) -> Result<AppliedId, Error>
         ensures ok { IfOk result (λ c. c ≡ self.now) }
         ensures err { IfErr result IsOutOfMemory }
@@ -135,7 +142,7 @@ impl AppliedId {
     }
 }
 
-/// `id5[$0 -> $3]`: the number and the map.
+/// Prints `id5[$0 -> $3]`: the number and the map.
 impl Show for AppliedId {
     ghost shown = { λ t a. Some (shown_applied t a.id.0 a.m) };
 

@@ -1,4 +1,4 @@
-//! The language [`Small`] of the program and of the tests, and the laws of patterns and of terms at it.
+//! The language [`Small`] of the programs and of the tests, and the laws of its patterns and terms.
 #![tactic(auto)]
 
 pub mod order;

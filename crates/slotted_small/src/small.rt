@@ -1,4 +1,4 @@
-//! The written language `Small`: lambda terms, slots by themselves, sums, products, numbers and words.
+//! The language `Small`: lambda terms, slots by themselves, sums, products, numbers and words.
 ghost use Rattle.std.specs.Prelude.{◌≡◌, Some, [], ◌∷◌, map, option_map, IfOk, IfErr};
 ghost use Rattle.slotted_slots.specs.Error.{IsOutOfMemory};
 ghost use Rattle.slotted_slots.specs.Syntax.{element_of, name, text};
@@ -15,10 +15,10 @@ use slotted_slots::{AppliedId, Error, Slot, SyntaxElem};
 use slotted_terms::expr::printing::Printable;
 use std::alloc::Global;
 
-/// A node of the written language. The comment at each variant says how it is written.
+/// A node of `Small`. The comment at each variant says how it is written.
 ///
-/// A text alone is a number where Rust's reader takes it as a `u32`, and else a word: so `lam` alone is a word, and `+5`
-/// is the number 5, which is written `5`.
+/// A text alone is a number if Rust reads it as a `u32`, and else a word. So `lam` alone is a word, and `+5` is the
+/// number 5, which is written `5`.
 #[derive(Drop, Debug, Clone, PartialEq, Eq, PartialOrd, Ord, Hash)]
 pub enum Small {
     /// `(lam $x t)`
@@ -35,9 +35,9 @@ pub enum Small {
     Add(AppliedId, AppliedId),
     /// `(mul t u)`
     Mul(AppliedId, AppliedId),
-    /// digits alone
+    /// A number alone, such as `42`.
     Number(u32),
-    /// any other text alone
+    /// Any other text alone.
     Word(Symbol),
 }
 
@@ -213,7 +213,7 @@ impl LanguageChildren for Small {
     }
 }
 
-// An operator as an element.
+// Returns an operator as an element.
 fn word(alloc: Global, operator: &str) -> Result<SyntaxElem, Error>
     ensures ok { IfOk result (λ e. element_of e ≡ text operator.now) }
     ensures err { IfErr result IsOutOfMemory }
@@ -221,7 +221,7 @@ fn word(alloc: Global, operator: &str) -> Result<SyntaxElem, Error>
     Ok(SyntaxElem::String(String::from_str(alloc, operator)?))
 }
 
-// A child as an element.
+// Returns a child as an element.
 fn child(alloc: Global, a: &AppliedId) -> Result<SyntaxElem, Error>
     ensures ok { IfOk result (λ e. element_of e ≡ id_element a.now) }
     ensures err { IfErr result IsOutOfMemory }
@@ -229,7 +229,7 @@ fn child(alloc: Global, a: &AppliedId) -> Result<SyntaxElem, Error>
     Ok(SyntaxElem::AppliedId(a.copy(alloc)?))
 }
 
-// What is written of an operator and a slot.
+// Returns what is written of an operator and a slot.
 fn write_over_slot(alloc: Global, operator: &str, x: Slot) -> Result<Vec<SyntaxElem>, Error>
     ensures ok { IfOk result (λ v. map element_of v.items ≡ text operator.now ∷ name x ∷ []) }
     ensures err { IfErr result IsOutOfMemory }
@@ -237,7 +237,7 @@ fn write_over_slot(alloc: Global, operator: &str, x: Slot) -> Result<Vec<SyntaxE
     Ok(vec![in alloc; word(alloc, operator)?, SyntaxElem::Slot(x)]?)
 }
 
-// What is written of an operator and two slots.
+// Returns what is written of an operator and two slots.
 fn write_over_slots(
     alloc: Global,
     operator: &str,
@@ -254,7 +254,7 @@ fn write_over_slots(
     ]?)
 }
 
-// What is written of an operator, a slot and a child.
+// Returns what is written of an operator, a slot and a child.
 fn write_over_binder(
     alloc: Global,
     operator: &str,
@@ -271,7 +271,7 @@ fn write_over_binder(
     ]?)
 }
 
-// What is written of an operator and two children.
+// Returns what is written of an operator and two children.
 fn write_over_children(
     alloc: Global,
     operator: &str,
@@ -285,14 +285,14 @@ fn write_over_children(
     Ok(vec![in alloc; word(alloc, operator)?, child(alloc, a)?, child(alloc, b)?]?)
 }
 
-// The number that a text writes.
+// Returns the number that a text writes.
 fn read_number(text: &str) -> Option<u32>
     ensures { result ≡ reads_u32 text.now }
 {
     text.parse().ok()
 }
 
-// The node that a text alone writes.
+// Returns the node that a text alone writes.
 fn read_alone(alloc: Global, word: &str) -> Result<Option<Small>, Error>
     ensures ok { IfOk result (λ o. option_map small_form o ≡ Some (alone word.now (reads_u32 word.now))) }
     ensures err { IfErr result IsOutOfMemory }
@@ -303,7 +303,7 @@ fn read_alone(alloc: Global, word: &str) -> Result<Option<Small>, Error>
     }
 }
 
-// The node that a text and a slot write.
+// Returns the node that a text and a slot write.
 fn read_over_slot(operator: &str, x: Slot) -> Option<Small>
     ensures { option_map small_form result ≡ over_slot operator.now x }
 {
@@ -314,7 +314,7 @@ fn read_over_slot(operator: &str, x: Slot) -> Option<Small>
     }
 }
 
-// The node that a text and two slots write.
+// Returns the node that a text and two slots write.
 fn read_over_slots(operator: &str, x: Slot, y: Slot) -> Option<Small>
     ensures { option_map small_form result ≡ over_slots operator.now x y }
 {
@@ -324,7 +324,7 @@ fn read_over_slots(operator: &str, x: Slot, y: Slot) -> Option<Small>
     }
 }
 
-// The node that a text, a slot and a child write.
+// Returns the node that a text, a slot and a child write.
 fn read_over_binder(
     alloc: Global,
     operator: &str,
@@ -343,7 +343,7 @@ fn read_over_binder(
     }
 }
 
-// The node that an operator makes of two children.
+// Returns the node that an operator makes of two children.
 fn over_two(operator: &str, a: AppliedId, b: AppliedId) -> Option<Small>
     ensures { option_map small_form result ≡ over_children operator.now (id_form a) (id_form b) }
 {
@@ -355,7 +355,7 @@ fn over_two(operator: &str, a: AppliedId, b: AppliedId) -> Option<Small>
     }
 }
 
-// The node that a text and two children write.
+// Returns the node that a text and two children write.
 fn read_over_children(
     alloc: Global,
     operator: &str,

@@ -1,4 +1,4 @@
-// Terms of a language as trees of nodes.
+//! Terms of a language as trees of nodes.
 ghost use Rattle.std.specs.Prelude.{◌≡◌, ◌<◌, length, IfOk, IfErr, MatchResult};
 ghost use Rattle.slotted_slots.specs.Error.{IsOutOfMemory};
 ghost use Rattle.slotted_languages.specs.Filled.{term_of};
@@ -38,7 +38,7 @@ impl<L: Language> Model for RecExpr<L> {
     ghost size_decreases = { λ e h. omega (arith, children_smaller (L.form e.node) e.children.items) };
 }
 
-// The terms below are let go in turn, so a deep term needs no deep stack.
+// The terms below are dropped in turn, so a deep term needs no deep stack.
 impl<L: Language> Drop for RecExpr<L> {
     fn drop(self) {
         let RecExpr { node: _, children } = self;
@@ -51,7 +51,7 @@ impl<L: Language> Drop for RecExpr<L> {
 }
 
 impl<L: Language> RecExpr<L> {
-    /// The node and the terms that stand under it, of which the term is made.
+    /// Returns the node and the terms under it, of which the term is made.
     pub fn into_parts(self) -> (L, Vec<RecExpr<L>>)
         ensures { term_of (L.form result.0) result.1.items ≡ self }
     {
@@ -59,7 +59,7 @@ impl<L: Language> RecExpr<L> {
         (node, children)
     }
 
-    // The operator of the term, which is one more than the node's: no term is a hole.
+    // Returns the operator of the term, which is one more than the node's: no term is a hole.
     fn operator(&self) -> u64
         ensures op { result ≡ self.now.op }
         ensures positive { 0 < result }
@@ -67,7 +67,7 @@ impl<L: Language> RecExpr<L> {
         u64::from(self.node.operator()) + 1
     }
 
-    /// A term that equals this one.
+    /// Returns a term that equals this one.
     pub fn copy(&self, alloc: Global) -> Result<RecExpr<L>, Error>
         ensures ok { IfOk result (λ c. c ≡ self.now) }
         ensures err { IfErr result IsOutOfMemory }
@@ -91,7 +91,7 @@ impl<L: Language> Clone for RecExpr<L> {
     }
 }
 
-// How many terms stand in the row. Each of them has an operator.
+// Returns how many terms stand in the row. Each of them has an operator.
 fn term_count<L: Language>(row: &[RecExpr<L>]) -> usize
     ensures count { result ≡ length row.now }
     ensures terms { AreTerms row.now }

@@ -1,4 +1,4 @@
-//! Terms as lists of their nodes, which go to and from trees by loops.
+//! Terms as lists of their nodes. Loops make them of trees, and trees of them.
 ghost use Rattle.std.specs.Prelude.{◌≡◌, ◌≤◌, ◌++◌, length, map, IfOk, OnOk, IfErr, IsSome};
 ghost use Rattle.slotted_slots.specs.Error.{IsOutOfMemory};
 ghost use Rattle.slotted_patterns.specs.Tree.{PatternTree};
@@ -13,10 +13,12 @@ use slotted_patterns::Pattern;
 use slotted_slots::Error;
 use std::alloc::Global;
 
-/// A node of a term, and how many terms stand under it.
+/// A node of a term, and the number of terms under it.
 #[derive(Drop)]
 pub struct FlatNode<L: Language> {
+    /// The node.
     pub node: L,
+    /// The number of terms under the node.
     pub count: usize,
 }
 
@@ -34,8 +36,9 @@ fn push_all<'a, L: Language>(
     Ok(())
 }
 
-/// The nodes of a term, each before those under it, which follow from the right. Where they are taken from the end, the terms under each node
-/// are complete.
+/// Returns the nodes of a term, each before those under it, which follow from the right.
+///
+/// If the nodes are taken from the end, the terms under a node are complete when it is reached.
 pub fn flatten<L: Language>(alloc: Global, term: &RecExpr<L>) -> Result<Vec<FlatNode<L>>, Error>
     ensures ok { IfOk result (λ v. (p : PatternTree) × IsPatternOf p term.now × (flat_of L.form v.items ≡ flat p)) }
     ensures err { IfErr result IsOutOfMemory }
@@ -52,7 +55,8 @@ pub fn flatten<L: Language>(alloc: Global, term: &RecExpr<L>) -> Result<Vec<Flat
     Ok(nodes)
 }
 
-// The node that the pattern is. The patterns under it, which must be as many as its children, are added to those that are left.
+// Returns the node that the pattern is, and adds the patterns under it to those that are left. Returns `NotATerm` if
+// these are not as many as the node's children.
 fn open<L: Language>(pattern: Pattern<L>, left: &mut Vec<Pattern<L>>) -> Result<FlatNode<L>, Error>
     ensures ok { IfOk result (λ n. Opens L.form (tree_of L.form pattern) n
         (map (tree_of L.form) left.old.items) (map (tree_of L.form) left.new.items)) }
@@ -69,7 +73,7 @@ fn open<L: Language>(pattern: Pattern<L>, left: &mut Vec<Pattern<L>>) -> Result<
     Ok(FlatNode { node, count })
 }
 
-// The nodes of the pattern, the uppermost first, if it is a term.
+// Returns the nodes of the pattern, the uppermost first, if it is a term.
 pub(crate) fn take_apart<L: Language>(
     alloc: Global,
     pattern: Pattern<L>,
@@ -88,7 +92,7 @@ pub(crate) fn take_apart<L: Language>(
     Ok(nodes)
 }
 
-// The last patterns of the list, so many, give way to that of a node over them.
+// Replaces the last `node.count` patterns of the list by that of the node over them.
 fn close<L: Language>(done: &mut Vec<Pattern<L>>, node: FlatNode<L>) -> Result<(), Error>
     requires { node.count ≤ length done.old.items }
     ensures ok { OnOk result (map (tree_of L.form) done.new.items
@@ -101,7 +105,7 @@ fn close<L: Language>(done: &mut Vec<Pattern<L>>, node: FlatNode<L>) -> Result<(
     Ok(())
 }
 
-// The pattern of a list of nodes.
+// Returns the pattern of a list of nodes.
 pub(crate) fn assemble<L: Language>(
     alloc: Global,
     mut nodes: Vec<FlatNode<L>>,
@@ -120,7 +124,7 @@ pub(crate) fn assemble<L: Language>(
     }
 }
 
-// The last terms of the list, so many, give way to the term of a node over them.
+// Replaces the last `node.count` terms of the list by that of the node over them.
 fn close_term<L: Language>(done: &mut Vec<RecExpr<L>>, node: FlatNode<L>) -> Result<(), Error>
     requires { node.count ≤ length done.old.items }
     ensures ok { OnOk result (done.new.items ≡ closed_terms (L.form node.node) node.count done.old.items) }
@@ -132,7 +136,7 @@ fn close_term<L: Language>(done: &mut Vec<RecExpr<L>>, node: FlatNode<L>) -> Res
     Ok(())
 }
 
-// The term of a list of nodes.
+// Returns the term of a list of nodes.
 pub(crate) fn assemble_term<L: Language>(
     alloc: Global,
     mut nodes: Vec<FlatNode<L>>,

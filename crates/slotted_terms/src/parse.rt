@@ -15,16 +15,19 @@ use slotted_slots::{Error, SlotTable};
 use std::alloc::Global;
 
 impl<L: Language> RecExpr<L> {
-    /// The term that a text writes: a word, or a word in round brackets with slots and terms after it, as in
-    /// `(lam $x (app (var $x) y))`.
+    /// Returns the term that a text writes.
     ///
-    /// The text is read as a pattern, and `NotATerm` if that is no term. All tokens are read first, and each slot's name is looked up or kept in the table as its
-    /// token is read. A refusal leaves in the table the names that were read before it.
+    /// A term is a word, or a word in round brackets with slots and terms after it, as in `(lam $x (app (var $x)
+    /// y))`. The text is read as a pattern. The error is `NotATerm` if that is no term.
+    ///
+    /// All tokens are read before the grammar is applied. A slot's name is looked up in the table, or kept there,
+    /// when its token is read. After an error the table keeps the names that were read before it.
     pub fn parse(alloc: Global, text: &str, table: &mut SlotTable) -> Result<RecExpr<L>, Error>
         ensures answer { Answers (λ t. t) (λ o. TextReads L.read table.old (chars text.now) o table.new) result }
         ensures valid { IfOk result (λ t. IsValidTerm table.new t) }
 
-        // It was read as a pattern of nodes of the language: so what it prints reads as it (`each_term_reads_as_itself`).
+        // The term was read as a pattern of nodes of the language, so what it prints is read as the same term
+        // (`each_term_reads_as_itself`).
         ensures nodes { IfOk result (λ x. ReadsAsNodes L.form L.read table.old (chars text.now) x table.new) }
 
         ensures more { KnowsMore table.old table.new }
@@ -34,7 +37,8 @@ impl<L: Language> RecExpr<L> {
     }
 }
 
-/// A text reads in just one way: the language, the table and the characters determine the outcome and the table after it.
+/// Proves that each text is read in one way: the language, the table and the characters determine the outcome and the
+/// table after it.
 pub fn each_text_reads_in_one_way()
     ensures one { ReadsOneWay }
     ensures some { ReadsSomeWay }

@@ -13,8 +13,10 @@ use slotted_patterns::Pattern;
 use slotted_slots::Error;
 use std::alloc::Global;
 
-/// The term that a pattern is. It is `NotATerm` where a variable or a substitution stands in it, or a node has a wrong
-/// number of child patterns.
+/// Returns the term that a pattern is.
+///
+/// The error is `NotATerm` if a variable or a substitution stands in the pattern, or a node has a wrong number of
+/// child patterns.
 pub fn pattern_to_re<L: Language>(alloc: Global, pattern: &Pattern<L>) -> Result<RecExpr<L>, Error>
     ensures ok { IfOk result (λ t. as_term (tree_of L.form pattern.now) ≡ Some t) }
     ensures none { IfErr result (IsRefusal (as_term (tree_of L.form pattern.now))) }
@@ -23,7 +25,7 @@ pub fn pattern_to_re<L: Language>(alloc: Global, pattern: &Pattern<L>) -> Result
     into_term(alloc, copy)
 }
 
-// The term that a pattern is, made of the pattern's own nodes.
+// Returns the term that a pattern is, made of the pattern's own nodes.
 pub(crate) fn into_term<L: Language>(
     alloc: Global,
     pattern: Pattern<L>,
@@ -36,8 +38,9 @@ pub(crate) fn into_term<L: Language>(
     Ok(term)
 }
 
-/// The pattern of a term's nodes, with as many child patterns as the nodes have children. `pattern_to_re` makes the term of it
-/// again if each node has the right number of children.
+/// Returns the pattern of a term's nodes, with as many child patterns as the nodes have children.
+///
+/// `pattern_to_re` makes the term of it again if each node of the term has the right number of children.
 pub fn re_to_pattern<L: Language>(alloc: Global, term: &RecExpr<L>) -> Result<Pattern<L>, Error>
     ensures ok { IfOk result (λ p. IsPatternOf (tree_of L.form p) term.now) }
     ensures back { IfOk result (λ p. IsWhole term.now.args → as_term (tree_of L.form p) ≡ Some term.now) }

@@ -1,4 +1,4 @@
-//! Slots that lack a partner in what an entry says of two live classes, and are dropped.
+//! Slots that become redundant: those that have no partner in what an entry says of two live classes.
 ghost use Rattle.std.specs.Prelude.{◌≡◌, ◌<◌, ℕ, length, Contains, IfOk, IfErr, IfSome, IfNone, IsErrOf, OnOk};
 ghost use Rattle.slotted_slots.specs.Error.{IsShortage};
 ghost use Rattle.slotted_slots.specs.Maps.{keys, values};
@@ -12,7 +12,7 @@ use slotted_proofs::ProvenEq;
 use slotted_slots::{Error, Slot, SlotMap};
 use std::alloc::Global;
 
-// The first value of a map that is no key of the other.
+// Returns the first value of a map that is no key of the other map.
 fn value_without_key(slots: &SlotMap, map: &SlotMap) -> Option<Slot>
     ensures some { IfSome result (λ s. Contains (values slots.now) s × ¬ Contains (keys map.now) s) }
     ensures none { IfNone result ((s : ℕ) → Contains (values slots.now) s → Contains (keys map.now) s) }
@@ -26,7 +26,7 @@ fn value_without_key(slots: &SlotMap, map: &SlotMap) -> Option<Slot>
     None
 }
 
-// A slot that the left class of an entry has, and that has no partner.
+// Returns a slot of the left class of an entry that has no partner.
 fn lacking_slot<L: Language>(store: &Store<L>, q: ProvenEq, pairs: &SlotMap) -> Option<Slot>
     requires good { Stored store.now }
     requires within { q < length store.now.proofs }
@@ -39,7 +39,7 @@ fn lacking_slot<L: Language>(store: &Store<L>, q: ProvenEq, pairs: &SlotMap) -> 
     value_without_key(&store.entry(left).m, pairs)
 }
 
-// The left class of an entry keeps the slots with a partner, by what the entry says there and back.
+// Shrinks the left class of an entry to the slots with a partner, by what the entry says there and back.
 fn drop_slots<L: Language>(
     store: &mut Store<L>,
     alloc: Global,
@@ -63,7 +63,8 @@ fn drop_slots<L: Language>(
     Ok(())
 }
 
-/// The left class of an entry drops the slots without a partner. False, and nothing has changed, if it has none.
+/// Shrinks the left class of an entry to the slots with a partner. Returns false, and changes nothing, if all slots
+/// have one.
 pub fn drop_left<L: Language>(
     store: &mut Store<L>,
     alloc: Global,

@@ -1,5 +1,7 @@
-//! Union by an entry of the proof list: slots that lack a partner are dropped, of two classes one dies and leads to the other, and
-//! what a class says of itself in another order is listed as a symmetry. Paths of finds are compressed.
+//! Union by an entry of the proof list.
+//!
+//! Slots without a partner become redundant. Of two classes one dies and leads to the other. What an entry says of
+//! one class, with its slots in another order, is listed as a symmetry. Paths that were walked are compressed.
 #![tactic(auto)]
 
 pub mod dropping;

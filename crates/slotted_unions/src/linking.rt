@@ -13,8 +13,8 @@ use slotted_proofs::ProvenEq;
 use slotted_slots::{AppliedId, Error};
 use std::alloc::Global;
 
-// What the left class of an entry leads to once it is dead: the right class, with the slot of the left one that has the same name for
-// each slot of it.
+// Returns what the left class of an entry leads to once it is dead: the right class, with the slot of the left one
+// that has the same name for each of its slots.
 fn heir<L: Language>(store: &Store<L>, alloc: Global, q: ProvenEq) -> Result<AppliedId, Error>
     requires good { Stored store.now }
     requires within { q < length store.now.proofs }
@@ -29,7 +29,7 @@ fn heir<L: Language>(store: &Store<L>, alloc: Global, q: ProvenEq) -> Result<App
     })
 }
 
-/// The left class of an entry dies and leads to the right one.
+/// Links the left class of an entry to the right one. The left class is dead from now on.
 pub fn link<L: Language>(store: &mut Store<L>, alloc: Global, q: ProvenEq) -> Result<(), Error>
     requires good { Stored store.old }
     requires within { q < length store.old.proofs }

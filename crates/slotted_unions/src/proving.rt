@@ -1,4 +1,5 @@
-//! Proofs of what finds say, of what an entry says of the classes that its sides find, and of two ids that find alike.
+//! Proofs of what `find` does to a class, of what an entry says of the live classes of its sides, and of ids that are
+//! found equal.
 ghost use Rattle.std.specs.Prelude.{◌≡◌, ◌<◌, length, IsTrue, IfOk, IfErr, IsErrOf};
 ghost use Rattle.slotted_slots.specs.Error.{IsOutOfMemory, IsShortage};
 ghost use Rattle.slotted_model.specs.Classes.{IsFull, canonical_slots};
@@ -16,8 +17,8 @@ use slotted_proofs::{Equation, ProvenEq};
 use slotted_slots::{AppliedId, Error};
 use std::alloc::Global;
 
-// Whether the class that a class leads to lives, and has as many slots left as the entry has pairs: so the find of the class says what
-// its entry says.
+// Returns whether the class that a class leads to is live, and has as many slots left as the entry has pairs. Then
+// `find` does to the class what its entry says.
 fn leads_to_whole<L: Language>(store: &Store<L>, id: usize) -> bool
     requires good { Stored store.now }
     requires within { id < length store.now.classes }
@@ -28,7 +29,7 @@ fn leads_to_whole<L: Language>(store: &Store<L>, id: usize) -> bool
     next.id.0 == entry.id.0 && next.m.len() == entry.m.len()
 }
 
-// Whether the class of a full id finds itself, with all its slots: so the id is what it finds.
+// Returns whether the class of a full id is live, with all its slots. Then the id is canonical.
 fn is_whole<L: Language>(store: &Store<L>, a: &AppliedId) -> bool
     requires good { Stored store.now }
     requires within { a.now.id.0 < length store.now.classes }
@@ -39,8 +40,8 @@ fn is_whole<L: Language>(store: &Store<L>, a: &AppliedId) -> bool
     entry.id.0 == a.id.0 && entry.m.len() == a.m.len()
 }
 
-// Whether an entry says what the find of a class says: its right side is what it finds itself, and the left one, an id of the class, finds
-// the same. It takes no memory.
+// Returns whether an entry says what `find` does to a class: its right side is canonical, and `find` maps its left
+// side, an id of the class, to it. Takes no memory.
 fn says_find<L: Language>(store: &Store<L>, id: usize, p: ProvenEq) -> bool
     requires good { Stored store.now }
     ensures { IsTrue result → ProvesFind store.now store.now id p }
@@ -56,8 +57,10 @@ fn says_find<L: Language>(store: &Store<L>, id: usize, p: ProvenEq) -> bool
     store.eq(&equation.l, &equation.r)
 }
 
-/// Returns the proof of what the find of a class says. That of a live class is the proof of its own entry. If the proof that was given last
-/// says what the class finds now, it is given again. A find that has to be proved step by step is noted, so that its path is compressed.
+/// Returns the proof of what `find` does to a class. For a live class this is the proof of its own entry.
+///
+/// The proof that was given last is given again if it still holds. A class whose `find` has to be proved step by step is
+/// noted, so that its path is compressed at the end of the write.
 pub fn find_proof<L: Language>(
     store: &mut Store<L>,
     alloc: Global,
@@ -88,7 +91,7 @@ pub fn find_proof<L: Language>(
     Ok(answer)
 }
 
-/// The proof of the same turned round.
+/// Returns the proof of what `find` does to a class, turned round.
 pub fn back_proof<L: Language>(
     store: &mut Store<L>,
     alloc: Global,
@@ -105,7 +108,7 @@ pub fn back_proof<L: Language>(
     Ok(answer)
 }
 
-// The proof of what an entry says of the class that its left side finds, and of its right class.
+// Returns the proof of what an entry says of the live class of its left side, and of its right class.
 fn half_proof<L: Language>(
     store: &mut Store<L>,
     alloc: Global,
@@ -127,7 +130,8 @@ fn half_proof<L: Language>(
     Ok(answer)
 }
 
-/// The proof of what an entry says of the classes that its sides find. Nothing is entered for a side that is what it finds.
+/// Returns the proof of what an entry says of the live classes of its sides. Enters nothing for a side that is
+/// canonical.
 pub fn found_proof<L: Language>(
     store: &mut Store<L>,
     alloc: Global,
@@ -149,7 +153,7 @@ pub fn found_proof<L: Language>(
     store.chain(alloc, half, onward)
 }
 
-// The equation of two ids.
+// Returns the equation of two ids.
 fn equation_between(alloc: Global, a: &AppliedId, b: &AppliedId) -> Result<Equation, Error>
     ensures left { IfOk result (λ e. e.l ≡ a.now) }
     ensures right { IfOk result (λ e. e.r ≡ b.now) }
@@ -161,7 +165,9 @@ fn equation_between(alloc: Global, a: &AppliedId, b: &AppliedId) -> Result<Equat
     })
 }
 
-/// The proof that two full ids which find alike are equal: along the find of the one, and back along that of the other.
+/// Returns the bridge of two full ids that are found equal: the proof that they are equal.
+///
+/// The bridge goes from the one to what `find` maps both to, and back from there to the other.
 pub fn bridge<L: Language>(
     store: &mut Store<L>,
     alloc: Global,

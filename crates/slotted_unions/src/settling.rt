@@ -1,4 +1,4 @@
-//! Listed symmetries whose sides no longer find one set of names.
+//! Listed symmetries that are not aligned: `find` leaves different sets of names on their two sides.
 ghost use Rattle.std.specs.Prelude.{◌↔◌, Contains, IsTrue, IfErr, IfOk, IfSome, IfNone};
 ghost use Rattle.slotted_slots.specs.Error.{IsOutOfMemory};
 ghost use Rattle.slotted_model.specs.Rest.{IsAligned};
@@ -14,7 +14,7 @@ use slotted_proofs::ProvenEq;
 use slotted_slots::Error;
 use std::alloc::Global;
 
-// Whether the two sides of a listed symmetry find the same names.
+// Returns whether a listed symmetry is aligned: `find` leaves the same set of names on its two sides.
 fn is_aligned<L: Language>(
     store: &Store<L>,
     alloc: Global,
@@ -31,7 +31,7 @@ fn is_aligned<L: Language>(
     Ok(have_same_values(&left.m, &right.m))
 }
 
-/// The proof of the first listed symmetry that is not aligned.
+/// Returns the proof of the first listed symmetry that is not aligned.
 pub fn next_unaligned<L: Language>(
     store: &Store<L>,
     alloc: Global,

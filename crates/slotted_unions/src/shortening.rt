@@ -1,12 +1,14 @@
-//! Path compression: dead classes whose finds were proved step by step lead at once to the classes that they find.
+//! Path compression.
+//!
+//! A dead class whose `find` was proved step by step is made to lead at once to its live class.
 ghost use Rattle.std.specs.Prelude.{◌≡◌, ◌↔◌, ◌<◌, length, IsTrue, IfOk, IfErr, OnOk, IsErrOf};
 ghost use Rattle.slotted_slots.specs.Error.{IsOutOfMemory, IsShortage};
 ghost use Rattle.slotted_model.specs.Find.{find_class, find_map};
 ghost use Rattle.slotted_proofs.specs.Equations.{to_applied};
 ghost use Rattle.slotted_classes.specs.Kept.{entries_of};
+ghost use Rattle.slotted_classes.specs.Stored.{Stored};
 ghost use Rattle.slotted_unions.specs.Proving.{HasLargeClassOf};
 ghost use Rattle.slotted_unions.specs.Shortcuts.{LeadsAtOnce, Shortens, ShortensPath, HasLargeFoundClass};
-ghost use Rattle.slotted_classes.specs.Stored.{Stored};
 
 use crate::proving::find_proof;
 use slotted_classes::Store;
@@ -14,7 +16,7 @@ use slotted_languages::Language;
 use slotted_slots::{AppliedId, Error, Id};
 use std::alloc::Global;
 
-// Whether a class leads to a live one, as each live class does.
+// Returns whether a class leads to a live one, as each live class does.
 fn leads_at_once<L: Language>(store: &Store<L>, id: usize) -> bool
     requires good { Stored store.now }
     requires within { id < length store.now.classes }
@@ -24,7 +26,7 @@ fn leads_at_once<L: Language>(store: &Store<L>, id: usize) -> bool
     store.entry(next).id.0 == next
 }
 
-// What a class finds, with its own slot for each slot of that.
+// Returns the live class of a class, with a slot of the class for each slot of that.
 fn found_entry<L: Language>(store: &Store<L>, alloc: Global, id: usize) -> Result<AppliedId, Error>
     requires good { Stored store.now }
     requires within { id < length store.now.classes }
@@ -37,7 +39,7 @@ fn found_entry<L: Language>(store: &Store<L>, alloc: Global, id: usize) -> Resul
     })
 }
 
-/// Makes a class lead at once to the class that it finds, by a proof of this. Nothing changes if it does.
+/// Makes a class lead at once to its live class, by a proof of this. Nothing changes if the class does so already.
 pub fn shorten<L: Language>(store: &mut Store<L>, alloc: Global, id: usize) -> Result<(), Error>
     requires good { Stored store.old }
     requires within { id < length store.old.classes }
@@ -54,7 +56,7 @@ pub fn shorten<L: Language>(store: &mut Store<L>, alloc: Global, id: usize) -> R
     Ok(())
 }
 
-// Does so for each of these that is the number of a class.
+// Makes each of some classes lead at once to its live class. A number that is no class is passed over.
 fn shorten_each<L: Language>(
     store: &mut Store<L>,
     alloc: Global,
@@ -73,7 +75,7 @@ fn shorten_each<L: Language>(
     Ok(())
 }
 
-/// Compresses the paths of all finds that were proved step by step since the last time.
+/// Compresses the paths of all classes whose `find` was proved step by step since the last call.
 pub fn compress_paths<L: Language>(store: &mut Store<L>, alloc: Global) -> Result<(), Error>
     requires good { Stored store.old }
     ensures ok { OnOk result (Shortens store.old store.new) }

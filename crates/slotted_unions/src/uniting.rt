@@ -18,7 +18,7 @@ use slotted_proofs::ProvenEq;
 use slotted_slots::Error;
 use std::alloc::Global;
 
-/// What one step of a union did.
+/// The outcome of one step of a union.
 #[derive(Clone, Copy)]
 pub enum UnionStep {
     /// Nothing is left to do, and no class has changed.
@@ -29,7 +29,7 @@ pub enum UnionStep {
     Linked(usize),
 }
 
-/// Whether the two sides of an entry find alike. It takes no memory.
+/// Returns whether the two sides of an entry are found equal. Takes no memory.
 pub fn sides_find_alike<L: Language>(store: &Store<L>, p: ProvenEq) -> bool
     requires good { Stored store.now }
     requires within { p < length store.now.proofs }
@@ -39,7 +39,8 @@ pub fn sides_find_alike<L: Language>(store: &Store<L>, p: ProvenEq) -> bool
     store.eq(&equation.l, &equation.r)
 }
 
-// Whether two classes have as many slots left: so where each slot of the one has a partner, each of the other has.
+// Returns whether two classes have as many slots left. If so, and if each slot of the one has a partner, each slot of
+// the other has one.
 fn have_as_many<L: Language>(store: &Store<L>, left: usize, right: usize) -> bool
     requires left { left < length store.now.classes }
     requires right { right < length store.now.classes }
@@ -48,7 +49,8 @@ fn have_as_many<L: Language>(store: &Store<L>, left: usize, right: usize) -> boo
     store.entry(left).m.len() == store.entry(right).m.len()
 }
 
-// Of the two classes of an entry or else of the entry turned round the left one drops the slots without a partner. Answers this class.
+// Shrinks the left class of an entry, or else the left class of the entry turned round, to the slots with a partner.
+// Returns the class that lost slots.
 fn drop_either<L: Language>(
     store: &mut Store<L>,
     alloc: Global,
@@ -76,13 +78,13 @@ fn drop_either<L: Language>(
     Ok(None)
 }
 
-// The size of a class.
+// Returns the size of a class.
 fn size_of(sizes: &[u32], class: usize) -> u32 {
     sizes.get(class).copied().unwrap_or(0)
 }
 
-// Whether the left class of an entry is the one that dies: the one with more canonical slots, and of two with as many the smaller one, or
-// the left one where they are of one size.
+// Returns whether the left class of an entry is the one that dies. That is the class with more canonical slots, and
+// of two with as many the smaller one. If both have one size, it is the left one.
 fn left_dies<L: Language>(store: &Store<L>, q: ProvenEq, sizes: &[u32]) -> bool
     requires { q < length store.now.proofs }
 {
@@ -94,7 +96,7 @@ fn left_dies<L: Language>(store: &Store<L>, q: ProvenEq, sizes: &[u32]) -> bool
     size_of(sizes, equation.l.id.0) <= size_of(sizes, equation.r.id.0)
 }
 
-// One of the two classes of an entry dies and leads to the other. Answers the one that died.
+// Links one of the two classes of an entry to the other. Returns the one that died.
 fn link_either<L: Language>(
     store: &mut Store<L>,
     alloc: Global,
@@ -121,7 +123,7 @@ fn link_either<L: Language>(
     Ok(right)
 }
 
-// What an entry says of two live classes, each slot of which has a partner, is acted on.
+// Acts on what an entry says of two live classes, each slot of which has a partner.
 fn act_on<L: Language>(
     store: &mut Store<L>,
     alloc: Global,
@@ -146,7 +148,9 @@ fn act_on<L: Language>(
     Ok(UnionStep::Linked(dead))
 }
 
-/// One step of a union by an entry. Where a class changes, the caller has the rows over this class wait before the next step. The sizes of
+/// Takes one step of a union by an entry, and returns what the step did.
+///
+/// If a class changes, the caller makes the e-nodes over this class pending before the next step. The sizes of
 /// classes decide which of two with as many canonical slots is kept: no clause speaks of that.
 pub fn unite_once<L: Language>(
     store: &mut Store<L>,

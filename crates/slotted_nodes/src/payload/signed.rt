@@ -1,6 +1,6 @@
 //! Signed numbers as payloads.
 //!
-//! A payload has neither places nor children: what is asked of one is answered without a condition.
+//! A payload has neither places nor children, so calls about one need no condition.
 ghost use Rattle.std.specs.Prelude.{◌≡◌, [], ◌∷◌, None, option_map, refl};
 ghost use Rattle.std.specs.Fmt.{signed_decimal};
 ghost use Rattle.std.specs.Int.{w8, w16, w32, w64, w128};

@@ -11,7 +11,7 @@ use std::alloc::Global;
 use std::fmt::Display;
 use std::str::FromStr;
 
-/// A value that stands in a node as its text.
+/// A value that is written in a node as its text.
 pub(crate) trait Payload: Copy + Display + FromStr<Err: Drop> {
     // The text of a value.
     ghost written: { Self → List ℕ };
@@ -19,15 +19,15 @@ pub(crate) trait Payload: Copy + Display + FromStr<Err: Drop> {
     // The value that a text writes.
     ghost reads: { List ℕ → Option Self };
 
-    // The text is what Rust prints.
+    // The text is the one that Rust prints.
     ghost prints: { (p : Self) → Self.output p ≡ Some (written p) };
 
-    // The value is what Rust reads.
+    // The value is the one that Rust reads.
     ghost parses: { (bs : List ℕ) (r : Result Self Self.Err) → IsUtf8 bs → Self.from_str_gives bs r
         → result_ok r ≡ reads bs };
 }
 
-/// The value as the one element that it is written as.
+/// Returns the value as the one element that it is written as.
 pub(crate) fn write<P: Payload>(alloc: Global, value: P) -> Result<Vec<SyntaxElem>, Error>
     ensures ok { IfOk result (λ v. map element_of v.items ≡ text (P.written value) ∷ []) }
     ensures err { IfErr result IsOutOfMemory }
@@ -35,14 +35,14 @@ pub(crate) fn write<P: Payload>(alloc: Global, value: P) -> Result<Vec<SyntaxEle
     Ok(vec![in alloc; SyntaxElem::String(value.to_string(alloc)?)]?)
 }
 
-/// The value that a text writes.
+/// Returns the value that a text writes.
 pub(crate) fn parse<P: Payload>(text: &str) -> Option<P>
     ensures { result ≡ P.reads text.now }
 {
     text.parse().ok()
 }
 
-/// The value that one text alone writes.
+/// Returns the value of a list of elements that is one text.
 pub(crate) fn read<P: Payload>(elements: &[SyntaxElem]) -> Option<P>
     ensures { result ≡ read_text P.reads (map element_of elements.now) }
 {

@@ -1,6 +1,6 @@
 //! Unsigned numbers as payloads.
 //!
-//! A payload has neither places nor children: what is asked of one is answered without a condition.
+//! A payload has neither places nor children, so calls about one need no condition.
 ghost use Rattle.std.specs.Prelude.{◌≡◌, [], ◌∷◌, None, decimal, option_map, refl};
 ghost use Rattle.std.proofs.Common.{lit<};
 ghost use Rattle.slotted_slots.proofs.NamingLaws.{reads_u32-parses};

@@ -1,4 +1,4 @@
-//! The text of a pattern.
+//! The text of a pattern, by a list of the pieces that are to be written.
 ghost use Rattle.std.specs.Prelude.{◌≡◌, ◌<◌, ◌+◌, ◌++◌, Some, map, codes, string_bytes, IfOk, OnOk, IfErr};
 ghost use Rattle.slotted_slots.specs.Error.{IsOutOfMemory};
 ghost use Rattle.slotted_slots.specs.Syntax.{element_of};
@@ -21,7 +21,7 @@ enum Piece<'a, L: Language> {
     Whole(&'a Pattern<L>),
 }
 
-// The piece of an element, where the children from `next` on are still to be written.
+// Returns the piece of an element. The children from `next` on are still to be written.
 fn piece_of<'a, L: Language>(
     element: SyntaxElem,
     children: &'a [Pattern<L>],
@@ -38,7 +38,7 @@ fn piece_of<'a, L: Language>(
     }
 }
 
-// The pieces of a node's elements, from the left.
+// Returns the pieces of a node's elements, from the left.
 fn pieces_of<'a, L: Language>(
     alloc: Global,
     mut elements: Vec<SyntaxElem>,
@@ -61,7 +61,7 @@ fn pieces_of<'a, L: Language>(
     Ok(pieces)
 }
 
-// Puts the pieces on the stack, the first one uppermost.
+// Pushes the pieces on the stack, the first one uppermost.
 fn stack_up<'a, L: Language>(
     left: &mut Vec<Piece<'a, L>>,
     mut pieces: Vec<Piece<'a, L>>,
@@ -169,8 +169,10 @@ fn write_piece<'a, L: Language>(
 }
 
 impl<L: Language> Pattern<L> {
-    /// The text of the pattern: a variable after `?`, a substitution as `b[x := t]`, and a node as `node_text` writes it over
-    /// the texts of its child patterns.
+    /// Returns the text of the pattern.
+    ///
+    /// A variable is written after `?`, a substitution as `b[x := t]`, and a node as `node_text` writes it over the
+    /// texts of its child patterns.
     pub fn text(&self, alloc: Global, table: &SlotTable) -> Result<String, Error>
         ensures ok { IfOk result (λ s. string_bytes s ≡ pattern_text L.shown table.now self.now) }
         ensures err { IfErr result IsOutOfMemory }
@@ -185,8 +187,10 @@ impl<L: Language> Pattern<L> {
     }
 }
 
-/// `(app ?f a)[(var $x) := ?t]`: `_` stands for a child pattern that is missing, and one that is too many does not print. A
-/// growth that is refused is a `fmt::Error`.
+/// Prints `(app ?f a)[(var $x) := ?t]`.
+///
+/// `_` stands for a child pattern that is missing, and one that is too many is not printed. `fmt::Error` if memory is
+/// refused.
 impl<L: Language> Show for Pattern<L> {
     ghost shown = { λ t p. Some (pattern_text L.shown t p) };
 

@@ -6,7 +6,7 @@ use super::Equation;
 use slotted_slots::{Show, SlotTable};
 use std::fmt;
 
-/// `id0[$0 -> $3] = id1[]`: the two sides.
+/// Prints `id0[$0 -> $3] = id1[]`: the two sides.
 impl Show for Equation {
     ghost shown = { λ t e. Some (shown_equation t e) };
 

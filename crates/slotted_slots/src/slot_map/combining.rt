@@ -1,4 +1,4 @@
-//! Slot maps put together, completed by fresh slots, and those that turn a set round.
+//! Slot maps composed, joined, completed by fresh slots, and tested for being permutations.
 ghost use Rattle.std.specs.Prelude.{◌≡◌, ℕ, [], ◌∷◌, length, IsTrue, ◌↔◌, is_some, IsSome, IfSome, IfOk, IfErr, OnErr, IsErrOf, IsOkUnless};
 ghost use Rattle.std.specs.List.{list_all};
 ghost use Rattle.slotted_slots.specs.Ascending.{IsAscending};
@@ -12,7 +12,7 @@ use crate::{Error, Slot, SlotTable, SmallHashSet};
 use std::alloc::Global;
 
 impl SlotMap {
-    /// First this map, then the other, whose keys are this map's values.
+    /// Returns the composition: this map first, then the other, whose keys must be this map's values.
     pub fn compose(&self, alloc: Global, other: &SlotMap) -> Result<SlotMap, Error>
         requires { HaveTheSame (values self.now) (keys other.now) }
         ensures ok { IfOk result (λ m. m ≡ composed self.now other.now) }
@@ -22,7 +22,7 @@ impl SlotMap {
         self.compose_partial(alloc, other)
     }
 
-    /// Both maps in one, which have no key with two values.
+    /// Returns the map with the pairs of both. No key may have two values.
     pub fn union(&self, alloc: Global, other: &SlotMap) -> Result<SlotMap, Error>
         requires { Agree self.now other.now }
         ensures ok { IfOk result (λ m. m ≡ joined self.now other.now) }
@@ -36,7 +36,7 @@ impl SlotMap {
         Ok(union)
     }
 
-    /// Both maps in one, or none where a key has two values.
+    /// Returns the map with the pairs of both, or `None` if a key has two values.
     pub fn try_union(&self, alloc: Global, other: &SlotMap) -> Result<Option<SlotMap>, Error>
         ensures agree { IfOk result (λ both. IsSome both ↔ Agree self.now other.now) }
         ensures some { IfOk result (λ both. IfSome both (λ m. m ≡ joined self.now other.now)) }
@@ -49,8 +49,9 @@ impl SlotMap {
         }
     }
 
-    /// First this map, then the other. A key whose value the other lacks gets a slot that was never made before and is no
-    /// value of either map.
+    /// Returns the composition, this map first, and a fresh slot for each key whose value the other map lacks.
+    ///
+    /// Such a slot was never made before, and is no value of either map.
     pub fn compose_fresh(
         &self,
         alloc: Global,
@@ -60,10 +61,10 @@ impl SlotMap {
         ensures completed { IfOk result (IsCompleted table.old table.new self.now other.now) }
         ensures injective { HasDifferentValues (composed self.now other.now) → IfOk result HasDifferentValues }
 
-        // The table went on to make slots, and is else as it was. What it knows in addition is a value of one of the three maps.
+        // Only fresh slots are made. A slot that is known in addition is a value of one of the three maps.
         ensures taken { IfOk result (λ m. TakesAmong table.old table.new (values m) (both_values self.now other.now)) }
 
-        // Also where it refuses, it makes a slot at most for each value that the other map lacks.
+        // Even on an error, at most one slot is made for each value that the other map lacks.
         ensures count { TakesToComplete self.now other.now table.old table.new }
         ensures names { table.new.names ≡ table.old.names }
         ensures more { KnowsMore table.old table.new }
@@ -79,7 +80,7 @@ impl SlotMap {
         Ok(SlotMap { pairs })
     }
 
-    /// A map to each slot of a set from a slot that was never made before and is none of the set.
+    /// Returns a map to each slot of a set, from fresh slots that are not in the set.
     pub fn bijection_from_fresh_to(
         alloc: Global,
         set: &SmallHashSet<Slot>,
@@ -88,10 +89,10 @@ impl SlotMap {
         ensures values { IfOk result (λ m. values m ≡ set.now) }
         ensures made { IfOk result (λ m. (s : ℕ) → IsTrue (is_among s (keys m)) → IsNew table.old table.new set.now s) }
 
-        // The table went on to make slots, and is else as it was. What it knows in addition is a key, or was in the set.
+        // Only fresh slots are made. A slot that is known in addition is a key, or was in the set.
         ensures taken { IfOk result (λ m. TakesAmong table.old table.new (keys m) set.now) }
 
-        // Also where it refuses, it makes a slot at most for each of the set.
+        // Even on an error, at most one slot is made for each slot of the set.
         ensures count { TakesAtMost (length set.now) set.now table.old table.new }
         ensures names { table.new.names ≡ table.old.names }
         ensures more { KnowsMore table.old table.new }
@@ -107,14 +108,14 @@ impl SlotMap {
         Ok(SlotMap { pairs })
     }
 
-    /// Whether the keys and the values are one set. It takes no memory.
+    /// Returns whether the keys and the values are one set. Takes no memory.
     pub fn is_perm(&self) -> bool
         ensures { IsTrue result ↔ HaveTheSame (keys self.now) (values self.now) }
     {
         self.each_value_is_key() && self.each_key_is_value()
     }
 
-    // Whether there is a key to each value.
+    // Returns whether each value is a key too.
     fn each_value_is_key(&self) -> bool
         ensures { result ≡ list_all (λ v. is_some (value_of self.now v)) (values self.now) }
     {
@@ -126,7 +127,7 @@ impl SlotMap {
         true
     }
 
-    // Whether each key is a value too.
+    // Returns whether each key is a value too.
     fn each_key_is_value(&self) -> bool
         ensures { result ≡ list_all (λ k. is_among k (values self.now)) (keys self.now) }
     {
@@ -139,7 +140,7 @@ impl SlotMap {
         true
     }
 
-    // Whether no key has two values.
+    // Returns whether no key has two values in the two maps.
     fn agrees_with(&self, other: &SlotMap) -> bool
         ensures value { result ≡ agrees_with self.now other.now }
         ensures ascending { IsAscending (keys self.now) }
@@ -153,7 +154,7 @@ impl SlotMap {
     }
 }
 
-// The value at a key of the second map, or where there is none a fresh slot that is no value of either.
+// Returns the value of a key in the second map. If there is none, returns a fresh slot that is no value of either.
 fn value_or_fresh(
     first: &[(Slot, Slot)],
     second: &SlotMap,
@@ -175,7 +176,7 @@ fn value_or_fresh(
     }
 }
 
-// A fresh slot that is no value of either list.
+// Returns a fresh slot that is no value of either list.
 fn fresh_apart(
     first: &[(Slot, Slot)],
     second: &[(Slot, Slot)],
@@ -198,7 +199,7 @@ fn fresh_apart(
     }
 }
 
-// A fresh slot that is not in the set.
+// Returns a fresh slot that is not in the set.
 fn fresh_outside(set: &SmallHashSet<Slot>, table: &mut SlotTable) -> Result<Slot, Error>
     ensures slot { IfOk result (IsFreshFrom table.old.fresh table.new.fresh set.now) }
     ensures taken { IfOk result (λ s. TakesAmong table.old table.new (s ∷ []) set.now) }

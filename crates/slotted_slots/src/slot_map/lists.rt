@@ -14,7 +14,7 @@ use std::alloc::Global;
 use std::marker::Model;
 
 impl SlotMap {
-    /// The map of some pairs. Of two with one key the later counts.
+    /// Returns the map of an array of pairs. If two pairs have one key, the later pair counts.
     pub fn from_array<const N: usize>(
         alloc: Global,
         pairs: [(Slot, Slot); N],
@@ -25,7 +25,7 @@ impl SlotMap {
         SlotMap::from_pairs(alloc, &pairs)
     }
 
-    /// The map of the pairs that an iterator gives. Of two with one key the later counts.
+    /// Returns the map of the pairs that an iterator yields. If two pairs have one key, the later pair counts.
     pub fn from_iterator<U: IntoIterator<Item = (Slot, Slot)>>(
         alloc: Global,
         pairs: U,
@@ -41,7 +41,7 @@ impl SlotMap {
         Ok(map)
     }
 
-    /// The keys, in their order.
+    /// Returns the list of the keys, in ascending order.
     pub fn keys_vec(&self, alloc: Global) -> Result<Vec<Slot>, Error>
         ensures ok { IfOk result (λ v. v.items ≡ keys self.now) }
         ensures memory { IfErr result IsOutOfMemory }
@@ -53,7 +53,7 @@ impl SlotMap {
         Ok(keys)
     }
 
-    /// The values, in the order of their keys.
+    /// Returns the list of the values, in the order of their keys.
     pub fn values_vec(&self, alloc: Global) -> Result<Vec<Slot>, Error>
         ensures ok { IfOk result (λ v. v.items ≡ values self.now) }
         ensures memory { IfErr result IsOutOfMemory }
@@ -65,7 +65,7 @@ impl SlotMap {
         Ok(values)
     }
 
-    /// The values, in the order of their keys.
+    /// Returns an iterator over the values, in the order of their keys.
     pub fn values_immut(&self) -> ValuesImmut<'_>
         ensures { result ≡ values self.now }
     {
@@ -75,7 +75,7 @@ impl SlotMap {
     }
 }
 
-/// The values of a map in the order of their keys, seen as the list of those that are left.
+/// An iterator over the values of a map in the order of their keys, seen as the list of those that are left.
 #[derive(Debug, Drop)]
 pub struct ValuesImmut<'a> {
     pairs: &'a [(Slot, Slot)],
@@ -104,7 +104,7 @@ impl<'a> Iterator for ValuesImmut<'a> {
     }
 }
 
-/// The pairs of a map that was given up, in key order, seen as the list of those that are left.
+/// An iterator that owns the pairs of a map, in key order, seen as the list of those that are left.
 pub type IntoIter = std::vec::IntoIter<(Slot, Slot)>;
 
 impl IntoIterator for SlotMap {

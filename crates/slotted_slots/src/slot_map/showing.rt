@@ -6,7 +6,7 @@ use super::SlotMap;
 use crate::{Show, SlotTable};
 use std::fmt;
 
-/// `[$0 -> $3, $1 -> $2]`, or `[]`.
+/// Prints `[$0 -> $3, $1 -> $2]`, or `[]`.
 impl Show for SlotMap {
     ghost shown = { λ t m. Some (shown_map t m) };
 

@@ -1,4 +1,4 @@
-//! Small sets beside each other: parts, unions, what they share, what one has alone.
+//! Subsets, unions, intersections and differences of small sets.
 ghost use Rattle.std.specs.Prelude.{◌≡◌, ◌↔◌, IsTrue, IfOk, IfErr};
 ghost use Rattle.std.specs.List.Sorted.{IsStrictlySortedBy};
 ghost use Rattle.slotted_slots.specs.Error.{IsOutOfMemory};
@@ -11,7 +11,7 @@ use std::alloc::Global;
 use std::default::MadeWith;
 
 impl<T: Ord> SmallHashSet<T> {
-    /// Whether each element is one of the other set.
+    /// Returns whether each element is in the other set too.
     pub fn is_subset(&self, other: &SmallHashSet<T>) -> bool
         ensures { IsTrue result ↔ IsWithin T.cmp self.now other.now }
     {
@@ -23,14 +23,14 @@ impl<T: Ord> SmallHashSet<T> {
         true
     }
 
-    /// Whether each element of the other set is one of this.
+    /// Returns whether each element of the other set is in this set.
     pub fn is_superset(&self, other: &SmallHashSet<T>) -> bool
         ensures { IsTrue result ↔ IsWithin T.cmp other.now self.now }
     {
         other.is_subset(self)
     }
 
-    /// Whether the two sets share no element.
+    /// Returns whether the two sets share no element.
     pub fn is_disjoint(&self, other: &SmallHashSet<T>) -> bool
         ensures { IsTrue result ↔ AreApart T.cmp self.now other.now }
     {
@@ -44,7 +44,7 @@ impl<T: Ord> SmallHashSet<T> {
 }
 
 impl<T: Ord + Copy + MadeWith<Global> + Drop> SmallHashSet<T> {
-    /// The elements of both sets; of two that compare equal, that of this one.
+    /// Returns the elements of both sets. Of two that compare equal, that of this set remains.
     pub fn union(&self, alloc: Global, other: &SmallHashSet<T>) -> Result<SmallHashSet<T>, Error>
         ensures ok { IfOk result (λ s. s ≡ united T.cmp self.now other.now) }
         ensures members { IfOk result (IsUnion T.cmp self.now other.now) }
@@ -58,7 +58,7 @@ impl<T: Ord + Copy + MadeWith<Global> + Drop> SmallHashSet<T> {
         Ok(union)
     }
 
-    /// The elements that the other set has too.
+    /// Returns the elements that are in the other set too.
     pub fn intersection(
         &self,
         alloc: Global,
@@ -78,7 +78,7 @@ impl<T: Ord + Copy + MadeWith<Global> + Drop> SmallHashSet<T> {
         Ok(SmallHashSet { items })
     }
 
-    /// The elements that the other set lacks.
+    /// Returns the elements that are not in the other set.
     pub fn difference(
         &self,
         alloc: Global,

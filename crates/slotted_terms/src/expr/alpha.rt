@@ -13,7 +13,8 @@ use slotted_outlines::outlines::{Binders, Outlines};
 use slotted_slots::Error;
 use std::alloc::Global;
 
-// Two terms that are to be compared, below so many of the open binders and those above the terms besides.
+// Two terms that are to be compared, below the first `depth` of the open binders and below the binders `above`
+// besides.
 #[derive(Drop)]
 struct Pair<'a, L: Language> {
     one: &'a RecExpr<L>,
@@ -23,7 +24,7 @@ struct Pair<'a, L: Language> {
 }
 
 impl<L: Language> RecExpr<L> {
-    /// Whether the two terms are the same up to the choice of bound names.
+    /// Returns whether the two terms are alpha-equal, that is, the same up to the choice of bound names.
     pub fn alpha_eq(&self, alloc: Global, other: &RecExpr<L>) -> Result<bool, Error>
         ensures same { IfOk result (λ b. IsTrue b ↔ Alpha self.now other.now) }
         ensures slots { IsErrOf result Error.OutOfSlots → HasLargeNode self.now ⊎ HasLargeNode other.now }
@@ -46,7 +47,8 @@ impl<L: Language> RecExpr<L> {
     }
 }
 
-// Whether the nodes of two terms agree, with their own names and how many terms stand under them. The pairs of these are added to those that are left.
+// Returns whether the nodes of two terms agree, with their own names and the number of terms under them. Adds the
+// pairs of these terms to those that are left.
 fn compare<'a, L: Language>(
     alloc: Global,
     pair: Pair<'a, L>,
@@ -81,7 +83,8 @@ fn compare<'a, L: Language>(
     }
 }
 
-// The outlines of the two nodes, if they agree, with their own names below the binders and how many terms stand under them.
+// Returns the outlines of the two nodes if they agree, with their own names below the binders and the number of terms
+// under them.
 fn same_nodes<L: Language>(
     alloc: Global,
     one: &L,
@@ -111,7 +114,7 @@ fn same_nodes<L: Language>(
     Ok(Some(nodes))
 }
 
-// The binders of the nodes above their children `k`.
+// Returns the binders of the nodes above their children `k`.
 fn above_child<L: Language>(
     k: usize,
     nodes: &Outlines<L>,

@@ -13,18 +13,20 @@ use slotted_slots::{Error, Show, SlotTable};
 use std::alloc::Global;
 use std::fmt;
 
-/// A language whose terms print. There is nothing to call: an implementation says, to contracts, how a node is written
-/// where only its term is known.
+/// A language whose terms print.
+///
+/// The trait has no calls. An implementation says, to contracts, how a node is written if only its term is known.
 pub trait Printable: Language {
     // What the uppermost node of a term is written as; which ids stand for its children is open.
     ghost written: { Term → List Element };
 
-    // It is what the node is written as, over whatever children, and writes each child once.
+    // This is what the node is written as, over whatever children, with each child once.
     ghost written_as: { (a : Self) (us : List Term) → IsWrittenAs (Self.form a) (Self.shown a) (written (term_of (Self.form a) us)) };
 }
 
 impl<L: Printable> RecExpr<L> {
-    /// The text of the term: a node that is written as one text stands alone, and every other one in round brackets.
+    /// Returns the text of the term. A node that is written as one text stands alone, and every other one in round
+    /// brackets.
     pub fn text(&self, alloc: Global, table: &SlotTable) -> Result<String, Error>
         ensures ok { IfOk result (λ s. string_bytes s ≡ term_text L.written table.now self.now) }
         ensures patterns { IfOk result (λ s. PrintAs L.form L.shown table.now self.now (string_bytes s)) }
@@ -36,8 +38,10 @@ impl<L: Printable> RecExpr<L> {
     }
 }
 
-/// `(lam $x (app a (var $x)))`: `_` stands for a child that is missing, and one that is too many does not print. A growth
-/// that is refused is a `fmt::Error`.
+/// Prints `(lam $x (app a (var $x)))`.
+///
+/// `_` stands for a child that is missing, and one that is too many is not printed. `fmt::Error` if memory is
+/// refused.
 impl<L: Printable> Show for RecExpr<L> {
     ghost shown = { λ t u. Some (term_text L.written t u) };
 
