@@ -11,10 +11,10 @@ use slotted_slots::Error;
 use std::alloc::{AllocError, Global};
 
 mod comparing;
+mod debugging;
 pub mod printing;
 
 /// A pattern: a term with variables and substitutions in it. The child ids inside a node are ignored.
-#[derive(Debug)]
 pub enum Pattern<L: Language> {
     /// A node over the patterns that stand in the places of its children.
     ENode(L, Vec<Pattern<L>>),
