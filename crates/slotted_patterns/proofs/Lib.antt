@@ -20,4 +20,6 @@ pub mod PatternTrees
 pub mod PatternSizes
 pub mod Folds
 pub mod PatternCopies
+pub mod Shapes
+pub mod ComparedShapes
 pub mod PieceTexts
