@@ -46,8 +46,8 @@ impl<L: Language, N: Analysis<L>> EGraph<L, N> {
     /// different names.
     ///
     /// From then on `find` maps both ids to one class with one set of names. They are found equal unless a symmetry of
-    /// that class is open. Slots that only one side has become redundant. Equal e-nodes over the ids are united too:
-    /// what was asserted is closed under congruence again. Then classes are modified, as `modify` does.
+    /// that class is open. Slots that only one of the sides has are redundant then. Equal e-nodes over the ids are
+    /// united too: what was asserted is closed under congruence again. Then classes are modified, as `modify` does.
     pub fn union(&mut self, l: &AppliedId, r: &AppliedId) -> Result<bool, Error>
         requires left { IsTrue self.old.failed ⊎ IsValidId self.old (to_applied l.now) }
         requires right { IsTrue self.old.failed ⊎ IsValidId self.old (to_applied r.now) }
