@@ -17,7 +17,7 @@ use Rattle.slotted_languages.specs.NewNames.{IsTooLarge}
 use Rattle.slotted_languages.specs.NodeTerm.{nameless_node}
 use Rattle.slotted_languages.specs.Shape.{Fits}
 use Rattle.slotted_terms.specs.Valid.{AllKnown}
-use Rattle.slotted_model.specs.Adding.{with_new_class}
+use Rattle.slotted_model.specs.Adding.{SameAnswers, with_new_class}
 use Rattle.slotted_model.specs.Adding as model
 use Rattle.slotted_model.specs.Applied.{Applied, EachChild, values}
 use Rattle.slotted_model.specs.Changes.{GoesOn}
@@ -129,12 +129,14 @@ pub record Makes (old new : Table) (k l : Kept) (f : Form) (a : Applied) : Type 
   pub step : (l ≡ k) ⊎ MakesOne k l f
   pub large : HasLargeClassIn (image_of l) → HasLargeClassOrNode (image_of k) f
 
--- in the model's words a class was made of a new node with the shape of f
+-- in the model's words a class was made of a new node with the shape of f, and then no answer changed
 pub record MakesClassOf (g : State) (f : Form) (h : State) : Type 0 where
   pub node : DTerm
   pub is_new : IsNew g.nodes node
   pub same_shape : shape node ≡ shape (nameless_node f)
-  pub adds : model.Adds g node h
+  pub between : State
+  pub adds : model.Adds g node between
+  pub same : SameAnswers between h
 
 -- what `Makes` says, and all is rebuilt
 pub record Adds (old new : Table) (k : Kept) (r : Rows) (l : Kept) (q : Rows) (f : Form) (a : Applied) : Type 0 where

@@ -28,6 +28,7 @@ use slotted_rebuilding::newest::file_newest;
 use slotted_slots::{AppliedId, Error, Id, SlotMap, SlotTable};
 use slotted_terms::expr::RecExpr;
 use slotted_terms::flat::flatten;
+use slotted_unions::shortening::compress_paths;
 use std::alloc::Global;
 
 // Tests.
@@ -179,6 +180,7 @@ pub fn add_syn<L: Language>(
         return Ok(answer);
     }
     file_newest(store, nodes, alloc)?;
+    compress_paths(store, alloc)?;
     Ok(answer)
 }
 

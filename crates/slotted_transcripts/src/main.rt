@@ -5,6 +5,9 @@
 //!
 //! A line that begins with `? ` is a question of `slotted_questions`. Each other line is answered as by the program
 //! `slotted`.
+//!
+//! After each line the plain find, without compressed paths, is compared with the graph's for each class. A line tells
+//! if they differ.
 #![tactic(auto)]
 
 ghost use Rattle.std.specs.Prelude.{◌≡◌, ◌↔◌, IsTrue, OnOk, codes, nat_eq};
@@ -12,11 +15,14 @@ ghost use Rattle.std.specs.List.{starts_with};
 ghost use Rattle.std.specs.Io.BufRead.{strip_last};
 ghost use Rattle.std.specs.Io.KnownBytes.{Appends};
 
+mod plain;
+
+use crate::plain::PlainFind;
 use slotted_graph::EGraph;
 use slotted_lines::{Run, Session, Told, answer_in};
 use slotted_proofs::ProvenEq;
 use slotted_questions::rows::answer_of_either;
-use slotted_slots::SlotTable;
+use slotted_slots::{Error, SlotTable};
 use slotted_small::Small;
 use slotted_terms::expr::printing::Printable;
 use std::alloc::Global;
@@ -132,6 +138,30 @@ fn answer_or_repeat<L: Printable, W: Write>(
     }
 }
 
+// Notes what classes that died lead to. Returns whether the plain find agrees with the graph's.
+fn follow<L: Printable>(
+    alloc: Global,
+    plain: &mut PlainFind,
+    graph: &EGraph<L>,
+) -> Result<bool, Error> {
+    plain.follow(graph)?;
+    plain.agrees(alloc, graph)
+}
+
+// Writes a line if the plain find does not agree with the graph's.
+fn compare_finds<L: Printable, W: Write>(
+    alloc: Global,
+    plain: &mut PlainFind,
+    graph: &EGraph<L>,
+    output: &mut W,
+) -> io::Result<()> {
+    match follow(alloc, plain, graph) {
+        Ok(true) => Ok(()),
+        Ok(false) => writeln!(output, "finds differ"),
+        Err(_) => Err(io::Error::from(ErrorKind::OutOfMemory)),
+    }
+}
+
 // Answers lines over a session up to the end of their session. Returns whether a line `---` ended the session.
 fn answer_lines<L: Printable, R: BufRead, W: Write>(
     alloc: Global,
@@ -142,12 +172,14 @@ fn answer_lines<L: Printable, R: BufRead, W: Write>(
     output: &mut W,
 ) -> io::Result<bool> {
     let mut line = Vec::new(alloc);
+    let mut plain = PlainFind::new(alloc);
     for _ in 0..u64::MAX {
         line.clear();
         if input.read_until(b'\n', &mut line)? == 0 {
             return Ok(false);
         }
         answer_or_repeat(alloc, session, other, known, &line, output)?;
+        compare_finds(alloc, &mut plain, &session.graph, output)?;
         if is_divider(&line) {
             return Ok(true);
         }

@@ -1,4 +1,5 @@
--- Trees that were looked up are looked up as before when a class is made of a node that was not, and that node is looked up as the new class.
+-- Trees that were looked up are looked up as before where nodes are, and when a class is made of a node that was not looked up. That node is looked up
+-- as the new class.
 use Rattle.std.proofs.Common.{◌≡◌, ℕ, List, Option, Some, None, length, sym, ◌∙◌, ap, refl, subst}
 use Rattle.std.specs.Prelude.{option_map, option_and_then}
 use Rattle.slotted_theory.specs.Nameless.{DArgs, DTerm, stop, place, sub, scope}
@@ -9,8 +10,10 @@ use Rattle.slotted_model.specs.Growth.{IsNew, identity_id}
 use Rattle.slotted_model.specs.LookUp.{both, look_up_args}
 use Rattle.slotted_model.specs.State.{State, look_up_node, look_up_tree}
 use Rattle.slotted_model.specs.Rest.{IsValidIn, AtRest, LookedUp, IsAnswer}
-use Rattle.slotted_model.specs.Adding.{Adds, HasAdded, KeepsLookUps}
+use Rattle.slotted_model.specs.Adding.{Adds, HasAdded, KeepsLookUps, SameAnswers}
+use Rattle.slotted_model.specs.Changes.{GoesOn}
 use Rattle.slotted_model.proofs.Data.Options.{Some-same, option_map-some, both-some, and_then-some}
+use Rattle.slotted_model.proofs.Represented.Children.{EachChild-map}
 use Rattle.slotted_model.proofs.Represented.Terms.{term_at-seam}
 use Rattle.slotted_model.proofs.Finds.NormalIds.{found-valid, full-is_valid}
 use Rattle.slotted_model.proofs.Rebuilding.UpTo.{identity-full}
@@ -25,7 +28,9 @@ answer-valid g rest d x e =
     let r : IsAnswer g d x = answer-found g rest d x e in
     subst (IsValidIn g) r.found (found-valid g.nodes g.found rest.sane.sound.linked r.id (full-is_valid g.nodes g.found rest.sane.sound.linked r.id r.full))
 
-module _ (g : State) (rest : AtRest g) (c : DTerm) (new : IsNew g.nodes c) (none : look_up_node g c ≡ None) (h : State) (made : Adds g c h) where
+-- nodes that were looked up are looked up as before
+module _ (g : State) (rest : AtRest g) (h : State)
+    (keeps : (d : DTerm) → EachChild (IsValidIn g) d.args → (a : Applied) → look_up_node g d ≡ Some a → look_up_node h d ≡ Some a) where
   -- what children are looked up as
   record KeptArgs (d found : DArgs) : Type 0 where
     same : look_up_args (look_up_node h) d ≡ Some found
@@ -44,7 +49,7 @@ module _ (g : State) (rest : AtRest g) (c : DTerm) (new : IsNew g.nodes c) (none
       let t = and_then-some (λ a. look_up_node g (node op payloads a)) (look_up_args (look_up_node g) args) r.0 r.2 in
       let inner : KeptArgs args t.0 = kept-args args t.0 t.1 in
       let more : KeptArgs rest_d r.1 = kept-args rest_d r.1 r.3 in
-      let child : answer h (look_up_args (look_up_node h) args) ≡ Some r.0 = ap (answer h) inner.same ∙ kept-look_up g rest c new none h made (node op payloads t.0) inner.valid r.0 t.2 in
+      let child : answer h (look_up_args (look_up_node h) args) ≡ Some r.0 = ap (answer h) inner.same ∙ keeps (node op payloads t.0) inner.valid r.0 t.2 in
       subst (KeptArgs (sub op payloads args rest_d)) r.4 (record {
         same = λ i. both join (child i) (more.same i);
         valid = ((r.0, refl, answer-valid g rest (node op payloads t.0) r.0 t.2), more.valid);
@@ -59,8 +64,10 @@ module _ (g : State) (rest : AtRest g) (c : DTerm) (new : IsNew g.nodes c) (none
   kept-tree t a e =
       let r = and_then-some (λ d. look_up_node g (node t.op t.payloads d)) (look_up_args (look_up_node g) t.args) a e in
       let k : KeptArgs t.args r.0 = kept-args t.args r.0 r.1 in
-      ap (option_and_then (λ d. look_up_node h (node t.op t.payloads d))) k.same ∙ kept-look_up g rest c new none h made (node t.op t.payloads r.0) k.valid a r.2
+      ap (option_and_then (λ d. look_up_node h (node t.op t.payloads d))) k.same ∙ keeps (node t.op t.payloads r.0) k.valid a r.2
 
+-- a class was made of a node that was not looked up
+module _ (g : State) (rest : AtRest g) (c : DTerm) (new : IsNew g.nodes c) (none : look_up_node g c ≡ None) (h : State) (made : Adds g c h) where
   -- the node is looked up as the new class
   new-looked_up : (x : Applied) × (look_up_node h c ≡ Some x) × (x.0 ≡ length g.nodes)
   new-looked_up =
@@ -78,6 +85,15 @@ module _ (g : State) (rest : AtRest g) (c : DTerm) (new : IsNew g.nodes c) (none
   keeps-look_ups = record {
     finds = kept-found g rest c new none h made;
     nodes = kept-look_up g rest c new none h made;
-    trees = kept-tree;
+    trees = kept-tree g rest h (kept-look_up g rest c new none h made);
     new_class = new-looked_up;
   }
+
+-- where answers stay the same after it, look-ups are kept
+pub keeps-then : (g : State) (c : DTerm) (h i : State) → AtRest h → GoesOn g h → EachChild (IsValidIn h) c.args → KeepsLookUps g c h → SameAnswers h i → KeepsLookUps g c i
+keeps-then g c h i rest on valid k s = record {
+  finds = λ a v. s.finds a (on.finds a v).0 ∙ k.finds a v;
+  nodes = λ d v a e. s.look_ups d (EachChild-map (IsValidIn g) (IsValidIn h) (λ b w. (on.finds b w).0) d.args v) ∙ k.nodes d v a e;
+  trees = λ t a e. kept-tree h rest i (λ d v b l. s.look_ups d v ∙ l) t a (k.trees t a e);
+  new_class = (k.new_class.0, s.look_ups c valid ∙ k.new_class.1, k.new_class.2);
+}

@@ -21,12 +21,26 @@ use Rattle.slotted_model.specs.Adding.{SameAnswers}
 use Rattle.slotted_model.proofs.Represented.Children.{EachChild-map}
 use Rattle.slotted_model.proofs.Finds.Finding.{leads, found-live, found-in_range}
 use Rattle.slotted_model.proofs.Finds.NormalIds.{found-again, full-is_valid}
-use Rattle.slotted_model.proofs.Rebuilding.GoingOn.{still-row, still-listed, still-represents}
+use Rattle.slotted_model.proofs.Rebuilding.GoingOn.{goes_on-same, goes_on-then, still-row, still-listed, still-represents}
 use Rattle.slotted_model.proofs.Rebuilding.GrowingLists.{proofs-go_on, proofs-sane, grow-explicit}
 use Rattle.slotted_model.proofs.Rebuilding.Rows.{row_of-some}
 use Rattle.slotted_model.proofs.Rebuilding.Events.{size-set, size-dead, entry_size-dead}
 use Rattle.slotted_model.proofs.Finds.Shortcuts.{shortcut-same, shortcut-sound}
 use Rattle.slotted_model.proofs.Rebuilding.Adding.{normal_args-agree}
+
+-- nothing changes
+pub same-none : (g : State) → AtRest g → SameAnswers g g
+same-none g rest = record { rest = rest; goes_on = goes_on-same g rest.sane.sound.linked; finds = λ a v. refl; look_ups = λ d v. refl; same_size = refl }
+
+-- one change after another
+pub same-then : (g h i : State) → AtRest g → SameAnswers g h → SameAnswers h i → SameAnswers g i
+same-then g h i rest s t = record {
+  rest = t.rest;
+  goes_on = goes_on-then g h i rest.sane.sound.linked s.goes_on t.goes_on;
+  finds = λ a v. t.finds a (s.goes_on.finds a v).0 ∙ s.finds a v;
+  look_ups = λ d v. t.look_ups d (EachChild-map (IsValidIn g) (IsValidIn h) (λ a w. (s.goes_on.finds a w).0) d.args v) ∙ s.look_ups d v;
+  same_size = t.same_size ∙ s.same_size;
+}
 
 -- proofs that assert nothing
 pub proofs-quiet : (g : State) → AtRest g → (proofs : List ProofEntry) → ProofsGrow g.nodes g.proofs proofs → SameAnswers g (with_proofs g proofs)

@@ -11,17 +11,19 @@ use Rattle.slotted_theory.proofs.Values.{node}
 use Rattle.slotted_slots.specs.Table.{Table}
 use Rattle.slotted_nodes.specs.Form.{Form}
 use Rattle.slotted_languages.specs.NodeTerm.{nameless_node}
-use Rattle.slotted_model.specs.Adding.{KeepsLookUps}
+use Rattle.slotted_model.specs.Adding.{HasAdded, KeepsLookUps}
 use Rattle.slotted_model.specs.Applied.{Applied, EachChild, renamed_id}
 use Rattle.slotted_model.specs.Classes.{IsFull}
 use Rattle.slotted_model.specs.Ids.{id_of_node}
 use Rattle.slotted_model.specs.Normal.{normal}
-use Rattle.slotted_model.specs.Rest.{AtRest, LookedUp}
+use Rattle.slotted_model.specs.Rest.{AtRest, IsValidIn, LookedUp}
 use Rattle.slotted_model.specs.State.{State, look_up_node, look_up_normal}
+use Rattle.slotted_model.proofs.Finds.NormalIds.{full-is_valid}
+use Rattle.slotted_model.proofs.Rebuilding.Adding as laws
 use Rattle.slotted_model.proofs.Rebuilding.Adding.{normal_args-agree}
 use Rattle.slotted_model.proofs.Represented.Children.{EachChild-map}
 use Rattle.slotted_model.proofs.Represented.Ids.{id_of_node-some}
-use Rattle.slotted_model.proofs.Rebuilding.KeepingTrees.{keeps-look_ups}
+use Rattle.slotted_model.proofs.Rebuilding.KeepingTrees.{keeps-look_ups, keeps-then}
 use Rattle.slotted_model.proofs.Data.Options.{None-Some, Some-same, option_map-none}
 use Rattle.slotted_model.proofs.Rebuilding.Rows.{look_up_node-moved, rest-nodes}
 use Rattle.slotted_classes.specs.Finding.{IsFindable}
@@ -112,8 +114,17 @@ module _ (k : Kept) (r : Rows) (good : Good k) (rests : RestsWith k r) where
     none-made : look_up_node before c ≡ None
     none-made = option_map-none (renamed_id π.to) (look_up_node before c) (sym (moves before rest) ∙ none-filled)
 
+    made-first : HasAdded before c class-made.between
+    made-first = laws.adds before rest c class-made.is_new class-made.between class-made.adds
+
+    -- the children of the node are valid once its class is there
+    valid-then : EachChild (IsValidIn class-made.between) c.args
+    valid-then = EachChild-map (IsFull (nodes_of k)) (IsValidIn class-made.between)
+        (λ a w. (made-first.goes_on.finds a (full-is_valid (nodes_of k) (entries_of k) good.stored.sane.sound.linked a w)).0) c.args class-made.is_new.children
+
     kept : KeepsLookUps before c after
-    kept = keeps-look_ups before rest c class-made.is_new none-made after class-made.adds
+    kept = keeps-then before c class-made.between after made-first.rest made-first.goes_on valid-then
+        (keeps-look_ups before rest c class-made.is_new none-made class-made.between class-made.adds) class-made.same
 
     rest-after : AtRest after
     rest-after = at-rest l q adds.adds.good adds.adds.rests

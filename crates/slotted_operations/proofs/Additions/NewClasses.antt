@@ -17,6 +17,7 @@ use Rattle.slotted_model.specs.Rest.{Sane}
 use Rattle.slotted_model.specs.State.{State}
 use Rattle.slotted_model.proofs.Rebuilding.Adding.{adds, class-sane}
 use Rattle.slotted_model.proofs.Rebuilding.GoingOn.{goes_on-same}
+use Rattle.slotted_model.proofs.Rebuilding.Quiet.{same-none}
 use Rattle.slotted_model.proofs.Represented.Growing.{node-old}
 use Rattle.slotted_model.proofs.Data.Theory.{moved-id}
 use Rattle.slotted_proofs.specs.Entries.{Proven}
@@ -39,7 +40,7 @@ use Rattle.slotted_hashcons.specs.WellFiled.{state_in}
 use Rattle.slotted_rebuilding.specs.NewClasses.{IsUnfiled, FilesNewest}
 use Rattle.slotted_rebuilding.proofs.FiledStates.{fits-grown}
 use Rattle.slotted_operations.specs.Causes.{HasLargeClassIn, CanRunOutForNode, IsLargeClass, IsUnknownNode, IsWideClass}
-use Rattle.slotted_operations.specs.Good.{Good, RestsWith, HasFreshSlots, MakesOne, Makes, Adds, image_of}
+use Rattle.slotted_operations.specs.Good.{Adds, Good, HasFreshSlots, Makes, MakesClassOf, MakesOne, RestsWith, image_of}
 use Rattle.slotted_operations.specs.Graph.{HasNewClass}
 use Rattle.slotted_operations.specs.Image.{AddsClasses, NewClassesAre, IsIdOfNode}
 use Rattle.slotted_operations.proofs.Graphs.Continuations.{adds-classes}
@@ -108,8 +109,11 @@ module _ (k : Kept) (r : Rows) (good : Good k) (rests : RestsWith k r) where
   ]
 
   -- so the node had none
+  pub none-known : (t u : Table) (f : Form) (a : Applied) (m : Kept) → Makes t u k m f a → length r.filed ≢ length m.classes → id_of_node (nodes_of k) (nameless_node f) ≡ None
+  none-known t u f a m make different = none-where (id_of_node (nodes_of k) (nameless_node f)) (λ s. different (rests.filed.count ∙ ap (λ (z : Kept). length z.classes) (sym (make.kept s).0)))
+
   pub unknown-made : (t u : Table) (f : Form) (a : Applied) (m : Kept) → Makes t u k m f a → length r.filed ≢ length m.classes → IsUnknownNode (nodes_of k) f
-  unknown-made t u f a m make different = inl (none-where (id_of_node (nodes_of k) (nameless_node f)) (λ s. different (rests.filed.count ∙ ap (λ (z : Kept). length z.classes) (sym (make.kept s).0))))
+  unknown-made t u f a m make different = inl (none-known t u f a m make different)
 
   -- a class was made
   module _ (m : Kept) (good-m : Good m) (f : Form) (one : MakesOne k m f) where
@@ -149,6 +153,9 @@ module _ (k : Kept) (r : Rows) (good : Good k) (rests : RestsWith k r) where
       added : HasAdded (state_in k r) one.node (state_in l q)
       added = adds (state_in k r) (at-rest k r good rests) one.node one.is_new (state_in l q) made-of
 
+      pub class-made-of : MakesClassOf (state_in k r) f (state_in l q)
+      class-made-of = record { node = one.node; is_new = one.is_new; same_shape = one.same_shape; between = state_in l q; adds = made-of; same = same-none (state_in l q) added.rest }
+
       abbrev same : nodes_of l ≡ nodes_of m
       same = files.grows.nodes
 
@@ -171,7 +178,7 @@ module _ (k : Kept) (r : Rows) (good : Good k) (rests : RestsWith k r) where
         filed = subst (λ (ns : List DTerm). NewClassesAre (nodes_of k) ns (IsIdOfNode ns (nameless_node f))) (sym same) make.filed;
         kept = λ s. absurd (more-than (ap (λ (x : Kept). length x.classes) (make.kept s).0));
         made = λ none. subst (λ (ns : List DTerm). HasNewClass t u (nodes_of k) ns (nameless_node f)) (sym same) (make.made none);
-        step = inr (record { node = one.node; is_new = one.is_new; same_shape = one.same_shape; adds = made-of });
+        step = inr class-made-of;
         large = λ h. make.large (h.0, subst (λ (ns : List DTerm). h.0 < length ns) same h.1, subst (λ (ns : List DTerm). IsLargeClass ns h.0 ⊎ IsWideClass ns h.0) same h.2);
       }
         where

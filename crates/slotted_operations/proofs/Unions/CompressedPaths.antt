@@ -1,22 +1,27 @@
 -- A graph whose paths were compressed: all is at rest as before, and what a union left is left.
 use Rattle.std.proofs.Common.{◌≡◌, ◌≤◌, ◌<◌, ◌+◌, ◌^◌, ℕ, suc, List, [], ◌∷◌, ◌++◌, length, sym, ◌∙◌, ap, refl, subst, inl, inr, arith, append_assoc, length-append}
-use Rattle.std.specs.Prelude.{Bool, Option, Some, None, map}
+use Rattle.std.proofs.lemmas.Bool.{false≢true}
+use Rattle.std.specs.Prelude.{is_some, ◌⊎◌, Bool, Option, Some, None, map}
 use Rattle.std.proofs.lemmas.List.{append-nil, get_or_append_left, map-append}
 use Rattle.slotted_slots.specs.Table.{Table}
 use Rattle.slotted_theory.specs.Term.{Term}
+use Rattle.slotted_nodes.specs.Form.{Form}
+use Rattle.slotted_languages.specs.NodeTerm.{nameless_node}
 use Rattle.slotted_model.specs.Adding.{SameAnswers}
 use Rattle.slotted_model.specs.Applied.{Applied}
 use Rattle.slotted_model.specs.Changes.{GoesOn, with_proofs}
 use Rattle.slotted_model.specs.Classes.{canonical_slots}
 use Rattle.slotted_model.specs.Find.{Entry, find_class, find_map}
 use Rattle.slotted_model.specs.Growth.{Extends}
+use Rattle.slotted_model.specs.Ids.{id_of_node}
 use Rattle.slotted_model.specs.ProofList.{Equation, ProofEntry, asserted, equation_at, equation_of}
 use Rattle.slotted_model.specs.Rest.{AtRest, size, size_from}
 use Rattle.slotted_model.specs.Sound.{Sound}
 use Rattle.slotted_model.specs.State.{State}
+use Rattle.slotted_model.proofs.Rebuilding.Adding.{adds}
 use Rattle.slotted_model.proofs.Rebuilding.Counting.{size-counts}
 use Rattle.slotted_model.proofs.Rebuilding.GoingOn.{goes_on-then}
-use Rattle.slotted_model.proofs.Rebuilding.Quiet.{proofs-quiet, refound-quiet}
+use Rattle.slotted_model.proofs.Rebuilding.Quiet.{proofs-quiet, refound-quiet, same-then}
 use Rattle.slotted_proofs.specs.Entries.{entry_of}
 use Rattle.slotted_classes.specs.Kept.{Kept, entries_of, nodes_of, proofs_of, size_of}
 use Rattle.slotted_classes.proofs.KeptLists.{length-entries_of, length-nodes_of}
@@ -26,17 +31,19 @@ use Rattle.slotted_classes.specs.StateOf.{symmetry_of_entry}
 use Rattle.slotted_unions.proofs.EnteredProofs.{only-nodes}
 use Rattle.slotted_unions.proofs.GrownRows.{grown-count, grown-rows}
 use Rattle.slotted_unions.proofs.KeptSlots.{grows-uncounted}
+use Rattle.slotted_rebuilding.specs.Causes.{HasLargeClass}
 use Rattle.slotted_rebuilding.specs.Counted.{CountsFit, CountsGo}
 use Rattle.slotted_hashcons.specs.WellFiled.{IsWellFiled, state_in}
 use Rattle.slotted_rebuilding.proofs.CountedRebuilds.{counts-same}
 use Rattle.slotted_rebuilding.proofs.FiledStates.{fits-grown, places-grown}
-use Rattle.slotted_operations.specs.Causes.{HasLargeClassIn}
+use Rattle.slotted_operations.specs.Causes.{HasLargeClassIn, IsLargeClass, IsWideClass}
 use Rattle.slotted_operations.specs.Explaining.{Answers, ExplainsTerms, IsIdOfEither, ProvesIfAlike, RunsOutForTerms, large_graph, wide_left, wide_right}
-use Rattle.slotted_operations.specs.Good.{AddsTerm, Good, NeverMore, NotesLast, RestsWith, Unites, finds_from, image_of}
-use Rattle.slotted_operations.specs.Image.{AddsClasses, Asserts, Image, IsUnion, NewClassesAre, asserted_in}
+use Rattle.slotted_operations.specs.Good.{Adds, AddsTerm, Good, MakesClassOf, NeverMore, NotesLast, RestsWith, Unites, finds_from, image_of}
+use Rattle.slotted_operations.specs.Graph.{HasNewClass}
+use Rattle.slotted_operations.specs.Image.{AddsClasses, Asserts, Image, IsIdOfNode, IsUnion, NewClassesAre, asserted_in}
 use Rattle.slotted_operations.proofs.Graphs.Continuations.{adds-classes, finds-on}
 use Rattle.slotted_operations.proofs.Graphs.EntryTexts.{records-more}
-use Rattle.slotted_operations.proofs.Additions.NewClasses.{grown-fresh, grown-good}
+use Rattle.slotted_operations.proofs.Additions.NewClasses.{grown-fresh, grown-good, large-seen}
 use Rattle.slotted_operations.proofs.Graphs.Images.{adds-then}
 use Rattle.slotted_operations.proofs.Graphs.Notes.{notes-same, notes-then}
 use Rattle.slotted_operations.proofs.Graphs.AtRest.{at-rest}
@@ -103,11 +110,15 @@ module _ (k : Kept) (r : Rows) (good : Good k) (rests : RestsWith k r) (l : Kept
     symmetries = map symmetry_of_entry (sym s.symmetries t);
   }
 
+  -- no answer changes
+  pub shortened-same : SameAnswers (state_in k r) (state_in l r)
+  shortened-same = subst (SameAnswers g) state-is (same-then g proved refound (at-rest k r good rests) first second)
+
   rest : AtRest (state_in l r)
-  rest = subst AtRest state-is second.rest
+  rest = shortened-same.rest
 
   pub shortened-on : GoesOn (state_in k r) (state_in l r)
-  shortened-on = subst (GoesOn g) state-is (goes_on-then g proved refound good.stored.sane.sound.linked first.goes_on second.goes_on)
+  shortened-on = shortened-same.goes_on
 
   pub shortened-good : Good l
   shortened-good = grown-good k l good (grows-uncounted k l s.grows) s.stored (s.dropped ∙ good.settled)
@@ -199,6 +210,35 @@ module _ (k : Kept) (r : Rows) (good : Good k) (rests : RestsWith k r) (l : Kept
       (ap (λ ns. asserted ns (proofs_of l)) s.grows.nodes ∙ s.asserts_nothing.asserts_nothing)
       (subst (CountsGo k.counts) (sym s.grows.counts) (counts-same k.counts))
 
+-- what the making of a class leaves, it leaves where paths are compressed after it
+pub adds-compressed : (t u : Table) (k : Kept) (r : Rows) → Good k → RestsWith k r → (m : Kept) (q : Rows) (f : Form) (a : Applied) → Adds t u k r m q f a → MakesClassOf (state_in k r) f (state_in m q) →
+    id_of_node (nodes_of k) (nameless_node f) ≡ None → (l : Kept) → Shortens m l → Adds t u k r l q f a
+adds-compressed t u k r good rests m q f a e made none l s =
+    let on : GoesOn (state_in k r) (state_in l q) = goes_on-then (state_in k r) (state_in m q) (state_in l q) good.stored.sane.sound.linked e.goes_on (shortened-on m q e.good e.rests l s) in
+    let nodes : nodes_of m ≡ nodes_of l = sym s.grows.nodes in
+    record {
+      good = shortened-good m q e.good e.rests l s;
+      rests = shortened-rests m q e.good e.rests l s;
+      fresh_slots = grown-fresh u m l s.grows.nodes e.fresh_slots;
+      extends = subst (Extends (nodes_of k)) nodes e.extends;
+      goes_on = on;
+      adds = adds-then (image_of k) (image_of m) (image_of l) e.extends e.adds (shortened-adds m q e.good e.rests l s) (finds-on k r good l q on);
+      notes = notes-then k m l e.notes (notes-same m l s.deaths s.grows.counts (shortened-size m q e.good e.rests l s));
+      found = subst (λ (ns : List DTerm). id_of_node ns (nameless_node f) ≡ Some a) nodes e.found;
+      filed = subst (λ (ns : List DTerm). NewClassesAre (nodes_of k) ns (IsIdOfNode ns (nameless_node f))) nodes e.filed;
+      kept = λ known. absurd (false≢true (sym (ap is_some none) ∙ known));
+      made = λ new. subst (λ (ns : List DTerm). HasNewClass t u (nodes_of k) ns (nameless_node f)) nodes (e.made new);
+      step = inr (record {
+        node = made.node;
+        is_new = made.is_new;
+        same_shape = made.same_shape;
+        between = made.between;
+        adds = made.adds;
+        same = same-then made.between (state_in m q) (state_in l q) (adds (state_in k r) (at-rest k r good rests) made.node made.is_new made.between made.adds).rest made.same (shortened-same m q e.good e.rests l s);
+      });
+      large = λ h. e.large (subst (λ (ns : List DTerm). (i : ℕ) × (i < length ns) × (IsLargeClass ns i ⊎ IsWideClass ns i)) s.grows.nodes h);
+    }
+
 -- what an explanation leaves, it leaves where paths are compressed after it
 pub explains-shortened : (k : Kept) (r : Rows) → Good k → (m : Kept) (q : Rows) (left right : Term) (t w : Table) (answer : Option ℕ) →
     ExplainsTerms t w k r m q left right answer → (l : Kept) → Shortens m l → ExplainsTerms t w k r l q left right answer
@@ -243,10 +283,13 @@ unites-shortened k r good m q a b text y u l s = record {
 }
 
 -- a class that is large now was so where its node is the same
-pub large-found : (k l : Kept) → nodes_of l ≡ nodes_of k → HasLargeFoundClass l → HasLargeClassIn (image_of k)
-large-found k l same h =
+pub large-there : (k l : Kept) → nodes_of l ≡ nodes_of k → HasLargeFoundClass l → HasLargeClass k
+large-there k l same h =
     let i : ℕ = h.1.0 in
-    (i, omega (arith, h.1.1, ap length same, length-nodes_of l), inl (subst (λ ns. 2 ^ 29 ≤ length (canonical_slots ns i)) same h.1.3))
+    (i, omega (arith, h.1.1, ap length same, length-nodes_of k, length-nodes_of l), inl (subst (λ ns. 2 ^ 29 ≤ length (canonical_slots ns i)) same h.1.3))
+
+pub large-found : (k l : Kept) → nodes_of l ≡ nodes_of k → HasLargeFoundClass l → HasLargeClassIn (image_of k)
+large-found k l same h = large-seen k (large-there k l same h)
 
 -- after two terms were added it was so, or is that of a node of one of them
 pub large-explaining : (k : Kept) (r : Rows) (m : Kept) (s : Rows) (n : Kept) (q : Rows) (left right : Term) (t v w : Table) (a b : Applied) →
